@@ -1,0 +1,31 @@
+-- Bounds on the samples of a kind, and on the index of a place.
+use Rattle.std.proofs.Common.{◌≡◌, ◌+◌, ◌*◌, ◌<◌, ◌≤◌, ◌-◌, ◌^◌, ℕ, suc, Bool, true, false, pos, negsuc, ◌≤ℤ◌, ◌+ℤ◌, ◌-ℤ◌, ◌%◌, to_z, of_z, w32, arith, pow_mono, pow-suc}
+use Rattle.std.proofs.lemmas.Int.{ints, to_z_pos}
+use Rattle.std.proofs.lemmas.Nat.{mul-add-lt, one_shl}
+use Rattle.cube_core.specs.Kind.{SampleKind, IsKind, smin, smid, smax}
+use Rattle.cube_core.specs.Image.{index_in}
+
+-- a place's index is below the number of samples
+pub index_below : (columns rows bands z y x : ℕ) → z < bands → y < rows → x < columns → index_in columns rows z y x < bands * rows * columns
+index_below columns rows bands z y x a b c =
+    let p : z * rows + y < rows * bands = mul-add-lt z rows y bands a b in
+    let q : (z * rows + y) * columns + x < columns * (rows * bands) = mul-add-lt (z * rows + y) columns x (rows * bands) p c in
+    omega (arith, q)
+
+pub power_grows : (i j : ℕ) → i ≤ j → 2 ^ i ≤ 2 ^ j
+power_grows i j h = pow_mono h
+
+-- one below a power, as the code computes it
+pub top_fits : (k : ℕ) → 1 ≤ k → k ≤ 16 → (pos 1 ≤ℤ to_z w32 (of_z w32 (to_z w32 ((1 * 2 ^ k) % 2 ^ 32) -ℤ pos 1))) × (to_z w32 (of_z w32 (to_z w32 ((1 * 2 ^ k) % 2 ^ 32) -ℤ pos 1)) ≤ℤ pos 65535)
+top_fits k a b =
+    let p : 2 ^ k ≤ 2 ^ 16 = power_grows k 16 b in
+    let q : 2 ^ 1 ≤ 2 ^ k = power_grows 1 k a in
+    let e : to_z w32 ((1 * 2 ^ k) % 2 ^ 32) ≡ pos (2 ^ k) = rw (one_shl k 32 (omega arith)) (to_z_pos w32 (2 ^ k) (omega arith)) in
+    rw e (omega (arith, ints), omega (arith, ints))
+
+middle_by : (signed : Bool) (bits : ℕ) → 2 ≤ bits → bits ≤ 16 → smid (record { signed = signed; bits = bits }) ≤ℤ smax (record { signed = signed; bits = bits })
+middle_by true d a b = let p = power_grows 1 (d - 1) (omega arith) in omega (arith, ints)
+middle_by false d a b = let p = power_grows (suc (d - 1)) d (omega arith) in let q = power_grows 1 (d - 1) (omega arith) in omega (arith, ints, pow-suc 2 (d - 1))
+
+pub middle_inside : (k : SampleKind) → IsKind k → smid k ≤ℤ smax k
+middle_inside k h = middle_by k.signed k.bits h.0 h.1

@@ -1,0 +1,31 @@
+-- The kind of an image's samples: signed or not, and how many bits (CCSDS 123.0-B-1, "Image").
+use Rattle.std.specs.Prelude.{ℕ, ◌-◌, ◌^◌, nat_le, ◌&&◌, Bool, ℤ, pos, neg_ℤ, ◌-ℤ◌, if◌then◌else◌, Result, Ok, Err}
+use Rattle.cube_core.specs.declared.fault.Fault.{Fault}
+use Rattle.cube_core.specs.declared.fault.Fault.TheVariants.{FieldRange}
+use Rattle.cube_core.specs.declared.fault.Field.TheVariants.{DynamicRange}
+use Rattle.cube_core.specs.Shape.{InRange}
+
+-- whether samples are signed, and D, how many bits they have
+pub record SampleKind : Type 0 where
+  pub signed : Bool
+  pub bits : ℕ
+
+-- D is 2 to 16
+abbrev pub IsKind : SampleKind → Type 0
+IsKind k = InRange 2 16 k.bits
+
+-- the kind, or its number of bits refused
+abbrev pub kind_or_fault : SampleKind → Result SampleKind Fault
+kind_or_fault k = if nat_le 2 k.bits && nat_le k.bits 16 then Ok k else Err (FieldRange DynamicRange (pos k.bits))
+
+-- the least sample
+abbrev pub smin : SampleKind → ℤ
+smin k = if k.signed then neg_ℤ (pos (2 ^ (k.bits - 1))) else pos 0
+
+-- the greatest sample
+abbrev pub smax : SampleKind → ℤ
+smax k = if k.signed then pos (2 ^ (k.bits - 1)) -ℤ pos 1 else pos (2 ^ k.bits) -ℤ pos 1
+
+-- the middle sample
+abbrev pub smid : SampleKind → ℤ
+smid k = if k.signed then pos 0 else pos (2 ^ (k.bits - 1))

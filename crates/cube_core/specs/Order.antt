@@ -1,0 +1,47 @@
+-- The order in which the samples are encoded (CCSDS 123.0-B-1, "Encoding order").
+use Rattle.std.specs.Prelude.{◌≡◌, ◌⊎◌, ℕ, zero, suc, ◌+◌, ◌-◌, ◌*◌, ◌/◌, ◌<◌, ◌≤◌, min, List, [], ◌∷◌, map, length}
+use Rattle.std.specs.List.{flat_map, Contains}
+use Rattle.cube_core.specs.declared.order.Order.{Order}
+use Rattle.cube_core.specs.declared.order.Order.TheVariants.{Bsq, Bi}
+use Rattle.cube_core.specs.declared.order.Place.{Place}
+use Rattle.cube_core.specs.Shape.{Sizes, InRange}
+use Rattle.cube_core.specs.Image.{IsPlace}
+
+-- band sequential, or a depth of interleaving of 1 to the number of bands
+abbrev pub IsOrder : Sizes → Order → Type 0
+IsOrder s Bsq = Unit {0}
+IsOrder s (Bi depth) = InRange 1 s.bands depth
+
+-- n numbers from a on
+abbrev pub from : ℕ → ℕ → List ℕ
+from a zero = []
+from a (suc n) = a ∷ from (suc a) n
+
+abbrev pub upto : ℕ → List ℕ
+upto n = from 0 n
+
+-- the bands of the i-th group, of so many bands but in the last
+abbrev pub group : Sizes → ℕ → ℕ → List ℕ
+group s depth i = from (i * depth) (min depth (s.bands - i * depth))
+
+-- how many groups the bands make
+abbrev pub group_count : Sizes → ℕ → ℕ
+group_count s depth = (s.bands + depth - 1) / depth
+
+-- all places in encoding order: for each band, row and column; or for each row, group of bands, column and band
+unfoldable pub places : Sizes → Order → List Place
+places s Bsq =
+    flat_map (λ z. flat_map (λ y. map (λ x. record { z = z; y = y; x = x }) (upto s.columns)) (upto s.rows)) (upto s.bands)
+places s (Bi depth) =
+    flat_map (λ y. flat_map (λ i. flat_map (λ x. map (λ z. record { z = z; y = y; x = x }) (group s depth i)) (upto s.columns)) (upto (group_count s depth))) (upto s.rows)
+
+-- the numbers by which places are ordered, the first deciding first
+abbrev pub place_key : Order → Place → List ℕ
+place_key Bsq p = p.z ∷ p.y ∷ p.x ∷ []
+place_key (Bi depth) p = p.y ∷ p.z / depth ∷ p.x ∷ p.z ∷ []
+
+-- one key comes before another
+abbrev pub IsBefore : List ℕ → List ℕ → Type 0
+IsBefore [] ys = ⊥
+IsBefore (x ∷ xs) [] = ⊥
+IsBefore (x ∷ xs) (y ∷ ys) = (x < y) ⊎ ((x ≡ y) × IsBefore xs ys)

@@ -1,0 +1,168 @@
+//! What the coder refuses, each refusal by its name.
+
+ghost use Rattle.std.specs.Prelude.{◌≡◌};
+ghost use Rattle.cube_core.specs.declared.fault.Fault.TheVariants.{WantOfMemory};
+
+use std::alloc::{AllocError, AllocFailed};
+use std::fmt;
+use thiserror::Error;
+
+/// A parameter, or a field of the header, that has a range of its own.
+#[derive(Clone, Copy, Debug, PartialEq, Eq)]
+pub enum Field {
+    Columns,
+    Rows,
+    Bands,
+    DynamicRange,
+    User,
+    Depth,
+    WordSize,
+    Previous,
+    Register,
+    Omega,
+    Interval,
+    VMin,
+    VMax,
+    WeightStart,
+    Resolution,
+    WeightEntry,
+    Umax,
+    GammaStar,
+    GammaZero,
+    AccumulatorTable,
+    BlockSize,
+    Restricted,
+    Reference,
+    Predictors,
+    Slots,
+}
+
+impl fmt::Display for Field {
+    fn fmt<W: fmt::Write>(&self, f: &mut fmt::Formatter<W>) -> fmt::Result {
+        write!(f, "{self:?}")
+    }
+}
+
+/// A rule between two parameters.
+#[derive(Clone, Copy, Debug, PartialEq, Eq)]
+pub enum Rule {
+    /// The depth of interleaving is at most the number of bands.
+    DepthOverBands,
+    /// Full mode asks for at least two columns (our own choice: see `docs/DECISIONS.md`).
+    FullOneColumn,
+    /// Neighbour-oriented sums ask for at least two columns.
+    NeighbourOneColumn,
+    /// The register has at least D + Ω + 2 bits.
+    RegisterTooSmall,
+    /// The least weight update exponent is at most the greatest.
+    ExponentOrder,
+    /// The usual weight start has no table.
+    DefaultWithTable,
+    /// The usual weight start has no resolution.
+    DefaultWithResolution,
+    /// The weight resolution is at most Ω + 3.
+    ResolutionOverOmega,
+    /// A weight table has one entry for each weight.
+    WeightTableLength,
+    /// The first counter exponent is below the rescaling counter size.
+    CounterOrder,
+    /// The accumulator's constant is at most D - 2.
+    StartConstant,
+    /// The constant's field is 15 beside an accumulator table.
+    ConstantWithTable,
+    /// An accumulator table has one entry for each band.
+    AccumulatorTableLength,
+    /// An entry of an accumulator table is at most D - 2.
+    AccumulatorEntry,
+    /// The restricted set of code options asks for samples of at most four bits.
+    RestrictedOverFour,
+}
+
+impl fmt::Display for Rule {
+    fn fmt<W: fmt::Write>(&self, f: &mut fmt::Formatter<W>) -> fmt::Result {
+        write!(f, "{self:?}")
+    }
+}
+
+/// Why a call is refused. Its `Display` is what the program prints: number, name and values.
+///
+/// A bit, a place, a block or an index counts from 0.
+#[derive(Clone, Copy, Debug, PartialEq, Eq, Error)]
+pub enum Fault {
+    /// The bytes end inside a part of the header or inside a table.
+    #[error("1 ShortHeader")]
+    ShortHeader,
+    /// The first reserved bit, or fill bit of a table, that is one; `bit` counts from the file's start.
+    #[error("2 Reserved {bit}")]
+    Reserved { bit: u64 },
+    /// A parameter out of its own range; `value` is the number itself, after any offset of its field.
+    #[error("3 FieldRange {field} {value}")]
+    FieldRange { field: Field, value: i64 },
+    /// Two parameters break a rule.
+    #[error("4 Disagree {rule}")]
+    Disagree { rule: Rule },
+    /// A custom weight start without a table in the file.
+    #[error("5 TableElsewhere")]
+    TableElsewhere,
+    /// The bits end too early; `bit` is the number of bits in the file.
+    #[error("6 Truncated {bit}")]
+    Truncated { bit: u64 },
+    /// Sample-adaptive: a second spelling, or a value above 2^D - 1; `place` counts in encoding order.
+    #[error("7 BadCode {place}")]
+    BadCode { place: u64 },
+    /// Block-adaptive: the block spells a value above 2^D - 1.
+    #[error("8 BadOption {block}")]
+    BadOption { block: u64 },
+    /// A run of zero blocks is longer than the rest of its segment.
+    #[error("9 RunPastSegment {block}")]
+    RunPastSegment { block: u64 },
+    /// A bit after the last code word is one.
+    #[error("10 BadFill")]
+    BadFill,
+    /// A whole output word or more follows the last code word; `bits` is how many bits do.
+    #[error("11 TooLong {bits}")]
+    TooLong { bits: u64 },
+    /// A growth of memory was refused.
+    #[error("12 WantOfMemory")]
+    WantOfMemory,
+    /// A raw sample out of range; `index` counts in the layout's order.
+    #[error("13 SampleRange {index}")]
+    SampleRange { index: u64 },
+    /// The number of raw bytes is not the one that was wanted.
+    #[error("14 RawLength {wanted} {had}")]
+    RawLength { wanted: u64, had: u64 },
+    /// The first band that is dealt to no predictor.
+    #[error("15 BadDeal {band}")]
+    BadDeal { band: u32 },
+    /// A thread was not started.
+    #[error("16 SpawnRefused")]
+    SpawnRefused,
+    /// A gate stopped a predictor after it had sent so many residuals.
+    #[error("17 Stopped {predictor} {sent}")]
+    Stopped { predictor: u32, sent: u64 },
+    /// The source failed, or gave more than the limit.
+    #[error("18 Read")]
+    Read,
+    /// The sink failed, or took nothing of a piece that isn't empty; `written` bytes went out before.
+    #[error("19 Write {written}")]
+    Write { written: u64 },
+    /// The words are not a lawful command.
+    #[error("20 Usage")]
+    Usage,
+}
+
+impl From<AllocError> for Fault {
+    ghost from_gives = { λ _ fault. fault ≡ WantOfMemory };
+
+    fn from(_error: AllocError) -> Fault {
+        Fault::WantOfMemory
+    }
+}
+
+impl<T: Drop> From<AllocFailed<T>> for Fault {
+    ghost from_gives = { λ _ fault. fault ≡ WantOfMemory };
+
+    fn from(_error: AllocFailed<T>) -> Fault {
+        Fault::WantOfMemory
+    }
+}

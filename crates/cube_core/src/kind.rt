@@ -1,0 +1,99 @@
+//! The kind of a cube's samples: signed or not, and of how many bits.
+
+ghost use Rattle.std.specs.Prelude.{◌≡◌, ◌↔◌, ◌^◌, ◌-◌, IsOk, pos, negsuc, ◌≤ℤ◌, ◌+ℤ◌};
+ghost use Rattle.cube_core.specs.Shape.{InRange};
+ghost use Rattle.cube_core.specs.Kind.{IsKind, kind_or_fault, smin, smax, smid};
+
+use crate::fault::{Fault, Field};
+use std::marker::Model;
+
+/// Whether samples are signed, and how many bits they have, 2 to 16 (CCSDS 123.0-B-1, "Image").
+#[derive(Clone, Copy, Debug, PartialEq, Eq)]
+pub struct Kind {
+    signed: bool,
+    bits: u32,
+}
+
+impl Model for Kind {
+    ghost use Rattle.cube_core.specs.Kind.{SampleKind, IsKind};
+
+    ghost Value = { SampleKind };
+
+    ghost view = { λ k. record { signed = k.signed; bits = k.bits } };
+
+    ghost invariant = { λ k. IsKind (record { signed = k.signed; bits = k.bits }) };
+
+    ghost inverse = { λ v. record { signed = v.signed; bits = v.bits } };
+}
+
+impl Kind {
+    /// Samples of so many bits, signed or not.
+    ///
+    /// Where `bits` is not 2 to 16 the answer is `FieldRange` of `DynamicRange`.
+    pub fn new(signed: bool, bits: u32) -> Result<Kind, Fault>
+        ensures value { result ≡ kind_or_fault (record { signed = signed; bits = bits }) }
+        ensures in_range { IsOk result ↔ InRange 2 16 bits }
+    {
+        if (2..=16).contains(&bits) {
+            Ok(Kind { signed, bits })
+        } else {
+            Err(Fault::FieldRange {
+                field: Field::DynamicRange,
+                value: i64::from(bits),
+            })
+        }
+    }
+
+    /// Whether samples may be negative.
+    pub fn is_signed(self) -> bool
+        ensures { result ≡ self.signed }
+    {
+        self.signed
+    }
+
+    /// D, the dynamic range: how many bits a sample has.
+    pub fn bits(self) -> u32
+        ensures value { result ≡ self.bits }
+        ensures range { InRange 2 16 result }
+    {
+        self.bits
+    }
+
+    /// The least sample.
+    pub fn smin(self) -> i32
+        ensures value { result ≡ smin self }
+        ensures range { (negsuc 32767 ≤ℤ result) × (result ≤ℤ pos 0) }
+    {
+        if self.signed {
+            -(1i32 << (self.bits - 1))
+        } else {
+            0
+        }
+    }
+
+    /// The greatest sample.
+    pub fn smax(self) -> i32
+        ensures value { result ≡ smax self }
+        ensures range { (pos 1 ≤ℤ result) × (result ≤ℤ pos 65535) }
+        ensures span { smax self ≤ℤ (smin self +ℤ pos 65535) }
+    {
+        if self.signed {
+            (1i32 << (self.bits - 1)) - 1
+        } else {
+            (1i32 << self.bits) - 1
+        }
+    }
+
+    /// The middle sample.
+    pub fn smid(self) -> i32
+        ensures value { result ≡ smid self }
+        ensures range { (pos 0 ≤ℤ result) × (result ≤ℤ pos 32768) }
+        ensures inside { smid self ≤ℤ smax self }
+    {
+        if self.signed {
+            0
+        } else {
+            1i32 << (self.bits - 1)
+        }
+    }
+}

@@ -1,0 +1,96 @@
+//! The shape of a cube: how many columns, rows and bands it has.
+
+ghost use Rattle.std.specs.Prelude.{◌≡◌, ◌↔◌, ◌^◌, IsOk};
+ghost use Rattle.cube_core.specs.Shape.{AreSizes, InRange, size_or_fault, sizes_or_fault, sample_count};
+
+use crate::fault::{Fault, Field};
+use std::marker::Model;
+
+/// The greatest size in each direction.
+const MOST: u32 = 65_536;
+
+/// How many columns, rows and bands a cube has, 1 to 65,536 each (CCSDS 123.0-B-1, "Image").
+#[derive(Clone, Copy, Debug, PartialEq, Eq)]
+pub struct Shape {
+    columns: u32,
+    rows: u32,
+    bands: u32,
+}
+
+impl Model for Shape {
+    ghost use Rattle.cube_core.specs.Shape.{Sizes, AreSizes};
+
+    ghost Value = { Sizes };
+
+    ghost view = { λ s. record { columns = s.columns; rows = s.rows; bands = s.bands } };
+
+    ghost invariant = { λ s. AreSizes (record { columns = s.columns; rows = s.rows; bands = s.bands }) };
+
+    ghost inverse = { λ v. record { columns = v.columns; rows = v.rows; bands = v.bands } };
+}
+
+impl Shape {
+    /// A shape of so many columns, rows and bands.
+    ///
+    /// Where a size is not 1 to 65,536 the answer is `FieldRange`, with the first such of
+    /// `Columns`, `Rows` and `Bands`.
+    pub fn new(columns: u32, rows: u32, bands: u32) -> Result<Shape, Fault>
+        ensures value { result ≡ sizes_or_fault (record { columns = columns; rows = rows; bands = bands }) }
+        ensures in_range { IsOk result ↔ AreSizes (record { columns = columns; rows = rows; bands = bands }) }
+    {
+        in_range(Field::Columns, columns)?;
+        in_range(Field::Rows, rows)?;
+        in_range(Field::Bands, bands)?;
+        Ok(Shape {
+            columns,
+            rows,
+            bands,
+        })
+    }
+
+    /// How many samples a row has.
+    pub fn columns(self) -> u32
+        ensures value { result ≡ self.columns }
+        ensures range { InRange 1 65536 result }
+    {
+        self.columns
+    }
+
+    /// How many rows a band has.
+    pub fn rows(self) -> u32
+        ensures value { result ≡ self.rows }
+        ensures range { InRange 1 65536 result }
+    {
+        self.rows
+    }
+
+    /// How many bands there are.
+    pub fn bands(self) -> u32
+        ensures value { result ≡ self.bands }
+        ensures range { InRange 1 65536 result }
+    {
+        self.bands
+    }
+
+    /// How many samples a cube of this shape has: at most 2^48.
+    pub fn sample_count(self) -> u64
+        ensures value { result ≡ sample_count self }
+        ensures range { InRange 1 (2 ^ 48) result }
+    {
+        u64::from(self.bands) * u64::from(self.rows) * u64::from(self.columns)
+    }
+}
+
+/// Refuses a size out of range.
+fn in_range(field: Field, size: u32) -> Result<(), Fault>
+    ensures { result ≡ size_or_fault field size }
+{
+    if (1..=MOST).contains(&size) {
+        Ok(())
+    } else {
+        Err(Fault::FieldRange {
+            field,
+            value: i64::from(size),
+        })
+    }
+}
