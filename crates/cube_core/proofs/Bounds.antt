@@ -1,8 +1,8 @@
 -- Bounds on the samples of a kind, and on the index of a place.
-use Rattle.std.proofs.Common.{◌≡◌, ◌+◌, ◌*◌, ◌<◌, ◌≤◌, ◌-◌, ◌^◌, ℕ, suc, Bool, true, false, pos, negsuc, ◌≤ℤ◌, ◌+ℤ◌, ◌-ℤ◌, ◌%◌, to_z, of_z, w32, arith, pow_mono, pow-suc}
+use Rattle.std.proofs.Common.{◌≡◌, ◌+◌, ◌*◌, ◌<◌, ◌≤◌, ◌-◌, ◌^◌, ℕ, suc, Bool, true, false, pos, ◌≤ℤ◌, ◌-ℤ◌, ◌%◌, to_z, of_z, w32, arith, pow_mono, pow-suc}
 use Rattle.std.proofs.lemmas.Int.{ints, to_z_pos}
 use Rattle.std.proofs.lemmas.Nat.{mul-add-lt, one_shl}
-use Rattle.cube_core.specs.Kind.{SampleKind, IsKind, smin, smid, smax}
+use Rattle.cube_core.specs.Kind.{SampleKind, IsKind, smid, smax}
 use Rattle.cube_core.specs.Image.{index_in}
 
 -- a place's index is below the number of samples

@@ -1,12 +1,8 @@
 -- How a cube keeps its samples: each as its height above the least sample of the kind.
-use Rattle.std.specs.Prelude.{ℕ, ◌≡◌, ◌+◌, ◌-◌, ◌<◌, ◌^◌, ℤ, pos, ◌+ℤ◌, List, length, map, slice_index, slice_index_or}
+use Rattle.std.specs.Prelude.{ℕ, ◌≡◌, ◌<◌, ◌^◌, ℤ, List, length, map, slice_index}
 use Rattle.cube_core.specs.Shape.{Sizes, sample_count}
-use Rattle.cube_core.specs.Kind.{SampleKind, smin}
+use Rattle.cube_core.specs.Kind.{SampleKind, sample_of}
 use Rattle.cube_core.specs.Image.{Image, sample_at}
-
--- the sample of a height
-abbrev pub sample_of : SampleKind → ℕ → ℤ
-sample_of k height = smin k +ℤ pos height
 
 unfoldable pub samples_of : SampleKind → List ℕ → List ℤ
 samples_of k heights = map (sample_of k) heights

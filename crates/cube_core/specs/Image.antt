@@ -1,16 +1,12 @@
 -- An image cube: its sizes, the kind of its samples, and the samples, band after band and row after row.
-use Rattle.std.specs.Prelude.{ℕ, ◌≡◌, ◌+◌, ◌*◌, ◌<◌, ℤ, pos, ◌≤ℤ◌, List, length, slice_index_or, slice_set}
+use Rattle.std.specs.Prelude.{ℕ, ◌≡◌, ◌+◌, ◌*◌, ◌<◌, ℤ, pos, List, length, slice_index_or, slice_set}
 use Rattle.cube_core.specs.Shape.{Sizes, AreSizes, sample_count}
-use Rattle.cube_core.specs.Kind.{SampleKind, IsKind, smin, smax}
+use Rattle.cube_core.specs.Kind.{SampleKind, IsKind, IsSample}
 
 pub record Image : Type 0 where
   pub shape : Sizes
   pub kind : SampleKind
   pub samples : List ℤ
-
--- a sample of the kind
-abbrev pub IsSample : SampleKind → ℤ → Type 0
-IsSample k v = (smin k ≤ℤ v) × (v ≤ℤ smax k)
 
 -- sizes and kind are in range, and there is a sample of the kind at each place
 pub record IsCube (c : Image) : Type 0 where

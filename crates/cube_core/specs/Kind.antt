@@ -1,5 +1,5 @@
 -- The kind of an image's samples: signed or not, and how many bits (CCSDS 123.0-B-1, "Image").
-use Rattle.std.specs.Prelude.{ℕ, ◌-◌, ◌^◌, nat_le, ◌&&◌, Bool, ℤ, pos, neg_ℤ, ◌-ℤ◌, if◌then◌else◌, Result, Ok, Err}
+use Rattle.std.specs.Prelude.{ℕ, ◌-◌, ◌^◌, nat_le, ◌&&◌, Bool, ℤ, pos, neg_ℤ, ◌+ℤ◌, ◌-ℤ◌, ◌≤ℤ◌, if◌then◌else◌, Result, Ok, Err}
 use Rattle.cube_core.specs.declared.fault.Fault.{Fault}
 use Rattle.cube_core.specs.declared.fault.Fault.TheVariants.{FieldRange}
 use Rattle.cube_core.specs.declared.fault.Field.TheVariants.{DynamicRange}
@@ -29,3 +29,11 @@ smax k = if k.signed then pos (2 ^ (k.bits - 1)) -ℤ pos 1 else pos (2 ^ k.bits
 -- the middle sample
 abbrev pub smid : SampleKind → ℤ
 smid k = if k.signed then pos 0 else pos (2 ^ (k.bits - 1))
+
+-- a sample of the kind
+abbrev pub IsSample : SampleKind → ℤ → Type 0
+IsSample k v = (smin k ≤ℤ v) × (v ≤ℤ smax k)
+
+-- the sample that stands so far above the least one
+abbrev pub sample_of : SampleKind → ℕ → ℤ
+sample_of k height = smin k +ℤ pos height

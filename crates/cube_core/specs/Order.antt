@@ -1,11 +1,10 @@
 -- The order in which the samples are encoded (CCSDS 123.0-B-1, "Encoding order").
-use Rattle.std.specs.Prelude.{◌≡◌, ◌⊎◌, ℕ, zero, suc, ◌+◌, ◌-◌, ◌*◌, ◌/◌, ◌<◌, ◌≤◌, min, List, [], ◌∷◌, map, length}
-use Rattle.std.specs.List.{flat_map, Contains}
+use Rattle.std.specs.Prelude.{◌≡◌, ◌⊎◌, ℕ, zero, suc, ◌+◌, ◌-◌, ◌*◌, ◌/◌, ◌<◌, min, List, [], ◌∷◌, map}
+use Rattle.std.specs.List.{flat_map}
 use Rattle.cube_core.specs.declared.order.Order.{Order}
 use Rattle.cube_core.specs.declared.order.Order.TheVariants.{Bsq, Bi}
 use Rattle.cube_core.specs.declared.order.Place.{Place}
 use Rattle.cube_core.specs.Shape.{Sizes, InRange}
-use Rattle.cube_core.specs.Image.{IsPlace}
 
 -- band sequential, or a depth of interleaving of 1 to the number of bands
 abbrev pub IsOrder : Sizes → Order → Type 0

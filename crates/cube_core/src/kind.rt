@@ -1,8 +1,8 @@
 //! The kind of a cube's samples: signed or not, and of how many bits.
 
-ghost use Rattle.std.specs.Prelude.{◌≡◌, ◌↔◌, ◌^◌, ◌-◌, IsOk, pos, negsuc, ◌≤ℤ◌, ◌+ℤ◌};
+ghost use Rattle.std.specs.Prelude.{◌≡◌, ◌↔◌, ◌<◌, ◌^◌, IsOk, pos, negsuc, ◌≤ℤ◌, ◌+ℤ◌};
 ghost use Rattle.cube_core.specs.Shape.{InRange};
-ghost use Rattle.cube_core.specs.Kind.{IsKind, kind_or_fault, smin, smax, smid};
+ghost use Rattle.cube_core.specs.Kind.{kind_or_fault, smin, smax, smid, IsSample, sample_of};
 
 use crate::fault::{Fault, Field};
 use std::marker::Model;
@@ -95,5 +95,24 @@ impl Kind {
         } else {
             1i32 << (self.bits - 1)
         }
+    }
+
+    /// The sample that stands so far above the least one.
+    pub fn sample_of(self, height: u16) -> i32
+        requires { height < 2 ^ self.bits }
+        ensures value { result ≡ sample_of self height }
+        ensures range { IsSample self result }
+        ensures bounds { (negsuc 32767 ≤ℤ result) × (result ≤ℤ pos 65535) }
+    {
+        self.smin() + i32::from(height)
+    }
+
+    /// How far a sample stands above the least one.
+    pub fn height_of(self, sample: i32) -> u16
+        requires { IsSample self sample }
+        ensures value { sample_of self result ≡ sample }
+        ensures below { result < 2 ^ self.bits }
+    {
+        (sample - self.smin()) as u16
     }
 }

@@ -1,6 +1,7 @@
 //! Image cubes: their shapes, the orders of their samples, their raw layouts, and the one fault type.
 #![tactic(auto)]
 
+pub mod cube;
 pub mod fault;
 pub mod kind;
 pub mod order;
