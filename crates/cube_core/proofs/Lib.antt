@@ -1,2 +1,4 @@
 pub mod Bounds
 pub mod Heights
+pub mod Lists
+pub mod Orders

@@ -5,6 +5,7 @@ use Rattle.cube_core.specs.declared.order.Order.{Order}
 use Rattle.cube_core.specs.declared.order.Order.TheVariants.{Bsq, Bi}
 use Rattle.cube_core.specs.declared.order.Place.{Place}
 use Rattle.cube_core.specs.Shape.{Sizes, InRange}
+use Rattle.cube_core.specs.Image.{IsPlace}
 
 -- band sequential, or a depth of interleaving of 1 to the number of bands
 abbrev pub IsOrder : Sizes → Order → Type 0
@@ -44,3 +45,18 @@ abbrev pub IsBefore : List ℕ → List ℕ → Type 0
 IsBefore [] ys = ⊥
 IsBefore (x ∷ xs) [] = ⊥
 IsBefore (x ∷ xs) (y ∷ ys) = (x < y) ⊎ ((x ≡ y) × IsBefore xs ys)
+
+-- how many bands a group has that begins at this band
+abbrev pub group_size : Sizes → ℕ → ℕ → ℕ
+group_size s depth first = min depth (s.bands - first)
+
+-- where a place stands in the encoding order, counted from 0
+unfoldable pub place_index : Sizes → Order → Place → ℕ
+place_index s Bsq p = (p.z * s.rows + p.y) * s.columns + p.x
+place_index s (Bi depth) p =
+    let first = p.z / depth * depth in
+    (p.y * s.bands + first) * s.columns + (p.x * group_size s depth first + (p.z - first))
+
+-- a place of an image with these sizes
+abbrev pub IsPlaceOf : Sizes → Place → Type 0
+IsPlaceOf s p = IsPlace s p.z p.y p.x
