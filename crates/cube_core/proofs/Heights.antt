@@ -49,6 +49,7 @@ row_heights c s k heights z y i e h f fits x lt =
     let read : get_or (take (i + s.columns - i) (drop i heights)) x 0 ≡ get_or heights (i + x) 0 = get_or-take (i + s.columns - i) (drop i heights) x 0 within ∙ get_or-drop i heights x 0 in
     let place : i + x ≡ index_in s.columns s.rows z y x = omega arith in
     let kind : k ≡ c.kind = ap (λ (d : Image). d.kind) e in
-    let sample = sample_at_height c s k heights z y x (i + x) e place there in
-    (subst (λ (j : SampleKind). get_or (take (i + s.columns - i) (drop i heights)) x 0 < 2 ^ j.bits) kind (rw read (h.range (i + x) there)),
-    sample ∙ ap (λ (j : SampleKind). sample_of j (get_or heights (i + x) 0)) kind ∙ ap (sample_of c.kind) (sym read))
+    let sample = sample_at_height c s k heights z y x (i + x) e place there in (
+      subst (λ (j : SampleKind). get_or (take (i + s.columns - i) (drop i heights)) x 0 < 2 ^ j.bits) kind (rw read (h.range (i + x) there)),
+      sample ∙ ap (λ (j : SampleKind). sample_of j (get_or heights (i + x) 0)) kind ∙ ap (sample_of c.kind) (sym read),
+    )

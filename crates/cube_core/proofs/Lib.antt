@@ -2,3 +2,4 @@ pub mod Bounds
 pub mod Heights
 pub mod Lists
 pub mod Orders
+pub mod Walks

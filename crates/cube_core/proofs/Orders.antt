@@ -113,7 +113,7 @@ get_or-line_of s depth y i x k d h a b c =
     let many : i < group_count s depth = group_below s.bands depth i h a in
     let inside : x * size_of s depth i + k < size_of s depth i * s.columns = mul-add-lt x (size_of s depth i) k s.columns b c in
     get_or-pieces (group_row s depth y) 0 (group_count s depth) (s.columns * depth) i (x * size_of s depth i + k) d
-      (λ j low high. length-group_row s depth y j ∙ ap (λ (m : ℕ). s.columns * m) (whole_group s depth i j a (omega arith))) many (rw (e, length-group_row s depth y i) (omega (arith, inside)))
+    (λ j low high. length-group_row s depth y j ∙ ap (λ (m : ℕ). s.columns * m) (whole_group s depth i j a (omega arith))) many (rw (e, length-group_row s depth y i) (omega (arith, inside)))
     ∙ rw e (get_or-group_row s depth y i x k d b c)
 
 pub place_at_bi : (s : Sizes) (depth y i x k : ℕ) (d : Place) → 1 ≤ depth → y < s.rows → i * depth < s.bands → x < s.columns → k < size_of s depth i → get_or (flat_map (line_of s depth) (upto s.rows)) ((y * s.bands + i * depth) * s.columns + (x * size_of s depth i + k)) d ≡ record { z = i * depth + k; y = y; x = x }

@@ -1,3 +1,4 @@
+pub mod Cursor
 pub mod Heights
 pub mod Image
 pub mod Kind

@@ -2,6 +2,7 @@
 #![tactic(auto)]
 
 pub mod cube;
+pub mod cursor;
 pub mod fault;
 pub mod kind;
 pub mod order;

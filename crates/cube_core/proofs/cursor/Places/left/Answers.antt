@@ -1,0 +1,6 @@
+use Rattle.std.proofs.Common.{sym, ◌∙◌, ap, length}
+use Rattle.cube_core.proofs.Walks.{length-places_left}
+use Rattle.cube_core.proofs.cursor.Places.left.Goals as goal
+
+pub returns : goal.returns
+returns c = sym (ap length (sym c.self.view_is) ∙ length-places_left c.self.inside.shape c.self.inside.order c.self.inside.left c.self.invariant.lawful c.self.invariant.few)

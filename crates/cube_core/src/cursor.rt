@@ -1,0 +1,199 @@
+//! A walk over the places of a cube in encoding order, which steps from place to place without a division.
+
+ghost use Rattle.std.specs.Prelude.{◌≡◌, ◌+◌, ◌<◌, length, slice_get};
+ghost use Rattle.std.specs.Iterator.{YieldsFirst, item_count};
+ghost use Rattle.cube_core.specs.Shape.{InRange, sample_count};
+ghost use Rattle.cube_core.specs.Order.{IsOrder, IsPlaceOf, place_index, places};
+ghost use Rattle.cube_core.specs.Cursor.{IsSpot};
+
+use crate::order::{Order, Place};
+use crate::shape::Shape;
+use std::marker::Model;
+
+/// A place, and the bands `first` to `end - 1` of the group that it is in.
+#[derive(Clone, Copy)]
+pub(crate) struct Spot {
+    pub(crate) place: Place,
+    pub(crate) first: u32,
+    pub(crate) end: u32,
+}
+
+/// The places that are still to come, in encoding order.
+#[derive(Drop)]
+pub struct Places {
+    shape: Shape,
+    order: Order,
+    spot: Spot,
+    left: u64,
+}
+
+impl Model for Places {
+    ghost use Rattle.std.specs.Prelude.{List};
+    ghost use Rattle.cube_core.specs.declared.order.Place.{Place};
+    ghost use Rattle.cube_core.specs.Cursor.{IsWalk, places_left};
+
+    ghost Value = { List Place };
+
+    ghost view = { λ w. places_left w.shape w.order w.left };
+
+    ghost invariant = { λ w. IsWalk w.shape w.order w.spot w.left };
+}
+
+impl Places {
+    /// All places of a cube, in encoding order.
+    pub fn new(shape: Shape, order: Order) -> Places
+        requires { IsOrder shape order }
+        ensures { result ≡ places shape order }
+    {
+        Places {
+            shape,
+            order,
+            spot: first_spot(shape, order),
+            left: shape.sample_count(),
+        }
+    }
+
+    /// The place that comes next, where one does.
+    pub fn peek(&self) -> Option<Place>
+        ensures { result ≡ slice_get self.now 0 }
+    {
+        if self.left == 0 {
+            None
+        } else {
+            Some(self.spot.place)
+        }
+    }
+
+    /// How many places are still to come.
+    pub fn left(&self) -> u64
+        ensures { result ≡ length self.now }
+    {
+        self.left
+    }
+}
+
+impl Iterator for Places {
+    type Item = Place;
+
+    ghost next_gives = { YieldsFirst (λ w. w) };
+
+    ghost remaining = { item_count (λ w. w) };
+
+    fn next(&mut self) -> Option<Place> {
+        if self.left == 0 {
+            return None;
+        }
+        let place = self.spot.place;
+        self.left -= 1;
+        if self.left > 0 {
+            self.spot = spot_after(self.shape, self.order, self.spot);
+        }
+        Some(place)
+    }
+}
+
+/// The spot of the first place.
+fn first_spot(shape: Shape, order: Order) -> Spot
+    requires { IsOrder shape order }
+    ensures spot { IsSpot shape order result }
+    ensures first { place_index shape order result.place ≡ 0 }
+{
+    // No size is 0, so there is a first place.
+    let _count = shape.sample_count();
+    let place = Place { z: 0, y: 0, x: 0 };
+    match order {
+        Order::Bsq => Spot {
+            place,
+            first: 0,
+            end: 0,
+        },
+        Order::Bi(depth) => Spot {
+            place,
+            first: 0,
+            end: depth,
+        },
+    }
+}
+
+/// The spot behind one that isn't the last.
+fn spot_after(shape: Shape, order: Order, spot: Spot) -> Spot
+    requires order { IsOrder shape order }
+    requires spot { IsSpot shape order spot }
+    requires more { place_index shape order spot.place + 1 < sample_count shape }
+    ensures spot { IsSpot shape order result }
+    ensures next { place_index shape order result.place ≡ place_index shape order spot.place + 1 }
+{
+    match order {
+        Order::Bsq => Spot {
+            place: place_after(shape, spot.place),
+            ..spot
+        },
+        Order::Bi(depth) => interleaved_after(shape, depth, spot),
+    }
+}
+
+/// The place behind one that isn't the last, band after band.
+fn place_after(shape: Shape, place: Place) -> Place
+    requires place { IsPlaceOf shape place }
+    requires more { place_index shape Order.Bsq place + 1 < sample_count shape }
+    ensures place { IsPlaceOf shape result }
+    ensures next { place_index shape Order.Bsq result ≡ place_index shape Order.Bsq place + 1 }
+{
+    let Place { z, y, x } = place;
+    if x + 1 < shape.columns() {
+        Place { z, y, x: x + 1 }
+    } else if y + 1 < shape.rows() {
+        Place { z, y: y + 1, x: 0 }
+    } else {
+        Place {
+            z: z + 1,
+            y: 0,
+            x: 0,
+        }
+    }
+}
+
+/// The spot behind one that isn't the last, under interleaving.
+fn interleaved_after(shape: Shape, depth: u32, spot: Spot) -> Spot
+    requires depth { InRange 1 shape.bands depth }
+    requires spot { IsSpot shape (Order.Bi depth) spot }
+    requires more { place_index shape (Order.Bi depth) spot.place + 1 < sample_count shape }
+    ensures spot { IsSpot shape (Order.Bi depth) result }
+    ensures next { place_index shape (Order.Bi depth) result.place ≡ place_index shape (Order.Bi depth) spot.place + 1 }
+{
+    let Spot { place, first, end } = spot;
+    let Place { z, y, x } = place;
+    if z + 1 < end {
+        Spot {
+            place: Place { z: z + 1, y, x },
+            first: first,
+            end: end,
+        }
+    } else if x + 1 < shape.columns() {
+        Spot {
+            place: Place {
+                z: first,
+                y,
+                x: x + 1,
+            },
+            first: first,
+            end: end,
+        }
+    } else if end < shape.bands() {
+        Spot {
+            place: Place { z: end, y, x: 0 },
+            first: end,
+            end: shape.bands().min(end + depth),
+        }
+    } else {
+        Spot {
+            place: Place {
+                z: 0,
+                y: y + 1,
+                x: 0,
+            },
+            first: 0,
+            end: depth,
+        }
+    }
+}
