@@ -1,0 +1,6 @@
+pub mod Bytes
+pub mod Numbers
+pub mod Pushes
+pub mod Reading
+pub mod Windows
+pub mod Words

@@ -1,0 +1,50 @@
+use Rattle.std.proofs.Common.{arith, ap, sym, ◌∙◌, ◌++◌, false, List, Bool, length, replicate, Err}
+use Rattle.cube_core.specs.declared.fault.Fault.TheVariants.{Truncated}
+use Rattle.header_bits.specs.Bits.{bits_of_bytes}
+use Rattle.header_bits.proofs.Reading.{ends_at, full_at, short_at, no_one}
+use Rattle.header_bits.proofs.Windows.{left_length}
+use Rattle.header_bits.proofs.bit_reader.BitReader.count_zeros.Goals as goal
+
+pub zeros_ahead-zeros-requires-clause-enough : goal.zeros_ahead-zeros-requires-clause-enough
+zeros_ahead-zeros-requires-clause-enough c =
+    let place = left_length c.self.inside.at c.self.inside.bytes.now c.args.self.now.left c.self.invariant.0 (ap (λ w. w.left) c.self.view_is) in
+    omega (arith, place, c.left.ensures, c.min-most.ensures)
+
+pub overflow_add-self-then-zeros-most : goal.overflow_add-self-then-zeros-most
+overflow_add-self-then-zeros-most c =
+    let place = left_length c.self.inside.at c.self.inside.bytes.now c.args.self.now.left c.self.invariant.0 (ap (λ w. w.left) c.self.view_is) in
+    omega (arith, place, c.left.ensures, c.min-most.ensures)
+
+pub invariant_of-self : goal.invariant_of-self
+invariant_of-self c =
+    let place = left_length c.self.inside.at c.self.inside.bytes.now c.args.self.now.left c.self.invariant.0 (ap (λ w. w.left) c.self.view_is) in
+    (omega (arith, place, c.left.ensures, c.min-most.ensures), c.self.invariant.1)
+
+pub returns-then-zeros-most-clause-reads : goal.returns-then-zeros-most-clause-reads
+returns-then-zeros-most-clause-reads c =
+    ends_at c.args.self.now.count c.args.limit c.zeros_ahead-zeros.result c.self.inside.at (bits_of_bytes c.self.inside.bytes.now) c.args.self.now.left (omega (arith, c.min-most.ensures)) (ap (λ w. w.left) c.self.view_is) c.zeros_ahead-zeros.ensures.zeros
+    (c.zeros_ahead-zeros.ensures.one c.if-zeros-most.true)
+
+pub returns-then-zeros-most-clause-short : goal.returns-then-zeros-most-clause-short
+returns-then-zeros-most-clause-short c =
+    let one = c.zeros_ahead-zeros.ensures.zeros ∙ ap (λ (x : List Bool). replicate c.zeros_ahead-zeros.result false ++ x) (c.zeros_ahead-zeros.ensures.one c.if-zeros-most.true) in
+    (λ h. absurd cc, λ h. absurd (no_one (length c.args.self.now.left) c.zeros_ahead-zeros.result _ (sym h.1 ∙ sym (ap (λ w. w.left) c.self.view_is) ∙ one)))
+
+pub returns-then-most-limit-clause-reads : goal.returns-then-most-limit-clause-reads
+returns-then-most-limit-clause-reads c =
+    short_at c.args.self.now.count c.args.limit c.zeros_ahead-zeros.result c.self.inside.at (bits_of_bytes c.self.inside.bytes.now) c.args.self.now.left (omega (arith, c.min-most.ensures, c.left.ensures, c.zeros_ahead-zeros.ensures.within)) (omega (arith, c.zeros_ahead-zeros.ensures.within)) (ap (λ w. w.left) c.self.view_is) c.zeros_ahead-zeros.ensures.zeros
+    ∙ ap (λ k. Err (Truncated k)) (sym c.count.ensures)
+
+pub overflow_add-self-2 : goal.overflow_add-self-2
+overflow_add-self-2 c =
+    let place = left_length c.self.inside.at c.self.inside.bytes.now c.args.self.now.left c.self.invariant.0 (ap (λ w. w.left) c.self.view_is) in
+    omega (arith, place, c.left.ensures, c.min-most.ensures, c.zeros_ahead-zeros.ensures.within)
+
+pub invariant_of-self-2 : goal.invariant_of-self-2
+invariant_of-self-2 c =
+    let place = left_length c.self.inside.at c.self.inside.bytes.now c.args.self.now.left c.self.invariant.0 (ap (λ w. w.left) c.self.view_is) in
+    (omega (arith, place, c.left.ensures, c.min-most.ensures, c.zeros_ahead-zeros.ensures.within), c.self.invariant.1)
+
+pub returns-clause-reads : goal.returns-clause-reads
+returns-clause-reads c =
+    full_at c.args.self.now.count c.args.limit c.zeros_ahead-zeros.result c.self.inside.at (bits_of_bytes c.self.inside.bytes.now) c.args.self.now.left (omega (arith, c.min-most.ensures, c.zeros_ahead-zeros.ensures.within)) (ap (λ w. w.left) c.self.view_is) c.zeros_ahead-zeros.ensures.zeros

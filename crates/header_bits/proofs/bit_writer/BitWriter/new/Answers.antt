@@ -1,0 +1,7 @@
+use Rattle.std.proofs.Common.{refl}
+use Rattle.header_bits.specs.Bits.{bits_of, bits_of_bytes}
+use Rattle.header_bits.proofs.bit_writer.BitWriter.new.Goals as goal
+
+pub returns : goal.returns
+unfolding bits_of bits_of_bytes
+returns c = rw c.new.ensures.items refl

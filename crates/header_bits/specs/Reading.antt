@@ -1,0 +1,35 @@
+-- Reading from the front of bits: what is read is a value and the bits after it, or the first fault that is met.
+use Rattle.std.specs.Prelude.{◌≡◌, ℕ, zero, suc, ◌<◌, ◌≤◌, nat_lt, Bool, true, false, List, [], ◌∷◌, ◌++◌, length, take, drop, replicate, Result, Ok, Err, if◌then◌else◌}
+use Rattle.cube_core.specs.declared.fault.Fault.{Fault}
+use Rattle.cube_core.specs.declared.fault.Fault.TheVariants.{Truncated}
+use Rattle.cube_core.specs.Steps.{◌>>=◌}
+use Rattle.header_bits.specs.Bits.{number_of}
+
+abbrev pub Reading : Type 0 → Type 0
+Reading X = List Bool → Result (X × List Bool) Fault
+
+-- what a call answered, and the bits that it left, are what reading gives
+abbrev pub Reads : {X Y : Type 0} → (X → Y) → Result X Fault → List Bool → Result (Y × List Bool) Fault → Type 0
+Reads view (Ok x) left read = read ≡ Ok (view x, left)
+Reads view (Err e) left read = read ≡ Err e
+
+-- so many bits as a number, of a file of `count` bits
+unfoldable pub number_at : ℕ → ℕ → Reading ℕ
+number_at count n bits = if nat_lt (length bits) n then Err (Truncated count) else Ok (number_of (take n bits), drop n bits)
+
+-- one zero more was read
+abbrev pub one_more : Result (ℕ × List Bool) Fault → Result (ℕ × List Bool) Fault
+one_more read = read >>= λ z. Ok (suc z.0, z.1)
+
+-- zeros up to a one, which is taken and not counted, or up to a limit
+unfoldable pub zeros_at : ℕ → ℕ → Reading ℕ
+zeros_at count zero bits = Ok (0, bits)
+zeros_at count (suc limit) [] = Err (Truncated count)
+zeros_at count (suc limit) (true ∷ bits) = Ok (0, bits)
+zeros_at count (suc limit) (false ∷ bits) = one_more (zeros_at count limit bits)
+
+-- zeros up to a one, fewer than the limit; or the limit's number of them
+pub record ReadsZeros (limit zeros : ℕ) (old new : List Bool) : Type 0 where
+  pub within : zeros ≤ limit
+  pub one : zeros < limit → old ≡ replicate zeros false ++ true ∷ new
+  pub full : zeros ≡ limit → old ≡ replicate zeros false ++ new

@@ -1,0 +1,246 @@
+//! Bits from the front of bytes.
+
+ghost use Rattle.std.specs.Prelude.{◌≡◌, ◌+◌, ◌*◌, ◌/◌, ◌%◌, ◌^◌, ◌<◌, ◌≤◌, ◌↔◌, ◌++◌, ◌∷◌, true, false, length, take, drop, replicate, IsOk, IsErr, IfOk, IfErr, OnErr};
+ghost use Rattle.cube_core.specs.declared.fault.Fault.TheVariants.{Truncated};
+ghost use Rattle.header_bits.specs.Bits.{bits_of, bits_of_bytes};
+ghost use Rattle.header_bits.specs.Reading.{Reads, ReadsZeros, number_at, zeros_at};
+ghost use Rattle.header_bits.specs.Windows.{IsFrontWord, IsWindow};
+
+use cube_core::fault::Fault;
+use std::marker::Model;
+
+/// Bytes whose bits are taken one number after another, the most significant bit of each first.
+///
+/// Contracts see how many bits there are in all, and the bits that are left.
+#[derive(Drop)]
+pub struct BitReader<'a> {
+    bytes: &'a [u8],
+    /// How many bits were taken.
+    at: u64,
+}
+
+impl<'a> Model for BitReader<'a> {
+    ghost use Rattle.std.specs.Prelude.{◌*◌, ◌^◌, ◌≤◌, length, drop};
+    ghost use Rattle.header_bits.specs.Bits.{bits_of_bytes, Unread};
+
+    ghost Value = { Unread };
+
+    ghost view = { λ a. record { count = 8 * length a.bytes.now; left = drop a.at (bits_of_bytes a.bytes.now) } };
+
+    ghost invariant = { λ a. (a.at ≤ 8 * length a.bytes.now) × (length a.bytes.now ≤ 2 ^ 60) };
+}
+
+impl<'a> BitReader<'a> {
+    /// A reader at the first bit of at most 2^60 bytes.
+    pub fn new(bytes: &'a [u8]) -> BitReader<'a>
+        requires { length bytes.now ≤ 2 ^ 60 }
+        ensures count { result.count ≡ 8 * length bytes.now }
+        ensures left { result.left ≡ bits_of_bytes bytes.now }
+    {
+        BitReader { bytes, at: 0 }
+    }
+
+    /// Another reader at the same place of the same bytes.
+    pub fn fork(&self) -> BitReader<'a>
+        ensures { result ≡ self.now }
+    {
+        BitReader {
+            bytes: self.bytes,
+            at: self.at,
+        }
+    }
+
+    /// How many bits there are in all, those that were taken counted.
+    pub fn count(&self) -> u64
+        ensures { result ≡ self.now.count }
+    {
+        self.bytes.len() as u64 * 8
+    }
+
+    /// How many bits are left.
+    pub fn left(&self) -> u64
+        ensures { result ≡ length self.now.left }
+    {
+        self.count() - self.at
+    }
+
+    /// Takes the next `n` bits as a number, the first bit the most significant.
+    ///
+    /// `n` is at most 64. Where fewer bits are left the answer is `Truncated`, with the number of
+    /// bits of all the bytes, and the reader stands where it stood.
+    pub fn take(&mut self, n: u32) -> Result<u64, Fault>
+        requires { n ≤ 64 }
+        ensures reads { Reads (λ x. x) result self.new.left (number_at self.old.count n self.old.left) }
+        ensures enough { IsOk result ↔ (n ≤ length self.old.left) }
+        ensures short { IsErr result → length self.old.left < n }
+        ensures taken { IfOk result (λ v. self.old.left ≡ bits_of n v ++ self.new.left) }
+        ensures below { IfOk result (λ v. v < 2 ^ n) }
+        ensures count { self.new.count ≡ self.old.count }
+        ensures refused { IfErr result (λ e. e ≡ Truncated self.old.count) }
+        ensures same { OnErr result (self.new ≡ self.old) }
+    {
+        if self.left() < u64::from(n) {
+            return Err(Fault::Truncated { bit: self.count() });
+        }
+        let number = number_of_bits(self.bytes, self.at, n);
+        self.at += u64::from(n);
+        Ok(number)
+    }
+
+    /// Takes zeros and the one behind them, or `limit` zeros, and counts the zeros.
+    ///
+    /// Where the bits end before that the answer is `Truncated`, with the number of bits of all the
+    /// bytes, and the reader stands where it stood.
+    pub fn count_zeros(&mut self, limit: u64) -> Result<u64, Fault>
+        ensures reads { Reads (λ x. x) result self.new.left (zeros_at self.old.count limit self.old.left) }
+        ensures taken { IfOk result (λ zeros. ReadsZeros limit zeros self.old.left self.new.left) }
+        ensures short { IsErr result ↔ ((length self.old.left < limit) × (self.old.left ≡ replicate (length self.old.left) false)) }
+        ensures count { self.new.count ≡ self.old.count }
+        ensures refused { IfErr result (λ e. e ≡ Truncated self.old.count) }
+        ensures same { OnErr result (self.new ≡ self.old) }
+    {
+        let most = self.left().min(limit);
+        let zeros = zeros_ahead(self.bytes, self.at, most);
+        if zeros < most {
+            self.at += zeros + 1;
+            return Ok(zeros);
+        }
+        if most < limit {
+            return Err(Fault::Truncated { bit: self.count() });
+        }
+        self.at += zeros;
+        Ok(zeros)
+    }
+}
+
+/// The next `n` bits as a number.
+fn number_of_bits(bytes: &[u8], at: u64, n: u32) -> u64
+    requires small { length bytes.now ≤ 2 ^ 60 }
+    requires few { n ≤ 64 }
+    requires enough { at + n ≤ 8 * length bytes.now }
+    ensures bits { drop at (bits_of_bytes bytes.now) ≡ bits_of n result ++ drop (at + n) (bits_of_bytes bytes.now) }
+    ensures below { result < 2 ^ n }
+{
+    if n <= 56 {
+        return piece_at(bytes, at, n);
+    }
+    let first = n - 32;
+    let high = piece_at(bytes, at, first);
+    (high << 32) | piece_at(bytes, at + u64::from(first), 32)
+}
+
+/// The next few bits as a number: they lie in eight bytes.
+fn piece_at(bytes: &[u8], at: u64, n: u32) -> u64
+    requires small { length bytes.now ≤ 2 ^ 60 }
+    requires few { n ≤ 56 }
+    requires enough { at + n ≤ 8 * length bytes.now }
+    ensures bits { drop at (bits_of_bytes bytes.now) ≡ bits_of n result ++ drop (at + n) (bits_of_bytes bytes.now) }
+    ensures below { result < 2 ^ n }
+{
+    // Two shifts, since n may be 0 and a shift by 64 isn't one.
+    (window_at(bytes, at) >> 1) >> (63 - n)
+}
+
+/// How many zeros come next, before a one and up to `most`, a word of bits at a time.
+fn zeros_ahead(bytes: &[u8], at: u64, most: u64) -> u64
+    requires small { length bytes.now ≤ 2 ^ 60 }
+    requires enough { at + most ≤ 8 * length bytes.now }
+    ensures within { result ≤ most }
+    ensures zeros { drop at (bits_of_bytes bytes.now) ≡ replicate result false ++ drop (at + result) (bits_of_bytes bytes.now) }
+    ensures one { result < most → drop (at + result) (bits_of_bytes bytes.now) ≡ true ∷ drop (at + result + 1) (bits_of_bytes bytes.now) }
+{
+    let mut zeros = 0;
+    while zeros < most {
+        let next = at + zeros;
+        let run = u64::from(window_at(bytes, next).leading_zeros());
+        let some = (64 - next % 8).min(most - zeros);
+        if run < some {
+            return zeros + run;
+        }
+        zeros += some;
+    }
+    most
+}
+
+/// A word whose highest bits are the next ones, up to the end of the eighth byte from here.
+fn window_at(bytes: &[u8], at: u64) -> u64
+    requires small { length bytes.now ≤ 2 ^ 60 }
+    requires within { at ≤ 8 * length bytes.now }
+    ensures { IsWindow bytes.now at result }
+{
+    word_of(&bytes[(at / 8) as usize..]) << (at % 8)
+}
+
+/// The first eight bytes as a word, with zeros for those that aren't there.
+fn word_of(bytes: &[u8]) -> u64
+    ensures { IsFrontWord bytes.now result }
+{
+    match bytes.first_chunk::<8>() {
+        Some(eight) => word_of_eight(eight),
+        None => word_of_eight(&padded(bytes)),
+    }
+}
+
+/// Eight bytes as a word, the first byte the highest.
+fn word_of_eight(bytes: &[u8; 8]) -> u64
+    ensures bits { bits_of_bytes bytes.now ≡ bits_of 64 result }
+    ensures below { result < 2 ^ 64 }
+{
+    u64::from_be_bytes(*bytes)
+}
+
+/// Fewer than eight bytes, with zeros behind them.
+fn padded(bytes: &[u8]) -> [u8; 8]
+    requires { length bytes.now < 8 }
+    ensures { take (length bytes.now) result ≡ bytes.now }
+{
+    let mut eight = [0; 8];
+    eight[..bytes.len()].copy_from_slice(bytes);
+    eight
+}
+
+#[cfg(test)]
+mod tests {
+    use super::*;
+
+    #[test]
+    fn zeros_end_in_a_one_that_is_taken(rt: HostRuntime) {
+        let mut reader = BitReader::new(&[1]);
+        assert_eq!(rt; reader.count_zeros(10), Ok(7));
+        assert_eq!(rt; reader.left(), 0);
+        let mut reader = BitReader::new(&[1]);
+        assert_eq!(rt; reader.count_zeros(7), Ok(7));
+        assert_eq!(rt; reader.left(), 1);
+    }
+
+    #[test]
+    fn zeros_end_too_early(rt: HostRuntime) {
+        let mut reader = BitReader::new(&[0]);
+        assert_eq!(rt; reader.count_zeros(10), Err(Fault::Truncated { bit: 8 }));
+        assert_eq!(rt; reader.left(), 8);
+    }
+
+    #[test]
+    fn zeros_over_words(rt: HostRuntime) {
+        let mut bytes = [0; 20];
+        bytes[18] = 0x10; // 147 zeros, a one, 12 zeros
+        let mut reader = BitReader::new(&bytes);
+        assert_eq!(rt; reader.take(5), Ok(0));
+        assert_eq!(rt; reader.fork().count_zeros(100), Ok(100));
+        assert_eq!(rt; reader.count_zeros(1000), Ok(142));
+        assert_eq!(rt; reader.count(), 160);
+        assert_eq!(rt; reader.left(), 12);
+    }
+
+    #[test]
+    fn numbers_over_bytes(rt: HostRuntime) {
+        let bytes = [0xA5, 0x0F, 0xFF, 0x00, 0x12, 0x34, 0x56, 0x78, 0x9A, 0xBC];
+        let mut reader = BitReader::new(&bytes);
+        assert_eq!(rt; reader.take(0), Ok(0));
+        assert_eq!(rt; reader.take(3), Ok(5));
+        assert_eq!(rt; reader.take(64), Ok(0x287F_F800_91A2_B3C4));
+        assert_eq!(rt; reader.take(14), Err(Fault::Truncated { bit: 80 }));
+        assert_eq!(rt; reader.take(13), Ok(0x1ABC));
+        assert_eq!(rt; reader.left(), 0);
+    }
+}

@@ -1,0 +1,199 @@
+//! Bits at the end of a growing row of bytes.
+
+ghost use Rattle.std.specs.Prelude.{◌≡◌, ◌+◌, ◌-◌, ◌*◌, ◌/◌, ◌%◌, ◌^◌, ◌<◌, ◌≤◌, ◌++◌, [], length, vec_len, vec_capacity, IsOk, IfErr, OnOk, OnErr};
+ghost use Rattle.cube_core.specs.declared.fault.Fault.TheVariants.{WantOfMemory};
+ghost use Rattle.header_bits.specs.Bits.{bits_of, bits_of_bytes};
+
+use cube_core::fault::Fault;
+use std::alloc::Global;
+use std::marker::Model;
+
+/// The most bits that a writer holds.
+const MOST_BITS: u64 = 1 << 63;
+
+/// Bits that were pushed one number after another, the most significant bit of each first.
+///
+/// Contracts see its bits, and its room: for how many bits more there is memory.
+#[derive(Drop)]
+pub struct BitWriter {
+    /// The words that are full.
+    bytes: Vec<u8>,
+    /// The bits behind them are its `held` lowest; what stands above those doesn't matter.
+    part: u64,
+    held: u32,
+}
+
+impl Model for BitWriter {
+    ghost use Rattle.std.specs.Prelude.{◌+◌, ◌-◌, ◌*◌, ◌^◌, ◌<◌, ◌≤◌, ◌++◌, min, vec_len, vec_capacity};
+    ghost use Rattle.header_bits.specs.Bits.{bits_of, bits_of_bytes, Written};
+
+    ghost Value = { Written };
+
+    ghost view = { λ a. record { bits = bits_of_bytes a.bytes.items ++ bits_of a.held a.part; room = min (8 * vec_capacity a.bytes) (2 ^ 63) - (8 * vec_len a.bytes + a.held) } };
+
+    ghost invariant = { λ a. (a.held < 64) × (8 * vec_len a.bytes + a.held ≤ 8 * vec_capacity a.bytes) × (8 * vec_len a.bytes + a.held ≤ 2 ^ 63) };
+}
+
+impl BitWriter {
+    /// A writer of no bits.
+    pub fn new(alloc: Global) -> BitWriter
+        ensures { result.bits ≡ [] }
+    {
+        BitWriter {
+            bytes: Vec::new(alloc),
+            part: 0,
+            held: 0,
+        }
+    }
+
+    /// How many bits were pushed: at most 2^63.
+    pub fn bit_count(&self) -> u64
+        ensures count { result ≡ length self.now.bits }
+        ensures most { result ≤ 2 ^ 63 }
+    {
+        self.bytes.len() as u64 * 8 + u64::from(self.held)
+    }
+
+    /// Makes room, so that pushes of so many bits in all succeed. The bits stay, whatever the answer.
+    ///
+    /// `WantOfMemory` where the memory isn't had, or where the bits would be more than 2^63.
+    pub fn reserve(&mut self, bits: u64) -> Result<(), Fault>
+        ensures same { self.new.bits ≡ self.old.bits }
+        ensures kept { self.old.room ≤ self.new.room }
+        ensures room { OnOk result (bits ≤ self.new.room) }
+        ensures within { bits ≤ self.old.room → IsOk result }
+        ensures refused { IfErr result (λ e. e ≡ WantOfMemory) }
+    {
+        if bits > MOST_BITS - self.bit_count() {
+            return Err(Fault::WantOfMemory);
+        }
+        let more = (u64::from(self.held) + bits + 7) / 8;
+        self.bytes.reserve(more as usize)?;
+        Ok(())
+    }
+
+    /// Appends the `n` bits of a number, the most significant first.
+    ///
+    /// `n` is at most 64, and the number below 2^n. A push within the room succeeds. After
+    /// `WantOfMemory` the bits are as before, and so is the room.
+    pub fn push(&mut self, bits: u64, n: u32) -> Result<(), Fault>
+        requires few { n ≤ 64 }
+        requires below { bits < 2 ^ n }
+        ensures appended { OnOk result (self.new.bits ≡ self.old.bits ++ bits_of n bits) }
+        ensures same { OnErr result (self.new.bits ≡ self.old.bits) }
+        ensures kept { OnErr result (self.old.room ≤ self.new.room) }
+        ensures within { n ≤ self.old.room → IsOk result }
+        ensures room { OnOk result (self.old.room ≤ self.new.room + n) }
+        ensures refused { IfErr result (λ e. e ≡ WantOfMemory) }
+    {
+        self.reserve(u64::from(n))?;
+        let free = 64 - self.held;
+        if n < free {
+            self.part = (self.part << n) | bits;
+            self.held += n;
+        } else {
+            let rest = n - free;
+            let word = filled(self.part, self.held, bits >> rest);
+            append_word(&mut self.bytes, word);
+            self.part = bits;
+            self.held = rest;
+        }
+        Ok(())
+    }
+
+    /// The bytes, where the bits are whole bytes. It takes no memory.
+    pub fn into_bytes(self) -> Vec<u8>
+        requires { length self.bits % 8 ≡ 0 }
+        ensures { bits_of_bytes result.items ≡ self.bits }
+    {
+        let BitWriter {
+            mut bytes,
+            part,
+            held,
+        } = self;
+        append_part(&mut bytes, part, held);
+        bytes
+    }
+}
+
+/// The word of a part's `held` lowest bits and the bits that fill it.
+fn filled(part: u64, held: u32, bits: u64) -> u64
+    requires held { held < 64 }
+    requires below { bits < 2 ^ (64 - held) }
+    ensures { bits_of 64 result ≡ bits_of held part ++ bits_of (64 - held) bits }
+{
+    if held == 0 {
+        bits
+    } else {
+        (part << (64 - held)) | bits
+    }
+}
+
+/// Appends a word, for which there is room.
+fn append_word(bytes: &mut Vec<u8>, word: u64)
+    requires room { vec_len bytes.old + 8 ≤ vec_capacity bytes.old }
+    ensures bits { bits_of_bytes bytes.new.items ≡ bits_of_bytes bytes.old.items ++ bits_of 64 word }
+    ensures len { vec_len bytes.new ≡ vec_len bytes.old + 8 }
+    ensures capacity { vec_capacity bytes.old ≤ vec_capacity bytes.new }
+{
+    bytes.extend_from_slice(&word.to_be_bytes()).unwrap();
+}
+
+/// Appends the `held` lowest bits of a part, which are whole bytes and for which there is room.
+fn append_part(bytes: &mut Vec<u8>, part: u64, held: u32)
+    requires held { held < 64 }
+    requires whole { held % 8 ≡ 0 }
+    requires room { 8 * vec_len bytes.old + held ≤ 8 * vec_capacity bytes.old }
+    ensures { bits_of_bytes bytes.new.items ≡ bits_of_bytes bytes.old.items ++ bits_of held part }
+{
+    if held > 0 {
+        let word = (part << (64 - held)).to_be_bytes();
+        bytes
+            .extend_from_slice(&word[..(held / 8) as usize])
+            .unwrap();
+    }
+}
+
+#[cfg(test)]
+mod tests {
+    use super::*;
+
+    #[test]
+    fn a_word_behind_one_bit(rt: HostRuntime) {
+        let mut writer = BitWriter::new(rt.alloc());
+        assert!(rt; writer.push(1, 1).is_ok());
+        assert!(rt; writer.push(u64::MAX, 64).is_ok());
+        assert_eq!(rt; writer.bit_count(), 65);
+        assert!(rt; writer.push(0, 7).is_ok());
+        assert!(rt;
+            bytes_are(
+                writer,
+                &[0xFF, 0xFF, 0xFF, 0xFF, 0xFF, 0xFF, 0xFF, 0xFF, 0x80]
+            )
+        );
+    }
+
+    #[test]
+    fn reserved_bits_are_pushed(rt: HostRuntime) {
+        let mut writer = BitWriter::new(rt.alloc());
+        assert!(rt; writer.reserve(72).is_ok());
+        for number in [0x5, 0x2, 0x11, 0, 0x7f] {
+            assert!(rt; writer.push(number, 14).is_ok());
+        }
+        assert!(rt; writer.push(0, 0).is_ok());
+        assert!(rt; writer.push(3, 2).is_ok());
+        assert_eq!(rt; writer.bit_count(), 72);
+        assert!(rt; bytes_are(writer, &[0, 20, 0, 32, 4, 64, 0, 1, 255]));
+    }
+
+    #[test]
+    fn more_than_the_most_bits_are_refused(rt: HostRuntime) {
+        let mut writer = BitWriter::new(rt.alloc());
+        assert_eq!(rt; writer.reserve(u64::MAX), Err(Fault::WantOfMemory));
+        assert_eq!(rt; writer.bit_count(), 0);
+    }
+
+    fn bytes_are(writer: BitWriter, wanted: &[u8]) -> bool {
+        writer.bit_count() % 8 == 0 && writer.into_bytes().as_slice() == wanted
+    }
+}
