@@ -1,0 +1,5 @@
+pub mod Body
+pub mod Everything
+pub mod Rows
+pub mod Statistics
+pub mod Words

@@ -1,0 +1,64 @@
+-- The statistics of the sample-adaptive coder, and the code parameter (CCSDS 123.0-B-1, "Adaptive code selection statistics").
+use Rattle.std.specs.Prelude.{ℕ, zero, suc, ◌+◌, ◌-◌, ◌*◌, ◌/◌, ◌^◌, nat_le, nat_lt, Bool, if◌then◌else◌, List, [], ◌∷◌, slice_index}
+use Rattle.header_bits.specs.declared.params.CountStart.{CountStart}
+use Rattle.header_bits.specs.declared.params.CountStart.TheVariants.{Constant, Each}
+use Rattle.sample_adaptive.specs.declared.statistics.Statistics.{Statistics}
+
+-- what the coder is told: D, the unary length limit, the counter's two exponents, and what the accumulator starts from
+pub record CoderSettings : Type 0 where
+  pub bits : ℕ
+  pub umax : ℕ
+  pub gamma_star : ℕ
+  pub gamma_zero : ℕ
+  pub start : CountStart
+
+-- K of a band: the constant, or the band's entry of the table
+unfoldable pub constant_of : CountStart → ℕ → ℕ
+constant_of (Constant k) z = k
+constant_of (Each table) z = slice_index table z
+
+-- Γ(1) is 2^γ0 and Σ(1) is floor((3·2^(K+6) - 49)·Γ(1) / 128)
+unfoldable pub first_statistics : CoderSettings → ℕ → Statistics
+first_statistics c z = record {
+  counter = 2 ^ c.gamma_zero;
+  accumulator = (3 * 2 ^ (constant_of c.start z + 6) - 49) * 2 ^ c.gamma_zero / 128;
+}
+
+-- a number is summed and counted; where the counter stands at 2^γ* - 1, both are halved
+unfoldable pub next_statistics : ℕ → Statistics → ℕ → Statistics
+next_statistics gamma_star s number =
+    if nat_lt s.counter (2 ^ gamma_star - 1) then record { counter = s.counter + 1; accumulator = s.accumulator + number }
+    else record { counter = (s.counter + 1) / 2; accumulator = (s.accumulator + number + 1) / 2 }
+
+-- numbers enter, one after another
+unfoldable pub statistics_from : ℕ → Statistics → List ℕ → Statistics
+statistics_from gamma_star s [] = s
+statistics_from gamma_star s (number ∷ numbers) = statistics_from gamma_star (next_statistics gamma_star s number) numbers
+
+-- the statistics after numbers of band z, of which the first doesn't enter
+unfoldable pub statistics : CoderSettings → ℕ → List ℕ → Statistics
+statistics c z [] = first_statistics c z
+statistics c z (first ∷ later) = statistics_from c.gamma_star (first_statistics c z) later
+
+-- Γ after numbers of band z
+abbrev pub counter : CoderSettings → ℕ → List ℕ → ℕ
+counter c z numbers = (statistics c z numbers).counter
+
+-- Σ after numbers of band z
+abbrev pub accumulator : CoderSettings → ℕ → List ℕ → ℕ
+accumulator c z numbers = (statistics c z numbers).accumulator
+
+-- the greatest number up to n that passes a test, and 0 where none does
+unfoldable pub greatest : (ℕ → Bool) → ℕ → ℕ
+greatest passes zero = 0
+greatest passes (suc n) = if passes (suc n) then suc n else greatest passes n
+
+-- what Γ·2^k is compared with: Σ + floor(49·Γ / 128)
+abbrev pub level : Statistics → ℕ
+level s = s.accumulator + 49 * s.counter / 128
+
+-- k: 0 where 2·Γ is above the level, else the greatest up to D - 2 with Γ·2^k at most the level
+unfoldable pub code_parameter : ℕ → Statistics → ℕ
+code_parameter bits s =
+    if nat_lt (level s) (2 * s.counter) then 0
+    else greatest (λ k. nat_le (s.counter * 2 ^ k) (level s)) (bits - 2)

@@ -1,0 +1,6 @@
+//! The sample-adaptive entropy coder, both ways (CCSDS 123.0-B-1, "Sample-adaptive entropy coder").
+#![tactic(auto)]
+
+pub mod code_word;
+pub mod statistics;
+pub mod worked;
