@@ -1,10 +1,10 @@
 -- Opens each definition, for the worked examples.
 use Rattle.header_bits.specs.Bits.{bits_of, number_of, bits_of_bytes}
 use Rattle.cube_core.specs.Order.{places}
-use Rattle.sample_adaptive.specs.Statistics.{constant_of, first_statistics, next_statistics, statistics_from, statistics, greatest, code_parameter}
+use Rattle.sample_adaptive.specs.Statistics.{constant_of, start_statistics, next_statistics, statistics_from, statistics, greatest, code_parameter}
 use Rattle.sample_adaptive.specs.Words.{form_text, form_of, code_at}
 use Rattle.sample_adaptive.specs.Body.{band_numbers, words_after, sample_body}
 
 unfoldable pub everything : Unit {0}
-unfolding bits_of number_of bits_of_bytes places constant_of first_statistics next_statistics statistics_from statistics greatest code_parameter form_text form_of code_at band_numbers words_after sample_body
+unfolding bits_of number_of bits_of_bytes places constant_of start_statistics next_statistics statistics_from statistics greatest code_parameter form_text form_of code_at band_numbers words_after sample_body
 everything = tt

@@ -1,5 +1,5 @@
 -- The statistics of the sample-adaptive coder, and the code parameter (CCSDS 123.0-B-1, "Adaptive code selection statistics").
-use Rattle.std.specs.Prelude.{ℕ, zero, suc, ◌+◌, ◌-◌, ◌*◌, ◌/◌, ◌^◌, nat_le, nat_lt, Bool, if◌then◌else◌, List, [], ◌∷◌, slice_index}
+use Rattle.std.specs.Prelude.{ℕ, zero, suc, ◌+◌, ◌-◌, ◌*◌, ◌/◌, ◌^◌, ◌<◌, ◌≤◌, nat_le, nat_lt, Bool, if◌then◌else◌, List, [], ◌∷◌, slice_index}
 use Rattle.header_bits.specs.declared.params.CountStart.{CountStart}
 use Rattle.header_bits.specs.declared.params.CountStart.TheVariants.{Constant, Each}
 use Rattle.sample_adaptive.specs.declared.statistics.Statistics.{Statistics}
@@ -18,11 +18,11 @@ constant_of (Constant k) z = k
 constant_of (Each table) z = slice_index table z
 
 -- Γ(1) is 2^γ0 and Σ(1) is floor((3·2^(K+6) - 49)·Γ(1) / 128)
-unfoldable pub first_statistics : CoderSettings → ℕ → Statistics
-first_statistics c z = record {
-  counter = 2 ^ c.gamma_zero;
-  accumulator = (3 * 2 ^ (constant_of c.start z + 6) - 49) * 2 ^ c.gamma_zero / 128;
-}
+unfoldable pub start_statistics : ℕ → ℕ → Statistics
+start_statistics gamma_zero k = record { counter = 2 ^ gamma_zero; accumulator = (3 * 2 ^ (k + 6) - 49) * 2 ^ gamma_zero / 128 }
+
+abbrev pub first_statistics : CoderSettings → ℕ → Statistics
+first_statistics c z = start_statistics c.gamma_zero (constant_of c.start z)
 
 -- a number is summed and counted; where the counter stands at 2^γ* - 1, both are halved
 unfoldable pub next_statistics : ℕ → Statistics → ℕ → Statistics
@@ -62,3 +62,9 @@ unfoldable pub code_parameter : ℕ → Statistics → ℕ
 code_parameter bits s =
     if nat_lt (level s) (2 * s.counter) then 0
     else greatest (λ k. nat_le (s.counter * 2 ^ k) (level s)) (bits - 2)
+
+-- the counter is 1 to 2^γ* - 1, and the accumulator at most 2^16 times as large
+pub record AreStatistics (gamma_star : ℕ) (s : Statistics) : Type 0 where
+  pub least : 1 ≤ s.counter
+  pub most : s.counter < 2 ^ gamma_star
+  pub bound : s.accumulator ≤ 2 ^ 16 * s.counter

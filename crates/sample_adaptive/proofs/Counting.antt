@@ -1,0 +1,134 @@
+-- Statistics stay in range, and the code parameter from the lengths of two numbers.
+use Rattle.std.proofs.Common.{◌≡◌, ℕ, zero, suc, ◌+◌, ◌-◌, ◌*◌, ◌/◌, ◌%◌, ◌^◌, ◌<◌, ◌≤◌, min, Bool, true, false, cond, leb, ltb, refl, sym, ap, subst, ◌∙◌, inl, inr, arith, lit<, lit≤}
+use Rattle.std.proofs.lemmas.Bool.{cases_lt, lt-ltb, le-ltb}
+use Rattle.std.proofs.lemmas.Bool.Decides.{nat_tests}
+use Rattle.std.proofs.lemmas.Nat.{pow_pos, pow-add, mul-le, leading_top}
+use Rattle.std.proofs.Math.Nat.{pow-succ', mod-eq_of_lt, mul-lt-mul_of_pos_left}
+use Rattle.std.proofs.Math.Pow.{pow_mono}
+use lib.Count.{count_leading_zeros}
+use Rattle.sample_adaptive.specs.declared.statistics.Statistics.{Statistics}
+use Rattle.sample_adaptive.specs.Statistics.{AreStatistics, start_statistics, next_statistics, greatest, level, code_parameter}
+
+-- ---- the first statistics
+
+pub least_power : (k : ℕ) → 64 ≤ 2 ^ (k + 6)
+least_power k = let p : 2 ^ 6 ≤ 2 ^ (k + 6) = pow_mono {i = 6} {j = k + 6} (omega arith) in p
+
+pub most_power : (k : ℕ) → k ≤ 14 → 2 ^ (k + 6) ≤ 1048576
+most_power k le = let p : 2 ^ (k + 6) ≤ 2 ^ 20 = pow_mono {i = k + 6} {j = 20} (omega arith) in p
+
+pub start_counter : (gamma : ℕ) → gamma ≤ 8 → 2 ^ gamma ≤ 256
+start_counter gamma le = let p : 2 ^ gamma ≤ 2 ^ 8 = pow_mono le in p
+
+pub start_product : (gamma k : ℕ) → gamma ≤ 8 → k ≤ 14 → (3 * 2 ^ (k + 6) - 49) * 2 ^ gamma ≤ 805306368
+start_product gamma k p q =
+    mul-le (3 * 2 ^ (k + 6) - 49) (2 ^ gamma) 3145728 256 (omega (arith, most_power k q)) (start_counter gamma p)
+
+pub start_whole : (k : ℕ) → k ≤ 14 → 3 * 2 ^ (k + 6) % 4294967296 ≡ 3 * 2 ^ (k + 6)
+start_whole k le = mod-eq_of_lt (omega (arith, most_power k le))
+
+pub start_count : (gamma : ℕ) → gamma ≤ 8 → 1 * 2 ^ gamma % 4294967296 ≡ 2 ^ gamma
+start_count gamma le = let e : 1 * 2 ^ gamma ≡ 2 ^ gamma = omega arith in rw e (mod-eq_of_lt (omega (arith, start_counter gamma le)))
+
+pub start_in_range : (gamma_star gamma_zero k : ℕ) → gamma_zero + 1 ≤ gamma_star → gamma_zero ≤ 8 → k ≤ 14 → AreStatistics gamma_star (start_statistics gamma_zero k)
+unfolding start_statistics
+start_in_range gamma_star gamma_zero k order p q =
+    let larger : 2 ^ (gamma_zero + 1) ≤ 2 ^ gamma_star = pow_mono order in
+    let twice : 2 ^ (gamma_zero + 1) ≡ 2 * 2 ^ gamma_zero = (let e : gamma_zero + 1 ≡ suc gamma_zero = omega arith in rw e (pow-succ' 2 gamma_zero)) in
+    let some = pow_pos gamma_zero in
+    let product = mul-le (3 * 2 ^ (k + 6) - 49) (2 ^ gamma_zero) 3145728 (2 ^ gamma_zero) (omega (arith, most_power k q)) (omega arith) in
+    record { least = omega arith; most = omega arith; bound = omega arith }
+
+-- ---- the next statistics
+
+pub halved_in_range : (gamma_star : ℕ) (s : Statistics) (number : ℕ) → 1 ≤ gamma_star → AreStatistics gamma_star s → number < 65536 → 2 ^ gamma_star - 1 ≤ s.counter
+    → AreStatistics gamma_star (record { counter = (s.counter + 1) / 2; accumulator = (s.accumulator + number + 1) / 2 })
+halved_in_range gamma_star s number least h small full =
+    let e : suc (gamma_star - 1) ≡ gamma_star = omega arith in
+    let twice : 2 ^ gamma_star ≡ 2 * 2 ^ (gamma_star - 1) = ap (λ k. 2 ^ k) (sym e) ∙ pow-succ' 2 (gamma_star - 1) in
+    let some = pow_pos (gamma_star - 1) in
+    record { least = omega (arith, h.most); most = omega (arith, h.most); bound = omega (arith, h.most, h.bound) }
+
+pub next_in_range : (gamma_star : ℕ) (s : Statistics) (number : ℕ) → 1 ≤ gamma_star → AreStatistics gamma_star s → number < 65536 → AreStatistics gamma_star (next_statistics gamma_star s number)
+unfolding next_statistics
+next_in_range gamma_star s number least h small =
+    elim (cases_lt s.counter (2 ^ gamma_star - 1)) [
+      | inl lt ↦ rw (lt-ltb _ _ lt) (record { least = omega arith; most = omega arith; bound = omega (arith, h.bound) })
+      | inr full ↦ rw (le-ltb _ _ full) (halved_in_range gamma_star s number least h small full)
+    ]
+
+-- ---- the code parameter
+
+le-leb : (a b : ℕ) → a ≤ b → leb a b ≡ true
+le-leb a b h = grind (arith, nat_tests)
+
+lt-leb : (a b : ℕ) → b < a → leb a b ≡ false
+lt-leb a b h = grind (arith, nat_tests)
+
+-- the greatest of the numbers that pass, where these are those up to k
+pub greatest_is : (f : ℕ → Bool) (n k : ℕ) → ((j : ℕ) → j ≤ k → f j ≡ true) → ((j : ℕ) → k < j → f j ≡ false) → greatest f n ≡ min k n
+unfolding greatest
+greatest_is f zero k up down = omega arith
+greatest_is f (suc n) k up down =
+    elim (cases_lt k (suc n)) [
+      | inl lt ↦ rw (down (suc n) lt, greatest_is f n k up down) (omega arith)
+      | inr le ↦ rw (up (suc n) le) (omega arith)
+    ]
+
+twice_power : (counter k : ℕ) → counter * 2 ^ (k + 1) ≡ 2 * (counter * 2 ^ k)
+twice_power counter k = let e : 2 ^ (k + 1) ≡ 2 * 2 ^ k = (let e : k + 1 ≡ suc k = omega arith in rw e (pow-succ' 2 k)) in rw e (grind arith)
+
+pub code_parameter_is : (bits : ℕ) (s : Statistics) (k : ℕ) → 2 * s.counter ≤ level s → s.counter * 2 ^ k ≤ level s → level s < 2 * (s.counter * 2 ^ k) → code_parameter bits s ≡ min k (bits - 2)
+unfolding code_parameter
+code_parameter_is bits s k large fits passes =
+    rw (le-ltb _ _ large)
+    (greatest_is (λ j. leb (s.counter * 2 ^ j) (level s)) (bits - 2) k
+    (λ j le. le-leb _ _ (let p = mul-le s.counter (2 ^ j) s.counter (2 ^ k) (omega arith) (pow_mono le) in omega arith))
+    (λ j lt. lt-leb _ _ (let p = mul-le s.counter (2 ^ (k + 1)) s.counter (2 ^ j) (omega arith) (pow_mono (omega arith)) in omega (arith, twice_power s.counter k))))
+
+pub code_parameter_small : (bits : ℕ) (s : Statistics) → level s < 2 * s.counter → 0 ≡ code_parameter bits s
+unfolding code_parameter
+code_parameter_small bits s small = rw (lt-ltb _ _ small) refl
+
+-- how far a number has to be shifted to be as long as a larger one
+pub record IsShift (counter level shift : ℕ) : Type 0 where
+  pub whole : counter * 2 ^ shift < 2 ^ 32
+  pub enough : level < 2 * (counter * 2 ^ shift)
+  pub close : counter * 2 ^ shift < 2 * level
+
+pub lengths_order : (counter level : ℕ) → 1 ≤ counter → counter ≤ level → level < 2 ^ 31 → count_leading_zeros 32 level ≤ count_leading_zeros 32 counter
+lengths_order counter level pos le fits =
+    let a = leading_top 32 counter (omega arith) (omega arith) in
+    let b = leading_top 32 level (omega arith) (omega arith) in
+    elim (cases_lt b.0 a.0) [
+      | inl lt ↦ (let p : 2 ^ suc b.0 ≤ 2 ^ a.0 = pow_mono lt in absurd (omega (arith, a.2, b.3)))
+      | inr ge ↦ omega (arith, a.1, b.1)
+    ]
+
+pub shift_is : (counter level : ℕ) → 1 ≤ counter → counter ≤ level → level < 2 ^ 31 → IsShift counter level (count_leading_zeros 32 counter - count_leading_zeros 32 level)
+shift_is counter level pos le fits =
+    let a = leading_top 32 counter (omega arith) (omega arith) in
+    let b = leading_top 32 level (omega arith) (omega arith) in
+    let order = lengths_order counter level pos le fits in
+    let shift : ℕ = count_leading_zeros 32 counter - count_leading_zeros 32 level in
+    let same : shift + a.0 ≡ b.0 = omega (arith, a.1, b.1) in
+    let product : 2 ^ b.0 ≡ 2 ^ shift * 2 ^ a.0 = ap (λ k. 2 ^ k) (sym same) ∙ pow-add 2 shift a.0 in
+    let low = mul-le (2 ^ shift) (2 ^ a.0) (2 ^ shift) counter (omega arith) a.2 in
+    let high = mul-lt-mul_of_pos_left {m = counter} {n = 2 ^ suc a.0} {k = 2 ^ shift} a.3 (pow_pos shift) in
+    let turned : 2 ^ shift * counter ≡ counter * 2 ^ shift = grind arith in
+    let above : 2 ^ shift * 2 ^ suc a.0 ≡ 2 * (2 ^ shift * 2 ^ a.0) = rw (pow-succ' 2 a.0) (grind arith) in
+    let longer : 2 ^ suc b.0 ≡ 2 * 2 ^ b.0 = pow-succ' 2 b.0 in
+    record { whole = omega (arith, b.2); enough = omega (arith, b.3); close = omega (arith, b.2) }
+
+-- the code parameter, where the shifted counter is within the level, and where it is beyond
+pub parameter_within : (bits : ℕ) (s : Statistics) (shift : ℕ) → 2 * s.counter ≤ level s → IsShift s.counter (level s) shift → s.counter * 2 ^ shift % 4294967296 ≤ level s → code_parameter bits s ≡ min shift (bits - 2)
+parameter_within bits s shift large h le = code_parameter_is bits s shift large (rw (mod-eq_of_lt h.whole) at le) h.enough
+
+pub parameter_beyond : (bits : ℕ) (s : Statistics) (shift : ℕ) → 2 * s.counter ≤ level s → IsShift s.counter (level s) shift → level s < s.counter * 2 ^ shift % 4294967296 → code_parameter bits s ≡ min (shift - 1) (bits - 2)
+parameter_beyond bits s zero large h lt = let beyond : level s < s.counter * 2 ^ 0 = rw (mod-eq_of_lt h.whole) at lt in absurd (omega arith)
+parameter_beyond bits s (suc k) large h lt =
+    let beyond : level s < s.counter * 2 ^ suc k = rw (mod-eq_of_lt h.whole) at lt in
+    let e : suc k ≡ k + 1 = omega arith in
+    let twice : s.counter * 2 ^ suc k ≡ 2 * (s.counter * 2 ^ k) = rw e (twice_power s.counter k) in
+    let less : suc k - 1 ≡ k = omega arith in
+    rw less (code_parameter_is bits s k large (omega (arith, h.close)) (omega arith))

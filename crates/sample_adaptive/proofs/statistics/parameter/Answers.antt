@@ -1,0 +1,19 @@
+use Rattle.std.proofs.Common.{arith, sym, ◌∙◌}
+use Rattle.sample_adaptive.specs.Statistics.{level}
+use Rattle.sample_adaptive.proofs.Counting.{code_parameter_small, lengths_order, shift_is, parameter_within, parameter_beyond}
+use Rattle.sample_adaptive.proofs.statistics.parameter.Goals as goal
+use Rattle.sample_adaptive.proofs.statistics.parameter.Goals.{then-s-shift, else-s-shift}
+
+pub returns-then-level-s-clause-value : goal.returns-then-level-s-clause-value
+returns-then-level-s-clause-value c = code_parameter_small c.args.bits c.args.s c.if-level-s.true
+
+pub overflow_sub-shift : goal.overflow_sub-shift
+overflow_sub-shift c = lengths_order c.args.s.counter _ (omega arith) (omega arith) (omega arith)
+
+pub returns-clause-value : goal.returns-clause-value
+returns-clause-value c =
+    let shift = shift_is c.args.s.counter (level c.args.s) (omega arith) (omega arith) (omega arith) in
+    c.min.ensures ∙ elim c.if-s-shift.branch [
+      | then-s-shift w ↦ rw w.most-is (sym (parameter_within c.args.bits c.args.s _ c.if-level-s.false shift w.if-s-shift.true))
+      | else-s-shift w ↦ rw w.most-is (sym (parameter_beyond c.args.bits c.args.s _ c.if-level-s.false shift w.if-s-shift.false))
+    ]
