@@ -1,4 +1,5 @@
 pub mod Bytes
+pub mod Fronts
 pub mod Numbers
 pub mod Pushes
 pub mod Reading

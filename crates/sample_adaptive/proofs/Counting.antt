@@ -1,5 +1,5 @@
 -- Statistics stay in range, and the code parameter from the lengths of two numbers.
-use Rattle.std.proofs.Common.{◌≡◌, ℕ, zero, suc, ◌+◌, ◌-◌, ◌*◌, ◌/◌, ◌%◌, ◌^◌, ◌<◌, ◌≤◌, min, Bool, true, false, cond, leb, ltb, refl, sym, ap, subst, ◌∙◌, inl, inr, arith, lit<, lit≤}
+use Rattle.std.proofs.Common.{◌≡◌, ℕ, zero, suc, ◌+◌, ◌-◌, ◌*◌, ◌/◌, ◌%◌, ◌^◌, ◌<◌, ◌≤◌, min, Bool, true, false, leb, refl, sym, ap, ◌∙◌, inl, inr, arith}
 use Rattle.std.proofs.lemmas.Bool.{cases_lt, lt-ltb, le-ltb}
 use Rattle.std.proofs.lemmas.Bool.Decides.{nat_tests}
 use Rattle.std.proofs.lemmas.Nat.{pow_pos, pow-add, mul-le, leading_top}
@@ -132,3 +132,14 @@ parameter_beyond bits s (suc k) large h lt =
     let twice : s.counter * 2 ^ suc k ≡ 2 * (s.counter * 2 ^ k) = rw e (twice_power s.counter k) in
     let less : suc k - 1 ≡ k = omega arith in
     rw less (code_parameter_is bits s k large (omega (arith, h.close)) (omega arith))
+
+-- statistics within the code's words
+pub counter_range : (gamma_star : ℕ) (s : Statistics) → gamma_star ≤ 9 → AreStatistics gamma_star s → (1 ≤ s.counter) × (s.counter < 512)
+counter_range gamma_star s le h =
+    let power : 2 ^ gamma_star ≤ 2 ^ 9 = pow_mono le in
+    (h.least, omega (arith, h.most))
+
+pub accumulator_range : (gamma_star : ℕ) (s : Statistics) → gamma_star ≤ 9 → AreStatistics gamma_star s → s.accumulator < 33554432
+accumulator_range gamma_star s le h =
+    let power : 2 ^ gamma_star ≤ 2 ^ 9 = pow_mono le in
+    omega (arith, h.most, h.bound)

@@ -1,5 +1,9 @@
 pub mod Body
 pub mod Everything
+pub mod Laws
+pub mod Reading
 pub mod Rows
+pub mod Settings
 pub mod Statistics
+pub mod Taken
 pub mod Words

@@ -1,5 +1,5 @@
 -- Code words of the sample-adaptive coder (CCSDS 123.0-B-1, "Sample-adaptive entropy coder").
-use Rattle.std.specs.Prelude.{ℕ, ◌+◌, ◌*◌, ◌/◌, ◌%◌, ◌^◌, ◌<◌, nat_lt, Bool, true, false, if◌then◌else◌, List, [], ◌∷◌, ◌++◌, replicate}
+use Rattle.std.specs.Prelude.{ℕ, ◌+◌, ◌*◌, ◌/◌, ◌%◌, ◌^◌, ◌<◌, ◌≤◌, nat_lt, Bool, true, false, if◌then◌else◌, List, [], ◌∷◌, ◌++◌, replicate}
 use Rattle.header_bits.specs.Bits.{bits_of}
 use Rattle.sample_adaptive.specs.declared.code_word.Code.{Code}
 use Rattle.sample_adaptive.specs.Statistics.{CoderSettings, statistics, code_parameter}
@@ -30,6 +30,12 @@ form_of c number = if nat_lt (number / 2 ^ c.low) c.limit then Plain (number / 2
 -- the bits that the number's form has
 abbrev pub code_word : Code → ℕ → List Bool
 code_word c number = form_text c (form_of c number)
+
+-- a code whose words have at most 48 bits
+pub record IsCode (c : Code) : Type 0 where
+  pub limit : c.limit ≤ 32
+  pub low : c.low ≤ c.bits
+  pub bits : c.bits ≤ 16
 
 -- the code of a band's next number: the first stands in D bits, the others by the code parameter
 unfoldable pub code_at : CoderSettings → ℕ → List ℕ → Code

@@ -2,5 +2,8 @@
 #![tactic(auto)]
 
 pub mod code_word;
+pub mod laws;
 pub mod statistics;
+pub mod stats;
 pub mod worked;
+pub mod worked_refusals;

@@ -1,4 +1,4 @@
-use Rattle.std.proofs.Common.{arith, refl, lit<, Fits-lit, w32, Fits, ◌+◌, ◌*◌, ◌-◌, ◌^◌}
+use Rattle.std.proofs.Common.{arith, refl}
 use Rattle.sample_adaptive.specs.Statistics.{start_statistics}
 use Rattle.sample_adaptive.proofs.Counting.{least_power, start_product, start_whole, start_count}
 use Rattle.sample_adaptive.proofs.statistics.first.Goals as goal

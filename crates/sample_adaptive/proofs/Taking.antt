@@ -1,0 +1,139 @@
+-- What the coder has taken.
+use Rattle.std.proofs.Common.{◌≡◌, ℕ, ◌<◌, Bool, false, cond, eqb, List, [], ◌∷◌, ◌++◌, length, set, None, refl, sym, ap, subst, ◌∙◌, inl, inr, arith, eq-eqb}
+use Rattle.std.proofs.lemmas.Bool.{cases_eq}
+use Rattle.std.proofs.lemmas.Bool.Decides.{nat_tests}
+use Rattle.std.proofs.lemmas.List.{get_or-set_same, get_or-set_other, length-set}
+use Rattle.cube_core.specs.declared.order.Place.{Place}
+use Rattle.header_bits.specs.declared.params.Params.{Params}
+use Rattle.header_bits.specs.declared.params.Coder.TheVariants.{Sample}
+use Rattle.header_bits.specs.declared.params.CountStart.{CountStart}
+use Rattle.sample_adaptive.specs.declared.statistics.Statistics.{Statistics}
+use Rattle.sample_adaptive.specs.Statistics.{CoderSettings, constant_of, start_statistics, first_statistics, next_statistics, statistics, statistics_from}
+use Rattle.sample_adaptive.specs.Words.{code_at}
+use Rattle.sample_adaptive.specs.Body.{band_numbers}
+use Rattle.sample_adaptive.specs.Settings.{settings, AreForSamples, AreLawful}
+use Rattle.sample_adaptive.specs.Taken.{Counts, AreCounts, HasTaken, code_by, counted, of_band, no_statistics, with_number}
+use Rattle.sample_adaptive.proofs.Counting.{start_in_range}
+use Rattle.sample_adaptive.proofs.Bodies.{band_push, from_push}
+
+ne-eqb : (a b : ℕ) → (a ≡ b → ⊥) → eqb a b ≡ false
+ne-eqb a b h = grind (arith, nat_tests)
+
+-- ---- the code of the next number
+
+code_by_list : (c : CoderSettings) (v : Counts) (z t : ℕ) (numbers : List ℕ) → v.bits ≡ c.bits → v.umax ≡ c.umax → of_band v.bands z ≡ statistics c z numbers → t ≡ length numbers → code_by v z t ≡ code_at c z numbers
+unfolding code_at
+code_by_list c v z t [] bits umax band e = rw (e, bits) refl
+code_by_list c v z t (first ∷ later) bits umax band e = (let not_first : eqb t 0 ≡ false = ne-eqb t 0 (λ k. omega arith) in rw (not_first, bits, umax, band) refl)
+
+pub code_is : (c : CoderSettings) (v : Counts) (taken : ℕ → List ℕ) (z t : ℕ) → HasTaken c v taken → z < length v.bands → t ≡ length (taken z) → code_by v z t ≡ code_at c z (taken z)
+code_is c v taken z t h lt e = code_by_list c v z t (taken z) h.bits h.umax (h.bands z lt) e
+
+-- ---- one number more
+
+first_only : (c : CoderSettings) (z number : ℕ) → statistics c z (number ∷ []) ≡ statistics c z []
+unfolding statistics statistics_from
+first_only c z number = refl
+
+one_later : (c : CoderSettings) (z first number : ℕ) (later : List ℕ) → statistics c z (first ∷ (later ++ number ∷ [])) ≡ next_statistics c.gamma_star (statistics c z (first ∷ later)) number
+unfolding statistics
+one_later c z first number later = from_push c.gamma_star (first_statistics c z) later number
+
+-- what was taken of a band that is another, or that is this one
+others_stay : (taken : ℕ → List ℕ) (z number b : ℕ) → (b ≡ z → ⊥) → with_number taken z number b ≡ taken b
+others_stay taken z number b other = rw (ne-eqb b z other) refl
+
+this_grows : (taken : ℕ → List ℕ) (z number : ℕ) → with_number taken z number z ≡ taken z ++ number ∷ []
+this_grows taken z number = rw (eq-eqb z z refl) refl
+
+abbrev BandIs : CoderSettings → List Statistics → (ℕ → List ℕ) → ℕ → Type 0
+BandIs c bands taken b = of_band bands b ≡ statistics c b (taken b)
+
+-- the first number leaves the statistics
+band_after_first : (c : CoderSettings) (bands : List Statistics) (taken : ℕ → List ℕ) (z number : ℕ) → taken z ≡ [] → ((b : ℕ) → b < length bands → BandIs c bands taken b) → (b : ℕ) → b < length bands → BandIs c bands (with_number taken z number) b
+band_after_first c bands taken z number none h b lt =
+    elim (cases_eq b z) [
+      | inl same ↦
+          (let now : with_number taken z number b ≡ number ∷ [] = ap (with_number taken z number) same ∙ this_grows taken z number ∙ ap (λ (ns : List ℕ). ns ++ number ∷ []) none in
+          let before : taken b ≡ [] = ap taken same ∙ none in
+          h b lt ∙ ap (statistics c b) before ∙ sym (first_only c b number) ∙ ap (statistics c b) (sym now))
+      | inr other ↦ h b lt ∙ ap (statistics c b) (sym (others_stay taken z number b other))
+    ]
+
+-- a later one is counted
+band_after_later : (c : CoderSettings) (bands : List Statistics) (taken : ℕ → List ℕ) (z number first : ℕ) (later : List ℕ) → taken z ≡ first ∷ later → z < length bands → ((b : ℕ) → b < length bands → BandIs c bands taken b)
+    → (b : ℕ) → b < length (set bands z (next_statistics c.gamma_star (of_band bands z) number)) → BandIs c (set bands z (next_statistics c.gamma_star (of_band bands z) number)) (with_number taken z number) b
+band_after_later c bands taken z number first later some in_bands h b lt =
+    let next : Statistics = next_statistics c.gamma_star (of_band bands z) number in
+    let inside : b < length bands = omega (arith, length-set bands z next) in
+    elim (cases_eq b z) [
+      | inl same ↦
+          (let now : with_number taken z number z ≡ first ∷ (later ++ number ∷ []) = this_grows taken z number ∙ ap (λ (ns : List ℕ). ns ++ number ∷ []) some in
+          let is : of_band (set bands z next) z ≡ statistics c z (with_number taken z number z) =
+          get_or-set_same bands z next no_statistics in_bands
+          ∙ ap (λ (s : Statistics). next_statistics c.gamma_star s number) (h z in_bands ∙ ap (statistics c z) some)
+          ∙ sym (one_later c z first number later) ∙ ap (statistics c z) (sym now) in
+          subst (BandIs c (set bands z next) (with_number taken z number)) (sym same) is)
+      | inr other ↦ get_or-set_other bands z b next no_statistics other ∙ h b inside ∙ ap (statistics c b) (sym (others_stay taken z number b other))
+    ]
+
+taken_by_list : (c : CoderSettings) (v : Counts) (taken : ℕ → List ℕ) (z t number : ℕ) (numbers : List ℕ) → taken z ≡ numbers → HasTaken c v taken → z < length v.bands → t ≡ length numbers → HasTaken c (counted v z t number) (with_number taken z number)
+taken_by_list c v taken z t number [] is h lt e =
+    rw e (record { bits = h.bits; umax = h.umax; gamma_star = h.gamma_star; bands = band_after_first c v.bands taken z number is h.bands; working = h.working })
+taken_by_list c v taken z t number (first ∷ later) is h lt e =
+    let not_first : eqb t 0 ≡ false = ne-eqb t 0 (λ k. omega arith) in
+    rw (not_first, h.gamma_star) (record { bits = h.bits; umax = h.umax; gamma_star = refl; bands = band_after_later c v.bands taken z number first later is lt h.bands; working = h.working })
+
+pub taken_more : (c : CoderSettings) (v : Counts) (taken : ℕ → List ℕ) (z t number : ℕ) → HasTaken c v taken → z < length v.bands → t ≡ length (taken z) → HasTaken c (counted v z t number) (with_number taken z number)
+taken_more c v taken z t number h lt e = taken_by_list c v taken z t number (taken z) refl h lt e
+
+-- the same numbers, told otherwise
+pub taken_alike : (c : CoderSettings) (v : Counts) (taken told : ℕ → List ℕ) → ((z : ℕ) → taken z ≡ told z) → HasTaken c v taken → HasTaken c v told
+taken_alike c v taken told same h = record {
+  bits = h.bits;
+  umax = h.umax;
+  gamma_star = h.gamma_star;
+  bands = λ z lt. h.bands z lt ∙ ap (statistics c z) (same z);
+  working = h.working;
+}
+
+-- numbers along places, and one more
+pub taken_along : (c : CoderSettings) (v : Counts) (places : List Place) (numbers : List ℕ) (p : Place) (number : ℕ) → length numbers ≡ length places
+    → HasTaken c v (with_number (λ z. band_numbers z places numbers) p.z number) → HasTaken c v (λ z. band_numbers z (places ++ p ∷ []) (numbers ++ number ∷ []))
+taken_along c v places numbers p number len h =
+    taken_alike c v (with_number (λ z. band_numbers z places numbers) p.z number) (λ z. band_numbers z (places ++ p ∷ []) (numbers ++ number ∷ []))
+    (λ z. turned z (eqb z p.z) (eqb p.z z) refl refl ∙ sym (band_push z places numbers p number len)) h
+  where
+    turned : (z : ℕ) (b d : Bool) → eqb z p.z ≡ b → eqb p.z z ≡ d → cond (eqb z p.z) (band_numbers z places numbers ++ number ∷ []) (band_numbers z places numbers) ≡ cond (eqb p.z z) (band_numbers z places numbers ++ number ∷ []) (band_numbers z places numbers)
+    turned z b d e f =
+        let same : eqb z p.z ≡ eqb p.z z = grind (arith, nat_tests) in
+        rw same refl
+
+-- ---- at the start
+
+pub lawful_of : (p : Params) (umax gamma_star gamma_zero : ℕ) (start : CountStart) → p.coder ≡ Sample umax gamma_star gamma_zero start → AreForSamples p
+    → AreLawful p.shape.bands (record { bits = p.kind.bits; umax = umax; gamma_star = gamma_star; gamma_zero = gamma_zero; start = start })
+lawful_of p umax gamma_star gamma_zero start e h = rw e at h.lawful
+
+pub settings_of : (p : Params) (umax gamma_star gamma_zero : ℕ) (start : CountStart) → p.coder ≡ Sample umax gamma_star gamma_zero start
+    → settings p ≡ record { bits = p.kind.bits; umax = umax; gamma_star = gamma_star; gamma_zero = gamma_zero; start = start }
+settings_of p umax gamma_star gamma_zero start e = rw e refl
+
+abbrev pub AreFirst : CoderSettings → ℕ → List Statistics → Type 0
+AreFirst c n bands = (z : ℕ) → z < n → of_band bands z ≡ start_statistics c.gamma_zero (constant_of c.start z)
+
+pub new_in_range : (n : ℕ) (c : CoderSettings) (bands : List Statistics) → AreLawful n c → length bands ≡ n → AreFirst c n bands
+    → AreCounts (record { bits = c.bits; umax = c.umax; gamma_star = c.gamma_star; bands = bands; refused = None })
+new_in_range n c bands h len first = record {
+  bits = (omega (arith, h.bits.0), omega (arith, h.bits.1));
+  umax = omega (arith, h.umax.1);
+  gamma_star = (omega (arith, h.gamma_star.0), omega (arith, h.gamma_star.1));
+  bands = λ z lt.
+      let inside : z < n = omega (arith, len) in
+      rw (first z inside) (start_in_range c.gamma_star c.gamma_zero (constant_of c.start z) h.order h.gamma_zero.1 (omega (arith, h.constants z inside, h.bits.1)));
+}
+
+pub new_has_taken : (n : ℕ) (c : CoderSettings) (bands : List Statistics) → length bands ≡ n → AreFirst c n bands
+    → HasTaken c (record { bits = c.bits; umax = c.umax; gamma_star = c.gamma_star; bands = bands; refused = None }) (λ z. [])
+unfolding statistics
+new_has_taken n c bands len first = record { bits = refl; umax = refl; gamma_star = refl; bands = λ z lt. first z (omega (arith, len)); working = refl }

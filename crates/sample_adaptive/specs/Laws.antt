@@ -1,0 +1,73 @@
+-- What holds of the definitions alone.
+use Rattle.std.specs.Prelude.{ℕ, ◌≡◌, ◌+◌, ◌*◌, ◌^◌, ◌<◌, ◌≤◌, Bool, List, ◌++◌, length, Ok, Err}
+use Rattle.std.specs.List.{AllByRecursion}
+use Rattle.cube_core.specs.declared.order.Place.{Place}
+use Rattle.cube_core.specs.declared.fault.Fault.TheVariants.{Truncated, BadCode}
+use Rattle.sample_adaptive.specs.declared.code_word.Code.{Code}
+use Rattle.sample_adaptive.specs.Statistics.{CoderSettings, counter, accumulator, constant_of}
+use Rattle.sample_adaptive.specs.Words.{Form, IsForm, form_text, form_of, code_word}
+use Rattle.sample_adaptive.specs.Body.{sample_body}
+use Rattle.sample_adaptive.specs.Reading.{word_at, sample_body_at}
+
+-- each number has at most D bits
+abbrev pub AreNumbers : ℕ → List ℕ → Type 0
+AreNumbers bits numbers = AllByRecursion (λ n. n < 2 ^ bits) numbers
+
+-- no form begins another
+abbrev pub OneForm : Type 0
+OneForm = (c : Code) (f g : Form) (x y : List Bool) → IsForm c f → IsForm c g → form_text c f ++ x ≡ form_text c g ++ y → (f ≡ g) × (x ≡ y)
+
+-- no code word begins another
+abbrev pub OneWord : Type 0
+OneWord = (c : Code) (m n : ℕ) (x y : List Bool) → m < 2 ^ c.bits → n < 2 ^ c.bits → code_word c m ++ x ≡ code_word c n ++ y → (m ≡ n) × (x ≡ y)
+
+-- no body of one list of numbers begins a body of another
+abbrev pub OneBody : Type 0
+OneBody =
+    (c : CoderSettings) (places : List Place) (ms ns : List ℕ) (x y : List Bool)
+    → length ms ≡ length places → length ns ≡ length places → AreNumbers c.bits ms → AreNumbers c.bits ns
+    → sample_body c places ms ++ x ≡ sample_body c places ns ++ y → (ms ≡ ns) × (x ≡ y)
+
+-- a number is read exactly where its code word stands
+abbrev pub WordIsRead : Type 0
+WordIsRead =
+    (count place : ℕ) (c : Code) (n : ℕ) (bits rest : List Bool)
+    → (n < 2 ^ c.bits → bits ≡ code_word c n ++ rest → word_at count place c bits ≡ Ok (n, rest))
+    × (word_at count place c bits ≡ Ok (n, rest) → (n < 2 ^ c.bits) × (bits ≡ code_word c n ++ rest))
+
+-- a form stands next
+pub record Begins (c : Code) (f : Form) (bits rest : List Bool) : Type 0 where
+  pub form : IsForm c f
+  pub text : bits ≡ form_text c f ++ rest
+
+-- the bits end within a form exactly where no form stands
+abbrev pub TruncatedIsNoForm : Type 0
+TruncatedIsNoForm =
+    (count place : ℕ) (c : Code) (bits : List Bool) → word_at count place c bits ≡ Err (Truncated count)
+    → (f : Form) (rest : List Bool) → Begins c f bits rest → ⊥
+
+-- a bad code is a form that no number of D bits has
+abbrev pub BadCodeIsNoWord : Type 0
+BadCodeIsNoWord =
+    (count place : ℕ) (c : Code) (bits : List Bool) → word_at count place c bits ≡ Err (BadCode place)
+    → (f : Form) × (rest : List Bool) × Begins c f bits rest × ((n : ℕ) → n < 2 ^ c.bits → form_of c n ≡ f → ⊥)
+
+-- the numbers of a body are read exactly where the body stands
+abbrev pub BodyIsRead : Type 0
+BodyIsRead =
+    (count : ℕ) (c : CoderSettings) (places : List Place) (ns : List ℕ) (bits rest : List Bool) → length ns ≡ length places
+    → (AreNumbers c.bits ns → bits ≡ sample_body c places ns ++ rest → sample_body_at count c places bits ≡ Ok (ns, rest))
+    × (sample_body_at count c places bits ≡ Ok (ns, rest) → AreNumbers c.bits ns × (bits ≡ sample_body c places ns ++ rest))
+
+-- settings as the standard has them, as far as the statistics of a band go
+pub record AreSettings (c : CoderSettings) (z : ℕ) : Type 0 where
+  pub bits : c.bits ≤ 16
+  pub gamma_zero : (1 ≤ c.gamma_zero) × (c.gamma_zero ≤ 8)
+  pub gamma_star : (c.gamma_zero + 1 ≤ c.gamma_star) × (c.gamma_star ≤ 9)
+  pub constant : constant_of c.start z + 2 ≤ c.bits
+
+-- the accumulator is at most 2^16 times the counter
+abbrev pub AccumulatorBound : Type 0
+AccumulatorBound =
+    (c : CoderSettings) (z : ℕ) (numbers : List ℕ) → AreSettings c z → AreNumbers c.bits numbers
+    → accumulator c z numbers ≤ 2 ^ 16 * counter c z numbers

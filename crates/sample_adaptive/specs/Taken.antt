@@ -1,0 +1,69 @@
+-- What a coder of one image keeps, and which numbers it has taken.
+use Rattle.std.specs.Prelude.{ℕ, ◌≡◌, ◌<◌, ◌≤◌, ◌==◌, Bool, if◌then◌else◌, List, [], ◌∷◌, ◌++◌, length, slice_index_or, slice_set, Option, None, Result, IfOk}
+use Rattle.cube_core.specs.declared.fault.Fault.{Fault}
+use Rattle.header_bits.specs.Bits.{Unread}
+use Rattle.header_bits.specs.Reading.{Reads}
+use Rattle.sample_adaptive.specs.declared.code_word.Code.{Code}
+use Rattle.sample_adaptive.specs.declared.statistics.Statistics.{Statistics}
+use Rattle.sample_adaptive.specs.Statistics.{CoderSettings, AreStatistics, statistics, next_statistics, code_parameter}
+use Rattle.sample_adaptive.specs.Words.{code_word, code_at}
+use Rattle.sample_adaptive.specs.Reading.{word_at}
+
+-- D, the unary length limit, the rescaling counter size, each band's statistics, and the refusal that was met
+pub record Counts : Type 0 where
+  pub bits : ℕ
+  pub umax : ℕ
+  pub gamma_star : ℕ
+  pub bands : List Statistics
+  pub refused : Option Fault
+
+-- statistics of no number
+abbrev pub no_statistics : Statistics
+no_statistics = record { counter = 0; accumulator = 0 }
+
+-- the statistics of a band
+abbrev pub of_band : List Statistics → ℕ → Statistics
+of_band bands z = slice_index_or bands z no_statistics
+
+-- parameters are in range, and so are the statistics of each band
+pub record AreCounts (v : Counts) : Type 0 where
+  pub bits : (2 ≤ v.bits) × (v.bits ≤ 16)
+  pub umax : v.umax ≤ 32
+  pub gamma_star : (1 ≤ v.gamma_star) × (v.gamma_star ≤ 9)
+  pub bands : (z : ℕ) → z < length v.bands → AreStatistics v.gamma_star (of_band v.bands z)
+
+-- how number t of band z is written
+abbrev pub code_by : Counts → ℕ → ℕ → Code
+code_by v z t =
+    if t == 0 then record { limit = 0; low = 0; bits = v.bits }
+    else record { limit = v.umax; low = code_parameter v.bits (of_band v.bands z); bits = v.bits }
+
+-- number t of band z is counted, unless it is the first
+abbrev pub counted : Counts → ℕ → ℕ → ℕ → Counts
+counted v z t number =
+    if t == 0 then v else record v { bands = slice_set v.bands z (next_statistics v.gamma_star (of_band v.bands z) number) }
+
+-- numbers of each band were taken: the settings stand, each band's statistics are those of its numbers, and nothing was refused
+pub record HasTaken (c : CoderSettings) (v : Counts) (taken : ℕ → List ℕ) : Type 0 where
+  pub bits : v.bits ≡ c.bits
+  pub umax : v.umax ≡ c.umax
+  pub gamma_star : v.gamma_star ≡ c.gamma_star
+  pub bands : (z : ℕ) → z < length v.bands → of_band v.bands z ≡ statistics c z (taken z)
+  pub working : v.refused ≡ None
+
+-- one number more, of band z
+abbrev pub with_number : (ℕ → List ℕ) → ℕ → ℕ → ℕ → List ℕ
+with_number taken z number b = if b == z then taken b ++ number ∷ [] else taken b
+
+-- whatever numbers were taken before, of which band z has t: the code word of the number was appended, and the number is taken
+abbrev pub PutsNumber : ℕ → ℕ → ℕ → Counts → List Bool → Counts → List Bool → Type 0
+PutsNumber z t number old written new written_now =
+    (c : CoderSettings) (taken : ℕ → List ℕ) → HasTaken c old taken → t ≡ length (taken z)
+    → (written_now ≡ written ++ code_word (code_at c z (taken z)) number) × HasTaken c new (with_number taken z number)
+
+-- whatever numbers were taken before, of which band z has t: the number whose code word stands next was taken, or the first fault is answered
+abbrev pub GetsNumber : ℕ → ℕ → Result ℕ Fault → Counts → Unread → Counts → List Bool → Type 0
+GetsNumber z t result old unread new left =
+    (c : CoderSettings) (taken : ℕ → List ℕ) → HasTaken c old taken → t ≡ length (taken z)
+    → Reads (λ number. number) result left (word_at unread.count t (code_at c z (taken z)) unread.left)
+    × IfOk result (λ number. HasTaken c new (with_number taken z number))

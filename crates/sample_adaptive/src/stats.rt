@@ -1,0 +1,188 @@
+//! The coder of one image: each band's statistics, and numbers in and out.
+
+ghost use Rattle.std.specs.Prelude.{◌≡◌, ◌+◌, ◌^◌, ◌<◌, ◌≤◌, [], length, Err, Some, IsOk, IfOk, IfErr, OnOk, OnErr, ℕ};
+ghost use Rattle.cube_core.specs.declared.fault.Fault.{Fault};
+ghost use Rattle.cube_core.specs.declared.fault.Fault.TheVariants.{WantOfMemory};
+ghost use Rattle.sample_adaptive.specs.Settings.{AreForSamples, HasEntries, settings};
+ghost use Rattle.sample_adaptive.specs.Statistics.{constant_of, start_statistics};
+ghost use Rattle.sample_adaptive.specs.Words.{IsCode};
+ghost use Rattle.sample_adaptive.specs.Taken.{HasTaken, PutsNumber, GetsNumber, code_by, counted, of_band};
+
+use crate::code_word::{Code, take_word, word_of};
+use crate::statistics::{Statistics, first, next, parameter};
+use cube_core::fault::Fault;
+use header_bits::bit_reader::BitReader;
+use header_bits::bit_writer::BitWriter;
+use header_bits::params::{Coder, CountStart, Params};
+use std::alloc::Global;
+use std::marker::Model;
+
+/// The sample-adaptive coder of one image, which takes the numbers of each band in turn.
+#[derive(Drop)]
+pub struct Stats {
+    bits: u32,
+    umax: u32,
+    gamma_star: u32,
+    bands: Vec<Statistics>,
+    /// What a `get` was refused for; every later one is refused for the same.
+    refused: Option<Fault>,
+}
+
+impl Model for Stats {
+    ghost use Rattle.sample_adaptive.specs.Taken.{Counts, AreCounts};
+
+    ghost Value = { Counts };
+
+    ghost view = { λ s. record { bits = s.bits; umax = s.umax; gamma_star = s.gamma_star; bands = s.bands.items; refused = s.refused } };
+
+    ghost invariant = { λ s. AreCounts (record { bits = s.bits; umax = s.umax; gamma_star = s.gamma_star; bands = s.bands.items; refused = s.refused }) };
+}
+
+impl Stats {
+    /// The coder of an image, of which no number was taken yet.
+    ///
+    /// The parameters are lawful, and for this coder. `WantOfMemory` where there is none for the
+    /// statistics of all bands.
+    pub fn new(alloc: Global, params: &Params) -> Result<Stats, Fault>
+        requires { AreForSamples params.now }
+        ensures taken { IfOk result (λ s. HasTaken (settings params.now) s (λ z. [])) }
+        ensures bands { IfOk result (λ s. length s.bands ≡ params.now.shape.bands) }
+        ensures refused { IfErr result (λ e. e ≡ WantOfMemory) }
+    {
+        match &params.coder {
+            Coder::Sample {
+                umax,
+                gamma_star,
+                gamma_zero,
+                start,
+            } => {
+                let bands = first_of_all(alloc, *gamma_zero, start, params.shape.bands())?;
+                Ok(Stats {
+                    bits: params.kind.bits(),
+                    umax: *umax,
+                    gamma_star: *gamma_star,
+                    bands,
+                    refused: None,
+                })
+            }
+            Coder::Block { .. } => unreachable!(),
+        }
+    }
+
+    /// Appends the code word of number `t` of band `z`, and takes the number into the statistics.
+    ///
+    /// `t` counts the band's numbers from 0, and the number is at most 2^D - 1. One push is made, of
+    /// at most 48 bits. After `WantOfMemory` nothing was changed.
+    pub fn put(&mut self, z: u32, t: u64, delta: u16, writer: &mut BitWriter) -> Result<(), Fault>
+        requires band { z < length self.old.bands }
+        requires number { delta < 2 ^ self.old.bits }
+        ensures taken { OnOk result (PutsNumber z t delta self.old writer.old.bits self.new writer.new.bits) }
+        ensures same { OnErr result ((self.new ≡ self.old) × (writer.new.bits ≡ writer.old.bits)) }
+        ensures within { 48 ≤ writer.old.room → IsOk result }
+        ensures refused { IfErr result (λ e. e ≡ WantOfMemory) }
+        ensures bands { (length self.new.bands ≡ length self.old.bands) × (self.new.bits ≡ self.old.bits) }
+    {
+        let word = word_of(self.code(z, t), delta);
+        writer.push(word.bits, word.length)?;
+        self.count(z, t, delta);
+        Ok(())
+    }
+
+    /// Takes the number `t` of band `z` whose code word stands next, and takes it into the statistics.
+    ///
+    /// `t` counts the band's numbers from 0. Where no code word stands next the answer is `BadCode`
+    /// with `t` as its place if a form stands there that is no number's word (a needless escape, or a
+    /// number above 2^D - 1), else `Truncated`. Then the reader stands where it stood, and every
+    /// later call answers the same.
+    pub fn get(&mut self, z: u32, t: u64, reader: &mut BitReader) -> Result<u16, Fault>
+        requires { z < length self.old.bands }
+        ensures taken { GetsNumber z t result self.old reader.old self.new reader.new.left }
+        ensures below { IfOk result (λ number. number < 2 ^ self.old.bits) }
+        ensures again { (fault : Fault) → self.old.refused ≡ Some fault → result ≡ Err fault }
+        ensures kept { IfErr result (λ fault. self.new.refused ≡ Some fault) }
+        ensures same { OnErr result (reader.new ≡ reader.old) }
+        ensures count { reader.new.count ≡ reader.old.count }
+        ensures bands { (length self.new.bands ≡ length self.old.bands) × (self.new.bits ≡ self.old.bits) }
+    {
+        if let Some(fault) = self.refused {
+            return Err(fault);
+        }
+        let mut ahead = reader.fork();
+        match take_word(self.code(z, t), t, &mut ahead) {
+            Ok(number) => {
+                *reader = ahead;
+                self.count(z, t, number);
+                Ok(number)
+            }
+            Err(fault) => {
+                self.refused = Some(fault);
+                Err(fault)
+            }
+        }
+    }
+
+    /// How number `t` of band `z` is written.
+    fn code(&self, z: u32, t: u64) -> Code
+        requires { z < length self.now.bands }
+        ensures value { result ≡ code_by self.now z t }
+        ensures code { IsCode result }
+    {
+        if t == 0 {
+            Code {
+                limit: 0,
+                low: 0,
+                bits: self.bits,
+            }
+        } else {
+            Code {
+                limit: self.umax,
+                low: parameter(self.bits, self.bands[z as usize]),
+                bits: self.bits,
+            }
+        }
+    }
+
+    /// Counts number `t` of band `z`, unless it is the first.
+    fn count(&mut self, z: u32, t: u64, number: u16)
+        requires { z < length self.old.bands }
+        ensures { self.new ≡ counted self.old z t number }
+    {
+        if t > 0 {
+            let band = self.bands[z as usize];
+            self.bands[z as usize] = next(self.gamma_star, band, number);
+        }
+    }
+}
+
+/// The statistics from which so many bands start.
+fn first_of_all(
+    alloc: Global,
+    gamma_zero: u32,
+    start: &CountStart,
+    count: u32,
+) -> Result<Vec<Statistics>, Fault>
+    requires exponent { gamma_zero ≤ 8 }
+    requires entries { HasEntries count start.now }
+    requires constants { (z : ℕ) → z < count → constant_of start.now z ≤ 14 }
+    ensures count { IfOk result (λ v. length v.items ≡ count) }
+    ensures first { IfOk result (λ v. (z : ℕ) → z < count → of_band v.items z ≡ start_statistics gamma_zero (constant_of start.now z)) }
+    ensures refused { IfErr result (λ e. e ≡ WantOfMemory) }
+{
+    let mut bands = Vec::with_capacity(alloc, count as usize)?;
+    for z in 0..count {
+        bands.push(first(gamma_zero, constant(start, z)))?;
+    }
+    Ok(bands)
+}
+
+/// K of band `z`.
+#[tactic(auto, unfolding(crate::specs::Statistics::constant_of))]
+fn constant(start: &CountStart, z: u32) -> u32
+    requires { (count : ℕ) × HasEntries count start.now × (z < count) }
+    ensures { result ≡ constant_of start.now z }
+{
+    match start {
+        CountStart::Constant(k) => *k,
+        CountStart::Each(table) => u32::from(table.as_slice()[z as usize]),
+    }
+}
