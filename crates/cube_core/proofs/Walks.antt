@@ -62,9 +62,10 @@ StepsTo s depth p q = IsSpot s (Bi depth) q × (place_index s (Bi depth) q.place
 pub next_in_group : (s : Sizes) (depth : ℕ) (p : Spot) → 1 ≤ depth → IsSpot s (Bi depth) p → p.place.z + 1 < p.end → StepsTo s depth p (record { place = record { z = p.place.z + 1; y = p.place.y; x = p.place.x }; first = p.first; end = p.end })
 next_in_group s depth p h spot more =
     let low : p.place.z / depth * depth ≤ p.place.z = div-mul-le_self p.place.z depth in
-    let kept : p.first ≡ (p.place.z + 1) / depth * depth = group_kept depth p.first p.place.z (p.place.z + 1) spot.1 (omega (arith, spot.1)) (omega (arith, spot.2)) in
-    ((record { band = omega (arith, spot.2); row = spot.0.row; column = spot.0.column }, kept, spot.2),
-    index_in_group s depth p.first (record { z = p.place.z + 1; y = p.place.y; x = p.place.x }) kept ∙ sym (ap (λ n. n + 1) (index_in_group s depth p.first p.place spot.1) ∙ omega (arith, spot.1)))
+    let kept : p.first ≡ (p.place.z + 1) / depth * depth = group_kept depth p.first p.place.z (p.place.z + 1) spot.1 (omega (arith, spot.1)) (omega (arith, spot.2)) in (
+      (record { band = omega (arith, spot.2); row = spot.0.row; column = spot.0.column }, kept, spot.2),
+      index_in_group s depth p.first (record { z = p.place.z + 1; y = p.place.y; x = p.place.x }) kept ∙ sym (ap (λ n. n + 1) (index_in_group s depth p.first p.place spot.1) ∙ omega (arith, spot.1)),
+    )
 
 -- the group's first band, a column on
 pub next_in_row : (s : Sizes) (depth : ℕ) (p : Spot) → 1 ≤ depth → IsSpot s (Bi depth) p → p.end ≤ p.place.z + 1 → p.place.x + 1 < s.columns → StepsTo s depth p (record { place = record { z = p.first; y = p.place.y; x = p.place.x + 1 }; first = p.first; end = p.end })
@@ -72,9 +73,10 @@ next_in_row s depth p h spot last more =
     let low : p.place.z / depth * depth ≤ p.place.z = div-mul-le_self p.place.z depth in
     let high : p.place.z < p.place.z / depth * depth + depth = lt-div-mul-add h in
     let kept : p.first ≡ p.first / depth * depth = group_kept depth p.first p.place.z p.first spot.1 (omega arith) (omega arith) in
-    let behind : p.place.z - p.first + 1 ≡ min depth (s.bands - p.first) = omega (arith, spot.1, spot.2, spot.0.band) in
-    ((record { band = omega (arith, spot.1, spot.0.band); row = spot.0.row; column = more }, kept, spot.2),
-    index_in_group s depth p.first (record { z = p.first; y = p.place.y; x = p.place.x + 1 }) kept ∙ sym (ap (λ n. n + 1) (index_in_group s depth p.first p.place spot.1) ∙ omega (arith, behind)))
+    let behind : p.place.z - p.first + 1 ≡ min depth (s.bands - p.first) = omega (arith, spot.1, spot.2, spot.0.band) in (
+      (record { band = omega (arith, spot.1, spot.0.band); row = spot.0.row; column = more }, kept, spot.2),
+      index_in_group s depth p.first (record { z = p.first; y = p.place.y; x = p.place.x + 1 }) kept ∙ sym (ap (λ n. n + 1) (index_in_group s depth p.first p.place spot.1) ∙ omega (arith, behind)),
+    )
 
 -- the next group's first band, in the first column
 pub next_group : (s : Sizes) (depth : ℕ) (p : Spot) → 1 ≤ depth → IsSpot s (Bi depth) p → p.end ≤ p.place.z + 1 → s.columns ≤ p.place.x + 1 → p.end < s.bands → StepsTo s depth p (record { place = record { z = p.end; y = p.place.y; x = 0 }; first = p.end; end = min s.bands (p.end + depth) })
@@ -85,9 +87,10 @@ next_group s depth p h spot last column more =
     let size : min depth (s.bands - p.first) ≡ depth = omega (arith, spot.2) in
     let x : p.place.x + 1 ≡ s.columns = omega (arith, spot.0.column) in
     let behind : p.place.z - p.first + 1 ≡ depth = omega (arith, spot.1, spot.2, spot.0.band, lt-div-mul-add {a = p.place.z} h) in
-    let place : (p.place.y * s.bands + p.end) * s.columns ≡ (p.place.y * s.bands + p.first) * s.columns + depth * (p.place.x + 1) = rw (← end, ← x) (omega arith) in
-    ((record { band = more; row = spot.0.row; column = omega (arith, spot.0.column) }, next, omega arith),
-    index_in_group s depth p.end (record { z = p.end; y = p.place.y; x = 0 }) next ∙ sym (ap (λ n. n + 1) (index_in_group s depth p.first p.place spot.1) ∙ rw size (omega (arith, place, behind))))
+    let place : (p.place.y * s.bands + p.end) * s.columns ≡ (p.place.y * s.bands + p.first) * s.columns + depth * (p.place.x + 1) = rw (← end, ← x) (omega arith) in (
+      (record { band = more; row = spot.0.row; column = omega (arith, spot.0.column) }, next, omega arith),
+      index_in_group s depth p.end (record { z = p.end; y = p.place.y; x = 0 }) next ∙ sym (ap (λ n. n + 1) (index_in_group s depth p.first p.place spot.1) ∙ rw size (omega (arith, place, behind))),
+    )
 
 -- the first band and column of the next row
 pub next_line : (s : Sizes) (depth : ℕ) (p : Spot) → 1 ≤ depth → depth ≤ s.bands → IsSpot s (Bi depth) p → p.end ≤ p.place.z + 1 → s.columns ≤ p.place.x + 1 → s.bands ≤ p.end → place_index s (Bi depth) p.place + 1 < sample_count s → StepsTo s depth p (record { place = record { z = 0; y = p.place.y + 1; x = 0 }; first = 0; end = depth })
@@ -101,9 +104,10 @@ next_line s depth p h deep spot last column bands more =
     let place : (p.place.y + 1) * s.bands * s.columns ≡ (p.place.y * s.bands + p.first) * s.columns + (s.bands - p.first) * (p.place.x + 1) = line ∙ rw (← x) (omega arith) in
     let index : place_index s (Bi depth) p.place + 1 ≡ (p.place.y + 1) * s.bands * s.columns = ap (λ n. n + 1) (index_in_group s depth p.first p.place spot.1) ∙ rw size (omega (arith, place, behind)) in
     let row : p.place.y + 1 < s.rows = lt_of_mul-lt-mul_left (s.bands * s.columns) (omega (arith, index)) in
-    let first : 0 ≡ 0 / depth * depth = omega arith in
-    ((record { band = omega arith; row = row; column = omega (arith, spot.0.column) }, first, omega arith),
-    index_in_group s depth 0 (record { z = 0; y = p.place.y + 1; x = 0 }) first ∙ sym (index ∙ omega arith))
+    let first : 0 ≡ 0 / depth * depth = omega arith in (
+      (record { band = omega arith; row = row; column = omega (arith, spot.0.column) }, first, omega arith),
+      index_in_group s depth 0 (record { z = 0; y = p.place.y + 1; x = 0 }) first ∙ sym (index ∙ omega arith),
+    )
 
 -- ---- what is left
 

@@ -2,6 +2,8 @@ pub mod Cursor
 pub mod Heights
 pub mod Image
 pub mod Kind
+pub mod Layout
 pub mod Order
+pub mod Raw
 pub mod Shape
 pub mod Steps

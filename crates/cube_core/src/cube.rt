@@ -1,13 +1,20 @@
 //! A cube of samples, kept in two bytes each.
 
-ghost use Rattle.std.specs.Prelude.{◌≡◌, ◌+◌, ◌<◌, ◌≤◌, ◌≤ℤ◌, length, pos, negsuc};
+ghost use Rattle.std.specs.Prelude.{◌≡◌, ◌≢◌, ◌↔◌, ◌*◌, ◌≤ℤ◌, length, replicate, pos, negsuc, IfOk, IfErr};
 ghost use Rattle.cube_core.specs.Shape.{sample_count};
-ghost use Rattle.cube_core.specs.Image.{IsPlace, sample_at, index_in, put};
+ghost use Rattle.cube_core.specs.Image.{IsPlace, sample_at, put};
+ghost use Rattle.cube_core.specs.Layout.{IsLayout, raw_bytes};
+ghost use Rattle.cube_core.specs.Raw.{IsRawFault};
+ghost use Rattle.cube_core.specs.declared.fault.Fault.TheVariants.{RawLength, WantOfMemory};
 ghost use Rattle.cube_core.specs.Kind.{IsSample};
 ghost use Rattle.cube_core.specs.Heights.{AreRowHeights};
 
+use crate::fault::Fault;
 use crate::kind::Kind;
-use crate::shape::Shape;
+use crate::layout::Layout;
+use crate::raw::fill;
+use crate::shape::{Shape, index_at};
+use std::alloc::Global;
 use std::marker::Model;
 
 /// A shape, a kind, and one sample of that kind at each place.
@@ -32,6 +39,51 @@ impl Model for Cube {
 }
 
 impl Cube {
+    /// A cube of this shape and kind whose samples are all 0.
+    ///
+    /// `WantOfMemory` where memory for it was refused.
+    pub fn new(alloc: Global, shape: Shape, kind: Kind) -> Result<Cube, Fault>
+        ensures zeros { IfOk result (λ c. c ≡ record { shape = shape; kind = kind; samples = replicate (sample_count shape) (pos 0) }) }
+        ensures memory { IfErr result (λ fault. fault ≡ WantOfMemory) }
+    {
+        let heights = vec![in alloc; kind.height_of(0); shape.sample_count() as usize]?;
+        Ok(Cube {
+            shape,
+            kind,
+            heights,
+        })
+    }
+
+    /// The cube whose samples lie in raw bytes.
+    ///
+    /// `RawLength` where the bytes are not as many as the samples have, then `WantOfMemory`, then
+    /// `SampleRange` with the first sample in the layout's order that isn't of the kind.
+    pub fn from_raw(
+        alloc: Global,
+        shape: Shape,
+        kind: Kind,
+        layout: Layout,
+        bytes: &[u8],
+    ) -> Result<Cube, Fault>
+        requires { IsLayout layout }
+        ensures cube { IfOk result (λ c. (c.shape ≡ shape) × (c.kind ≡ kind) × (raw_bytes c layout ≡ bytes.now)) }
+        ensures length { (result ≡ Err (RawLength (sample_count shape * layout.bytes) (length bytes.now))) ↔ (length bytes.now ≢ sample_count shape * layout.bytes) }
+        ensures refused { IfErr result (IsRawFault shape kind layout bytes.now) }
+    {
+        let wanted = layout.length(shape);
+        let had = bytes.len() as u64;
+        if had != wanted {
+            return Err(Fault::RawLength { wanted, had });
+        }
+        let mut heights = vec![in alloc; 0u16; shape.sample_count() as usize]?;
+        fill(shape, kind, layout, bytes, &mut heights)?;
+        Ok(Cube {
+            shape,
+            kind,
+            heights,
+        })
+    }
+
     /// The cube's shape.
     pub fn shape(&self) -> Shape
         ensures { result ≡ self.now.shape }
@@ -76,15 +128,4 @@ impl Cube {
         let from = index_at(self.shape, z, y, 0);
         &self.heights[from..from + self.shape.columns() as usize]
     }
-}
-
-/// Where a sample stands in the list, band after band and row after row.
-fn index_at(shape: Shape, z: u32, y: u32, x: u32) -> usize
-    requires { IsPlace shape z y x }
-    ensures value { result ≡ index_in shape.columns shape.rows z y x }
-    ensures below { result < sample_count shape }
-    ensures row { index_in shape.columns shape.rows z y 0 + shape.columns ≤ sample_count shape }
-{
-    let row = z as usize * shape.rows() as usize + y as usize;
-    row * shape.columns() as usize + x as usize
 }

@@ -1,6 +1,6 @@
 //! The kind of a cube's samples: signed or not, and of how many bits.
 
-ghost use Rattle.std.specs.Prelude.{◌≡◌, ◌↔◌, ◌<◌, ◌^◌, IsOk, pos, negsuc, ◌≤ℤ◌, ◌+ℤ◌};
+ghost use Rattle.std.specs.Prelude.{◌≡◌, ◌↔◌, ◌<◌, ◌^◌, IsOk, IsTrue, pos, negsuc, ◌≤ℤ◌, ◌+ℤ◌};
 ghost use Rattle.cube_core.specs.Shape.{InRange};
 ghost use Rattle.cube_core.specs.Kind.{kind_or_fault, smin, smax, smid, IsSample, sample_of};
 
@@ -95,6 +95,13 @@ impl Kind {
         } else {
             1i32 << (self.bits - 1)
         }
+    }
+
+    /// Whether a number is a sample of this kind.
+    pub fn has(self, number: i32) -> bool
+        ensures { IsTrue result ↔ IsSample self number }
+    {
+        self.smin() <= number && number <= self.smax()
     }
 
     /// The sample that stands so far above the least one.

@@ -5,5 +5,7 @@ pub mod cube;
 pub mod cursor;
 pub mod fault;
 pub mod kind;
+pub mod layout;
 pub mod order;
+mod raw;
 pub mod shape;

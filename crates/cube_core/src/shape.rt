@@ -1,7 +1,8 @@
 //! The shape of a cube: how many columns, rows and bands it has.
 
-ghost use Rattle.std.specs.Prelude.{◌≡◌, ◌↔◌, ◌^◌, IsOk};
+ghost use Rattle.std.specs.Prelude.{◌≡◌, ◌↔◌, ◌+◌, ◌<◌, ◌≤◌, ◌^◌, IsOk};
 ghost use Rattle.cube_core.specs.Shape.{AreSizes, InRange, size_or_fault, sizes_or_fault, sample_count};
+ghost use Rattle.cube_core.specs.Image.{IsPlace, index_in};
 
 use crate::fault::{Fault, Field};
 use std::marker::Model;
@@ -93,4 +94,15 @@ fn in_range(field: Field, size: u32) -> Result<(), Fault>
             value: i64::from(size),
         })
     }
+}
+
+/// Where a sample stands in the list, band after band and row after row.
+pub(crate) fn index_at(shape: Shape, z: u32, y: u32, x: u32) -> usize
+    requires { IsPlace shape z y x }
+    ensures value { result ≡ index_in shape.columns shape.rows z y x }
+    ensures below { result < sample_count shape }
+    ensures row { index_in shape.columns shape.rows z y 0 + shape.columns ≤ sample_count shape }
+{
+    let row = z as usize * shape.rows() as usize + y as usize;
+    row * shape.columns() as usize + x as usize
 }

@@ -1,0 +1,119 @@
+-- The raw bytes of samples that were taken in from bytes are those bytes.
+use Rattle.std.proofs.Common.{◌≡◌, ◌+◌, ◌*◌, ◌/◌, ◌%◌, ◌^◌, ◌<◌, ◌≤◌, ◌-◌, ℕ, suc, zero, pos, negsuc, ◌-ℤ◌, Bool, true, false, leb, List, [], ◌∷◌, length, take, drop, replicate, get_or, refl, sym, ap, ◌∙◌, subst, arith, inl, inr, length-take, length-drop}
+use Rattle.std.proofs.lemmas.List.{take-append-drop, drop-drop, nil_from_length, get_or-take, get_or-drop, get_or_past}
+use Rattle.std.proofs.lemmas.Int.{ints}
+use Rattle.std.specs.Prelude.{if◌then◌else◌, ◌&&◌}
+use Rattle.std.proofs.lemmas.Bool.{cases_lt}
+use Rattle.std.specs.List.{flat_map}
+use Rattle.cube_core.specs.declared.order.Order.TheVariants.{Bsq}
+use Rattle.cube_core.proofs.Walks.{sequential_index}
+use Rattle.cube_core.specs.declared.order.Place.{Place}
+use Rattle.cube_core.specs.declared.layout.Layout.{Layout}
+use Rattle.cube_core.specs.Shape.{Sizes, sample_count}
+use Rattle.cube_core.specs.Kind.{SampleKind, sample_of}
+use Rattle.cube_core.specs.Image.{Image, index_in, sample_at}
+use Rattle.cube_core.specs.Heights.{samples_of, AreHeights}
+use Rattle.cube_core.specs.Order.{places}
+use Rattle.cube_core.specs.Layout.{IsLayout, order_of, raw_code, twos_complement, raw_value, bytes_at, sample_bytes, raw_bytes}
+use Rattle.cube_core.specs.Raw.{AreHeightsOf}
+use Rattle.cube_core.proofs.Bounds.{index_below}
+use Rattle.cube_core.proofs.Heights.{sample_at_height}
+use Rattle.cube_core.proofs.Orders.{place_at_index, length-places}
+use Rattle.cube_core.proofs.Raws.{place_of, lawful_order, bytes_there}
+
+-- a list is cut into pieces of one length, each of which is what f makes of an item
+pub pieces_whole : {A : Type 0} (f : A → List ℕ) (xs : List A) (w : ℕ) (bytes : List ℕ) → length bytes ≡ length xs * w → ((i : ℕ) (d : A) → i < length xs → f (get_or xs i d) ≡ take w (drop (i * w) bytes)) → flat_map f xs ≡ bytes
+pieces_whole f [] w bytes long each = sym (nil_from_length bytes (long ∙ omega arith))
+pieces_whole f (x ∷ xs) w bytes long each =
+    let none : 0 * w ≡ 0 = omega arith in
+    let first : f x ≡ take w bytes = rw none at (each 0 x (omega arith)) in
+    let others : flat_map f xs ≡ drop w bytes = pieces_whole f xs w (drop w bytes) (omega (arith, length-drop w bytes)) (λ i d lt. each (suc i) d (omega arith) ∙ ap (take w) (further i)) in
+    rw (first, others) (take-append-drop w bytes)
+  where
+    further : (i : ℕ) → drop (suc i * w) bytes ≡ drop (i * w) (drop w bytes)
+    further i = let e : suc i * w ≡ w + i * w = omega arith in rw e (sym (drop-drop (i * w) w bytes))
+
+-- ---- one sample
+
+code_by : (test : Bool) (bytes number : ℕ) → number < 2 ^ (8 * bytes) → raw_code bytes (if test then pos number -ℤ pos (2 ^ (8 * bytes)) else pos number) ≡ number
+code_by true bytes number h =
+    let below : pos number -ℤ pos (2 ^ (8 * bytes)) ≡ negsuc (2 ^ (8 * bytes) - number - 1) = omega (arith, ints) in
+    rw below (omega arith)
+code_by false bytes number h = refl
+
+-- the code of the sample that a number spells is the number
+pub code_again : (signed : Bool) (bytes number : ℕ) → number < 2 ^ (8 * bytes) → raw_code bytes (twos_complement signed bytes number) ≡ number
+code_again signed bytes number h = code_by (signed && leb (2 ^ (8 * bytes - 1)) number) bytes number h
+
+abbrev AreBytes : List ℕ → Type 0
+AreBytes bytes = (i : ℕ) → get_or bytes i 0 < 256
+
+one_again : (l : Layout) (k : SampleKind) (bytes : List ℕ) → AreBytes bytes → l.bytes ≡ 1 → length bytes ≡ 1 → sample_bytes l (raw_value l k bytes) ≡ bytes
+unfolding sample_bytes
+one_again l k [] h e n = absurd (omega (arith, n))
+one_again l k (a ∷ []) h e n = rw (e, code_again k.signed 1 a (h 0)) refl
+one_again l k (a ∷ b ∷ bs) h e n = absurd (omega (arith, n))
+
+two_again : (little : Bool) (l : Layout) (k : SampleKind) (bytes : List ℕ) → AreBytes bytes → l.little ≡ little → l.bytes ≡ 2 → length bytes ≡ 2 → sample_bytes l (raw_value l k bytes) ≡ bytes
+unfolding sample_bytes
+two_again little l k [] h f e n = absurd (omega (arith, n))
+two_again little l k (a ∷ []) h f e n = absurd (omega (arith, n))
+two_again true l k (a ∷ b ∷ []) h f e n =
+    let low : (a + 256 * b) % 256 ≡ a = omega (arith, h 0) in
+    let high : (a + 256 * b) / 256 ≡ b = omega (arith, h 0) in
+    rw (e, f, code_again k.signed 2 (a + 256 * b) (omega (arith, h 0, h 1)), low, high) refl
+two_again false l k (a ∷ b ∷ []) h f e n =
+    let low : (256 * a + b) % 256 ≡ b = omega (arith, h 1) in
+    let high : (256 * a + b) / 256 ≡ a = omega (arith, h 1) in
+    rw (e, f, code_again k.signed 2 (256 * a + b) (omega (arith, h 0, h 1)), low, high) refl
+two_again little l k (a ∷ b ∷ c ∷ bs) h f e n = absurd (omega (arith, n))
+
+-- the bytes of the sample that bytes spell are these bytes
+pub sample_bytes_again : (l : Layout) (k : SampleKind) (bytes : List ℕ) → IsLayout l → AreBytes bytes → length bytes ≡ l.bytes → sample_bytes l (raw_value l k bytes) ≡ bytes
+sample_bytes_again l k bytes (inl e) h n = one_again l k bytes h e (n ∙ e)
+sample_bytes_again l k bytes (inr e) h n = two_again l.little l k bytes h refl e (n ∙ e)
+
+-- ---- all samples
+
+abbrev image : Sizes → SampleKind → List ℕ → Image
+image s k heights = record { shape = s; kind = k; samples = samples_of k heights }
+
+each_sample : (s : Sizes) (k : SampleKind) (l : Layout) (bytes heights : List ℕ) (i : ℕ) (d : Place) → IsLayout l → 0 < sample_count s → length bytes ≡ sample_count s * l.bytes → AreBytes bytes → length heights ≡ sample_count s → AreHeightsOf s k l bytes heights → i < sample_count s
+    → sample_bytes l (sample_at (image s k heights) (get_or (places s (order_of l.order s)) i d).z (get_or (places s (order_of l.order s)) i d).y (get_or (places s (order_of l.order s)) i d).x) ≡ bytes_at l bytes i
+each_sample s k l bytes heights i d layout some long small full here lt =
+    let lawful = lawful_order l.order s some in
+    let there = place_of s (order_of l.order s) i lawful lt in
+    let p : Place = there.0 in
+    let item : get_or (places s (order_of l.order s)) i d ≡ p = subst (λ (n : ℕ). get_or (places s (order_of l.order s)) n d ≡ p) there.1.index (place_at_index s (order_of l.order s) p d lawful there.1.place) in
+    let at : index_in s.columns s.rows p.z p.y p.x < length heights = rw full (index_below s.columns s.rows s.bands p.z p.y p.x there.1.place.band there.1.place.row there.1.place.column) in
+    let read = sample_at_height (image s k heights) s k heights p.z p.y p.x (index_in s.columns s.rows p.z p.y p.x) refl refl at in
+    let value = read ∙ (here p there.1.place).value ∙ ap (λ (n : ℕ). raw_value l k (bytes_at l bytes n)) there.1.index in
+    let fits : i * l.bytes + l.bytes ≤ length bytes = rw long (bytes_there l i (sample_count s) layout lt) in
+    let whole : length (bytes_at l bytes i) ≡ l.bytes = omega (arith, length-take l.bytes (drop (i * l.bytes) bytes), length-drop (i * l.bytes) bytes) in
+    let small_there : AreBytes (bytes_at l bytes i) = λ j. below_at j in
+    rw (item, value) (sample_bytes_again l k (bytes_at l bytes i) layout small_there whole)
+  where
+    below_at : (j : ℕ) → get_or (bytes_at l bytes i) j 0 < 256
+    below_at j = elim (cases_lt j l.bytes) [ inl lt ↦ rw (get_or-take l.bytes (drop (i * l.bytes) bytes) j 0 lt, get_or-drop (i * l.bytes) bytes j 0) (small (i * l.bytes + j)) | inr past ↦ rw (get_or_past (bytes_at l bytes i) j 0 (omega (arith, length-take l.bytes (drop (i * l.bytes) bytes)))) (omega arith) ]
+
+pub raw_bytes_again : (s : Sizes) (k : SampleKind) (l : Layout) (bytes heights : List ℕ) → IsLayout l → 0 < sample_count s → length bytes ≡ sample_count s * l.bytes → AreBytes bytes → length heights ≡ sample_count s → AreHeightsOf s k l bytes heights
+    → raw_bytes (record { shape = s; kind = k; samples = samples_of k heights }) l ≡ bytes
+unfolding raw_bytes
+raw_bytes_again s k l bytes heights layout some long small full here =
+    pieces_whole (λ (p : Place). sample_bytes l (sample_at (image s k heights) p.z p.y p.x)) (places s (order_of l.order s)) l.bytes bytes (rw (length-places s (order_of l.order s) (lawful_order l.order s some)) long)
+    (λ i d lt. each_sample s k l bytes heights i d layout some long small full here (omega (arith, lt, length-places s (order_of l.order s) (lawful_order l.order s some))))
+
+-- ---- heights
+
+-- each height is within the kind's bits
+pub are_heights : (s : Sizes) (k : SampleKind) (l : Layout) (bytes heights : List ℕ) → 0 < sample_count s → length heights ≡ sample_count s → AreHeightsOf s k l bytes heights → AreHeights s k heights
+are_heights s k l bytes heights some full here =
+    record {
+      whole = full;
+      range = λ i lt. let there = place_of s Bsq i tt (omega arith) in subst (λ (n : ℕ). get_or heights n 0 < 2 ^ k.bits) (sym (sequential_index s there.0) ∙ there.1.index) (here there.0 there.1.place).below;
+    }
+
+pub zeros_are_samples : (k : SampleKind) (n height : ℕ) → sample_of k height ≡ pos 0 → samples_of k (replicate n height) ≡ replicate n (pos 0)
+unfolding samples_of
+zeros_are_samples k zero height e = refl
+zeros_are_samples k (suc n) height e = rw (e, zeros_are_samples k n height e) refl

@@ -1,0 +1,36 @@
+-- What stands where raw bytes were taken in.
+use Rattle.std.specs.Prelude.{ℕ, ◌≡◌, ◌⊎◌, ◌*◌, ◌<◌, ◌^◌, List, length, slice_index}
+use Rattle.cube_core.specs.declared.fault.Fault.{Fault}
+use Rattle.cube_core.specs.declared.fault.Fault.TheVariants.{RawLength, WantOfMemory, SampleRange}
+use Rattle.cube_core.specs.declared.layout.Layout.{Layout}
+use Rattle.cube_core.specs.declared.order.Place.{Place}
+use Rattle.cube_core.specs.Shape.{Sizes, sample_count}
+use Rattle.cube_core.specs.Kind.{SampleKind, IsSample, sample_of}
+use Rattle.cube_core.specs.Image.{index_in}
+use Rattle.cube_core.specs.Order.{IsPlaceOf, place_index}
+use Rattle.cube_core.specs.Layout.{order_of, raw_value, bytes_at, IsFirstBad}
+
+-- the height at a place is that of the sample that its bytes spell
+pub record IsHeightOf (s : Sizes) (k : SampleKind) (l : Layout) (bytes heights : List ℕ) (p : Place) : Type 0 where
+  pub below : slice_index heights (index_in s.columns s.rows p.z p.y p.x) < 2 ^ k.bits
+  pub value : sample_of k (slice_index heights (index_in s.columns s.rows p.z p.y p.x)) ≡ raw_value l k (bytes_at l bytes (place_index s (order_of l.order s) p))
+
+-- so it is at every place whose item of the order comes before the i-th
+abbrev pub AreHeightsBefore : Sizes → SampleKind → Layout → List ℕ → List ℕ → ℕ → Type 0
+AreHeightsBefore s k l bytes heights i = (p : Place) → IsPlaceOf s p → place_index s (order_of l.order s) p < i → IsHeightOf s k l bytes heights p
+
+abbrev pub AreHeightsOf : Sizes → SampleKind → Layout → List ℕ → List ℕ → Type 0
+AreHeightsOf s k l bytes heights = (p : Place) → IsPlaceOf s p → IsHeightOf s k l bytes heights p
+
+-- the first samples are of the kind
+abbrev pub AreSamples : SampleKind → Layout → List ℕ → ℕ → Type 0
+AreSamples k l bytes i = (j : ℕ) → j < i → IsSample k (raw_value l k (bytes_at l bytes j))
+
+-- the refusal names the first sample that is not of the kind
+abbrev pub IsBadSample : SampleKind → Layout → List ℕ → Fault → Type 0
+IsBadSample k l bytes fault = (i : ℕ) × (fault ≡ SampleRange i) × IsFirstBad k l bytes i
+
+-- why raw bytes are refused: their number, want of memory, or a sample
+abbrev pub IsRawFault : Sizes → SampleKind → Layout → List ℕ → Fault → Type 0
+IsRawFault s k l bytes fault =
+    (fault ≡ RawLength (sample_count s * l.bytes) (length bytes)) ⊎ ((fault ≡ WantOfMemory) ⊎ IsBadSample k l bytes fault)

@@ -1,0 +1,89 @@
+//! How the samples of a cube lie in raw bytes.
+
+ghost use Rattle.std.specs.Prelude.{◌≡◌, ◌⊎◌, ◌*◌, ◌≤◌, ◌<◌, ◌^◌, ◌≤ℤ◌, length, pos, negsuc};
+ghost use Rattle.cube_core.specs.Shape.{sample_count};
+ghost use Rattle.cube_core.specs.Layout.{IsLayout, raw_value, twos_complement, order_of};
+
+use crate::kind::Kind;
+use crate::order::Order;
+use crate::shape::Shape;
+use byteorder::{BigEndian, ByteOrder, LittleEndian};
+
+/// In which order the samples of a raw file follow one another.
+#[derive(Clone, Copy, Debug, PartialEq, Eq)]
+pub enum RawOrder {
+    /// Band sequential.
+    Bsq,
+    /// Band interleaved by line.
+    Bil,
+    /// Band interleaved by pixel.
+    Bip,
+}
+
+impl RawOrder {
+    /// The encoding order in which the samples follow one another.
+    pub fn order(self, shape: Shape) -> Order
+        ensures { result ≡ order_of self shape }
+    {
+        match self {
+            RawOrder::Bsq => Order::Bsq,
+            RawOrder::Bil => Order::Bi(1),
+            RawOrder::Bip => Order::Bi(shape.bands()),
+        }
+    }
+}
+
+/// How samples lie in raw bytes: their order, one or two bytes each, and which byte comes first.
+///
+/// Samples are whole numbers of so many bytes, in two's complement where they are signed.
+#[derive(Clone, Copy, Debug, PartialEq, Eq)]
+pub struct Layout {
+    pub order: RawOrder,
+    /// Bytes of a sample: 1 or 2.
+    pub bytes: u32,
+    /// The low byte comes first.
+    pub little: bool,
+}
+
+impl Layout {
+    /// How many raw bytes a cube has.
+    pub fn length(self, shape: Shape) -> u64
+        requires { IsLayout self }
+        ensures { result ≡ sample_count shape * self.bytes }
+    {
+        shape.sample_count() * u64::from(self.bytes)
+    }
+
+    /// The sample that the first bytes spell.
+    pub(crate) fn value(self, kind: Kind, bytes: &[u8]) -> i32
+        requires layout { IsLayout self }
+        requires enough { self.bytes ≤ length bytes.now }
+        ensures value { result ≡ raw_value self kind bytes.now }
+        ensures range { (negsuc 32767 ≤ℤ result) × (result ≤ℤ pos 65535) }
+    {
+        let number = if self.bytes == 1 {
+            u16::from(bytes[0])
+        } else if self.little {
+            LittleEndian::read_u16(bytes)
+        } else {
+            BigEndian::read_u16(bytes)
+        };
+        signed_value(kind.is_signed(), self.bytes, number)
+    }
+}
+
+/// A number of one or two bytes, in two's complement where it is signed.
+fn signed_value(signed: bool, bytes: u32, number: u16) -> i32
+    requires bytes { (bytes ≡ 1) ⊎ (bytes ≡ 2) }
+    requires fits { number < 2 ^ (8 * bytes) }
+    ensures value { result ≡ twos_complement signed bytes number }
+    ensures range { (negsuc 32767 ≤ℤ result) × (result ≤ℤ pos 65535) }
+{
+    let number = i32::from(number);
+    let half = if bytes == 1 { 128 } else { 32_768 };
+    if signed && number >= half {
+        number - 2 * half
+    } else {
+        number
+    }
+}
