@@ -1,6 +1,7 @@
 pub mod Arithmetic
 pub mod Differences
 pub mod LocalSum
+pub mod Mapping
 pub mod Prediction
 pub mod Predictor
 pub mod Residual
