@@ -1,0 +1,5 @@
+use Rattle.predict_core.proofs.OneSample.{one_sample_lem}
+use Rattle.predict_core.proofs.laws.one_sample.Goals as goal
+
+pub returns : goal.returns
+returns c = one_sample_lem

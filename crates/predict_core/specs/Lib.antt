@@ -1,0 +1,10 @@
+pub mod Arithmetic
+pub mod Differences
+pub mod LocalSum
+pub mod Mapping
+pub mod Prediction
+pub mod Predictor
+pub mod Residual
+pub mod Weights
+pub mod Rows
+pub mod Everything

@@ -1,0 +1,143 @@
+//! From a sample to its mapped residual, and back.
+
+ghost use Rattle.std.specs.Prelude.{◌≡◌, ◌+◌, ◌*◌, ◌^◌, ◌<◌, ◌≤◌, pos, negsuc, ◌≤ℤ◌, ◌+ℤ◌, ◌-ℤ◌, ◌*ℤ◌, min, IsTrue};
+ghost use Rattle.cube_core.specs.Kind.{IsSample};
+ghost use Rattle.predict_core.specs.Arithmetic.{floor_div};
+ghost use Rattle.predict_core.specs.Residual.{reach, agrees, number_of, mapped_between, mapped};
+ghost use Rattle.predict_core.specs.Mapping.{error_of, unmapped_between, Between, IsScaled};
+
+use cube_core::kind::Kind;
+
+/// The mapped residual of the sample `s`, by its scaled predicted value.
+///
+/// `stilde` is 2·smin to 2·smax + 1, and the answer at most 2^D - 1
+/// (CCSDS 123.0-B-1, "Mapped Prediction Residual").
+pub fn map_residual(kind: Kind, stilde: i32, s: i32) -> u16
+    requires scaled { IsScaled kind stilde }
+    requires sample { IsSample kind s }
+    ensures value { result ≡ mapped kind stilde s }
+    ensures bound { result < 2 ^ kind.bits }
+{
+    let _bits = kind.bits();
+    map_between(kind.smin(), kind.smax(), stilde, s)
+}
+
+/// The sample whose mapped residual is `delta`, by its scaled predicted value.
+///
+/// `stilde` is 2·smin to 2·smax + 1, and `delta` at most 2^D - 1. There is one such sample.
+pub fn unmap_residual(kind: Kind, stilde: i32, delta: u16) -> i32
+    requires scaled { IsScaled kind stilde }
+    requires residual { delta < 2 ^ kind.bits }
+    ensures range { IsSample kind result }
+    ensures inverse { mapped kind stilde result ≡ delta }
+{
+    unmap_between(kind.smin(), kind.smax(), stilde, delta)
+}
+
+/// The number of a sample between `low` and `high`.
+pub(crate) fn map_between(low: i32, high: i32, scaled: i32, v: i32) -> u16
+    requires low_in { negsuc 32767 ≤ℤ low }
+    requires high_in { high ≤ℤ (low +ℤ pos 65535) }
+    requires high_top { high ≤ℤ pos 65535 }
+    requires scaled_low { (pos 2 *ℤ low) ≤ℤ scaled }
+    requires scaled_high { scaled ≤ℤ (pos 2 *ℤ high +ℤ pos 1) }
+    requires v_low { low ≤ℤ v }
+    requires v_high { v ≤ℤ high }
+    ensures { result ≡ mapped_between low high scaled v }
+{
+    let predicted = prediction_of(scaled);
+    let near = reach_of(low, high, predicted);
+    let error = v - predicted;
+    let size = error.unsigned_abs();
+    let sign = has_sign(scaled, error);
+    number_by(near, size, sign) as u16
+}
+
+/// The sample between `low` and `high` whose number is `delta`.
+pub(crate) fn unmap_between(low: i32, high: i32, scaled: i32, delta: u16) -> i32
+    requires low_in { negsuc 32767 ≤ℤ low }
+    requires high_in { high ≤ℤ (low +ℤ pos 65535) }
+    requires high_top { high ≤ℤ pos 65535 }
+    requires scaled_low { (pos 2 *ℤ low) ≤ℤ scaled }
+    requires scaled_high { scaled ≤ℤ (pos 2 *ℤ high +ℤ pos 1) }
+    requires delta_in { pos delta ≤ℤ (high -ℤ low) }
+    ensures value { result ≡ unmapped_between low high scaled delta }
+    ensures range { Between low high result }
+    ensures inverse { mapped_between low high scaled result ≡ delta }
+{
+    let predicted = prediction_of(scaled);
+    let near = reach_of(low, high, predicted);
+    let below = (predicted - low).unsigned_abs();
+    predicted + error_by(near, below, scaled.unsigned_abs(), delta as u32)
+}
+
+/// Half of a scaled prediction, rounded down.
+fn prediction_of(scaled: i32) -> i32
+    ensures value { result ≡ floor_div scaled 2 }
+    ensures low { (pos 2 *ℤ result) ≤ℤ scaled }
+    ensures high { scaled ≤ℤ (pos 2 *ℤ result +ℤ pos 1) }
+{
+    scaled >> 1
+}
+
+/// How far the prediction is from the nearer end of the range.
+fn reach_of(low: i32, high: i32, predicted: i32) -> u32
+    requires low_in { negsuc 32767 ≤ℤ low }
+    requires high_in { high ≤ℤ (low +ℤ pos 65535) }
+    requires at_least { low ≤ℤ predicted }
+    requires at_most { predicted ≤ℤ high }
+    ensures value { result ≡ reach low high predicted }
+    ensures low_end { pos result ≤ℤ (predicted -ℤ low) }
+    ensures high_end { pos result ≤ℤ (high -ℤ predicted) }
+{
+    (predicted - low)
+        .unsigned_abs()
+        .min((high - predicted).unsigned_abs())
+}
+
+/// Whether the error has the sign that the scaled prediction's parity asks for.
+fn has_sign(scaled: i32, error: i32) -> bool
+    ensures { result ≡ agrees scaled error }
+{
+    if scaled.unsigned_abs() % 2 == 0 {
+        0 <= error
+    } else {
+        error <= 0
+    }
+}
+
+/// The number of an error, by its size and its sign.
+fn number_by(near: u32, size: u32, sign: bool) -> u32
+    requires fits { size + min size near ≤ 65535 }
+    requires zero { size ≡ 0 → IsTrue sign }
+    ensures value { result ≡ number_of near size sign }
+    ensures bound { result ≤ 65535 }
+{
+    if size > near {
+        size + near
+    } else if sign {
+        2 * size
+    } else {
+        2 * size - 1
+    }
+}
+
+/// The error of a number.
+fn error_by(near: u32, below: u32, parity: u32, number: u32) -> i32
+    requires near_in { near ≤ 65535 }
+    requires number_in { number ≤ 65535 }
+    requires parity_in { parity ≤ 131072 }
+    ensures { result ≡ error_of near below parity number }
+{
+    if 2 * near < number {
+        let size = (number - near) as i32;
+        if near < below { -size } else { size }
+    } else {
+        let size = ((number + 1) / 2) as i32;
+        if (number + parity) % 2 == 0 {
+            size
+        } else {
+            -size
+        }
+    }
+}
