@@ -1,0 +1,26 @@
+-- What is known of a device that may tell its bytes, and of its failures.
+use Rattle.std.specs.Prelude.{◌≡◌, ◌⊎◌, ℕ, ◌+◌, ◌-◌, ◌<◌, ◌^◌, List, [], ◌++◌, Option, Some, None}
+
+-- where a source tells its bytes, it gave these from the front of those that were left
+abbrev pub Gave : Option (List ℕ) → Option (List ℕ) → List ℕ → Type 0
+Gave old new bytes = (before : List ℕ) → old ≡ Some before → (rest : List ℕ) × (new ≡ Some rest) × (before ≡ bytes ++ rest)
+
+-- where a source tells its bytes, none are left
+abbrev pub IsEnd : Option (List ℕ) → Type 0
+IsEnd left = (rest : List ℕ) → left ≡ Some rest → rest ≡ []
+
+-- where a sink tells its bytes, it gained these at the end
+abbrev pub Took : Option (List ℕ) → Option (List ℕ) → List ℕ → Type 0
+Took old new bytes = (before : List ℕ) → old ≡ Some before → new ≡ Some (before ++ bytes)
+
+-- a count goes up by one, and stays at its greatest
+abbrev pub Rises : ℕ → ℕ → Type 0
+Rises old new = (new ≡ old + 1) ⊎ ((old ≡ 2 ^ 64 - 1) × (new ≡ old))
+
+-- a count went up, or stands at its greatest
+abbrev pub Rose : ℕ → ℕ → Type 0
+Rose old new = (old < new) ⊎ (new ≡ 2 ^ 64 - 1)
+
+-- a stall is counted where nothing was taken of a piece that isn't empty
+abbrev pub CountsStall : ℕ → ℕ → ℕ → ℕ → Type 0
+CountsStall taken length old new = ((taken ≡ 0) × (0 < length) × Rises old new) ⊎ (((0 < taken) ⊎ (length ≡ 0)) × (new ≡ old))

@@ -1,0 +1,10 @@
+//! The commands: engines over sources and sinks, and what the program reports.
+#![tactic(auto)]
+
+pub mod cut;
+mod reading;
+pub mod report;
+pub mod sink;
+pub mod source;
+pub mod stream;
+mod writing;

@@ -1,0 +1,31 @@
+//! What the program reports of a refusal: a line, and its exit status.
+
+ghost use Rattle.std.specs.Prelude.{◌≡◌, IfErr};
+ghost use Rattle.cube_core.specs.declared.fault.Fault.TheVariants.{WantOfMemory};
+ghost use Rattle.ccsds_command.specs.Status.{status};
+
+use cube_core::fault::Fault;
+use std::alloc::Global;
+
+/// The program's exit status after a refusal: 1 for the words, 2 for the input, 3 for memory or a
+/// thread, 4 for a device.
+pub fn status_of(fault: &Fault) -> u8
+    ensures { result ≡ status fault.now }
+{
+    match fault {
+        Fault::Usage => 1,
+        Fault::WantOfMemory | Fault::SpawnRefused => 3,
+        Fault::Read | Fault::Write { .. } => 4,
+        _ => 2,
+    }
+}
+
+/// The line that the program prints on standard error: its name, the fault, and a newline.
+///
+/// `WantOfMemory` where memory for the line was refused.
+pub fn fault_line(alloc: Global, fault: &Fault) -> Result<Vec<u8>, Fault>
+    ensures { IfErr result (λ e. e ≡ WantOfMemory) }
+{
+    let line = format!(in alloc; "ccsds: {fault}\n")?;
+    Ok(line.into_bytes())
+}

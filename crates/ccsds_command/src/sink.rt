@@ -1,0 +1,25 @@
+//! Where a command's output goes.
+
+ghost use Rattle.std.specs.Prelude.{◌≡◌, ◌<◌, ◌≤◌, ℕ, List, [], Option, Ok, length, take, IfOk, OnErr};
+ghost use Rattle.ccsds_command.specs.Devices.{Took, Rises, CountsStall};
+
+use crate::source::Failed;
+
+/// What bytes are written to.
+///
+/// Contracts see how often a call failed, how often a call took nothing of a piece that isn't empty
+/// (counts that stay where they stand at 2^64 - 1), and the bytes taken where the type tells them.
+pub trait Sink {
+    ghost taken: { Self → Option (List ℕ) };
+    ghost failures: { Self → ℕ };
+    ghost stalls: { Self → ℕ };
+
+    /// Takes bytes from the front of the piece, and answers how many. A call that fails takes none.
+    fn write(&mut self, piece: &[u8]) -> Result<usize, Failed>
+        ensures within { IfOk result (λ n. n ≤ length piece.now) }
+        ensures took { IfOk result (λ n. Took (taken self.old) (taken self.new) (take n piece.now)) }
+        ensures worked { IfOk result (λ _. failures self.new ≡ failures self.old) }
+        ensures stalled { IfOk result (λ n. CountsStall n (length piece.now) (stalls self.old) (stalls self.new)) }
+        ensures failed { OnErr result (Rises (failures self.old) (failures self.new) × (stalls self.new ≡ stalls self.old)) }
+        ensures same { OnErr result (Took (taken self.old) (taken self.new) []) };
+}

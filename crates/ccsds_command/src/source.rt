@@ -1,0 +1,25 @@
+//! Where a command's input comes from.
+
+ghost use Rattle.std.specs.Prelude.{◌≡◌, ◌<◌, ◌≤◌, ℕ, List, Option, Ok, length, take, IfOk, OnErr};
+ghost use Rattle.ccsds_command.specs.Devices.{Gave, IsEnd, Rises};
+
+/// A device failed. It says nothing more.
+#[derive(Clone, Copy, Debug, PartialEq, Eq)]
+pub struct Failed;
+
+/// What bytes are read from.
+///
+/// An answer of 0 for a buffer that isn't empty is the end. Contracts see how often a call failed (a
+/// count that stays where it stands at 2^64 - 1), and the bytes that are left where the type tells them.
+pub trait Source {
+    ghost left: { Self → Option (List ℕ) };
+    ghost failures: { Self → ℕ };
+
+    /// Puts the next bytes into the front of the buffer, and answers how many.
+    fn read(&mut self, buffer: &mut [u8]) -> Result<usize, Failed>
+        ensures within { IfOk result (λ n. n ≤ length buffer.old) }
+        ensures given { IfOk result (λ n. Gave (left self.old) (left self.new) (take n buffer.new)) }
+        ensures end { result ≡ Ok 0 → 0 < length buffer.old → IsEnd (left self.new) }
+        ensures worked { IfOk result (λ _. failures self.new ≡ failures self.old) }
+        ensures failed { OnErr result (Rises (failures self.old) (failures self.new)) };
+}
