@@ -1,3 +1,12 @@
 pub mod Bits
+pub mod CoderPart
+pub mod Header
+pub mod ImagePart
+pub mod Lawful
+pub mod Layout
+pub mod Parts
+pub mod PredictorPart
+pub mod Reach
 pub mod Reading
+pub mod TableParts
 pub mod Windows
