@@ -1,5 +1,6 @@
 pub mod Bits
 pub mod CoderPart
+pub mod Everything
 pub mod Header
 pub mod ImagePart
 pub mod Lawful
@@ -8,5 +9,6 @@ pub mod Parts
 pub mod PredictorPart
 pub mod Reach
 pub mod Reading
+pub mod Rows
 pub mod TableParts
 pub mod Windows

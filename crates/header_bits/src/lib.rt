@@ -10,3 +10,4 @@ mod layout;
 pub mod params;
 mod predictor_part;
 pub mod tables;
+pub mod worked;
