@@ -1,7 +1,11 @@
 pub mod Bytes
+pub mod Exact
 pub mod Fronts
+pub mod Held
 pub mod Numbers
 pub mod Pushes
 pub mod Reading
+pub mod SlotLoops
+pub mod Slots
 pub mod Windows
 pub mod Words

@@ -1,3 +1,14 @@
 pub mod Bits
+pub mod CoderPart
+pub mod Everything
+pub mod Header
+pub mod ImagePart
+pub mod Lawful
+pub mod Layout
+pub mod Parts
+pub mod PredictorPart
+pub mod Reach
 pub mod Reading
+pub mod Rows
+pub mod TableParts
 pub mod Windows

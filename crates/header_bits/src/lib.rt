@@ -3,5 +3,11 @@
 
 pub mod bit_reader;
 pub mod bit_writer;
+mod coder_part;
+pub mod header;
+mod image_part;
+mod layout;
 pub mod params;
+mod predictor_part;
 pub mod tables;
+pub mod worked;

@@ -1,0 +1,15 @@
+use Rattle.std.proofs.Common.{arith}
+use Rattle.header_bits.proofs.Held.{sample_total, block_total}
+use Rattle.header_bits.proofs.header.put_coder.Goals as goal
+
+pub returns-in-Sample-clause-within : goal.returns-in-Sample-clause-within
+returns-in-Sample-clause-within c = λ h. c.write_values.ensures.within (omega (arith, h, sample_total))
+
+pub returns-in-Sample-clause-room : goal.returns-in-Sample-clause-room
+returns-in-Sample-clause-room c = rw sample_total at c.write_values.ensures.room
+
+pub returns-in-Block-clause-within : goal.returns-in-Block-clause-within
+returns-in-Block-clause-within c = λ h. c.write_values-in-Block.ensures.within (omega (arith, h, block_total))
+
+pub returns-in-Block-clause-room : goal.returns-in-Block-clause-room
+returns-in-Block-clause-room c = rw block_total at c.write_values-in-Block.ensures.room

@@ -1,0 +1,148 @@
+-- The whole header: the image part, the predictor part, a weight table, the coder part and an accumulator table.
+use Rattle.std.specs.Prelude.{ℕ, ◌+◌, Bool, true, false, List, ◌∷◌, ◌++◌, [], length, map, Result, ℤ}
+use Rattle.cube_core.specs.declared.fault.Fault.{Fault}
+use Rattle.header_bits.specs.declared.params.Params.{Params}
+use Rattle.header_bits.specs.declared.params.WeightStart.{WeightStart}
+use Rattle.header_bits.specs.declared.params.WeightStart.TheVariants.{Usual, Table}
+use Rattle.header_bits.specs.declared.params.Coder.{Coder}
+use Rattle.header_bits.specs.declared.params.Coder.TheVariants as coding
+use Rattle.header_bits.specs.declared.params.CountStart.{CountStart}
+use Rattle.header_bits.specs.declared.params.CountStart.TheVariants.{Constant, Each}
+use Rattle.header_bits.specs.declared.image_part.ImagePart.{ImagePart}
+use Rattle.header_bits.specs.declared.predictor_part.PredictorPart.{PredictorPart}
+use Rattle.header_bits.specs.declared.coder_part.CoderPart.{CoderPart}
+use Rattle.header_bits.specs.declared.coder_part.CoderPart.TheVariants.{Sample, Block}
+use Rattle.header_bits.specs.Bits.{bits_of}
+use Rattle.header_bits.specs.Reading.{Reading}
+use Rattle.header_bits.specs.Layout.{total, spelled}
+use Rattle.header_bits.specs.Parts.{Part, part_at, then_at, as_at, SpellsPart, SpellsThen, SpellsAs}
+use Rattle.header_bits.specs.Reach.{Reach}
+use Rattle.header_bits.specs.ImagePart.{image, image_fields, image_numbers}
+use Rattle.header_bits.specs.PredictorPart.{predictor, predictor_fields, predictor_numbers}
+use Rattle.header_bits.specs.CoderPart.{coder, coder_fields, coder_numbers}
+use Rattle.header_bits.specs.TableParts.{weights, constants, table_fields, weight_count, signed_code}
+
+-- what the parts say, one after another
+abbrev pub Said : Type 0
+Said = (((ImagePart × PredictorPart) × List ℤ) × CoderPart) × List ℕ
+
+-- the first bit behind the weight table
+abbrev pub coder_place : ImagePart → PredictorPart → ℕ
+coder_place i p = 136 + total (weights i p).fields
+
+-- the parts, read in order
+unfoldable pub parts_at : Reach → Reading Said
+parts_at reach =
+    then_at (then_at (then_at (then_at (part_at image) (λ i. part_at (predictor reach i))) (λ x. part_at (weights x.0 x.1))) (λ x. part_at (coder reach (coder_place x.0.0 x.0.1) x.0.0)))
+    (λ x. part_at (constants (coder_place x.0.0.0 x.0.0.1 + 16) x.0.0.0 x.1))
+
+-- the parts, spelt in order
+abbrev pub SpellsParts : Reach → Said → List Bool → Type 0
+SpellsParts reach =
+    SpellsThen (SpellsThen (SpellsThen (SpellsThen (SpellsPart image) (λ i. SpellsPart (predictor reach i))) (λ x. SpellsPart (weights x.0 x.1))) (λ x. SpellsPart (coder reach (coder_place x.0.0 x.0.1) x.0.0)))
+    (λ x. SpellsPart (constants (coder_place x.0.0.0 x.0.0.1 + 16) x.0.0.0 x.1))
+
+abbrev pub start_by : Bool → ℕ → List ℤ → WeightStart
+start_by false q values = Usual
+start_by true q values = Table q values
+
+abbrev pub count_by : Bool → ℕ → List ℕ → CountStart
+count_by false constant values = Constant constant
+count_by true constant values = Each values
+
+abbrev pub coder_by_part : CoderPart → List ℕ → Coder
+coder_by_part (Sample umax gamma_star gamma_zero constant table) values = coding.Sample umax gamma_star gamma_zero (count_by table constant values)
+coder_by_part (Block size restricted reference) values = coding.Block size restricted reference
+
+-- the parameters that the parts say
+abbrev pub params_of : Said → Params
+params_of s =
+    let i = s.0.0.0.0 in
+    let p = s.0.0.0.1 in
+    record {
+      shape = i.shape;
+      kind = i.kind;
+      order = i.order;
+      user = i.user;
+      word = i.word;
+      previous = p.previous;
+      reduced = p.reduced;
+      column = p.column;
+      register = p.register;
+      omega = p.omega;
+      interval_log = p.interval_log;
+      vmin = p.vmin;
+      vmax = p.vmax;
+      start = start_by p.custom p.resolution s.0.0.1;
+      coder = coder_by_part s.0.1 s.1;
+    }
+
+-- reading a header gives its parameters, or the first refusal in the order of the fields
+unfoldable pub header_at : Reach → Reading Params
+header_at reach = as_at params_of (parts_at reach)
+
+-- the bits are a header of these parameters
+abbrev pub SpellsHeader : Reach → Params → List Bool → Type 0
+SpellsHeader reach p bits = SpellsAs params_of (SpellsParts reach) p bits
+
+-- ---- the spelling that a coder chooses
+
+abbrev pub is_block : Coder → Bool
+is_block (coding.Sample umax gamma_star gamma_zero start) = false
+is_block (coding.Block size restricted reference) = true
+
+abbrev pub is_custom : WeightStart → Bool
+is_custom Usual = false
+is_custom (Table q values) = true
+
+abbrev pub resolution_of : WeightStart → ℕ
+resolution_of Usual = 0
+resolution_of (Table q values) = q
+
+abbrev pub image_part_of : Params → ImagePart
+image_part_of p = record { user = p.user; shape = p.shape; kind = p.kind; order = p.order; word = p.word; block = is_block p.coder }
+
+abbrev pub predictor_part_of : Params → PredictorPart
+predictor_part_of p = record {
+  previous = p.previous;
+  reduced = p.reduced;
+  column = p.column;
+  register = p.register;
+  omega = p.omega;
+  interval_log = p.interval_log;
+  vmin = p.vmin;
+  vmax = p.vmax;
+  custom = is_custom p.start;
+  resolution = resolution_of p.start;
+}
+
+-- beside a table the constant's field is 15
+abbrev pub constant_of : CountStart → ℕ
+constant_of (Constant constant) = constant
+constant_of (Each values) = 15
+
+abbrev pub is_each : CountStart → Bool
+is_each (Constant constant) = false
+is_each (Each values) = true
+
+abbrev pub coder_part_of : Coder → CoderPart
+coder_part_of (coding.Sample umax gamma_star gamma_zero start) = Sample umax gamma_star gamma_zero (constant_of start) (is_each start)
+coder_part_of (coding.Block size restricted reference) = Block size restricted reference
+
+abbrev pub weight_bits : WeightStart → List Bool
+weight_bits Usual = []
+weight_bits (Table q values) = spelled (table_fields (length values) q) (map (signed_code q) values ++ 0 ∷ [])
+
+abbrev pub each_bits : CountStart → List Bool
+each_bits (Constant constant) = []
+each_bits (Each values) = spelled (table_fields (length values) 4) (values ++ 0 ∷ [])
+
+abbrev pub constant_bits : Coder → List Bool
+constant_bits (coding.Sample umax gamma_star gamma_zero start) = each_bits start
+constant_bits (coding.Block size restricted reference) = []
+
+-- the header that a coder writes, with zeros in the place of a depth that isn't there
+unfoldable pub header_of : Params → List Bool
+header_of p =
+    spelled image_fields (image_numbers (image_part_of p)) ++ spelled predictor_fields (predictor_numbers (predictor_part_of p)) ++ weight_bits p.start
+    ++ spelled (coder_fields (coder_part_of p.coder)) (coder_numbers (coder_part_of p.coder)) ++ constant_bits p.coder

@@ -1,0 +1,138 @@
+-- Which parameters are lawful, and why others are refused.
+use Rattle.std.specs.Prelude.{◌≡◌, ◌⊎◌, ℕ, ◌+◌, ◌-◌, ◌*◌, ◌^◌, ◌≤◌, ◌==◌, nat_lt, nat_le, not, ◌&&◌, Bool, true, false, if◌then◌else◌, List, [], ◌∷◌, length, ℤ, pos, negsuc, neg_ℤ, ◌≤ℤ◌, ◌-ℤ◌, int_lt, int_le}
+use Rattle.std.specs.List.{AllByRecursion}
+use Rattle.cube_core.specs.declared.fault.Fault.TheVariants.{FieldRange, Disagree}
+use Rattle.cube_core.specs.declared.fault.Field.{Field}
+use Rattle.cube_core.specs.declared.fault.Field.TheVariants as field
+use Rattle.cube_core.specs.declared.fault.Rule.TheVariants as rule
+use Rattle.cube_core.specs.declared.order.Order.{Order}
+use Rattle.cube_core.specs.declared.order.Order.TheVariants.{Bsq, Bi}
+use Rattle.cube_core.specs.Steps.{Test, ◌>>◌, refuse_if}
+use Rattle.cube_core.specs.Shape.{Sizes, AreSizes, InRange}
+use Rattle.cube_core.specs.Kind.{IsKind}
+use Rattle.cube_core.specs.Order.{IsOrder}
+use Rattle.header_bits.specs.declared.params.Params.{Params}
+use Rattle.header_bits.specs.declared.params.WeightStart.{WeightStart}
+use Rattle.header_bits.specs.declared.params.WeightStart.TheVariants.{Usual, Table}
+use Rattle.header_bits.specs.declared.params.Coder.{Coder}
+use Rattle.header_bits.specs.declared.params.Coder.TheVariants.{Sample, Block}
+use Rattle.header_bits.specs.declared.params.CountStart.{CountStart}
+use Rattle.header_bits.specs.declared.params.CountStart.TheVariants.{Constant, Each}
+use Rattle.header_bits.specs.Parts.{fine}
+use Rattle.header_bits.specs.Reach.{Reach}
+use Rattle.header_bits.specs.TableParts.{weight_count, some_above}
+
+-- a weight update scaling exponent is -6 to 9
+abbrev pub IsExponent : ℤ → Type 0
+IsExponent v = (negsuc 5 ≤ℤ v) × (v ≤ℤ pos 9)
+
+-- a signed number of so many bits
+abbrev pub IsSigned : ℕ → ℤ → Type 0
+IsSigned bits v = (neg_ℤ (pos (2 ^ (bits - 1))) ≤ℤ v) × (v ≤ℤ (pos (2 ^ (bits - 1)) -ℤ pos 1))
+
+abbrev pub IsBlockSize : ℕ → Type 0
+IsBlockSize size = (size ≡ 8) ⊎ ((size ≡ 16) ⊎ ((size ≡ 32) ⊎ (size ≡ 64)))
+
+-- the usual start; or a table, where tables are taken, with one number for each weight
+abbrev pub IsWeightStart : Reach → Params → WeightStart → Type 0
+IsWeightStart reach p Usual = Unit {0}
+IsWeightStart reach p (Table q values) = (reach.tables ≡ true) × InRange 3 (p.omega + 3) q × (length values ≡ weight_count p.previous p.reduced p.shape.bands) × AllByRecursion (IsSigned q) values
+
+-- one constant; or a table, where tables are taken, with one constant for each band
+abbrev pub IsCountStart : Reach → Params → CountStart → Type 0
+IsCountStart reach p (Constant k) = k ≤ p.kind.bits - 2
+IsCountStart reach p (Each values) = (reach.tables ≡ true) × (length values ≡ p.shape.bands) × AllByRecursion (λ v. v ≤ p.kind.bits - 2) values
+
+abbrev pub IsCoder : Reach → Params → Coder → Type 0
+IsCoder reach p (Sample umax gamma_star gamma_zero start) = InRange 8 32 umax × InRange 4 9 gamma_star × InRange 1 8 gamma_zero × (gamma_zero + 1 ≤ gamma_star) × IsCountStart reach p start
+IsCoder reach p (Block size restricted reference) = IsBlockSize size × (restricted ≡ true → (reach.restricted ≡ true) × (p.kind.bits ≤ 4)) × InRange 1 4096 reference
+
+-- all ranges and rules hold
+pub record IsLawful (reach : Reach) (p : Params) : Type 0 where
+  pub sizes : AreSizes p.shape
+  pub kind : IsKind p.kind
+  pub user : p.user ≤ 255
+  pub order : IsOrder p.shape p.order
+  pub word : InRange 1 8 p.word
+  pub previous : p.previous ≤ 15
+  pub mode : p.reduced ≡ false → 2 ≤ p.shape.columns
+  pub sums : p.column ≡ false → 2 ≤ p.shape.columns
+  pub register : InRange 32 64 p.register
+  pub fraction : InRange 4 19 p.omega
+  pub wide : p.kind.bits + p.omega + 2 ≤ p.register
+  pub interval : InRange 4 11 p.interval_log
+  pub vmin : IsExponent p.vmin
+  pub vmax : IsExponent p.vmax
+  pub exponents : p.vmin ≤ℤ p.vmax
+  pub start : IsWeightStart reach p p.start
+  pub coder : IsCoder reach p p.coder
+
+-- ---- the first refusal, in the order of the header's fields
+
+-- a number out of its range is refused under its name
+abbrev pub in_range_or : Field → ℕ → ℕ → ℕ → Test
+in_range_or field least most n = refuse_if (not (nat_le least n && nat_le n most)) (FieldRange field (pos n))
+
+abbrev pub exponent_or : Field → ℤ → Test
+exponent_or field v = refuse_if (not (int_le (negsuc 5) v && int_le v (pos 9))) (FieldRange field v)
+
+abbrev pub order_fault : Sizes → Order → Test
+order_fault s Bsq = fine
+order_fault s (Bi depth) = refuse_if (depth == 0) (FieldRange field.Depth (pos 0)) >> refuse_if (nat_lt s.bands depth) (Disagree rule.DepthOverBands)
+
+-- the first entry that isn't a signed number of so many bits
+unfoldable pub entries_fault : ℕ → List ℤ → Test
+entries_fault q [] = fine
+entries_fault q (v ∷ vs) = refuse_if (not (int_le (neg_ℤ (pos (2 ^ (q - 1)))) v && int_le v (pos (2 ^ (q - 1)) -ℤ pos 1))) (FieldRange field.WeightEntry v) >> entries_fault q vs
+
+abbrev pub start_fault : Reach → Params → WeightStart → Test
+start_fault reach p Usual = fine
+start_fault reach p (Table q values) =
+    refuse_if (not reach.tables) (FieldRange field.WeightStart (pos 1))
+    >> refuse_if (nat_lt q 3) (FieldRange field.Resolution (pos q))
+    >> refuse_if (nat_lt (p.omega + 3) q) (Disagree rule.ResolutionOverOmega)
+    >> refuse_if (not (length values == weight_count p.previous p.reduced p.shape.bands)) (Disagree rule.WeightTableLength)
+    >> entries_fault q values
+
+abbrev pub count_fault : Reach → Params → CountStart → Test
+count_fault reach p (Constant k) = refuse_if (nat_lt (p.kind.bits - 2) k) (Disagree rule.StartConstant)
+count_fault reach p (Each values) =
+    refuse_if (not reach.tables) (FieldRange field.AccumulatorTable (pos 1))
+    >> refuse_if (not (length values == p.shape.bands)) (Disagree rule.AccumulatorTableLength)
+    >> refuse_if (some_above (p.kind.bits - 2) values) (Disagree rule.AccumulatorEntry)
+
+abbrev pub coder_fault : Reach → Params → Coder → Test
+coder_fault reach p (Sample umax gamma_star gamma_zero start) =
+    in_range_or field.Umax 8 32 umax
+    >> in_range_or field.GammaStar 4 9 gamma_star
+    >> in_range_or field.GammaZero 1 8 gamma_zero
+    >> refuse_if (nat_lt gamma_star (gamma_zero + 1)) (Disagree rule.CounterOrder)
+    >> count_fault reach p start
+coder_fault reach p (Block size restricted reference) =
+    refuse_if (not (size == 8) && not (size == 16) && not (size == 32) && not (size == 64)) (FieldRange field.BlockSize (pos size))
+    >> refuse_if (restricted && not reach.restricted) (FieldRange field.Restricted (pos 1))
+    >> refuse_if (restricted && nat_lt 4 p.kind.bits) (Disagree rule.RestrictedOverFour)
+    >> in_range_or field.Reference 1 4096 reference
+
+abbrev pub predictor_fault : Params → Test
+predictor_fault p =
+    refuse_if (nat_lt 15 p.previous) (FieldRange field.Previous (pos p.previous))
+    >> refuse_if (not p.reduced && (p.shape.columns == 1)) (Disagree rule.FullOneColumn)
+    >> refuse_if (not p.column && (p.shape.columns == 1)) (Disagree rule.NeighbourOneColumn)
+    >> in_range_or field.Register 32 64 p.register
+    >> in_range_or field.Omega 4 19 p.omega
+    >> refuse_if (nat_lt p.register (p.kind.bits + p.omega + 2)) (Disagree rule.RegisterTooSmall)
+    >> in_range_or field.Interval 4 11 p.interval_log
+    >> exponent_or field.VMin p.vmin
+    >> exponent_or field.VMax p.vmax
+    >> refuse_if (int_lt p.vmax p.vmin) (Disagree rule.ExponentOrder)
+
+-- the first refusal of parameters
+unfoldable pub params_fault : Reach → Params → Test
+params_fault reach p =
+    refuse_if (nat_lt 255 p.user) (FieldRange field.User (pos p.user))
+    >> order_fault p.shape p.order
+    >> in_range_or field.WordSize 1 8 p.word
+    >> predictor_fault p
+    >> start_fault reach p p.start
+    >> coder_fault reach p p.coder

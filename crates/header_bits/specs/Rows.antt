@@ -1,0 +1,79 @@
+-- Parameters and headers of the worked examples.
+use Rattle.std.specs.Prelude.{ℕ, true, false, Bool, List, [], ◌∷◌, ℤ, pos, negsuc}
+use Rattle.cube_core.specs.declared.order.Order.{Order}
+use Rattle.cube_core.specs.declared.order.Order.TheVariants.{Bsq, Bi}
+use Rattle.cube_core.specs.Shape.{Sizes}
+use Rattle.cube_core.specs.Kind.{SampleKind}
+use Rattle.header_bits.specs.declared.params.Params.{Params}
+use Rattle.header_bits.specs.declared.params.WeightStart.TheVariants.{Usual, Table}
+use Rattle.header_bits.specs.declared.params.Coder.{Coder}
+use Rattle.header_bits.specs.declared.params.Coder.TheVariants.{Sample, Block}
+use Rattle.header_bits.specs.declared.params.CountStart.TheVariants.{Constant, Each}
+use Rattle.header_bits.specs.Bits.{bits_of}
+
+abbrev pub sizes : ℕ → ℕ → ℕ → Sizes
+sizes nx ny nz = record { columns = nx; rows = ny; bands = nz }
+
+abbrev pub unsigned : ℕ → SampleKind
+unsigned depth = record { signed = false; bits = depth }
+
+abbrev pub usual_coder : Coder
+usual_coder = Sample 16 6 1 (Constant 3)
+
+-- the parameters that all examples share but where they say otherwise
+abbrev pub common : ℕ → ℕ → ℕ → Params
+common nx ny nz = record {
+  shape = sizes nx ny nz;
+  kind = unsigned 8;
+  order = Bsq;
+  user = 0;
+  word = 1;
+  previous = 0;
+  reduced = true;
+  column = true;
+  register = 32;
+  omega = 13;
+  interval_log = 6;
+  vmin = negsuc 0;
+  vmax = pos 3;
+  start = Usual;
+  coder = usual_coder;
+}
+
+-- full mode and neighbour-oriented sums
+abbrev pub cube_a : Order → Params
+cube_a order = record (common 3 2 2) { previous = 1; reduced = false; column = false; order = order }
+
+-- weights in fine steps, and exponents that stay at -4
+abbrev pub fine_steps : Params
+fine_steps = record (common 1 3 2) { previous = 1; omega = 4; vmin = negsuc 3; vmax = negsuc 3 }
+
+-- the most weight resolution, with one register size or another
+abbrev pub deep : ℕ → Params
+deep size = record (common 1 2 2) { kind = unsigned 11; previous = 1; omega = 19; register = size }
+
+abbrev pub block : ℕ → ℕ → ℕ → Bool → ℕ → Params
+block nx ny nz restricted interval = record (common nx ny nz) { coder = Block 8 restricted interval }
+
+abbrev pub narrow_block : ℕ → Bool → Params
+narrow_block depth restricted = record (block 1 1 1 restricted 1) { kind = unsigned depth }
+
+abbrev pub with_weights : ℕ → ℕ → ℕ → ℕ → ℕ → List ℤ → Params
+with_weights nx ny nz bands q entries = record (common nx ny nz) { previous = bands; start = Table q entries }
+
+abbrev pub with_constants : ℕ → ℕ → ℕ → List ℕ → Params
+with_constants nx ny nz entries = record (common nx ny nz) { coder = Sample 16 6 1 (Each entries) }
+
+abbrev pub with_sample_coder : ℕ → ℕ → ℕ → ℕ → Params
+with_sample_coder umax gamma_star gamma_zero k = record (common 1 2 1) { coder = Sample umax gamma_star gamma_zero (Constant k) }
+
+abbrev pub with_exponents : ℤ → ℤ → Params
+with_exponents least greatest = record (common 1 1 1) { vmin = least; vmax = greatest }
+
+-- sixteen bits and the most weight resolution
+abbrev pub with_register : ℕ → Params
+with_register size = record (common 1 1 1) { kind = unsigned 16; omega = 19; register = size }
+
+-- a header of nineteen bytes
+abbrev pub header : ℕ → List Bool
+header number = bits_of 152 number

@@ -1,0 +1,98 @@
+//! A part of a header as a row of numbers, each in a slot of so many bits.
+
+ghost use Rattle.std.specs.Prelude.{◌≡◌, ◌+◌, ◌^◌, ◌<◌, ◌≤◌, ◌++◌, length, drop, IsOk, IfErr, OnOk};
+ghost use Rattle.cube_core.specs.declared.fault.Fault.TheVariants.{WantOfMemory};
+ghost use Rattle.header_bits.specs.Layout.{width, value_of, code_of, IsValue, IsNarrow, AreNarrow, AreValues, spelled, values, total};
+
+use crate::bit_reader::BitReader;
+use crate::bit_writer::BitWriter;
+use cube_core::fault::Fault;
+
+/// A place for a number.
+#[derive(Clone, Copy)]
+pub(crate) enum Slot {
+    /// So many reserved bits, all zero.
+    Unused(u32),
+    /// So many bits, counted from the second number.
+    Plain(u32, u32),
+    /// So many bits, where zero stands for the power itself.
+    Modulo(u32),
+}
+
+impl Slot {
+    /// How many bits the slot has.
+    pub(crate) fn width(self) -> u32
+        ensures { result ≡ width self }
+    {
+        match self {
+            Slot::Unused(bits) => bits,
+            Slot::Plain(bits, _) => bits,
+            Slot::Modulo(bits) => bits,
+        }
+    }
+
+    /// The number that a code stands for.
+    pub(crate) fn value(self, code: u64) -> u32
+        requires narrow { IsNarrow self }
+        requires below { code < 2 ^ width self }
+        requires fits { value_of self code < 2 ^ 32 }
+        ensures { result ≡ value_of self code }
+    {
+        match self {
+            Slot::Unused(_) => code as u32,
+            Slot::Plain(_, least) => least + code as u32,
+            Slot::Modulo(bits) => { if code == 0 { 1 << bits } else { code as u32 } }
+        }
+    }
+
+    /// The code that stands for a number.
+    pub(crate) fn code(self, value: u32) -> u64
+        requires narrow { IsNarrow self }
+        requires value { IsValue self value }
+        ensures code { result ≡ code_of self value }
+        ensures below { result < 2 ^ width self }
+    {
+        match self {
+            Slot::Unused(_) => u64::from(value),
+            Slot::Plain(_, least) => u64::from(value - least),
+            Slot::Modulo(bits) => u64::from(value % (1 << bits)),
+        }
+    }
+}
+
+/// Reads the numbers of a part that is there whole.
+pub(crate) fn read_values(slots: &[Slot], reader: &mut BitReader, out: &mut [u32])
+    requires narrow { AreNarrow slots.now }
+    requires same { length out.old ≡ length slots.now }
+    requires whole { total slots.now ≤ length reader.old.left }
+    ensures values { out.new ≡ values slots.now reader.old.left }
+    ensures left { reader.new.left ≡ drop (total slots.now) reader.old.left }
+    ensures count { reader.new.count ≡ reader.old.count }
+{
+    for i in 0..slots.len() {
+        let slot = slots[i];
+        let code = reader.take(slot.width()).unwrap();
+        out[i] = slot.value(code);
+    }
+}
+
+/// Writes the numbers of a part. Within the writer's room it succeeds.
+pub(crate) fn write_values(
+    slots: &[Slot],
+    values: &[u32],
+    writer: &mut BitWriter,
+) -> Result<(), Fault>
+    requires narrow { AreNarrow slots.now }
+    requires same { length values.now ≡ length slots.now }
+    requires values { AreValues slots.now values.now }
+    ensures bits { OnOk result (writer.new.bits ≡ writer.old.bits ++ spelled slots.now values.now) }
+    ensures within { total slots.now ≤ writer.old.room → IsOk result }
+    ensures room { OnOk result (writer.old.room ≤ writer.new.room + total slots.now) }
+    ensures refused { IfErr result (λ e. e ≡ WantOfMemory) }
+{
+    for i in 0..slots.len() {
+        let slot = slots[i];
+        writer.push(slot.code(values[i]), slot.width())?;
+    }
+    Ok(())
+}
