@@ -1,3 +1,13 @@
-pub mod Spans
+pub mod Directions
+pub mod Filling
+pub mod Following
+pub mod LocalSums
 pub mod OneSample
+pub mod Padding
+pub mod Products
+pub mod Wrapping
 pub mod Residuals
+pub mod Scaled
+pub mod Spans
+pub mod Starting
+pub mod Steps

@@ -1,7 +1,8 @@
 -- Local differences, and the vector of them that predicts a sample (CCSDS 123.0-B-1, "Local Differences").
 use Rattle.std.specs.Prelude.{ℕ, zero, suc, ◌-◌, ◌==◌, ℤ, pos, ◌-ℤ◌, ◌*ℤ◌, List, [], ◌∷◌, ◌++◌, if◌then◌else◌}
 use Rattle.cube_core.specs.Image.{Image, sample_at}
-use Rattle.predict_core.specs.Predictor.{Predictor, previous_bands}
+use Rattle.predict_core.specs.declared.predictor.Predictor.{Predictor}
+use Rattle.predict_core.specs.Predictor.{previous_bands}
 use Rattle.predict_core.specs.LocalSum.{local_sum, west, north, north_west}
 
 -- four times a sample, less the local sum at a place

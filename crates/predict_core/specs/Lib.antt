@@ -1,5 +1,9 @@
 pub mod Arithmetic
+pub mod Bounds
 pub mod Differences
+pub mod Following
+pub mod HeightSum
+pub mod Learner
 pub mod LocalSum
 pub mod Mapping
 pub mod Prediction

@@ -1,7 +1,7 @@
 -- The local sum: four times an average of the neighbours (CCSDS 123.0-B-1, "Local Sums").
 use Rattle.std.specs.Prelude.{ℕ, ◌+◌, ◌-◌, ◌==◌, ℤ, pos, ◌+ℤ◌, ◌*ℤ◌, if◌then◌else◌}
 use Rattle.cube_core.specs.Image.{Image, sample_at}
-use Rattle.predict_core.specs.Predictor.{Predictor}
+use Rattle.predict_core.specs.declared.predictor.Predictor.{Predictor}
 
 -- the neighbour to the west, and those above: to the north, the north-west and the north-east
 abbrev pub west : Image → ℕ → ℕ → ℕ → ℤ

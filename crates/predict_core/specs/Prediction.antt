@@ -2,10 +2,11 @@
 -- A place of a band is t = y * columns + x.
 use Rattle.std.specs.Prelude.{ℕ, zero, suc, ◌+◌, ◌-◌, ◌/◌, ◌%◌, ◌^◌, ◌==◌, ◌||◌, ℤ, pos, ◌+ℤ◌, ◌-ℤ◌, ◌*ℤ◌, int_lt, List, [], ◌∷◌, if◌then◌else◌}
 use Rattle.header_bits.specs.declared.params.Params.{Params}
-use Rattle.cube_core.specs.Kind.{smin, smid, smax}
+use Rattle.cube_core.specs.Kind.{SampleKind, smin, smid, smax}
 use Rattle.cube_core.specs.Image.{Image, sample_at}
 use Rattle.predict_core.specs.Arithmetic.{floor_div, clip, wrapped}
-use Rattle.predict_core.specs.Predictor.{Predictor, predictor_of}
+use Rattle.predict_core.specs.declared.predictor.Predictor.{Predictor}
+use Rattle.predict_core.specs.Predictor.{predictor_of}
 use Rattle.predict_core.specs.LocalSum.{local_sum}
 use Rattle.predict_core.specs.Differences.{difference_vector}
 use Rattle.predict_core.specs.Weights.{start_weights, step_exponent, updated_weights}
@@ -17,14 +18,14 @@ inner_product (w ∷ ws) [] = pos 0
 inner_product (w ∷ ws) (u ∷ us) = w *ℤ u +ℤ inner_product ws us
 
 -- twice a predicted sample, from a local sum, weights and differences
-unfoldable pub scaled_by : Predictor → Image → ℤ → List ℤ → List ℤ → ℤ
-scaled_by p c sum ws us =
-    let held = wrapped p.register (inner_product ws us +ℤ pos (2 ^ p.fraction) *ℤ (sum -ℤ pos 4 *ℤ smid c.kind)) in
-    clip (floor_div held (2 ^ (p.fraction + 1)) +ℤ pos 2 *ℤ smid c.kind +ℤ pos 1) (pos 2 *ℤ smin c.kind) (pos 2 *ℤ smax c.kind +ℤ pos 1)
+unfoldable pub scaled_by : Predictor → SampleKind → ℤ → List ℤ → List ℤ → ℤ
+scaled_by p k sum ws us =
+    let held = wrapped p.register (inner_product ws us +ℤ pos (2 ^ p.fraction) *ℤ (sum -ℤ pos 4 *ℤ smid k)) in
+    clip (floor_div held (2 ^ (p.fraction + 1)) +ℤ pos 2 *ℤ smid k +ℤ pos 1) (pos 2 *ℤ smin k) (pos 2 *ℤ smax k +ℤ pos 1)
 
 -- the same at a place that is not the first of its band
 unfoldable pub scaled_there : Predictor → Image → ℕ → ℕ → ℕ → List ℤ → ℤ
-scaled_there p c z y x ws = scaled_by p c (local_sum p c z y x) ws (difference_vector p c z y x)
+scaled_there p c z y x ws = scaled_by p c.kind (local_sum p c z y x) ws (difference_vector p c z y x)
 
 -- the weights after place t, from those before it
 unfoldable pub next_weights : Predictor → Image → ℕ → ℕ → List ℤ → List ℤ
@@ -32,7 +33,7 @@ next_weights p c z t ws =
     let y = t / c.shape.columns in
     let x = t % c.shape.columns in
     let error = pos 2 *ℤ sample_at c z y x -ℤ scaled_there p c z y x ws in
-    updated_weights p.fraction (step_exponent p c t) (int_lt error (pos 0)) ws (difference_vector p c z y x)
+    updated_weights p.fraction (step_exponent p c.shape.columns c.kind.bits t) (int_lt error (pos 0)) ws (difference_vector p c z y x)
 
 -- the weights at place t; the first two places have those of the start
 unfoldable pub weight_vector : Params → Image → ℕ → ℕ → List ℤ

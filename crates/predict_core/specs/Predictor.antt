@@ -1,23 +1,7 @@
 -- What the parameters tell the predictor (CCSDS 123.0-B-1, "Predictor").
-use Rattle.std.specs.Prelude.{ℕ, ◌+◌, min, ℤ, Bool, if◌then◌else◌}
+use Rattle.std.specs.Prelude.{ℕ, ◌+◌, min, if◌then◌else◌}
 use Rattle.header_bits.specs.declared.params.Params.{Params}
-
-pub record Predictor : Type 0 where
-  -- P, how many bands below a sample's own are looked at
-  pub previous : ℕ
-  -- reduced mode, not full
-  pub reduced : Bool
-  -- column-oriented sums, not neighbour-oriented
-  pub column : Bool
-  -- R, the bits of the register
-  pub register : ℕ
-  -- Ω, the fractional bits of a weight
-  pub fraction : ℕ
-  -- the logarithm of the interval at which the exponent of the steps grows
-  pub interval_log : ℕ
-  -- the least and the greatest of these exponents
-  pub vmin : ℤ
-  pub vmax : ℤ
+use Rattle.predict_core.specs.declared.predictor.Predictor.{Predictor}
 
 abbrev pub predictor_of : Params → Predictor
 predictor_of p = record {

@@ -3,9 +3,9 @@ use Rattle.std.specs.Prelude.{ℕ, zero, suc, ◌+◌, ◌-◌, ◌*◌, ◌^◌
 use Rattle.header_bits.specs.declared.params.Params.{Params}
 use Rattle.header_bits.specs.declared.params.WeightStart.{WeightStart}
 use Rattle.header_bits.specs.declared.params.WeightStart.TheVariants.{Usual, Table}
-use Rattle.cube_core.specs.Image.{Image}
 use Rattle.predict_core.specs.Arithmetic.{floor_div, clip}
-use Rattle.predict_core.specs.Predictor.{Predictor, predictor_of, previous_bands, component_count}
+use Rattle.predict_core.specs.declared.predictor.Predictor.{Predictor}
+use Rattle.predict_core.specs.Predictor.{predictor_of, previous_bands, component_count}
 
 -- the least and the greatest weight
 abbrev pub weight_min : ℕ → ℤ
@@ -48,10 +48,13 @@ weights_by p (Table q entries) z = table_weights p q entries z
 abbrev pub start_weights : Params → ℕ → List ℤ
 start_weights p z = weights_by (predictor_of p) p.start z
 
--- the exponent of the steps after place t: it grows by one in each interval from the second row on
-unfoldable pub step_exponent : Predictor → Image → ℕ → ℤ
-step_exponent p c t =
-    clip (p.vmin +ℤ floor_div (pos t -ℤ pos c.shape.columns) (2 ^ p.interval_log)) p.vmin p.vmax +ℤ pos c.kind.bits -ℤ pos p.fraction
+-- how far the exponent of the steps has grown at place t: by one in each interval from the second row on
+unfoldable pub growth : Predictor → ℕ → ℕ → ℤ
+growth p columns t = clip (p.vmin +ℤ floor_div (pos t -ℤ pos columns) (2 ^ p.interval_log)) p.vmin p.vmax
+
+-- the exponent of the steps after place t, for samples of so many bits
+unfoldable pub step_exponent : Predictor → ℕ → ℕ → ℕ → ℤ
+step_exponent p columns bits t = growth p columns t +ℤ pos bits -ℤ pos p.fraction
 
 -- the step of size a at an exponent: a over twice its power, rounded to the nearest
 unfoldable pub step : ℤ → ℤ → ℤ

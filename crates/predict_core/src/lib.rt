@@ -1,6 +1,17 @@
 //! The predictor of CCSDS 123.0-B-1: from samples to mapped residuals, and back.
 #![tactic(auto)]
 
+pub mod band;
+mod differences;
+mod exponent;
 pub mod laws;
+mod neighbourhood;
+mod prediction;
+pub mod predictor;
+mod range;
+mod register;
 pub mod residual;
+mod settings;
+mod start;
+mod weights;
 pub mod worked;

@@ -1,0 +1,16 @@
+use Rattle.std.proofs.Common.{to_z-of_z, arith, refl}
+use Rattle.predict_core.proofs.Steps.{bit_at_place, raised_bound, SFits-raised_up}
+use Rattle.predict_core.proofs.register.raised.Goals as goal
+
+pub overflow_mul-result : goal.overflow_mul-result
+overflow_mul-result c =
+    rw (bit_at_place c.args.fraction (omega arith), to_z-of_z c.ranges.distance) (SFits-raised_up c.args.fraction c.args.distance c.requires.fraction_in c.requires.distance_in)
+
+pub returns-clause-value : goal.returns-clause-value
+returns-clause-value c =
+    rw (bit_at_place c.args.fraction (omega arith), to_z-of_z c.ranges.distance, to_z-of_z (SFits-raised_up c.args.fraction c.args.distance c.requires.fraction_in c.requires.distance_in)) refl
+
+pub returns-clause-bound : goal.returns-clause-bound
+returns-clause-bound c =
+    rw (bit_at_place c.args.fraction (omega arith), to_z-of_z c.ranges.distance, to_z-of_z (SFits-raised_up c.args.fraction c.args.distance c.requires.fraction_in c.requires.distance_in))
+    (raised_bound c.args.fraction c.args.distance c.requires.fraction_in c.requires.distance_in)

@@ -1,0 +1,155 @@
+//! The predictor of one band.
+
+ghost use Rattle.std.specs.Prelude.{◌≡◌, ◌+◌, ◌*◌, ◌^◌, ◌<◌, ◌≤◌, IfOk, IfErr, if◌then◌else◌, take};
+ghost use Rattle.cube_core.specs.declared.fault.Fault.TheVariants.{WantOfMemory};
+ghost use Rattle.cube_core.specs.Image.{Image, IsPlace, sample_at};
+ghost use Rattle.header_bits.specs.declared.params.Params.{Params as Parameters};
+ghost use Rattle.predict_core.specs.Predictor.{component_count};
+ghost use Rattle.predict_core.specs.Prediction.{scaled_there, next_weights, first_scaled as first_prediction};
+ghost use Rattle.predict_core.specs.Residual.{mapped, mapped_residual};
+ghost use Rattle.predict_core.specs.Bounds.{AllWithin};
+ghost use Rattle.predict_core.specs.Following.{Follows, MovesOn, IsPredictable};
+
+use crate::predictor::Predictor;
+use crate::range::Range;
+use crate::settings::{Settings, first_scaled, learn, predict};
+use crate::start::usual_start;
+use cube_core::cube::Cube;
+use cube_core::fault::Fault;
+use cube_core::shape::Shape;
+use header_bits::params::Params;
+use std::alloc::Global;
+use std::marker::Model;
+
+/// The predictor of one band: what it has learnt from the samples so far, and the place that comes next.
+///
+/// It takes no memory but its own, and reads of a cube its own band and the bands below it that are
+/// looked at. The calls for two bands don't depend on each other.
+#[derive(Drop)]
+pub struct Band {
+    settings: Settings,
+    shape: Shape,
+    next: u64,
+    count: usize,
+    weights: [i32; 18],
+}
+
+impl Model for Band {
+    ghost use Rattle.std.specs.Prelude.{take};
+    ghost use Rattle.predict_core.specs.Following.{Learner};
+    ghost use Rattle.predict_core.specs.Learner.{IsLearner};
+
+    ghost Value = { Learner };
+
+    ghost view = { λ b. record { predictor = b.settings.predictor; shape = b.shape; kind = b.settings.range.kind; band = b.settings.band; place = b.next; weights = take b.count b.weights } };
+
+    ghost invariant = { λ b. IsLearner b.settings b.shape b.count b.weights };
+}
+
+impl Band {
+    /// The predictor of band `z`, before its first place.
+    ///
+    /// `z` is below the number of bands. The room for weights is part of the band, so that no memory is
+    /// asked for today; a refusal is `WantOfMemory`.
+    pub fn new(_alloc: Global, params: &Params, z: u32) -> Result<Band, Fault>
+        requires lawful { IsPredictable params.now }
+        requires band { z < params.now.shape.bands }
+        ensures made { IfOk result (λ b. (b.band ≡ z) × (b.place ≡ 0) × ((c : Image) → Follows params.now b c)) }
+        ensures refused { IfErr result (λ e. e ≡ WantOfMemory) }
+    {
+        let predictor = Predictor::of(params);
+        let first = first_spectral(params.reduced);
+        let previous = z.min(params.previous) as usize;
+        let _rows = params.shape.rows();
+        let settings = Settings {
+            predictor,
+            range: Range::of(params.kind),
+            columns: params.shape.columns(),
+            band: z,
+        };
+        Ok(Band {
+            settings,
+            shape: params.shape,
+            next: 0,
+            count: first + previous,
+            weights: usual_start(params.omega, first, previous),
+        })
+    }
+
+    /// The place that comes next, counted in the band row after row from 0.
+    pub fn next(&self) -> u64
+        ensures { result ≡ self.now.place }
+    {
+        self.next
+    }
+
+    /// The mapped residual of the sample at the next place of a cube, and one place on.
+    ///
+    /// The cube has the shape and the kind of the parameters, and the next place is row `y`, column `x`.
+    /// The answer is at most 2^D - 1 (CCSDS 123.0-B-1, "Predictor").
+    pub fn forward(&mut self, cube: &Cube, y: u32, x: u32) -> u16
+        requires shape { cube.now.shape ≡ self.old.shape }
+        requires kind { cube.now.kind ≡ self.old.kind }
+        requires place { IsPlace cube.now.shape self.old.band y x }
+        requires next { self.old.place ≡ y * cube.now.shape.columns + x }
+        ensures moved { MovesOn self.old self.new }
+        ensures bound { result < 2 ^ cube.now.kind.bits }
+        ensures residual { (p : Parameters) → Follows p self.old cube.now → result ≡ mapped_residual p cube.now self.old.band self.old.place }
+        ensures follows { (p : Parameters) → Follows p self.old cube.now → Follows p self.new cube.now }
+    {
+        let t = self.next;
+        self.next = t + 1;
+        if t == 0 {
+            first_residual(&self.settings, cube, y, x)
+        } else {
+            next_residual(&self.settings, cube, y, x, t, &mut self.weights)
+        }
+    }
+}
+
+/// Where the spectral weights stand: behind those of the three directions, in full mode.
+fn first_spectral(reduced: bool) -> usize
+    ensures value { result ≡ (if reduced then 0 else 3) }
+    ensures bound { result ≤ 3 }
+{
+    if reduced { 0 } else { 3 }
+}
+
+/// The mapped residual at the first place of a band.
+fn first_residual(settings: &Settings, cube: &Cube, y: u32, x: u32) -> u16
+    requires kind { cube.now.kind ≡ settings.now.range.kind }
+    requires place { IsPlace cube.now.shape settings.now.band y x }
+    ensures value { result ≡ mapped cube.now.kind (first_prediction settings.now.predictor cube.now settings.now.band) (sample_at cube.now settings.now.band y x) }
+    ensures bound { result < 2 ^ cube.now.kind.bits }
+{
+    let scaled = first_scaled(settings, cube);
+    let sample = cube.sample(settings.band, y, x);
+    settings.range.residual_of(scaled, sample)
+}
+
+/// The mapped residual at place `t`, not the first of a band, and the weights after it.
+fn next_residual(
+    settings: &Settings,
+    cube: &Cube,
+    y: u32,
+    x: u32,
+    t: u64,
+    weights: &mut [i32; 18],
+) -> u16
+    requires columns { cube.now.shape.columns ≡ settings.now.columns }
+    requires kind { cube.now.kind ≡ settings.now.range.kind }
+    requires place { IsPlace cube.now.shape settings.now.band y x }
+    requires t_is { t ≡ y * cube.now.shape.columns + x }
+    requires t_in { t < 2 ^ 32 }
+    requires later { 0 < t }
+    requires weights_in { AllWithin (2 ^ 21) weights.old }
+    ensures value { result ≡ mapped cube.now.kind (scaled_there settings.now.predictor cube.now settings.now.band y x (take (component_count settings.now.predictor settings.now.band) weights.old)) (sample_at cube.now settings.now.band y x) }
+    ensures range { result < 2 ^ cube.now.kind.bits }
+    ensures weights { take (component_count settings.now.predictor settings.now.band) weights.new ≡ next_weights settings.now.predictor cube.now settings.now.band t (take (component_count settings.now.predictor settings.now.band) weights.old) }
+    ensures bound { AllWithin (2 ^ 21) weights.new }
+{
+    let prediction = predict(settings, cube, y, x, weights);
+    let sample = cube.sample(settings.band, y, x);
+    learn(settings, t, weights, &prediction, sample);
+    settings.range.residual_of(prediction.scaled, sample)
+}

@@ -1,0 +1,164 @@
+//! The differences that predict a sample, in a room that is wide enough for all bands; unused places are 0.
+
+ghost use Rattle.std.specs.Prelude.{◌≡◌, ◌+◌, ◌-◌, ◌<◌, ◌≤◌, pos, ◌+ℤ◌, ◌*ℤ◌, length, take, drop, ◌∷◌, ◌++◌, replicate, true, false, unsigned_abs};
+ghost use Rattle.cube_core.specs.Kind.{smin};
+ghost use Rattle.cube_core.specs.Image.{IsPlace};
+ghost use Rattle.predict_core.specs.Predictor.{component_count};
+ghost use Rattle.predict_core.specs.LocalSum.{local_sum};
+ghost use Rattle.predict_core.specs.Differences.{central_difference, spectral_differences, directional_differences, difference_vector as vector};
+ghost use Rattle.predict_core.specs.Bounds.{AllWithin, IsPredictor};
+
+use crate::neighbourhood::{central_of, difference_of, sum_of};
+use crate::predictor::Predictor;
+use cube_core::cube::Cube;
+
+/// All differences at a place that is not the first of its band, in full mode the directional ones first.
+///
+/// `sum` is the local sum of the heights there (CCSDS 123.0-B-1, "Local Differences").
+pub(crate) fn difference_vector(
+    predictor: &Predictor,
+    cube: &Cube,
+    z: u32,
+    y: u32,
+    x: u32,
+    sum: u32,
+) -> [i32; 18]
+    requires lawful { IsPredictor predictor.now }
+    requires place { IsPlace cube.now.shape z y x }
+    requires later { 0 < y + x }
+    requires wide { predictor.now.column ≡ false → 2 ≤ cube.now.shape.columns }
+    requires sum_is { local_sum predictor.now cube.now z y x ≡ pos 4 *ℤ smin cube.now.kind +ℤ pos sum }
+    requires sum_in { sum ≤ 262140 }
+    ensures value { result ≡ vector predictor.now cube.now z y x ++ replicate (18 - component_count predictor.now z) (pos 0) }
+    ensures bound { AllWithin 262144 result }
+{
+    if predictor.reduced {
+        reduced_vector(predictor, cube, z, y, x)
+    } else {
+        full_vector(predictor, cube, z, y, x, sum)
+    }
+}
+
+/// The local sum of the heights at a place that is not the first of its band.
+pub(crate) fn sum_at(predictor: &Predictor, cube: &Cube, z: u32, y: u32, x: u32) -> u32
+    requires place { IsPlace cube.now.shape z y x }
+    requires later { 0 < y + x }
+    requires wide { predictor.now.column ≡ false → 2 ≤ cube.now.shape.columns }
+    ensures value { local_sum predictor.now cube.now z y x ≡ pos 4 *ℤ smin cube.now.kind +ℤ pos result }
+    ensures bound { result ≤ 262140 }
+{
+    let row = cube.row(z, y);
+    let above = cube.row(z, y.saturating_sub(1));
+    sum_of(predictor.column, y, row, above, x as usize)
+}
+
+/// The differences of reduced mode.
+fn reduced_vector(predictor: &Predictor, cube: &Cube, z: u32, y: u32, x: u32) -> [i32; 18]
+    requires lawful { IsPredictor predictor.now }
+    requires place { IsPlace cube.now.shape z y x }
+    requires later { 0 < y + x }
+    requires wide { predictor.now.column ≡ false → 2 ≤ cube.now.shape.columns }
+    requires mode { predictor.now.reduced ≡ true }
+    ensures value { result ≡ vector predictor.now cube.now z y x ++ replicate (18 - component_count predictor.now z) (pos 0) }
+    ensures bound { AllWithin 262144 result }
+{
+    let mut out = [0i32; 18];
+    let count = z.min(predictor.previous) as usize;
+    fill_spectral(predictor, cube, z, y, x, 0, count, &mut out);
+    out
+}
+
+/// The differences of full mode.
+fn full_vector(predictor: &Predictor, cube: &Cube, z: u32, y: u32, x: u32, sum: u32) -> [i32; 18]
+    requires lawful { IsPredictor predictor.now }
+    requires place { IsPlace cube.now.shape z y x }
+    requires later { 0 < y + x }
+    requires wide { predictor.now.column ≡ false → 2 ≤ cube.now.shape.columns }
+    requires mode { predictor.now.reduced ≡ false }
+    requires sum_is { local_sum predictor.now cube.now z y x ≡ pos 4 *ℤ smin cube.now.kind +ℤ pos sum }
+    requires sum_in { sum ≤ 262140 }
+    ensures value { result ≡ vector predictor.now cube.now z y x ++ replicate (18 - component_count predictor.now z) (pos 0) }
+    ensures bound { AllWithin 262144 result }
+{
+    let mut out = directions_at(predictor, cube, z, y, x, sum);
+    let count = z.min(predictor.previous) as usize;
+    fill_spectral(predictor, cube, z, y, x, 3, count, &mut out);
+    out
+}
+
+/// The directional differences alone.
+fn directions_at(predictor: &Predictor, cube: &Cube, z: u32, y: u32, x: u32, sum: u32) -> [i32; 18]
+    requires place { IsPlace cube.now.shape z y x }
+    requires sum_is { local_sum predictor.now cube.now z y x ≡ pos 4 *ℤ smin cube.now.kind +ℤ pos sum }
+    requires sum_in { sum ≤ 262140 }
+    ensures value { result ≡ directional_differences predictor.now cube.now z y x ++ replicate 15 (pos 0) }
+    ensures bound { AllWithin 262144 result }
+{
+    if y == 0 {
+        return directions(0, 0, 0);
+    }
+    let x = x as usize;
+    let above = cube.row(z, y - 1);
+    let north = difference_of(above[x], sum);
+    if x == 0 {
+        return directions(north, north, north);
+    }
+    let row = cube.row(z, y);
+    let west = difference_of(row[x - 1], sum);
+    let north_west = difference_of(above[x - 1], sum);
+    directions(north, west, north_west)
+}
+
+/// Three differences at the head of the room.
+fn directions(north: i32, west: i32, north_west: i32) -> [i32; 18]
+    requires north_in { unsigned_abs north ≤ 262144 }
+    requires west_in { unsigned_abs west ≤ 262144 }
+    requires north_west_in { unsigned_abs north_west ≤ 262144 }
+    ensures value { result ≡ north ∷ west ∷ north_west ∷ replicate 15 (pos 0) }
+    ensures bound { AllWithin 262144 result }
+{
+    let mut out = [0i32; 18];
+    out[0] = north;
+    out[1] = west;
+    out[2] = north_west;
+    out
+}
+
+/// Writes the central differences of the `count` bands below `z`, the nearest first, from place `first` on.
+fn fill_spectral(
+    predictor: &Predictor,
+    cube: &Cube,
+    z: u32,
+    y: u32,
+    x: u32,
+    first: usize,
+    count: usize,
+    out: &mut [i32; 18],
+)
+    requires place { IsPlace cube.now.shape z y x }
+    requires later { 0 < y + x }
+    requires wide { predictor.now.column ≡ false → 2 ≤ cube.now.shape.columns }
+    requires bands { count ≤ z }
+    requires room { first + count ≤ 18 }
+    requires clear { drop first out.old ≡ replicate (18 - first) (pos 0) }
+    requires small { AllWithin 262144 out.old }
+    ensures value { out.new ≡ take first out.old ++ spectral_differences predictor.now cube.now z y x count ++ replicate (18 - first - count) (pos 0) }
+    ensures bound { AllWithin 262144 out.new }
+{
+    for i in 0..count {
+        out[first + i] = central(predictor, cube, z - 1 - i as u32, y, x);
+    }
+}
+
+/// The central difference of band `z` at a place that is not the first.
+fn central(predictor: &Predictor, cube: &Cube, z: u32, y: u32, x: u32) -> i32
+    requires place { IsPlace cube.now.shape z y x }
+    requires later { 0 < y + x }
+    requires wide { predictor.now.column ≡ false → 2 ≤ cube.now.shape.columns }
+    ensures value { result ≡ central_difference predictor.now cube.now z y x }
+    ensures bound { unsigned_abs result ≤ 262144 }
+{
+    let row = cube.row(z, y);
+    let above = cube.row(z, y.saturating_sub(1));
+    central_of(predictor.column, y, row, above, x as usize)
+}

@@ -1,0 +1,53 @@
+//! Local sums and differences of samples that are kept as heights above the least one.
+//!
+//! A difference is the same for heights as for samples, and a local sum of heights is less than one of
+//! samples by four times the least sample.
+
+ghost use Rattle.std.specs.Prelude.{◌≡◌, ◌+◌, ◌*◌, ◌<◌, ◌≤◌, length, false, unsigned_abs, slice_index};
+ghost use Rattle.predict_core.specs.HeightSum.{height_sum, height_difference};
+
+/// Four times an average of the neighbours of a place: `row` is its own row, and `above` the one above it.
+///
+/// The first row of a band has none above it; then `above` isn't looked at
+/// (CCSDS 123.0-B-1, "Local Sums").
+pub(crate) fn sum_of(column: bool, y: u32, row: &[u16], above: &[u16], x: usize) -> u32
+    requires inside { x < length row.now }
+    requires same { length above.now ≡ length row.now }
+    requires later { 0 < y + x }
+    requires wide { column ≡ false → 2 ≤ length row.now }
+    ensures value { result ≡ height_sum column y row.now above.now x }
+    ensures bound { result ≤ 262140 }
+{
+    if y == 0 {
+        4 * row[x - 1] as u32
+    } else if column {
+        4 * above[x] as u32
+    } else if x == 0 {
+        2 * (above[x] as u32 + above[x + 1] as u32)
+    } else if x + 1 == row.len() {
+        row[x - 1] as u32 + above[x - 1] as u32 + 2 * above[x] as u32
+    } else {
+        row[x - 1] as u32 + above[x - 1] as u32 + above[x] as u32 + above[x + 1] as u32
+    }
+}
+
+/// Four times a sample, less a local sum.
+pub(crate) fn difference_of(height: u16, sum: u32) -> i32
+    requires { sum ≤ 262140 }
+    ensures value { result ≡ height_difference height sum }
+    ensures bound { unsigned_abs result ≤ 262144 }
+{
+    4 * height as i32 - sum as i32
+}
+
+/// The central difference at a place.
+pub(crate) fn central_of(column: bool, y: u32, row: &[u16], above: &[u16], x: usize) -> i32
+    requires inside { x < length row.now }
+    requires same { length above.now ≡ length row.now }
+    requires later { 0 < y + x }
+    requires wide { column ≡ false → 2 ≤ length row.now }
+    ensures value { result ≡ height_difference (slice_index row.now x) (height_sum column y row.now above.now x) }
+    ensures bound { unsigned_abs result ≤ 262144 }
+{
+    difference_of(row[x], sum_of(column, y, row, above, x))
+}

@@ -1,0 +1,60 @@
+//! The scaled prediction at a place that is not the first of its band.
+
+ghost use Rattle.std.specs.Prelude.{◌≡◌, ◌+◌, ◌*◌, ◌^◌, ◌<◌, ◌≤◌, pos, negsuc, ◌≤ℤ◌, ◌+ℤ◌, ◌*ℤ◌, unsigned_abs};
+ghost use Rattle.predict_core.specs.Arithmetic.{clip};
+ghost use Rattle.predict_core.specs.Prediction.{scaled_by as scaled_of};
+ghost use Rattle.predict_core.specs.Mapping.{IsScaled};
+ghost use Rattle.predict_core.specs.Bounds.{AllWithin, IsPredictor};
+
+use crate::predictor::Predictor;
+use crate::range::Range;
+use crate::register::{halved, register_of, wrapped_value};
+use crate::weights::product_of;
+
+/// Twice a predicted sample, from the local sum, the weights and the differences.
+pub(crate) fn scaled_by(
+    predictor: &Predictor,
+    range: &Range,
+    sum: i32,
+    weights: &[i32; 18],
+    differences: &[i32; 18],
+) -> i32
+    requires lawful { IsPredictor predictor.now }
+    requires weights_in { AllWithin (2 ^ 21) weights.now }
+    requires differences_in { AllWithin (2 ^ 18) differences.now }
+    requires sum_in { (negsuc 131071 ≤ℤ sum) × (sum ≤ℤ pos 262140) }
+    ensures value { result ≡ scaled_of predictor.now range.now.kind sum weights.now differences.now }
+    ensures scaled { IsScaled range.now.kind result }
+{
+    let product = product_of(weights, differences);
+    let middle = range.smid;
+    let register = wrapped_value(
+        predictor.register,
+        register_of(predictor.fraction, product, sum, middle),
+    );
+    let upper = halved(register, predictor.fraction + 1);
+    scaled_from(range.smin, range.smax, middle, upper)
+}
+
+/// The middle of the prediction's range, moved by the upper part of the register.
+fn center_of(upper: i64, middle: i32) -> i64
+    requires upper_in { unsigned_abs upper ≤ 2 ^ 62 }
+    requires middle_in { (pos 0 ≤ℤ middle) × (middle ≤ℤ pos 32768) }
+    ensures { result ≡ upper +ℤ pos 2 *ℤ middle +ℤ pos 1 }
+{
+    upper + (2 * middle) as i64 + 1
+}
+
+/// The scaled prediction from the upper part of the register.
+fn scaled_from(low: i32, high: i32, middle: i32, upper: i64) -> i32
+    requires upper_in { unsigned_abs upper ≤ 2 ^ 62 }
+    requires low_in { (negsuc 32767 ≤ℤ low) × (low ≤ℤ pos 0) }
+    requires high_in { (pos 1 ≤ℤ high) × (high ≤ℤ pos 65535) }
+    requires middle_in { (pos 0 ≤ℤ middle) × (middle ≤ℤ pos 32768) }
+    ensures value { result ≡ clip (upper +ℤ pos 2 *ℤ middle +ℤ pos 1) (pos 2 *ℤ low) (pos 2 *ℤ high +ℤ pos 1) }
+    ensures low_end { (pos 2 *ℤ low) ≤ℤ result }
+    ensures high_end { result ≤ℤ (pos 2 *ℤ high +ℤ pos 1) }
+{
+    let center = center_of(upper, middle);
+    center.clamp((2 * low) as i64, (2 * high + 1) as i64) as i32
+}

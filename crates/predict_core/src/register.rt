@@ -1,0 +1,58 @@
+//! The register that a prediction is held in, on 64-bit words.
+
+ghost use Rattle.std.specs.Prelude.{◌≡◌, ◌+◌, ◌^◌, ◌<◌, ◌≤◌, pos, negsuc, ◌≤ℤ◌, unsigned_abs, ◌+ℤ◌, ◌-ℤ◌, ◌*ℤ◌};
+ghost use Rattle.predict_core.specs.Arithmetic.{wrapped, floor_div};
+
+/// What a register of so many bits keeps of a number.
+///
+/// The bits above the register's go out at the top of the word, and the sign comes in again.
+pub(crate) fn wrapped_value(register: u32, value: i64) -> i64
+    requires least { 32 ≤ register }
+    requires most { register ≤ 64 }
+    ensures { result ≡ wrapped register value }
+{
+    let unused = 64 - register;
+    (value << unused) >> unused
+}
+
+/// A number over a power of two, rounded down.
+pub(crate) fn halved(value: i64, by: u32) -> i64
+    requires { by < 64 }
+    ensures value { result ≡ floor_div value (2 ^ by) }
+    ensures bound { 1 ≤ by → unsigned_abs result ≤ 2 ^ 62 }
+    ensures shrinks { unsigned_abs result ≤ unsigned_abs value }
+{
+    value >> by
+}
+
+/// What goes into the register: the products, and how far the local sum is from four times the middle.
+pub(crate) fn register_of(fraction: u32, product: i64, sum: i32, middle: i32) -> i64
+    requires fraction_in { fraction ≤ 19 }
+    requires product_in { unsigned_abs product ≤ 2 ^ 44 }
+    requires sum_in { (negsuc 131071 ≤ℤ sum) × (sum ≤ℤ pos 262140) }
+    requires middle_in { (pos 0 ≤ℤ middle) × (middle ≤ℤ pos 32768) }
+    ensures value { result ≡ product +ℤ pos (2 ^ fraction) *ℤ (sum -ℤ pos 4 *ℤ middle) }
+    ensures bound { unsigned_abs result < 2 ^ 45 }
+{
+    product + raised(fraction, distance_of(sum, middle))
+}
+
+/// How far a local sum is from four times the middle.
+fn distance_of(sum: i32, middle: i32) -> i64
+    requires sum_in { (negsuc 131071 ≤ℤ sum) × (sum ≤ℤ pos 262140) }
+    requires middle_in { (pos 0 ≤ℤ middle) × (middle ≤ℤ pos 32768) }
+    ensures value { result ≡ sum -ℤ pos 4 *ℤ middle }
+    ensures bound { unsigned_abs result ≤ 2 ^ 18 }
+{
+    (sum - 4 * middle) as i64
+}
+
+/// A distance with the fractional bits of the weights.
+fn raised(fraction: u32, distance: i64) -> i64
+    requires fraction_in { fraction ≤ 19 }
+    requires distance_in { unsigned_abs distance ≤ 2 ^ 18 }
+    ensures value { result ≡ pos (2 ^ fraction) *ℤ distance }
+    ensures bound { unsigned_abs result ≤ 2 ^ 37 }
+{
+    (1i64 << fraction) * distance
+}

@@ -1,0 +1,116 @@
+//! What a band's predictor finds once, and the prediction of one sample from it.
+
+ghost use Rattle.std.specs.Prelude.{◌≡◌, ◌+◌, ◌-◌, ◌*◌, ◌^◌, ◌<◌, ◌≤◌, pos, negsuc, ◌-ℤ◌, ◌*ℤ◌, ◌≤ℤ◌, int_lt, take, ◌++◌, replicate, false};
+ghost use Rattle.cube_core.specs.Shape.{InRange};
+ghost use Rattle.cube_core.specs.Image.{IsPlace};
+ghost use Rattle.predict_core.specs.Predictor.{component_count};
+ghost use Rattle.predict_core.specs.Differences.{difference_vector as vector};
+ghost use Rattle.predict_core.specs.Weights.{step_exponent, updated_weights};
+ghost use Rattle.predict_core.specs.Prediction.{scaled_there, first_scaled as first_prediction};
+ghost use Rattle.predict_core.specs.Mapping.{IsScaled};
+ghost use Rattle.predict_core.specs.Bounds.{AllWithin, IsPredictor};
+
+use crate::differences::{difference_vector, sum_at};
+use crate::exponent::exponent_at;
+use crate::prediction::scaled_by;
+use crate::predictor::Predictor;
+use crate::range::Range;
+use crate::weights::update;
+use cube_core::cube::Cube;
+
+/// The parameters of a band's predictor, and what follows from them for all its samples.
+#[derive(Clone, Copy)]
+pub(crate) struct Settings {
+    pub predictor: Predictor,
+    pub range: Range,
+    pub columns: u32,
+    pub band: u32,
+    pub ghost lawful: { IsPredictor predictor },
+    pub ghost columns_in: { InRange 1 65536 columns },
+    pub ghost wide: { predictor.column ≡ false → 2 ≤ columns },
+}
+
+/// What is predicted at a place, and from which differences.
+#[derive(Clone, Copy)]
+pub(crate) struct Prediction {
+    pub scaled: i32,
+    pub differences: [i32; 18],
+}
+
+/// The scaled prediction at the first place of a band.
+pub(crate) fn first_scaled(settings: &Settings, cube: &Cube) -> i32
+    requires place { IsPlace cube.now.shape settings.now.band 0 0 }
+    requires kind { cube.now.kind ≡ settings.now.range.kind }
+    ensures value { result ≡ first_prediction settings.now.predictor cube.now settings.now.band }
+    ensures scaled { IsScaled cube.now.kind result }
+{
+    let previous = settings.predictor.previous;
+    let band = settings.band;
+    if previous == 0 || band == 0 {
+        2 * settings.range.smid
+    } else {
+        2 * cube.sample(band - 1, 0, 0)
+    }
+}
+
+/// What is predicted at a place that is not the first of its band.
+pub(crate) fn predict(
+    settings: &Settings,
+    cube: &Cube,
+    y: u32,
+    x: u32,
+    weights: &[i32; 18],
+) -> Prediction
+    requires place { IsPlace cube.now.shape settings.now.band y x }
+    requires columns { cube.now.shape.columns ≡ settings.now.columns }
+    requires kind { cube.now.kind ≡ settings.now.range.kind }
+    requires later { 0 < y + x }
+    requires weights_in { AllWithin (2 ^ 21) weights.now }
+    ensures differences { result.differences ≡ vector settings.now.predictor cube.now settings.now.band y x ++ replicate (18 - component_count settings.now.predictor settings.now.band) (pos 0) }
+    ensures bound { AllWithin (2 ^ 18) result.differences }
+    ensures value { result.scaled ≡ scaled_there settings.now.predictor cube.now settings.now.band y x (take (component_count settings.now.predictor settings.now.band) weights.now) }
+    ensures scaled { IsScaled cube.now.kind result.scaled }
+{
+    let predictor = &settings.predictor;
+    let range = &settings.range;
+    let sum = sum_at(predictor, cube, settings.band, y, x);
+    let differences = difference_vector(predictor, cube, settings.band, y, x, sum);
+    let whole = 4 * range.smin + sum as i32;
+    let scaled = scaled_by(predictor, range, whole, weights, &differences);
+    Prediction {
+        scaled,
+        differences,
+    }
+}
+
+/// Moves the weights after a sample at place `t`.
+pub(crate) fn learn(
+    settings: &Settings,
+    t: u64,
+    weights: &mut [i32; 18],
+    prediction: &Prediction,
+    sample: i32,
+)
+    requires t_in { t < 2 ^ 32 }
+    requires weights_in { AllWithin (2 ^ 21) weights.old }
+    requires differences_in { AllWithin (2 ^ 18) prediction.now.differences }
+    requires scaled_in { IsScaled settings.now.range.kind prediction.now.scaled }
+    requires sample_in { (negsuc 32767 ≤ℤ sample) × (sample ≤ℤ pos 65535) }
+    ensures value { weights.new ≡ updated_weights settings.now.predictor.fraction (step_exponent settings.now.predictor settings.now.columns settings.now.range.bits t) (int_lt (pos 2 *ℤ sample -ℤ prediction.now.scaled) (pos 0)) weights.old prediction.now.differences }
+    ensures bound { AllWithin (2 ^ 21) weights.new }
+{
+    let exponent = exponent_at(
+        &settings.predictor,
+        settings.columns,
+        settings.range.bits,
+        t,
+    );
+    let negative = 2 * sample < prediction.scaled;
+    update(
+        weights,
+        &prediction.differences,
+        settings.predictor.fraction,
+        exponent,
+        negative,
+    );
+}
