@@ -7,3 +7,6 @@ pub mod statistics;
 pub mod stats;
 pub mod worked;
 pub mod worked_refusals;
+
+#[cfg(test)]
+mod tests;

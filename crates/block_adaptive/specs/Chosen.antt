@@ -1,0 +1,64 @@
+-- The body that the coder writes (CCSDS 121.0-B, "Code option selection").
+use Rattle.std.specs.Prelude.{ℕ, zero, suc, ◌+◌, ◌<◌, ◌≤◌, ◌≡◌, ◌⊎◌, ◌==◌, nat_le, nat_lt, ◌&&◌, Bool, true, List, [], ◌∷◌, length, drop, if◌then◌else◌}
+use Rattle.block_adaptive.specs.declared.options.CodeSet.{CodeSet}
+use Rattle.block_adaptive.specs.declared.options.Choice.{Choice}
+use Rattle.block_adaptive.specs.declared.options.Choice.TheVariants.{Uncoded, Second, Split}
+use Rattle.block_adaptive.specs.Options.{splits, cost, IsOption}
+use Rattle.block_adaptive.specs.Segments.{blocks}
+use Rattle.block_adaptive.specs.Texts.{Text, Block, Run, Rest, Cut, cut_of, left_at, blocks_in, spelling}
+
+-- the first of two options, unless the second is shorter
+abbrev pub shorter : CodeSet → List ℕ → Choice → Choice → Choice
+shorter s values a b = if nat_lt (cost s b values) (cost s a values) then b else a
+
+-- the shortest of uncoded, the second extension and the n smallest k, the first in this order where several are
+unfoldable pub shortest : CodeSet → List ℕ → ℕ → Choice
+shortest s values zero = shorter s values Uncoded Second
+shortest s values (suc k) = shorter s values (shortest s values k) (Split k)
+
+unfoldable pub chosen_option : CodeSet → List ℕ → Choice
+chosen_option s values = shortest s values (splits s)
+
+-- the order in which options come first where they are as short
+abbrev pub turn : Choice → ℕ
+turn Uncoded = 0
+turn Second = 1
+turn (Split k) = k + 2
+
+-- no option is shorter, and none that is as short comes first
+abbrev pub IsChosen : CodeSet → List ℕ → Choice → Type 0
+IsChosen s values o = IsOption s o × ((p : Choice) → IsOption s p → (cost s o values < cost s p values) ⊎ ((cost s o values ≡ cost s p values) × (turn o ≤ turn p)))
+
+abbrev pub is_zero : List ℕ → Bool
+is_zero [] = true
+is_zero (v ∷ values) = v == 0 && is_zero values
+
+-- how many of the first n blocks are zeros, up to the first that isn't
+abbrev pub zero_blocks : ℕ → List (List ℕ) → ℕ
+zero_blocks zero bs = 0
+zero_blocks (suc n) [] = 0
+zero_blocks (suc n) (b ∷ bs) = if is_zero b then suc (zero_blocks n bs) else 0
+
+-- the text of the blocks ahead, the first of which is b: zero blocks in the longest run, by the rest code where they are the rest and at least 5
+abbrev pub text_of : CodeSet → ℕ → List ℕ → List (List ℕ) → Text
+text_of s left b bs =
+    let n = zero_blocks left (b ∷ bs) in
+    if n == 0 then Block (chosen_option s b) b
+    else if n == left && nat_le 5 n then Rest
+    else Run n
+
+-- the texts of the blocks from block i on, n texts at most
+unfoldable pub chosen_from : Cut → ℕ → ℕ → List (List ℕ) → List Text
+chosen_from c zero i bs = []
+chosen_from c (suc n) i [] = []
+chosen_from c (suc n) i (b ∷ bs) =
+    let t = text_of c.set (left_at c i) b bs in
+    t ∷ chosen_from c n (i + blocks_in (left_at c i) t) (drop (blocks_in (left_at c i) t) (b ∷ bs))
+
+unfoldable pub chosen_texts : CodeSet → ℕ → ℕ → List ℕ → List Text
+chosen_texts s size reference numbers =
+    chosen_from (cut_of s size reference (length numbers)) (length (blocks size numbers)) 0 (blocks size numbers)
+
+-- the body of numbers
+unfoldable pub chosen_block_body : CodeSet → ℕ → ℕ → List ℕ → List Bool
+chosen_block_body s size reference numbers = spelling s (chosen_texts s size reference numbers)

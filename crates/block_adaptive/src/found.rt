@@ -1,0 +1,14 @@
+//! What one text stands for.
+
+use crate::options::Choice;
+
+/// What was read as one text.
+#[derive(Clone, Copy, Debug, PartialEq, Eq, Drop)]
+pub(crate) enum Found {
+    /// A block under an option; its values stand elsewhere.
+    Block(Choice),
+    /// So many blocks of zeros.
+    Run(u32),
+    /// Blocks of zeros up to the segment's end.
+    Rest,
+}

@@ -1,0 +1,7 @@
+//! The block-adaptive entropy coder, both ways (CCSDS 121.0-B, as an entropy coder of CCSDS 123.0-B-1).
+#![tactic(auto)]
+
+mod found;
+pub mod options;
+pub mod worked;
+pub mod worked_refusals;

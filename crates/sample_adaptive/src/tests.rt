@@ -1,0 +1,186 @@
+//! Numbers through the coder and back, for settings at both ends of their ranges.
+
+ghost use Rattle.std.specs.Prelude.{◌≡◌, ◌+◌, ◌^◌, ◌<◌, ◌≤◌, length};
+ghost use Rattle.sample_adaptive.specs.Settings.{AreForSamples};
+
+use crate::stats::Stats;
+use cube_core::fault::Fault;
+use cube_core::kind::Kind;
+use cube_core::order::Order;
+use cube_core::shape::Shape;
+use header_bits::bit_reader::BitReader;
+use header_bits::bit_writer::BitWriter;
+use header_bits::params::{Coder, CountStart, Params, WeightStart};
+use std::alloc::Global;
+use std::process::Abort;
+use std::test::Fail;
+
+/// What a test tells the coder.
+#[derive(Clone, Copy, Debug)]
+struct Settings {
+    bits: u32,
+    umax: u32,
+    gamma_star: u32,
+    gamma_zero: u32,
+    constant: u32,
+}
+
+/// Parameters of one band, whose settings are lawful.
+fn params_of(rt: &impl Abort, s: Settings) -> Params
+    ensures lawful { AreForSamples result }
+    ensures bands { 1 ≤ result.shape.bands }
+    ensures bits { result.kind.bits ≡ s.bits }
+{
+    assert!(rt; s.umax >= 8);
+    assert!(rt; s.umax <= 32);
+    assert!(rt; s.gamma_zero >= 1);
+    assert!(rt; s.gamma_zero <= 8);
+    assert!(rt; s.gamma_star >= 4);
+    assert!(rt; s.gamma_star <= 9);
+    assert!(rt; s.gamma_zero < s.gamma_star);
+    assert!(rt; s.bits >= 2);
+    assert!(rt; s.constant <= s.bits - 2);
+    let shape = Shape::new(1, 64, 1).expect(rt, "a shape");
+    let kind = Kind::new(false, s.bits).expect(rt, "a kind");
+    let _bands = shape.bands();
+    assert!(rt; kind.bits() == s.bits);
+    Params {
+        shape,
+        kind,
+        order: Order::Bsq,
+        user: 0,
+        word: 1,
+        previous: 0,
+        reduced: true,
+        column: true,
+        register: 32,
+        omega: 13,
+        interval_log: 6,
+        vmin: -1,
+        vmax: 3,
+        start: WeightStart::Usual,
+        coder: Coder::Sample {
+            umax: s.umax,
+            gamma_star: s.gamma_star,
+            gamma_zero: s.gamma_zero,
+            start: CountStart::Constant(s.constant),
+        },
+    }
+}
+
+/// The body of a band's numbers, with the zeros that fill its last byte.
+fn written(rt: &impl Abort, alloc: Global, params: &Params, numbers: &[u16]) -> Result<Vec<u8>, Fault>
+    requires lawful { AreForSamples params.now }
+    requires bands { 1 ≤ params.now.shape.bands }
+{
+    let mut stats = Stats::new(alloc, params)?;
+    let mut writer = BitWriter::new(alloc);
+    for (t, number) in numbers.iter().enumerate() {
+        assert!(rt; u32::from(*number) < 1 << params.kind.bits());
+        stats.put(0, t as u64, *number, &mut writer)?;
+    }
+    let fill = (8 - writer.bit_count() % 8) % 8;
+    writer.push(0, fill as u32)?;
+    assert!(rt; writer.bit_count() % 8 == 0);
+    Ok(writer.into_bytes())
+}
+
+/// So many numbers of one band, and how many bits are left behind them.
+fn read(rt: &impl Abort, alloc: Global, params: &Params, bytes: &[u8], count: u64) -> Result<(Vec<u16>, u64), Fault>
+    requires lawful { AreForSamples params.now }
+    requires bands { 1 ≤ params.now.shape.bands }
+{
+    assert!(rt; bytes.len() < 1_000_000);
+    let mut stats = Stats::new(alloc, params)?;
+    let mut reader = BitReader::new(bytes);
+    let mut numbers = Vec::new(alloc);
+    for t in 0..count {
+        numbers.push(stats.get(0, t, &mut reader)?)?;
+    }
+    Ok((numbers, reader.left()))
+}
+
+/// Numbers that begin with the greatest one, and go on with zeros, great and middle ones in runs.
+fn sample_numbers(alloc: Global, bits: u32, seed: u64) -> Result<Vec<u16>, Fault>
+    requires { (2 ≤ bits) × (bits ≤ 16) }
+{
+    let most = ((1u32 << bits) - 1) as u16;
+    let mut numbers = Vec::new(alloc);
+    numbers.push(most)?;
+    let mut state = seed;
+    for t in 0..700u32 {
+        state = state.wrapping_mul(6_364_136_223_846_793_005).wrapping_add(1_442_695_040_888_963_407);
+        let some = ((state >> 48) & u64::from(most)) as u16;
+        numbers.push(match t / 50 % 4 {
+            0 => 0,
+            1 => some,
+            2 => most,
+            _ => some >> (bits / 2),
+        })?;
+    }
+    Ok(numbers)
+}
+
+#[test]
+fn numbers_come_back(rt: HostRuntime) -> Result<(), Fail> {
+    for bits in 2..17 {
+        for constant in 0..bits - 1 {
+            for (umax, gamma_star, gamma_zero) in [(8, 4, 1), (32, 9, 8), (8, 9, 1), (32, 4, 3)] {
+                let params = params_of(&rt, Settings { bits, umax, gamma_star, gamma_zero, constant });
+                let numbers = sample_numbers(rt.alloc(), bits, u64::from(bits * 100 + constant))?;
+                let bytes = written(&rt, rt.alloc(), &params, &numbers)?;
+                let (back, left) = read(&rt, rt.alloc(), &params, &bytes, numbers.len() as u64)?;
+                assert!(rt; back.as_slice() == numbers.as_slice(), "at {bits} bits, k {constant}, {umax} {gamma_star} {gamma_zero}");
+                assert!(rt; left < 8);
+            }
+        }
+    }
+    Ok(())
+}
+
+#[test]
+fn rescaling_rounds_up(rt: HostRuntime) -> Result<(), Fail> {
+    let params = params_of(&rt, Settings { bits: 8, umax: 16, gamma_star: 4, gamma_zero: 1, constant: 3 });
+    let numbers = [0, 2, 0, 0, 0, 0, 0, 0, 0, 0, 0, 0, 0, 0, 0, 0];
+    let bytes = written(&rt, rt.alloc(), &params, &numbers)?;
+    assert_eq!(rt; bytes.as_slice(), [0x00, 0xA8, 0x92, 0x55, 0x55, 0x50].as_slice());
+    Ok(())
+}
+
+#[test]
+fn escape(rt: HostRuntime) -> Result<(), Fail> {
+    let params = params_of(&rt, Settings { bits: 8, umax: 8, gamma_star: 6, gamma_zero: 1, constant: 0 });
+    let bytes = written(&rt, rt.alloc(), &params, &[144, 19])?;
+    assert_eq!(rt; bytes.as_slice(), [0x90, 0x00, 0x13].as_slice());
+    Ok(())
+}
+
+/// What the second number of a band is refused for, and that it is refused so for ever.
+fn refusal_of(rt: &impl Abort, alloc: Global, s: Settings, bytes: &[u8]) -> Result<Fault, Fail> {
+    assert!(rt; bytes.len() < 1_000_000);
+    let params = params_of(rt, s);
+    let mut stats = Stats::new(alloc, &params)?;
+    let mut reader = BitReader::new(bytes);
+    stats.get(0, 0, &mut reader)?;
+    let left = reader.left();
+    let first = stats.get(0, 1, &mut reader).err();
+    let again = stats.get(0, 1, &mut reader).err();
+    assert_eq!(rt; first, again);
+    assert_eq!(rt; reader.left(), left);
+    Ok(first.ok_or("no refusal")?)
+}
+
+#[test]
+fn bad_codes(rt: HostRuntime) -> Result<(), Fail> {
+    let two_bits = Settings { bits: 2, umax: 8, gamma_star: 6, gamma_zero: 1, constant: 0 };
+    let eight_bits = Settings { bits: 8, umax: 8, gamma_star: 6, gamma_zero: 1, constant: 0 };
+    // 00, then 00001: four zeros and a one spell 4, which two bits do not hold.
+    assert_eq!(rt; refusal_of(&rt, rt.alloc(), two_bits, &[0b0000_0010])?, Fault::BadCode { place: 1 });
+    // 00, then 0000000011: 3 behind an escape that it does not need.
+    assert_eq!(rt; refusal_of(&rt, rt.alloc(), two_bits, &[0, 0b0011_0000])?, Fault::BadCode { place: 1 });
+    // 144, then eight zeros and 3 in eight bits.
+    assert_eq!(rt; refusal_of(&rt, rt.alloc(), eight_bits, &[0x90, 0x00, 0x03])?, Fault::BadCode { place: 1 });
+    // 144, and then seven of the eight zeros of an escape.
+    assert_eq!(rt; refusal_of(&rt, rt.alloc(), eight_bits, &[0x90])?, Fault::Truncated { bit: 8 });
+    Ok(())
+}
