@@ -1,0 +1,4 @@
+pub mod Come
+pub mod ForSamples
+pub mod Packed
+pub mod Walking

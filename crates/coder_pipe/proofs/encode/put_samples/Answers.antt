@@ -1,0 +1,67 @@
+use Rattle.std.proofs.Common.{◌≡◌, ◌++◌, ◌∙◌, [], Bool, List, Some, arith, sym, ap, length}
+use Rattle.std.specs.List.{slice_get}
+use Rattle.std.proofs.lemmas.Option.{slice_get-get_or}
+use Rattle.cube_core.specs.Kind.{SampleKind}
+use Rattle.predict_core.specs.Following.{Learner}
+use Rattle.coder_pipe.specs.Walked.{IsAlong}
+use Rattle.coder_pipe.proofs.Come.{time_of}
+use Rattle.coder_pipe.proofs.ForSamples.{for_samples}
+use Rattle.coder_pipe.proofs.Walking.{IsOnWalk, NextGoes, next_goes, band_here, gone_by, on_walk_first, on_walk_more, on_walk_last, walked_none, body_is, settings_bits}
+use Rattle.coder_pipe.proofs.encode.put_samples.Goals as goal
+use Rattle.coder_pipe.proofs.encode.put_samples.Goals.{In-Some, After-next-t}
+
+pub new-requires : goal.new-requires
+new-requires c = for_samples _ c.args.params.now c.requires.lawful c.requires.coder
+
+pub loop-place-init : goal.loop-place-init
+loop-place-init c =
+    let p = c.args.params.now in
+    let known = walked_none c.args.params.now c.args.cube.now c.in_ok-bands.bands.items c.in_ok-stats.stats c.args.writer.now.bits (omega (arith, c.in_ok-bands.ensures.len, c.in_ok-bands.bands.ok.0)) (c.in_ok-bands.ensures.along c.args.cube.now) c.in_ok-stats.ensures.bands (c.in_ok-stats.ensures.taken.bits ∙ settings_bits c.args.params.now) c.in_ok-bands.ensures.first c.in_ok-stats.ensures.taken in
+    rw c.new-places.ensures (on_walk_first c.args.params.now c.args.cube.now c.in_ok-bands.bands.items c.in_ok-stats.stats c.args.writer.now.bits c.requires.lawful.order known)
+
+goes : (c : In-Some) → NextGoes c.args.params.now c.in-Some.place c.loop-place.places c.next.new.self
+goes c = next_goes c.args.params.now c.in-Some.place c.loop-place.places c.next.new.self c.requires.lawful.order c.loop-place.invariant.rest c.in-Some.ensures.steps
+
+pub index_mut-band-requires : goal.index_mut-band-requires
+index_mut-band-requires c = let g = goes (goal.at.index_mut-band-requires c).In-Some in omega (arith, g.stands.place.band, c.loop-place.invariant.known.many)
+
+band_is : (c : After-next-t) → slice_get c.loop-place.bands.items c.in-Some.place.z ≡ Some c.index_mut-band.result.now
+band_is c =
+    let g = next_goes c.args.params.now c.in-Some.place c.loop-place.places c.next.new.self c.requires.lawful.order c.loop-place.invariant.rest c.in-Some.ensures.steps in
+    slice_get-get_or c.loop-place.bands.items c.in-Some.place.z c.index_mut-band.result.now (omega (arith, g.stands.place.band, c.loop-place.invariant.known.many)) ∙ ap (λ (b : Learner). Some b) (sym c.index_mut-band.ensures.value)
+
+here : (c : After-next-t) → IsAlong c.args.params.now c.args.cube.now (length (gone_by c.args.params.now c.loop-place.places)) c.in-Some.place.z c.index_mut-band.result.now × (c.index_mut-band.result.now.place ≡ time_of c.args.params.now.shape c.in-Some.place)
+here c = band_here c.args.params.now c.args.cube.now (gone_by c.args.params.now c.loop-place.places) c.loop-place.bands.items c.loop-place.stats c.args.writer.now.bits c.loop-place.writer.bits c.in-Some.place c.index_mut-band.result.now c.requires.lawful.order c.loop-place.invariant.known (next_goes c.args.params.now c.in-Some.place c.loop-place.places c.next.new.self c.requires.lawful.order c.loop-place.invariant.rest c.in-Some.ensures.steps).stands (band_is c)
+
+pub forward-delta-requires-clause-shape : goal.forward-delta-requires-clause-shape
+forward-delta-requires-clause-shape c = c.requires.shape ∙ sym (here (goal.at.forward-delta-requires-clause-shape c).After-next-t).0.follows.made.shape
+
+pub forward-delta-requires-clause-kind : goal.forward-delta-requires-clause-kind
+forward-delta-requires-clause-kind c = c.requires.kind ∙ sym (here (goal.at.forward-delta-requires-clause-kind c).After-next-t).0.follows.made.kind
+
+pub forward-delta-requires-clause-place : goal.forward-delta-requires-clause-place
+forward-delta-requires-clause-place c =
+    let h = here (goal.at.forward-delta-requires-clause-place c).After-next-t in
+    let g = goes (goal.at.forward-delta-requires-clause-place c).In-Some in
+    rw (c.requires.shape, h.0.band) g.stands.place
+
+pub forward-delta-requires-clause-next : goal.forward-delta-requires-clause-next
+forward-delta-requires-clause-next c = rw c.requires.shape (here (goal.at.forward-delta-requires-clause-next c).After-next-t).1
+
+pub put-requires-clause-band : goal.put-requires-clause-band
+put-requires-clause-band c = let g = goes (goal.at.put-requires-clause-band c).In-Some in omega (arith, g.stands.place.band, c.loop-place.invariant.known.counts)
+
+pub put-requires-clause-number : goal.put-requires-clause-number
+put-requires-clause-number c = rw (c.loop-place.invariant.known.depth ∙ ap (λ (k : SampleKind). k.bits) (sym c.requires.kind)) c.forward-delta.ensures.bound
+
+pub loop-place-preserved : goal.loop-place-preserved
+loop-place-preserved c =
+    let d = (goal.at.loop-place-preserved c).After-next-t in
+    let h = here d in
+    on_walk_more c.args.params.now c.args.cube.now c.loop-place.places c.next.new.self c.loop-place.bands.items c.loop-place.stats c.put.new.self c.args.writer.now.bits c.loop-place.writer.bits c.put.new.writer.bits c.in-Some.place c.index_mut-band.result.now c.forward-delta.new.self c.forward-delta.result
+    c.requires.lawful.order c.requires.shape c.loop-place.invariant c.in-Some.ensures.steps (band_is d) c.forward-delta.ensures.moved (c.forward-delta.ensures.follows c.args.params.now h.0.follows) (c.forward-delta.ensures.residual c.args.params.now h.0.follows) (rw c.next-t.ensures at c.in_ok-put.ensures.taken) c.put.ensures.bands
+
+pub returns-clause-appended : goal.returns-clause-appended
+returns-clause-appended c =
+    let walk : IsOnWalk c.args.params.now c.args.cube.now [] c.loop-place.bands.items c.loop-place.stats c.args.writer.now.bits c.loop-place.writer.bits = rw c.in_default.ensures.steps.0 at c.loop-place.invariant in
+    on_walk_last c.args.params.now c.args.cube.now c.loop-place.bands.items c.loop-place.stats c.args.writer.now.bits c.loop-place.writer.bits c.requires.lawful.order walk ∙ ap (λ (x : List Bool). c.args.writer.now.bits ++ x) (sym (body_is c.args.params.now c.args.cube.now c.requires.coder c.requires.shape))

@@ -1,0 +1,28 @@
+-- How far a coder has come along the encoding order.
+use Rattle.std.specs.Prelude.{ℕ, ◌≡◌, ◌+◌, ◌*◌, ◌<◌, ◌↔◌, List, map, slice_get, Some}
+use Rattle.cube_core.specs.declared.order.Order.{Order}
+use Rattle.cube_core.specs.declared.order.Place.{Place}
+use Rattle.cube_core.specs.Shape.{Sizes}
+use Rattle.cube_core.specs.Image.{Image}
+use Rattle.cube_core.specs.Order.{IsPlaceOf, place_index}
+use Rattle.header_bits.specs.declared.params.Params.{Params}
+use Rattle.predict_core.specs.Following.{Learner, Follows}
+use Rattle.predict_core.specs.Residual.{mapped_residual}
+
+-- a band has come to a place that the walk has come to: its places behind it are those of a lesser index
+abbrev pub HasCome : Sizes → Order → ℕ → ℕ → ℕ → Type 0
+HasCome s o z i t = (p : Place) → IsPlaceOf s p → p.z ≡ z → (place_index s o p < i) ↔ (p.y * s.columns + p.x < t)
+
+-- band z of a predictor follows the cube to where the walk has come
+pub record IsAlong (p : Params) (c : Image) (i z : ℕ) (b : Learner) : Type 0 where
+  pub band : b.band ≡ z
+  pub follows : Follows p b c
+  pub come : HasCome p.shape p.order z i b.place
+
+-- so do all bands
+abbrev pub AreAlong : Params → Image → ℕ → List Learner → Type 0
+AreAlong p c i bands = (z : ℕ) → z < p.shape.bands → (b : Learner) → slice_get bands z ≡ Some b → IsAlong p c i z b
+
+-- the residuals at places
+abbrev pub residuals_at : Params → Image → List Place → List ℕ
+residuals_at p c ps = map (λ q. mapped_residual p c q.z (q.y * c.shape.columns + q.x)) ps

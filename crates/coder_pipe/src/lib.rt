@@ -1,0 +1,5 @@
+//! Whole files: cubes in and out.
+#![tactic(auto)]
+
+mod bands;
+pub mod encode;
