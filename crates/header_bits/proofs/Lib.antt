@@ -2,10 +2,12 @@ pub mod Bytes
 pub mod Exact
 pub mod Fronts
 pub mod Held
+pub mod Lawfulness
 pub mod Numbers
 pub mod Pushes
 pub mod Reading
 pub mod SlotLoops
 pub mod Slots
+pub mod Tests
 pub mod Windows
 pub mod Words

@@ -3,6 +3,7 @@
 
 pub mod bit_reader;
 pub mod bit_writer;
+mod check;
 mod coder_part;
 pub mod header;
 mod image_part;
