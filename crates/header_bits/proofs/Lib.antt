@@ -4,10 +4,12 @@ pub mod Fronts
 pub mod Held
 pub mod Lawfulness
 pub mod Numbers
+pub mod PartReading
 pub mod Pushes
 pub mod Reading
 pub mod SlotLoops
 pub mod Slots
 pub mod Tests
+pub mod Unused
 pub mod Windows
 pub mod Words

@@ -1,14 +1,13 @@
 //! Whether parameters are lawful together, and the first reason where they aren't.
 
 ghost use Rattle.std.specs.Prelude.{◌≡◌, ◌↔◌, IsOk, OnOk};
-ghost use Rattle.cube_core.specs.declared.fault.Fault.TheVariants.{Disagree};
-ghost use Rattle.cube_core.specs.Steps.{refuse_if};
 ghost use Rattle.cube_core.specs.Shape.{AreSizes};
 ghost use Rattle.cube_core.specs.Kind.{IsKind};
 ghost use Rattle.header_bits.specs.Reach.{here};
 ghost use Rattle.header_bits.specs.Lawful.{IsLawful, in_range_or, exponent_or, order_fault, predictor_fault, start_fault, count_fault, block_size_fault, coder_fault, params_fault};
 
 use crate::params::{Coder, CountStart, Params, WeightStart};
+use crate::refusal::{disagree_if, refuse_if};
 use cube_core::fault::{Fault, Field, Rule};
 use cube_core::order::Order;
 use cube_core::shape::Shape;
@@ -40,20 +39,6 @@ fn first_fault(params: &Params) -> Result<(), Fault>
     check_predictor(params)?;
     check_start(params)?;
     check_coder(params)
-}
-
-/// Refuses where a condition holds.
-pub(crate) fn refuse_if(condition: bool, fault: Fault) -> Result<(), Fault>
-    ensures { result ≡ refuse_if condition fault }
-{
-    if condition { Err(fault) } else { Ok(()) }
-}
-
-/// Refuses where two parameters break a rule.
-fn disagree_if(condition: bool, rule: Rule) -> Result<(), Fault>
-    ensures { result ≡ refuse_if condition (Disagree rule) }
-{
-    refuse_if(condition, Fault::Disagree { rule })
 }
 
 /// Refuses a number that isn't from a least to a greatest one.

@@ -10,5 +10,7 @@ mod image_part;
 mod layout;
 pub mod params;
 mod predictor_part;
+mod reach;
+mod refusal;
 pub mod tables;
 pub mod worked;
