@@ -1,6 +1,7 @@
 pub mod Bytes
 pub mod Exact
 pub mod Fronts
+pub mod Headers
 pub mod Held
 pub mod Lawfulness
 pub mod Numbers
@@ -9,6 +10,7 @@ pub mod Pushes
 pub mod Reading
 pub mod SlotLoops
 pub mod Slots
+pub mod SpeltLawful
 pub mod Tests
 pub mod Unused
 pub mod Windows

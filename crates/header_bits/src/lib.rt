@@ -7,6 +7,7 @@ mod check;
 mod coder_part;
 pub mod header;
 mod image_part;
+pub mod laws;
 mod layout;
 pub mod params;
 mod predictor_part;
