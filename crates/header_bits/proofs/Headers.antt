@@ -43,7 +43,7 @@ no_weights_at i p bits e = by_flag p.custom e
     by_flag true h = absurd cc
     by_flag false h = rw (le-ltb (length bits) 0 (omega arith)) refl
 
-coder_behind : (i : ImagePart) (p : PredictorPart) → p.custom ≡ false → coder_place i p ≡ 136
+pub coder_behind : (i : ImagePart) (p : PredictorPart) → p.custom ≡ false → coder_place i p ≡ 136
 unfolding weights total
 coder_behind i p e = by_flag p.custom e
   where

@@ -1,4 +1,5 @@
 pub mod Bytes
+pub mod Chosen
 pub mod Exact
 pub mod Fronts
 pub mod Headers

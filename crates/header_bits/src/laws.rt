@@ -1,6 +1,6 @@
 //! Laws of the definitions alone.
 
-ghost use Rattle.header_bits.specs.Laws.{OneHeader, HeaderIsExact, HeaderIsLawful};
+ghost use Rattle.header_bits.specs.Laws.{OneHeader, HeaderIsExact, HeaderIsLawful, ChosenIsSpelt};
 
 /// No spelling of parameters begins a spelling of others.
 pub fn one_header()
@@ -15,4 +15,9 @@ pub fn header_is_exact()
 /// What spells a header spells lawful parameters.
 pub fn header_is_lawful()
     ensures { HeaderIsLawful }
+{}
+
+/// The header that a coder writes for lawful parameters is a spelling of them.
+pub fn chosen_is_spelt()
+    ensures { ChosenIsSpelt }
 {}
