@@ -1,5 +1,5 @@
 -- The whole header: the image part, the predictor part, a weight table, the coder part and an accumulator table.
-use Rattle.std.specs.Prelude.{ℕ, ◌+◌, Bool, true, false, List, ◌∷◌, ◌++◌, [], length, map, Result, ℤ}
+use Rattle.std.specs.Prelude.{◌≡◌, ℕ, ◌+◌, ◌*◌, drop, Option, Some, None, Ok, Err, Bool, true, false, List, ◌∷◌, ◌++◌, [], length, map, Result, ℤ}
 use Rattle.cube_core.specs.declared.fault.Fault.{Fault}
 use Rattle.header_bits.specs.declared.params.Params.{Params}
 use Rattle.header_bits.specs.declared.params.WeightStart.{WeightStart}
@@ -25,6 +25,10 @@ use Rattle.header_bits.specs.TableParts.{weights, constants, table_fields, weigh
 -- what the parts say, one after another
 abbrev pub Said : Type 0
 Said = (((ImagePart × PredictorPart) × List ℤ) × CoderPart) × List ℕ
+
+-- the parts of a header without tables
+abbrev pub said : ImagePart → PredictorPart → CoderPart → Said
+said i p c = ((((i, p), []), c), [])
 
 -- the first bit behind the weight table
 abbrev pub coder_place : ImagePart → PredictorPart → ℕ
@@ -146,3 +150,20 @@ unfoldable pub header_of : Params → List Bool
 header_of p =
     spelled image_fields (image_numbers (image_part_of p)) ++ spelled predictor_fields (predictor_numbers (predictor_part_of p)) ++ weight_bits p.start
     ++ spelled (coder_fields (coder_part_of p.coder)) (coder_numbers (coder_part_of p.coder)) ++ constant_bits p.coder
+
+-- what reading a header answers: its parameters and its length in bytes, or the first refusal
+abbrev pub ReadsHeader : Reach → List Bool → Result (Params × ℕ) Fault → Type 0
+ReadsHeader reach bits (Ok x) = header_at reach bits ≡ Ok (x.0, drop (8 * x.1) bits)
+ReadsHeader reach bits (Err e) = header_at reach bits ≡ Err e
+
+-- the bits begin with no header
+abbrev pub BeginsNoHeader : Reach → List Bool → Type 0
+BeginsNoHeader reach bits = (p : Params) (h rest : List Bool) → SpellsHeader reach p h → bits ≡ h ++ rest → ⊥
+
+-- the first refusal of a header, or none
+abbrev pub fault_of : {X : Type 0} → Result X Fault → Option Fault
+fault_of (Ok x) = None
+fault_of (Err e) = Some e
+
+unfoldable pub header_fault : Reach → List Bool → Option Fault
+header_fault reach bits = fault_of (header_at reach bits)

@@ -101,6 +101,9 @@ count_fault reach p (Each values) =
     >> refuse_if (not (length values == p.shape.bands)) (Disagree rule.AccumulatorTableLength)
     >> refuse_if (some_above (p.kind.bits - 2) values) (Disagree rule.AccumulatorEntry)
 
+abbrev pub block_size_fault : ℕ → Test
+block_size_fault size = refuse_if (not (size == 8) && not (size == 16) && not (size == 32) && not (size == 64)) (FieldRange field.BlockSize (pos size))
+
 abbrev pub coder_fault : Reach → Params → Coder → Test
 coder_fault reach p (Sample umax gamma_star gamma_zero start) =
     in_range_or field.Umax 8 32 umax
@@ -109,14 +112,14 @@ coder_fault reach p (Sample umax gamma_star gamma_zero start) =
     >> refuse_if (nat_lt gamma_star (gamma_zero + 1)) (Disagree rule.CounterOrder)
     >> count_fault reach p start
 coder_fault reach p (Block size restricted reference) =
-    refuse_if (not (size == 8) && not (size == 16) && not (size == 32) && not (size == 64)) (FieldRange field.BlockSize (pos size))
+    block_size_fault size
     >> refuse_if (restricted && not reach.restricted) (FieldRange field.Restricted (pos 1))
     >> refuse_if (restricted && nat_lt 4 p.kind.bits) (Disagree rule.RestrictedOverFour)
     >> in_range_or field.Reference 1 4096 reference
 
 abbrev pub predictor_fault : Params → Test
 predictor_fault p =
-    refuse_if (nat_lt 15 p.previous) (FieldRange field.Previous (pos p.previous))
+    in_range_or field.Previous 0 15 p.previous
     >> refuse_if (not p.reduced && (p.shape.columns == 1)) (Disagree rule.FullOneColumn)
     >> refuse_if (not p.column && (p.shape.columns == 1)) (Disagree rule.NeighbourOneColumn)
     >> in_range_or field.Register 32 64 p.register
@@ -130,7 +133,7 @@ predictor_fault p =
 -- the first refusal of parameters
 unfoldable pub params_fault : Reach → Params → Test
 params_fault reach p =
-    refuse_if (nat_lt 255 p.user) (FieldRange field.User (pos p.user))
+    in_range_or field.User 0 255 p.user
     >> order_fault p.shape p.order
     >> in_range_or field.WordSize 1 8 p.word
     >> predictor_fault p

@@ -4,6 +4,7 @@ pub mod Everything
 pub mod Header
 pub mod ImagePart
 pub mod Lawful
+pub mod Laws
 pub mod Layout
 pub mod Parts
 pub mod PredictorPart

@@ -39,12 +39,22 @@ abbrev pub exponent_code : ℤ → ℕ
 exponent_code (pos n) = n + 6
 exponent_code (negsuc n) = 5 - n
 
--- the refusals, in order
-abbrev pub predictor_tests : Reach → ImagePart → List ℕ → Test
-predictor_tests reach i v =
+-- the refusals of the weight start, in order
+abbrev pub start_tests : Reach → List ℕ → Test
+start_tests reach v =
     let custom = slice_index v 12 == 1 in
     let table = slice_index v 13 == 1 in
     let resolution = slice_index v 14 in
+    refuse_if (custom && not reach.tables) (FieldRange field.WeightStart (pos 1))
+    >> refuse_if (not custom && table) (Disagree rule.DefaultWithTable)
+    >> refuse_if (custom && not table) TableElsewhere
+    >> refuse_if (not custom && nat_lt 0 resolution) (Disagree rule.DefaultWithResolution)
+    >> refuse_if (custom && nat_lt resolution 3) (FieldRange field.Resolution (pos resolution))
+    >> refuse_if (nat_lt (slice_index v 7 + 3) resolution) (Disagree rule.ResolutionOverOmega)
+
+-- the refusals, in order
+abbrev pub predictor_tests : Reach → ImagePart → List ℕ → Test
+predictor_tests reach i v =
     unused 96 2 (slice_index v 0)
     >> refuse_if ((slice_index v 2 == 0) && (i.shape.columns == 1)) (Disagree rule.FullOneColumn)
     >> unused 103 1 (slice_index v 3)
@@ -55,12 +65,7 @@ predictor_tests reach i v =
     >> refuse_if (nat_lt 11 (slice_index v 8)) (FieldRange field.Interval (pos (slice_index v 8)))
     >> refuse_if (nat_lt (slice_index v 10) (slice_index v 9)) (Disagree rule.ExponentOrder)
     >> unused 128 1 (slice_index v 11)
-    >> refuse_if (custom && not reach.tables) (FieldRange field.WeightStart (pos 1))
-    >> refuse_if (not custom && table) (Disagree rule.DefaultWithTable)
-    >> refuse_if (custom && not table) TableElsewhere
-    >> refuse_if (not custom && nat_lt 0 resolution) (Disagree rule.DefaultWithResolution)
-    >> refuse_if (custom && nat_lt resolution 3) (FieldRange field.Resolution (pos resolution))
-    >> refuse_if (nat_lt (slice_index v 7 + 3) resolution) (Disagree rule.ResolutionOverOmega)
+    >> start_tests reach v
 
 abbrev pub predictor_says : List ℕ → PredictorPart
 predictor_says v = record {

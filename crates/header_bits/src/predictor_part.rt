@@ -1,13 +1,22 @@
 //! The predictor part of a header, five bytes.
 
-ghost use Rattle.std.specs.Prelude.{◌≡◌};
+ghost use Rattle.std.specs.Prelude.{◌≡◌, ◌<◌};
+ghost use Rattle.header_bits.specs.Reading.{Reads};
+ghost use Rattle.header_bits.specs.Layout.{AreValues};
+ghost use Rattle.header_bits.specs.Parts.{part_at};
+ghost use Rattle.header_bits.specs.Reach.{here};
 ghost use Rattle.header_bits.specs.ImagePart.{flag};
-ghost use Rattle.header_bits.specs.PredictorPart.{exponent_code, predictor_numbers};
+ghost use Rattle.header_bits.specs.PredictorPart.{predictor, predictor_fields, predictor_tests, start_tests, predictor_says, exponent_of, exponent_code, predictor_numbers};
 ghost use Rattle.header_bits.specs.Lawful.{IsExponent};
 ghost use Rattle.header_bits.specs.Header.{is_custom, resolution_of, predictor_part_of};
 
-use crate::layout::Slot;
+use crate::bit_reader::BitReader;
+use crate::image_part::ImagePart;
+use crate::layout::{Slot, read_values};
 use crate::params::{Params, WeightStart};
+use crate::reach::TABLES;
+use crate::refusal::{disagree_if, out_of_range_if, refuse_if, unused};
+use cube_core::fault::{Fault, Field, Rule};
 
 /// The slots of the predictor part.
 pub(crate) const FIELDS: [Slot; 15] = [
@@ -46,6 +55,19 @@ pub(crate) struct PredictorPart {
 }
 
 impl PredictorPart {
+    /// Reads the predictor part that follows an image part.
+    pub(crate) fn read(image: &ImagePart, reader: &mut BitReader) -> Result<PredictorPart, Fault>
+        ensures { Reads (λ x. x) result reader.new.left (part_at (predictor here image.now) reader.old.left) }
+    {
+        if reader.left() < 40 {
+            return Err(Fault::ShortHeader);
+        }
+        let mut numbers = [0; 15];
+        read_values(&FIELDS, reader, &mut numbers);
+        test(image, &numbers)?;
+        Ok(said(&numbers))
+    }
+
     /// The predictor part of parameters.
     pub(crate) fn of(params: &Params) -> PredictorPart
         ensures { result ≡ predictor_part_of params.now }
@@ -106,4 +128,68 @@ fn exponent_code(exponent: i32) -> u32
     ensures { result ≡ exponent_code exponent }
 {
     (exponent + 6) as u32
+}
+
+/// Tests the numbers of the predictor part, in order.
+fn test(image: &ImagePart, numbers: &[u32; 15]) -> Result<(), Fault>
+    requires { AreValues predictor_fields numbers.now }
+    ensures { result ≡ predictor_tests here image.now numbers.now }
+{
+    let one_column = image.shape.columns() == 1;
+    let register = numbers[6];
+    let least = image.kind.bits() + numbers[7] + 2;
+    unused(96, 2, numbers[0])?;
+    disagree_if(numbers[2] == 0 && one_column, Rule::FullOneColumn)?;
+    unused(103, 1, numbers[3])?;
+    disagree_if(numbers[4] == 0 && one_column, Rule::NeighbourOneColumn)?;
+    unused(105, 1, numbers[5])?;
+    out_of_range_if(register < 32, Field::Register, register)?;
+    disagree_if(register < least, Rule::RegisterTooSmall)?;
+    out_of_range_if(numbers[8] > 11, Field::Interval, numbers[8])?;
+    disagree_if(numbers[10] < numbers[9], Rule::ExponentOrder)?;
+    unused(128, 1, numbers[11])?;
+    test_start(numbers)
+}
+
+/// Tests the numbers that tell the weight start, in order.
+fn test_start(numbers: &[u32; 15]) -> Result<(), Fault>
+    requires { AreValues predictor_fields numbers.now }
+    ensures { result ≡ start_tests here numbers.now }
+{
+    let custom = numbers[12] == 1;
+    let table = numbers[13] == 1;
+    let resolution = numbers[14];
+    out_of_range_if(custom && !TABLES, Field::WeightStart, 1)?;
+    disagree_if(!custom && table, Rule::DefaultWithTable)?;
+    refuse_if(custom && !table, Fault::TableElsewhere)?;
+    disagree_if(!custom && resolution > 0, Rule::DefaultWithResolution)?;
+    out_of_range_if(custom && resolution < 3, Field::Resolution, resolution)?;
+    disagree_if(numbers[7] + 3 < resolution, Rule::ResolutionOverOmega)
+}
+
+/// What the numbers of the predictor part say.
+fn said(numbers: &[u32; 15]) -> PredictorPart
+    requires { AreValues predictor_fields numbers.now }
+    ensures { result ≡ predictor_says numbers.now }
+{
+    PredictorPart {
+        previous: numbers[1],
+        reduced: numbers[2] == 1,
+        column: numbers[4] == 1,
+        register: numbers[6],
+        omega: numbers[7],
+        interval_log: numbers[8],
+        vmin: exponent_of(numbers[9]),
+        vmax: exponent_of(numbers[10]),
+        custom: numbers[12] == 1,
+        resolution: numbers[14],
+    }
+}
+
+/// The weight update scaling exponent of a code.
+fn exponent_of(code: u32) -> i32
+    requires { code < 16 }
+    ensures { result ≡ exponent_of code }
+{
+    code as i32 - 6
 }

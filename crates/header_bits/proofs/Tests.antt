@@ -1,0 +1,65 @@
+-- What it means that a test passed.
+use Rattle.std.proofs.Common.{◌≡◌, ℕ, ◌≤◌, ◌<◌, ◌≤ℤ◌, Bool, true, false, cond, not, ◌&&◌, leb, ltb, eqb, int_le, int_lt, IsOk, ◌↔◌, Result, Ok, Err, ℤ, pos, negsuc, T, refl, sym, ap, subst, ◌∙◌, arith, inl, inr}
+use Rattle.std.proofs.lemmas.Int.{ints}
+use Rattle.std.proofs.lemmas.Bool.{leb-true, le-leb, and_parts, and_from, and_cases, not_from_true, false_from_ne_true}
+use Rattle.cube_core.specs.declared.fault.Fault.{Fault}
+use Rattle.cube_core.specs.declared.fault.Field.{Field}
+use Rattle.cube_core.specs.Steps.{Test, ◌>>◌, refuse_if}
+use Rattle.cube_core.specs.Shape.{InRange}
+use Rattle.header_bits.specs.Parts.{fine}
+use Rattle.header_bits.specs.Lawful.{IsExponent, in_range_or, exponent_or}
+
+pub then_ok : (a b : Test) → (a >> b) ≡ fine → (a ≡ fine) × (b ≡ fine)
+then_ok (Ok t) b e = (refl, e)
+then_ok (Err f) b e = absurd cc
+
+pub then_fine : (a b : Test) → a ≡ fine → b ≡ fine → (a >> b) ≡ fine
+then_fine a b p q = rw (p, q) refl
+
+pub refuse_ok : (b : Bool) (f : Fault) → refuse_if b f ≡ fine → b ≡ false
+refuse_ok true f e = absurd cc
+refuse_ok false f e = refl
+
+pub refuse_fine : (b : Bool) (f : Fault) → b ≡ false → refuse_if b f ≡ fine
+refuse_fine b f e = rw e refl
+
+pub not_false : (b : Bool) → not b ≡ false → b ≡ true
+not_false true e = refl
+not_false false e = absurd cc
+
+pub in_range_ok : (f : Field) (least most n : ℕ) → in_range_or f least most n ≡ fine → InRange least most n
+in_range_ok f least most n e =
+    let both = and_parts (leb least n) (leb n most) (not_false (leb least n && leb n most) (refuse_ok _ _ e)) in
+    (leb-true least n both.0, leb-true n most both.1)
+
+pub in_range_fine : (f : Field) (least most n : ℕ) → InRange least most n → in_range_or f least most n ≡ fine
+in_range_fine f least most n h = refuse_fine _ _ (not_from_true _ (and_from (leb least n) (leb n most) (le-leb least n h.0) (le-leb n most h.1)))
+
+pub le_true : (a b : ℤ) → int_le a b ≡ true → a ≤ℤ b
+le_true a b e = grind (arith, ints)
+
+pub true_le : (a b : ℤ) → a ≤ℤ b → int_le a b ≡ true
+true_le a b h = grind (arith, ints)
+
+pub lt_false : (a b : ℤ) → int_lt a b ≡ false → b ≤ℤ a
+lt_false a b e = grind (arith, ints)
+
+pub false_lt : (a b : ℤ) → b ≤ℤ a → int_lt a b ≡ false
+false_lt a b h = grind (arith, ints)
+
+pub exponent_ok : (f : Field) (v : ℤ) → exponent_or f v ≡ fine → IsExponent v
+exponent_ok f v e =
+    let both = and_parts (int_le (negsuc 5) v) (int_le v (pos 9)) (not_false (int_le (negsuc 5) v && int_le v (pos 9)) (refuse_ok _ _ e)) in
+    (le_true (negsuc 5) v both.0, le_true v (pos 9) both.1)
+
+pub exponent_fine : (f : Field) (v : ℤ) → IsExponent v → exponent_or f v ≡ fine
+exponent_fine f v h = refuse_fine _ _ (not_from_true _ (and_from (int_le (negsuc 5) v) (int_le v (pos 9)) (true_le (negsuc 5) v h.0) (true_le v (pos 9) h.1)))
+
+-- a rule that stands under a condition
+pub under : (b c : Bool) → (b && c) ≡ false → b ≡ true → c ≡ false
+under true c e h = e
+under false c e h = absurd cc
+
+pub not_under : (b c : Bool) → (b ≡ true → c ≡ false) → (b && c) ≡ false
+not_under true c h = h refl
+not_under false c h = refl

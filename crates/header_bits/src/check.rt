@@ -1,0 +1,170 @@
+//! Whether parameters are lawful together, and the first reason where they aren't.
+
+ghost use Rattle.std.specs.Prelude.{◌≡◌, ◌↔◌, IsOk, OnOk};
+ghost use Rattle.cube_core.specs.Shape.{AreSizes};
+ghost use Rattle.cube_core.specs.Kind.{IsKind};
+ghost use Rattle.header_bits.specs.Reach.{here};
+ghost use Rattle.header_bits.specs.Lawful.{IsLawful, in_range_or, exponent_or, order_fault, predictor_fault, start_fault, count_fault, block_size_fault, coder_fault, params_fault};
+
+use crate::params::{Coder, CountStart, Params, WeightStart};
+use crate::refusal::{disagree_if, refuse_if};
+use cube_core::fault::{Fault, Field, Rule};
+use cube_core::order::Order;
+use cube_core::shape::Shape;
+
+impl Params {
+    /// Whether the parameters are lawful; else the first refusal in the order of the header's fields.
+    ///
+    /// `FieldRange` names a parameter out of its own range, with its value, and `Disagree` a rule
+    /// that two parameters break (CCSDS 123.0-B-1, "Header"). A table of weights is refused as
+    /// `WeightStart`, a table of constants as `AccumulatorTable`, and the restricted set of code
+    /// options as `Restricted`, each with the value 1. It takes no memory.
+    pub fn check(&self) -> Result<(), Fault>
+        ensures fault { result ≡ params_fault here self.now }
+        ensures lawful { IsOk result ↔ IsLawful here self.now }
+    {
+        first_fault(self)
+    }
+}
+
+/// The first refusal of parameters.
+#[tactic(auto, unfolding(crate::specs::Lawful::params_fault))]
+fn first_fault(params: &Params) -> Result<(), Fault>
+    ensures fault { result ≡ params_fault here params.now }
+    ensures ranges { OnOk result (AreSizes params.now.shape × IsKind params.now.kind) }
+{
+    in_range(Field::User, 0, 255, params.user)?;
+    check_order(params.shape, params.order)?;
+    in_range(Field::WordSize, 1, 8, params.word)?;
+    check_predictor(params)?;
+    check_start(params)?;
+    check_coder(params)
+}
+
+/// Refuses a number that isn't from a least to a greatest one.
+fn in_range(field: Field, least: u32, most: u32, number: u32) -> Result<(), Fault>
+    ensures { result ≡ in_range_or field least most number }
+{
+    let value = i64::from(number);
+    refuse_if(
+        !(least <= number && number <= most),
+        Fault::FieldRange { field, value },
+    )
+}
+
+/// Refuses a weight update scaling exponent that isn't -6 to 9.
+fn exponent_in_range(field: Field, exponent: i32) -> Result<(), Fault>
+    ensures { result ≡ exponent_or field exponent }
+{
+    let value = i64::from(exponent);
+    refuse_if(
+        !(-6 <= exponent && exponent <= 9),
+        Fault::FieldRange { field, value },
+    )
+}
+
+/// Refuses a depth of interleaving that isn't 1 to the number of bands.
+fn check_order(shape: Shape, order: Order) -> Result<(), Fault>
+    ensures fault { result ≡ order_fault shape order }
+    ensures sizes { AreSizes shape }
+{
+    match order {
+        Order::Bsq => Ok(()),
+        Order::Bi(depth) => {
+            let none = Fault::FieldRange {
+                field: Field::Depth,
+                value: 0,
+            };
+            refuse_if(depth == 0, none)?;
+            disagree_if(shape.bands() < depth, Rule::DepthOverBands)
+        }
+    }
+}
+
+/// Refuses parameters of the predictor.
+fn check_predictor(params: &Params) -> Result<(), Fault>
+    ensures fault { result ≡ predictor_fault params.now }
+    ensures kind { OnOk result (IsKind params.now.kind) }
+{
+    let one_column = params.shape.columns() == 1;
+    in_range(Field::Previous, 0, 15, params.previous)?;
+    disagree_if(!params.reduced && one_column, Rule::FullOneColumn)?;
+    disagree_if(!params.column && one_column, Rule::NeighbourOneColumn)?;
+    in_range(Field::Register, 32, 64, params.register)?;
+    in_range(Field::Omega, 4, 19, params.omega)?;
+    let least = params.kind.bits() + params.omega + 2;
+    disagree_if(params.register < least, Rule::RegisterTooSmall)?;
+    in_range(Field::Interval, 4, 11, params.interval_log)?;
+    exponent_in_range(Field::VMin, params.vmin)?;
+    exponent_in_range(Field::VMax, params.vmax)?;
+    disagree_if(params.vmax < params.vmin, Rule::ExponentOrder)
+}
+
+/// Refuses a table of weights.
+fn check_start(params: &Params) -> Result<(), Fault>
+    ensures { result ≡ start_fault here params.now params.now.start }
+{
+    match params.start {
+        WeightStart::Usual => Ok(()),
+        WeightStart::Table { .. } => Err(Fault::FieldRange {
+            field: Field::WeightStart,
+            value: 1,
+        }),
+    }
+}
+
+/// Refuses parameters of the entropy coder.
+fn check_coder(params: &Params) -> Result<(), Fault>
+    ensures { result ≡ coder_fault here params.now params.now.coder }
+{
+    match &params.coder {
+        Coder::Sample {
+            umax,
+            gamma_star,
+            gamma_zero,
+            start,
+        } => {
+            in_range(Field::Umax, 8, 32, *umax)?;
+            in_range(Field::GammaStar, 4, 9, *gamma_star)?;
+            in_range(Field::GammaZero, 1, 8, *gamma_zero)?;
+            disagree_if(*gamma_star < *gamma_zero + 1, Rule::CounterOrder)?;
+            check_count(params, start)
+        }
+        Coder::Block {
+            size,
+            restricted,
+            reference,
+        } => {
+            check_block_size(*size)?;
+            let set = Fault::FieldRange {
+                field: Field::Restricted,
+                value: 1,
+            };
+            refuse_if(*restricted, set)?;
+            in_range(Field::Reference, 1, 4096, *reference)
+        }
+    }
+}
+
+/// Refuses a table of constants, and a constant above D - 2.
+fn check_count(params: &Params, start: &CountStart) -> Result<(), Fault>
+    ensures { result ≡ count_fault here params.now start.now }
+{
+    match start {
+        CountStart::Constant(k) => disagree_if(params.kind.bits() - 2 < *k, Rule::StartConstant),
+        CountStart::Each(_) => Err(Fault::FieldRange {
+            field: Field::AccumulatorTable,
+            value: 1,
+        }),
+    }
+}
+
+/// Refuses a block size that isn't 8, 16, 32 or 64.
+fn check_block_size(size: u32) -> Result<(), Fault>
+    ensures { result ≡ block_size_fault size }
+{
+    let value = i64::from(size);
+    let other = size != 8 && size != 16 && size != 32 && size != 64;
+    let field = Field::BlockSize;
+    refuse_if(other, Fault::FieldRange { field, value })
+}
