@@ -4,12 +4,14 @@ ghost use Rattle.std.specs.Prelude.{◌≡◌, ◌+◌, ◌*◌, ◌^◌, ◌<�
 ghost use Rattle.cube_core.specs.declared.fault.Fault.TheVariants.{WantOfMemory};
 ghost use Rattle.cube_core.specs.Image.{Image, IsPlace, sample_at, put};
 ghost use Rattle.cube_core.specs.Kind.{IsSample};
+ghost use Rattle.header_bits.specs.Lawful.{IsLawful};
+ghost use Rattle.header_bits.specs.Reach.{here};
 ghost use Rattle.header_bits.specs.declared.params.Params.{Params as Parameters};
 ghost use Rattle.predict_core.specs.Predictor.{component_count};
 ghost use Rattle.predict_core.specs.Prediction.{scaled_there, next_weights, first_scaled as first_prediction};
 ghost use Rattle.predict_core.specs.Residual.{mapped, mapped_residual};
 ghost use Rattle.predict_core.specs.Bounds.{AllWithin};
-ghost use Rattle.predict_core.specs.Following.{Follows, MovesOn, IsPredictable};
+ghost use Rattle.predict_core.specs.Following.{Follows, MovesOn};
 
 use crate::predictor::Predictor;
 use crate::range::Range;
@@ -53,7 +55,7 @@ impl Band {
     /// `z` is below the number of bands. The room for weights is part of the band, so that no memory is
     /// asked for today; a refusal is `WantOfMemory`.
     pub fn new(_alloc: Global, params: &Params, z: u32) -> Result<Band, Fault>
-        requires lawful { IsPredictable params.now }
+        requires lawful { IsLawful here params.now }
         requires band { z < params.now.shape.bands }
         ensures made { IfOk result (λ b. (b.band ≡ z) × (b.place ≡ 0) × ((c : Image) → Follows params.now b c)) }
         ensures refused { IfErr result (λ e. e ≡ WantOfMemory) }
