@@ -119,6 +119,13 @@ impl Cube {
         self.heights[at] = self.kind.height_of(sample);
     }
 
+    /// That there is a sample at each place, as a fact for proofs: nothing is run.
+    pub fn is_whole(&self)
+        ensures { length self.now.samples ≡ sample_count self.now.shape }
+    {
+        let _shape = self.shape;
+    }
+
     /// One row of a band, each sample as its height above the least sample of the kind.
     pub fn row(&self, z: u32, y: u32) -> &[u16]
         requires { IsPlace self.now.shape z y 0 }

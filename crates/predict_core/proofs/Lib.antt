@@ -1,6 +1,8 @@
 pub mod Directions
 pub mod Filling
 pub mod Following
+pub mod Frame
+pub mod Inverting
 pub mod LocalSums
 pub mod OneSample
 pub mod Padding

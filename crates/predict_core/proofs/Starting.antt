@@ -4,7 +4,10 @@ use Rattle.std.proofs.Math.Seq.{take-suc-set}
 use Rattle.std.proofs.lemmas.List.{take-replicate, take-append-drop}
 use Rattle.std.proofs.lemmas.Int.{to_z_pos, fits_signed_from_abs}
 use Rattle.header_bits.specs.declared.params.Params.{Params}
-use Rattle.header_bits.specs.declared.params.WeightStart.TheVariants.{Usual}
+use Rattle.header_bits.specs.declared.params.WeightStart.{WeightStart}
+use Rattle.header_bits.specs.declared.params.WeightStart.TheVariants.{Usual, Table}
+use Rattle.header_bits.specs.Reach.{here}
+use Rattle.header_bits.specs.Lawful.{IsLawful, IsWeightStart}
 use Rattle.cube_core.specs.Image.{Image}
 use Rattle.predict_core.specs.declared.predictor.Predictor.{Predictor}
 use Rattle.predict_core.specs.Predictor.{predictor_of, previous_bands, component_count}
@@ -104,3 +107,11 @@ module _ (fraction first count : ℕ) (least : 4 ≤ fraction) (most : fraction 
 
   pub small_first : unsigned_abs (to_z w32 ((7 * 2 ^ (fraction - 3)) % 2 ^ 32)) ≤ 1048576
   small_first = let s = seven_fits (fraction - 3) (omega arith) in rw (first_weight (fraction - 3) (omega arith)) (omega (arith, s))
+
+-- as long as no tables are taken, lawful weights start as usual
+pub usual_by_law : (p : Params) → IsLawful here p → p.start ≡ Usual
+usual_by_law p h = by_start p.start h.start
+  where
+    by_start : (s : WeightStart) → IsWeightStart here p s → s ≡ Usual
+    by_start Usual l = refl
+    by_start (Table q values) l = let n = l.0 in cc

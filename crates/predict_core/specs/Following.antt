@@ -1,14 +1,12 @@
 -- The predictor of one band, and the images that it follows.
-use Rattle.std.specs.Prelude.{ℕ, ◌≡◌, ◌+◌, ◌≤◌, ℤ, List, false}
+use Rattle.std.specs.Prelude.{ℕ, ◌≡◌, ◌+◌, ℤ, List}
 use Rattle.header_bits.specs.declared.params.Params.{Params}
-use Rattle.header_bits.specs.declared.params.WeightStart.TheVariants.{Usual}
 use Rattle.cube_core.specs.Shape.{Sizes}
 use Rattle.cube_core.specs.Kind.{SampleKind}
 use Rattle.cube_core.specs.Image.{Image}
 use Rattle.predict_core.specs.declared.predictor.Predictor.{Predictor}
 use Rattle.predict_core.specs.Predictor.{predictor_of}
 use Rattle.predict_core.specs.Prediction.{weight_vector}
-use Rattle.predict_core.specs.Bounds.{IsPredictor}
 
 -- what a band's predictor knows: its parameters, the place that comes next, and the weights there
 pub record Learner : Type 0 where
@@ -18,12 +16,6 @@ pub record Learner : Type 0 where
   pub band : ℕ
   pub place : ℕ
   pub weights : List ℤ
-
--- the parameters that the predictor reads are each in range, and agree; the weights start as usual
-pub record IsPredictable (p : Params) : Type 0 where
-  pub predictor : IsPredictor (predictor_of p)
-  pub wide : p.column ≡ false → 2 ≤ p.shape.columns
-  pub start : p.start ≡ Usual
 
 -- the predictor was made for these parameters
 pub record IsMadeFor (p : Params) (b : Learner) : Type 0 where

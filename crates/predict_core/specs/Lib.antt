@@ -6,6 +6,7 @@ pub mod HeightSum
 pub mod Learner
 pub mod LocalSum
 pub mod Mapping
+pub mod Precedence
 pub mod Prediction
 pub mod Predictor
 pub mod Residual

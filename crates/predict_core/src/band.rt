@@ -2,13 +2,16 @@
 
 ghost use Rattle.std.specs.Prelude.{◌≡◌, ◌+◌, ◌*◌, ◌^◌, ◌<◌, ◌≤◌, IfOk, IfErr, if◌then◌else◌, take};
 ghost use Rattle.cube_core.specs.declared.fault.Fault.TheVariants.{WantOfMemory};
-ghost use Rattle.cube_core.specs.Image.{Image, IsPlace, sample_at};
+ghost use Rattle.cube_core.specs.Image.{Image, IsPlace, sample_at, put};
+ghost use Rattle.cube_core.specs.Kind.{IsSample};
+ghost use Rattle.header_bits.specs.Lawful.{IsLawful};
+ghost use Rattle.header_bits.specs.Reach.{here};
 ghost use Rattle.header_bits.specs.declared.params.Params.{Params as Parameters};
 ghost use Rattle.predict_core.specs.Predictor.{component_count};
 ghost use Rattle.predict_core.specs.Prediction.{scaled_there, next_weights, first_scaled as first_prediction};
 ghost use Rattle.predict_core.specs.Residual.{mapped, mapped_residual};
 ghost use Rattle.predict_core.specs.Bounds.{AllWithin};
-ghost use Rattle.predict_core.specs.Following.{Follows, MovesOn, IsPredictable};
+ghost use Rattle.predict_core.specs.Following.{Follows, MovesOn};
 
 use crate::predictor::Predictor;
 use crate::range::Range;
@@ -52,7 +55,7 @@ impl Band {
     /// `z` is below the number of bands. The room for weights is part of the band, so that no memory is
     /// asked for today; a refusal is `WantOfMemory`.
     pub fn new(_alloc: Global, params: &Params, z: u32) -> Result<Band, Fault>
-        requires lawful { IsPredictable params.now }
+        requires lawful { IsLawful here params.now }
         requires band { z < params.now.shape.bands }
         ensures made { IfOk result (λ b. (b.band ≡ z) × (b.place ≡ 0) × ((c : Image) → Follows params.now b c)) }
         ensures refused { IfErr result (λ e. e ≡ WantOfMemory) }
@@ -105,6 +108,32 @@ impl Band {
             next_residual(&self.settings, cube, y, x, t, &mut self.weights)
         }
     }
+
+    /// The sample at the next place of a cube whose mapped residual is `delta`, and one place on.
+    ///
+    /// The cube has the shape and the kind of the parameters, and the next place is row `y`, column `x`.
+    /// `delta` is at most 2^D - 1. What stands at this place and at later ones is not read, and the cube
+    /// isn't written.
+    pub fn inverse(&mut self, cube: &Cube, y: u32, x: u32, delta: u16) -> i32
+        requires shape { cube.now.shape ≡ self.old.shape }
+        requires kind { cube.now.kind ≡ self.old.kind }
+        requires place { IsPlace cube.now.shape self.old.band y x }
+        requires next { self.old.place ≡ y * cube.now.shape.columns + x }
+        requires residual { delta < 2 ^ cube.now.kind.bits }
+        ensures moved { MovesOn self.old self.new }
+        ensures range { IsSample cube.now.kind result }
+        ensures residual { (p : Parameters) → Follows p self.old cube.now → mapped_residual p (put cube.now self.old.band y x result) self.old.band self.old.place ≡ delta }
+        ensures follows { (p : Parameters) → Follows p self.old cube.now → Follows p self.new (put cube.now self.old.band y x result) }
+    {
+        cube.is_whole();
+        let t = self.next;
+        self.next = t + 1;
+        if t == 0 {
+            first_sample(&self.settings, cube, y, x, delta)
+        } else {
+            next_sample(&self.settings, cube, y, x, t, &mut self.weights, delta)
+        }
+    }
 }
 
 /// Where the spectral weights stand: behind those of the three directions, in full mode.
@@ -152,4 +181,49 @@ fn next_residual(
     let sample = cube.sample(settings.band, y, x);
     learn(settings, t, weights, &prediction, sample);
     settings.range.residual_of(prediction.scaled, sample)
+}
+
+/// The sample of a mapped residual at the first place of a band.
+fn first_sample(settings: &Settings, cube: &Cube, y: u32, x: u32, delta: u16) -> i32
+    requires kind { cube.now.kind ≡ settings.now.range.kind }
+    requires columns { cube.now.shape.columns ≡ settings.now.columns }
+    requires place { IsPlace cube.now.shape settings.now.band y x }
+    requires first { 0 ≡ y * cube.now.shape.columns + x }
+    requires residual { delta < 2 ^ cube.now.kind.bits }
+    ensures range { IsSample cube.now.kind result }
+    ensures inverse { mapped cube.now.kind (first_prediction settings.now.predictor (put cube.now settings.now.band y x result) settings.now.band) result ≡ delta }
+{
+    cube.is_whole();
+    let scaled = first_scaled(settings, cube);
+    settings.range.sample_of(scaled, delta)
+}
+
+/// The sample of a mapped residual at place `t`, not the first of a band, and the weights after it.
+fn next_sample(
+    settings: &Settings,
+    cube: &Cube,
+    y: u32,
+    x: u32,
+    t: u64,
+    weights: &mut [i32; 18],
+    delta: u16,
+) -> i32
+    requires columns { cube.now.shape.columns ≡ settings.now.columns }
+    requires kind { cube.now.kind ≡ settings.now.range.kind }
+    requires place { IsPlace cube.now.shape settings.now.band y x }
+    requires t_is { t ≡ y * cube.now.shape.columns + x }
+    requires t_in { t < 2 ^ 32 }
+    requires later { 0 < t }
+    requires weights_in { AllWithin (2 ^ 21) weights.old }
+    requires residual { delta < 2 ^ cube.now.kind.bits }
+    ensures range { IsSample cube.now.kind result }
+    ensures inverse { mapped cube.now.kind (scaled_there settings.now.predictor (put cube.now settings.now.band y x result) settings.now.band y x (take (component_count settings.now.predictor settings.now.band) weights.old)) result ≡ delta }
+    ensures weights { take (component_count settings.now.predictor settings.now.band) weights.new ≡ next_weights settings.now.predictor (put cube.now settings.now.band y x result) settings.now.band t (take (component_count settings.now.predictor settings.now.band) weights.old) }
+    ensures bound { AllWithin (2 ^ 21) weights.new }
+{
+    cube.is_whole();
+    let prediction = predict(settings, cube, y, x, weights);
+    let sample = settings.range.sample_of(prediction.scaled, delta);
+    learn(settings, t, weights, &prediction, sample);
+    sample
 }

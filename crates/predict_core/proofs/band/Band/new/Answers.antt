@@ -1,7 +1,7 @@
 use Rattle.std.proofs.Common.{◌∙◌, ap, sym, refl, arith}
 use Rattle.predict_core.specs.Predictor.{predictor_of, component_count}
 use Rattle.predict_core.specs.declared.predictor.Predictor.{Predictor}
-use Rattle.predict_core.proofs.Starting.{start_is, count_is}
+use Rattle.predict_core.proofs.Starting.{start_is, count_is, usual_by_law}
 use Rattle.predict_core.proofs.band.Band.new.Goals as goal
 
 pub invariant_of-result : goal.invariant_of-result
@@ -11,7 +11,7 @@ invariant_of-result c = record {
   inside = c.requires.band;
   used =
       rw c.min-previous.ensures
-      (count_is (predictor_of c.args.params.now) c.args.z c.first_spectral-first.result c.first_spectral-first.ensures.value ∙ ap (λ (q : Predictor). component_count q c.args.z) (sym c.of-predictor.ensures));
+      (count_is (predictor_of c.args.params.now) c.args.z c.first_spectral-first.result c.first_spectral-first.ensures.value ∙ ap (λ (q : Predictor). component_count q c.args.z) (sym c.of-predictor.ensures.value));
   bounded = c.usual_start.ensures.bound;
 }
 
@@ -20,9 +20,9 @@ returns-clause-made c = (
   refl,
   refl,
   λ d. record {
-    made = record { predictor = c.of-predictor.ensures; shape = refl; kind = c.of.ensures };
+    made = record { predictor = c.of-predictor.ensures.value; shape = refl; kind = c.of.ensures };
     weights =
         rw c.min-previous.ensures
-        (start_is c.args.params.now d c.args.z (predictor_of c.args.params.now) refl c.requires.lawful.start c.usual_start.result c.first_spectral-first.result _ c.first_spectral-first.ensures.value (rw c.min-previous.ensures at c.usual_start.ensures.value));
+        (start_is c.args.params.now d c.args.z (predictor_of c.args.params.now) refl (usual_by_law c.args.params.now c.requires.lawful) c.usual_start.result c.first_spectral-first.result _ c.first_spectral-first.ensures.value (rw c.min-previous.ensures at c.usual_start.ensures.value));
   },
 )

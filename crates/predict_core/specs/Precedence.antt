@@ -1,0 +1,45 @@
+-- What a prediction reads: places that come before it, in each encoding order.
+use Rattle.std.specs.Prelude.{ℕ, ◌≡◌, ◌+◌, ◌*◌, ◌<◌, ◌≤◌, ◌⊎◌, false}
+use Rattle.header_bits.specs.declared.params.Params.{Params}
+use Rattle.cube_core.specs.declared.order.Order.{Order}
+use Rattle.cube_core.specs.declared.order.Place.{Place}
+use Rattle.cube_core.specs.Image.{Image, IsPlace, sample_at}
+use Rattle.cube_core.specs.Order.{place_key, IsBefore}
+use Rattle.predict_core.specs.Predictor.{predictor_of}
+use Rattle.predict_core.specs.LocalSum.{local_sum}
+use Rattle.predict_core.specs.Differences.{difference_vector}
+use Rattle.predict_core.specs.Prediction.{weight_vector, scaled_prediction}
+
+-- two images of one shape and kind
+pub record AreAlike (c d : Image) : Type 0 where
+  pub shape : c.shape ≡ d.shape
+  pub kind : c.kind ≡ d.kind
+
+-- place t' of band z' is at or below place t of band z, and is not it
+abbrev pub IsEarlier : ℕ → ℕ → ℕ → ℕ → Type 0
+IsEarlier z t z' t' = ((z' < z) × (t' ≤ t)) ⊎ ((z' ≡ z) × (t' < t))
+
+-- two images that are one at each such place
+pub record Agree (c d : Image) (z t : ℕ) : Type 0 where
+  pub alike : AreAlike c d
+  pub samples : (z' y' x' : ℕ) → IsPlace c.shape z' y' x' → IsEarlier z t z' (y' * c.shape.columns + x') → sample_at c z' y' x' ≡ sample_at d z' y' x'
+
+-- two images that are one at each place that comes before one in an order
+abbrev pub AgreeBefore : Order → Image → Image → Place → Type 0
+AgreeBefore order c d place =
+    (earlier : Place) → IsPlace c.shape earlier.z earlier.y earlier.x → IsBefore (place_key order earlier) (place_key order place)
+    → sample_at c earlier.z earlier.y earlier.x ≡ sample_at d earlier.z earlier.y earlier.x
+
+-- what is predicted at place t of band z, and from what, is the same for two images
+pub record PredictAlike (p : Params) (c d : Image) (z y x t : ℕ) : Type 0 where
+  pub sum : 0 < t → local_sum (predictor_of p) c z y x ≡ local_sum (predictor_of p) d z y x
+  pub differences : 0 < t → difference_vector (predictor_of p) c z y x ≡ difference_vector (predictor_of p) d z y x
+  pub weights : weight_vector p c z t ≡ weight_vector p d z t
+  pub scaled : scaled_prediction p c z t ≡ scaled_prediction p d z t
+
+-- Whatever stands at a place and after it, in any order, changes nothing that is read there.
+abbrev pub PlacesPrecede : Type 0
+PlacesPrecede =
+    (p : Params) (order : Order) (c d : Image) (place : Place) → (p.column ≡ false → 2 ≤ c.shape.columns) → AreAlike c d
+    → IsPlace c.shape place.z place.y place.x → AgreeBefore order c d place
+    → PredictAlike p c d place.z place.y place.x (place.y * c.shape.columns + place.x)
