@@ -1,5 +1,6 @@
 pub mod Chosen
 pub mod Everything
+pub mod Laws
 pub mod Options
 pub mod Reading
 pub mod Rows

@@ -1,7 +1,11 @@
 //! The block-adaptive entropy coder, both ways (CCSDS 121.0-B, as an entropy coder of CCSDS 123.0-B-1).
 #![tactic(auto)]
 
+pub mod choice;
 mod found;
+pub mod laws;
 pub mod options;
+mod pairs;
+mod texts;
 pub mod worked;
 pub mod worked_refusals;
