@@ -70,7 +70,7 @@ text_is_fine s size left b bs pos h = pick s size left b bs pos h (zero_blocks l
 
 -- ---- all texts
 
-rest_least : (r n i : ℕ) → 1 ≤ r → i < n → 1 ≤ segment_rest r n i
+pub rest_least : (r n i : ℕ) → 1 ≤ r → i < n → 1 ≤ segment_rest r n i
 unfolding segment_rest
 rest_least r n i hr hi = omega (arith, mod-lt (i % r) {m = 64} (lit< tt), mod_below i r hr)
 

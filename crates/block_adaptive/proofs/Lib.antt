@@ -10,3 +10,4 @@ pub mod Fronts
 pub mod Each
 pub mod Twos
 pub mod Streaming
+pub mod Handed

@@ -168,3 +168,24 @@ pub(crate) fn text(
         Ok(Found::Block(Choice::Split(k)))
     }
 }
+
+/// Reads one lawful text, where so many blocks are left in the segment. The values of a block are written.
+///
+/// The refusal is that of the first part of the text that isn't lawful, and names the block.
+pub(crate) fn read_text(
+    reader: &mut BitReader,
+    block: u64,
+    set: &CodeSet,
+    left: u32,
+    values: &mut [u16],
+) -> Result<Found, Fault>
+    requires bits { set.now.bits ≤ 16 }
+    requires left { (1 ≤ left) × (left ≤ 64) }
+    requires even { length values.old % 2 ≡ 0 }
+    ensures read { Reads (told values.new) result reader.new.left (text_at (site_of reader.old block) set.now (length values.old) left reader.old.left) }
+    ensures found { IfOk result (λ found. (reader.old.left ≡ spelled set.now (told values.new found) ++ reader.new.left) × IsText set.now (length values.old) left (told values.new found)) }
+    ensures none { IfErr result (λ _. (t : Text) (rest : List Bool) → IsText set.now (length values.old) left t → reader.old.left ≡ spelled set.now t ++ rest → ⊥) }
+    ensures count { reader.new.count ≡ reader.old.count }
+{
+    text(reader, block, set, left, values)
+}
