@@ -1,8 +1,12 @@
 pub mod Chosen
 pub mod Everything
+pub mod Given
+pub mod Holding
+pub mod Laws
 pub mod Options
 pub mod Reading
 pub mod Rows
 pub mod Segments
 pub mod Texts
+pub mod Settings
 pub mod Told

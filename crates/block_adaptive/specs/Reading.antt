@@ -3,6 +3,7 @@ use Rattle.std.specs.Prelude.{ℕ, zero, suc, ◌+◌, ◌-◌, ◌*◌, ◌/◌
 use Rattle.cube_core.specs.declared.fault.Fault.{Fault}
 use Rattle.cube_core.specs.declared.fault.Fault.TheVariants.{BadOption, RunPastSegment}
 use Rattle.cube_core.specs.Steps.{◌>>=◌}
+use Rattle.header_bits.specs.Bits.{Unread}
 use Rattle.header_bits.specs.Reading.{Reading, number_at, zeros_at}
 use Rattle.block_adaptive.specs.declared.options.CodeSet.{CodeSet}
 use Rattle.block_adaptive.specs.declared.options.Choice.{Choice}
@@ -14,6 +15,10 @@ use Rattle.block_adaptive.specs.Texts.{Text, Block, Run, Rest, Cut, cut_of, left
 pub record Site : Type 0 where
   pub count : ℕ
   pub block : ℕ
+
+-- the site of a reader at a block
+abbrev pub site_of : Unread → ℕ → Site
+site_of reader block = record { count = reader.count; block = block }
 
 -- a fundamental sequence of so many zeros at most
 unfoldable pub fundamental_at : Site → ℕ → Reading ℕ
@@ -50,11 +55,11 @@ split_at s k most n bits = do
   lows_at s k most qs.0 qs.1
 
 -- n numbers of so many bits
-unfoldable pub words_at : Site → ℕ → ℕ → Reading (List ℕ)
-words_at s depth zero bits = Ok ([], bits)
-words_at s depth (suc n) bits = do
-  v ← number_at s.count depth bits
-  vs ← words_at s depth n v.1
+unfoldable pub words_at : ℕ → ℕ → ℕ → Reading (List ℕ)
+words_at count depth zero bits = Ok ([], bits)
+words_at count depth (suc n) bits = do
+  v ← number_at count depth bits
+  vs ← words_at count depth n v.1
   Ok (v.0 ∷ vs.0, vs.1)
 
 -- the greatest number up to n that passes the test, or 0
@@ -98,7 +103,7 @@ unfoldable pub text_at : Site → CodeSet → ℕ → ℕ → Reading Text
 text_at s set size left bits = do
   n ← number_at s.count (width set) bits
   if n.0 == 0 then (number_at s.count 1 n.1 >>= λ more. if more.0 == 0 then run_at s left more.1 else block_read Second (pairs_at s (greatest_value set) (size / 2) more.1))
-      else if n.0 == 2 ^ width set - 1 then block_read Uncoded (words_at s set.bits size n.1)
+      else if n.0 == 2 ^ width set - 1 then block_read Uncoded (words_at s.count set.bits size n.1)
       else block_read (Split (n.0 - 1)) (split_at s (n.0 - 1) (greatest_value set) size n.1)
 
 -- the texts from block i to the last, n texts at most

@@ -1,7 +1,13 @@
 //! The block-adaptive entropy coder, both ways (CCSDS 121.0-B, as an entropy coder of CCSDS 123.0-B-1).
 #![tactic(auto)]
 
+pub mod block_reader;
+pub mod choice;
 mod found;
+pub mod laws;
 pub mod options;
+mod pairs;
+mod segments;
+mod texts;
 pub mod worked;
 pub mod worked_refusals;

@@ -1,0 +1,172 @@
+-- What a reader has in hand.
+use Rattle.std.proofs.Common.{◌≡◌, ℕ, zero, suc, ◌+◌, ◌-◌, ◌*◌, ◌<◌, ◌≤◌, Bool, List, [], ◌∷◌, ◌++◌, length, take, drop, replicate, None, Ok, ◌/◌, ◌%◌, inl, inr, refl, sym, ap, ◌∙◌, arith, append_assoc, get_or, add-one, drop-cons}
+use Rattle.std.proofs.lemmas.List.{append-nil, get_or-take, length-append, length-take, length-drop, length-replicate, drop_all}
+use Rattle.std.proofs.lemmas.Nat.{mul-le}
+use Rattle.header_bits.specs.Bits.{Unread}
+use Rattle.header_bits.proofs.Reading.{ok_is}
+use Rattle.header_bits.proofs.Fronts.{bind_ok}
+use Rattle.block_adaptive.specs.declared.options.CodeSet.{CodeSet}
+use Rattle.block_adaptive.specs.Segments.{segment_rest}
+use Rattle.block_adaptive.specs.Settings.{IsSize, IsCut}
+use Rattle.block_adaptive.specs.Holding.{AreParts}
+use Rattle.block_adaptive.specs.Reading.{site_of, text_at}
+use Rattle.block_adaptive.proofs.Lawful.{rest_least}
+use Rattle.block_adaptive.proofs.Taken.{text_is_taken}
+use Rattle.block_adaptive.specs.Texts.{Text, Run, Rest, Cut, IsText, AreTexts, left_at, blocks_in, blocks_of, blocks_told, values_of, spelled, spelling}
+use Rattle.block_adaptive.specs.Given.{Unpacked, HasGiven, GivesFirst, GivesNext, holding, next_text}
+
+-- of the values up to the size nothing stands behind them
+pub nothing_behind : (size : ℕ) (values : List ℕ) → drop size (take size values) ≡ []
+nothing_behind size values = drop_all size (take size values) (omega (arith, length-take size values))
+
+pub nothing_held : (v : Unpacked) → v.block ≡ 0 → v.held ≡ [] → v.refused ≡ None → HasGiven v [] []
+unfolding AreTexts blocks_told
+nothing_held v at_start none working = record { texts = []; lawful = sym at_start; text = refl; told = sym none; working = working }
+
+abbrev pub zeros : ℕ → List ℕ
+zeros n = replicate n 0
+
+append_zeros : (m n : ℕ) → zeros m ++ zeros n ≡ zeros (m + n)
+append_zeros zero n = (let e : 0 + n ≡ n = omega arith in rw e refl)
+append_zeros (suc m) n = (let e : suc m + n ≡ suc (m + n) = omega arith in rw (e, append_zeros m n) refl)
+
+-- the values of blocks of zeros
+pub values_of_zeros : (n size : ℕ) → values_of (replicate n (zeros size)) ≡ zeros (n * size)
+values_of_zeros zero size = (let e : 0 * size ≡ 0 = omega arith in rw e refl)
+values_of_zeros (suc n) size =
+    let e : size + n * size ≡ suc n * size = omega arith in
+    ap (λ (vs : List ℕ). zeros size ++ vs) (values_of_zeros n size) ∙ append_zeros size (n * size) ∙ ap zeros e
+
+-- zero blocks in hand
+pub run_in_hand : (n size : ℕ) (values : List ℕ) → values_of (replicate n (zeros size)) ≡ drop size (take size values) ++ zeros (n * size)
+run_in_hand n size values = rw (nothing_behind size values) (values_of_zeros n size)
+
+-- ---- one value given
+
+pub first_in_hand : (size i spare : ℕ) (values : List ℕ) → i < size → size ≤ length values → drop i (take size values) ++ zeros spare ≡ get_or values i 0 ∷ (drop (i + 1) (take size values) ++ zeros spare)
+first_in_hand size i spare values lt le =
+    let inside : i < length (take size values) = omega (arith, length-take size values) in
+    let same : get_or (take size values) i 0 ≡ get_or values i 0 = get_or-take size values i 0 lt in
+    ap (λ (vs : List ℕ). vs ++ zeros spare) (drop-cons (take size values) i 0 inside) ∙ rw (add-one, same) refl
+
+-- ---- sizes
+
+pub size_most : (size : ℕ) → IsSize size → size ≤ 64
+size_most size (inl e) = omega arith
+size_most size (inr (inl e)) = omega arith
+size_most size (inr (inr (inl e))) = omega arith
+size_most size (inr (inr (inr e))) = omega arith
+
+pub size_least : (size : ℕ) → IsSize size → 8 ≤ size
+size_least size (inl e) = omega arith
+size_least size (inr (inl e)) = omega arith
+size_least size (inr (inr (inl e))) = omega arith
+size_least size (inr (inr (inr e))) = omega arith
+
+pub size_halved : (size : ℕ) → IsSize size → 2 * (size / 2) ≡ size
+size_halved size (inl e) = omega arith
+size_halved size (inr (inl e)) = omega arith
+size_halved size (inr (inr (inl e))) = omega arith
+size_halved size (inr (inr (inr e))) = omega arith
+
+pub size_even : (size : ℕ) → IsSize size → size % 2 ≡ 0
+size_even size h = omega (arith, size_halved size h)
+
+pub taken_size : (size : ℕ) (values : List ℕ) → size ≤ 64 → length values ≡ 64 → length (take size values) ≡ size
+taken_size size values le len = omega (arith, length-take size values)
+
+pub rest_most : (c : Cut) (i : ℕ) → left_at c i ≤ c.count - i
+unfolding segment_rest
+rest_most c i = omega arith
+
+pub in_hand_length : (size i spare : ℕ) (values : List ℕ) → size ≤ 64 → length values ≡ 64 → i ≤ size → length (drop i (take size values) ++ zeros spare) ≡ size - i + spare
+in_hand_length size i spare values le len inside =
+    omega (arith, length-append (drop i (take size values)) (zeros spare), length-drop i (take size values), taken_size size values le len, length-replicate {A = ℕ} spare 0)
+
+-- a run in hand keeps the parts in range
+pub run_parts : (c : Cut) (i given counted n : ℕ) → AreParts c i given counted → n ≤ left_at c i → left_at c i ≤ 64 → AreParts c (i + n) c.size (n * c.size)
+run_parts c i given counted n h le most = record {
+  cut = h.cut;
+  block = omega (arith, rest_most c i, h.block);
+  inside = omega arith;
+  one = inl refl;
+  few = (let p = mul-le n c.size 64 64 (omega arith) (size_most c.size h.cut.size) in omega arith);
+}
+
+-- ---- texts in hand
+
+pub run_held : (v : Unpacked) (reader : Unread) (n : ℕ) (values : List ℕ) (left : List Bool) → text_at (site_of reader v.block) v.cut.set v.cut.size (left_at v.cut v.block) reader.left ≡ Ok (Run n, left)
+    → next_text v reader ≡ Ok (record v { block = v.block + n; held = drop v.cut.size (take v.cut.size values) ++ zeros (n * v.cut.size) }, left)
+run_held v reader n values left e = rw e (ap (λ (held : List ℕ). Ok (record v { block = v.block + n; held = held }, left)) (run_in_hand n v.cut.size values))
+
+pub rest_held : (v : Unpacked) (reader : Unread) (values : List ℕ) (left : List Bool) → text_at (site_of reader v.block) v.cut.set v.cut.size (left_at v.cut v.block) reader.left ≡ Ok (Rest, left)
+    → next_text v reader ≡ Ok (record v { block = v.block + left_at v.cut v.block; held = drop v.cut.size (take v.cut.size values) ++ zeros (left_at v.cut v.block * v.cut.size) }, left)
+rest_held v reader values left e = rw e (ap (λ (held : List ℕ). Ok (record v { block = v.block + left_at v.cut v.block; held = held }, left)) (run_in_hand (left_at v.cut v.block) v.cut.size values))
+
+-- ---- one text more
+
+pub texts_push : (c : Cut) (i j : ℕ) (texts : List Text) (t : Text) → AreTexts c i texts j → IsText c.set c.size (left_at c j) t → AreTexts c i (texts ++ t ∷ []) (j + blocks_in (left_at c j) t)
+unfolding AreTexts
+texts_push c i j [] t h lawful = rw h (lawful, refl)
+texts_push c i j (u ∷ texts) t h lawful = (h.0, texts_push c (i + blocks_in (left_at c i) u) j texts t h.1 lawful)
+
+pub told_push : (c : Cut) (i j : ℕ) (texts : List Text) (t : Text) → AreTexts c i texts j → blocks_told c i (texts ++ t ∷ []) ≡ blocks_told c i texts ++ blocks_of c.size (left_at c j) t
+unfolding AreTexts blocks_told
+told_push c i j [] t h = rw h (append-nil (blocks_of c.size (left_at c j) t))
+told_push c i j (u ∷ texts) t h =
+    ap (λ (bs : List (List ℕ)). blocks_of c.size (left_at c i) u ++ bs) (told_push c (i + blocks_in (left_at c i) u) j texts t h.1)
+    ∙ sym (append_assoc (blocks_of c.size (left_at c i) u) (blocks_told c (i + blocks_in (left_at c i) u) texts) (blocks_of c.size (left_at c j) t))
+
+pub values_append : (a b : List (List ℕ)) → values_of (a ++ b) ≡ values_of a ++ values_of b
+values_append [] b = refl
+values_append (x ∷ a) b = ap (λ (vs : List ℕ). x ++ vs) (values_append a b) ∙ sym (append_assoc x (values_of a) (values_of b))
+
+pub spelling_push : (s : CodeSet) (texts : List Text) (t : Text) → spelling s (texts ++ t ∷ []) ≡ spelling s texts ++ spelled s t
+spelling_push s [] t = append-nil (spelled s t)
+spelling_push s (u ∷ texts) t = ap (λ (bs : List Bool). spelled s u ++ bs) (spelling_push s texts t) ∙ sym (append_assoc (spelled s u) (spelling s texts) (spelled s t))
+
+-- ---- what was given
+
+pub value_given : (v new : Unpacked) (given : List ℕ) (bits : List Bool) (value : ℕ) → HasGiven v given bits → GivesFirst v value new → HasGiven new (given ++ value ∷ []) bits
+value_given v new given bits value h first =
+    let is : given ++ v.held ≡ (given ++ value ∷ []) ++ new.held = ap (λ (held : List ℕ). given ++ held) first.0 ∙ sym (append_assoc given (value ∷ []) new.held) in
+    rw first.1 (record { texts = h.texts; lawful = h.lawful; text = h.text; told = h.told ∙ is; working = h.working })
+
+pub text_given : (v : Unpacked) (reader : Unread) (given : List ℕ) (bits left : List Bool) (t : Text) → IsCut v.cut → v.block < v.cut.count → v.held ≡ [] → HasGiven v given bits
+    → text_at (site_of reader v.block) v.cut.set v.cut.size (left_at v.cut v.block) reader.left ≡ Ok (t, left) → (reader.left ≡ spelled v.cut.set t ++ left) × HasGiven (holding v t) given (bits ++ spelled v.cut.set t)
+text_given v reader given bits left t cut more none h e =
+    let half = size_halved v.cut.size cut.size in
+    let pos = rest_least v.cut.reference v.cut.count v.block cut.reference.0 more in
+    let found = text_is_taken (site_of reader v.block) v.cut.set (v.cut.size / 2) (left_at v.cut v.block) t reader.left left pos (rw half e) in
+    let lawful : IsText v.cut.set v.cut.size (left_at v.cut v.block) t = rw half at found.1 in (
+      found.0,
+      record {
+        texts = h.texts ++ t ∷ [];
+        lawful = texts_push v.cut 0 v.block h.texts t h.lawful lawful;
+        text = ap (λ (bs : List Bool). bs ++ spelled v.cut.set t) h.text ∙ sym (spelling_push v.cut.set h.texts t);
+        told = ap values_of (told_push v.cut 0 v.block h.texts t h.lawful) ∙ values_append (blocks_told v.cut 0 h.texts) (blocks_of v.cut.size (left_at v.cut v.block) t)
+            ∙ ap (λ (vs : List ℕ). vs ++ values_of (blocks_of v.cut.size (left_at v.cut v.block) t)) (h.told ∙ ap (λ (held : List ℕ). given ++ held) none ∙ append-nil given);
+        working = h.working;
+      },
+    )
+
+-- the next number, where a text was taken
+pub next_given : (v held new : Unpacked) (reader : Unread) (left : List Bool) (value : ℕ) → IsCut v.cut → v.block < v.cut.count → v.held ≡ [] → next_text v reader ≡ Ok (held, left) → GivesFirst held value new → GivesNext v reader (Ok value) new left
+next_given v held new reader left value cut more none e first = λ given bits h.
+    let a = bind_ok (text_at (site_of reader v.block) v.cut.set v.cut.size (left_at v.cut v.block) reader.left) (λ t. Ok (holding v t.0, t.1)) (held, left) e in
+    let same = ok_is (holding v a.0.0, a.0.1) (held, left) a.2 in
+    let is : holding v a.0.0 ≡ held = ap (λ (x : Unpacked × List Bool). x.0) same in
+    let rest : a.0.1 ≡ left = ap (λ (x : Unpacked × List Bool). x.1) same in
+    let taken = text_given v reader given bits a.0.1 a.0.0 cut more none h a.1 in
+    (spelled v.cut.set a.0.0, taken.0 ∙ ap (λ (bs : List Bool). spelled v.cut.set a.0.0 ++ bs) rest, value_given held new given (bits ++ spelled v.cut.set a.0.0) value (rw is at taken.1) first)
+
+-- the next number, where one was in hand
+pub held_given : (v new : Unpacked) (reader : Unread) (value : ℕ) → GivesFirst v value new → GivesNext v reader (Ok value) new reader.left
+held_given v new reader value first = λ given bits h.
+    ([], refl, rw (append-nil bits) (value_given v new given bits value h first))
+
+pub put_back : (v w : Unpacked) (held : List ℕ) → v ≡ w → record v { held = held } ≡ record w { held = held }
+put_back v w held e = ap (λ (u : Unpacked). record u { held = held }) e
+
+pub empty_hand : (size i spare : ℕ) (values : List ℕ) → i ≡ size → spare ≡ 0 → drop i (take size values) ++ zeros spare ≡ []
+empty_hand size i spare values e f = rw (e, f, nothing_behind size values) refl

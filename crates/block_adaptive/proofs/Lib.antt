@@ -1,0 +1,13 @@
+pub mod Codes
+pub mod Triangles
+pub mod Again
+pub mod Costs
+pub mod Least
+pub mod Lawful
+pub mod Takes
+pub mod Taken
+pub mod Fronts
+pub mod Each
+pub mod Twos
+pub mod Streaming
+pub mod Handed

@@ -1,0 +1,116 @@
+-- The chosen texts, block after block, as a writer sees them.
+use Rattle.std.proofs.Common.{◌≡◌, ℕ, zero, suc, ◌+◌, ◌<◌, ◌≤◌, Bool, true, false, cond, eqb, leb, ◌&&◌, List, [], ◌∷◌, ◌++◌, length, drop, replicate, refl, sym, ap, ◌∙◌, arith, append_assoc, eq-eqb}
+use Rattle.std.proofs.lemmas.Bool.{eqb-true, eqb-false}
+use Rattle.std.proofs.lemmas.Bool.Decides.{nat_tests}
+use Rattle.std.proofs.lemmas.List.{length-drop, length-replicate, drop_at, length-append}
+use Rattle.block_adaptive.specs.declared.options.CodeSet.{CodeSet}
+use Rattle.block_adaptive.specs.Segments.{segment_rest}
+use Rattle.block_adaptive.specs.Texts.{Text, Block, Run, Rest, Cut, blocks_in, spelled, spelling}
+use Rattle.block_adaptive.specs.Chosen.{chosen_option, is_zero, zero_blocks, text_of, chosen_from}
+
+ne-eqb : (a b : ℕ) → (a ≡ b → ⊥) → eqb a b ≡ false
+ne-eqb a b h = grind (arith, nat_tests)
+
+-- a text stands for a block or more
+text_least : (s : CodeSet) (left : ℕ) (b : List ℕ) (bs : List (List ℕ)) → 1 ≤ blocks_in left (text_of s left b bs)
+text_least s left b bs = go (zero_blocks left (b ∷ bs)) (eqb (zero_blocks left (b ∷ bs)) 0) (eqb (zero_blocks left (b ∷ bs)) left) (leb 5 (zero_blocks left (b ∷ bs))) refl refl
+  where
+    go : (k : ℕ) (d e f : Bool) → eqb k 0 ≡ d → eqb k left ≡ e → 1 ≤ blocks_in left (cond d (Block (chosen_option s b) b) (cond (e && f) Rest (Run k)))
+    go k true e f p q = omega arith
+    go k false true true p q = (let h : k ≡ 0 → ⊥ = eqb-false k 0 p in let g : k ≡ left = eqb-true k left q in omega arith)
+    go k false true false p q = (let h : k ≡ 0 → ⊥ = eqb-false k 0 p in omega arith)
+    go k false false f p q = (let h : k ≡ 0 → ⊥ = eqb-false k 0 p in omega arith)
+
+-- the number of texts that may come doesn't matter, once it is enough
+pub enough : (c : Cut) (n m i : ℕ) (bs : List (List ℕ)) → length bs ≤ n → length bs ≤ m → chosen_from c n i bs ≡ chosen_from c m i bs
+unfolding chosen_from
+enough c zero zero i bs h k = refl
+enough c zero (suc m) i [] h k = refl
+enough c zero (suc m) i (b ∷ bs) h k = absurd (omega arith)
+enough c (suc n) zero i [] h k = refl
+enough c (suc n) zero i (b ∷ bs) h k = absurd (omega arith)
+enough c (suc n) (suc m) i [] h k = refl
+enough c (suc n) (suc m) i (b ∷ bs) h k =
+    let left : ℕ = segment_rest c.reference c.count i in
+    let t : Text = text_of c.set left b bs in
+    let some = text_least c.set left b bs in
+    let len = length-drop (blocks_in left t) (b ∷ bs) in
+    ap (λ (ts : List Text). t ∷ ts) (enough c n m (i + blocks_in left t) (drop (blocks_in left t) (b ∷ bs)) (omega arith) (omega arith))
+
+zero_is : (size : ℕ) → is_zero (replicate size 0) ≡ true
+zero_is zero = refl
+zero_is (suc size) = zero_is size
+
+-- ---- runs
+
+pub run_broken : (size left z : ℕ) (x : List ℕ) (bs : List (List ℕ)) → is_zero x ≡ false → z ≤ left → zero_blocks left (replicate z (replicate size 0) ++ x ∷ bs) ≡ z
+run_broken size zero z x bs h le = omega arith
+run_broken size (suc left) zero x bs h le = rw h refl
+run_broken size (suc left) (suc z) x bs h le = rw (zero_is size, run_broken size left z x bs h (omega arith)) refl
+
+pub run_whole : (size left : ℕ) (bs : List (List ℕ)) → zero_blocks left (replicate left (replicate size 0) ++ bs) ≡ left
+run_whole size zero bs = refl
+run_whole size (suc left) bs = rw (zero_is size, run_whole size left bs) refl
+
+-- a block that isn't zeros is written at once
+pub block_next : (c : Cut) (n i : ℕ) (x : List ℕ) (bs : List (List ℕ)) → 1 ≤ segment_rest c.reference c.count i → is_zero x ≡ false → chosen_from c (suc n) i (x ∷ bs) ≡ Block (chosen_option c.set x) x ∷ chosen_from c n (i + 1) bs
+unfolding chosen_from
+block_next c n i x bs pos h =
+    let none : zero_blocks (segment_rest c.reference c.count i) (x ∷ bs) ≡ 0 = run_broken 0 (segment_rest c.reference c.count i) 0 x bs h (omega arith) in
+    rw none refl
+
+-- zeros before it, fewer than the segment's rest, are a run
+pub run_next : (c : Cut) (n i z : ℕ) (x : List ℕ) (bs : List (List ℕ)) → suc z < segment_rest c.reference c.count i → is_zero x ≡ false
+    → chosen_from c (suc n) i (replicate (suc z) (replicate c.size 0) ++ x ∷ bs) ≡ Run (suc z) ∷ chosen_from c n (i + suc z) (x ∷ bs)
+unfolding chosen_from
+run_next c n i z x bs lt h =
+    let left : ℕ = segment_rest c.reference c.count i in
+    let k : zero_blocks left (replicate (suc z) (replicate c.size 0) ++ x ∷ bs) ≡ suc z = run_broken c.size left (suc z) x bs h (omega arith) in
+    let a : eqb (suc z) 0 ≡ false = ne-eqb _ _ (λ e. omega arith) in
+    let b : eqb (suc z) left ≡ false = ne-eqb _ _ (λ e. omega arith) in
+    rw (k, a, b, drop_at (replicate z (replicate c.size 0)) (x ∷ bs) z (length-replicate z (replicate c.size 0))) refl
+
+-- zeros up to the segment's end are a run
+pub run_to_end : (c : Cut) (n i z : ℕ) (bs : List (List ℕ)) → segment_rest c.reference c.count i ≡ suc z
+    → chosen_from c (suc n) i (replicate (suc z) (replicate c.size 0) ++ bs) ≡ cond (leb 5 (suc z)) Rest (Run (suc z)) ∷ chosen_from c n (i + suc z) bs
+unfolding chosen_from
+run_to_end c n i z bs is =
+    let k = run_whole c.size (suc z) bs in
+    let a : eqb (suc z) 0 ≡ false = ne-eqb _ _ (λ e. omega arith) in
+    let b : eqb (suc z) (suc z) ≡ true = eq-eqb (suc z) (suc z) refl in
+    rw (is, k, a, b) (go (leb 5 (suc z)))
+  where
+    go : (f : Bool) → cond f Rest (Run (suc z)) ∷ chosen_from c n (i + blocks_in (suc z) (cond f Rest (Run (suc z)))) (drop (blocks_in (suc z) (cond f Rest (Run (suc z)))) (replicate (suc z) (replicate c.size 0) ++ bs)) ≡ cond f Rest (Run (suc z)) ∷ chosen_from c n (i + suc z) bs
+    go true = rw (drop_at (replicate z (replicate c.size 0)) bs z (length-replicate z (replicate c.size 0))) refl
+    go false = rw (drop_at (replicate z (replicate c.size 0)) bs z (length-replicate z (replicate c.size 0))) refl
+
+-- ---- what a writer has taken: blocks, of which so many zeros are held back at the end, and the bits that it appended
+
+pub record HasTaken (c : Cut) (blocks : List (List ℕ)) (start zeros : ℕ) (bits : List Bool) : Type 0 where
+  pub place : length blocks ≡ start + zeros
+  pub goes_on : (future : List (List ℕ)) → length blocks + length future ≡ c.count
+      → spelling c.set (chosen_from c c.count 0 (blocks ++ future)) ≡ bits ++ spelling c.set (chosen_from c c.count start (replicate zeros (replicate c.size 0) ++ future))
+
+regroup : (a b d e : List Bool) → a ++ (b ++ (d ++ e)) ≡ (a ++ (b ++ d)) ++ e
+regroup a b d e = sym (simp append_assoc)
+
+pub nothing_taken : (c : Cut) → HasTaken c [] 0 0 []
+nothing_taken c = record { place = refl; goes_on = λ future len. refl }
+
+-- a block that isn't zeros, with a run before it
+pub takes_block : (c : Cut) (blocks : List (List ℕ)) (start z : ℕ) (bits : List Bool) (x : List ℕ) → HasTaken c blocks start (suc z) bits → is_zero x ≡ false → suc z < segment_rest c.reference c.count start → 1 ≤ segment_rest c.reference c.count (start + suc z)
+    → HasTaken c (blocks ++ x ∷ []) (start + suc z + 1) 0 (bits ++ (spelled c.set (Run (suc z)) ++ spelled c.set (Block (chosen_option c.set x) x)))
+takes_block c blocks start z bits x h other inside pos =
+    record {
+      place = omega (arith, length-append blocks (x ∷ []), h.place);
+      goes_on = λ future len.
+          let held : List (List ℕ) = replicate (suc z) (replicate c.size 0) ++ x ∷ future in
+          let same_length : length (blocks ++ x ∷ []) ≡ length blocks + 1 = length-append blocks (x ∷ []) in
+          let held-length : length held ≡ suc z + suc (length future) = length-append (replicate (suc z) (replicate c.size 0)) (x ∷ future) ∙ ap (λ (n : ℕ). n + suc (length future)) (length-replicate (suc z) (replicate c.size 0)) in
+          let all = h.goes_on (x ∷ future) (omega arith) in
+          let more = enough c c.count (suc (suc c.count)) start held (omega (arith, h.place)) (omega (arith, h.place)) in
+          let texts = more ∙ run_next c (suc c.count) start z x future inside other ∙ ap (λ (ts : List Text). Run (suc z) ∷ ts) (block_next c c.count (start + suc z) x future pos other) in
+          let told = all ∙ ap (λ (ts : List Text). bits ++ spelling c.set ts) texts in
+          let after : List Bool = spelling c.set (chosen_from c c.count (start + suc z + 1) future) in
+          ap (λ (bs : List (List ℕ)). spelling c.set (chosen_from c c.count 0 bs)) (append_assoc blocks (x ∷ []) future) ∙ told ∙ regroup bits (spelled c.set (Run (suc z))) (spelled c.set (Block (chosen_option c.set x) x)) after;
+    }

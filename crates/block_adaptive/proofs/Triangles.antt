@@ -1,0 +1,132 @@
+-- A pair is read as the pair that its number stands for.
+use Rattle.std.proofs.Common.{◌≡◌, ℕ, zero, suc, ◌+◌, ◌-◌, ◌*◌, ◌/◌, ◌<◌, ◌≤◌, Bool, true, false, leb, ltb, List, [], ◌∷◌, ◌++◌, length, Ok, refl, subst, inl, inr, append_assoc, arith, lit<}
+use Rattle.std.specs.List.{AllByRecursion}
+use Rattle.std.proofs.lemmas.Bool.{le-ltb, cases_lt}
+use Rattle.std.proofs.lemmas.Bool.Decides.{nat_tests}
+use Rattle.std.proofs.Math.Nat.{add-mul-div_right, mul-div_cancel}
+use Rattle.std.proofs.lemmas.Nat.{mul-le}
+use Rattle.block_adaptive.specs.Options.{pair_number, pair_codes}
+use Rattle.block_adaptive.specs.Reading.{Site, greatest, pair_sum, pair_of, pairs_at}
+use Rattle.block_adaptive.proofs.Codes.{fundamental_again}
+
+triangle : ℕ → ℕ
+triangle s = s * (s + 1) / 2
+
+pub triangle_step : (s : ℕ) → (s + 1) * (s + 1 + 1) / 2 ≡ s * (s + 1) / 2 + (s + 1)
+triangle_step s =
+    let e : (s + 1) * (s + 1 + 1) ≡ s * (s + 1) + (s + 1) * 2 = omega arith in
+    rw e (add-mul-div_right (s * (s + 1)) (s + 1) (lit< tt))
+
+-- what lies below t, by how much
+pub triangle_grows : (d s : ℕ) → s * (s + 1) / 2 + s < (s + 1 + d) * (s + 1 + d + 1) / 2
+triangle_grows zero s =
+    let e : s + 1 + 0 ≡ s + 1 = omega arith in
+    rw e (omega (arith, triangle_step s))
+triangle_grows (suc d) s =
+    let e : s + 1 + suc d ≡ (s + 1 + d) + 1 = omega arith in
+    rw e (omega (arith, triangle_step (s + 1 + d), triangle_grows d s))
+
+pub greatest_is : (f : ℕ → Bool) (n limit : ℕ) → n ≤ limit → f n ≡ true → ((m : ℕ) → n < m → f m ≡ false) → greatest f limit ≡ n
+unfolding greatest
+greatest_is f n zero le here above = omega arith
+greatest_is f n (suc limit) le here above =
+    elim (cases_lt n (suc limit)) [
+      | inl lt ↦ rw (above (suc limit) lt) (greatest_is f n limit (omega arith) here above)
+      | inr ge ↦ (let e : suc limit ≡ n = omega arith in rw (e, here) refl)
+    ]
+
+le-leb : (a b : ℕ) → a ≤ b → leb a b ≡ true
+le-leb a b h = grind (arith, nat_tests)
+
+lt-leb : (a b : ℕ) → b < a → leb a b ≡ false
+lt-leb a b h = grind (arith, nat_tests)
+
+pub pair_sum_is : (most a b : ℕ) → a ≤ most → b ≤ most → pair_sum most (pair_number a b) ≡ a + b
+unfolding pair_sum
+pair_sum_is most a b ha hb =
+    greatest_is (λ s. leb (s * (s + 1) / 2) (pair_number a b)) (a + b) (2 * most) (omega arith)
+    (le-leb _ _ (omega arith))
+    (λ m lt.
+    let d : ℕ = m - (a + b + 1) in
+    let e : a + b + 1 + d ≡ m = omega arith in
+    let grows : (a + b) * (a + b + 1) / 2 + (a + b) < m * (m + 1) / 2 = subst (λ (k : ℕ). (a + b) * (a + b + 1) / 2 + (a + b) < k * (k + 1) / 2) e (triangle_grows d (a + b)) in
+    lt-leb _ _ (omega arith))
+
+-- no pair in range has a greater number than the last
+pub pair_below : (most a b : ℕ) → a ≤ most → b ≤ most → pair_number a b ≤ 2 * most * (most + 1)
+pair_below most a b ha hb =
+    let whole : 2 * most * (2 * most + 1) / 2 ≡ most * (2 * most + 1) = (let e : 2 * most * (2 * most + 1) ≡ most * (2 * most + 1) * 2 = omega arith in rw e (mul-div_cancel (most * (2 * most + 1)) (lit< tt))) in
+    elim (cases_lt (a + b) (2 * most)) [
+      | inl lt ↦
+          (let d : ℕ = 2 * most - (a + b + 1) in
+          let e : a + b + 1 + d ≡ 2 * most = omega arith in
+          let grows : (a + b) * (a + b + 1) / 2 + (a + b) < 2 * most * (2 * most + 1) / 2 = subst (λ (k : ℕ). (a + b) * (a + b + 1) / 2 + (a + b) < k * (k + 1) / 2) e (triangle_grows d (a + b)) in
+          omega arith)
+      | inr ge ↦
+          (let e : a + b ≡ 2 * most = omega arith in
+          let f : b ≡ most = omega arith in
+          rw (e, whole, f) (omega arith))
+    ]
+
+pub pair_again : (site : Site) (most a b : ℕ) (rest : List Bool) → a ≤ most → b ≤ most → pair_of site most (pair_number a b) rest ≡ Ok ((a, b), rest)
+unfolding pair_of
+pair_again site most a b rest ha hb =
+    let b-is : pair_number a b - (a + b) * (a + b + 1) / 2 ≡ b = omega arith in
+    let a-is : a + b - b ≡ a = omega arith in
+    let b-in : ltb most b ≡ false = le-ltb _ _ hb in
+    let a-in : ltb most a ≡ false = le-ltb _ _ ha in
+    rw (pair_sum_is most a b ha hb, b-is, b-in, a-is, a-in) refl
+
+pub pairs_again : (site : Site) (most n : ℕ) (vs : List ℕ) (rest : List Bool) → length vs ≡ 2 * n → AllByRecursion (λ v. v ≤ most) vs → pairs_at site most n (pair_codes vs ++ rest) ≡ Ok (vs, rest)
+unfolding pairs_at pair_codes
+pairs_again site most zero [] rest len h = refl
+pairs_again site most zero (a ∷ vs) rest len h = absurd (omega arith)
+pairs_again site most (suc n) [] rest len h = absurd (omega arith)
+pairs_again site most (suc n) (a ∷ []) rest len h = absurd (omega arith)
+pairs_again site most (suc n) (a ∷ b ∷ vs) rest len h =
+    rw (append_assoc, fundamental_again site (2 * most * (most + 1)) (pair_number a b) (pair_codes vs ++ rest) (pair_below most a b h.0 h.1.0), pair_again site most a b (pair_codes vs ++ rest) h.0 h.1.0, pairs_again site most n vs rest (omega arith) h.1.1) refl
+
+-- ---- the sum, by a square root
+
+double_triangle : (s : ℕ) → s * (s + 1) / 2 * 2 ≡ s * (s + 1)
+double_triangle zero = refl
+double_triangle (suc s) =
+    let e : suc s ≡ s + 1 = omega arith in
+    rw e (omega (arith, triangle_step s, double_triangle s))
+
+pub record IsSum (most m s : ℕ) : Type 0 where
+  pub is : pair_sum most m ≡ s
+  pub under : s * (s + 1) / 2 ≤ m
+  pub bound : s ≤ 2 * most
+
+sum_between : (most m s : ℕ) → m ≤ 2 * most * (most + 1) → s * (s + 1) / 2 ≤ m → m < (s + 1) * (s + 1 + 1) / 2 → IsSum most m s
+unfolding pair_sum
+sum_between most m s le under over =
+    let within : s ≤ 2 * most = elim (cases_lt (2 * most) s) [
+      | inl lt ↦
+          (let d : ℕ = s - (2 * most + 1) in
+          let e : 2 * most + 1 + d ≡ s = omega arith in
+          let grows : 2 * most * (2 * most + 1) / 2 + 2 * most < s * (s + 1) / 2 = subst (λ (k : ℕ). 2 * most * (2 * most + 1) / 2 + 2 * most < k * (k + 1) / 2) e (triangle_grows d (2 * most)) in
+          absurd (omega (arith, double_triangle (2 * most))))
+      | inr ge ↦ omega arith
+    ] in
+    record {
+      is = greatest_is (λ k. leb (k * (k + 1) / 2) m) s (2 * most) within (le-leb _ _ under)
+          (λ k lt.
+          let d : ℕ = k - (s + 1) in
+          let e : s + 1 + d ≡ k = omega arith in
+          let grows : s * (s + 1) / 2 + s < k * (k + 1) / 2 = subst (λ (j : ℕ). s * (s + 1) / 2 + s < j * (j + 1) / 2) e (triangle_grows d s) in
+          lt-leb _ _ (omega (arith, triangle_step s)));
+      under = under;
+      bound = within;
+    }
+
+pub sum_of_root : (most m r : ℕ) → m ≤ 2 * most * (most + 1) → r * r ≤ 8 * m + 1 → 8 * m + 1 < (r + 1) * (r + 1) → IsSum most m ((r - 1) / 2)
+sum_of_root most m zero le low high = absurd (omega arith)
+sum_of_root most m (suc q) le low high =
+    let s : ℕ = (suc q - 1) / 2 in
+    let least : 2 * s + 1 ≤ suc q = omega arith in
+    let next : suc q + 1 ≤ 2 * s + 3 = omega arith in
+    let small = mul-le (2 * s + 1) (2 * s + 1) (suc q) (suc q) least least in
+    let large = mul-le (suc q + 1) (suc q + 1) (2 * s + 3) (2 * s + 3) next next in
+    sum_between most m s le (omega (arith, small, low, double_triangle s)) (omega (arith, large, high, double_triangle s, triangle_step s))

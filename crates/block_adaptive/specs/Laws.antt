@@ -1,0 +1,45 @@
+-- What holds of the definitions alone.
+use Rattle.std.specs.Prelude.{ℕ, ◌≡◌, ◌*◌, ◌^◌, ◌<◌, ◌≤◌, Bool, List, ◌++◌, length, Ok}
+use Rattle.std.specs.List.{AllByRecursion}
+use Rattle.block_adaptive.specs.declared.options.CodeSet.{CodeSet}
+use Rattle.block_adaptive.specs.Texts.{Text, spelled, IsText, Cut, AreTexts, blocks_told, IsBlockBody}
+use Rattle.block_adaptive.specs.Reading.{Site, text_at}
+use Rattle.block_adaptive.specs.Chosen.{IsChosen, chosen_option, chosen_from, chosen_block_body}
+
+-- two lawful texts of which one begins the other are one text; a block's size is even
+abbrev pub OneText : Type 0
+OneText =
+    (s : CodeSet) (half left : ℕ) (t u : Text) (x y : List Bool) → IsText s (2 * half) left t → IsText s (2 * half) left u
+    → spelled s t ++ x ≡ spelled s u ++ y → (t ≡ u) × (x ≡ y)
+
+-- no body of one list of numbers begins a body of another, as long
+abbrev pub OneBody : Type 0
+OneBody =
+    (s : CodeSet) (half reference : ℕ) (ms ns : List ℕ) (a b x y : List Bool) → 1 ≤ half → length ms ≡ length ns
+    → IsBlockBody s (2 * half) reference ms a → IsBlockBody s (2 * half) reference ns b → a ++ x ≡ b ++ y → (ms ≡ ns) × (x ≡ y)
+
+-- the chosen option is the shortest, and of several the first
+abbrev pub OptionIsLeast : Type 0
+OptionIsLeast = (s : CodeSet) (values : List ℕ) → IsChosen s values (chosen_option s values)
+
+-- the blocks have one size, and values in range
+abbrev pub AreBlocks : CodeSet → ℕ → List (List ℕ) → Type 0
+AreBlocks s size bs = AllByRecursion (λ b. (length b ≡ size) × AllByRecursion (λ v. v < 2 ^ s.bits) b) bs
+
+-- the chosen texts of blocks are lawful, and stand for these blocks
+abbrev pub ChosenIsLawful : Type 0
+ChosenIsLawful =
+    (c : Cut) (bs : List (List ℕ)) → length bs ≡ c.count → 1 ≤ c.reference → AreBlocks c.set c.size bs
+    → AreTexts c 0 (chosen_from c c.count 0 bs) c.count × (blocks_told c 0 (chosen_from c c.count 0 bs) ≡ bs)
+
+-- the chosen body of numbers is a body of them
+abbrev pub ChosenIsBody : Type 0
+ChosenIsBody =
+    (s : CodeSet) (size reference : ℕ) (numbers : List ℕ) → 1 ≤ size → 1 ≤ reference → AllByRecursion (λ v. v < 2 ^ s.bits) numbers
+    → IsBlockBody s size reference numbers (chosen_block_body s size reference numbers)
+
+-- what is read as a text is lawful, and the bits begin with its spelling
+abbrev pub TextIsTaken : Type 0
+TextIsTaken =
+    (site : Site) (s : CodeSet) (half left : ℕ) (t : Text) (bits rest : List Bool) → 1 ≤ left → text_at site s (2 * half) left bits ≡ Ok (t, rest)
+    → (bits ≡ spelled s t ++ rest) × IsText s (2 * half) left t

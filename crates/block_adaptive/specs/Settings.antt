@@ -1,0 +1,36 @@
+-- What parameters tell the block-adaptive coder.
+use Rattle.std.specs.Prelude.{ℕ, ◌≡◌, ◌⊎◌, false}
+use Rattle.cube_core.specs.Shape.{InRange, sample_count}
+use Rattle.header_bits.specs.declared.params.Params.{Params}
+use Rattle.header_bits.specs.declared.params.Coder.{Coder}
+use Rattle.header_bits.specs.declared.params.Coder.TheVariants.{Sample, Block}
+use Rattle.block_adaptive.specs.Texts.{Cut, cut_of}
+
+-- the cut of n numbers of so many bits
+abbrev pub coder_cut : ℕ → ℕ → Coder → Cut
+coder_cut bits n (Block size restricted reference) = cut_of (record { bits = bits; restricted = restricted }) size reference n
+coder_cut bits n (Sample umax gamma_star gamma_zero start) = cut_of (record { bits = bits; restricted = false }) 8 1 n
+
+-- how an image's numbers are cut
+abbrev pub cut_by : Params → Cut
+cut_by p = coder_cut p.kind.bits (sample_count p.shape) p.coder
+
+-- the coder is the block-adaptive one
+abbrev pub IsBlock : Coder → Type 0
+IsBlock (Block size restricted reference) = Unit {0}
+IsBlock (Sample umax gamma_star gamma_zero start) = ⊥
+
+-- 8, 16, 32 or 64 values in a block
+abbrev pub IsSize : ℕ → Type 0
+IsSize size = (size ≡ 8) ⊎ (size ≡ 16) ⊎ (size ≡ 32) ⊎ (size ≡ 64)
+
+-- a cut as the standard has it
+pub record IsCut (c : Cut) : Type 0 where
+  pub bits : InRange 2 16 c.set.bits
+  pub size : IsSize c.size
+  pub reference : InRange 1 4096 c.reference
+
+-- the parameters are for this coder, and in range
+pub record AreForBlocks (p : Params) : Type 0 where
+  pub coder : IsBlock p.coder
+  pub lawful : IsCut (cut_by p)

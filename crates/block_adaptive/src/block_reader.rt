@@ -1,0 +1,175 @@
+//! A reader of blocks: their values, one after another.
+
+ghost use Rattle.std.specs.Prelude.{◌≡◌, ◌+◌, ◌%◌, ◌<◌, ◌≤◌, [], ◌∷◌, Ok, Err, Some, None, IfOk, IfErr, OnErr, MatchResult, length};
+ghost use Rattle.cube_core.specs.declared.fault.Fault.{Fault};
+ghost use Rattle.header_bits.specs.Reading.{Reads};
+ghost use Rattle.block_adaptive.specs.Texts.{Cut, left_at};
+ghost use Rattle.block_adaptive.specs.Settings.{AreForBlocks, cut_by};
+ghost use Rattle.block_adaptive.specs.Given.{Unpacked, HasMore, GivesFirst, GivesNext, HasGiven, next_text, in_hand};
+
+use crate::found::Found;
+use crate::options::CodeSet;
+use crate::segments::blocks_left;
+use crate::texts::read_text;
+use cube_core::fault::Fault;
+use header_bits::bit_reader::BitReader;
+use header_bits::params::{Coder, Params};
+use std::marker::Model;
+
+/// Reads the numbers of a body, whose texts it takes one at a time.
+///
+/// It holds the values of the text that it took last, in an array or, of zero blocks, as a count.
+#[derive(Drop)]
+pub struct BlockReader {
+    set: CodeSet,
+    /// J: 8, 16, 32 or 64.
+    size: u32,
+    reference: u32,
+    /// How many blocks there are.
+    count: u64,
+    /// The block at which the next text begins.
+    block: u64,
+    values: [u16; 64],
+    /// How many of the block's values were given.
+    at: u32,
+    /// How many zeros are still to be given.
+    zeros: u32,
+    /// What a `next` was refused for; every later one is refused for the same.
+    refused: Option<Fault>,
+}
+
+impl Model for BlockReader {
+    ghost use Rattle.std.specs.Prelude.{◌++◌, take, drop, replicate};
+    ghost use Rattle.block_adaptive.specs.Given.{Unpacked};
+    ghost use Rattle.block_adaptive.specs.Holding.{AreParts};
+
+    ghost Value = { Unpacked };
+
+    ghost view = { λ a. record { cut = record { set = a.set; size = a.size; reference = a.reference; count = a.count }; block = a.block; held = drop a.at (take a.size a.values) ++ replicate a.zeros 0; refused = a.refused } };
+
+    ghost invariant = { λ a. AreParts (record { set = a.set; size = a.size; reference = a.reference; count = a.count }) a.block a.at a.zeros };
+}
+
+impl BlockReader {
+    /// A reader of an image's numbers, of which none was given yet. It takes no memory.
+    ///
+    /// The parameters are lawful, and for this coder.
+    pub fn new(params: &Params) -> BlockReader
+        requires { AreForBlocks params.now }
+        ensures cut { result.cut ≡ cut_by params.now }
+        ensures given { HasGiven result [] [] }
+    {
+        match params.coder {
+            Coder::Block {
+                size,
+                restricted,
+                reference,
+            } => BlockReader {
+                set: CodeSet {
+                    bits: params.kind.bits(),
+                    restricted,
+                },
+                size,
+                reference,
+                count: params.shape.sample_count().div_ceil(u64::from(size)),
+                block: 0,
+                values: [0; 64],
+                at: size,
+                zeros: 0,
+                refused: None,
+            },
+            Coder::Sample { .. } => unreachable!(),
+        }
+    }
+
+    /// Gives the next number of the body.
+    ///
+    /// Fewer numbers were given than there are. The number is the first in hand; where none is, the
+    /// text that stands next is taken whole, and its values are in hand. Where no lawful text stands
+    /// there the answer is the refusal of its first part that isn't lawful: `Truncated` where the bits
+    /// end inside it, `RunPastSegment` for a run code, and `BadOption` for any other. Then the reader
+    /// stands where it stood, and every later call answers the same. No memory is taken.
+    pub fn next(&mut self, reader: &mut BitReader) -> Result<u16, Fault>
+        requires { HasMore self.old }
+        ensures first { self.old.refused ≡ None → MatchResult result (λ value. (new : Unpacked) × (in_hand self.old reader.old self.old.held ≡ Ok (new, reader.new.left)) × GivesFirst new value self.new) (λ fault. (self.old.held ≡ []) × (next_text self.old reader.old ≡ Err fault)) }
+        ensures given { GivesNext self.old reader.old result self.new reader.new.left }
+        ensures again { (fault : Fault) → self.old.refused ≡ Some fault → result ≡ Err fault }
+        ensures kept { IfErr result (λ fault. self.new.refused ≡ Some fault) }
+        ensures same { OnErr result (reader.new ≡ reader.old) }
+        ensures count { reader.new.count ≡ reader.old.count }
+        ensures cut { self.new.cut ≡ self.old.cut }
+    {
+        if let Some(fault) = self.refused {
+            return Err(fault);
+        }
+        if self.at == self.size && self.zeros == 0 {
+            self.take_text(reader)?;
+        }
+        Ok(self.give())
+    }
+
+    /// Takes in hand the values of the text that stands next.
+    fn take_text(&mut self, reader: &mut BitReader) -> Result<(), Fault>
+        requires empty { self.old.held ≡ [] }
+        requires more { self.old.block < self.old.cut.count }
+        ensures read { Reads (λ _. self.new) result reader.new.left (next_text self.old reader.old) }
+        ensures some { IfOk result (λ _. 0 < length self.new.held) }
+        ensures refused { IfErr result (λ fault. self.new ≡ record self.old { refused = Some fault }) }
+        ensures same { OnErr result (reader.new ≡ reader.old) }
+        ensures count { reader.new.count ≡ reader.old.count }
+    {
+        let left = blocks_left(self.reference, self.count, self.block);
+        let set = self.set;
+        let mut ahead = reader.fork();
+        match read_text(
+            &mut ahead,
+            self.block,
+            &set,
+            left,
+            &mut self.values[..self.size as usize],
+        ) {
+            Ok(Found::Block(_)) => {
+                *reader = ahead;
+                self.at = 0;
+                self.zeros = 0;
+                self.block += 1;
+                Ok(())
+            }
+            Ok(Found::Run(blocks)) => {
+                *reader = ahead;
+                self.at = self.size;
+                self.zeros = blocks * self.size;
+                self.block += u64::from(blocks);
+                Ok(())
+            }
+            Ok(Found::Rest) => {
+                *reader = ahead;
+                self.at = self.size;
+                self.zeros = left * self.size;
+                self.block += u64::from(left);
+                Ok(())
+            }
+            Err(fault) => {
+                self.at = self.size;
+                self.zeros = 0;
+                self.refused = Some(fault);
+                Err(fault)
+            }
+        }
+    }
+
+    /// Gives the first value in hand.
+    fn give(&mut self) -> u16
+        requires { 0 < length self.old.held }
+        ensures { GivesFirst self.old result self.new }
+    {
+        if self.at < self.size {
+            let value = self.values[self.at as usize];
+            self.at += 1;
+            value
+        } else {
+            self.zeros -= 1;
+            0
+        }
+    }
+}

@@ -1,0 +1,109 @@
+//! What a block costs under each option, and the choice among them (CCSDS 121.0-B, "Code option selection").
+
+ghost use Rattle.std.specs.Prelude.{◌≡◌, ◌≤◌, ◌<◌, ◌^◌, ◌*◌, ◌-◌, ◌+◌, ◌/◌, ℕ, length};
+ghost use Rattle.block_adaptive.specs.Options.{width, splits, cost, IsOption, quotient_codes, pair_codes, pair_number, low_groups};
+ghost use Rattle.block_adaptive.specs.Chosen.{chosen_option};
+
+use crate::options::{Choice, CodeSet};
+
+/// How many bits the identifiers have, but for those of zero blocks and the second extension, which
+/// have one more.
+pub(crate) fn identifier_width(set: &CodeSet) -> u32
+    ensures value { result ≡ width set.now }
+    ensures least { 1 ≤ result }
+    ensures most { result ≤ 4 }
+{
+    if set.restricted && set.bits <= 4 {
+        if set.bits <= 2 { 1 } else { 2 }
+    } else if set.bits <= 8 {
+        3
+    } else {
+        4
+    }
+}
+
+/// How many bits the quotients of a block have under split-sample.
+fn quotients_cost(k: u32, block: &[u16]) -> u64
+    requires k { k ≤ 15 }
+    requires few { length block.now ≤ 64 }
+    ensures value { result ≡ length (quotient_codes k block.now) }
+    ensures bound { result ≤ 2 ^ 23 }
+{
+    let mut total = 0u64;
+    for value in block {
+        total += u64::from(*value >> k) + 1;
+    }
+    total
+}
+
+/// How many bits a pair has under the second extension.
+fn pair_cost(first: u16, second: u16) -> u64
+    ensures value { result ≡ pair_number first second + 1 }
+    ensures bound { result ≤ 2 ^ 34 }
+{
+    let sum = u64::from(first) + u64::from(second);
+    sum * (sum + 1) / 2 + u64::from(second) + 1
+}
+
+/// How many bits a block's pairs have under the second extension.
+fn pairs_cost(block: &[u16]) -> u64
+    requires few { length block.now ≤ 64 }
+    ensures value { result ≡ length (pair_codes block.now) }
+    ensures bound { result ≤ 2 ^ 40 }
+{
+    let mut total = 0u64;
+    let mut left = block;
+    while let Some((first, rest)) = left.split_first() {
+        let Some((second, rest)) = rest.split_first() else {
+            return total + pair_cost(*first, 0);
+        };
+        total += pair_cost(*first, *second);
+        left = rest;
+    }
+    total
+}
+
+/// How many bits a block's text has under an option, with its identifier.
+///
+/// The block has at most 64 values, and the option is one of the set.
+pub fn option_cost(set: &CodeSet, block: &[u16], choice: Choice) -> u64
+    requires bits { set.now.bits ≤ 16 }
+    requires option { IsOption set.now choice }
+    requires few { length block.now ≤ 64 }
+    ensures value { result ≡ cost set.now choice block.now }
+    ensures bound { result ≤ 2 ^ 41 }
+{
+    let identifier = u64::from(identifier_width(set));
+    let len = block.len() as u64;
+    match choice {
+        Choice::Uncoded => identifier + u64::from(set.bits) * len,
+        Choice::Second => identifier + 1 + pairs_cost(block),
+        Choice::Split(k) => identifier + quotients_cost(k, block) + u64::from(k) * len,
+    }
+}
+
+/// The option with the shortest text: of several uncoded first, then the second extension, then the
+/// smallest k.
+#[tactic(auto, unfolding(crate::specs::Chosen::shortest, crate::specs::Chosen::chosen_option))]
+pub(crate) fn choose(set: &CodeSet, block: &[u16]) -> Choice
+    requires bits { set.now.bits ≤ 16 }
+    requires few { length block.now ≤ 64 }
+    ensures { result ≡ chosen_option set.now block.now }
+{
+    let mut best = Choice::Uncoded;
+    let mut least = option_cost(set, block, best);
+    let second = option_cost(set, block, Choice::Second);
+    if second < least {
+        best = Choice::Second;
+        least = second;
+    }
+    let splits = (1u32 << identifier_width(set)) - 2;
+    for k in 0..splits {
+        let cost = option_cost(set, block, Choice::Split(k));
+        if cost < least {
+            best = Choice::Split(k);
+            least = cost;
+        }
+    }
+    best
+}

@@ -1,0 +1,23 @@
+//! Laws of the coder's definitions.
+
+ghost use Rattle.block_adaptive.specs.Laws.{OneText, OptionIsLeast, ChosenIsLawful, TextIsTaken};
+
+/// Two lawful texts of which one begins the other are one text.
+pub fn one_text()
+    ensures { OneText }
+{}
+
+/// The chosen option is the shortest, and of several the first.
+pub fn option_is_least()
+    ensures { OptionIsLeast }
+{}
+
+/// The chosen texts of blocks are lawful, and stand for the blocks.
+pub fn chosen_is_lawful()
+    ensures { ChosenIsLawful }
+{}
+
+/// What is read as a text is lawful, and the bits begin with its spelling.
+pub fn text_is_taken()
+    ensures { TextIsTaken }
+{}
