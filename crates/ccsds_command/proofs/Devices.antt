@@ -1,5 +1,5 @@
 -- What is known of a device after one call and another.
-use Rattle.std.proofs.Common.{◌≡◌, ◌⊎◌, ℕ, ◌+◌, ◌-◌, ◌<◌, ◌≤◌, ◌^◌, List, [], ◌∷◌, ◌++◌, length, take, drop, Option, Some, inl, inr, refl, sym, ap, ◌∙◌, subst, append_assoc, append-nil, length-drop, length-take, take-add, arith}
+use Rattle.std.proofs.Common.{◌≡◌, ℕ, ◌+◌, ◌-◌, ◌<◌, ◌≤◌, List, ◌++◌, length, take, drop, Option, Some, inl, inr, sym, ap, ◌∙◌, subst, append_assoc, length-drop, length-take, take-add, arith}
 use Rattle.std.proofs.lemmas.List.{take_all, take-append-le, take-append-drop, drop_at, take_at}
 use Rattle.std.proofs.Math.Seq.{take-append-add}
 use borrow.Rule.Slice.PartMut.{put_mid, post_of}

@@ -1,9 +1,13 @@
 -- What is known of a device that may tell its bytes, and of its failures.
-use Rattle.std.specs.Prelude.{◌≡◌, ◌⊎◌, ℕ, ◌+◌, ◌-◌, ◌<◌, ◌^◌, List, [], ◌++◌, Option, Some, None}
+use Rattle.std.specs.Prelude.{◌≡◌, ◌⊎◌, ℕ, ◌+◌, ◌-◌, ◌<◌, ◌≤◌, ◌^◌, List, [], ◌++◌, length, Option, Some}
 
 -- where a source tells its bytes, it gave these from the front of those that were left
 abbrev pub Gave : Option (List ℕ) → Option (List ℕ) → List ℕ → Type 0
 Gave old new bytes = (before : List ℕ) → old ≡ Some before → (rest : List ℕ) × (new ≡ Some rest) × (before ≡ bytes ++ rest)
+
+-- where a source tells its bytes, it gave some from the front of them, at most as many as their limit
+abbrev pub GaveWithin : (List ℕ → ℕ) → Option (List ℕ) → Option (List ℕ) → Type 0
+GaveWithin limit old new = (before : List ℕ) → old ≡ Some before → (bytes : List ℕ) × (rest : List ℕ) × (new ≡ Some rest) × (before ≡ bytes ++ rest) × (length bytes ≤ limit before)
 
 -- where a source tells its bytes, none are left
 abbrev pub IsEnd : Option (List ℕ) → Type 0

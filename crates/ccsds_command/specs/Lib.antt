@@ -1,3 +1,4 @@
 pub mod Devices
+pub mod Show
 pub mod Status
 pub mod Writing

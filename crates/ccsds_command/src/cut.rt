@@ -39,6 +39,7 @@ impl<'a> CutSource<'a> {
 
 impl Source for CutSource<'_> {
     ghost left = { λ s. Some s.bytes.now };
+
     ghost failures = { λ s. s.failures };
 
     fn read(&mut self, buffer: &mut [u8]) -> Result<usize, Failed> {
@@ -103,7 +104,9 @@ impl CutSink {
 
 impl Sink for CutSink {
     ghost taken = { λ s. Some s.taken.items };
+
     ghost failures = { λ s. s.failures };
+
     ghost stalls = { λ _. 0 };
 
     fn write(&mut self, piece: &[u8]) -> Result<usize, Failed> {

@@ -2,8 +2,10 @@
 #![tactic(auto)]
 
 pub mod cut;
+mod hexadecimal;
 mod reading;
 pub mod report;
+pub mod show;
 pub mod sink;
 pub mod source;
 pub mod stream;

@@ -1,8 +1,8 @@
 //! Bytes read whole from a source.
 
-ghost use Rattle.std.specs.Prelude.{◌≡◌, ◌⊎◌, ◌+◌, ◌<◌, ◌≤◌, Ok, length, take, drop, IfOk, IfErr, OnErr};
+ghost use Rattle.std.specs.Prelude.{◌≡◌, ◌⊎◌, ◌+◌, ◌<◌, ◌≤◌, Ok, [], length, take, drop, IfOk, IfErr, OnErr};
 ghost use Rattle.cube_core.specs.declared.fault.Fault.TheVariants.{Read, WantOfMemory};
-ghost use Rattle.ccsds_command.specs.Devices.{Gave, IsEnd, Rises, Rose};
+ghost use Rattle.ccsds_command.specs.Devices.{Gave, GaveWithin, IsEnd, Rises, Rose};
 
 use crate::source::{Failed, Source};
 use cube_core::fault::Fault;
@@ -22,6 +22,7 @@ pub(crate) fn read_up_to<S: Source>(
 ) -> Result<Vec<u8>, Fault>
     ensures given { IfOk result (λ bytes. Gave (S.left source.old) (S.left source.new) bytes.items) }
     ensures limited { IfOk result (λ bytes. length bytes.items ≤ limit) }
+    ensures bounded { GaveWithin (λ _. limit) (S.left source.old) (S.left source.new) }
     ensures whole { IfOk result (λ bytes. (length bytes.items ≡ limit) ⊎ IsEnd (S.left source.new)) }
     ensures worked { IfOk result (λ _. S.failures source.new ≡ S.failures source.old) }
     ensures refused { IfErr result (λ e. (e ≡ WantOfMemory) ⊎ ((e ≡ Read) × Rose (S.failures source.old) (S.failures source.new))) }
@@ -51,6 +52,7 @@ fn read_behind<S: Source>(source: &mut S, bytes: &mut [u8], had: usize) -> Resul
     ensures end { result ≡ Ok 0 → had < length bytes.old → IsEnd (S.left source.new) }
     ensures worked { IfOk result (λ _. S.failures source.new ≡ S.failures source.old) }
     ensures failed { OnErr result (Rises (S.failures source.old) (S.failures source.new)) }
+    ensures same { OnErr result (Gave (S.left source.old) (S.left source.new) []) }
 {
     source.read(&mut bytes[had..])
 }

@@ -11,7 +11,9 @@ use crate::source::Failed;
 /// (counts that stay where they stand at 2^64 - 1), and the bytes taken where the type tells them.
 pub trait Sink {
     ghost taken: { Self → Option (List ℕ) };
+
     ghost failures: { Self → ℕ };
+
     ghost stalls: { Self → ℕ };
 
     /// Takes bytes from the front of the piece, and answers how many. A call that fails takes none.

@@ -1,6 +1,6 @@
 //! Where a command's input comes from.
 
-ghost use Rattle.std.specs.Prelude.{◌≡◌, ◌<◌, ◌≤◌, ℕ, List, Option, Ok, length, take, IfOk, OnErr};
+ghost use Rattle.std.specs.Prelude.{◌≡◌, ◌<◌, ◌≤◌, ℕ, List, [], Option, Ok, length, take, IfOk, OnErr};
 ghost use Rattle.ccsds_command.specs.Devices.{Gave, IsEnd, Rises};
 
 /// A device failed. It says nothing more.
@@ -13,13 +13,15 @@ pub struct Failed;
 /// count that stays where it stands at 2^64 - 1), and the bytes that are left where the type tells them.
 pub trait Source {
     ghost left: { Self → Option (List ℕ) };
+
     ghost failures: { Self → ℕ };
 
-    /// Puts the next bytes into the front of the buffer, and answers how many.
+    /// Puts the next bytes into the front of the buffer, and answers how many. A call that fails gives none.
     fn read(&mut self, buffer: &mut [u8]) -> Result<usize, Failed>
         ensures within { IfOk result (λ n. n ≤ length buffer.old) }
         ensures given { IfOk result (λ n. Gave (left self.old) (left self.new) (take n buffer.new)) }
         ensures end { result ≡ Ok 0 → 0 < length buffer.old → IsEnd (left self.new) }
         ensures worked { IfOk result (λ _. failures self.new ≡ failures self.old) }
-        ensures failed { OnErr result (Rises (failures self.old) (failures self.new)) };
+        ensures failed { OnErr result (Rises (failures self.old) (failures self.new)) }
+        ensures same { OnErr result (Gave (left self.old) (left self.new) []) };
 }

@@ -27,6 +27,7 @@ impl<R: Read> ReaderSource<R> {
 
 impl<R: Read> Source for ReaderSource<R> {
     ghost left = { λ _. None };
+
     ghost failures = { λ s. s.failures };
 
     fn read(&mut self, buffer: &mut [u8]) -> Result<usize, Failed> {
@@ -63,7 +64,9 @@ impl<W: Write> WriterSink<W> {
 
 impl<W: Write> Sink for WriterSink<W> {
     ghost taken = { λ _. None };
+
     ghost failures = { λ s. s.failures };
+
     ghost stalls = { λ s. s.stalls };
 
     fn write(&mut self, piece: &[u8]) -> Result<usize, Failed> {

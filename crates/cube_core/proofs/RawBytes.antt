@@ -1,6 +1,6 @@
 -- The raw bytes of samples that were taken in from bytes are those bytes.
 use Rattle.std.proofs.Common.{◌≡◌, ◌+◌, ◌*◌, ◌/◌, ◌%◌, ◌^◌, ◌<◌, ◌≤◌, ◌-◌, ℕ, suc, zero, pos, negsuc, ◌-ℤ◌, Bool, true, false, leb, List, [], ◌∷◌, length, take, drop, replicate, get_or, refl, sym, ap, ◌∙◌, subst, arith, inl, inr, length-take, length-drop}
-use Rattle.std.proofs.lemmas.List.{take-append-drop, drop-drop, nil_from_length, get_or-take, get_or-drop, get_or_past}
+use Rattle.std.proofs.lemmas.List.{take-append-drop, drop-drop, nil_from_length, get_or-take, get_or-drop, get_or_past, length-map}
 use Rattle.std.proofs.lemmas.Int.{ints}
 use Rattle.std.specs.Prelude.{if◌then◌else◌, ◌&&◌}
 use Rattle.std.proofs.lemmas.Bool.{cases_lt}
@@ -9,15 +9,15 @@ use Rattle.cube_core.specs.declared.order.Order.TheVariants.{Bsq}
 use Rattle.cube_core.proofs.Walks.{sequential_index}
 use Rattle.cube_core.specs.declared.order.Place.{Place}
 use Rattle.cube_core.specs.declared.layout.Layout.{Layout}
-use Rattle.cube_core.specs.Shape.{Sizes, sample_count}
-use Rattle.cube_core.specs.Kind.{SampleKind, sample_of}
-use Rattle.cube_core.specs.Image.{Image, index_in, sample_at}
+use Rattle.cube_core.specs.Shape.{Sizes, AreSizes, sample_count}
+use Rattle.cube_core.specs.Kind.{SampleKind, IsKind, sample_of}
+use Rattle.cube_core.specs.Image.{Image, IsCube, index_in, sample_at}
 use Rattle.cube_core.specs.Heights.{samples_of, AreHeights}
 use Rattle.cube_core.specs.Order.{places}
 use Rattle.cube_core.specs.Layout.{IsLayout, order_of, raw_code, twos_complement, raw_value, bytes_at, sample_bytes, raw_bytes}
 use Rattle.cube_core.specs.Raw.{AreHeightsOf}
 use Rattle.cube_core.proofs.Bounds.{index_below}
-use Rattle.cube_core.proofs.Heights.{sample_at_height}
+use Rattle.cube_core.proofs.Heights.{sample_at_height, sample_read, height_is_sample}
 use Rattle.cube_core.proofs.Orders.{place_at_index, length-places}
 use Rattle.cube_core.proofs.Raws.{place_of, lawful_order, bytes_there}
 
@@ -117,3 +117,15 @@ pub zeros_are_samples : (k : SampleKind) (n height : ℕ) → sample_of k height
 unfolding samples_of
 zeros_are_samples k zero height e = refl
 zeros_are_samples k (suc n) height e = rw (e, zeros_are_samples k n height e) refl
+
+-- what is kept as heights is a cube
+pub is_cube : (s : Sizes) (k : SampleKind) (heights : List ℕ) → AreSizes s → IsKind k → AreHeights s k heights → IsCube (record { shape = s; kind = k; samples = samples_of k heights })
+unfolding samples_of
+is_cube s k heights sizes bits here =
+    let long : length (samples_of k heights) ≡ length heights = length-map heights (sample_of k) in
+    record {
+      sizes = sizes;
+      bits = bits;
+      whole = long ∙ here.whole;
+      range = λ i lt. let within : i < length heights = rw long at lt in rw (sample_read k heights i within) (height_is_sample k (get_or heights i 0) bits (here.range i within));
+    }

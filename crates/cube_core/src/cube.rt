@@ -2,7 +2,7 @@
 
 ghost use Rattle.std.specs.Prelude.{◌≡◌, ◌≢◌, ◌↔◌, ◌*◌, ◌≤ℤ◌, length, replicate, pos, negsuc, IfOk, IfErr};
 ghost use Rattle.cube_core.specs.Shape.{sample_count};
-ghost use Rattle.cube_core.specs.Image.{IsPlace, sample_at, put};
+ghost use Rattle.cube_core.specs.Image.{IsCube, IsPlace, sample_at, put};
 ghost use Rattle.cube_core.specs.Layout.{IsLayout, raw_bytes};
 ghost use Rattle.cube_core.specs.Raw.{IsRawFault};
 ghost use Rattle.cube_core.specs.declared.fault.Fault.TheVariants.{RawLength, WantOfMemory};
@@ -66,10 +66,13 @@ impl Cube {
         bytes: &[u8],
     ) -> Result<Cube, Fault>
         requires { IsLayout layout }
+        ensures whole { IfOk result IsCube }
         ensures cube { IfOk result (λ c. (c.shape ≡ shape) × (c.kind ≡ kind) × (raw_bytes c layout ≡ bytes.now)) }
         ensures length { (result ≡ Err (RawLength (sample_count shape * layout.bytes) (length bytes.now))) ↔ (length bytes.now ≢ sample_count shape * layout.bytes) }
         ensures refused { IfErr result (IsRawFault shape kind layout bytes.now) }
     {
+        // The kind's range is a part of what a cube is.
+        let _bits = kind.bits();
         let wanted = layout.length(shape);
         let had = bytes.len() as u64;
         if had != wanted {

@@ -77,6 +77,7 @@ impl Shape {
     pub fn sample_count(self) -> u64
         ensures value { result ≡ sample_count self }
         ensures range { InRange 1 (2 ^ 48) result }
+        ensures sizes { AreSizes self }
     {
         u64::from(self.bands) * u64::from(self.rows) * u64::from(self.columns)
     }

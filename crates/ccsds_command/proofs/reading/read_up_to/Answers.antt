@@ -1,7 +1,6 @@
-use Rattle.std.proofs.Common.{◌≡◌, ◌+◌, ◌-◌, ◌≤◌, ◌++◌, ◌∙◌, ℕ, List, take, drop, length, vec_len, arith, sym, ap, subst, replicate}
+use Rattle.std.proofs.Common.{◌≡◌, ◌+◌, ◌-◌, ◌≤◌, ◌++◌, ◌∙◌, ℕ, List, take, drop, length, vec_len, arith, ap, replicate}
 use Rattle.std.proofs.lemmas.List.{with_items_is, take_at, take_all}
 use Rattle.std.specs.Vec.{with_items}
-use Rattle.ccsds_command.specs.Devices.{Gave}
 use Rattle.ccsds_command.proofs.Devices.{gave_more, read_more}
 use Rattle.ccsds_command.proofs.reading.read_up_to.Goals as goal
 

@@ -1,4 +1,4 @@
-use Rattle.std.proofs.Common.{◌≡◌, ◌≤◌, ◌-◌, length, vec_len}
+use Rattle.std.proofs.Common.{◌≡◌, ◌≤◌, ◌-◌, vec_len}
 use Rattle.ccsds_command.specs.Devices.{Gave}
 use Rattle.ccsds_command.proofs.reading.read_up_to.Given as goal
 

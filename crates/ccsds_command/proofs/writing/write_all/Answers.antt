@@ -1,5 +1,4 @@
-use Rattle.std.proofs.Common.{◌≡◌, ◌+◌, ◌-◌, ◌<◌, ◌≤◌, ◌++◌, ◌∙◌, ℕ, List, take, drop, take-add, length, inl, inr, refl, sym, ap, subst, arith, append-nil, length-drop, []}
-use Rattle.ccsds_command.specs.Devices.{Took, Rose}
+use Rattle.std.proofs.Common.{◌≡◌, ◌≤◌, ◌∙◌, ℕ, List, take, drop, take-add, length, inl, inr, refl, ap, arith, append-nil, length-drop, []}
 use Rattle.ccsds_command.proofs.Devices.{took_more, rises_is_rose, no_stall, stall_rises, rest_is}
 use Rattle.ccsds_command.proofs.writing.write_all.Goals as goal
 use Rattle.ccsds_command.proofs.writing.write_all.Goals.{In-Ok}

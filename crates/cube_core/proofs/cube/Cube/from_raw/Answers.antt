@@ -2,7 +2,7 @@ use Rattle.std.proofs.Common.{◌≡◌, length, arith, refl}
 use Rattle.std.proofs.lemmas.List.{with_items_is}
 use Rattle.std.specs.Vec.{with_items}
 use Rattle.cube_core.specs.Shape.{sample_count}
-use Rattle.cube_core.proofs.RawBytes.{raw_bytes_again, are_heights}
+use Rattle.cube_core.proofs.RawBytes.{raw_bytes_again, are_heights, is_cube}
 use Rattle.cube_core.proofs.cube.Cube.from_raw.Goals as goal
 use Rattle.cube_core.proofs.cube.Cube.from_raw.Goals.{In_ok-fill}
 
@@ -19,3 +19,7 @@ invariant_of-result c =
 pub returns-clause-cube : goal.returns-clause-cube
 returns-clause-cube c =
     (refl, refl, rw (items c) (raw_bytes_again c.args.shape c.args.kind c.args.layout c.args.bytes.now c.fill.new.heights c.requires (omega (arith, c.sample_count.ensures.value, c.sample_count.ensures.range)) (omega (arith, c.if-had-wanted.false, c.length-wanted.ensures)) (λ i. omega (arith, c.type_inv.bytes i)) (full c) c.in_ok-fill.ensures.filled))
+
+pub returns-clause-whole : goal.returns-clause-whole
+returns-clause-whole c =
+    rw (items c) (is_cube c.args.shape c.args.kind c.fill.new.heights c.sample_count.ensures.sizes (rw c.bits-bits.ensures.value at c.bits-bits.ensures.range) (are_heights c.args.shape c.args.kind c.args.layout c.args.bytes.now c.fill.new.heights (omega (arith, c.sample_count.ensures.value, c.sample_count.ensures.range)) (full c) c.in_ok-fill.ensures.filled))

@@ -1,0 +1,147 @@
+//! A small cube in, its file in hexadecimal out.
+
+ghost use Rattle.std.specs.Prelude.{◌≡◌, ◌≢◌, ◌⊎◌, ◌≤◌, ◌++◌, length, slice_index, IfOk, IfErr, OnOk};
+ghost use Rattle.cube_core.specs.declared.fault.Fault.TheVariants.{WantOfMemory, RawLength};
+ghost use Rattle.cube_core.specs.Shape.{sample_count};
+ghost use Rattle.ccsds_command.specs.Show.{Shows, IsShown, IsTextOf, IsShowFault, IsShowRefusal, common, size_of, sizes_of, show_limit};
+ghost use Rattle.ccsds_command.specs.Devices.{GaveWithin};
+
+use crate::hexadecimal::hexadecimal;
+use crate::reading::read_up_to;
+use crate::sink::Sink;
+use crate::source::Source;
+use crate::writing::write_all;
+use byteorder::{BigEndian, ByteOrder};
+use coder_pipe::encode::encode_one;
+use cube_core::cube::Cube;
+use cube_core::fault::Fault;
+use cube_core::kind::Kind;
+use cube_core::layout::{Layout, RawOrder};
+use cube_core::order::Order;
+use cube_core::shape::Shape;
+use header_bits::params::{Coder, CountStart, Params, WeightStart};
+use std::alloc::Global;
+
+/// How many bytes the three sizes have.
+const SIZES: usize = 6;
+
+/// How the samples lie behind the sizes.
+const LAYOUT: Layout = Layout {
+    order: RawOrder::Bsq,
+    bytes: 1,
+    little: false,
+};
+
+/// Reads a cube of 8-bit samples, codes it with the common parameters, and writes the file in
+/// hexadecimal with a newline.
+///
+/// The input is three sizes of two bytes each, the high one first (columns, rows, bands; 0 stands for
+/// 65,536), and then samples of one byte, band after band and row after row. It is read to one byte
+/// more than that at most. `Read` where the source failed; `RawLength` where the sizes or the samples
+/// have too few or too many bytes (after the sizes it counts the samples' bytes alone);
+/// `WantOfMemory`; and `Write`, with the bytes that went out, where the sink failed or took nothing.
+/// After any other refusal nothing was written.
+pub fn run_show<S: Source, K: Sink>(
+    alloc: Global,
+    source: &mut S,
+    sink: &mut K,
+) -> Result<(), Fault>
+    ensures shown { OnOk result (Shows (S.left source.old) (K.taken sink.old) (K.taken sink.new)) }
+    ensures refused { IfErr result (IsShowFault (S.left source.old) (S.failures source.old) (S.failures source.new) (K.taken sink.old) (K.taken sink.new) (K.failures sink.old) (K.failures sink.new) (K.stalls sink.old) (K.stalls sink.new)) }
+    ensures bounded { GaveWithin show_limit (S.left source.old) (S.left source.new) }
+{
+    let text = shown_text(alloc, source)?;
+    write_all(sink, &text)
+}
+
+/// The text that is shown of the source's cube.
+fn shown_text<S: Source>(alloc: Global, source: &mut S) -> Result<Vec<u8>, Fault>
+    ensures shown { IfOk result (λ text. IsShown (S.left source.old) text.items) }
+    ensures refused { IfErr result (IsShowRefusal (S.left source.old) (S.failures source.old) (S.failures source.new)) }
+    ensures bounded { GaveWithin show_limit (S.left source.old) (S.left source.new) }
+{
+    let sizes = read_up_to(alloc, source, SIZES as u64)?;
+    if sizes.len() < SIZES {
+        return Err(Fault::RawLength {
+            wanted: SIZES as u64,
+            had: sizes.len() as u64,
+        });
+    }
+    let shape = shape_of(&sizes);
+    let raw = read_up_to(alloc, source, shape.sample_count() + 1)?;
+    text_of(alloc, &sizes, shape, &raw)
+}
+
+/// The text of a cube of this shape, by the bytes of its sizes and of its samples.
+fn text_of(alloc: Global, sizes: &[u8], shape: Shape, raw: &[u8]) -> Result<Vec<u8>, Fault>
+    requires six { length sizes.now ≡ 6 }
+    requires shape { shape ≡ sizes_of sizes.now }
+    ensures text { IfOk result (λ text. IsTextOf (sizes.now ++ raw.now) text.items) }
+    ensures whole { OnOk result (length raw.now ≡ sample_count shape) }
+    ensures refused { IfErr result (λ e. (e ≡ WantOfMemory) ⊎ ((e ≡ RawLength (sample_count shape) (length raw.now)) × (length raw.now ≢ sample_count shape))) }
+{
+    let kind = Kind::new(false, 8).unwrap();
+    if raw.len() as u64 != shape.sample_count() {
+        return Err(Fault::RawLength {
+            wanted: shape.sample_count(),
+            had: raw.len() as u64,
+        });
+    }
+    let cube = match Cube::from_raw(alloc, shape, kind, LAYOUT, raw) {
+        Ok(cube) => cube,
+        Err(fault) => return Err(fault),
+    };
+    let file = encode_one(alloc, &cube, &common_params(shape, kind))?;
+    hexadecimal(alloc, &file)
+}
+
+/// The shape that three sizes spell.
+fn shape_of(sizes: &[u8]) -> Shape
+    requires { length sizes.now ≡ 6 }
+    ensures { result ≡ sizes_of sizes.now }
+{
+    let columns = size_at(sizes);
+    let rows = size_at(&sizes[2..]);
+    let bands = size_at(&sizes[4..]);
+    Shape::new(columns, rows, bands).unwrap()
+}
+
+/// A size of two bytes, where 0 stands for 65,536.
+fn size_at(bytes: &[u8]) -> u32
+    requires { 2 ≤ length bytes.now }
+    ensures value { result ≡ size_of (slice_index bytes.now 0) (slice_index bytes.now 1) }
+    ensures range { (1 ≤ result) × (result ≤ 65536) }
+{
+    match BigEndian::read_u16(bytes) {
+        0 => 65_536,
+        size => u32::from(size),
+    }
+}
+
+/// The parameters that every cube is shown with.
+fn common_params(shape: Shape, kind: Kind) -> Params
+    ensures { result ≡ common shape kind }
+{
+    Params {
+        shape,
+        kind,
+        order: Order::Bsq,
+        user: 0,
+        word: 1,
+        previous: 0,
+        reduced: true,
+        column: true,
+        register: 32,
+        omega: 13,
+        interval_log: 6,
+        vmin: -1,
+        vmax: 3,
+        start: WeightStart::Usual,
+        coder: Coder::Sample {
+            umax: 16,
+            gamma_star: 6,
+            gamma_zero: 1,
+            start: CountStart::Constant(3),
+        },
+    }
+}
