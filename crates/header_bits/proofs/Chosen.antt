@@ -1,38 +1,35 @@
 -- The header that a coder writes is a spelling of its parameters, where there is no table.
-use Rattle.std.proofs.Common.{◌≡◌, ◌⊎◌, inl, inr, ℕ, zero, suc, ◌+◌, ◌-◌, ◌*◌, ◌/◌, ◌^◌, ◌<◌, ◌≤◌, ◌≤ℤ◌, ◌-ℤ◌, Bool, true, false, cond, not, ◌&&◌, ltb, eqb, List, [], ◌∷◌, ◌++◌, length, ℤ, pos, negsuc, Result, Ok, Err, refl, sym, ap, subst, ◌∙◌, arith, append_assoc}
+use Rattle.std.proofs.Common.{◌≡◌, inl, inr, ℕ, zero, suc, ◌+◌, ◌-◌, ◌*◌, ◌/◌, ◌^◌, ◌≤◌, ◌≤ℤ◌, Bool, true, false, cond, ◌&&◌, ltb, eqb, List, [], ◌∷◌, ◌++◌, ℤ, pos, negsuc, refl, sym, subst, arith}
 use Rattle.std.proofs.lemmas.Int.{ints}
 use Rattle.std.proofs.lemmas.List.{append-nil}
 use Rattle.std.proofs.lemmas.Nat.{pow_pos}
 use Rattle.std.proofs.Math.Nat.{div-eq_of_lt}
 use Rattle.header_bits.proofs.Headers.{coder_behind}
-use Rattle.std.proofs.lemmas.Bool.{le-ltb, ne_eqb, eq-eqb, cases_Bool}
+use Rattle.std.proofs.lemmas.Bool.{le-ltb, ne_eqb, eq-eqb}
 use Rattle.cube_core.specs.declared.order.Order.{Order}
 use Rattle.cube_core.specs.declared.order.Order.TheVariants.{Bsq, Bi}
-use Rattle.cube_core.specs.Steps.{Test, ◌>>◌, refuse_if}
-use Rattle.cube_core.specs.Shape.{Sizes, InRange}
+use Rattle.cube_core.specs.Shape.{Sizes}
 use Rattle.cube_core.specs.Order.{IsOrder}
 use Rattle.header_bits.specs.declared.params.Params.{Params}
 use Rattle.header_bits.specs.declared.params.WeightStart.{WeightStart}
 use Rattle.header_bits.specs.declared.params.WeightStart.TheVariants.{Usual, Table}
 use Rattle.header_bits.specs.declared.params.Coder.{Coder}
 use Rattle.header_bits.specs.declared.params.Coder.TheVariants.{Sample, Block}
-use Rattle.header_bits.specs.declared.params.CountStart.{CountStart}
 use Rattle.header_bits.specs.declared.params.CountStart.TheVariants.{Constant, Each}
 use Rattle.header_bits.specs.declared.image_part.ImagePart.{ImagePart}
 use Rattle.header_bits.specs.declared.predictor_part.PredictorPart.{PredictorPart}
 use Rattle.header_bits.specs.declared.coder_part.CoderPart.{CoderPart}
-use Rattle.header_bits.specs.declared.coder_part.CoderPart.TheVariants as part
-use Rattle.header_bits.specs.Layout.{AreValues, total, spelled}
-use Rattle.header_bits.specs.Parts.{fine, unused, SpellsPart, SpellsThen}
+use Rattle.header_bits.specs.Layout.{AreValues, spelled}
+use Rattle.header_bits.specs.Parts.{fine, unused, SpellsPart}
 use Rattle.header_bits.specs.Reach.{here}
-use Rattle.header_bits.specs.ImagePart.{image, image_fields, image_tests, image_says, image_numbers, flag, order_flag, depth_number}
-use Rattle.header_bits.specs.PredictorPart.{predictor, predictor_fields, predictor_tests, start_tests, predictor_says, predictor_numbers, exponent_of, exponent_code}
-use Rattle.header_bits.specs.CoderPart.{coder, coder_by, coder_fields, coder_numbers, sample_tests, sample_says, block_tests, block_says, size_code}
+use Rattle.header_bits.specs.ImagePart.{image, image_numbers, flag, order_flag, depth_number}
+use Rattle.header_bits.specs.PredictorPart.{predictor, start_tests, predictor_numbers, exponent_of, exponent_code}
+use Rattle.header_bits.specs.CoderPart.{coder, coder_by, coder_fields, coder_numbers, size_code}
 use Rattle.header_bits.specs.TableParts.{weights, weights_by, weight_count, constants, constants_by, has_constants}
-use Rattle.header_bits.specs.Header.{Said, said, params_of, start_by, count_by, coder_by_part, coder_place, header_of, SpellsHeader, SpellsParts, image_part_of, predictor_part_of, coder_part_of, is_block, is_custom, resolution_of, constant_of, is_each}
-use Rattle.header_bits.specs.Lawful.{IsLawful, IsExponent, IsBlockSize, IsWeightStart, IsCountStart, IsCoder}
+use Rattle.header_bits.specs.Header.{said, params_of, start_by, coder_by_part, coder_place, header_of, SpellsHeader, SpellsParts, image_part_of, predictor_part_of, coder_part_of, is_block, is_custom, resolution_of}
+use Rattle.header_bits.specs.Lawful.{IsLawful, IsExponent, IsBlockSize, IsWeightStart, IsCoder}
 use Rattle.header_bits.proofs.Tests.{then_fine, refuse_fine, not_under}
-use Rattle.header_bits.proofs.Held.{image_held, predictor_held, coder_held, image_bits, predictor_bits, coder_bits, header_parts, flag_small}
+use Rattle.header_bits.proofs.Held.{image_held, predictor_held, coder_held, image_bits, predictor_bits, coder_bits, header_parts}
 
 -- no reserved bit is set
 unused_zero : (at n : ℕ) → unused at n 0 ≡ fine

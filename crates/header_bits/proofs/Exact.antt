@@ -1,15 +1,14 @@
 -- Exactly what is spelt is read: of a part, and of parts that follow one another.
-use Rattle.std.proofs.Common.{◌≡◌, ℕ, ◌+◌, ◌<◌, ◌≤◌, Bool, true, false, cond, ltb, List, [], ◌∷◌, ◌++◌, length, take, drop, Result, Ok, Err, refl, sym, ap, subst, ◌∙◌, append_assoc, arith}
+use Rattle.std.proofs.Common.{◌≡◌, ℕ, Bool, true, false, cond, ltb, List, ◌++◌, length, drop, Result, Ok, Err, refl, sym, ap, subst, ◌∙◌, append_assoc, arith}
 use Rattle.std.proofs.lemmas.Bool.{ltb-false, le-ltb}
 use Rattle.std.proofs.lemmas.List.{drop_at, take-append-drop, length-append, append_cancel_right}
-use Rattle.header_bits.specs.declared.layout.Slot.{Slot}
-use Rattle.header_bits.specs.Layout.{AreValues, total, spelled, values}
+use Rattle.header_bits.specs.Layout.{total, spelled, values}
 use Rattle.header_bits.proofs.Slots.{length-spelled, values_again, spelled_again}
 use Rattle.cube_core.specs.declared.fault.Fault.{Fault}
 use Rattle.cube_core.specs.declared.fault.Fault.TheVariants.{ShortHeader}
-use Rattle.cube_core.specs.Steps.{Test, ◌>>=◌}
+use Rattle.cube_core.specs.Steps.{◌>>=◌}
 use Rattle.header_bits.specs.Reading.{Reading}
-use Rattle.header_bits.specs.Parts.{Part, fine, as_at, SpellsAs, part_at, SpellsPart, then_at, SpellsThen, IsExact}
+use Rattle.header_bits.specs.Parts.{Part, as_at, SpellsAs, part_at, SpellsPart, then_at, SpellsThen, IsExact}
 
 pub bind_ok : {A B : Type 0} (r : Result A Fault) (f : A → Result B Fault) (y : B) → (r >>= f) ≡ Ok y → (x : A) × (r ≡ Ok x) × (f x ≡ Ok y)
 bind_ok (Ok x) f y e = (x, refl, e)

@@ -1,5 +1,5 @@
 -- The whole header: exactly what is spelt is read.
-use Rattle.std.proofs.Common.{◌≡◌, ℕ, ◌+◌, ◌-◌, ◌*◌, ◌<◌, ◌≤◌, Bool, true, false, cond, ltb, List, [], ◌∷◌, ◌++◌, length, take, drop, Result, Ok, Err, refl, sym, ap, subst, ◌∙◌, arith}
+use Rattle.std.proofs.Common.{◌≡◌, ℕ, ◌+◌, ◌≤◌, Bool, true, false, ltb, List, [], ◌++◌, length, take, drop, Result, Ok, Err, refl, sym, ap, subst, ◌∙◌, arith}
 use Rattle.std.proofs.lemmas.List.{take_at, length-append, length-drop, drop-drop}
 use Rattle.std.proofs.lemmas.Bool.{le-ltb, ltb-false}
 use Rattle.cube_core.specs.declared.fault.Fault.{Fault}
@@ -10,7 +10,7 @@ use Rattle.header_bits.specs.declared.coder_part.CoderPart.{CoderPart}
 use Rattle.header_bits.specs.Layout.{total, values}
 use Rattle.cube_core.specs.declared.fault.Fault.TheVariants.{ShortHeader}
 use Rattle.cube_core.specs.Steps.{◌>>=◌}
-use Rattle.header_bits.specs.Parts.{Part, part_at, then_at, as_at, SpellsPart, SpellsThen, IsExact}
+use Rattle.header_bits.specs.Parts.{Part, part_at, then_at, as_at, SpellsPart, IsExact}
 use Rattle.header_bits.specs.Reach.{Reach, here}
 use Rattle.header_bits.specs.ImagePart.{image}
 use Rattle.header_bits.specs.PredictorPart.{predictor}

@@ -1,5 +1,5 @@
 -- The numbers of lawful parameters fit their slots.
-use Rattle.std.proofs.Common.{◌≡◌, ◌⊎◌, inl, inr, ℕ, zero, suc, ◌+◌, ◌-◌, ◌*◌, ◌^◌, ◌<◌, ◌≤◌, ◌≤ℤ◌, Bool, true, false, cond, eqb, List, [], ◌∷◌, ◌++◌, length, append_assoc, ℤ, pos, negsuc, refl, sym, ap, subst, ◌∙◌, arith, lit<}
+use Rattle.std.proofs.Common.{◌≡◌, ℕ, ◌<◌, ◌≤◌, Bool, true, false, cond, eqb, List, [], ◌++◌, length, append_assoc, ℤ, pos, negsuc, refl, sym, ap, ◌∙◌, arith, lit<}
 use Rattle.std.proofs.lemmas.Int.{ints}
 use Rattle.std.proofs.lemmas.List.{append-nil, length-append}
 use Rattle.header_bits.proofs.Slots.{length-spelled}
@@ -22,7 +22,7 @@ use Rattle.header_bits.specs.ImagePart.{image_fields, image_numbers, flag, order
 use Rattle.header_bits.specs.PredictorPart.{predictor_fields, predictor_numbers, exponent_code}
 use Rattle.header_bits.specs.CoderPart.{sample_fields, block_fields, coder_fields, coder_numbers, size_code}
 use Rattle.header_bits.specs.Header.{is_block, image_part_of, predictor_part_of, coder_part_of, is_custom, resolution_of, constant_of, is_each, weight_bits, each_bits, constant_bits, header_of}
-use Rattle.header_bits.specs.Lawful.{IsLawful, IsExponent, IsBlockSize, IsCountStart, IsWeightStart, IsCoder}
+use Rattle.header_bits.specs.Lawful.{IsLawful, IsExponent, IsCountStart, IsWeightStart, IsCoder}
 
 pub flag_small : (b : Bool) → flag b < 2
 flag_small true = lit< tt

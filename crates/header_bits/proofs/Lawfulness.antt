@@ -1,13 +1,13 @@
 -- Parameters are lawful exactly where no refusal is met.
-use Rattle.std.proofs.Common.{◌≡◌, ◌⊎◌, inl, inr, ℕ, ◌+◌, ◌-◌, ◌*◌, ◌^◌, ◌<◌, ◌≤◌, ◌≤ℤ◌, ◌-ℤ◌, neg_ℤ, Bool, true, false, cond, not, ◌&&◌, leb, ltb, eqb, int_le, int_lt, List, [], ◌∷◌, length, ℤ, pos, negsuc, IsOk, OnOk, ◌↔◌, Result, Ok, Err, refl, sym, ap, subst, ◌∙◌, arith}
+use Rattle.std.proofs.Common.{◌≡◌, inl, inr, ℕ, ◌+◌, ◌-◌, ◌^◌, ◌≤◌, ◌≤ℤ◌, ◌-ℤ◌, neg_ℤ, Bool, true, false, cond, not, ◌&&◌, ltb, eqb, int_le, int_lt, List, [], ◌∷◌, length, ℤ, pos, IsOk, OnOk, ◌↔◌, Ok, Err, refl, sym, ◌∙◌, arith}
 use Rattle.std.specs.List.{AllByRecursion}
-use Rattle.std.proofs.lemmas.Bool.{ltb-false, le-ltb, eqb-true, eqb-false, eq-eqb, ne_eqb, not_from_true, and_from, and_parts, cond-true, cond-false}
+use Rattle.std.proofs.lemmas.Bool.{ltb-false, le-ltb, eqb-true, eqb-false, eq-eqb, ne_eqb, not_from_true, and_from, and_parts}
 use Rattle.cube_core.specs.declared.fault.Field.TheVariants as field
 use Rattle.cube_core.specs.declared.fault.Rule.TheVariants as rule
 use Rattle.cube_core.specs.declared.fault.Fault.TheVariants.{FieldRange, Disagree}
 use Rattle.cube_core.specs.declared.order.Order.{Order}
 use Rattle.cube_core.specs.declared.order.Order.TheVariants.{Bsq, Bi}
-use Rattle.cube_core.specs.Steps.{Test, ◌>>◌, refuse_if}
+use Rattle.cube_core.specs.Steps.{Test, refuse_if}
 use Rattle.cube_core.specs.Shape.{Sizes, AreSizes, InRange}
 use Rattle.cube_core.specs.Kind.{IsKind}
 use Rattle.cube_core.specs.Order.{IsOrder}

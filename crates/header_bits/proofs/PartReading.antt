@@ -1,9 +1,8 @@
 -- A part that is read: too short, refused, or said.
-use Rattle.std.proofs.Common.{◌≡◌, ℕ, ◌+◌, ◌<◌, ◌≤◌, Bool, true, false, ltb, List, length, drop, Result, Ok, Err, refl, sym, ap, subst, ◌∙◌, arith}
+use Rattle.std.proofs.Common.{◌≡◌, ℕ, ◌<◌, ◌≤◌, Bool, true, false, List, length, drop, Result, Ok, Err, refl, sym, subst}
 use Rattle.std.proofs.lemmas.Bool.{le-ltb, lt-ltb}
 use Rattle.cube_core.specs.declared.fault.Fault.{Fault}
-use Rattle.cube_core.specs.declared.fault.Fault.TheVariants.{ShortHeader, Reserved}
-use Rattle.cube_core.specs.Steps.{Test, ◌>>=◌}
+use Rattle.cube_core.specs.declared.fault.Fault.TheVariants.{ShortHeader}
 use Rattle.header_bits.specs.Layout.{AreValues, total, values}
 use Rattle.header_bits.specs.Parts.{Part, fine, part_at}
 use Rattle.header_bits.specs.declared.image_part.ImagePart.{ImagePart}

@@ -1,10 +1,9 @@
 -- One slot more of a row that is read or written.
-use Rattle.std.proofs.Common.{◌≡◌, ℕ, zero, suc, ◌+◌, ◌-◌, ◌*◌, ◌^◌, ◌<◌, ◌≤◌, List, [], ◌∷◌, ◌++◌, Bool, length, get_or, take, drop, set, refl, sym, ap, subst, ◌∙◌, append_assoc, arith, inl, inr}
+use Rattle.std.proofs.Common.{◌≡◌, ℕ, zero, suc, ◌+◌, ◌-◌, ◌^◌, ◌<◌, ◌≤◌, List, [], ◌∷◌, ◌++◌, Bool, length, get_or, take, drop, set, sym, ap, subst, ◌∙◌, append_assoc, arith, inl, inr}
 use Rattle.std.proofs.lemmas.List.{drop_more, drop_all, drop-drop, take_all, take_more_set, length-drop, length-set, append-nil}
 use Rattle.std.proofs.lemmas.Bool.{cases_eq, eq-eqb, ne_eqb}
 use Rattle.std.proofs.Math.Nat.{pow-le-pow_right}
-use Rattle.std.specs.List.{AllByRecursion}
-use Rattle.header_bits.specs.Bits.{bits_of, number_of}
+use Rattle.header_bits.specs.Bits.{bits_of}
 use Rattle.header_bits.proofs.Numbers.{taken_is}
 use Rattle.header_bits.specs.declared.layout.Slot.{Slot}
 use Rattle.header_bits.specs.declared.layout.Slot.TheVariants.{Unused, Plain, Modulo}

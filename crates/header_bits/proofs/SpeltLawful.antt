@@ -1,13 +1,12 @@
 -- What a header spells is lawful, where neither tables nor the restricted set are taken.
-use Rattle.std.proofs.Common.{◌≡◌, ◌⊎◌, inl, inr, ℕ, zero, suc, ◌+◌, ◌-◌, ◌*◌, ◌^◌, ◌<◌, ◌≤◌, ◌≤ℤ◌, ◌-ℤ◌, Bool, true, false, cond, not, ◌&&◌, leb, ltb, eqb, List, [], ◌∷◌, length, get_or, ℤ, pos, negsuc, Result, Ok, Err, refl, sym, ap, subst, ◌∙◌, arith, lit<}
+use Rattle.std.proofs.Common.{◌≡◌, inl, inr, ℕ, zero, suc, ◌+◌, ◌-◌, ◌*◌, ◌^◌, ◌<◌, ◌≤◌, ◌≤ℤ◌, Bool, true, false, cond, not, ◌&&◌, ltb, eqb, List, [], ◌∷◌, length, get_or, ℤ, pos, Ok, refl, sym, subst, ◌∙◌, arith, lit<}
 use Rattle.std.proofs.lemmas.Int.{ints}
-use Rattle.std.proofs.lemmas.Bool.{ltb-false, eqb-true, eqb-false, eq-eqb, ne_eqb}
+use Rattle.std.proofs.lemmas.Bool.{ltb-false, eqb-false, eq-eqb}
 use Rattle.cube_core.specs.declared.fault.Field.TheVariants as field
 use Rattle.cube_core.specs.declared.fault.Rule.TheVariants as rule
-use Rattle.cube_core.specs.declared.fault.Fault.TheVariants.{FieldRange, Disagree, TableElsewhere}
-use Rattle.cube_core.specs.declared.order.Order.{Order}
+use Rattle.cube_core.specs.declared.fault.Fault.TheVariants.{FieldRange, Disagree}
 use Rattle.cube_core.specs.declared.order.Order.TheVariants.{Bsq, Bi}
-use Rattle.cube_core.specs.Steps.{Test, ◌>>◌, refuse_if}
+use Rattle.cube_core.specs.Steps.{refuse_if}
 use Rattle.cube_core.specs.Shape.{Sizes, AreSizes, InRange}
 use Rattle.cube_core.specs.Kind.{IsKind}
 use Rattle.cube_core.specs.Order.{IsOrder}
@@ -25,7 +24,7 @@ use Rattle.header_bits.specs.ImagePart.{image, image_fields, image_tests, image_
 use Rattle.header_bits.specs.PredictorPart.{predictor, predictor_fields, predictor_tests, start_tests, predictor_says, exponent_of}
 use Rattle.header_bits.specs.CoderPart.{coder_by, coder, sample_fields, sample_tests, sample_says, block_fields, block_tests, block_says}
 use Rattle.header_bits.specs.TableParts.{has_constants}
-use Rattle.header_bits.specs.Header.{SpellsHeader, params_of, start_by, count_by, coder_by_part}
+use Rattle.header_bits.specs.Header.{SpellsHeader, params_of, start_by, coder_by_part}
 use Rattle.header_bits.specs.Lawful.{IsLawful, IsExponent, IsBlockSize, IsWeightStart, IsCoder}
 use Rattle.header_bits.proofs.Exact.{part_exact}
 use Rattle.header_bits.proofs.Tests.{then_ok, refuse_ok, under}

@@ -1,7 +1,7 @@
 -- What it means that a test passed.
-use Rattle.std.proofs.Common.{◌≡◌, ℕ, ◌≤◌, ◌<◌, ◌≤ℤ◌, Bool, true, false, cond, not, ◌&&◌, leb, ltb, eqb, int_le, int_lt, IsOk, ◌↔◌, Result, Ok, Err, ℤ, pos, negsuc, T, refl, sym, ap, subst, ◌∙◌, arith, inl, inr}
+use Rattle.std.proofs.Common.{◌≡◌, ℕ, ◌≤ℤ◌, Bool, true, false, not, ◌&&◌, leb, int_le, int_lt, Ok, Err, ℤ, pos, negsuc, refl, arith}
 use Rattle.std.proofs.lemmas.Int.{ints}
-use Rattle.std.proofs.lemmas.Bool.{leb-true, le-leb, and_parts, and_from, and_cases, not_from_true, false_from_ne_true}
+use Rattle.std.proofs.lemmas.Bool.{leb-true, le-leb, and_parts, and_from, not_from_true}
 use Rattle.cube_core.specs.declared.fault.Fault.{Fault}
 use Rattle.cube_core.specs.declared.fault.Field.{Field}
 use Rattle.cube_core.specs.Steps.{Test, ◌>>◌, refuse_if}

@@ -12,15 +12,14 @@ use Rattle.header_bits.specs.declared.image_part.ImagePart.{ImagePart}
 use Rattle.header_bits.specs.declared.predictor_part.PredictorPart.{PredictorPart}
 use Rattle.header_bits.specs.declared.coder_part.CoderPart.{CoderPart}
 use Rattle.header_bits.specs.declared.coder_part.CoderPart.TheVariants.{Sample, Block}
-use Rattle.header_bits.specs.Bits.{bits_of}
 use Rattle.header_bits.specs.Reading.{Reading}
 use Rattle.header_bits.specs.Layout.{total, spelled}
-use Rattle.header_bits.specs.Parts.{Part, part_at, then_at, as_at, SpellsPart, SpellsThen, SpellsAs}
+use Rattle.header_bits.specs.Parts.{part_at, then_at, as_at, SpellsPart, SpellsThen, SpellsAs}
 use Rattle.header_bits.specs.Reach.{Reach}
 use Rattle.header_bits.specs.ImagePart.{image, image_fields, image_numbers}
 use Rattle.header_bits.specs.PredictorPart.{predictor, predictor_fields, predictor_numbers}
 use Rattle.header_bits.specs.CoderPart.{coder, coder_fields, coder_numbers}
-use Rattle.header_bits.specs.TableParts.{weights, constants, table_fields, weight_count, signed_code}
+use Rattle.header_bits.specs.TableParts.{weights, constants, table_fields, signed_code}
 
 -- what the parts say, one after another
 abbrev pub Said : Type 0

@@ -1,5 +1,5 @@
 -- Which parameters are lawful, and why others are refused.
-use Rattle.std.specs.Prelude.{◌≡◌, ◌⊎◌, ℕ, ◌+◌, ◌-◌, ◌*◌, ◌^◌, ◌≤◌, ◌==◌, nat_lt, nat_le, not, ◌&&◌, Bool, true, false, if◌then◌else◌, List, [], ◌∷◌, length, ℤ, pos, negsuc, neg_ℤ, ◌≤ℤ◌, ◌-ℤ◌, int_lt, int_le}
+use Rattle.std.specs.Prelude.{◌≡◌, ◌⊎◌, ℕ, ◌+◌, ◌-◌, ◌^◌, ◌≤◌, ◌==◌, nat_lt, nat_le, not, ◌&&◌, true, false, List, [], ◌∷◌, length, ℤ, pos, negsuc, neg_ℤ, ◌≤ℤ◌, ◌-ℤ◌, int_lt, int_le}
 use Rattle.std.specs.List.{AllByRecursion}
 use Rattle.cube_core.specs.declared.fault.Fault.TheVariants.{FieldRange, Disagree}
 use Rattle.cube_core.specs.declared.fault.Field.{Field}

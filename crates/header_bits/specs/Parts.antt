@@ -1,6 +1,5 @@
 -- Parts of a header that follow one another: how each is read, with the first fault, and what spells it.
-use Rattle.std.specs.Prelude.{◌≡◌, ℕ, zero, suc, ◌+◌, ◌/◌, ◌^◌, ◌==◌, nat_lt, Bool, if◌then◌else◌, List, ◌++◌, length, drop, Result, Ok, Err}
-use Rattle.cube_core.specs.declared.fault.Fault.{Fault}
+use Rattle.std.specs.Prelude.{◌≡◌, ℕ, zero, suc, ◌+◌, ◌/◌, ◌^◌, ◌==◌, nat_lt, Bool, if◌then◌else◌, List, ◌++◌, length, drop, Ok, Err}
 use Rattle.cube_core.specs.declared.fault.Fault.TheVariants.{ShortHeader, Reserved}
 use Rattle.cube_core.specs.Steps.{Test, ◌>>=◌}
 use Rattle.header_bits.specs.declared.layout.Slot.{Slot}

@@ -1,5 +1,5 @@
 -- The predictor part of a header, five bytes (CCSDS 123.0-B-1, "Predictor metadata").
-use Rattle.std.specs.Prelude.{ℕ, ◌+◌, ◌-◌, ◌==◌, ◌&&◌, not, nat_lt, Bool, true, false, if◌then◌else◌, List, [], ◌∷◌, slice_index, ℤ, pos, negsuc, ◌-ℤ◌}
+use Rattle.std.specs.Prelude.{ℕ, ◌+◌, ◌-◌, ◌==◌, ◌&&◌, not, nat_lt, List, [], ◌∷◌, slice_index, ℤ, pos, negsuc, ◌-ℤ◌}
 use Rattle.cube_core.specs.declared.fault.Fault.TheVariants.{FieldRange, Disagree, TableElsewhere}
 use Rattle.cube_core.specs.declared.fault.Field.TheVariants as field
 use Rattle.cube_core.specs.declared.fault.Rule.TheVariants as rule

@@ -1,7 +1,7 @@
 -- Parameters and headers of the worked examples.
-use Rattle.std.specs.Prelude.{ℕ, true, false, Bool, List, [], ◌∷◌, ℤ, pos, negsuc}
+use Rattle.std.specs.Prelude.{ℕ, true, false, Bool, List, ℤ, pos, negsuc}
 use Rattle.cube_core.specs.declared.order.Order.{Order}
-use Rattle.cube_core.specs.declared.order.Order.TheVariants.{Bsq, Bi}
+use Rattle.cube_core.specs.declared.order.Order.TheVariants.{Bsq}
 use Rattle.cube_core.specs.Shape.{Sizes}
 use Rattle.cube_core.specs.Kind.{SampleKind}
 use Rattle.header_bits.specs.declared.params.Params.{Params}

@@ -1,5 +1,5 @@
 -- The tables that may stand in a header: weights to start from, and an accumulator constant for each band.
-use Rattle.std.specs.Prelude.{ℕ, zero, suc, ◌+◌, ◌-◌, ◌*◌, ◌%◌, ◌^◌, nat_lt, min, Bool, true, false, if◌then◌else◌, List, [], ◌∷◌, ◌++◌, map, take, length, replicate, slice_index, ℤ, pos, negsuc, ◌-ℤ◌}
+use Rattle.std.specs.Prelude.{ℕ, zero, suc, ◌+◌, ◌-◌, ◌*◌, ◌%◌, ◌^◌, nat_lt, min, Bool, true, false, if◌then◌else◌, List, [], ◌∷◌, ◌++◌, map, take, replicate, slice_index, ℤ, pos, negsuc, ◌-ℤ◌}
 use Rattle.cube_core.specs.declared.fault.Fault.TheVariants.{Disagree}
 use Rattle.cube_core.specs.declared.fault.Rule.TheVariants as rule
 use Rattle.cube_core.specs.Steps.{Test, ◌>>◌, refuse_if}
@@ -9,7 +9,6 @@ use Rattle.header_bits.specs.declared.image_part.ImagePart.{ImagePart}
 use Rattle.header_bits.specs.declared.predictor_part.PredictorPart.{PredictorPart}
 use Rattle.header_bits.specs.declared.coder_part.CoderPart.{CoderPart}
 use Rattle.header_bits.specs.declared.coder_part.CoderPart.TheVariants.{Sample, Block}
-use Rattle.header_bits.specs.Layout.{total}
 use Rattle.header_bits.specs.Parts.{Part, fine, unused}
 
 -- how many weights the first bands have in all: a directional one for each of three neighbours in full mode, and one for each previous band

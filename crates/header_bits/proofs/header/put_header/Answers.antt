@@ -1,6 +1,6 @@
 use Rattle.std.proofs.Common.{arith}
 use Rattle.header_bits.specs.Reach.{here}
-use Rattle.header_bits.proofs.Held.{image_held, predictor_held, coder_held, image_total, predictor_total, header_written, header_length}
+use Rattle.header_bits.proofs.Held.{image_held, predictor_held, image_total, predictor_total, header_written, header_length}
 use Rattle.header_bits.proofs.header.put_header.Goals as goal
 
 pub returns-in_err-reserve-clause-size : goal.returns-in_err-reserve-clause-size

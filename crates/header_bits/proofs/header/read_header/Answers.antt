@@ -1,8 +1,7 @@
-use Rattle.std.proofs.Common.{arith, sym, ap, ◌∙◌, ◌≡◌, ◌≤◌, ◌*◌, ℕ, length, drop, take, Ok}
+use Rattle.std.proofs.Common.{arith, sym, ap, ◌∙◌, take}
 use Rattle.std.proofs.lemmas.Result.{err_from_is_err_and}
 use Rattle.header_bits.specs.Bits.{bits_of_bytes}
 use Rattle.header_bits.specs.Parts.{part_at}
-use Rattle.header_bits.specs.Reach.{here}
 use Rattle.header_bits.specs.ImagePart.{image}
 use Rattle.header_bits.proofs.Bytes.{length-bits_of_bytes}
 use Rattle.header_bits.proofs.SpeltLawful.{read_usual, read_constant, spelt_is_lawful}

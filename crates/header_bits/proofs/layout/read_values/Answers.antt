@@ -1,4 +1,4 @@
-use Rattle.std.proofs.Common.{arith, get_or, ◌∙◌}
+use Rattle.std.proofs.Common.{get_or, ◌∙◌}
 use Rattle.header_bits.specs.declared.layout.Slot.TheVariants.{Unused}
 use Rattle.header_bits.proofs.SlotLoops.{narrow_value, slot_narrow, width_left, has_read_more, has_read_all}
 use Rattle.header_bits.proofs.layout.read_values.Goals as goal

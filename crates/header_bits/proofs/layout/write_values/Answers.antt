@@ -1,6 +1,5 @@
-use Rattle.std.proofs.Common.{arith, get_or, length, ◌<◌}
-use Rattle.header_bits.specs.declared.layout.Slot.TheVariants.{Unused}
-use Rattle.header_bits.proofs.SlotLoops.{next_fits, written_more, written_all, total_left, total_none}
+use Rattle.std.proofs.Common.{arith, length, ◌<◌}
+use Rattle.header_bits.proofs.SlotLoops.{next_fits, written_more, written_all, total_left}
 use Rattle.header_bits.proofs.layout.write_values.Goals as goal
 
 pub loop-i-preserved : goal.loop-i-preserved

@@ -1,4 +1,4 @@
-use Rattle.std.proofs.Common.{sym, arith, ap, ◌≡◌, ◌+◌, ◌∙◌, Err, ℕ}
+use Rattle.std.proofs.Common.{sym, ap, ◌+◌, ◌∙◌, Err, ℕ}
 use Rattle.cube_core.specs.declared.fault.Fault.TheVariants.{Reserved}
 use Rattle.header_bits.proofs.Unused.{unused_next, unused_found, unused_done}
 use Rattle.header_bits.proofs.refusal.unused.Goals as goal

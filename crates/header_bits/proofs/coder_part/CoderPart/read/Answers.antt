@@ -1,7 +1,5 @@
-use Rattle.std.proofs.Common.{arith, sym, ap, ◌∙◌, ◌≡◌, ◌≤◌, ℕ, true, false, length, drop, Ok}
+use Rattle.std.proofs.Common.{arith, sym, ap, ◌∙◌, true, false, Ok}
 use Rattle.std.proofs.lemmas.Result.{err_from_is_err_and}
-use Rattle.header_bits.specs.Layout.{total}
-use Rattle.header_bits.specs.Parts.{part_at}
 use Rattle.header_bits.specs.Reach.{here}
 use Rattle.header_bits.specs.CoderPart.{coder, coder_by}
 use Rattle.header_bits.proofs.PartReading.{part_short, part_refused, part_said, values_held, coder_size, coder_by_size, coder_is}

@@ -1,7 +1,5 @@
-use Rattle.std.proofs.Common.{arith, sym, ap, ◌∙◌, ◌≡◌, ◌≤◌, ℕ, length, drop, Ok}
+use Rattle.std.proofs.Common.{arith, sym, ap, ◌∙◌, Ok}
 use Rattle.std.proofs.lemmas.Result.{err_from_is_err_and}
-use Rattle.header_bits.specs.Layout.{total}
-use Rattle.header_bits.specs.Parts.{part_at}
 use Rattle.header_bits.specs.ImagePart.{image}
 use Rattle.header_bits.proofs.PartReading.{part_short, part_refused, part_said, values_held, image_size}
 use Rattle.header_bits.proofs.image_part.ImagePart.read.Goals as goal
