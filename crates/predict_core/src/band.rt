@@ -11,7 +11,7 @@ ghost use Rattle.predict_core.specs.Predictor.{component_count};
 ghost use Rattle.predict_core.specs.Prediction.{scaled_there, next_weights, first_scaled as first_prediction};
 ghost use Rattle.predict_core.specs.Residual.{mapped, mapped_residual};
 ghost use Rattle.predict_core.specs.Bounds.{AllWithin};
-ghost use Rattle.predict_core.specs.Following.{Follows, MovesOn};
+ghost use Rattle.predict_core.specs.Following.{Follows, IsMadeFor, MovesOn};
 
 use crate::predictor::Predictor;
 use crate::range::Range;
@@ -57,7 +57,8 @@ impl Band {
     pub fn new(_alloc: Global, params: &Params, z: u32) -> Result<Band, Fault>
         requires lawful { IsLawful here params.now }
         requires band { z < params.now.shape.bands }
-        ensures made { IfOk result (λ b. (b.band ≡ z) × (b.place ≡ 0) × ((c : Image) → Follows params.now b c)) }
+        ensures made { IfOk result (λ b. IsMadeFor params.now b × (b.band ≡ z) × (b.place ≡ 0)) }
+        ensures follows { IfOk result (λ b. (c : Image) → Follows params.now b c) }
         ensures refused { IfErr result (λ e. e ≡ WantOfMemory) }
     {
         let predictor = Predictor::of(params);
