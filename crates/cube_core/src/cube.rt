@@ -122,11 +122,14 @@ impl Cube {
         self.heights[at] = self.kind.height_of(sample);
     }
 
-    /// That there is a sample at each place, as a fact for proofs: nothing is run.
-    pub fn is_whole(&self)
-        ensures { length self.now.samples ≡ sample_count self.now.shape }
+    /// That sizes and kind are in range, and a sample of the kind is at each place: a fact for proofs.
+    pub fn is_cube(&self)
+        ensures { IsCube self.now }
     {
-        let _shape = self.shape;
+        let _columns = self.shape.columns();
+        let _rows = self.shape.rows();
+        let _bands = self.shape.bands();
+        let _bits = self.kind.bits();
     }
 
     /// One row of a band, each sample as its height above the least sample of the kind.

@@ -4,10 +4,12 @@ pub mod Following
 pub mod Frame
 pub mod Inverting
 pub mod LocalSums
+pub mod Moves
 pub mod OneSample
 pub mod Padding
 pub mod Products
 pub mod Wrapping
+pub mod Ranges
 pub mod Residuals
 pub mod Scaled
 pub mod Spans

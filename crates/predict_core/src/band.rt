@@ -11,7 +11,7 @@ ghost use Rattle.predict_core.specs.Predictor.{component_count};
 ghost use Rattle.predict_core.specs.Prediction.{scaled_there, next_weights, first_scaled as first_prediction};
 ghost use Rattle.predict_core.specs.Residual.{mapped, mapped_residual};
 ghost use Rattle.predict_core.specs.Bounds.{AllWithin};
-ghost use Rattle.predict_core.specs.Following.{Follows, MovesOn};
+ghost use Rattle.predict_core.specs.Following.{Follows, IsMadeFor, MovesOn};
 
 use crate::predictor::Predictor;
 use crate::range::Range;
@@ -57,7 +57,8 @@ impl Band {
     pub fn new(_alloc: Global, params: &Params, z: u32) -> Result<Band, Fault>
         requires lawful { IsLawful here params.now }
         requires band { z < params.now.shape.bands }
-        ensures made { IfOk result (λ b. (b.band ≡ z) × (b.place ≡ 0) × ((c : Image) → Follows params.now b c)) }
+        ensures made { IfOk result (λ b. IsMadeFor params.now b × (b.band ≡ z) × (b.place ≡ 0)) }
+        ensures follows { IfOk result (λ b. (c : Image) → Follows params.now b c) }
         ensures refused { IfErr result (λ e. e ≡ WantOfMemory) }
     {
         let predictor = Predictor::of(params);
@@ -125,7 +126,7 @@ impl Band {
         ensures residual { (p : Parameters) → Follows p self.old cube.now → mapped_residual p (put cube.now self.old.band y x result) self.old.band self.old.place ≡ delta }
         ensures follows { (p : Parameters) → Follows p self.old cube.now → Follows p self.new (put cube.now self.old.band y x result) }
     {
-        cube.is_whole();
+        cube.is_cube();
         let t = self.next;
         self.next = t + 1;
         if t == 0 {
@@ -193,7 +194,7 @@ fn first_sample(settings: &Settings, cube: &Cube, y: u32, x: u32, delta: u16) ->
     ensures range { IsSample cube.now.kind result }
     ensures inverse { mapped cube.now.kind (first_prediction settings.now.predictor (put cube.now settings.now.band y x result) settings.now.band) result ≡ delta }
 {
-    cube.is_whole();
+    cube.is_cube();
     let scaled = first_scaled(settings, cube);
     settings.range.sample_of(scaled, delta)
 }
@@ -221,9 +222,9 @@ fn next_sample(
     ensures weights { take (component_count settings.now.predictor settings.now.band) weights.new ≡ next_weights settings.now.predictor (put cube.now settings.now.band y x result) settings.now.band t (take (component_count settings.now.predictor settings.now.band) weights.old) }
     ensures bound { AllWithin (2 ^ 21) weights.new }
 {
-    cube.is_whole();
+    cube.is_cube();
     let prediction = predict(settings, cube, y, x, weights);
-    let sample = settings.range.sample_of(prediction.scaled, delta);
-    learn(settings, t, weights, &prediction, sample);
-    sample
+    let found = settings.range.sample_of(prediction.scaled, delta);
+    learn(settings, t, weights, &prediction, found);
+    found
 }

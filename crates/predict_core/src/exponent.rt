@@ -15,7 +15,7 @@ pub(crate) fn exponent_at(predictor: &Predictor, columns: u32, bits: u32, t: u64
     requires bits_in { (2 ≤ bits) × (bits ≤ 16) }
     requires t_in { t < 2 ^ 32 }
     ensures value { result ≡ step_exponent predictor.now columns bits t }
-    ensures least { negsuc 22 ≤ℤ result }
+    ensures least { (pos bits -ℤ pos 25) ≤ℤ result }
     ensures most { result ≤ℤ pos 21 }
 {
     growth_at(predictor, columns, t) + bits as i32 - predictor.fraction as i32

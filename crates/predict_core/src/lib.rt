@@ -13,5 +13,7 @@ mod register;
 pub mod residual;
 mod settings;
 mod start;
+#[cfg(test)]
+mod tests;
 mod weights;
 pub mod worked;

@@ -67,10 +67,11 @@ pub(crate) fn predict(
     requires later { 0 < y + x }
     requires weights_in { AllWithin (2 ^ 21) weights.now }
     ensures differences { result.differences ≡ vector settings.now.predictor cube.now settings.now.band y x ++ replicate (18 - component_count settings.now.predictor settings.now.band) (pos 0) }
-    ensures bound { AllWithin (2 ^ 18) result.differences }
+    ensures bound { AllWithin (4 * 2 ^ settings.now.range.bits) result.differences }
     ensures value { result.scaled ≡ scaled_there settings.now.predictor cube.now settings.now.band y x (take (component_count settings.now.predictor settings.now.band) weights.now) }
     ensures scaled { IsScaled cube.now.kind result.scaled }
 {
+    cube.is_cube();
     let predictor = &settings.predictor;
     let range = &settings.range;
     let sum = sum_at(predictor, cube, settings.band, y, x);
@@ -93,7 +94,7 @@ pub(crate) fn learn(
 )
     requires t_in { t < 2 ^ 32 }
     requires weights_in { AllWithin (2 ^ 21) weights.old }
-    requires differences_in { AllWithin (2 ^ 18) prediction.now.differences }
+    requires differences_in { AllWithin (4 * 2 ^ settings.now.range.bits) prediction.now.differences }
     requires scaled_in { IsScaled settings.now.range.kind prediction.now.scaled }
     requires sample_in { (negsuc 32767 ≤ℤ sample) × (sample ≤ℤ pos 65535) }
     ensures value { weights.new ≡ updated_weights settings.now.predictor.fraction (step_exponent settings.now.predictor settings.now.columns settings.now.range.bits t) (int_lt (pos 2 *ℤ sample -ℤ prediction.now.scaled) (pos 0)) weights.old prediction.now.differences }
@@ -110,6 +111,7 @@ pub(crate) fn learn(
         weights,
         &prediction.differences,
         settings.predictor.fraction,
+        settings.range.bits,
         exponent,
         negative,
     );

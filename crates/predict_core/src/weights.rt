@@ -1,8 +1,9 @@
 //! The weights of the differences: the products with them, and their update.
 
-ghost use Rattle.std.specs.Prelude.{◌≡◌, ◌+◌, ◌-◌, ◌*◌, ◌^◌, ◌<◌, ◌≤◌, pos, negsuc, ◌≤ℤ◌, unsigned_abs, length};
+ghost use Rattle.std.specs.Prelude.{◌≡◌, ◌+◌, ◌-◌, ◌*◌, ◌^◌, ◌<◌, ◌≤◌, pos, negsuc, ◌≤ℤ◌, ◌+ℤ◌, ◌-ℤ◌, unsigned_abs};
+ghost use Rattle.predict_core.specs.Arithmetic.{clip};
 ghost use Rattle.predict_core.specs.Prediction.{inner_product};
-ghost use Rattle.predict_core.specs.Weights.{step, signed_by, updated_weight as updated, updated_weights};
+ghost use Rattle.predict_core.specs.Weights.{step, signed_by, weight_min, weight_max, updated_weight as updated, updated_weights};
 ghost use Rattle.predict_core.specs.Bounds.{AllWithin};
 
 /// The sum of the products of weights and differences.
@@ -20,78 +21,139 @@ pub(crate) fn product_of(weights: &[i32; 18], differences: &[i32; 18]) -> i64
     sum
 }
 
-/// A step of some size at an exponent.
-fn step_of(exponent: i32, size: i64) -> i64
-    requires exponent_least { negsuc 22 ≤ℤ exponent }
-    requires exponent_most { exponent ≤ℤ pos 21 }
-    requires size_in { unsigned_abs size < 2 ^ 19 }
-    ensures value { result ≡ step exponent size }
-    ensures bound { unsigned_abs result ≤ 2 ^ 42 }
-{
-    if exponent < 0 {
-        let by = (-1 - exponent) as u32;
-        size * (1i64 << by)
-    } else {
-        let by = exponent as u32;
-        (size + (1i64 << by)) >> (by + 1)
-    }
-}
-
-/// A difference, turned where the error is negative.
-fn turned_component(negative: bool, component: i32) -> i64
-    requires component_in { unsigned_abs component ≤ 2 ^ 18 }
-    ensures value { result ≡ signed_by negative component }
-    ensures bound { unsigned_abs result ≤ 2 ^ 18 }
-{
-    if negative {
-        -(component as i64)
-    } else {
-        component as i64
-    }
-}
-
-/// The bound of the weights.
-fn weight_limit(fraction: u32) -> i64
-    requires { fraction ≤ 19 }
-    ensures value { result ≡ pos (2 ^ (fraction + 2)) }
-    ensures bound { result ≤ℤ pos 2097152 }
-    ensures positive { pos 1 ≤ℤ result }
-{
-    1i64 << (fraction + 2)
-}
-
-/// A weight after an error.
-fn updated_weight(fraction: u32, exponent: i32, negative: bool, weight: i32, component: i32) -> i32
-    requires fraction_in { fraction ≤ 19 }
-    requires exponent_least { negsuc 22 ≤ℤ exponent }
-    requires exponent_most { exponent ≤ℤ pos 21 }
-    requires weight_in { unsigned_abs weight ≤ 2 ^ 21 }
-    requires component_in { unsigned_abs component ≤ 2 ^ 18 }
-    ensures value { result ≡ updated fraction exponent negative weight component }
-    ensures bound { unsigned_abs result ≤ 2 ^ 21 }
-{
-    let size = turned_component(negative, component);
-    let limit = weight_limit(fraction);
-    (weight as i64 + step_of(exponent, size)).clamp(-limit, limit - 1) as i32
-}
-
-/// The weights after an error.
+/// The weights after an error: each moves by a step of its difference, with the error's sign
+/// (CCSDS 123.0-B-1, "Weight Update").
+///
+/// The step is found for all weights of the room in one of two ways, both in words of 32 bits.
 pub(crate) fn update(
     weights: &mut [i32; 18],
-    components: &[i32; 18],
+    differences: &[i32; 18],
     fraction: u32,
+    bits: u32,
     exponent: i32,
     negative: bool,
 )
     requires fraction_in { fraction ≤ 19 }
-    requires exponent_least { negsuc 22 ≤ℤ exponent }
+    requires bits_in { (2 ≤ bits) × (bits ≤ 16) }
+    requires exponent_least { (pos bits -ℤ pos 25) ≤ℤ exponent }
     requires exponent_most { exponent ≤ℤ pos 21 }
     requires weights_in { AllWithin (2 ^ 21) weights.old }
-    requires components_in { AllWithin (2 ^ 18) components.now }
-    ensures value { weights.new ≡ updated_weights fraction exponent negative weights.old components.now }
+    requires differences_in { AllWithin (4 * 2 ^ bits) differences.now }
+    ensures value { weights.new ≡ updated_weights fraction exponent negative weights.old differences.now }
+    ensures bound { AllWithin (2 ^ 21) weights.new }
+{
+    if exponent < 0 {
+        let by = (-1 - exponent) as u32;
+        update_by_products(weights, differences, fraction, by, negative);
+    } else {
+        let by = exponent as u32;
+        update_by_halves(weights, differences, fraction, by, negative);
+    }
+}
+
+/// The weights after an error whose exponent is below 0: a difference is raised by `by` bits.
+fn update_by_products(
+    weights: &mut [i32; 18],
+    differences: &[i32; 18],
+    fraction: u32,
+    by: u32,
+    negative: bool,
+)
+    requires fraction_in { fraction ≤ 19 }
+    requires by_in { by ≤ 22 }
+    requires weights_in { AllWithin (2 ^ 21) weights.old }
+    requires differences_in { AllWithin (2 ^ (26 - by)) differences.now }
+    ensures value { weights.new ≡ updated_weights fraction (negsuc by) negative weights.old differences.now }
     ensures bound { AllWithin (2 ^ 21) weights.new }
 {
     for i in 0..18usize {
-        weights[i] = updated_weight(fraction, exponent, negative, weights[i], components[i]);
+        weights[i] = moved_by_product(fraction, by, negative, weights[i], differences[i]);
     }
+}
+
+/// The weights after an error whose exponent is 0 or more: a difference is halved `by + 1` times.
+fn update_by_halves(
+    weights: &mut [i32; 18],
+    differences: &[i32; 18],
+    fraction: u32,
+    by: u32,
+    negative: bool,
+)
+    requires fraction_in { fraction ≤ 19 }
+    requires by_in { by ≤ 21 }
+    requires weights_in { AllWithin (2 ^ 21) weights.old }
+    requires differences_in { AllWithin (2 ^ 18) differences.now }
+    ensures value { weights.new ≡ updated_weights fraction (pos by) negative weights.old differences.now }
+    ensures bound { AllWithin (2 ^ 21) weights.new }
+{
+    for i in 0..18usize {
+        weights[i] = moved_by_halves(fraction, by, negative, weights[i], differences[i]);
+    }
+}
+
+/// One weight after an error whose exponent is below 0.
+fn moved_by_product(fraction: u32, by: u32, negative: bool, weight: i32, difference: i32) -> i32
+    requires fraction_in { fraction ≤ 19 }
+    requires by_in { by ≤ 22 }
+    requires weight_in { unsigned_abs weight ≤ 2 ^ 21 }
+    requires difference_in { unsigned_abs difference ≤ 2 ^ (26 - by) }
+    ensures value { result ≡ updated fraction (negsuc by) negative weight difference }
+    ensures bound { unsigned_abs result ≤ 2 ^ 21 }
+{
+    let size = turned(negative, difference);
+    held(fraction, weight, raised(size, by))
+}
+
+/// One weight after an error whose exponent is 0 or more.
+fn moved_by_halves(fraction: u32, by: u32, negative: bool, weight: i32, difference: i32) -> i32
+    requires fraction_in { fraction ≤ 19 }
+    requires by_in { by ≤ 21 }
+    requires weight_in { unsigned_abs weight ≤ 2 ^ 21 }
+    requires difference_in { unsigned_abs difference ≤ 2 ^ 18 }
+    ensures value { result ≡ updated fraction (pos by) negative weight difference }
+    ensures bound { unsigned_abs result ≤ 2 ^ 21 }
+{
+    let size = turned(negative, difference);
+    held(fraction, weight, lowered(size, by))
+}
+
+/// A difference with the sign of the error.
+fn turned(negative: bool, difference: i32) -> i32
+    requires { unsigned_abs difference ≤ 2 ^ 26 }
+    ensures value { result ≡ signed_by negative difference }
+    ensures size { unsigned_abs result ≡ unsigned_abs difference }
+{
+    if negative { -difference } else { difference }
+}
+
+/// A step of some size at an exponent of `-by - 1`.
+fn raised(size: i32, by: u32) -> i32
+    requires by_in { by ≤ 22 }
+    requires size_in { unsigned_abs size ≤ 2 ^ (26 - by) }
+    ensures value { result ≡ step (negsuc by) size }
+    ensures bound { unsigned_abs result ≤ 2 ^ 26 }
+{
+    size * (1i32 << by)
+}
+
+/// A step of some size at an exponent of `by`.
+fn lowered(size: i32, by: u32) -> i32
+    requires by_in { by ≤ 21 }
+    requires size_in { unsigned_abs size ≤ 2 ^ 18 }
+    ensures value { result ≡ step (pos by) size }
+    ensures bound { unsigned_abs result ≤ 2 ^ 26 }
+{
+    (size + (1i32 << by)) >> (by + 1)
+}
+
+/// A weight after a step, held between the least and the greatest.
+fn held(fraction: u32, weight: i32, step: i32) -> i32
+    requires fraction_in { fraction ≤ 19 }
+    requires weight_in { unsigned_abs weight ≤ 2 ^ 21 }
+    requires step_in { unsigned_abs step ≤ 2 ^ 26 }
+    ensures value { result ≡ clip (weight +ℤ step) (weight_min fraction) (weight_max fraction) }
+    ensures bound { unsigned_abs result ≤ 2 ^ 21 }
+{
+    let limit = 1i32 << (fraction + 2);
+    (weight + step).clamp(-limit, limit - 1)
 }

@@ -16,12 +16,12 @@ pub returns-clause-inverse : goal.returns-clause-inverse
 returns-clause-inverse c =
     let s = c.args.settings.now in
     let at = (goal.at.returns-clause-inverse c).After-learn in
-    let fits : SFits w32 c.sample_of-sample.result = search rules in
+    let fits : SFits w32 c.sample_of-found.result = search rules in
     let scaled_fits : SFits w32 c.predict-prediction.result.scaled = search rules in
-    let e = rw (← c.requires.kind) at (simp (to_z-of_z scaled_fits) at c.sample_of-sample.ensures.inverse) in
+    let e = rw (← c.requires.kind) at (simp (to_z-of_z scaled_fits) at c.sample_of-found.ensures.inverse) in
     rw (
       to_z-of_z fits,
-      ← scaled_put c.args.cube.now s.band c.args.y c.args.x c.sample_of-sample.result c.requires.place c.is_whole.ensures s.predictor (wide at) (later at) (take (component_count s.predictor s.band) c.args.weights.now),
+      ← scaled_put c.args.cube.now s.band c.args.y c.args.x c.sample_of-found.result c.requires.place c.is_cube.ensures.whole s.predictor (wide at) (later at) (take (component_count s.predictor s.band) c.args.weights.now),
       ← c.predict-prediction.ensures.value,
     )
     e
@@ -30,8 +30,8 @@ pub returns-clause-weights : goal.returns-clause-weights
 returns-clause-weights c =
     let s = c.args.settings.now in
     let at = (goal.at.returns-clause-weights c).After-learn in
-    let fits : SFits w32 c.sample_of-sample.result = search rules in
+    let fits : SFits w32 c.sample_of-found.result = search rules in
     let bits : s.range.bits ≡ c.args.cube.now.kind.bits = s.range.bits_is ∙ ap (λ (k : SampleKind). k.bits) (sym c.requires.kind) in
     let e = rw (bits, ← c.requires.columns) at (simp (to_z-of_z fits) at c.learn.ensures.value) in
     rw (to_z-of_z fits)
-    (moved_put c.args.cube.now s.band c.args.y c.args.x c.sample_of-sample.result c.requires.place c.is_whole.ensures s.predictor (wide at) c.args.t _ c.args.weights.now c.predict-prediction.result.differences c.learn.new.weights c.predict-prediction.result.scaled (later at) c.requires.t_is c.predict-prediction.ensures.differences c.predict-prediction.ensures.value e)
+    (moved_put c.args.cube.now s.band c.args.y c.args.x c.sample_of-found.result c.requires.place c.is_cube.ensures.whole s.predictor (wide at) c.args.t _ c.args.weights.now c.predict-prediction.result.differences c.learn.new.weights c.predict-prediction.result.scaled (later at) c.requires.t_is c.predict-prediction.ensures.differences c.predict-prediction.ensures.value e)

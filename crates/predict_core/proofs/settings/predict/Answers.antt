@@ -1,6 +1,8 @@
-use Rattle.std.proofs.Common.{◌≡◌, SFits, w32, to_z-of_z, rules, ap, ◌∙◌, sym}
+use Rattle.std.proofs.Common.{◌≡◌, ◌*◌, ◌^◌, ◌≤◌, false, arith, subst, SFits, w32, to_z-of_z, rules, ap, ◌∙◌, sym}
 use Rattle.cube_core.specs.Kind.{SampleKind, smin}
+use Rattle.predict_core.specs.Bounds.{AllWithin}
 use Rattle.predict_core.proofs.Padding.{scaled_there_is, whole_sum}
+use Rattle.predict_core.proofs.Ranges.{padded_within}
 use Rattle.predict_core.proofs.settings.predict.Goals as goal
 
 pub returns-clause-value : goal.returns-clause-value
@@ -11,3 +13,12 @@ returns-clause-value c =
     let e = rw (whole_sum r.smin c.sum_at-sum.result r.low c.sum_at-sum.ensures.bound) at c.scaled_by-scaled.ensures.value in
     rw (to_z-of_z fits)
     (scaled_there_is c.args.settings.now.predictor c.args.cube.now r.kind c.args.settings.now.band c.args.y c.args.x _ _ _ c.args.weights.now c.difference_vector-differences.result c.requires.kind (sym (rw low at c.sum_at-sum.ensures.value)) c.difference_vector-differences.ensures.value e)
+
+pub returns-clause-bound : goal.returns-clause-bound
+returns-clause-bound c =
+    let s = c.args.settings.now in
+    let bits : s.range.bits ≡ c.args.cube.now.kind.bits = s.range.bits_is ∙ ap (λ (k : SampleKind). k.bits) (sym c.requires.kind) in
+    let wide : s.predictor.column ≡ false → 2 ≤ c.args.cube.now.shape.columns = λ h. let w = s.wide h in omega arith in
+    rw bits
+    (subst (AllWithin (4 * 2 ^ c.args.cube.now.kind.bits)) (sym c.difference_vector-differences.ensures.value)
+    (padded_within s.predictor c.args.cube.now c.is_cube.ensures c.args.y c.args.x c.requires.later wide s.band c.requires.place _))

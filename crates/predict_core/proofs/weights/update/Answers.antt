@@ -1,29 +1,15 @@
-use Rattle.std.proofs.Common.{◌<◌, ◌^◌, ℤ, ℕ, List, pos, length, get_or, SFits, to_z-of_z, w32, arith, rules, length-set}
-use Rattle.predict_core.proofs.Products.{step_kept, step_done, step_bound, all_done, SFits-small, small_is}
+use Rattle.std.proofs.Common.{◌+◌, ◌≤◌, pos, negsuc, unsigned_abs, ◌-ℤ◌, ◌<ℤ◌, SFits, to_z-of_z, w32, arith, rules}
+use Rattle.std.proofs.lemmas.Int.{ints}
+use Rattle.predict_core.proofs.Moves.{within_room, within_most, below_zero}
 use Rattle.predict_core.proofs.weights.update.Goals as goal
 
-pub loop-i-preserved : goal.loop-i-preserved
-loop-i-preserved c =
-    let i : ℕ = c.loop-i.i in
-    let now : List ℤ = c.loop-i.weights in
-    let old : List ℤ = c.args.weights.now in
-    let us : List ℤ = c.args.components.now in
-    let now_long : i < length now = omega arith in
-    let old_long : i < length old = omega arith in
-    let us_long : i < length us = omega arith in
-    let fits : SFits w32 c.updated_weight.result = search rules in
-    let weight_fits : SFits w32 (get_or now i (pos 0)) = SFits-small (get_or now i (pos 0)) (c.loop-i.invariant.bound i now_long) in
-    let component_fits : SFits w32 (get_or us i (pos 0)) = small_is (get_or us i (pos 0)) (c.requires.components_in i us_long) in
-    let e = simp (to_z-of_z c.ranges.exponent, to_z-of_z weight_fits, to_z-of_z component_fits) at c.updated_weight.ensures.value in
-    let d = simp (to_z-of_z c.ranges.exponent) at c.loop-i.invariant.done in
-    rw (to_z-of_z c.ranges.exponent, to_z-of_z fits)
-    (record {
-      done = step_done c.args.fraction c.args.exponent c.args.negative old us now _ i _ now_long old_long us_long c.loop-i.invariant.kept e d;
-      kept = step_kept old now i _ now_long old_long c.loop-i.invariant.kept;
-      bound = step_bound (2 ^ 21) now i _ c.loop-i.invariant.bound c.updated_weight.ensures.bound;
-      long = rw length-set c.loop-i.invariant.long;
-    })
+pub update_by_products-requires-clause-differences_in : goal.update_by_products-requires-clause-differences_in
+update_by_products-requires-clause-differences_in c =
+    let under : c.args.exponent <ℤ pos 0 = search (rules, ints) in
+    let fits : SFits w32 (negsuc 0 -ℤ c.args.exponent) = search (rules, ints) in
+    let is = below_zero c.args.exponent under in
+    let room : c.args.bits + unsigned_abs (negsuc 0 -ℤ c.args.exponent) ≤ 24 = omega (arith, ints) in
+    λ i l. rw (to_z-of_z c.ranges.exponent, to_z-of_z fits) (within_room c.args.bits (unsigned_abs (negsuc 0 -ℤ c.args.exponent)) c.args.differences.now room c.requires.differences_in i l)
 
-pub returns-clause-value : goal.returns-clause-value
-returns-clause-value c =
-    all_done c.args.fraction c.args.exponent c.args.negative c.args.weights.now c.args.components.now c.loop-i.weights _ c.loop-i.i (omega arith) (omega arith) (simp (to_z-of_z c.ranges.exponent) at c.loop-i.invariant.done)
+pub update_by_halves-requires-clause-differences_in : goal.update_by_halves-requires-clause-differences_in
+update_by_halves-requires-clause-differences_in c = within_most c.args.bits c.args.differences.now c.requires.bits_in.1 c.requires.differences_in

@@ -16,13 +16,12 @@ invariant_of-result c = record {
 }
 
 pub returns-clause-made : goal.returns-clause-made
-returns-clause-made c = (
-  refl,
-  refl,
-  λ d. record {
-    made = record { predictor = c.of-predictor.ensures.value; shape = refl; kind = c.of.ensures };
-    weights =
-        rw c.min-previous.ensures
-        (start_is c.args.params.now d c.args.z (predictor_of c.args.params.now) refl (usual_by_law c.args.params.now c.requires.lawful) c.usual_start.result c.first_spectral-first.result _ c.first_spectral-first.ensures.value (rw c.min-previous.ensures at c.usual_start.ensures.value));
-  },
-)
+returns-clause-made c = (record { predictor = c.of-predictor.ensures.value; shape = refl; kind = c.of.ensures }, refl, refl)
+
+pub returns-clause-follows : goal.returns-clause-follows
+returns-clause-follows c d = record {
+  made = record { predictor = c.of-predictor.ensures.value; shape = refl; kind = c.of.ensures };
+  weights =
+      rw c.min-previous.ensures
+      (start_is c.args.params.now d c.args.z (predictor_of c.args.params.now) refl (usual_by_law c.args.params.now c.requires.lawful) c.usual_start.result c.first_spectral-first.result _ c.first_spectral-first.ensures.value (rw c.min-previous.ensures at c.usual_start.ensures.value));
+}

@@ -1,0 +1,81 @@
+-- The steps of the weights in words of 32 bits.
+use Rattle.std.proofs.Common.{◌≡◌, ℕ, ◌+◌, ◌-◌, ◌*◌, ◌%◌, ◌^◌, ◌≤◌, ℤ, pos, negsuc, neg_ℤ, ◌+ℤ◌, ◌-ℤ◌, ◌*ℤ◌, ◌≤ℤ◌, ◌<ℤ◌, unsigned_abs, Bool, List, refl, sym, ap, ◌∙◌, arith, w32, SFits, to_z, pow_mono, le_trans}
+use Rattle.std.proofs.Math.Pow.{pow-add}
+use Rattle.std.proofs.lemmas.Int.{ints, to_z_pos, fits_signed_from_abs, unsigned_abs-mul}
+use Rattle.std.proofs.lemmas.Nat.{one_shl, pow_below, mul-le}
+use Rattle.predict_core.specs.Arithmetic.{floor_div, clip}
+use Rattle.predict_core.specs.Weights.{step, signed_by, weight_min, weight_max, updated_weight}
+use Rattle.predict_core.specs.Bounds.{AllWithin}
+use Rattle.predict_core.proofs.Scaled.{halved_shrinks}
+
+-- one bit put at place k of a word
+pub bit_in_word : (k : ℕ) → k ≤ 30 → to_z w32 ((1 * 2 ^ k) % 2 ^ 32) ≡ pos (2 ^ k)
+bit_in_word k h = rw (one_shl k 32 (omega arith)) (to_z_pos w32 (2 ^ k) (pow_below k 31 (omega arith)))
+
+pub SFits-26 : (a : ℤ) → unsigned_abs a ≤ 2 ^ 26 → SFits w32 a
+SFits-26 a h = fits_signed_from_abs w32 a (omega arith)
+
+pub SFits-bit_in_word : (k : ℕ) → k ≤ 30 → SFits w32 (pos (2 ^ k))
+SFits-bit_in_word k h = record { sfits = pow_below k 31 (omega arith) }
+
+-- what a shift to the left makes of a difference
+pub raised_within : (a : ℤ) (k : ℕ) → k ≤ 26 → unsigned_abs a ≤ 2 ^ (26 - k) → unsigned_abs (a *ℤ pos (2 ^ k)) ≤ 2 ^ 26
+raised_within a k l h =
+    let s : (26 - k) + k ≡ 26 = omega arith in
+    let p : 2 ^ (26 - k) * 2 ^ k ≡ 2 ^ 26 = sym (pow-add 2 (26 - k) k) ∙ ap (λ n. 2 ^ n) s in
+    let q : unsigned_abs a * 2 ^ k ≤ 2 ^ (26 - k) * 2 ^ k = mul-le (unsigned_abs a) (2 ^ k) (2 ^ (26 - k)) (2 ^ k) h (omega arith) in
+    rw (unsigned_abs-mul a (pos (2 ^ k))) (omega (arith, p, q))
+
+-- and one to the right, with a half added
+pub half_added : (a : ℤ) (k : ℕ) → unsigned_abs a ≤ 2 ^ 18 → k ≤ 21 → unsigned_abs (a +ℤ pos (2 ^ k)) ≤ 2 ^ 22
+half_added a k h l = let p : 2 ^ k ≤ 2 ^ 21 = pow_mono l in omega (arith, ints, p)
+
+pub lowered_within : (a : ℤ) (d : ℕ) → unsigned_abs a ≤ 2 ^ 22 → SFits w32 (floor_div a d) × (unsigned_abs (floor_div a d) ≤ 2 ^ 26)
+lowered_within a d h = (SFits-26 (floor_div a d) (omega (arith, halved_shrinks a d)), omega (arith, halved_shrinks a d))
+
+pub limit_within : (fraction : ℕ) → fraction ≤ 19 → 2 ^ (fraction + 2) ≤ 2 ^ 21
+limit_within fraction h = let k : fraction + 2 ≤ 21 = omega arith in pow_mono k
+
+-- the bounds of a weight, as the code computes them
+pub held_is : (fraction : ℕ) (weight moved r : ℤ) → r ≡ clip (weight +ℤ moved) (pos 0 -ℤ pos (2 ^ (fraction + 2))) (pos (2 ^ (fraction + 2)) -ℤ pos 1)
+    → r ≡ clip (weight +ℤ moved) (weight_min fraction) (weight_max fraction)
+held_is fraction weight moved r e = e ∙ ap (λ low. clip (weight +ℤ moved) low (pos (2 ^ (fraction + 2)) -ℤ pos 1)) (minus (2 ^ (fraction + 2)))
+  where
+    minus : (n : ℕ) → pos 0 -ℤ pos n ≡ neg_ℤ (pos n)
+    minus n = omega (arith, ints)
+
+pub held_within : (n : ℕ) (r : ℤ) → n ≤ 2 ^ 21 → 1 ≤ n → (pos 0 -ℤ pos n) ≤ℤ r → r ≤ℤ (pos n -ℤ pos 1) → unsigned_abs r ≤ 2 ^ 21
+held_within n r h k a b = omega (arith, ints)
+
+pub moved_is : (fraction : ℕ) (exponent : ℤ) (negative : Bool) (weight difference size moved r : ℤ) → size ≡ signed_by negative difference → moved ≡ step exponent size
+    → r ≡ clip (weight +ℤ moved) (weight_min fraction) (weight_max fraction) → r ≡ updated_weight fraction exponent negative weight difference
+unfolding updated_weight
+moved_is fraction exponent negative weight difference size moved r a b e = e ∙ rw (b, a) refl
+
+-- differences of samples of few bits may be raised by more
+pub within_room : (bits by : ℕ) (us : List ℤ) → bits + by ≤ 24 → AllWithin (4 * 2 ^ bits) us → AllWithin (2 ^ (26 - by)) us
+within_room bits by us h w i l =
+    let k : bits + 2 ≤ 26 - by = omega arith in
+    let p : 2 ^ (bits + 2) ≤ 2 ^ (26 - by) = pow_mono k in
+    let e : 2 ^ (bits + 2) ≡ 2 ^ bits * 2 ^ 2 = pow-add 2 bits 2 in
+    le_trans (w i l) (omega (arith, p, e))
+
+pub within_most : (bits : ℕ) (us : List ℤ) → bits ≤ 16 → AllWithin (4 * 2 ^ bits) us → AllWithin (2 ^ 18) us
+within_most bits us h w i l =
+    let p : 2 ^ bits ≤ 2 ^ 16 = pow_mono h in
+    le_trans (w i l) (omega (arith, p))
+
+pub room_word : (by : ℕ) → 2 ^ (26 - by) ≤ 2 ^ 26
+room_word by = let k : 26 - by ≤ 26 = omega arith in pow_mono k
+
+-- an exponent below 0, and one of 0 or more
+pub below_zero : (e : ℤ) → e <ℤ pos 0 → negsuc (unsigned_abs (negsuc 0 -ℤ e)) ≡ e
+below_zero (pos r) h = absurd (omega (arith, ints))
+below_zero (negsuc r) h = ap (λ z. negsuc (unsigned_abs z)) (same r)
+  where
+    same : (r : ℕ) → negsuc 0 -ℤ negsuc r ≡ pos r
+    same r = omega (arith, ints)
+
+pub from_zero : (e : ℤ) → pos 0 ≤ℤ e → pos (unsigned_abs e) ≡ e
+from_zero (pos r) h = refl
+from_zero (negsuc r) h = absurd (omega (arith, ints))

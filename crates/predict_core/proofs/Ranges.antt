@@ -1,0 +1,120 @@
+-- How large the differences of a cube's samples can be.
+use Rattle.std.proofs.Common.{◌≡◌, ◌≢◌, ◌+◌, ◌-◌, ◌*◌, ◌^◌, ◌<◌, ◌≤◌, ℕ, zero, suc, ℤ, pos, ◌+ℤ◌, ◌-ℤ◌, ◌*ℤ◌, unsigned_abs, Bool, true, false, List, [], ◌∷◌, ◌++◌, replicate, inl, inr, arith, refl, sym, subst}
+use Rattle.std.proofs.lemmas.Int.{ints}
+use Rattle.std.proofs.lemmas.Bool.{cases_eq}
+use Rattle.cube_core.specs.Kind.{smin, smax, IsSample}
+use Rattle.cube_core.specs.Image.{Image, IsCube, IsPlace, sample_at, index_in}
+use Rattle.cube_core.proofs.Bounds.{index_below}
+use Rattle.predict_core.specs.declared.predictor.Predictor.{Predictor}
+use Rattle.predict_core.specs.Predictor.{previous_bands}
+use Rattle.predict_core.specs.LocalSum.{local_sum}
+use Rattle.predict_core.specs.Differences.{central_difference, directional_differences, spectral_differences, difference_vector, difference_from}
+use Rattle.predict_core.specs.Mapping.{Between}
+use Rattle.predict_core.specs.Bounds.{AllWithin}
+use Rattle.predict_core.proofs.Spans.{span}
+use Rattle.predict_core.proofs.LocalSums.{sum_in_first_row, sum_by_column, sum_at_left, sum_at_right, sum_inside}
+use Rattle.predict_core.proofs.Directions.{directional_first, directional_left, directional_inside, reduced_vector_is, full_vector_is, zeros_within}
+
+pub within_append : (n : ℕ) (xs ys : List ℤ) → AllWithin n xs → AllWithin n ys → AllWithin n (xs ++ ys)
+within_append n [] ys h k i l = k i l
+within_append n (x ∷ xs) ys h k zero l = h 0 (omega arith)
+within_append n (x ∷ xs) ys h k (suc i) l = within_append n xs ys (λ j m. h (suc j) (omega (arith, m))) k i (omega (arith, l))
+
+within_one : (n : ℕ) (x : ℤ) → unsigned_abs x ≤ n → AllWithin n (x ∷ [])
+within_one n x h zero l = h
+within_one n x h (suc i) l = absurd (omega (arith, l))
+
+within_three : (n : ℕ) (a b d : ℤ) → unsigned_abs a ≤ n → unsigned_abs b ≤ n → unsigned_abs d ≤ n → AllWithin n (a ∷ b ∷ d ∷ [])
+within_three n a b d h k l zero m = h
+within_three n a b d h k l (suc zero) m = k
+within_three n a b d h k l (suc (suc zero)) m = l
+within_three n a b d h k l (suc (suc (suc i))) m = absurd (omega (arith, m))
+
+within_none : (n : ℕ) → AllWithin n []
+within_none n i l = absurd (omega (arith, l))
+
+four : (low high a : ℤ) → Between low high a → Between (pos 4 *ℤ low) (pos 4 *ℤ high) (pos 4 *ℤ a)
+four low high a h = (omega (arith, ints, h.0, h.1), omega (arith, ints, h.0, h.1))
+
+two : (low high a b : ℤ) → Between low high a → Between low high b → Between (pos 4 *ℤ low) (pos 4 *ℤ high) (pos 2 *ℤ (a +ℤ b))
+two low high a b h k = (omega (arith, ints, h.0, h.1, k.0, k.1), omega (arith, ints, h.0, h.1, k.0, k.1))
+
+three : (low high a b d : ℤ) → Between low high a → Between low high b → Between low high d → Between (pos 4 *ℤ low) (pos 4 *ℤ high) (a +ℤ b +ℤ pos 2 *ℤ d)
+three low high a b d h k l = (omega (arith, ints, h.0, h.1, k.0, k.1, l.0, l.1), omega (arith, ints, h.0, h.1, k.0, k.1, l.0, l.1))
+
+all : (low high a b d u : ℤ) → Between low high a → Between low high b → Between low high d → Between low high u → Between (pos 4 *ℤ low) (pos 4 *ℤ high) (a +ℤ b +ℤ d +ℤ u)
+all low high a b d u h k l m = (omega (arith, ints, h.0, h.1, k.0, k.1, l.0, l.1, m.0, m.1), omega (arith, ints, h.0, h.1, k.0, k.1, l.0, l.1, m.0, m.1))
+
+apart : (low high a s : ℤ) (power : ℕ) → high -ℤ low ≡ pos power -ℤ pos 1 → Between low high a → Between (pos 4 *ℤ low) (pos 4 *ℤ high) s → unsigned_abs (pos 4 *ℤ a -ℤ s) ≤ 4 * power
+apart low high a s power e h k = omega (arith, ints, e, h.0, h.1, k.0, k.1)
+
+module _ (p : Predictor) (c : Image) (cube : IsCube c) (y x : ℕ) (later : 0 < y + x) (wide : p.column ≡ false → 2 ≤ c.shape.columns) where
+  sample_within : (z y' x' : ℕ) → IsPlace c.shape z y' x' → IsSample c.kind (sample_at c z y' x')
+  unfolding sample_at
+  sample_within z y' x' q =
+      cube.range (index_in c.shape.columns c.shape.rows z y' x') (rw cube.whole (index_below c.shape.columns c.shape.rows c.shape.bands z y' x' q.band q.row q.column))
+
+  module _ (z : ℕ) (place : IsPlace c.shape z y x) where
+    up : (x' : ℕ) → x' < c.shape.columns → IsSample c.kind (sample_at c z (y - 1) x')
+    up x' h = sample_within z (y - 1) x' (record { band = place.band; row = (let r = place.row in omega arith); column = h })
+
+    left : IsSample c.kind (sample_at c z y (x - 1))
+    left = sample_within z y (x - 1) (record { band = place.band; row = place.row; column = (let q = place.column in omega arith) })
+
+    column : x < c.shape.columns
+    column = place.column
+
+    before : x - 1 < c.shape.columns
+    before = let q = place.column in omega arith
+
+    by_sums : y ≢ 0 → (b : Bool) → p.column ≡ b → Between (pos 4 *ℤ smin c.kind) (pos 4 *ℤ smax c.kind) (local_sum p c z y x)
+    by_sums n true e = rw (sum_by_column p c z y x n e) (four (smin c.kind) (smax c.kind) _ (up x column))
+    by_sums n false e =
+        let w = wide e in
+        elim (cases_eq x 0) [
+          | inl h ↦ rw (sum_at_left p c z y x n e h) (two (smin c.kind) (smax c.kind) _ _ (up x column) (up (x + 1) (omega arith)))
+          | inr h ↦ elim (cases_eq (x + 1) c.shape.columns) [
+            | inl r ↦ rw (sum_at_right p c z y x n e h r) (three (smin c.kind) (smax c.kind) _ _ _ left (up (x - 1) before) (up x column))
+            | inr r ↦ rw (sum_inside p c z y x n e h r) (all (smin c.kind) (smax c.kind) _ _ _ _ left (up (x - 1) before) (up x column) (up (x + 1) (let q = column in omega arith)))
+          ]
+        ]
+
+    sum_within : Between (pos 4 *ℤ smin c.kind) (pos 4 *ℤ smax c.kind) (local_sum p c z y x)
+    sum_within = elim (cases_eq y 0) [ inl e ↦ rw (sum_in_first_row p c z y x e) (four (smin c.kind) (smax c.kind) _ left) | inr n ↦ by_sums n p.column refl ]
+
+    difference_within : (sample : ℤ) → IsSample c.kind sample → unsigned_abs (difference_from p c z y x sample) ≤ 4 * 2 ^ c.kind.bits
+    difference_within sample h = apart (smin c.kind) (smax c.kind) sample (local_sum p c z y x) (2 ^ c.kind.bits) (span c.kind cube.bits) h sum_within
+
+    central_within : unsigned_abs (central_difference p c z y x) ≤ 4 * 2 ^ c.kind.bits
+    unfolding central_difference
+    central_within = difference_within (sample_at c z y x) (sample_within z y x place)
+
+    directional_within : AllWithin (4 * 2 ^ c.kind.bits) (directional_differences p c z y x)
+    directional_within =
+        elim (cases_eq y 0) [
+          | inl e ↦ rw (directional_first p c z y x e) (within_three (4 * 2 ^ c.kind.bits) (pos 0) (pos 0) (pos 0) (omega arith) (omega arith) (omega arith))
+          | inr n ↦ elim (cases_eq x 0) [
+            | inl h ↦ (let d = difference_within _ (up x column) in rw (directional_left p c z y x n h) (within_three (4 * 2 ^ c.kind.bits) _ _ _ d d d))
+            | inr h ↦ rw (directional_inside p c z y x n h) (within_three (4 * 2 ^ c.kind.bits) _ _ _ (difference_within _ (up x column)) (difference_within _ left) (difference_within _ (up (x - 1) before)))
+          ]
+        ]
+
+  module _ (z : ℕ) (place : IsPlace c.shape z y x) where
+    spectral_within : (n : ℕ) → n ≤ z → AllWithin (4 * 2 ^ c.kind.bits) (spectral_differences p c z y x n)
+    unfolding spectral_differences
+    spectral_within zero h = within_none (4 * 2 ^ c.kind.bits)
+    spectral_within (suc n) h =
+        within_append (4 * 2 ^ c.kind.bits) (spectral_differences p c z y x n) (central_difference p c (z - suc n) y x ∷ []) (spectral_within n (omega arith))
+        (within_one (4 * 2 ^ c.kind.bits) _ (central_within (z - suc n) (record { band = (let b = place.band in omega arith); row = place.row; column = place.column })))
+
+    pub vector_within : AllWithin (4 * 2 ^ c.kind.bits) (difference_vector p c z y x)
+    vector_within = by_mode p.reduced refl
+      where
+        by_mode : (b : Bool) → p.reduced ≡ b → AllWithin (4 * 2 ^ c.kind.bits) (difference_vector p c z y x)
+        by_mode true e = subst (AllWithin (4 * 2 ^ c.kind.bits)) (sym (reduced_vector_is p c z y x e)) (spectral_within (previous_bands p z) (omega arith))
+        by_mode false e =
+            subst (AllWithin (4 * 2 ^ c.kind.bits)) (sym (full_vector_is p c z y x e))
+            (within_append (4 * 2 ^ c.kind.bits) (directional_differences p c z y x) (spectral_differences p c z y x (previous_bands p z)) (directional_within z place) (spectral_within (previous_bands p z) (omega arith)))
+
+    pub padded_within : (m : ℕ) → AllWithin (4 * 2 ^ c.kind.bits) (difference_vector p c z y x ++ replicate m (pos 0))
+    padded_within m = within_append (4 * 2 ^ c.kind.bits) (difference_vector p c z y x) (replicate m (pos 0)) vector_within (zeros_within (4 * 2 ^ c.kind.bits) m)

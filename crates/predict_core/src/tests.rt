@@ -1,0 +1,206 @@
+//! Cubes forward and back, with residuals from outside.
+
+ghost use Rattle.std.specs.Prelude.{◌≡◌, ◌<◌, ◌^◌};
+ghost use Rattle.cube_core.specs.Order.{IsOrder};
+ghost use Rattle.header_bits.specs.Lawful.{IsLawful};
+ghost use Rattle.header_bits.specs.Reach.{here};
+ghost use Rattle.predict_core.specs.Rows.{sizes, unsigned};
+
+use crate::band::Band;
+use crate::residual::{map_residual, unmap_residual};
+use cube_core::cube::Cube;
+use cube_core::cursor::Places;
+use cube_core::fault::Fault;
+use cube_core::kind::Kind;
+use cube_core::layout::{Layout, RawOrder};
+use cube_core::order::{Order, Place};
+use cube_core::shape::Shape;
+use header_bits::params::{Coder, CountStart, Params, WeightStart};
+use std::alloc::Global;
+use std::process::Abort;
+use std::test::Fail;
+
+/// Cube A: three columns, two rows and two bands.
+const CUBE_A: [u8; 12] = [100, 102, 105, 101, 104, 103, 110, 111, 115, 112, 113, 114];
+
+/// Its shape.
+fn shape_a(rt: &impl Abort) -> Shape
+    ensures { result ≡ sizes 3 2 2 }
+{
+    let shape = Shape::new(3, 2, 2).expect(rt, "a shape");
+    assert!(rt; shape.columns() == 3);
+    assert!(rt; shape.rows() == 2);
+    assert!(rt; shape.bands() == 2);
+    shape
+}
+
+/// The kind of its samples.
+fn kind_a(rt: &impl Abort) -> Kind
+    ensures { result ≡ unsigned 8 }
+{
+    let kind = Kind::new(false, 8).expect(rt, "a kind");
+    assert!(rt; kind.bits() == 8);
+    assert!(rt; !kind.is_signed());
+    kind
+}
+
+/// The parameters of cube A.
+fn params_a(rt: &impl Abort) -> Params
+    ensures lawful { IsLawful here result }
+    ensures shape { result.shape ≡ sizes 3 2 2 }
+    ensures kind { result.kind ≡ unsigned 8 }
+{
+    Params {
+        shape: shape_a(rt),
+        kind: kind_a(rt),
+        order: Order::Bsq,
+        user: 0,
+        word: 1,
+        previous: 1,
+        reduced: false,
+        column: false,
+        register: 32,
+        omega: 13,
+        interval_log: 6,
+        vmin: -1,
+        vmax: 3,
+        start: WeightStart::Usual,
+        coder: Coder::Sample {
+            umax: 16,
+            gamma_star: 6,
+            gamma_zero: 1,
+            start: CountStart::Constant(3),
+        },
+    }
+}
+
+/// A band of cube A.
+#[derive(Drop)]
+struct BandOfA {
+    band: Band,
+    ghost shape: { band.shape ≡ sizes 3 2 2 },
+    ghost kind: { band.kind ≡ unsigned 8 },
+    ghost inside: { band.band < 2 },
+}
+
+fn band_of_a(rt: &impl Abort, alloc: Global, z: u32) -> Result<BandOfA, Fault>
+    requires { z < 2 }
+{
+    let params = params_a(rt);
+    Ok(BandOfA {
+        band: Band::new(alloc, &params, z)?,
+    })
+}
+
+/// A cube of cube A's shape and kind.
+#[derive(Drop)]
+struct CubeOfA {
+    cube: Cube,
+    ghost shape: { cube.shape ≡ sizes 3 2 2 },
+    ghost kind: { cube.kind ≡ unsigned 8 },
+}
+
+fn cube_of_a(rt: &impl Abort, alloc: Global, bytes: &[u8]) -> Result<CubeOfA, Fault> {
+    let layout = Layout {
+        order: RawOrder::Bsq,
+        bytes: 1,
+        little: false,
+    };
+    Ok(CubeOfA {
+        cube: Cube::from_raw(alloc, shape_a(rt), kind_a(rt), layout, bytes)?,
+    })
+}
+
+/// The residual at a place.
+fn coded(rt: &impl Abort, coder: &mut BandOfA, cube: &CubeOfA, place: Place) -> u16
+    ensures { result < 2 ^ 8 }
+{
+    assert!(rt; place.y < 2);
+    assert!(rt; place.x < 3);
+    assert!(rt; coder.band.next() == u64::from(place.y) * 3 + u64::from(place.x));
+    coder.band.forward(&cube.cube, place.y, place.x)
+}
+
+/// Puts the sample of a residual at a place that held another value.
+fn found_again(rt: &impl Abort, decoder: &mut BandOfA, back: &mut CubeOfA, place: Place, delta: u16)
+    requires { delta < 2 ^ 8 }
+{
+    assert!(rt; place.z < 2);
+    assert!(rt; place.y < 2);
+    assert!(rt; place.x < 3);
+    back.cube.set(place.z, place.y, place.x, 255);
+    assert!(rt; decoder.band.next() == u64::from(place.y) * 3 + u64::from(place.x));
+    let sample = decoder.band.inverse(&back.cube, place.y, place.x, delta);
+    back.cube.set(place.z, place.y, place.x, sample);
+}
+
+/// The residuals of cube A in an order, and the cube that they give back.
+///
+/// Before each sample is found again, its place and all later ones hold other values.
+fn forward_and_back(
+    rt: &impl Abort,
+    alloc: Global,
+    order: Order,
+) -> Result<(Vec<u16>, CubeOfA), Fault>
+    requires { IsOrder (sizes 3 2 2) order }
+{
+    let cube = cube_of_a(rt, alloc, &CUBE_A)?;
+    let mut back = cube_of_a(rt, alloc, &[7; 12])?;
+    let mut coders = vec![in alloc; band_of_a(rt, alloc, 0)?, band_of_a(rt, alloc, 1)?]?;
+    let mut decoders = vec![in alloc; band_of_a(rt, alloc, 0)?, band_of_a(rt, alloc, 1)?]?;
+    let mut residuals = Vec::new(alloc);
+    for place in Places::new(shape_a(rt), order) {
+        let z = place.z as usize;
+        assert!(rt; z < coders.len());
+        let delta = coded(rt, &mut coders[z], &cube, place);
+        residuals.push(delta)?;
+        assert!(rt; z < decoders.len());
+        found_again(rt, &mut decoders[z], &mut back, place, delta);
+    }
+    Ok((residuals, back))
+}
+
+#[test]
+fn cube_a_forward_and_back_in_each_order(rt: HostRuntime) -> Result<(), Fail> {
+    let rows: [(Order, [u16; 12]); 3] = [
+        (Order::Bsq, [55, 3, 5, 0, 4, 2, 20, 1, 2, 2, 1, 2]),
+        (Order::Bi(1), [55, 3, 5, 20, 1, 2, 0, 4, 2, 2, 1, 2]),
+        (Order::Bi(2), [55, 20, 3, 1, 5, 2, 0, 2, 4, 1, 2, 2]),
+    ];
+    for (order, expected) in rows {
+        let (residuals, back) = forward_and_back(&rt, rt.alloc(), order)?;
+        assert_eq!(rt; residuals.as_slice(), expected.as_slice());
+        for z in 0..2u32 {
+            for y in 0..2u32 {
+                for x in 0..3u32 {
+                    let place = (z * 6 + y * 3 + x) as usize;
+                    assert_eq!(rt; back.cube.sample(z, y, x), i32::from(CUBE_A[place]));
+                }
+            }
+        }
+    }
+    Ok(())
+}
+
+#[test]
+fn mapping_there_and_back(rt: HostRuntime) {
+    let kind = kind_a(&rt);
+    let rows = [
+        (256, 129, 2),
+        (256, 127, 1),
+        (257, 129, 1),
+        (257, 127, 2),
+        (400, 0, 255),
+        (511, 255, 0),
+        (511, 0, 255),
+    ];
+    for (scaled, sample, residual) in rows {
+        assert!(rt; 0 <= scaled);
+        assert!(rt; scaled <= 511);
+        assert!(rt; 0 <= sample);
+        assert!(rt; sample <= 255);
+        assert_eq!(rt; map_residual(kind, scaled, sample), residual);
+        assert!(rt; residual <= 255);
+        assert_eq!(rt; unmap_residual(kind, scaled, residual), sample);
+    }
+}
