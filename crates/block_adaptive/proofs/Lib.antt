@@ -11,3 +11,5 @@ pub mod Each
 pub mod Twos
 pub mod Streaming
 pub mod Handed
+pub mod Emits
+pub mod Packing

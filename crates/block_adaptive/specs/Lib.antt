@@ -7,6 +7,7 @@ pub mod Options
 pub mod Reading
 pub mod Rows
 pub mod Segments
+pub mod Taken
 pub mod Texts
 pub mod Settings
 pub mod Told
