@@ -1,6 +1,6 @@
 //! Laws of the coder's definitions.
 
-ghost use Rattle.block_adaptive.specs.Laws.{OneText, OptionIsLeast, ChosenIsLawful, TextIsTaken};
+ghost use Rattle.block_adaptive.specs.Laws.{OneText, OneBody, OptionIsLeast, ChosenIsLawful, ChosenIsBody, TextIsTaken};
 
 /// Two lawful texts of which one begins the other are one text.
 pub fn one_text()
@@ -21,3 +21,15 @@ pub fn chosen_is_lawful()
 pub fn text_is_taken()
     ensures { TextIsTaken }
 {}
+
+/// No body of one list of numbers begins a body of another.
+pub fn one_body()
+    ensures { OneBody }
+{
+}
+
+/// The chosen body of numbers is a body of them.
+pub fn chosen_is_body()
+    ensures { ChosenIsBody }
+{
+}
