@@ -1,18 +1,16 @@
 -- Bodies, text after text.
-use Rattle.std.proofs.Common.{◌≡◌, ℕ, zero, suc, ◌+◌, ◌-◌, ◌*◌, ◌/◌, ◌^◌, ◌<◌, ◌≤◌, Bool, true, false, cond, leb, List, [], ◌∷◌, ◌++◌, length, take, drop, replicate, inl, inr, Result, Ok, Err, refl, sym, ap, subst, ◌∙◌, arith, append_assoc}
-use Rattle.std.specs.List.{flat_map, AllByRecursion}
+use Rattle.std.proofs.Common.{◌≡◌, ℕ, zero, suc, ◌+◌, ◌-◌, ◌*◌, ◌/◌, ◌^◌, ◌<◌, ◌≤◌, Bool, true, false, leb, List, [], ◌∷◌, ◌++◌, length, take, drop, replicate, inl, inr, Ok, refl, sym, ap, subst, ◌∙◌, arith, append_assoc}
+use Rattle.std.specs.List.{AllByRecursion}
 use Rattle.std.proofs.lemmas.Bool.Decides.{nat_tests}
 use Rattle.std.proofs.lemmas.Bool.{cases_lt}
 use Rattle.std.proofs.lemmas.Nat.{pow_pos}
 use Rattle.std.proofs.Math.Nat.{lt-div-mul-add}
 use Rattle.std.proofs.lemmas.List.{append-nil, length-append, length-replicate, take_at, take_all, take-append-drop, length-take, length-drop}
 use Rattle.block_adaptive.proofs.Packing.{range_filled}
-use Rattle.cube_core.specs.declared.fault.Fault.{Fault}
-use Rattle.cube_core.specs.Steps.{◌>>=◌}
 use Rattle.header_bits.proofs.Reading.{ok_is}
 use Rattle.block_adaptive.specs.declared.options.CodeSet.{CodeSet}
 use Rattle.block_adaptive.specs.Segments.{filled, first_blocks, blocks, block_count}
-use Rattle.block_adaptive.specs.Texts.{Text, Block, Run, Rest, Cut, cut_of, left_at, IsText, AreTexts, blocks_in, blocks_told, values_of, spelled, spelling, IsBlockBody}
+use Rattle.block_adaptive.specs.Texts.{Text, Block, Run, Rest, Cut, cut_of, left_at, IsText, AreTexts, blocks_in, blocks_told, values_of, spelled, spelling}
 use Rattle.block_adaptive.specs.Chosen.{chosen_from, chosen_texts, chosen_block_body}
 use Rattle.block_adaptive.specs.Reading.{Site, text_at, texts_at}
 use Rattle.block_adaptive.specs.Laws.{OneBody, ChosenIsBody, AreBlocks}
@@ -26,13 +24,13 @@ lt-leb : (a b : ℕ) → b < a → leb a b ≡ false
 lt-leb a b h = grind (arith, nat_tests)
 
 -- a lawful text stands for a block or more
-text_some : (s : CodeSet) (size left : ℕ) (t : Text) → IsText s size left t → 1 ≤ blocks_in left t
+pub text_some : (s : CodeSet) (size left : ℕ) (t : Text) → IsText s size left t → 1 ≤ blocks_in left t
 text_some s size left (Block o vs) h = omega arith
 text_some s size left (Run n) h = h.0
 text_some s size left Rest h = h
 
 -- no more texts than blocks
-texts_few : (c : Cut) (i j : ℕ) (texts : List Text) → AreTexts c i texts j → i + length texts ≤ j
+pub texts_few : (c : Cut) (i j : ℕ) (texts : List Text) → AreTexts c i texts j → i + length texts ≤ j
 unfolding AreTexts
 texts_few c i j [] h = omega (arith, h)
 texts_few c i j (t ∷ texts) h =
@@ -51,7 +49,7 @@ texts_again count half (suc n) i c (t ∷ texts) rest even few h =
     let site : Site = record { count = count; block = i } in
     let after : List Bool = spelling c.set texts ++ rest in
     let one : text_at site c.set c.size (left_at c i) (spelled c.set t ++ after) ≡ Ok (t, after) =
-        rw even (text_again site c.set half (left_at c i) t after (subst (λ (k : ℕ). IsText c.set k (left_at c i) t) even h.0)) in
+    rw even (text_again site c.set half (left_at c i) t after (subst (λ (k : ℕ). IsText c.set k (left_at c i) t) even h.0)) in
     rw (more, append_assoc (spelled c.set t) (spelling c.set texts) rest, one, texts_again count half n (i + blocks_in (left_at c i) t) c texts rest even (omega arith) h.1) refl
 
 pub one_body : OneBody
@@ -72,7 +70,7 @@ one_body s half reference ms ns a b x y pos len p q e =
 
 -- ---- the chosen body
 
-length-first_blocks : (size n : ℕ) (numbers : List ℕ) → length (first_blocks size n numbers) ≡ n
+pub length-first_blocks : (size n : ℕ) (numbers : List ℕ) → length (first_blocks size n numbers) ≡ n
 unfolding first_blocks
 length-first_blocks size zero numbers = refl
 length-first_blocks size (suc n) numbers = ap suc (length-first_blocks size n (drop size numbers))
@@ -93,9 +91,10 @@ filled_length size v le = omega (arith, length-append v (replicate (size - lengt
 first_are_blocks : (s : CodeSet) (size n : ℕ) (numbers : List ℕ) → AllByRecursion (λ v. v < 2 ^ s.bits) numbers → AreBlocks s size (first_blocks size n numbers)
 unfolding first_blocks
 first_are_blocks s size zero numbers h = tt
-first_are_blocks s size (suc n) numbers h =
-    ((filled_length size (take size numbers) (omega (arith, length-take size numbers)), range_filled (2 ^ s.bits) size (take size numbers) (pow_pos s.bits) (range_take (2 ^ s.bits) size numbers h)),
-     first_are_blocks s size n (drop size numbers) (range_drop (2 ^ s.bits) size numbers h))
+first_are_blocks s size (suc n) numbers h = (
+  (filled_length size (take size numbers) (omega (arith, length-take size numbers)), range_filled (2 ^ s.bits) size (take size numbers) (pow_pos s.bits) (range_take (2 ^ s.bits) size numbers h)),
+  first_are_blocks s size n (drop size numbers) (range_drop (2 ^ s.bits) size numbers h),
+)
 
 filled_whole : (size : ℕ) (b : List ℕ) → length b ≡ size → filled size b ≡ b
 filled_whole size b len = (let e : size - length b ≡ 0 = omega arith in rw e (append-nil b))
@@ -118,14 +117,14 @@ first_values size (suc n) numbers h =
           let few : length (drop size numbers) ≤ n * size = omega arith in
           rw (filled_whole size (take size numbers) whole)
           (take_behind (take size numbers) (values_of (first_blocks size n (drop size numbers))) (length numbers) (length (drop size numbers)) (omega arith)
-           ∙ ap (λ (vs : List ℕ). take size numbers ++ vs) (first_values size n (drop size numbers) few) ∙ take-append-drop size numbers))
+          ∙ ap (λ (vs : List ℕ). take size numbers ++ vs) (first_values size n (drop size numbers) few) ∙ take-append-drop size numbers))
       | inr few ↦
           (let all : take size numbers ≡ numbers = take_all size numbers few in
           rw (all, append_assoc numbers (replicate (size - length numbers) 0) (values_of (first_blocks size n (drop size numbers))))
           (take_at numbers (replicate (size - length numbers) 0 ++ values_of (first_blocks size n (drop size numbers))) (length numbers) refl))
     ]
 
-blocks_enough : (size n : ℕ) → 1 ≤ size → n ≤ block_count size n * size
+pub blocks_enough : (size n : ℕ) → 1 ≤ size → n ≤ block_count size n * size
 blocks_enough size n pos =
     let over : n + size - 1 < (n + size - 1) / size * size + size = lt-div-mul-add {a = n + size - 1} {b = size} (omega arith) in
     omega arith

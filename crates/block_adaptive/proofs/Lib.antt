@@ -2,6 +2,7 @@ pub mod Codes
 pub mod Triangles
 pub mod Again
 pub mod Bodies
+pub mod Calls
 pub mod Costs
 pub mod Least
 pub mod Lawful

@@ -161,7 +161,7 @@ all_taken v taken bits h all =
 filled_whole : (size : ℕ) (b : List ℕ) → length b ≡ size → filled size b ≡ b
 filled_whole size b len = (let e : size - length b ≡ 0 = omega arith in rw e (append-nil b))
 
-first_of_blocks : (s : CodeSet) (size m : ℕ) (bs : List (List ℕ)) (rest : List ℕ) → AreBlocks s size bs → first_blocks size (length bs + m) (values_of bs ++ rest) ≡ bs ++ first_blocks size m rest
+pub first_of_blocks : (s : CodeSet) (size m : ℕ) (bs : List (List ℕ)) (rest : List ℕ) → AreBlocks s size bs → first_blocks size (length bs + m) (values_of bs ++ rest) ≡ bs ++ first_blocks size m rest
 unfolding first_blocks
 first_of_blocks s size m [] rest h = (let e : 0 + m ≡ m = omega arith in rw e refl)
 first_of_blocks s size m (b ∷ bs) rest h =
@@ -170,7 +170,7 @@ first_of_blocks s size m (b ∷ bs) rest h =
     let back : drop size (b ++ (values_of bs ++ rest)) ≡ values_of bs ++ rest = drop_at b (values_of bs ++ rest) size h.0.0 in
     rw (e, append_assoc b (values_of bs) rest, front, back, filled_whole size b h.0.0, first_of_blocks s size m bs rest h.1) refl
 
-values_length : (s : CodeSet) (size : ℕ) (bs : List (List ℕ)) → AreBlocks s size bs → length (values_of bs) ≡ length bs * size
+pub values_length : (s : CodeSet) (size : ℕ) (bs : List (List ℕ)) → AreBlocks s size bs → length (values_of bs) ≡ length bs * size
 values_length s size [] h = omega arith
 values_length s size (b ∷ bs) h = omega (arith, length-append b (values_of bs), h.0.0, values_length s size bs h.1)
 

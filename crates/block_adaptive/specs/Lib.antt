@@ -4,6 +4,7 @@ pub mod Given
 pub mod Holding
 pub mod Laws
 pub mod Options
+pub mod Prefixes
 pub mod Reading
 pub mod Rows
 pub mod Segments
