@@ -18,7 +18,7 @@ and_true true true h = (refl, refl)
 and_true true false h = absurd cc
 and_true false b h = absurd cc
 
-zeros_of : (b : List ℕ) (size : ℕ) → length b ≡ size → is_zero b ≡ true → b ≡ replicate size 0
+pub zeros_of : (b : List ℕ) (size : ℕ) → length b ≡ size → is_zero b ≡ true → b ≡ replicate size 0
 zeros_of [] zero e h = refl
 zeros_of [] (suc size) e h = absurd (omega arith)
 zeros_of (v ∷ vs) zero e h = absurd (omega arith)

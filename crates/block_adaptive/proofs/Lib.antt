@@ -1,6 +1,8 @@
 pub mod Codes
 pub mod Triangles
 pub mod Again
+pub mod Bodies
+pub mod Calls
 pub mod Costs
 pub mod Least
 pub mod Lawful
@@ -11,3 +13,5 @@ pub mod Each
 pub mod Twos
 pub mod Streaming
 pub mod Handed
+pub mod Emits
+pub mod Packing

@@ -1,11 +1,11 @@
 -- The chosen texts, block after block, as a writer sees them.
-use Rattle.std.proofs.Common.{◌≡◌, ℕ, zero, suc, ◌+◌, ◌<◌, ◌≤◌, Bool, true, false, cond, eqb, leb, ◌&&◌, List, [], ◌∷◌, ◌++◌, length, drop, replicate, refl, sym, ap, ◌∙◌, arith, append_assoc, eq-eqb}
+use Rattle.std.proofs.Common.{◌≡◌, ℕ, zero, suc, ◌+◌, ◌<◌, ◌≤◌, Bool, true, false, cond, eqb, leb, ◌&&◌, List, [], ◌∷◌, ◌++◌, length, drop, replicate, refl, ap, arith, eq-eqb}
 use Rattle.std.proofs.lemmas.Bool.{eqb-true, eqb-false}
 use Rattle.std.proofs.lemmas.Bool.Decides.{nat_tests}
-use Rattle.std.proofs.lemmas.List.{length-drop, length-replicate, drop_at, length-append}
+use Rattle.std.proofs.lemmas.List.{length-drop, length-replicate, drop_at}
 use Rattle.block_adaptive.specs.declared.options.CodeSet.{CodeSet}
 use Rattle.block_adaptive.specs.Segments.{segment_rest}
-use Rattle.block_adaptive.specs.Texts.{Text, Block, Run, Rest, Cut, blocks_in, spelled, spelling}
+use Rattle.block_adaptive.specs.Texts.{Text, Block, Run, Rest, Cut, blocks_in}
 use Rattle.block_adaptive.specs.Chosen.{chosen_option, is_zero, zero_blocks, text_of, chosen_from}
 
 ne-eqb : (a b : ℕ) → (a ≡ b → ⊥) → eqb a b ≡ false
@@ -37,7 +37,7 @@ enough c (suc n) (suc m) i (b ∷ bs) h k =
     let len = length-drop (blocks_in left t) (b ∷ bs) in
     ap (λ (ts : List Text). t ∷ ts) (enough c n m (i + blocks_in left t) (drop (blocks_in left t) (b ∷ bs)) (omega arith) (omega arith))
 
-zero_is : (size : ℕ) → is_zero (replicate size 0) ≡ true
+pub zero_is : (size : ℕ) → is_zero (replicate size 0) ≡ true
 zero_is zero = refl
 zero_is (suc size) = zero_is size
 
@@ -83,34 +83,3 @@ run_to_end c n i z bs is =
     go : (f : Bool) → cond f Rest (Run (suc z)) ∷ chosen_from c n (i + blocks_in (suc z) (cond f Rest (Run (suc z)))) (drop (blocks_in (suc z) (cond f Rest (Run (suc z)))) (replicate (suc z) (replicate c.size 0) ++ bs)) ≡ cond f Rest (Run (suc z)) ∷ chosen_from c n (i + suc z) bs
     go true = rw (drop_at (replicate z (replicate c.size 0)) bs z (length-replicate z (replicate c.size 0))) refl
     go false = rw (drop_at (replicate z (replicate c.size 0)) bs z (length-replicate z (replicate c.size 0))) refl
-
--- ---- what a writer has taken: blocks, of which so many zeros are held back at the end, and the bits that it appended
-
-pub record HasTaken (c : Cut) (blocks : List (List ℕ)) (start zeros : ℕ) (bits : List Bool) : Type 0 where
-  pub place : length blocks ≡ start + zeros
-  pub goes_on : (future : List (List ℕ)) → length blocks + length future ≡ c.count
-      → spelling c.set (chosen_from c c.count 0 (blocks ++ future)) ≡ bits ++ spelling c.set (chosen_from c c.count start (replicate zeros (replicate c.size 0) ++ future))
-
-regroup : (a b d e : List Bool) → a ++ (b ++ (d ++ e)) ≡ (a ++ (b ++ d)) ++ e
-regroup a b d e = sym (simp append_assoc)
-
-pub nothing_taken : (c : Cut) → HasTaken c [] 0 0 []
-nothing_taken c = record { place = refl; goes_on = λ future len. refl }
-
--- a block that isn't zeros, with a run before it
-pub takes_block : (c : Cut) (blocks : List (List ℕ)) (start z : ℕ) (bits : List Bool) (x : List ℕ) → HasTaken c blocks start (suc z) bits → is_zero x ≡ false → suc z < segment_rest c.reference c.count start → 1 ≤ segment_rest c.reference c.count (start + suc z)
-    → HasTaken c (blocks ++ x ∷ []) (start + suc z + 1) 0 (bits ++ (spelled c.set (Run (suc z)) ++ spelled c.set (Block (chosen_option c.set x) x)))
-takes_block c blocks start z bits x h other inside pos =
-    record {
-      place = omega (arith, length-append blocks (x ∷ []), h.place);
-      goes_on = λ future len.
-          let held : List (List ℕ) = replicate (suc z) (replicate c.size 0) ++ x ∷ future in
-          let same_length : length (blocks ++ x ∷ []) ≡ length blocks + 1 = length-append blocks (x ∷ []) in
-          let held-length : length held ≡ suc z + suc (length future) = length-append (replicate (suc z) (replicate c.size 0)) (x ∷ future) ∙ ap (λ (n : ℕ). n + suc (length future)) (length-replicate (suc z) (replicate c.size 0)) in
-          let all = h.goes_on (x ∷ future) (omega arith) in
-          let more = enough c c.count (suc (suc c.count)) start held (omega (arith, h.place)) (omega (arith, h.place)) in
-          let texts = more ∙ run_next c (suc c.count) start z x future inside other ∙ ap (λ (ts : List Text). Run (suc z) ∷ ts) (block_next c c.count (start + suc z) x future pos other) in
-          let told = all ∙ ap (λ (ts : List Text). bits ++ spelling c.set ts) texts in
-          let after : List Bool = spelling c.set (chosen_from c c.count (start + suc z + 1) future) in
-          ap (λ (bs : List (List ℕ)). spelling c.set (chosen_from c c.count 0 bs)) (append_assoc blocks (x ∷ []) future) ∙ told ∙ regroup bits (spelled c.set (Run (suc z))) (spelled c.set (Block (chosen_option c.set x) x)) after;
-    }

@@ -4,9 +4,11 @@ pub mod Given
 pub mod Holding
 pub mod Laws
 pub mod Options
+pub mod Prefixes
 pub mod Reading
 pub mod Rows
 pub mod Segments
+pub mod Taken
 pub mod Texts
 pub mod Settings
 pub mod Told

@@ -1,6 +1,7 @@
 //! Laws of the coder's definitions.
 
-ghost use Rattle.block_adaptive.specs.Laws.{OneText, OptionIsLeast, ChosenIsLawful, TextIsTaken};
+ghost use Rattle.block_adaptive.specs.Laws.{OneText, OneBody, OptionIsLeast, ChosenIsLawful, ChosenIsBody, TextIsTaken};
+ghost use Rattle.block_adaptive.specs.Prefixes.{TakenIsPrefix};
 
 /// Two lawful texts of which one begins the other are one text.
 pub fn one_text()
@@ -20,4 +21,19 @@ pub fn chosen_is_lawful()
 /// What is read as a text is lawful, and the bits begin with its spelling.
 pub fn text_is_taken()
     ensures { TextIsTaken }
+{}
+
+/// No body of one list of numbers begins a body of another.
+pub fn one_body()
+    ensures { OneBody }
+{}
+
+/// The chosen body of numbers is a body of them.
+pub fn chosen_is_body()
+    ensures { ChosenIsBody }
+{}
+
+/// What a writer has appended begins the chosen body, whatever numbers are still to come.
+pub fn taken_is_prefix()
+    ensures { TakenIsPrefix }
 {}

@@ -2,6 +2,7 @@
 #![tactic(auto)]
 
 pub mod block_reader;
+pub mod block_writer;
 pub mod choice;
 mod found;
 pub mod laws;
@@ -11,3 +12,4 @@ mod segments;
 mod texts;
 pub mod worked;
 pub mod worked_refusals;
+mod writing;

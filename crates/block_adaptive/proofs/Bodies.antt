@@ -1,0 +1,144 @@
+-- Bodies, text after text.
+use Rattle.std.proofs.Common.{◌≡◌, ℕ, zero, suc, ◌+◌, ◌-◌, ◌*◌, ◌/◌, ◌^◌, ◌<◌, ◌≤◌, Bool, true, false, leb, List, [], ◌∷◌, ◌++◌, length, take, drop, replicate, inl, inr, Ok, refl, sym, ap, subst, ◌∙◌, arith, append_assoc}
+use Rattle.std.specs.List.{AllByRecursion}
+use Rattle.std.proofs.lemmas.Bool.Decides.{nat_tests}
+use Rattle.std.proofs.lemmas.Bool.{cases_lt}
+use Rattle.std.proofs.lemmas.Nat.{pow_pos}
+use Rattle.std.proofs.Math.Nat.{lt-div-mul-add}
+use Rattle.std.proofs.lemmas.List.{append-nil, length-append, length-replicate, take_at, take_all, take-append-drop, length-take, length-drop}
+use Rattle.block_adaptive.proofs.Packing.{range_filled}
+use Rattle.header_bits.proofs.Reading.{ok_is}
+use Rattle.block_adaptive.specs.declared.options.CodeSet.{CodeSet}
+use Rattle.block_adaptive.specs.Segments.{filled, first_blocks, blocks, block_count}
+use Rattle.block_adaptive.specs.Texts.{Text, Block, Run, Rest, Cut, cut_of, left_at, IsText, AreTexts, blocks_in, blocks_told, values_of, spelled, spelling}
+use Rattle.block_adaptive.specs.Chosen.{chosen_from, chosen_texts, chosen_block_body}
+use Rattle.block_adaptive.specs.Reading.{Site, text_at, texts_at}
+use Rattle.block_adaptive.specs.Laws.{OneBody, ChosenIsBody, AreBlocks}
+use Rattle.block_adaptive.proofs.Again.{text_again}
+use Rattle.block_adaptive.proofs.Lawful.{chosen_is_lawful}
+
+le-leb : (a b : ℕ) → a ≤ b → leb a b ≡ true
+le-leb a b h = grind (arith, nat_tests)
+
+lt-leb : (a b : ℕ) → b < a → leb a b ≡ false
+lt-leb a b h = grind (arith, nat_tests)
+
+-- a lawful text stands for a block or more
+pub text_some : (s : CodeSet) (size left : ℕ) (t : Text) → IsText s size left t → 1 ≤ blocks_in left t
+text_some s size left (Block o vs) h = omega arith
+text_some s size left (Run n) h = h.0
+text_some s size left Rest h = h
+
+-- no more texts than blocks
+pub texts_few : (c : Cut) (i j : ℕ) (texts : List Text) → AreTexts c i texts j → i + length texts ≤ j
+unfolding AreTexts
+texts_few c i j [] h = omega (arith, h)
+texts_few c i j (t ∷ texts) h =
+    omega (arith, text_some c.set c.size (left_at c i) t h.0, texts_few c (i + blocks_in (left_at c i) t) j texts h.1)
+
+-- lawful texts are read as they are, whatever follows
+pub texts_again : (count half n i : ℕ) (c : Cut) (texts : List Text) (rest : List Bool) → c.size ≡ 2 * half → length texts ≤ n → AreTexts c i texts c.count → texts_at count c n i (spelling c.set texts ++ rest) ≡ Ok (texts, rest)
+unfolding texts_at AreTexts
+texts_again count half zero i c [] rest even few h = refl
+texts_again count half zero i c (t ∷ texts) rest even few h = absurd (omega arith)
+texts_again count half (suc n) i c [] rest even few h =
+    let done : leb c.count i ≡ true = le-leb _ _ (omega (arith, h)) in
+    rw done refl
+texts_again count half (suc n) i c (t ∷ texts) rest even few h =
+    let more : leb c.count i ≡ false = lt-leb _ _ (omega (arith, text_some c.set c.size (left_at c i) t h.0, texts_few c (i + blocks_in (left_at c i) t) c.count texts h.1)) in
+    let site : Site = record { count = count; block = i } in
+    let after : List Bool = spelling c.set texts ++ rest in
+    let one : text_at site c.set c.size (left_at c i) (spelled c.set t ++ after) ≡ Ok (t, after) =
+    rw even (text_again site c.set half (left_at c i) t after (subst (λ (k : ℕ). IsText c.set k (left_at c i) t) even h.0)) in
+    rw (more, append_assoc (spelled c.set t) (spelling c.set texts) rest, one, texts_again count half n (i + blocks_in (left_at c i) t) c texts rest even (omega arith) h.1) refl
+
+pub one_body : OneBody
+one_body s half reference ms ns a b x y pos len p q e =
+    let c : Cut = cut_of s (2 * half) reference (length ms) in
+    let d : Cut = cut_of s (2 * half) reference (length ns) in
+    let same-cut : d ≡ c = ap (cut_of s (2 * half) reference) (sym len) in
+    let q-lawful : AreTexts c 0 q.texts c.count = subst (λ (k : Cut). AreTexts k 0 q.texts k.count) same-cut q.lawful in
+    let few = texts_few c 0 c.count p.texts p.lawful in
+    let few-too = texts_few c 0 c.count q.texts q-lawful in
+    let first = texts_again 0 half c.count 0 c p.texts x refl (omega arith) p.lawful in
+    let second = texts_again 0 half c.count 0 c q.texts y refl (omega arith) q-lawful in
+    let bits : spelling s p.texts ++ x ≡ spelling s q.texts ++ y = ap (λ (bs : List Bool). bs ++ x) (sym p.text) ∙ e ∙ ap (λ (bs : List Bool). bs ++ y) q.text in
+    let same = ok_is (p.texts, x) (q.texts, y) (sym first ∙ ap (λ (bs : List Bool). texts_at 0 c c.count 0 bs) bits ∙ second) in
+    let texts : p.texts ≡ q.texts = ap (λ (r : List Text × List Bool). r.0) same in
+    let numbers : take (length ms) (values_of (blocks_told c 0 p.texts)) ≡ take (length ns) (values_of (blocks_told d 0 q.texts)) = rw (texts, len) refl in
+    (sym p.told ∙ numbers ∙ q.told, ap (λ (r : List Text × List Bool). r.1) same)
+
+-- ---- the chosen body
+
+pub length-first_blocks : (size n : ℕ) (numbers : List ℕ) → length (first_blocks size n numbers) ≡ n
+unfolding first_blocks
+length-first_blocks size zero numbers = refl
+length-first_blocks size (suc n) numbers = ap suc (length-first_blocks size n (drop size numbers))
+
+range_take : (limit n : ℕ) (vs : List ℕ) → AllByRecursion (λ v. v < limit) vs → AllByRecursion (λ v. v < limit) (take n vs)
+range_take limit zero vs h = tt
+range_take limit (suc n) [] h = tt
+range_take limit (suc n) (v ∷ vs) h = (h.0, range_take limit n vs h.1)
+
+range_drop : (limit n : ℕ) (vs : List ℕ) → AllByRecursion (λ v. v < limit) vs → AllByRecursion (λ v. v < limit) (drop n vs)
+range_drop limit zero vs h = h
+range_drop limit (suc n) [] h = tt
+range_drop limit (suc n) (v ∷ vs) h = range_drop limit n vs h.1
+
+filled_length : (size : ℕ) (v : List ℕ) → length v ≤ size → length (filled size v) ≡ size
+filled_length size v le = omega (arith, length-append v (replicate (size - length v) 0), length-replicate {A = ℕ} (size - length v) 0)
+
+first_are_blocks : (s : CodeSet) (size n : ℕ) (numbers : List ℕ) → AllByRecursion (λ v. v < 2 ^ s.bits) numbers → AreBlocks s size (first_blocks size n numbers)
+unfolding first_blocks
+first_are_blocks s size zero numbers h = tt
+first_are_blocks s size (suc n) numbers h = (
+  (filled_length size (take size numbers) (omega (arith, length-take size numbers)), range_filled (2 ^ s.bits) size (take size numbers) (pow_pos s.bits) (range_take (2 ^ s.bits) size numbers h)),
+  first_are_blocks s size n (drop size numbers) (range_drop (2 ^ s.bits) size numbers h),
+)
+
+filled_whole : (size : ℕ) (b : List ℕ) → length b ≡ size → filled size b ≡ b
+filled_whole size b len = (let e : size - length b ≡ 0 = omega arith in rw e (append-nil b))
+
+take_behind : (a b : List ℕ) (n m : ℕ) → n ≡ length a + m → take n (a ++ b) ≡ a ++ take m b
+take_behind [] b n m e = (let f : n ≡ m = omega arith in rw f refl)
+take_behind (x ∷ a) b zero m e = absurd (omega arith)
+take_behind (x ∷ a) b (suc n) m e = ap (λ (vs : List ℕ). x ∷ vs) (take_behind a b n m (omega arith))
+
+-- the blocks begin with the numbers
+first_values : (size n : ℕ) (numbers : List ℕ) → length numbers ≤ n * size → take (length numbers) (values_of (first_blocks size n numbers)) ≡ numbers
+unfolding first_blocks
+first_values size zero [] h = refl
+first_values size zero (v ∷ vs) h = absurd (omega arith)
+first_values size (suc n) numbers h =
+    elim (cases_lt size (length numbers)) [
+      | inl more ↦
+          (let whole : length (take size numbers) ≡ size = omega (arith, length-take size numbers) in
+          let rest : length (drop size numbers) ≡ length numbers - size = length-drop size numbers in
+          let few : length (drop size numbers) ≤ n * size = omega arith in
+          rw (filled_whole size (take size numbers) whole)
+          (take_behind (take size numbers) (values_of (first_blocks size n (drop size numbers))) (length numbers) (length (drop size numbers)) (omega arith)
+          ∙ ap (λ (vs : List ℕ). take size numbers ++ vs) (first_values size n (drop size numbers) few) ∙ take-append-drop size numbers))
+      | inr few ↦
+          (let all : take size numbers ≡ numbers = take_all size numbers few in
+          rw (all, append_assoc numbers (replicate (size - length numbers) 0) (values_of (first_blocks size n (drop size numbers))))
+          (take_at numbers (replicate (size - length numbers) 0 ++ values_of (first_blocks size n (drop size numbers))) (length numbers) refl))
+    ]
+
+pub blocks_enough : (size n : ℕ) → 1 ≤ size → n ≤ block_count size n * size
+blocks_enough size n pos =
+    let over : n + size - 1 < (n + size - 1) / size * size + size = lt-div-mul-add {a = n + size - 1} {b = size} (omega arith) in
+    omega arith
+
+pub chosen_is_body : ChosenIsBody
+unfolding chosen_block_body chosen_texts blocks
+chosen_is_body s size reference numbers pos least range =
+    let c : Cut = cut_of s size reference (length numbers) in
+    let bs : List (List ℕ) = first_blocks size (block_count size (length numbers)) numbers in
+    let len : length bs ≡ c.count = length-first_blocks size (block_count size (length numbers)) numbers in
+    let lawful = chosen_is_lawful c bs len least (first_are_blocks s size (block_count size (length numbers)) numbers range) in
+    record {
+      texts = chosen_from c c.count 0 bs;
+      lawful = lawful.0;
+      text = ap (λ (n : ℕ). spelling s (chosen_from c n 0 bs)) len;
+      told = ap (λ (ts : List (List ℕ)). take (length numbers) (values_of ts)) lawful.1 ∙ first_values size (block_count size (length numbers)) numbers (blocks_enough size (length numbers) pos);
+    }

@@ -1,0 +1,134 @@
+-- What callers of the reader and the writer of blocks know.
+use Rattle.std.proofs.Common.{◌≡◌, ℕ, zero, suc, ◌+◌, ◌-◌, ◌*◌, ◌/◌, ◌<◌, ◌≤◌, Bool, true, false, leb, List, [], ◌∷◌, ◌++◌, length, replicate, Ok, Err, refl, sym, ap, subst, ◌∙◌, inl, inr, arith, append_assoc}
+use Rattle.std.proofs.lemmas.Bool.{cases_lt}
+use Rattle.std.proofs.lemmas.Bool.Decides.{nat_tests}
+use Rattle.std.proofs.lemmas.Nat.{mul-le}
+use Rattle.std.proofs.Math.Nat.{lt-div-mul-add}
+use Rattle.std.proofs.lemmas.List.{append-nil, length-append, length-replicate}
+use Rattle.cube_core.specs.declared.fault.Fault.{Fault}
+use Rattle.block_adaptive.specs.declared.options.CodeSet.{CodeSet}
+use Rattle.block_adaptive.specs.Segments.{blocks, first_blocks, block_count}
+use Rattle.block_adaptive.specs.Texts.{Text, Block, Run, Rest, Cut, left_at, IsText, AreTexts, blocks_in, blocks_of, blocks_told, values_of, spelled, spelling}
+use Rattle.block_adaptive.specs.Chosen.{chosen_from, chosen_texts, chosen_block_body}
+use Rattle.block_adaptive.specs.Reading.{Site, text_at, texts_at}
+use Rattle.block_adaptive.specs.Settings.{IsCut}
+use Rattle.block_adaptive.specs.Given.{Unpacked, HasGiven, HasMore}
+use Rattle.block_adaptive.specs.Taken.{Packed, HasTaken}
+use Rattle.block_adaptive.specs.Prefixes.{TakenIsPrefix}
+use Rattle.block_adaptive.proofs.Again.{text_again}
+use Rattle.block_adaptive.proofs.Bodies.{blocks_enough, length-first_blocks, text_some, texts_few}
+use Rattle.block_adaptive.proofs.Handed.{size_least, size_halved, values_append}
+use Rattle.block_adaptive.proofs.Packing.{values_length, first_of_blocks}
+
+-- fewer numbers than there are leave a block
+block_left : (size count n many : ℕ) → n ≤ count * size → many * size < n → many < count
+block_left size count n many all few =
+    elim (cases_lt many count) [
+      | inl lt ↦ lt
+      | inr ge ↦ (let p = mul-le count size many size ge (omega arith) in absurd (omega arith))
+    ]
+
+-- where fewer numbers were taken than there are, one more may be put
+pub room_left : (v : Packed) (taken : List ℕ) (bits : List Bool) (n : ℕ) → IsCut v.cut → v.cut.count ≡ block_count v.cut.size n → length taken < n → HasTaken v taken bits → v.start + v.zeros < v.cut.count
+room_left v taken bits n cut count few h =
+    let size : length taken ≡ length h.blocks * v.cut.size + length v.held = ap length h.numbers ∙ length-append (values_of h.blocks) v.held ∙ ap (λ (k : ℕ). k + length v.held) (values_length v.cut.set v.cut.size h.blocks h.whole) in
+    let all : n ≤ v.cut.count * v.cut.size = subst (λ (k : ℕ). n ≤ k * v.cut.size) (sym count) (blocks_enough v.cut.size n (omega (arith, size_least v.cut.size cut.size))) in
+    let left = block_left v.cut.size v.cut.count n (length h.blocks) all (omega arith) in
+    omega (arith, left, h.place)
+
+-- ---- texts and the blocks that they stand for
+
+zeros_length : (n size : ℕ) → length (values_of (replicate n (replicate size 0))) ≡ n * size
+zeros_length zero size = omega arith
+zeros_length (suc n) size = omega (arith, length-append (replicate size 0) (values_of (replicate n (replicate size 0))), length-replicate {A = ℕ} size 0, zeros_length n size)
+
+text_blocks : (s : CodeSet) (size left : ℕ) (t : Text) → IsText s size left t → length (values_of (blocks_of size left t)) ≡ blocks_in left t * size
+text_blocks s size left (Block o vs) h = omega (arith, ap length (append-nil vs), h.whole)
+text_blocks s size left (Run n) h = zeros_length n size
+text_blocks s size left Rest h = zeros_length left size
+
+told_length : (c : Cut) (i j : ℕ) (texts : List Text) → AreTexts c i texts j → i * c.size + length (values_of (blocks_told c i texts)) ≡ j * c.size
+unfolding AreTexts blocks_told
+told_length c i j [] h = rw h (omega arith)
+told_length c i j (t ∷ texts) h =
+    let k : ℕ = blocks_in (left_at c i) t in
+    let here = text_blocks c.set c.size (left_at c i) t h.0 in
+    let rest = told_length c (i + k) j texts h.1 in
+    let both : length (values_of (blocks_of c.size (left_at c i) t ++ blocks_told c (i + k) texts)) ≡ length (values_of (blocks_of c.size (left_at c i) t)) + length (values_of (blocks_told c (i + k) texts)) =
+    ap length (values_append (blocks_of c.size (left_at c i) t) (blocks_told c (i + k) texts)) ∙ length-append (values_of (blocks_of c.size (left_at c i) t)) (values_of (blocks_told c (i + k) texts)) in
+    let spread : (i + k) * c.size ≡ i * c.size + k * c.size = omega arith in
+    omega arith
+
+-- where fewer numbers were given than there are, one more may be asked for
+pub more_left : (v : Unpacked) (given : List ℕ) (bits : List Bool) (n : ℕ) → IsCut v.cut → v.cut.count ≡ block_count v.cut.size n → length given < n → HasGiven v given bits → HasMore v
+more_left v given bits n cut count few h = λ none.
+    let told : length (values_of (blocks_told v.cut 0 h.texts)) ≡ length given = ap length (h.told ∙ ap (λ (held : List ℕ). given ++ held) none ∙ append-nil given) in
+    let whole = told_length v.cut 0 v.block h.texts h.lawful in
+    let start : 0 * v.cut.size ≡ 0 = omega arith in
+    let all : n ≤ v.cut.count * v.cut.size = subst (λ (k : ℕ). n ≤ k * v.cut.size) (sym count) (blocks_enough v.cut.size n (omega (arith, size_least v.cut.size cut.size))) in
+    block_left v.cut.size v.cut.count n v.block all (omega arith)
+
+-- ---- the whole body
+
+le-leb : (a b : ℕ) → a ≤ b → leb a b ≡ true
+le-leb a b h = grind (arith, nat_tests)
+
+lt-leb : (a b : ℕ) → b < a → leb a b ≡ false
+lt-leb a b h = grind (arith, nat_tests)
+
+-- lawful texts, and then a text that is refused: so is the body
+texts_refused : (count half n i j : ℕ) (c : Cut) (texts : List Text) (left : List Bool) (e : Fault) → c.size ≡ 2 * half → j < c.count → c.count ≤ n + i → AreTexts c i texts j
+    → text_at (record { count = count; block = j }) c.set c.size (left_at c j) left ≡ Err e → texts_at count c n i (spelling c.set texts ++ left) ≡ Err e
+unfolding texts_at AreTexts
+texts_refused count half zero i j c [] left e even lt fuel h bad = absurd (omega (arith, h))
+texts_refused count half zero i j c (t ∷ texts) left e even lt fuel h bad =
+    absurd (omega (arith, text_some c.set c.size (left_at c i) t h.0, texts_few c (i + blocks_in (left_at c i) t) j texts h.1))
+texts_refused count half (suc n) i j c [] left e even lt fuel h bad =
+    let more : leb c.count i ≡ false = lt-leb _ _ (omega (arith, h)) in
+    let here : text_at (record { count = count; block = i }) c.set c.size (left_at c i) left ≡ Err e = subst (λ (k : ℕ). text_at (record { count = count; block = k }) c.set c.size (left_at c k) left ≡ Err e) (sym h) bad in
+    rw (more, here) refl
+texts_refused count half (suc n) i j c (t ∷ texts) left e even lt fuel h bad =
+    let some = text_some c.set c.size (left_at c i) t h.0 in
+    let more : leb c.count i ≡ false = lt-leb _ _ (omega (arith, some, texts_few c (i + blocks_in (left_at c i) t) j texts h.1)) in
+    let site : Site = record { count = count; block = i } in
+    let after : List Bool = spelling c.set texts ++ left in
+    let one : text_at site c.set c.size (left_at c i) (spelled c.set t ++ after) ≡ Ok (t, after) =
+    rw even (text_again site c.set half (left_at c i) t after (subst (λ (k : ℕ). IsText c.set k (left_at c i) t) even h.0)) in
+    rw (more, append_assoc (spelled c.set t) (spelling c.set texts) left, one, texts_refused count half n (i + blocks_in (left_at c i) t) j c texts left e even lt (omega arith) h.1 bad) refl
+
+-- a refusal of the next text is that of the body, out of which the numbers given were read
+pub body_refused : (v : Unpacked) (given : List ℕ) (bits left : List Bool) (count : ℕ) (e : Fault) → IsCut v.cut → v.block < v.cut.count → HasGiven v given bits
+    → text_at (record { count = count; block = v.block }) v.cut.set v.cut.size (left_at v.cut v.block) left ≡ Err e → texts_at count v.cut v.cut.count 0 (bits ++ left) ≡ Err e
+body_refused v given bits left count e cut lt h bad =
+    ap (λ (bs : List Bool). texts_at count v.cut v.cut.count 0 (bs ++ left)) h.text
+    ∙ texts_refused count (v.cut.size / 2) v.cut.count 0 v.block v.cut h.texts left e (sym (size_halved v.cut.size cut.size)) lt (omega arith) h.lawful bad
+
+-- ---- what was appended begins the body
+
+count_least : (size many rest : ℕ) → 1 ≤ size → many ≤ block_count size (many * size + rest)
+count_least size many rest pos =
+    let over = lt-div-mul-add {a = many * size + rest + size - 1} {b = size} (omega arith) in
+    block_least size many ((many * size + rest + size - 1) / size) (omega arith)
+  where
+    block_least : (size many q : ℕ) → many * size < (q + 1) * size → many ≤ q
+    block_least size many q lt =
+        elim (cases_lt q many) [
+          | inl below ↦ (let p = mul-le (q + 1) size many size (omega arith) (omega arith) in absurd (omega arith))
+          | inr above ↦ above
+        ]
+
+pub taken_is_prefix : TakenIsPrefix
+unfolding chosen_block_body chosen_texts blocks
+taken_is_prefix v taken future bits cut count h =
+    let c : Cut = v.cut in
+    let rest : List ℕ = v.held ++ future in
+    let numbers : taken ++ future ≡ values_of h.blocks ++ rest = ap (λ (ns : List ℕ). ns ++ future) h.numbers ∙ append_assoc (values_of h.blocks) v.held future in
+    let size : length (taken ++ future) ≡ length h.blocks * c.size + length rest = ap length numbers ∙ length-append (values_of h.blocks) rest ∙ ap (λ (k : ℕ). k + length rest) (values_length c.set c.size h.blocks h.whole) in
+    let many : length h.blocks ≤ c.count = subst (λ (k : ℕ). length h.blocks ≤ k) (ap (block_count c.size) (sym size) ∙ count) (count_least c.size (length h.blocks) (length rest) (omega (arith, size_least c.size cut.size))) in
+    let m : ℕ = c.count - length h.blocks in
+    let whole : length h.blocks + m ≡ c.count = omega arith in
+    let cut-so : first_blocks c.size c.count (taken ++ future) ≡ h.blocks ++ first_blocks c.size m rest =
+    ap (λ (n : ℕ). first_blocks c.size n (taken ++ future)) (sym whole) ∙ ap (first_blocks c.size (length h.blocks + m)) numbers ∙ first_of_blocks c.set c.size m h.blocks rest h.whole in
+    let length-so : length (h.blocks ++ first_blocks c.size m rest) ≡ c.count = omega (arith, length-append h.blocks (first_blocks c.size m rest), length-first_blocks c.size m rest) in
+    let goes = h.goes_on (first_blocks c.size m rest) (omega (arith, length-first_blocks c.size m rest)) in
+    (spelling c.set (chosen_from c c.count v.start (replicate v.zeros (replicate c.size 0) ++ first_blocks c.size m rest)), rw (count, cut-so, length-so) goes)

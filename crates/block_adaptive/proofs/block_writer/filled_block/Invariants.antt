@@ -1,0 +1,9 @@
+use Rattle.std.proofs.Common.{◌≡◌, ℕ, ◌-◌, ◌≤◌, ◌++◌, take, length}
+use Rattle.block_adaptive.proofs.Handed.{zeros}
+use Rattle.block_adaptive.proofs.block_writer.filled_block.Given as goal
+
+abbrev pub invariant-loop-i : goal.invariant-loop-i
+invariant-loop-i l = record {
+  filled : (n : ℕ) → l.held ≤ n → n ≤ l.i → take n l.block ≡ take l.held l.values ++ zeros (n - l.held);
+  whole : length l.block ≡ 64;
+}

@@ -1,0 +1,70 @@
+-- What a writer of blocks holds back, and which numbers it has taken.
+use Rattle.std.specs.Prelude.{ℕ, ◌≡◌, ◌+◌, ◌-◌, ◌<◌, ◌≤◌, ◌==◌, nat_le, Bool, if◌then◌else◌, List, [], ◌∷◌, ◌++◌, length, replicate}
+use Rattle.header_bits.specs.Bits.{Written}
+use Rattle.block_adaptive.specs.declared.options.CodeSet.{CodeSet}
+use Rattle.block_adaptive.specs.Segments.{block_count}
+use Rattle.block_adaptive.specs.Texts.{Text, Block, Run, Rest, Cut, left_at, spelling, values_of}
+use Rattle.block_adaptive.specs.Chosen.{chosen_option, chosen_from, chosen_block_body, is_zero}
+use Rattle.block_adaptive.specs.Laws.{AreBlocks}
+
+-- the text was appended, and took no more than its length of the room
+pub record Writes (old new : Written) (text : List Bool) : Type 0 where
+  pub appended : new.bits ≡ old.bits ++ text
+  pub spent : old.room ≤ new.room + length text
+
+-- how the numbers are cut; from which block on nothing was written, and how many blocks of zeros are held there; and the values of the block begun
+pub record Packed : Type 0 where
+  pub cut : Cut
+  pub start : ℕ
+  pub zeros : ℕ
+  pub held : List ℕ
+
+-- the text of all blocks that are left in a segment, where they are zeros
+abbrev pub rest_of : ℕ → Text
+rest_of left = if nat_le 5 left then Rest else Run left
+
+-- the texts of a block that isn't zeros, behind so many that are
+abbrev pub run_and_block : CodeSet → ℕ → List ℕ → List Text
+run_and_block s zeros b = if zeros == 0 then Block (chosen_option s b) b ∷ [] else Run zeros ∷ Block (chosen_option s b) b ∷ []
+
+-- the texts that a whole block makes, behind blocks of zeros that are held
+abbrev pub texts_after : CodeSet → ℕ → ℕ → List ℕ → List Text
+texts_after s left zeros b =
+    if is_zero b then (if zeros + 1 == left then rest_of left ∷ [] else [])
+    else run_and_block s zeros b
+
+-- how many blocks of zeros are held behind it
+abbrev pub zeros_after : ℕ → ℕ → List ℕ → ℕ
+zeros_after left zeros b = if is_zero b then (if zeros + 1 == left then 0 else zeros + 1) else 0
+
+-- behind a whole block
+abbrev pub packed : Packed → List ℕ → Packed
+packed v b =
+    let zeros = zeros_after (left_at v.cut v.start) v.zeros b in
+    record v { start = v.start + (v.zeros + 1 - zeros); zeros = zeros; held = [] }
+
+abbrev pub texts_packed : Packed → List ℕ → List Bool
+texts_packed v b = spelling v.cut.set (texts_after v.cut.set (left_at v.cut v.start) v.zeros b)
+
+-- the numbers taken: whole blocks and the values held; and the bits appended, with whatever the blocks held and those to come spell, are the chosen body
+pub record HasTaken (v : Packed) (taken : List ℕ) (bits : List Bool) : Type 0 where
+  pub blocks : List (List ℕ)
+  pub whole : AreBlocks v.cut.set v.cut.size blocks
+  pub numbers : taken ≡ values_of blocks ++ v.held
+  pub place : length blocks ≡ v.start + v.zeros
+  pub inside : 1 ≤ v.zeros → v.zeros < left_at v.cut v.start
+  pub goes_on : (future : List (List ℕ)) → length blocks + length future ≡ v.cut.count
+      → spelling v.cut.set (chosen_from v.cut v.cut.count 0 (blocks ++ future))
+      ≡ bits ++ spelling v.cut.set (chosen_from v.cut v.cut.count v.start (replicate v.zeros (replicate v.cut.size 0) ++ future))
+
+-- whatever was taken before: bits were appended, and with them one number more is taken
+abbrev pub PutsNumber : ℕ → Packed → List Bool → Packed → List Bool → Type 0
+PutsNumber number old written new written_now =
+    (taken : List ℕ) (bits : List Bool) → HasTaken old taken bits
+    → (more : List Bool) × (written_now ≡ written ++ more) × HasTaken new (taken ++ number ∷ []) (bits ++ more)
+
+-- where as many numbers were taken as there are: all bits together are the chosen body
+abbrev pub EndsBody : Packed → List Bool → List Bool → Type 0
+EndsBody old written written_now =
+    (taken : List ℕ) (bits : List Bool) → HasTaken old taken bits → block_count old.cut.size (length taken) ≡ old.cut.count
+    → (more : List Bool) × (written_now ≡ written ++ more) × (bits ++ more ≡ chosen_block_body old.cut.set old.cut.size old.cut.reference taken)

@@ -1,0 +1,159 @@
+//! A writer of blocks: it takes numbers one after another, and writes the texts that stand for them.
+
+ghost use Rattle.std.specs.Prelude.{ℕ, ◌∷◌, ◌-◌, ◌≡◌, ◌+◌, ◌%◌, ◌^◌, ◌<◌, ◌≤◌, ◌++◌, [], length, take, replicate, OnOk, OnErr, IfErr};
+ghost use Rattle.std.specs.List.{AllByRecursion};
+ghost use Rattle.cube_core.specs.declared.fault.Fault.TheVariants.{WantOfMemory};
+ghost use Rattle.block_adaptive.specs.Settings.{AreForBlocks, cut_by};
+ghost use Rattle.block_adaptive.specs.Taken.{HasTaken, PutsNumber, EndsBody, packed, texts_packed};
+
+use crate::options::CodeSet;
+use crate::segments::blocks_left;
+use crate::writing::write_texts;
+use cube_core::fault::Fault;
+use header_bits::bit_writer::BitWriter;
+use header_bits::params::{Coder, Params};
+use std::marker::Model;
+
+/// Writes the body of numbers, by the shortest option of each block and the longest runs of zero blocks.
+///
+/// It holds back the values of the block begun, and blocks of zeros, as a count, until it is known how
+/// long their run is.
+#[derive(Drop)]
+pub struct BlockWriter {
+    set: CodeSet,
+    /// J: 8, 16, 32 or 64.
+    size: u32,
+    reference: u32,
+    /// How many blocks there are.
+    count: u64,
+    /// The first block of which nothing was written.
+    start: u64,
+    /// How many blocks of zeros there are from it on.
+    zeros: u32,
+    values: [u16; 64],
+    /// How many values of the next block are there.
+    held: u32,
+}
+
+impl Model for BlockWriter {
+    ghost use Rattle.std.specs.Prelude.{take};
+    ghost use Rattle.block_adaptive.specs.Taken.{Packed};
+    ghost use Rattle.block_adaptive.specs.Holding.{AreStored};
+
+    ghost Value = { Packed };
+
+    ghost view = { λ a. record { cut = record { set = a.set; size = a.size; reference = a.reference; count = a.count }; start = a.start; zeros = a.zeros; held = take a.held a.values } };
+
+    ghost invariant = { λ a. AreStored (record { set = a.set; size = a.size; reference = a.reference; count = a.count }) a.start a.zeros (take a.held a.values) };
+}
+
+impl BlockWriter {
+    /// A writer of an image's numbers, of which none was taken yet. It takes no memory.
+    ///
+    /// The parameters are lawful, and for this coder.
+    pub fn new(params: &Params) -> BlockWriter
+        requires { AreForBlocks params.now }
+        ensures cut { result.cut ≡ cut_by params.now }
+        ensures taken { HasTaken result [] [] }
+    {
+        match params.coder {
+            Coder::Block {
+                size,
+                restricted,
+                reference,
+            } => BlockWriter {
+                set: CodeSet {
+                    bits: params.kind.bits(),
+                    restricted,
+                },
+                size,
+                reference,
+                count: params.shape.sample_count().div_ceil(u64::from(size)),
+                start: 0,
+                zeros: 0,
+                values: [0; 64],
+                held: 0,
+            },
+            Coder::Sample { .. } => unreachable!(),
+        }
+    }
+
+    /// Takes the next number, and appends what is then known of the body.
+    ///
+    /// Fewer numbers were taken than there are, and the number is at most 2^D - 1. After
+    /// `WantOfMemory` nothing was changed, and the call may be made again.
+    pub fn put(&mut self, delta: u16, writer: &mut BitWriter) -> Result<(), Fault>
+        requires number { delta < 2 ^ self.old.cut.set.bits }
+        requires more { self.old.start + self.old.zeros < self.old.cut.count }
+        ensures taken { OnOk result (PutsNumber delta self.old writer.old.bits self.new writer.new.bits) }
+        ensures same { OnErr result ((self.new ≡ self.old) × (writer.new.bits ≡ writer.old.bits)) }
+        ensures refused { IfErr result (λ e. e ≡ WantOfMemory) }
+        ensures cut { self.new.cut ≡ self.old.cut }
+    {
+        if self.held + 1 < self.size {
+            self.values[self.held as usize] = delta;
+            self.held += 1;
+            return Ok(());
+        }
+        let size = self.size as usize;
+        let block = with_value(&self.values, self.held, delta);
+        self.pack(&block[..size], writer)
+    }
+
+    /// Ends the body: appends what is still held, with the block begun filled with zeros.
+    ///
+    /// All numbers were taken. After `WantOfMemory` nothing was changed, and the call may be made again.
+    pub fn end(&mut self, writer: &mut BitWriter) -> Result<(), Fault>
+        ensures ended { OnOk result (EndsBody self.old writer.old.bits writer.new.bits) }
+        ensures same { OnErr result ((self.new ≡ self.old) × (writer.new.bits ≡ writer.old.bits)) }
+        ensures refused { IfErr result (λ e. e ≡ WantOfMemory) }
+    {
+        if self.held == 0 {
+            return Ok(());
+        }
+        let size = self.size as usize;
+        let block = filled_block(&self.values, self.held);
+        self.pack(&block[..size], writer)
+    }
+
+    /// Takes a whole block in place of the values held, and appends what is then known of the body.
+    fn pack(&mut self, block: &[u16], writer: &mut BitWriter) -> Result<(), Fault>
+        requires whole { length block.now ≡ self.old.cut.size }
+        requires range { AllByRecursion (λ v. v < 2 ^ self.old.cut.set.bits) block.now }
+        requires more { self.old.start + self.old.zeros < self.old.cut.count }
+        ensures appended { OnOk result (writer.new.bits ≡ writer.old.bits ++ texts_packed self.old block.now) }
+        ensures packed { OnOk result (self.new ≡ packed self.old block.now) }
+        ensures same { OnErr result ((self.new ≡ self.old) × (writer.new.bits ≡ writer.old.bits)) }
+        ensures refused { IfErr result (λ e. e ≡ WantOfMemory) }
+    {
+        let left = blocks_left(self.reference, self.count, self.start);
+        let set = self.set;
+        let zeros = write_texts(writer, &set, left, self.zeros, block)?;
+        self.start += u64::from(self.zeros + 1 - zeros);
+        self.zeros = zeros;
+        self.held = 0;
+        Ok(())
+    }
+}
+
+/// The values with one more, which is the last of its block.
+fn with_value(values: &[u16; 64], held: u32, value: u16) -> [u16; 64]
+    requires { held < 64 }
+    ensures { take (held + 1) result ≡ take held values.now ++ value ∷ [] }
+{
+    let mut block = *values;
+    block[held as usize] = value;
+    block
+}
+
+/// The values with zeros behind them.
+fn filled_block(values: &[u16; 64], held: u32) -> [u16; 64]
+    requires { held ≤ 64 }
+    ensures { (n : ℕ) → held ≤ n → n ≤ 64 → take n result ≡ take held values.now ++ replicate (n - held) 0 }
+{
+    let mut block = *values;
+    for i in held..64 {
+        block[i as usize] = 0;
+    }
+    block
+}

@@ -1,0 +1,218 @@
+//! Writing texts into room that was reserved for them.
+
+ghost use Rattle.std.specs.Prelude.{◌≡◌, ◌+◌, ◌%◌, ◌^◌, ◌<◌, ◌≤◌, ◌++◌, length, OnOk, OnErr, IfErr, IfOk};
+ghost use Rattle.std.specs.List.{AllByRecursion};
+ghost use Rattle.cube_core.specs.declared.fault.Fault.TheVariants.{WantOfMemory};
+ghost use Rattle.header_bits.specs.Bits.{bits_of, fundamental};
+ghost use Rattle.block_adaptive.specs.Options.{IsOption, zero_identifier, identifier, quotient_codes, low_groups, pair_codes, option_text, cost};
+ghost use Rattle.block_adaptive.specs.Texts.{run_text, run_code, spelled, spelling};
+ghost use Rattle.block_adaptive.specs.Chosen.{is_zero};
+ghost use Rattle.block_adaptive.specs.Taken.{Writes, rest_of, run_and_block, texts_after, zeros_after};
+
+use crate::choice::{choose, identifier_width, option_cost};
+use crate::options::{Choice, CodeSet};
+use cube_core::fault::Fault;
+use header_bits::bit_writer::BitWriter;
+
+/// Writes the `n` bits of a number.
+fn write_number(writer: &mut BitWriter, bits: u64, n: u32)
+    requires few { n ≤ 64 }
+    requires below { bits < 2 ^ n }
+    requires room { n ≤ writer.old.room }
+    ensures { Writes writer.old writer.new (bits_of n bits) }
+{
+    writer.push(bits, n).unwrap();
+}
+
+/// Writes a fundamental sequence, up to 64 zeros at a time.
+fn write_fundamental(writer: &mut BitWriter, zeros: u64)
+    requires { zeros + 1 ≤ writer.old.room }
+    ensures { Writes writer.old writer.new (fundamental zeros) }
+{
+    let mut left = zeros;
+    while left >= 64 {
+        write_number(writer, 0, 64);
+        left -= 64;
+    }
+    write_number(writer, 1, left as u32 + 1);
+}
+
+/// Writes the values of a block without their k lowest bits.
+fn write_quotients(writer: &mut BitWriter, k: u32, block: &[u16])
+    requires k { k ≤ 15 }
+    requires room { length (quotient_codes k block.now) ≤ writer.old.room }
+    ensures { Writes writer.old writer.new (quotient_codes k block.now) }
+{
+    for value in block {
+        write_fundamental(writer, (*value >> k) as u64);
+    }
+}
+
+/// Writes the k lowest bits of each value of a block.
+fn write_lows(writer: &mut BitWriter, k: u32, block: &[u16])
+    requires k { k ≤ 16 }
+    requires room { length (low_groups k block.now) ≤ writer.old.room }
+    ensures { Writes writer.old writer.new (low_groups k block.now) }
+{
+    let mask = (1u64 << k) - 1;
+    for value in block {
+        write_number(writer, *value as u64 & mask, k);
+    }
+}
+
+/// Writes the pairs of a block.
+fn write_pairs(writer: &mut BitWriter, block: &[u16])
+    requires even { length block.now % 2 ≡ 0 }
+    requires room { length (pair_codes block.now) ≤ writer.old.room }
+    ensures { Writes writer.old writer.new (pair_codes block.now) }
+{
+    for i in 0..block.len() / 2 {
+        let first = block[2 * i] as u64;
+        let second = block[2 * i + 1] as u64;
+        let sum = first + second;
+        write_fundamental(writer, sum * (sum + 1) / 2 + second);
+    }
+}
+
+/// Writes the text of a block under an option.
+fn write_option(writer: &mut BitWriter, set: &CodeSet, choice: Choice, block: &[u16])
+    requires bits { set.now.bits ≤ 16 }
+    requires option { IsOption set.now choice }
+    requires even { length block.now % 2 ≡ 0 }
+    requires room { cost set.now choice block.now ≤ writer.old.room }
+    ensures { Writes writer.old writer.new (option_text set.now choice block.now) }
+{
+    let width = identifier_width(set);
+    match choice {
+        Choice::Uncoded => {
+            write_number(writer, (1 << width) - 1, width);
+            write_lows(writer, set.bits, block);
+        }
+        Choice::Second => {
+            write_number(writer, 1, width + 1);
+            write_pairs(writer, block);
+        }
+        Choice::Split(k) => {
+            write_number(writer, u64::from(k) + 1, width);
+            write_quotients(writer, k, block);
+            write_lows(writer, k, block);
+        }
+    }
+}
+
+/// Writes the text of a run, whose code has so many zeros.
+fn write_run(writer: &mut BitWriter, set: &CodeSet, zeros: u32)
+    requires room { length (run_text set.now (fundamental zeros)) ≤ writer.old.room }
+    ensures { Writes writer.old writer.new (run_text set.now (fundamental zeros)) }
+{
+    write_number(writer, 0, identifier_width(set) + 1);
+    write_fundamental(writer, u64::from(zeros));
+}
+
+/// How many zeros the code of a run has.
+#[tactic(auto, unfolding(crate::specs::Texts::run_code))]
+fn zeros_of_run(blocks: u32) -> u32
+    ensures code { fundamental result ≡ run_code blocks }
+    ensures most { result ≤ blocks }
+{
+    if blocks <= 4 {
+        blocks.saturating_sub(1)
+    } else {
+        blocks
+    }
+}
+
+/// How many bits the text of a run has, whose code has so many zeros.
+fn run_cost(set: &CodeSet, zeros: u32) -> u64
+    requires { zeros ≤ 64 }
+    ensures value { result ≡ length (run_text set.now (fundamental zeros)) }
+    ensures bound { result ≤ 70 }
+{
+    u64::from(identifier_width(set) + zeros) + 2
+}
+
+/// Whether all values of a block are zero.
+fn all_zero(block: &[u16]) -> bool
+    ensures { result ≡ is_zero block.now }
+{
+    for value in block {
+        if *value != 0 {
+            return false;
+        }
+    }
+    true
+}
+
+/// Writes the run of all blocks that are left in a segment.
+#[tactic(auto, unfolding(crate::specs::Texts::spelled, crate::specs::Texts::rest_code))]
+fn write_rest(writer: &mut BitWriter, set: &CodeSet, left: u32) -> Result<(), Fault>
+    requires { (1 ≤ left) × (left ≤ 64) }
+    ensures appended { OnOk result (writer.new.bits ≡ writer.old.bits ++ spelled set.now (rest_of left)) }
+    ensures same { OnErr result (writer.new.bits ≡ writer.old.bits) }
+    ensures refused { IfErr result (λ e. e ≡ WantOfMemory) }
+{
+    let zeros = if left >= 5 { 4 } else { zeros_of_run(left) };
+    writer.reserve(run_cost(set, zeros))?;
+    write_run(writer, set, zeros);
+    Ok(())
+}
+
+/// Writes a block that isn't zeros, behind a run of so many that are.
+#[tactic(auto, unfolding(crate::specs::Texts::spelled))]
+fn write_block(
+    writer: &mut BitWriter,
+    set: &CodeSet,
+    zeros: u32,
+    block: &[u16],
+) -> Result<(), Fault>
+    requires bits { set.now.bits ≤ 16 }
+    requires zeros { zeros ≤ 64 }
+    requires few { length block.now ≤ 64 }
+    requires even { length block.now % 2 ≡ 0 }
+    ensures appended { OnOk result (writer.new.bits ≡ writer.old.bits ++ spelling set.now (run_and_block set.now zeros block.now)) }
+    ensures same { OnErr result (writer.new.bits ≡ writer.old.bits) }
+    ensures refused { IfErr result (λ e. e ≡ WantOfMemory) }
+{
+    let choice = choose(set, block);
+    let cost = option_cost(set, block, choice);
+    if zeros > 0 {
+        let code = zeros_of_run(zeros);
+        writer.reserve(run_cost(set, code) + cost)?;
+        write_run(writer, set, code);
+    } else {
+        writer.reserve(cost)?;
+    }
+    write_option(writer, set, choice, block);
+    Ok(())
+}
+
+/// Writes the texts that a whole block makes, behind so many blocks of zeros that are held; answers how
+/// many are held then.
+///
+/// `left` blocks are left in the segment of the first one held. The memory is asked for first.
+pub(crate) fn write_texts(
+    writer: &mut BitWriter,
+    set: &CodeSet,
+    left: u32,
+    zeros: u32,
+    block: &[u16],
+) -> Result<u32, Fault>
+    requires bits { set.now.bits ≤ 16 }
+    requires left { (zeros < left) × (left ≤ 64) }
+    requires few { length block.now ≤ 64 }
+    requires even { length block.now % 2 ≡ 0 }
+    ensures appended { OnOk result (writer.new.bits ≡ writer.old.bits ++ spelling set.now (texts_after set.now left zeros block.now)) }
+    ensures held { IfOk result (λ n. n ≡ zeros_after left zeros block.now) }
+    ensures same { OnErr result (writer.new.bits ≡ writer.old.bits) }
+    ensures refused { IfErr result (λ e. e ≡ WantOfMemory) }
+{
+    if !all_zero(block) {
+        write_block(writer, set, zeros, block)?;
+        Ok(0)
+    } else if zeros + 1 < left {
+        Ok(zeros + 1)
+    } else {
+        write_rest(writer, set, left)?;
+        Ok(0)
+    }
+}
