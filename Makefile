@@ -1,0 +1,9 @@
+.PHONY: show test
+
+# Builds the program and shows the sample cube's file in hexadecimal.
+show:
+	cd crates/ccsds && rt run -- show < ../../samples/small.cube
+
+# Proves every crate from nothing, tries the must-fail edits, and runs the tests and the program.
+test:
+	rt ci
