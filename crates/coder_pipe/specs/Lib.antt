@@ -1,2 +1,4 @@
+pub mod Everything
 pub mod File
+pub mod Rows
 pub mod Walked

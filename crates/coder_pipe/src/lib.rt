@@ -3,3 +3,4 @@
 
 mod bands;
 pub mod encode;
+pub mod worked;
