@@ -1,16 +1,15 @@
 -- How a band's predictor follows an image.
-use Rattle.std.proofs.Common.{◌≡◌, ◌+◌, ◌*◌, ◌/◌, ◌%◌, ◌^◌, ◌<◌, ◌≤◌, ℕ, zero, suc, ℤ, pos, ◌-ℤ◌, ◌*ℤ◌, int_lt, List, take, ◌++◌, replicate, arith, refl, ◌∙◌, ap, add-one}
+use Rattle.std.proofs.Common.{◌≡◌, ◌+◌, ◌*◌, ◌/◌, ◌%◌, ◌^◌, ◌<◌, ◌≤◌, ℕ, zero, suc, ℤ, pos, ◌-ℤ◌, ◌*ℤ◌, int_lt, List, arith, refl, ◌∙◌, ap, add-one}
 use Rattle.std.proofs.lemmas.Nat.{div-mul-add, mod-mul-add, mul-le}
 use Rattle.std.proofs.Math.Arith.{digits_lt}
 use Rattle.header_bits.specs.declared.params.Params.{Params}
 use Rattle.cube_core.specs.Image.{Image, sample_at}
 use Rattle.predict_core.specs.declared.predictor.Predictor.{Predictor}
-use Rattle.predict_core.specs.Predictor.{predictor_of, component_count}
+use Rattle.predict_core.specs.Predictor.{predictor_of}
 use Rattle.predict_core.specs.Differences.{difference_vector}
 use Rattle.predict_core.specs.Weights.{step_exponent, updated_weights}
 use Rattle.predict_core.specs.Prediction.{scaled_prediction, scaled_there, next_weights, weight_vector, first_scaled}
 use Rattle.predict_core.specs.Residual.{mapped, mapped_residual}
-use Rattle.predict_core.proofs.Padding.{padded_update, vector_length}
 
 -- the row and the column of a place
 pub row_is : (columns t y x : ℕ) → t ≡ y * columns + x → x < columns → t / columns ≡ y
@@ -26,17 +25,15 @@ place_below rows columns y x a b r q =
     let m = mul-le rows columns 65536 65536 a b in
     omega (arith, p, m)
 
-pub next_is : (p : Predictor) (c : Image) (z t y x m : ℕ) (ws us new : List ℤ) (scaled sample : ℤ) → t ≡ y * c.shape.columns + x → x < c.shape.columns
-    → us ≡ difference_vector p c z y x ++ replicate m (pos 0) → scaled ≡ scaled_there p c z y x (take (component_count p z) ws) → sample ≡ sample_at c z y x
-    → new ≡ updated_weights p.fraction (step_exponent p c.shape.columns c.kind.bits t) (int_lt (pos 2 *ℤ sample -ℤ scaled) (pos 0)) ws us
-    → take (component_count p z) new ≡ next_weights p c z t (take (component_count p z) ws)
+pub next_is : (p : Predictor) (c : Image) (z t y x : ℕ) (ws new : List ℤ) (scaled sample : ℤ) → t ≡ y * c.shape.columns + x → x < c.shape.columns
+    → scaled ≡ scaled_there p c z y x ws → sample ≡ sample_at c z y x
+    → new ≡ updated_weights p.fraction (step_exponent p c.shape.columns c.kind.bits t) (int_lt (pos 2 *ℤ sample -ℤ scaled) (pos 0)) ws (difference_vector p c z y x)
+    → new ≡ next_weights p c z t ws
 unfolding next_weights
-next_is p c z t y x m ws us new scaled sample e h a b d f =
+next_is p c z t y x ws new scaled sample e h b d f =
     let r = row_is c.shape.columns t y x e h in
     let q = column_is c.shape.columns t y x e h in
-    let l = vector_length p c z y x in
-    let u = padded_update p.fraction (step_exponent p c.shape.columns c.kind.bits t) (int_lt (pos 2 *ℤ sample -ℤ scaled) (pos 0)) ws (difference_vector p c z y x) (replicate m (pos 0)) in
-    rw (f, a) (rw l at u ∙ rw (r, q, b, d) refl)
+    f ∙ rw (r, q, b, d) refl
 
 -- at a place that is not the first: the weights after it, and its residual
 pub follows_next : (p : Params) (c : Image) (z t : ℕ) (ws new : List ℤ) → 0 < t → ws ≡ weight_vector p c z t → new ≡ next_weights (predictor_of p) c z t ws → new ≡ weight_vector p c z (t + 1)

@@ -1,5 +1,5 @@
 -- An image with another sample at a place is predicted there as before.
-use Rattle.std.proofs.Common.{◌≡◌, inl, inr, ◌+◌, ◌*◌, ◌<◌, ◌≤◌, ◌++◌, ℕ, ℤ, pos, ◌-ℤ◌, ◌*ℤ◌, int_lt, false, List, length, take, replicate, arith, refl, ◌∙◌, sym, ap, subst}
+use Rattle.std.proofs.Common.{◌≡◌, inl, inr, ◌+◌, ◌*◌, ◌<◌, ◌≤◌, ℕ, ℤ, pos, ◌-ℤ◌, ◌*ℤ◌, int_lt, false, List, length, arith, refl, ◌∙◌, sym, ap, subst}
 use Rattle.std.proofs.lemmas.Nat.{same_from_place}
 use Rattle.std.proofs.lemmas.List.{get_or-set_other, get_or-set_same}
 use Rattle.std.proofs.Math.Arith.{digits_lt}
@@ -8,7 +8,7 @@ use Rattle.cube_core.specs.Shape.{sample_count}
 use Rattle.cube_core.specs.Image.{Image, IsPlace, sample_at, index_in, put}
 use Rattle.cube_core.proofs.Bounds.{index_below}
 use Rattle.predict_core.specs.declared.predictor.Predictor.{Predictor}
-use Rattle.predict_core.specs.Predictor.{predictor_of, component_count}
+use Rattle.predict_core.specs.Predictor.{predictor_of}
 use Rattle.predict_core.specs.Differences.{difference_vector}
 use Rattle.predict_core.specs.Weights.{step_exponent, updated_weights}
 use Rattle.predict_core.specs.Prediction.{scaled_there, next_weights, weight_vector, first_scaled}
@@ -63,15 +63,12 @@ module _ (c : Image) (z y x : ℕ) (v : ℤ) (place : IsPlace c.shape z y x) (wh
     first_put at = first_scaled_same p c (put c z y x v) z place.band some rows (subst (Agree c (put c z y x v) z) (sym at) agree_put)
 
     -- and the weights move after the new sample
-    pub moved_put : (t m : ℕ) (ws us new : List ℤ) (scaled : ℤ) → 0 < y + x → t ≡ y * c.shape.columns + x → us ≡ difference_vector p c z y x ++ replicate m (pos 0)
-        → scaled ≡ scaled_there p c z y x (take (component_count p z) ws)
-        → new ≡ updated_weights p.fraction (step_exponent p c.shape.columns c.kind.bits t) (int_lt (pos 2 *ℤ v -ℤ scaled) (pos 0)) ws us
-        → take (component_count p z) new ≡ next_weights p (put c z y x v) z t (take (component_count p z) ws)
-    moved_put t m ws us new scaled later at a b e =
-        next_is p (put c z y x v) z t y x m ws us new scaled v at place.column
-        (a ∙ ap (λ xs. xs ++ replicate m (pos 0)) (vector_put later))
-        (b ∙ scaled_put later (take (component_count p z) ws))
-        (sym sample_put) e
+    pub moved_put : (t : ℕ) (ws new : List ℤ) (scaled : ℤ) → 0 < y + x → t ≡ y * c.shape.columns + x → scaled ≡ scaled_there p c z y x ws
+        → new ≡ updated_weights p.fraction (step_exponent p c.shape.columns c.kind.bits t) (int_lt (pos 2 *ℤ v -ℤ scaled) (pos 0)) ws (difference_vector p c z y x)
+        → new ≡ next_weights p (put c z y x v) z t ws
+    moved_put t ws new scaled later at b e =
+        next_is p (put c z y x v) z t y x ws new scaled v at place.column (b ∙ scaled_put later ws) (sym sample_put)
+        (e ∙ ap (updated_weights p.fraction (step_exponent p c.shape.columns c.kind.bits t) (int_lt (pos 2 *ℤ v -ℤ scaled) (pos 0)) ws) (vector_put later))
 
 -- a band that follows an image follows it with the new sample
 module _ (p : Params) (made : Predictor) (c : Image) (z y x t : ℕ) (v : ℤ) (ws : List ℤ) (place : IsPlace c.shape z y x) (whole : length c.samples ≡ sample_count c.shape)

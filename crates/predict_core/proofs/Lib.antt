@@ -7,6 +7,7 @@ pub mod LocalSums
 pub mod Moves
 pub mod OneSample
 pub mod Padding
+pub mod Prefixes
 pub mod Products
 pub mod Wrapping
 pub mod Ranges

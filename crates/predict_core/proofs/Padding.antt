@@ -51,13 +51,10 @@ vector_length p c z y x = by_mode p.reduced refl
         let k = full_count p z e in
         ap length (full_vector_is p c z y x e) ∙ length-append (directional_differences p c z y x) (spectral_differences p c z y x (previous_bands p z)) ∙ omega (arith, d, s, k)
 
-pub scaled_there_is : (p : Predictor) (c : Image) (k : SampleKind) (z y x m : ℕ) (sum scaled : ℤ) (ws us : List ℤ) → c.kind ≡ k → sum ≡ local_sum p c z y x
-    → us ≡ difference_vector p c z y x ++ replicate m (pos 0) → scaled ≡ scaled_by p k sum ws us → scaled ≡ scaled_there p c z y x (take (component_count p z) ws)
+pub scaled_there_is : (p : Predictor) (c : Image) (k : SampleKind) (z y x : ℕ) (sum scaled : ℤ) (ws : List ℤ) → c.kind ≡ k → sum ≡ local_sum p c z y x
+    → scaled ≡ scaled_by p k sum ws (difference_vector p c z y x) → scaled ≡ scaled_there p c z y x ws
 unfolding scaled_there scaled_by
-scaled_there_is p c k z y x m sum scaled ws us a b d e =
-    let n = padded_product ws (difference_vector p c z y x) m in
-    let l = vector_length p c z y x in
-    e ∙ rw (d, n, l, b, a) refl
+scaled_there_is p c k z y x sum scaled ws a b e = e ∙ rw (b, a) refl
 
 pub first_from_middle : (p : Predictor) (c : Image) (z : ℕ) → (p.previous ≡ 0) ⊎ ((p.previous ≡ 0 → ⊥) × (z ≡ 0)) → first_scaled p c z ≡ pos 2 *ℤ smid c.kind
 unfolding first_scaled

@@ -1,13 +1,11 @@
 -- What holds of the fields of a band's predictor.
-use Rattle.std.specs.Prelude.{ℕ, ◌≡◌, ◌^◌, ◌<◌, ◌≤◌, ℤ, List}
+use Rattle.std.specs.Prelude.{◌≡◌, ◌^◌, ◌<◌, ◌≤◌, ℤ, List}
 use Rattle.cube_core.specs.Shape.{Sizes}
 use Rattle.predict_core.specs.declared.settings.Settings.{Settings}
-use Rattle.predict_core.specs.Predictor.{component_count}
 use Rattle.predict_core.specs.Bounds.{AllWithin}
 
-pub record IsLearner (s : Settings) (shape : Sizes) (count : ℕ) (weights : List ℤ) : Type 0 where
+pub record IsLearner (s : Settings) (shape : Sizes) (weights : List ℤ) : Type 0 where
   pub rows : shape.rows ≤ 65536
   pub columns : s.columns ≡ shape.columns
   pub inside : s.band < shape.bands
-  pub used : count ≡ component_count s.predictor s.band
   pub bounded : AllWithin (2 ^ 21) weights

@@ -33,7 +33,6 @@ pub struct Band {
     settings: Settings,
     shape: Shape,
     next: u64,
-    count: usize,
     weights: [i32; 18],
 }
 
@@ -44,9 +43,9 @@ impl Model for Band {
 
     ghost Value = { Learner };
 
-    ghost view = { λ b. record { predictor = b.settings.predictor; shape = b.shape; kind = b.settings.range.kind; band = b.settings.band; place = b.next; weights = take b.count b.weights } };
+    ghost view = { λ b. record { predictor = b.settings.predictor; shape = b.shape; kind = b.settings.range.kind; band = b.settings.band; place = b.next; weights = take b.settings.count b.weights } };
 
-    ghost invariant = { λ b. IsLearner b.settings b.shape b.count b.weights };
+    ghost invariant = { λ b. IsLearner b.settings b.shape b.weights };
 }
 
 impl Band {
@@ -70,12 +69,12 @@ impl Band {
             range: Range::of(params.kind),
             columns: params.shape.columns(),
             band: z,
+            count: first + previous,
         };
         Ok(Band {
             settings,
             shape: params.shape,
             next: 0,
-            count: first + previous,
             weights: usual_start(params.omega, first, previous),
         })
     }

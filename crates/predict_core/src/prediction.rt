@@ -1,6 +1,6 @@
 //! The scaled prediction at a place that is not the first of its band.
 
-ghost use Rattle.std.specs.Prelude.{◌≡◌, ◌+◌, ◌*◌, ◌^◌, ◌<◌, ◌≤◌, pos, negsuc, ◌≤ℤ◌, ◌+ℤ◌, ◌*ℤ◌, unsigned_abs};
+ghost use Rattle.std.specs.Prelude.{◌≡◌, ◌+◌, ◌*◌, ◌^◌, ◌<◌, ◌≤◌, pos, negsuc, ◌≤ℤ◌, ◌+ℤ◌, ◌*ℤ◌, unsigned_abs, ◌-◌, ℤ, List, length, take, ◌++◌, replicate};
 ghost use Rattle.predict_core.specs.Arithmetic.{clip};
 ghost use Rattle.predict_core.specs.Prediction.{scaled_by as scaled_of};
 ghost use Rattle.predict_core.specs.Mapping.{IsScaled};
@@ -15,18 +15,20 @@ use crate::weights::product_of;
 pub(crate) fn scaled_by(
     predictor: &Predictor,
     range: &Range,
+    count: usize,
     sum: i32,
     weights: &[i32; 18],
     differences: &[i32; 18],
 ) -> i32
     requires lawful { IsPredictor predictor.now }
+    requires count_in { count ≤ 18 }
     requires weights_in { AllWithin (2 ^ 21) weights.now }
     requires differences_in { AllWithin (2 ^ 18) differences.now }
     requires sum_in { (negsuc 131071 ≤ℤ sum) × (sum ≤ℤ pos 262140) }
-    ensures value { result ≡ scaled_of predictor.now range.now.kind sum weights.now differences.now }
+    ensures value { (us : List ℤ) → length us ≡ count → differences.now ≡ us ++ replicate (18 - count) (pos 0) → result ≡ scaled_of predictor.now range.now.kind sum (take count weights.now) us }
     ensures scaled { IsScaled range.now.kind result }
 {
-    let product = product_of(weights, differences);
+    let product = product_of(count, weights, differences);
     let middle = range.smid;
     let register = wrapped_value(
         predictor.register,

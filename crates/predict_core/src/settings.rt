@@ -1,6 +1,6 @@
 //! What a band's predictor finds once, and the prediction of one sample from it.
 
-ghost use Rattle.std.specs.Prelude.{◌≡◌, ◌+◌, ◌-◌, ◌*◌, ◌^◌, ◌<◌, ◌≤◌, pos, negsuc, ◌-ℤ◌, ◌*ℤ◌, ◌≤ℤ◌, int_lt, take, ◌++◌, replicate, false};
+ghost use Rattle.std.specs.Prelude.{◌≡◌, ◌+◌, ◌-◌, ◌*◌, ◌^◌, ◌<◌, ◌≤◌, pos, negsuc, ◌-ℤ◌, ◌*ℤ◌, ◌≤ℤ◌, int_lt, take, ◌++◌, replicate, false, ℤ, List, length};
 ghost use Rattle.cube_core.specs.Shape.{InRange};
 ghost use Rattle.cube_core.specs.Image.{IsPlace};
 ghost use Rattle.predict_core.specs.Predictor.{component_count};
@@ -25,8 +25,12 @@ pub(crate) struct Settings {
     pub range: Range,
     pub columns: u32,
     pub band: u32,
+    /// How many weights are in use.
+    pub count: usize,
     pub ghost lawful: { IsPredictor predictor },
     pub ghost columns_in: { InRange 1 65536 columns },
+    pub ghost count_is: { count ≡ component_count predictor band },
+    pub ghost few: { count ≤ 18 },
     pub ghost wide: { predictor.column ≡ false → 2 ≤ columns },
 }
 
@@ -77,7 +81,14 @@ pub(crate) fn predict(
     let sum = sum_at(predictor, cube, settings.band, y, x);
     let differences = difference_vector(predictor, cube, settings.band, y, x, sum);
     let whole = 4 * range.smin + sum as i32;
-    let scaled = scaled_by(predictor, range, whole, weights, &differences);
+    let scaled = scaled_by(
+        predictor,
+        range,
+        settings.count,
+        whole,
+        weights,
+        &differences,
+    );
     Prediction {
         scaled,
         differences,
@@ -97,7 +108,7 @@ pub(crate) fn learn(
     requires differences_in { AllWithin (4 * 2 ^ settings.now.range.bits) prediction.now.differences }
     requires scaled_in { IsScaled settings.now.range.kind prediction.now.scaled }
     requires sample_in { (negsuc 32767 ≤ℤ sample) × (sample ≤ℤ pos 65535) }
-    ensures value { weights.new ≡ updated_weights settings.now.predictor.fraction (step_exponent settings.now.predictor settings.now.columns settings.now.range.bits t) (int_lt (pos 2 *ℤ sample -ℤ prediction.now.scaled) (pos 0)) weights.old prediction.now.differences }
+    ensures value { (us : List ℤ) → length us ≡ settings.now.count → prediction.now.differences ≡ us ++ replicate (18 - settings.now.count) (pos 0) → take settings.now.count weights.new ≡ updated_weights settings.now.predictor.fraction (step_exponent settings.now.predictor settings.now.columns settings.now.range.bits t) (int_lt (pos 2 *ℤ sample -ℤ prediction.now.scaled) (pos 0)) (take settings.now.count weights.old) us }
     ensures bound { AllWithin (2 ^ 21) weights.new }
 {
     let exponent = exponent_at(
@@ -108,6 +119,7 @@ pub(crate) fn learn(
     );
     let negative = 2 * sample < prediction.scaled;
     update(
+        settings.count,
         weights,
         &prediction.differences,
         settings.predictor.fraction,

@@ -1,20 +1,40 @@
 //! The weights of the differences: the products with them, and their update.
 
-ghost use Rattle.std.specs.Prelude.{◌≡◌, ◌+◌, ◌-◌, ◌*◌, ◌^◌, ◌<◌, ◌≤◌, pos, negsuc, ◌≤ℤ◌, ◌+ℤ◌, ◌-ℤ◌, unsigned_abs};
+ghost use Rattle.std.specs.Prelude.{◌≡◌, ◌+◌, ◌-◌, ◌*◌, ◌^◌, ◌≤◌, pos, negsuc, ◌≤ℤ◌, ◌+ℤ◌, ◌-ℤ◌, unsigned_abs, ℤ, List, length, take, ◌++◌, replicate};
 ghost use Rattle.predict_core.specs.Arithmetic.{clip};
 ghost use Rattle.predict_core.specs.Prediction.{inner_product};
 ghost use Rattle.predict_core.specs.Weights.{step, signed_by, weight_min, weight_max, updated_weight as updated, updated_weights};
 ghost use Rattle.predict_core.specs.Bounds.{AllWithin};
 
-/// The sum of the products of weights and differences.
-pub(crate) fn product_of(weights: &[i32; 18], differences: &[i32; 18]) -> i64
+/// The sum of the products of the weights in use with their differences.
+///
+/// It goes over the first 8 of the room, or over all 18, so that the compiler knows how many.
+pub(crate) fn product_of(count: usize, weights: &[i32; 18], differences: &[i32; 18]) -> i64
+    requires count_in { count ≤ 18 }
     requires weights_in { AllWithin (2 ^ 21) weights.now }
     requires differences_in { AllWithin (2 ^ 18) differences.now }
-    ensures value { result ≡ inner_product weights.now differences.now }
+    ensures value { (us : List ℤ) → length us ≡ count → differences.now ≡ us ++ replicate (18 - count) (pos 0) → result ≡ inner_product (take count weights.now) us }
+    ensures bound { unsigned_abs result ≤ 2 ^ 44 }
+{
+    if count == 0 {
+        0
+    } else if count <= 8 {
+        product_of_first::<8>(weights, differences)
+    } else {
+        product_of_first::<18>(weights, differences)
+    }
+}
+
+/// The sum of the products of the first `N` weights with their differences.
+fn product_of_first<const N: usize>(weights: &[i32; 18], differences: &[i32; 18]) -> i64
+    requires few { N ≤ 18 }
+    requires weights_in { AllWithin (2 ^ 21) weights.now }
+    requires differences_in { AllWithin (2 ^ 18) differences.now }
+    ensures value { result ≡ inner_product (take N weights.now) (take N differences.now) }
     ensures bound { unsigned_abs result ≤ 2 ^ 44 }
 {
     let mut sum = 0i64;
-    for i in 0..18usize {
+    for i in 0..N {
         let product = weights[i] as i64 * differences[i] as i64;
         sum += product;
     }
@@ -26,6 +46,7 @@ pub(crate) fn product_of(weights: &[i32; 18], differences: &[i32; 18]) -> i64
 ///
 /// The step is found for all weights of the room in one of two ways, both in words of 32 bits.
 pub(crate) fn update(
+    count: usize,
     weights: &mut [i32; 18],
     differences: &[i32; 18],
     fraction: u32,
@@ -33,60 +54,89 @@ pub(crate) fn update(
     exponent: i32,
     negative: bool,
 )
+    requires count_in { count ≤ 18 }
     requires fraction_in { fraction ≤ 19 }
     requires bits_in { (2 ≤ bits) × (bits ≤ 16) }
     requires exponent_least { (pos bits -ℤ pos 25) ≤ℤ exponent }
     requires exponent_most { exponent ≤ℤ pos 21 }
     requires weights_in { AllWithin (2 ^ 21) weights.old }
     requires differences_in { AllWithin (4 * 2 ^ bits) differences.now }
-    ensures value { weights.new ≡ updated_weights fraction exponent negative weights.old differences.now }
+    ensures value { (us : List ℤ) → length us ≡ count → differences.now ≡ us ++ replicate (18 - count) (pos 0) → take count weights.new ≡ updated_weights fraction exponent negative (take count weights.old) us }
+    ensures bound { AllWithin (2 ^ 21) weights.new }
+{
+    if count <= 8 {
+        update_first::<8>(weights, differences, fraction, bits, exponent, negative);
+    } else {
+        update_first::<18>(weights, differences, fraction, bits, exponent, negative);
+    }
+}
+
+/// The first `N` weights after an error.
+fn update_first<const N: usize>(
+    weights: &mut [i32; 18],
+    differences: &[i32; 18],
+    fraction: u32,
+    bits: u32,
+    exponent: i32,
+    negative: bool,
+)
+    requires few { N ≤ 18 }
+    requires fraction_in { fraction ≤ 19 }
+    requires bits_in { (2 ≤ bits) × (bits ≤ 16) }
+    requires exponent_least { (pos bits -ℤ pos 25) ≤ℤ exponent }
+    requires exponent_most { exponent ≤ℤ pos 21 }
+    requires weights_in { AllWithin (2 ^ 21) weights.old }
+    requires differences_in { AllWithin (4 * 2 ^ bits) differences.now }
+    ensures value { take N weights.new ≡ updated_weights fraction exponent negative (take N weights.old) (take N differences.now) }
     ensures bound { AllWithin (2 ^ 21) weights.new }
 {
     if exponent < 0 {
         let by = (-1 - exponent) as u32;
-        update_by_products(weights, differences, fraction, by, negative);
+        update_by_products::<N>(weights, differences, fraction, by, negative);
     } else {
         let by = exponent as u32;
-        update_by_halves(weights, differences, fraction, by, negative);
+        update_by_halves::<N>(weights, differences, fraction, by, negative);
     }
 }
 
 /// The weights after an error whose exponent is below 0: a difference is raised by `by` bits.
-fn update_by_products(
+fn update_by_products<const N: usize>(
     weights: &mut [i32; 18],
     differences: &[i32; 18],
     fraction: u32,
     by: u32,
     negative: bool,
 )
+    requires few { N ≤ 18 }
     requires fraction_in { fraction ≤ 19 }
     requires by_in { by ≤ 22 }
     requires weights_in { AllWithin (2 ^ 21) weights.old }
     requires differences_in { AllWithin (2 ^ (26 - by)) differences.now }
-    ensures value { weights.new ≡ updated_weights fraction (negsuc by) negative weights.old differences.now }
+    ensures value { take N weights.new ≡ updated_weights fraction (negsuc by) negative (take N weights.old) (take N differences.now) }
     ensures bound { AllWithin (2 ^ 21) weights.new }
 {
-    for i in 0..18usize {
+    for i in 0..N {
         weights[i] = moved_by_product(fraction, by, negative, weights[i], differences[i]);
     }
 }
 
 /// The weights after an error whose exponent is 0 or more: a difference is halved `by + 1` times.
-fn update_by_halves(
+fn update_by_halves<const N: usize>(
     weights: &mut [i32; 18],
     differences: &[i32; 18],
     fraction: u32,
     by: u32,
     negative: bool,
 )
+    requires few { N ≤ 18 }
     requires fraction_in { fraction ≤ 19 }
     requires by_in { by ≤ 21 }
     requires weights_in { AllWithin (2 ^ 21) weights.old }
     requires differences_in { AllWithin (2 ^ 18) differences.now }
-    ensures value { weights.new ≡ updated_weights fraction (pos by) negative weights.old differences.now }
+    ensures value { take N weights.new ≡ updated_weights fraction (pos by) negative (take N weights.old) (take N differences.now) }
     ensures bound { AllWithin (2 ^ 21) weights.new }
 {
-    for i in 0..18usize {
+    for i in 0..N {
         weights[i] = moved_by_halves(fraction, by, negative, weights[i], differences[i]);
     }
 }

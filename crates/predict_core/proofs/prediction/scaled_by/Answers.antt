@@ -1,4 +1,4 @@
-use Rattle.std.proofs.Common.{SFits, w32, w64, to_z-of_z, rules}
+use Rattle.std.proofs.Common.{take, SFits, w32, w64, to_z-of_z, rules}
 use Rattle.std.proofs.lemmas.Int.{ints}
 use Rattle.predict_core.proofs.Scaled.{scaled_is}
 use Rattle.predict_core.proofs.prediction.scaled_by.Goals as goal
@@ -14,7 +14,7 @@ high_fits : (c : After-scaled_from) → SFits w32 c.args.range.now.smax
 high_fits c = let h = c.args.range.now.high in search (rules, ints)
 
 pub returns-clause-value : goal.returns-clause-value
-returns-clause-value c =
+returns-clause-value c us l same =
     let at = (goal.at.returns-clause-value c).After-scaled_from in
     let result_fits : SFits w32 c.scaled_from.result = search rules in
     let product_fits : SFits w64 c.product_of-product.result = search rules in
@@ -26,7 +26,7 @@ returns-clause-value c =
     let d = simp (to_z-of_z register_fits) at c.halved-upper.ensures.value in
     let e = simp (to_z-of_z (low_fits at), to_z-of_z (high_fits at), to_z-of_z (middle_fits at), to_z-of_z upper_fits) at c.scaled_from.ensures.value in
     rw (to_z-of_z result_fits)
-    (scaled_is c.args.predictor.now c.args.range.now.kind c.args.sum c.args.weights.now c.args.differences.now _ _ _ _ _ _ _ c.product_of-product.ensures.value c.args.range.now.smid_is b d c.args.range.now.smin_is c.args.range.now.smax_is e)
+    (scaled_is c.args.predictor.now c.args.range.now.kind c.args.sum (take c.args.count c.args.weights.now) us _ _ _ _ _ _ _ (c.product_of-product.ensures.value us l same) c.args.range.now.smid_is b d c.args.range.now.smin_is c.args.range.now.smax_is e)
 
 pub returns-clause-scaled : goal.returns-clause-scaled
 returns-clause-scaled c =

@@ -1,15 +1,13 @@
-use Rattle.std.proofs.Common.{◌+◌, ◌≤◌, pos, negsuc, unsigned_abs, ◌-ℤ◌, ◌<ℤ◌, SFits, to_z-of_z, w32, arith, rules}
-use Rattle.std.proofs.lemmas.Int.{ints}
-use Rattle.predict_core.proofs.Moves.{within_room, within_most, below_zero}
+use Rattle.std.proofs.Common.{◌-◌, to_z-of_z, arith}
+use Rattle.predict_core.proofs.Prefixes.{update_in_use}
 use Rattle.predict_core.proofs.weights.update.Goals as goal
 
-pub update_by_products-requires-clause-differences_in : goal.update_by_products-requires-clause-differences_in
-update_by_products-requires-clause-differences_in c =
-    let under : c.args.exponent <ℤ pos 0 = search (rules, ints) in
-    let fits : SFits w32 (negsuc 0 -ℤ c.args.exponent) = search (rules, ints) in
-    let is = below_zero c.args.exponent under in
-    let room : c.args.bits + unsigned_abs (negsuc 0 -ℤ c.args.exponent) ≤ 24 = omega (arith, ints) in
-    λ i l. rw (to_z-of_z c.ranges.exponent, to_z-of_z fits) (within_room c.args.bits (unsigned_abs (negsuc 0 -ℤ c.args.exponent)) c.args.differences.now room c.requires.differences_in i l)
+pub returns-then-count-le8-clause-value : goal.returns-then-count-le8-clause-value
+returns-then-count-le8-clause-value c us l e =
+    update_in_use c.args.fraction c.args.exponent c.args.negative c.args.weights.now us c.update_first.new.weights c.args.count 8 (18 - c.args.count) l (omega arith) (omega arith)
+    (rw e at (simp (to_z-of_z c.ranges.exponent) at c.update_first.ensures.value))
 
-pub update_by_halves-requires-clause-differences_in : goal.update_by_halves-requires-clause-differences_in
-update_by_halves-requires-clause-differences_in c = within_most c.args.bits c.args.differences.now c.requires.bits_in.1 c.requires.differences_in
+pub returns-else-count-le8-clause-value : goal.returns-else-count-le8-clause-value
+returns-else-count-le8-clause-value c us l e =
+    update_in_use c.args.fraction c.args.exponent c.args.negative c.args.weights.now us c.update_first-else-count-le8.new.weights c.args.count 18 (18 - c.args.count) l (omega arith) (omega arith)
+    (rw e at (simp (to_z-of_z c.ranges.exponent) at c.update_first-else-count-le8.ensures.value))

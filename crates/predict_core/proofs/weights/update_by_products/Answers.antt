@@ -1,10 +1,20 @@
-use Rattle.std.proofs.Common.{◌<◌, ◌^◌, ℤ, ℕ, List, pos, negsuc, length, get_or, SFits, to_z-of_z, w32, arith, rules, length-set}
-use Rattle.predict_core.proofs.Products.{step_kept, step_done, step_bound, all_done, SFits-small}
+use Rattle.std.proofs.Common.{◌≡◌, ◌<◌, ◌^◌, ℤ, ℕ, List, pos, negsuc, take, length, get_or, SFits, to_z-of_z, w32, arith, refl, rules, length-set, subst}
+use Rattle.predict_core.specs.Weights.{updated_weights}
+use Rattle.predict_core.proofs.Products.{step_kept, step_bound, SFits-small}
 use Rattle.predict_core.proofs.Moves.{room_word, SFits-26}
+use Rattle.predict_core.proofs.Prefixes.{update_none, update_next}
 use Rattle.predict_core.proofs.weights.update_by_products.Goals as goal
 
+pub loop-i-init : goal.loop-i-init
+loop-i-init g c = record {
+  done = update_none c.args.fraction (negsuc c.args.by) c.args.negative c.args.weights.now c.args.differences.now;
+  kept = refl;
+  bound = c.requires.weights_in;
+  long = c.told-weights;
+}
+
 pub loop-i-preserved : goal.loop-i-preserved
-loop-i-preserved c =
+loop-i-preserved g c =
     let i : ℕ = c.loop-i.i in
     let now : List ℤ = c.loop-i.weights in
     let old : List ℤ = c.args.weights.now in
@@ -14,17 +24,17 @@ loop-i-preserved c =
     let us_long : i < length us = omega arith in
     let fits : SFits w32 c.moved_by_product.result = search rules in
     let weight_fits : SFits w32 (get_or now i (pos 0)) = SFits-small (get_or now i (pos 0)) (c.loop-i.invariant.bound i now_long) in
-    let component_fits : SFits w32 (get_or us i (pos 0)) = (let r = room_word c.args.by in let u = c.requires.differences_in i us_long in SFits-26 (get_or us i (pos 0)) (omega (arith, r, u))) in
-    let e = simp (to_z-of_z weight_fits, to_z-of_z component_fits) at c.moved_by_product.ensures.value in
-    let d = c.loop-i.invariant.done in
+    let difference_fits : SFits w32 (get_or us i (pos 0)) = (let r = room_word c.args.by in let u = c.requires.differences_in i us_long in SFits-26 (get_or us i (pos 0)) (omega (arith, r, u))) in
+    let e = simp (to_z-of_z weight_fits, to_z-of_z difference_fits) at c.moved_by_product.ensures.value in
     rw (to_z-of_z fits)
     (record {
-      done = step_done c.args.fraction (negsuc c.args.by) c.args.negative old us now _ i _ now_long old_long us_long c.loop-i.invariant.kept e d;
+      done = update_next c.args.fraction (negsuc c.args.by) c.args.negative old us now i _ now_long old_long us_long c.loop-i.invariant.kept e c.loop-i.invariant.done;
       kept = step_kept old now i _ now_long old_long c.loop-i.invariant.kept;
       bound = step_bound (2 ^ 21) now i _ c.loop-i.invariant.bound c.moved_by_product.ensures.bound;
       long = rw length-set c.loop-i.invariant.long;
     })
 
 pub returns-clause-value : goal.returns-clause-value
-returns-clause-value c =
-    all_done c.args.fraction (negsuc c.args.by) c.args.negative c.args.weights.now c.args.differences.now c.loop-i.weights _ c.loop-i.i (omega arith) (omega arith) c.loop-i.invariant.done
+returns-clause-value g c =
+    let done : c.loop-i.i ≡ g.row.N = omega arith in
+    subst (λ n. take n c.loop-i.weights ≡ updated_weights c.args.fraction (negsuc c.args.by) c.args.negative (take n c.args.weights.now) (take n c.args.differences.now)) done c.loop-i.invariant.done

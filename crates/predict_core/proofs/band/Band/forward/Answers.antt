@@ -13,13 +13,13 @@ pub returns-then-t-eq0-clause-follows : goal.returns-then-t-eq0-clause-follows
 returns-then-t-eq0-clause-follows c p f =
     let g = rw (← c.self.view_is) at f in
     let w = rw c.if-t-eq0.true at g.weights in
-    record { made = record { predictor = g.made.predictor; shape = g.made.shape; kind = g.made.kind }; weights = rw c.if-t-eq0.true (follows_first p c.args.cube.now c.self.inside.settings.band (take c.self.inside.count c.self.inside.weights) w) }
+    record { made = record { predictor = g.made.predictor; shape = g.made.shape; kind = g.made.kind }; weights = rw c.if-t-eq0.true (follows_first p c.args.cube.now c.self.inside.settings.band (take c.self.inside.settings.count c.self.inside.weights) w) }
 
 pub returns-else-t-eq0-clause-residual : goal.returns-else-t-eq0-clause-residual
 returns-else-t-eq0-clause-residual c p f =
     let g = rw (← c.self.view_is) at f in
     let place = rw (← c.self.view_is) at c.requires.next in
-    let w = rw c.self.invariant.used at g.weights in
+    let w = rw c.self.inside.settings.count_is at g.weights in
     rw (← c.self.view_is)
     (residual_by p c.self.inside.settings.predictor c.args.cube.now c.self.inside.settings.band c.self.inside.next c.args.y c.args.x _ g.made.predictor (omega arith) place c.requires.place.column w _ c.next_residual.ensures.value)
 
@@ -27,6 +27,6 @@ pub returns-else-t-eq0-clause-follows : goal.returns-else-t-eq0-clause-follows
 returns-else-t-eq0-clause-follows c p f =
     let g = rw (← c.self.view_is) at f in
     let place = rw (← c.self.view_is) at c.requires.next in
-    let w = rw c.self.invariant.used at g.weights in
+    let w = rw c.self.inside.settings.count_is at g.weights in
     let next = follows_by p c.self.inside.settings.predictor c.args.cube.now c.self.inside.settings.band c.self.inside.next c.args.y c.args.x _ g.made.predictor (omega arith) place c.requires.place.column w _ c.next_residual.ensures.weights in
-    record { made = record { predictor = g.made.predictor; shape = g.made.shape; kind = g.made.kind }; weights = rw c.self.invariant.used next }
+    record { made = record { predictor = g.made.predictor; shape = g.made.shape; kind = g.made.kind }; weights = rw c.self.inside.settings.count_is next }

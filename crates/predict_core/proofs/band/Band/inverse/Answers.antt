@@ -41,7 +41,7 @@ returns-else-t-eq0-clause-residual c p f =
     let next = rw (← c.self.view_is) at c.requires.next in
     let shape = rw (← c.self.view_is) at c.requires.shape in
     let columns = c.self.invariant.columns in
-    let w = rw c.self.invariant.used at g.weights in
+    let w = rw c.self.inside.settings.count_is at g.weights in
     let wide : p.column ≡ false → 2 ≤ c.args.cube.now.shape.columns = λ h. let w = s.wide (ap (λ (q : Predictor). q.column) g.made.predictor ∙ h) in rw shape (omega arith) in
     rw (← c.self.view_is, to_z-of_z fits)
     (residual_put p s.predictor c.args.cube.now s.band c.args.y c.args.x c.self.inside.next c.next_sample.result _ place c.is_cube.ensures.whole wide g.made.predictor next w (omega arith) c.args.delta c.next_sample.ensures.inverse)
@@ -55,8 +55,8 @@ returns-else-t-eq0-clause-follows c p f =
     let next = rw (← c.self.view_is) at c.requires.next in
     let shape = rw (← c.self.view_is) at c.requires.shape in
     let columns = c.self.invariant.columns in
-    let w = rw c.self.invariant.used at g.weights in
+    let w = rw c.self.inside.settings.count_is at g.weights in
     let wide : p.column ≡ false → 2 ≤ c.args.cube.now.shape.columns = λ h. let w = s.wide (ap (λ (q : Predictor). q.column) g.made.predictor ∙ h) in rw shape (omega arith) in
     let moved = weights_put p s.predictor c.args.cube.now s.band c.args.y c.args.x c.self.inside.next c.next_sample.result _ place c.is_cube.ensures.whole wide g.made.predictor next w (omega arith) _ c.next_sample.ensures.weights in
     rw (← c.self.view_is, to_z-of_z fits)
-    (record { made = record { predictor = g.made.predictor; shape = g.made.shape; kind = g.made.kind }; weights = rw c.self.invariant.used moved })
+    (record { made = record { predictor = g.made.predictor; shape = g.made.shape; kind = g.made.kind }; weights = rw c.self.inside.settings.count_is moved })
