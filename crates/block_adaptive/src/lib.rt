@@ -13,3 +13,6 @@ mod texts;
 pub mod worked;
 pub mod worked_refusals;
 mod writing;
+
+#[cfg(test)]
+mod tests;
