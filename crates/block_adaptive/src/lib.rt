@@ -9,10 +9,10 @@ pub mod laws;
 pub mod options;
 mod pairs;
 mod segments;
-mod texts;
-pub mod worked;
-pub mod worked_refusals;
-mod writing;
-
 #[cfg(test)]
 mod tests;
+mod texts;
+pub mod worked;
+pub mod worked_codes;
+pub mod worked_refusals;
+mod writing;

@@ -74,7 +74,12 @@ fn params_of(rt: &impl Abort, s: Settings) -> Params
 }
 
 /// The body of numbers, with the zeros that fill its last byte.
-fn written(rt: &impl Abort, alloc: Global, params: &Params, numbers: &[u16]) -> Result<Vec<u8>, Fault>
+fn written(
+    rt: &impl Abort,
+    alloc: Global,
+    params: &Params,
+    numbers: &[u16],
+) -> Result<Vec<u8>, Fault>
     requires lawful { AreForBlocks params.now }
     requires count { length numbers.now ≡ sample_count params.now.shape }
 {
@@ -92,7 +97,12 @@ fn written(rt: &impl Abort, alloc: Global, params: &Params, numbers: &[u16]) -> 
 }
 
 /// All numbers of a body, and how many bits are left behind them.
-fn read(rt: &impl Abort, alloc: Global, params: &Params, bytes: &[u8]) -> Result<(Vec<u16>, u64), Fault>
+fn read(
+    rt: &impl Abort,
+    alloc: Global,
+    params: &Params,
+    bytes: &[u8],
+) -> Result<(Vec<u16>, u64), Fault>
     requires { AreForBlocks params.now }
 {
     assert!(rt; bytes.len() < 1_000_000);
@@ -132,14 +142,38 @@ fn sample_numbers(alloc: Global, bits: u32, count: u32, seed: u64) -> Result<Vec
 fn numbers_come_back(rt: HostRuntime) -> Result<(), Fail> {
     for bits in 2..17 {
         for size in 0..4 {
-            for (reference, count) in [(1, 61), (2, 1), (63, 700), (64, 1031), (65, 2000), (4096, 1200)] {
+            for (reference, count) in [
+                (1, 61),
+                (2, 1),
+                (63, 700),
+                (64, 1031),
+                (65, 2000),
+                (4096, 1200),
+            ] {
                 for restricted in [false, true] {
-                    let params = params_of(&rt, Settings { bits, restricted, size, reference, count });
-                    let numbers = sample_numbers(rt.alloc(), bits, count, u64::from(bits * 100 + size))?;
+                    let params = params_of(
+                        &rt,
+                        Settings {
+                            bits,
+                            restricted,
+                            size,
+                            reference,
+                            count,
+                        },
+                    );
+                    let numbers = sample_numbers(
+                        rt.alloc(),
+                        bits,
+                        count,
+                        u64::from(bits * 100 + size),
+                    )?;
                     assert!(rt; numbers.len() as u64 == params.shape.sample_count());
                     let bytes = written(&rt, rt.alloc(), &params, &numbers)?;
                     let (back, left) = read(&rt, rt.alloc(), &params, &bytes)?;
-                    assert!(rt; back.as_slice() == numbers.as_slice(), "at {bits} bits, size {size}, r {reference}, {count} numbers");
+                    assert!(rt;
+                        back.as_slice() == numbers.as_slice(),
+                        "at {bits} bits, size {size}, r {reference}, {count} numbers"
+                    );
                     assert!(rt; left < 8);
                 }
             }
@@ -149,9 +183,21 @@ fn numbers_come_back(rt: HostRuntime) -> Result<(), Fail> {
 }
 
 /// The body of a few numbers in blocks of 8.
-fn body_of(rt: &impl Abort, alloc: Global, bits: u32, reference: u32, numbers: &[u16]) -> Result<Vec<u8>, Fail> {
+fn body_of(
+    rt: &impl Abort,
+    alloc: Global,
+    bits: u32,
+    reference: u32,
+    numbers: &[u16],
+) -> Result<Vec<u8>, Fail> {
     assert!(rt; numbers.len() < 65_536);
-    let s = Settings { bits, restricted: false, size: 0, reference, count: numbers.len() as u32 };
+    let s = Settings {
+        bits,
+        restricted: false,
+        size: 0,
+        reference,
+        count: numbers.len() as u32,
+    };
     let params = params_of(rt, s);
     assert!(rt; numbers.len() as u64 == params.shape.sample_count());
     Ok(written(rt, alloc, &params, numbers)?)
@@ -160,22 +206,58 @@ fn body_of(rt: &impl Abort, alloc: Global, bits: u32, reference: u32, numbers: &
 #[test]
 fn bodies(rt: HostRuntime) -> Result<(), Fail> {
     let alloc = rt.alloc();
-    assert_eq!(rt; body_of(&rt, alloc, 8, 1, &[144])?.as_slice(), [0xA0, 0x0F, 0xF0, 0, 0, 0, 0].as_slice());
-    assert_eq!(rt; body_of(&rt, alloc, 8, 1, &[0])?.as_slice(), [0x08].as_slice());
-    assert_eq!(rt; body_of(&rt, alloc, 8, 8, &[0; 48])?.as_slice(), [0x00, 0x80].as_slice());
-    assert_eq!(rt; body_of(&rt, alloc, 8, 8, &[0; 32])?.as_slice(), [0x01].as_slice());
-    assert_eq!(rt; body_of(&rt, alloc, 8, 4, &[0; 48])?.as_slice(), [0x01, 0x04].as_slice());
-    assert_eq!(rt; body_of(&rt, alloc, 8, 4096, &[0; 1040])?.as_slice(), [0x00, 0x80, 0x41].as_slice());
-    assert_eq!(rt; body_of(&rt, alloc, 8, 65, &[0; 1040])?.as_slice(), [0x00, 0x84, 0x02, 0x10].as_slice());
-    assert_eq!(rt; body_of(&rt, alloc, 8, 1, &[55, 3, 5, 0, 4, 2, 20, 1, 2, 2, 1, 2])?.as_slice(), [0x80, 0x7E, 0x7D, 0xD1, 0x14, 0x24, 0x94, 0xF8].as_slice());
-    assert_eq!(rt; body_of(&rt, alloc, 2, 1, &[1; 8])?.as_slice(), [0xEA, 0xAA, 0xA0].as_slice());
+    assert_eq!(rt;
+        body_of(&rt, alloc, 8, 1, &[144])?.as_slice(),
+        [0xA0, 0x0F, 0xF0, 0, 0, 0, 0].as_slice()
+    );
+    assert_eq!(rt;
+        body_of(&rt, alloc, 8, 1, &[0])?.as_slice(),
+        [0x08].as_slice()
+    );
+    assert_eq!(rt;
+        body_of(&rt, alloc, 8, 8, &[0; 48])?.as_slice(),
+        [0x00, 0x80].as_slice()
+    );
+    assert_eq!(rt;
+        body_of(&rt, alloc, 8, 8, &[0; 32])?.as_slice(),
+        [0x01].as_slice()
+    );
+    assert_eq!(rt;
+        body_of(&rt, alloc, 8, 4, &[0; 48])?.as_slice(),
+        [0x01, 0x04].as_slice()
+    );
+    assert_eq!(rt;
+        body_of(&rt, alloc, 8, 4096, &[0; 1040])?.as_slice(),
+        [0x00, 0x80, 0x41].as_slice()
+    );
+    assert_eq!(rt;
+        body_of(&rt, alloc, 8, 65, &[0; 1040])?.as_slice(),
+        [0x00, 0x84, 0x02, 0x10].as_slice()
+    );
+    assert_eq!(rt;
+        body_of(&rt, alloc, 8, 1, &[55, 3, 5, 0, 4, 2, 20, 1, 2, 2, 1, 2])?.as_slice(),
+        [0x80, 0x7E, 0x7D, 0xD1, 0x14, 0x24, 0x94, 0xF8].as_slice()
+    );
+    assert_eq!(rt;
+        body_of(&rt, alloc, 2, 1, &[1; 8])?.as_slice(),
+        [0xEA, 0xAA, 0xA0].as_slice()
+    );
     Ok(())
 }
 
 /// What a body of so many numbers in blocks of 8 is refused for; the reader stands where it stood.
 fn refusal_of(rt: &impl Abort, bits: u32, reference: u32, bytes: &[u8]) -> Result<Fault, Fail> {
     assert!(rt; bytes.len() < 1_000_000);
-    let params = params_of(rt, Settings { bits, restricted: false, size: 0, reference, count: 48 });
+    let params = params_of(
+        rt,
+        Settings {
+            bits,
+            restricted: false,
+            size: 0,
+            reference,
+            count: 48,
+        },
+    );
     let mut blocks = BlockReader::new(&params);
     let mut reader = BitReader::new(bytes);
     assert!(rt; params.shape.sample_count() == 48);
@@ -188,12 +270,24 @@ fn refusal_of(rt: &impl Abort, bits: u32, reference: u32, bytes: &[u8]) -> Resul
 #[test]
 fn refusals(rt: HostRuntime) -> Result<(), Fail> {
     // A run of five blocks where four are left.
-    assert_eq!(rt; refusal_of(&rt, 8, 4, &[0x00, 0x42, 0x10])?, Fault::RunPastSegment { block: 0 });
+    assert_eq!(rt;
+        refusal_of(&rt, 8, 4, &[0x00, 0x42, 0x10])?,
+        Fault::RunPastSegment { block: 0 }
+    );
     // k = 5 and eight zeros.
-    assert_eq!(rt; refusal_of(&rt, 8, 1, &[0xC0, 0x00])?, Fault::BadOption { block: 0 });
+    assert_eq!(rt;
+        refusal_of(&rt, 8, 1, &[0xC0, 0x00])?,
+        Fault::BadOption { block: 0 }
+    );
     // k = 5 and five zeros.
-    assert_eq!(rt; refusal_of(&rt, 8, 1, &[0xC0])?, Fault::Truncated { bit: 8 });
+    assert_eq!(rt;
+        refusal_of(&rt, 8, 1, &[0xC0])?,
+        Fault::Truncated { bit: 8 }
+    );
     // Number 10 is the pair (4, 0), above two bits.
-    assert_eq!(rt; refusal_of(&rt, 2, 1, &[0x10, 0x03, 0xC0])?, Fault::BadOption { block: 0 });
+    assert_eq!(rt;
+        refusal_of(&rt, 2, 1, &[0x10, 0x03, 0xC0])?,
+        Fault::BadOption { block: 0 }
+    );
     Ok(())
 }

@@ -1,4 +1,4 @@
-use Rattle.std.proofs.Common.{arith, ◌≡◌, ◌+◌, ◌∙◌, ◌∷◌, ◌++◌, [], ℕ, length}
+use Rattle.std.proofs.Common.{arith, ◌∙◌, ◌∷◌, ◌++◌, []}
 use Rattle.std.proofs.lemmas.List.{length-append}
 use Rattle.cube_core.specs.Shape.{sample_count}
 use Rattle.block_adaptive.proofs.Calls.{more_left, cut_count, cut_lawful}

@@ -1,4 +1,4 @@
-use Rattle.std.proofs.Common.{arith, ◌≡◌, ◌+◌, ◌<◌, ◌∙◌, ◌∷◌, ◌++◌, [], List, ℕ, get_or, take, length}
+use Rattle.std.proofs.Common.{arith, ◌≡◌, ◌+◌, ◌∙◌, ◌∷◌, ◌++◌, [], get_or, take}
 use Rattle.std.proofs.lemmas.List.{length-take, take_more}
 use Rattle.cube_core.specs.Shape.{sample_count}
 use Rattle.block_adaptive.proofs.Calls.{room_left, cut_count, cut_lawful}

@@ -6,5 +6,5 @@ use Rattle.block_adaptive.proofs.tests.written.Given as goal
 abbrev pub invariant-loop-number : goal.invariant-loop-number
 invariant-loop-number g l = record {
   cut : l.blocks.cut ≡ cut_by l.params;
-  taken : (bits : List Bool) × HasTaken l.blocks (take l.number-index l.numbers) bits
+  taken : (bits : List Bool) × HasTaken l.blocks (take l.number-index l.numbers) bits;
 }
