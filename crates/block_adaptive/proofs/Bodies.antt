@@ -7,15 +7,19 @@ use Rattle.std.proofs.lemmas.Nat.{pow_pos}
 use Rattle.std.proofs.Math.Nat.{lt-div-mul-add}
 use Rattle.std.proofs.lemmas.List.{append-nil, length-append, length-replicate, take_at, take_all, take-append-drop, length-take, length-drop}
 use Rattle.block_adaptive.proofs.Packing.{range_filled}
+use Rattle.cube_core.specs.Steps.{◌>>=◌}
 use Rattle.header_bits.proofs.Reading.{ok_is}
+use Rattle.header_bits.proofs.Fronts.{bind_ok}
+use Rattle.block_adaptive.proofs.Taken.{text_is_taken}
+use Rattle.block_adaptive.proofs.Handed.{rest_most}
 use Rattle.block_adaptive.specs.declared.options.CodeSet.{CodeSet}
 use Rattle.block_adaptive.specs.Segments.{filled, first_blocks, blocks, block_count}
 use Rattle.block_adaptive.specs.Texts.{Text, Block, Run, Rest, Cut, cut_of, left_at, IsText, AreTexts, blocks_in, blocks_told, values_of, spelled, spelling}
 use Rattle.block_adaptive.specs.Chosen.{chosen_from, chosen_texts, chosen_block_body}
-use Rattle.block_adaptive.specs.Reading.{Site, text_at, texts_at}
-use Rattle.block_adaptive.specs.Laws.{OneBody, ChosenIsBody, AreBlocks}
+use Rattle.block_adaptive.specs.Reading.{Site, text_at, texts_at, block_body_at}
+use Rattle.block_adaptive.specs.Laws.{OneBody, ChosenIsBody, BodyIsRead, AreBlocks}
 use Rattle.block_adaptive.proofs.Again.{text_again}
-use Rattle.block_adaptive.proofs.Lawful.{chosen_is_lawful}
+use Rattle.block_adaptive.proofs.Lawful.{chosen_is_lawful, rest_least}
 
 le-leb : (a b : ℕ) → a ≤ b → leb a b ≡ true
 le-leb a b h = grind (arith, nat_tests)
@@ -142,3 +146,45 @@ chosen_is_body s size reference numbers pos least range =
       text = ap (λ (n : ℕ). spelling s (chosen_from c n 0 bs)) len;
       told = ap (λ (ts : List (List ℕ)). take (length numbers) (values_of ts)) lawful.1 ∙ first_values size (block_count size (length numbers)) numbers (blocks_enough size (length numbers) pos);
     }
+
+-- ---- what is read is lawful
+
+text_most : (s : CodeSet) (size left : ℕ) (t : Text) → 1 ≤ left → IsText s size left t → blocks_in left t ≤ left
+text_most s size left (Block o vs) pos h = pos
+text_most s size left (Run n) pos h = h.1
+text_most s size left Rest pos h = omega arith
+
+abbrev AreTaken : Cut → ℕ → List Bool → List Text × List Bool → Type 0
+AreTaken c i bits x = AreTexts c i x.0 c.count × (bits ≡ spelling c.set x.0 ++ x.1)
+
+pub texts_taken : (count half n i : ℕ) (c : Cut) (bits : List Bool) (x : List Text × List Bool) → c.size ≡ 2 * half → 1 ≤ c.reference → i ≤ c.count → c.count ≤ n + i → texts_at count c n i bits ≡ Ok x → AreTaken c i bits x
+unfolding texts_at AreTexts
+texts_taken count half zero i c bits x even pos le fuel e = subst (AreTaken c i bits) (ok_is ([], bits) x e) (omega arith, refl)
+texts_taken count half (suc n) i c bits x even pos le fuel e =
+    elim (cases_lt i c.count) [
+      | inl more ↦
+          (let test : leb c.count i ≡ false = lt-leb _ _ more in
+          let site : Site = record { count = count; block = i } in
+          let left : ℕ = left_at c i in
+          let a = bind_ok (text_at site c.set c.size left bits) (λ t. texts_at count c n (i + blocks_in left t.0) t.1 >>= λ ts. Ok (t.0 ∷ ts.0, ts.1)) x (rw test at e) in
+          let b = bind_ok (texts_at count c n (i + blocks_in left a.0.0) a.0.1) (λ ts. Ok (a.0.0 ∷ ts.0, ts.1)) x a.2 in
+          let some = rest_least c.reference c.count i pos more in
+          let first = text_is_taken site c.set half left a.0.0 bits a.0.1 some (subst (λ (k : ℕ). text_at site c.set k left bits ≡ Ok (a.0.0, a.0.1)) even a.1) in
+          let lawful : IsText c.set c.size left a.0.0 = subst (λ (k : ℕ). IsText c.set k left a.0.0) (sym even) first.1 in
+          let least = text_some c.set c.size left a.0.0 lawful in
+          let most = text_most c.set c.size left a.0.0 some lawful in
+          let others = texts_taken count half n (i + blocks_in left a.0.0) c a.0.1 b.0 even pos (omega (arith, rest_most c i, most)) (omega (arith, least)) b.1 in
+          subst (AreTaken c i bits) (ok_is (a.0.0 ∷ b.0.0, b.0.1) x b.2)
+          ((lawful, others.0), first.0 ∙ ap (λ (bs : List Bool). spelled c.set a.0.0 ++ bs) others.1 ∙ sym (append_assoc (spelled c.set a.0.0) (spelling c.set b.0.0) b.0.1)))
+      | inr done ↦
+          (let test : leb c.count i ≡ true = le-leb _ _ done in
+          subst (AreTaken c i bits) (ok_is ([], bits) x (rw test at e)) (omega arith, refl))
+    ]
+
+pub body_is_read : BodyIsRead
+unfolding block_body_at
+body_is_read count s half reference n texts bits rest pos =
+    let c : Cut = cut_of s (2 * half) reference n in (
+      λ lawful text. rw text (texts_again count half c.count 0 c texts rest refl (omega (arith, texts_few c 0 c.count texts lawful)) lawful),
+      λ e. texts_taken count half c.count 0 c bits (texts, rest) refl pos (omega arith) (omega arith) e,
+    )

@@ -11,7 +11,11 @@ use Rattle.block_adaptive.specs.Segments.{blocks, first_blocks, block_count}
 use Rattle.block_adaptive.specs.Texts.{Text, Block, Run, Rest, Cut, left_at, IsText, AreTexts, blocks_in, blocks_of, blocks_told, values_of, spelled, spelling}
 use Rattle.block_adaptive.specs.Chosen.{chosen_from, chosen_texts, chosen_block_body}
 use Rattle.block_adaptive.specs.Reading.{Site, text_at, texts_at}
-use Rattle.block_adaptive.specs.Settings.{IsCut}
+use Rattle.cube_core.specs.Shape.{sample_count}
+use Rattle.header_bits.specs.declared.params.Params.{Params}
+use Rattle.header_bits.specs.declared.params.Coder.{Coder}
+use Rattle.header_bits.specs.declared.params.Coder.TheVariants as coder
+use Rattle.block_adaptive.specs.Settings.{IsCut, AreForBlocks, cut_by, coder_cut}
 use Rattle.block_adaptive.specs.Given.{Unpacked, HasGiven, HasMore}
 use Rattle.block_adaptive.specs.Taken.{Packed, HasTaken}
 use Rattle.block_adaptive.specs.Prefixes.{TakenIsPrefix}
@@ -132,3 +136,15 @@ taken_is_prefix v taken future bits cut count h =
     let length-so : length (h.blocks ++ first_blocks c.size m rest) ≡ c.count = omega (arith, length-append h.blocks (first_blocks c.size m rest), length-first_blocks c.size m rest) in
     let goes = h.goes_on (first_blocks c.size m rest) (omega (arith, length-first_blocks c.size m rest)) in
     (spelling c.set (chosen_from c c.count v.start (replicate v.zeros (replicate c.size 0) ++ first_blocks c.size m rest)), rw (count, cut-so, length-so) goes)
+
+-- ---- a cut by parameters
+
+coder_count : (bits n : ℕ) (c : Coder) → (coder_cut bits n c).count ≡ block_count (coder_cut bits n c).size n
+coder_count bits n (coder.Block size restricted reference) = refl
+coder_count bits n (coder.Sample umax gamma_star gamma_zero start) = refl
+
+pub cut_count : (p : Params) (c : Cut) → c ≡ cut_by p → c.count ≡ block_count c.size (sample_count p.shape)
+cut_count p c e = rw e (coder_count p.kind.bits (sample_count p.shape) p.coder)
+
+pub cut_lawful : (p : Params) (c : Cut) → AreForBlocks p → c ≡ cut_by p → IsCut c
+cut_lawful p c h e = rw e h.lawful

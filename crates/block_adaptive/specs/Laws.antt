@@ -1,9 +1,11 @@
 -- What holds of the definitions alone.
-use Rattle.std.specs.Prelude.{ℕ, ◌≡◌, ◌*◌, ◌^◌, ◌<◌, ◌≤◌, Bool, List, ◌++◌, length, Ok}
+use Rattle.std.specs.Prelude.{ℕ, ◌≡◌, ◌+◌, ◌*◌, ◌^◌, ◌<◌, ◌≤◌, Bool, List, ◌++◌, length, Ok}
 use Rattle.std.specs.List.{AllByRecursion}
 use Rattle.block_adaptive.specs.declared.options.CodeSet.{CodeSet}
-use Rattle.block_adaptive.specs.Texts.{Text, spelled, IsText, Cut, AreTexts, blocks_told, IsBlockBody}
-use Rattle.block_adaptive.specs.Reading.{Site, text_at}
+use Rattle.block_adaptive.specs.Options.{pair_number}
+use Rattle.block_adaptive.specs.Segments.{block_count}
+use Rattle.block_adaptive.specs.Texts.{Text, spelled, spelling, IsText, Cut, cut_of, AreTexts, blocks_told, IsBlockBody}
+use Rattle.block_adaptive.specs.Reading.{Site, text_at, block_body_at}
 use Rattle.block_adaptive.specs.Chosen.{IsChosen, chosen_option, chosen_from, chosen_block_body}
 
 -- two lawful texts of which one begins the other are one text; a block's size is even
@@ -43,3 +45,14 @@ abbrev pub TextIsTaken : Type 0
 TextIsTaken =
     (site : Site) (s : CodeSet) (half left : ℕ) (t : Text) (bits rest : List Bool) → 1 ≤ left → text_at site s (2 * half) left bits ≡ Ok (t, rest)
     → (bits ≡ spelled s t ++ rest) × IsText s (2 * half) left t
+
+-- the texts of a body of n numbers are read exactly where lawful texts for all blocks stand
+abbrev pub BodyIsRead : Type 0
+BodyIsRead =
+    (count : ℕ) (s : CodeSet) (half reference n : ℕ) (texts : List Text) (bits rest : List Bool) → 1 ≤ reference
+    → (AreTexts (cut_of s (2 * half) reference n) 0 texts (block_count (2 * half) n) → bits ≡ spelling s texts ++ rest → block_body_at count s (2 * half) reference n bits ≡ Ok (texts, rest))
+    × (block_body_at count s (2 * half) reference n bits ≡ Ok (texts, rest) → AreTexts (cut_of s (2 * half) reference n) 0 texts (block_count (2 * half) n) × (bits ≡ spelling s texts ++ rest))
+
+-- no pair of values up to m has a number above 2·m·(m + 1)
+abbrev pub PairBound : Type 0
+PairBound = (most a b : ℕ) → a ≤ most → b ≤ most → pair_number a b ≤ 2 * most * (most + 1)

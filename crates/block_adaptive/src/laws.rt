@@ -1,6 +1,6 @@
 //! Laws of the coder's definitions.
 
-ghost use Rattle.block_adaptive.specs.Laws.{OneText, OneBody, OptionIsLeast, ChosenIsLawful, ChosenIsBody, TextIsTaken};
+ghost use Rattle.block_adaptive.specs.Laws.{OneText, OneBody, OptionIsLeast, ChosenIsLawful, ChosenIsBody, TextIsTaken, BodyIsRead, PairBound};
 ghost use Rattle.block_adaptive.specs.Prefixes.{TakenIsPrefix};
 
 /// Two lawful texts of which one begins the other are one text.
@@ -36,4 +36,14 @@ pub fn chosen_is_body()
 /// What a writer has appended begins the chosen body, whatever numbers are still to come.
 pub fn taken_is_prefix()
     ensures { TakenIsPrefix }
+{}
+
+/// The texts of a body are read exactly where lawful texts for all blocks stand.
+pub fn body_is_read()
+    ensures { BodyIsRead }
+{}
+
+/// A pair of values up to m has at most 2·m·(m + 1) zeros under the second extension.
+pub fn pair_bound()
+    ensures { PairBound }
 {}

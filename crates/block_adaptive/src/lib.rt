@@ -9,7 +9,10 @@ pub mod laws;
 pub mod options;
 mod pairs;
 mod segments;
+#[cfg(test)]
+mod tests;
 mod texts;
 pub mod worked;
+pub mod worked_codes;
 pub mod worked_refusals;
 mod writing;

@@ -1,0 +1,12 @@
+use Rattle.std.proofs.Common.{refl}
+use Rattle.block_adaptive.specs.Everything.{everything}
+use Rattle.block_adaptive.proofs.worked_codes.identifiers_of_two_bits.Goals as goal
+
+pub returns : goal.returns
+unfolding everything
+returns c = record {
+  zero_blocks = refl;
+  second = refl;
+  uncoded = refl;
+  last_k = refl;
+}
