@@ -9,4 +9,6 @@ pub mod show;
 pub mod sink;
 pub mod source;
 pub mod stream;
+#[cfg(test)]
+mod tests;
 mod writing;
