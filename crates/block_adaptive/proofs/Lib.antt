@@ -8,6 +8,7 @@ pub mod Least
 pub mod Lawful
 pub mod Takes
 pub mod Taken
+pub mod ForBlocks
 pub mod Fronts
 pub mod Each
 pub mod Twos

@@ -84,6 +84,8 @@ pub fn option_cost(set: &CodeSet, block: &[u16], choice: Choice) -> u64
 
 /// The option with the shortest text: of several uncoded first, then the second extension, then the
 /// smallest k.
+///
+/// No k is tried whose values alone, of k + 1 bits or more each, are as long as what was found.
 #[tactic(auto, unfolding(crate::specs::Chosen::shortest, crate::specs::Chosen::chosen_option))]
 pub(crate) fn choose(set: &CodeSet, block: &[u16]) -> Choice
     requires bits { set.now.bits ≤ 16 }
@@ -97,8 +99,12 @@ pub(crate) fn choose(set: &CodeSet, block: &[u16]) -> Choice
         best = Choice::Second;
         least = second;
     }
-    let splits = (1u32 << identifier_width(set)) - 2;
-    for k in 0..splits {
+    let width = identifier_width(set);
+    let len = block.len() as u64;
+    for k in 0..(1u32 << width) - 2 {
+        if least <= width as u64 + (k as u64 + 1) * len {
+            return best;
+        }
         let cost = option_cost(set, block, Choice::Split(k));
         if cost < least {
             best = Choice::Split(k);

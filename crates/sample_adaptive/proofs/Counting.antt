@@ -1,5 +1,5 @@
 -- Statistics stay in range, and the code parameter from the lengths of two numbers.
-use Rattle.std.proofs.Common.{◌≡◌, ℕ, zero, suc, ◌+◌, ◌-◌, ◌*◌, ◌/◌, ◌%◌, ◌^◌, ◌<◌, ◌≤◌, min, Bool, true, false, leb, refl, sym, ap, ◌∙◌, inl, inr, arith}
+use Rattle.std.proofs.Common.{cond, ◌≡◌, ℕ, zero, suc, ◌+◌, ◌-◌, ◌*◌, ◌/◌, ◌%◌, ◌^◌, ◌<◌, ◌≤◌, min, Bool, true, false, leb, refl, sym, ap, ◌∙◌, inl, inr, arith}
 use Rattle.std.proofs.lemmas.Bool.{cases_lt, lt-ltb, le-ltb}
 use Rattle.std.proofs.lemmas.Bool.Decides.{nat_tests}
 use Rattle.std.proofs.lemmas.Nat.{pow_pos, pow-add, mul-le, leading_top}
@@ -7,6 +7,7 @@ use Rattle.std.proofs.Math.Nat.{pow-succ', mod-eq_of_lt, mul-lt-mul_of_pos_left}
 use Rattle.std.proofs.Math.Pow.{pow_mono}
 use lib.Count.{count_leading_zeros}
 use Rattle.sample_adaptive.specs.declared.statistics.Statistics.{Statistics}
+use Rattle.sample_adaptive.specs.Laws.{ParameterIsGreatest}
 use Rattle.sample_adaptive.specs.Statistics.{AreStatistics, start_statistics, next_statistics, greatest, level, code_parameter}
 
 -- ---- the first statistics
@@ -143,3 +144,45 @@ pub accumulator_range : (gamma_star : ℕ) (s : Statistics) → gamma_star ≤ 9
 accumulator_range gamma_star s le h =
     let power : 2 ^ gamma_star ≤ 2 ^ 9 = pow_mono le in
     omega (arith, h.most, h.bound)
+
+-- ---- the greatest that passes
+
+leb-true : (a b : ℕ) → leb a b ≡ true → a ≤ b
+leb-true a b h = grind (arith, nat_tests)
+
+not_both : (b : Bool) → b ≡ true → b ≡ false → ⊥
+not_both true p q = cc
+not_both false p q = cc
+
+abbrev IsGreatest : (ℕ → Bool) → ℕ → ℕ → Type 0
+IsGreatest f n g = (g ≤ n) × (1 ≤ g → f g ≡ true) × ((m : ℕ) → m ≤ n → f m ≡ true → m ≤ g)
+
+greatest_holds : (f : ℕ → Bool) (n : ℕ) → IsGreatest f n (greatest f n)
+unfolding greatest
+greatest_holds f zero = (omega arith, λ p. absurd (omega arith), λ m le h. le)
+greatest_holds f (suc n) = by_test (f (suc n)) refl (greatest_holds f n)
+  where
+    by_test : (b : Bool) → f (suc n) ≡ b → IsGreatest f n (greatest f n) → IsGreatest f (suc n) (cond b (suc n) (greatest f n))
+    by_test true is h = (omega arith, λ p. is, λ m le passes. le)
+    by_test false is h =
+        (omega (arith, h.0), h.1, λ m le passes.
+          elim (cases_lt n m) [
+            | inl above ↦ (let e : m ≡ suc n = omega arith in absurd (not_both (f m) passes (ap f e ∙ is)))
+            | inr below ↦ h.2 m below passes
+          ])
+
+pub parameter_is_greatest : ParameterIsGreatest
+unfolding code_parameter
+parameter_is_greatest bits s =
+    elim (cases_lt (level s) (2 * s.counter)) [
+      | inl small ↦ rw (lt-ltb _ _ small) (record { within = omega arith; none = λ p. refl; fits = λ p. absurd (omega arith); greatest = λ large. absurd (omega arith) })
+      | inr large ↦
+          (let f : ℕ → Bool = λ k. leb (s.counter * 2 ^ k) (level s) in
+          let h = greatest_holds f (bits - 2) in
+          rw (le-ltb _ _ large) (record {
+            within = h.0;
+            none = λ small. absurd (omega arith);
+            fits = λ p. leb-true _ _ (h.1 p);
+            greatest = λ _ j le fits. h.2 j le (le-leb _ _ fits);
+          }))
+    ]

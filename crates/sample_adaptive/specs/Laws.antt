@@ -1,10 +1,11 @@
 -- What holds of the definitions alone.
-use Rattle.std.specs.Prelude.{ℕ, ◌≡◌, ◌+◌, ◌*◌, ◌^◌, ◌<◌, ◌≤◌, Bool, List, ◌++◌, length, Ok, Err}
+use Rattle.std.specs.Prelude.{ℕ, ◌≡◌, ◌+◌, ◌*◌, ◌^◌, ◌<◌, ◌≤◌, Bool, List, ◌++◌, length, Ok, Err, ◌-◌}
 use Rattle.std.specs.List.{AllByRecursion}
 use Rattle.cube_core.specs.declared.order.Place.{Place}
 use Rattle.cube_core.specs.declared.fault.Fault.TheVariants.{Truncated, BadCode}
 use Rattle.sample_adaptive.specs.declared.code_word.Code.{Code}
-use Rattle.sample_adaptive.specs.Statistics.{CoderSettings, counter, accumulator, constant_of}
+use Rattle.sample_adaptive.specs.declared.statistics.Statistics.{Statistics}
+use Rattle.sample_adaptive.specs.Statistics.{level, code_parameter, CoderSettings, counter, accumulator, constant_of}
 use Rattle.sample_adaptive.specs.Words.{Form, IsForm, form_text, form_of, code_word}
 use Rattle.sample_adaptive.specs.Body.{sample_body}
 use Rattle.sample_adaptive.specs.Reading.{word_at, sample_body_at}
@@ -71,3 +72,13 @@ abbrev pub AccumulatorBound : Type 0
 AccumulatorBound =
     (c : CoderSettings) (z : ℕ) (numbers : List ℕ) → AreSettings c z → AreNumbers c.bits numbers
     → accumulator c z numbers ≤ 2 ^ 16 * counter c z numbers
+
+-- the greatest k up to D - 2 with Γ·2^k at most the level, and 0 where there is none above it, or where 2·Γ is above the level
+pub record IsCodeParameter (bits : ℕ) (s : Statistics) (k : ℕ) : Type 0 where
+  pub within : k ≤ bits - 2
+  pub none : level s < 2 * s.counter → k ≡ 0
+  pub fits : 1 ≤ k → s.counter * 2 ^ k ≤ level s
+  pub greatest : 2 * s.counter ≤ level s → (j : ℕ) → j ≤ bits - 2 → s.counter * 2 ^ j ≤ level s → j ≤ k
+
+abbrev pub ParameterIsGreatest : Type 0
+ParameterIsGreatest = (bits : ℕ) (s : Statistics) → IsCodeParameter bits s (code_parameter bits s)

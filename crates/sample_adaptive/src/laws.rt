@@ -1,6 +1,6 @@
 //! Laws of the coder's definitions.
 
-ghost use Rattle.sample_adaptive.specs.Laws.{OneForm, OneWord, OneBody, WordIsRead, TruncatedIsNoForm, BadCodeIsNoWord, BodyIsRead, AccumulatorBound};
+ghost use Rattle.sample_adaptive.specs.Laws.{OneForm, OneWord, OneBody, WordIsRead, TruncatedIsNoForm, BadCodeIsNoWord, BodyIsRead, AccumulatorBound, ParameterIsGreatest};
 
 /// No form begins another.
 pub fn one_form()
@@ -41,3 +41,9 @@ pub fn body_is_read()
 pub fn accumulator_bound()
     ensures { AccumulatorBound }
 {}
+
+/// The code parameter is the greatest that the standard's condition allows.
+pub fn parameter_is_greatest()
+    ensures { ParameterIsGreatest }
+{
+}
