@@ -1,7 +1,6 @@
 -- How a band's predictor follows an image.
-use Rattle.std.proofs.Common.{◌≡◌, ◌+◌, ◌*◌, ◌/◌, ◌%◌, ◌^◌, ◌<◌, ◌≤◌, ℕ, zero, suc, ℤ, pos, ◌-ℤ◌, ◌*ℤ◌, int_lt, List, arith, refl, ◌∙◌, ap, add-one}
-use Rattle.std.proofs.lemmas.Nat.{div-mul-add, mod-mul-add, mul-le}
-use Rattle.std.proofs.Math.Arith.{digits_lt}
+use Rattle.std.proofs.Common.{◌≡◌, ◌+◌, ◌*◌, ◌/◌, ◌%◌, ◌<◌, ℕ, zero, suc, ℤ, pos, ◌-ℤ◌, ◌*ℤ◌, int_lt, List, arith, refl, ◌∙◌, ap, add-one}
+use Rattle.std.proofs.lemmas.Nat.{div-mul-add, mod-mul-add}
 use Rattle.header_bits.specs.declared.params.Params.{Params}
 use Rattle.cube_core.specs.Image.{Image, sample_at}
 use Rattle.predict_core.specs.declared.predictor.Predictor.{Predictor}
@@ -17,13 +16,6 @@ row_is columns t y x e h = rw e (div-mul-add y columns x h)
 
 pub column_is : (columns t y x : ℕ) → t ≡ y * columns + x → x < columns → t % columns ≡ x
 column_is columns t y x e h = rw e (mod-mul-add y columns x h)
-
--- a place of a cube is below 2^32
-pub place_below : (rows columns y x : ℕ) → rows ≤ 65536 → columns ≤ 65536 → y < rows → x < columns → y * columns + x < 2 ^ 32
-place_below rows columns y x a b r q =
-    let p : y * columns + x < rows * columns = digits_lt r q in
-    let m = mul-le rows columns 65536 65536 a b in
-    omega (arith, p, m)
 
 pub next_is : (p : Predictor) (c : Image) (z t y x : ℕ) (ws new : List ℤ) (scaled sample : ℤ) → t ≡ y * c.shape.columns + x → x < c.shape.columns
     → scaled ≡ scaled_there p c z y x ws → sample ≡ sample_at c z y x

@@ -15,4 +15,4 @@ pub mod Residuals
 pub mod Scaled
 pub mod Spans
 pub mod Starting
-pub mod Steps
+pub mod Raising

@@ -1,5 +1,5 @@
 -- The steps of the weights in words of 32 bits.
-use Rattle.std.proofs.Common.{◌≡◌, ℕ, ◌+◌, ◌-◌, ◌*◌, ◌%◌, ◌^◌, ◌≤◌, ℤ, pos, negsuc, neg_ℤ, ◌+ℤ◌, ◌-ℤ◌, ◌*ℤ◌, ◌≤ℤ◌, ◌<ℤ◌, unsigned_abs, Bool, List, refl, sym, ap, ◌∙◌, arith, w32, SFits, to_z, pow_mono, le_trans}
+use Rattle.std.proofs.Common.{◌≡◌, ℕ, ◌+◌, ◌-◌, ◌*◌, ◌%◌, ◌^◌, ◌≤◌, ℤ, pos, neg_ℤ, ◌+ℤ◌, ◌-ℤ◌, ◌*ℤ◌, ◌≤ℤ◌, unsigned_abs, Bool, List, refl, sym, ap, ◌∙◌, arith, w32, SFits, to_z, pow_mono, le_trans}
 use Rattle.std.proofs.Math.Pow.{pow-add}
 use Rattle.std.proofs.lemmas.Int.{ints, to_z_pos, fits_signed_from_abs, unsigned_abs-mul}
 use Rattle.std.proofs.lemmas.Nat.{one_shl, pow_below, mul-le}
@@ -14,9 +14,6 @@ bit_in_word k h = rw (one_shl k 32 (omega arith)) (to_z_pos w32 (2 ^ k) (pow_bel
 
 pub SFits-26 : (a : ℤ) → unsigned_abs a ≤ 2 ^ 26 → SFits w32 a
 SFits-26 a h = fits_signed_from_abs w32 a (omega arith)
-
-pub SFits-bit_in_word : (k : ℕ) → k ≤ 30 → SFits w32 (pos (2 ^ k))
-SFits-bit_in_word k h = record { sfits = pow_below k 31 (omega arith) }
 
 -- what a shift to the left makes of a difference
 pub raised_within : (a : ℤ) (k : ℕ) → k ≤ 26 → unsigned_abs a ≤ 2 ^ (26 - k) → unsigned_abs (a *ℤ pos (2 ^ k)) ≤ 2 ^ 26
@@ -67,15 +64,3 @@ within_most bits us h w i l =
 
 pub room_word : (by : ℕ) → 2 ^ (26 - by) ≤ 2 ^ 26
 room_word by = let k : 26 - by ≤ 26 = omega arith in pow_mono k
-
--- an exponent below 0, and one of 0 or more
-pub below_zero : (e : ℤ) → e <ℤ pos 0 → negsuc (unsigned_abs (negsuc 0 -ℤ e)) ≡ e
-below_zero (pos r) h = absurd (omega (arith, ints))
-below_zero (negsuc r) h = ap (λ z. negsuc (unsigned_abs z)) (same r)
-  where
-    same : (r : ℕ) → negsuc 0 -ℤ negsuc r ≡ pos r
-    same r = omega (arith, ints)
-
-pub from_zero : (e : ℤ) → pos 0 ≤ℤ e → pos (unsigned_abs e) ≡ e
-from_zero (pos r) h = refl
-from_zero (negsuc r) h = absurd (omega (arith, ints))

@@ -1,7 +1,7 @@
 -- The range of a kind's samples, as powers of two.
-use Rattle.std.proofs.Common.{◌≡◌, ◌*◌, ◌<◌, ◌≤◌, ◌-◌, ◌^◌, ℕ, suc, zero, Bool, true, false, pos, ◌-ℤ◌, arith, pow-suc, pow_pos, pow_mono}
+use Rattle.std.proofs.Common.{◌≡◌, ◌*◌, ◌<◌, ◌≤◌, ◌-◌, ◌^◌, ℕ, suc, zero, Bool, true, false, pos, ◌-ℤ◌, arith, pow-suc, pow_pos}
 use Rattle.std.proofs.lemmas.Int.{ints}
-use Rattle.cube_core.specs.Kind.{SampleKind, IsKind, smin, smid, smax}
+use Rattle.cube_core.specs.Kind.{SampleKind, IsKind, smin, smax}
 
 pub doubled : (bits : ℕ) → 1 ≤ bits → 2 ^ bits ≡ 2 * 2 ^ (bits - 1)
 doubled zero h = absurd (omega arith)
@@ -14,14 +14,3 @@ span_by false bits h = let p : 0 < 2 ^ bits = pow_pos bits in omega (arith, ints
 -- from the least sample to the greatest
 pub span : (k : SampleKind) → IsKind k → smax k -ℤ smin k ≡ pos (2 ^ k.bits) -ℤ pos 1
 span k h = span_by k.signed k.bits h.0
-
-center_by : (signed : Bool) (bits : ℕ) → 2 ≤ bits → smid (record { signed = signed; bits = bits }) -ℤ smin (record { signed = signed; bits = bits }) ≡ pos (2 ^ (bits - 1))
-center_by true bits h = omega (arith, ints)
-center_by false bits h = omega (arith, ints)
-
--- from the least sample to the middle
-pub center : (k : SampleKind) → IsKind k → smid k -ℤ smin k ≡ pos (2 ^ (k.bits - 1))
-center k h = center_by k.signed k.bits h.0
-
-pub bits_most : (bits : ℕ) → bits ≤ 16 → 2 ^ bits ≤ 65536
-bits_most bits h = let p : 2 ^ bits ≤ 2 ^ 16 = pow_mono h in omega (arith, p)

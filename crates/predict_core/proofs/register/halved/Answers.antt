@@ -1,6 +1,6 @@
 use Rattle.std.proofs.Common.{to_z-of_z, ◌^◌}
 use Rattle.predict_core.proofs.Scaled.{halved_bound, halved_shrinks}
-use Rattle.predict_core.proofs.Steps.{SFits-div}
+use Rattle.predict_core.proofs.Raising.{SFits-div}
 use Rattle.predict_core.proofs.register.halved.Goals as goal
 
 pub returns-clause-bound : goal.returns-clause-bound

@@ -1,5 +1,5 @@
 use Rattle.std.proofs.Common.{to_z-of_z, arith, refl}
-use Rattle.predict_core.proofs.Steps.{bit_at_place, raised_bound, SFits-raised_up}
+use Rattle.predict_core.proofs.Raising.{bit_at_place, raised_bound, SFits-raised_up}
 use Rattle.predict_core.proofs.register.raised.Goals as goal
 
 pub overflow_mul-result : goal.overflow_mul-result
