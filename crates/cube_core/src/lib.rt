@@ -9,3 +9,5 @@ pub mod layout;
 pub mod order;
 mod raw;
 pub mod shape;
+#[cfg(test)]
+mod tests;

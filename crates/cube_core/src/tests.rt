@@ -1,0 +1,216 @@
+//! Orders, layouts and refusals at values from outside, and what each fault prints.
+
+ghost use Rattle.std.specs.Prelude.{◌≡◌};
+
+use crate::cube::Cube;
+use crate::cursor::Places;
+use crate::fault::{Fault, Field, Rule};
+use crate::kind::Kind;
+use crate::layout::{Layout, RawOrder};
+use crate::order::{Order, Place, index_of, place_at};
+use crate::shape::Shape;
+use std::alloc::Global;
+use std::process::Abort;
+use std::test::Fail;
+
+/// A shape of these sizes.
+fn shape_of(rt: &impl Abort, columns: u32, rows: u32, bands: u32) -> Shape
+    ensures columns { result.columns ≡ columns }
+    ensures rows { result.rows ≡ rows }
+    ensures bands { result.bands ≡ bands }
+{
+    let shape = Shape::new(columns, rows, bands).expect(rt, "a shape");
+    assert!(rt; shape.columns() == columns);
+    assert!(rt; shape.rows() == rows);
+    assert!(rt; shape.bands() == bands);
+    shape
+}
+
+#[test]
+fn places_of_three_bands_two_a_group(rt: HostRuntime) {
+    let shape = shape_of(&rt, 2, 2, 3);
+    let first = [
+        Place { z: 0, y: 0, x: 0 },
+        Place { z: 1, y: 0, x: 0 },
+        Place { z: 0, y: 0, x: 1 },
+        Place { z: 1, y: 0, x: 1 },
+        Place { z: 2, y: 0, x: 0 },
+        Place { z: 2, y: 0, x: 1 },
+        Place { z: 0, y: 1, x: 0 },
+    ];
+    let mut walk = Places::new(shape, Order::Bi(2));
+    for (i, place) in first.into_iter().enumerate() {
+        assert!(rt; (i as u64) < shape.sample_count());
+        assert_eq!(rt; place_at(&shape, Order::Bi(2), i as u64), place);
+        assert_eq!(rt; walk.peek(), Some(place));
+        assert_eq!(rt; walk.next(), Some(place));
+    }
+    assert_eq!(rt; walk.left(), 5);
+    assert_eq!(rt;
+        index_of(&shape, Order::Bi(2), Place { z: 2, y: 0, x: 1 }),
+        5
+    );
+}
+
+#[test]
+fn sizes_and_bits_out_of_range(rt: HostRuntime) {
+    let bits = Fault::FieldRange {
+        field: Field::DynamicRange,
+        value: 17,
+    };
+    assert_eq!(rt; Kind::new(false, 17), Err(bits));
+    let columns = Fault::FieldRange {
+        field: Field::Columns,
+        value: 0,
+    };
+    assert_eq!(rt; Shape::new(0, 1, 1), Err(columns));
+    assert!(rt; Shape::new(65_536, 65_536, 65_536).is_ok());
+}
+
+#[test]
+fn new_cube_is_zero_until_set(rt: HostRuntime) -> Result<(), Fail> {
+    let kind = Kind::new(true, 8).expect(&rt, "a kind");
+    assert!(rt; kind.smin() == -128);
+    assert!(rt; kind.smax() == 127);
+    let shape = shape_of(&rt, 1, 1, 1);
+    let mut cube = Cube::new(rt.alloc(), shape, kind)?;
+    assert_eq!(rt; cube.sample(0, 0, 0), 0);
+    cube.set(0, 0, 0, -128);
+    assert_eq!(rt; cube.sample(0, 0, 0), -128);
+    Ok(())
+}
+
+/// What a lone sample of eleven bits is read as.
+fn lone_sample(rt: &impl Abort, alloc: Global, bytes: &[u8]) -> Result<i32, Fault> {
+    let layout = Layout {
+        order: RawOrder::Bsq,
+        bytes: 2,
+        little: true,
+    };
+    let kind = Kind::new(false, 11).expect(rt, "a kind");
+    let cube = Cube::from_raw(alloc, shape_of(rt, 1, 1, 1), kind, layout, bytes)?;
+    Ok(cube.sample(0, 0, 0))
+}
+
+#[test]
+fn lone_samples_of_eleven_bits(rt: HostRuntime) {
+    let alloc = rt.alloc();
+    assert_eq!(rt;
+        lone_sample(&rt, alloc, &[0x00, 0x08]),
+        Err(Fault::SampleRange { index: 0 })
+    );
+    assert_eq!(rt; lone_sample(&rt, alloc, &[0xFF, 0x07]), Ok(2047));
+    assert_eq!(rt;
+        lone_sample(&rt, alloc, &[0xFF]),
+        Err(Fault::RawLength { wanted: 2, had: 1 })
+    );
+}
+
+/// Samples of twelve bits, two columns, two rows and three bands, in a layout's order.
+fn samples_in(order: RawOrder) -> [u16; 12] {
+    match order {
+        RawOrder::Bsq => [
+            0x001, 0x002, 0x003, 0x004, 0x105, 0x106, 0x107, 0x108, 0xF09, 0xF0A, 0xF0B, 0xF0C,
+        ],
+        RawOrder::Bil => [
+            0x001, 0x002, 0x105, 0x106, 0xF09, 0xF0A, 0x003, 0x004, 0x107, 0x108, 0xF0B, 0xF0C,
+        ],
+        RawOrder::Bip => [
+            0x001, 0x105, 0xF09, 0x002, 0x106, 0xF0A, 0x003, 0x107, 0xF0B, 0x004, 0x108, 0xF0C,
+        ],
+    }
+}
+
+/// These samples in two bytes each.
+fn bytes_in(alloc: Global, order: RawOrder, little: bool) -> Result<Vec<u8>, Fault> {
+    let mut bytes = Vec::new(alloc);
+    for sample in samples_in(order) {
+        let [high, low] = sample.to_be_bytes();
+        bytes.push(if little { low } else { high })?;
+        bytes.push(if little { high } else { low })?;
+    }
+    Ok(bytes)
+}
+
+#[test]
+fn each_layout_is_read_to_one_cube(rt: HostRuntime) -> Result<(), Fail> {
+    let kind = Kind::new(false, 12).expect(&rt, "a kind");
+    let shape = shape_of(&rt, 2, 2, 3);
+    for order in [RawOrder::Bsq, RawOrder::Bil, RawOrder::Bip] {
+        for little in [false, true] {
+            let bytes = bytes_in(rt.alloc(), order, little)?;
+            let layout = Layout {
+                order,
+                bytes: 2,
+                little,
+            };
+            let cube = Cube::from_raw(rt.alloc(), shape, kind, layout, &bytes)?;
+            let mut i = 0;
+            for place in Places::new(shape, Order::Bsq) {
+                assert!(rt; place.z < 3);
+                assert!(rt; place.y < 2);
+                assert!(rt; place.x < 2);
+                assert!(rt; i < 12);
+                let sample = cube.sample(place.z, place.y, place.x);
+                assert_eq!(rt; sample, i32::from(samples_in(RawOrder::Bsq)[i]));
+                i += 1;
+            }
+        }
+    }
+    Ok(())
+}
+
+#[test]
+fn each_fault_prints_number_name_and_values(rt: HostRuntime) -> Result<(), Fail> {
+    let lines = [
+        (Fault::ShortHeader, "1 ShortHeader"),
+        (Fault::Reserved { bit: 95 }, "2 Reserved 95"),
+        (
+            Fault::FieldRange {
+                field: Field::DynamicRange,
+                value: 1,
+            },
+            "3 FieldRange DynamicRange 1",
+        ),
+        (
+            Fault::FieldRange {
+                field: Field::VMin,
+                value: -7,
+            },
+            "3 FieldRange VMin -7",
+        ),
+        (
+            Fault::Disagree {
+                rule: Rule::StartConstant,
+            },
+            "4 Disagree StartConstant",
+        ),
+        (Fault::TableElsewhere, "5 TableElsewhere"),
+        (Fault::Truncated { bit: 160 }, "6 Truncated 160"),
+        (Fault::BadCode { place: 1 }, "7 BadCode 1"),
+        (Fault::BadOption { block: 2 }, "8 BadOption 2"),
+        (Fault::RunPastSegment { block: 3 }, "9 RunPastSegment 3"),
+        (Fault::BadFill, "10 BadFill"),
+        (Fault::TooLong { bits: 12 }, "11 TooLong 12"),
+        (Fault::WantOfMemory, "12 WantOfMemory"),
+        (Fault::SampleRange { index: 0 }, "13 SampleRange 0"),
+        (Fault::RawLength { wanted: 2, had: 1 }, "14 RawLength 2 1"),
+        (Fault::BadDeal { band: 1 }, "15 BadDeal 1"),
+        (Fault::SpawnRefused, "16 SpawnRefused"),
+        (
+            Fault::Stopped {
+                predictor: 0,
+                sent: 2,
+            },
+            "17 Stopped 0 2",
+        ),
+        (Fault::Read, "18 Read"),
+        (Fault::Write { written: 0 }, "19 Write 0"),
+        (Fault::Usage, "20 Usage"),
+    ];
+    for (fault, line) in lines {
+        let printed = format!(in rt.alloc(); "{fault}")?;
+        assert_eq!(rt; printed.as_str(), line);
+    }
+    Ok(())
+}
