@@ -3,5 +3,7 @@ pub mod Heights
 pub mod Lists
 pub mod Orders
 pub mod RawBytes
+pub mod Poured
 pub mod Raws
+pub mod Spelled
 pub mod Walks
