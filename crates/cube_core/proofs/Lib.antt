@@ -1,5 +1,6 @@
 pub mod Bounds
 pub mod Heights
+pub mod Keys
 pub mod Lists
 pub mod Orders
 pub mod RawBytes
