@@ -1,8 +1,11 @@
--- Laws of the encoding order.
-use Rattle.std.specs.Prelude.{ℕ, ◌≡◌, ◌<◌, List, Some, slice_get}
+-- Laws of the encoding order, and of raw bytes.
+use Rattle.std.specs.Prelude.{ℕ, ℤ, ◌≡◌, ◌*◌, ◌<◌, ◌≤◌, List, Some, slice_get}
 use Rattle.cube_core.specs.declared.order.Order.{Order}
 use Rattle.cube_core.specs.declared.order.Place.{Place}
+use Rattle.cube_core.specs.declared.layout.Layout.{Layout}
 use Rattle.cube_core.specs.Shape.{Sizes}
+use Rattle.cube_core.specs.Kind.{SampleKind, IsKind, IsSample}
+use Rattle.cube_core.specs.Layout.{HasBytes}
 use Rattle.cube_core.specs.Order.{IsOrder, IsPlaceOf, places, place_index, place_key, IsBefore}
 
 -- a list that holds the places of the sizes, each once, by strictly increasing keys
@@ -23,3 +26,7 @@ ItemOfIndex = (s : Sizes) (o : Order) (p : Place) → IsOrder s o → IsPlaceOf 
 -- the index of the i-th item is i
 abbrev pub IndexOfItem : Type 0
 IndexOfItem = (s : Sizes) (o : Order) (p : Place) (i : ℕ) → IsOrder s o → slice_get (places s o) i ≡ Some p → place_index s o p ≡ i
+
+-- two bytes spell each sample, and one byte each of at most eight bits
+abbrev pub WideEnough : Type 0
+WideEnough = (k : SampleKind) (l : Layout) (v : ℤ) → IsKind k → k.bits ≤ 8 * l.bytes → IsSample k v → HasBytes k l v

@@ -1,6 +1,6 @@
-//! Laws of the encoding order.
+//! Laws of the encoding order, and of raw bytes.
 
-ghost use Rattle.cube_core.specs.Laws.{OrderIsByKey, ItemOfIndex, IndexOfItem};
+ghost use Rattle.cube_core.specs.Laws.{OrderIsByKey, ItemOfIndex, IndexOfItem, WideEnough};
 
 /// The encoding order holds each place once, by strictly increasing keys.
 pub fn order_is_by_key()
@@ -15,4 +15,9 @@ pub fn item_of_index()
 /// The index of the i-th item is i.
 pub fn index_of_item()
     ensures { IndexOfItem }
+{}
+
+/// Two bytes spell each sample, and one byte each of at most eight bits.
+pub fn wide_enough()
+    ensures { WideEnough }
 {}
