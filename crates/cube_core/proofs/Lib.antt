@@ -1,7 +1,10 @@
 pub mod Bounds
 pub mod Heights
+pub mod Keys
 pub mod Lists
 pub mod Orders
 pub mod RawBytes
+pub mod Poured
 pub mod Raws
+pub mod Spelled
 pub mod Walks

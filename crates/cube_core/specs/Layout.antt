@@ -1,5 +1,5 @@
 -- How the samples of a cube lie in raw bytes.
-use Rattle.std.specs.Prelude.{ℕ, ◌≡◌, ◌⊎◌, ◌+◌, ◌-◌, ◌*◌, ◌/◌, ◌%◌, ◌^◌, ◌<◌, ◌≤◌, ◌==◌, nat_le, ◌&&◌, Bool, ℤ, pos, negsuc, ◌-ℤ◌, List, [], ◌∷◌, length, take, drop, slice_index, if◌then◌else◌}
+use Rattle.std.specs.Prelude.{ℕ, ◌≡◌, ◌⊎◌, ◌+◌, ◌-◌, ◌*◌, ◌/◌, ◌%◌, ◌^◌, ◌<◌, ◌≤◌, ◌==◌, nat_le, ◌&&◌, Bool, ℤ, pos, negsuc, ◌-ℤ◌, List, [], ◌∷◌, length, map, take, drop, slice_index, slice_index_or, if◌then◌else◌}
 use Rattle.std.specs.List.{flat_map}
 use Rattle.cube_core.specs.declared.layout.Layout.{Layout}
 use Rattle.cube_core.specs.declared.layout.RawOrder.{RawOrder}
@@ -63,3 +63,25 @@ pub record IsFirstBad (k : SampleKind) (l : Layout) (bytes : List ℕ) (i : ℕ)
   pub there : (i + 1) * l.bytes ≤ length bytes
   pub bad : IsSample k (raw_value l k (bytes_at l bytes i)) → ⊥
   pub first : (j : ℕ) → j < i → IsSample k (raw_value l k (bytes_at l bytes j))
+
+-- a sample that so many bytes spell: one of the kind with as many bits
+abbrev pub HasBytes : SampleKind → Layout → ℤ → Type 0
+HasBytes k l v = IsSample (record { signed = k.signed; bits = 8 * l.bytes }) v
+
+-- the samples in the layout's order
+unfoldable pub samples_in : Image → Layout → List ℤ
+samples_in c l = map (λ p. sample_at c p.z p.y p.x) (places c.shape (order_of l.order c.shape))
+
+-- the i-th sample in the layout's order has its bytes
+abbrev pub HasBytesAt : Image → Layout → ℕ → Type 0
+HasBytesAt c l i = HasBytes c.kind l (slice_index_or (samples_in c l) i (pos 0))
+
+-- the first samples have their bytes
+abbrev pub HaveBytes : Image → Layout → ℕ → Type 0
+HaveBytes c l i = (j : ℕ) → j < i → HasBytesAt c l j
+
+-- the i-th sample is the first that its bytes cannot spell
+pub record IsFirstUnfit (c : Image) (l : Layout) (i : ℕ) : Type 0 where
+  pub there : i < length (samples_in c l)
+  pub unfit : HasBytesAt c l i → ⊥
+  pub first : HaveBytes c l i

@@ -1,9 +1,12 @@
 pub mod Cursor
+pub mod Everything
 pub mod Heights
 pub mod Image
 pub mod Kind
+pub mod Laws
 pub mod Layout
 pub mod Order
 pub mod Raw
+pub mod Rows
 pub mod Shape
 pub mod Steps

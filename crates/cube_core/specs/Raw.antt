@@ -1,4 +1,4 @@
--- What stands where raw bytes were taken in.
+-- What stands where raw bytes were taken in or given out.
 use Rattle.std.specs.Prelude.{ℕ, ◌≡◌, ◌⊎◌, ◌*◌, ◌<◌, ◌^◌, List, length, slice_index}
 use Rattle.cube_core.specs.declared.fault.Fault.{Fault}
 use Rattle.cube_core.specs.declared.fault.Fault.TheVariants.{RawLength, WantOfMemory, SampleRange}
@@ -6,9 +6,9 @@ use Rattle.cube_core.specs.declared.layout.Layout.{Layout}
 use Rattle.cube_core.specs.declared.order.Place.{Place}
 use Rattle.cube_core.specs.Shape.{Sizes, sample_count}
 use Rattle.cube_core.specs.Kind.{SampleKind, IsSample, sample_of}
-use Rattle.cube_core.specs.Image.{index_in}
+use Rattle.cube_core.specs.Image.{Image, index_in}
 use Rattle.cube_core.specs.Order.{IsPlaceOf, place_index}
-use Rattle.cube_core.specs.Layout.{order_of, raw_value, bytes_at, IsFirstBad}
+use Rattle.cube_core.specs.Layout.{order_of, raw_value, bytes_at, IsFirstBad, IsFirstUnfit}
 
 -- the height at a place is that of the sample that its bytes spell
 pub record IsHeightOf (s : Sizes) (k : SampleKind) (l : Layout) (bytes heights : List ℕ) (p : Place) : Type 0 where
@@ -34,3 +34,7 @@ IsBadSample k l bytes fault = (i : ℕ) × (fault ≡ SampleRange i) × IsFirstB
 abbrev pub IsRawFault : Sizes → SampleKind → Layout → List ℕ → Fault → Type 0
 IsRawFault s k l bytes fault =
     (fault ≡ RawLength (sample_count s * l.bytes) (length bytes)) ⊎ ((fault ≡ WantOfMemory) ⊎ IsBadSample k l bytes fault)
+
+-- why a cube has no raw bytes: want of memory, or the first sample that its bytes cannot spell
+abbrev pub IsUnfit : Image → Layout → Fault → Type 0
+IsUnfit c l fault = (fault ≡ WantOfMemory) ⊎ ((i : ℕ) × (fault ≡ SampleRange i) × IsFirstUnfit c l i)

@@ -3,12 +3,13 @@
 ghost use Rattle.std.specs.Prelude.{◌≡◌, ◌≢◌, ◌↔◌, ◌*◌, ◌≤ℤ◌, length, replicate, pos, negsuc, IfOk, IfErr};
 ghost use Rattle.cube_core.specs.Shape.{sample_count};
 ghost use Rattle.cube_core.specs.Image.{IsCube, IsPlace, sample_at, put};
-ghost use Rattle.cube_core.specs.Layout.{IsLayout, raw_bytes};
-ghost use Rattle.cube_core.specs.Raw.{IsRawFault};
+ghost use Rattle.cube_core.specs.Layout.{IsLayout, raw_bytes, HaveBytes};
+ghost use Rattle.cube_core.specs.Raw.{IsRawFault, IsUnfit};
 ghost use Rattle.cube_core.specs.declared.fault.Fault.TheVariants.{RawLength, WantOfMemory};
 ghost use Rattle.cube_core.specs.Kind.{IsSample};
 ghost use Rattle.cube_core.specs.Heights.{AreRowHeights};
 
+use crate::cursor::Places;
 use crate::fault::Fault;
 use crate::kind::Kind;
 use crate::layout::Layout;
@@ -85,6 +86,35 @@ impl Cube {
             kind,
             heights,
         })
+    }
+
+    /// The samples as raw bytes.
+    ///
+    /// `WantOfMemory`, then `SampleRange` with the first sample in the layout's order that its
+    /// bytes can't spell, as happens only with one byte a sample and more than eight bits.
+    pub fn to_raw(&self, alloc: Global, layout: Layout) -> Result<Vec<u8>, Fault>
+        requires { IsLayout layout }
+        ensures bytes { IfOk result (λ bytes. bytes.items ≡ raw_bytes self.now layout) }
+        ensures fits { IfOk result (λ _. HaveBytes self.now layout (sample_count self.now.shape)) }
+        ensures refused { IfErr result (IsUnfit self.now layout) }
+    {
+        let shape = self.shape();
+        let kind = self.kind();
+        // At most 2^48 samples, so no index overflows.
+        let _count = shape.sample_count();
+        let spelled = kind.in_bytes(layout.bytes);
+        let mut bytes = Vec::with_capacity(alloc, layout.length(shape) as usize)?;
+        let mut places = Places::new(shape, layout.order.order(shape));
+        let mut i = 0;
+        while let Some(place) = places.next() {
+            let sample = self.sample(place.z, place.y, place.x);
+            if !spelled.has(sample) {
+                return Err(Fault::SampleRange { index: i });
+            }
+            layout.append(kind, sample, &mut bytes)?;
+            i += 1;
+        }
+        Ok(bytes)
     }
 
     /// The cube's shape.

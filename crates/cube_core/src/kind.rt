@@ -1,6 +1,6 @@
 //! The kind of a cube's samples: signed or not, and of how many bits.
 
-ghost use Rattle.std.specs.Prelude.{◌≡◌, ◌↔◌, ◌<◌, ◌^◌, IsOk, IsTrue, pos, negsuc, ◌≤ℤ◌, ◌+ℤ◌};
+ghost use Rattle.std.specs.Prelude.{◌≡◌, ◌⊎◌, ◌↔◌, ◌*◌, ◌<◌, ◌^◌, IsOk, IsTrue, pos, negsuc, ◌≤ℤ◌, ◌+ℤ◌};
 ghost use Rattle.cube_core.specs.Shape.{InRange};
 ghost use Rattle.cube_core.specs.Kind.{kind_or_fault, smin, smax, smid, IsSample, sample_of};
 
@@ -94,6 +94,17 @@ impl Kind {
             0
         } else {
             1i32 << (self.bits - 1)
+        }
+    }
+
+    /// The kind of all numbers of one or two bytes.
+    pub(crate) fn in_bytes(self, bytes: u32) -> Kind
+        requires { (bytes ≡ 1) ⊎ (bytes ≡ 2) }
+        ensures { result ≡ record { signed = self.signed; bits = 8 * bytes } }
+    {
+        Kind {
+            signed: self.signed,
+            bits: 8 * bytes,
         }
     }
 

@@ -5,9 +5,11 @@ pub mod cube;
 pub mod cursor;
 pub mod fault;
 pub mod kind;
+pub mod laws;
 pub mod layout;
 pub mod order;
 mod raw;
 pub mod shape;
 #[cfg(test)]
 mod tests;
+pub mod worked;

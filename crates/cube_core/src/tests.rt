@@ -1,10 +1,12 @@
-//! Orders, layouts and refusals at values from outside, and what each fault prints.
+//! Orders, layouts and refusals at values from outside.
 
 ghost use Rattle.std.specs.Prelude.{◌≡◌};
+ghost use Rattle.cube_core.specs.Layout.{IsLayout};
+ghost use Rattle.cube_core.specs.Order.{IsOrder};
 
 use crate::cube::Cube;
 use crate::cursor::Places;
-use crate::fault::{Fault, Field, Rule};
+use crate::fault::{Fault, Field};
 use crate::kind::Kind;
 use crate::layout::{Layout, RawOrder};
 use crate::order::{Order, Place, index_of, place_at};
@@ -50,6 +52,36 @@ fn places_of_three_bands_two_a_group(rt: HostRuntime) {
         index_of(&shape, Order::Bi(2), Place { z: 2, y: 0, x: 1 }),
         5
     );
+}
+
+/// Goes through an order by the walk, and finds each place by its item and each item by its place.
+fn walk_through(rt: &impl Abort, shape: Shape, order: Order)
+    requires { IsOrder shape order }
+{
+    let mut i = 0;
+    for place in Places::new(shape, order) {
+        assert!(rt; i < shape.sample_count());
+        assert_eq!(rt; place_at(&shape, order, i), place);
+        assert!(rt; place.z < shape.bands());
+        assert!(rt; place.y < shape.rows());
+        assert!(rt; place.x < shape.columns());
+        assert_eq!(rt; index_of(&shape, order, place), i);
+        i += 1;
+    }
+    assert_eq!(rt; i, shape.sample_count());
+}
+
+#[test]
+fn walks_through_shapes_of_one_column_row_or_band(rt: HostRuntime) {
+    for (columns, rows, bands) in [(1, 3, 5), (3, 1, 5), (3, 2, 1), (2, 3, 5)] {
+        let shape = shape_of(&rt, columns, rows, bands);
+        walk_through(&rt, shape, Order::Bsq);
+        for depth in [1, 2, bands] {
+            if 1 <= depth && depth <= bands {
+                walk_through(&rt, shape, Order::Bi(depth));
+            }
+        }
+    }
 }
 
 #[test]
@@ -145,6 +177,8 @@ fn each_layout_is_read_to_one_cube(rt: HostRuntime) -> Result<(), Fail> {
                 little,
             };
             let cube = Cube::from_raw(rt.alloc(), shape, kind, layout, &bytes)?;
+            let again = cube.to_raw(rt.alloc(), layout)?;
+            assert_eq!(rt; again.as_slice(), bytes.as_slice());
             let mut i = 0;
             for place in Places::new(shape, Order::Bsq) {
                 assert!(rt; place.z < 3);
@@ -160,57 +194,87 @@ fn each_layout_is_read_to_one_cube(rt: HostRuntime) -> Result<(), Fail> {
     Ok(())
 }
 
-#[test]
-fn each_fault_prints_number_name_and_values(rt: HostRuntime) -> Result<(), Fail> {
-    let lines = [
-        (Fault::ShortHeader, "1 ShortHeader"),
-        (Fault::Reserved { bit: 95 }, "2 Reserved 95"),
-        (
-            Fault::FieldRange {
-                field: Field::DynamicRange,
-                value: 1,
-            },
-            "3 FieldRange DynamicRange 1",
-        ),
-        (
-            Fault::FieldRange {
-                field: Field::VMin,
-                value: -7,
-            },
-            "3 FieldRange VMin -7",
-        ),
-        (
-            Fault::Disagree {
-                rule: Rule::StartConstant,
-            },
-            "4 Disagree StartConstant",
-        ),
-        (Fault::TableElsewhere, "5 TableElsewhere"),
-        (Fault::Truncated { bit: 160 }, "6 Truncated 160"),
-        (Fault::BadCode { place: 1 }, "7 BadCode 1"),
-        (Fault::BadOption { block: 2 }, "8 BadOption 2"),
-        (Fault::RunPastSegment { block: 3 }, "9 RunPastSegment 3"),
-        (Fault::BadFill, "10 BadFill"),
-        (Fault::TooLong { bits: 12 }, "11 TooLong 12"),
-        (Fault::WantOfMemory, "12 WantOfMemory"),
-        (Fault::SampleRange { index: 0 }, "13 SampleRange 0"),
-        (Fault::RawLength { wanted: 2, had: 1 }, "14 RawLength 2 1"),
-        (Fault::BadDeal { band: 1 }, "15 BadDeal 1"),
-        (Fault::SpawnRefused, "16 SpawnRefused"),
-        (
-            Fault::Stopped {
-                predictor: 0,
-                sent: 2,
-            },
-            "17 Stopped 0 2",
-        ),
-        (Fault::Read, "18 Read"),
-        (Fault::Write { written: 0 }, "19 Write 0"),
-        (Fault::Usage, "20 Usage"),
-    ];
-    for (fault, line) in lines {
-        let printed = format!(in rt.alloc(); "{fault}")?;
-        assert_eq!(rt; printed.as_str(), line);
+/// A layout of one byte a sample, or of two.
+fn layout_of(order: RawOrder, wide: bool, little: bool) -> Layout
+    ensures { IsLayout result }
+{
+    if wide {
+        Layout {
+            order,
+            bytes: 2,
+            little,
+        }
+    } else {
+        Layout {
+            order,
+            bytes: 1,
+            little,
+        }
     }
+}
+
+/// Reads bytes as a cube, writes it in a layout, reads that and writes it as the bytes were.
+fn there_and_back(
+    rt: &impl Abort,
+    alloc: Global,
+    shape: Shape,
+    layout: Layout,
+    bytes: &[u8],
+) -> Result<Vec<u8>, Fault>
+    requires { IsLayout layout }
+{
+    let plain = layout_of(RawOrder::Bsq, false, false);
+    let kind = Kind::new(true, 8).expect(rt, "a kind");
+    let cube = Cube::from_raw(alloc, shape, kind, plain, bytes)?;
+    let raw = cube.to_raw(alloc, layout)?;
+    let again = Cube::from_raw(alloc, shape, kind, layout, &raw)?;
+    again.to_raw(alloc, plain)
+}
+
+#[test]
+fn each_layout_is_written_and_read_in_each_shape(rt: HostRuntime) -> Result<(), Fail> {
+    let bytes = [
+        0x00u8, 0x01, 0x7F, 0x80, 0xFF, 0x10, 0x90, 0xA5, 0x5A, 0x81, 0x7E, 0xFE,
+    ];
+    for (columns, rows, bands) in [(1, 3, 4), (4, 1, 3), (4, 3, 1), (2, 2, 3)] {
+        let shape = shape_of(&rt, columns, rows, bands);
+        for order in [RawOrder::Bsq, RawOrder::Bil, RawOrder::Bip] {
+            for (wide, little) in [(false, false), (true, false), (true, true)] {
+                let layout = layout_of(order, wide, little);
+                let back = there_and_back(&rt, rt.alloc(), shape, layout, &bytes)?;
+                assert_eq!(rt; back.as_slice(), bytes.as_slice());
+            }
+        }
+    }
+    Ok(())
+}
+
+/// The raw bytes of a lone sample.
+fn lone_bytes(
+    rt: &impl Abort,
+    alloc: Global,
+    kind: Kind,
+    sample: i32,
+    layout: Layout,
+) -> Result<Vec<u8>, Fault>
+    requires { IsLayout layout }
+{
+    assert!(rt; kind.smin() <= sample);
+    assert!(rt; sample <= kind.smax());
+    let mut cube = Cube::new(alloc, shape_of(rt, 1, 1, 1), kind)?;
+    cube.set(0, 0, 0, sample);
+    cube.to_raw(alloc, layout)
+}
+
+#[test]
+fn lone_samples_as_raw_bytes(rt: HostRuntime) -> Result<(), Fail> {
+    let nine = Kind::new(false, 9).expect(&rt, "a kind");
+    let narrow = layout_of(RawOrder::Bsq, false, false);
+    let refused = lone_bytes(&rt, rt.alloc(), nine, 256, narrow);
+    assert_eq!(rt; refused.err(), Some(Fault::SampleRange { index: 0 }));
+    let sixteen = Kind::new(true, 16).expect(&rt, "a kind");
+    let wide = layout_of(RawOrder::Bsq, true, false);
+    let bytes = lone_bytes(&rt, rt.alloc(), sixteen, -32_768, wide)?;
+    assert_eq!(rt; bytes.as_slice(), [0x80u8, 0x00].as_slice());
     Ok(())
 }
