@@ -5,10 +5,9 @@ use ccsds_command::report::{fault_line, status_of};
 use ccsds_command::show::run_show;
 use ccsds_command::stream::{ReaderSource, WriterSink};
 use cube_core::fault::Fault;
-use std::env;
-use std::io;
 use std::io::Write;
 use std::process::ExitCode;
+use std::{env, io};
 
 fn main(rt: HostRuntime) -> ExitCode {
     match run(&rt) {

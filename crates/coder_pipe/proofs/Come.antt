@@ -50,8 +50,10 @@ index_increases s (Bi depth) p q lawful a b e lt =
     let here = index_in_group s depth (p.z / depth * depth) p refl in
     let there : place_index s (Bi depth) q ≡ (q.y * s.bands + first) * s.columns + (q.x * m + (p.z - first)) = index_in_group s depth (p.z / depth * depth) q (ap (λ n. n / depth * depth) e) ∙ ap (λ z. (q.y * s.bands + first) * s.columns + (q.x * m + (z - first))) (sym e) in
     let case : (p.y < q.y) ⊎ ((p.y ≡ q.y) × (p.x < q.x)) = by_time s.columns p.y p.x q.y q.x a.column b.column lt in
-    rw (here, there) (elim case [ inl h ↦ later_row s depth first m (p.z - first) p.y p.x q.y q.x (omega arith) (omega (arith, a.band)) (omega (arith, a.band)) a.column h
-      | inr (h, k) ↦ subst (λ y. (p.y * s.bands + first) * s.columns + (p.x * m + (p.z - first)) < (y * s.bands + first) * s.columns + (q.x * m + (p.z - first))) h (later_column s first m (p.z - first) p.y p.x q.x (omega (arith, a.band)) k) ])
+    rw (here, there) (elim case [
+      | inl h ↦ later_row s depth first m (p.z - first) p.y p.x q.y q.x (omega arith) (omega (arith, a.band)) (omega (arith, a.band)) a.column h
+      | inr (h, k) ↦ subst (λ y. (p.y * s.bands + first) * s.columns + (p.x * m + (p.z - first)) < (y * s.bands + first) * s.columns + (q.x * m + (p.z - first))) h (later_column s first m (p.z - first) p.y p.x q.x (omega (arith, a.band)) k)
+    ])
 
 -- ---- a band comes along
 
@@ -85,7 +87,6 @@ come_here s o z i t p lawful come stands e = elim (cases_order (time_of s p) t) 
         let k = (come there.0 there.1 (there.2 ∙ e)).0 (omega (arith, g, stands.index)) in
         omega (arith, k, there.3)
 
-
 pub come_step : (s : Sizes) (o : Order) (z i t : ℕ) (p : Place) → IsOrder s o → HasCome s o z i t → StandsAt s o p i → p.z ≡ z → HasCome s o z (i + 1) (t + 1)
 come_step s o z i t p lawful come stands e q place f = (forth, back)
   where
@@ -97,7 +98,6 @@ come_step s o z i t p lawful come stands e q place f = (forth, back)
 
     back : time_of s q < t + 1 → place_index s o q < i + 1
     back h = elim (cases_lt (time_of s q) t) [ inl lt ↦ (let g = (come q place f).1 lt in omega (arith, g)) | inr ge ↦ (let g = same_time s p q stands.place place (e ∙ sym f) (omega (arith, ge, h, here)) in omega (arith, ap (place_index s o) g, stands.index)) ]
-
 
 pub come_other : (s : Sizes) (o : Order) (z i t : ℕ) (p : Place) → IsOrder s o → HasCome s o z i t → StandsAt s o p i → p.z ≢ z → HasCome s o z (i + 1) t
 come_other s o z i t p lawful come stands apart q place f = (forth, back)

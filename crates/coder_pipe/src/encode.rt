@@ -80,5 +80,4 @@ fn put_fill(word: u32, writer: &mut BitWriter) -> Result<(), Fault>
 /// Says of bytes that they are packed from their bits, which holds of numbers below 256.
 fn know_packed(bytes: &[u8])
     ensures { bytes.now ≡ packed (bits_of_bytes bytes.now) }
-{
-}
+{}

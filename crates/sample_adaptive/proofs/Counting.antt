@@ -164,12 +164,15 @@ greatest_holds f (suc n) = by_test (f (suc n)) refl (greatest_holds f n)
   where
     by_test : (b : Bool) → f (suc n) ≡ b → IsGreatest f n (greatest f n) → IsGreatest f (suc n) (cond b (suc n) (greatest f n))
     by_test true is h = (omega arith, λ p. is, λ m le passes. le)
-    by_test false is h =
-        (omega (arith, h.0), h.1, λ m le passes.
+    by_test false is h = (
+      omega (arith, h.0),
+      h.1,
+      λ m le passes.
           elim (cases_lt n m) [
             | inl above ↦ (let e : m ≡ suc n = omega arith in absurd (not_both (f m) passes (ap f e ∙ is)))
             | inr below ↦ h.2 m below passes
-          ])
+          ],
+    )
 
 pub parameter_is_greatest : ParameterIsGreatest
 unfolding code_parameter

@@ -45,5 +45,4 @@ pub fn accumulator_bound()
 /// The code parameter is the greatest that the standard's condition allows.
 pub fn parameter_is_greatest()
     ensures { ParameterIsGreatest }
-{
-}
+{}

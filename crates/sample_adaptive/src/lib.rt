@@ -5,8 +5,7 @@ pub mod code_word;
 pub mod laws;
 pub mod statistics;
 pub mod stats;
-pub mod worked;
-pub mod worked_refusals;
-
 #[cfg(test)]
 mod tests;
+pub mod worked;
+pub mod worked_refusals;

@@ -69,7 +69,12 @@ fn params_of(rt: &impl Abort, s: Settings) -> Params
 }
 
 /// The body of a band's numbers, with the zeros that fill its last byte.
-fn written(rt: &impl Abort, alloc: Global, params: &Params, numbers: &[u16]) -> Result<Vec<u8>, Fault>
+fn written(
+    rt: &impl Abort,
+    alloc: Global,
+    params: &Params,
+    numbers: &[u16],
+) -> Result<Vec<u8>, Fault>
     requires lawful { AreForSamples params.now }
     requires bands { 1 ≤ params.now.shape.bands }
 {
@@ -86,7 +91,13 @@ fn written(rt: &impl Abort, alloc: Global, params: &Params, numbers: &[u16]) -> 
 }
 
 /// So many numbers of one band, and how many bits are left behind them.
-fn read(rt: &impl Abort, alloc: Global, params: &Params, bytes: &[u8], count: u64) -> Result<(Vec<u16>, u64), Fault>
+fn read(
+    rt: &impl Abort,
+    alloc: Global,
+    params: &Params,
+    bytes: &[u8],
+    count: u64,
+) -> Result<(Vec<u16>, u64), Fault>
     requires lawful { AreForSamples params.now }
     requires bands { 1 ≤ params.now.shape.bands }
 {
@@ -109,7 +120,9 @@ fn sample_numbers(alloc: Global, bits: u32, seed: u64) -> Result<Vec<u16>, Fault
     numbers.push(most)?;
     let mut state = seed;
     for t in 0..700u32 {
-        state = state.wrapping_mul(6_364_136_223_846_793_005).wrapping_add(1_442_695_040_888_963_407);
+        state = state
+            .wrapping_mul(6_364_136_223_846_793_005)
+            .wrapping_add(1_442_695_040_888_963_407);
         let some = ((state >> 48) & u64::from(most)) as u16;
         numbers.push(match t / 50 % 4 {
             0 => 0,
@@ -126,11 +139,23 @@ fn numbers_come_back(rt: HostRuntime) -> Result<(), Fail> {
     for bits in 2..17 {
         for constant in 0..bits - 1 {
             for (umax, gamma_star, gamma_zero) in [(8, 4, 1), (32, 9, 8), (8, 9, 1), (32, 4, 3)] {
-                let params = params_of(&rt, Settings { bits, umax, gamma_star, gamma_zero, constant });
+                let params = params_of(
+                    &rt,
+                    Settings {
+                        bits,
+                        umax,
+                        gamma_star,
+                        gamma_zero,
+                        constant,
+                    },
+                );
                 let numbers = sample_numbers(rt.alloc(), bits, u64::from(bits * 100 + constant))?;
                 let bytes = written(&rt, rt.alloc(), &params, &numbers)?;
                 let (back, left) = read(&rt, rt.alloc(), &params, &bytes, numbers.len() as u64)?;
-                assert!(rt; back.as_slice() == numbers.as_slice(), "at {bits} bits, k {constant}, {umax} {gamma_star} {gamma_zero}");
+                assert!(rt;
+                    back.as_slice() == numbers.as_slice(),
+                    "at {bits} bits, k {constant}, {umax} {gamma_star} {gamma_zero}"
+                );
                 assert!(rt; left < 8);
             }
         }
@@ -140,16 +165,37 @@ fn numbers_come_back(rt: HostRuntime) -> Result<(), Fail> {
 
 #[test]
 fn rescaling_rounds_up(rt: HostRuntime) -> Result<(), Fail> {
-    let params = params_of(&rt, Settings { bits: 8, umax: 16, gamma_star: 4, gamma_zero: 1, constant: 3 });
+    let params = params_of(
+        &rt,
+        Settings {
+            bits: 8,
+            umax: 16,
+            gamma_star: 4,
+            gamma_zero: 1,
+            constant: 3,
+        },
+    );
     let numbers = [0, 2, 0, 0, 0, 0, 0, 0, 0, 0, 0, 0, 0, 0, 0, 0];
     let bytes = written(&rt, rt.alloc(), &params, &numbers)?;
-    assert_eq!(rt; bytes.as_slice(), [0x00, 0xA8, 0x92, 0x55, 0x55, 0x50].as_slice());
+    assert_eq!(rt;
+        bytes.as_slice(),
+        [0x00, 0xA8, 0x92, 0x55, 0x55, 0x50].as_slice()
+    );
     Ok(())
 }
 
 #[test]
 fn escape(rt: HostRuntime) -> Result<(), Fail> {
-    let params = params_of(&rt, Settings { bits: 8, umax: 8, gamma_star: 6, gamma_zero: 1, constant: 0 });
+    let params = params_of(
+        &rt,
+        Settings {
+            bits: 8,
+            umax: 8,
+            gamma_star: 6,
+            gamma_zero: 1,
+            constant: 0,
+        },
+    );
     let bytes = written(&rt, rt.alloc(), &params, &[144, 19])?;
     assert_eq!(rt; bytes.as_slice(), [0x90, 0x00, 0x13].as_slice());
     Ok(())
@@ -172,15 +218,39 @@ fn refusal_of(rt: &impl Abort, alloc: Global, s: Settings, bytes: &[u8]) -> Resu
 
 #[test]
 fn bad_codes(rt: HostRuntime) -> Result<(), Fail> {
-    let two_bits = Settings { bits: 2, umax: 8, gamma_star: 6, gamma_zero: 1, constant: 0 };
-    let eight_bits = Settings { bits: 8, umax: 8, gamma_star: 6, gamma_zero: 1, constant: 0 };
+    let two_bits = Settings {
+        bits: 2,
+        umax: 8,
+        gamma_star: 6,
+        gamma_zero: 1,
+        constant: 0,
+    };
+    let eight_bits = Settings {
+        bits: 8,
+        umax: 8,
+        gamma_star: 6,
+        gamma_zero: 1,
+        constant: 0,
+    };
     // 00, then 00001: four zeros and a one spell 4, which two bits do not hold.
-    assert_eq!(rt; refusal_of(&rt, rt.alloc(), two_bits, &[0b0000_0010])?, Fault::BadCode { place: 1 });
+    assert_eq!(rt;
+        refusal_of(&rt, rt.alloc(), two_bits, &[0b0000_0010])?,
+        Fault::BadCode { place: 1 }
+    );
     // 00, then 0000000011: 3 behind an escape that it does not need.
-    assert_eq!(rt; refusal_of(&rt, rt.alloc(), two_bits, &[0, 0b0011_0000])?, Fault::BadCode { place: 1 });
+    assert_eq!(rt;
+        refusal_of(&rt, rt.alloc(), two_bits, &[0, 0b0011_0000])?,
+        Fault::BadCode { place: 1 }
+    );
     // 144, then eight zeros and 3 in eight bits.
-    assert_eq!(rt; refusal_of(&rt, rt.alloc(), eight_bits, &[0x90, 0x00, 0x03])?, Fault::BadCode { place: 1 });
+    assert_eq!(rt;
+        refusal_of(&rt, rt.alloc(), eight_bits, &[0x90, 0x00, 0x03])?,
+        Fault::BadCode { place: 1 }
+    );
     // 144, and then seven of the eight zeros of an escape.
-    assert_eq!(rt; refusal_of(&rt, rt.alloc(), eight_bits, &[0x90])?, Fault::Truncated { bit: 8 });
+    assert_eq!(rt;
+        refusal_of(&rt, rt.alloc(), eight_bits, &[0x90])?,
+        Fault::Truncated { bit: 8 }
+    );
     Ok(())
 }

@@ -5,14 +5,14 @@ use Rattle.sample_adaptive.proofs.tests.params_of.Goals as goal
 pub returns-clause-lawful : goal.returns-clause-lawful
 unfolding constant_of
 returns-clause-lawful g c = record {
-      coder = tt;
-      lawful = record {
-        bits = (omega arith, omega arith);
-        umax = (omega arith, omega arith);
-        gamma_star = (omega arith, omega arith);
-        gamma_zero = (omega arith, omega arith);
-        order = omega arith;
-        entries = tt;
-        constants = λ z lt. omega arith;
-      };
-    }
+  coder = tt;
+  lawful = record {
+    bits = (omega arith, omega arith);
+    umax = (omega arith, omega arith);
+    gamma_star = (omega arith, omega arith);
+    gamma_zero = (omega arith, omega arith);
+    order = omega arith;
+    entries = tt;
+    constants = λ z lt. omega arith;
+  };
+}
