@@ -1,11 +1,12 @@
 -- The numbers of the worked examples.
-use Rattle.std.specs.Prelude.{ℕ, Bool, ℤ, [], ◌∷◌}
+use Rattle.std.specs.Prelude.{ℕ, Bool, false, ℤ, pos, [], ◌∷◌, map}
 use Rattle.cube_core.specs.declared.layout.Layout.{Layout}
 use Rattle.cube_core.specs.declared.layout.RawOrder.{RawOrder}
 use Rattle.cube_core.specs.declared.order.Place.{Place}
 use Rattle.cube_core.specs.Shape.{Sizes}
 use Rattle.cube_core.specs.Kind.{SampleKind}
 use Rattle.cube_core.specs.Image.{Image}
+use Rattle.cube_core.specs.Order.{upto}
 
 -- columns, rows and bands
 abbrev pub sizes : ℕ → ℕ → ℕ → Sizes
@@ -24,3 +25,7 @@ layout order bytes little = record { order = order; bytes = bytes; little = litt
 -- a lone sample
 abbrev pub lone : SampleKind → ℤ → Image
 lone k v = record { shape = sizes 1 1 1; kind = k; samples = v ∷ [] }
+
+-- two bands of two rows of three columns, whose samples are the numbers of their places in the list
+abbrev pub numbered : Image
+numbered = record { shape = sizes 3 2 2; kind = kind false 8; samples = map pos (upto 12) }

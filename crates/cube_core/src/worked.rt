@@ -9,7 +9,7 @@ ghost use Rattle.cube_core.specs.declared.order.Order.TheVariants.{Bsq, Bi};
 ghost use Rattle.cube_core.specs.Kind.{kind_or_fault, smin, smax, smid};
 ghost use Rattle.cube_core.specs.Layout.{raw_value, raw_bytes};
 ghost use Rattle.cube_core.specs.Order.{places, place_index};
-ghost use Rattle.cube_core.specs.Rows.{sizes, place, kind, layout, lone};
+ghost use Rattle.cube_core.specs.Rows.{sizes, place, kind, layout, lone, numbered};
 ghost use Rattle.cube_core.specs.Shape.{sizes_or_fault};
 
 /// Three bands, two a group: the last group has one.
@@ -52,4 +52,11 @@ pub fn low_byte_first()
 pub fn high_byte_first()
     ensures written { raw_bytes (lone (kind true 16) (neg_ℤ (pos 32768))) (layout raw.Bsq 2 false) ≡ 0x80 ∷ 0x00 ∷ [] }
     ensures read { raw_value (layout raw.Bsq 2 false) (kind true 16) (0x80 ∷ 0x00 ∷ []) ≡ neg_ℤ (pos 32768) }
+{}
+
+/// The samples of two bands of two rows of three columns, in each order.
+pub fn layouts_of_a_cube()
+    ensures sequential { raw_bytes numbered (layout raw.Bsq 1 false) ≡ 0 ∷ 1 ∷ 2 ∷ 3 ∷ 4 ∷ 5 ∷ 6 ∷ 7 ∷ 8 ∷ 9 ∷ 10 ∷ 11 ∷ [] }
+    ensures by_line { raw_bytes numbered (layout raw.Bil 1 false) ≡ 0 ∷ 1 ∷ 2 ∷ 6 ∷ 7 ∷ 8 ∷ 3 ∷ 4 ∷ 5 ∷ 9 ∷ 10 ∷ 11 ∷ [] }
+    ensures by_pixel { raw_bytes numbered (layout raw.Bip 1 false) ≡ 0 ∷ 6 ∷ 1 ∷ 7 ∷ 2 ∷ 8 ∷ 3 ∷ 9 ∷ 4 ∷ 10 ∷ 5 ∷ 11 ∷ [] }
 {}

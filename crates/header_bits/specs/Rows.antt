@@ -1,5 +1,5 @@
 -- Parameters and headers of the worked examples.
-use Rattle.std.specs.Prelude.{ℕ, true, false, Bool, List, ℤ, pos, negsuc}
+use Rattle.std.specs.Prelude.{ℕ, true, false, Bool, List, ℤ, pos, negsuc, replicate}
 use Rattle.cube_core.specs.declared.order.Order.{Order}
 use Rattle.cube_core.specs.declared.order.Order.TheVariants.{Bsq}
 use Rattle.cube_core.specs.Shape.{Sizes}
@@ -60,6 +60,10 @@ narrow_block depth restricted = record (block 1 1 1 restricted 1) { kind = unsig
 
 abbrev pub with_weights : ℕ → ℕ → ℕ → ℕ → ℕ → List ℤ → Params
 with_weights nx ny nz bands q entries = record (common nx ny nz) { previous = bands; start = Table q entries }
+
+-- so many weights of zero, where two bands in full mode have seven
+abbrev pub full_weights : ℕ → Params
+full_weights n = record (with_weights 2 2 2 1 3 (replicate n (pos 0))) { reduced = false; column = false }
 
 abbrev pub with_constants : ℕ → ℕ → ℕ → List ℕ → Params
 with_constants nx ny nz entries = record (common nx ny nz) { coder = Sample 16 6 1 (Each entries) }

@@ -75,7 +75,8 @@ impl BitWriter {
     /// Appends the `n` bits of a number, the most significant first.
     ///
     /// `n` is at most 64, and the number below 2^n. A push within the room succeeds. After
-    /// `WantOfMemory` the bits are as before, and so is the room.
+    /// `WantOfMemory`, which comes too where the bits would be more than 2^63, the bits are as before,
+    /// and the room is no smaller.
     pub fn push(&mut self, bits: u64, n: u32) -> Result<(), Fault>
         requires few { n ≤ 64 }
         requires below { bits < 2 ^ n }

@@ -6,10 +6,12 @@ ghost use Rattle.cube_core.specs.declared.fault.Fault.TheVariants.{FieldRange, D
 ghost use Rattle.cube_core.specs.declared.fault.Field.TheVariants as field;
 ghost use Rattle.cube_core.specs.declared.fault.Rule.TheVariants as rule;
 ghost use Rattle.cube_core.specs.declared.order.Order.TheVariants.{Bi};
+ghost use Rattle.header_bits.specs.declared.params.Coder.TheVariants.{Sample};
+ghost use Rattle.header_bits.specs.declared.params.CountStart.TheVariants.{Constant};
 ghost use Rattle.header_bits.specs.Parts.{fine};
 ghost use Rattle.header_bits.specs.Reach.{here, all};
 ghost use Rattle.header_bits.specs.Lawful.{params_fault};
-ghost use Rattle.header_bits.specs.Rows.{common, narrow_block, with_weights, with_constants, with_sample_coder, with_exponents, with_register};
+ghost use Rattle.header_bits.specs.Rows.{common, narrow_block, with_weights, with_constants, with_sample_coder, with_exponents, with_register, full_weights};
 
 /// The parameters that the examples share.
 pub fn common_parameters()
@@ -29,6 +31,11 @@ pub fn depth_over_bands()
 /// A register below the 37 bits that sixteen-bit samples and 19 fractional bits ask for.
 pub fn register_too_small()
     ensures { params_fault here (with_register 36) ≡ Err (Disagree rule.RegisterTooSmall) }
+{}
+
+/// The least register for samples of sixteen bits and the most weight resolution.
+pub fn register_just_wide_enough()
+    ensures { params_fault here (with_register 37) ≡ fine }
 {}
 
 /// A register of 65 bits.
@@ -99,6 +106,17 @@ pub fn weight_out_of_bits()
 /// A table with its one weight.
 pub fn weights_in_full()
     ensures { params_fault all (with_weights 1 2 2 1 3 (negsuc 0 ∷ [])) ≡ fine }
+{}
+
+/// Full mode has three weights more in each band.
+pub fn weights_of_full_mode()
+    ensures seven { params_fault all (full_weights 7) ≡ fine }
+    ensures six { params_fault all (full_weights 6) ≡ Err (Disagree rule.WeightTableLength) }
+{}
+
+/// The weight start is judged before the coder.
+pub fn weights_are_judged_before_the_coder()
+    ensures { params_fault here (record (with_weights 1 2 2 1 3 (negsuc 0 ∷ [])) { coder = Sample 7 6 1 (Constant 3) }) ≡ Err (FieldRange field.WeightStart (pos 1)) }
 {}
 
 /// A table without the constant that it needs.

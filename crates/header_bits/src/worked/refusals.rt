@@ -8,7 +8,7 @@ ghost use Rattle.cube_core.specs.declared.fault.Rule.TheVariants as rule;
 ghost use Rattle.header_bits.specs.Bits.{bits_of};
 ghost use Rattle.header_bits.specs.Reach.{here};
 ghost use Rattle.header_bits.specs.Header.{header_at};
-ghost use Rattle.header_bits.specs.Rows.{common, header};
+ghost use Rattle.header_bits.specs.Rows.{common, with_register, with_sample_coder, header};
 
 /// Any bits may stand in the place of a depth that isn't there.
 pub fn any_depth_under_band_sequential_order()
@@ -93,4 +93,16 @@ pub fn reserved_bit_of_the_block_part()
 /// The restricted set of options, where it isn't taken.
 pub fn restricted_set_is_not_taken()
     ensures { header_at here (header 0x000001000100011100000C0002A09259001001) ≡ Err (FieldRange field.Restricted (pos 1)) }
+{}
+
+/// A register that is a bit too small for the sums, and the least that is wide enough.
+pub fn least_register()
+    ensures refused { header_at here (header 0x00000100010001010000080002A4F259008226) ≡ Err (Disagree rule.RegisterTooSmall) }
+    ensures read { header_at here (header 0x00000100010001010000080002A5F259008226) ≡ Ok (with_register 37, []) }
+{}
+
+/// A counter that starts where it is rescaled, and one below.
+pub fn counter_starts_where_it_is_rescaled()
+    ensures refused { header_at here (header 0x00000100020001110000080002A092590082C6) ≡ Err (Disagree rule.CounterOrder) }
+    ensures read { header_at here (header 0x00000100020001110000080002A092590082A6) ≡ Ok (with_sample_coder 16 6 5 3, []) }
 {}
