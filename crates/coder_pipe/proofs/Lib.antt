@@ -2,3 +2,4 @@ pub mod Come
 pub mod ForSamples
 pub mod Packed
 pub mod Walking
+pub mod Weaves

@@ -2,3 +2,4 @@ pub mod Everything
 pub mod File
 pub mod Rows
 pub mod Walked
+pub mod Weave

@@ -1,13 +1,13 @@
 -- Cubes and files of the worked examples.
 use Rattle.std.specs.Prelude.{ℕ, ◌*◌, List, [], ◌∷◌, map, replicate, Bool, true, false, ℤ, pos, negsuc}
-use Rattle.cube_core.specs.declared.order.Order.TheVariants.{Bsq, Bi}
+use Rattle.cube_core.specs.declared.order.Order.TheVariants.{Bi}
 use Rattle.cube_core.specs.Image.{Image}
 use Rattle.header_bits.specs.declared.params.Params.{Params}
 use Rattle.header_bits.specs.declared.params.WeightStart.TheVariants.{Table}
 use Rattle.header_bits.specs.declared.params.Coder.TheVariants.{Sample, Block}
 use Rattle.header_bits.specs.declared.params.CountStart.TheVariants.{Constant, Each}
 use Rattle.header_bits.specs.Bits.{bits_of}
-use Rattle.header_bits.specs.Rows.{common, sizes, unsigned}
+use Rattle.header_bits.specs.Rows.{common, unsigned}
 use Rattle.coder_pipe.specs.File.{packed, file_of}
 
 -- a cube of the parameters' shape and kind
@@ -28,6 +28,10 @@ one_below nx ny nz = record (common nx ny nz) { previous = 1 }
 -- coarse weights, whose steps have one exponent
 abbrev pub coarse_steps : ℕ → ℕ → ℕ → ℤ → Params
 coarse_steps nx ny nz exponent = record (one_below nx ny nz) { omega = 4; vmin = exponent; vmax = exponent }
+
+-- coarse weights, and steps whose exponent grows over its whole range
+abbrev pub growing_steps : Params
+growing_steps = record (one_below 8 3 2) { omega = 4; interval_log = 4; vmin = negsuc 5; vmax = pos 9 }
 
 abbrev pub signed_sixteen : Params
 signed_sixteen = record (common 1 1 1) { kind = record { signed = true; bits = 16 } }

@@ -3,4 +3,6 @@
 
 mod bands;
 pub mod encode;
+pub mod laws;
 pub mod worked;
+pub mod worked_parts;

@@ -1,10 +1,10 @@
 //! Worked files: a cube, its parameters, and the bytes of its file.
 #![tactic(auto, unfolding(crate::specs::Everything::everything))]
 
-ghost use Rattle.std.specs.Prelude.{◌≡◌, ◌∷◌, [], pos, negsuc, true, false};
+ghost use Rattle.std.specs.Prelude.{◌≡◌, ◌∷◌, [], replicate, pos, negsuc, true, false};
 ghost use Rattle.header_bits.specs.Rows.{common};
 ghost use Rattle.coder_pipe.specs.File.{file_of, file_of_residuals};
-ghost use Rattle.coder_pipe.specs.Rows.{bytes, file, cube, one_below, coarse_steps, signed_sixteen, short_limit, four_byte_words, register_of, two_below, table_of, coarse_table, with_constants, block, few_bits, of_cube_a, samples_a, interleaved_a, blocks_a, middles};
+ghost use Rattle.coder_pipe.specs.Rows.{bytes, file, cube, one_below, coarse_steps, growing_steps, signed_sixteen, short_limit, four_byte_words, register_of, two_below, table_of, coarse_table, with_constants, block, few_bits, of_cube_a, samples_a, interleaved_a, blocks_a, middles};
 
 /// One sample stands in its bits.
 pub fn one_sample()
@@ -174,4 +174,14 @@ pub fn greatest_weight()
 /// A scaled prediction stays at its greatest value.
 pub fn greatest_prediction()
     ensures { file (coarse_steps 1 3 2 (negsuc 5)) (79 ∷ 255 ∷ 73 ∷ 228 ∷ 255 ∷ 106 ∷ []) ≡ bytes 29 0x00000100030002110000080006A00200008226610000FF3B72400004A8 }
+{}
+
+/// The exponent of the weight steps grows from the second row on.
+pub fn exponent_grows_from_the_second_row()
+    ensures { file growing_steps (174 ∷ 86 ∷ 0 ∷ 255 ∷ 112 ∷ 156 ∷ 0 ∷ 0 ∷ 255 ∷ 255 ∷ 0 ∷ 255 ∷ 255 ∷ 255 ∷ 255 ∷ 0 ∷ 255 ∷ 106 ∷ 0 ∷ 0 ∷ 0 ∷ 237 ∷ 255 ∷ 81 ∷ 154 ∷ 255 ∷ 255 ∷ 255 ∷ 97 ∷ 82 ∷ 255 ∷ 255 ∷ 215 ∷ 144 ∷ 0 ∷ 247 ∷ 255 ∷ 255 ∷ 216 ∷ 255 ∷ 255 ∷ 255 ∷ 130 ∷ 255 ∷ 255 ∷ 255 ∷ 255 ∷ 255 ∷ []) ≡ bytes 73 0x00000800030002110000080006A0000F0082265C0000A9360FE4F571FE01847F81007F1147F8100AB007F1FE94051270000FF81003E36C081A0A03FC8803FE7809F00843FC026A68FE }
+{}
+
+/// Twelve residuals of zero.
+pub fn twelve_zeros()
+    ensures { file_of_residuals (replicate 12 0) (interleaved_a 2) ≡ bytes 26 0x0000030002000210000208000420925900822600008888924900 }
 {}

@@ -1,0 +1,5 @@
+use Rattle.coder_pipe.proofs.Weaves.{weave_of_parts}
+use Rattle.coder_pipe.proofs.laws.weave_of_parts.Goals as goal
+
+pub returns : goal.returns
+returns c = weave_of_parts
