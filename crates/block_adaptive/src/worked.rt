@@ -64,6 +64,11 @@ pub fn uncoded_first()
     ensures { filled_up (chosen_block_body (plain 2) 8 1 (1 ∷ 1 ∷ 1 ∷ 1 ∷ 1 ∷ 1 ∷ 1 ∷ 1 ∷ [])) ≡ bits_of_bytes (0xEA ∷ 0xAA ∷ 0xA0 ∷ []) }
 {}
 
+/// The restricted set at three bits has the identifiers of four: k = 0 comes before k = 1, both at 18 bits.
+pub fn three_bits_restricted()
+    ensures { filled_up (chosen_block_body (restricted 3) 8 1 (1 ∷ 1 ∷ 1 ∷ 1 ∷ 1 ∷ 1 ∷ 1 ∷ 1 ∷ [])) ≡ bits_of_bytes (0x55 ∷ 0x55 ∷ 0x40 ∷ []) }
+{}
+
 /// The unrestricted set at four bits: the second extension.
 pub fn four_bits()
     ensures { filled_up (chosen_block_body (plain 4) 8 1 (2 ∷ [])) ≡ bits_of_bytes (0x11 ∷ 0xE0 ∷ []) }

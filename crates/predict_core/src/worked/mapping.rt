@@ -1,4 +1,5 @@
 //! The mapping of samples to residuals.
+#![tactic(auto, unfolding(crate::specs::Everything::everything))]
 
 ghost use Rattle.std.specs.Prelude.{◌≡◌, pos};
 ghost use Rattle.predict_core.specs.Residual.{mapped};

@@ -1,4 +1,5 @@
 //! Residuals of whole cubes.
+#![tactic(auto, unfolding(crate::specs::Everything::everything))]
 
 ghost use Rattle.std.specs.Prelude.{◌≡◌, ◌∷◌, [], pos, negsuc, neg_ℤ};
 ghost use Rattle.predict_core.specs.Residual.{residuals};

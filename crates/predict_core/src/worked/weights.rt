@@ -1,11 +1,13 @@
 //! Weights: their start, their steps and their bounds.
+#![tactic(auto, unfolding(crate::specs::Everything::everything))]
 
 ghost use Rattle.std.specs.Prelude.{◌≡◌, ◌∷◌, [], pos, negsuc, neg_ℤ};
 ghost use Rattle.predict_core.specs.Predictor.{predictor_of};
-ghost use Rattle.predict_core.specs.Weights.{table_weights, usual_weights};
+ghost use Rattle.predict_core.specs.Differences.{directional_differences};
+ghost use Rattle.predict_core.specs.Weights.{table_weights, usual_weights, step};
 ghost use Rattle.predict_core.specs.Prediction.{weight_vector};
 ghost use Rattle.predict_core.specs.Residual.{residuals};
-ghost use Rattle.predict_core.specs.Rows.{cube, one_below, coarse_steps, coarse_table, coarse, growing_steps, full};
+ghost use Rattle.predict_core.specs.Rows.{cube, cube_a, one_below, coarse_steps, coarse_table, coarse, growing_steps, full};
 ghost use Rattle.header_bits.specs.declared.params.WeightStart.TheVariants.{Table};
 
 /// The first place of a band moves no weight.
@@ -66,4 +68,22 @@ pub fn table_in_full_mode()
 /// The usual weights: seven eighths, and an eighth of the one before.
 pub fn usual_weights_of_three_bands()
     ensures { usual_weights (predictor_of (record full { previous = 3 })) 5 ≡ pos 0 ∷ pos 0 ∷ pos 0 ∷ pos 7168 ∷ pos 896 ∷ pos 112 ∷ [] }
+{}
+
+/// The directional differences stand in the order north, west, north-west; in the first column the north one stands for all.
+pub fn directions_in_order()
+    ensures inside { directional_differences (predictor_of full) cube_a 0 1 1 ≡ pos 0 ∷ negsuc 3 ∷ negsuc 7 ∷ [] }
+    ensures first_column { directional_differences (predictor_of full) cube_a 0 1 0 ≡ negsuc 3 ∷ negsuc 3 ∷ negsuc 3 ∷ [] }
+    ensures first_row { directional_differences (predictor_of full) cube_a 0 0 1 ≡ pos 0 ∷ pos 0 ∷ pos 0 ∷ [] }
+{}
+
+/// A step is rounded to the nearest number, a half upwards; below exponent -1 it is a multiple.
+pub fn steps_are_rounded()
+    ensures half { step (pos 0) (pos 1) ≡ pos 1 }
+    ensures less_than_half { step (pos 2) (pos 3) ≡ pos 0 }
+    ensures half_of_eight { step (pos 2) (pos 4) ≡ pos 1 }
+    ensures negative_half { step (pos 2) (negsuc 3) ≡ pos 0 }
+    ensures beyond_negative_half { step (pos 2) (negsuc 4) ≡ negsuc 0 }
+    ensures whole { step (negsuc 0) (pos 3) ≡ pos 3 }
+    ensures twice { step (negsuc 1) (pos 3) ≡ pos 6 }
 {}

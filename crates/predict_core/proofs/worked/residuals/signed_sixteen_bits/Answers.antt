@@ -1,7 +1,0 @@
-use Rattle.std.proofs.Common.{refl}
-use Rattle.predict_core.specs.Everything.{everything}
-use Rattle.predict_core.proofs.worked.residuals.signed_sixteen_bits.Goals as goal
-
-pub returns : goal.returns
-unfolding everything
-returns c = refl
