@@ -1,3 +1,4 @@
+pub mod Coders
 pub mod Come
 pub mod ForSamples
 pub mod Packed

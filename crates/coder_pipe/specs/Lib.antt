@@ -1,3 +1,4 @@
+pub mod Coding
 pub mod Everything
 pub mod File
 pub mod Rows

@@ -1,13 +1,13 @@
 -- Cubes and files of the worked examples.
-use Rattle.std.specs.Prelude.{ℕ, ◌*◌, List, [], ◌∷◌, map, replicate, Bool, true, false, ℤ, pos, negsuc}
-use Rattle.cube_core.specs.declared.order.Order.TheVariants.{Bsq, Bi}
+use Rattle.std.specs.Prelude.{ℕ, ◌*◌, List, [], ◌∷◌, map, replicate, Bool, true, false, ℤ, pos}
+use Rattle.cube_core.specs.declared.order.Order.TheVariants.{Bi}
 use Rattle.cube_core.specs.Image.{Image}
 use Rattle.header_bits.specs.declared.params.Params.{Params}
 use Rattle.header_bits.specs.declared.params.WeightStart.TheVariants.{Table}
 use Rattle.header_bits.specs.declared.params.Coder.TheVariants.{Sample, Block}
 use Rattle.header_bits.specs.declared.params.CountStart.TheVariants.{Constant, Each}
 use Rattle.header_bits.specs.Bits.{bits_of}
-use Rattle.header_bits.specs.Rows.{common, sizes, unsigned}
+use Rattle.header_bits.specs.Rows.{common, unsigned}
 use Rattle.coder_pipe.specs.File.{packed, file_of}
 
 -- a cube of the parameters' shape and kind

@@ -3,4 +3,5 @@
 
 mod bands;
 pub mod encode;
+pub mod encoder;
 pub mod worked;

@@ -1,6 +1,5 @@
 use Rattle.std.proofs.Common.{◌≡◌, ℕ, inl, inr, arith, ◌∙◌, length}
 use Rattle.cube_core.specs.Image.{Image}
-use Rattle.predict_core.specs.Following.{Learner}
 use Rattle.coder_pipe.specs.Walked.{IsAlong}
 use Rattle.coder_pipe.proofs.Come.{come_start}
 use Rattle.coder_pipe.proofs.Walking.{get_push}
