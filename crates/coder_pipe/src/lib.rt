@@ -4,4 +4,6 @@
 mod bands;
 pub mod encode;
 pub mod encoder;
+pub mod laws;
 pub mod worked;
+pub mod worked_refusals;
