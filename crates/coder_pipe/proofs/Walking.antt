@@ -7,44 +7,36 @@ use Rattle.cube_core.specs.declared.order.Place.{Place}
 use Rattle.cube_core.specs.Shape.{Sizes, sample_count}
 use Rattle.cube_core.specs.Image.{Image}
 use Rattle.cube_core.specs.Order.{IsOrder, places}
-use Rattle.cube_core.proofs.Orders.{StandsAt, length-places, place_at_index}
+use Rattle.cube_core.proofs.Orders.{StandsAt, length-places, place_at_index, item_from_index}
 use Rattle.cube_core.proofs.Raws.{next_stands}
 use Rattle.header_bits.specs.declared.params.Params.{Params}
 use Rattle.predict_core.specs.Following.{Learner, Follows, MovesOn}
 use Rattle.predict_core.specs.Residual.{mapped_residual, residuals}
-use Rattle.header_bits.specs.declared.params.Coder.{Coder}
-use Rattle.header_bits.specs.declared.params.Coder.TheVariants.{Sample, Block}
-use Rattle.coder_pipe.specs.File.{body_of, body_by}
-use Rattle.sample_adaptive.specs.Settings.{settings, coder_settings, IsSample}
-use Rattle.sample_adaptive.specs.Body.{sample_body, words_after, band_numbers}
-use Rattle.sample_adaptive.specs.Taken.{Counts, HasTaken, PutsNumber, with_number}
-use Rattle.sample_adaptive.specs.Words.{code_word, code_at}
-use Rattle.sample_adaptive.proofs.Bodies.{body_push, band_push}
-use Rattle.sample_adaptive.proofs.Taking.{taken_along}
+use Rattle.sample_adaptive.specs.Body.{band_numbers}
+use Rattle.sample_adaptive.proofs.Bodies.{band_push}
+use Rattle.coder_pipe.specs.declared.encoder.Encoder.{Encoder}
+use Rattle.coder_pipe.specs.Coding.{places_of, of_band, HasTaken, IsNumber, PutsNumber, EndsBody}
+use Rattle.coder_pipe.specs.File.{body_of}
 use Rattle.coder_pipe.specs.Walked.{HasCome, IsAlong, AreAlong, residuals_at}
 use Rattle.coder_pipe.proofs.Come.{time_of, come_here, come_step, come_other}
 
--- the places gone by, and what is known then of the bands, the coder and the bits behind `start`
-pub record IsWalked (p : Params) (c : Image) (gone : List Place) (bands : List Learner) (v : Counts) (start bits : List Bool) : Type 0 where
+-- the bands, where these places have gone by: each follows the image, and stands behind its own places
+pub record AreWalked (p : Params) (c : Image) (gone : List Place) (bands : List Learner) : Type 0 where
   pub many : length bands ≡ p.shape.bands
   pub along : AreAlong p c (length gone) bands
-  pub counts : length v.bands ≡ p.shape.bands
-  pub depth : v.bits ≡ p.kind.bits
-  pub taken : HasTaken (settings p) v (λ z. band_numbers z gone (residuals_at p c gone))
-  pub numbers : (z : ℕ) (b : Learner) → slice_get bands z ≡ Some b → length (band_numbers z gone (residuals_at p c gone)) ≡ b.place
-  pub text : bits ≡ start ++ sample_body (settings p) gone (residuals_at p c gone)
+  pub numbers : (z : ℕ) (b : Learner) → slice_get bands z ≡ Some b → (ns : List ℕ) → length ns ≡ length gone → length (band_numbers z gone ns) ≡ b.place
 
-residuals_push : (p : Params) (c : Image) (gone : List Place) (q : Place) → residuals_at p c (gone ++ q ∷ []) ≡ residuals_at p c gone ++ mapped_residual p c q.z (q.y * c.shape.columns + q.x) ∷ []
+pub residuals_push : (p : Params) (c : Image) (gone : List Place) (q : Place) → residuals_at p c (gone ++ q ∷ []) ≡ residuals_at p c gone ++ mapped_residual p c q.z (q.y * c.shape.columns + q.x) ∷ []
 residuals_push p c [] q = refl
 residuals_push p c (r ∷ gone) q = ap (λ (x : List ℕ). mapped_residual p c r.z (r.y * c.shape.columns + r.x) ∷ x) (residuals_push p c gone q)
 
-length-residuals_at : (p : Params) (c : Image) (gone : List Place) → length (residuals_at p c gone) ≡ length gone
+pub length-residuals_at : (p : Params) (c : Image) (gone : List Place) → length (residuals_at p c gone) ≡ length gone
 length-residuals_at p c gone = length-map gone _
 
 -- what is known of the band that comes next
-pub band_here : (p : Params) (c : Image) (gone : List Place) (bands : List Learner) (v : Counts) (start bits : List Bool) (q : Place) (b : Learner)
-    → IsOrder p.shape p.order → IsWalked p c gone bands v start bits → StandsAt p.shape p.order q (length gone) → slice_get bands q.z ≡ Some b → IsAlong p c (length gone) q.z b × (b.place ≡ time_of p.shape q)
-band_here p c gone bands v start bits q b lawful w stands e =
+pub band_here : (p : Params) (c : Image) (gone : List Place) (bands : List Learner) (q : Place) (b : Learner)
+    → IsOrder p.shape p.order → AreWalked p c gone bands → StandsAt p.shape p.order q (length gone) → slice_get bands q.z ≡ Some b → IsAlong p c (length gone) q.z b × (b.place ≡ time_of p.shape q)
+band_here p c gone bands q b lawful w stands e =
     let along = w.along q.z stands.place.band b e in
     (along, sym (come_here p.shape p.order q.z (length gone) b.place q lawful along.come stands refl))
 
@@ -61,88 +53,62 @@ band_numbers_same z gone ns q n long e = band_push z gone ns q n long ∙ ap (λ
 band_numbers_other : (z : ℕ) (gone : List Place) (ns : List ℕ) (q : Place) (n : ℕ) → length ns ≡ length gone → q.z ≢ z → band_numbers z (gone ++ q ∷ []) (ns ++ n ∷ []) ≡ band_numbers z gone ns
 band_numbers_other z gone ns q n long e = band_push z gone ns q n long ∙ ap (λ (b : Bool). cond b (band_numbers z gone ns ++ n ∷ []) (band_numbers z gone ns)) (ne_eqb q.z z e)
 
--- one number more
-pub walked_more : (p : Params) (c : Image) (gone : List Place) (bands : List Learner) (v w : Counts) (start bits more : List Bool) (q : Place) (b d : Learner) (number : ℕ)
-    → IsOrder p.shape p.order → c.shape ≡ p.shape → IsWalked p c gone bands v start bits → StandsAt p.shape p.order q (length gone) → slice_get bands q.z ≡ Some b
-    → MovesOn b d → Follows p d c → number ≡ mapped_residual p c b.band b.place → PutsNumber q.z b.place number v bits w more → (length w.bands ≡ length v.bands) × (w.bits ≡ v.bits)
-    → IsWalked p c (gone ++ q ∷ []) (set bands q.z d) w start more
-walked_more p c gone bands v w start bits more q b d number lawful shape known stands e moves follows is puts kept =
-    record {
-      many = length-set bands q.z d ∙ known.many;
-      along = along;
-      counts = kept.0 ∙ known.counts;
-      depth = kept.1 ∙ known.depth;
-      taken = subst (λ (r : List ℕ). HasTaken (settings p) w (λ z. band_numbers z (gone ++ q ∷ []) r)) (sym pushed) (taken_along (settings p) w gone ns q number long did.1);
-      numbers = numbers;
-      text = subst (λ (r : List ℕ). more ≡ start ++ sample_body (settings p) (gone ++ q ∷ []) r) (sym pushed) text;
-    }
+-- numbers are some numbers and a last one
+last_of : (ns : List ℕ) (n : ℕ) → length ns ≡ n + 1 → (front : List ℕ) × (last : ℕ) × (ns ≡ front ++ last ∷ []) × (length front ≡ n)
+last_of [] n e = absurd (omega arith)
+last_of (x ∷ []) n e = ([], x, refl, omega arith)
+last_of (x ∷ (y ∷ ns)) zero e = absurd (omega arith)
+last_of (x ∷ (y ∷ ns)) (suc n) e =
+    let more = last_of (y ∷ ns) n (omega arith) in
+    (x ∷ more.0, more.1, ap (λ (xs : List ℕ). x ∷ xs) more.2, ap suc more.3)
+
+-- one place more, and with it another image, which the other bands follow as well
+pub walked_more : (p : Params) (c e : Image) (gone : List Place) (bands : List Learner) (q : Place) (b d : Learner)
+    → IsOrder p.shape p.order → AreWalked p c gone bands → StandsAt p.shape p.order q (length gone) → slice_get bands q.z ≡ Some b
+    → MovesOn b d → Follows p d e → ((z : ℕ) (f : Learner) → z < p.shape.bands → z ≢ q.z → IsAlong p c (length gone) z f → Follows p f e)
+    → AreWalked p e (gone ++ q ∷ []) (set bands q.z d)
+walked_more p c e gone bands q b d lawful known stands at moves follows others-follow =
+    record { many = length-set bands q.z d ∙ known.many; along = along; numbers = numbers }
   where
-    ns : List ℕ
-    ns = residuals_at p c gone
-
-    long : length (residuals_at p c gone) ≡ length gone
-    long = length-residuals_at p c gone
-
     here : IsAlong p c (length gone) q.z b × (b.place ≡ time_of p.shape q)
-    here = band_here p c gone bands v start bits q b lawful known stands e
-
-    pushed : residuals_at p c (gone ++ q ∷ []) ≡ residuals_at p c gone ++ number ∷ []
-    pushed =
-        let place : b.place ≡ q.y * c.shape.columns + q.x = here.1 ∙ ap (λ (s : Sizes). q.y * s.columns + q.x) (sym shape) in
-        let there : number ≡ mapped_residual p c q.z (q.y * c.shape.columns + q.x) = is ∙ ap (λ z. mapped_residual p c z b.place) here.0.band ∙ ap (mapped_residual p c q.z) place in
-        residuals_push p c gone q ∙ ap (λ n. residuals_at p c gone ++ n ∷ []) (sym there)
-
-    did : (more ≡ bits ++ code_word (code_at (settings p) q.z (band_numbers q.z gone (residuals_at p c gone))) number) × HasTaken (settings p) w (with_number (λ z. band_numbers z gone (residuals_at p c gone)) q.z number)
-    did = puts (settings p) (λ z. band_numbers z gone (residuals_at p c gone)) known.taken (sym (known.numbers q.z b e))
-
-    text : more ≡ start ++ sample_body (settings p) (gone ++ q ∷ []) (residuals_at p c gone ++ number ∷ [])
-    text =
-        let word : List Bool = code_word (code_at (settings p) q.z (band_numbers q.z gone (residuals_at p c gone))) number in
-        did.0 ∙ ap (λ (x : List Bool). x ++ word) known.text ∙ append_assoc start (sample_body (settings p) gone (residuals_at p c gone)) word ∙ ap (λ (x : List Bool). start ++ x) (sym (body_push (settings p) gone (residuals_at p c gone) q number long))
+    here = band_here p c gone bands q b lawful known stands at
 
     grown : length (gone ++ q ∷ []) ≡ length gone + 1
     grown = length-append gone (q ∷ [])
 
-    same : (z : ℕ) (f : Learner) → z ≡ q.z → f ≡ d → IsAlong p c (length gone + 1) z f
+    same : (z : ℕ) (f : Learner) → z ≡ q.z → f ≡ d → IsAlong p e (length gone + 1) z f
     same z f h k =
         let come : HasCome p.shape p.order q.z (length gone + 1) d.place = subst (λ t. HasCome p.shape p.order q.z (length gone + 1) t) (sym moves.place) (come_step p.shape p.order q.z (length gone) b.place q lawful here.0.come stands refl) in
-        let all : IsAlong p c (length gone + 1) q.z d = record { band = moves.band ∙ here.0.band; follows = follows; come = come } in
+        let all : IsAlong p e (length gone + 1) q.z d = record { band = moves.band ∙ here.0.band; follows = follows; come = come } in
         rw (h, k) all
 
-    other : (z : ℕ) (f : Learner) → z < p.shape.bands → z ≢ q.z → slice_get bands z ≡ Some f → IsAlong p c (length gone + 1) z f
+    other : (z : ℕ) (f : Learner) → z < p.shape.bands → z ≢ q.z → slice_get bands z ≡ Some f → IsAlong p e (length gone + 1) z f
     other z f lt h k =
         let before = known.along z lt f k in
-        record { band = before.band; follows = before.follows; come = come_other p.shape p.order z (length gone) f.place q lawful before.come stands (λ g. h (sym g)) }
+        record { band = before.band; follows = others-follow z f lt h before; come = come_other p.shape p.order z (length gone) f.place q lawful before.come stands (λ g. h (sym g)) }
 
-    along : AreAlong p c (length (gone ++ q ∷ [])) (set bands q.z d)
+    along : AreAlong p e (length (gone ++ q ∷ [])) (set bands q.z d)
     along z lt f g = rw grown (elim (get_set bands q.z z d f g) [ inl (h, k) ↦ same z f h k | inr (h, k) ↦ other z f lt h k ])
 
-    own : (z : ℕ) (f : Learner) → z ≡ q.z → f ≡ d → length (band_numbers z (gone ++ q ∷ []) (residuals_at p c gone ++ number ∷ [])) ≡ f.place
-    own z f h k =
-        let had = known.numbers q.z b e in
-        let all : length (band_numbers q.z (gone ++ q ∷ []) (residuals_at p c gone ++ number ∷ [])) ≡ d.place = rw (band_numbers_same q.z gone (residuals_at p c gone) q number long refl) (length-append (band_numbers q.z gone (residuals_at p c gone)) (number ∷ []) ∙ omega (arith, had, moves.place)) in
-        rw (h, k) all
+    own : (ns : List ℕ) (n : ℕ) → length ns ≡ length gone → length (band_numbers q.z (gone ++ q ∷ []) (ns ++ n ∷ [])) ≡ d.place
+    own ns n long =
+        let had = known.numbers q.z b at ns long in
+        rw (band_numbers_same q.z gone ns q n long refl) (length-append (band_numbers q.z gone ns) (n ∷ []) ∙ omega (arith, had, moves.place))
 
-    others : (z : ℕ) (f : Learner) → z ≢ q.z → slice_get bands z ≡ Some f → length (band_numbers z (gone ++ q ∷ []) (residuals_at p c gone ++ number ∷ [])) ≡ f.place
-    others z f h k = rw (band_numbers_other z gone (residuals_at p c gone) q number long (λ g. h (sym g))) (known.numbers z f k)
-
-    numbers : (z : ℕ) (f : Learner) → slice_get (set bands q.z d) z ≡ Some f → length (band_numbers z (gone ++ q ∷ []) (residuals_at p c (gone ++ q ∷ []))) ≡ f.place
-    numbers z f g = rw pushed (elim (get_set bands q.z z d f g) [ inl (h, k) ↦ own z f h k | inr (h, k) ↦ others z f h k ])
+    numbers : (z : ℕ) (f : Learner) → slice_get (set bands q.z d) z ≡ Some f → (ns : List ℕ) → length ns ≡ length (gone ++ q ∷ []) → length (band_numbers z (gone ++ q ∷ []) ns) ≡ f.place
+    numbers z f g ns long =
+        let split = last_of ns (length gone) (long ∙ grown) in
+        rw split.2 (
+        elim (get_set bands q.z z d f g) [
+          | inl (h, k) ↦ rw (h, k) (own split.0 split.1 split.3)
+          | inr (h, k) ↦ rw (band_numbers_other z gone split.0 q split.1 split.3 (λ i. h (sym i))) (known.numbers z f k split.0 split.3)
+        ]
+        )
 
 -- nothing has gone by
-pub walked_none : (p : Params) (c : Image) (bands : List Learner) (v : Counts) (start : List Bool) → length bands ≡ p.shape.bands → AreAlong p c 0 bands → length v.bands ≡ p.shape.bands → v.bits ≡ p.kind.bits
-    → ((z : ℕ) (b : Learner) → slice_get bands z ≡ Some b → b.place ≡ 0) → HasTaken (settings p) v (λ z. []) → IsWalked p c [] bands v start start
-unfolding band_numbers sample_body words_after
-walked_none p c bands v start many along counts depth first taken =
-    record {
-      many = many;
-      along = along;
-      counts = counts;
-      depth = depth;
-      taken = taken;
-      numbers = λ z b e. sym (first z b e);
-      text = sym (append-nil start);
-    }
+pub walked_none : (p : Params) (c : Image) (bands : List Learner) → length bands ≡ p.shape.bands → AreAlong p c 0 bands → ((z : ℕ) (b : Learner) → slice_get bands z ≡ Some b → b.place ≡ 0) → AreWalked p c [] bands
+unfolding band_numbers
+walked_none p c bands many along first = record { many = many; along = along; numbers = λ z b e ns long. sym (first z b e) }
 
 -- ---- along the places that are left
 
@@ -154,12 +120,14 @@ abbrev pub gone_by : Params → List Place → List Place
 gone_by p left = take (gone_count p left) (places p.shape p.order)
 
 -- the places left are the last of the order, and the others have gone by
-pub record IsOnWalk (p : Params) (c : Image) (left : List Place) (bands : List Learner) (v : Counts) (start bits : List Bool) : Type 0 where
+pub record IsOnWalk (p : Params) (c : Image) (left : List Place) (bands : List Learner) : Type 0 where
   pub rest : left ≡ drop (gone_count p left) (places p.shape p.order)
-  pub known : IsWalked p c (gone_by p left) bands v start bits
+  pub known : AreWalked p c (gone_by p left) bands
 
 pub record NextGoes (p : Params) (q : Place) (left rest : List Place) : Type 0 where
   pub stands : StandsAt p.shape p.order q (length (gone_by p left))
+  pub count : length (gone_by p left) ≡ gone_count p left
+  pub below : length (gone_by p left) < sample_count p.shape
   pub gone : gone_by p rest ≡ gone_by p left ++ q ∷ []
   pub others : rest ≡ drop (gone_count p rest) (places p.shape p.order)
 
@@ -175,32 +143,91 @@ next_goes p q left rest lawful is e =
     let more : take (gone_count p left + 1) (places p.shape p.order) ≡ gone_by p left ++ q ∷ [] = take_more (places p.shape p.order) (gone_count p left) q (omega (arith, next.0, whole)) ∙ ap (λ (r : Place). gone_by p left ++ r ∷ []) item in
     record {
       stands = rw len next.1;
+      count = len;
+      below = omega (arith, len, next.0);
       gone = rw count more;
       others = rw count next.2;
     }
 
 -- one step of the walk
-pub on_walk_more : (p : Params) (c : Image) (left rest : List Place) (bands : List Learner) (v w : Counts) (start bits more : List Bool) (q : Place) (b d : Learner) (number : ℕ)
-    → IsOrder p.shape p.order → c.shape ≡ p.shape → IsOnWalk p c left bands v start bits → left ≡ q ∷ rest → slice_get bands q.z ≡ Some b
-    → MovesOn b d → Follows p d c → number ≡ mapped_residual p c b.band b.place → PutsNumber q.z b.place number v bits w more → (length w.bands ≡ length v.bands) × (w.bits ≡ v.bits)
-    → IsOnWalk p c rest (set bands q.z d) w start more
-on_walk_more p c left rest bands v w start bits more q b d number lawful shape walk e band moves follows is puts kept =
-    let next = next_goes p q left rest lawful walk.rest e in
+pub on_walk_more : (p : Params) (c e : Image) (left rest : List Place) (bands : List Learner) (q : Place) (b d : Learner)
+    → IsOrder p.shape p.order → IsOnWalk p c left bands → left ≡ q ∷ rest → slice_get bands q.z ≡ Some b
+    → MovesOn b d → Follows p d e → ((z : ℕ) (f : Learner) → z < p.shape.bands → z ≢ q.z → IsAlong p c (length (gone_by p left)) z f → Follows p f e)
+    → IsOnWalk p e rest (set bands q.z d)
+on_walk_more p c e left rest bands q b d lawful walk is band moves follows others =
+    let next = next_goes p q left rest lawful walk.rest is in
     record {
       rest = next.others;
-      known = subst (λ (gone : List Place). IsWalked p c gone (set bands q.z d) w start more) (sym next.gone) (walked_more p c (gone_by p left) bands v w start bits more q b d number lawful shape walk.known next.stands band moves follows is puts kept);
+      known = subst (λ (gone : List Place). AreWalked p e gone (set bands q.z d)) (sym next.gone) (walked_more p c e (gone_by p left) bands q b d lawful walk.known next.stands band moves follows others);
     }
 
-pub on_walk_first : (p : Params) (c : Image) (bands : List Learner) (v : Counts) (start : List Bool) → IsOrder p.shape p.order → IsWalked p c [] bands v start start → IsOnWalk p c (places p.shape p.order) bands v start start
-on_walk_first p c bands v start lawful known =
+pub on_walk_first : (p : Params) (c : Image) (bands : List Learner) → IsOrder p.shape p.order → AreWalked p c [] bands → IsOnWalk p c (places p.shape p.order) bands
+on_walk_first p c bands lawful known =
     let none : gone_count p (places p.shape p.order) ≡ 0 = omega (arith, length-places p.shape p.order lawful) in
     record { rest = rw none refl; known = rw none known }
 
--- at the end the body is whole
-pub on_walk_last : (p : Params) (c : Image) (bands : List Learner) (v : Counts) (start bits : List Bool) → IsOrder p.shape p.order → IsOnWalk p c [] bands v start bits → bits ≡ start ++ sample_body (settings p) (places p.shape p.order) (residuals_at p c (places p.shape p.order))
-on_walk_last p c bands v start bits lawful walk =
-    let all : gone_by p [] ≡ places p.shape p.order = take_all (gone_count p []) (places p.shape p.order) (omega (arith, length-places p.shape p.order lawful)) in
-    walk.known.text ∙ ap (λ (gone : List Place). start ++ sample_body (settings p) gone (residuals_at p c gone)) all
+-- numbers of the places gone by
+pub gone_places : (p : Params) (left : List Place) (ns : List ℕ) → IsOrder p.shape p.order → length ns ≡ length (gone_by p left) → places_of p ns ≡ gone_by p left
+gone_places p left ns lawful e =
+    let whole = length-places p.shape p.order lawful in
+    let count : length ns ≡ gone_count p left = omega (arith, e, whole, length-take (gone_count p left) (places p.shape p.order)) in
+    ap (λ (n : ℕ). take n (places p.shape p.order)) count
+
+-- the next place and its band's next number
+pub is_number : (p : Params) (c : Image) (left rest : List Place) (bands : List Learner) (ns : List ℕ) (q : Place) (b : Learner) → IsOrder p.shape p.order → IsOnWalk p c left bands → left ≡ q ∷ rest → slice_get bands q.z ≡ Some b
+    → length ns ≡ length (gone_by p left) → IsNumber p ns q.z b.place
+is_number p c left rest bands ns q b lawful walk is band long =
+    let next = next_goes p q left rest lawful walk.rest is in
+    let item : slice_get (places p.shape p.order) (length ns) ≡ Some q = item_from_index p.shape p.order q (length ns) lawful next.stands.place (next.stands.index ∙ sym long) (omega (arith, long, next.below)) in
+    let count : length (of_band p ns q.z) ≡ b.place = ap (λ (ps : List Place). length (band_numbers q.z ps ns)) (gone_places p left ns lawful long) ∙ walk.known.numbers q.z b band ns long in
+    (q, item, refl, sym count)
+
+-- all places have gone by
+pub gone_all : (p : Params) → IsOrder p.shape p.order → gone_by p [] ≡ places p.shape p.order
+gone_all p lawful = take_all (gone_count p []) (places p.shape p.order) (omega (arith, length-places p.shape p.order lawful))
+
+-- the residuals of all places
+pub residuals_whole : (p : Params) (c : Image) → IsOrder p.shape p.order → c.shape ≡ p.shape → residuals_at p c (gone_by p []) ≡ residuals p c
+unfolding residuals
+residuals_whole p c lawful shape = ap (residuals_at p c) (gone_all p lawful ∙ ap (λ (s : Sizes). places s p.order) (sym shape))
+
+-- ---- the coding end on the walk
+
+-- the coder has taken the residuals of the places gone by, and its bits stand behind `start`
+pub record IsCoded (p : Params) (c : Image) (left : List Place) (coder : Encoder) (start bits : List Bool) : Type 0 where
+  pub written : List Bool
+  pub text : bits ≡ start ++ written
+  pub taken : HasTaken p coder (residuals_at p c (gone_by p left)) written
+
+pub coded_first : (p : Params) (c : Image) (coder : Encoder) (start : List Bool) → IsOrder p.shape p.order → HasTaken p coder [] [] → IsCoded p c (places p.shape p.order) coder start start
+coded_first p c coder start lawful taken =
+    let none : gone_count p (places p.shape p.order) ≡ 0 = omega (arith, length-places p.shape p.order lawful) in
+    record { written = []; text = sym (append-nil start); taken = rw none taken }
+
+pub coded_more : (p : Params) (c : Image) (left rest : List Place) (bands : List Learner) (old new : Encoder) (start bits more : List Bool) (q : Place) (b : Learner) (number : ℕ)
+    → IsOrder p.shape p.order → c.shape ≡ p.shape → IsOnWalk p c left bands → left ≡ q ∷ rest → slice_get bands q.z ≡ Some b → IsCoded p c left old start bits
+    → number ≡ mapped_residual p c b.band b.place → PutsNumber q.z b.place number old bits new more → IsCoded p c rest new start more
+coded_more p c left rest bands old new start bits more q b number lawful shape walk is band coded value puts =
+    let next = next_goes p q left rest lawful walk.rest is in
+    let here = band_here p c (gone_by p left) bands q b lawful walk.known next.stands band in
+    let ns : List ℕ = residuals_at p c (gone_by p left) in
+    let place : b.place ≡ q.y * c.shape.columns + q.x = here.1 ∙ ap (λ (s : Sizes). q.y * s.columns + q.x) (sym shape) in
+    let there : number ≡ mapped_residual p c q.z (q.y * c.shape.columns + q.x) = value ∙ ap (λ z. mapped_residual p c z b.place) here.0.band ∙ ap (mapped_residual p c q.z) place in
+    let pushed : residuals_at p c (gone_by p rest) ≡ residuals_at p c (gone_by p left) ++ number ∷ [] = ap (residuals_at p c) next.gone ∙ residuals_push p c (gone_by p left) q ∙ ap (λ n. residuals_at p c (gone_by p left) ++ n ∷ []) (sym there) in
+    let did = puts p ns coded.written coded.taken (is_number p c left rest bands ns q b lawful walk is band (length-residuals_at p c (gone_by p left))) in
+    record {
+      written = coded.written ++ did.0;
+      text = did.1 ∙ ap (λ (x : List Bool). x ++ did.0) coded.text ∙ append_assoc start coded.written did.0;
+      taken = subst (λ (r : List ℕ). HasTaken p new r (coded.written ++ did.0)) (sym pushed) did.2;
+    }
+
+-- all residuals were taken, and the body is ended
+pub coded_ended : (p : Params) (c : Image) (coder : Encoder) (start bits now : List Bool) → IsOrder p.shape p.order → c.shape ≡ p.shape → IsCoded p c [] coder start bits → EndsBody coder bits now → now ≡ start ++ body_of p (residuals p c)
+coded_ended p c coder start bits now lawful shape coded ends =
+    let ns : List ℕ = residuals_at p c (gone_by p []) in
+    let long : length ns ≡ sample_count p.shape = length-residuals_at p c (gone_by p []) ∙ ap (λ (ps : List Place). length ps) (gone_all p lawful) ∙ length-places p.shape p.order lawful in
+    let did = ends p ns coded.written coded.taken lawful long in
+    did.1 ∙ ap (λ (x : List Bool). x ++ did.0) coded.text ∙ append_assoc start coded.written did.0 ∙ ap (λ (x : List Bool). start ++ x) (did.2 ∙ ap (body_of p) (residuals_whole p c lawful shape))
 
 -- ---- all bands
 
@@ -209,19 +236,3 @@ get_push [] d f zero e = inr (refl, cc)
 get_push [] d f (suc z) e = absurd (cc)
 get_push (x ∷ xs) d f zero e = inl e
 get_push (x ∷ xs) d f (suc z) e = elim (get_push xs d f z e) [ inl h ↦ inl h | inr (h, k) ↦ inr (ap suc h, k) ]
-
--- the sample-adaptive body is the body that the parameters name
-pub body_is : (p : Params) (c : Image) → IsSample p.coder → c.shape ≡ p.shape → body_of p (residuals p c) ≡ sample_body (settings p) (places p.shape p.order) (residuals_at p c (places p.shape p.order))
-unfolding body_of residuals
-body_is p c coder shape = by_coder p.coder coder ∙ ap (λ (s : Sizes). sample_body (settings p) (places p.shape p.order) (residuals_at p c (places s p.order))) shape
-  where
-    by_coder : (coder : Coder) → IsSample coder → body_by coder p (residuals_at p c (places c.shape p.order)) ≡ sample_body (settings p) (places p.shape p.order) (residuals_at p c (places c.shape p.order))
-    by_coder (Sample umax gamma_star gamma_zero start) s = refl
-    by_coder (Block size restricted reference) s = absurd s
-
-pub settings_bits : (p : Params) → (settings p).bits ≡ p.kind.bits
-settings_bits p = by_coder p.coder
-  where
-    by_coder : (coder : Coder) → (coder_settings p.kind.bits coder).bits ≡ p.kind.bits
-    by_coder (Sample umax gamma_star gamma_zero start) = refl
-    by_coder (Block size restricted reference) = refl

@@ -1,5 +1,8 @@
+pub mod Coding
 pub mod Everything
 pub mod File
+pub mod Files
+pub mod Laws
 pub mod Rows
 pub mod Walked
 pub mod Weave

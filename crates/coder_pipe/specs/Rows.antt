@@ -6,9 +6,12 @@ use Rattle.header_bits.specs.declared.params.Params.{Params}
 use Rattle.header_bits.specs.declared.params.WeightStart.TheVariants.{Table}
 use Rattle.header_bits.specs.declared.params.Coder.TheVariants.{Sample, Block}
 use Rattle.header_bits.specs.declared.params.CountStart.TheVariants.{Constant, Each}
-use Rattle.header_bits.specs.Bits.{bits_of}
+use Rattle.header_bits.specs.Bits.{bits_of, bits_of_bytes}
 use Rattle.header_bits.specs.Rows.{common, unsigned}
+use Rattle.cube_core.specs.Steps.{Test}
+use Rattle.header_bits.specs.Reach.{here}
 use Rattle.coder_pipe.specs.File.{packed, file_of}
+use Rattle.coder_pipe.specs.Files.{file_test}
 
 -- a cube of the parameters' shape and kind
 abbrev pub cube : Params → List ℤ → Image
@@ -21,6 +24,10 @@ file p samples = file_of (cube p (map pos samples)) p
 -- so many bytes, told as one number
 abbrev pub bytes : ℕ → ℕ → List ℕ
 bytes n number = packed (bits_of (8 * n) number)
+
+-- the test of a file of so many bytes, told as one number
+abbrev pub test : ℕ → ℕ → Test
+test n number = file_test here (bits_of_bytes (bytes n number))
 
 abbrev pub one_below : ℕ → ℕ → ℕ → Params
 one_below nx ny nz = record (common nx ny nz) { previous = 1 }

@@ -7,25 +7,23 @@ ghost use Rattle.header_bits.specs.Bits.{bits_of_bytes};
 ghost use Rattle.header_bits.specs.Reach.{here};
 ghost use Rattle.header_bits.specs.Lawful.{IsLawful};
 ghost use Rattle.predict_core.specs.Residual.{residuals};
-ghost use Rattle.sample_adaptive.specs.Settings.{IsSample};
 ghost use Rattle.coder_pipe.specs.File.{body_of, filled, packed, file_of};
 
 use crate::bands::all_bands;
+use crate::encoder::Encoder;
 use cube_core::cube::Cube;
 use cube_core::cursor::Places;
 use cube_core::fault::Fault;
 use header_bits::bit_writer::BitWriter;
 use header_bits::header::put_header;
 use header_bits::params::Params;
-use sample_adaptive::stats::Stats;
 use std::alloc::Global;
 
-/// The file of a cube, by lawful parameters of its shape and kind.
+/// The file of a cube, by lawful parameters of its shape and kind, and by the coder that they name.
 ///
 /// `WantOfMemory` where the bytes aren't had, or the room for what the bands learn.
 pub fn encode_one(alloc: Global, cube: &Cube, params: &Params) -> Result<Vec<u8>, Fault>
     requires lawful { IsLawful here params.now }
-    requires coder { IsSample params.now.coder }
     requires shape { cube.now.shape ≡ params.now.shape }
     requires kind { cube.now.kind ≡ params.now.kind }
     ensures file { IfOk result (λ bytes. bytes.items ≡ file_of cube.now params.now) }
@@ -33,37 +31,36 @@ pub fn encode_one(alloc: Global, cube: &Cube, params: &Params) -> Result<Vec<u8>
 {
     let mut writer = BitWriter::new(alloc);
     put_header(params, &mut writer)?;
-    put_samples(alloc, cube, params, &mut writer)?;
+    put_body(alloc, cube, params, &mut writer)?;
     put_fill(params.word, &mut writer)?;
     let bytes = writer.into_bytes();
     know_packed(&bytes);
     Ok(bytes)
 }
 
-/// Appends the sample-adaptive body of a cube.
-fn put_samples(
+/// Appends the body of a cube.
+fn put_body(
     alloc: Global,
     cube: &Cube,
     params: &Params,
     writer: &mut BitWriter,
 ) -> Result<(), Fault>
     requires lawful { IsLawful here params.now }
-    requires coder { IsSample params.now.coder }
     requires shape { cube.now.shape ≡ params.now.shape }
     requires kind { cube.now.kind ≡ params.now.kind }
     ensures appended { OnOk result (writer.new.bits ≡ writer.old.bits ++ body_of params.now (residuals params.now cube.now)) }
     ensures refused { IfErr result (λ e. e ≡ WantOfMemory) }
 {
     let mut bands = all_bands(alloc, params)?;
-    let mut stats = Stats::new(alloc, params)?;
+    let mut encoder = Encoder::new(alloc, params)?;
     let mut places = Places::new(params.shape, params.order);
     while let Some(place) = places.next() {
         let band = &mut bands[place.z as usize];
         let t = band.next();
         let delta = band.forward(cube, place.y, place.x);
-        stats.put(place.z, t, delta, writer)?;
+        encoder.put(place.z, t, delta, writer)?;
     }
-    Ok(())
+    encoder.end(writer)
 }
 
 /// Appends zeros to whole output words of so many bytes.

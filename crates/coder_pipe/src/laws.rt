@@ -1,8 +1,29 @@
-//! Laws of files, and of the parts that predictors make of them.
+//! Laws of the definitions alone.
 
+ghost use Rattle.coder_pipe.specs.Laws.{ChosenIsFile, FileIsFine, OneCube, OneFile};
 ghost use Rattle.coder_pipe.specs.Weave.{WeaveOfParts};
 
-/// All predictors' parts, woven together along the encoding order, are the residuals.
+/// The file that is written of a cube is a file of it.
+pub fn chosen_is_file()
+    ensures { ChosenIsFile }
+{}
+
+/// A file has no fault.
+pub fn file_is_fine()
+    ensures { FileIsFine }
+{}
+
+/// Two cubes that have the same residuals are one.
+pub fn one_cube()
+    ensures { OneCube }
+{}
+
+/// No bytes are a file of two pairs of parameters and cube.
+pub fn one_file()
+    ensures { OneFile }
+{}
+
+/// The parts of all predictors, woven together along the encoding order, are the residuals.
 pub fn weave_of_parts()
     ensures { WeaveOfParts }
 {}

@@ -3,6 +3,8 @@
 
 mod bands;
 pub mod encode;
+pub mod encoder;
 pub mod laws;
 pub mod worked;
 pub mod worked_parts;
+pub mod worked_refusals;

@@ -1,0 +1,5 @@
+use Rattle.coder_pipe.proofs.FileLaws.{file_is_fine}
+use Rattle.coder_pipe.proofs.laws.file_is_fine.Goals as goal
+
+pub returns : goal.returns
+returns c = file_is_fine

@@ -1,0 +1,5 @@
+use Rattle.coder_pipe.proofs.OneCube.{one_cube}
+use Rattle.coder_pipe.proofs.laws.one_cube.Goals as goal
+
+pub returns : goal.returns
+returns c = one_cube

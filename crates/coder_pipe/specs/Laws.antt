@@ -1,0 +1,29 @@
+-- What holds of the definitions alone.
+use Rattle.std.specs.Prelude.{ℕ, ◌≡◌, List}
+use Rattle.cube_core.specs.Image.{Image}
+use Rattle.header_bits.specs.declared.params.Params.{Params}
+use Rattle.header_bits.specs.Bits.{bits_of_bytes}
+use Rattle.header_bits.specs.Parts.{fine}
+use Rattle.header_bits.specs.Reach.{Reach, here}
+use Rattle.header_bits.specs.Lawful.{IsLawful}
+use Rattle.predict_core.specs.Residual.{residuals}
+use Rattle.coder_pipe.specs.File.{file_of}
+use Rattle.coder_pipe.specs.Files.{IsCubeOf, IsFile, file_test}
+
+-- the file that is written of a cube is a file of it
+abbrev pub ChosenIsFile : Type 0
+ChosenIsFile = (p : Params) (c : Image) → IsLawful here p → IsCubeOf p c → IsFile here (file_of c p) p c
+
+-- a file has no fault
+abbrev pub FileIsFine : Type 0
+FileIsFine = (reach : Reach) (bytes : List ℕ) (p : Params) (c : Image) → IsLawful reach p → IsFile reach bytes p c → file_test reach (bits_of_bytes bytes) ≡ fine
+
+-- two cubes that have the same residuals are one
+abbrev pub OneCube : Type 0
+OneCube = (reach : Reach) (p : Params) (c d : Image) → IsLawful reach p → IsCubeOf p c → IsCubeOf p d → residuals p c ≡ residuals p d → c ≡ d
+
+-- no bytes are a file of two pairs of parameters and cube
+abbrev pub OneFile : Type 0
+OneFile =
+    (reach : Reach) (bytes : List ℕ) (p q : Params) (c d : Image) → IsLawful reach p → IsFile reach bytes p c → IsFile reach bytes q d
+    → (p ≡ q) × (c ≡ d)
