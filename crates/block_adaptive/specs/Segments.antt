@@ -1,5 +1,5 @@
 -- Blocks, and the segments in which runs of zero blocks stay (CCSDS 121.0-B, "Zero-block option").
-use Rattle.std.specs.Prelude.{ℕ, zero, suc, ◌+◌, ◌-◌, ◌/◌, ◌%◌, min, List, [], ◌∷◌, ◌++◌, length, take, drop, replicate}
+use Rattle.std.specs.Prelude.{ℕ, zero, suc, ◌+◌, ◌-◌, ◌*◌, ◌/◌, ◌%◌, min, List, [], ◌∷◌, ◌++◌, length, take, drop, replicate}
 
 -- a block, filled with zeros up to its size
 abbrev pub filled : ℕ → List ℕ → List ℕ
@@ -20,3 +20,9 @@ blocks size numbers = first_blocks size (block_count size (length numbers)) numb
 -- how many blocks there are from block i, itself counted, to its segment's end, among n blocks: segments are of 64 blocks, from each r-th block on
 unfoldable pub segment_rest : ℕ → ℕ → ℕ → ℕ
 segment_rest reference n i = min (64 - i % reference % 64) (min (reference - i % reference) (n - i))
+
+-- how many segments the blocks of n numbers make
+abbrev pub segment_count : ℕ → ℕ → ℕ → ℕ
+segment_count n size reference =
+    let count = block_count size n in
+    count / reference * ((reference + 63) / 64) + (count % reference + 63) / 64

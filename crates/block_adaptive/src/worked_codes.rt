@@ -4,6 +4,7 @@ ghost use Rattle.std.specs.Prelude.{◌≡◌, ◌∷◌, [], false, true};
 ghost use Rattle.block_adaptive.specs.declared.options.Choice.TheVariants.{Uncoded, Second, Split};
 ghost use Rattle.block_adaptive.specs.Options.{identifier, zero_identifier, splits};
 ghost use Rattle.block_adaptive.specs.Texts.{run_code, rest_code};
+ghost use Rattle.block_adaptive.specs.Segments.{segment_count};
 ghost use Rattle.block_adaptive.specs.Rows.{plain, restricted};
 
 /// Up to eight bits.
@@ -69,4 +70,12 @@ pub fn run_codes()
     ensures run_5 { run_code 5 ≡ false ∷ false ∷ false ∷ false ∷ false ∷ true ∷ [] }
     ensures run_6 { run_code 6 ≡ false ∷ false ∷ false ∷ false ∷ false ∷ false ∷ true ∷ [] }
     ensures rest { rest_code ≡ false ∷ false ∷ false ∷ false ∷ true ∷ [] }
+{}
+
+/// Segments end at each reference interval's border, after 64 blocks, and with the last block.
+pub fn segment_counts()
+    ensures two_intervals { segment_count 48 8 4 ≡ 2 }
+    ensures one_number { segment_count 1 8 1 ≡ 1 }
+    ensures one_interval { segment_count 1040 8 4096 ≡ 3 }
+    ensures both_borders { segment_count 1040 8 65 ≡ 4 }
 {}

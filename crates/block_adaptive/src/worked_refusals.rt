@@ -1,6 +1,6 @@
 //! Worked examples of what a reader refuses, as laws on the definitions. Blocks have eight values.
 
-ghost use Rattle.std.specs.Prelude.{◌≡◌, ◌∷◌, [], Some};
+ghost use Rattle.std.specs.Prelude.{◌≡◌, ◌∷◌, [], Some, take};
 ghost use Rattle.cube_core.specs.declared.fault.Fault.TheVariants.{BadOption, RunPastSegment, Truncated};
 ghost use Rattle.header_bits.specs.Bits.{bits_of_bytes};
 ghost use Rattle.block_adaptive.specs.Reading.{block_body_fault};
@@ -59,4 +59,10 @@ pub fn pair_out_of_range()
 /// The greatest pair has 24 zeros.
 pub fn pair_of_25_zeros()
     ensures { block_body_fault 32 (plain 2) 8 1 1 (bits_of_bytes (0x10 ∷ 0x00 ∷ 0x00 ∷ 0x00 ∷ [])) ≡ Some (BadOption 0) }
+{}
+
+/// The fifth zero of a run code can't be followed where one block is left, and is refused before any one; four may stand.
+pub fn fifth_zero_of_a_run_code()
+    ensures fifth { block_body_fault 9 (plain 8) 8 1 1 (take 9 (bits_of_bytes (zeros 2))) ≡ Some (RunPastSegment 0) }
+    ensures fourth { block_body_fault 8 (plain 8) 8 1 1 (bits_of_bytes (zeros 1)) ≡ Some (Truncated 8) }
 {}

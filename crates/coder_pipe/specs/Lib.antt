@@ -3,6 +3,7 @@ pub mod Everything
 pub mod File
 pub mod Files
 pub mod Laws
+pub mod Least
 pub mod Rows
 pub mod Walked
 pub mod Weave

@@ -6,5 +6,6 @@ pub mod encode;
 pub mod encoder;
 pub mod laws;
 pub mod worked;
+pub mod worked_least;
 pub mod worked_parts;
 pub mod worked_refusals;

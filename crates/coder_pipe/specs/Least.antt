@@ -1,0 +1,22 @@
+-- The fewest bits that a body has.
+use Rattle.std.specs.Prelude.{ℕ, ◌*◌, nat_lt, Bool, List, length}
+use Rattle.cube_core.specs.declared.fault.Fault.TheVariants.{Truncated}
+use Rattle.cube_core.specs.Steps.{Test, refuse_if}
+use Rattle.cube_core.specs.Shape.{sample_count}
+use Rattle.header_bits.specs.declared.params.Params.{Params}
+use Rattle.header_bits.specs.declared.params.Coder.{Coder}
+use Rattle.header_bits.specs.declared.params.Coder.TheVariants.{Sample, Block}
+use Rattle.block_adaptive.specs.Segments.{segment_count}
+
+-- one bit for each of n samples; or three for each segment of their blocks
+abbrev pub least_by : Coder → ℕ → ℕ
+least_by (Sample umax gamma_star gamma_zero start) n = n
+least_by (Block size restricted reference) n = 3 * segment_count n size reference
+
+-- the fewest bits of a body by these parameters
+abbrev pub least_length : Params → ℕ
+least_length p = least_by p.coder (sample_count p.shape)
+
+-- fewer bits than that are refused, whatever they are; the file has `count` bits
+abbrev pub least_test : ℕ → Params → List Bool → Test
+least_test count p bits = refuse_if (nat_lt (length bits) (least_length p)) (Truncated count)
