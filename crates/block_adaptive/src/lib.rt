@@ -5,6 +5,8 @@ pub mod block_reader;
 pub mod block_writer;
 pub mod choice;
 mod found;
+#[cfg(test)]
+mod hand_made;
 pub mod laws;
 pub mod options;
 mod pairs;

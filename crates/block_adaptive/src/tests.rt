@@ -19,13 +19,13 @@ use std::test::Fail;
 
 /// What a test tells the coder.
 #[derive(Clone, Copy, Debug)]
-struct Settings {
-    bits: u32,
-    restricted: bool,
+pub(crate) struct Settings {
+    pub(crate) bits: u32,
+    pub(crate) restricted: bool,
     /// 0 to 3 for blocks of 8, 16, 32 and 64.
-    size: u32,
-    reference: u32,
-    count: u32,
+    pub(crate) size: u32,
+    pub(crate) reference: u32,
+    pub(crate) count: u32,
 }
 
 /// The values in a block.
@@ -41,7 +41,7 @@ fn size_of(code: u32) -> u32
 }
 
 /// Parameters of so many numbers, whose settings are lawful.
-fn params_of(rt: &impl Abort, s: Settings) -> Params
+pub(crate) fn params_of(rt: &impl Abort, s: Settings) -> Params
     ensures lawful { AreForBlocks result }
     ensures bits { result.kind.bits ≡ s.bits }
 {
@@ -97,7 +97,7 @@ fn written(
 }
 
 /// All numbers of a body, and how many bits are left behind them.
-fn read(
+pub(crate) fn read(
     rt: &impl Abort,
     alloc: Global,
     params: &Params,
