@@ -132,7 +132,7 @@ fn raw_bytes(alloc: Global, format: Format, count: u64) -> Result<Vec<u8>> {
     Ok(bytes)
 }
 
-fn sum_of_cube(cube: &Cube) -> u64 {
+pub fn sum_of_cube(cube: &Cube) -> u64 {
     let shape = cube.shape();
     let mut sum = 0;
     for z in 0..shape.bands() {
