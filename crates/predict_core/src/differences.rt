@@ -15,6 +15,7 @@ use cube_core::cube::Cube;
 /// All differences at a place that is not the first of its band, in full mode the directional ones first.
 ///
 /// `sum` is the local sum of the heights there (CCSDS 123.0-B-1, "Local Differences").
+#[inline(always)]
 pub(crate) fn difference_vector(
     predictor: &Predictor,
     cube: &Cube,
@@ -40,6 +41,7 @@ pub(crate) fn difference_vector(
 }
 
 /// The local sum of the heights at a place that is not the first of its band.
+#[inline(always)]
 pub(crate) fn sum_at(predictor: &Predictor, cube: &Cube, z: u32, y: u32, x: u32) -> u32
     requires place { IsPlace cube.now.shape z y x }
     requires later { 0 < y + x }
@@ -53,6 +55,7 @@ pub(crate) fn sum_at(predictor: &Predictor, cube: &Cube, z: u32, y: u32, x: u32)
 }
 
 /// The differences of reduced mode.
+#[inline(always)]
 fn reduced_vector(predictor: &Predictor, cube: &Cube, z: u32, y: u32, x: u32) -> [i32; 18]
     requires lawful { IsPredictor predictor.now }
     requires place { IsPlace cube.now.shape z y x }
@@ -69,6 +72,7 @@ fn reduced_vector(predictor: &Predictor, cube: &Cube, z: u32, y: u32, x: u32) ->
 }
 
 /// The differences of full mode.
+#[inline(always)]
 fn full_vector(predictor: &Predictor, cube: &Cube, z: u32, y: u32, x: u32, sum: u32) -> [i32; 18]
     requires lawful { IsPredictor predictor.now }
     requires place { IsPlace cube.now.shape z y x }
@@ -87,6 +91,7 @@ fn full_vector(predictor: &Predictor, cube: &Cube, z: u32, y: u32, x: u32, sum: 
 }
 
 /// The directional differences alone.
+#[inline(always)]
 fn directions_at(predictor: &Predictor, cube: &Cube, z: u32, y: u32, x: u32, sum: u32) -> [i32; 18]
     requires place { IsPlace cube.now.shape z y x }
     requires sum_is { local_sum predictor.now cube.now z y x ≡ pos 4 *ℤ smin cube.now.kind +ℤ pos sum }
@@ -110,6 +115,7 @@ fn directions_at(predictor: &Predictor, cube: &Cube, z: u32, y: u32, x: u32, sum
 }
 
 /// Three differences at the head of the room.
+#[inline(always)]
 fn directions(north: i32, west: i32, north_west: i32) -> [i32; 18]
     requires north_in { unsigned_abs north ≤ 262144 }
     requires west_in { unsigned_abs west ≤ 262144 }
@@ -125,6 +131,7 @@ fn directions(north: i32, west: i32, north_west: i32) -> [i32; 18]
 }
 
 /// Writes the central differences of the `count` bands below `z`, the nearest first, from place `first` on.
+#[inline(always)]
 fn fill_spectral(
     predictor: &Predictor,
     cube: &Cube,
@@ -151,6 +158,7 @@ fn fill_spectral(
 }
 
 /// The central difference of band `z` at a place that is not the first.
+#[inline(always)]
 fn central(predictor: &Predictor, cube: &Cube, z: u32, y: u32, x: u32) -> i32
     requires place { IsPlace cube.now.shape z y x }
     requires later { 0 < y + x }

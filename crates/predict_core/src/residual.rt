@@ -35,6 +35,7 @@ pub fn unmap_residual(kind: Kind, stilde: i32, delta: u16) -> i32
 }
 
 /// The number of a sample between `low` and `high`.
+#[inline(always)]
 pub(crate) fn map_between(low: i32, high: i32, scaled: i32, v: i32) -> u16
     requires low_in { negsuc 32767 ≤ℤ low }
     requires high_in { high ≤ℤ (low +ℤ pos 65535) }
@@ -54,6 +55,7 @@ pub(crate) fn map_between(low: i32, high: i32, scaled: i32, v: i32) -> u16
 }
 
 /// The sample between `low` and `high` whose number is `delta`.
+#[inline(always)]
 pub(crate) fn unmap_between(low: i32, high: i32, scaled: i32, delta: u16) -> i32
     requires low_in { negsuc 32767 ≤ℤ low }
     requires high_in { high ≤ℤ (low +ℤ pos 65535) }
@@ -72,6 +74,7 @@ pub(crate) fn unmap_between(low: i32, high: i32, scaled: i32, delta: u16) -> i32
 }
 
 /// Half of a scaled prediction, rounded down.
+#[inline(always)]
 fn prediction_of(scaled: i32) -> i32
     ensures value { result ≡ floor_div scaled 2 }
     ensures low { (pos 2 *ℤ result) ≤ℤ scaled }
@@ -81,6 +84,7 @@ fn prediction_of(scaled: i32) -> i32
 }
 
 /// How far the prediction is from the nearer end of the range.
+#[inline(always)]
 fn reach_of(low: i32, high: i32, predicted: i32) -> u32
     requires low_in { negsuc 32767 ≤ℤ low }
     requires high_in { high ≤ℤ (low +ℤ pos 65535) }
@@ -96,6 +100,7 @@ fn reach_of(low: i32, high: i32, predicted: i32) -> u32
 }
 
 /// Whether the error has the sign that the scaled prediction's parity asks for.
+#[inline(always)]
 fn has_sign(scaled: i32, error: i32) -> bool
     ensures { result ≡ agrees scaled error }
 {
@@ -107,6 +112,7 @@ fn has_sign(scaled: i32, error: i32) -> bool
 }
 
 /// The number of an error, by its size and its sign.
+#[inline(always)]
 fn number_by(near: u32, size: u32, sign: bool) -> u32
     requires fits { size + min size near ≤ 65535 }
     requires zero { size ≡ 0 → IsTrue sign }
@@ -123,6 +129,7 @@ fn number_by(near: u32, size: u32, sign: bool) -> u32
 }
 
 /// The error of a number.
+#[inline(always)]
 fn error_by(near: u32, below: u32, parity: u32, number: u32) -> i32
     requires near_in { near ≤ 65535 }
     requires number_in { number ≤ 65535 }

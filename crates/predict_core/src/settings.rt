@@ -58,6 +58,7 @@ pub(crate) fn first_scaled(settings: &Settings, cube: &Cube) -> i32
 }
 
 /// What is predicted at a place that is not the first of its band.
+#[inline(always)]
 pub(crate) fn predict(
     settings: &Settings,
     cube: &Cube,
@@ -96,6 +97,7 @@ pub(crate) fn predict(
 }
 
 /// Moves the weights after a sample at place `t`.
+#[inline(always)]
 pub(crate) fn learn(
     settings: &Settings,
     t: u64,
