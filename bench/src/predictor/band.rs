@@ -249,15 +249,21 @@ impl Band {
         let below = predicted - self.smin;
         let near = below.min(self.smax - predicted);
         let delta = i32::from(delta);
-        let far = delta - near;
-        let size = (delta + 1) / 2;
-        let beyond = if near < below { -far } else { far };
-        let within = if (delta + scaled) % 2 == 0 {
-            size
+        let error = if 2 * near < delta {
+            let size = delta - near;
+            if near < below {
+                -size
+            } else {
+                size
+            }
         } else {
-            -size
+            let size = (delta + 1) / 2;
+            if (delta + scaled) % 2 == 0 {
+                size
+            } else {
+                -size
+            }
         };
-        let error = if 2 * near < delta { beyond } else { within };
         predicted + error
     }
 }
