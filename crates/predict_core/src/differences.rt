@@ -81,7 +81,7 @@ fn fill_directional(
         return;
     }
     let x = x as usize;
-    let above = cube.row(z, y - 1);
+    let above = cube.row(z, y.saturating_sub(1));
     let north = difference_of(above[x], sum);
     if x == 0 {
         put_directions(north, north, north, out);

@@ -1,6 +1,6 @@
 //! From a sample to its mapped residual, and back.
 
-ghost use Rattle.std.specs.Prelude.{◌≡◌, ◌+◌, ◌*◌, ◌^◌, ◌<◌, ◌≤◌, pos, negsuc, ◌≤ℤ◌, ◌+ℤ◌, ◌-ℤ◌, ◌*ℤ◌, min, IsTrue};
+ghost use Rattle.std.specs.Prelude.{◌≡◌, ◌+◌, ◌*◌, ◌^◌, ◌<◌, ◌≤◌, pos, negsuc, ◌≤ℤ◌, ◌+ℤ◌, ◌-ℤ◌, ◌*ℤ◌, min, IsTrue, unsigned_abs};
 ghost use Rattle.cube_core.specs.Kind.{IsSample};
 ghost use Rattle.predict_core.specs.Arithmetic.{floor_div};
 ghost use Rattle.predict_core.specs.Residual.{reach, agrees, number_of, mapped_between, mapped};
@@ -69,7 +69,7 @@ pub(crate) fn unmap_between(low: i32, high: i32, scaled: i32, delta: u16) -> i32
 {
     let predicted = prediction_of(scaled);
     let near = reach_of(low, high, predicted);
-    let below = (predicted - low).unsigned_abs();
+    let below = span_of(low, predicted);
     predicted + error_by(near, below, scaled.unsigned_abs(), delta as u32)
 }
 
@@ -94,9 +94,17 @@ fn reach_of(low: i32, high: i32, predicted: i32) -> u32
     ensures low_end { pos result ≤ℤ (predicted -ℤ low) }
     ensures high_end { pos result ≤ℤ (high -ℤ predicted) }
 {
-    (predicted - low)
-        .unsigned_abs()
-        .min((high - predicted).unsigned_abs())
+    span_of(low, predicted).min(span_of(predicted, high))
+}
+
+/// How far two numbers are apart, the lower one first.
+#[inline(always)]
+fn span_of(low: i32, high: i32) -> u32
+    requires order { low ≤ℤ high }
+    requires near { high ≤ℤ (low +ℤ pos 65535) }
+    ensures { result ≡ unsigned_abs (high -ℤ low) }
+{
+    (high - low) as u32
 }
 
 /// Whether the error has the sign that the scaled prediction's parity asks for.
