@@ -1,4 +1,4 @@
-.PHONY: show test
+.PHONY: show test bench
 
 # Builds the program and shows the sample cube's file in hexadecimal.
 show:
@@ -7,3 +7,9 @@ show:
 # Proves every crate from nothing, tries the must-fail edits, and runs the tests and the program.
 test:
 	rt ci
+
+# Measures the benchmark program beside plain Rust, and prints a table.
+bench:
+	cd crates/speed && rt run > /dev/null
+	cd bench && cargo build --release
+	bench/compare

@@ -145,6 +145,7 @@ fn first_spectral(reduced: bool) -> usize
 }
 
 /// The mapped residual at the first place of a band.
+#[inline(always)]
 fn first_residual(settings: &Settings, cube: &Cube, y: u32, x: u32) -> u16
     requires kind { cube.now.kind ≡ settings.now.range.kind }
     requires place { IsPlace cube.now.shape settings.now.band y x }
@@ -157,6 +158,7 @@ fn first_residual(settings: &Settings, cube: &Cube, y: u32, x: u32) -> u16
 }
 
 /// The mapped residual at place `t`, not the first of a band, and the weights after it.
+#[inline(always)]
 fn next_residual(
     settings: &Settings,
     cube: &Cube,
@@ -184,6 +186,7 @@ fn next_residual(
 }
 
 /// The sample of a mapped residual at the first place of a band.
+#[inline(always)]
 fn first_sample(settings: &Settings, cube: &Cube, y: u32, x: u32, delta: u16) -> i32
     requires kind { cube.now.kind ≡ settings.now.range.kind }
     requires columns { cube.now.shape.columns ≡ settings.now.columns }
@@ -199,6 +202,7 @@ fn first_sample(settings: &Settings, cube: &Cube, y: u32, x: u32, delta: u16) ->
 }
 
 /// The sample of a mapped residual at place `t`, not the first of a band, and the weights after it.
+#[inline(always)]
 fn next_sample(
     settings: &Settings,
     cube: &Cube,

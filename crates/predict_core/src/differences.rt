@@ -12,34 +12,41 @@ use crate::neighbourhood::{central_of, difference_of, sum_of};
 use crate::predictor::Predictor;
 use cube_core::cube::Cube;
 
-/// All differences at a place that is not the first of its band, in full mode the directional ones first.
+/// Writes all differences at a place that is not the first of its band into a room of zeros, in full
+/// mode the directional ones first.
 ///
 /// `sum` is the local sum of the heights there (CCSDS 123.0-B-1, "Local Differences").
-pub(crate) fn difference_vector(
+#[inline(always)]
+pub(crate) fn fill_differences(
     predictor: &Predictor,
     cube: &Cube,
     z: u32,
     y: u32,
     x: u32,
     sum: u32,
-) -> [i32; 18]
+    out: &mut [i32; 18],
+)
     requires lawful { IsPredictor predictor.now }
     requires place { IsPlace cube.now.shape z y x }
     requires later { 0 < y + x }
     requires wide { predictor.now.column ≡ false → 2 ≤ cube.now.shape.columns }
     requires sum_is { local_sum predictor.now cube.now z y x ≡ pos 4 *ℤ smin cube.now.kind +ℤ pos sum }
     requires sum_in { sum ≤ 262140 }
-    ensures value { result ≡ vector predictor.now cube.now z y x ++ replicate (18 - component_count predictor.now z) (pos 0) }
-    ensures bound { AllWithin 262144 result }
+    requires clear { out.old ≡ replicate 18 (pos 0) }
+    ensures value { out.new ≡ vector predictor.now cube.now z y x ++ replicate (18 - component_count predictor.now z) (pos 0) }
+    ensures bound { AllWithin 262144 out.new }
 {
+    let count = z.min(predictor.previous) as usize;
     if predictor.reduced {
-        reduced_vector(predictor, cube, z, y, x)
+        fill_spectral(predictor, cube, z, y, x, 0, count, out);
     } else {
-        full_vector(predictor, cube, z, y, x, sum)
+        fill_directional(predictor, cube, z, y, x, sum, out);
+        fill_spectral(predictor, cube, z, y, x, 3, count, out);
     }
 }
 
 /// The local sum of the heights at a place that is not the first of its band.
+#[inline(always)]
 pub(crate) fn sum_at(predictor: &Predictor, cube: &Cube, z: u32, y: u32, x: u32) -> u32
     requires place { IsPlace cube.now.shape z y x }
     requires later { 0 < y + x }
@@ -52,79 +59,57 @@ pub(crate) fn sum_at(predictor: &Predictor, cube: &Cube, z: u32, y: u32, x: u32)
     sum_of(predictor.column, y, row, above, x as usize)
 }
 
-/// The differences of reduced mode.
-fn reduced_vector(predictor: &Predictor, cube: &Cube, z: u32, y: u32, x: u32) -> [i32; 18]
-    requires lawful { IsPredictor predictor.now }
-    requires place { IsPlace cube.now.shape z y x }
-    requires later { 0 < y + x }
-    requires wide { predictor.now.column ≡ false → 2 ≤ cube.now.shape.columns }
-    requires mode { predictor.now.reduced ≡ true }
-    ensures value { result ≡ vector predictor.now cube.now z y x ++ replicate (18 - component_count predictor.now z) (pos 0) }
-    ensures bound { AllWithin 262144 result }
-{
-    let mut out = [0i32; 18];
-    let count = z.min(predictor.previous) as usize;
-    fill_spectral(predictor, cube, z, y, x, 0, count, &mut out);
-    out
-}
-
-/// The differences of full mode.
-fn full_vector(predictor: &Predictor, cube: &Cube, z: u32, y: u32, x: u32, sum: u32) -> [i32; 18]
-    requires lawful { IsPredictor predictor.now }
-    requires place { IsPlace cube.now.shape z y x }
-    requires later { 0 < y + x }
-    requires wide { predictor.now.column ≡ false → 2 ≤ cube.now.shape.columns }
-    requires mode { predictor.now.reduced ≡ false }
-    requires sum_is { local_sum predictor.now cube.now z y x ≡ pos 4 *ℤ smin cube.now.kind +ℤ pos sum }
-    requires sum_in { sum ≤ 262140 }
-    ensures value { result ≡ vector predictor.now cube.now z y x ++ replicate (18 - component_count predictor.now z) (pos 0) }
-    ensures bound { AllWithin 262144 result }
-{
-    let mut out = directions_at(predictor, cube, z, y, x, sum);
-    let count = z.min(predictor.previous) as usize;
-    fill_spectral(predictor, cube, z, y, x, 3, count, &mut out);
-    out
-}
-
-/// The directional differences alone.
-fn directions_at(predictor: &Predictor, cube: &Cube, z: u32, y: u32, x: u32, sum: u32) -> [i32; 18]
+/// Writes the directional differences at the head of a room of zeros.
+#[inline(always)]
+fn fill_directional(
+    predictor: &Predictor,
+    cube: &Cube,
+    z: u32,
+    y: u32,
+    x: u32,
+    sum: u32,
+    out: &mut [i32; 18],
+)
     requires place { IsPlace cube.now.shape z y x }
     requires sum_is { local_sum predictor.now cube.now z y x ≡ pos 4 *ℤ smin cube.now.kind +ℤ pos sum }
     requires sum_in { sum ≤ 262140 }
-    ensures value { result ≡ directional_differences predictor.now cube.now z y x ++ replicate 15 (pos 0) }
-    ensures bound { AllWithin 262144 result }
+    requires clear { out.old ≡ replicate 18 (pos 0) }
+    ensures value { out.new ≡ directional_differences predictor.now cube.now z y x ++ replicate 15 (pos 0) }
+    ensures bound { AllWithin 262144 out.new }
 {
     if y == 0 {
-        return directions(0, 0, 0);
+        return;
     }
     let x = x as usize;
-    let above = cube.row(z, y - 1);
+    let above = cube.row(z, y.saturating_sub(1));
     let north = difference_of(above[x], sum);
     if x == 0 {
-        return directions(north, north, north);
+        put_directions(north, north, north, out);
+        return;
     }
     let row = cube.row(z, y);
     let west = difference_of(row[x - 1], sum);
     let north_west = difference_of(above[x - 1], sum);
-    directions(north, west, north_west)
+    put_directions(north, west, north_west, out);
 }
 
-/// Three differences at the head of the room.
-fn directions(north: i32, west: i32, north_west: i32) -> [i32; 18]
+/// Puts three differences at the head of a room of zeros.
+#[inline(always)]
+fn put_directions(north: i32, west: i32, north_west: i32, out: &mut [i32; 18])
     requires north_in { unsigned_abs north ≤ 262144 }
     requires west_in { unsigned_abs west ≤ 262144 }
     requires north_west_in { unsigned_abs north_west ≤ 262144 }
-    ensures value { result ≡ north ∷ west ∷ north_west ∷ replicate 15 (pos 0) }
-    ensures bound { AllWithin 262144 result }
+    requires clear { out.old ≡ replicate 18 (pos 0) }
+    ensures value { out.new ≡ north ∷ west ∷ north_west ∷ replicate 15 (pos 0) }
+    ensures bound { AllWithin 262144 out.new }
 {
-    let mut out = [0i32; 18];
     out[0] = north;
     out[1] = west;
     out[2] = north_west;
-    out
 }
 
 /// Writes the central differences of the `count` bands below `z`, the nearest first, from place `first` on.
+#[inline(always)]
 fn fill_spectral(
     predictor: &Predictor,
     cube: &Cube,
@@ -151,6 +136,7 @@ fn fill_spectral(
 }
 
 /// The central difference of band `z` at a place that is not the first.
+#[inline(always)]
 fn central(predictor: &Predictor, cube: &Cube, z: u32, y: u32, x: u32) -> i32
     requires place { IsPlace cube.now.shape z y x }
     requires later { 0 < y + x }

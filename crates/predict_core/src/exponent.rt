@@ -9,6 +9,7 @@ use crate::predictor::Predictor;
 use crate::register::halved;
 
 /// The exponent of the steps after place `t`, in rows of so many columns, for samples of so many bits.
+#[inline(always)]
 pub(crate) fn exponent_at(predictor: &Predictor, columns: u32, bits: u32, t: u64) -> i32
     requires lawful { IsPredictor predictor.now }
     requires columns_in { columns ≤ 65536 }
@@ -22,6 +23,7 @@ pub(crate) fn exponent_at(predictor: &Predictor, columns: u32, bits: u32, t: u64
 }
 
 /// How far the exponent has grown at place `t`.
+#[inline(always)]
 fn growth_at(predictor: &Predictor, columns: u32, t: u64) -> i32
     requires lawful { IsPredictor predictor.now }
     requires columns_in { columns ≤ 65536 }
@@ -37,6 +39,7 @@ fn growth_at(predictor: &Predictor, columns: u32, t: u64) -> i32
 }
 
 /// How many intervals lie between the second row and a place.
+#[inline(always)]
 fn intervals_at(interval_log: u32, columns: u32, t: u64) -> i64
     requires interval_in { interval_log ≤ 11 }
     requires columns_in { columns ≤ 65536 }

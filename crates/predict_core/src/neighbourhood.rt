@@ -10,6 +10,7 @@ ghost use Rattle.predict_core.specs.HeightSum.{height_sum, height_difference};
 ///
 /// The first row of a band has none above it; then `above` isn't looked at
 /// (CCSDS 123.0-B-1, "Local Sums").
+#[inline(always)]
 pub(crate) fn sum_of(column: bool, y: u32, row: &[u16], above: &[u16], x: usize) -> u32
     requires inside { x < length row.now }
     requires same { length above.now ≡ length row.now }
@@ -32,6 +33,7 @@ pub(crate) fn sum_of(column: bool, y: u32, row: &[u16], above: &[u16], x: usize)
 }
 
 /// Four times a sample, less a local sum.
+#[inline(always)]
 pub(crate) fn difference_of(height: u16, sum: u32) -> i32
     requires { sum ≤ 262140 }
     ensures value { result ≡ height_difference height sum }
@@ -41,6 +43,7 @@ pub(crate) fn difference_of(height: u16, sum: u32) -> i32
 }
 
 /// The central difference at a place.
+#[inline(always)]
 pub(crate) fn central_of(column: bool, y: u32, row: &[u16], above: &[u16], x: usize) -> i32
     requires inside { x < length row.now }
     requires same { length above.now ≡ length row.now }

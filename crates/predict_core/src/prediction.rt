@@ -12,6 +12,7 @@ use crate::register::{halved, register_of, wrapped_value};
 use crate::weights::product_of;
 
 /// Twice a predicted sample, from the local sum, the weights and the differences.
+#[inline(always)]
 pub(crate) fn scaled_by(
     predictor: &Predictor,
     range: &Range,
@@ -39,6 +40,7 @@ pub(crate) fn scaled_by(
 }
 
 /// The middle of the prediction's range, moved by the upper part of the register.
+#[inline(always)]
 fn center_of(upper: i64, middle: i32) -> i64
     requires upper_in { unsigned_abs upper ≤ 2 ^ 62 }
     requires middle_in { (pos 0 ≤ℤ middle) × (middle ≤ℤ pos 32768) }
@@ -48,6 +50,7 @@ fn center_of(upper: i64, middle: i32) -> i64
 }
 
 /// The scaled prediction from the upper part of the register.
+#[inline(always)]
 fn scaled_from(low: i32, high: i32, middle: i32, upper: i64) -> i32
     requires upper_in { unsigned_abs upper ≤ 2 ^ 62 }
     requires low_in { (negsuc 32767 ≤ℤ low) × (low ≤ℤ pos 0) }

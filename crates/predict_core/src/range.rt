@@ -43,6 +43,7 @@ impl Range {
     }
 
     /// The mapped residual of a sample.
+    #[inline(always)]
     pub(crate) fn residual_of(&self, scaled: i32, sample: i32) -> u16
         requires scaled { IsScaled self.now.kind scaled }
         requires sample { IsSample self.now.kind sample }
@@ -53,6 +54,7 @@ impl Range {
     }
 
     /// The sample of a mapped residual.
+    #[inline(always)]
     pub(crate) fn sample_of(&self, scaled: i32, delta: u16) -> i32
         requires scaled { IsScaled self.now.kind scaled }
         requires residual { delta < 2 ^ self.now.kind.bits }

@@ -1,6 +1,6 @@
 //! From a sample to its mapped residual, and back.
 
-ghost use Rattle.std.specs.Prelude.{◌≡◌, ◌+◌, ◌*◌, ◌^◌, ◌<◌, ◌≤◌, pos, negsuc, ◌≤ℤ◌, ◌+ℤ◌, ◌-ℤ◌, ◌*ℤ◌, min, IsTrue};
+ghost use Rattle.std.specs.Prelude.{◌≡◌, ◌+◌, ◌*◌, ◌^◌, ◌<◌, ◌≤◌, pos, negsuc, ◌≤ℤ◌, ◌+ℤ◌, ◌-ℤ◌, ◌*ℤ◌, min, IsTrue, unsigned_abs};
 ghost use Rattle.cube_core.specs.Kind.{IsSample};
 ghost use Rattle.predict_core.specs.Arithmetic.{floor_div};
 ghost use Rattle.predict_core.specs.Residual.{reach, agrees, number_of, mapped_between, mapped};
@@ -35,6 +35,7 @@ pub fn unmap_residual(kind: Kind, stilde: i32, delta: u16) -> i32
 }
 
 /// The number of a sample between `low` and `high`.
+#[inline(always)]
 pub(crate) fn map_between(low: i32, high: i32, scaled: i32, v: i32) -> u16
     requires low_in { negsuc 32767 ≤ℤ low }
     requires high_in { high ≤ℤ (low +ℤ pos 65535) }
@@ -54,6 +55,7 @@ pub(crate) fn map_between(low: i32, high: i32, scaled: i32, v: i32) -> u16
 }
 
 /// The sample between `low` and `high` whose number is `delta`.
+#[inline(always)]
 pub(crate) fn unmap_between(low: i32, high: i32, scaled: i32, delta: u16) -> i32
     requires low_in { negsuc 32767 ≤ℤ low }
     requires high_in { high ≤ℤ (low +ℤ pos 65535) }
@@ -67,11 +69,12 @@ pub(crate) fn unmap_between(low: i32, high: i32, scaled: i32, delta: u16) -> i32
 {
     let predicted = prediction_of(scaled);
     let near = reach_of(low, high, predicted);
-    let below = (predicted - low).unsigned_abs();
+    let below = span_of(low, predicted);
     predicted + error_by(near, below, scaled.unsigned_abs(), delta as u32)
 }
 
 /// Half of a scaled prediction, rounded down.
+#[inline(always)]
 fn prediction_of(scaled: i32) -> i32
     ensures value { result ≡ floor_div scaled 2 }
     ensures low { (pos 2 *ℤ result) ≤ℤ scaled }
@@ -81,6 +84,7 @@ fn prediction_of(scaled: i32) -> i32
 }
 
 /// How far the prediction is from the nearer end of the range.
+#[inline(always)]
 fn reach_of(low: i32, high: i32, predicted: i32) -> u32
     requires low_in { negsuc 32767 ≤ℤ low }
     requires high_in { high ≤ℤ (low +ℤ pos 65535) }
@@ -90,12 +94,21 @@ fn reach_of(low: i32, high: i32, predicted: i32) -> u32
     ensures low_end { pos result ≤ℤ (predicted -ℤ low) }
     ensures high_end { pos result ≤ℤ (high -ℤ predicted) }
 {
-    (predicted - low)
-        .unsigned_abs()
-        .min((high - predicted).unsigned_abs())
+    span_of(low, predicted).min(span_of(predicted, high))
+}
+
+/// How far two numbers are apart, the lower one first.
+#[inline(always)]
+fn span_of(low: i32, high: i32) -> u32
+    requires order { low ≤ℤ high }
+    requires near { high ≤ℤ (low +ℤ pos 65535) }
+    ensures { result ≡ unsigned_abs (high -ℤ low) }
+{
+    (high - low) as u32
 }
 
 /// Whether the error has the sign that the scaled prediction's parity asks for.
+#[inline(always)]
 fn has_sign(scaled: i32, error: i32) -> bool
     ensures { result ≡ agrees scaled error }
 {
@@ -107,6 +120,7 @@ fn has_sign(scaled: i32, error: i32) -> bool
 }
 
 /// The number of an error, by its size and its sign.
+#[inline(always)]
 fn number_by(near: u32, size: u32, sign: bool) -> u32
     requires fits { size + min size near ≤ 65535 }
     requires zero { size ≡ 0 → IsTrue sign }
@@ -123,6 +137,7 @@ fn number_by(near: u32, size: u32, sign: bool) -> u32
 }
 
 /// The error of a number.
+#[inline(always)]
 fn error_by(near: u32, below: u32, parity: u32, number: u32) -> i32
     requires near_in { near ≤ 65535 }
     requires number_in { number ≤ 65535 }

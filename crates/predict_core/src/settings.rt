@@ -10,7 +10,7 @@ ghost use Rattle.predict_core.specs.Prediction.{scaled_there, first_scaled as fi
 ghost use Rattle.predict_core.specs.Mapping.{IsScaled};
 ghost use Rattle.predict_core.specs.Bounds.{AllWithin, IsPredictor};
 
-use crate::differences::{difference_vector, sum_at};
+use crate::differences::{fill_differences, sum_at};
 use crate::exponent::exponent_at;
 use crate::prediction::scaled_by;
 use crate::predictor::Predictor;
@@ -58,6 +58,7 @@ pub(crate) fn first_scaled(settings: &Settings, cube: &Cube) -> i32
 }
 
 /// What is predicted at a place that is not the first of its band.
+#[inline(always)]
 pub(crate) fn predict(
     settings: &Settings,
     cube: &Cube,
@@ -79,7 +80,8 @@ pub(crate) fn predict(
     let predictor = &settings.predictor;
     let range = &settings.range;
     let sum = sum_at(predictor, cube, settings.band, y, x);
-    let differences = difference_vector(predictor, cube, settings.band, y, x, sum);
+    let mut differences = [0i32; 18];
+    fill_differences(predictor, cube, settings.band, y, x, sum, &mut differences);
     let whole = 4 * range.smin + sum as i32;
     let scaled = scaled_by(
         predictor,
@@ -96,6 +98,7 @@ pub(crate) fn predict(
 }
 
 /// Moves the weights after a sample at place `t`.
+#[inline(always)]
 pub(crate) fn learn(
     settings: &Settings,
     t: u64,

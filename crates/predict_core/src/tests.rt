@@ -122,13 +122,20 @@ fn coded(rt: &impl Abort, coder: &mut BandOfA, cube: &CubeOfA, place: Place) -> 
 }
 
 /// Puts the sample of a residual at a place that held another value.
-fn found_again(rt: &impl Abort, decoder: &mut BandOfA, back: &mut CubeOfA, place: Place, delta: u16)
+fn found_again(
+    rt: &impl Abort,
+    decoder: &mut BandOfA,
+    back: &mut CubeOfA,
+    place: Place,
+    own: u8,
+    delta: u16,
+)
     requires { delta < 2 ^ 8 }
 {
     assert!(rt; place.z < 2);
     assert!(rt; place.y < 2);
     assert!(rt; place.x < 3);
-    back.cube.set(place.z, place.y, place.x, 255);
+    back.cube.set(place.z, place.y, place.x, i32::from(own));
     assert!(rt; decoder.band.next() == u64::from(place.y) * 3 + u64::from(place.x));
     let sample = decoder.band.inverse(&back.cube, place.y, place.x, delta);
     back.cube.set(place.z, place.y, place.x, sample);
@@ -136,16 +143,18 @@ fn found_again(rt: &impl Abort, decoder: &mut BandOfA, back: &mut CubeOfA, place
 
 /// The residuals of cube A in an order, and the cube that they give back.
 ///
-/// Before each sample is found again, its place and all later ones hold other values.
+/// Before each sample is found again, its place holds `own`, and all later ones hold `later`.
 fn forward_and_back(
     rt: &impl Abort,
     alloc: Global,
     order: Order,
+    own: u8,
+    later: u8,
 ) -> Result<(Vec<u16>, CubeOfA), Fault>
     requires { IsOrder (sizes 3 2 2) order }
 {
     let cube = cube_of_a(rt, alloc, &CUBE_A)?;
-    let mut back = cube_of_a(rt, alloc, &[7; 12])?;
+    let mut back = cube_of_a(rt, alloc, &[later; 12])?;
     let mut coders = vec![in alloc; band_of_a(rt, alloc, 0)?, band_of_a(rt, alloc, 1)?]?;
     let mut decoders = vec![in alloc; band_of_a(rt, alloc, 0)?, band_of_a(rt, alloc, 1)?]?;
     let mut residuals = Vec::new(alloc);
@@ -155,7 +164,7 @@ fn forward_and_back(
         let delta = coded(rt, &mut coders[z], &cube, place);
         residuals.push(delta)?;
         assert!(rt; z < decoders.len());
-        found_again(rt, &mut decoders[z], &mut back, place, delta);
+        found_again(rt, &mut decoders[z], &mut back, place, own, delta);
     }
     Ok((residuals, back))
 }
@@ -168,18 +177,25 @@ fn cube_a_forward_and_back_in_each_order(rt: HostRuntime) -> Result<(), Fail> {
         (Order::Bi(2), [55, 20, 3, 1, 5, 2, 0, 2, 4, 1, 2, 2]),
     ];
     for (order, expected) in rows {
-        let (residuals, back) = forward_and_back(&rt, rt.alloc(), order)?;
-        assert_eq!(rt; residuals.as_slice(), expected.as_slice());
-        for z in 0..2u32 {
-            for y in 0..2u32 {
-                for x in 0..3u32 {
-                    let place = (z * 6 + y * 3 + x) as usize;
-                    assert_eq!(rt; back.cube.sample(z, y, x), i32::from(CUBE_A[place]));
-                }
-            }
+        for (own, later) in [(255, 7), (0, 255), (128, 0)] {
+            let (residuals, back) = forward_and_back(&rt, rt.alloc(), order, own, later)?;
+            assert_eq!(rt; residuals.as_slice(), expected.as_slice());
+            is_cube_a(&rt, &back);
         }
     }
     Ok(())
+}
+
+/// Fails unless all samples are those of cube A.
+fn is_cube_a(rt: &impl Abort, cube: &CubeOfA) {
+    for z in 0..2u32 {
+        for y in 0..2u32 {
+            for x in 0..3u32 {
+                let place = (z * 6 + y * 3 + x) as usize;
+                assert_eq!(rt; cube.cube.sample(z, y, x), i32::from(CUBE_A[place]));
+            }
+        }
+    }
 }
 
 #[test]

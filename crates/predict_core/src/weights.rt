@@ -9,6 +9,7 @@ ghost use Rattle.predict_core.specs.Bounds.{AllWithin};
 /// The sum of the products of the weights in use with their differences.
 ///
 /// It goes over the first 8 of the room, or over all 18, so that the compiler knows how many.
+#[inline(always)]
 pub(crate) fn product_of(count: usize, weights: &[i32; 18], differences: &[i32; 18]) -> i64
     requires count_in { count ≤ 18 }
     requires weights_in { AllWithin (2 ^ 21) weights.now }
@@ -26,6 +27,7 @@ pub(crate) fn product_of(count: usize, weights: &[i32; 18], differences: &[i32; 
 }
 
 /// The sum of the products of the first `N` weights with their differences.
+#[inline(always)]
 fn product_of_first<const N: usize>(weights: &[i32; 18], differences: &[i32; 18]) -> i64
     requires few { N ≤ 18 }
     requires weights_in { AllWithin (2 ^ 21) weights.now }
@@ -45,6 +47,7 @@ fn product_of_first<const N: usize>(weights: &[i32; 18], differences: &[i32; 18]
 /// (CCSDS 123.0-B-1, "Weight Update").
 ///
 /// The step is found for all weights of the room in one of two ways, both in words of 32 bits.
+#[inline(always)]
 pub(crate) fn update(
     count: usize,
     weights: &mut [i32; 18],
@@ -64,6 +67,9 @@ pub(crate) fn update(
     ensures value { (us : List ℤ) → length us ≡ count → differences.now ≡ us ++ replicate (18 - count) (pos 0) → take count weights.new ≡ updated_weights fraction exponent negative (take count weights.old) us }
     ensures bound { AllWithin (2 ^ 21) weights.new }
 {
+    if count == 0 {
+        return;
+    }
     if count <= 8 {
         update_first::<8>(weights, differences, fraction, bits, exponent, negative);
     } else {
@@ -72,6 +78,7 @@ pub(crate) fn update(
 }
 
 /// The first `N` weights after an error.
+#[inline(always)]
 fn update_first<const N: usize>(
     weights: &mut [i32; 18],
     differences: &[i32; 18],
@@ -100,6 +107,7 @@ fn update_first<const N: usize>(
 }
 
 /// The weights after an error whose exponent is below 0: a difference is raised by `by` bits.
+#[inline(always)]
 fn update_by_products<const N: usize>(
     weights: &mut [i32; 18],
     differences: &[i32; 18],
@@ -121,6 +129,7 @@ fn update_by_products<const N: usize>(
 }
 
 /// The weights after an error whose exponent is 0 or more: a difference is halved `by + 1` times.
+#[inline(always)]
 fn update_by_halves<const N: usize>(
     weights: &mut [i32; 18],
     differences: &[i32; 18],
@@ -142,6 +151,7 @@ fn update_by_halves<const N: usize>(
 }
 
 /// One weight after an error whose exponent is below 0.
+#[inline(always)]
 fn moved_by_product(fraction: u32, by: u32, negative: bool, weight: i32, difference: i32) -> i32
     requires fraction_in { fraction ≤ 19 }
     requires by_in { by ≤ 22 }
@@ -155,6 +165,7 @@ fn moved_by_product(fraction: u32, by: u32, negative: bool, weight: i32, differe
 }
 
 /// One weight after an error whose exponent is 0 or more.
+#[inline(always)]
 fn moved_by_halves(fraction: u32, by: u32, negative: bool, weight: i32, difference: i32) -> i32
     requires fraction_in { fraction ≤ 19 }
     requires by_in { by ≤ 21 }
@@ -168,6 +179,7 @@ fn moved_by_halves(fraction: u32, by: u32, negative: bool, weight: i32, differen
 }
 
 /// A difference with the sign of the error.
+#[inline(always)]
 fn turned(negative: bool, difference: i32) -> i32
     requires { unsigned_abs difference ≤ 2 ^ 26 }
     ensures value { result ≡ signed_by negative difference }
@@ -177,6 +189,7 @@ fn turned(negative: bool, difference: i32) -> i32
 }
 
 /// A step of some size at an exponent of `-by - 1`.
+#[inline(always)]
 fn raised(size: i32, by: u32) -> i32
     requires by_in { by ≤ 22 }
     requires size_in { unsigned_abs size ≤ 2 ^ (26 - by) }
@@ -187,6 +200,7 @@ fn raised(size: i32, by: u32) -> i32
 }
 
 /// A step of some size at an exponent of `by`.
+#[inline(always)]
 fn lowered(size: i32, by: u32) -> i32
     requires by_in { by ≤ 21 }
     requires size_in { unsigned_abs size ≤ 2 ^ 18 }
@@ -197,6 +211,7 @@ fn lowered(size: i32, by: u32) -> i32
 }
 
 /// A weight after a step, held between the least and the greatest.
+#[inline(always)]
 fn held(fraction: u32, weight: i32, step: i32) -> i32
     requires fraction_in { fraction ≤ 19 }
     requires weight_in { unsigned_abs weight ≤ 2 ^ 21 }

@@ -1,7 +1,7 @@
-use Rattle.std.proofs.Common.{◌-ℤ◌, ◌+ℤ◌, ◌≡◌, SFits, to_z-of_z, w32, arith, sym, rules, subst}
+use Rattle.std.proofs.Common.{◌+ℤ◌, ◌≡◌, SFits, to_z-of_z, w32, arith, sym, rules, subst}
 use Rattle.std.proofs.lemmas.Int.{ints, fits_signed_from_abs}
 use Rattle.predict_core.specs.Mapping.{unmapped_between, Between}
-use Rattle.predict_core.proofs.Residuals.{within, SFits-apart}
+use Rattle.predict_core.proofs.Residuals.{within}
 use Rattle.predict_core.proofs.OneSample.{unmapped_is, sample_in, number_back}
 use Rattle.predict_core.proofs.residual.unmap_between.Goals as goal
 use Rattle.predict_core.proofs.residual.unmap_between.Goals.{After-error_by}
@@ -17,15 +17,12 @@ inside c =
     within c.args.low c.args.high c.args.scaled c.prediction_of-predicted.result c.requires.scaled_low c.requires.scaled_high
     (simp (to_z-of_z c.ranges.scaled) at c.prediction_of-predicted.ensures.low) (simp (to_z-of_z c.ranges.scaled) at c.prediction_of-predicted.ensures.high)
 
-below_fits : (c : After-error_by) → SFits w32 (c.prediction_of-predicted.result -ℤ c.args.low)
-below_fits c = let i = inside c in SFits-apart c.args.low c.prediction_of-predicted.result i.0 (omega (arith, ints))
-
 sample_is : (c : After-error_by) → c.prediction_of-predicted.result +ℤ c.error_by.result ≡ unmapped_between c.args.low c.args.high c.args.scaled c.args.delta
 sample_is c =
     unmapped_is c.args.low c.args.high c.args.scaled c.prediction_of-predicted.result c.error_by.result _ _ _ c.args.delta
     (simp (to_z-of_z c.ranges.scaled) at c.prediction_of-predicted.ensures.value)
     (simp (to_z-of_z c.ranges.low, to_z-of_z c.ranges.high, to_z-of_z (predicted_fits c)) at c.reach_of-near.ensures.value)
-    (simp (to_z-of_z c.ranges.low, to_z-of_z (predicted_fits c), to_z-of_z (below_fits c)) at c.unsigned_abs-below.ensures.value)
+    (simp (to_z-of_z c.ranges.low, to_z-of_z (predicted_fits c)) at c.span_of-below.ensures)
     (simp (to_z-of_z c.ranges.scaled) at c.unsigned_abs.ensures.value)
     c.error_by.ensures
 

@@ -14,7 +14,7 @@ returns-clause-value c =
     let low : smin c.args.cube.now.kind ≡ r.smin = ap (λ (k : SampleKind). smin k) c.requires.kind ∙ sym r.smin_is in
     let us = difference_vector s.predictor c.args.cube.now s.band c.args.y c.args.x in
     let long : length us ≡ s.count = vector_length s.predictor c.args.cube.now s.band c.args.y c.args.x ∙ sym s.count_is in
-    let padded = rw (← s.count_is) at c.difference_vector-differences.ensures.value in
+    let padded = rw (← s.count_is) at c.fill_differences.ensures.value in
     let e = rw (whole_sum r.smin c.sum_at-sum.result r.low c.sum_at-sum.ensures.bound) at c.scaled_by-scaled.ensures.value us long padded in
     rw (to_z-of_z fits, ← s.count_is)
     (scaled_there_is s.predictor c.args.cube.now r.kind s.band c.args.y c.args.x _ _ (take s.count c.args.weights.now) c.requires.kind (sym (rw low at c.sum_at-sum.ensures.value)) e)
@@ -25,5 +25,5 @@ returns-clause-bound c =
     let bits : s.range.bits ≡ c.args.cube.now.kind.bits = s.range.bits_is ∙ ap (λ (k : SampleKind). k.bits) (sym c.requires.kind) in
     let wide : s.predictor.column ≡ false → 2 ≤ c.args.cube.now.shape.columns = λ h. let w = s.wide h in omega arith in
     rw bits
-    (subst (AllWithin (4 * 2 ^ c.args.cube.now.kind.bits)) (sym c.difference_vector-differences.ensures.value)
+    (subst (AllWithin (4 * 2 ^ c.args.cube.now.kind.bits)) (sym c.fill_differences.ensures.value)
     (padded_within s.predictor c.args.cube.now c.is_cube.ensures c.args.y c.args.x c.requires.later wide s.band c.requires.place _))

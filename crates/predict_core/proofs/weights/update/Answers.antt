@@ -1,6 +1,11 @@
-use Rattle.std.proofs.Common.{◌-◌, to_z-of_z, arith}
+use Rattle.std.proofs.Common.{◌-◌, to_z-of_z, arith, refl}
+use Rattle.predict_core.specs.Weights.{updated_weights}
 use Rattle.predict_core.proofs.Prefixes.{update_in_use}
 use Rattle.predict_core.proofs.weights.update.Goals as goal
+
+pub returns-then-count-eq0-clause-value : goal.returns-then-count-eq0-clause-value
+unfolding updated_weights
+returns-then-count-eq0-clause-value c us l e = rw c.if-count-eq0.true refl
 
 pub returns-then-count-le8-clause-value : goal.returns-then-count-le8-clause-value
 returns-then-count-le8-clause-value c us l e =

@@ -1,0 +1,137 @@
+//! The speed of the predictor in plain Rust.
+
+mod band;
+
+use crate::report::{Report, Shape};
+use crate::synthetic::{mixed, Generator};
+use band::{Band, Cube, Params};
+use std::hint::black_box;
+use std::time::Instant;
+
+/// How many bits the samples have.
+const BITS: u32 = 12;
+
+/// The order in which the samples are coded.
+#[derive(Clone, Copy)]
+enum Order {
+    Bsq,
+    Bi(usize),
+}
+
+/// Measures `forward` and `inverse` in each mode and order.
+pub fn measure(report: &Report) {
+    let shape = report.shape();
+    for (mode, reduced, previous) in [("full_3", false, 3), ("reduced_0", true, 0)] {
+        let params = black_box(Params {
+            shape,
+            signed: false,
+            bits: BITS,
+            previous,
+            reduced,
+            column: false,
+            register: 32,
+            fraction: 13,
+            interval_log: 6,
+            vmin: -1,
+            vmax: 3,
+        });
+        for (name, order) in [
+            ("bsq", Order::Bsq),
+            ("bil", Order::Bi(1)),
+            ("bip", Order::Bi(shape.bands)),
+        ] {
+            there_and_back(report, &format!("{mode}_{name}"), &params, order);
+        }
+    }
+}
+
+/// Measures both ways in an order.
+fn there_and_back(report: &Report, name: &str, params: &Params, order: Order) {
+    let shape = params.shape;
+    let count = shape.sample_count();
+    let cube = synthetic_cube(shape);
+    let mut residuals = vec![0; count];
+    let mut bands = all_bands(params);
+    let mut slots = residuals.iter_mut();
+    let start = Instant::now();
+    walk(shape, order, |z, y, x| {
+        let residual = bands[z].forward(&cube, y as u32, x as u32);
+        *slots.next().unwrap() = residual;
+    });
+    report.line(&format!("forward_{name}"), count, start, || {
+        sum_of(&residuals)
+    });
+    let mut back = Cube {
+        shape,
+        smin: 0,
+        heights: vec![0; count],
+    };
+    let mut bands = all_bands(params);
+    let mut slots = residuals.iter();
+    let start = Instant::now();
+    walk(shape, order, |z, y, x| {
+        let sample = bands[z].inverse(&back, y as u32, x as u32, *slots.next().unwrap());
+        back.set(z as u32, y as u32, x as u32, sample);
+    });
+    report.line(&format!("inverse_{name}"), count, start, || {
+        sum_of(&back.heights)
+    });
+}
+
+fn all_bands(params: &Params) -> Vec<Band> {
+    (0..params.shape.bands as u32)
+        .map(|z| Band::new(params, z))
+        .collect()
+}
+
+/// Goes over all places in an order.
+fn walk(shape: Shape, order: Order, mut visit: impl FnMut(usize, usize, usize)) {
+    match order {
+        Order::Bsq => {
+            for z in 0..shape.bands {
+                for y in 0..shape.rows {
+                    for x in 0..shape.columns {
+                        visit(z, y, x);
+                    }
+                }
+            }
+        }
+        Order::Bi(depth) => {
+            for y in 0..shape.rows {
+                for first in (0..shape.bands).step_by(depth) {
+                    for x in 0..shape.columns {
+                        for z in first..shape.bands.min(first + depth) {
+                            visit(z, y, x);
+                        }
+                    }
+                }
+            }
+        }
+    }
+}
+
+/// A cube that changes slowly, with some noise.
+fn synthetic_cube(shape: Shape) -> Cube {
+    let mut generator = Generator::new();
+    let mut heights = Vec::with_capacity(shape.sample_count());
+    for z in 0..shape.bands {
+        for y in 0..shape.rows {
+            for x in 0..shape.columns {
+                let slow = 16 * z + 4 * y + 2 * x;
+                let noise = usize::from(generator.number(6));
+                heights.push(((slow + noise) % (1 << BITS)) as u16);
+            }
+        }
+    }
+    Cube {
+        shape,
+        smin: 0,
+        heights,
+    }
+}
+
+fn sum_of(numbers: &[u16]) -> u64 {
+    numbers
+        .iter()
+        .fold(0, |sum, number| mixed(sum, u64::from(*number)))
+}

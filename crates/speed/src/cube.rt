@@ -1,0 +1,154 @@
+//! The speed of raw bytes taken in and given out, and of a walk over all places.
+
+ghost use Rattle.std.specs.Prelude.{◌≤◌};
+ghost use Rattle.cube_core.specs.Layout.{IsLayout};
+ghost use Rattle.cube_core.specs.Order.{IsOrder};
+
+use crate::report::Report;
+use crate::synthetic::{Generator, mixed};
+use anyhow::Result;
+use cube_core::cube::Cube;
+use cube_core::cursor::Places;
+use cube_core::kind::Kind;
+use cube_core::layout::{Layout, RawOrder};
+use cube_core::order::Order;
+use cube_core::shape::Shape;
+use std::alloc::Global;
+
+/// How the bytes of a sample lie.
+#[derive(Clone, Copy)]
+enum Format {
+    Little,
+    Big,
+    Byte,
+}
+
+impl Format {
+    fn name(self) -> &'static str {
+        match self {
+            Format::Little => "little",
+            Format::Big => "big",
+            Format::Byte => "byte",
+        }
+    }
+
+    /// How many bits the samples have.
+    fn bits(self) -> u32
+        ensures { (2 ≤ result) × (result ≤ 16) }
+    {
+        match self {
+            Format::Little | Format::Big => 12,
+            Format::Byte => 8,
+        }
+    }
+
+    fn layout(self, order: RawOrder) -> Layout
+        ensures { IsLayout result }
+    {
+        match self {
+            Format::Little => Layout {
+                order,
+                bytes: 2,
+                little: true,
+            },
+            Format::Big => Layout {
+                order,
+                bytes: 2,
+                little: false,
+            },
+            Format::Byte => Layout {
+                order,
+                bytes: 1,
+                little: false,
+            },
+        }
+    }
+}
+
+/// Measures `from_raw`, `to_raw` and the walk.
+pub fn measure(report: &Report) -> Result<()> {
+    for (name, order) in [
+        ("bsq", RawOrder::Bsq),
+        ("bil", RawOrder::Bil),
+        ("bip", RawOrder::Bip),
+    ] {
+        for format in [Format::Little, Format::Big, Format::Byte] {
+            raw(report, name, order, format)?;
+        }
+    }
+    let shape = report.shape()?;
+    let bands = shape.bands();
+    walk(report, "walk_bsq", shape, Order::Bsq)?;
+    walk(report, "walk_bi_1", shape, Order::Bi(1))?;
+    walk(report, "walk_bi_5", shape, Order::Bi(bands.min(5)))?;
+    walk(report, "walk_bi_all", shape, Order::Bi(bands))
+}
+
+/// Measures `from_raw` and `to_raw` of a layout.
+fn raw(report: &Report, order_name: &str, order: RawOrder, format: Format) -> Result<()> {
+    let shape = report.shape()?;
+    let count = shape.sample_count();
+    let kind = Kind::new(false, format.bits())?;
+    let layout = format.layout(order);
+    let format_name = format.name();
+    let bytes = raw_bytes(report.alloc(), format, count)?;
+    let start = report.start()?;
+    let cube = Cube::from_raw(report.alloc(), shape, kind, layout, &bytes)?;
+    let time = report.since(start)?;
+    let name = format!(in report.alloc(); "from_raw_{order_name}_{format_name}")?;
+    report.line(name.as_str(), count, time, sum_of_cube(&cube))?;
+    let start = report.start()?;
+    let again = cube.to_raw(report.alloc(), layout)?;
+    let time = report.since(start)?;
+    let name = format!(in report.alloc(); "to_raw_{order_name}_{format_name}")?;
+    report.line(name.as_str(), count, time, sum_of_bytes(&again))
+}
+
+/// Measures a walk over all places.
+fn walk(report: &Report, name: &str, shape: Shape, order: Order) -> Result<()>
+    requires { IsOrder shape order }
+{
+    let start = report.start()?;
+    let mut sum = 0;
+    for place in Places::new(shape, order) {
+        let number = u64::from(place.z) << 40 | u64::from(place.y) << 20 | u64::from(place.x);
+        sum = mixed(sum, number);
+    }
+    let time = report.since(start)?;
+    report.line(name, shape.sample_count(), time, sum)
+}
+
+/// The bytes of so many samples.
+fn raw_bytes(alloc: Global, format: Format, count: u64) -> Result<Vec<u8>> {
+    let mut generator = Generator::new();
+    let mut bytes = Vec::new(alloc);
+    for _ in 0..count {
+        match format {
+            Format::Little => bytes.extend_from_slice(&generator.number(12).to_le_bytes())?,
+            Format::Big => bytes.extend_from_slice(&generator.number(12).to_be_bytes())?,
+            Format::Byte => bytes.push(generator.number(8) as u8)?,
+        }
+    }
+    Ok(bytes)
+}
+
+pub fn sum_of_cube(cube: &Cube) -> u64 {
+    let shape = cube.shape();
+    let mut sum = 0;
+    for z in 0..shape.bands() {
+        for y in 0..shape.rows() {
+            for height in cube.row(z, y) {
+                sum = mixed(sum, u64::from(*height));
+            }
+        }
+    }
+    sum
+}
+
+fn sum_of_bytes(bytes: &[u8]) -> u64 {
+    let mut sum = 0;
+    for byte in bytes {
+        sum = mixed(sum, u64::from(*byte));
+    }
+    sum
+}

@@ -1,0 +1,53 @@
+//! The benchmark program: how fast each part of the coder goes through samples.
+//!
+//! `speed SUBJECT` prints a line for each measured loop: its name, how many samples it went through in
+//! how many nanoseconds, and a checksum of what it found. Without a subject all loops go through little
+//! data, and names and checksums alone are printed. The project in `bench/` prints the same of plain
+//! Rust, and `bench/compare` sets both side by side.
+#![tactic(auto)]
+
+mod block_coder;
+mod cube;
+mod predictor;
+mod report;
+mod sample_coder;
+mod synthetic;
+
+use crate::report::Report;
+use anyhow::Result;
+use std::env;
+
+/// How often each subject's loops are measured.
+const ROUNDS: u32 = 5;
+
+fn main(rt: HostRuntime) -> Result<()> {
+    let mut words = env::args(&rt)?;
+    let _program = words.next();
+    match words.next() {
+        None => {
+            let report = Report::of_checksums(&rt);
+            cube::measure(&report)?;
+            predictor::measure(&report)?;
+            sample_coder::measure(&report)?;
+            block_coder::measure(&report)
+        }
+        Some(subject) => {
+            let report = Report::of_times(&rt);
+            for _ in 0..ROUNDS {
+                measure(&report, subject.as_str())?;
+            }
+            Ok(())
+        }
+    }
+}
+
+/// Measures the loops of a subject.
+fn measure(report: &Report, subject: &str) -> Result<()> {
+    match subject {
+        "cube" => cube::measure(report),
+        "predictor" => predictor::measure(report),
+        "sample_coder" => sample_coder::measure(report),
+        "block_coder" => block_coder::measure(report),
+        _ => Ok(()),
+    }
+}

@@ -1,0 +1,168 @@
+//! The speed of the predictor, sample by sample, there and back.
+
+ghost use Rattle.std.specs.Prelude.{◌≡◌, ◌<◌, ◌^◌, length, slice_index, vec_len, IfOk, ℕ};
+ghost use Rattle.cube_core.specs.Shape.{sample_count};
+ghost use Rattle.header_bits.specs.Lawful.{IsLawful};
+ghost use Rattle.header_bits.specs.Reach.{here};
+ghost use Rattle.speed.specs.Along.{AreAt};
+
+use crate::cube::sum_of_cube;
+use crate::report::Report;
+use crate::synthetic::{Generator, mixed};
+use anyhow::Result;
+use cube_core::cube::Cube;
+use cube_core::cursor::Places;
+use cube_core::kind::Kind;
+use cube_core::order::Order;
+use cube_core::shape::Shape;
+use header_bits::params::{Coder, CountStart, Params, WeightStart};
+use predict_core::band::Band;
+use std::alloc::Global;
+
+/// Measures `forward` and `inverse` in each mode and order.
+pub fn measure(report: &Report) -> Result<()> {
+    let shape = report.shape()?;
+    for (mode, reduced, previous) in [("full_3", false, 3), ("reduced_0", true, 0)] {
+        for (name, order) in [
+            ("bsq", Order::Bsq),
+            ("bil", Order::Bi(1)),
+            ("bip", Order::Bi(shape.bands())),
+        ] {
+            let params = params_of(shape, reduced, previous, order)?;
+            there_and_back(report, mode, name, &params)?;
+        }
+    }
+    Ok(())
+}
+
+/// The parameters of a measurement: 12 bits, neighbour sums, and the usual numbers.
+fn params_of(shape: Shape, reduced: bool, previous: u32, order: Order) -> Result<Params>
+    ensures { IfOk result (λ p. IsLawful here p) }
+{
+    let params = Params {
+        shape,
+        kind: Kind::new(false, 12)?,
+        order,
+        user: 0,
+        word: 1,
+        previous,
+        reduced,
+        column: false,
+        register: 32,
+        omega: 13,
+        interval_log: 6,
+        vmin: -1,
+        vmax: 3,
+        start: WeightStart::Usual,
+        coder: Coder::Sample {
+            umax: 16,
+            gamma_star: 6,
+            gamma_zero: 1,
+            start: CountStart::Constant(3),
+        },
+    };
+    params.check()?;
+    Ok(params)
+}
+
+/// Measures both ways.
+fn there_and_back(report: &Report, mode: &str, order: &str, params: &Params) -> Result<()>
+    requires { IsLawful here params.now }
+{
+    let shape = params.shape;
+    let count = shape.sample_count();
+    let alloc = report.alloc();
+    let cube = synthetic_cube(alloc, shape, params.kind)?;
+    let mut residuals = vec![in alloc; 0u16; count as usize]?;
+    let start = report.start()?;
+    forward(alloc, &cube, params, &mut residuals)?;
+    let time = report.since(start)?;
+    let name = format!(in alloc; "forward_{mode}_{order}")?;
+    report.line(name.as_str(), count, time, sum_of(&residuals))?;
+    let mut back = Cube::new(alloc, shape, params.kind)?;
+    let start = report.start()?;
+    inverse(alloc, &mut back, params, &residuals)?;
+    let time = report.since(start)?;
+    let name = format!(in alloc; "inverse_{mode}_{order}")?;
+    report.line(name.as_str(), count, time, sum_of_cube(&back))
+}
+
+/// The residuals of a cube.
+fn forward(alloc: Global, cube: &Cube, params: &Params, residuals: &mut [u16]) -> Result<()>
+    requires lawful { IsLawful here params.now }
+    requires shape { cube.now.shape ≡ params.now.shape }
+    requires kind { cube.now.kind ≡ params.now.kind }
+    requires room { length residuals.old ≡ sample_count params.now.shape }
+    requires below { (i : ℕ) → i < length residuals.old → slice_index residuals.old i < 2 ^ params.now.kind.bits }
+    ensures len { length residuals.new ≡ length residuals.old }
+    ensures below { (i : ℕ) → i < length residuals.new → slice_index residuals.new i < 2 ^ params.now.kind.bits }
+{
+    let mut bands = all_bands(alloc, params)?;
+    let mut places = Places::new(params.shape, params.order);
+    let mut i = 0usize;
+    while let Some(place) = places.next() {
+        let delta = bands[place.z as usize].forward(cube, place.y, place.x);
+        residuals[i] = delta;
+        i += 1;
+    }
+    Ok(())
+}
+
+/// The samples of residuals.
+fn inverse(alloc: Global, cube: &mut Cube, params: &Params, residuals: &[u16]) -> Result<()>
+    requires lawful { IsLawful here params.now }
+    requires shape { cube.old.shape ≡ params.now.shape }
+    requires kind { cube.old.kind ≡ params.now.kind }
+    requires all { length residuals.now ≡ sample_count params.now.shape }
+    requires below { (i : ℕ) → i < length residuals.now → slice_index residuals.now i < 2 ^ params.now.kind.bits }
+{
+    let mut bands = all_bands(alloc, params)?;
+    let mut places = Places::new(params.shape, params.order);
+    let mut i = 0usize;
+    while let Some(place) = places.next() {
+        let sample = bands[place.z as usize].inverse(cube, place.y, place.x, residuals[i]);
+        cube.set(place.z, place.y, place.x, sample);
+        i += 1;
+    }
+    Ok(())
+}
+
+/// The predictors of all bands, each before its first place.
+fn all_bands(alloc: Global, params: &Params) -> Result<Vec<Band>>
+    requires { IsLawful here params.now }
+    ensures len { IfOk result (λ bands. vec_len bands ≡ params.now.shape.bands) }
+    ensures first { IfOk result (λ bands. AreAt params.now 0 bands.items) }
+{
+    let mut bands = Vec::new(alloc);
+    for z in 0..params.shape.bands() {
+        bands.push(Band::new(alloc, params, z)?)?;
+    }
+    Ok(bands)
+}
+
+/// A cube that changes slowly, with some noise.
+fn synthetic_cube(alloc: Global, shape: Shape, kind: Kind) -> Result<Cube>
+    ensures { IfOk result (λ c. (c.shape ≡ shape) × (c.kind ≡ kind)) }
+{
+    let mut generator = Generator::new();
+    let mut cube = Cube::new(alloc, shape, kind)?;
+    for z in 0..shape.bands() {
+        for y in 0..shape.rows() {
+            for x in 0..shape.columns() {
+                let slow = 16 * z + 4 * y + 2 * x;
+                let noise = u32::from(generator.number(6));
+                let height = (slow + noise) % (1 << kind.bits());
+                cube.set(z, y, x, kind.sample_of(height as u16));
+            }
+        }
+    }
+    Ok(cube)
+}
+
+fn sum_of(numbers: &[u16]) -> u64 {
+    let mut sum = 0;
+    for number in numbers {
+        sum = mixed(sum, u64::from(*number));
+    }
+    sum
+}

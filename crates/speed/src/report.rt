@@ -1,0 +1,60 @@
+//! What is printed of a measured loop.
+
+use anyhow::Result;
+use cube_core::shape::Shape;
+use std::alloc::Global;
+use std::time::{Duration, Instant};
+
+/// Prints a line for each measured loop.
+#[derive(Clone, Copy)]
+pub struct Report<'a> {
+    rt: &'a HostRuntime,
+    timed: bool,
+}
+
+impl<'a> Report<'a> {
+    /// A report of names and checksums, of little data.
+    pub fn of_checksums(rt: &'a HostRuntime) -> Report<'a> {
+        Report { rt, timed: false }
+    }
+
+    /// A report of speeds too, of enough data for them.
+    pub fn of_times(rt: &'a HostRuntime) -> Report<'a> {
+        Report { rt, timed: true }
+    }
+
+    pub fn alloc(&self) -> Global {
+        self.rt.alloc()
+    }
+
+    /// The shape of the cube that is gone through.
+    pub fn shape(&self) -> Result<Shape> {
+        let shape = if self.timed {
+            Shape::new(512, 512, 24)?
+        } else {
+            Shape::new(23, 17, 5)?
+        };
+        Ok(shape)
+    }
+
+    /// The time now.
+    pub fn start(&self) -> Result<Instant> {
+        Ok(Instant::now(self.rt)?)
+    }
+
+    /// How much time went by.
+    pub fn since(&self, start: Instant) -> Result<Duration> {
+        Ok(start.elapsed(self.rt)?)
+    }
+
+    /// Prints a loop's name, how many samples it went through in how many nanoseconds, and its checksum.
+    pub fn line(&self, name: &str, samples: u64, time: Duration, checksum: u64) -> Result<()> {
+        if self.timed {
+            let nanos = time.as_nanos();
+            println!(self.rt; "{name} {samples} {nanos} {checksum:016x}")?;
+        } else {
+            println!(self.rt; "{name} {checksum:016x}")?;
+        }
+        Ok(())
+    }
+}
