@@ -7,7 +7,7 @@ use Rattle.cube_core.specs.Image.{Image, sample_at, index_in, put}
 use Rattle.cube_core.specs.Shape.{Sizes}
 use Rattle.cube_core.specs.Heights.{samples_of, AreHeights, AreRowHeights}
 
-doubled : (bits : ℕ) → 1 ≤ bits → 2 ^ bits ≡ 2 * 2 ^ (bits - 1)
+pub doubled : (bits : ℕ) → 1 ≤ bits → 2 ^ bits ≡ 2 * 2 ^ (bits - 1)
 doubled zero h = absurd (omega arith)
 doubled (suc n) h = let e : suc n - 1 ≡ n = omega arith in rw (e, pow-suc 2 n) (omega arith)
 

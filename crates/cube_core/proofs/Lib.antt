@@ -4,7 +4,9 @@ pub mod Keys
 pub mod Lists
 pub mod Orders
 pub mod RawBytes
+pub mod Pieces
 pub mod Poured
 pub mod Raws
+pub mod Scales
 pub mod Spelled
 pub mod Walks

@@ -1,6 +1,6 @@
 -- Samples taken in from raw bytes.
-use Rattle.std.proofs.Common.{◌≡◌, ◌≢◌, ◌+◌, ◌*◌, ◌/◌, ◌%◌, ◌^◌, ◌<◌, ◌≤◌, ◌-◌, ℕ, suc, zero, List, ◌∷◌, length, drop, get_or, set, refl, sym, ap, ◌∙◌, subst, arith, add-one, drop-cons, inl, inr, min}
-use Rattle.std.proofs.lemmas.List.{get_or-set_same, get_or-set_other, length-drop}
+use Rattle.std.proofs.Common.{◌≡◌, ◌+◌, ◌*◌, ◌/◌, ◌%◌, ◌^◌, ◌<◌, ◌≤◌, ◌-◌, ℕ, suc, zero, List, ◌∷◌, length, drop, get_or, refl, sym, ap, ◌∙◌, subst, arith, add-one, drop-cons, inl, inr, min}
+use Rattle.std.proofs.lemmas.List.{length-drop}
 use Rattle.std.proofs.lemmas.Bool.{cases_eq}
 use Rattle.cube_core.specs.declared.order.Order.{Order}
 use Rattle.cube_core.specs.declared.order.Order.TheVariants.{Bsq, Bi}
@@ -10,13 +10,11 @@ use Rattle.cube_core.specs.declared.layout.RawOrder.{RawOrder}
 use Rattle.cube_core.specs.declared.layout.RawOrder.TheVariants as raw
 use Rattle.std.proofs.lemmas.Nat.{mul-le}
 use Rattle.cube_core.specs.Shape.{Sizes, sample_count}
-use Rattle.cube_core.specs.Kind.{SampleKind, IsSample, sample_of}
-use Rattle.cube_core.specs.Image.{index_in}
+use Rattle.cube_core.specs.Kind.{SampleKind, IsSample}
 use Rattle.cube_core.specs.Order.{IsOrder, IsPlaceOf, place_index, places}
 use Rattle.cube_core.specs.Layout.{IsLayout, order_of, raw_value, bytes_at}
-use Rattle.cube_core.specs.Raw.{IsHeightOf, AreHeightsBefore, AreSamples}
+use Rattle.cube_core.specs.Raw.{AreSamples}
 use Rattle.cube_core.proofs.Orders.{StandsAt, sequential_place_is, interleaved_place_is, place_at_index, length-places}
-use Rattle.cube_core.proofs.Walks.{sequential_index}
 
 factor_positive : (a c i : ℕ) → i < a * c → 0 < c
 factor_positive a zero i lt = absurd (omega arith)
@@ -59,26 +57,6 @@ next_stands s o i q rest lawful e =
 
     tails : (a b : Place) (xs ys : List Place) → a ∷ xs ≡ b ∷ ys → xs ≡ ys
     tails a b xs ys h = cc
-
--- one more height
-pub heights_more : (s : Sizes) (k : SampleKind) (l : Layout) (bytes heights : List ℕ) (i at height : ℕ) (q : Place) → IsOrder s (order_of l.order s) → length heights ≡ sample_count s → at ≡ index_in s.columns s.rows q.z q.y q.x → at < sample_count s
-    → StandsAt s (order_of l.order s) q i → height < 2 ^ k.bits → sample_of k height ≡ raw_value l k (bytes_at l bytes i) → AreHeightsBefore s k l bytes heights i → AreHeightsBefore s k l bytes (set heights at height) (i + 1)
-heights_more s k l bytes heights i at height q lawful long at_is within stands below value before p place lt =
-    elim (cases_eq (place_index s (order_of l.order s) p) i) [ inl here ↦ new here | inr other ↦ old other ]
-  where
-    new : place_index s (order_of l.order s) p ≡ i → IsHeightOf s k l bytes (set heights at height) p
-    new here =
-        let same : q ≡ p = same_place s (order_of l.order s) q p lawful stands.place place (stands.index ∙ sym here) in
-        let read : get_or (set heights at height) at 0 ≡ height = get_or-set_same heights at height 0 (omega arith) in
-        subst (λ (r : Place). IsHeightOf s k l bytes (set heights at height) r) same (record { below = rw (← at_is, read) below; value = rw (← at_is, read, stands.index) value })
-
-    old : place_index s (order_of l.order s) p ≢ i → IsHeightOf s k l bytes (set heights at height) p
-    old other =
-        let earlier : place_index s (order_of l.order s) p < i = omega arith in
-        let apart : at ≡ index_in s.columns s.rows p.z p.y p.x → ⊥ = λ e. other (ap (place_index s (order_of l.order s)) (sym (same_place s Bsq q p tt stands.place place (sequential_index s q ∙ sym at_is ∙ e ∙ sym (sequential_index s p)))) ∙ stands.index) in
-        let read : get_or (set heights at height) (index_in s.columns s.rows p.z p.y p.x) 0 ≡ get_or heights (index_in s.columns s.rows p.z p.y p.x) 0 = get_or-set_other heights at (index_in s.columns s.rows p.z p.y p.x) height 0 (λ e. apart (sym e)) in
-        let h = before p place earlier in
-        record { below = rw read h.below; value = rw read h.value }
 
 pub samples_more : (k : SampleKind) (l : Layout) (bytes : List ℕ) (i : ℕ) → IsSample k (raw_value l k (bytes_at l bytes i)) → AreSamples k l bytes i → AreSamples k l bytes (i + 1)
 samples_more k l bytes i here before j lt = elim (cases_eq j i) [ inl e ↦ subst (λ (n : ℕ). IsSample k (raw_value l k (bytes_at l bytes n))) (sym e) here | inr other ↦ before j (omega arith) ]

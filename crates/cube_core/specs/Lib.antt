@@ -6,7 +6,9 @@ pub mod Kind
 pub mod Laws
 pub mod Layout
 pub mod Order
+pub mod Pieces
 pub mod Raw
 pub mod Rows
+pub mod Scale
 pub mod Shape
 pub mod Steps

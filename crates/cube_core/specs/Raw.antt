@@ -15,10 +15,7 @@ pub record IsHeightOf (s : Sizes) (k : SampleKind) (l : Layout) (bytes heights :
   pub below : slice_index heights (index_in s.columns s.rows p.z p.y p.x) < 2 ^ k.bits
   pub value : sample_of k (slice_index heights (index_in s.columns s.rows p.z p.y p.x)) ≡ raw_value l k (bytes_at l bytes (place_index s (order_of l.order s) p))
 
--- so it is at every place whose item of the order comes before the i-th
-abbrev pub AreHeightsBefore : Sizes → SampleKind → Layout → List ℕ → List ℕ → ℕ → Type 0
-AreHeightsBefore s k l bytes heights i = (p : Place) → IsPlaceOf s p → place_index s (order_of l.order s) p < i → IsHeightOf s k l bytes heights p
-
+-- so it is at every place
 abbrev pub AreHeightsOf : Sizes → SampleKind → Layout → List ℕ → List ℕ → Type 0
 AreHeightsOf s k l bytes heights = (p : Place) → IsPlaceOf s p → IsHeightOf s k l bytes heights p
 

@@ -3,7 +3,7 @@
 ghost use Rattle.std.specs.Prelude.{◌≡◌, ◌≢◌, ◌↔◌, ◌*◌, ◌≤ℤ◌, length, replicate, pos, negsuc, IfOk, IfErr};
 ghost use Rattle.cube_core.specs.Shape.{sample_count};
 ghost use Rattle.cube_core.specs.Image.{IsCube, IsPlace, sample_at, put};
-ghost use Rattle.cube_core.specs.Layout.{IsLayout, raw_bytes, HaveBytes};
+ghost use Rattle.cube_core.specs.Layout.{IsLayout, raw_bytes, HaveBytes, IsFirstUnfit};
 ghost use Rattle.cube_core.specs.Raw.{IsRawFault, IsUnfit};
 ghost use Rattle.cube_core.specs.declared.fault.Fault.TheVariants.{RawLength, WantOfMemory};
 ghost use Rattle.cube_core.specs.Kind.{IsSample};
@@ -13,6 +13,7 @@ use crate::cursor::Places;
 use crate::fault::Fault;
 use crate::kind::Kind;
 use crate::layout::Layout;
+use crate::pour::pour;
 use crate::raw::fill;
 use crate::shape::{Shape, index_at};
 use std::alloc::Global;
@@ -99,22 +100,39 @@ impl Cube {
         ensures refused { IfErr result (IsUnfit self.now layout) }
     {
         let shape = self.shape();
+        // At most 2^48 samples, so no length overflows.
+        let _count = shape.sample_count();
+        let mut bytes = vec![in alloc; 0u8; layout.length(shape) as usize]?;
+        if pour(shape, self.kind, layout, &self.heights, &mut bytes) {
+            Ok(bytes)
+        } else {
+            Err(Fault::SampleRange {
+                index: self.first_unfit(layout),
+            })
+        }
+    }
+
+    /// The first sample in the layout's order that its bytes can't spell.
+    fn first_unfit(&self, layout: Layout) -> u64
+        requires layout { IsLayout layout }
+        requires some { HaveBytes self.now layout (sample_count self.now.shape) → ⊥ }
+        ensures { IsFirstUnfit self.now layout result }
+    {
+        let shape = self.shape();
         let kind = self.kind();
         // At most 2^48 samples, so no index overflows.
         let _count = shape.sample_count();
         let spelled = kind.in_bytes(layout.bytes);
-        let mut bytes = Vec::with_capacity(alloc, layout.length(shape) as usize)?;
         let mut places = Places::new(shape, layout.order.order(shape));
         let mut i = 0;
         while let Some(place) = places.next() {
             let sample = self.sample(place.z, place.y, place.x);
             if !spelled.has(sample) {
-                return Err(Fault::SampleRange { index: i });
+                return i;
             }
-            layout.append(kind, sample, &mut bytes)?;
             i += 1;
         }
-        Ok(bytes)
+        unreachable!()
     }
 
     /// The cube's shape.

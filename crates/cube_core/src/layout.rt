@@ -3,9 +3,7 @@
 ghost use Rattle.std.specs.Prelude.{◌≡◌, ◌⊎◌, ◌*◌, ◌≤◌, ◌<◌, ◌^◌, ◌-◌, ◌≤ℤ◌, ◌-ℤ◌, neg_ℤ, ◌++◌, length, pos, negsuc, OnOk, IfErr};
 ghost use Rattle.cube_core.specs.Shape.{sample_count};
 ghost use Rattle.cube_core.specs.Layout.{IsLayout, raw_value, raw_code, twos_complement, order_of, sample_bytes, HasBytes};
-ghost use Rattle.cube_core.specs.declared.fault.Fault.TheVariants.{WantOfMemory};
 
-use crate::fault::Fault;
 use crate::kind::Kind;
 use crate::order::Order;
 use crate::shape::Shape;
@@ -72,28 +70,6 @@ impl Layout {
         };
         signed_value(kind.is_signed(), self.bytes, number)
     }
-
-    /// Appends a sample's bytes.
-    pub(crate) fn append(self, kind: Kind, sample: i32, bytes: &mut Vec<u8>) -> Result<(), Fault>
-        requires layout { IsLayout self }
-        requires fits { HasBytes kind self sample }
-        ensures appended { OnOk result (bytes.new.items ≡ bytes.old.items ++ sample_bytes self sample) }
-        ensures memory { IfErr result (λ fault. fault ≡ WantOfMemory) }
-    {
-        let number = code(self.bytes, sample);
-        if self.bytes == 1 {
-            bytes.push(number as u8)?;
-        } else {
-            let mut pair = [0; 2];
-            if self.little {
-                LittleEndian::write_u16(&mut pair, number);
-            } else {
-                BigEndian::write_u16(&mut pair, number);
-            }
-            bytes.extend_from_slice(&pair)?;
-        }
-        Ok(())
-    }
 }
 
 /// A number of one or two bytes, in two's complement where it is signed.
@@ -109,22 +85,5 @@ fn signed_value(signed: bool, bytes: u32, number: u16) -> i32
         number - 2 * half
     } else {
         number
-    }
-}
-
-/// A sample as a number of one or two bytes, in two's complement where it is negative.
-fn code(bytes: u32, sample: i32) -> u16
-    requires bytes { (bytes ≡ 1) ⊎ (bytes ≡ 2) }
-    requires low { neg_ℤ (pos (2 ^ (8 * bytes - 1))) ≤ℤ sample }
-    requires high { sample ≤ℤ (pos (2 ^ (8 * bytes)) -ℤ pos 1) }
-    ensures value { result ≡ raw_code bytes sample }
-    ensures below { result < 2 ^ (8 * bytes) }
-{
-    if sample >= 0 {
-        sample as u16
-    } else if bytes == 1 {
-        (sample + 256) as u16
-    } else {
-        (sample + 65_536) as u16
     }
 }

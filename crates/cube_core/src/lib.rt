@@ -8,7 +8,10 @@ pub mod kind;
 pub mod laws;
 pub mod layout;
 pub mod order;
+mod piece;
+mod pour;
 mod raw;
+mod scale;
 pub mod shape;
 #[cfg(test)]
 mod tests;

@@ -1,15 +1,17 @@
 //! Samples taken from raw bytes.
 
-ghost use Rattle.std.specs.Prelude.{◌≡◌, ◌*◌, length, OnOk, IfErr};
+ghost use Rattle.std.specs.Prelude.{◌≡◌, ◌≢◌, ◌*◌, ◌≤◌, ◌^◌, IsTrue, length, OnOk, IfErr};
+ghost use Rattle.cube_core.specs.declared.layout.RawOrder.TheVariants.{Bsq};
 ghost use Rattle.cube_core.specs.Shape.{sample_count};
-ghost use Rattle.cube_core.specs.Layout.{IsLayout};
-ghost use Rattle.cube_core.specs.Raw.{AreHeightsOf, IsBadSample};
+ghost use Rattle.cube_core.specs.Layout.{IsLayout, IsFirstBad};
+ghost use Rattle.cube_core.specs.Raw.{AreHeightsOf, AreSamples, IsBadSample};
 
-use crate::cursor::Places;
 use crate::fault::Fault;
 use crate::kind::Kind;
-use crate::layout::Layout;
-use crate::shape::{Shape, index_at};
+use crate::layout::{Layout, RawOrder};
+use crate::piece::{BLOCK, Piece, take_piece};
+use crate::scale::Scale;
+use crate::shape::Shape;
 
 /// Writes the height of each sample, or names the first that isn't of the kind.
 pub(crate) fn fill(
@@ -25,19 +27,95 @@ pub(crate) fn fill(
     ensures filled { OnOk result (AreHeightsOf shape kind layout bytes.now heights.new) }
     ensures bad { IfErr result (IsBadSample kind layout bytes.now) }
 {
-    // At most 2^48 samples, so no index overflows.
-    let _count = shape.sample_count();
-    let size = layout.bytes as usize;
-    let mut places = Places::new(shape, layout.order.order(shape));
-    let mut i = 0;
-    while let Some(place) = places.next() {
-        let from = i * size;
-        let value = layout.value(kind, &bytes[from..from + size]);
-        if !kind.has(value) {
-            return Err(Fault::SampleRange { index: i as u64 });
-        }
-        heights[index_at(shape, place.z, place.y, place.x)] = kind.height_of(value);
-        i += 1;
+    let count = shape.sample_count();
+    let good = match layout.order {
+        RawOrder::Bsq => fill_bands(shape, kind, layout, bytes, heights),
+        RawOrder::Bil => fill_lines(shape, kind, layout, shape.columns(), bytes, heights),
+        RawOrder::Bip => fill_lines(shape, kind, layout, BLOCK, bytes, heights),
+    };
+    if good {
+        Ok(())
+    } else {
+        Err(Fault::SampleRange {
+            index: first_bad(kind, layout, bytes, count),
+        })
     }
-    Ok(())
+}
+
+/// Writes the heights of samples that follow one another as in the cube, and says whether all are of the kind.
+fn fill_bands(shape: Shape, kind: Kind, layout: Layout, bytes: &[u8], heights: &mut [u16]) -> bool
+    requires layout { IsLayout layout }
+    requires order { layout.order ≡ Bsq }
+    requires whole { length bytes.now ≡ sample_count shape * layout.bytes }
+    requires room { length heights.old ≡ sample_count shape }
+    ensures filled { IsTrue result → AreHeightsOf shape kind layout bytes.now heights.new }
+    ensures good { AreSamples kind layout bytes.now (sample_count shape) → IsTrue result }
+{
+    let whole = Piece {
+        at: 0,
+        count: shape.sample_count() as usize,
+        first: 0,
+        step: 1,
+    };
+    take_piece(
+        layout,
+        &Scale::new(kind, layout.bytes),
+        whole,
+        bytes,
+        heights,
+    )
+}
+
+/// Writes the heights of samples row after row, so many columns of all bands at once, and says whether
+/// all are of the kind.
+fn fill_lines(
+    shape: Shape,
+    kind: Kind,
+    layout: Layout,
+    block: u32,
+    bytes: &[u8],
+    heights: &mut [u16],
+) -> bool
+    requires layout { IsLayout layout }
+    requires block { 1 ≤ block }
+    requires whole { length bytes.now ≡ sample_count shape * layout.bytes }
+    requires room { length heights.old ≡ sample_count shape }
+    ensures filled { IsTrue result → AreHeightsOf shape kind layout bytes.now heights.new }
+    ensures good { AreSamples kind layout bytes.now (sample_count shape) → IsTrue result }
+{
+    let _count = shape.sample_count();
+    let scale = Scale::new(kind, layout.bytes);
+    let columns = shape.columns();
+    for y in 0..shape.rows() {
+        let mut x = 0;
+        while x < columns {
+            let count = block.min(columns - x);
+            for z in 0..shape.bands() {
+                let piece = Piece::new(shape, layout.order, z, y, x, count);
+                if !take_piece(layout, &scale, piece, bytes, heights) {
+                    return false;
+                }
+            }
+            x += count;
+        }
+    }
+    true
+}
+
+/// The first sample, in the layout's order, that isn't of the kind.
+fn first_bad(kind: Kind, layout: Layout, bytes: &[u8], count: u64) -> u64
+    requires layout { IsLayout layout }
+    requires few { count ≤ 2 ^ 48 }
+    requires whole { length bytes.now ≡ count * layout.bytes }
+    requires some { AreSamples kind layout bytes.now count → ⊥ }
+    ensures { IsFirstBad kind layout bytes.now result }
+{
+    let size = layout.bytes as usize;
+    for i in 0..count {
+        let from = i as usize * size;
+        if !kind.has(layout.value(kind, &bytes[from..from + size])) {
+            return i;
+        }
+    }
+    unreachable!()
 }

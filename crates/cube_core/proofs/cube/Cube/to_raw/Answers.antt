@@ -1,71 +1,46 @@
-use Rattle.std.proofs.Common.{◌≡◌, ◌+◌, ◌<◌, ◌≤◌, ◌∙◌, ◌++◌, sym, arith, ap, refl, drop, length, length-drop, SFits, w32, to_z-of_z, rules, IsTrue, true, false, ℕ, pos, slice_index_or, inr}
-use Rattle.cube_core.specs.Shape.{Sizes, sample_count}
-use Rattle.cube_core.specs.Order.{IsOrder, places}
-use Rattle.cube_core.specs.declared.layout.RawOrder.{RawOrder}
-use Rattle.cube_core.specs.Layout.{order_of, sample_bytes, samples_in, HasBytesAt}
-use Rattle.cube_core.proofs.Orders.{StandsAt, length-places}
-use Rattle.cube_core.proofs.Raws.{next_stands, lawful_order}
-use Rattle.cube_core.proofs.Poured.{sample_there, length-samples_in, none_poured, poured_more, bytes_more}
+use Rattle.std.proofs.Common.{◌≡◌, ◌∙◌, ◌*◌, ◌<◌, sym, ap, length, arith, IsTrue, true, false, rules}
+use Rattle.std.proofs.lemmas.List.{with_items_is}
+use Rattle.std.specs.Vec.{with_items}
+use Rattle.cube_core.specs.Shape.{sample_count}
+use Rattle.cube_core.specs.Image.{Image}
+use Rattle.cube_core.specs.Heights.{samples_of}
+use Rattle.cube_core.specs.Pieces.{ArePoured}
+use Rattle.cube_core.proofs.Poured.{raw_bytes_poured, have_bytes_poured, can_be_poured}
 use Rattle.cube_core.proofs.cube.Cube.to_raw.Goals as goal
-use Rattle.cube_core.proofs.cube.Cube.to_raw.Goals.{In-Some, After-sample-sample}
+use Rattle.cube_core.proofs.cube.Cube.to_raw.Goals.{After-pour}
 
-count_is : (s t : Sizes) (n : ℕ) → s ≡ t → n ≡ sample_count s → n ≡ sample_count t
-count_is s t n e h = rw e at h
+shape_is : (c : After-pour) → c.self.inside.shape ≡ c.shape-shape.result
+shape_is c = ap (λ (i : Image). i.shape) c.self.view_is ∙ sym c.shape-shape.ensures
 
-lawful : (o : RawOrder) (s t : Sizes) (n : ℕ) → s ≡ t → n ≡ sample_count s → 1 ≤ n → IsOrder t (order_of o t)
-lawful o s t n e h some = lawful_order o t (omega (arith, count_is s t n e h))
+image_is : (c : After-pour) → record { shape = c.shape-shape.result; kind = c.self.inside.kind; samples = samples_of c.self.inside.kind c.self.inside.heights.items } ≡ c.args.self.now
+image_is c = rw (← shape_is c) c.self.view_is
 
-stands : (c : In-Some) → (c.loop-place.i < sample_count c.args.self.now.shape) × StandsAt c.args.self.now.shape (order_of c.args.layout.order c.args.self.now.shape) c.in-Some.place c.loop-place.i × (c.next.new.self ≡ drop (c.loop-place.i + 1) (places c.args.self.now.shape (order_of c.args.layout.order c.args.self.now.shape)))
-stands c = next_stands c.args.self.now.shape (order_of c.args.layout.order c.args.self.now.shape) c.loop-place.i c.in-Some.place c.next.new.self (lawful c.args.layout.order _ _ _ c.shape-shape.ensures c.sample_count-count.ensures.value c.sample_count-count.ensures.range.0) (sym c.loop-place.invariant.left ∙ c.in-Some.ensures.steps)
+full : (c : After-pour) → length c.self.inside.heights.items ≡ sample_count c.shape-shape.result
+full c = rw (shape_is c) at c.self.invariant.whole
 
--- the sample is the i-th
-sample_is : (c : After-sample-sample) → c.loop-place.i < sample_count c.args.self.now.shape → StandsAt c.args.self.now.shape (order_of c.args.layout.order c.args.self.now.shape) c.in-Some.place c.loop-place.i → slice_index_or (samples_in c.args.self.now c.args.layout) c.loop-place.i (pos 0) ≡ c.sample-sample.result
-sample_is c lt there = sample_there c.args.self.now c.args.layout c.in-Some.place c.loop-place.i (lawful c.args.layout.order _ _ _ c.shape-shape.ensures c.sample_count-count.ensures.value c.sample_count-count.ensures.range.0) lt there ∙ sym c.sample-sample.ensures.value
+some : (c : After-pour) → 0 < sample_count c.shape-shape.result
+some c = omega (arith, c.sample_count-count.ensures.value, c.sample_count-count.ensures.range)
 
-narrow : (c : After-sample-sample) → SFits w32 c.sample-sample.result
-narrow c = search rules
+long : (c : After-pour) → length c.pour.new.bytes ≡ sample_count c.shape-shape.result * c.args.layout.bytes
+long c = omega (arith, c.pour.auto.bytes, c.deref_mut.ensures.len, c.in_ok-bytes.ensures.len, c.length.ensures)
 
-pub loop-place-init : goal.loop-place-init
-loop-place-init c =
-    let left : c.new-places.result ≡ places c.args.self.now.shape (order_of c.args.layout.order c.args.self.now.shape) = simp (c.order.ensures, c.shape-shape.ensures) at c.new-places.ensures in
-    record { left = left; poured = none_poured c.args.self.now c.args.layout c.new-places.result c.in_ok-bytes.bytes.items left c.in_ok-bytes.ensures.items; fit = λ j lt. absurd (omega (arith, lt)) }
-
-pub sample-sample-requires : goal.sample-sample-requires
-sample-sample-requires c = (stands (goal.at.sample-sample-requires c).In-Some).1.place
-
-pub returns-then-not-has-clause-refused : goal.returns-then-not-has-clause-refused
-returns-then-not-has-clause-refused c =
-    let d = (goal.at.returns-then-not-has-clause-refused c).After-sample-sample in
-    let s = stands (goal.at.returns-then-not-has-clause-refused c).In-Some in
-    let g = narrow d in
+pub first_unfit-requires-clause-some : goal.first_unfit-requires-clause-some
+first_unfit-requires-clause-some c = λ have.
+    let d = (goal.at.first_unfit-requires-clause-some c).After-pour in
     let no : IsTrue false → ⊥ = search rules in
-    let spelled = simp (to_z-of_z g, c.in_bytes-spelled.ensures, c.kind-kind.ensures) at c.if-not-has.ensures.1 in
-    inr (c.loop-place.i, refl, record { there = rw (length-samples_in c.args.self.now c.args.layout (lawful c.args.layout.order _ _ _ c.shape-shape.ensures c.sample_count-count.ensures.value c.sample_count-count.ensures.range.0)) s.0; unfit = λ h. no (spelled (rw (sample_is d s.0 s.1) at h)); first = c.loop-place.invariant.fit })
+    let can = can_be_poured c.args.self.now c.shape-shape.result c.self.inside.kind c.args.layout c.self.inside.heights.items (image_is d) (some d) (full d) have in
+    no (c.if-pour.ensures.good (rw c.deref.ensures.value can))
 
-pub overflow_add-i : goal.overflow_add-i
-overflow_add-i c =
-    let s = stands (goal.at.overflow_add-i c).In-Some in
-    omega (arith, s.0, count_is _ _ _ c.shape-shape.ensures c.sample_count-count.ensures.value, c.sample_count-count.ensures.range)
+poured : (c : After-pour) → (IsTrue true → ArePoured c.shape-shape.result c.self.inside.kind c.args.layout c.deref.result.now c.pour.new.bytes) → ArePoured c.shape-shape.result c.self.inside.kind c.args.layout c.self.inside.heights.items c.pour.new.bytes
+poured c h = let yes : IsTrue true = search rules in rw c.deref.ensures.value at (h yes)
 
-pub loop-place-preserved : goal.loop-place-preserved
-loop-place-preserved c =
-    let d = (goal.at.loop-place-preserved c).After-sample-sample in
-    let s = stands (goal.at.loop-place-preserved c).In-Some in
-    let g = narrow d in
-    let yes : IsTrue true = search rules in
-    let fits = simp (to_z-of_z g, c.in_bytes-spelled.ensures, c.kind-kind.ensures) at c.if-not-has.ensures.0 in
-    let here : HasBytesAt c.args.self.now c.args.layout c.loop-place.i = rw (sample_is d s.0 s.1) (fits yes) in
-    let bytes = simp (to_z-of_z g) at c.in_ok-append.ensures.appended in
-    let more = bytes ∙ ap (λ v. c.loop-place.bytes.items ++ sample_bytes c.args.layout v) c.sample-sample.ensures.value in
-    record {
-      left = s.2;
-      poured = poured_more c.args.self.now c.args.layout c.in-Some.place c.next.new.self c.loop-place.places c.loop-place.bytes.items c.append.new.bytes.items _ c.in-Some.ensures.steps more c.loop-place.invariant.poured;
-      fit = bytes_more c.args.self.now c.args.layout c.loop-place.i here c.loop-place.invariant.fit;
-    }
+pub returns-then-pour-clause-bytes : goal.returns-then-pour-clause-bytes
+returns-then-pour-clause-bytes c =
+    let d = (goal.at.returns-then-pour-clause-bytes c).After-pour in
+    let items : (with_items c.in_ok-bytes.bytes c.pour.new.bytes).items ≡ c.pour.new.bytes = with_items_is c.in_ok-bytes.bytes c.pour.new.bytes (omega (arith, c.pour.auto.bytes, c.deref_mut.ensures.len)) in
+    items ∙ raw_bytes_poured c.args.self.now c.shape-shape.result c.self.inside.kind c.args.layout c.self.inside.heights.items c.pour.new.bytes (image_is d) (some d) (long d) (full d) (poured d c.if-pour.ensures.poured)
 
-pub returns-clause-fits : goal.returns-clause-fits
-returns-clause-fits c j lt =
-    let s = c.args.self.now.shape in
-    let o = order_of c.args.layout.order s in
-    let none : length (drop c.loop-place.i (places s o)) ≡ 0 = ap length (sym c.loop-place.invariant.left ∙ c.in_default.ensures.steps.0) in
-    c.loop-place.invariant.fit j (omega (arith, none, lt, length-drop c.loop-place.i (places s o), length-places s o (lawful c.args.layout.order _ _ _ c.shape-shape.ensures c.sample_count-count.ensures.value c.sample_count-count.ensures.range.0)))
+pub returns-then-pour-clause-fits : goal.returns-then-pour-clause-fits
+returns-then-pour-clause-fits c =
+    let d = (goal.at.returns-then-pour-clause-fits c).After-pour in
+    have_bytes_poured c.args.self.now c.shape-shape.result c.self.inside.kind c.args.layout c.self.inside.heights.items c.pour.new.bytes (image_is d) (some d) (full d) (poured d c.if-pour.ensures.poured)

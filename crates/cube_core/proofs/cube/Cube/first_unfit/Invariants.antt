@@ -1,13 +1,11 @@
-use Rattle.std.proofs.Common.{◌≡◌, ◌++◌, length, drop}
+use Rattle.std.proofs.Common.{◌≡◌, length, drop}
 use Rattle.cube_core.specs.Order.{places}
-use Rattle.cube_core.specs.Layout.{order_of, raw_bytes, HaveBytes}
-use Rattle.cube_core.proofs.Poured.{bytes_of_places}
-use Rattle.cube_core.proofs.cube.Cube.to_raw.Given as goal
+use Rattle.cube_core.specs.Layout.{order_of, HaveBytes}
+use Rattle.cube_core.proofs.cube.Cube.first_unfit.Given as goal
 
 abbrev pub invariant-loop-place : goal.invariant-loop-place
 invariant-loop-place l = record {
   left : l.places ≡ drop l.i (places l.fn.self.shape (order_of l.fn.layout.order l.fn.self.shape));
-  poured : l.bytes.items ++ bytes_of_places l.fn.self l.fn.layout l.places ≡ raw_bytes l.fn.self l.fn.layout;
   fit : HaveBytes l.fn.self l.fn.layout l.i;
 }
 

@@ -1,0 +1,224 @@
+//! Pieces of a row of samples, which lie evenly spaced in raw bytes.
+
+ghost use Rattle.std.specs.Prelude.{ℕ, ℤ, ◌≡◌, ◌≢◌, ◌⊎◌, ◌↔◌, ◌*◌, ◌+◌, ◌<◌, ◌≤◌, ◌^◌, IsTrue, length, slice_index};
+ghost use Rattle.cube_core.specs.Image.{IsPlace, index_in};
+ghost use Rattle.cube_core.specs.Kind.{sample_of};
+ghost use Rattle.cube_core.specs.Layout.{IsLayout, HasBytes, order_of, raw_number, raw_code, bytes_at, sample_bytes};
+ghost use Rattle.cube_core.specs.Pieces.{LieEvenly};
+ghost use Rattle.cube_core.specs.Scale.{StandsFor, SpellHeight};
+
+use crate::layout::{Layout, RawOrder};
+use crate::scale::Scale;
+use crate::shape::{Shape, index_among, index_at};
+use byteorder::{BigEndian, ByteOrder, LittleEndian};
+
+/// How many columns of all bands are gone through at once under interleaving by pixel, so that their
+/// bytes stay at hand.
+pub(crate) const BLOCK: u32 = 32;
+
+/// Samples that follow one another in a row of the cube.
+#[derive(Clone, Copy)]
+pub(crate) struct Piece {
+    /// Where the first stands in the cube.
+    pub(crate) at: usize,
+    pub(crate) count: usize,
+    /// Where the first stands in the layout's order, and how far one is there from the next.
+    pub(crate) first: usize,
+    pub(crate) step: usize,
+}
+
+impl Piece {
+    /// So many samples from a place on, in a row of the cube.
+    pub(crate) fn new(shape: Shape, order: RawOrder, z: u32, y: u32, x: u32, count: u32) -> Piece
+        requires place { IsPlace shape z y x }
+        requires within { x + count ≤ shape.columns }
+        ensures at { result.at ≡ index_in shape.columns shape.rows z y x }
+        ensures count { result.count ≡ count }
+        ensures items { LieEvenly shape (order_of order shape) z y x count result.first result.step }
+        ensures apart { 1 ≤ result.step }
+    {
+        let columns = shape.columns();
+        let bands = shape.bands();
+        let _rows = shape.rows();
+        let at = index_at(shape, z, y, x);
+        let count = count as usize;
+        match order {
+            RawOrder::Bsq => Piece {
+                at,
+                count,
+                first: at,
+                step: 1,
+            },
+            RawOrder::Bil => Piece {
+                at,
+                count,
+                first: index_among(bands, columns, y, z, x),
+                step: 1,
+            },
+            RawOrder::Bip => Piece {
+                at,
+                count,
+                first: index_among(columns, bands, y, x, z),
+                step: bands as usize,
+            },
+        }
+    }
+}
+
+/// Writes the heights of a piece's samples, and says whether all of them are of the kind.
+pub(crate) fn take_piece(
+    layout: Layout,
+    scale: &Scale,
+    piece: Piece,
+    bytes: &[u8],
+    heights: &mut [u16],
+) -> bool
+    requires layout { IsLayout layout }
+    requires scale { scale.now.bytes ≡ layout.bytes }
+    requires small { length bytes.now ≤ 2 ^ 49 }
+    requires there { (x : ℕ) → x < piece.count → (piece.first + x * piece.step + 1) * layout.bytes ≤ length bytes.now }
+    requires room { piece.at + piece.count ≤ length heights.old }
+    ensures taken { (x : ℕ) → x < piece.count → StandsFor scale.now.kind layout bytes.now (piece.first + x * piece.step) (slice_index heights.new (piece.at + x)) }
+    ensures others { (j : ℕ) → (j < piece.at) ⊎ (piece.at + piece.count ≤ j) → slice_index heights.new j ≡ slice_index heights.old j }
+    ensures good { IsTrue result ↔ ((x : ℕ) → x < piece.count → slice_index heights.new (piece.at + x) < 2 ^ scale.now.kind.bits) }
+{
+    if layout.bytes == 1 {
+        take_numbers::<1, false>(layout, scale, piece, bytes, heights)
+    } else if layout.little {
+        take_numbers::<2, true>(layout, scale, piece, bytes, heights)
+    } else {
+        take_numbers::<2, false>(layout, scale, piece, bytes, heights)
+    }
+}
+
+/// The same, with the form of the numbers known when the loop is compiled.
+fn take_numbers<const BYTES: u32, const LITTLE: bool>(
+    layout: Layout,
+    scale: &Scale,
+    piece: Piece,
+    bytes: &[u8],
+    heights: &mut [u16],
+) -> bool
+    requires width { (BYTES ≡ 1) ⊎ (BYTES ≡ 2) }
+    requires form { layout.bytes ≡ BYTES }
+    requires end { BYTES ≡ 2 → layout.little ≡ LITTLE }
+    requires scale { scale.now.bytes ≡ BYTES }
+    requires small { length bytes.now ≤ 2 ^ 49 }
+    requires there { (x : ℕ) → x < piece.count → (piece.first + x * piece.step + 1) * BYTES ≤ length bytes.now }
+    requires room { piece.at + piece.count ≤ length heights.old }
+    ensures taken { (x : ℕ) → x < piece.count → StandsFor scale.now.kind layout bytes.now (piece.first + x * piece.step) (slice_index heights.new (piece.at + x)) }
+    ensures others { (j : ℕ) → (j < piece.at) ⊎ (piece.at + piece.count ≤ j) → slice_index heights.new j ≡ slice_index heights.old j }
+    ensures good { IsTrue result ↔ ((x : ℕ) → x < piece.count → slice_index heights.new (piece.at + x) < 2 ^ scale.now.kind.bits) }
+{
+    let mut greatest = 0;
+    for x in 0..piece.count {
+        let number = number_at::<BYTES, LITTLE>(layout, bytes, piece.first + x * piece.step);
+        let height = scale.height::<BYTES>(number);
+        heights[piece.at + x] = height;
+        greatest = height.max(greatest);
+    }
+    scale.has(greatest)
+}
+
+/// The i-th number of raw bytes.
+fn number_at<const BYTES: u32, const LITTLE: bool>(layout: Layout, bytes: &[u8], i: usize) -> u16
+    requires width { (BYTES ≡ 1) ⊎ (BYTES ≡ 2) }
+    requires form { layout.bytes ≡ BYTES }
+    requires end { BYTES ≡ 2 → layout.little ≡ LITTLE }
+    requires small { length bytes.now ≤ 2 ^ 49 }
+    requires there { (i + 1) * BYTES ≤ length bytes.now }
+    ensures value { result ≡ raw_number layout (bytes_at layout bytes.now i) }
+    ensures below { result < 2 ^ (8 * BYTES) }
+{
+    if BYTES == 1 {
+        u16::from(bytes[i])
+    } else if LITTLE {
+        LittleEndian::read_u16(&bytes[2 * i..])
+    } else {
+        BigEndian::read_u16(&bytes[2 * i..])
+    }
+}
+
+/// Writes the numbers of a piece's samples, and says whether their bytes can spell all of them.
+pub(crate) fn give_piece(
+    layout: Layout,
+    scale: &Scale,
+    piece: Piece,
+    heights: &[u16],
+    bytes: &mut [u8],
+) -> bool
+    requires layout { IsLayout layout }
+    requires scale { scale.now.bytes ≡ layout.bytes }
+    requires apart { 1 ≤ piece.step }
+    requires small { length bytes.old ≤ 2 ^ 49 }
+    requires there { (x : ℕ) → x < piece.count → (piece.first + x * piece.step + 1) * layout.bytes ≤ length bytes.old }
+    requires room { piece.at + piece.count ≤ length heights.now }
+    requires range { (x : ℕ) → x < piece.count → slice_index heights.now (piece.at + x) < 2 ^ scale.now.kind.bits }
+    ensures given { (x : ℕ) → x < piece.count → SpellHeight scale.now.kind layout (slice_index heights.now (piece.at + x)) (bytes_at layout bytes.new (piece.first + x * piece.step)) }
+    ensures others { (i : ℕ) → ((x : ℕ) → x < piece.count → i ≢ piece.first + x * piece.step) → bytes_at layout bytes.new i ≡ bytes_at layout bytes.old i }
+    ensures good { IsTrue result ↔ ((x : ℕ) → x < piece.count → HasBytes scale.now.kind layout (sample_of scale.now.kind (slice_index heights.now (piece.at + x)))) }
+{
+    if layout.bytes == 1 {
+        give_numbers::<1, false>(layout, scale, piece, heights, bytes)
+    } else if layout.little {
+        give_numbers::<2, true>(layout, scale, piece, heights, bytes)
+    } else {
+        give_numbers::<2, false>(layout, scale, piece, heights, bytes)
+    }
+}
+
+/// The same, with the form of the numbers known when the loop is compiled.
+fn give_numbers<const BYTES: u32, const LITTLE: bool>(
+    layout: Layout,
+    scale: &Scale,
+    piece: Piece,
+    heights: &[u16],
+    bytes: &mut [u8],
+) -> bool
+    requires width { (BYTES ≡ 1) ⊎ (BYTES ≡ 2) }
+    requires form { layout.bytes ≡ BYTES }
+    requires end { BYTES ≡ 2 → layout.little ≡ LITTLE }
+    requires scale { scale.now.bytes ≡ BYTES }
+    requires apart { 1 ≤ piece.step }
+    requires small { length bytes.old ≤ 2 ^ 49 }
+    requires there { (x : ℕ) → x < piece.count → (piece.first + x * piece.step + 1) * BYTES ≤ length bytes.old }
+    requires room { piece.at + piece.count ≤ length heights.now }
+    requires range { (x : ℕ) → x < piece.count → slice_index heights.now (piece.at + x) < 2 ^ scale.now.kind.bits }
+    ensures given { (x : ℕ) → x < piece.count → SpellHeight scale.now.kind layout (slice_index heights.now (piece.at + x)) (bytes_at layout bytes.new (piece.first + x * piece.step)) }
+    ensures others { (i : ℕ) → ((x : ℕ) → x < piece.count → i ≢ piece.first + x * piece.step) → bytes_at layout bytes.new i ≡ bytes_at layout bytes.old i }
+    ensures good { IsTrue result ↔ ((x : ℕ) → x < piece.count → HasBytes scale.now.kind layout (sample_of scale.now.kind (slice_index heights.now (piece.at + x)))) }
+{
+    let mut greatest = 0;
+    for x in 0..piece.count {
+        let turned = scale.turned(heights[piece.at + x]);
+        greatest = turned.max(greatest);
+        let number = scale.number::<BYTES>(turned);
+        put_number::<BYTES, LITTLE>(layout, bytes, piece.first + x * piece.step, number);
+    }
+    scale.spells::<BYTES>(greatest)
+}
+
+/// Puts down the i-th number of raw bytes.
+fn put_number<const BYTES: u32, const LITTLE: bool>(
+    layout: Layout,
+    bytes: &mut [u8],
+    i: usize,
+    number: u16,
+)
+    requires width { (BYTES ≡ 1) ⊎ (BYTES ≡ 2) }
+    requires form { layout.bytes ≡ BYTES }
+    requires end { BYTES ≡ 2 → layout.little ≡ LITTLE }
+    requires small { length bytes.old ≤ 2 ^ 49 }
+    requires there { (i + 1) * BYTES ≤ length bytes.old }
+    requires number { number < 2 ^ (8 * BYTES) }
+    ensures there { (v : ℤ) → raw_code layout.bytes v ≡ number → bytes_at layout bytes.new i ≡ sample_bytes layout v }
+    ensures others { (j : ℕ) → j ≢ i → bytes_at layout bytes.new j ≡ bytes_at layout bytes.old j }
+{
+    if BYTES == 1 {
+        bytes[i] = number as u8;
+    } else if LITTLE {
+        LittleEndian::write_u16(&mut bytes[2 * i..2 * i + 2], number);
+    } else {
+        BigEndian::write_u16(&mut bytes[2 * i..2 * i + 2], number);
+    }
+}

@@ -1,0 +1,94 @@
+//! Samples given out as raw bytes.
+
+ghost use Rattle.std.specs.Prelude.{◌≡◌, ◌*◌, ◌≤◌, IsTrue, length};
+ghost use Rattle.cube_core.specs.declared.layout.RawOrder.TheVariants.{Bsq};
+ghost use Rattle.cube_core.specs.Shape.{sample_count};
+ghost use Rattle.cube_core.specs.Heights.{AreHeights};
+ghost use Rattle.cube_core.specs.Layout.{IsLayout};
+ghost use Rattle.cube_core.specs.Pieces.{ArePoured, CanBePoured};
+
+use crate::kind::Kind;
+use crate::layout::{Layout, RawOrder};
+use crate::piece::{BLOCK, Piece, give_piece};
+use crate::scale::Scale;
+use crate::shape::Shape;
+
+/// Writes the bytes of all samples, and says whether they can spell each of them.
+pub(crate) fn pour(
+    shape: Shape,
+    kind: Kind,
+    layout: Layout,
+    heights: &[u16],
+    bytes: &mut [u8],
+) -> bool
+    requires layout { IsLayout layout }
+    requires heights { AreHeights shape kind heights.now }
+    requires whole { length bytes.old ≡ sample_count shape * layout.bytes }
+    ensures poured { IsTrue result → ArePoured shape kind layout heights.now bytes.new }
+    ensures good { CanBePoured shape kind layout heights.now → IsTrue result }
+{
+    match layout.order {
+        RawOrder::Bsq => pour_bands(shape, kind, layout, heights, bytes),
+        RawOrder::Bil => pour_lines(shape, kind, layout, shape.columns(), heights, bytes),
+        RawOrder::Bip => pour_lines(shape, kind, layout, BLOCK, heights, bytes),
+    }
+}
+
+/// Writes the bytes of samples that follow one another as in the cube.
+fn pour_bands(shape: Shape, kind: Kind, layout: Layout, heights: &[u16], bytes: &mut [u8]) -> bool
+    requires layout { IsLayout layout }
+    requires order { layout.order ≡ Bsq }
+    requires heights { AreHeights shape kind heights.now }
+    requires whole { length bytes.old ≡ sample_count shape * layout.bytes }
+    ensures poured { IsTrue result → ArePoured shape kind layout heights.now bytes.new }
+    ensures good { CanBePoured shape kind layout heights.now → IsTrue result }
+{
+    let whole = Piece {
+        at: 0,
+        count: shape.sample_count() as usize,
+        first: 0,
+        step: 1,
+    };
+    give_piece(
+        layout,
+        &Scale::new(kind, layout.bytes),
+        whole,
+        heights,
+        bytes,
+    )
+}
+
+/// Writes the bytes of samples row after row, so many columns of all bands at once.
+fn pour_lines(
+    shape: Shape,
+    kind: Kind,
+    layout: Layout,
+    block: u32,
+    heights: &[u16],
+    bytes: &mut [u8],
+) -> bool
+    requires layout { IsLayout layout }
+    requires block { 1 ≤ block }
+    requires heights { AreHeights shape kind heights.now }
+    requires whole { length bytes.old ≡ sample_count shape * layout.bytes }
+    ensures poured { IsTrue result → ArePoured shape kind layout heights.now bytes.new }
+    ensures good { CanBePoured shape kind layout heights.now → IsTrue result }
+{
+    let _count = shape.sample_count();
+    let scale = Scale::new(kind, layout.bytes);
+    let columns = shape.columns();
+    for y in 0..shape.rows() {
+        let mut x = 0;
+        while x < columns {
+            let count = block.min(columns - x);
+            for z in 0..shape.bands() {
+                let piece = Piece::new(shape, layout.order, z, y, x, count);
+                if !give_piece(layout, &scale, piece, heights, bytes) {
+                    return false;
+                }
+            }
+            x += count;
+        }
+    }
+    true
+}
