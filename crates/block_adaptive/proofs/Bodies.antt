@@ -149,7 +149,7 @@ chosen_is_body s size reference numbers pos least range =
 
 -- ---- what is read is lawful
 
-text_most : (s : CodeSet) (size left : ℕ) (t : Text) → 1 ≤ left → IsText s size left t → blocks_in left t ≤ left
+pub text_most : (s : CodeSet) (size left : ℕ) (t : Text) → 1 ≤ left → IsText s size left t → blocks_in left t ≤ left
 text_most s size left (Block o vs) pos h = pos
 text_most s size left (Run n) pos h = h.1
 text_most s size left Rest pos h = omega arith

@@ -51,7 +51,7 @@ text_blocks s size left (Block o vs) h = omega (arith, ap length (append-nil vs)
 text_blocks s size left (Run n) h = zeros_length n size
 text_blocks s size left Rest h = zeros_length left size
 
-told_length : (c : Cut) (i j : ℕ) (texts : List Text) → AreTexts c i texts j → i * c.size + length (values_of (blocks_told c i texts)) ≡ j * c.size
+pub told_length : (c : Cut) (i j : ℕ) (texts : List Text) → AreTexts c i texts j → i * c.size + length (values_of (blocks_told c i texts)) ≡ j * c.size
 unfolding AreTexts blocks_told
 told_length c i j [] h = rw h (omega arith)
 told_length c i j (t ∷ texts) h =

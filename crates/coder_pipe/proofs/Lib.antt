@@ -2,7 +2,11 @@ pub mod Alike
 pub mod Coders
 pub mod Come
 pub mod FileLaws
+pub mod Fills
 pub mod ForSamples
+pub mod Found
+pub mod Givers
+pub mod Inverse
 pub mod OneCube
 pub mod Packed
 pub mod Walking

@@ -2,6 +2,7 @@
 use Rattle.std.proofs.Common.{◌≡◌, ◌≢◌, ◌⊎◌, ◌+◌, ◌*◌, ◌-◌, ◌<◌, ℕ, suc, zero, Bool, cond, List, [], ◌∷◌, ◌++◌, length, take, drop, set, get_or, Some, refl, sym, ap, ◌∙◌, subst, inl, inr, append_assoc, append-nil, length-append, length-take, length-drop, arith}
 use Rattle.std.proofs.lemmas.List.{length-set, length-map, take_more, take_all}
 use Rattle.std.proofs.lemmas.Bool.{ne_eqb, eq-eqb}
+use Rattle.std.proofs.Math.Arith.{digits_lt}
 use Rattle.std.specs.List.{slice_get}
 use Rattle.cube_core.specs.declared.order.Place.{Place}
 use Rattle.cube_core.specs.Shape.{Sizes, sample_count}
@@ -73,19 +74,22 @@ walked_more p c e gone bands q b d lawful known stands at moves follows others-f
     here : IsAlong p c (length gone) q.z b × (b.place ≡ time_of p.shape q)
     here = band_here p c gone bands q b lawful known stands at
 
+    within : q.y * p.shape.columns + q.x < p.shape.rows * p.shape.columns
+    within = digits_lt stands.place.row stands.place.column
+
     grown : length (gone ++ q ∷ []) ≡ length gone + 1
     grown = length-append gone (q ∷ [])
 
     same : (z : ℕ) (f : Learner) → z ≡ q.z → f ≡ d → IsAlong p e (length gone + 1) z f
     same z f h k =
         let come : HasCome p.shape p.order q.z (length gone + 1) d.place = subst (λ t. HasCome p.shape p.order q.z (length gone + 1) t) (sym moves.place) (come_step p.shape p.order q.z (length gone) b.place q lawful here.0.come stands refl) in
-        let all : IsAlong p e (length gone + 1) q.z d = record { band = moves.band ∙ here.0.band; follows = follows; come = come } in
+        let all : IsAlong p e (length gone + 1) q.z d = record { band = moves.band ∙ here.0.band; inside = omega (arith, moves.place, here.1, within); follows = follows; come = come } in
         rw (h, k) all
 
     other : (z : ℕ) (f : Learner) → z < p.shape.bands → z ≢ q.z → slice_get bands z ≡ Some f → IsAlong p e (length gone + 1) z f
     other z f lt h k =
         let before = known.along z lt f k in
-        record { band = before.band; follows = others-follow z f lt h before; come = come_other p.shape p.order z (length gone) f.place q lawful before.come stands (λ g. h (sym g)) }
+        record { band = before.band; inside = before.inside; follows = others-follow z f lt h before; come = come_other p.shape p.order z (length gone) f.place q lawful before.come stands (λ g. h (sym g)) }
 
     along : AreAlong p e (length (gone ++ q ∷ [])) (set bands q.z d)
     along z lt f g = rw grown (elim (get_set bands q.z z d f g) [ inl (h, k) ↦ same z f h k | inr (h, k) ↦ other z f lt h k ])
@@ -128,6 +132,7 @@ pub record NextGoes (p : Params) (q : Place) (left rest : List Place) : Type 0 w
   pub stands : StandsAt p.shape p.order q (length (gone_by p left))
   pub count : length (gone_by p left) ≡ gone_count p left
   pub below : length (gone_by p left) < sample_count p.shape
+  pub index : gone_count p left + 1 + length rest ≡ sample_count p.shape
   pub gone : gone_by p rest ≡ gone_by p left ++ q ∷ []
   pub others : rest ≡ drop (gone_count p rest) (places p.shape p.order)
 
@@ -145,6 +150,7 @@ next_goes p q left rest lawful is e =
       stands = rw len next.1;
       count = len;
       below = omega (arith, len, next.0);
+      index = omega (arith, next.0, whole, ap (λ (x : List Place). length x) next.2, length-drop (gone_count p left + 1) (places p.shape p.order));
       gone = rw count more;
       others = rw count next.2;
     }

@@ -1,4 +1,5 @@
 pub mod Coding
+pub mod Decoding
 pub mod Everything
 pub mod File
 pub mod Files

@@ -1,5 +1,5 @@
 -- How far a coder has come along the encoding order.
-use Rattle.std.specs.Prelude.{ℕ, ◌≡◌, ◌+◌, ◌*◌, ◌<◌, ◌↔◌, List, map, slice_get, Some}
+use Rattle.std.specs.Prelude.{ℕ, ◌≡◌, ◌+◌, ◌*◌, ◌<◌, ◌≤◌, ◌↔◌, List, map, slice_get, Some}
 use Rattle.cube_core.specs.declared.order.Order.{Order}
 use Rattle.cube_core.specs.declared.order.Place.{Place}
 use Rattle.cube_core.specs.Shape.{Sizes}
@@ -16,6 +16,7 @@ HasCome s o z i t = (p : Place) → IsPlaceOf s p → p.z ≡ z → (place_index
 -- band z of a predictor follows the cube to where the walk has come
 pub record IsAlong (p : Params) (c : Image) (i z : ℕ) (b : Learner) : Type 0 where
   pub band : b.band ≡ z
+  pub inside : b.place ≤ p.shape.rows * p.shape.columns
   pub follows : Follows p b c
   pub come : HasCome p.shape p.order z i b.place
 

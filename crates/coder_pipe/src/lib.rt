@@ -2,6 +2,8 @@
 #![tactic(auto)]
 
 mod bands;
+pub mod decode;
+pub mod decoder;
 pub mod encode;
 pub mod encoder;
 pub mod laws;

@@ -17,7 +17,7 @@ loop-z-preserved c =
     fresh : (image : Image) (z : ℕ) → z ≡ length c.loop-z.bands.items → IsAlong c.args.params.now image 0 z c.in_ok-new.field-0
     fresh image z h =
         let made = c.in_ok-new.ensures.made in
-        record { band = made.1 ∙ omega (arith, h, c.loop-z.invariant.len, c.loop-z.bands.ok.0); follows = c.in_ok-new.ensures.follows image; come = rw made.2 (come_start c.args.params.now.shape c.args.params.now.order z) }
+        record { band = made.1 ∙ omega (arith, h, c.loop-z.invariant.len, c.loop-z.bands.ok.0); inside = omega (arith, made.2); follows = c.in_ok-new.ensures.follows image; come = rw made.2 (come_start c.args.params.now.shape c.args.params.now.order z) }
 
 pub returns-clause-along : goal.returns-clause-along
 returns-clause-along c = λ image z lt b e. c.loop-z.invariant.along image z b e

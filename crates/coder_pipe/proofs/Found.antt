@@ -1,0 +1,66 @@
+-- What a decoder finds, read as a file or as its first fault.
+use Rattle.std.proofs.Common.{◌≡◌, ◌⊎◌, ℕ, false, Bool, List, ◌++◌, length, take, drop, replicate, Result, Ok, Err, IfOk, IfErr, refl, sym, ap, ◌∙◌, inl, inr, append_assoc}
+use Rattle.std.proofs.lemmas.List.{take-append-drop}
+use Rattle.cube_core.specs.declared.fault.Fault.{Fault}
+use Rattle.cube_core.specs.declared.fault.Fault.TheVariants.{WantOfMemory}
+use Rattle.cube_core.specs.Image.{Image}
+use Rattle.header_bits.specs.declared.params.Params.{Params}
+use Rattle.header_bits.specs.Bits.{bits_of_bytes}
+use Rattle.header_bits.specs.Parts.{fine}
+use Rattle.header_bits.specs.Reach.{here}
+use Rattle.header_bits.specs.Lawful.{IsLawful}
+use Rattle.header_bits.specs.Header.{header_at, SpellsHeader}
+use Rattle.header_bits.proofs.SpeltLawful.{spelt_is_lawful}
+use Rattle.predict_core.specs.Residual.{residuals}
+use Rattle.coder_pipe.specs.Decoding.{TakesCube, AnswersOr, IsNoFile}
+use Rattle.coder_pipe.specs.Files.{IsFile, behind_body, fill_test, body_test, file_test}
+use Rattle.coder_pipe.proofs.FileLaws.{inside, length-residuals, behind_again, file_is_fine, one_file}
+use Rattle.coder_pipe.proofs.Fills.{passed}
+
+-- ---- a refusal is the file's first fault
+
+pub header_refused : (bits : List Bool) (e : Fault) → header_at here bits ≡ Err e → file_test here bits ≡ Err e
+unfolding file_test
+header_refused bits e h = rw h refl
+
+pub body_refused : (p : Params) (bits rest : List Bool) (e : Fault) → header_at here bits ≡ Ok (p, rest) → behind_body (length bits) p rest ≡ Err e → file_test here bits ≡ Err e
+unfolding file_test body_test
+body_refused p bits rest e h b = rw (h, b) refl
+
+pub fill_refused : (p : Params) (c : Image) (bits rest left : List Bool) (e : Fault) → IsLawful here p → header_at here bits ≡ Ok (p, rest) → TakesCube p c rest left → fill_test p.word left ≡ Err e → file_test here bits ≡ Err e
+unfolding file_test body_test
+fill_refused p c bits rest left e lawful h t f =
+    let body : behind_body (length bits) p rest ≡ Ok left =
+    ap (behind_body (length bits) p) t.text ∙ behind_again here p (length bits) (residuals p c) t.body left lawful (inside here p c lawful t.cube) (length-residuals here p c lawful t.cube) t.coded in
+    rw (h, body) f
+
+-- ---- where nothing is refused, the bytes are a file
+
+pub found_file : (bytes : List ℕ) (p : Params) (c : Image) (n : ℕ) (left : List Bool) → SpellsHeader here p (take n (bits_of_bytes bytes)) → TakesCube p c (drop n (bits_of_bytes bytes)) left → fill_test p.word left ≡ fine → IsFile here bytes p c
+found_file bytes p c n left spelt t f =
+    let bits : List Bool = bits_of_bytes bytes in
+    let zeros = passed p.word left f in
+    let text : bits_of_bytes bytes ≡ take n (bits_of_bytes bytes) ++ t.body ++ replicate (length left) false =
+    sym (take-append-drop n (bits_of_bytes bytes)) ∙ ap (λ (x : List Bool). take n (bits_of_bytes bytes) ++ x) (t.text ∙ ap (λ (x : List Bool). t.body ++ x) zeros.1) ∙ sym (append_assoc (take n (bits_of_bytes bytes)) t.body (replicate (length left) false)) in
+    record { cube = t.cube; header = take n (bits_of_bytes bytes); body = t.body; fill = length left; spelt = spelt; coded = t.coded; few = zeros.0; text = text }
+
+-- ---- and of nothing else
+
+abbrev Faulty : List ℕ → Result (Params × Image) Fault → Type 0
+Faulty bytes r = IfErr r (λ e. (e ≡ WantOfMemory) ⊎ (file_test here (bits_of_bytes bytes) ≡ Err e))
+
+not_fine : (e : Fault) → fine ≡ Err e → ⊥
+not_fine e h = absurd (cc)
+
+no_file : (bytes : List ℕ) (e : Fault) → file_test here (bits_of_bytes bytes) ≡ Err e → IsNoFile bytes
+no_file bytes e t p c f = not_fine e (sym (file_is_fine here bytes p c (spelt_is_lawful p f.header f.spelt) f) ∙ t)
+
+pub only_one : (bytes : List ℕ) (r : Result (Params × Image) Fault) → IfOk r (λ found. IsLawful here found.0) → IfOk r (λ found. IsFile here bytes found.0 found.1) → Faulty bytes r → (p : Params) (c : Image) → IsFile here bytes p c → AnswersOr r p c
+only_one bytes (Ok found) lawful file fault p c f = one_file here bytes found.0 p found.1 c lawful file f
+only_one bytes (Err e) lawful file (inl w) p c f = w
+only_one bytes (Err e) lawful file (inr t) p c f = absurd (no_file bytes e t p c f)
+
+pub none_else : (bytes : List ℕ) (r : Result (Params × Image) Fault) → Faulty bytes r → IfErr r (λ e. (e ≡ WantOfMemory) ⊎ IsNoFile bytes)
+none_else bytes (Ok found) fault = tt
+none_else bytes (Err e) (inl w) = inl w
+none_else bytes (Err e) (inr t) = inr (no_file bytes e t)
