@@ -1,4 +1,4 @@
-use Rattle.std.proofs.Common.{◌≡◌, ◌+◌, ◌*◌, ◌/◌, ◌-◌, ◌<◌, ◌≤◌, ◌^◌, ℕ, arith, sym, ◌∙◌, ap, rules}
+use Rattle.std.proofs.Common.{◌≡◌, ◌+◌, ◌*◌, ◌/◌, ◌-◌, ◌<◌, ◌≤◌, ◌^◌, ℕ, arith, sym, ◌∙◌, ap}
 use Rattle.std.proofs.lemmas.Nat.{pow-add, pow_pos, div_below}
 use Rattle.speed.proofs.synthetic.Generator.number.Goals as goal
 
