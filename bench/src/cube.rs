@@ -1,7 +1,7 @@
 //! The speed of raw bytes taken in and given out, and of a walk over all places, in plain Rust.
 
 use crate::report::{Report, Shape};
-use crate::synthetic::{mixed, Generator};
+use crate::synthetic::{mixed, sum_of_bytes, Generator};
 use std::hint::black_box;
 use std::time::Instant;
 
@@ -303,10 +303,4 @@ fn sum_of_cube(cube: &Cube) -> u64 {
     cube.heights
         .iter()
         .fold(0, |sum, height| mixed(sum, u64::from(*height)))
-}
-
-fn sum_of_bytes(bytes: &[u8]) -> u64 {
-    bytes
-        .iter()
-        .fold(0, |sum, byte| mixed(sum, u64::from(*byte)))
 }

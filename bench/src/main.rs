@@ -1,5 +1,6 @@
 //! The loops of the benchmark program `speed` in plain Rust, over the same data and with the same checksums.
 
+mod bits;
 mod block_coder;
 mod cube;
 mod predictor;

@@ -23,7 +23,32 @@ impl Generator {
     }
 }
 
+/// So many residuals of twelve bits: zeros followed by a one from a random word are the high part, and so
+/// many random bits the low part; how many changes each 4,096 residuals, and each eighth of these
+/// stretches is zeros.
+pub fn residuals(count: usize) -> Vec<u16> {
+    let mut generator = Generator::new();
+    (0..count)
+        .map(|i| {
+            let quotient = generator.number(16).leading_zeros();
+            let low = generator.number(5) >> ((i >> 12) % 4 + 1);
+            if (i >> 12) % 8 == 7 {
+                0
+            } else {
+                (quotient << 4) as u16 | low
+            }
+        })
+        .collect()
+}
+
 /// A checksum with one more number.
 pub fn mixed(checksum: u64, number: u64) -> u64 {
     checksum.rotate_left(5).wrapping_add(number)
+}
+
+/// The checksum of bytes.
+pub fn sum_of_bytes(bytes: &[u8]) -> u64 {
+    bytes
+        .iter()
+        .fold(0, |sum, byte| mixed(sum, u64::from(*byte)))
 }

@@ -1,9 +1,114 @@
-//! The speed of the block coder.
+//! The speed of the block-adaptive coder.
+
+ghost use Rattle.std.specs.Prelude.{◌≡◌, ◌≤◌, IfOk, length};
+ghost use Rattle.cube_core.specs.Shape.{sample_count};
+ghost use Rattle.block_adaptive.specs.Settings.{AreForBlocks, IsSize};
 
 use crate::report::Report;
+use crate::sample_coder::whole_bytes;
+use crate::synthetic::{mixed, residuals, sum_of_bytes};
 use anyhow::Result;
+use block_adaptive::block_reader::BlockReader;
+use block_adaptive::block_writer::BlockWriter;
+use cube_core::kind::Kind;
+use cube_core::order::Order;
+use cube_core::shape::Shape;
+use header_bits::bit_reader::BitReader;
+use header_bits::bit_writer::BitWriter;
+use header_bits::params::{Coder, Params, WeightStart};
 
-/// Measures it.
-pub fn measure(_report: &Report) -> Result<()> {
-    Ok(())
+/// The greatest number of twelve bits.
+const MOST: u16 = 4095;
+
+/// Measures the writer and the reader of blocks of each size.
+pub fn measure(report: &Report) -> Result<()> {
+    let shape = report.shape()?;
+    coded(report, "8", &params(shape, Kind::new(false, 12)?, 8))?;
+    coded(report, "16", &params(shape, Kind::new(false, 12)?, 16))?;
+    coded(report, "32", &params(shape, Kind::new(false, 12)?, 32))?;
+    coded(report, "64", &params(shape, Kind::new(false, 12)?, 64))
+}
+
+/// Parameters of blocks of this size.
+fn params(shape: Shape, kind: Kind, size: u32) -> Params
+    requires size { IsSize size }
+    ensures lawful { AreForBlocks result }
+    ensures bits { result.kind ≡ kind }
+{
+    let _bits = kind.bits();
+    Params {
+        shape,
+        kind,
+        order: Order::Bsq,
+        user: 0,
+        word: 1,
+        previous: 0,
+        reduced: true,
+        column: true,
+        register: 32,
+        omega: 13,
+        interval_log: 6,
+        vmin: -1,
+        vmax: 3,
+        start: WeightStart::Usual,
+        coder: Coder::Block {
+            size,
+            restricted: false,
+            reference: 4096,
+        },
+    }
+}
+
+/// Measures blocks of the parameters' size.
+fn coded(report: &Report, size: &str, params: &Params) -> Result<()>
+    requires lawful { AreForBlocks params.now }
+    requires bits { params.now.kind.bits ≡ 12 }
+{
+    let numbers = residuals(report.alloc(), params.shape.sample_count())?;
+    let body = encode(report, size, params, &numbers)?;
+    decode(report, size, params, &body)
+}
+
+/// Measures how the numbers are written, and gives their body in whole bytes.
+fn encode(report: &Report, size: &str, params: &Params, numbers: &[u16]) -> Result<Vec<u8>>
+    requires lawful { AreForBlocks params.now }
+    requires bits { params.now.kind.bits ≡ 12 }
+    requires count { length numbers.now ≡ sample_count params.now.shape }
+{
+    let start = report.start()?;
+    let mut blocks = BlockWriter::new(params);
+    let mut writer = BitWriter::new(report.alloc());
+    for number in numbers {
+        // None is greater, as `put` asks.
+        if *number > MOST {
+            break;
+        }
+        blocks.put(*number, &mut writer)?;
+    }
+    blocks.end(&mut writer)?;
+    let body = whole_bytes(report, writer)?;
+    let time = report.since(start)?;
+    let sum = sum_of_bytes(&body);
+    let name = format!(in report.alloc(); "block_encode_{size}")?;
+    report.line(name.as_str(), numbers.len() as u64, time, sum)?;
+    Ok(body)
+}
+
+/// Measures how the numbers are read.
+fn decode(report: &Report, size: &str, params: &Params, body: &[u8]) -> Result<()>
+    requires { AreForBlocks params.now }
+{
+    // The reader asks for so few bytes.
+    let body = &body[..body.len().min(1 << 40)];
+    let count = params.shape.sample_count();
+    let start = report.start()?;
+    let mut blocks = BlockReader::new(params);
+    let mut reader = BitReader::new(body);
+    let mut sum = 0;
+    for _number in 0..count {
+        sum = mixed(sum, u64::from(blocks.next(&mut reader)?));
+    }
+    let time = report.since(start)?;
+    let name = format!(in report.alloc(); "block_decode_{size}")?;
+    report.line(name.as_str(), count, time, sum)
 }

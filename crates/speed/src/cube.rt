@@ -5,7 +5,7 @@ ghost use Rattle.cube_core.specs.Layout.{IsLayout};
 ghost use Rattle.cube_core.specs.Order.{IsOrder};
 
 use crate::report::Report;
-use crate::synthetic::{Generator, mixed};
+use crate::synthetic::{Generator, mixed, sum_of_bytes};
 use anyhow::Result;
 use cube_core::cube::Cube;
 use cube_core::cursor::Places;
@@ -141,14 +141,6 @@ pub fn sum_of_cube(cube: &Cube) -> u64 {
                 sum = mixed(sum, u64::from(*height));
             }
         }
-    }
-    sum
-}
-
-fn sum_of_bytes(bytes: &[u8]) -> u64 {
-    let mut sum = 0;
-    for byte in bytes {
-        sum = mixed(sum, u64::from(*byte));
     }
     sum
 }

@@ -1,9 +1,111 @@
-//! The speed of the sample coder.
+//! The speed of the sample-adaptive coder.
+
+ghost use Rattle.std.specs.Prelude.{◌≡◌, ◌≤◌};
+ghost use Rattle.sample_adaptive.specs.Settings.{AreForSamples};
 
 use crate::report::Report;
+use crate::synthetic::{mixed, residuals, sum_of_bytes};
 use anyhow::Result;
+use cube_core::kind::Kind;
+use cube_core::order::Order;
+use cube_core::shape::Shape;
+use header_bits::bit_reader::BitReader;
+use header_bits::bit_writer::BitWriter;
+use header_bits::params::{Coder, CountStart, Params, WeightStart};
+use sample_adaptive::stats::Stats;
 
-/// Measures it.
-pub fn measure(_report: &Report) -> Result<()> {
-    Ok(())
+/// The greatest number of twelve bits.
+const MOST: u16 = 4095;
+
+/// Measures `put` and `get` on the numbers of one band.
+pub fn measure(report: &Report) -> Result<()> {
+    let params = params(report.shape()?, Kind::new(false, 12)?);
+    let count = params.shape.sample_count();
+    let numbers = residuals(report.alloc(), count)?;
+    let body = encode(report, &params, &numbers)?;
+    decode(report, &params, count, &body)
+}
+
+/// Parameters for samples of twelve bits.
+fn params(shape: Shape, kind: Kind) -> Params
+    requires { kind.bits ≡ 12 }
+    ensures lawful { AreForSamples result }
+    ensures bits { result.kind ≡ kind }
+    ensures bands { 1 ≤ result.shape.bands }
+{
+    let _bands = shape.bands();
+    Params {
+        shape,
+        kind,
+        order: Order::Bsq,
+        user: 0,
+        word: 1,
+        previous: 0,
+        reduced: true,
+        column: true,
+        register: 32,
+        omega: 13,
+        interval_log: 6,
+        vmin: -1,
+        vmax: 3,
+        start: WeightStart::Usual,
+        coder: Coder::Sample {
+            umax: 18,
+            gamma_star: 6,
+            gamma_zero: 1,
+            start: CountStart::Constant(5),
+        },
+    }
+}
+
+/// Measures how the numbers are written, and gives their body in whole bytes.
+fn encode(report: &Report, params: &Params, numbers: &[u16]) -> Result<Vec<u8>>
+    requires lawful { AreForSamples params.now }
+    requires bits { params.now.kind.bits ≡ 12 }
+    requires bands { 1 ≤ params.now.shape.bands }
+{
+    let start = report.start()?;
+    let mut stats = Stats::new(report.alloc(), params)?;
+    let mut writer = BitWriter::new(report.alloc());
+    for (t, number) in numbers.iter().enumerate() {
+        // None is greater, as `put` asks.
+        if *number > MOST {
+            break;
+        }
+        stats.put(0, t as u64, *number, &mut writer)?;
+    }
+    let body = whole_bytes(report, writer)?;
+    let time = report.since(start)?;
+    let sum = sum_of_bytes(&body);
+    report.line("sample_encode", numbers.len() as u64, time, sum)?;
+    Ok(body)
+}
+
+/// Measures how so many numbers are read.
+fn decode(report: &Report, params: &Params, count: u64, body: &[u8]) -> Result<()>
+    requires lawful { AreForSamples params.now }
+    requires bands { 1 ≤ params.now.shape.bands }
+{
+    // The reader asks for so few bytes.
+    let body = &body[..body.len().min(1 << 40)];
+    let start = report.start()?;
+    let mut stats = Stats::new(report.alloc(), params)?;
+    let mut reader = BitReader::new(body);
+    let mut sum = 0;
+    for t in 0..count {
+        sum = mixed(sum, u64::from(stats.get(0, t, &mut reader)?));
+    }
+    let time = report.since(start)?;
+    report.line("sample_decode", count, time, sum)
+}
+
+/// The bytes of a writer, with zeros that fill the last.
+pub fn whole_bytes(report: &Report, mut writer: BitWriter) -> Result<Vec<u8>> {
+    let over = (writer.bit_count() % 8) as u32;
+    writer.push(0, (8 - over) % 8)?;
+    Ok(if writer.bit_count() % 8 == 0 {
+        writer.into_bytes()
+    } else {
+        Vec::new(report.alloc())
+    })
 }

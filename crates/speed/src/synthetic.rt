@@ -1,6 +1,8 @@
 //! Synthetic numbers, the same as in `bench/src/synthetic.rs`.
 
-ghost use Rattle.std.specs.Prelude.{◌≤◌, ◌<◌, ◌^◌};
+ghost use Rattle.std.specs.Prelude.{◌≡◌, ◌≤◌, ◌<◌, ◌^◌, length, IfOk};
+
+use std::alloc::{AllocError, Global};
 
 /// A linear congruential generator of 64 bits, whose highest bits are its numbers.
 #[derive(Drop)]
@@ -29,7 +31,36 @@ impl Generator {
     }
 }
 
+/// So many residuals of twelve bits: zeros followed by a one from a random word are the high part, and so
+/// many random bits the low part; how many changes each 4,096 residuals, and each eighth of these
+/// stretches is zeros.
+pub fn residuals(alloc: Global, count: u64) -> Result<Vec<u16>, AllocError>
+    ensures { IfOk result (λ v. length v.items ≡ count) }
+{
+    let mut generator = Generator::new();
+    let mut residuals = Vec::new(alloc);
+    for i in 0..count {
+        let quotient = generator.number(16).leading_zeros();
+        let low = generator.number(5) >> ((i >> 12) % 4 + 1);
+        residuals.push(if (i >> 12) % 8 == 7 {
+            0
+        } else {
+            (quotient << 4) as u16 | low
+        })?;
+    }
+    Ok(residuals)
+}
+
 /// A checksum with one more number.
 pub fn mixed(checksum: u64, number: u64) -> u64 {
     checksum.rotate_left(5).wrapping_add(number)
+}
+
+/// The checksum of bytes.
+pub fn sum_of_bytes(bytes: &[u8]) -> u64 {
+    let mut sum = 0;
+    for byte in bytes {
+        sum = mixed(sum, u64::from(*byte));
+    }
+    sum
 }
