@@ -1,10 +1,12 @@
 //! The speed of the predictor in plain Rust.
 
 mod band;
+mod cube;
 
 use crate::report::{Report, Shape};
 use crate::synthetic::{mixed, Generator};
-use band::{Band, Cube, Params};
+use band::Band;
+use cube::{Cube, Params};
 use std::hint::black_box;
 use std::time::Instant;
 
@@ -49,7 +51,7 @@ pub fn measure(report: &Report) {
 fn there_and_back(report: &Report, name: &str, params: &Params, order: Order) {
     let shape = params.shape;
     let count = shape.sample_count();
-    let cube = synthetic_cube(shape);
+    let cube = synthetic_cube(params);
     let mut residuals = vec![0; count];
     let mut bands = all_bands(params);
     let mut slots = residuals.iter_mut();
@@ -63,7 +65,7 @@ fn there_and_back(report: &Report, name: &str, params: &Params, order: Order) {
     });
     let mut back = Cube {
         shape,
-        smin: 0,
+        smin: params.smin(),
         heights: vec![0; count],
     };
     let mut bands = all_bands(params);
@@ -111,7 +113,8 @@ fn walk(shape: Shape, order: Order, mut visit: impl FnMut(usize, usize, usize)) 
 }
 
 /// A cube that changes slowly, with some noise.
-fn synthetic_cube(shape: Shape) -> Cube {
+fn synthetic_cube(params: &Params) -> Cube {
+    let shape = params.shape;
     let mut generator = Generator::new();
     let mut heights = Vec::with_capacity(shape.sample_count());
     for z in 0..shape.bands {
@@ -125,7 +128,7 @@ fn synthetic_cube(shape: Shape) -> Cube {
     }
     Cube {
         shape,
-        smin: 0,
+        smin: params.smin(),
         heights,
     }
 }

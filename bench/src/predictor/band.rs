@@ -1,62 +1,6 @@
-//! The predictor in plain Rust: a call a sample, a struct a band, and rows read as slices.
+//! The predictor of a band in plain Rust: a call a sample, and rows read as slices.
 
-use crate::report::Shape;
-
-/// The parameters of a predictor.
-#[derive(Clone, Copy)]
-pub struct Params {
-    pub shape: Shape,
-    pub signed: bool,
-    pub bits: u32,
-    pub previous: u32,
-    pub reduced: bool,
-    pub column: bool,
-    pub register: u32,
-    pub fraction: u32,
-    pub interval_log: u32,
-    pub vmin: i32,
-    pub vmax: i32,
-}
-
-/// Samples, each kept as its height above the least one.
-pub struct Cube {
-    pub shape: Shape,
-    pub smin: i32,
-    pub heights: Vec<u16>,
-}
-
-impl Cube {
-    fn row(&self, z: u32, y: u32) -> &[u16] {
-        let from = (z as usize * self.shape.rows + y as usize) * self.shape.columns;
-        &self.heights[from..from + self.shape.columns]
-    }
-
-    #[inline(always)]
-    fn rows(&self, z: u32, y: u32) -> (&[u16], &[u16]) {
-        let columns = self.shape.columns;
-        let from = (z as usize * self.shape.rows + y as usize) * columns;
-        let over = if y == 0 { from } else { from - columns };
-        (
-            &self.heights[from..from + columns],
-            &self.heights[over..over + columns],
-        )
-    }
-
-    fn sample(&self, z: u32, y: u32, x: u32) -> i32 {
-        self.smin + i32::from(self.row(z, y)[x as usize])
-    }
-
-    pub fn set(&mut self, z: u32, y: u32, x: u32, sample: i32) {
-        let at = (z as usize * self.shape.rows + y as usize) * self.shape.columns + x as usize;
-        self.heights[at] = (sample - self.smin) as u16;
-    }
-}
-
-/// What is predicted at a place, and from which differences.
-struct Prediction {
-    scaled: i32,
-    differences: [i32; 18],
-}
+use super::cube::{Cube, Params};
 
 /// The predictor of one band.
 pub struct Band {
@@ -101,6 +45,8 @@ impl Band {
     }
 
     /// The mapped residual of the sample at the next place.
+    // Inlined into the loop it is slower.
+    #[inline(never)]
     pub fn forward(&mut self, cube: &Cube, y: u32, x: u32) -> u16 {
         let t = self.next;
         self.next += 1;
@@ -109,12 +55,14 @@ impl Band {
             let scaled = self.first_scaled(cube);
             return self.residual_of(scaled, sample);
         }
-        let prediction = self.predict(cube, y, x);
-        self.learn(t, &prediction, sample);
-        self.residual_of(prediction.scaled, sample)
+        let mut differences = [0; 18];
+        let scaled = self.predict(cube, y, x, &mut differences);
+        self.learn(t, scaled, &differences, sample);
+        self.residual_of(scaled, sample)
     }
 
     /// The sample at the next place whose mapped residual is `delta`.
+    #[inline(never)]
     pub fn inverse(&mut self, cube: &Cube, y: u32, x: u32, delta: u16) -> i32 {
         let t = self.next;
         self.next += 1;
@@ -122,9 +70,10 @@ impl Band {
             let scaled = self.first_scaled(cube);
             return self.sample_of(scaled, delta);
         }
-        let prediction = self.predict(cube, y, x);
-        let sample = self.sample_of(prediction.scaled, delta);
-        self.learn(t, &prediction, sample);
+        let mut differences = [0; 18];
+        let scaled = self.predict(cube, y, x, &mut differences);
+        let sample = self.sample_of(scaled, delta);
+        self.learn(t, scaled, &differences, sample);
         sample
     }
 
@@ -137,10 +86,9 @@ impl Band {
     }
 
     #[inline(always)]
-    fn predict(&self, cube: &Cube, y: u32, x: u32) -> Prediction {
+    fn predict(&self, cube: &Cube, y: u32, x: u32, differences: &mut [i32; 18]) -> i32 {
         let (row, above) = cube.rows(self.z, y);
         let sum = self.sum_of(y, row, above, x as usize);
-        let mut differences = [0; 18];
         if !self.params.reduced && y > 0 {
             let x = x as usize;
             let north = 4 * i32::from(above[x]) - sum;
@@ -160,13 +108,21 @@ impl Band {
         {
             let z = self.z - 1 - i as u32;
             let (row, above) = cube.rows(z, y);
-            *difference = 4 * i32::from(row[x as usize]) - self.sum_of(y, row, above, x as usize);
+            *difference = self.central(y, row, above, x as usize);
         }
-        let scaled = self.scaled_by(4 * self.smin + sum, &differences);
-        Prediction {
-            scaled,
-            differences,
-        }
+        self.scaled_by(4 * self.smin + sum, differences)
+    }
+
+    #[inline(always)]
+    fn central(&self, y: u32, row: &[u16], above: &[u16], x: usize) -> i32 {
+        let at = |row: &[u16], x: usize| i32::from(row[x]);
+        let inside = !self.params.column & (y > 0) & (x > 0) & (x + 1 < row.len());
+        let sum = if inside {
+            at(row, x - 1) + at(above, x - 1) + at(above, x) + at(above, x + 1)
+        } else {
+            self.sum_of(y, row, above, x)
+        };
+        4 * at(row, x) - sum
     }
 
     #[inline(always)]
@@ -205,30 +161,18 @@ impl Band {
     }
 
     #[inline(always)]
-    fn learn(&mut self, t: u64, prediction: &Prediction, sample: i32) {
+    fn learn(&mut self, t: u64, scaled: i32, differences: &[i32; 18], sample: i32) {
         let params = &self.params;
         let intervals = (t as i64 - params.shape.columns as i64) >> params.interval_log;
         let growth = (i64::from(params.vmin) + intervals)
             .clamp(i64::from(params.vmin), i64::from(params.vmax));
         let exponent = growth as i32 + params.bits as i32 - params.fraction as i32;
-        let negative = 2 * sample < prediction.scaled;
+        let negative = 2 * sample < scaled;
         let limit = 1 << (params.fraction + 2);
         match self.count() {
             0 => {}
-            1..=8 => update::<8>(
-                &mut self.weights,
-                &prediction.differences,
-                exponent,
-                negative,
-                limit,
-            ),
-            _ => update::<18>(
-                &mut self.weights,
-                &prediction.differences,
-                exponent,
-                negative,
-                limit,
-            ),
+            1..=8 => update::<8>(&mut self.weights, differences, exponent, negative, limit),
+            _ => update::<18>(&mut self.weights, differences, exponent, negative, limit),
         }
     }
 

@@ -1,7 +1,8 @@
 -- The steps of the weights in words of 32 bits.
 use Rattle.std.proofs.Common.{◌≡◌, ℕ, ◌+◌, ◌-◌, ◌*◌, ◌%◌, ◌^◌, ◌≤◌, ℤ, pos, neg_ℤ, ◌+ℤ◌, ◌-ℤ◌, ◌*ℤ◌, ◌≤ℤ◌, unsigned_abs, Bool, List, refl, sym, ap, ◌∙◌, arith, w32, SFits, to_z, pow_mono, le_trans}
 use Rattle.std.proofs.Math.Pow.{pow-add}
-use Rattle.std.proofs.lemmas.Int.{ints, to_z_pos, fits_signed_from_abs, unsigned_abs-mul}
+use Rattle.std.specs.Int.{int_min, int_max}
+use Rattle.std.proofs.lemmas.Int.{ints, clamps, to_z_pos, fits_signed_from_abs, unsigned_abs-mul}
 use Rattle.std.proofs.lemmas.Nat.{one_shl, pow_below, mul-le}
 use Rattle.predict_core.specs.Arithmetic.{floor_div, clip}
 use Rattle.predict_core.specs.Weights.{step, signed_by, weight_min, weight_max, updated_weight}
@@ -40,6 +41,16 @@ held_is fraction weight moved r e = e ∙ ap (λ low. clip (weight +ℤ moved) l
   where
     minus : (n : ℕ) → pos 0 -ℤ pos n ≡ neg_ℤ (pos n)
     minus n = omega (arith, ints)
+
+-- a number held between two bounds, first from above
+pub clipped_is : (a low high m r : ℤ) → m ≡ int_min a high → r ≡ int_max m low → r ≡ clip a low high
+clipped_is a low high m r e f = omega (arith, ints, clamps)
+
+pub clipped_low : (a low high r : ℤ) → r ≡ clip a low high → low ≤ℤ r
+clipped_low a low high r e = omega (arith, ints, clamps)
+
+pub clipped_high : (a low high r : ℤ) → low ≤ℤ high → r ≡ clip a low high → r ≤ℤ high
+clipped_high a low high r h e = omega (arith, ints, clamps)
 
 pub held_within : (n : ℕ) (r : ℤ) → n ≤ 2 ^ 21 → 1 ≤ n → (pos 0 -ℤ pos n) ≤ℤ r → r ≤ℤ (pos n -ℤ pos 1) → unsigned_abs r ≤ 2 ^ 21
 held_within n r h k a b = omega (arith, ints)

@@ -3,7 +3,7 @@
 //! A difference is the same for heights as for samples, and a local sum of heights is less than one of
 //! samples by four times the least sample.
 
-ghost use Rattle.std.specs.Prelude.{◌≡◌, ◌+◌, ◌*◌, ◌<◌, ◌≤◌, length, false, unsigned_abs, slice_index};
+ghost use Rattle.std.specs.Prelude.{◌≡◌, ◌+◌, ◌*◌, ◌<◌, ◌≤◌, length, false, unsigned_abs, slice_index, IsTrue, ◌↔◌};
 ghost use Rattle.predict_core.specs.HeightSum.{height_sum, height_difference};
 
 /// Four times an average of the neighbours of a place: `row` is its own row, and `above` the one above it.
@@ -52,5 +52,20 @@ pub(crate) fn central_of(column: bool, y: u32, row: &[u16], above: &[u16], x: us
     ensures value { result ≡ height_difference (slice_index row.now x) (height_sum column y row.now above.now x) }
     ensures bound { unsigned_abs result ≤ 262144 }
 {
-    difference_of(row[x], sum_of(column, y, row, above, x))
+    let sum = if is_inside(column, y, x, row.len()) {
+        row[x - 1] as u32 + above[x - 1] as u32 + above[x] as u32 + above[x + 1] as u32
+    } else {
+        sum_of(column, y, row, above, x)
+    };
+    difference_of(row[x], sum)
+}
+
+/// Whether a local sum takes four neighbours, as it mostly does: all bands have the same answer at a
+/// place, so that it is found once for all of them.
+#[inline(always)]
+fn is_inside(column: bool, y: u32, x: usize, columns: usize) -> bool
+    requires { x < columns }
+    ensures { IsTrue result ↔ ((column ≡ false) × (0 < y) × (0 < x) × (x + 1 < columns)) }
+{
+    !column & (0 < y) & (0 < x) & (x + 1 < columns)
 }

@@ -220,5 +220,7 @@ fn held(fraction: u32, weight: i32, step: i32) -> i32
     ensures bound { unsigned_abs result ≤ 2 ^ 21 }
 {
     let limit = 1i32 << (fraction + 2);
-    (weight + step).clamp(-limit, limit - 1)
+    let least = -limit;
+    let greatest = limit - 1;
+    (weight + step).min(greatest).max(least)
 }
