@@ -49,7 +49,8 @@ impl BitWriter {
         self.push(0, fill);
         if self.held > 0 {
             let word = (self.part << (64 - self.held)).to_be_bytes();
-            self.bytes.extend_from_slice(&word[..self.held as usize / 8]);
+            self.bytes
+                .extend_from_slice(&word[..self.held as usize / 8]);
         }
         self.bytes
     }
@@ -113,7 +114,11 @@ impl<'a> BitReader<'a> {
             if run < known {
                 zeros += run;
                 self.skip(run + 1)?;
-                return if zeros > most { Err(Refused) } else { Ok(zeros) };
+                return if zeros > most {
+                    Err(Refused)
+                } else {
+                    Ok(zeros)
+                };
             }
             zeros += known;
             self.skip(known)?;

@@ -8,7 +8,7 @@ use std::time::Instant;
 
 /// How numbers are cut into blocks, in the full set of options.
 #[derive(Clone, Copy)]
-struct Cut {
+pub struct Cut {
     /// D, how many bits a value has.
     bits: u32,
     /// How many bits an identifier has.
@@ -19,7 +19,7 @@ struct Cut {
 }
 
 impl Cut {
-    fn new(bits: u32, size: usize, reference: u64, numbers: usize) -> Cut {
+    pub fn new(bits: u32, size: usize, reference: u64, numbers: usize) -> Cut {
         Cut {
             bits,
             width: if bits <= 8 { 3 } else { 4 },
@@ -82,7 +82,7 @@ fn choose(cut: &Cut, block: &[u16]) -> Choice {
     best
 }
 
-struct BlockWriter {
+pub struct BlockWriter {
     cut: Cut,
     start: u64,
     zeros: u64,
@@ -91,7 +91,7 @@ struct BlockWriter {
 }
 
 impl BlockWriter {
-    fn new(cut: Cut) -> BlockWriter {
+    pub fn new(cut: Cut) -> BlockWriter {
         BlockWriter {
             cut,
             start: 0,
@@ -102,7 +102,7 @@ impl BlockWriter {
     }
 
     #[inline]
-    fn put(&mut self, value: u16, writer: &mut BitWriter) {
+    pub fn put(&mut self, value: u16, writer: &mut BitWriter) {
         self.values[self.held] = value;
         self.held += 1;
         if self.held == self.cut.size {
@@ -110,7 +110,7 @@ impl BlockWriter {
         }
     }
 
-    fn end(&mut self, writer: &mut BitWriter) {
+    pub fn end(&mut self, writer: &mut BitWriter) {
         if self.held > 0 {
             self.values[self.held..].fill(0);
             self.pack(writer);
@@ -179,7 +179,7 @@ fn write_lows(k: u32, block: &[u16], writer: &mut BitWriter) {
     }
 }
 
-struct BlockReader {
+pub struct BlockReader {
     cut: Cut,
     block: u64,
     values: [u16; 64],
@@ -188,7 +188,7 @@ struct BlockReader {
 }
 
 impl BlockReader {
-    fn new(cut: Cut) -> BlockReader {
+    pub fn new(cut: Cut) -> BlockReader {
         BlockReader {
             cut,
             block: 0,
@@ -199,7 +199,7 @@ impl BlockReader {
     }
 
     #[inline]
-    fn next(&mut self, reader: &mut BitReader) -> Result<u16, Refused> {
+    pub fn next(&mut self, reader: &mut BitReader) -> Result<u16, Refused> {
         if self.at == self.cut.size && self.zeros == 0 {
             self.take_text(reader)?;
         }

@@ -105,11 +105,21 @@ impl Cube {
         bytes: &[u8],
     ) -> Result<Cube, Bad> {
         let mut heights = vec![0u16; shape.sample_count()];
-        let Shape { columns, rows, bands } = shape;
+        let Shape {
+            columns,
+            rows,
+            bands,
+        } = shape;
         let shift = shift_of(signed, bits);
         let most = ((1u32 << bits) - 1) as u16;
         // With one byte a signed number's sign is the eighth bit.
-        let extend = |number: u16| if signed && SIZE == 1 { number as u8 as i8 as u16 } else { number };
+        let extend = |number: u16| {
+            if signed && SIZE == 1 {
+                number as u8 as i8 as u16
+            } else {
+                number
+            }
+        };
         match order {
             RawOrder::Bsq | RawOrder::Bil => {
                 for (i, raw) in bytes.chunks_exact(columns * SIZE).enumerate() {
@@ -165,7 +175,11 @@ impl Cube {
     }
 
     fn to_raw<S: Spelling<SIZE>, const SIZE: usize>(&self, order: RawOrder) -> Vec<u8> {
-        let Shape { columns, rows, bands } = self.shape;
+        let Shape {
+            columns,
+            rows,
+            bands,
+        } = self.shape;
         let shift = shift_of(self.signed, self.bits);
         let mut bytes = vec![0; self.heights.len() * SIZE];
         match order {
@@ -238,7 +252,8 @@ fn raw<S: Spelling<SIZE>, const SIZE: usize>(
     // What the kind is known of when the program runs.
     let (signed, bits) = black_box((false, format.bits()));
     let start = Instant::now();
-    let cube = Cube::from_raw::<S, SIZE>(shape, signed, bits, order, &bytes).unwrap_or_else(|bad| panic!("sample {}", bad.index));
+    let cube = Cube::from_raw::<S, SIZE>(shape, signed, bits, order, &bytes)
+        .unwrap_or_else(|bad| panic!("sample {}", bad.index));
     let name = format!("from_raw_{order_name}_{format_name}");
     report.line(&name, count, start, || sum_of_cube(&cube));
     let start = Instant::now();

@@ -3,6 +3,7 @@
 mod bits;
 mod block_coder;
 mod cube;
+mod files;
 mod predictor;
 mod report;
 mod sample_coder;
@@ -21,6 +22,7 @@ fn main() {
             predictor::measure(&report);
             sample_coder::measure(&report);
             block_coder::measure(&report);
+            files::measure(&report);
         }
         Some(subject) => {
             for _ in 0..ROUNDS {
@@ -38,6 +40,7 @@ fn measure(subject: &str) {
         "predictor" => predictor::measure(&report),
         "sample_coder" => sample_coder::measure(&report),
         "block_coder" => block_coder::measure(&report),
+        "files" => files::measure(&report),
         _ => {}
     }
 }

@@ -1,7 +1,7 @@
 //! The speed of the predictor in plain Rust.
 
-mod band;
-mod cube;
+pub mod band;
+pub mod cube;
 
 use crate::report::{Report, Shape};
 use crate::synthetic::{mixed, Generator};
@@ -11,11 +11,11 @@ use std::hint::black_box;
 use std::time::Instant;
 
 /// How many bits the samples have.
-const BITS: u32 = 12;
+pub const BITS: u32 = 12;
 
 /// The order in which the samples are coded.
 #[derive(Clone, Copy)]
-enum Order {
+pub enum Order {
     Bsq,
     Bi(usize),
 }
@@ -24,19 +24,7 @@ enum Order {
 pub fn measure(report: &Report) {
     let shape = report.shape();
     for (mode, reduced, previous) in [("full_3", false, 3), ("reduced_0", true, 0)] {
-        let params = black_box(Params {
-            shape,
-            signed: false,
-            bits: BITS,
-            previous,
-            reduced,
-            column: false,
-            register: 32,
-            fraction: 13,
-            interval_log: 6,
-            vmin: -1,
-            vmax: 3,
-        });
+        let params = params_of(shape, reduced, previous);
         for (name, order) in [
             ("bsq", Order::Bsq),
             ("bil", Order::Bi(1)),
@@ -45,6 +33,23 @@ pub fn measure(report: &Report) {
             there_and_back(report, &format!("{mode}_{name}"), &params, order);
         }
     }
+}
+
+/// The parameters of a measurement: neighbour sums, and the usual numbers.
+pub fn params_of(shape: Shape, reduced: bool, previous: u32) -> Params {
+    black_box(Params {
+        shape,
+        signed: false,
+        bits: BITS,
+        previous,
+        reduced,
+        column: false,
+        register: 32,
+        fraction: 13,
+        interval_log: 6,
+        vmin: -1,
+        vmax: 3,
+    })
 }
 
 /// Measures both ways in an order.
@@ -80,14 +85,14 @@ fn there_and_back(report: &Report, name: &str, params: &Params, order: Order) {
     });
 }
 
-fn all_bands(params: &Params) -> Vec<Band> {
+pub fn all_bands(params: &Params) -> Vec<Band> {
     (0..params.shape.bands as u32)
         .map(|z| Band::new(params, z))
         .collect()
 }
 
 /// Goes over all places in an order.
-fn walk(shape: Shape, order: Order, mut visit: impl FnMut(usize, usize, usize)) {
+pub fn walk(shape: Shape, order: Order, mut visit: impl FnMut(usize, usize, usize)) {
     match order {
         Order::Bsq => {
             for z in 0..shape.bands {
@@ -113,7 +118,7 @@ fn walk(shape: Shape, order: Order, mut visit: impl FnMut(usize, usize, usize)) 
 }
 
 /// A cube that changes slowly, with some noise.
-fn synthetic_cube(params: &Params) -> Cube {
+pub fn synthetic_cube(params: &Params) -> Cube {
     let shape = params.shape;
     let mut generator = Generator::new();
     let mut heights = Vec::with_capacity(shape.sample_count());
@@ -133,7 +138,7 @@ fn synthetic_cube(params: &Params) -> Cube {
     }
 }
 
-fn sum_of(numbers: &[u16]) -> u64 {
+pub fn sum_of(numbers: &[u16]) -> u64 {
     numbers
         .iter()
         .fold(0, |sum, number| mixed(sum, u64::from(*number)))

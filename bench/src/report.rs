@@ -24,8 +24,16 @@ impl Shape {
 impl Report {
     /// The shape of the cube that is gone through.
     pub fn shape(&self) -> Shape {
-        let (columns, rows, bands) = if self.timed { (512, 512, 24) } else { (23, 17, 5) };
-        Shape { columns, rows, bands }
+        let (columns, rows, bands) = if self.timed {
+            (512, 512, 24)
+        } else {
+            (23, 17, 5)
+        };
+        Shape {
+            columns,
+            rows,
+            bands,
+        }
     }
 
     /// Prints a loop's name, how many samples it went through in how many nanoseconds, and its checksum.

@@ -7,7 +7,7 @@ use std::hint::black_box;
 use std::time::Instant;
 
 /// The statistics of a band, and what is the same for all bands.
-struct Stats {
+pub struct Stats {
     bits: u32,
     umax: u32,
     gamma_star: u32,
@@ -16,7 +16,7 @@ struct Stats {
 }
 
 impl Stats {
-    fn new(bits: u32, umax: u32, gamma_star: u32, gamma_zero: u32, constant: u32) -> Stats {
+    pub fn new(bits: u32, umax: u32, gamma_star: u32, gamma_zero: u32, constant: u32) -> Stats {
         let counter = 1 << gamma_zero;
         Stats {
             bits,
@@ -56,7 +56,7 @@ impl Stats {
     }
 
     #[inline]
-    fn put(&mut self, first: bool, number: u16, writer: &mut BitWriter) {
+    pub fn put(&mut self, first: bool, number: u16, writer: &mut BitWriter) {
         if first {
             writer.push(u64::from(number), self.bits);
             return;
@@ -73,7 +73,7 @@ impl Stats {
     }
 
     #[inline]
-    fn get(&mut self, first: bool, reader: &mut BitReader) -> Result<u16, Refused> {
+    pub fn get(&mut self, first: bool, reader: &mut BitReader) -> Result<u16, Refused> {
         if first {
             return Ok(reader.take(self.bits)? as u16);
         }

@@ -8,6 +8,7 @@
 
 mod block_coder;
 mod cube;
+mod files;
 mod predictor;
 mod report;
 mod sample_coder;
@@ -29,7 +30,8 @@ fn main(rt: HostRuntime) -> Result<()> {
             cube::measure(&report)?;
             predictor::measure(&report)?;
             sample_coder::measure(&report)?;
-            block_coder::measure(&report)
+            block_coder::measure(&report)?;
+            files::measure(&report)
         }
         Some(subject) => {
             let report = Report::of_times(&rt);
@@ -48,6 +50,7 @@ fn measure(report: &Report, subject: &str) -> Result<()> {
         "predictor" => predictor::measure(report),
         "sample_coder" => sample_coder::measure(report),
         "block_coder" => block_coder::measure(report),
+        "files" => files::measure(report),
         _ => Ok(()),
     }
 }

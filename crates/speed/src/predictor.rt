@@ -28,16 +28,33 @@ pub fn measure(report: &Report) -> Result<()> {
             ("bil", Order::Bi(1)),
             ("bip", Order::Bi(shape.bands())),
         ] {
-            let params = params_of(shape, reduced, previous, order)?;
+            let params = params_of(shape, reduced, previous, order, usual_coder())?;
             there_and_back(report, mode, name, &params)?;
         }
     }
     Ok(())
 }
 
+/// The sample-adaptive coder with the usual numbers.
+pub fn usual_coder() -> Coder {
+    Coder::Sample {
+        umax: 16,
+        gamma_star: 6,
+        gamma_zero: 1,
+        start: CountStart::Constant(3),
+    }
+}
+
 /// The parameters of a measurement: 12 bits, neighbour sums, and the usual numbers.
-fn params_of(shape: Shape, reduced: bool, previous: u32, order: Order) -> Result<Params>
-    ensures { IfOk result (λ p. IsLawful here p) }
+pub fn params_of(
+    shape: Shape,
+    reduced: bool,
+    previous: u32,
+    order: Order,
+    coder: Coder,
+) -> Result<Params>
+    ensures lawful { IfOk result (λ p. IsLawful here p) }
+    ensures shape { IfOk result (λ p. p.shape ≡ shape) }
 {
     let params = Params {
         shape,
@@ -54,12 +71,7 @@ fn params_of(shape: Shape, reduced: bool, previous: u32, order: Order) -> Result
         vmin: -1,
         vmax: 3,
         start: WeightStart::Usual,
-        coder: Coder::Sample {
-            umax: 16,
-            gamma_star: 6,
-            gamma_zero: 1,
-            start: CountStart::Constant(3),
-        },
+        coder,
     };
     params.check()?;
     Ok(params)
@@ -141,7 +153,7 @@ fn all_bands(alloc: Global, params: &Params) -> Result<Vec<Band>>
 }
 
 /// A cube that changes slowly, with some noise.
-fn synthetic_cube(alloc: Global, shape: Shape, kind: Kind) -> Result<Cube>
+pub fn synthetic_cube(alloc: Global, shape: Shape, kind: Kind) -> Result<Cube>
     ensures { IfOk result (λ c. (c.shape ≡ shape) × (c.kind ≡ kind)) }
 {
     let mut generator = Generator::new();

@@ -1,0 +1,77 @@
+//! The speed of whole files, there and back.
+
+ghost use Rattle.std.specs.Prelude.{◌≡◌};
+ghost use Rattle.header_bits.specs.Lawful.{IsLawful};
+ghost use Rattle.header_bits.specs.Reach.{here};
+
+use crate::cube::sum_of_cube;
+use crate::predictor::{params_of, synthetic_cube, usual_coder};
+use crate::report::Report;
+use crate::synthetic::sum_of_bytes;
+use anyhow::Result;
+use coder_pipe::decode::decode;
+use coder_pipe::encode::encode_one;
+use cube_core::order::Order;
+use header_bits::params::{Coder, Params};
+use std::alloc::Global;
+
+/// The longest file that can be decoded.
+const MOST_BYTES: usize = 1 << 60;
+
+/// Measures both coders in each order, in full mode with three previous bands.
+pub fn measure(report: &Report) -> Result<()> {
+    let shape = report.shape()?;
+    for (name, order) in [
+        ("bsq", Order::Bsq),
+        ("bil", Order::Bi(1)),
+        ("bip", Order::Bi(shape.bands())),
+    ] {
+        let params = params_of(shape, false, 3, order, usual_coder())?;
+        there_and_back(report, "sample", name, &params)?;
+        let blocks = Coder::Block {
+            size: 16,
+            restricted: false,
+            reference: 64,
+        };
+        let params = params_of(shape, false, 3, order, blocks)?;
+        there_and_back(report, "block", name, &params)?;
+    }
+    Ok(())
+}
+
+/// Measures both ways. The cube is given up before the file is decoded, so that no more is held than
+/// either way needs.
+fn there_and_back(report: &Report, coder: &str, order: &str, params: &Params) -> Result<()>
+    requires { IsLawful here params.now }
+{
+    let alloc = report.alloc();
+    let count = params.shape.sample_count();
+    let file = encoded(report, coder, order, params)?;
+    if file.len() > MOST_BYTES {
+        return Ok(());
+    }
+    let start = report.start()?;
+    let (_params, cube) = decode(alloc, &file)?;
+    let time = report.since(start)?;
+    let name = format!(in alloc; "decode_{coder}_{order}")?;
+    report.line(name.as_str(), count, time, sum_of_cube(&cube))
+}
+
+/// Measures how a synthetic cube is encoded, and answers its file.
+fn encoded(report: &Report, coder: &str, order: &str, params: &Params) -> Result<Vec<u8>>
+    requires { IsLawful here params.now }
+{
+    let alloc = report.alloc();
+    let cube = synthetic_cube(alloc, params.shape, params.kind)?;
+    let start = report.start()?;
+    let file = encode_one(alloc, &cube, params)?;
+    let time = report.since(start)?;
+    let name = format!(in alloc; "encode_{coder}_{order}")?;
+    report.line(
+        name.as_str(),
+        params.shape.sample_count(),
+        time,
+        sum_of_bytes(&file),
+    )?;
+    Ok(file)
+}
