@@ -7,5 +7,7 @@ pub mod decoder;
 pub mod encode;
 pub mod encoder;
 pub mod laws;
+#[cfg(test)]
+mod tests;
 pub mod worked;
 pub mod worked_refusals;
