@@ -47,7 +47,7 @@ fn read_file(alloc: Global, bytes: &[u8]) -> Result<(Params, Cube), Fault>
     let (params, size) = read_header(alloc, bytes)?;
     let mut reader = reader_behind(bytes, size);
     let cube = take_cube(alloc, &params, &mut reader)?;
-    take_fill(params.word, &reader)?;
+    test_fill(params.word, &reader)?;
     Ok((params, cube))
 }
 
@@ -90,7 +90,7 @@ fn take_cube(alloc: Global, params: &Params, reader: &mut BitReader) -> Result<C
 }
 
 /// Tests what stands behind the body: fewer bits than an output word of so many bytes has, and zeros.
-fn take_fill(word: u32, reader: &BitReader) -> Result<(), Fault>
+fn test_fill(word: u32, reader: &BitReader) -> Result<(), Fault>
     requires { InRange 1 8 word }
     ensures { result ≡ fill_test word reader.now.left }
 {

@@ -29,14 +29,14 @@ returns-in_err-cube-clause-fault c =
     let body = rw c.reader_behind-reader.ensures.left at c.in_err-cube.ensures.refused in
     rw (told.1, told.2) (of_file c.in_ok-params.params c.args.bytes.now c.reader_behind-reader.result.count (drop (8 * c.in_ok-params.size) (bits_of_bytes c.args.bytes.now)) c.in_err-cube.field-0.0 c.reader_behind-reader.ensures.count c.in_ok-params.ensures.reads body)
 
-pub returns-in_err-take_fill-clause-fault : goal.returns-in_err-take_fill-clause-fault
-returns-in_err-take_fill-clause-fault c =
-    let told = err_from_is_err_and c.from_residual-in_err-take_fill.result c.from_residual-in_err-take_fill.ensures.1 in
+pub returns-in_err-test_fill-clause-fault : goal.returns-in_err-test_fill-clause-fault
+returns-in_err-test_fill-clause-fault c =
+    let told = err_from_is_err_and c.from_residual-in_err-test_fill.result c.from_residual-in_err-test_fill.ensures.1 in
     let taken = rw c.reader_behind-reader.ensures.left at c.in_ok-cube.ensures.taken in
     rw (told.1, told.2)
-    (inr (fill_refused c.in_ok-params.params c.in_ok-cube.cube (bits_of_bytes c.args.bytes.now) (drop (8 * c.in_ok-params.size) (bits_of_bytes c.args.bytes.now)) c.take_cube.new.reader.left c.in_err-take_fill.field-0.0 c.in_ok-params.ensures.lawful c.in_ok-params.ensures.reads taken (sym c.in_err-take_fill.ensures)))
+    (inr (fill_refused c.in_ok-params.params c.in_ok-cube.cube (bits_of_bytes c.args.bytes.now) (drop (8 * c.in_ok-params.size) (bits_of_bytes c.args.bytes.now)) c.take_cube.new.reader.left c.in_err-test_fill.field-0.0 c.in_ok-params.ensures.lawful c.in_ok-params.ensures.reads taken (sym c.in_err-test_fill.ensures)))
 
 pub returns-clause-file : goal.returns-clause-file
 returns-clause-file c =
     let taken = rw c.reader_behind-reader.ensures.left at c.in_ok-cube.ensures.taken in
-    found_file c.args.bytes.now c.in_ok-params.params c.in_ok-cube.cube (8 * c.in_ok-params.size) c.take_cube.new.reader.left c.in_ok-params.ensures.spelt taken (sym c.in_ok-take_fill.ensures)
+    found_file c.args.bytes.now c.in_ok-params.params c.in_ok-cube.cube (8 * c.in_ok-params.size) c.take_cube.new.reader.left c.in_ok-params.ensures.spelt taken (sym c.in_ok-test_fill.ensures)

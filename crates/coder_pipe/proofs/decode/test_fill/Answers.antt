@@ -1,6 +1,6 @@
 use Rattle.std.proofs.Common.{arith, sym}
 use Rattle.coder_pipe.proofs.Fills.{fill_bad, fill_good}
-use Rattle.coder_pipe.proofs.decode.take_fill.Goals as goal
+use Rattle.coder_pipe.proofs.decode.test_fill.Goals as goal
 
 pub returns-then-unwrap-bits : goal.returns-then-unwrap-bits
 returns-then-unwrap-bits c =
