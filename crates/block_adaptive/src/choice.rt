@@ -29,11 +29,12 @@ fn quotients_cost(k: u32, block: &[u16]) -> u64
     ensures value { result ≡ length (quotient_codes k block.now) }
     ensures bound { result ≤ 2 ^ 23 }
 {
-    let mut total = 0u64;
+    // 64 values of at most 65,536 bits each fit 32 bits, so that the sum goes on in many lanes at once.
+    let mut total = 0u32;
     for value in block {
-        total += u64::from(*value >> k) + 1;
+        total += u32::from(*value >> k) + 1;
     }
-    total
+    u64::from(total)
 }
 
 /// How many bits a pair has under the second extension.

@@ -25,6 +25,7 @@ fn write_number(writer: &mut BitWriter, bits: u64, n: u32)
 }
 
 /// Writes a fundamental sequence, up to 64 zeros at a time.
+#[inline(always)]
 fn write_fundamental(writer: &mut BitWriter, zeros: u64)
     requires { zeros + 1 ≤ writer.old.room }
     ensures { Writes writer.old writer.new (fundamental zeros) }

@@ -11,6 +11,9 @@ use std::marker::Model;
 /// The most bits that a writer holds.
 const MOST_BITS: u64 = 1 << 63;
 
+/// A number of bytes behind which a word is still within the most bits.
+const ROOMY: usize = 1 << 59;
+
 /// Bits that were pushed one number after another, the most significant bit of each first.
 ///
 /// Contracts see its bits, and its room: for how many bits more there is memory.
@@ -77,7 +80,31 @@ impl BitWriter {
     /// `n` is at most 64, and the number below 2^n. A push within the room succeeds. After
     /// `WantOfMemory`, which comes too where the bits would be more than 2^63, the bits are as before,
     /// and the room is no smaller.
+    #[inline]
     pub fn push(&mut self, bits: u64, n: u32) -> Result<(), Fault>
+        requires few { n ≤ 64 }
+        requires below { bits < 2 ^ n }
+        ensures appended { OnOk result (self.new.bits ≡ self.old.bits ++ bits_of n bits) }
+        ensures same { OnErr result (self.new.bits ≡ self.old.bits) }
+        ensures kept { OnErr result (self.old.room ≤ self.new.room) }
+        ensures within { n ≤ self.old.room → IsOk result }
+        ensures room { OnOk result (self.old.room ≤ self.new.room + n) }
+        ensures refused { IfErr result (λ e. e ≡ WantOfMemory) }
+    {
+        let len = self.bytes.len();
+        let fits = n < 64 - self.held && len < ROOMY && self.bytes.capacity() - len >= 8;
+        if !fits {
+            return self.push_and_grow(bits, n);
+        }
+        // This is short, so that it is compiled into the caller, and most numbers take this way.
+        self.part = (self.part << n) | bits;
+        self.held += n;
+        Ok(())
+    }
+
+    /// Appends the `n` bits of a number, where they fill a word or there may be no room for one.
+    #[inline(never)]
+    fn push_and_grow(&mut self, bits: u64, n: u32) -> Result<(), Fault>
         requires few { n ≤ 64 }
         requires below { bits < 2 ^ n }
         ensures appended { OnOk result (self.new.bits ≡ self.old.bits ++ bits_of n bits) }

@@ -11,4 +11,4 @@ loop-value-preserved c = record {
 }
 
 pub returns-clause-value : goal.returns-clause-value
-returns-clause-value c = quotients_done c.args.k c.args.block.now c.loop-value.value-index c.loop-value.total (length (quotient_codes c.args.k c.args.block.now)) c.loop-value-test.false c.loop-value.invariant.so_far
+returns-clause-value c = rw c.from-2.ensures (quotients_done c.args.k c.args.block.now c.loop-value.value-index c.loop-value.total (length (quotient_codes c.args.k c.args.block.now)) c.loop-value-test.false c.loop-value.invariant.so_far)

@@ -1,18 +1,8 @@
-use Rattle.std.proofs.Common.{arith, ap, ◌∙◌, ◌≡◌, ◌+◌, ◌-◌, ◌^◌, ◌<◌, ℕ, subst}
-use Rattle.std.proofs.lemmas.Nat.{shr_below}
-use Rattle.header_bits.proofs.Pushes.{word_pushed, part_pushed}
+use Rattle.std.proofs.Common.{arith, ap, ◌+◌, ◌≤◌}
+use Rattle.header_bits.proofs.Pushes.{part_pushed}
 use Rattle.header_bits.proofs.bit_writer.BitWriter.push.Goals as goal
 
-pub filled-word-requires-clause-below : goal.filled-word-requires-clause-below
-filled-word-requires-clause-below c =
-    let free : ℕ = 64 - c.self.inside.held in
-    let size : c.args.n ≡ free + (c.args.n - free) = omega arith in
-    shr_below c.args.bits free (c.args.n - free) (subst (λ (k : ℕ). c.args.bits < 2 ^ k) size c.requires.below)
-
-pub returns-then-n-free-clause-appended : goal.returns-then-n-free-clause-appended
-returns-then-n-free-clause-appended c =
-    part_pushed c.self.inside.bytes.items c.self.inside.held c.self.inside.part c.args.n c.args.bits c.args.self.now.bits c.requires.below (omega arith) (ap (λ w. w.bits) c.self.view_is ∙ c.in_ok-reserve.ensures.same)
-
-pub returns-else-n-free-clause-appended : goal.returns-else-n-free-clause-appended
-returns-else-n-free-clause-appended c =
-    word_pushed c.self.inside.bytes.items c.self.inside.held c.self.inside.part c.args.n c.args.bits c.filled-word.result c.args.self.now.bits _ c.self.invariant.0 (omega arith) (ap (λ w. w.bits) c.self.view_is ∙ c.in_ok-reserve.ensures.same) c.filled-word.ensures c.append_word.ensures.bits
+pub returns-clause-appended : goal.returns-clause-appended
+returns-clause-appended c =
+    let few : c.self.inside.held + c.args.n ≤ 64 = grind arith in
+    part_pushed c.self.inside.bytes.items c.self.inside.held c.self.inside.part c.args.n c.args.bits c.args.self.now.bits c.requires.below few (ap (λ w. w.bits) c.self.view_is)
