@@ -69,6 +69,7 @@ impl Band {
             range: Range::of(params.kind),
             columns: params.shape.columns(),
             band: z,
+            near: previous,
             count: first + previous,
         };
         Ok(Band {

@@ -3,7 +3,7 @@
 ghost use Rattle.std.specs.Prelude.{◌≡◌, ◌+◌, ◌-◌, ◌<◌, ◌≤◌, pos, ◌+ℤ◌, ◌*ℤ◌, length, take, drop, ◌∷◌, ◌++◌, replicate, true, false, unsigned_abs};
 ghost use Rattle.cube_core.specs.Kind.{smin};
 ghost use Rattle.cube_core.specs.Image.{IsPlace};
-ghost use Rattle.predict_core.specs.Predictor.{component_count};
+ghost use Rattle.predict_core.specs.Predictor.{previous_bands, component_count};
 ghost use Rattle.predict_core.specs.LocalSum.{local_sum};
 ghost use Rattle.predict_core.specs.Differences.{central_difference, spectral_differences, directional_differences, difference_vector as vector};
 ghost use Rattle.predict_core.specs.Bounds.{AllWithin, IsPredictor};
@@ -15,7 +15,8 @@ use cube_core::cube::Cube;
 /// Writes all differences at a place that is not the first of its band into a room of zeros, in full
 /// mode the directional ones first.
 ///
-/// `sum` is the local sum of the heights there (CCSDS 123.0-B-1, "Local Differences").
+/// `sum` is the local sum of the heights there, and `near` the number of bands below that are looked at
+/// (CCSDS 123.0-B-1, "Local Differences").
 #[inline(always)]
 pub(crate) fn fill_differences(
     predictor: &Predictor,
@@ -24,6 +25,7 @@ pub(crate) fn fill_differences(
     y: u32,
     x: u32,
     sum: u32,
+    near: usize,
     out: &mut [i32; 18],
 )
     requires lawful { IsPredictor predictor.now }
@@ -32,16 +34,16 @@ pub(crate) fn fill_differences(
     requires wide { predictor.now.column ≡ false → 2 ≤ cube.now.shape.columns }
     requires sum_is { local_sum predictor.now cube.now z y x ≡ pos 4 *ℤ smin cube.now.kind +ℤ pos sum }
     requires sum_in { sum ≤ 262140 }
+    requires near_is { near ≡ previous_bands predictor.now z }
     requires clear { out.old ≡ replicate 18 (pos 0) }
     ensures value { out.new ≡ vector predictor.now cube.now z y x ++ replicate (18 - component_count predictor.now z) (pos 0) }
     ensures bound { AllWithin 262144 out.new }
 {
-    let count = z.min(predictor.previous) as usize;
     if predictor.reduced {
-        fill_spectral(predictor, cube, z, y, x, 0, count, out);
+        fill_spectral(predictor, cube, z, y, x, 0, near, out);
     } else {
         fill_directional(predictor, cube, z, y, x, sum, out);
-        fill_spectral(predictor, cube, z, y, x, 3, count, out);
+        fill_spectral(predictor, cube, z, y, x, 3, near, out);
     }
 }
 

@@ -3,7 +3,7 @@
 ghost use Rattle.std.specs.Prelude.{◌≡◌, ◌+◌, ◌-◌, ◌*◌, ◌^◌, ◌<◌, ◌≤◌, pos, negsuc, ◌-ℤ◌, ◌*ℤ◌, ◌≤ℤ◌, int_lt, take, ◌++◌, replicate, false, ℤ, List, length};
 ghost use Rattle.cube_core.specs.Shape.{InRange};
 ghost use Rattle.cube_core.specs.Image.{IsPlace};
-ghost use Rattle.predict_core.specs.Predictor.{component_count};
+ghost use Rattle.predict_core.specs.Predictor.{previous_bands, component_count};
 ghost use Rattle.predict_core.specs.Differences.{difference_vector as vector};
 ghost use Rattle.predict_core.specs.Weights.{step_exponent, updated_weights};
 ghost use Rattle.predict_core.specs.Prediction.{scaled_there, first_scaled as first_prediction};
@@ -25,10 +25,13 @@ pub(crate) struct Settings {
     pub range: Range,
     pub columns: u32,
     pub band: u32,
+    /// How many bands below are looked at.
+    pub near: usize,
     /// How many weights are in use.
     pub count: usize,
     pub ghost lawful: { IsPredictor predictor },
     pub ghost columns_in: { InRange 1 65536 columns },
+    pub ghost near_is: { near ≡ previous_bands predictor band },
     pub ghost count_is: { count ≡ component_count predictor band },
     pub ghost few: { count ≤ 18 },
     pub ghost wide: { predictor.column ≡ false → 2 ≤ columns },
@@ -81,7 +84,16 @@ pub(crate) fn predict(
     let range = &settings.range;
     let sum = sum_at(predictor, cube, settings.band, y, x);
     let mut differences = [0i32; 18];
-    fill_differences(predictor, cube, settings.band, y, x, sum, &mut differences);
+    fill_differences(
+        predictor,
+        cube,
+        settings.band,
+        y,
+        x,
+        sum,
+        settings.near,
+        &mut differences,
+    );
     let whole = 4 * range.smin + sum as i32;
     let scaled = scaled_by(
         predictor,
