@@ -24,6 +24,7 @@ fn main() {
             block_coder::measure(&report);
             files::measure(&report);
         }
+        Some(subject) if subject == "raw" => predictor::print_raw(),
         Some(subject) => {
             for _ in 0..ROUNDS {
                 measure(&subject);

@@ -8,6 +8,7 @@ use crate::synthetic::{mixed, Generator};
 use band::Band;
 use cube::{Cube, Params};
 use std::hint::black_box;
+use std::io::Write;
 use std::time::Instant;
 
 /// How many bits the samples have.
@@ -136,6 +137,14 @@ pub fn synthetic_cube(params: &Params) -> Cube {
         smin: params.smin(),
         heights,
     }
+}
+
+/// Prints the raw bytes of the synthetic cube, band sequential, two bytes a sample, the high byte first.
+pub fn print_raw() {
+    let params = params_of(Report { timed: true }.shape(), false, 0);
+    let heights = synthetic_cube(&params).heights;
+    let bytes: Vec<u8> = heights.iter().flat_map(|height| height.to_be_bytes()).collect();
+    std::io::stdout().write_all(&bytes).expect("an open output");
 }
 
 pub fn sum_of(numbers: &[u16]) -> u64 {
