@@ -5,14 +5,10 @@ pub mod block_reader;
 pub mod block_writer;
 pub mod choice;
 mod found;
-#[cfg(test)]
-mod hand_made;
 pub mod laws;
 pub mod options;
 mod pairs;
 mod segments;
-#[cfg(test)]
-mod tests;
 mod texts;
 pub mod worked;
 pub mod worked_codes;

@@ -7,8 +7,6 @@ pub mod decoder;
 pub mod encode;
 pub mod encoder;
 pub mod laws;
-#[cfg(test)]
-mod tests;
 pub mod worked;
 pub mod worked_least;
 pub mod worked_parts;

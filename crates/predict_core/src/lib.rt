@@ -13,7 +13,5 @@ mod register;
 pub mod residual;
 mod settings;
 mod start;
-#[cfg(test)]
-mod tests;
 mod weights;
 pub mod worked;

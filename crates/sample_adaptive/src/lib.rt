@@ -5,7 +5,5 @@ pub mod code_word;
 pub mod laws;
 pub mod statistics;
 pub mod stats;
-#[cfg(test)]
-mod tests;
 pub mod worked;
 pub mod worked_refusals;

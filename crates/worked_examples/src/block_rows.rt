@@ -1,7 +1,7 @@
 //! The worked files of the block-adaptive coder.
 
-use crate::tests::rows::Row;
-use crate::tests::settings::{COMMON, CUBE_A, Code, MIDDLES, SAMPLES_A, Settings, Text};
+use crate::rows::Row;
+use crate::settings::{COMMON, CUBE_A, Code, MIDDLES, SAMPLES_A, Settings, Text};
 
 /// Blocks under their options.
 pub(super) fn block_rows() -> [Row; 4] {

@@ -1,7 +1,7 @@
 use Rattle.std.proofs.Common.{arith, []}
 use Rattle.cube_core.specs.Shape.{sample_count}
 use Rattle.block_adaptive.proofs.Calls.{more_left, cut_count, cut_lawful}
-use Rattle.block_adaptive.proofs.tests.refusal_of.Goals as goal
+use Rattle.worked_examples.proofs.blocks.refusal_of.Goals as goal
 
 pub next-requires : goal.next-requires
 next-requires g c =

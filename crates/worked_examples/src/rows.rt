@@ -1,6 +1,6 @@
 //! The worked files of the sample-adaptive coder.
 
-use crate::tests::settings::{COMMON, CUBE_A, Code, SAMPLES_A, Settings, Text};
+use crate::settings::{COMMON, CUBE_A, Code, SAMPLES_A, Settings, Text};
 
 /// A worked file, and what is coded in it: samples of one byte, band after band.
 #[derive(Clone, Copy)]

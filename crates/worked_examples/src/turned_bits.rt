@@ -1,8 +1,8 @@
 //! Each single bit of each worked file, turned.
 
-use crate::tests::block_rows::{block_rows, run_rows};
-use crate::tests::files::{BYTES, bytes_of, decoded};
-use crate::tests::rows::{Row, small_rows, weight_rows};
+use crate::block_rows::{block_rows, run_rows};
+use crate::files::{BYTES, bytes_of, decoded};
+use crate::rows::{Row, small_rows, weight_rows};
 use cube_core::layout::Layout;
 use std::alloc::Global;
 use std::process::Abort;

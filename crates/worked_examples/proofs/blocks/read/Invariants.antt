@@ -1,7 +1,7 @@
 use Rattle.std.proofs.Common.{◌≡◌, ℕ, List, Bool, length}
 use Rattle.block_adaptive.specs.Settings.{cut_by}
 use Rattle.block_adaptive.specs.Given.{HasGiven}
-use Rattle.block_adaptive.proofs.tests.read.Given as goal
+use Rattle.worked_examples.proofs.blocks.read.Given as goal
 
 abbrev pub invariant-loop-number : goal.invariant-loop-number
 invariant-loop-number g l = record {

@@ -2,7 +2,7 @@ use Rattle.std.proofs.Common.{arith, ◌≡◌, ◌+◌, ◌∙◌, ◌∷◌, �
 use Rattle.std.proofs.lemmas.List.{length-take, take_more}
 use Rattle.cube_core.specs.Shape.{sample_count}
 use Rattle.block_adaptive.proofs.Calls.{room_left, cut_count, cut_lawful}
-use Rattle.block_adaptive.proofs.tests.written.Goals as goal
+use Rattle.worked_examples.proofs.blocks.written.Goals as goal
 
 pub put-requires-clause-more : goal.put-requires-clause-more
 put-requires-clause-more g c =

@@ -1,6 +1,6 @@
 use Rattle.std.proofs.Common.{arith}
 use Rattle.sample_adaptive.specs.Statistics.{constant_of}
-use Rattle.sample_adaptive.proofs.tests.params_of.Goals as goal
+use Rattle.worked_examples.proofs.sample_words.params_of.Goals as goal
 
 pub returns-clause-lawful : goal.returns-clause-lawful
 unfolding constant_of

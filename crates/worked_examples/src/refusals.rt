@@ -1,7 +1,7 @@
 //! Files that are refused, and the fault that is named.
 
-use crate::tests::files::{bytes_of, decoded};
-use crate::tests::settings::Text;
+use crate::files::{bytes_of, decoded};
+use crate::settings::Text;
 use cube_core::fault::{Fault, Field, Rule};
 use std::alloc::Global;
 use std::process::Abort;

@@ -3,7 +3,7 @@
 ghost use Rattle.std.specs.Prelude.{◌≡◌, ◌+◌, ◌^◌, ◌<◌, ◌≤◌, length};
 ghost use Rattle.sample_adaptive.specs.Settings.{AreForSamples};
 
-use crate::stats::Stats;
+use sample_adaptive::stats::Stats;
 use cube_core::fault::Fault;
 use cube_core::kind::Kind;
 use cube_core::order::Order;

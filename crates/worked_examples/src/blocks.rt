@@ -4,8 +4,8 @@ ghost use Rattle.std.specs.Prelude.{◌≡◌, ◌+◌, ◌^◌, ◌<◌, ◌≤
 ghost use Rattle.cube_core.specs.Shape.{sample_count};
 ghost use Rattle.block_adaptive.specs.Settings.{AreForBlocks, IsSize};
 
-use crate::block_reader::BlockReader;
-use crate::block_writer::BlockWriter;
+use block_adaptive::block_reader::BlockReader;
+use block_adaptive::block_writer::BlockWriter;
 use cube_core::fault::Fault;
 use cube_core::kind::Kind;
 use cube_core::order::Order;

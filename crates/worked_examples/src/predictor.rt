@@ -6,8 +6,8 @@ ghost use Rattle.header_bits.specs.Lawful.{IsLawful};
 ghost use Rattle.header_bits.specs.Reach.{here};
 ghost use Rattle.predict_core.specs.Rows.{sizes, unsigned};
 
-use crate::band::Band;
-use crate::residual::{map_residual, unmap_residual};
+use predict_core::band::Band;
+use predict_core::residual::{map_residual, unmap_residual};
 use cube_core::cube::Cube;
 use cube_core::cursor::Places;
 use cube_core::fault::Fault;

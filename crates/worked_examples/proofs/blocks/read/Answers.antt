@@ -2,7 +2,7 @@ use Rattle.std.proofs.Common.{arith, ◌∙◌, ◌∷◌, ◌++◌, []}
 use Rattle.std.proofs.lemmas.List.{length-append}
 use Rattle.cube_core.specs.Shape.{sample_count}
 use Rattle.block_adaptive.proofs.Calls.{more_left, cut_count, cut_lawful}
-use Rattle.block_adaptive.proofs.tests.read.Goals as goal
+use Rattle.worked_examples.proofs.blocks.read.Goals as goal
 
 pub next-requires : goal.next-requires
 next-requires g c =

@@ -1,7 +1,7 @@
 use Rattle.std.proofs.Common.{◌≡◌, List, Bool, take}
 use Rattle.block_adaptive.specs.Settings.{cut_by}
 use Rattle.block_adaptive.specs.Taken.{HasTaken}
-use Rattle.block_adaptive.proofs.tests.written.Given as goal
+use Rattle.worked_examples.proofs.blocks.written.Given as goal
 
 abbrev pub invariant-loop-number : goal.invariant-loop-number
 invariant-loop-number g l = record {

@@ -1,0 +1,23 @@
+//! The worked examples, and round trips over many settings, through the public calls of the crates below.
+#![tactic(auto)]
+
+#[cfg(test)]
+mod block_rows;
+#[cfg(test)]
+mod blocks;
+#[cfg(test)]
+mod blocks_by_hand;
+#[cfg(test)]
+mod files;
+#[cfg(test)]
+mod predictor;
+#[cfg(test)]
+mod refusals;
+#[cfg(test)]
+mod rows;
+#[cfg(test)]
+mod sample_words;
+#[cfg(test)]
+mod settings;
+#[cfg(test)]
+mod turned_bits;
