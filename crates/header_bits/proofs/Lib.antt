@@ -1,3 +1,4 @@
+pub mod Ahead
 pub mod Bytes
 pub mod Chosen
 pub mod Exact

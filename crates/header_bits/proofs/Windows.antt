@@ -52,7 +52,7 @@ below_more m j word lt le =
     omega (arith, p)
 
 -- the first bit that isn't zero
-top_is_one : (word run : ℕ) → word < 2 ^ 64 → run + 1 ≤ 64 → run ≡ count_leading_zeros 64 word → word / 2 ^ (64 - (run + 1)) ≡ 1
+pub top_is_one : (word run : ℕ) → word < 2 ^ 64 → run + 1 ≤ 64 → run ≡ count_leading_zeros 64 word → word / 2 ^ (64 - (run + 1)) ≡ 1
 top_is_one word run below le is =
     let p = leading_length 64 word below in
     let j : ℕ = 64 - (run + 1) in
@@ -62,13 +62,17 @@ top_is_one word run below le is =
     let least : 2 ^ suc j ≤ 2 * word + 1 = subst (λ (k : ℕ). 2 ^ k ≤ 2 * word + 1) size p.3 in
     div-eq_of_lt-le (2 ^ j) (omega (arith, double, least)) (omega (arith, double, above))
 
+-- the first bits that are zeros
+pub top_is_zero : (word some : ℕ) → word < 2 ^ 64 → some ≤ count_leading_zeros 64 word → word / 2 ^ (64 - some) ≡ 0
+top_is_zero word some below le =
+    let p = leading_length 64 word below in
+    div-eq_of_lt (below_more p.0 (64 - some) word p.2 (omega (arith, p.1)))
+
 -- zeros that lead the word are zeros that come next
 pub zeros_next : (bytes : List ℕ) (at word some : ℕ) → word < 2 ^ 64 → IsWindow bytes at word → at % 8 + some ≤ 64 → at + some ≤ 8 * length bytes → some ≤ count_leading_zeros 64 word
     → drop at (bits_of_bytes bytes) ≡ replicate some false ++ drop (at + some) (bits_of_bytes bytes)
 zeros_next bytes at word some below h fits enough le =
-    let p = leading_length 64 word below in
-    let small : word / 2 ^ (64 - some) ≡ 0 = div-eq_of_lt (below_more p.0 (64 - some) word p.2 (omega (arith, p.1))) in
-    h some fits enough ∙ ap (λ (x : List Bool). x ++ drop (at + some) (bits_of_bytes bytes)) (ap (bits_of some) small ∙ bits_of_zero some)
+    h some fits enough ∙ ap (λ (x : List Bool). x ++ drop (at + some) (bits_of_bytes bytes)) (ap (bits_of some) (top_is_zero word some below le) ∙ bits_of_zero some)
 
 -- and then a one
 pub one_next : (bytes : List ℕ) (at word run : ℕ) → word < 2 ^ 64 → IsWindow bytes at word → at % 8 + (run + 1) ≤ 64 → at + (run + 1) ≤ 8 * length bytes → run ≡ count_leading_zeros 64 word
@@ -79,7 +83,7 @@ one_next bytes at word run below h fits enough is =
     h (run + 1) fits enough ∙ ap (λ (x : List Bool). x ++ drop (at + (run + 1)) (bits_of_bytes bytes)) (ap (bits_of (run + 1)) one ∙ bits_of_one run)
     ∙ append_assoc (replicate run false) (true ∷ []) (drop (at + (run + 1)) (bits_of_bytes bytes))
 
-two_shifts : (word n : ℕ) → n ≤ 56 → word / 2 / 2 ^ (63 - n) ≡ word / 2 ^ (64 - n)
+pub two_shifts : (word n : ℕ) → n < 64 → word / 2 / 2 ^ (63 - n) ≡ word / 2 ^ (64 - n)
 two_shifts word n few =
     let size : 1 + (63 - n) ≡ 64 - n = omega arith in
     shr-shr word 1 (63 - n) ∙ ap (λ k. word / 2 ^ k) size
@@ -97,12 +101,12 @@ one_after bytes at zeros word run below h fits enough is =
 -- the first n bits of a window
 pub piece_of : (bytes : List ℕ) (at n word : ℕ) → n ≤ 56 → at + n ≤ 8 * length bytes → IsWindow bytes at word → drop at (bits_of_bytes bytes) ≡ bits_of n (word / 2 / 2 ^ (63 - n)) ++ drop (at + n) (bits_of_bytes bytes)
 piece_of bytes at n word few enough h =
-    h n (omega arith) enough ∙ ap (λ k. bits_of n k ++ drop (at + n) (bits_of_bytes bytes)) (sym (two_shifts word n few))
+    h n (omega arith) enough ∙ ap (λ k. bits_of n k ++ drop (at + n) (bits_of_bytes bytes)) (sym (two_shifts word n (omega arith)))
 
 pub piece_below : (word n : ℕ) → n ≤ 56 → word < 2 ^ 64 → word / 2 / 2 ^ (63 - n) < 2 ^ n
 piece_below word n few lt =
     let size : n + (64 - n) ≡ 64 = omega arith in
-    rw (two_shifts word n few) (shr_below word n (64 - n) (subst (λ (k : ℕ). word < 2 ^ k) (sym size) lt))
+    rw (two_shifts word n (omega arith)) (shr_below word n (64 - n) (subst (λ (k : ℕ). word < 2 ^ k) (sym size) lt))
 
 -- one piece behind another
 pub pieces_joined : (bytes : List ℕ) (at n high low : ℕ) → 32 ≤ n → low < 2 ^ 32 → drop at (bits_of_bytes bytes) ≡ bits_of (n - 32) high ++ drop (at + (n - 32)) (bits_of_bytes bytes)

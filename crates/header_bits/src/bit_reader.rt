@@ -1,10 +1,10 @@
 //! Bits from the front of bytes.
 
-ghost use Rattle.std.specs.Prelude.{◌≡◌, ◌+◌, ◌*◌, ◌/◌, ◌%◌, ◌^◌, ◌<◌, ◌≤◌, ◌↔◌, ◌++◌, ◌∷◌, true, false, length, take, drop, replicate, IsOk, IsErr, IfOk, IfErr, OnErr};
+ghost use Rattle.std.specs.Prelude.{◌≡◌, ◌+◌, ◌-◌, ◌*◌, ◌/◌, ◌%◌, ◌^◌, ◌<◌, ◌≤◌, ◌↔◌, ◌++◌, ◌∷◌, true, false, length, take, drop, replicate, IsOk, IsErr, IfOk, IfErr, OnErr, IsSome, IfSome};
 ghost use Rattle.cube_core.specs.declared.fault.Fault.TheVariants.{Truncated};
 ghost use Rattle.header_bits.specs.Bits.{bits_of, bits_of_bytes};
 ghost use Rattle.header_bits.specs.Reading.{Reads, ReadsZeros, number_at, zeros_at};
-ghost use Rattle.header_bits.specs.Windows.{IsFrontWord, IsWindow};
+ghost use Rattle.header_bits.specs.Windows.{IsAhead, IsFrontWord, IsWindow};
 
 use cube_core::fault::Fault;
 use std::marker::Model;
@@ -111,6 +111,40 @@ impl<'a> BitReader<'a> {
         self.at += zeros;
         Ok(zeros)
     }
+
+    /// A word whose 57 highest bits are the next ones, and `None` where fewer are left.
+    ///
+    /// Whoever finds a whole code in one word pays for one load, and goes on by `skip`.
+    #[inline(always)]
+    pub fn peek(&self) -> Option<u64>
+        ensures enough { IsSome result ↔ (57 ≤ length self.now.left) }
+        ensures bits { IfSome result (λ word. IsAhead 57 self.now.left word) }
+    {
+        let eight = self.bytes[(self.at / 8) as usize..].first_chunk::<8>()?;
+        Some(word_of_eight(eight) << (self.at % 8))
+    }
+
+    /// Goes past the next `n` bits, which are there.
+    #[inline(always)]
+    pub fn skip(&mut self, n: u64)
+        requires { n ≤ length self.old.left }
+        ensures left { self.new.left ≡ drop n self.old.left }
+        ensures count { self.new.count ≡ self.old.count }
+    {
+        self.at += n;
+    }
+}
+
+/// The `n` bits of a word behind its `highest` highest ones, as a number.
+#[inline(always)]
+pub fn bits_behind(word: u64, highest: u32, n: u32) -> u64
+    requires highest { highest < 64 }
+    requires few { n < 64 }
+    requires within { highest + n ≤ 64 }
+    ensures { result ≡ word / 2 ^ (64 - (highest + n)) % 2 ^ n }
+{
+    // Two shifts to the right, since n may be 0 and a shift by 64 isn't one.
+    (word << highest >> 1) >> (63 - n)
 }
 
 /// The next `n` bits as a number.
@@ -230,6 +264,31 @@ mod tests {
         assert_eq!(rt; reader.count_zeros(1000), Ok(142));
         assert_eq!(rt; reader.count(), 160);
         assert_eq!(rt; reader.left(), 12);
+    }
+
+    #[test]
+    fn words_ahead(rt: HostRuntime) {
+        let bytes = [0xA5, 0x0F, 0xFF, 0x00, 0x12, 0x34, 0x56, 0x78, 0x9A];
+        let mut reader = BitReader::new(&bytes);
+        assert_eq!(rt; reader.peek(), Some(0xA50F_FF00_1234_5678));
+        reader.skip(12);
+        // 57 bits of these are looked at.
+        assert_eq!(rt;
+            reader.peek().map(|word| word >> 7),
+            Some(0xFFF0_0123_4567_89A0 >> 7)
+        );
+        reader.skip(3);
+        assert_eq!(rt; reader.left(), 57);
+        assert_eq!(rt;
+            reader.peek().map(|word| word >> 7),
+            Some(0x01FF_0012_3456_789A)
+        );
+        reader.skip(1);
+        assert_eq!(rt; reader.peek(), None);
+        reader.skip(56);
+        assert_eq!(rt; reader.left(), 0);
+        assert_eq!(rt; bits_behind(0xA50F_FF00_1234_5678, 4, 12), 0x50F);
+        assert_eq!(rt; bits_behind(0xA50F_FF00_1234_5678, 63, 0), 0);
     }
 
     #[test]

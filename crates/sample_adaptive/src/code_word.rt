@@ -1,13 +1,15 @@
 //! Code words: how a number is written, and how it is read back.
 
-ghost use Rattle.std.specs.Prelude.{◌≡◌, ◌^◌, ◌<◌, ◌≤◌, IfOk};
+ghost use Rattle.std.specs.Prelude.{◌≡◌, ◌+◌, ◌*◌, ◌/◌, ◌^◌, ◌<◌, ◌≤◌, ◌↔◌, IsOk, IfOk, IfErr, OnErr};
+ghost use Rattle.cube_core.specs.declared.fault.Fault.TheVariants.{BadCode};
 ghost use Rattle.header_bits.specs.Bits.{bits_of};
 ghost use Rattle.header_bits.specs.Reading.{Reads};
+ghost use Rattle.header_bits.specs.Windows.{IsAhead};
 ghost use Rattle.sample_adaptive.specs.Words.{IsCode, code_word};
 ghost use Rattle.sample_adaptive.specs.Reading.{word_at};
 
 use cube_core::fault::Fault;
-use header_bits::bit_reader::BitReader;
+use header_bits::bit_reader::{BitReader, bits_behind};
 
 /// How the next number is written (CCSDS 123.0-B-1, "Sample-adaptive entropy coder").
 #[derive(Clone, Copy, Debug, PartialEq, Eq)]
@@ -57,29 +59,101 @@ pub(crate) fn word_of(code: Code, number: u16) -> Word
 /// Takes the number whose code word stands next.
 ///
 /// `BadCode` with the place where a form stands that is no number's word, `Truncated` where the bits
-/// end within a form. The reader is left anywhere then.
-#[tactic(auto, unfolding(crate::specs::Reading::word_at, crate::specs::Reading::plain_at, crate::specs::Reading::escape_at))]
+/// end within a form. Then the reader stands where it stood.
+#[inline(always)]
 pub(crate) fn take_word(code: Code, place: u64, reader: &mut BitReader) -> Result<u16, Fault>
     requires { IsCode code }
     ensures reads { Reads (λ number. number) result reader.new.left (word_at reader.old.count place code reader.old.left) }
     ensures below { IfOk result (λ number. number < 2 ^ code.bits) }
     ensures count { reader.new.count ≡ reader.old.count }
+    ensures same { OnErr result (reader.new ≡ reader.old) }
 {
-    let quotient = reader.count_zeros(u64::from(code.limit))?;
-    if quotient < u64::from(code.limit) {
-        let low = reader.take(code.low)?;
-        let number = (quotient << code.low) + low;
-        if number < 1 << code.bits {
-            Ok(number as u16)
-        } else {
-            Err(Fault::BadCode { place })
+    match reader.peek() {
+        Some(word) => take_from(code, place, word, reader),
+        None => {
+            // A copy goes ahead, so that the reader itself can stay in registers.
+            let mut ahead = reader.fork();
+            let number = take_last(code, place, &mut ahead)?;
+            *reader = ahead;
+            Ok(number)
         }
+    }
+}
+
+/// Takes the number whose code word the next 57 bits begin with: no form is longer.
+#[inline(always)]
+fn take_from(code: Code, place: u64, word: u64, reader: &mut BitReader) -> Result<u16, Fault>
+    requires code { IsCode code }
+    requires ahead { IsAhead 57 reader.old.left word }
+    ensures reads { Reads (λ number. number) result reader.new.left (word_at reader.old.count place code reader.old.left) }
+    ensures below { IfOk result (λ number. number < 2 ^ code.bits) }
+    ensures count { reader.new.count ≡ reader.old.count }
+    ensures same { OnErr result (reader.new ≡ reader.old) }
+{
+    let zeros = word.leading_zeros();
+    if zeros < code.limit {
+        let low = bits_behind(word, zeros + 1, code.low);
+        let number = plain(code, place, u64::from(zeros), low)?;
+        reader.skip(u64::from(zeros + 1 + code.low));
+        Ok(number)
+    } else {
+        let number = escaped(code, place, bits_behind(word, code.limit, code.bits))?;
+        reader.skip(u64::from(code.limit + code.bits));
+        Ok(number)
+    }
+}
+
+/// Takes the number whose code word stands next, part by part, since fewer than 57 bits may be left.
+///
+/// After a refusal the reader is left anywhere.
+#[inline(never)]
+#[tactic(auto, unfolding(crate::specs::Reading::word_at, crate::specs::Reading::plain_at, crate::specs::Reading::escape_at))]
+fn take_last(code: Code, place: u64, reader: &mut BitReader) -> Result<u16, Fault>
+    requires { IsCode code }
+    ensures reads { Reads (λ number. number) result reader.new.left (word_at reader.old.count place code reader.old.left) }
+    ensures below { IfOk result (λ number. number < 2 ^ code.bits) }
+    ensures count { reader.new.count ≡ reader.old.count }
+{
+    let zeros = reader.count_zeros(u64::from(code.limit))?;
+    if zeros < u64::from(code.limit) {
+        let low = reader.take(code.low)?;
+        plain(code, place, zeros, low)
     } else {
         let number = reader.take(code.bits)?;
-        if number >> code.low < u64::from(code.limit) {
-            Err(Fault::BadCode { place })
-        } else {
-            Ok(number as u16)
-        }
+        escaped(code, place, number)
+    }
+}
+
+/// The number of a plain form: so many zeros, and low bits.
+#[inline(always)]
+fn plain(code: Code, place: u64, zeros: u64, low: u64) -> Result<u16, Fault>
+    requires code { IsCode code }
+    requires zeros { zeros < code.limit }
+    requires low { low < 2 ^ code.low }
+    ensures value { IfOk result (λ number. number ≡ zeros * 2 ^ code.low + low) }
+    ensures below { IsOk result ↔ (zeros * 2 ^ code.low + low < 2 ^ code.bits) }
+    ensures refused { IfErr result (λ fault. fault ≡ BadCode place) }
+{
+    let number = (zeros << code.low) + low;
+    if number < 1 << code.bits {
+        Ok(number as u16)
+    } else {
+        Err(Fault::BadCode { place })
+    }
+}
+
+/// The number of an escape, which is no plain form's.
+#[inline(always)]
+fn escaped(code: Code, place: u64, number: u64) -> Result<u16, Fault>
+    requires code { IsCode code }
+    requires number { number < 2 ^ code.bits }
+    ensures value { IfOk result (λ value. value ≡ number) }
+    ensures needed { IsOk result ↔ (code.limit ≤ number / 2 ^ code.low) }
+    ensures refused { IfErr result (λ fault. fault ≡ BadCode place) }
+{
+    if number >> code.low < u64::from(code.limit) {
+        Err(Fault::BadCode { place })
+    } else {
+        Ok(number as u16)
     }
 }

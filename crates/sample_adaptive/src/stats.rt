@@ -107,10 +107,8 @@ impl Stats {
         if let Some(fault) = self.refused {
             return Err(fault);
         }
-        let mut ahead = reader.fork();
-        match take_word(self.code(z, t), t, &mut ahead) {
+        match take_word(self.code(z, t), t, reader) {
             Ok(number) => {
-                *reader = ahead;
                 self.count(z, t, number);
                 Ok(number)
             }

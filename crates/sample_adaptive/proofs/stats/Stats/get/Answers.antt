@@ -7,7 +7,7 @@ use Rattle.sample_adaptive.proofs.stats.Stats.get.Goals as goal
 pub returns-in-Ok-clause-taken : goal.returns-in-Ok-clause-taken
 returns-in-Ok-clause-taken c = λ settings taken h next.
     let code = c.code.ensures.value ∙ code_is settings c.args.self.now taken c.args.z c.args.t h c.requires next in
-    let read = rw c.fork-ahead.ensures at c.in-Ok.ensures.reads in (
+    let read = c.in-Ok.ensures.reads in (
       ap (λ (k : Code). word_at c.args.reader.now.count c.args.t k c.args.reader.now.left) (sym code) ∙ read,
       rw c.count.ensures (taken_more settings c.args.self.now taken c.args.z c.args.t c.in-Ok.number h c.requires next),
     )
@@ -15,5 +15,5 @@ returns-in-Ok-clause-taken c = λ settings taken h next.
 pub returns-in-Err-clause-taken : goal.returns-in-Err-clause-taken
 returns-in-Err-clause-taken c = λ settings taken h next.
     let code = c.code.ensures.value ∙ code_is settings c.args.self.now taken c.args.z c.args.t h c.requires next in
-    let read = rw c.fork-ahead.ensures at c.in-Err.ensures.reads in
+    let read = c.in-Err.ensures.reads in
     (ap (λ (k : Code). word_at c.args.reader.now.count c.args.t k c.args.reader.now.left) (sym code) ∙ read, tt)

@@ -1,0 +1,40 @@
+use Rattle.std.proofs.Common.{ap, arith, ◌≡◌, ◌+◌, ◌-◌, ◌*◌, ◌/◌, ◌<◌, ◌≤◌, ℕ, List, true, false, length, take, drop}
+use Rattle.std.proofs.lemmas.List.{take_all, length-drop}
+use Rattle.std.specs.Array.{IsFirstChunk}
+use Rattle.header_bits.proofs.Ahead.{window_ahead}
+use Rattle.header_bits.proofs.Windows.{front_of_more, left_length, window_shifted}
+use Rattle.header_bits.proofs.bit_reader.BitReader.peek.Goals as goal
+
+whole_tail : (bytes : List ℕ) (i : ℕ) → take (length bytes - i) (drop i bytes) ≡ drop i bytes
+whole_tail bytes i = take_all (length bytes - i) (drop i bytes) (omega (arith, length-drop i bytes))
+
+tail_length : (bytes : List ℕ) (i : ℕ) → length (take (length bytes - i) (drop i bytes)) ≡ length bytes - i
+tail_length bytes i = rw (whole_tail bytes i) (length-drop i bytes)
+
+eight_there : (bytes eight : List ℕ) (at : ℕ) → at ≤ 8 * length bytes → IsFirstChunk (take (length bytes - at / 8) (drop (at / 8) bytes)) eight 8 → at + 57 ≤ 8 * length bytes
+eight_there bytes eight at within h = omega (arith, tail_length bytes (at / 8), h.enough)
+
+eight_missing : (bytes : List ℕ) (at : ℕ) → at ≤ 8 * length bytes → length (take (length bytes - at / 8) (drop (at / 8) bytes)) < 8 → 8 * length bytes < at + 57
+eight_missing bytes at within h = omega (arith, tail_length bytes (at / 8), h)
+
+not_both : false ≡ true → ⊥
+not_both e = cc
+
+pub returns-in_err-eight-clause-enough : goal.returns-in_err-eight-clause-enough
+returns-in_err-eight-clause-enough c =
+    let place = left_length c.self.inside.at c.self.inside.bytes.now c.args.self.now.left c.self.invariant.0 (ap (λ w. w.left) c.self.view_is) in
+    let few = eight_missing c.self.inside.bytes.now c.self.inside.at c.self.invariant.0 c.in_err-eight.ensures.cases in
+    (λ h. absurd (not_both (rw c.from_residual.ensures at h)), λ h. absurd (omega (arith, place, few, h)))
+
+pub returns-clause-enough : goal.returns-clause-enough
+returns-clause-enough c =
+    let place = left_length c.self.inside.at c.self.inside.bytes.now c.args.self.now.left c.self.invariant.0 (ap (λ w. w.left) c.self.view_is) in
+    let many = eight_there c.self.inside.bytes.now _ c.self.inside.at c.self.invariant.0 c.in_ok-eight.ensures.cases in
+    (λ h. omega (arith, place, many), λ h. cc)
+
+pub returns-clause-bits : goal.returns-clause-bits
+returns-clause-bits c =
+    let chunk = c.in_ok-eight.ensures.cases in
+    let whole = rw (whole_tail c.self.inside.bytes.now (c.self.inside.at / 8)) at (front_of_more _ _ c.word_of_eight.result c.word_of_eight.ensures.bits chunk.same) in
+    window_ahead c.self.inside.bytes.now c.self.inside.at _ c.args.self.now.left (ap (λ w. w.left) c.self.view_is) (eight_there c.self.inside.bytes.now _ c.self.inside.at c.self.invariant.0 chunk)
+    (window_shifted c.self.inside.bytes.now c.self.inside.at c.word_of_eight.result c.self.invariant.0 whole)
