@@ -39,15 +39,15 @@ second_behind s vs sum first longer h e =
 pub stopped : (s : CodeSet) (vs : List ℕ) (sum first k : ℕ) (longer : Bool) (o : Choice) → IsSearch s vs sum first longer → LeadsTried s vs longer first k o → k ≤ splits s → cost s o vs ≤ width s + (k + 1) * length vs → o ≡ chosen_option s vs
 stopped s vs sum first k longer o h leads few short =
     leads_all s vs longer first k o leads few h.within (below_first s vs sum first longer h) (second_behind s vs sum first longer h) (λ j from in_set.
-      let more : (k + 1) * length vs ≤ (j + 1) * length vs = mul-le (k + 1) (length vs) (j + 1) (length vs) (omega arith) (omega arith) in
-      omega (arith, split_least s j vs))
+    let more : (k + 1) * length vs ≤ (j + 1) * length vs = mul-le (k + 1) (length vs) (j + 1) (length vs) (omega arith) (omega arith) in
+    omega (arith, split_least s j vs))
 
 -- or since the sum of the values is small
 pub ended : (s : CodeSet) (vs : List ℕ) (sum first k : ℕ) (longer : Bool) (o : Choice) → IsSearch s vs sum first longer → LeadsTried s vs longer first k o → k ≤ splits s → (k < splits s → k ≡ first + 3) → o ≡ chosen_option s vs
 ended s vs sum first k longer o h leads few last =
     leads_all s vs longer first k o leads few h.within (below_first s vs sum first longer h) (second_behind s vs sum first longer h) (λ j from in_set.
-      let end : k ≡ first + 3 = last (omega arith) in
-      let behind : j - (first + 2) + (first + 2) ≡ j = omega arith in
-      let tried = lead_cost _ _ _ _ (leads.leads (Split (first + 2)) (omega arith, omega arith)) in
-      let rest = rises_from s (j - (first + 2)) (first + 2) sum vs h.whole (h.rising (omega arith)) in
-      omega (arith, tried, rw behind at rest))
+    let end : k ≡ first + 3 = last (omega arith) in
+    let behind : j - (first + 2) + (first + 2) ≡ j = omega arith in
+    let tried = lead_cost _ _ _ _ (leads.leads (Split (first + 2)) (omega arith, omega arith)) in
+    let rest = rises_from s (j - (first + 2)) (first + 2) sum vs h.whole (h.rising (omega arith)) in
+    omega (arith, tried, rw behind at rest))

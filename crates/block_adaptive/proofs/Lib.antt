@@ -18,4 +18,5 @@ pub mod Twos
 pub mod Streaming
 pub mod Handed
 pub mod Emits
+pub mod Gathers
 pub mod Packing

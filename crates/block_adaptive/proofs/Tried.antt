@@ -130,9 +130,11 @@ leads_all s vs longer first k o h few inside below second rest =
           | inl lt ↦ lead_cost _ _ _ _ (h.leads (Split first) (omega arith, lt))
           | inr ge ↦ rest first ge (inside some)
         ]
+
     left_out : (b : Bool) → longer ≡ b → Leads s vs o Second
     left_out false e = h.leads Second e
     left_out true e = inl (omega (arith, anchor (second e).0, (second e).1))
+
     leads : (p : Choice) → IsOption s p → Leads s vs o p
     leads Uncoded t = h.leads Uncoded tt
     leads Second t = left_out longer refl
