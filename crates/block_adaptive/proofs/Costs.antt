@@ -20,7 +20,7 @@ unfolding low_groups
 length-low_groups k [] = omega arith
 length-low_groups k (v ∷ vs) = omega (arith, length-append (bits_of k v) (low_groups k vs), length-bits_of k v, length-low_groups k vs)
 
-quotients_cons : (k v : ℕ) (vs : List ℕ) → length (quotient_codes k (v ∷ vs)) ≡ v / 2 ^ k + 1 + length (quotient_codes k vs)
+pub quotients_cons : (k v : ℕ) (vs : List ℕ) → length (quotient_codes k (v ∷ vs)) ≡ v / 2 ^ k + 1 + length (quotient_codes k vs)
 unfolding quotient_codes
 quotients_cons k v vs = omega (arith, length-append (fundamental (v / 2 ^ k)) (quotient_codes k vs), length-fundamental (v / 2 ^ k))
 
@@ -72,7 +72,7 @@ pairs_end total whole (a ∷ left) e h = absurd (omega arith)
 
 -- ---- no later k is shorter
 
-quotients_least : (k : ℕ) (vs : List ℕ) → length vs ≤ length (quotient_codes k vs)
+pub quotients_least : (k : ℕ) (vs : List ℕ) → length vs ≤ length (quotient_codes k vs)
 unfolding quotient_codes
 quotients_least k [] = omega arith
 quotients_least k (v ∷ vs) = omega (arith, quotients_cons k v vs, quotients_least k vs)

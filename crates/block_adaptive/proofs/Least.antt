@@ -19,11 +19,11 @@ record IsLeast (s : CodeSet) (vs : List ℕ) (n : ℕ) (o : Choice) : Type 0 whe
   turn_in : turn o < n + 2
   leads : (p : Choice) → Among n p → (cost s o vs < cost s p vs) ⊎ ((cost s o vs ≡ cost s p vs) × (turn o ≤ turn p))
 
-later : (a b c t u : ℕ) → b < a → (a < c) ⊎ ((a ≡ c) × (t ≤ u)) → b < c
+pub later : (a b c t u : ℕ) → b < a → (a < c) ⊎ ((a ≡ c) × (t ≤ u)) → b < c
 later a b c t u lt (inl l) = omega arith
 later a b c t u lt (inr e) = omega (arith, e.0)
 
-either : (a b t u : ℕ) → a ≤ b → t ≤ u → (a < b) ⊎ ((a ≡ b) × (t ≤ u))
+pub either : (a b t u : ℕ) → a ≤ b → t ≤ u → (a < b) ⊎ ((a ≡ b) × (t ≤ u))
 either a b t u le turns = elim (cases_lt a b) [ inl lt ↦ inl lt | inr ge ↦ inr (omega arith, turns) ]
 
 next_leads : (s : CodeSet) (vs : List ℕ) (n : ℕ) (o : Choice) → IsLeast s vs n o → cost s (Split n) vs < cost s o vs → (p : Choice) → Among (suc n) p → (cost s (Split n) vs < cost s p vs) ⊎ ((cost s (Split n) vs ≡ cost s p vs) × (turn (Split n) ≤ turn p))

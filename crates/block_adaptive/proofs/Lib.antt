@@ -5,6 +5,9 @@ pub mod Bodies
 pub mod Calls
 pub mod Costs
 pub mod Least
+pub mod Slopes
+pub mod Tried
+pub mod Bounded
 pub mod Lawful
 pub mod Takes
 pub mod Taken
@@ -15,4 +18,5 @@ pub mod Twos
 pub mod Streaming
 pub mod Handed
 pub mod Emits
+pub mod Gathers
 pub mod Packing

@@ -89,6 +89,7 @@ impl BlockReader {
     /// there the answer is the refusal of its first part that isn't lawful: `Truncated` where the bits
     /// end inside it, `RunPastSegment` for a run code, and `BadOption` for any other. Then the reader
     /// stands where it stood, and every later call answers the same. No memory is taken.
+    #[inline]
     pub fn next(&mut self, reader: &mut BitReader) -> Result<u16, Fault>
         requires { HasMore self.old }
         ensures first { self.old.refused ≡ None → MatchResult result (λ value. (new : Unpacked) × (in_hand self.old reader.old self.old.held ≡ Ok (new, reader.new.left)) × GivesFirst new value self.new) (λ fault. (self.old.held ≡ []) × (next_text self.old reader.old ≡ Err fault)) }
@@ -109,6 +110,7 @@ impl BlockReader {
     }
 
     /// Takes in hand the values of the text that stands next.
+    #[inline(never)]
     fn take_text(&mut self, reader: &mut BitReader) -> Result<(), Fault>
         requires empty { self.old.held ≡ [] }
         requires more { self.old.block < self.old.cut.count }

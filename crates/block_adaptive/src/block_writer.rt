@@ -82,6 +82,7 @@ impl BlockWriter {
     ///
     /// Fewer numbers were taken than there are, and the number is at most 2^D - 1. After
     /// `WantOfMemory` nothing was changed, and the call may be made again.
+    #[inline]
     pub fn put(&mut self, delta: u16, writer: &mut BitWriter) -> Result<(), Fault>
         requires number { delta < 2 ^ self.old.cut.set.bits }
         requires more { self.old.start + self.old.zeros < self.old.cut.count }
@@ -117,6 +118,7 @@ impl BlockWriter {
     }
 
     /// Takes a whole block in place of the values held, and appends what is then known of the body.
+    #[inline(never)]
     fn pack(&mut self, block: &[u16], writer: &mut BitWriter) -> Result<(), Fault>
         requires whole { length block.now ≡ self.old.cut.size }
         requires range { AllByRecursion (λ v. v < 2 ^ self.old.cut.set.bits) block.now }

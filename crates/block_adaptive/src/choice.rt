@@ -1,6 +1,6 @@
 //! What a block costs under each option, and the choice among them (CCSDS 121.0-B, "Code option selection").
 
-ghost use Rattle.std.specs.Prelude.{◌≡◌, ◌≤◌, ◌<◌, ◌^◌, ◌*◌, ◌-◌, ◌+◌, ◌/◌, ℕ, length};
+ghost use Rattle.std.specs.Prelude.{◌≡◌, ◌≤◌, ◌<◌, ◌^◌, ◌*◌, ◌-◌, ◌+◌, ◌/◌, ℕ, true, length};
 ghost use Rattle.block_adaptive.specs.Options.{width, splits, cost, IsOption, quotient_codes, pair_codes, pair_number, low_groups};
 ghost use Rattle.block_adaptive.specs.Chosen.{chosen_option};
 
@@ -83,27 +83,61 @@ pub fn option_cost(set: &CodeSet, block: &[u16], choice: Choice) -> u64
     }
 }
 
+/// Whether the second extension is left out, since split-sample with k = 0 is shorter.
+///
+/// `whole` is how many bits the values have in fundamental sequences.
+fn second_is_longer(splits: u32, whole: u64, len: u64) -> bool
+    requires len { len ≤ 64 }
+    ensures { result ≡ true → (1 ≤ splits) × (2 * len ≤ whole) }
+{
+    splits > 0 && 2 * len <= whole
+}
+
+/// The first k that may have the shortest text, by the sum of the values: up to it each k is shorter
+/// than the one before, and from two behind it on none is.
+fn first_split(splits: u32, sum: u64, len: u64) -> u32
+    requires splits { splits ≤ 14 }
+    requires len { len ≤ 64 }
+    ensures few { result ≤ splits }
+    ensures most { result ≤ 14 }
+    ensures within { 0 < splits → result < splits }
+    ensures falls { 0 < result → len * 2 ^ (result + 1) < sum }
+    ensures rises { result + 1 < splits → sum ≤ len * 2 ^ (result + 2) }
+{
+    let mut first = 0;
+    while first + 1 < splits && len << (first + 2) < sum {
+        first += 1;
+    }
+    first
+}
+
 /// The option with the shortest text: of several uncoded first, then the second extension, then the
 /// smallest k.
 ///
-/// No k is tried whose values alone, of k + 1 bits or more each, are as long as what was found.
-#[tactic(auto, unfolding(crate::specs::Chosen::shortest, crate::specs::Chosen::chosen_option))]
+/// The sum of the values tells of all k but three that they are longer. No k is tried whose values
+/// alone, of k + 1 bits or more each, are as long as what was found.
 pub(crate) fn choose(set: &CodeSet, block: &[u16]) -> Choice
     requires bits { set.now.bits ≤ 16 }
     requires few { length block.now ≤ 64 }
     ensures { result ≡ chosen_option set.now block.now }
 {
+    let width = identifier_width(set);
+    let splits = (1u32 << width) - 2;
+    let len = block.len() as u64;
+    let whole = quotients_cost(0, block);
+    let first = first_split(splits, whole - len, len);
     let mut best = Choice::Uncoded;
     let mut least = option_cost(set, block, best);
-    let second = option_cost(set, block, Choice::Second);
-    if second < least {
-        best = Choice::Second;
-        least = second;
+    let longer = second_is_longer(splits, whole, len);
+    if !longer {
+        let second = option_cost(set, block, Choice::Second);
+        if second < least {
+            best = Choice::Second;
+            least = second;
+        }
     }
-    let width = identifier_width(set);
-    let len = block.len() as u64;
-    for k in 0..(1u32 << width) - 2 {
-        if least <= width as u64 + (k as u64 + 1) * len {
+    for k in first..splits.min(first + 3) {
+        if least <= u64::from(width) + (u64::from(k) + 1) * len {
             return best;
         }
         let cost = option_cost(set, block, Choice::Split(k));

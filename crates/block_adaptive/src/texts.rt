@@ -15,6 +15,7 @@ use cube_core::fault::Fault;
 use header_bits::bit_reader::BitReader;
 
 /// The zeros of a fundamental sequence, of which there may be so many.
+#[inline(always)]
 #[tactic(auto, unfolding(crate::specs::Reading::fundamental_at))]
 pub(crate) fn fundamental(reader: &mut BitReader, block: u64, most: u64) -> Result<u64, Fault>
     requires { most < 2 ^ 63 }
@@ -41,6 +42,7 @@ fn quotients(reader: &mut BitReader, block: u64, most: u16, values: &mut [u16]) 
 }
 
 /// The value of a quotient and the low bits that come next.
+#[inline(always)]
 #[tactic(auto, unfolding(crate::specs::Reading::low_at))]
 fn whole(reader: &mut BitReader, block: u64, k: u32, most: u16, quotient: u16) -> Result<u16, Fault>
     requires { k ≤ 15 }

@@ -38,15 +38,39 @@ fn write_fundamental(writer: &mut BitWriter, zeros: u64)
     write_number(writer, 1, left as u32 + 1);
 }
 
+/// The `held` bits of a part and a number's `n` bits behind them, which go out by one push then.
+#[inline(always)]
+fn joined(part: u64, held: u32, bits: u64, n: u32) -> u64
+    requires few { (n < 64) × (held + n ≤ 64) }
+    requires part { part < 2 ^ held }
+    requires below { bits < 2 ^ n }
+    ensures bits { bits_of (held + n) result ≡ bits_of held part ++ bits_of n bits }
+    ensures below { result < 2 ^ (held + n) }
+{
+    (part << n) | bits
+}
+
 /// Writes the values of a block without their k lowest bits.
 fn write_quotients(writer: &mut BitWriter, k: u32, block: &[u16])
     requires k { k ≤ 15 }
     requires room { length (quotient_codes k block.now) ≤ writer.old.room }
     ensures { Writes writer.old writer.new (quotient_codes k block.now) }
 {
+    let mut part = 0;
+    let mut held = 0;
     for value in block {
-        write_fundamental(writer, (*value >> k) as u64);
+        let zeros = u32::from(*value >> k);
+        if held + zeros < 63 {
+            part = joined(part, held, 1, zeros + 1);
+            held += zeros + 1;
+        } else {
+            write_number(writer, part, held);
+            write_fundamental(writer, u64::from(zeros));
+            part = 0;
+            held = 0;
+        }
     }
+    write_number(writer, part, held);
 }
 
 /// Writes the k lowest bits of each value of a block.
@@ -56,9 +80,20 @@ fn write_lows(writer: &mut BitWriter, k: u32, block: &[u16])
     ensures { Writes writer.old writer.new (low_groups k block.now) }
 {
     let mask = (1u64 << k) - 1;
+    let mut part = 0;
+    let mut held = 0;
     for value in block {
-        write_number(writer, *value as u64 & mask, k);
+        let low = u64::from(*value) & mask;
+        if held + k <= 64 {
+            part = joined(part, held, low, k);
+            held += k;
+        } else {
+            write_number(writer, part, held);
+            part = low;
+            held = k;
+        }
     }
+    write_number(writer, part, held);
 }
 
 /// Writes the pairs of a block.

@@ -1,0 +1,149 @@
+-- The first of the shortest options among those that were tried.
+use Rattle.std.proofs.Common.{◌≡◌, ℕ, suc, ◌+◌, ◌<◌, ◌≤◌, ◌⊎◌, Bool, true, false, List, refl, ap, inl, inr, arith}
+use Rattle.std.proofs.lemmas.Bool.{cases_lt}
+use Rattle.block_adaptive.specs.declared.options.CodeSet.{CodeSet}
+use Rattle.block_adaptive.specs.declared.options.Choice.{Choice}
+use Rattle.block_adaptive.specs.declared.options.Choice.TheVariants.{Uncoded, Second, Split}
+use Rattle.block_adaptive.specs.Options.{splits, cost, IsOption}
+use Rattle.block_adaptive.specs.Chosen.{chosen_option, turn}
+use Rattle.block_adaptive.proofs.Least.{later, either, option_is_least}
+
+-- it is shorter, or as short and comes first
+abbrev pub Leads : CodeSet → List ℕ → Choice → Choice → Type 0
+Leads s vs o p = (cost s o vs < cost s p vs) ⊎ ((cost s o vs ≡ cost s p vs) × (turn o ≤ turn p))
+
+-- uncoded, the second extension unless it was left out, and split-sample with each k from the first on
+abbrev pub IsTried : Bool → ℕ → ℕ → Choice → Type 0
+IsTried longer first k Uncoded = Unit {0}
+IsTried longer first k Second = longer ≡ false
+IsTried longer first k (Split j) = (first ≤ j) × (j < k)
+
+pub record LeadsTried (s : CodeSet) (vs : List ℕ) (longer : Bool) (first k : ℕ) (o : Choice) : Type 0 where
+  pub tried : IsTried longer first k o
+  pub leads : (p : Choice) → IsTried longer first k p → Leads s vs o p
+
+tried_turn : (longer : Bool) (first k : ℕ) (o : Choice) → IsTried longer first k o → turn o ≤ k + 2
+tried_turn longer first k Uncoded h = omega arith
+tried_turn longer first k Second h = omega arith
+tried_turn longer first k (Split j) h = omega (arith, h.1)
+
+tried_more : (longer : Bool) (first k : ℕ) (o : Choice) → IsTried longer first k o → IsTried longer first (k + 1) o
+tried_more longer first k Uncoded h = tt
+tried_more longer first k Second h = h
+tried_more longer first k (Split j) h = (h.0, omega (arith, h.1))
+
+-- ---- the first two
+
+pub uncoded_alone : (s : CodeSet) (vs : List ℕ) (first : ℕ) → LeadsTried s vs true first first Uncoded
+uncoded_alone s vs first = record { tried = tt; leads = leads }
+  where
+    leads : (p : Choice) → IsTried true first first p → Leads s vs Uncoded p
+    leads Uncoded h = inr (refl, omega arith)
+    leads Second h = absurd cc
+    leads (Split j) h = absurd (omega (arith, h.0, h.1))
+
+pub uncoded_leads : (s : CodeSet) (vs : List ℕ) (first : ℕ) → cost s Uncoded vs ≤ cost s Second vs → LeadsTried s vs false first first Uncoded
+uncoded_leads s vs first le = record { tried = tt; leads = leads }
+  where
+    leads : (p : Choice) → IsTried false first first p → Leads s vs Uncoded p
+    leads Uncoded h = inr (refl, omega arith)
+    leads Second h = either _ _ _ _ le (omega arith)
+    leads (Split j) h = absurd (omega (arith, h.0, h.1))
+
+pub second_leads : (s : CodeSet) (vs : List ℕ) (first : ℕ) → cost s Second vs < cost s Uncoded vs → LeadsTried s vs false first first Second
+second_leads s vs first lt = record { tried = refl; leads = leads }
+  where
+    leads : (p : Choice) → IsTried false first first p → Leads s vs Second p
+    leads Uncoded h = inl lt
+    leads Second h = inr (refl, omega arith)
+    leads (Split j) h = absurd (omega (arith, h.0, h.1))
+
+-- ---- one k more
+
+pub next_leads : (s : CodeSet) (vs : List ℕ) (longer : Bool) (first k : ℕ) (o : Choice) → first ≤ k → LeadsTried s vs longer first k o → cost s (Split k) vs < cost s o vs → LeadsTried s vs longer first (k + 1) (Split k)
+next_leads s vs longer first k o from h lt = record { tried = (from, omega arith); leads = leads }
+  where
+    leads : (p : Choice) → IsTried longer first (k + 1) p → Leads s vs (Split k) p
+    leads Uncoded t = inl (later _ _ _ _ _ lt (h.leads Uncoded tt))
+    leads Second t = inl (later _ _ _ _ _ lt (h.leads Second t))
+    leads (Split j) t =
+        elim (cases_lt j k) [
+          | inl below ↦ inl (later _ _ _ _ _ lt (h.leads (Split j) (t.0, below)))
+          | inr ge ↦ (let e : k ≡ j = omega (arith, t.1) in inr (ap (λ (m : ℕ). cost s (Split m) vs) e, omega arith))
+        ]
+
+pub old_leads : (s : CodeSet) (vs : List ℕ) (longer : Bool) (first k : ℕ) (o : Choice) → LeadsTried s vs longer first k o → cost s o vs ≤ cost s (Split k) vs → LeadsTried s vs longer first (k + 1) o
+old_leads s vs longer first k o h le = record { tried = tried_more longer first k o h.tried; leads = leads }
+  where
+    leads : (p : Choice) → IsTried longer first (k + 1) p → Leads s vs o p
+    leads Uncoded t = h.leads Uncoded tt
+    leads Second t = h.leads Second t
+    leads (Split j) t =
+        elim (cases_lt j k) [
+          | inl below ↦ h.leads (Split j) (t.0, below)
+          | inr ge ↦
+              (let e : k ≡ j = omega (arith, t.1) in
+              let same : cost s (Split k) vs ≡ cost s (Split j) vs = ap (λ (m : ℕ). cost s (Split m) vs) e in
+              either _ _ _ _ (omega arith) (omega (arith, tried_turn longer first k o h.tried)))
+        ]
+
+-- ---- all of them
+
+turn_is : (o p : Choice) → turn o ≡ turn p → o ≡ p
+turn_is Uncoded Uncoded e = refl
+turn_is Uncoded Second e = absurd (omega arith)
+turn_is Uncoded (Split k) e = absurd (omega arith)
+turn_is Second Uncoded e = absurd (omega arith)
+turn_is Second Second e = refl
+turn_is Second (Split k) e = absurd (omega arith)
+turn_is (Split j) Uncoded e = absurd (omega arith)
+turn_is (Split j) Second e = absurd (omega arith)
+turn_is (Split j) (Split k) e = ap Split (omega arith)
+
+both_lead : (a b t u : ℕ) → (a < b) ⊎ ((a ≡ b) × (t ≤ u)) → (b < a) ⊎ ((b ≡ a) × (u ≤ t)) → t ≡ u
+both_lead a b t u (inl p) (inl q) = absurd (omega arith)
+both_lead a b t u (inl p) (inr q) = absurd (omega (arith, q.0))
+both_lead a b t u (inr p) (inl q) = absurd (omega (arith, p.0))
+both_lead a b t u (inr p) (inr q) = omega (arith, p.1, q.1)
+
+pub lead_cost : (a b t u : ℕ) → (a < b) ⊎ ((a ≡ b) × (t ≤ u)) → a ≤ b
+lead_cost a b t u (inl p) = omega arith
+lead_cost a b t u (inr p) = omega (arith, p.0)
+
+tried_option : (s : CodeSet) (longer : Bool) (first k : ℕ) (o : Choice) → k ≤ splits s → IsTried longer first k o → IsOption s o
+tried_option s longer first k Uncoded few h = tt
+tried_option s longer first k Second few h = tt
+tried_option s longer first k (Split j) few h = omega (arith, h.1)
+
+-- the other options are longer than one that was tried, or not shorter and come later
+pub leads_all : (s : CodeSet) (vs : List ℕ) (longer : Bool) (first k : ℕ) (o : Choice) → LeadsTried s vs longer first k o → k ≤ splits s → (0 < splits s → first < splits s)
+    → ((j : ℕ) → j < first → cost s (Split first) vs < cost s (Split j) vs) → (longer ≡ true → (0 < splits s) × (cost s (Split first) vs < cost s Second vs))
+    → ((j : ℕ) → k ≤ j → j < splits s → cost s o vs ≤ cost s (Split j) vs) → o ≡ chosen_option s vs
+leads_all s vs longer first k o h few inside below second rest =
+    let least = option_is_least s vs in
+    let chosen : Choice = chosen_option s vs in
+    turn_is o chosen (both_lead _ _ _ _ (leads chosen least.0) (least.1 o (tried_option s longer first k o few h.tried)))
+  where
+    anchor : 0 < splits s → cost s o vs ≤ cost s (Split first) vs
+    anchor some =
+        elim (cases_lt first k) [
+          | inl lt ↦ lead_cost _ _ _ _ (h.leads (Split first) (omega arith, lt))
+          | inr ge ↦ rest first ge (inside some)
+        ]
+
+    left_out : (b : Bool) → longer ≡ b → Leads s vs o Second
+    left_out false e = h.leads Second e
+    left_out true e = inl (omega (arith, anchor (second e).0, (second e).1))
+
+    leads : (p : Choice) → IsOption s p → Leads s vs o p
+    leads Uncoded t = h.leads Uncoded tt
+    leads Second t = left_out longer refl
+    leads (Split j) t =
+        elim (cases_lt j first) [
+          | inl under ↦ inl (omega (arith, below j under, anchor (omega arith)))
+          | inr from ↦
+              elim (cases_lt j k) [
+                | inl before ↦ h.leads (Split j) (from, before)
+                | inr behind ↦ either _ _ _ _ (rest j behind t) (omega (arith, tried_turn longer first k o h.tried))
+              ]
+        ]
