@@ -91,6 +91,8 @@ impl Band {
     ///
     /// The cube has the shape and the kind of the parameters, and the next place is row `y`, column `x`.
     /// The answer is at most 2^D - 1 (CCSDS 123.0-B-1, "Predictor").
+    // Inlined into a loop over places it is slower.
+    #[inline(never)]
     pub fn forward(&mut self, cube: &Cube, y: u32, x: u32) -> u16
         requires shape { cube.now.shape ≡ self.old.shape }
         requires kind { cube.now.kind ≡ self.old.kind }
@@ -115,6 +117,7 @@ impl Band {
     /// The cube has the shape and the kind of the parameters, and the next place is row `y`, column `x`.
     /// `delta` is at most 2^D - 1. What stands at this place and at later ones is not read, and the cube
     /// isn't written.
+    #[inline(never)]
     pub fn inverse(&mut self, cube: &Cube, y: u32, x: u32, delta: u16) -> i32
         requires shape { cube.now.shape ≡ self.old.shape }
         requires kind { cube.now.kind ≡ self.old.kind }
