@@ -1,4 +1,6 @@
+pub mod Compress
 pub mod Devices
+pub mod Reading
 pub mod Show
 pub mod Status
 pub mod Writing

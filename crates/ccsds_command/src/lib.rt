@@ -1,6 +1,7 @@
 //! The commands: engines over sources and sinks, and what the program reports.
 #![tactic(auto)]
 
+pub mod compress;
 pub mod cut;
 mod hexadecimal;
 mod reading;
