@@ -3,6 +3,7 @@
 
 pub mod compress;
 pub mod cut;
+pub mod expand;
 mod hexadecimal;
 mod reading;
 pub mod report;
