@@ -1,6 +1,7 @@
 pub mod Compress
 pub mod Devices
 pub mod Expand
+pub mod Inspect
 pub mod Reading
 pub mod Show
 pub mod Status

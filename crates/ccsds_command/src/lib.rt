@@ -5,6 +5,8 @@ pub mod compress;
 pub mod cut;
 pub mod expand;
 mod hexadecimal;
+pub mod inspect;
+mod lines;
 mod reading;
 pub mod report;
 pub mod show;
