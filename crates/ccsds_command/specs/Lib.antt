@@ -3,6 +3,7 @@ pub mod Devices
 pub mod Expand
 pub mod Inspect
 pub mod Reading
+pub mod Settings
 pub mod Show
 pub mod Status
 pub mod Writing
