@@ -1,5 +1,6 @@
 pub mod Compress
 pub mod Devices
+pub mod Everything
 pub mod Expand
 pub mod Inspect
 pub mod Reading

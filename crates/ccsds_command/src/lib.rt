@@ -18,4 +18,5 @@ pub mod stream;
 #[cfg(test)]
 mod tests;
 pub mod words;
+pub mod worked;
 mod writing;
