@@ -1,5 +1,5 @@
 -- What is known of a device after one call and another.
-use Rattle.std.proofs.Common.{◌≡◌, ℕ, ◌+◌, ◌-◌, ◌<◌, ◌≤◌, List, ◌++◌, length, take, drop, Option, Some, inl, inr, sym, ap, ◌∙◌, subst, append_assoc, length-drop, length-take, take-add, arith}
+use Rattle.std.proofs.Common.{◌≡◌, ℕ, ◌+◌, ◌-◌, ◌<◌, ◌≤◌, List, ◌++◌, length, take, drop, Option, Some, inl, inr, sym, ap, ◌∙◌, subst, append_assoc, length-drop, length-take, take-add, take-take, arith}
 use Rattle.std.proofs.lemmas.List.{take_all, take-append-le, take-append-drop, drop_at, take_at}
 use Rattle.std.proofs.Math.Seq.{take-append-add}
 use borrow.Rule.Slice.PartMut.{put_mid, post_of}
@@ -46,3 +46,7 @@ read_more had n old new h kept =
     let split = sym (take-append-drop had (take (had + n) new)) in
     let front : take had (take (had + n) new) ≡ take had old = rw (take-add had n new) (take_at (take had new) (take n (drop had new)) had (omega (arith, length-take had new))) ∙ kept in
     split ∙ ap (λ (x : List ℕ). x ++ drop had (take (had + n) new)) front
+
+-- what more was put behind bytes changes none of their first
+pub front_kept : (had : ℕ) (old new : List ℕ) → had ≤ length old → take (length old) new ≡ old → take had new ≡ take had old
+front_kept had old new h kept = sym (take-take had (length old) new h) ∙ ap (λ (x : List ℕ). take had x) kept

@@ -1,5 +1,5 @@
 -- What is known of a device that may tell its bytes, and of its failures.
-use Rattle.std.specs.Prelude.{◌≡◌, ◌⊎◌, ℕ, ◌+◌, ◌-◌, ◌<◌, ◌≤◌, ◌^◌, List, [], ◌++◌, length, Option, Some}
+use Rattle.std.specs.Prelude.{◌≡◌, ◌⊎◌, ℕ, ◌+◌, ◌-◌, ◌<◌, ◌≤◌, ◌^◌, List, [], ◌++◌, length, take, Option, Some}
 
 -- where a source tells its bytes, it gave these from the front of those that were left
 abbrev pub Gave : Option (List ℕ) → Option (List ℕ) → List ℕ → Type 0
@@ -8,6 +8,18 @@ Gave old new bytes = (before : List ℕ) → old ≡ Some before → (rest : Lis
 -- where a source tells its bytes, it gave some from the front of them, at most as many as their limit
 abbrev pub GaveWithin : (List ℕ → ℕ) → Option (List ℕ) → Option (List ℕ) → Type 0
 GaveWithin limit old new = (before : List ℕ) → old ≡ Some before → (bytes : List ℕ) × (rest : List ℕ) × (new ≡ Some rest) × (before ≡ bytes ++ rest) × (length bytes ≤ limit before)
+
+-- where a source tells its bytes, these are the first of them, as many as the limit
+abbrev pub IsFront : ℕ → Option (List ℕ) → List ℕ → Type 0
+IsFront limit left bytes = (input : List ℕ) → left ≡ Some input → bytes ≡ take limit input
+
+-- where a source tells its bytes, these are all of them
+abbrev pub IsAll : Option (List ℕ) → List ℕ → Type 0
+IsAll left bytes = (input : List ℕ) → left ≡ Some input → input ≡ bytes
+
+-- where a source tells its bytes, there are more than the limit
+abbrev pub IsLonger : ℕ → Option (List ℕ) → Type 0
+IsLonger limit left = (input : List ℕ) → left ≡ Some input → limit < length input
 
 -- where a source tells its bytes, none are left
 abbrev pub IsEnd : Option (List ℕ) → Type 0

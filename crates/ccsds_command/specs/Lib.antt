@@ -1,4 +1,10 @@
+pub mod Compress
 pub mod Devices
+pub mod Everything
+pub mod Expand
+pub mod Inspect
+pub mod Reading
+pub mod Settings
 pub mod Show
 pub mod Status
 pub mod Writing

@@ -1,8 +1,9 @@
 //! Bytes read whole from a source.
 
-ghost use Rattle.std.specs.Prelude.{◌≡◌, ◌⊎◌, ◌+◌, ◌<◌, ◌≤◌, Ok, [], length, take, drop, IfOk, IfErr, OnErr};
+ghost use Rattle.std.specs.Prelude.{◌≡◌, ◌⊎◌, ◌+◌, ◌<◌, ◌≤◌, ◌^◌, Ok, [], length, take, drop, IfOk, IfErr, OnOk, OnErr};
 ghost use Rattle.cube_core.specs.declared.fault.Fault.TheVariants.{Read, WantOfMemory};
-ghost use Rattle.ccsds_command.specs.Devices.{Gave, GaveWithin, IsEnd, Rises, Rose};
+ghost use Rattle.ccsds_command.specs.Devices.{Gave, GaveWithin, IsFront, IsAll, IsEnd, Rises, Rose};
+ghost use Rattle.ccsds_command.specs.Reading.{IsReadRefusal, file_limit};
 
 use crate::source::{Failed, Source};
 use cube_core::fault::Fault;
@@ -10,6 +11,25 @@ use std::alloc::Global;
 
 /// The least piece that is asked for at once, where so much may come.
 const PIECE: usize = 1 << 16;
+
+/// The greatest number of bytes that a file may have.
+const FILE_LIMIT: u64 = 1 << 40;
+
+/// Reads a file to the source's end: at most 2^40 bytes.
+///
+/// `Read` where the source failed, or gave a byte more.
+pub(crate) fn read_file<S: Source>(alloc: Global, source: &mut S) -> Result<Vec<u8>, Fault>
+    ensures all { IfOk result (λ bytes. IsAll (S.left source.old) bytes.items) }
+    ensures limited { IfOk result (λ bytes. length bytes.items ≤ 2 ^ 40) }
+    ensures refused { IfErr result (IsReadRefusal (S.left source.old) (S.failures source.old) (S.failures source.new)) }
+    ensures bounded { GaveWithin (λ _. file_limit) (S.left source.old) (S.left source.new) }
+{
+    let bytes = read_up_to(alloc, source, FILE_LIMIT + 1)?;
+    if bytes.len() as u64 > FILE_LIMIT {
+        return Err(Fault::Read);
+    }
+    Ok(bytes)
+}
 
 /// Reads to the source's end, and no more than `limit` bytes.
 ///
@@ -21,6 +41,7 @@ pub(crate) fn read_up_to<S: Source>(
     limit: u64,
 ) -> Result<Vec<u8>, Fault>
     ensures given { IfOk result (λ bytes. Gave (S.left source.old) (S.left source.new) bytes.items) }
+    ensures front { IfOk result (λ bytes. IsFront limit (S.left source.old) bytes.items) }
     ensures limited { IfOk result (λ bytes. length bytes.items ≤ limit) }
     ensures bounded { GaveWithin (λ _. limit) (S.left source.old) (S.left source.new) }
     ensures whole { IfOk result (λ bytes. (length bytes.items ≡ limit) ⊎ IsEnd (S.left source.new)) }
@@ -28,19 +49,37 @@ pub(crate) fn read_up_to<S: Source>(
     ensures refused { IfErr result (λ e. (e ≡ WantOfMemory) ⊎ ((e ≡ Read) × Rose (S.failures source.old) (S.failures source.new))) }
 {
     let mut bytes = Vec::new(alloc);
-    while (bytes.len() as u64) < limit {
-        let had = bytes.len();
-        let piece = (limit - had as u64).min(had.max(PIECE) as u64) as usize;
-        bytes.resize(had + piece, 0)?;
+    // The bytes behind the first `had` are zeros, into which the next piece is read.
+    let mut had = 0;
+    while (had as u64) < limit {
+        if had == bytes.len() {
+            grow(&mut bytes, limit)?;
+        }
         let Ok(n) = read_behind(source, &mut bytes, had) else {
             return Err(Fault::Read);
         };
-        bytes.truncate(had + n);
         if n == 0 {
+            bytes.truncate(had);
             return Ok(bytes);
         }
+        had += n;
     }
     Ok(bytes)
+}
+
+/// Puts zeros behind bytes that are fewer than the limit: as many as there are bytes, and no fewer than a
+/// piece has, so far as the limit allows.
+fn grow(bytes: &mut Vec<u8>, limit: u64) -> Result<(), Fault>
+    requires { length bytes.old.items < limit }
+    ensures kept { OnOk result (take (length bytes.old.items) bytes.new.items ≡ bytes.old.items) }
+    ensures grown { OnOk result (length bytes.old.items < length bytes.new.items) }
+    ensures limited { OnOk result (length bytes.new.items ≤ limit) }
+    ensures refused { IfErr result (λ e. e ≡ WantOfMemory) }
+{
+    let had = bytes.len();
+    let piece = (limit - had as u64).min(had.max(PIECE) as u64) as usize;
+    bytes.resize(had + piece, 0)?;
+    Ok(())
 }
 
 /// Reads into what stands behind the first `had` bytes.

@@ -1,13 +1,14 @@
-use Rattle.std.proofs.Common.{◌≡◌, ◌≤◌, ◌-◌, vec_len}
+use Rattle.std.proofs.Common.{◌≡◌, ◌≤◌, ◌-◌, vec_len, take}
 use Rattle.ccsds_command.specs.Devices.{Gave}
 use Rattle.ccsds_command.proofs.reading.read_up_to.Given as goal
 
-abbrev pub invariant-loop-bytes : goal.invariant-loop-bytes
-invariant-loop-bytes g l = record {
-  given : Gave (g.S.Source.left l.initial.source) (g.S.Source.left l.source) l.bytes.items;
+abbrev pub invariant-loop-had : goal.invariant-loop-had
+invariant-loop-had g l = record {
+  given : Gave (g.S.Source.left l.initial.source) (g.S.Source.left l.source) (take l.had l.bytes.items);
+  within : l.had ≤ vec_len l.bytes;
   limited : vec_len l.bytes ≤ l.limit;
   worked : g.S.Source.failures l.source ≡ g.S.Source.failures l.initial.source;
 }
 
-abbrev pub decreases-loop-bytes : goal.decreases-loop-bytes
-decreases-loop-bytes g l = l.limit - vec_len l.bytes
+abbrev pub decreases-loop-had : goal.decreases-loop-had
+decreases-loop-had g l = l.limit - l.had

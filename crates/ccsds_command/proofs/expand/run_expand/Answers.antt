@@ -1,0 +1,8 @@
+use Rattle.ccsds_command.specs.Devices.{Took}
+use Rattle.ccsds_command.specs.Expand.{HasRaw}
+use Rattle.ccsds_command.proofs.Runs.{gained}
+use Rattle.ccsds_command.proofs.expand.run_expand.Goals as goal
+
+pub returns-clause-expanded : goal.returns-clause-expanded
+returns-clause-expanded g c =
+    gained c.write_all.result (HasRaw c.args.layout.now (g.S.Source.left c.args.source.now)) (Took (g.K.Sink.taken c.args.sink.now) (g.K.Sink.taken c.write_all.new.sink)) c.in_ok-raw.raw.items c.in_ok-raw.ensures.raw (rw c.deref.ensures.value at c.write_all.ensures.whole)

@@ -1,0 +1,8 @@
+use Rattle.std.proofs.Common.{refl}
+use Rattle.std.specs.Fmt.{digits}
+use Rattle.ccsds_command.specs.Everything.{everything}
+use Rattle.ccsds_command.proofs.worked.block_coder.Goals as goal
+
+pub returns : goal.returns
+unfolding everything digits
+returns c = refl

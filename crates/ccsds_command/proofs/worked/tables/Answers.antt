@@ -1,0 +1,12 @@
+use Rattle.std.proofs.Common.{refl}
+use Rattle.std.specs.Fmt.{digits}
+use Rattle.ccsds_command.specs.Everything.{everything}
+use Rattle.ccsds_command.proofs.worked.tables.Goals as goal
+
+pub returns-clause-weights : goal.returns-clause-weights
+unfolding everything digits
+returns-clause-weights c = refl
+
+pub returns-clause-constants : goal.returns-clause-constants
+unfolding everything digits
+returns-clause-constants c = refl

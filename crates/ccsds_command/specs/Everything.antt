@@ -1,0 +1,6 @@
+-- Opens each definition, for the worked examples.
+use Rattle.ccsds_command.specs.Inspect.{line, image_lines, predictor_lines, coder_lines, header_lines}
+
+unfoldable pub everything : Unit {0}
+unfolding line image_lines predictor_lines coder_lines header_lines
+everything = tt

@@ -1,0 +1,45 @@
+-- What a file is expanded to.
+use Rattle.std.specs.Prelude.{◌≡◌, ◌⊎◌, ℕ, List, Option, Err}
+use Rattle.cube_core.specs.declared.fault.Fault.{Fault}
+use Rattle.cube_core.specs.declared.layout.Layout.{Layout}
+use Rattle.cube_core.specs.Image.{Image}
+use Rattle.cube_core.specs.Layout.{raw_bytes}
+use Rattle.cube_core.specs.Raw.{IsUnfit}
+use Rattle.header_bits.specs.declared.params.Params.{Params}
+use Rattle.header_bits.specs.Bits.{bits_of_bytes}
+use Rattle.header_bits.specs.Reach.{here}
+use Rattle.coder_pipe.specs.Files.{IsFile, file_test}
+use Rattle.ccsds_command.specs.Devices.{Took, IsAll}
+use Rattle.ccsds_command.specs.Reading.{IsReadRefusal}
+use Rattle.ccsds_command.specs.Writing.{IsCutShort}
+
+-- the source has a file of this cube
+abbrev pub HasFileOf : Option (List ℕ) → Image → Type 0
+HasFileOf left c = (bytes : List ℕ) × (p : Params) × IsAll left bytes × IsFile here bytes p c
+
+-- the source has a file of a cube, whose raw bytes these are
+abbrev pub HasRaw : Layout → Option (List ℕ) → List ℕ → Type 0
+HasRaw l left raw = (c : Image) × HasFileOf left c × (raw ≡ raw_bytes c l)
+
+-- the sink gained the raw bytes of the cube whose file the source has
+abbrev pub Expands : Layout → Option (List ℕ) → Option (List ℕ) → Option (List ℕ) → Type 0
+Expands l left old new = (raw : List ℕ) × HasRaw l left raw × Took old new raw
+
+-- the source has bytes that are no file, and this is their first fault
+abbrev pub HasNoFile : Option (List ℕ) → Fault → Type 0
+HasNoFile left fault = (bytes : List ℕ) × IsAll left bytes × (file_test here (bits_of_bytes bytes) ≡ Err fault)
+
+-- the source has a file of a cube that has no raw bytes in this layout
+abbrev pub HasUnfit : Layout → Option (List ℕ) → Fault → Type 0
+HasUnfit l left fault = (c : Image) × HasFileOf left c × IsUnfit c l fault
+
+-- why there are no raw bytes: nothing was read, or it is no file, or a sample doesn't fit its byte
+abbrev pub IsExpandRefusal : Layout → Option (List ℕ) → ℕ → ℕ → Fault → Type 0
+IsExpandRefusal l left failures failures_now fault =
+    IsReadRefusal left failures failures_now fault ⊎ (HasNoFile left fault ⊎ HasUnfit l left fault)
+
+-- why a run is refused: there are no raw bytes, and nothing was written; or the sink cut them short
+abbrev pub IsExpandFault : Layout → Option (List ℕ) → ℕ → ℕ → Option (List ℕ) → Option (List ℕ) → ℕ → ℕ → ℕ → ℕ → Fault → Type 0
+IsExpandFault l left read_failures read_failures_now old new failures failures_now stalls stalls_now fault =
+    (IsExpandRefusal l left read_failures read_failures_now fault × (new ≡ old))
+    ⊎ ((raw : List ℕ) × HasRaw l left raw × IsCutShort old new failures failures_now stalls stalls_now raw fault)

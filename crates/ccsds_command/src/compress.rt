@@ -1,0 +1,87 @@
+//! A cube's raw bytes in, its file out.
+
+ghost use Rattle.std.specs.Prelude.{◌≡◌, IfOk, IfErr, OnOk, Err};
+ghost use Rattle.cube_core.specs.declared.fault.Fault.{Fault as Refusal};
+ghost use Rattle.cube_core.specs.Layout.{IsLayout};
+ghost use Rattle.header_bits.specs.Reach.{here};
+ghost use Rattle.header_bits.specs.Lawful.{IsLawful, params_fault};
+ghost use Rattle.ccsds_command.specs.Compress.{Compresses, IsCompressFault, IsCubeRefusal, HasCube, HasFile, raw_limit};
+ghost use Rattle.ccsds_command.specs.Devices.{GaveWithin};
+
+use crate::reading::read_up_to;
+use crate::sink::Sink;
+use crate::source::Source;
+use crate::writing::write_all;
+use coder_pipe::encode::encode_one;
+use cube_core::cube::Cube;
+use cube_core::fault::Fault;
+use cube_core::layout::Layout;
+use header_bits::params::Params;
+use std::alloc::Global;
+
+/// How a cube is compressed.
+#[derive(Drop)]
+pub struct CompressSettings {
+    pub params: Params,
+    /// How the samples lie in the raw bytes.
+    pub layout: Layout,
+}
+
+/// Reads a cube's raw bytes, codes it, and writes the file.
+///
+/// Parameters that aren't lawful are refused before anything is read (`FieldRange`, `Disagree`). The
+/// samples are of one byte or two. At most one byte more than the samples have is read. `Read` where
+/// the source failed; `RawLength` where the bytes are too few or too many; `SampleRange` with the
+/// first sample that isn't of the parameters' kind; `WantOfMemory`; and `Write`, with the bytes that
+/// went out, where the sink failed or took nothing. After any other refusal nothing was written.
+pub fn run_compress<S: Source, K: Sink>(
+    alloc: Global,
+    source: &mut S,
+    sink: &mut K,
+    settings: &CompressSettings,
+) -> Result<(), Fault>
+    requires { IsLayout settings.now.layout }
+    ensures checked { (fault : Refusal) → params_fault here settings.now.params ≡ Err fault → (result ≡ Err fault) × (source.new ≡ source.old) × (sink.new ≡ sink.old) }
+    ensures compressed { OnOk result (Compresses settings.now (S.left source.old) (K.taken sink.old) (K.taken sink.new)) }
+    ensures refused { IfErr result (IsCompressFault settings.now (S.left source.old) (S.failures source.old) (S.failures source.new) (K.taken sink.old) (K.taken sink.new) (K.failures sink.old) (K.failures sink.new) (K.stalls sink.old) (K.stalls sink.new)) }
+    ensures bounded { GaveWithin (λ _. raw_limit settings.now) (S.left source.old) (S.left source.new) }
+{
+    settings.params.check()?;
+    let file = file_of_source(alloc, source, settings)?;
+    write_all(sink, &file)
+}
+
+/// The file of the cube that the source has the raw bytes of.
+fn file_of_source<S: Source>(
+    alloc: Global,
+    source: &mut S,
+    settings: &CompressSettings,
+) -> Result<Vec<u8>, Fault>
+    requires lawful { IsLawful here settings.now.params }
+    requires layout { IsLayout settings.now.layout }
+    ensures file { IfOk result (λ file. HasFile settings.now (S.left source.old) file.items) }
+    ensures refused { IfErr result (IsCubeRefusal settings.now (S.left source.old) (S.failures source.old) (S.failures source.new)) }
+    ensures bounded { GaveWithin (λ _. raw_limit settings.now) (S.left source.old) (S.left source.new) }
+{
+    let cube = read_cube(alloc, source, settings)?;
+    encode_one(alloc, &cube, &settings.params)
+}
+
+/// Reads the cube that the source has the raw bytes of.
+fn read_cube<S: Source>(
+    alloc: Global,
+    source: &mut S,
+    settings: &CompressSettings,
+) -> Result<Cube, Fault>
+    requires { IsLayout settings.now.layout }
+    ensures cube { IfOk result (HasCube settings.now (S.left source.old)) }
+    ensures refused { IfErr result (IsCubeRefusal settings.now (S.left source.old) (S.failures source.old) (S.failures source.new)) }
+    ensures bounded { GaveWithin (λ _. raw_limit settings.now) (S.left source.old) (S.left source.new) }
+{
+    let params = &settings.params;
+    // At most 2^48 samples, so one byte more is still a number.
+    let _count = params.shape.sample_count();
+    let wanted = settings.layout.length(params.shape);
+    let raw = read_up_to(alloc, source, wanted + 1)?;
+    Cube::from_raw(alloc, params.shape, params.kind, settings.layout, &raw)
+}

@@ -1,0 +1,60 @@
+//! A file in, its cube's raw bytes out.
+
+ghost use Rattle.std.specs.Prelude.{◌⊎◌, IfOk, IfErr, OnOk};
+ghost use Rattle.cube_core.specs.Layout.{IsLayout};
+ghost use Rattle.ccsds_command.specs.Expand.{Expands, HasFileOf, HasNoFile, HasRaw, IsExpandFault, IsExpandRefusal};
+ghost use Rattle.ccsds_command.specs.Reading.{IsReadRefusal, file_limit};
+ghost use Rattle.ccsds_command.specs.Devices.{GaveWithin};
+
+use crate::reading::read_file;
+use crate::sink::Sink;
+use crate::source::Source;
+use crate::writing::write_all;
+use coder_pipe::decode::decode;
+use cube_core::cube::Cube;
+use cube_core::fault::Fault;
+use cube_core::layout::Layout;
+use std::alloc::Global;
+
+/// Reads a file, decodes it, and writes its cube's raw bytes.
+///
+/// The samples are written in one byte or two. `Read` where the source failed, or gave more than 2^40
+/// bytes; the refusals of `decode`; `SampleRange` with the first sample that doesn't fit its byte;
+/// `WantOfMemory`; and `Write`, with the bytes that went out, where the sink failed or took nothing.
+/// After any other refusal nothing was written.
+pub fn run_expand<S: Source, K: Sink>(
+    alloc: Global,
+    source: &mut S,
+    sink: &mut K,
+    layout: &Layout,
+) -> Result<(), Fault>
+    requires { IsLayout layout.now }
+    ensures expanded { OnOk result (Expands layout.now (S.left source.old) (K.taken sink.old) (K.taken sink.new)) }
+    ensures refused { IfErr result (IsExpandFault layout.now (S.left source.old) (S.failures source.old) (S.failures source.new) (K.taken sink.old) (K.taken sink.new) (K.failures sink.old) (K.failures sink.new) (K.stalls sink.old) (K.stalls sink.new)) }
+    ensures bounded { GaveWithin (λ _. file_limit) (S.left source.old) (S.left source.new) }
+{
+    let raw = raw_of_source(alloc, source, *layout)?;
+    write_all(sink, &raw)
+}
+
+/// The raw bytes of the cube whose file the source has.
+fn raw_of_source<S: Source>(alloc: Global, source: &mut S, layout: Layout) -> Result<Vec<u8>, Fault>
+    requires { IsLayout layout }
+    ensures raw { IfOk result (λ raw. HasRaw layout (S.left source.old) raw.items) }
+    ensures refused { IfErr result (IsExpandRefusal layout (S.left source.old) (S.failures source.old) (S.failures source.new)) }
+    ensures bounded { GaveWithin (λ _. file_limit) (S.left source.old) (S.left source.new) }
+{
+    let cube = decoded(alloc, source)?;
+    cube.to_raw(alloc, layout)
+}
+
+/// The cube whose file the source has.
+fn decoded<S: Source>(alloc: Global, source: &mut S) -> Result<Cube, Fault>
+    ensures cube { IfOk result (HasFileOf (S.left source.old)) }
+    ensures refused { IfErr result (λ e. IsReadRefusal (S.left source.old) (S.failures source.old) (S.failures source.new) e ⊎ HasNoFile (S.left source.old) e) }
+    ensures bounded { GaveWithin (λ _. file_limit) (S.left source.old) (S.left source.new) }
+{
+    let bytes = read_file(alloc, source)?;
+    let (_params, cube) = decode(alloc, &bytes)?;
+    Ok(cube)
+}

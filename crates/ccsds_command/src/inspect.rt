@@ -1,0 +1,57 @@
+//! A file in, its header's fields out as lines of text.
+
+ghost use Rattle.std.specs.Prelude.{◌⊎◌, IfOk, IfErr, OnOk};
+ghost use Rattle.header_bits.specs.Reach.{here};
+ghost use Rattle.header_bits.specs.Lawful.{IsLawful};
+ghost use Rattle.ccsds_command.specs.Reading.{file_limit};
+ghost use Rattle.ccsds_command.specs.Inspect.{HasHeader, HasLines, Inspects, IsInspectFault, IsInspectRefusal};
+ghost use Rattle.ccsds_command.specs.Devices.{GaveWithin};
+
+use crate::lines::header_lines;
+use crate::reading::read_file;
+use crate::sink::Sink;
+use crate::source::Source;
+use crate::writing::write_all;
+use cube_core::fault::Fault;
+use header_bits::header::read_header;
+use header_bits::params::Params;
+use std::alloc::Global;
+
+/// Reads a file, and writes a line for each field of its header: a name, a space and the value.
+///
+/// The whole file is read, and only its header is looked at. `Read` where the source failed, or gave
+/// more than 2^40 bytes; the refusals of `read_header`; `WantOfMemory`; and `Write`, with the bytes
+/// that went out, where the sink failed or took nothing. After any other refusal nothing was written.
+pub fn run_inspect<S: Source, K: Sink>(
+    alloc: Global,
+    source: &mut S,
+    sink: &mut K,
+) -> Result<(), Fault>
+    ensures inspected { OnOk result (Inspects (S.left source.old) (K.taken sink.old) (K.taken sink.new)) }
+    ensures refused { IfErr result (IsInspectFault (S.left source.old) (S.failures source.old) (S.failures source.new) (K.taken sink.old) (K.taken sink.new) (K.failures sink.old) (K.failures sink.new) (K.stalls sink.old) (K.stalls sink.new)) }
+    ensures bounded { GaveWithin (λ _. file_limit) (S.left source.old) (S.left source.new) }
+{
+    let text = lines_of_source(alloc, source)?;
+    write_all(sink, &text)
+}
+
+/// The lines of the source's header.
+fn lines_of_source<S: Source>(alloc: Global, source: &mut S) -> Result<Vec<u8>, Fault>
+    ensures lines { IfOk result (λ text. HasLines (S.left source.old) text.items) }
+    ensures refused { IfErr result (IsInspectRefusal (S.left source.old) (S.failures source.old) (S.failures source.new)) }
+    ensures bounded { GaveWithin (λ _. file_limit) (S.left source.old) (S.left source.new) }
+{
+    let (params, size) = header_of_source(alloc, source)?;
+    header_lines(alloc, &params, size)
+}
+
+/// The source's header: its parameters, and its length in bytes.
+fn header_of_source<S: Source>(alloc: Global, source: &mut S) -> Result<(Params, usize), Fault>
+    ensures header { IfOk result (λ found. HasHeader (S.left source.old) found.0 found.1) }
+    ensures lawful { IfOk result (λ found. IsLawful here found.0) }
+    ensures refused { IfErr result (IsInspectRefusal (S.left source.old) (S.failures source.old) (S.failures source.new)) }
+    ensures bounded { GaveWithin (λ _. file_limit) (S.left source.old) (S.left source.new) }
+{
+    let bytes = read_file(alloc, source)?;
+    read_header(alloc, &bytes)
+}

@@ -1,0 +1,17 @@
+//! What a command line asks for.
+
+use crate::compress::CompressSettings;
+use cube_core::layout::Layout;
+
+/// A command with its settings, and the paths that it reads from and writes to.
+#[derive(Drop)]
+pub enum Settings {
+    /// A small cube on the standard streams, its file out in hexadecimal.
+    Show,
+    /// Raw bytes to a file: the settings, IN and OUT.
+    Compress(CompressSettings, String, String),
+    /// A file to raw bytes: how they lie, IN and OUT.
+    Expand(Layout, String, String),
+    /// A file on the standard input, its header out as lines.
+    Inspect,
+}
