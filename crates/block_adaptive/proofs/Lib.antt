@@ -14,6 +14,7 @@ pub mod Taken
 pub mod ForBlocks
 pub mod Fronts
 pub mod Each
+pub mod Looking
 pub mod Twos
 pub mod Streaming
 pub mod Handed

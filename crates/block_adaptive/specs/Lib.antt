@@ -1,3 +1,4 @@
+pub mod Ahead
 pub mod Chosen
 pub mod Everything
 pub mod Given
