@@ -21,3 +21,4 @@ pub mod Handed
 pub mod Emits
 pub mod Gathers
 pub mod Packing
+pub mod Stored

@@ -5,6 +5,7 @@ pub mod Given
 pub mod Holding
 pub mod Laws
 pub mod Options
+pub mod Places
 pub mod Prefixes
 pub mod Reading
 pub mod Rows
