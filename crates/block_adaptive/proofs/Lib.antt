@@ -14,9 +14,11 @@ pub mod Taken
 pub mod ForBlocks
 pub mod Fronts
 pub mod Each
+pub mod Looking
 pub mod Twos
 pub mod Streaming
 pub mod Handed
 pub mod Emits
 pub mod Gathers
 pub mod Packing
+pub mod Stored

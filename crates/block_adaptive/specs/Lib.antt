@@ -1,9 +1,11 @@
+pub mod Ahead
 pub mod Chosen
 pub mod Everything
 pub mod Given
 pub mod Holding
 pub mod Laws
 pub mod Options
+pub mod Places
 pub mod Prefixes
 pub mod Reading
 pub mod Rows

@@ -9,7 +9,7 @@ ghost use Rattle.block_adaptive.specs.Given.{Unpacked, HasMore, GivesFirst, Give
 
 use crate::found::Found;
 use crate::options::CodeSet;
-use crate::segments::blocks_left;
+use crate::segments::{Place, blocks_left};
 use crate::texts::read_text;
 use cube_core::fault::Fault;
 use header_bits::bit_reader::BitReader;
@@ -120,7 +120,11 @@ impl BlockReader {
         ensures same { OnErr result (reader.new ≡ reader.old) }
         ensures count { reader.new.count ≡ reader.old.count }
     {
-        let left = blocks_left(self.reference, self.count, self.block);
+        let left = blocks_left(&Place {
+            reference: self.reference,
+            count: self.count,
+            block: self.block,
+        });
         let set = self.set;
         let mut ahead = reader.fork();
         match read_text(

@@ -7,7 +7,7 @@ ghost use Rattle.block_adaptive.specs.Settings.{AreForBlocks, cut_by};
 ghost use Rattle.block_adaptive.specs.Taken.{HasTaken, PutsNumber, EndsBody, packed, texts_packed};
 
 use crate::options::CodeSet;
-use crate::segments::blocks_left;
+use crate::segments::Place;
 use crate::writing::write_texts;
 use cube_core::fault::Fault;
 use header_bits::bit_writer::BitWriter;
@@ -96,9 +96,37 @@ impl BlockWriter {
             self.held += 1;
             return Ok(());
         }
-        let size = self.size as usize;
-        let block = with_value(&self.values, self.held, delta);
-        self.pack(&block[..size], writer)
+        self.put_last(delta, writer)
+    }
+
+    /// Takes the last number of a block, and appends what is then known of the body.
+    #[inline(never)]
+    fn put_last(&mut self, delta: u16, writer: &mut BitWriter) -> Result<(), Fault>
+        requires last { length self.old.held + 1 ≡ self.old.cut.size }
+        requires more { self.old.start + self.old.zeros < self.old.cut.count }
+        ensures appended { OnOk result (writer.new.bits ≡ writer.old.bits ++ texts_packed self.old (self.old.held ++ delta ∷ [])) }
+        ensures packed { OnOk result (self.new ≡ packed self.old (self.old.held ++ delta ∷ [])) }
+        ensures same { OnErr result ((self.new ≡ self.old) × (writer.new.bits ≡ writer.old.bits)) }
+        ensures refused { IfErr result (λ e. e ≡ WantOfMemory) }
+    {
+        // It stands behind the values held, which are as they were where there is no memory.
+        self.values[self.held as usize] = delta;
+        let place = Place {
+            reference: self.reference,
+            count: self.count,
+            block: self.start,
+        };
+        let zeros = write_texts(
+            writer,
+            &self.set,
+            &place,
+            self.zeros,
+            &self.values[..self.size as usize],
+        )?;
+        self.start += u64::from(self.zeros + 1 - zeros);
+        self.zeros = zeros;
+        self.held = 0;
+        Ok(())
     }
 
     /// Ends the body: appends what is still held, with the block begun filled with zeros.
@@ -128,24 +156,17 @@ impl BlockWriter {
         ensures same { OnErr result ((self.new ≡ self.old) × (writer.new.bits ≡ writer.old.bits)) }
         ensures refused { IfErr result (λ e. e ≡ WantOfMemory) }
     {
-        let left = blocks_left(self.reference, self.count, self.start);
-        let set = self.set;
-        let zeros = write_texts(writer, &set, left, self.zeros, block)?;
+        let place = Place {
+            reference: self.reference,
+            count: self.count,
+            block: self.start,
+        };
+        let zeros = write_texts(writer, &self.set, &place, self.zeros, block)?;
         self.start += u64::from(self.zeros + 1 - zeros);
         self.zeros = zeros;
         self.held = 0;
         Ok(())
     }
-}
-
-/// The values with one more, which is the last of its block.
-fn with_value(values: &[u16; 64], held: u32, value: u16) -> [u16; 64]
-    requires { held < 64 }
-    ensures { take (held + 1) result ≡ take held values.now ++ value ∷ [] }
-{
-    let mut block = *values;
-    block[held as usize] = value;
-    block
 }
 
 /// The values with zeros behind them.

@@ -1,6 +1,7 @@
 //! The block-adaptive entropy coder, both ways (CCSDS 121.0-B, as an entropy coder of CCSDS 123.0-B-1).
 #![tactic(auto)]
 
+mod ahead;
 pub mod block_reader;
 pub mod block_writer;
 pub mod choice;

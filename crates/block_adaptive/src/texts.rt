@@ -7,6 +7,7 @@ ghost use Rattle.block_adaptive.specs.Reading.{site_of, fundamental_at, quotient
 ghost use Rattle.block_adaptive.specs.Texts.{Text, spelled, IsText};
 ghost use Rattle.block_adaptive.specs.Told.{told};
 
+use crate::ahead::{code_ahead, look_ahead, take_used, whole_ahead};
 use crate::choice::identifier_width;
 use crate::found::Found;
 use crate::options::{Choice, CodeSet};
@@ -35,9 +36,18 @@ fn quotients(reader: &mut BitReader, block: u64, most: u16, values: &mut [u16]) 
     ensures read { Reads (λ _. values.new) result reader.new.left (quotients_at (site_of reader.old block) most (length values.old) reader.old.left) }
     ensures count { reader.new.count ≡ reader.old.count }
 {
+    let mut ahead = look_ahead(reader);
     for value in values.iter_mut() {
-        *value = fundamental(reader, block, u64::from(most))? as u16;
+        if let Some((quotient, next)) = code_ahead(ahead, most) {
+            *value = quotient;
+            ahead = next;
+        } else {
+            take_used(reader, ahead);
+            *value = fundamental(reader, block, u64::from(most))? as u16;
+            ahead = look_ahead(reader);
+        }
     }
+    take_used(reader, ahead);
     Ok(())
 }
 
@@ -69,9 +79,18 @@ fn lows(
     ensures read { Reads (λ _. values.new) result reader.new.left (lows_at (site_of reader.old block) k most values.old reader.old.left) }
     ensures count { reader.new.count ≡ reader.old.count }
 {
+    let mut ahead = look_ahead(reader);
     for value in values.iter_mut() {
-        *value = whole(reader, block, k, most, *value)?;
+        if let Some((known, next)) = whole_ahead(ahead, k, most, *value) {
+            *value = known;
+            ahead = next;
+        } else {
+            take_used(reader, ahead);
+            *value = whole(reader, block, k, most, *value)?;
+            ahead = look_ahead(reader);
+        }
     }
+    take_used(reader, ahead);
     Ok(())
 }
 

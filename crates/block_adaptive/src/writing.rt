@@ -7,10 +7,12 @@ ghost use Rattle.header_bits.specs.Bits.{bits_of, fundamental};
 ghost use Rattle.block_adaptive.specs.Options.{IsOption, zero_identifier, identifier, quotient_codes, low_groups, pair_codes, option_text, cost};
 ghost use Rattle.block_adaptive.specs.Texts.{run_text, run_code, spelled, spelling};
 ghost use Rattle.block_adaptive.specs.Chosen.{is_zero};
+ghost use Rattle.block_adaptive.specs.Places.{IsPlace, blocks_from};
 ghost use Rattle.block_adaptive.specs.Taken.{Writes, rest_of, run_and_block, texts_after, zeros_after};
 
 use crate::choice::{choose, identifier_width, option_cost};
 use crate::options::{Choice, CodeSet};
+use crate::segments::{Place, blocks_left};
 use cube_core::fault::Fault;
 use header_bits::bit_writer::BitWriter;
 
@@ -225,30 +227,33 @@ fn write_block(
 /// Writes the texts that a whole block makes, behind so many blocks of zeros that are held; answers how
 /// many are held then.
 ///
-/// `left` blocks are left in the segment of the first one held. The memory is asked for first.
+/// The first one held stands at the place. The memory is asked for first.
+#[tactic(auto, unfolding(crate::specs::Segments::segment_rest))]
 pub(crate) fn write_texts(
     writer: &mut BitWriter,
     set: &CodeSet,
-    left: u32,
+    place: &Place,
     zeros: u32,
     block: &[u16],
 ) -> Result<u32, Fault>
     requires bits { set.now.bits ≤ 16 }
-    requires left { (zeros < left) × (left ≤ 64) }
+    requires place { IsPlace place.now }
+    requires left { zeros < blocks_from place.now }
     requires few { length block.now ≤ 64 }
     requires even { length block.now % 2 ≡ 0 }
-    ensures appended { OnOk result (writer.new.bits ≡ writer.old.bits ++ spelling set.now (texts_after set.now left zeros block.now)) }
-    ensures held { IfOk result (λ n. n ≡ zeros_after left zeros block.now) }
+    ensures appended { OnOk result (writer.new.bits ≡ writer.old.bits ++ spelling set.now (texts_after set.now (blocks_from place.now) zeros block.now)) }
+    ensures held { IfOk result (λ n. n ≡ zeros_after (blocks_from place.now) zeros block.now) }
     ensures same { OnErr result (writer.new.bits ≡ writer.old.bits) }
     ensures refused { IfErr result (λ e. e ≡ WantOfMemory) }
 {
     if !all_zero(block) {
         write_block(writer, set, zeros, block)?;
-        Ok(0)
-    } else if zeros + 1 < left {
-        Ok(zeros + 1)
-    } else {
-        write_rest(writer, set, left)?;
-        Ok(0)
+        return Ok(0);
     }
+    let left = blocks_left(place);
+    if zeros + 1 < left {
+        return Ok(zeros + 1);
+    }
+    write_rest(writer, set, left)?;
+    Ok(0)
 }

@@ -15,16 +15,6 @@ returns-then-self-clause-taken c =
     (ap (λ (held : List ℕ). record (the_view c.self.inside) { held = held }) (held_more c.self.inside.values c.self.inside.held c.args.delta room)
     ∙ ap (λ (v : Packed). record v { held = v.held ++ c.args.delta ∷ [] }) c.self.view_is)
 
-pub pack-requires-clause-range : goal.pack-requires-clause-range
-pack-requires-clause-range c =
-    let held-is : c.args.self.now.held ≡ take c.self.inside.held c.self.inside.values = ap (λ (v : Packed). v.held) (sym c.self.view_is) in
-    let size-is : c.args.self.now.cut.size ≡ c.self.inside.size = ap (λ (v : Packed). v.cut.size) (sym c.self.view_is) in
-    let few = size_most c.self.inside.size c.self.invariant.cut.size in
-    let range : AllByRecursion (λ x. x < 2 ^ c.args.self.now.cut.set.bits) c.args.self.now.held = rw (← c.self.view_is) c.self.invariant.range in
-    let one : c.self.inside.size ≡ c.self.inside.held + 1 = omega (arith, c.if-self.false, c.self.invariant.few, length-take c.self.inside.held c.self.inside.values, c.self.told) in
-    let block-is : take c.self.inside.size c.with_value-block.result ≡ c.args.self.now.held ++ c.args.delta ∷ [] = ap (λ (n : ℕ). take n c.with_value-block.result) one ∙ c.with_value-block.ensures ∙ ap (λ (held : List ℕ). held ++ c.args.delta ∷ []) (sym held-is) in
-    rw block-is (range_push (2 ^ c.args.self.now.cut.set.bits) c.args.self.now.held c.args.delta range c.requires.number)
-
 pub returns-clause-taken : goal.returns-clause-taken
 returns-clause-taken c =
     let held-is : c.args.self.now.held ≡ take c.self.inside.held c.self.inside.values = ap (λ (v : Packed). v.held) (sym c.self.view_is) in
@@ -32,10 +22,9 @@ returns-clause-taken c =
     let few = size_most c.self.inside.size c.self.invariant.cut.size in
     let range : AllByRecursion (λ x. x < 2 ^ c.args.self.now.cut.set.bits) c.args.self.now.held = rw (← c.self.view_is) c.self.invariant.range in
     let one : c.self.inside.size ≡ c.self.inside.held + 1 = omega (arith, c.if-self.false, c.self.invariant.few, length-take c.self.inside.held c.self.inside.values, c.self.told) in
-    let block-is : take c.self.inside.size c.with_value-block.result ≡ c.args.self.now.held ++ c.args.delta ∷ [] = ap (λ (n : ℕ). take n c.with_value-block.result) one ∙ c.with_value-block.ensures ∙ ap (λ (held : List ℕ). held ++ c.args.delta ∷ []) (sym held-is) in
     let cut : IsCut c.args.self.now.cut = rw (← c.self.view_is) c.self.invariant.cut in
     let len : length (c.args.self.now.held ++ c.args.delta ∷ []) ≡ c.args.self.now.cut.size =
     omega (arith, length-append c.args.self.now.held (c.args.delta ∷ []), ap length held-is, length-take c.self.inside.held c.self.inside.values, c.self.told, one, size-is) in
-    on_ok_both c.pack.result _ _ _
-    (λ p q. number_packed c.args.self.now c.pack.new.self c.args.writer.now.bits c.pack.new.writer.bits c.args.delta cut c.requires.more len (range_push (2 ^ c.args.self.now.cut.set.bits) c.args.self.now.held c.args.delta range c.requires.number) p q)
-    (rw block-is at c.pack.ensures.appended) (rw block-is at c.pack.ensures.packed)
+    on_ok_both c.put_last.result _ _ _
+    (λ p q. number_packed c.args.self.now c.put_last.new.self c.args.writer.now.bits c.put_last.new.writer.bits c.args.delta cut c.requires.more len (range_push (2 ^ c.args.self.now.cut.set.bits) c.args.self.now.held c.args.delta range c.requires.number) p q)
+    c.put_last.ensures.appended c.put_last.ensures.packed

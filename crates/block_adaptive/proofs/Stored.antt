@@ -1,0 +1,35 @@
+-- The parts of a writer, behind a whole block.
+use Rattle.std.proofs.Common.{◌≡◌, ℕ, ◌+◌, ◌-◌, ◌<◌, ◌≤◌, List, [], length, sym, ap, subst, inl, inr, arith}
+use Rattle.std.proofs.lemmas.Bool.{cases_lt}
+use Rattle.block_adaptive.specs.Segments.{segment_rest}
+use Rattle.block_adaptive.specs.Texts.{Cut, left_at}
+use Rattle.block_adaptive.specs.Holding.{AreStored}
+use Rattle.block_adaptive.specs.Taken.{zeros_after}
+use Rattle.block_adaptive.proofs.Lawful.{rest_least}
+use Rattle.block_adaptive.proofs.Handed.{size_least}
+use Rattle.block_adaptive.proofs.Packing.{after_in_range, after_start}
+
+-- the blocks of zeros that are held are fewer than the segment has left
+pub held_inside : (c : Cut) (i zeros : ℕ) (held : List ℕ) → AreStored c i zeros held → i + zeros < c.count → zeros < left_at c i
+held_inside c i zeros held h more =
+    elim (cases_lt 0 zeros) [
+      | inl lt ↦ h.inside (omega arith)
+      | inr le ↦ (let some : 1 ≤ left_at c i = rest_least c.reference c.count i h.cut.reference.0 (omega arith) in omega arith)
+    ]
+
+pub held_few : (c : Cut) (i zeros : ℕ) (held : List ℕ) → AreStored c i zeros held → i + zeros < c.count → zeros < 64
+unfolding segment_rest
+held_few c i zeros held h more = (let inside = held_inside c i zeros held h more in omega arith)
+
+pub stored_after : (c : Cut) (i zeros : ℕ) (held block : List ℕ) → AreStored c i zeros held → i + zeros < c.count → AreStored c (i + (zeros + 1 - zeros_after (left_at c i) zeros block)) (zeros_after (left_at c i) zeros block) []
+stored_after c i zeros held block h more =
+    let after : ℕ = zeros_after (left_at c i) zeros block in
+    let range = after_in_range (left_at c i) zeros block (held_inside c i zeros held h more) in
+    record {
+      cut = h.cut;
+      block = omega (arith, range.0);
+      inside = λ some. subst (λ (k : ℕ). after < left_at c k) (sym (after_start c i zeros block some)) (range.1 some);
+      more = λ some. absurd (omega arith);
+      few = omega (arith, size_least c.size h.cut.size);
+      range = tt;
+    }

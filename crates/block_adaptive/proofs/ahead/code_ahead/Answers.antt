@@ -1,0 +1,21 @@
+use Rattle.std.proofs.Common.{◌≡◌, ◌-◌, ◌*◌, ◌%◌, ◌^◌, arith}
+use Rattle.std.specs.Int.Count.{count_leading_zeros}
+use Rattle.std.proofs.lemmas.Nat.{one_shl}
+use Rattle.block_adaptive.proofs.Looking.{top_is, code_used}
+use Rattle.block_adaptive.proofs.ahead.code_ahead.Goals as goal
+
+pub overflow_sub-zeros : goal.overflow_sub-zeros
+overflow_sub-zeros c = omega (arith, (top_is c.args.ahead.word c.args.ahead.known c.requires.below c.requires.few c.if-ahead-eq0.false).inside)
+
+pub overflow_sub-zeros-2 : goal.overflow_sub-zeros-2
+overflow_sub-zeros-2 c = omega (arith, (top_is c.args.ahead.word c.args.ahead.known c.requires.below c.requires.few c.if-ahead-eq0.false).inside)
+
+pub overflow_sub-result : goal.overflow_sub-result
+overflow_sub-result c =
+    let top = top_is c.args.ahead.word c.args.ahead.known c.requires.below c.requires.few c.if-ahead-eq0.false in
+    rw (one_shl (63 - count_leading_zeros 64 c.args.ahead.word) 64 (omega arith)) top.least
+
+pub returns : goal.returns
+returns c =
+    let top = top_is c.args.ahead.word c.args.ahead.known c.requires.below c.requires.few c.if-ahead-eq0.false in
+    rw (one_shl (63 - count_leading_zeros 64 c.args.ahead.word) 64 (omega arith)) (omega (arith, c.if-zeros-from.false, c.from.ensures), λ left h. code_used c.args.ahead (63 - count_leading_zeros 64 c.args.ahead.word) left c.requires top h)

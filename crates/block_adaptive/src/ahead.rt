@@ -1,0 +1,97 @@
+//! The bits that come next, as a number: several codes are read from one look at them.
+
+ghost use Rattle.std.specs.Prelude.{◌≡◌, ◌≤◌, ◌<◌, ◌^◌, ◌*◌, ◌+◌, ℕ, List, Bool, drop, IfSome};
+ghost use Rattle.header_bits.specs.Bits.{bits_of, fundamental};
+ghost use Rattle.block_adaptive.specs.Ahead.{IsAhead, IsWord, Uses, used};
+
+use header_bits::bit_reader::BitReader;
+
+/// The bits that were looked at and aren't used yet.
+#[derive(Clone, Copy, Drop)]
+pub(crate) struct Ahead {
+    /// How many bits were looked at.
+    peeked: u32,
+    /// How many of them aren't used.
+    known: u32,
+    /// The number that those spell.
+    word: u64,
+}
+
+/// The next 56 bits, or as many as are left.
+#[inline(always)]
+pub(crate) fn look_ahead(reader: &BitReader) -> Ahead
+    ensures ahead { IsAhead result reader.now.left }
+    ensures word { IsWord result }
+    ensures unused { used result ≡ 0 }
+{
+    let known = reader.left().min(56) as u32;
+    let mut copy = reader.fork();
+    let word = copy.take(known).unwrap();
+    Ahead {
+        peeked: known,
+        known,
+        word,
+    }
+}
+
+/// Takes from the reader what is used.
+#[inline(always)]
+pub(crate) fn take_used(reader: &mut BitReader, ahead: Ahead)
+    requires { IsAhead ahead reader.old.left }
+    ensures left { reader.new.left ≡ drop (used ahead) reader.old.left }
+    ensures count { reader.new.count ≡ reader.old.count }
+{
+    reader.take(ahead.peeked - ahead.known).unwrap();
+}
+
+/// The fundamental sequence that comes next, if it ends within the bits ahead and has at most so many
+/// zeros, and what is ahead then.
+#[inline(always)]
+pub(crate) fn code_ahead(ahead: Ahead, most: u16) -> Option<(u16, Ahead)>
+    requires { IsWord ahead }
+    ensures { IfSome result (λ p. (p.0 ≤ most) × ((left : List Bool) → IsAhead ahead left → Uses ahead p.1 (fundamental p.0) left)) }
+{
+    if ahead.word == 0 {
+        return None;
+    }
+    let known = 63 - ahead.word.leading_zeros();
+    let zeros = ahead.known - known - 1;
+    if zeros > u32::from(most) {
+        return None;
+    }
+    Some((
+        zeros as u16,
+        Ahead {
+            peeked: ahead.peeked,
+            known,
+            word: ahead.word - (1 << known),
+        },
+    ))
+}
+
+/// The value of a quotient and the low bits that come next, if they are ahead and it is at most so
+/// great, and what is ahead then.
+#[inline(always)]
+pub(crate) fn whole_ahead(ahead: Ahead, k: u32, most: u16, quotient: u16) -> Option<(u16, Ahead)>
+    requires depth { k ≤ 15 }
+    requires word { IsWord ahead }
+    ensures { IfSome result (λ p. (p.0 ≤ most) × ((left : List Bool) → IsAhead ahead left → (low : ℕ) × (low < 2 ^ k) × (p.0 ≡ quotient * 2 ^ k + low) × Uses ahead p.1 (bits_of k low) left)) }
+{
+    if ahead.known < k {
+        return None;
+    }
+    let known = ahead.known - k;
+    let low = ahead.word >> known;
+    let value = (u64::from(quotient) << k) + low;
+    if value > u64::from(most) {
+        return None;
+    }
+    Some((
+        value as u16,
+        Ahead {
+            peeked: ahead.peeked,
+            known,
+            word: ahead.word - (low << known),
+        },
+    ))
+}
