@@ -4,9 +4,11 @@
 show:
 	cd crates/ccsds && rt run -- show < ../../samples/small.cube
 
-# Proves every crate from nothing, tries the must-fail edits, and runs the tests and the program.
+# Proves every crate from nothing, tries the must-fail edits, and runs the tests and the program; then tries the
+# program that was proved on files and devices.
 test:
 	rt ci
+	tests/command.sh
 
 # Measures the benchmark program beside plain Rust, and prints a table.
 bench:

@@ -1,10 +1,19 @@
-//! The program `ccsds`: the commands over the standard streams.
+//! The program `ccsds`: the commands over files and the standard streams.
 #![tactic(auto)]
 
+ghost use Rattle.std.specs.Prelude.{IfOk};
+ghost use Rattle.ccsds_command.specs.Settings.{AreInRange};
+
+use ccsds_command::compress::run_compress;
+use ccsds_command::expand::run_expand;
+use ccsds_command::inspect::run_inspect;
 use ccsds_command::report::{fault_line, status_of};
+use ccsds_command::settings::Settings;
 use ccsds_command::show::run_show;
 use ccsds_command::stream::{ReaderSource, WriterSink};
+use ccsds_command::words::settings;
 use cube_core::fault::Fault;
+use std::fs::File;
 use std::io::Write;
 use std::process::ExitCode;
 use std::{env, io};
@@ -18,25 +27,48 @@ fn main(rt: HostRuntime) -> ExitCode {
 
 /// Runs the command that the words name.
 fn run(rt: &HostRuntime) -> Result<(), Fault> {
-    if !is_show(rt)? {
-        return Err(Fault::Usage);
+    let alloc = rt.alloc();
+    let mut input = ReaderSource::new(rt.stdin());
+    let mut output = WriterSink::new(io::writer(rt));
+    match asked(rt)? {
+        Settings::Show => run_show(alloc, &mut input, &mut output),
+        Settings::Compress(settings, from, to) => {
+            let (mut source, mut sink) = opened(rt, from.as_str(), to.as_str())?;
+            run_compress(alloc, &mut source, &mut sink, &settings)
+        }
+        Settings::Expand(layout, from, to) => {
+            let (mut source, mut sink) = opened(rt, from.as_str(), to.as_str())?;
+            run_expand(alloc, &mut source, &mut sink, &layout)
+        }
+        Settings::Inspect => run_inspect(alloc, &mut input, &mut output),
     }
-    let mut source = ReaderSource::new(rt.stdin());
-    let mut sink = WriterSink::new(io::writer(rt));
-    run_show(rt.alloc(), &mut source, &mut sink)
 }
 
-/// Whether `show` is the one word behind the program's name.
-///
-/// Words that aren't text are `Usage`.
-fn is_show(rt: &HostRuntime) -> Result<bool, Fault> {
-    let Ok(mut words) = env::args(rt) else {
+/// What the words behind the program's name ask for. Words that aren't text are `Usage`.
+fn asked(rt: &HostRuntime) -> Result<Settings, Fault>
+    ensures { IfOk result AreInRange }
+{
+    let Ok(args) = env::args(rt) else {
         return Err(Fault::Usage);
     };
-    let _program = words.next();
-    let first = words.next();
-    let second = words.next();
-    Ok(first.is_some_and(|word| word.as_str() == "show") && second.is_none())
+    let args: Vec<String> = args.skip(1).collect(rt.alloc())?;
+    let words: Vec<&str> = args.iter().map(|word| word.as_str()).collect(rt.alloc())?;
+    settings(rt.alloc(), words.as_slice())
+}
+
+/// Opens the one file, and then makes or empties the other.
+fn opened(
+    rt: &HostRuntime,
+    from: &str,
+    to: &str,
+) -> Result<(ReaderSource<File>, WriterSink<File>), Fault> {
+    let Ok(from) = File::open(rt, from) else {
+        return Err(Fault::Read);
+    };
+    let Ok(to) = File::create(rt, to) else {
+        return Err(Fault::Write { written: 0 });
+    };
+    Ok((ReaderSource::new(from), WriterSink::new(to)))
 }
 
 /// Prints the fault's line on standard error, and gives its exit status. Where there is no memory for

@@ -11,6 +11,11 @@ use crate::stream::{ReaderSource, WriterSink};
 use cube_core::fault::{Fault, Field, Rule};
 use std::test::Fail;
 
+mod engines;
+mod headers;
+mod support;
+mod words;
+
 /// Two samples of 200, one row below the other.
 const TWO_EQUAL: [u8; 8] = [0, 1, 0, 2, 0, 1, 0xC8, 0xC8];
 

@@ -1,0 +1,220 @@
+#!/usr/bin/env bash
+# Runs the built program: exit statuses, standard error and output files, each to the byte.
+#
+#   tests/command.sh [PROGRAM]
+#
+# `rt ci` leaves the program where this looks for it; so does `rt run` in crates/ccsds.
+set -u
+here=$(cd "$(dirname "$0")/.." && pwd)
+program=$(realpath "${1:-$here/crates/ccsds/out/ccsds}") || exit 2
+if [ ! -x "$program" ]; then
+    echo "there is no program $program" >&2
+    exit 2
+fi
+room=$(mktemp -d) || exit 2
+trap 'rm -rf "$room"' EXIT
+cd "$room" || exit 2
+
+passed=0
+failed=0
+
+# Holds a run to its status, and to what it is to say on standard error.
+check() {
+    local name=$1 wanted_status=$2 wanted_line=$3 status=$4
+    if [ "$status" -ne "$wanted_status" ]; then
+        complain "$name: it ended with $status, and not $wanted_status"
+    elif ! printf '%s' "$wanted_line" | cmp -s - stderr; then
+        complain "$name: on standard error it said: $(cat stderr)"
+    else
+        passed=$((passed + 1))
+    fi
+}
+
+complain() {
+    echo "FAILED: $1"
+    failed=$((failed + 1))
+}
+
+# Runs the program on the words behind the first three, and holds it to its status and its line. It may
+# print nothing on standard output.
+run() {
+    local name=$1 status=$2 line=$3
+    shift 3
+    "$program" "$@" > stdout 2> stderr < /dev/null
+    check "$name" "$status" "$line" $?
+    if [ -s stdout ]; then
+        complain "$name: it printed on standard output"
+    fi
+}
+
+# Holds a file to the bytes that two hexadecimal digits each spell.
+holds() {
+    local name=$1 file=$2 bytes=$3
+    if [ "$(od -An -v -tx1 "$file" | tr -d ' \n')" = "$bytes" ]; then
+        passed=$((passed + 1))
+    else
+        complain "$name: $file does not hold $bytes"
+    fi
+}
+
+same() {
+    if cmp -s "$2" "$3"; then
+        passed=$((passed + 1))
+    else
+        complain "$1: $2 and $3 differ"
+    fi
+}
+
+usage=$'ccsds: 20 Usage\n'
+
+# ---- two samples of 200, one row below the other
+
+file=00000100020001110000080002a092590082269080
+two='--columns 1 --rows 2 --bands 1 --bits 8 --bytes 1 --previous 0 --reduced --column-sums --register 32'
+printf '\xc8\xc8' > raw
+run 'two samples are compressed' 0 '' compress $two raw coded
+holds 'two samples are compressed' coded "$file"
+run 'two samples are expanded' 0 '' expand --bytes 1 coded back
+same 'two samples are expanded' raw back
+
+printf 'old contents, longer than the file that comes' > coded
+run 'OUT is emptied' 0 '' compress $two raw coded
+holds 'OUT is emptied' coded "$file"
+
+cat > lines <<'END'
+user 0
+columns 1
+rows 2
+bands 1
+sample unsigned
+bits 8
+order bsq
+word 1
+coder sample
+previous 0
+mode reduced
+sums column
+register 32
+omega 13
+interval 64
+vmin -1
+vmax 3
+start usual
+umax 16
+gamma-star 6
+gamma-zero 1
+k 3
+header 19
+END
+"$program" inspect < coded > told 2> stderr
+check 'inspect' 0 '' $?
+same 'inspect' lines told
+
+printf '\0\1\0\2\0\1\xc8\xc8' > small
+"$program" show < small > shown 2> stderr
+check 'show' 0 '' $?
+printf '%s\n' "$file" > text
+same 'show' text shown
+
+# ---- refused input leaves OUT empty
+
+printf '\xc8' > short
+echo something > out
+run 'too few raw bytes' 2 $'ccsds: 14 RawLength 2 1\n' compress $two short out
+holds 'too few raw bytes' out ''
+printf '\xc8\xc8\xc8\xc8' > long
+run 'too many raw bytes' 2 $'ccsds: 14 RawLength 2 3\n' compress $two long out
+run 'full mode on one column' 2 $'ccsds: 4 Disagree FullOneColumn\n' \
+    compress ${two/ --reduced/} raw out
+run 'neighbour sums on one column' 2 $'ccsds: 4 Disagree NeighbourOneColumn\n' \
+    compress ${two/ --column-sums/} raw out
+run 'a constant too great' 2 $'ccsds: 4 Disagree StartConstant\n' compress $two --k 7 raw out
+run 'a register too small' 2 $'ccsds: 4 Disagree RegisterTooSmall\n' \
+    compress --columns 2 --rows=1 --bands 1 --bits 16 --omega 19 --register 36 raw out
+run 'a sample out of range' 2 $'ccsds: 13 SampleRange 0\n' \
+    compress --columns 1 --rows=1 --bands 1 --bits 7 --reduced --column-sums raw out
+head -c 11 coded > cut
+run 'a header cut off' 2 $'ccsds: 1 ShortHeader\n' expand cut out
+"$program" inspect < cut > stdout 2> stderr
+check 'a header cut off, inspected' 2 $'ccsds: 1 ShortHeader\n' $?
+holds 'a header cut off, inspected' stdout ''
+head -c 20 coded > cut
+run 'a body cut off' 2 $'ccsds: 6 Truncated 160\n' expand cut out
+{ cat coded; printf '\0'; } > longer
+run 'a byte too many' 2 $'ccsds: 11 TooLong 12\n' expand longer out
+{ head -c 20 coded; printf '\x81'; } > filled
+run 'a fill bit of one' 2 $'ccsds: 10 BadFill\n' expand filled out
+holds 'a fill bit of one' out ''
+
+# ---- files that can't be opened or made, and devices that fail
+
+rm -f out
+run 'no IN' 4 $'ccsds: 18 Read\n' compress $two missing out
+run 'no IN, and parameters that disagree' 4 $'ccsds: 18 Read\n' compress $two --k 7 missing out
+run 'no IN to expand' 4 $'ccsds: 18 Read\n' expand missing out
+if [ -e out ]; then complain 'OUT was made though IN is missing'; fi
+run 'IN is a folder' 4 $'ccsds: 18 Read\n' compress $two / out
+holds 'IN is a folder' out ''
+run 'OUT in no folder' 4 $'ccsds: 19 Write 0\n' compress $two raw none/out
+run 'OUT is a folder' 4 $'ccsds: 19 Write 0\n' expand coded .
+run 'a full device' 4 $'ccsds: 19 Write 0\n' compress $two raw /dev/full
+run 'a full device to expand to' 4 $'ccsds: 19 Write 0\n' expand --bytes 1 coded /dev/full
+"$program" show < small > /dev/full 2> stderr
+check 'a full device behind show' 4 $'ccsds: 19 Write 0\n' $?
+"$program" inspect < coded > /dev/full 2> stderr
+check 'a full device behind inspect' 4 $'ccsds: 19 Write 0\n' $?
+
+head -c 8192 /dev/zero > zeros
+run 'zeros are compressed' 0 '' compress --columns 64 --rows 64 --bands 1 --bits 12 zeros coded
+(
+    trap '' XFSZ
+    ulimit -f 1
+    exec "$program" expand coded out 2> stderr
+)
+check 'a file that may not grow past 1024 bytes' 4 $'ccsds: 19 Write 1024\n' $?
+head -c 1024 zeros > first
+same 'a file that may not grow past 1024 bytes' first out
+
+# ---- words that are no lawful command leave OUT as it was
+
+echo something > out
+cp out before
+run 'no words' 1 "$usage"
+run 'help' 1 "$usage" help
+run '--help' 1 "$usage" --help
+run 'help of a command' 1 "$usage" compress --help
+run '--version' 1 "$usage" --version
+run 'an unknown command' 1 "$usage" code raw out
+run 'a word too many' 1 "$usage" show raw
+run 'a required option left out' 1 "$usage" compress ${two/ --rows 2/} raw out
+run 'a value out of range' 1 "$usage" compress ${two/--bits 8/--bits 17} raw out
+run 'an option twice' 1 "$usage" compress $two --bits 8 raw out
+run 'a flag twice' 1 "$usage" compress $two --reduced raw out
+run 'an unknown option' 1 "$usage" compress $two --fast raw out
+run 'no OUT' 1 "$usage" compress $two raw
+run 'three files' 1 "$usage" compress $two raw out more
+run 'one name for both files' 1 "$usage" compress $two out out
+run 'words that are no text' 1 "$usage" expand $'\xff' out
+same 'OUT after no lawful command' before out
+
+# ---- there and back, in each layout and each order, by both coders
+
+head -c 36000 /dev/urandom > raw # 20 columns, 30 rows, 30 bands of two bytes
+size='--columns 20 --rows=30 --bands 30 --bits 16'
+for layout in '--layout bsq' '--layout bil' '--layout bip' '--little' '--layout bip --little'; do
+    for order in '' '--order bi' '--order bi --depth 30' '--order bi --depth 7'; do
+        for coder in '--coder sample' '--coder block'; do
+            name="there and back: $layout $order $coder"
+            run "$name" 0 '' compress $size $layout $order $coder --signed raw coded
+            run "$name" 0 '' expand $layout coded back
+            same "$name" raw back
+        done
+    done
+done
+run 'another layout' 0 '' compress $size raw coded
+run 'another layout' 0 '' expand --layout bip coded pixels
+run 'another layout' 0 '' compress $size --layout bip pixels again
+same 'another layout' coded again
+
+echo "command.sh: $passed passed, $failed failed"
+[ "$failed" -eq 0 ]
