@@ -11,7 +11,7 @@ use std::marker::Model;
 /// The most bits that a writer holds.
 const MOST_BITS: u64 = 1 << 63;
 
-/// A number of bytes behind which a word is still within the most bits.
+/// A number of bytes behind which two words are still within the most bits.
 const ROOMY: usize = 1 << 59;
 
 /// Bits that were pushed one number after another, the most significant bit of each first.
@@ -24,6 +24,8 @@ pub struct BitWriter {
     /// The bits behind them are its `held` lowest; what stands above those doesn't matter.
     part: u64,
     held: u32,
+    /// 64 where there is memory for two words behind the full ones, as far as was looked, else 0.
+    ready: u32,
 }
 
 impl Model for BitWriter {
@@ -34,7 +36,7 @@ impl Model for BitWriter {
 
     ghost view = { λ a. record { bits = bits_of_bytes a.bytes.items ++ bits_of a.held a.part; room = min (8 * vec_capacity a.bytes) (2 ^ 63) - (8 * vec_len a.bytes + a.held) } };
 
-    ghost invariant = { λ a. (a.held < 64) × (8 * vec_len a.bytes + a.held ≤ 8 * vec_capacity a.bytes) × (8 * vec_len a.bytes + a.held ≤ 2 ^ 63) };
+    ghost invariant = { λ a. (a.held < 64) × (8 * vec_len a.bytes + a.held ≤ 8 * vec_capacity a.bytes) × (8 * vec_len a.bytes + a.held ≤ 2 ^ 63) × (a.ready ≤ 64) × (8 * vec_len a.bytes + 2 * a.ready ≤ 8 * vec_capacity a.bytes) × (8 * vec_len a.bytes + 2 * a.ready ≤ 2 ^ 63) };
 }
 
 impl BitWriter {
@@ -46,6 +48,7 @@ impl BitWriter {
             bytes: Vec::new(alloc),
             part: 0,
             held: 0,
+            ready: 0,
         }
     }
 
@@ -60,6 +63,7 @@ impl BitWriter {
     /// Makes room, so that pushes of so many bits in all succeed. The bits stay, whatever the answer.
     ///
     /// `WantOfMemory` where the memory isn't had, or where the bits would be more than 2^63.
+    #[inline(never)]
     pub fn reserve(&mut self, bits: u64) -> Result<(), Fault>
         ensures same { self.new.bits ≡ self.old.bits }
         ensures kept { self.old.room ≤ self.new.room }
@@ -72,6 +76,7 @@ impl BitWriter {
         }
         let more = (u64::from(self.held) + bits + 7) / 8;
         self.bytes.reserve(more as usize)?;
+        self.ready = ready_behind(&self.bytes);
         Ok(())
     }
 
@@ -80,7 +85,7 @@ impl BitWriter {
     /// `n` is at most 64, and the number below 2^n. A push within the room succeeds. After
     /// `WantOfMemory`, which comes too where the bits would be more than 2^63, the bits are as before,
     /// and the room is no smaller.
-    #[inline]
+    #[inline(always)]
     pub fn push(&mut self, bits: u64, n: u32) -> Result<(), Fault>
         requires few { n ≤ 64 }
         requires below { bits < 2 ^ n }
@@ -91,30 +96,28 @@ impl BitWriter {
         ensures room { OnOk result (self.old.room ≤ self.new.room + n) }
         ensures refused { IfErr result (λ e. e ≡ WantOfMemory) }
     {
-        let len = self.bytes.len();
-        let fits = n < 64 - self.held && len < ROOMY && self.bytes.capacity() - len >= 8;
-        if !fits {
-            return self.push_and_grow(bits, n);
+        if self.held + n < self.ready {
+            // Most numbers take this way, so it is short.
+            self.part = (self.part << n) | bits;
+            self.held += n;
+            return Ok(());
         }
-        // This is short, so that it is compiled into the caller, and most numbers take this way.
-        self.part = (self.part << n) | bits;
-        self.held += n;
+        if self.ready < 64 {
+            self.reserve(u64::from(n))?;
+        }
+        self.place(bits, n);
         Ok(())
     }
 
-    /// Appends the `n` bits of a number, where they fill a word or there may be no room for one.
-    #[inline(never)]
-    fn push_and_grow(&mut self, bits: u64, n: u32) -> Result<(), Fault>
+    /// Appends the `n` bits of a number, for which there is room.
+    #[inline(always)]
+    fn place(&mut self, bits: u64, n: u32)
         requires few { n ≤ 64 }
         requires below { bits < 2 ^ n }
-        ensures appended { OnOk result (self.new.bits ≡ self.old.bits ++ bits_of n bits) }
-        ensures same { OnErr result (self.new.bits ≡ self.old.bits) }
-        ensures kept { OnErr result (self.old.room ≤ self.new.room) }
-        ensures within { n ≤ self.old.room → IsOk result }
-        ensures room { OnOk result (self.old.room ≤ self.new.room + n) }
-        ensures refused { IfErr result (λ e. e ≡ WantOfMemory) }
+        requires room { n ≤ self.old.room }
+        ensures appended { self.new.bits ≡ self.old.bits ++ bits_of n bits }
+        ensures room { self.old.room ≤ self.new.room + n }
     {
-        self.reserve(u64::from(n))?;
         let free = 64 - self.held;
         if n < free {
             self.part = (self.part << n) | bits;
@@ -125,8 +128,8 @@ impl BitWriter {
             append_word(&mut self.bytes, word);
             self.part = bits;
             self.held = rest;
+            self.ready = ready_behind(&self.bytes);
         }
-        Ok(())
     }
 
     /// The bytes, where the bits are whole bytes. It takes no memory.
@@ -138,9 +141,24 @@ impl BitWriter {
             mut bytes,
             part,
             held,
+            ..
         } = self;
         append_part(&mut bytes, part, held);
         bytes
+    }
+}
+
+/// 64 where there is memory for two words behind these bytes, and 0 where there may be less.
+fn ready_behind(bytes: &Vec<u8>) -> u32
+    ensures most { result ≤ 64 }
+    ensures room { 8 * vec_len bytes.now + 2 * result ≤ 8 * vec_capacity bytes.now }
+    ensures within { 0 < result → 8 * vec_len bytes.now + 2 * result ≤ 2 ^ 63 }
+{
+    let len = bytes.len();
+    if len < ROOMY && bytes.capacity() - len >= 16 {
+        64
+    } else {
+        0
     }
 }
 

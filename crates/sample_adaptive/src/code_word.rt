@@ -71,9 +71,9 @@ pub(crate) fn take_word(code: Code, place: u64, reader: &mut BitReader) -> Resul
     match reader.peek() {
         Some(word) => take_from(code, place, word, reader),
         None => {
-            // A copy goes ahead, so that the reader itself can stay in registers.
+            // A copy goes ahead, and the code in parts, so that both can stay in registers elsewhere.
             let mut ahead = reader.fork();
-            let number = take_last(code, place, &mut ahead)?;
+            let number = take_last(code.limit, code.low, code.bits, place, &mut ahead)?;
             *reader = ahead;
             Ok(number)
         }
@@ -108,12 +108,19 @@ fn take_from(code: Code, place: u64, word: u64, reader: &mut BitReader) -> Resul
 /// After a refusal the reader is left anywhere.
 #[inline(never)]
 #[tactic(auto, unfolding(crate::specs::Reading::word_at, crate::specs::Reading::plain_at, crate::specs::Reading::escape_at))]
-fn take_last(code: Code, place: u64, reader: &mut BitReader) -> Result<u16, Fault>
-    requires { IsCode code }
-    ensures reads { Reads (λ number. number) result reader.new.left (word_at reader.old.count place code reader.old.left) }
-    ensures below { IfOk result (λ number. number < 2 ^ code.bits) }
+fn take_last(
+    limit: u32,
+    low: u32,
+    bits: u32,
+    place: u64,
+    reader: &mut BitReader,
+) -> Result<u16, Fault>
+    requires { IsCode (record { limit = limit; low = low; bits = bits }) }
+    ensures reads { Reads (λ number. number) result reader.new.left (word_at reader.old.count place (record { limit = limit; low = low; bits = bits }) reader.old.left) }
+    ensures below { IfOk result (λ number. number < 2 ^ bits) }
     ensures count { reader.new.count ≡ reader.old.count }
 {
+    let code = Code { limit, low, bits };
     let zeros = reader.count_zeros(u64::from(code.limit))?;
     if zeros < u64::from(code.limit) {
         let low = reader.take(code.low)?;

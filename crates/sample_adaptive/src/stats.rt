@@ -73,6 +73,7 @@ impl Stats {
     ///
     /// `t` counts the band's numbers from 0, and the number is at most 2^D - 1. One push is made, of
     /// at most 48 bits. After `WantOfMemory` nothing was changed.
+    #[inline(always)]
     pub fn put(&mut self, z: u32, t: u64, delta: u16, writer: &mut BitWriter) -> Result<(), Fault>
         requires band { z < length self.old.bands }
         requires number { delta < 2 ^ self.old.bits }
@@ -94,6 +95,7 @@ impl Stats {
     /// with `t` as its place if a form stands there that is no number's word (a needless escape, or a
     /// number above 2^D - 1), else `Truncated`. Then the reader stands where it stood, and every
     /// later call answers the same.
+    #[inline(always)]
     pub fn get(&mut self, z: u32, t: u64, reader: &mut BitReader) -> Result<u16, Fault>
         requires { z < length self.old.bands }
         ensures taken { GetsNumber z t result self.old reader.old self.new reader.new.left }
