@@ -39,7 +39,7 @@ fn raw_bytes_of_a_wrong_length_are_refused(rt: HostRuntime) {
 
 #[test]
 fn a_sample_out_of_range_is_refused(rt: HostRuntime) {
-    let line = "compress --columns 2 --rows 1 --bands 1 --bits 11 a b";
+    let line = "compress --columns=2 --rows=1 --bands=1 --bits=11 a b";
     let fault = Fault::SampleRange { index: 1 };
     assert_eq!(rt;
         run(&rt, line, &[0x07, 0xFF, 0x08, 0x00]).err(),
@@ -51,11 +51,11 @@ fn a_sample_out_of_range_is_refused(rt: HostRuntime) {
 fn parameters_are_refused_before_anything_is_read(rt: HostRuntime) -> Result<(), Fail> {
     let rows = [
         (
-            "compress --columns 1 --rows 2 --bands 1 --bits 8 --bytes 1 --reduced a b",
+            "compress --columns=1 --rows=2 --bands=1 --bits=8 --bytes 1 --reduced a b",
             Rule::NeighbourOneColumn,
         ),
         (
-            "compress --columns 1 --rows 2 --bands 1 --bits 8 --bytes 1 --column-sums a b",
+            "compress --columns=1 --rows=2 --bands=1 --bits=8 --bytes 1 --column-sums a b",
             Rule::FullOneColumn,
         ),
     ];
@@ -109,7 +109,7 @@ fn a_file_that_is_none_is_refused(rt: HostRuntime) {
 
 #[test]
 fn a_sample_too_large_for_its_byte_is_refused(rt: HostRuntime) -> Result<(), Fail> {
-    let line = "compress --columns 2 --rows 1 --bands 1 --bits 9 a b";
+    let line = "compress --columns=2 --rows=1 --bands=1 --bits=9 a b";
     let file = run(&rt, line, &[0x00, 0xFF, 0x01, 0x00])?;
     let answer = run(&rt, "expand --bytes 1 b c", &file);
     assert_eq!(rt; answer.err(), Some(Fault::SampleRange { index: 1 }));

@@ -7,7 +7,7 @@ use cube_core::layout::{Layout, RawOrder};
 use std::test::Fail;
 
 /// The options that are required, and their files.
-const IMAGE: &str = "compress --columns 3 --rows 2 --bands 2 --bits 8 a b";
+const IMAGE: &str = "compress --columns=3 --rows=2 --bands=2 --bits=8 a b";
 
 /// The samples of that image, of two bytes each.
 const SAMPLES: [u8; 24] = [0; 24];
@@ -56,7 +56,7 @@ fn each_option_reaches_its_parameter(rt: HostRuntime) -> Result<(), Fail> {
 
 #[test]
 fn each_size_reaches_its_parameter(rt: HostRuntime) -> Result<(), Fail> {
-    let line = "compress --columns 2 --rows 3 --bands 1 --bits 16 --k 14 a b";
+    let line = "compress --columns=2 --rows=3 --bands=1 --bits=16 --k 14 a b";
     let file = run(&rt, line, &[0; 12])?;
     let told = String::from_utf8(run(&rt, "inspect", &file)?)?;
     assert!(rt; told.as_str().contains("\ncolumns 2\nrows 3\nbands 1\n"));
@@ -154,14 +154,14 @@ fn values_out_of_range_are_usage(rt: HostRuntime) -> Result<(), Fail> {
 #[test]
 fn sizes_out_of_range_are_usage(rt: HostRuntime) {
     for line in [
-        "compress --columns 0 --rows 2 --bands 2 --bits 8 a b",
-        "compress --columns 65537 --rows 2 --bands 2 --bits 8 a b",
-        "compress --columns 3 --rows 0 --bands 2 --bits 8 a b",
-        "compress --columns 3 --rows 65537 --bands 2 --bits 8 a b",
-        "compress --columns 3 --rows 2 --bands 0 --bits 8 a b",
-        "compress --columns 3 --rows 2 --bands 65537 --bits 8 a b",
-        "compress --columns 3 --rows 2 --bands 2 --bits 1 a b",
-        "compress --columns 3 --rows 2 --bands 2 --bits 17 a b",
+        "compress --columns=0 --rows=2 --bands=2 --bits=8 a b",
+        "compress --columns=65537 --rows=2 --bands=2 --bits=8 a b",
+        "compress --columns=3 --rows=0 --bands=2 --bits=8 a b",
+        "compress --columns=3 --rows=65537 --bands=2 --bits=8 a b",
+        "compress --columns=3 --rows=2 --bands=0 --bits=8 a b",
+        "compress --columns=3 --rows=2 --bands=65537 --bits=8 a b",
+        "compress --columns=3 --rows=2 --bands=2 --bits=1 a b",
+        "compress --columns=3 --rows=2 --bands=2 --bits=17 a b",
     ] {
         assert_eq!(rt; parsed(&rt, line).err(), Some(Fault::Usage), "{line}");
     }
@@ -185,30 +185,30 @@ fn other_lines_are_usage(rt: HostRuntime) {
         "inspect --help",
         "show show",
         "compress",
-        "compress --rows 2 --bands 2 --bits 8 a b",
-        "compress --columns 3 --bands 2 --bits 8 a b",
-        "compress --columns 3 --rows 2 --bits 8 a b",
-        "compress --columns 3 --rows 2 --bands 2 a b",
-        "compress --columns 3 --rows 2 --bands 2 --bits 8 a",
-        "compress --columns 3 --rows 2 --bands 2 --bits 8",
-        "compress --columns 3 --rows 2 --bands 2 --bits 8 a b c",
-        "compress --columns 3 --rows 2 --bands 2 --bits 8 a a",
-        "compress --columns 3 --rows 2 --bands 2 --bits 8 --columns 3 a b",
-        "compress --columns 3 --rows 2 --bands 2 --bits 8 --signed --signed a b",
-        "compress --columns 3 --rows 2 --bands 2 --bits 8 --signed=true a b",
-        "compress --columns 3 --rows 2 --bands 2 --bits 8 --sig a b",
-        "compress --columns 3 --rows 2 --bands 2 --bits 8 --prev 1 a b",
-        "compress --columns 3 --rows 2 --bands 2 --bits 8 --unknown a b",
-        "compress --columns 3 --rows 2 --bands 2 --bits 8 -x a b",
-        "compress --columns 3 --rows 2 --bands 2 --bits 8 --help a b",
-        "compress --columns 3 --rows 2 --bands 2 --bits 8 --restricted a b",
-        "compress --columns 3 --rows 2 --bands 2 --bits 8 --predictors 2 a b",
-        "compress --columns 3 --rows 2 --bands 2 --bits 8 --slots 8 a b",
+        "compress --rows=2 --bands=2 --bits=8 a b",
+        "compress --columns=3 --bands=2 --bits=8 a b",
+        "compress --columns=3 --rows=2 --bits=8 a b",
+        "compress --columns=3 --rows=2 --bands=2 a b",
+        "compress --columns=3 --rows=2 --bands=2 --bits=8 a",
+        "compress --columns=3 --rows=2 --bands=2 --bits=8",
+        "compress --columns=3 --rows=2 --bands=2 --bits=8 a b c",
+        "compress --columns=3 --rows=2 --bands=2 --bits=8 a a",
+        "compress --columns=3 --rows=2 --bands=2 --bits=8 --columns=3 a b",
+        "compress --columns=3 --rows=2 --bands=2 --bits=8 --signed --signed a b",
+        "compress --columns=3 --rows=2 --bands=2 --bits=8 --signed=true a b",
+        "compress --columns=3 --rows=2 --bands=2 --bits=8 --sig a b",
+        "compress --columns=3 --rows=2 --bands=2 --bits=8 --prev 1 a b",
+        "compress --columns=3 --rows=2 --bands=2 --bits=8 --unknown a b",
+        "compress --columns=3 --rows=2 --bands=2 --bits=8 -x a b",
+        "compress --columns=3 --rows=2 --bands=2 --bits=8 --help a b",
+        "compress --columns=3 --rows=2 --bands=2 --bits=8 --restricted a b",
+        "compress --columns=3 --rows=2 --bands=2 --bits=8 --predictors 2 a b",
+        "compress --columns=3 --rows=2 --bands=2 --bits=8 --slots 8 a b",
         "expand",
         "expand a",
         "expand a a",
         "expand a b c",
-        "expand --columns 3 a b",
+        "expand --columns=3 a b",
         "expand --bytes 1 --bytes 1 a b",
     ] {
         assert_eq!(rt; parsed(&rt, line).err(), Some(Fault::Usage), "{line}");
