@@ -70,7 +70,7 @@ usage=$'ccsds: 20 Usage\n'
 # ---- two samples of 200, one row below the other
 
 file=00000100020001110000080002a092590082269080
-two='--columns 1 --rows 2 --bands 1 --bits 8 --bytes 1 --previous 0 --reduced --column-sums --register 32'
+two='--columns 1 --rows=2 --bands 1 --bits 8 --bytes 1 --previous 0 --reduced --column-sums --register 32'
 printf '\xc8\xc8' > raw
 run 'two samples are compressed' 0 '' compress $two raw coded
 holds 'two samples are compressed' coded "$file"
@@ -81,10 +81,11 @@ printf 'old contents, longer than the file that comes' > coded
 run 'OUT is emptied' 0 '' compress $two raw coded
 holds 'OUT is emptied' coded "$file"
 
-cat > lines <<'END'
+tall=2
+cat > lines <<END
 user 0
 columns 1
-rows 2
+rows $tall
 bands 1
 sample unsigned
 bits 8
@@ -186,7 +187,7 @@ run 'help of a command' 1 "$usage" compress --help
 run '--version' 1 "$usage" --version
 run 'an unknown command' 1 "$usage" code raw out
 run 'a word too many' 1 "$usage" show raw
-run 'a required option left out' 1 "$usage" compress ${two/ --rows 2/} raw out
+run 'a required option left out' 1 "$usage" compress ${two/ --rows=2/} raw out
 run 'a value out of range' 1 "$usage" compress ${two/--bits 8/--bits 17} raw out
 run 'an option twice' 1 "$usage" compress $two --bits 8 raw out
 run 'a flag twice' 1 "$usage" compress $two --reduced raw out

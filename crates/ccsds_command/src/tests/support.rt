@@ -16,7 +16,7 @@ const ROOM: usize = 1000;
 
 /// Two samples of 200, one row below the other, and the file that they have.
 pub(crate) const TWO_EQUAL: &str =
-    "compress --columns 1 --rows 2 --bands 1 --bits 8 --bytes 1 --previous 0 --reduced --column-sums --register 32 a b";
+    "compress --columns 1 --rows=2 --bands 1 --bits 8 --bytes 1 --previous 0 --reduced --column-sums --register 32 a b";
 
 pub(crate) const TWO_EQUAL_FILE: [u8; 21] = [
     0x00, 0x00, 0x01, 0x00, 0x02, 0x00, 0x01, 0x11, 0x00, 0x00, 0x08, 0x00, 0x02, 0xA0, 0x92, 0x59,
