@@ -1,13 +1,11 @@
 -- The chosen option, out of the few k that the sum of the values leaves.
-use Rattle.std.proofs.Common.{◌≡◌, ℕ, zero, suc, ◌+◌, ◌-◌, ◌*◌, ◌^◌, ◌<◌, ◌≤◌, Bool, true, List, length, sym, subst, inl, inr, arith}
+use Rattle.std.proofs.Common.{◌≡◌, ℕ, suc, ◌+◌, ◌-◌, ◌*◌, ◌^◌, ◌<◌, ◌≤◌, Bool, true, List, length, subst, inl, inr, arith}
 use Rattle.std.proofs.lemmas.Bool.{cases_lt}
-use Rattle.std.proofs.lemmas.Nat.{mul-le}
 use Rattle.block_adaptive.specs.declared.options.CodeSet.{CodeSet}
 use Rattle.block_adaptive.specs.declared.options.Choice.{Choice}
 use Rattle.block_adaptive.specs.declared.options.Choice.TheVariants.{Second, Split}
-use Rattle.block_adaptive.specs.Options.{width, splits, quotient_codes, cost}
+use Rattle.block_adaptive.specs.Options.{splits, quotient_codes, cost}
 use Rattle.block_adaptive.specs.Chosen.{chosen_option}
-use Rattle.block_adaptive.proofs.Costs.{split_least}
 use Rattle.block_adaptive.proofs.Slopes.{falls_to, rises_from, second_longer}
 use Rattle.block_adaptive.proofs.Tried.{LeadsTried, leads_all, lead_cost}
 
@@ -35,14 +33,7 @@ second_behind s vs sum first longer h e =
       ],
     )
 
--- no k from here on has a shorter text, since its values alone are as long
-pub stopped : (s : CodeSet) (vs : List ℕ) (sum first k : ℕ) (longer : Bool) (o : Choice) → IsSearch s vs sum first longer → LeadsTried s vs longer first k o → k ≤ splits s → cost s o vs ≤ width s + (k + 1) * length vs → o ≡ chosen_option s vs
-stopped s vs sum first k longer o h leads few short =
-    leads_all s vs longer first k o leads few h.within (below_first s vs sum first longer h) (second_behind s vs sum first longer h) (λ j from in_set.
-    let more : (k + 1) * length vs ≤ (j + 1) * length vs = mul-le (k + 1) (length vs) (j + 1) (length vs) (omega arith) (omega arith) in
-    omega (arith, split_least s j vs))
-
--- or since the sum of the values is small
+-- no later k is shorter, since the sum of the values is small
 pub ended : (s : CodeSet) (vs : List ℕ) (sum first k : ℕ) (longer : Bool) (o : Choice) → IsSearch s vs sum first longer → LeadsTried s vs longer first k o → k ≤ splits s → (k < splits s → k ≡ first + 3) → o ≡ chosen_option s vs
 ended s vs sum first k longer o h leads few last =
     leads_all s vs longer first k o leads few h.within (below_first s vs sum first longer h) (second_behind s vs sum first longer h) (λ j from in_set.

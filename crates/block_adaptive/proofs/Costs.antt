@@ -1,12 +1,9 @@
 -- The lengths of texts.
-use Rattle.std.proofs.Common.{ltb, ◌≡◌, ℕ, zero, suc, ◌+◌, ◌*◌, ◌/◌, ◌^◌, ◌<◌, ◌≤◌, true, false, List, [], ◌∷◌, ◌++◌, length, drop, replicate, get_or, refl, ◌∙◌, arith, add-one, drop-cons}
-use Rattle.std.proofs.lemmas.Nat.{mul-le}
+use Rattle.std.proofs.Common.{◌≡◌, ℕ, zero, suc, ◌+◌, ◌*◌, ◌/◌, ◌^◌, ◌<◌, ◌≤◌, true, false, List, [], ◌∷◌, ◌++◌, length, drop, replicate, get_or, refl, ◌∙◌, arith, add-one, drop-cons}
 use Rattle.std.proofs.lemmas.List.{length-append, length-replicate}
 use Rattle.block_adaptive.specs.declared.options.CodeSet.{CodeSet}
 use Rattle.block_adaptive.specs.declared.options.Choice.TheVariants.{Uncoded, Second, Split}
 use Rattle.header_bits.specs.Bits.{bits_of, fundamental}
-use Rattle.block_adaptive.specs.Chosen.{shortest}
-use Rattle.std.proofs.lemmas.Bool.{le-ltb}
 use Rattle.block_adaptive.specs.Options.{width, quotient_codes, low_groups, pair_codes, pair_number, identifier, coded, option_text, cost}
 use Rattle.header_bits.proofs.Numbers.{length-bits_of}
 
@@ -70,24 +67,9 @@ unfolding pair_codes
 pairs_end total whole [] e h = omega (arith, h)
 pairs_end total whole (a ∷ left) e h = absurd (omega arith)
 
--- ---- no later k is shorter
+-- ---- a value has a bit at least
 
 pub quotients_least : (k : ℕ) (vs : List ℕ) → length vs ≤ length (quotient_codes k vs)
 unfolding quotient_codes
 quotients_least k [] = omega arith
 quotients_least k (v ∷ vs) = omega (arith, quotients_cons k v vs, quotients_least k vs)
-
-pub split_least : (s : CodeSet) (k : ℕ) (vs : List ℕ) → width s + (k + 1) * length vs ≤ cost s (Split k) vs
-split_least s k vs =
-    let e : (k + 1) * length vs ≡ k * length vs + length vs = omega arith in
-    omega (arith, split_cost s k vs, quotients_least k vs)
-
-pub shortest_stays : (s : CodeSet) (vs : List ℕ) (k more : ℕ) → cost s (shortest s vs k) vs ≤ width s + (k + 1) * length vs → shortest s vs (more + k) ≡ shortest s vs k
-unfolding shortest
-shortest_stays s vs k zero le = (let e : 0 + k ≡ k = omega arith in rw e refl)
-shortest_stays s vs k (suc more) le =
-    let e : suc more + k ≡ suc (more + k) = omega arith in
-    let before = shortest_stays s vs k more le in
-    let grows : (k + 1) * length vs ≤ (more + k + 1) * length vs = mul-le (k + 1) (length vs) (more + k + 1) (length vs) (omega arith) (omega arith) in
-    let longer : ltb (cost s (Split (more + k)) vs) (cost s (shortest s vs k) vs) ≡ false = le-ltb _ _ (omega (arith, split_least s (more + k) vs)) in
-    rw (e, before, longer) refl

@@ -1,7 +1,7 @@
 -- How the cost of split-sample falls and rises along k.
-use Rattle.std.proofs.Common.{◌≡◌, ℕ, zero, suc, ◌+◌, ◌*◌, ◌/◌, ◌^◌, ◌<◌, ◌≤◌, List, [], ◌∷◌, length, refl, sym, subst, inl, inr, arith, lit<}
+use Rattle.std.proofs.Common.{◌≡◌, ℕ, zero, suc, ◌+◌, ◌*◌, ◌/◌, ◌^◌, ◌<◌, ◌≤◌, List, [], ◌∷◌, length, sym, ap, ◌∙◌, subst, inl, inr, arith, lit<}
 use Rattle.std.proofs.lemmas.Bool.{cases_lt}
-use Rattle.std.proofs.lemmas.Nat.{mul-le, shr-shr, pow_pos}
+use Rattle.std.proofs.lemmas.Nat.{mul-le, shr-shr, pow_pos, pow-add}
 use Rattle.std.proofs.Math.Nat.{lt-div-mul-add, div-mul-le_self, pow-succ', pow-le-pow_right}
 use Rattle.block_adaptive.specs.declared.options.CodeSet.{CodeSet}
 use Rattle.block_adaptive.specs.declared.options.Choice.TheVariants.{Second, Split}
@@ -95,6 +95,19 @@ rises_from s (suc more) k sum vs whole small =
     let all : length vs * 2 ^ k ≤ length vs * 2 ^ (more + k) = mul-le (length vs) (2 ^ k) (length vs) (2 ^ (more + k)) (omega arith) wide in
     let last = rises s (more + k) sum vs whole (omega arith) in
     rw e (omega (arith, last, rises_from s more k sum vs whole small))
+
+-- a k that is so far below the sum's digits lies where it falls
+pub near_falls : (sum len a b first : ℕ) → 2 ^ a ≤ sum → len < 2 * 2 ^ b → first + (b + 2) ≤ a → len * 2 ^ (first + 1) < sum
+near_falls sum len a b first least most le =
+    let p : ℕ = 2 ^ (first + 1) in
+    let size : b + 1 + (first + 1) ≡ first + (b + 2) = omega arith in
+    let e : b + 1 ≡ suc b = omega arith in
+    let double : 2 ^ (b + 1) ≡ 2 * 2 ^ b = ap (λ (n : ℕ). 2 ^ n) e ∙ pow-succ' 2 b in
+    let whole : 2 ^ (first + (b + 2)) ≡ 2 * 2 ^ b * p = ap (λ (n : ℕ). 2 ^ n) (sym size) ∙ pow-add 2 (b + 1) (first + 1) ∙ ap (λ (n : ℕ). n * p) double in
+    let up : 2 ^ (first + (b + 2)) ≤ 2 ^ a = pow-le-pow_right {n = 2} (lit< tt) {i = first + (b + 2)} {j = a} le in
+    let pos : 1 ≤ p = pow_pos (first + 1) in
+    let under : (len + 1) * p ≤ 2 * 2 ^ b * p = mul-le (len + 1) p (2 * 2 ^ b) p (omega arith) (omega arith) in
+    omega arith
 
 -- ---- the second extension
 

@@ -104,7 +104,12 @@ fn first_split(splits: u32, sum: u64, len: u64) -> u32
     ensures falls { 0 < result → len * 2 ^ (result + 1) < sum }
     ensures rises { result + 1 < splits → sum ≤ len * 2 ^ (result + 2) }
 {
-    let mut first = 0;
+    // From so near that about as many steps are left for each block: a processor foresees them.
+    let mut first = if sum > 0 && len > 0 && splits > 0 {
+        sum.ilog2().saturating_sub(len.ilog2() + 2).min(splits - 1)
+    } else {
+        0
+    };
     while first + 1 < splits && len << (first + 2) < sum {
         first += 1;
     }
@@ -114,8 +119,7 @@ fn first_split(splits: u32, sum: u64, len: u64) -> u32
 /// The option with the shortest text: of several uncoded first, then the second extension, then the
 /// smallest k.
 ///
-/// The sum of the values tells of all k but three that they are longer. No k is tried whose values
-/// alone, of k + 1 bits or more each, are as long as what was found.
+/// The sum of the values tells of all k but three that they are no shorter.
 pub(crate) fn choose(set: &CodeSet, block: &[u16]) -> Choice
     requires bits { set.now.bits ≤ 16 }
     requires few { length block.now ≤ 64 }
@@ -137,9 +141,6 @@ pub(crate) fn choose(set: &CodeSet, block: &[u16]) -> Choice
         }
     }
     for k in first..splits.min(first + 3) {
-        if least <= u64::from(width) + (u64::from(k) + 1) * len {
-            return best;
-        }
         let cost = option_cost(set, block, Choice::Split(k));
         if cost < least {
             best = Choice::Split(k);

@@ -1,4 +1,4 @@
-use Rattle.std.proofs.Common.{◌≡◌, ◌+◌, ◌-◌, ◌*◌, ◌/◌, ◌%◌, ◌^◌, ◌<◌, ◌≤◌, refl, arith}
+use Rattle.std.proofs.Common.{◌-◌, ◌/◌, ◌^◌, ◌≤◌, refl, arith}
 use Rattle.block_adaptive.proofs.Looking.{low_used, low_below, low_shifted, quotient_shifted, word_below, low_few}
 use Rattle.block_adaptive.proofs.ahead.whole_ahead.Goals as goal
 

@@ -1,4 +1,4 @@
-use Rattle.std.proofs.Common.{◌≡◌, ◌∙◌, ◌<◌, length, drop, arith, sym, Ok}
+use Rattle.std.proofs.Common.{◌≡◌, ◌∙◌, ◌<◌, length, drop, arith}
 use Rattle.std.proofs.lemmas.Result.{err_from_is_err_and}
 use Rattle.block_adaptive.specs.Ahead.{used}
 use Rattle.block_adaptive.specs.Reading.{Site, site_of, fundamental_at}

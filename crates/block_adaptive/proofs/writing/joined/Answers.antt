@@ -1,4 +1,3 @@
-use Rattle.std.proofs.Common.{◌+◌, ◌<◌, ◌^◌, subst, sym}
 use Rattle.header_bits.proofs.Words.{pushed_behind, joined_is, joined_below}
 use Rattle.block_adaptive.proofs.writing.joined.Goals as goal
 

@@ -1,6 +1,4 @@
-use Rattle.std.proofs.Common.{◌≡◌, ◌+◌, ◌<◌, arith}
-use Rattle.block_adaptive.specs.Texts.{Cut}
-use Rattle.block_adaptive.specs.Taken.{Packed}
+use Rattle.std.proofs.Common.{◌+◌, ◌<◌, arith}
 use Rattle.block_adaptive.proofs.Stored.{held_inside, held_few, stored_after}
 use Rattle.block_adaptive.proofs.block_writer.BlockWriter.pack.Goals as goal
 

@@ -1,6 +1,4 @@
-use Rattle.std.proofs.Common.{◌≡◌, ◌+◌, ◌<◌, take, set, arith}
-use Rattle.block_adaptive.specs.Texts.{Cut}
-use Rattle.block_adaptive.specs.Taken.{Packed}
+use Rattle.std.proofs.Common.{◌+◌, ◌<◌, take, set, arith}
 use Rattle.block_adaptive.proofs.Stored.{held_inside, held_few, stored_after}
 use Rattle.block_adaptive.proofs.block_writer.BlockWriter.put_last.Goals as goal
 
