@@ -2,8 +2,8 @@
 
 ghost use Rattle.std.specs.Prelude.{◌≡◌, ◌*◌, ◌%◌, length};
 
-use block_adaptive::options::Choice;
 use crate::blocks::{Settings, params_of, read};
+use block_adaptive::options::Choice;
 use cube_core::fault::Fault;
 use header_bits::bit_writer::BitWriter;
 use std::alloc::Global;

@@ -2,11 +2,11 @@
 
 ghost use Rattle.std.specs.Prelude.{◌≡◌};
 
-use coder_pipe::decode::decode;
-use coder_pipe::encode::encode_one;
 use crate::block_rows::{block_rows, run_rows};
 use crate::rows::{Row, small_rows, weight_rows};
 use crate::settings::{COMMON, Settings, Text};
+use coder_pipe::decode::decode;
+use coder_pipe::encode::encode_one;
 use cube_core::cube::Cube;
 use cube_core::fault::Fault;
 use cube_core::layout::{Layout, RawOrder};

@@ -6,8 +6,6 @@ ghost use Rattle.header_bits.specs.Lawful.{IsLawful};
 ghost use Rattle.header_bits.specs.Reach.{here};
 ghost use Rattle.predict_core.specs.Rows.{sizes, unsigned};
 
-use predict_core::band::Band;
-use predict_core::residual::{map_residual, unmap_residual};
 use cube_core::cube::Cube;
 use cube_core::cursor::Places;
 use cube_core::fault::Fault;
@@ -16,6 +14,8 @@ use cube_core::layout::{Layout, RawOrder};
 use cube_core::order::{Order, Place};
 use cube_core::shape::Shape;
 use header_bits::params::{Coder, CountStart, Params, WeightStart};
+use predict_core::band::Band;
+use predict_core::residual::{map_residual, unmap_residual};
 use std::alloc::Global;
 use std::process::Abort;
 use std::test::Fail;

@@ -3,7 +3,6 @@
 ghost use Rattle.std.specs.Prelude.{◌≡◌, ◌+◌, ◌^◌, ◌<◌, ◌≤◌, length};
 ghost use Rattle.sample_adaptive.specs.Settings.{AreForSamples};
 
-use sample_adaptive::stats::Stats;
 use cube_core::fault::Fault;
 use cube_core::kind::Kind;
 use cube_core::order::Order;
@@ -11,6 +10,7 @@ use cube_core::shape::Shape;
 use header_bits::bit_reader::BitReader;
 use header_bits::bit_writer::BitWriter;
 use header_bits::params::{Coder, CountStart, Params, WeightStart};
+use sample_adaptive::stats::Stats;
 use std::alloc::Global;
 use std::process::Abort;
 use std::test::Fail;
