@@ -1,6 +1,6 @@
 //! Bits at the end of a growing row of bytes.
 
-ghost use Rattle.std.specs.Prelude.{◌≡◌, ◌+◌, ◌-◌, ◌*◌, ◌/◌, ◌%◌, ◌^◌, ◌<◌, ◌≤◌, ◌++◌, [], length, vec_len, vec_capacity, IsOk, IfErr, OnOk, OnErr};
+ghost use Rattle.std.specs.Prelude.{◌≡◌, ◌+◌, ◌-◌, ◌*◌, ◌/◌, ◌%◌, ◌^◌, ◌<◌, ◌≤◌, ◌++◌, [], length, vec_len, vec_capacity, IsOk, IsTrue, IfErr, OnOk, OnErr};
 ghost use Rattle.cube_core.specs.declared.fault.Fault.TheVariants.{WantOfMemory};
 ghost use Rattle.header_bits.specs.Bits.{bits_of, bits_of_bytes};
 
@@ -102,11 +102,23 @@ impl BitWriter {
             self.held += n;
             return Ok(());
         }
-        if self.ready < 64 {
-            self.reserve(u64::from(n))?;
+        if self.ready < 64 && !self.has_reserved(u64::from(n)) {
+            return Err(Fault::WantOfMemory);
         }
         self.place(bits, n);
         Ok(())
+    }
+
+    /// Makes room as `reserve` does, and tells whether it is there: an answer that needs no memory in the
+    /// loops that push.
+    #[inline(never)]
+    fn has_reserved(&mut self, bits: u64) -> bool
+        ensures same { self.new.bits ≡ self.old.bits }
+        ensures kept { self.old.room ≤ self.new.room }
+        ensures room { IsTrue result → bits ≤ self.new.room }
+        ensures within { bits ≤ self.old.room → IsTrue result }
+    {
+        self.reserve(bits).is_ok()
     }
 
     /// Appends the `n` bits of a number, for which there is room.
