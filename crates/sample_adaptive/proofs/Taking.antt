@@ -16,7 +16,7 @@ use Rattle.sample_adaptive.specs.Taken.{Counts, AreCounts, HasTaken, code_by, co
 use Rattle.sample_adaptive.proofs.Counting.{start_in_range}
 use Rattle.sample_adaptive.proofs.Bodies.{band_push, from_push}
 
-pub ne-eqb : (a b : ℕ) → (a ≡ b → ⊥) → eqb a b ≡ false
+ne-eqb : (a b : ℕ) → (a ≡ b → ⊥) → eqb a b ≡ false
 ne-eqb a b h = grind (arith, nat_tests)
 
 -- ---- the code of the next number

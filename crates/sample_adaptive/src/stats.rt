@@ -18,30 +18,24 @@ use std::alloc::Global;
 use std::marker::Model;
 
 /// The sample-adaptive coder of one image, which takes the numbers of each band in turn.
-///
-/// The statistics of the band whose number was counted last stand apart from those of all bands, where
-/// its own are out of date: so a loop over the numbers of one band can hold them in registers.
 #[derive(Drop)]
 pub struct Stats {
     bits: u32,
     umax: u32,
     gamma_star: u32,
     bands: Vec<Statistics>,
-    last: u32,
-    of_last: Statistics,
     /// What a `get` was refused for; every later one is refused for the same.
     refused: Option<Fault>,
 }
 
 impl Model for Stats {
-    ghost use Rattle.std.specs.Prelude.{◌<◌, length, slice_set};
     ghost use Rattle.sample_adaptive.specs.Taken.{Counts, AreCounts};
 
     ghost Value = { Counts };
 
-    ghost view = { λ s. record { bits = s.bits; umax = s.umax; gamma_star = s.gamma_star; bands = slice_set s.bands.items s.last s.of_last; refused = s.refused } };
+    ghost view = { λ s. record { bits = s.bits; umax = s.umax; gamma_star = s.gamma_star; bands = s.bands.items; refused = s.refused } };
 
-    ghost invariant = { λ s. (s.last < length s.bands.items) × AreCounts (record { bits = s.bits; umax = s.umax; gamma_star = s.gamma_star; bands = slice_set s.bands.items s.last s.of_last; refused = s.refused }) };
+    ghost invariant = { λ s. AreCounts (record { bits = s.bits; umax = s.umax; gamma_star = s.gamma_star; bands = s.bands.items; refused = s.refused }) };
 }
 
 impl Stats {
@@ -63,14 +57,11 @@ impl Stats {
                 start,
             } => {
                 let bands = first_of_all(alloc, *gamma_zero, start, params.shape.bands())?;
-                let of_last = bands[0];
                 Ok(Stats {
                     bits: params.kind.bits(),
                     umax: *umax,
                     gamma_star: *gamma_star,
                     bands,
-                    last: 0,
-                    of_last,
                     refused: None,
                 })
             }
@@ -145,7 +136,7 @@ impl Stats {
         } else {
             Code {
                 limit: self.umax,
-                low: parameter(self.bits, self.statistics(z)),
+                low: parameter(self.bits, self.bands[z as usize]),
                 bits: self.bits,
             }
         }
@@ -157,24 +148,8 @@ impl Stats {
         ensures { self.new ≡ counted self.old z t number }
     {
         if t > 0 {
-            let counted = next(self.gamma_star, self.statistics(z), number);
-            if z != self.last {
-                self.bands[self.last as usize] = self.of_last;
-                self.last = z;
-            }
-            self.of_last = counted;
-        }
-    }
-
-    /// The statistics of band `z`.
-    fn statistics(&self, z: u32) -> Statistics
-        requires { z < length self.now.bands }
-        ensures { result ≡ of_band self.now.bands z }
-    {
-        if z == self.last {
-            self.of_last
-        } else {
-            self.bands[z as usize]
+            let band = self.bands[z as usize];
+            self.bands[z as usize] = next(self.gamma_star, band, number);
         }
     }
 }
