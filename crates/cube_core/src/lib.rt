@@ -13,6 +13,4 @@ mod pour;
 mod raw;
 mod scale;
 pub mod shape;
-#[cfg(test)]
-mod tests;
 pub mod worked;

@@ -1,0 +1,7 @@
+//! What the lowest crates do at values from outside.
+
+mod cubes;
+mod faults;
+mod headers;
+mod reading;
+mod writing;

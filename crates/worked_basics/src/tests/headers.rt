@@ -1,0 +1,126 @@
+//! Headers written and read, and what is refused.
+
+use cube_core::fault::{Fault, Field, Rule};
+use cube_core::kind::Kind;
+use cube_core::order::Order;
+use cube_core::shape::Shape;
+use header_bits::header::{read_header, write_header};
+use header_bits::params::{Coder, CountStart, Params, WeightStart};
+use std::test::Fail;
+
+/// The header of a lone sample of eight bits.
+const ONE_SAMPLE: [u8; 19] = [
+    0x00, // user-defined data
+    0x00, 0x01, 0x00, 0x01, 0x00, 0x01, // one column, row and band
+    0x11, // unsigned, eight bits, band sequential
+    0x00, 0x00, // no depth of interleaving
+    0x08, 0x00, // words of one byte, the sample-adaptive coder
+    0x02, // no previous bands, reduced mode
+    0xA0, // column-oriented sums, a register of 32 bits
+    0x92, 0x59, // 13 fractional bits, an interval of 2^6, exponents -1 and 3
+    0x00, // the usual weight start
+    0x82, 0x26, // unary limit 16, rescaling size 6, first exponent 1, constant 3
+];
+
+fn one_sample() -> Result<Params, Fault> {
+    Ok(Params {
+        shape: Shape::new(1, 1, 1)?,
+        kind: Kind::new(false, 8)?,
+        order: Order::Bsq,
+        user: 0,
+        word: 1,
+        previous: 0,
+        reduced: true,
+        column: true,
+        register: 32,
+        omega: 13,
+        interval_log: 6,
+        vmin: -1,
+        vmax: 3,
+        start: WeightStart::Usual,
+        coder: Coder::Sample {
+            umax: 16,
+            gamma_star: 6,
+            gamma_zero: 1,
+            start: CountStart::Constant(3),
+        },
+    })
+}
+
+#[test]
+fn one_sample_is_written(rt: HostRuntime) -> Result<(), Fail> {
+    let params = one_sample()?;
+    assert!(rt; params.check().is_ok());
+    let bytes = write_header(rt.alloc(), &params)?;
+    assert_eq!(rt; bytes.as_slice(), ONE_SAMPLE.as_slice());
+    Ok(())
+}
+
+#[test]
+fn any_depth_is_read_and_zeros_are_written(rt: HostRuntime) -> Result<(), Fail> {
+    let mut bytes = ONE_SAMPLE;
+    bytes[8] = 0x12;
+    bytes[9] = 0x34;
+    let (params, size) = read_header(rt.alloc(), &bytes)?;
+    assert_eq!(rt; size, 19);
+    assert_eq!(rt; params.shape.columns(), 1);
+    assert_eq!(rt; params.vmin, -1);
+    let again = write_header(rt.alloc(), &params)?;
+    assert_eq!(rt; again.as_slice(), ONE_SAMPLE.as_slice());
+    Ok(())
+}
+
+#[test]
+fn refused_headers(rt: HostRuntime) {
+    for (place, byte, wanted) in [
+        (11, 0x01, Fault::Reserved { bit: 95 }),
+        (
+            16,
+            0x20,
+            Fault::Disagree {
+                rule: Rule::DefaultWithTable,
+            },
+        ),
+        (16, 0x80, Fault::Reserved { bit: 128 }),
+        (
+            17,
+            0x3A,
+            Fault::FieldRange {
+                field: Field::Umax,
+                value: 7,
+            },
+        ),
+    ] {
+        let mut bytes = ONE_SAMPLE;
+        bytes[place] = byte;
+        assert_eq!(rt;
+            read_header(rt.alloc(), &bytes).err(),
+            Some(wanted),
+            "at {place}"
+        );
+    }
+    assert_eq!(rt;
+        read_header(rt.alloc(), &ONE_SAMPLE[..18]).err(),
+        Some(Fault::ShortHeader)
+    );
+}
+
+#[test]
+fn refused_parameters(rt: HostRuntime) -> Result<(), Fail> {
+    let mut params = one_sample()?;
+    params.vmin = -7;
+    let least = Fault::FieldRange {
+        field: Field::VMin,
+        value: -7,
+    };
+    assert_eq!(rt; params.check(), Err(least));
+    params.vmin = 3;
+    params.vmax = 2;
+    assert_eq!(rt;
+        params.check(),
+        Err(Fault::Disagree {
+            rule: Rule::ExponentOrder
+        })
+    );
+    Ok(())
+}

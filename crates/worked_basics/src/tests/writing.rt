@@ -1,0 +1,43 @@
+//! Bits pushed, and refused.
+
+use cube_core::fault::Fault;
+use header_bits::bit_writer::BitWriter;
+
+#[test]
+fn a_word_behind_one_bit(rt: HostRuntime) {
+    let mut writer = BitWriter::new(rt.alloc());
+    assert!(rt; writer.push(1, 1).is_ok());
+    assert!(rt; writer.push(u64::MAX, 64).is_ok());
+    assert_eq!(rt; writer.bit_count(), 65);
+    assert!(rt; writer.push(0, 7).is_ok());
+    assert!(rt;
+        bytes_are(
+            writer,
+            &[0xFF, 0xFF, 0xFF, 0xFF, 0xFF, 0xFF, 0xFF, 0xFF, 0x80]
+        )
+    );
+}
+
+#[test]
+fn reserved_bits_are_pushed(rt: HostRuntime) {
+    let mut writer = BitWriter::new(rt.alloc());
+    assert!(rt; writer.reserve(72).is_ok());
+    for number in [0x5, 0x2, 0x11, 0, 0x7f] {
+        assert!(rt; writer.push(number, 14).is_ok());
+    }
+    assert!(rt; writer.push(0, 0).is_ok());
+    assert!(rt; writer.push(3, 2).is_ok());
+    assert_eq!(rt; writer.bit_count(), 72);
+    assert!(rt; bytes_are(writer, &[0, 20, 0, 32, 4, 64, 0, 1, 255]));
+}
+
+#[test]
+fn more_than_the_most_bits_are_refused(rt: HostRuntime) {
+    let mut writer = BitWriter::new(rt.alloc());
+    assert_eq!(rt; writer.reserve(u64::MAX), Err(Fault::WantOfMemory));
+    assert_eq!(rt; writer.bit_count(), 0);
+}
+
+fn bytes_are(writer: BitWriter, wanted: &[u8]) -> bool {
+    writer.bit_count() % 8 == 0 && writer.into_bytes().as_slice() == wanted
+}
