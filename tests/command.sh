@@ -176,6 +176,43 @@ check 'a file that may not grow past 1024 bytes' 4 $'ccsds: 19 Write 1024\n' $?
 head -c 1024 zeros > first
 same 'a file that may not grow past 1024 bytes' first out
 
+# ---- a device that fills up in mid-write
+
+# Runs the program with a device of 64 KiB mounted on the folder device, in a namespace of its own, and keeps
+# what it left in device/out.
+on_small_device() {
+    unshare -rm bash -c '
+        mount -t tmpfs -o size=64k none device && "$@" 2> stderr
+        status=$?
+        cp device/out left
+        exit $status' - "$program" "$@"
+}
+
+# Holds a run that ended with a status to having written the front of a file, as much as it says.
+fills_up() {
+    local name=$1 whole=$2 status=$3 size
+    size=$(wc -c < left)
+    check "$name" 4 "ccsds: 19 Write $size"$'\n' "$status"
+    if [ "$size" -eq 0 ] || [ "$size" -ge "$(wc -c < "$whole")" ]; then
+        complain "$name: it did not fill up in mid-write, but at byte $size"
+    fi
+    head -c "$size" "$whole" > first
+    same "$name" first left
+}
+
+mkdir device
+if unshare -rm mount -t tmpfs -o size=64k none device 2> /dev/null; then
+    head -c 120000 /dev/urandom > raw # 40 columns, 50 rows, 30 bands of two bytes
+    large='--columns 40 --rows 50 --bands 30 --bits 16'
+    run 'a cube larger than the device' 0 '' compress $large raw coded
+    on_small_device compress $large raw device/out
+    fills_up 'a device that fills up' coded $?
+    on_small_device expand coded device/out
+    fills_up 'a device that fills up, expanded to' raw $?
+else
+    echo 'command.sh: a device that fills up was not tried, since none can be mounted here'
+fi
+
 # ---- words that are no lawful command leave OUT as it was
 
 echo something > out

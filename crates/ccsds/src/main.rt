@@ -2,16 +2,16 @@
 #![tactic(auto)]
 
 ghost use Rattle.std.specs.Prelude.{IfOk};
-ghost use Rattle.ccsds_command.specs.Settings.{AreInRange};
+ghost use Rattle.command_words.specs.Settings.{AreInRange};
 
 use ccsds_command::compress::run_compress;
 use ccsds_command::expand::run_expand;
 use ccsds_command::inspect::run_inspect;
 use ccsds_command::report::{fault_line, status_of};
-use ccsds_command::settings::Settings;
 use ccsds_command::show::run_show;
 use ccsds_command::stream::{ReaderSource, WriterSink};
-use ccsds_command::words::settings;
+use command_settings::settings::Settings;
+use command_words::words::settings;
 use cube_core::fault::Fault;
 use std::fs::File;
 use std::io::Write;

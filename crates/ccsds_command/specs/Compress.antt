@@ -10,7 +10,7 @@ use Rattle.header_bits.specs.Reach.{here}
 use Rattle.header_bits.specs.Lawful.{IsLawful, params_fault}
 use Rattle.coder_pipe.specs.File.{file_of}
 use Rattle.coder_pipe.specs.Files.{IsCubeOf}
-use Rattle.ccsds_command.specs.declared.compress.CompressSettings.{CompressSettings}
+use Rattle.command_settings.specs.declared.settings.CompressSettings.{CompressSettings}
 use Rattle.ccsds_command.specs.Devices.{Took, Rose, IsFront, IsAll}
 use Rattle.ccsds_command.specs.Writing.{IsCutShort}
 

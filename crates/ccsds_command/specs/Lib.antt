@@ -4,7 +4,6 @@ pub mod Everything
 pub mod Expand
 pub mod Inspect
 pub mod Reading
-pub mod Settings
 pub mod Show
 pub mod Status
 pub mod Writing

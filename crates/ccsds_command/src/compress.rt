@@ -13,19 +13,10 @@ use crate::sink::Sink;
 use crate::source::Source;
 use crate::writing::write_all;
 use coder_pipe::encode::encode_one;
+use command_settings::settings::CompressSettings;
 use cube_core::cube::Cube;
 use cube_core::fault::Fault;
-use cube_core::layout::Layout;
-use header_bits::params::Params;
 use std::alloc::Global;
-
-/// How a cube is compressed.
-#[derive(Drop)]
-pub struct CompressSettings {
-    pub params: Params,
-    /// How the samples lie in the raw bytes.
-    pub layout: Layout,
-}
 
 /// Reads a cube's raw bytes, codes it, and writes the file.
 ///

@@ -7,16 +7,11 @@ pub mod expand;
 mod hexadecimal;
 pub mod inspect;
 mod lines;
-mod options;
 mod reading;
 pub mod report;
-pub mod settings;
 pub mod show;
 pub mod sink;
 pub mod source;
 pub mod stream;
-#[cfg(test)]
-mod tests;
-pub mod words;
 pub mod worked;
 mod writing;

@@ -1,20 +1,14 @@
-//! The engines on sources and sinks over memory.
+//! What `show` writes, and what it refuses.
 
 ghost use Rattle.std.specs.Prelude.{◌≡◌, ◌<◌, [], Some};
 
-use crate::cut::{CutSink, CutSource};
-use crate::report::{fault_line, status_of};
-use crate::show::run_show;
-use crate::sink::Sink;
-use crate::source::{Failed, Source};
-use crate::stream::{ReaderSource, WriterSink};
-use cube_core::fault::{Fault, Field, Rule};
+use ccsds_command::cut::{CutSink, CutSource};
+use ccsds_command::show::run_show;
+use ccsds_command::sink::Sink;
+use ccsds_command::source::{Failed, Source};
+use ccsds_command::stream::{ReaderSource, WriterSink};
+use cube_core::fault::Fault;
 use std::test::Fail;
-
-mod engines;
-mod headers;
-mod support;
-mod words;
 
 /// Two samples of 200, one row below the other.
 const TWO_EQUAL: [u8; 8] = [0, 1, 0, 2, 0, 1, 0xC8, 0xC8];
@@ -156,50 +150,5 @@ fn streams_are_sources_and_sinks(rt: HostRuntime) -> Result<(), Fail> {
     let mut rest = [0; 4];
     assert_eq!(rt; source.read(&mut rest), Ok(0));
     assert_eq!(rt; out.write(&[]), Ok(0));
-    Ok(())
-}
-
-#[test]
-fn faults_have_their_status(rt: HostRuntime) {
-    let field = Field::Umax;
-    let rule = Rule::StartConstant;
-    let rows = [
-        (Fault::ShortHeader, 2),
-        (Fault::Reserved { bit: 95 }, 2),
-        (Fault::FieldRange { field, value: 7 }, 2),
-        (Fault::Disagree { rule }, 2),
-        (Fault::TableElsewhere, 2),
-        (Fault::Truncated { bit: 160 }, 2),
-        (Fault::BadCode { place: 1 }, 2),
-        (Fault::BadOption { block: 0 }, 2),
-        (Fault::RunPastSegment { block: 0 }, 2),
-        (Fault::BadFill, 2),
-        (Fault::TooLong { bits: 12 }, 2),
-        (Fault::WantOfMemory, 3),
-        (Fault::SampleRange { index: 0 }, 2),
-        (Fault::RawLength { wanted: 6, had: 0 }, 2),
-        (Fault::BadDeal { band: 1 }, 2),
-        (Fault::SpawnRefused, 3),
-        (
-            Fault::Stopped {
-                predictor: 0,
-                sent: 2,
-            },
-            2,
-        ),
-        (Fault::Read, 4),
-        (Fault::Write { written: 5 }, 4),
-        (Fault::Usage, 1),
-    ];
-    for (fault, status) in rows {
-        assert_eq!(rt; status_of(&fault), status, "of {fault}");
-    }
-}
-
-#[test]
-fn a_fault_is_a_line(rt: HostRuntime) -> Result<(), Fail> {
-    let fault = Fault::RawLength { wanted: 6, had: 0 };
-    let line = fault_line(rt.alloc(), &fault)?;
-    assert_eq!(rt; line.as_slice(), b"ccsds: 14 RawLength 6 0\n".as_slice());
     Ok(())
 }

@@ -5,13 +5,12 @@ ghost use Rattle.cube_core.specs.declared.fault.Fault.TheVariants.{Usage, WantOf
 ghost use Rattle.cube_core.specs.Shape.{InRange};
 ghost use Rattle.cube_core.specs.Layout.{IsLayout};
 ghost use Rattle.header_bits.specs.Lawful.{IsExponent};
-ghost use Rattle.ccsds_command.specs.Settings.{AreInRange, AreParams, IsDepth, IsCoderInRange};
+ghost use Rattle.command_words.specs.Settings.{AreInRange, AreParams, IsDepth, IsCoderInRange};
 
-use crate::compress::CompressSettings;
 use crate::options::command;
-use crate::settings::Settings;
 use clap::error::ErrorKind;
 use clap::{ArgMatches, Error};
+use command_settings::settings::{CompressSettings, Settings};
 use cube_core::fault::Fault;
 use cube_core::kind::Kind;
 use cube_core::layout::{Layout, RawOrder};

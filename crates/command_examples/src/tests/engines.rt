@@ -1,13 +1,15 @@
 //! The engines of `compress`, `expand` and `inspect` on sources and sinks over memory.
 
-use super::support::{TWO_EQUAL, TWO_EQUAL_FILE, parsed, run};
-use crate::compress::run_compress;
-use crate::cut::{CutSink, CutSource};
-use crate::expand::run_expand;
-use crate::inspect::run_inspect;
-use crate::settings::Settings;
+use super::support::{
+    ONE_BYTE, TWO_BYTES, TWO_EQUAL_FILE, band, compressed, expanded, inspected, two_equal,
+};
+use ccsds_command::compress::run_compress;
+use ccsds_command::cut::{CutSink, CutSource};
+use ccsds_command::expand::run_expand;
+use ccsds_command::inspect::run_inspect;
+use command_settings::settings::CompressSettings;
 use cube_core::fault::{Fault, Rule};
-use cube_core::layout::{Layout, RawOrder};
+use cube_core::layout::Layout;
 use std::test::Fail;
 
 /// Two columns, two rows: 4, 0, 0, 0 in eleven bits, with a register of 32 bits that wraps.
@@ -19,13 +21,14 @@ const REGISTER_WRAPS: [u8; 26] = [
 
 #[test]
 fn two_equal_samples_are_compressed(rt: HostRuntime) -> Result<(), Fail> {
-    let file = run(&rt, TWO_EQUAL, &[0xC8, 0xC8])?;
+    let file = compressed(&rt, &two_equal()?, &[0xC8, 0xC8])?;
     assert_eq!(rt; file.as_slice(), TWO_EQUAL_FILE.as_slice());
     Ok(())
 }
 
 #[test]
-fn raw_bytes_of_a_wrong_length_are_refused(rt: HostRuntime) {
+fn raw_bytes_of_a_wrong_length_are_refused(rt: HostRuntime) -> Result<(), Fail> {
+    let settings = two_equal()?;
     for (input, had) in [
         ([].as_slice(), 0),
         ([0xC8].as_slice(), 1),
@@ -33,35 +36,35 @@ fn raw_bytes_of_a_wrong_length_are_refused(rt: HostRuntime) {
         ([0xC8; 9].as_slice(), 3),
     ] {
         let fault = Fault::RawLength { wanted: 2, had };
-        assert_eq!(rt; run(&rt, TWO_EQUAL, input).err(), Some(fault));
+        assert_eq!(rt; compressed(&rt, &settings, input).err(), Some(fault));
     }
+    Ok(())
 }
 
 #[test]
-fn a_sample_out_of_range_is_refused(rt: HostRuntime) {
-    let line = "compress --columns=2 --rows=1 --bands=1 --bits=11 a b";
-    let fault = Fault::SampleRange { index: 1 };
-    assert_eq!(rt;
-        run(&rt, line, &[0x07, 0xFF, 0x08, 0x00]).err(),
-        Some(fault)
-    );
+fn a_sample_out_of_range_is_refused(rt: HostRuntime) -> Result<(), Fail> {
+    let settings = CompressSettings {
+        params: band(2, 1, 11)?,
+        layout: TWO_BYTES,
+    };
+    let answer = compressed(&rt, &settings, &[0x07, 0xFF, 0x08, 0x00]);
+    assert_eq!(rt; answer.err(), Some(Fault::SampleRange { index: 1 }));
+    Ok(())
 }
 
 #[test]
 fn parameters_are_refused_before_anything_is_read(rt: HostRuntime) -> Result<(), Fail> {
     let rows = [
-        (
-            "compress --columns=1 --rows=2 --bands=1 --bits=8 --bytes 1 --reduced a b",
-            Rule::NeighbourOneColumn,
-        ),
-        (
-            "compress --columns=1 --rows=2 --bands=1 --bits=8 --bytes 1 --column-sums a b",
-            Rule::FullOneColumn,
-        ),
+        (true, false, Rule::NeighbourOneColumn),
+        (false, true, Rule::FullOneColumn),
     ];
-    for (line, rule) in rows {
-        let Settings::Compress(settings, _from, _to) = parsed(&rt, line)? else {
-            return Err(Fail::from("compress"));
+    for (reduced, column, rule) in rows {
+        let mut params = band(1, 2, 8)?;
+        params.reduced = reduced;
+        params.column = column;
+        let settings = CompressSettings {
+            params,
+            layout: ONE_BYTE,
         };
         // Its first call would fail.
         let mut source = CutSource::new(&[0xC8, 0xC8], 1, Some(0));
@@ -75,43 +78,49 @@ fn parameters_are_refused_before_anything_is_read(rt: HostRuntime) -> Result<(),
 
 #[test]
 fn two_equal_samples_are_expanded(rt: HostRuntime) -> Result<(), Fail> {
-    let raw = run(&rt, "expand --bytes 1 b c", &TWO_EQUAL_FILE)?;
+    let raw = expanded(&rt, &ONE_BYTE, &TWO_EQUAL_FILE)?;
     assert_eq!(rt; raw.as_slice(), [0xC8, 0xC8].as_slice());
     Ok(())
 }
 
 #[test]
 fn samples_of_eleven_bits_are_expanded(rt: HostRuntime) -> Result<(), Fail> {
-    let rows: [(&str, &[u8]); 3] = [
-        ("expand --bytes 1 b c", &[4, 0, 0, 0]),
-        ("expand b c", &[0, 4, 0, 0, 0, 0, 0, 0]),
-        ("expand --little b c", &[4, 0, 0, 0, 0, 0, 0, 0]),
-    ];
-    for (line, raw) in rows {
-        assert_eq!(rt; run(&rt, line, &REGISTER_WRAPS)?.as_slice(), raw, "{line}");
-    }
+    let raw = expanded(&rt, &ONE_BYTE, &REGISTER_WRAPS)?;
+    assert_eq!(rt; raw.as_slice(), [4, 0, 0, 0].as_slice());
+    let raw = expanded(&rt, &TWO_BYTES, &REGISTER_WRAPS)?;
+    assert_eq!(rt; raw.as_slice(), [0, 4, 0, 0, 0, 0, 0, 0].as_slice());
+    let layout = Layout {
+        little: true,
+        ..TWO_BYTES
+    };
+    let raw = expanded(&rt, &layout, &REGISTER_WRAPS)?;
+    assert_eq!(rt; raw.as_slice(), [4, 0, 0, 0, 0, 0, 0, 0].as_slice());
     Ok(())
 }
 
 #[test]
 fn a_file_that_is_none_is_refused(rt: HostRuntime) {
     let rows = [
-        ("expand --bytes 1 b c", 0, Fault::ShortHeader),
-        ("expand --bytes 1 b c", 18, Fault::ShortHeader),
-        ("expand --bytes 1 b c", 20, Fault::Truncated { bit: 160 }),
-        ("inspect", 11, Fault::ShortHeader),
+        (0, Fault::ShortHeader),
+        (18, Fault::ShortHeader),
+        (20, Fault::Truncated { bit: 160 }),
     ];
-    for (line, length, fault) in rows {
-        let input = TWO_EQUAL_FILE.get(..length).unwrap_or(&[]);
-        assert_eq!(rt; run(&rt, line, input).err(), Some(fault));
+    for (length, fault) in rows {
+        let file = TWO_EQUAL_FILE.get(..length).unwrap_or(&[]);
+        assert_eq!(rt; expanded(&rt, &ONE_BYTE, file).err(), Some(fault));
     }
+    let file = TWO_EQUAL_FILE.get(..11).unwrap_or(&[]);
+    assert_eq!(rt; inspected(&rt, file).err(), Some(Fault::ShortHeader));
 }
 
 #[test]
 fn a_sample_too_large_for_its_byte_is_refused(rt: HostRuntime) -> Result<(), Fail> {
-    let line = "compress --columns=2 --rows=1 --bands=1 --bits=9 a b";
-    let file = run(&rt, line, &[0x00, 0xFF, 0x01, 0x00])?;
-    let answer = run(&rt, "expand --bytes 1 b c", &file);
+    let settings = CompressSettings {
+        params: band(2, 1, 9)?,
+        layout: TWO_BYTES,
+    };
+    let file = compressed(&rt, &settings, &[0x00, 0xFF, 0x01, 0x00])?;
+    let answer = expanded(&rt, &ONE_BYTE, &file);
     assert_eq!(rt; answer.err(), Some(Fault::SampleRange { index: 1 }));
     Ok(())
 }
@@ -119,14 +128,7 @@ fn a_sample_too_large_for_its_byte_is_refused(rt: HostRuntime) -> Result<(), Fai
 #[test]
 fn failing_sources_are_read(rt: HostRuntime) -> Result<(), Fail> {
     let alloc = rt.alloc();
-    let layout = Layout {
-        order: RawOrder::Bsq,
-        bytes: 1,
-        little: false,
-    };
-    let Settings::Compress(settings, _from, _to) = parsed(&rt, TWO_EQUAL)? else {
-        return Err(Fail::from("compress"));
-    };
+    let settings = two_equal()?;
     for call in 0..3 {
         let mut sink = CutSink::new(alloc, 100, 100, None)?;
         let mut raw = CutSource::new(&[0xC8, 0xC8], 1, Some(call));
@@ -134,7 +136,7 @@ fn failing_sources_are_read(rt: HostRuntime) -> Result<(), Fail> {
         assert_eq!(rt; answer, Err(Fault::Read));
         let mut file = CutSource::new(&TWO_EQUAL_FILE, 1, Some(call));
         assert_eq!(rt;
-            run_expand(alloc, &mut file, &mut sink, &layout),
+            run_expand(alloc, &mut file, &mut sink, &ONE_BYTE),
             Err(Fault::Read)
         );
         let mut file = CutSource::new(&TWO_EQUAL_FILE, 1, Some(call));
@@ -147,9 +149,7 @@ fn failing_sources_are_read(rt: HostRuntime) -> Result<(), Fail> {
 #[test]
 fn failing_sinks_have_what_went_out(rt: HostRuntime) -> Result<(), Fail> {
     let alloc = rt.alloc();
-    let Settings::Compress(settings, _from, _to) = parsed(&rt, TWO_EQUAL)? else {
-        return Err(Fail::from("compress"));
-    };
+    let settings = two_equal()?;
     for (piece, call, written) in [(1, 5, 5), (4, 2, 8), (1, 0, 0), (100, 0, 0)] {
         let mut sink = CutSink::new(alloc, 100, piece, Some(call))?;
         let mut source = CutSource::new(&[0xC8, 0xC8], 1, None);
@@ -162,12 +162,9 @@ fn failing_sinks_have_what_went_out(rt: HostRuntime) -> Result<(), Fail> {
 
 #[test]
 fn pieces_of_one_byte_change_nothing(rt: HostRuntime) -> Result<(), Fail> {
-    let Settings::Compress(settings, _from, _to) = parsed(&rt, TWO_EQUAL)? else {
-        return Err(Fail::from("compress"));
-    };
     let mut sink = CutSink::new(rt.alloc(), 100, 1, None)?;
     let mut source = CutSource::new(&[0xC8, 0xC8], 1, None);
-    run_compress(rt.alloc(), &mut source, &mut sink, &settings)?;
+    run_compress(rt.alloc(), &mut source, &mut sink, &two_equal()?)?;
     assert_eq!(rt; sink.taken(), TWO_EQUAL_FILE.as_slice());
     Ok(())
 }

@@ -1,7 +1,15 @@
 //! What a command line asks for.
 
-use crate::compress::CompressSettings;
 use cube_core::layout::Layout;
+use header_bits::params::Params;
+
+/// How a cube is compressed.
+#[derive(Drop)]
+pub struct CompressSettings {
+    pub params: Params,
+    /// How the samples lie in the raw bytes.
+    pub layout: Layout,
+}
 
 /// A command with its settings, and the paths that it reads from and writes to.
 #[derive(Drop)]

@@ -1,0 +1,50 @@
+//! What the program reports of each fault.
+
+use ccsds_command::report::{fault_line, status_of};
+use cube_core::fault::{Fault, Field, Rule};
+use std::test::Fail;
+
+#[test]
+fn faults_have_their_status(rt: HostRuntime) {
+    let field = Field::Umax;
+    let rule = Rule::StartConstant;
+    let rows = [
+        (Fault::ShortHeader, 2),
+        (Fault::Reserved { bit: 95 }, 2),
+        (Fault::FieldRange { field, value: 7 }, 2),
+        (Fault::Disagree { rule }, 2),
+        (Fault::TableElsewhere, 2),
+        (Fault::Truncated { bit: 160 }, 2),
+        (Fault::BadCode { place: 1 }, 2),
+        (Fault::BadOption { block: 0 }, 2),
+        (Fault::RunPastSegment { block: 0 }, 2),
+        (Fault::BadFill, 2),
+        (Fault::TooLong { bits: 12 }, 2),
+        (Fault::WantOfMemory, 3),
+        (Fault::SampleRange { index: 0 }, 2),
+        (Fault::RawLength { wanted: 6, had: 0 }, 2),
+        (Fault::BadDeal { band: 1 }, 2),
+        (Fault::SpawnRefused, 3),
+        (
+            Fault::Stopped {
+                predictor: 0,
+                sent: 2,
+            },
+            2,
+        ),
+        (Fault::Read, 4),
+        (Fault::Write { written: 5 }, 4),
+        (Fault::Usage, 1),
+    ];
+    for (fault, status) in rows {
+        assert_eq!(rt; status_of(&fault), status, "of {fault}");
+    }
+}
+
+#[test]
+fn a_fault_is_a_line(rt: HostRuntime) -> Result<(), Fail> {
+    let fault = Fault::RawLength { wanted: 6, had: 0 };
+    let line = fault_line(rt.alloc(), &fault)?;
+    assert_eq!(rt; line.as_slice(), b"ccsds: 14 RawLength 6 0\n".as_slice());
+    Ok(())
+}

@@ -1,0 +1,107 @@
+//! What the tests of the engines share: settings and a file of two samples, and runs over memory.
+
+ghost use Rattle.std.specs.Prelude.{IfOk};
+ghost use Rattle.cube_core.specs.Layout.{IsLayout};
+
+use ccsds_command::compress::run_compress;
+use ccsds_command::cut::{CutSink, CutSource};
+use ccsds_command::expand::run_expand;
+use ccsds_command::inspect::run_inspect;
+use command_settings::settings::CompressSettings;
+use cube_core::fault::Fault;
+use cube_core::kind::Kind;
+use cube_core::layout::{Layout, RawOrder};
+use cube_core::order::Order;
+use cube_core::shape::Shape;
+use header_bits::params::{Coder, CountStart, Params, WeightStart};
+
+/// The room of a sink, and the pieces in which a run goes.
+const ROOM: usize = 1000;
+
+/// Samples of one byte, band after band.
+pub(crate) const ONE_BYTE: Layout = Layout {
+    order: RawOrder::Bsq,
+    bytes: 1,
+    little: false,
+};
+
+/// Samples of two bytes, the high one first.
+pub(crate) const TWO_BYTES: Layout = Layout {
+    bytes: 2,
+    ..ONE_BYTE
+};
+
+/// Two samples of 200, one row below the other, as a file.
+pub(crate) const TWO_EQUAL_FILE: [u8; 21] = [
+    0x00, 0x00, 0x01, 0x00, 0x02, 0x00, 0x01, 0x11, 0x00, 0x00, 0x08, 0x00, 0x02, 0xA0, 0x92, 0x59,
+    0x00, 0x82, 0x26, // the header
+    0x90, 0x80, // 144 and 0
+];
+
+/// The settings of that file.
+pub(crate) fn two_equal() -> Result<CompressSettings, Fault>
+    ensures { IfOk result (λ s. IsLayout s.layout) }
+{
+    Ok(CompressSettings {
+        params: band(1, 2, 8)?,
+        layout: ONE_BYTE,
+    })
+}
+
+/// The parameters of one unsigned band, in reduced mode with column-oriented sums.
+pub(crate) fn band(columns: u32, rows: u32, bits: u32) -> Result<Params, Fault> {
+    Ok(Params {
+        shape: Shape::new(columns, rows, 1)?,
+        kind: Kind::new(false, bits)?,
+        order: Order::Bsq,
+        user: 0,
+        word: 1,
+        previous: 0,
+        reduced: true,
+        column: true,
+        register: 32,
+        omega: 13,
+        interval_log: 6,
+        vmin: -1,
+        vmax: 3,
+        start: WeightStart::Usual,
+        coder: Coder::Sample {
+            umax: 16,
+            gamma_star: 6,
+            gamma_zero: 1,
+            start: CountStart::Constant(3),
+        },
+    })
+}
+
+/// The file that raw bytes are compressed to, in whole pieces.
+pub(crate) fn compressed(
+    rt: &HostRuntime,
+    settings: &CompressSettings,
+    raw: &[u8],
+) -> Result<Vec<u8>, Fault>
+    requires { IsLayout settings.now.layout }
+{
+    let mut source = CutSource::new(raw, ROOM, None);
+    let mut sink = CutSink::new(rt.alloc(), ROOM, ROOM, None)?;
+    run_compress(rt.alloc(), &mut source, &mut sink, settings)?;
+    Ok(Vec::from_slice(rt.alloc(), sink.taken())?)
+}
+
+/// The raw bytes that a file is expanded to, in whole pieces.
+pub(crate) fn expanded(rt: &HostRuntime, layout: &Layout, file: &[u8]) -> Result<Vec<u8>, Fault>
+    requires { IsLayout layout.now }
+{
+    let mut source = CutSource::new(file, ROOM, None);
+    let mut sink = CutSink::new(rt.alloc(), ROOM, ROOM, None)?;
+    run_expand(rt.alloc(), &mut source, &mut sink, layout)?;
+    Ok(Vec::from_slice(rt.alloc(), sink.taken())?)
+}
+
+/// What is told of a file, in whole pieces.
+pub(crate) fn inspected(rt: &HostRuntime, file: &[u8]) -> Result<Vec<u8>, Fault> {
+    let mut source = CutSource::new(file, ROOM, None);
+    let mut sink = CutSink::new(rt.alloc(), ROOM, ROOM, None)?;
+    run_inspect(rt.alloc(), &mut source, &mut sink)?;
+    Ok(Vec::from_slice(rt.alloc(), sink.taken())?)
+}

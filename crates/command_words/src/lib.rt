@@ -1,0 +1,5 @@
+//! From the words of a command line to the settings of its command.
+#![tactic(auto)]
+
+mod options;
+pub mod words;

@@ -1,0 +1,5 @@
+//! Command lines: what each option does, and which lines are refused.
+#![tactic(auto)]
+
+#[cfg(test)]
+mod tests;

@@ -1,0 +1,126 @@
+//! Command lines that are refused as `Usage`.
+
+use super::support::parsed;
+use cube_core::fault::Fault;
+use std::test::Fail;
+
+/// An image with what is required.
+const IMAGE: &str = "compress --columns=3 --rows=2 --bands=2 --bits=8 a b";
+
+/// Options, each with a value that it doesn't take.
+const VALUES: &str = "--depth 0
+--depth 65537
+--order bi --depth 0
+--order bil
+--user 256
+--user -1
+--word 0
+--word 9
+--previous 16
+--register 31
+--register 65
+--omega 3
+--omega 20
+--interval-log 3
+--interval-log 12
+--vmin-code 16
+--vmax-code 16
+--umax 7
+--umax 33
+--gamma-star 3
+--gamma-star 10
+--gamma-zero 0
+--gamma-zero 9
+--k 15
+--coder both
+--coder block --block 12
+--block 4
+--block 128
+--reference 0
+--reference 4097
+--layout pixel
+--bytes 0
+--bytes 3
+--user four
+--user 4294967296
+--user";
+
+/// Lines with a size out of its range.
+const SIZES: &str = "compress --columns=0 --rows=2 --bands=2 --bits=8 a b
+compress --columns=65537 --rows=2 --bands=2 --bits=8 a b
+compress --columns=3 --rows=0 --bands=2 --bits=8 a b
+compress --columns=3 --rows=65537 --bands=2 --bits=8 a b
+compress --columns=3 --rows=2 --bands=0 --bits=8 a b
+compress --columns=3 --rows=2 --bands=65537 --bits=8 a b
+compress --columns=3 --rows=2 --bands=2 --bits=1 a b
+compress --columns=3 --rows=2 --bands=2 --bits=17 a b";
+
+/// Other lines; the first one is empty.
+const OTHERS: &str = "
+help
+--help
+-h
+--version
+-V
+zip
+Show
+sho
+show now
+show --bytes 1
+inspect file
+inspect --help
+show show
+compress
+compress --rows=2 --bands=2 --bits=8 a b
+compress --columns=3 --bands=2 --bits=8 a b
+compress --columns=3 --rows=2 --bits=8 a b
+compress --columns=3 --rows=2 --bands=2 a b
+compress --columns=3 --rows=2 --bands=2 --bits=8 a
+compress --columns=3 --rows=2 --bands=2 --bits=8
+compress --columns=3 --rows=2 --bands=2 --bits=8 a b c
+compress --columns=3 --rows=2 --bands=2 --bits=8 a a
+compress --columns=3 --rows=2 --bands=2 --bits=8 --columns=3 a b
+compress --columns=3 --rows=2 --bands=2 --bits=8 --signed --signed a b
+compress --columns=3 --rows=2 --bands=2 --bits=8 --signed=true a b
+compress --columns=3 --rows=2 --bands=2 --bits=8 --sig a b
+compress --columns=3 --rows=2 --bands=2 --bits=8 --prev 1 a b
+compress --columns=3 --rows=2 --bands=2 --bits=8 --unknown a b
+compress --columns=3 --rows=2 --bands=2 --bits=8 -x a b
+compress --columns=3 --rows=2 --bands=2 --bits=8 --help a b
+compress --columns=3 --rows=2 --bands=2 --bits=8 --restricted a b
+compress --columns=3 --rows=2 --bands=2 --bits=8 --predictors 2 a b
+compress --columns=3 --rows=2 --bands=2 --bits=8 --slots 8 a b
+expand
+expand a
+expand a a
+expand a b c
+expand --columns=3 a b
+expand --bytes 1 --bytes 1 a b";
+
+/// Whether a line is refused.
+fn is_usage(rt: &HostRuntime, line: &str) -> bool {
+    matches!(parsed(rt, line), Err(Fault::Usage))
+}
+
+#[test]
+fn values_out_of_range_are_usage(rt: HostRuntime) -> Result<(), Fail> {
+    for option in VALUES.split('\n') {
+        let line = format!(in rt.alloc(); "{IMAGE} {option}")?;
+        assert!(rt; is_usage(&rt, line.as_str()), "{option}");
+    }
+    Ok(())
+}
+
+#[test]
+fn sizes_out_of_range_are_usage(rt: HostRuntime) {
+    for line in SIZES.split('\n') {
+        assert!(rt; is_usage(&rt, line), "{line}");
+    }
+}
+
+#[test]
+fn other_lines_are_usage(rt: HostRuntime) {
+    for line in OTHERS.split('\n') {
+        assert!(rt; is_usage(&rt, line), "{line}");
+    }
+}
