@@ -1,11 +1,15 @@
 -- The chosen option, out of the few k that the sum of the values leaves.
-use Rattle.std.proofs.Common.{◌≡◌, ℕ, suc, ◌+◌, ◌-◌, ◌*◌, ◌^◌, ◌<◌, ◌≤◌, Bool, true, List, length, subst, inl, inr, arith}
+use Rattle.std.proofs.Common.{◌≡◌, ℕ, suc, ◌+◌, ◌-◌, ◌*◌, ◌^◌, ◌<◌, ◌≤◌, Bool, true, false, List, length, sum, ap, subst, inl, inr, arith, lit<}
 use Rattle.std.proofs.lemmas.Bool.{cases_lt}
+use Rattle.std.proofs.lemmas.Nat.{mul-le}
+use Rattle.std.proofs.Math.Nat.{pow-le-pow_right}
 use Rattle.block_adaptive.specs.declared.options.CodeSet.{CodeSet}
 use Rattle.block_adaptive.specs.declared.options.Choice.{Choice}
 use Rattle.block_adaptive.specs.declared.options.Choice.TheVariants.{Second, Split}
-use Rattle.block_adaptive.specs.Options.{splits, quotient_codes, cost}
+use Rattle.block_adaptive.specs.Options.{width, splits, quotient_codes, cost}
 use Rattle.block_adaptive.specs.Chosen.{chosen_option}
+use Rattle.block_adaptive.proofs.Costs.{split_cost, quotients_least}
+use Rattle.block_adaptive.proofs.Sums.{plain_length}
 use Rattle.block_adaptive.proofs.Slopes.{falls_to, rises_from, second_longer}
 use Rattle.block_adaptive.proofs.Tried.{LeadsTried, leads_all, lead_cost}
 
@@ -42,3 +46,25 @@ ended s vs sum first k longer o h leads few last =
     let tried = lead_cost _ _ _ _ (leads.leads (Split (first + 2)) (omega arith, omega arith)) in
     let rest = rises_from s (j - (first + 2)) (first + 2) sum vs h.whole (h.rising (omega arith)) in
     omega (arith, tried, rw behind at rest))
+
+-- ---- values that are less than 1 on average
+
+plain_short : (s : CodeSet) (vs : List ℕ) (k : ℕ) → sum vs < length vs → 1 ≤ k → cost s (Split 0) vs < cost s (Split k) vs
+plain_short s vs k small some =
+    let low : 1 * length vs ≤ k * length vs = mul-le 1 (length vs) k (length vs) some (omega arith) in
+    omega (arith, split_cost s 0 vs, split_cost s k vs, plain_length vs, quotients_least k vs, low)
+
+-- no k above 0 is shorter
+pub ended_at_plain : (s : CodeSet) (vs : List ℕ) (k : ℕ) (o : Choice) → (0 < splits s → sum vs < length vs) → LeadsTried s vs false 0 k o → k ≤ splits s → (k < splits s → k ≡ 1) → o ≡ chosen_option s vs
+ended_at_plain s vs k o small leads few last =
+    leads_all s vs false 0 k o leads few (λ some. some) (λ j lt. absurd (omega arith)) (λ e. absurd cc) (λ j from in_set.
+    let end : k ≡ 1 = last (omega arith) in
+    let tried = lead_cost _ _ _ _ (leads.leads (Split 0) (omega arith, omega arith)) in
+    omega (arith, tried, plain_short s vs j (small (omega arith)) (omega arith)))
+
+-- only an identifier of one bit leaves no k
+pub some_splits : (s : CodeSet) → 1 < width s → 1 ≤ splits s
+some_splits s wide = (let most : 2 ^ 2 ≤ 2 ^ width s = pow-le-pow_right {n = 2} (lit< tt) {i = 2} {j = width s} wide in omega arith)
+
+pub no_splits : (s : CodeSet) → width s ≡ 1 → splits s ≡ 0
+no_splits s one = ap (λ (n : ℕ). 2 ^ n - 2) one

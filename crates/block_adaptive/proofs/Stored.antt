@@ -1,30 +1,33 @@
 -- The parts of a writer, behind a whole block.
-use Rattle.std.proofs.Common.{ℕ, ◌+◌, ◌-◌, ◌<◌, ◌≤◌, List, [], sym, subst, inl, inr, arith}
+use Rattle.std.proofs.Common.{ℕ, ◌+◌, ◌-◌, ◌<◌, ◌≤◌, ◌*◌, ◌^◌, List, [], length, refl, sym, subst, inl, inr, arith, lit<}
 use Rattle.std.proofs.lemmas.Bool.{cases_lt}
+use Rattle.std.proofs.lemmas.Nat.{mul-le}
+use Rattle.std.proofs.Math.Nat.{pow-le-pow_right}
 use Rattle.block_adaptive.specs.Segments.{segment_rest}
 use Rattle.block_adaptive.specs.Texts.{Cut, left_at}
 use Rattle.block_adaptive.specs.Holding.{AreStored}
 use Rattle.block_adaptive.specs.Taken.{zeros_after}
 use Rattle.block_adaptive.proofs.Lawful.{rest_least}
-use Rattle.block_adaptive.proofs.Handed.{size_least}
+use Rattle.block_adaptive.proofs.Handed.{size_least, size_most}
+use Rattle.block_adaptive.proofs.Sums.{sum_most}
 use Rattle.block_adaptive.proofs.Packing.{after_in_range, after_start}
 
 -- the blocks of zeros that are held are fewer than the segment has left
-pub held_inside : (c : Cut) (i zeros : ℕ) (held : List ℕ) → AreStored c i zeros held → i + zeros < c.count → zeros < left_at c i
-held_inside c i zeros held h more =
+pub held_inside : (c : Cut) (i zeros total : ℕ) (held : List ℕ) → AreStored c i zeros total held → i + zeros < c.count → zeros < left_at c i
+held_inside c i zeros total held h more =
     elim (cases_lt 0 zeros) [
       | inl lt ↦ h.inside (omega arith)
       | inr le ↦ (let some : 1 ≤ left_at c i = rest_least c.reference c.count i h.cut.reference.0 (omega arith) in omega arith)
     ]
 
-pub held_few : (c : Cut) (i zeros : ℕ) (held : List ℕ) → AreStored c i zeros held → i + zeros < c.count → zeros < 64
+pub held_few : (c : Cut) (i zeros total : ℕ) (held : List ℕ) → AreStored c i zeros total held → i + zeros < c.count → zeros < 64
 unfolding segment_rest
-held_few c i zeros held h more = (let inside = held_inside c i zeros held h more in omega arith)
+held_few c i zeros total held h more = (let inside = held_inside c i zeros total held h more in omega arith)
 
-pub stored_after : (c : Cut) (i zeros : ℕ) (held block : List ℕ) → AreStored c i zeros held → i + zeros < c.count → AreStored c (i + (zeros + 1 - zeros_after (left_at c i) zeros block)) (zeros_after (left_at c i) zeros block) []
-stored_after c i zeros held block h more =
+pub stored_after : (c : Cut) (i zeros total : ℕ) (held block : List ℕ) → AreStored c i zeros total held → i + zeros < c.count → AreStored c (i + (zeros + 1 - zeros_after (left_at c i) zeros block)) (zeros_after (left_at c i) zeros block) 0 []
+stored_after c i zeros total held block h more =
     let after : ℕ = zeros_after (left_at c i) zeros block in
-    let range = after_in_range (left_at c i) zeros block (held_inside c i zeros held h more) in
+    let range = after_in_range (left_at c i) zeros block (held_inside c i zeros total held h more) in
     record {
       cut = h.cut;
       block = omega (arith, range.0);
@@ -32,4 +35,12 @@ stored_after c i zeros held block h more =
       more = λ some. absurd (omega arith);
       few = omega (arith, size_least c.size h.cut.size);
       range = tt;
+      added = refl;
     }
+
+-- what the values held add up to
+pub total_few : (c : Cut) (i counted total : ℕ) (held : List ℕ) → AreStored c i counted total held → total ≤ 64 * 65536
+total_few c i counted total held h =
+    let wide : 2 ^ c.set.bits ≤ 2 ^ 16 = pow-le-pow_right {n = 2} (lit< tt) {i = c.set.bits} {j = 16} h.cut.bits.1 in
+    let times : length held * 2 ^ c.set.bits ≤ 64 * 65536 = mul-le (length held) (2 ^ c.set.bits) 64 65536 (omega (arith, h.few, size_most c.size h.cut.size)) wide in
+    omega (arith, h.added, sum_most (2 ^ c.set.bits) held h.range, times)

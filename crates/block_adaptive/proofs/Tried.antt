@@ -1,11 +1,11 @@
 -- The first of the shortest options among those that were tried.
 use Rattle.std.proofs.Common.{◌≡◌, ℕ, ◌+◌, ◌<◌, ◌≤◌, ◌⊎◌, Bool, true, false, List, refl, ap, inl, inr, arith}
-use Rattle.std.proofs.lemmas.Bool.{cases_lt}
+use Rattle.std.proofs.lemmas.Bool.{cases_lt, lt-ltb, le-ltb}
 use Rattle.block_adaptive.specs.declared.options.CodeSet.{CodeSet}
 use Rattle.block_adaptive.specs.declared.options.Choice.{Choice}
 use Rattle.block_adaptive.specs.declared.options.Choice.TheVariants.{Uncoded, Second, Split}
 use Rattle.block_adaptive.specs.Options.{splits, cost, IsOption}
-use Rattle.block_adaptive.specs.Chosen.{chosen_option, turn}
+use Rattle.block_adaptive.specs.Chosen.{shorter, chosen_option, turn}
 use Rattle.block_adaptive.proofs.Least.{later, either, option_is_least}
 
 -- it is shorter, or as short and comes first
@@ -57,6 +57,13 @@ second_leads s vs first lt = record { tried = refl; leads = leads }
     leads Uncoded h = inl lt
     leads Second h = inr (refl, omega arith)
     leads (Split j) h = absurd (omega (arith, h.0, h.1))
+
+pub shorter_leads : (s : CodeSet) (vs : List ℕ) → LeadsTried s vs false 0 0 (shorter s vs Uncoded Second)
+shorter_leads s vs =
+    elim (cases_lt (cost s Second vs) (cost s Uncoded vs)) [
+      | inl lt ↦ (let e = lt-ltb _ _ lt in rw e (second_leads s vs 0 lt))
+      | inr ge ↦ (let e = le-ltb _ _ ge in rw e (uncoded_leads s vs 0 ge))
+    ]
 
 -- ---- one k more
 

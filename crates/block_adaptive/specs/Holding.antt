@@ -1,5 +1,5 @@
 -- What the parts of a reader and of a writer of blocks keep.
-use Rattle.std.specs.Prelude.{ℕ, ◌≡◌, ◌⊎◌, ◌+◌, ◌^◌, ◌<◌, ◌≤◌, List, length}
+use Rattle.std.specs.Prelude.{ℕ, ◌≡◌, ◌⊎◌, ◌+◌, ◌^◌, ◌<◌, ◌≤◌, List, length, sum}
 use Rattle.std.specs.List.{AllByRecursion}
 use Rattle.block_adaptive.specs.Texts.{Cut, left_at}
 use Rattle.block_adaptive.specs.Settings.{IsCut}
@@ -12,11 +12,12 @@ pub record AreParts (c : Cut) (i given counted : ℕ) : Type 0 where
   pub one : (given ≡ c.size) ⊎ (counted ≡ 0)
   pub few : counted ≤ 4096
 
--- a writer's parts: from block i on nothing was written, of which so many are zeros that are held, fewer than the segment has left; of the next block so many values are there, fewer than a block has
-pub record AreStored (c : Cut) (i zeros : ℕ) (held : List ℕ) : Type 0 where
+-- a writer's parts: from block i on nothing was written, of which so many are zeros that are held, fewer than the segment has left; of the next block so many values are there, fewer than a block has, with this sum
+pub record AreStored (c : Cut) (i zeros total : ℕ) (held : List ℕ) : Type 0 where
   pub cut : IsCut c
   pub block : i + zeros ≤ c.count
   pub inside : 1 ≤ zeros → zeros < left_at c i
   pub more : 1 ≤ length held → i + zeros < c.count
   pub few : length held < c.size
   pub range : AllByRecursion (λ v. v < 2 ^ c.set.bits) held
+  pub added : total ≡ sum held

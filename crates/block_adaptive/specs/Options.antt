@@ -1,6 +1,6 @@
 -- The options of a block, their identifiers and their bits (CCSDS 121.0-B, "Code options" and "Code option identifiers").
 use Rattle.std.specs.Prelude.{ℕ, ◌+◌, ◌-◌, ◌*◌, ◌/◌, ◌^◌, ◌<◌, nat_le, ◌&&◌, Bool, true, false, List, [], ◌∷◌, ◌++◌, length, replicate, if◌then◌else◌}
-use Rattle.std.specs.List.{flat_map}
+use Rattle.std.specs.List.{flat_map, sum_by}
 use Rattle.header_bits.specs.Bits.{bits_of, fundamental}
 use Rattle.block_adaptive.specs.declared.options.CodeSet.{CodeSet}
 use Rattle.block_adaptive.specs.declared.options.Choice.{Choice}
@@ -41,6 +41,10 @@ pair_codes (a ∷ b ∷ values) = fundamental (pair_number a b) ++ pair_codes va
 -- the fundamental sequences of values without their k lowest bits
 unfoldable pub quotient_codes : ℕ → List ℕ → List Bool
 quotient_codes k values = flat_map (λ v. fundamental (v / 2 ^ k)) values
+
+-- the sum of values without their k lowest bits
+abbrev pub quotient_sum : ℕ → List ℕ → ℕ
+quotient_sum k values = sum_by (λ v. v / 2 ^ k) values
 
 -- the k lowest bits of each value
 unfoldable pub low_groups : ℕ → List ℕ → List Bool

@@ -1,6 +1,6 @@
 //! A writer of blocks: it takes numbers one after another, and writes the texts that stand for them.
 
-ghost use Rattle.std.specs.Prelude.{ℕ, ◌∷◌, ◌-◌, ◌≡◌, ◌+◌, ◌%◌, ◌^◌, ◌<◌, ◌≤◌, ◌++◌, [], length, take, replicate, OnOk, OnErr, IfErr};
+ghost use Rattle.std.specs.Prelude.{ℕ, ◌∷◌, ◌-◌, ◌≡◌, ◌+◌, ◌%◌, ◌^◌, ◌<◌, ◌≤◌, ◌++◌, [], length, sum, take, replicate, OnOk, OnErr, IfErr};
 ghost use Rattle.std.specs.List.{AllByRecursion};
 ghost use Rattle.cube_core.specs.declared.fault.Fault.TheVariants.{WantOfMemory};
 ghost use Rattle.block_adaptive.specs.Settings.{AreForBlocks, cut_by};
@@ -30,6 +30,8 @@ pub struct BlockWriter {
     start: u64,
     /// How many blocks of zeros there are from it on.
     zeros: u32,
+    /// The sum of the values that are there of the next block.
+    total: u32,
     values: [u16; 64],
     /// How many values of the next block are there.
     held: u32,
@@ -44,7 +46,7 @@ impl Model for BlockWriter {
 
     ghost view = { λ a. record { cut = record { set = a.set; size = a.size; reference = a.reference; count = a.count }; start = a.start; zeros = a.zeros; held = take a.held a.values } };
 
-    ghost invariant = { λ a. AreStored (record { set = a.set; size = a.size; reference = a.reference; count = a.count }) a.start a.zeros (take a.held a.values) };
+    ghost invariant = { λ a. AreStored (record { set = a.set; size = a.size; reference = a.reference; count = a.count }) a.start a.zeros a.total (take a.held a.values) };
 }
 
 impl BlockWriter {
@@ -71,6 +73,7 @@ impl BlockWriter {
                 count: params.shape.sample_count().div_ceil(u64::from(size)),
                 start: 0,
                 zeros: 0,
+                total: 0,
                 values: [0; 64],
                 held: 0,
             },
@@ -94,6 +97,7 @@ impl BlockWriter {
         if self.held + 1 < self.size {
             self.values[self.held as usize] = delta;
             self.held += 1;
+            self.total += u32::from(delta);
             return Ok(());
         }
         self.put_last(delta, writer)
@@ -111,6 +115,7 @@ impl BlockWriter {
     {
         // It stands behind the values held, which are as they were where there is no memory.
         self.values[self.held as usize] = delta;
+        let total = self.total + u32::from(delta);
         let place = Place {
             reference: self.reference,
             count: self.count,
@@ -122,10 +127,12 @@ impl BlockWriter {
             &place,
             self.zeros,
             &self.values[..self.size as usize],
+            total,
         )?;
         self.start += u64::from(self.zeros + 1 - zeros);
         self.zeros = zeros;
         self.held = 0;
+        self.total = 0;
         Ok(())
     }
 
@@ -142,13 +149,15 @@ impl BlockWriter {
         }
         let size = self.size as usize;
         let block = filled_block(&self.values, self.held);
-        self.pack(&block[..size], writer)
+        self.pack(&block[..size], self.total, writer)
     }
 
-    /// Takes a whole block in place of the values held, and appends what is then known of the body.
+    /// Takes a whole block with this sum in place of the values held, and appends what is then known of
+    /// the body.
     #[inline(never)]
-    fn pack(&mut self, block: &[u16], writer: &mut BitWriter) -> Result<(), Fault>
+    fn pack(&mut self, block: &[u16], total: u32, writer: &mut BitWriter) -> Result<(), Fault>
         requires whole { length block.now ≡ self.old.cut.size }
+        requires total { total ≡ sum block.now }
         requires range { AllByRecursion (λ v. v < 2 ^ self.old.cut.set.bits) block.now }
         requires more { self.old.start + self.old.zeros < self.old.cut.count }
         ensures appended { OnOk result (writer.new.bits ≡ writer.old.bits ++ texts_packed self.old block.now) }
@@ -161,10 +170,11 @@ impl BlockWriter {
             count: self.count,
             block: self.start,
         };
-        let zeros = write_texts(writer, &self.set, &place, self.zeros, block)?;
+        let zeros = write_texts(writer, &self.set, &place, self.zeros, block, total)?;
         self.start += u64::from(self.zeros + 1 - zeros);
         self.zeros = zeros;
         self.held = 0;
+        self.total = 0;
         Ok(())
     }
 }

@@ -1,8 +1,9 @@
 //! What a block costs under each option, and the choice among them (CCSDS 121.0-B, "Code option selection").
 
-ghost use Rattle.std.specs.Prelude.{◌≡◌, ◌≤◌, ◌<◌, ◌^◌, ◌*◌, ◌-◌, ◌+◌, ◌/◌, ℕ, true, length};
-ghost use Rattle.block_adaptive.specs.Options.{width, splits, cost, IsOption, quotient_codes, pair_codes, pair_number, low_groups};
-ghost use Rattle.block_adaptive.specs.Chosen.{chosen_option};
+ghost use Rattle.std.specs.Prelude.{◌≡◌, ◌≤◌, ◌<◌, ◌^◌, ◌*◌, ◌-◌, ◌+◌, ◌/◌, ℕ, [], ◌∷◌, length, sum};
+ghost use Rattle.block_adaptive.specs.Options.{width, splits, cost, IsOption, quotient_codes, quotient_sum, pair_codes, pair_number, low_groups};
+ghost use Rattle.block_adaptive.specs.Chosen.{shorter, chosen_option};
+ghost use Rattle.block_adaptive.specs.declared.options.Choice.TheVariants.{Uncoded, Second};
 
 use crate::options::{Choice, CodeSet};
 
@@ -83,16 +84,6 @@ pub fn option_cost(set: &CodeSet, block: &[u16], choice: Choice) -> u64
     }
 }
 
-/// Whether the second extension is left out, since split-sample with k = 0 is shorter.
-///
-/// `whole` is how many bits the values have in fundamental sequences.
-fn second_is_longer(splits: u32, whole: u64, len: u64) -> bool
-    requires len { len ≤ 64 }
-    ensures { result ≡ true → (1 ≤ splits) × (2 * len ≤ whole) }
-{
-    splits > 0 && 2 * len <= whole
-}
-
 /// The first k that may have the shortest text, by the sum of the values: up to it each k is shorter
 /// than the one before, and from two behind it on none is.
 fn first_split(splits: u32, sum: u64, len: u64) -> u32
@@ -116,36 +107,118 @@ fn first_split(splits: u32, sum: u64, len: u64) -> u32
     first
 }
 
-/// The option with the shortest text: of several uncoded first, then the second extension, then the
-/// smallest k.
+/// The sums of a block's quotients under k and the next two, in one pass.
+fn quotient_sums(k: u32, block: &[u16]) -> [u32; 3]
+    requires k { k ≤ 13 }
+    requires few { length block.now ≤ 64 }
+    ensures { result ≡ quotient_sum k block.now ∷ quotient_sum (k + 1) block.now ∷ quotient_sum (k + 2) block.now ∷ [] }
+{
+    let mut first = 0u32;
+    let mut second = 0u32;
+    let mut third = 0u32;
+    for value in block {
+        first += u32::from(*value >> k);
+        second += u32::from(*value >> (k + 1));
+        third += u32::from(*value >> (k + 2));
+    }
+    [first, second, third]
+}
+
+/// How many bits a block's text has under split-sample, by the sum of its quotients.
+fn split_cost(width: u32, k: u32, quotients: u32, len: u64) -> u64
+    requires width { width ≤ 4 }
+    requires k { k ≤ 15 }
+    requires len { len ≤ 64 }
+    ensures { result ≡ width + quotients + len + k * len }
+{
+    u64::from(width) + u64::from(quotients) + len + u64::from(k) * len
+}
+
+/// The option with the shortest text, and how many bits that has: of several uncoded first, then the
+/// second extension, then the smallest k.
 ///
-/// The sum of the values tells of all k but three that they are no shorter.
-pub(crate) fn choose(set: &CodeSet, block: &[u16]) -> Choice
+/// The sum of the values tells of most options that they are no shorter, without going over the block.
+pub(crate) fn choose(set: &CodeSet, block: &[u16], total: u32) -> (Choice, u64)
     requires bits { set.now.bits ≤ 16 }
     requires few { length block.now ≤ 64 }
-    ensures { result ≡ chosen_option set.now block.now }
+    requires total { total ≡ sum block.now }
+    ensures chosen { result.0 ≡ chosen_option set.now block.now }
+    ensures cost { result.1 ≡ cost set.now result.0 block.now }
+    ensures bound { result.1 ≤ 2 ^ 41 }
+{
+    let splits = (1u32 << identifier_width(set)) - 2;
+    if splits == 0 || u64::from(total) < block.len() as u64 {
+        choose_of_small(set, block, total)
+    } else {
+        choose_of_large(set, block, total)
+    }
+}
+
+/// Uncoded, or the second extension where that is shorter, and how many bits the block has then.
+fn without_split(set: &CodeSet, block: &[u16]) -> (Choice, u64)
+    requires bits { set.now.bits ≤ 16 }
+    requires few { length block.now ≤ 64 }
+    ensures shorter { result.0 ≡ shorter set.now block.now Uncoded Second }
+    ensures cost { result.1 ≡ cost set.now result.0 block.now }
+    ensures bound { result.1 ≤ 2 ^ 41 }
+{
+    let uncoded = option_cost(set, block, Choice::Uncoded);
+    let second = option_cost(set, block, Choice::Second);
+    if second < uncoded {
+        (Choice::Second, second)
+    } else {
+        (Choice::Uncoded, uncoded)
+    }
+}
+
+/// The choice for values that are less than 1 on average, or in a set without split-sample.
+///
+/// Each k above 0 has two bits for each value at least, and so isn't shorter than k = 0.
+fn choose_of_small(set: &CodeSet, block: &[u16], total: u32) -> (Choice, u64)
+    requires bits { set.now.bits ≤ 16 }
+    requires few { length block.now ≤ 64 }
+    requires total { total ≡ sum block.now }
+    requires small { 0 < splits set.now → total < length block.now }
+    ensures chosen { result.0 ≡ chosen_option set.now block.now }
+    ensures cost { result.1 ≡ cost set.now result.0 block.now }
+    ensures bound { result.1 ≤ 2 ^ 41 }
+{
+    let (best, least) = without_split(set, block);
+    let width = identifier_width(set);
+    let plain = split_cost(width, 0, total, block.len() as u64);
+    if width > 1 && plain < least {
+        (Choice::Split(0), plain)
+    } else {
+        (best, least)
+    }
+}
+
+/// The choice for values that are at least 1 on average, in a set with split-sample.
+///
+/// The second extension isn't shorter than k = 0, and only three k may be the shortest.
+fn choose_of_large(set: &CodeSet, block: &[u16], total: u32) -> (Choice, u64)
+    requires bits { set.now.bits ≤ 16 }
+    requires few { length block.now ≤ 64 }
+    requires total { total ≡ sum block.now }
+    requires some { 0 < splits set.now }
+    requires large { length block.now ≤ total }
+    ensures chosen { result.0 ≡ chosen_option set.now block.now }
+    ensures cost { result.1 ≡ cost set.now result.0 block.now }
+    ensures bound { result.1 ≤ 2 ^ 41 }
 {
     let width = identifier_width(set);
     let splits = (1u32 << width) - 2;
     let len = block.len() as u64;
-    let whole = quotients_cost(0, block);
-    let first = first_split(splits, whole - len, len);
+    let first = first_split(splits, u64::from(total), len);
+    let sums = quotient_sums(first, block);
     let mut best = Choice::Uncoded;
     let mut least = option_cost(set, block, best);
-    let longer = second_is_longer(splits, whole, len);
-    if !longer {
-        let second = option_cost(set, block, Choice::Second);
-        if second < least {
-            best = Choice::Second;
-            least = second;
-        }
-    }
     for k in first..splits.min(first + 3) {
-        let cost = option_cost(set, block, Choice::Split(k));
+        let cost = split_cost(width, k, sums[(k - first) as usize], len);
         if cost < least {
             best = Choice::Split(k);
             least = cost;
         }
     }
-    best
+    (best, least)
 }

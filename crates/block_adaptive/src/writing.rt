@@ -1,16 +1,15 @@
 //! Writing texts into room that was reserved for them.
 
-ghost use Rattle.std.specs.Prelude.{◌≡◌, ◌+◌, ◌%◌, ◌^◌, ◌<◌, ◌≤◌, ◌++◌, length, OnOk, OnErr, IfErr, IfOk};
+ghost use Rattle.std.specs.Prelude.{◌≡◌, ◌+◌, ◌%◌, ◌^◌, ◌<◌, ◌≤◌, ◌++◌, length, sum, OnOk, OnErr, IfErr, IfOk};
 ghost use Rattle.std.specs.List.{AllByRecursion};
 ghost use Rattle.cube_core.specs.declared.fault.Fault.TheVariants.{WantOfMemory};
 ghost use Rattle.header_bits.specs.Bits.{bits_of, fundamental};
 ghost use Rattle.block_adaptive.specs.Options.{IsOption, zero_identifier, identifier, quotient_codes, low_groups, pair_codes, option_text, cost};
 ghost use Rattle.block_adaptive.specs.Texts.{run_text, run_code, spelled, spelling};
-ghost use Rattle.block_adaptive.specs.Chosen.{is_zero};
 ghost use Rattle.block_adaptive.specs.Places.{IsPlace, blocks_from};
 ghost use Rattle.block_adaptive.specs.Taken.{Writes, rest_of, run_and_block, texts_after, zeros_after};
 
-use crate::choice::{choose, identifier_width, option_cost};
+use crate::choice::{choose, identifier_width};
 use crate::options::{Choice, CodeSet};
 use crate::segments::{Place, blocks_left};
 use cube_core::fault::Fault;
@@ -169,18 +168,6 @@ fn run_cost(set: &CodeSet, zeros: u32) -> u64
     u64::from(identifier_width(set) + zeros) + 2
 }
 
-/// Whether all values of a block are zero.
-fn all_zero(block: &[u16]) -> bool
-    ensures { result ≡ is_zero block.now }
-{
-    for value in block {
-        if *value != 0 {
-            return false;
-        }
-    }
-    true
-}
-
 /// Writes the run of all blocks that are left in a segment.
 #[tactic(auto, unfolding(crate::specs::Texts::spelled, crate::specs::Texts::rest_code))]
 fn write_rest(writer: &mut BitWriter, set: &CodeSet, left: u32) -> Result<(), Fault>
@@ -195,24 +182,25 @@ fn write_rest(writer: &mut BitWriter, set: &CodeSet, left: u32) -> Result<(), Fa
     Ok(())
 }
 
-/// Writes a block that isn't zeros, behind a run of so many that are.
+/// Writes a block that isn't zeros, whose values have this sum, behind a run of so many that are.
 #[tactic(auto, unfolding(crate::specs::Texts::spelled))]
 fn write_block(
     writer: &mut BitWriter,
     set: &CodeSet,
     zeros: u32,
     block: &[u16],
+    total: u32,
 ) -> Result<(), Fault>
     requires bits { set.now.bits ≤ 16 }
     requires zeros { zeros ≤ 64 }
     requires few { length block.now ≤ 64 }
+    requires total { total ≡ sum block.now }
     requires even { length block.now % 2 ≡ 0 }
     ensures appended { OnOk result (writer.new.bits ≡ writer.old.bits ++ spelling set.now (run_and_block set.now zeros block.now)) }
     ensures same { OnErr result (writer.new.bits ≡ writer.old.bits) }
     ensures refused { IfErr result (λ e. e ≡ WantOfMemory) }
 {
-    let choice = choose(set, block);
-    let cost = option_cost(set, block, choice);
+    let (choice, cost) = choose(set, block, total);
     if zeros > 0 {
         let code = zeros_of_run(zeros);
         writer.reserve(run_cost(set, code) + cost)?;
@@ -224,8 +212,8 @@ fn write_block(
     Ok(())
 }
 
-/// Writes the texts that a whole block makes, behind so many blocks of zeros that are held; answers how
-/// many are held then.
+/// Writes the texts that a whole block makes, whose values have this sum, behind so many blocks of zeros
+/// that are held; answers how many are held then.
 ///
 /// The first one held stands at the place. The memory is asked for first.
 #[tactic(auto, unfolding(crate::specs::Segments::segment_rest))]
@@ -235,19 +223,21 @@ pub(crate) fn write_texts(
     place: &Place,
     zeros: u32,
     block: &[u16],
+    total: u32,
 ) -> Result<u32, Fault>
     requires bits { set.now.bits ≤ 16 }
     requires place { IsPlace place.now }
     requires left { zeros < blocks_from place.now }
     requires few { length block.now ≤ 64 }
+    requires total { total ≡ sum block.now }
     requires even { length block.now % 2 ≡ 0 }
     ensures appended { OnOk result (writer.new.bits ≡ writer.old.bits ++ spelling set.now (texts_after set.now (blocks_from place.now) zeros block.now)) }
     ensures held { IfOk result (λ n. n ≡ zeros_after (blocks_from place.now) zeros block.now) }
     ensures same { OnErr result (writer.new.bits ≡ writer.old.bits) }
     ensures refused { IfErr result (λ e. e ≡ WantOfMemory) }
 {
-    if !all_zero(block) {
-        write_block(writer, set, zeros, block)?;
+    if total != 0 {
+        write_block(writer, set, zeros, block, total)?;
         return Ok(0);
     }
     let left = blocks_left(place);

@@ -41,6 +41,6 @@ returns-clause-ended c =
     let some : 1 ≤ length c.args.self.now.held = omega (arith, ap length held-is, size, c.if-self-eq0.false) in
     let most : length c.args.self.now.held ≤ c.args.self.now.cut.size = omega (arith, ap length held-is, size, inside, size-is) in
     let more : c.args.self.now.start + c.args.self.now.zeros < c.args.self.now.cut.count = rw (← c.self.view_is) (c.self.invariant.more (omega (arith, size, c.if-self-eq0.false))) in
-    on_ok_of c.pack.result _ _
-    (λ p. last_block c.args.self.now c.args.writer.now.bits c.pack.new.writer.bits cut some most more (range_filled (2 ^ c.args.self.now.cut.set.bits) c.args.self.now.cut.size c.args.self.now.held (pow_pos c.args.self.now.cut.set.bits) range) p)
-    (rw block-is at c.pack.ensures.appended)
+    on_ok_of c.pack-2.result _ _
+    (λ p. last_block c.args.self.now c.args.writer.now.bits c.pack-2.new.writer.bits cut some most more (range_filled (2 ^ c.args.self.now.cut.set.bits) c.args.self.now.cut.size c.args.self.now.held (pow_pos c.args.self.now.cut.set.bits) range) p)
+    (rw block-is at c.pack-2.ensures.appended)

@@ -6,7 +6,11 @@ use Rattle.block_adaptive.specs.Taken.{Packed}
 use Rattle.block_adaptive.specs.contracts.block_writer.BlockWriter.{the_view}
 use Rattle.block_adaptive.proofs.Handed.{size_most}
 use Rattle.block_adaptive.proofs.Packing.{number_held, number_packed, held_more, range_push, on_ok_both}
+use Rattle.block_adaptive.proofs.Stored.{total_few}
 use Rattle.block_adaptive.proofs.block_writer.BlockWriter.put.Goals as goal
+
+pub overflow_add-self-then-self : goal.overflow_add-self-then-self
+overflow_add-self-then-self c = record { fits = omega (arith, total_few _ _ _ c.self.inside.total _ c.self.invariant, c.from.ensures, c.ranges.delta.fits) }
 
 pub returns-then-self-clause-taken : goal.returns-then-self-clause-taken
 returns-then-self-clause-taken c =

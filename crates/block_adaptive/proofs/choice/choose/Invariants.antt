@@ -1,7 +1,0 @@
-use Rattle.std.proofs.Common.{◌≡◌, ◌≤◌}
-use Rattle.block_adaptive.specs.Options.{cost}
-use Rattle.block_adaptive.proofs.Tried.{LeadsTried}
-use Rattle.block_adaptive.proofs.choice.choose.Given as goal
-
-abbrev pub invariant-loop-k : goal.invariant-loop-k
-invariant-loop-k l = record { leads : LeadsTried l.set l.block l.longer l.first l.k l.best; least : l.least ≡ cost l.set l.best l.block; from : l.first ≤ l.k }

@@ -1,0 +1,54 @@
+use Rattle.std.proofs.Common.{◌≡◌, ℕ, ◌+◌, ◌-◌, ◌*◌, ◌%◌, ◌^◌, ◌<◌, true, ap, ◌∙◌, arith}
+use Rattle.std.proofs.lemmas.Nat.{one_shl}
+use Rattle.block_adaptive.specs.declared.options.Choice.TheVariants.{Split}
+use Rattle.block_adaptive.specs.Options.{splits, width, cost}
+use Rattle.block_adaptive.proofs.Sums.{plain_length, split_is}
+use Rattle.block_adaptive.proofs.Tried.{next_leads, old_leads}
+use Rattle.block_adaptive.proofs.Bounded.{ended}
+use Rattle.block_adaptive.proofs.choice.choose_of_large.Goals as goal
+use Rattle.block_adaptive.proofs.choice.choose_of_large.Goals.{then-cost-least, else-cost-least}
+
+pub overflow_add-first : goal.overflow_add-first
+overflow_add-first c = record { fits = omega (arith, c.first_split-first.ensures.most) }
+
+pub returns-clause-chosen : goal.returns-clause-chosen
+returns-clause-chosen c =
+    let shifted = one_shl c.identifier_width-width.result 32 (omega (arith, c.identifier_width-width.ensures.most)) in
+    let wide : 2 ^ c.identifier_width-width.result ≡ 2 ^ width c.args.set.now = ap (λ (n : ℕ). 2 ^ n) c.identifier_width-width.ensures.value in
+    let all : 1 * 2 ^ c.identifier_width-width.result % 4294967296 - 2 ≡ splits c.args.set.now = omega arith in
+    ended c.args.set.now c.args.block.now c.args.total c.first_split-first.result c.loop-k.k true c.loop-k.best
+    (record {
+      whole = omega (arith, plain_length c.args.block.now, c.requires.total);
+      within = rw all at c.first_split-first.ensures.within;
+      falling = rw c.from.ensures at c.first_split-first.ensures.falls;
+      rising = rw (all, c.from.ensures) at c.first_split-first.ensures.rises;
+      second = λ e. (omega (arith, c.requires.some), omega (arith, plain_length c.args.block.now, c.requires.total, c.requires.large));
+    })
+    c.loop-k.invariant.leads (omega (arith, c.min-k-end.ensures, c.loop-k.auto.k-end)) (λ lt. omega (arith, c.min-k-end.ensures, c.loop-k.auto.k-end, c.loop-k-test.false))
+
+pub loop-k-preserved : goal.loop-k-preserved
+loop-k-preserved c =
+    let s = c.args.set.now in
+    let vs = c.args.block.now in
+    let first = c.first_split-first.result in
+    let place : first + (c.loop-k.k - first) ≡ c.loop-k.k = omega (arith, c.loop-k.invariant.from) in
+    let few : c.loop-k.k - first < 3 = omega (arith, c.loop-k-test.true, c.min-k-end.ensures) in
+    let told = rw (c.quotient_sums-sums.ensures, c.identifier_width-width.ensures.value) at c.split_cost-cost.ensures in
+    let is = split_is s first (c.loop-k.k - first) vs few in
+    let cost-is : c.split_cost-cost.result ≡ cost s (Split c.loop-k.k) vs = told ∙ (rw place at is) in
+    elim c.if-cost-least.branch [
+      | then-cost-least w ↦
+          rw (w.best-is, w.least-is) (record {
+            leads = next_leads s vs true first c.loop-k.k c.loop-k.best c.loop-k.invariant.from c.loop-k.invariant.leads (omega (arith, cost-is, c.loop-k.invariant.least, w.if-cost-least.true));
+            least = cost-is;
+            bound = omega (arith, c.loop-k.invariant.bound, w.if-cost-least.true);
+            from = omega (arith, c.loop-k.invariant.from);
+          })
+      | else-cost-least w ↦
+          rw (w.best-is, w.least-is) (record {
+            leads = old_leads s vs true first c.loop-k.k c.loop-k.best c.loop-k.invariant.leads (omega (arith, cost-is, c.loop-k.invariant.least, w.if-cost-least.false));
+            least = c.loop-k.invariant.least;
+            bound = c.loop-k.invariant.bound;
+            from = omega (arith, c.loop-k.invariant.from);
+          })
+    ]
