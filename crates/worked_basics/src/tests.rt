@@ -3,5 +3,7 @@
 mod cubes;
 mod faults;
 mod headers;
+mod kinds;
 mod reading;
+mod tables;
 mod writing;

@@ -4,7 +4,8 @@ use cube_core::fault::{Fault, Field, Rule};
 use cube_core::kind::Kind;
 use cube_core::order::Order;
 use cube_core::shape::Shape;
-use header_bits::header::{read_header, write_header};
+use header_bits::bit_writer::BitWriter;
+use header_bits::header::{put_header, read_header, write_header};
 use header_bits::params::{Coder, CountStart, Params, WeightStart};
 use std::test::Fail;
 
@@ -53,6 +54,22 @@ fn one_sample_is_written(rt: HostRuntime) -> Result<(), Fail> {
     assert!(rt; params.check().is_ok());
     let bytes = write_header(rt.alloc(), &params)?;
     assert_eq!(rt; bytes.as_slice(), ONE_SAMPLE.as_slice());
+    Ok(())
+}
+
+#[test]
+fn a_header_is_put_behind_other_bits(rt: HostRuntime) -> Result<(), Fail> {
+    let params = one_sample()?;
+    assert!(rt; params.check().is_ok());
+    let mut writer = BitWriter::new(rt.alloc());
+    writer.push(0xFF, 8)?;
+    put_header(&params, &mut writer)?;
+    assert!(rt; writer.bit_count() == 160);
+    let bytes = writer.into_bytes();
+    assert_eq!(rt;
+        bytes.as_slice().split_first(),
+        Some((&0xFF, ONE_SAMPLE.as_slice()))
+    );
     Ok(())
 }
 

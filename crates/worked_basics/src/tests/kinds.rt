@@ -1,0 +1,36 @@
+//! Kinds of samples: their ranges, and the heights of samples above the least one.
+
+use cube_core::kind::Kind;
+use std::test::Fail;
+
+#[test]
+fn ranges_of_kinds(rt: HostRuntime) -> Result<(), Fail> {
+    for (signed, bits, least, middle, greatest) in [
+        (false, 2, 0, 2, 3),
+        (false, 16, 0, 32_768, 65_535),
+        (true, 2, -2, 0, 1),
+        (true, 16, -32_768, 0, 32_767),
+    ] {
+        let kind = Kind::new(signed, bits)?;
+        assert_eq!(rt; kind.smin(), least);
+        assert_eq!(rt; kind.smid(), middle);
+        assert_eq!(rt; kind.smax(), greatest);
+        assert!(rt; !kind.has(kind.smin() - 1));
+        assert!(rt; kind.has(least));
+        assert!(rt; kind.has(greatest));
+        assert!(rt; !kind.has(kind.smax() + 1));
+    }
+    Ok(())
+}
+
+#[test]
+fn heights_of_samples(rt: HostRuntime) -> Result<(), Fail> {
+    let kind = Kind::new(true, 16)?;
+    for (sample, height) in [(-32_768, 0), (-1, 32_767), (0, 32_768), (32_767, 65_535)] {
+        assert!(rt; kind.has(sample));
+        assert_eq!(rt; kind.height_of(sample), height);
+        assert!(rt; kind.bits() == 16);
+        assert_eq!(rt; kind.sample_of(height), sample);
+    }
+    Ok(())
+}
