@@ -44,7 +44,7 @@ impl WeightTable {
 /// The accumulator constants of an accumulator table, one for each band.
 #[derive(Drop)]
 pub struct ConstantTable {
-    values: Vec<u8>,
+    constants: Vec<u8>,
 }
 
 impl Model for ConstantTable {
@@ -52,30 +52,30 @@ impl Model for ConstantTable {
 
     ghost Value = { List ℕ };
 
-    ghost view = { λ t. t.values.items };
+    ghost view = { λ t. t.constants.items };
 }
 
 impl ConstantTable {
     ghost use Rattle.std.specs.Prelude.{◌≡◌};
 
     /// The constants of a table, in band order.
-    pub fn new(values: Vec<u8>) -> ConstantTable
-        ensures { result ≡ values.items }
+    pub fn new(constants: Vec<u8>) -> ConstantTable
+        ensures { result ≡ constants.items }
     {
-        ConstantTable { values }
+        ConstantTable { constants }
     }
 
     /// The constants, in band order.
     pub fn as_slice(&self) -> &[u8]
         ensures { result.now ≡ self.now }
     {
-        &self.values
+        &self.constants
     }
 
     /// Gives the constants back.
     pub fn into_vec(self) -> Vec<u8>
         ensures { result.items ≡ self }
     {
-        self.values
+        self.constants
     }
 }
