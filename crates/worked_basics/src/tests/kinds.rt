@@ -15,10 +15,10 @@ fn ranges_of_kinds(rt: HostRuntime) -> Result<(), Fail> {
         assert_eq!(rt; kind.smin(), least);
         assert_eq!(rt; kind.smid(), middle);
         assert_eq!(rt; kind.smax(), greatest);
-        assert!(rt; !kind.has(kind.smin() - 1));
+        assert!(rt; !kind.has(kind.smin().saturating_sub(1)));
         assert!(rt; kind.has(least));
         assert!(rt; kind.has(greatest));
-        assert!(rt; !kind.has(kind.smax() + 1));
+        assert!(rt; !kind.has(kind.smax().saturating_add(1)));
     }
     Ok(())
 }
