@@ -1,6 +1,6 @@
 //! What the program reports of a refusal: a line, and its exit status.
 
-ghost use Rattle.std.specs.Prelude.{◌≡◌, IfErr};
+ghost use Rattle.std.specs.Prelude.{◌≡◌, ℕ, List, [], ◌∷◌, ◌++◌, codes, IfOk, IfErr};
 ghost use Rattle.cube_core.specs.declared.fault.Fault.TheVariants.{WantOfMemory};
 ghost use Rattle.ccsds_command.specs.Status.{status};
 
@@ -24,8 +24,11 @@ pub fn status_of(fault: &Fault) -> u8
 ///
 /// `WantOfMemory` where memory for the line was refused.
 pub fn fault_line(alloc: Global, fault: &Fault) -> Result<Vec<u8>, Fault>
-    ensures { IfErr result (λ e. e ≡ WantOfMemory) }
+    ensures line { IfOk result (λ line. (told : List ℕ) × (line.items ≡ codes "ccsds: " ++ told ++ 10 ∷ [])) }
+    ensures refused { IfErr result (λ e. e ≡ WantOfMemory) }
 {
-    let line = format!(in alloc; "ccsds: {fault}\n")?;
+    // No contract knows what a fault's text is, but what stands before and behind it.
+    let told = format!(in alloc; "{fault}")?;
+    let line = format!(in alloc; "ccsds: {told}\n")?;
     Ok(line.into_bytes())
 }

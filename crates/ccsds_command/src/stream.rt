@@ -1,12 +1,13 @@
 //! Sources and sinks over the readers and writers of files and standard streams.
 
-ghost use Rattle.std.specs.Prelude.{◌≡◌, None};
+ghost use Rattle.std.specs.Prelude.{◌≡◌};
 
 use crate::sink::Sink;
 use crate::source::{Failed, Source};
 use std::io::{Read, Write};
 
-/// A source over a reader, which doesn't tell its bytes. An interrupted call is a failure.
+/// A source over a reader. It tells its bytes where the reader does; files and streams don't. An
+/// interrupted call is a failure.
 #[derive(Drop)]
 pub struct ReaderSource<R: Read> {
     reader: R,
@@ -26,10 +27,11 @@ impl<R: Read> ReaderSource<R> {
 }
 
 impl<R: Read> Source for ReaderSource<R> {
-    ghost left = { λ _. None };
+    ghost left = { λ s. R.remaining s.reader };
 
     ghost failures = { λ s. s.failures };
 
+    #[tactic(auto, using(crate::proofs::Streams::consumed_gave, crate::proofs::Streams::kept_gave, crate::proofs::Streams::at_end))]
     fn read(&mut self, buffer: &mut [u8]) -> Result<usize, Failed> {
         match self.reader.read(buffer) {
             Ok(n) => Ok(n),
@@ -41,7 +43,8 @@ impl<R: Read> Source for ReaderSource<R> {
     }
 }
 
-/// A sink over a writer, which doesn't tell its bytes. Each piece goes through to the device at once.
+/// A sink over a writer. It tells its bytes where the writer does; files and streams don't. Each piece
+/// goes through to the writer at once.
 #[derive(Drop)]
 pub struct WriterSink<W: Write> {
     writer: W,
@@ -63,12 +66,13 @@ impl<W: Write> WriterSink<W> {
 }
 
 impl<W: Write> Sink for WriterSink<W> {
-    ghost taken = { λ _. None };
+    ghost taken = { λ s. W.contents s.writer };
 
     ghost failures = { λ s. s.failures };
 
     ghost stalls = { λ s. s.stalls };
 
+    #[tactic(auto, using(crate::proofs::Streams::appended_took, crate::proofs::Streams::kept_took))]
     fn write(&mut self, piece: &[u8]) -> Result<usize, Failed> {
         match self.writer.write(piece) {
             Ok(n) => {
