@@ -1,0 +1,23 @@
+//! What a caller's proof takes from a cube.
+
+ghost use Rattle.std.specs.Prelude.{◌≡◌, length};
+
+use cube_core::cube::Cube;
+use cube_core::kind::Kind;
+use cube_core::shape::Shape;
+use std::test::Fail;
+
+/// How many samples a cube holds, told by its shape alone.
+fn sample_count_of(cube: &Cube) -> u64
+    ensures { result ≡ length cube.now.samples }
+{
+    cube.is_cube();
+    cube.shape().sample_count()
+}
+
+#[test]
+fn a_cube_has_as_many_samples_as_places(rt: HostRuntime) -> Result<(), Fail> {
+    let cube = Cube::new(rt.alloc(), Shape::new(3, 2, 4)?, Kind::new(true, 12)?)?;
+    assert_eq!(rt; sample_count_of(&cube), 24);
+    Ok(())
+}
