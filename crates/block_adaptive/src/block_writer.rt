@@ -26,12 +26,12 @@ pub struct BlockWriter {
     reference: u32,
     /// How many blocks there are.
     count: u64,
-    /// The sum of the values that are there of the next block.
-    total: u32,
     /// The first block of which nothing was written.
     start: u64,
     /// How many blocks of zeros there are from it on.
     zeros: u32,
+    /// The sum of the values that are there of the next block.
+    total: u32,
     values: [u16; 64],
     /// How many values of the next block are there.
     held: u32,
