@@ -1,4 +1,5 @@
 pub mod Bounds
+pub mod Fitting
 pub mod Heights
 pub mod Keys
 pub mod Lists

@@ -18,7 +18,7 @@ use Rattle.cube_core.specs.Layout.{IsLayout, order_of, raw_code, twos_complement
 use Rattle.cube_core.specs.Raw.{AreHeightsOf}
 use Rattle.cube_core.proofs.Bounds.{index_below}
 use Rattle.cube_core.proofs.Heights.{sample_at_height, sample_read, height_is_sample}
-use Rattle.cube_core.proofs.Orders.{place_at_index, length-places}
+use Rattle.cube_core.proofs.Orders.{StandsAt, place_at_index, length-places}
 use Rattle.cube_core.proofs.Raws.{place_of, lawful_order, bytes_there}
 
 -- a list is cut into pieces of one length, each of which is what f makes of an item
@@ -45,7 +45,7 @@ code_by false bytes number h = refl
 pub code_again : (signed : Bool) (bytes number : ℕ) → number < 2 ^ (8 * bytes) → raw_code bytes (twos_complement signed bytes number) ≡ number
 code_again signed bytes number h = code_by (signed && leb (2 ^ (8 * bytes - 1)) number) bytes number h
 
-abbrev AreBytes : List ℕ → Type 0
+abbrev pub AreBytes : List ℕ → Type 0
 AreBytes bytes = (i : ℕ) → get_or bytes i 0 < 256
 
 one_again : (l : Layout) (k : SampleKind) (bytes : List ℕ) → AreBytes bytes → l.bytes ≡ 1 → length bytes ≡ 1 → sample_bytes l (raw_value l k bytes) ≡ bytes
@@ -78,6 +78,17 @@ sample_bytes_again l k bytes (inr e) h n = two_again l.little l k bytes h refl e
 abbrev image : Sizes → SampleKind → List ℕ → Image
 image s k heights = record { shape = s; kind = k; samples = samples_of k heights }
 
+-- the bytes of a sample are bytes
+pub bytes_at_small : (l : Layout) (bytes : List ℕ) (i : ℕ) → AreBytes bytes → AreBytes (bytes_at l bytes i)
+bytes_at_small l bytes i small j = elim (cases_lt j l.bytes) [ inl lt ↦ rw (get_or-take l.bytes (drop (i * l.bytes) bytes) j 0 lt, get_or-drop (i * l.bytes) bytes j 0) (small (i * l.bytes + j)) | inr past ↦ rw (get_or_past (bytes_at l bytes i) j 0 (omega (arith, length-take l.bytes (drop (i * l.bytes) bytes)))) (omega arith) ]
+
+-- the sample that stands at i is the one that its bytes spell
+pub sample_spelled : (s : Sizes) (k : SampleKind) (l : Layout) (bytes heights : List ℕ) (p : Place) (i : ℕ) → length heights ≡ sample_count s → AreHeightsOf s k l bytes heights → StandsAt s (order_of l.order s) p i → sample_at (image s k heights) p.z p.y p.x ≡ raw_value l k (bytes_at l bytes i)
+sample_spelled s k l bytes heights p i full here stands =
+    let at : index_in s.columns s.rows p.z p.y p.x < length heights = rw full (index_below s.columns s.rows s.bands p.z p.y p.x stands.place.band stands.place.row stands.place.column) in
+    let read = sample_at_height (image s k heights) s k heights p.z p.y p.x (index_in s.columns s.rows p.z p.y p.x) refl refl at in
+    read ∙ (here p stands.place).value ∙ ap (λ (n : ℕ). raw_value l k (bytes_at l bytes n)) stands.index
+
 each_sample : (s : Sizes) (k : SampleKind) (l : Layout) (bytes heights : List ℕ) (i : ℕ) (d : Place) → IsLayout l → 0 < sample_count s → length bytes ≡ sample_count s * l.bytes → AreBytes bytes → length heights ≡ sample_count s → AreHeightsOf s k l bytes heights → i < sample_count s
     → sample_bytes l (sample_at (image s k heights) (get_or (places s (order_of l.order s)) i d).z (get_or (places s (order_of l.order s)) i d).y (get_or (places s (order_of l.order s)) i d).x) ≡ bytes_at l bytes i
 each_sample s k l bytes heights i d layout some long small full here lt =
@@ -85,16 +96,9 @@ each_sample s k l bytes heights i d layout some long small full here lt =
     let there = place_of s (order_of l.order s) i lawful lt in
     let p : Place = there.0 in
     let item : get_or (places s (order_of l.order s)) i d ≡ p = subst (λ (n : ℕ). get_or (places s (order_of l.order s)) n d ≡ p) there.1.index (place_at_index s (order_of l.order s) p d lawful there.1.place) in
-    let at : index_in s.columns s.rows p.z p.y p.x < length heights = rw full (index_below s.columns s.rows s.bands p.z p.y p.x there.1.place.band there.1.place.row there.1.place.column) in
-    let read = sample_at_height (image s k heights) s k heights p.z p.y p.x (index_in s.columns s.rows p.z p.y p.x) refl refl at in
-    let value = read ∙ (here p there.1.place).value ∙ ap (λ (n : ℕ). raw_value l k (bytes_at l bytes n)) there.1.index in
     let fits : i * l.bytes + l.bytes ≤ length bytes = rw long (bytes_there l i (sample_count s) layout lt) in
     let whole : length (bytes_at l bytes i) ≡ l.bytes = omega (arith, length-take l.bytes (drop (i * l.bytes) bytes), length-drop (i * l.bytes) bytes) in
-    let small_there : AreBytes (bytes_at l bytes i) = λ j. below_at j in
-    rw (item, value) (sample_bytes_again l k (bytes_at l bytes i) layout small_there whole)
-  where
-    below_at : (j : ℕ) → get_or (bytes_at l bytes i) j 0 < 256
-    below_at j = elim (cases_lt j l.bytes) [ inl lt ↦ rw (get_or-take l.bytes (drop (i * l.bytes) bytes) j 0 lt, get_or-drop (i * l.bytes) bytes j 0) (small (i * l.bytes + j)) | inr past ↦ rw (get_or_past (bytes_at l bytes i) j 0 (omega (arith, length-take l.bytes (drop (i * l.bytes) bytes)))) (omega arith) ]
+    rw (item, sample_spelled s k l bytes heights p i full here there.1) (sample_bytes_again l k (bytes_at l bytes i) layout (bytes_at_small l bytes i small) whole)
 
 pub raw_bytes_again : (s : Sizes) (k : SampleKind) (l : Layout) (bytes heights : List ℕ) → IsLayout l → 0 < sample_count s → length bytes ≡ sample_count s * l.bytes → AreBytes bytes → length heights ≡ sample_count s → AreHeightsOf s k l bytes heights
     → raw_bytes (record { shape = s; kind = k; samples = samples_of k heights }) l ≡ bytes

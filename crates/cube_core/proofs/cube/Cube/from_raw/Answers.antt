@@ -2,6 +2,7 @@ use Rattle.std.proofs.Common.{◌≡◌, length, arith, refl}
 use Rattle.std.proofs.lemmas.List.{with_items_is}
 use Rattle.std.specs.Vec.{with_items}
 use Rattle.cube_core.specs.Shape.{sample_count}
+use Rattle.cube_core.proofs.Fitting.{have_bytes_again}
 use Rattle.cube_core.proofs.RawBytes.{raw_bytes_again, are_heights, is_cube}
 use Rattle.cube_core.proofs.cube.Cube.from_raw.Goals as goal
 use Rattle.cube_core.proofs.cube.Cube.from_raw.Goals.{In_ok-fill}
@@ -23,3 +24,7 @@ returns-clause-cube c =
 pub returns-clause-whole : goal.returns-clause-whole
 returns-clause-whole c =
     rw (items c) (is_cube c.args.shape c.args.kind c.fill.new.heights c.sample_count.ensures.sizes (rw c.bits-bits.ensures.value at c.bits-bits.ensures.range) (are_heights c.args.shape c.args.kind c.args.layout c.args.bytes.now c.fill.new.heights (omega (arith, c.sample_count.ensures.value, c.sample_count.ensures.range)) (full c) c.in_ok-fill.ensures.filled))
+
+pub returns-clause-fits : goal.returns-clause-fits
+returns-clause-fits c =
+    rw (items c) (have_bytes_again c.args.shape c.args.kind c.args.layout c.args.bytes.now c.fill.new.heights c.requires (omega (arith, c.sample_count.ensures.value, c.sample_count.ensures.range)) (λ i. omega (arith, c.type_inv.bytes i)) (full c) c.in_ok-fill.ensures.filled)
