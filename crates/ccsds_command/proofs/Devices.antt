@@ -15,7 +15,7 @@ gave_more a b c x y first second before e =
     (two.0, two.1, one.2 ∙ ap (λ (bytes : List ℕ). x ++ bytes) two.2 ∙ sym (append_assoc x y two.0))
 
 pub rises_is_rose : (old new : ℕ) → Rises old new → Rose old new
-rises_is_rose old new (inl e) = inl (omega arith)
+rises_is_rose old new (inl e) = inl (omega (arith, e.1))
 rises_is_rose old new (inr e) = inr (e.1 ∙ e.0)
 
 -- some bytes were taken, so no stall is counted

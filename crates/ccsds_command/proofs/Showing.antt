@@ -44,6 +44,13 @@ fault_by input had long is other =
     let apart : eqb had (sample_count (sizes_of input)) ≡ false = ne_eqb had (sample_count (sizes_of input)) other in
     rw (far, ← is, apart) refl
 
+-- six bytes and then samples were read, and not as many as the six say
+read_fault : (x y : List ℕ) (n : ℕ) → length x ≡ 6 → n ≡ sample_count (sizes_of x) → length y ≤ n + 1 → length y ≢ n → length_fault (x ++ y) ≡ Some (RawLength n (length y))
+read_fault x y n six is most other =
+    let wanted : sample_count (sizes_of (x ++ y)) ≡ n = ap sample_count (sizes_front x y six) ∙ sym is in
+    let long : length (x ++ y) ≡ 6 + length y = length-append x y ∙ omega (arith, six) in
+    rw (← wanted) (fault_by (x ++ y) (length y) (omega (arith, long)) (omega (arith, most, long, wanted)) (λ g. other (g ∙ wanted)))
+
 -- the samples are too few, or one more than the sizes say was read
 pub wrong_length : (a b c : Option (List ℕ)) (x y : List ℕ) (n : ℕ) → length x ≡ 6 → n ≡ sample_count (sizes_of x) → Gave a b x → Gave b c y → length y ≤ n + 1 → (length y ≡ n + 1) ⊎ IsEnd c → length y ≢ n → (input : List ℕ) → a ≡ Some input → length_fault input ≡ Some (RawLength n (length y))
 wrong_length a b c x y n six is first second most end other input e =
@@ -80,4 +87,4 @@ pub refused_by : {T : Type 0} (r : Result T Fault) (a b c : Option (List ℕ)) (
 refused_by (Ok t) a b c x y n failures failures_now six is first second most end h = tt
 refused_by (Err e) a b c x y n failures failures_now six is first second most end (inl h) = inr (inl h)
 refused_by (Err e) a b c x y n failures failures_now six is first second most end (inr (h, k)) =
-    inr (inr ((n, length y, h), λ input f. rw h (wrong_length a b c x y n six is first second most end k input f)))
+    inr (inr ((x ++ y, rw h (read_fault x y n six is most k)), λ input f. rw h (wrong_length a b c x y n six is first second most end k input f)))

@@ -1,10 +1,10 @@
 -- What a cube's raw bytes are compressed to.
-use Rattle.std.specs.Prelude.{◌≡◌, ◌≢◌, ◌⊎◌, ℕ, ◌+◌, ◌*◌, List, length, Option, Err}
+use Rattle.std.specs.Prelude.{◌≡◌, ◌≢◌, ◌⊎◌, ℕ, ◌+◌, ◌*◌, ◌≤◌, List, length, Option, Err}
 use Rattle.cube_core.specs.declared.fault.Fault.{Fault}
 use Rattle.cube_core.specs.declared.fault.Fault.TheVariants.{WantOfMemory, RawLength, Read}
 use Rattle.cube_core.specs.Shape.{sample_count}
 use Rattle.cube_core.specs.Image.{Image}
-use Rattle.cube_core.specs.Layout.{raw_bytes}
+use Rattle.cube_core.specs.Layout.{raw_bytes, HaveBytes}
 use Rattle.cube_core.specs.Raw.{IsBadSample}
 use Rattle.header_bits.specs.Reach.{here}
 use Rattle.header_bits.specs.Lawful.{IsLawful, params_fault}
@@ -22,9 +22,9 @@ raw_length s = sample_count s.params.shape * s.layout.bytes
 abbrev pub raw_limit : CompressSettings → ℕ
 raw_limit s = raw_length s + 1
 
--- the source has the raw bytes of this cube, which is one of the parameters' shape and kind
+-- the source has the raw bytes of this cube, which is one of the parameters' shape and kind, and whose samples fit their bytes
 abbrev pub HasCube : CompressSettings → Option (List ℕ) → Image → Type 0
-HasCube s left c = IsCubeOf s.params c × IsAll left (raw_bytes c s.layout)
+HasCube s left c = IsCubeOf s.params c × HaveBytes c s.layout (sample_count c.shape) × IsAll left (raw_bytes c s.layout)
 
 -- the source has the raw bytes of a cube, whose file this is
 abbrev pub HasFile : CompressSettings → Option (List ℕ) → List ℕ → Type 0
@@ -43,7 +43,7 @@ IsBadRaw s bytes fault =
 -- why the source has no cube: it failed, or memory did, or its bytes are no cube's, of which at most one too many is read
 abbrev pub IsCubeRefusal : CompressSettings → Option (List ℕ) → ℕ → ℕ → Fault → Type 0
 IsCubeRefusal s left failures failures_now fault =
-    ((fault ≡ Read) × Rose failures failures_now) ⊎ ((fault ≡ WantOfMemory) ⊎ ((bytes : List ℕ) × IsFront (raw_limit s) left bytes × IsBadRaw s bytes fault))
+    ((fault ≡ Read) × Rose failures failures_now) ⊎ ((fault ≡ WantOfMemory) ⊎ ((bytes : List ℕ) × IsFront (raw_limit s) left bytes × (length bytes ≤ raw_limit s) × IsBadRaw s bytes fault))
 
 -- why a run is refused: the parameters aren't lawful, or the source has no cube, and nothing was written; or the sink cut the file short
 abbrev pub IsCompressFault : CompressSettings → Option (List ℕ) → ℕ → ℕ → Option (List ℕ) → Option (List ℕ) → ℕ → ℕ → ℕ → ℕ → Fault → Type 0

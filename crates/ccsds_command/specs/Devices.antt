@@ -1,5 +1,5 @@
 -- What is known of a device that may tell its bytes, and of its failures.
-use Rattle.std.specs.Prelude.{◌≡◌, ◌⊎◌, ℕ, ◌+◌, ◌-◌, ◌<◌, ◌≤◌, ◌^◌, List, [], ◌++◌, length, take, Option, Some}
+use Rattle.std.specs.Prelude.{◌≡◌, ◌≢◌, ◌⊎◌, ℕ, ◌+◌, ◌-◌, ◌<◌, ◌≤◌, ◌^◌, List, [], ◌++◌, length, take, Option, Some}
 
 -- where a source tells its bytes, it gave these from the front of those that were left
 abbrev pub Gave : Option (List ℕ) → Option (List ℕ) → List ℕ → Type 0
@@ -31,7 +31,7 @@ Took old new bytes = (before : List ℕ) → old ≡ Some before → new ≡ Som
 
 -- a count goes up by one, and stays at its greatest
 abbrev pub Rises : ℕ → ℕ → Type 0
-Rises old new = (new ≡ old + 1) ⊎ ((old ≡ 2 ^ 64 - 1) × (new ≡ old))
+Rises old new = ((old ≢ 2 ^ 64 - 1) × (new ≡ old + 1)) ⊎ ((old ≡ 2 ^ 64 - 1) × (new ≡ old))
 
 -- a count went up, or stands at its greatest
 abbrev pub Rose : ℕ → ℕ → Type 0

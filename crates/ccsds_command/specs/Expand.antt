@@ -1,9 +1,10 @@
 -- What a file is expanded to.
-use Rattle.std.specs.Prelude.{◌≡◌, ◌⊎◌, ℕ, List, Option, Err}
+use Rattle.std.specs.Prelude.{◌≡◌, ◌⊎◌, ℕ, ◌^◌, ◌≤◌, List, length, Option, Err}
 use Rattle.cube_core.specs.declared.fault.Fault.{Fault}
 use Rattle.cube_core.specs.declared.layout.Layout.{Layout}
 use Rattle.cube_core.specs.Image.{Image}
-use Rattle.cube_core.specs.Layout.{raw_bytes}
+use Rattle.cube_core.specs.Shape.{sample_count}
+use Rattle.cube_core.specs.Layout.{raw_bytes, HaveBytes}
 use Rattle.cube_core.specs.Raw.{IsUnfit}
 use Rattle.header_bits.specs.declared.params.Params.{Params}
 use Rattle.header_bits.specs.Bits.{bits_of_bytes}
@@ -13,21 +14,21 @@ use Rattle.ccsds_command.specs.Devices.{Took, IsAll}
 use Rattle.ccsds_command.specs.Reading.{IsReadRefusal}
 use Rattle.ccsds_command.specs.Writing.{IsCutShort}
 
--- the source has a file of this cube
+-- the source has a file of this cube, of at most 2^40 bytes
 abbrev pub HasFileOf : Option (List ℕ) → Image → Type 0
-HasFileOf left c = (bytes : List ℕ) × (p : Params) × IsAll left bytes × IsFile here bytes p c
+HasFileOf left c = (bytes : List ℕ) × (p : Params) × IsAll left bytes × (length bytes ≤ 2 ^ 40) × IsFile here bytes p c
 
--- the source has a file of a cube, whose raw bytes these are
+-- the source has a file of a cube whose samples fit their bytes, and these are its raw bytes
 abbrev pub HasRaw : Layout → Option (List ℕ) → List ℕ → Type 0
-HasRaw l left raw = (c : Image) × HasFileOf left c × (raw ≡ raw_bytes c l)
+HasRaw l left raw = (c : Image) × HasFileOf left c × HaveBytes c l (sample_count c.shape) × (raw ≡ raw_bytes c l)
 
 -- the sink gained the raw bytes of the cube whose file the source has
 abbrev pub Expands : Layout → Option (List ℕ) → Option (List ℕ) → Option (List ℕ) → Type 0
 Expands l left old new = (raw : List ℕ) × HasRaw l left raw × Took old new raw
 
--- the source has bytes that are no file, and this is their first fault
+-- the source has bytes, at most 2^40, that are no file, and this is their first fault
 abbrev pub HasNoFile : Option (List ℕ) → Fault → Type 0
-HasNoFile left fault = (bytes : List ℕ) × IsAll left bytes × (file_test here (bits_of_bytes bytes) ≡ Err fault)
+HasNoFile left fault = (bytes : List ℕ) × IsAll left bytes × (length bytes ≤ 2 ^ 40) × (file_test here (bits_of_bytes bytes) ≡ Err fault)
 
 -- the source has a file of a cube that has no raw bytes in this layout
 abbrev pub HasUnfit : Layout → Option (List ℕ) → Fault → Type 0

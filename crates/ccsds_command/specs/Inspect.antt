@@ -1,5 +1,5 @@
 -- What is told of a file: the lines of its header's fields.
-use Rattle.std.specs.Prelude.{◌≡◌, ◌⊎◌, ℕ, ◌^◌, List, [], ◌∷◌, ◌++◌, Bool, if◌then◌else◌, Option, Ok, Err, codes, decimal}
+use Rattle.std.specs.Prelude.{◌≡◌, ◌⊎◌, ℕ, ◌^◌, ◌≤◌, List, [], ◌∷◌, ◌++◌, length, Bool, if◌then◌else◌, Option, Ok, Err, codes, decimal}
 use Rattle.std.specs.Fmt.{signed_decimal}
 use Rattle.cube_core.specs.declared.fault.Fault.{Fault}
 use Rattle.cube_core.specs.declared.order.Order.{Order}
@@ -87,9 +87,9 @@ header_lines p size = image_lines p ++ predictor_lines p ++ coder_lines p.coder 
 
 -- ---- what a run tells
 
--- the source has bytes that begin with a header of these parameters, and of so many bytes
+-- the source has bytes, at most 2^40, that begin with a header of these parameters, and of so many bytes
 abbrev pub HasHeader : Option (List ℕ) → Params → ℕ → Type 0
-HasHeader left p size = (bytes : List ℕ) × IsAll left bytes × ReadsHeader here (bits_of_bytes bytes) (Ok (p, size))
+HasHeader left p size = (bytes : List ℕ) × IsAll left bytes × (length bytes ≤ 2 ^ 40) × (size ≤ length bytes) × ReadsHeader here (bits_of_bytes bytes) (Ok (p, size))
 
 -- the source has a header, whose lines these are
 abbrev pub HasLines : Option (List ℕ) → List ℕ → Type 0
@@ -99,9 +99,9 @@ HasLines left text = (p : Params) × (size : ℕ) × HasHeader left p size × (t
 abbrev pub Inspects : Option (List ℕ) → Option (List ℕ) → Option (List ℕ) → Type 0
 Inspects left old new = (text : List ℕ) × HasLines left text × Took old new text
 
--- the source has bytes that begin with no header, and this is the first refusal
+-- the source has bytes, at most 2^40, that begin with no header, and this is the first refusal
 abbrev pub HasNoHeader : Option (List ℕ) → Fault → Type 0
-HasNoHeader left fault = (bytes : List ℕ) × IsAll left bytes × ReadsHeader here (bits_of_bytes bytes) (Err fault)
+HasNoHeader left fault = (bytes : List ℕ) × IsAll left bytes × (length bytes ≤ 2 ^ 40) × ReadsHeader here (bits_of_bytes bytes) (Err fault)
 
 -- why there are no lines: nothing was read, or there is no header
 abbrev pub IsInspectRefusal : Option (List ℕ) → ℕ → ℕ → Fault → Type 0

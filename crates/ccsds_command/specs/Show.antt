@@ -95,10 +95,10 @@ length_fault input =
 abbrev pub show_limit : List ℕ → ℕ
 show_limit input = 7 + sample_count (sizes_of input)
 
--- why nothing is shown: the source failed, the input's length, or want of memory
+-- why nothing is shown: the source failed, the length of what was read of the input, or want of memory
 abbrev pub IsShowRefusal : Option (List ℕ) → ℕ → ℕ → Fault → Type 0
 IsShowRefusal left failures failures_now fault =
-    ((fault ≡ Read) × Rose failures failures_now) ⊎ ((fault ≡ WantOfMemory) ⊎ (((wanted : ℕ) × (had : ℕ) × (fault ≡ RawLength wanted had)) × ((input : List ℕ) → left ≡ Some input → length_fault input ≡ Some fault)))
+    ((fault ≡ Read) × Rose failures failures_now) ⊎ ((fault ≡ WantOfMemory) ⊎ (((read : List ℕ) × (length_fault read ≡ Some fault)) × ((input : List ℕ) → left ≡ Some input → length_fault input ≡ Some fault)))
 
 -- why a run is refused: nothing is shown, and nothing was written; or the sink cut the text short
 abbrev pub IsShowFault : Option (List ℕ) → ℕ → ℕ → Option (List ℕ) → Option (List ℕ) → ℕ → ℕ → ℕ → ℕ → Fault → Type 0

@@ -1,5 +1,5 @@
 -- What a sink gained where a write was cut short.
-use Rattle.std.specs.Prelude.{◌≡◌, ◌⊎◌, ℕ, ◌≤◌, List, length, take, Option}
+use Rattle.std.specs.Prelude.{◌≡◌, ◌⊎◌, ℕ, ◌<◌, List, length, take, Option}
 use Rattle.cube_core.specs.declared.fault.Fault.{Fault}
 use Rattle.cube_core.specs.declared.fault.Fault.TheVariants.{Write}
 use Rattle.ccsds_command.specs.Devices.{Took, Rose}
@@ -7,4 +7,4 @@ use Rattle.ccsds_command.specs.Devices.{Took, Rose}
 -- the sink gained the first bytes, as many as the refusal says, and failed or stalled then
 abbrev pub IsCutShort : Option (List ℕ) → Option (List ℕ) → ℕ → ℕ → ℕ → ℕ → List ℕ → Fault → Type 0
 IsCutShort old new failures failures_after stalls stalls_after bytes fault =
-    (n : ℕ) × (fault ≡ Write n) × (n ≤ length bytes) × Took old new (take n bytes) × (Rose failures failures_after ⊎ Rose stalls stalls_after)
+    (n : ℕ) × (fault ≡ Write n) × (n < length bytes) × Took old new (take n bytes) × (Rose failures failures_after ⊎ Rose stalls stalls_after)
