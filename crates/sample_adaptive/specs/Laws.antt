@@ -41,7 +41,7 @@ pub record Begins (c : Code) (f : Form) (bits rest : List Bool) : Type 0 where
   pub form : IsForm c f
   pub text : bits ≡ form_text c f ++ rest
 
--- the bits end within a form exactly where no form stands
+-- bits that are said to end too early begin with no form
 abbrev pub TruncatedIsNoForm : Type 0
 TruncatedIsNoForm =
     (count place : ℕ) (c : Code) (bits : List Bool) → word_at count place c bits ≡ Err (Truncated count)
