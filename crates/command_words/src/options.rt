@@ -3,11 +3,35 @@
 use clap::{Arg, ArgAction, Command};
 use std::alloc::{AllocError, Global};
 
+/// What says how large an image is, and what its samples are.
+const SIZES: &str = "columns rows bands bits";
+
+/// The flags of `compress`.
+const FLAGS: &str = "signed reduced column-sums";
+
+/// The options of `compress`, each with its value where it is left out: the encoding order and what goes
+/// into the header's first part, how samples are predicted, and how residuals are coded.
+const OPTIONS: &str = "order bsq
+depth 1
+user 0
+word 1
+previous 3
+register 64
+omega 13
+interval-log 6
+vmin-code 5
+vmax-code 9
+coder sample
+umax 16
+gamma-star 6
+gamma-zero 1
+k 3
+block 8
+reference 64";
+
 /// The commands with their options and files.
 pub(crate) fn command<'a>(alloc: Global) -> Result<Command<'a>, AllocError> {
     let compress = image_options(alloc, Command::new(alloc, "compress"))?;
-    let compress = predictor_options(alloc, compress)?;
-    let compress = coder_options(alloc, compress)?;
     let compress = layout_options(alloc, compress)?;
     let expand = layout_options(alloc, Command::new(alloc, "expand"))?;
     Command::new(alloc, "ccsds")
@@ -18,43 +42,21 @@ pub(crate) fn command<'a>(alloc: Global) -> Result<Command<'a>, AllocError> {
         .subcommand(Command::new(alloc, "inspect"))
 }
 
-/// The image, its encoding order and what goes into the header's first part.
+/// The image, and how it is predicted and coded.
 fn image_options<'a>(alloc: Global, command: Command<'a>) -> Result<Command<'a>, AllocError> {
-    command
-        .arg(required(alloc, "columns"))?
-        .arg(required(alloc, "rows"))?
-        .arg(required(alloc, "bands"))?
-        .arg(required(alloc, "bits"))?
-        .arg(flag(alloc, "signed"))?
-        .arg(option(alloc, "order", "bsq"))?
-        .arg(option(alloc, "depth", "1"))?
-        .arg(option(alloc, "user", "0"))?
-        .arg(option(alloc, "word", "1"))
-}
-
-/// How samples are predicted.
-fn predictor_options<'a>(alloc: Global, command: Command<'a>) -> Result<Command<'a>, AllocError> {
-    command
-        .arg(option(alloc, "previous", "3"))?
-        .arg(flag(alloc, "reduced"))?
-        .arg(flag(alloc, "column-sums"))?
-        .arg(option(alloc, "register", "64"))?
-        .arg(option(alloc, "omega", "13"))?
-        .arg(option(alloc, "interval-log", "6"))?
-        .arg(option(alloc, "vmin-code", "5"))?
-        .arg(option(alloc, "vmax-code", "9"))
-}
-
-/// How residuals are coded.
-fn coder_options<'a>(alloc: Global, command: Command<'a>) -> Result<Command<'a>, AllocError> {
-    command
-        .arg(option(alloc, "coder", "sample"))?
-        .arg(option(alloc, "umax", "16"))?
-        .arg(option(alloc, "gamma-star", "6"))?
-        .arg(option(alloc, "gamma-zero", "1"))?
-        .arg(option(alloc, "k", "3"))?
-        .arg(option(alloc, "block", "8"))?
-        .arg(option(alloc, "reference", "64"))
+    let mut command = command;
+    for name in SIZES.split(' ') {
+        command = command.arg(required(alloc, name))?;
+    }
+    for line in OPTIONS.split('\n') {
+        if let Some((name, default)) = line.split_once(' ') {
+            command = command.arg(option(alloc, name, default))?;
+        }
+    }
+    for name in FLAGS.split(' ') {
+        command = command.arg(flag(alloc, name))?;
+    }
+    Ok(command)
 }
 
 /// How raw bytes lie, and the two files.
