@@ -4,6 +4,7 @@ ghost use Rattle.std.specs.Prelude.{◌≡◌, ◌+◌, ◌^◌, ◌<◌, ◌≤
 ghost use Rattle.cube_core.specs.Shape.{sample_count};
 ghost use Rattle.block_adaptive.specs.Settings.{AreForBlocks, IsSize};
 
+use crate::texts::{bytes_of, fault_of, number_of, numbers_of, parts_of};
 use block_adaptive::block_reader::BlockReader;
 use block_adaptive::block_writer::BlockWriter;
 use cube_core::fault::Fault;
@@ -15,10 +16,9 @@ use header_bits::bit_writer::BitWriter;
 use header_bits::params::{Coder, Params, WeightStart};
 use std::alloc::Global;
 use std::process::Abort;
-use std::test::Fail;
 
 /// What a test tells the coder.
-#[derive(Clone, Copy, Debug)]
+#[derive(Clone, Copy)]
 pub(crate) struct Settings {
     pub(crate) bits: u32,
     pub(crate) restricted: bool,
@@ -138,8 +138,30 @@ fn sample_numbers(alloc: Global, bits: u32, count: u32, seed: u64) -> Result<Vec
     Ok(numbers)
 }
 
+/// That so many numbers are written and read back.
+fn come_back(rt: &impl Abort, alloc: Global, s: Settings)
+    requires bits { (2 ≤ s.bits) × (s.bits ≤ 16) }
+    requires size { s.size < 4 }
+{
+    let params = params_of(rt, s);
+    let seed = u64::from(s.bits * 100 + s.size);
+    let numbers = sample_numbers(alloc, s.bits, s.count, seed).expect(rt, "memory");
+    assert!(rt; numbers.len() as u64 == params.shape.sample_count());
+    let bytes = written(rt, alloc, &params, &numbers).expect(rt, "a body");
+    let (back, left) = read(rt, alloc, &params, &bytes).expect(rt, "numbers");
+    assert!(rt;
+        back.as_slice() == numbers.as_slice(),
+        "at {} bits, size {}, r {}, {} numbers",
+        s.bits,
+        s.size,
+        s.reference,
+        s.count
+    );
+    assert!(rt; left < 8);
+}
+
 #[test]
-fn numbers_come_back(rt: HostRuntime) -> Result<(), Fail> {
+fn numbers_come_back(rt: HostRuntime) {
     for bits in 2..17 {
         for size in 0..4 {
             for (reference, count) in [
@@ -151,45 +173,29 @@ fn numbers_come_back(rt: HostRuntime) -> Result<(), Fail> {
                 (4096, 1200),
             ] {
                 for restricted in [false, true] {
-                    let params = params_of(
-                        &rt,
-                        Settings {
-                            bits,
-                            restricted,
-                            size,
-                            reference,
-                            count,
-                        },
-                    );
-                    let numbers = sample_numbers(
-                        rt.alloc(),
+                    let settings = Settings {
                         bits,
+                        restricted,
+                        size,
+                        reference,
                         count,
-                        u64::from(bits * 100 + size),
-                    )?;
-                    assert!(rt; numbers.len() as u64 == params.shape.sample_count());
-                    let bytes = written(&rt, rt.alloc(), &params, &numbers)?;
-                    let (back, left) = read(&rt, rt.alloc(), &params, &bytes)?;
-                    assert!(rt;
-                        back.as_slice() == numbers.as_slice(),
-                        "at {bits} bits, size {size}, r {reference}, {count} numbers"
-                    );
-                    assert!(rt; left < 8);
+                    };
+                    come_back(&rt, rt.alloc(), settings);
                 }
             }
         }
     }
-    Ok(())
 }
 
-/// The body of a few numbers in blocks of 8.
-fn body_of(
+/// That these numbers, in blocks of 8, are written as this body.
+fn is_body(
     rt: &impl Abort,
     alloc: Global,
     bits: u32,
     reference: u32,
     numbers: &[u16],
-) -> Result<Vec<u8>, Fail> {
+    body: &[u8],
+) {
     assert!(rt; numbers.len() < 65_536);
     let s = Settings {
         bits,
@@ -200,53 +206,39 @@ fn body_of(
     };
     let params = params_of(rt, s);
     assert!(rt; numbers.len() as u64 == params.shape.sample_count());
-    Ok(written(rt, alloc, &params, numbers)?)
+    let found = written(rt, alloc, &params, numbers).expect(rt, "a body");
+    assert_eq!(rt; found.as_slice(), body);
 }
 
+/// Bits of a sample, reference interval, numbers in blocks of 8, and their body.
+const BODIES: &str = "\
+8 | 1 | 144 | a0 0f f0 00 00 00 00
+8 | 1 | 0 | 08
+8 | 8 | 48*0 | 00 80
+8 | 8 | 32*0 | 01
+8 | 4 | 48*0 | 01 04
+8 | 4096 | 1040*0 | 00 80 41
+8 | 65 | 1040*0 | 00 84 02 10
+8 | 1 | 55 3 5 0 4 2 20 1 2 2 1 2 | 80 7e 7d d1 14 24 94 f8
+2 | 1 | 8*1 | ea aa a0";
+
 #[test]
-fn bodies(rt: HostRuntime) -> Result<(), Fail> {
-    let alloc = rt.alloc();
-    assert_eq!(rt;
-        body_of(&rt, alloc, 8, 1, &[144])?.as_slice(),
-        [0xA0, 0x0F, 0xF0, 0, 0, 0, 0].as_slice()
-    );
-    assert_eq!(rt;
-        body_of(&rt, alloc, 8, 1, &[0])?.as_slice(),
-        [0x08].as_slice()
-    );
-    assert_eq!(rt;
-        body_of(&rt, alloc, 8, 8, &[0; 48])?.as_slice(),
-        [0x00, 0x80].as_slice()
-    );
-    assert_eq!(rt;
-        body_of(&rt, alloc, 8, 8, &[0; 32])?.as_slice(),
-        [0x01].as_slice()
-    );
-    assert_eq!(rt;
-        body_of(&rt, alloc, 8, 4, &[0; 48])?.as_slice(),
-        [0x01, 0x04].as_slice()
-    );
-    assert_eq!(rt;
-        body_of(&rt, alloc, 8, 4096, &[0; 1040])?.as_slice(),
-        [0x00, 0x80, 0x41].as_slice()
-    );
-    assert_eq!(rt;
-        body_of(&rt, alloc, 8, 65, &[0; 1040])?.as_slice(),
-        [0x00, 0x84, 0x02, 0x10].as_slice()
-    );
-    assert_eq!(rt;
-        body_of(&rt, alloc, 8, 1, &[55, 3, 5, 0, 4, 2, 20, 1, 2, 2, 1, 2])?.as_slice(),
-        [0x80, 0x7E, 0x7D, 0xD1, 0x14, 0x24, 0x94, 0xF8].as_slice()
-    );
-    assert_eq!(rt;
-        body_of(&rt, alloc, 2, 1, &[1; 8])?.as_slice(),
-        [0xEA, 0xAA, 0xA0].as_slice()
-    );
-    Ok(())
+fn bodies(rt: HostRuntime) {
+    for row in BODIES.split('\n') {
+        let [bits, reference, numbers, body, _] = parts_of(&rt, row);
+        is_body(
+            &rt,
+            rt.alloc(),
+            number_of(&rt, bits),
+            number_of(&rt, reference),
+            &numbers_of(&rt, rt.alloc(), numbers),
+            &bytes_of(&rt, rt.alloc(), body),
+        );
+    }
 }
 
 /// What a body of so many numbers in blocks of 8 is refused for; the reader stands where it stood.
-fn refusal_of(rt: &impl Abort, bits: u32, reference: u32, bytes: &[u8]) -> Result<Fault, Fail> {
+fn refusal_of(rt: &impl Abort, bits: u32, reference: u32, bytes: &[u8]) -> Fault {
     assert!(rt; bytes.len() < 1_000_000);
     let params = params_of(
         rt,
@@ -264,30 +256,22 @@ fn refusal_of(rt: &impl Abort, bits: u32, reference: u32, bytes: &[u8]) -> Resul
     let first = blocks.next(&mut reader).err();
     let left = reader.left();
     assert!(rt; left == 8 * bytes.len() as u64);
-    Ok(first.ok_or("no refusal")?)
+    first.expect(rt, "a refusal")
 }
 
+/// What is refused, bits of a sample, reference interval, body, and the fault.
+const REFUSALS: &str = "\
+a run of five blocks where four are left | 8 | 4 | 00 42 10 | RunPastSegment 0
+k = 5 and eight zeros | 8 | 1 | c0 00 | BadOption 0
+k = 5 and five zeros | 8 | 1 | c0 | Truncated 8
+number 10 is the pair (4, 0), above two bits | 2 | 1 | 10 03 c0 | BadOption 0";
+
 #[test]
-fn refusals(rt: HostRuntime) -> Result<(), Fail> {
-    // A run of five blocks where four are left.
-    assert_eq!(rt;
-        refusal_of(&rt, 8, 4, &[0x00, 0x42, 0x10])?,
-        Fault::RunPastSegment { block: 0 }
-    );
-    // k = 5 and eight zeros.
-    assert_eq!(rt;
-        refusal_of(&rt, 8, 1, &[0xC0, 0x00])?,
-        Fault::BadOption { block: 0 }
-    );
-    // k = 5 and five zeros.
-    assert_eq!(rt;
-        refusal_of(&rt, 8, 1, &[0xC0])?,
-        Fault::Truncated { bit: 8 }
-    );
-    // Number 10 is the pair (4, 0), above two bits.
-    assert_eq!(rt;
-        refusal_of(&rt, 2, 1, &[0x10, 0x03, 0xC0])?,
-        Fault::BadOption { block: 0 }
-    );
-    Ok(())
+fn refusals(rt: HostRuntime) {
+    for row in REFUSALS.split('\n') {
+        let [name, bits, reference, body, fault] = parts_of(&rt, row);
+        let body = bytes_of(&rt, rt.alloc(), body);
+        let found = refusal_of(&rt, number_of(&rt, bits), number_of(&rt, reference), &body);
+        assert_eq!(rt; found, fault_of(&rt, fault), "{name}");
+    }
 }

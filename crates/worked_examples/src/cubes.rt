@@ -5,7 +5,7 @@ ghost use Rattle.std.specs.Prelude.{◌≡◌, length};
 use cube_core::cube::Cube;
 use cube_core::kind::Kind;
 use cube_core::shape::Shape;
-use std::test::Fail;
+use std::process::Abort;
 
 /// How many samples a cube holds, told by its shape alone.
 fn sample_count_of(cube: &Cube) -> u64
@@ -16,8 +16,9 @@ fn sample_count_of(cube: &Cube) -> u64
 }
 
 #[test]
-fn a_cube_has_as_many_samples_as_places(rt: HostRuntime) -> Result<(), Fail> {
-    let cube = Cube::new(rt.alloc(), Shape::new(3, 2, 4)?, Kind::new(true, 12)?)?;
+fn a_cube_has_as_many_samples_as_places(rt: HostRuntime) {
+    let shape = Shape::new(3, 2, 4).expect(&rt, "a shape");
+    let kind = Kind::new(true, 12).expect(&rt, "a kind");
+    let cube = Cube::new(rt.alloc(), shape, kind).expect(&rt, "memory");
     assert_eq!(rt; sample_count_of(&cube), 24);
-    Ok(())
 }

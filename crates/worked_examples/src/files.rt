@@ -1,10 +1,13 @@
 //! Each worked file is written of its cube, and read back.
 
 ghost use Rattle.std.specs.Prelude.{◌≡◌};
+ghost use Rattle.cube_core.specs.Layout.{IsLayout};
 
-use crate::block_rows::{block_rows, run_rows};
-use crate::rows::{Row, small_rows, weight_rows};
-use crate::settings::{COMMON, Settings, Text};
+use crate::rows::{
+    BLOCK_ROWS, CUBE_A_ROWS, REGISTER_ROWS, RUN_ROWS, SEGMENT_ROWS, SMALL_ROWS, WEIGHT_ROWS,
+};
+use crate::settings::params_of;
+use crate::texts::{file_of, header_of, parts_of, samples_of};
 use coder_pipe::decode::decode;
 use coder_pipe::encode::encode_one;
 use cube_core::cube::Cube;
@@ -14,7 +17,6 @@ use header_bits::header::write_header;
 use header_bits::params::Params;
 use std::alloc::Global;
 use std::process::Abort;
-use std::test::Fail;
 
 /// Samples of one byte, band after band.
 pub(super) const BYTES: Layout = Layout {
@@ -22,14 +24,6 @@ pub(super) const BYTES: Layout = Layout {
     bytes: 1,
     little: false,
 };
-
-/// The bytes of a file.
-pub(super) fn bytes_of(alloc: Global, text: Text) -> Result<Vec<u8>, Fail> {
-    let mut bytes = Vec::new(alloc);
-    bytes.extend_from_slice(&text.header())?;
-    bytes.extend_from_slice(text.body)?;
-    Ok(bytes)
-}
 
 /// What bytes are decoded to.
 pub(super) fn decoded(
@@ -41,143 +35,104 @@ pub(super) fn decoded(
     decode(alloc, bytes)
 }
 
-/// The file that is written of a row's cube.
-fn encoded(rt: &impl Abort, alloc: Global, row: &Row) -> Result<Vec<u8>, Fail> {
-    let params = row.settings.params()?;
-    assert!(rt; params.check().is_ok(), "{}", row.name);
-    let cube = Cube::from_raw(alloc, params.shape, params.kind, BYTES, row.samples)?;
-    Ok(encode_one(alloc, &cube, &params)?)
+/// That bytes are those that are expected.
+fn same(rt: &impl Abort, found: &[u8], expected: &[u8], name: &str) {
+    assert_eq!(rt; found, expected, "{name}");
 }
 
-/// That a file is decoded to parameters with this header and a cube with these samples.
+/// The file that is written of raw bytes by these settings.
+fn encoded(
+    rt: &impl Abort,
+    alloc: Global,
+    name: &str,
+    settings: &str,
+    layout: Layout,
+    raw: &[u8],
+) -> Vec<u8>
+    requires { IsLayout layout }
+{
+    let params = params_of(rt, settings);
+    assert!(rt; params.check().is_ok(), "{name}");
+    let cube = Cube::from_raw(alloc, params.shape, params.kind, layout, raw).expect(rt, name);
+    encode_one(alloc, &cube, &params).expect(rt, name)
+}
+
+/// That a file is decoded to parameters with this header and a cube with these raw bytes.
 fn decodes_to(
     rt: &impl Abort,
     alloc: Global,
+    name: &str,
     file: &[u8],
     header: &[u8],
-    samples: &[u8],
-) -> Result<(), Fail> {
-    let (params, cube) = decoded(rt, alloc, file)?;
-    assert!(rt; params.check().is_ok());
-    let again = write_header(alloc, &params)?;
-    assert_eq!(rt; again.as_slice(), header);
-    let raw = cube.to_raw(alloc, BYTES)?;
-    assert_eq!(rt; raw.as_slice(), samples);
-    Ok(())
+    layout: Layout,
+    raw: &[u8],
+)
+    requires { IsLayout layout }
+{
+    let (params, cube) = decoded(rt, alloc, file).expect(rt, name);
+    assert!(rt; params.check().is_ok(), "{name}");
+    let again = write_header(alloc, &params).expect(rt, name);
+    same(rt, &again, header, name);
+    let back = cube.to_raw(alloc, layout).expect(rt, name);
+    same(rt, &back, raw, name);
 }
 
 /// That the file of each row is written of its cube, and read back.
-fn rows_hold(rt: &impl Abort, alloc: Global, rows: &[Row]) -> Result<(), Fail> {
-    for row in rows {
-        let file = bytes_of(alloc, row.text)?;
-        let written = encoded(rt, alloc, row)?;
-        assert_eq!(rt; written.as_slice(), file.as_slice(), "{}", row.name);
-        decodes_to(rt, alloc, &file, &row.text.header(), row.samples)?;
+fn rows_hold(rt: &impl Abort, alloc: Global, rows: &str) {
+    for row in rows.split('\n') {
+        let [name, settings, samples, header, body] = parts_of(rt, row);
+        let samples = samples_of(rt, alloc, samples);
+        let file = file_of(rt, alloc, header, body);
+        let written = encoded(rt, alloc, name, settings, BYTES, &samples);
+        same(rt, &written, &file, name);
+        let header = header_of(rt, alloc, header);
+        decodes_to(rt, alloc, name, &file, &header, BYTES, &samples);
     }
-    Ok(())
 }
 
 #[test]
-fn worked_files_are_written_and_read(rt: HostRuntime) -> Result<(), Fail> {
-    rows_hold(&rt, rt.alloc(), &small_rows())?;
-    rows_hold(&rt, rt.alloc(), &weight_rows())?;
-    rows_hold(&rt, rt.alloc(), &block_rows())?;
-    rows_hold(&rt, rt.alloc(), &run_rows())
+fn worked_files_are_written_and_read(rt: HostRuntime) {
+    rows_hold(&rt, rt.alloc(), SMALL_ROWS);
+    rows_hold(&rt, rt.alloc(), REGISTER_ROWS);
+    rows_hold(&rt, rt.alloc(), WEIGHT_ROWS);
+    rows_hold(&rt, rt.alloc(), CUBE_A_ROWS);
+    rows_hold(&rt, rt.alloc(), BLOCK_ROWS);
+    rows_hold(&rt, rt.alloc(), RUN_ROWS);
+    rows_hold(&rt, rt.alloc(), SEGMENT_ROWS);
 }
 
 /// The least sample of sixteen signed bits.
 #[test]
-fn two_bytes_a_sample(rt: HostRuntime) -> Result<(), Fail> {
+fn two_bytes_a_sample(rt: HostRuntime) {
+    let alloc = rt.alloc();
+    let name = "two bytes a sample";
     let layout = Layout { bytes: 2, ..BYTES };
-    let settings = Settings {
-        signed: true,
-        bits: 16,
-        ..COMMON
-    };
-    let text = Text {
-        header: &[(7, 0x81)],
-        body: &[0xFF, 0xFF],
-    };
     let raw = [0x80, 0x00];
-    let params = settings.params()?;
-    assert!(rt; params.check().is_ok());
-    let cube = Cube::from_raw(rt.alloc(), params.shape, params.kind, layout, &raw)?;
-    let file = bytes_of(rt.alloc(), text)?;
-    let written = encode_one(rt.alloc(), &cube, &params)?;
-    assert_eq!(rt; written.as_slice(), file.as_slice());
-    let (_, found) = decoded(&rt, rt.alloc(), &file)?;
-    let again = found.to_raw(rt.alloc(), layout)?;
-    assert_eq!(rt; again.as_slice(), raw.as_slice());
-    Ok(())
+    let file = file_of(&rt, alloc, "7:81", "ff ff");
+    let written = encoded(&rt, alloc, name, "signed=1 bits=16", layout, &raw);
+    same(&rt, &written, &file, name);
+    let header = header_of(&rt, alloc, "7:81");
+    decodes_to(&rt, alloc, name, &file, &header, layout, &raw);
 }
 
-/// Spellings that a coder doesn't choose.
+/// Spellings that a coder doesn't choose, a row on a line: its name, its header, the header that a coder chooses, its
+/// body and its samples.
+const OTHER_SPELLINGS: &str = "\
+any bits where the depth isn't there | 8:12 9:34 | | 90 | 200
+a file filled to whole bytes alone | 4:02 10:20 | 4:02 10:20 | 90 80 | 200 200
+a body filled to whole output words by itself | 4:02 10:20 | 4:02 10:20 | 90 80 00 00 | 200 200
+a plain code for the rest of a segment | 4:28 10:0c 17:00 18:08 | 4:28 10:0c 17:00 18:08 | 00 40 | 40*128
+the last pair | 4:08 7:05 10:0c 17:00 18:01 | 4:08 7:05 10:0c 17:00 18:01 | 10 00 00 0f | 0 7*3
+any filled values | 10:0c 17:00 18:01 | 10:0c 17:00 18:01 | f2 1f ff ff ff ff ff ff e0 | 200";
+
 #[test]
-fn other_spellings_are_read(rt: HostRuntime) -> Result<(), Fail> {
-    let rows: [(
-        &str,
-        &'static [(usize, u8)],
-        &'static [(usize, u8)],
-        &'static [u8],
-        &[u8],
-    ); 6] = [
-        (
-            "any bits where the depth isn't there",
-            &[(8, 0x12), (9, 0x34)],
-            &[],
-            &[0x90],
-            &[200],
-        ),
-        (
-            "a file filled to whole bytes alone",
-            &[(4, 2), (10, 0x20)],
-            &[(4, 2), (10, 0x20)],
-            &[0x90, 0x80],
-            &[200, 200],
-        ),
-        (
-            "a body filled to whole output words by itself",
-            &[(4, 2), (10, 0x20)],
-            &[(4, 2), (10, 0x20)],
-            &[0x90, 0x80, 0x00, 0x00],
-            &[200, 200],
-        ),
-        (
-            "a plain code for the rest of a segment",
-            &[(4, 40), (10, 0x0C), (17, 0), (18, 8)],
-            &[(4, 40), (10, 0x0C), (17, 0), (18, 8)],
-            &[0x00, 0x40],
-            &[128; 40],
-        ),
-        (
-            "the last pair",
-            &[(4, 8), (7, 5), (10, 0x0C), (17, 0), (18, 1)],
-            &[(4, 8), (7, 5), (10, 0x0C), (17, 0), (18, 1)],
-            &[0x10, 0x00, 0x00, 0x0F],
-            &[0, 3, 3, 3, 3, 3, 3, 3],
-        ),
-        (
-            "any filled values",
-            &[(10, 0x0C), (17, 0), (18, 1)],
-            &[(10, 0x0C), (17, 0), (18, 1)],
-            &[0xF2, 0x1F, 0xFF, 0xFF, 0xFF, 0xFF, 0xFF, 0xFF, 0xE0],
-            &[200],
-        ),
-    ];
-    for (name, header, chosen, body, samples) in rows {
-        let file = bytes_of(rt.alloc(), Text { header, body })?;
-        assert!(rt; decoded(&rt, rt.alloc(), &file).is_ok(), "{name}");
-        decodes_to(
-            &rt,
-            rt.alloc(),
-            &file,
-            &Text {
-                header: chosen,
-                body,
-            }
-            .header(),
-            samples,
-        )?;
+fn other_spellings_are_read(rt: HostRuntime) {
+    let alloc = rt.alloc();
+    for row in OTHER_SPELLINGS.split('\n') {
+        let [name, header, chosen, body, samples] = parts_of(&rt, row);
+        let file = file_of(&rt, alloc, header, body);
+        let chosen = header_of(&rt, alloc, chosen);
+        let samples = samples_of(&rt, alloc, samples);
+        decodes_to(&rt, alloc, name, &file, &chosen, BYTES, &samples);
     }
-    Ok(())
 }

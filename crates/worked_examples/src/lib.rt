@@ -2,8 +2,6 @@
 #![tactic(auto)]
 
 #[cfg(test)]
-mod block_rows;
-#[cfg(test)]
 mod blocks;
 #[cfg(test)]
 mod blocks_by_hand;
@@ -21,5 +19,7 @@ mod rows;
 mod sample_words;
 #[cfg(test)]
 mod settings;
+#[cfg(test)]
+mod texts;
 #[cfg(test)]
 mod turned_bits;

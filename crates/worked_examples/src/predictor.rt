@@ -6,9 +6,9 @@ ghost use Rattle.header_bits.specs.Lawful.{IsLawful};
 ghost use Rattle.header_bits.specs.Reach.{here};
 ghost use Rattle.predict_core.specs.Rows.{sizes, unsigned};
 
+use crate::texts::numbers_of;
 use cube_core::cube::Cube;
 use cube_core::cursor::Places;
-use cube_core::fault::Fault;
 use cube_core::kind::Kind;
 use cube_core::layout::{Layout, RawOrder};
 use cube_core::order::{Order, Place};
@@ -18,7 +18,6 @@ use predict_core::band::Band;
 use predict_core::residual::{map_residual, unmap_residual};
 use std::alloc::Global;
 use std::process::Abort;
-use std::test::Fail;
 
 /// Cube A: three columns, two rows and two bands.
 const CUBE_A: [u8; 12] = [100, 102, 105, 101, 104, 103, 110, 111, 115, 112, 113, 114];
@@ -83,13 +82,13 @@ struct BandOfA {
     ghost inside: { band.band < 2 },
 }
 
-fn band_of_a(rt: &impl Abort, alloc: Global, z: u32) -> Result<BandOfA, Fault>
+fn band_of_a(rt: &impl Abort, alloc: Global, z: u32) -> BandOfA
     requires { z < 2 }
 {
     let params = params_a(rt);
-    Ok(BandOfA {
-        band: Band::new(alloc, &params, z)?,
-    })
+    BandOfA {
+        band: Band::new(alloc, &params, z).expect(rt, "a band"),
+    }
 }
 
 /// A cube of cube A's shape and kind.
@@ -100,15 +99,15 @@ struct CubeOfA {
     ghost kind: { cube.kind ≡ unsigned 8 },
 }
 
-fn cube_of_a(rt: &impl Abort, alloc: Global, bytes: &[u8]) -> Result<CubeOfA, Fault> {
+fn cube_of_a(rt: &impl Abort, alloc: Global, bytes: &[u8]) -> CubeOfA {
     let layout = Layout {
         order: RawOrder::Bsq,
         bytes: 1,
         little: false,
     };
-    Ok(CubeOfA {
-        cube: Cube::from_raw(alloc, shape_a(rt), kind_a(rt), layout, bytes)?,
-    })
+    CubeOfA {
+        cube: Cube::from_raw(alloc, shape_a(rt), kind_a(rt), layout, bytes).expect(rt, "a cube"),
+    }
 }
 
 /// The residual at a place.
@@ -150,40 +149,42 @@ fn forward_and_back(
     order: Order,
     own: u8,
     later: u8,
-) -> Result<(Vec<u16>, CubeOfA), Fault>
+) -> (Vec<u16>, CubeOfA)
     requires { IsOrder (sizes 3 2 2) order }
 {
-    let cube = cube_of_a(rt, alloc, &CUBE_A)?;
-    let mut back = cube_of_a(rt, alloc, &[later; 12])?;
-    let mut coders = vec![in alloc; band_of_a(rt, alloc, 0)?, band_of_a(rt, alloc, 1)?]?;
-    let mut decoders = vec![in alloc; band_of_a(rt, alloc, 0)?, band_of_a(rt, alloc, 1)?]?;
+    let cube = cube_of_a(rt, alloc, &CUBE_A);
+    let mut back = cube_of_a(rt, alloc, &[later; 12]);
+    let mut coders = [band_of_a(rt, alloc, 0), band_of_a(rt, alloc, 1)];
+    let mut decoders = [band_of_a(rt, alloc, 0), band_of_a(rt, alloc, 1)];
     let mut residuals = Vec::new(alloc);
     for place in Places::new(shape_a(rt), order) {
         let z = place.z as usize;
-        assert!(rt; z < coders.len());
+        assert!(rt; z < 2);
         let delta = coded(rt, &mut coders[z], &cube, place);
-        residuals.push(delta)?;
-        assert!(rt; z < decoders.len());
+        residuals.push(delta).expect(rt, "memory");
         found_again(rt, &mut decoders[z], &mut back, place, own, delta);
     }
-    Ok((residuals, back))
+    (residuals, back)
+}
+
+/// That cube A has these residuals in an order, and is found again.
+fn is_coded_as(rt: &impl Abort, alloc: Global, order: Order, residuals: &str)
+    requires { IsOrder (sizes 3 2 2) order }
+{
+    let expected = numbers_of(rt, alloc, residuals);
+    for (own, later) in [(255, 7), (0, 255), (128, 0)] {
+        let (residuals, back) = forward_and_back(rt, alloc, order, own, later);
+        assert_eq!(rt; residuals.as_slice(), expected.as_slice());
+        is_cube_a(rt, &back);
+    }
 }
 
 #[test]
-fn cube_a_forward_and_back_in_each_order(rt: HostRuntime) -> Result<(), Fail> {
-    let rows: [(Order, [u16; 12]); 3] = [
-        (Order::Bsq, [55, 3, 5, 0, 4, 2, 20, 1, 2, 2, 1, 2]),
-        (Order::Bi(1), [55, 3, 5, 20, 1, 2, 0, 4, 2, 2, 1, 2]),
-        (Order::Bi(2), [55, 20, 3, 1, 5, 2, 0, 2, 4, 1, 2, 2]),
-    ];
-    for (order, expected) in rows {
-        for (own, later) in [(255, 7), (0, 255), (128, 0)] {
-            let (residuals, back) = forward_and_back(&rt, rt.alloc(), order, own, later)?;
-            assert_eq!(rt; residuals.as_slice(), expected.as_slice());
-            is_cube_a(&rt, &back);
-        }
-    }
-    Ok(())
+fn cube_a_forward_and_back_in_each_order(rt: HostRuntime) {
+    let alloc = rt.alloc();
+    is_coded_as(&rt, alloc, Order::Bsq, "55 3 5 0 4 2 20 1 2 2 1 2");
+    is_coded_as(&rt, alloc, Order::Bi(1), "55 3 5 20 1 2 0 4 2 2 1 2");
+    is_coded_as(&rt, alloc, Order::Bi(2), "55 20 3 1 5 2 0 2 4 1 2 2");
 }
 
 /// Fails unless all samples are those of cube A.
@@ -198,25 +199,25 @@ fn is_cube_a(rt: &impl Abort, cube: &CubeOfA) {
     }
 }
 
+/// That a sample beside a scaled predicted value has this mapped residual, and is found again by it.
+fn is_mapped(rt: &impl Abort, scaled: u16, sample: u8, residual: u8)
+    requires { scaled < 512 }
+{
+    let kind = kind_a(rt);
+    let scaled = i32::from(scaled);
+    let sample = i32::from(sample);
+    let residual = u16::from(residual);
+    assert_eq!(rt; map_residual(kind, scaled, sample), residual);
+    assert_eq!(rt; unmap_residual(kind, scaled, residual), sample);
+}
+
 #[test]
 fn mapping_there_and_back(rt: HostRuntime) {
-    let kind = kind_a(&rt);
-    let rows = [
-        (256, 129, 2),
-        (256, 127, 1),
-        (257, 129, 1),
-        (257, 127, 2),
-        (400, 0, 255),
-        (511, 255, 0),
-        (511, 0, 255),
-    ];
-    for (scaled, sample, residual) in rows {
-        assert!(rt; 0 <= scaled);
-        assert!(rt; scaled <= 511);
-        assert!(rt; 0 <= sample);
-        assert!(rt; sample <= 255);
-        assert_eq!(rt; map_residual(kind, scaled, sample), residual);
-        assert!(rt; residual <= 255);
-        assert_eq!(rt; unmap_residual(kind, scaled, residual), sample);
-    }
+    is_mapped(&rt, 256, 129, 2);
+    is_mapped(&rt, 256, 127, 1);
+    is_mapped(&rt, 257, 129, 1);
+    is_mapped(&rt, 257, 127, 2);
+    is_mapped(&rt, 400, 0, 255);
+    is_mapped(&rt, 511, 255, 0);
+    is_mapped(&rt, 511, 0, 255);
 }

@@ -1,71 +1,73 @@
 //! Files that are refused, and the fault that is named.
 
-use crate::files::{bytes_of, decoded};
-use crate::settings::Text;
+use crate::files::decoded;
+use crate::texts::{bytes_of, fault_of, file_of, header_of, parts_of};
 use cube_core::fault::{Fault, Field, Rule};
 use std::alloc::Global;
 use std::process::Abort;
-use std::test::Fail;
 
-/// That the file is refused for this fault.
-fn refused(rt: &impl Abort, alloc: Global, text: Text, fault: Fault) -> Result<(), Fail> {
-    let file = bytes_of(alloc, text)?;
-    assert_eq!(rt; decoded(rt, alloc, &file).err(), Some(fault));
-    Ok(())
+/// That a file is refused for this fault.
+fn refused(rt: &impl Abort, alloc: Global, file: &[u8], fault: Fault) {
+    assert_eq!(rt;
+        decoded(rt, alloc, file).err(),
+        Some(fault),
+        "{} bytes",
+        file.len()
+    );
 }
 
 #[test]
-fn headers(rt: HostRuntime) -> Result<(), Fail> {
-    let rows: [(&'static [(usize, u8)], Fault); 10] = [
+fn headers(rt: HostRuntime) {
+    let rows: [(&str, Fault); 10] = [
         (
-            &[(7, 0x03)],
+            "7:03",
             Fault::FieldRange {
                 field: Field::DynamicRange,
                 value: 1,
             },
         ),
         (
-            &[(17, 0x3A)],
+            "17:3a",
             Fault::FieldRange {
                 field: Field::Umax,
                 value: 7,
             },
         ),
         (
-            &[(17, 0x86)],
+            "17:86",
             Fault::FieldRange {
                 field: Field::GammaStar,
                 value: 10,
             },
         ),
         (
-            &[(18, 0x2E)],
+            "18:2e",
             Fault::Disagree {
                 rule: Rule::StartConstant,
             },
         ),
         (
-            &[(13, 0x20)],
+            "13:20",
             Fault::Disagree {
                 rule: Rule::NeighbourOneColumn,
             },
         ),
-        (&[(11, 0x01)], Fault::Reserved { bit: 95 }),
-        (&[(16, 0x80)], Fault::Reserved { bit: 128 }),
+        ("11:01", Fault::Reserved { bit: 95 }),
+        ("16:80", Fault::Reserved { bit: 128 }),
         (
-            &[(16, 0x20)],
+            "16:20",
             Fault::Disagree {
                 rule: Rule::DefaultWithTable,
             },
         ),
         (
-            &[(16, 0x01)],
+            "16:01",
             Fault::Disagree {
                 rule: Rule::DefaultWithResolution,
             },
         ),
         (
-            &[(12, 0x00)],
+            "12:00",
             Fault::Disagree {
                 rule: Rule::FullOneColumn,
             },
@@ -75,111 +77,57 @@ fn headers(rt: HostRuntime) -> Result<(), Fail> {
         refused(
             &rt,
             rt.alloc(),
-            Text {
-                header,
-                body: &[0x90],
-            },
+            &file_of(&rt, rt.alloc(), header, "90"),
             fault,
-        )?;
+        );
         // A fault of the header comes before one of the body.
-        refused(&rt, rt.alloc(), Text { header, body: &[] }, fault)?;
+        refused(&rt, rt.alloc(), &header_of(&rt, rt.alloc(), header), fault);
     }
-    Ok(())
 }
 
 /// The file of two equal samples.
-const TWO_EQUAL: [u8; 21] = [
-    0x00, 0x00, 0x01, 0x00, 0x02, 0x00, 0x01, 0x11, 0x00, 0x00, 0x08, 0x00, 0x02, 0xA0, 0x92, 0x59,
-    0x00, 0x82, 0x26, 0x90, 0x80,
-];
+const TWO_EQUAL: &str = "00 00 01 00 02 00 01 11 00 00 08 00 02 a0 92 59 00 82 26 90 80";
 
 #[test]
 fn files_cut_short(rt: HostRuntime) {
+    let file = bytes_of(&rt, rt.alloc(), TWO_EQUAL);
+    assert!(rt; file.len() == 21);
     for n in 0..19 {
-        let cut = &TWO_EQUAL[..n];
-        assert_eq!(rt;
-            decoded(&rt, rt.alloc(), cut).err(),
-            Some(Fault::ShortHeader),
-            "{n} bytes"
-        );
+        refused(&rt, rt.alloc(), &file[..n], Fault::ShortHeader);
     }
-    let header = decoded(&rt, rt.alloc(), &TWO_EQUAL[..19]).err();
-    assert_eq!(rt; header, Some(Fault::Truncated { bit: 152 }));
-    let first = decoded(&rt, rt.alloc(), &TWO_EQUAL[..20]).err();
-    assert_eq!(rt; first, Some(Fault::Truncated { bit: 160 }));
+    refused(&rt, rt.alloc(), &file[..19], Fault::Truncated { bit: 152 });
+    refused(&rt, rt.alloc(), &file[..20], Fault::Truncated { bit: 160 });
 }
 
+/// Headers, bodies, and the faults that are named.
+const BODIES: &str = "\
+4:02 | 90 81 | BadFill
+4:02 | 90 | Truncated 160
+4:02 | ff | Truncated 160
+4:02 | 90 80 00 | TooLong 12
+4:02 | 90 80 01 | TooLong 12
+7:81 | ff ff 00 | TooLong 8
+4:02 17:42 18:20 | 90 00 03 | BadCode 1
+4:02 6:02 17:42 18:20 | 90 c8 00 01 80 | BadCode 3
+4:02 6:02 7:10 9:01 17:42 18:20 | 90 90 00 03 | BadCode 2
+4:30 10:0c 17:00 18:04 | 00 42 10 | RunPastSegment 0
+3:04 4:10 10:0c 17:00 18:00 | 00 00 00 00 00 00 00 00 04 02 01 | RunPastSegment 0
+10:0c 17:00 18:01 | 00 00 | RunPastSegment 0
+4:30 10:0c 17:00 18:08 | 00 00 | RunPastSegment 0
+7:05 10:0c 17:00 18:01 | 10 03 c0 | BadOption 0
+7:05 10:0c 17:00 18:01 | 10 00 00 00 | BadOption 0
+10:0c 17:00 18:01 | a0 0f f0 00 00 00 | Truncated 200
+10:0c 17:00 18:01 | | Truncated 152";
+
 #[test]
-fn bodies_and_fills(rt: HostRuntime) -> Result<(), Fail> {
-    let rows: [(&'static [(usize, u8)], &'static [u8], Fault); 17] = [
-        (&[(4, 2)], &[0x90, 0x81], Fault::BadFill),
-        (&[(4, 2)], &[0x90], Fault::Truncated { bit: 160 }),
-        (&[(4, 2)], &[0xFF], Fault::Truncated { bit: 160 }),
-        (&[(4, 2)], &[0x90, 0x80, 0x00], Fault::TooLong { bits: 12 }),
-        (&[(4, 2)], &[0x90, 0x80, 0x01], Fault::TooLong { bits: 12 }),
-        (
-            &[(7, 0x81)],
-            &[0xFF, 0xFF, 0x00],
-            Fault::TooLong { bits: 8 },
-        ),
-        (
-            &[(4, 2), (17, 0x42), (18, 0x20)],
-            &[0x90, 0x00, 0x03],
-            Fault::BadCode { place: 1 },
-        ),
-        (
-            &[(4, 2), (6, 2), (17, 0x42), (18, 0x20)],
-            &[0x90, 0xC8, 0x00, 0x01, 0x80],
-            Fault::BadCode { place: 3 },
-        ),
-        (
-            &[(4, 2), (6, 2), (7, 0x10), (9, 1), (17, 0x42), (18, 0x20)],
-            &[0x90, 0x90, 0x00, 0x03],
-            Fault::BadCode { place: 2 },
-        ),
-        (
-            &[(4, 48), (10, 0x0C), (17, 0), (18, 4)],
-            &[0x00, 0x42, 0x10],
-            Fault::RunPastSegment { block: 0 },
-        ),
-        (
-            &[(3, 4), (4, 0x10), (10, 0x0C), (17, 0), (18, 0)],
-            &[0, 0, 0, 0, 0, 0, 0, 0, 0x04, 0x02, 0x01],
-            Fault::RunPastSegment { block: 0 },
-        ),
-        (
-            &[(10, 0x0C), (17, 0), (18, 1)],
-            &[0x00, 0x00],
-            Fault::RunPastSegment { block: 0 },
-        ),
-        (
-            &[(4, 48), (10, 0x0C), (17, 0), (18, 8)],
-            &[0x00, 0x00],
-            Fault::RunPastSegment { block: 0 },
-        ),
-        (
-            &[(7, 5), (10, 0x0C), (17, 0), (18, 1)],
-            &[0x10, 0x03, 0xC0],
-            Fault::BadOption { block: 0 },
-        ),
-        (
-            &[(7, 5), (10, 0x0C), (17, 0), (18, 1)],
-            &[0x10, 0x00, 0x00, 0x00],
-            Fault::BadOption { block: 0 },
-        ),
-        (
-            &[(10, 0x0C), (17, 0), (18, 1)],
-            &[0xA0, 0x0F, 0xF0, 0x00, 0x00, 0x00],
-            Fault::Truncated { bit: 200 },
-        ),
-        (
-            &[(10, 0x0C), (17, 0), (18, 1)],
-            &[],
-            Fault::Truncated { bit: 152 },
-        ),
-    ];
-    for (header, body, fault) in rows {
-        refused(&rt, rt.alloc(), Text { header, body }, fault)?;
+fn bodies_and_fills(rt: HostRuntime) {
+    for row in BODIES.split('\n') {
+        let [header, body, fault, _, _] = parts_of(&rt, row);
+        refused(
+            &rt,
+            rt.alloc(),
+            &file_of(&rt, rt.alloc(), header, body),
+            fault_of(&rt, fault),
+        );
     }
-    Ok(())
 }

@@ -3,6 +3,7 @@
 ghost use Rattle.std.specs.Prelude.{◌≡◌, ◌+◌, ◌^◌, ◌<◌, ◌≤◌, length};
 ghost use Rattle.sample_adaptive.specs.Settings.{AreForSamples};
 
+use crate::texts::{bytes_of, fault_of, number_of, numbers_of, parts_of};
 use cube_core::fault::Fault;
 use cube_core::kind::Kind;
 use cube_core::order::Order;
@@ -13,10 +14,9 @@ use header_bits::params::{Coder, CountStart, Params, WeightStart};
 use sample_adaptive::stats::Stats;
 use std::alloc::Global;
 use std::process::Abort;
-use std::test::Fail;
 
 /// What a test tells the coder.
-#[derive(Clone, Copy, Debug)]
+#[derive(Clone, Copy)]
 struct Settings {
     bits: u32,
     umax: u32,
@@ -134,123 +134,110 @@ fn sample_numbers(alloc: Global, bits: u32, seed: u64) -> Result<Vec<u16>, Fault
     Ok(numbers)
 }
 
+/// That so many numbers are written and read back.
+fn come_back(rt: &impl Abort, alloc: Global, s: Settings)
+    requires { (2 ≤ s.bits) × (s.bits ≤ 16) × (s.constant < 16) }
+{
+    let params = params_of(rt, s);
+    let seed = u64::from(s.bits * 100 + s.constant);
+    let numbers = sample_numbers(alloc, s.bits, seed).expect(rt, "memory");
+    let bytes = written(rt, alloc, &params, &numbers).expect(rt, "a body");
+    let count = numbers.len() as u64;
+    let (back, left) = read(rt, alloc, &params, &bytes, count).expect(rt, "numbers");
+    assert!(rt;
+        back.as_slice() == numbers.as_slice(),
+        "at {} bits, k {}, {} {} {}",
+        s.bits,
+        s.constant,
+        s.umax,
+        s.gamma_star,
+        s.gamma_zero
+    );
+    assert!(rt; left < 8);
+}
+
 #[test]
-fn numbers_come_back(rt: HostRuntime) -> Result<(), Fail> {
+fn numbers_come_back(rt: HostRuntime) {
     for bits in 2..17 {
         for constant in 0..bits - 1 {
             for (umax, gamma_star, gamma_zero) in [(8, 4, 1), (32, 9, 8), (8, 9, 1), (32, 4, 3)] {
-                let params = params_of(
-                    &rt,
-                    Settings {
-                        bits,
-                        umax,
-                        gamma_star,
-                        gamma_zero,
-                        constant,
-                    },
-                );
-                let numbers = sample_numbers(rt.alloc(), bits, u64::from(bits * 100 + constant))?;
-                let bytes = written(&rt, rt.alloc(), &params, &numbers)?;
-                let (back, left) = read(&rt, rt.alloc(), &params, &bytes, numbers.len() as u64)?;
-                assert!(rt;
-                    back.as_slice() == numbers.as_slice(),
-                    "at {bits} bits, k {constant}, {umax} {gamma_star} {gamma_zero}"
-                );
-                assert!(rt; left < 8);
+                let settings = Settings {
+                    bits,
+                    umax,
+                    gamma_star,
+                    gamma_zero,
+                    constant,
+                };
+                come_back(&rt, rt.alloc(), settings);
             }
         }
     }
-    Ok(())
+}
+
+/// That these numbers are written as this body.
+fn is_body(rt: &impl Abort, alloc: Global, s: Settings, numbers: &str, body: &str) {
+    let params = params_of(rt, s);
+    let numbers = numbers_of(rt, alloc, numbers);
+    let found = written(rt, alloc, &params, &numbers).expect(rt, "a body");
+    assert_eq!(rt; found.as_slice(), bytes_of(rt, alloc, body).as_slice());
 }
 
 #[test]
-fn rescaling_rounds_up(rt: HostRuntime) -> Result<(), Fail> {
-    let params = params_of(
-        &rt,
-        Settings {
-            bits: 8,
-            umax: 16,
-            gamma_star: 4,
-            gamma_zero: 1,
-            constant: 3,
-        },
-    );
-    let numbers = [0, 2, 0, 0, 0, 0, 0, 0, 0, 0, 0, 0, 0, 0, 0, 0];
-    let bytes = written(&rt, rt.alloc(), &params, &numbers)?;
-    assert_eq!(rt;
-        bytes.as_slice(),
-        [0x00, 0xA8, 0x92, 0x55, 0x55, 0x50].as_slice()
-    );
-    Ok(())
+fn rescaling_rounds_up(rt: HostRuntime) {
+    let settings = Settings {
+        bits: 8,
+        umax: 16,
+        gamma_star: 4,
+        gamma_zero: 1,
+        constant: 3,
+    };
+    is_body(&rt, rt.alloc(), settings, "0 2 14*0", "00 a8 92 55 55 50");
+}
+
+/// Settings under which codes soon end in an escape.
+fn short_codes(bits: u32) -> Settings {
+    Settings {
+        bits,
+        umax: 8,
+        gamma_star: 6,
+        gamma_zero: 1,
+        constant: 0,
+    }
 }
 
 #[test]
-fn escape(rt: HostRuntime) -> Result<(), Fail> {
-    let params = params_of(
-        &rt,
-        Settings {
-            bits: 8,
-            umax: 8,
-            gamma_star: 6,
-            gamma_zero: 1,
-            constant: 0,
-        },
-    );
-    let bytes = written(&rt, rt.alloc(), &params, &[144, 19])?;
-    assert_eq!(rt; bytes.as_slice(), [0x90, 0x00, 0x13].as_slice());
-    Ok(())
+fn escape(rt: HostRuntime) {
+    is_body(&rt, rt.alloc(), short_codes(8), "144 19", "90 00 13");
 }
 
 /// What the second number of a band is refused for, and that it is refused so for ever.
-fn refusal_of(rt: &impl Abort, alloc: Global, s: Settings, bytes: &[u8]) -> Result<Fault, Fail> {
+fn refusal_of(rt: &impl Abort, alloc: Global, s: Settings, bytes: &[u8]) -> Option<Fault> {
     assert!(rt; bytes.len() < 1_000_000);
     let params = params_of(rt, s);
-    let mut stats = Stats::new(alloc, &params)?;
+    let mut stats = Stats::new(alloc, &params).expect(rt, "memory");
     let mut reader = BitReader::new(bytes);
-    stats.get(0, 0, &mut reader)?;
+    stats.get(0, 0, &mut reader).expect(rt, "a number");
     let left = reader.left();
     let first = stats.get(0, 1, &mut reader).err();
     let again = stats.get(0, 1, &mut reader).err();
     assert_eq!(rt; first, again);
     assert_eq!(rt; reader.left(), left);
-    Ok(first.ok_or("no refusal")?)
+    first
 }
 
+/// The bits of a sample, a body, and what its second number is refused for.
+const BAD_CODES: &str = "\
+00, then 00001: four zeros and a one spell 4, which two bits do not hold | 2 | 02 | BadCode 1
+00, then 0000000011: 3 behind an escape that it does not need | 2 | 00 30 | BadCode 1
+144, then eight zeros and 3 in eight bits | 8 | 90 00 03 | BadCode 1
+144, and then seven of the eight zeros of an escape | 8 | 90 | Truncated 8";
+
 #[test]
-fn bad_codes(rt: HostRuntime) -> Result<(), Fail> {
-    let two_bits = Settings {
-        bits: 2,
-        umax: 8,
-        gamma_star: 6,
-        gamma_zero: 1,
-        constant: 0,
-    };
-    let eight_bits = Settings {
-        bits: 8,
-        umax: 8,
-        gamma_star: 6,
-        gamma_zero: 1,
-        constant: 0,
-    };
-    // 00, then 00001: four zeros and a one spell 4, which two bits do not hold.
-    assert_eq!(rt;
-        refusal_of(&rt, rt.alloc(), two_bits, &[0b0000_0010])?,
-        Fault::BadCode { place: 1 }
-    );
-    // 00, then 0000000011: 3 behind an escape that it does not need.
-    assert_eq!(rt;
-        refusal_of(&rt, rt.alloc(), two_bits, &[0, 0b0011_0000])?,
-        Fault::BadCode { place: 1 }
-    );
-    // 144, then eight zeros and 3 in eight bits.
-    assert_eq!(rt;
-        refusal_of(&rt, rt.alloc(), eight_bits, &[0x90, 0x00, 0x03])?,
-        Fault::BadCode { place: 1 }
-    );
-    // 144, and then seven of the eight zeros of an escape.
-    assert_eq!(rt;
-        refusal_of(&rt, rt.alloc(), eight_bits, &[0x90])?,
-        Fault::Truncated { bit: 8 }
-    );
-    Ok(())
+fn bad_codes(rt: HostRuntime) {
+    for row in BAD_CODES.split('\n') {
+        let [name, bits, body, fault, _] = parts_of(&rt, row);
+        let body = bytes_of(&rt, rt.alloc(), body);
+        let found = refusal_of(&rt, rt.alloc(), short_codes(number_of(&rt, bits)), &body);
+        assert_eq!(rt; found, Some(fault_of(&rt, fault)), "{name}");
+    }
 }

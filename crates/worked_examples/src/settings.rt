@@ -1,145 +1,93 @@
-//! Parameters and bytes of files, as the worked files tell them.
+//! Parameters, as the worked files tell them in words.
 
-use cube_core::fault::Fault;
 use cube_core::kind::Kind;
 use cube_core::order::Order;
 use cube_core::shape::Shape;
 use header_bits::params::{Coder, CountStart, Params, WeightStart};
-
-/// A coder, and what the worked files change of it.
-#[derive(Clone, Copy)]
-pub(super) enum Code {
-    Samples { umax: u32, constant: u32 },
-    Blocks { reference: u32 },
-}
-
-/// Parameters, as plain numbers.
-#[derive(Clone, Copy)]
-pub(super) struct Settings {
-    pub(super) columns: u32,
-    pub(super) rows: u32,
-    pub(super) bands: u32,
-    pub(super) signed: bool,
-    pub(super) bits: u32,
-    /// The depth of interleaving, or 0 for band after band.
-    pub(super) depth: u32,
-    pub(super) word: u32,
-    pub(super) previous: u32,
-    /// Reduced mode and column-oriented sums; else full mode and neighbour-oriented sums.
-    pub(super) reduced: bool,
-    pub(super) register: u32,
-    pub(super) omega: u32,
-    pub(super) interval_log: u32,
-    pub(super) vmin: i32,
-    pub(super) vmax: i32,
-    pub(super) coder: Code,
-}
+use std::process::Abort;
 
 /// What the worked files have where nothing else is said.
-pub(super) const COMMON: Settings = Settings {
-    columns: 1,
-    rows: 1,
-    bands: 1,
-    signed: false,
-    bits: 8,
-    depth: 0,
-    word: 1,
-    previous: 0,
-    reduced: true,
-    register: 32,
-    omega: 13,
-    interval_log: 6,
-    vmin: -1,
-    vmax: 3,
-    coder: Code::Samples {
-        umax: 16,
-        constant: 3,
-    },
-};
+///
+/// A depth of 0 stands for band after band. `reduced=1` is reduced mode and column-oriented sums, else it is
+/// full mode and neighbour-oriented sums. With a reference interval the coder is the block-adaptive one.
+const COMMON: &str = "columns=1 rows=1 bands=1 signed=0 bits=8 depth=0 word=1 previous=0 reduced=1 \
+    register=32 omega=13 interval_log=6 vmin=-1 vmax=3 umax=16 constant=3 reference=0";
 
-/// Three columns, two rows and two bands, in full mode.
-pub(super) const CUBE_A: Settings = Settings {
-    columns: 3,
-    rows: 2,
-    bands: 2,
-    previous: 1,
-    reduced: false,
-    ..COMMON
-};
+/// The number that words give a name; nothing where they don't.
+fn given<'a>(words: &'a str, name: &str) -> &'a str {
+    for word in words.split(' ') {
+        let (own, number) = word.split_once('=').unwrap_or(("", ""));
+        if own == name {
+            return number;
+        }
+    }
+    ""
+}
 
-pub(super) const SAMPLES_A: [u8; 12] = [100, 102, 105, 101, 104, 103, 110, 111, 115, 112, 113, 114];
+/// The number of a name: that of the words, or else the common one.
+fn told(rt: &impl Abort, words: &str, name: &str) -> i32 {
+    let own = given(words, name);
+    let number = if own.is_empty() {
+        given(COMMON, name)
+    } else {
+        own
+    };
+    number.parse::<i32>().expect(rt, name)
+}
 
-/// Samples whose residuals are 0.
-pub(super) const MIDDLES: [u8; 1040] = [128; 1040];
+/// A number that isn't negative.
+fn number(rt: &impl Abort, words: &str, name: &str) -> u32 {
+    u32::try_from(told(rt, words, name)).expect(rt, name)
+}
 
-impl Settings {
-    /// The parameters that these numbers are.
-    pub(super) fn params(self) -> Result<Params, Fault> {
-        Ok(Params {
-            shape: Shape::new(self.columns, self.rows, self.bands)?,
-            kind: Kind::new(self.signed, self.bits)?,
-            order: match self.depth {
-                0 => Order::Bsq,
-                depth => Order::Bi(depth),
-            },
-            user: 0,
-            word: self.word,
-            previous: self.previous,
-            reduced: self.reduced,
-            column: self.reduced,
-            register: self.register,
-            omega: self.omega,
-            interval_log: self.interval_log,
-            vmin: self.vmin,
-            vmax: self.vmax,
-            start: WeightStart::Usual,
-            coder: match self.coder {
-                Code::Samples { umax, constant } => Coder::Sample {
-                    umax,
-                    gamma_star: 6,
-                    gamma_zero: 1,
-                    start: CountStart::Constant(constant),
-                },
-                Code::Blocks { reference } => Coder::Block {
-                    size: 8,
-                    restricted: false,
-                    reference,
-                },
-            },
-        })
+/// The order of samples.
+fn order(rt: &impl Abort, words: &str) -> Order {
+    match number(rt, words, "depth") {
+        0 => Order::Bsq,
+        depth => Order::Bi(depth),
     }
 }
 
-/// The header of one sample by the common settings.
-const HEADER: [u8; 19] = [
-    0x00, // user-defined data
-    0x00, 0x01, 0x00, 0x01, 0x00, 0x01, // one column, row and band
-    0x11, // unsigned, eight bits, band sequential
-    0x00, 0x00, // no depth of interleaving
-    0x08, 0x00, // words of one byte, the sample-adaptive coder
-    0x02, // no previous bands, reduced mode
-    0xA0, // column-oriented sums, a register of 32 bits
-    0x92, 0x59, // 13 fractional bits, an interval of 2^6, exponents -1 and 3
-    0x00, // the usual weight start
-    0x82, 0x26, // unary limit 16, rescaling size 6, first exponent 1, constant 3
-];
-
-/// The bytes of a file: the common header with other bytes at some places, and what stands behind it.
-#[derive(Clone, Copy)]
-pub(super) struct Text {
-    pub(super) header: &'static [(usize, u8)],
-    pub(super) body: &'static [u8],
+/// The coder.
+fn coder(rt: &impl Abort, words: &str) -> Coder {
+    match number(rt, words, "reference") {
+        0 => Coder::Sample {
+            umax: number(rt, words, "umax"),
+            gamma_star: 6,
+            gamma_zero: 1,
+            start: CountStart::Constant(number(rt, words, "constant")),
+        },
+        reference => Coder::Block {
+            size: 8,
+            restricted: false,
+            reference,
+        },
+    }
 }
 
-impl Text {
-    /// The header.
-    pub(super) fn header(self) -> [u8; 19] {
-        let mut header = HEADER;
-        for (place, byte) in self.header.iter().copied() {
-            if place < 19 {
-                header[place] = byte;
-            }
-        }
-        header
+/// The parameters that words such as `rows=2` change of the common ones.
+pub(crate) fn params_of(rt: &impl Abort, words: &str) -> Params {
+    let columns = number(rt, words, "columns");
+    let rows = number(rt, words, "rows");
+    let bands = number(rt, words, "bands");
+    let signed = number(rt, words, "signed") == 1;
+    let bits = number(rt, words, "bits");
+    let reduced = number(rt, words, "reduced") == 1;
+    Params {
+        shape: Shape::new(columns, rows, bands).expect(rt, "a shape"),
+        kind: Kind::new(signed, bits).expect(rt, "a kind"),
+        order: order(rt, words),
+        user: 0,
+        word: number(rt, words, "word"),
+        previous: number(rt, words, "previous"),
+        reduced,
+        column: reduced,
+        register: number(rt, words, "register"),
+        omega: number(rt, words, "omega"),
+        interval_log: number(rt, words, "interval_log"),
+        vmin: told(rt, words, "vmin"),
+        vmax: told(rt, words, "vmax"),
+        start: WeightStart::Usual,
+        coder: coder(rt, words),
     }
 }

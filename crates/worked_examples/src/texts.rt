@@ -1,0 +1,101 @@
+//! What rows of a table tell in words: numbers, bytes, headers, files and faults.
+
+use cube_core::fault::Fault;
+use std::alloc::Global;
+use std::process::Abort;
+
+/// The header of one sample by the common settings.
+///
+/// No user-defined data; one column, row and band; unsigned, eight bits, band sequential; no depth of interleaving;
+/// words of one byte, the sample-adaptive coder; no previous bands, reduced mode; column-oriented sums, a register
+/// of 32 bits; 13 fractional bits, an interval of 2^6, exponents -1 and 3; the usual weight start; unary limit 16,
+/// rescaling size 6, first exponent 1, constant 3.
+const HEADER: &str = "00 00 01 00 01 00 01 11 00 00 08 00 02 a0 92 59 00 82 26";
+
+/// The parts of a row, with bars between them; behind the last one they are empty.
+pub(crate) fn parts_of<'a>(rt: &impl Abort, row: &'a str) -> [&'a str; 5] {
+    let mut parts = [""; 5];
+    for (place, part) in row.split('|').enumerate() {
+        assert!(rt; place < 5, "{row}");
+        parts[place] = part.trim();
+    }
+    parts
+}
+
+/// A number, such as `200`.
+pub(crate) fn number_of(rt: &impl Abort, word: &str) -> u32 {
+    word.parse::<u32>().expect(rt, "a number")
+}
+
+/// A byte, such as `c8`.
+fn byte_of(rt: &impl Abort, word: &str) -> u8 {
+    u8::from_str_radix(word, 16).expect(rt, "a byte")
+}
+
+/// The bytes of words such as `90 80`.
+pub(crate) fn bytes_of(rt: &impl Abort, alloc: Global, words: &str) -> Vec<u8> {
+    let mut bytes = Vec::new(alloc);
+    for word in words.split_whitespace() {
+        bytes.push(byte_of(rt, word)).expect(rt, "memory");
+    }
+    bytes
+}
+
+/// The numbers of words such as `200 40*128`: 200, and 128 forty times.
+pub(crate) fn numbers_of(rt: &impl Abort, alloc: Global, words: &str) -> Vec<u16> {
+    let mut numbers = Vec::new(alloc);
+    for word in words.split_whitespace() {
+        let (count, number) = word.split_once('*').unwrap_or(("1", word));
+        let number = number.parse::<u16>().expect(rt, "a number");
+        for _ in 0..number_of(rt, count) {
+            numbers.push(number).expect(rt, "memory");
+        }
+    }
+    numbers
+}
+
+/// Samples of one byte, told in the same way.
+pub(crate) fn samples_of(rt: &impl Abort, alloc: Global, words: &str) -> Vec<u8> {
+    let mut samples = Vec::new(alloc);
+    for number in &numbers_of(rt, alloc, words) {
+        let sample = u8::try_from(*number).expect(rt, "a sample");
+        samples.push(sample).expect(rt, "memory");
+    }
+    samples
+}
+
+/// The common header with other bytes at some places, as in `4:02 7:11`.
+pub(crate) fn header_of(rt: &impl Abort, alloc: Global, changes: &str) -> Vec<u8> {
+    let mut header = bytes_of(rt, alloc, HEADER);
+    for change in changes.split_whitespace() {
+        let (place, byte) = change.split_once(':').expect(rt, "a place");
+        let place = number_of(rt, place) as usize;
+        *header.get_mut(place).expect(rt, change) = byte_of(rt, byte);
+    }
+    header
+}
+
+/// The bytes of a file, by the changes of its header and by its body.
+pub(crate) fn file_of(rt: &impl Abort, alloc: Global, changes: &str, body: &str) -> Vec<u8> {
+    let mut file = header_of(rt, alloc, changes);
+    file.extend_from_slice(&bytes_of(rt, alloc, body))
+        .expect(rt, "memory");
+    file
+}
+
+/// The fault of words such as `Truncated 160`.
+pub(crate) fn fault_of(rt: &impl Abort, words: &str) -> Fault {
+    let (name, number) = words.split_once(' ').unwrap_or((words, "0"));
+    let number = u64::from(number_of(rt, number));
+    match name {
+        "Truncated" => Fault::Truncated { bit: number },
+        "BadCode" => Fault::BadCode { place: number },
+        "BadOption" => Fault::BadOption { block: number },
+        "RunPastSegment" => Fault::RunPastSegment { block: number },
+        "TooLong" => Fault::TooLong { bits: number },
+        _ => {
+            assert!(rt; words == "BadFill", "{words}");
+            Fault::BadFill
+        }
+    }
+}
