@@ -17,7 +17,7 @@ pub struct ReaderSource<R: Read> {
 impl<R: Read> ReaderSource<R> {
     /// A source of what the reader has left.
     pub fn new(reader: R) -> ReaderSource<R>
-        ensures { (result.reader ≡ reader) × (result.failures ≡ 0) }
+        ensures { (⟦<ReaderSource<R> as Source>⟧.left result ≡ R.remaining reader) × (⟦<ReaderSource<R> as Source>⟧.failures result ≡ 0) }
     {
         ReaderSource {
             reader,
@@ -55,7 +55,7 @@ pub struct WriterSink<W: Write> {
 impl<W: Write> WriterSink<W> {
     /// A sink behind what the writer holds.
     pub fn new(writer: W) -> WriterSink<W>
-        ensures { (result.writer ≡ writer) × (result.failures ≡ 0) × (result.stalls ≡ 0) }
+        ensures { (⟦<WriterSink<W> as Sink>⟧.taken result ≡ W.contents writer) × (⟦<WriterSink<W> as Sink>⟧.failures result ≡ 0) × (⟦<WriterSink<W> as Sink>⟧.stalls result ≡ 0) }
     {
         WriterSink {
             writer,
