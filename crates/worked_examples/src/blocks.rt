@@ -4,7 +4,7 @@ ghost use Rattle.std.specs.Prelude.{◌≡◌, ◌+◌, ◌^◌, ◌<◌, ◌≤
 ghost use Rattle.cube_core.specs.Shape.{sample_count};
 ghost use Rattle.block_adaptive.specs.Settings.{AreForBlocks, IsSize};
 
-use crate::texts::{bytes_of, fault_of, number_of, numbers_of, parts_of};
+use crate::texts::{bytes_of, fault_of, number_of, numbers_of, parts_of, same, same_fault};
 use block_adaptive::block_reader::BlockReader;
 use block_adaptive::block_writer::BlockWriter;
 use cube_core::fault::Fault;
@@ -89,9 +89,9 @@ fn written(
         assert!(rt; u32::from(*number) < 1 << params.kind.bits());
         blocks.put(*number, &mut writer)?;
     }
-    blocks.end(&mut writer)?;
+    blocks.end(&mut writer).expect(rt, "memory");
     let fill = (8 - writer.bit_count() % 8) % 8;
-    writer.push(0, fill as u32)?;
+    writer.push(0, fill as u32).expect(rt, "memory");
     assert!(rt; writer.bit_count() % 8 == 0);
     Ok(writer.into_bytes())
 }
@@ -138,8 +138,8 @@ fn sample_numbers(alloc: Global, bits: u32, count: u32, seed: u64) -> Result<Vec
     Ok(numbers)
 }
 
-/// That so many numbers are written and read back.
-fn come_back(rt: &impl Abort, alloc: Global, s: Settings)
+/// Whether so many numbers are written and read back, with fewer than eight bits behind them.
+fn come_back(rt: &impl Abort, alloc: Global, s: Settings) -> bool
     requires bits { (2 ≤ s.bits) × (s.bits ≤ 16) }
     requires size { s.size < 4 }
 {
@@ -149,15 +149,7 @@ fn come_back(rt: &impl Abort, alloc: Global, s: Settings)
     assert!(rt; numbers.len() as u64 == params.shape.sample_count());
     let bytes = written(rt, alloc, &params, &numbers).expect(rt, "a body");
     let (back, left) = read(rt, alloc, &params, &bytes).expect(rt, "numbers");
-    assert!(rt;
-        back.as_slice() == numbers.as_slice(),
-        "at {} bits, size {}, r {}, {} numbers",
-        s.bits,
-        s.size,
-        s.reference,
-        s.count
-    );
-    assert!(rt; left < 8);
+    back.as_slice() == numbers.as_slice() && left < 8
 }
 
 #[test]
@@ -180,7 +172,10 @@ fn numbers_come_back(rt: HostRuntime) {
                         reference,
                         count,
                     };
-                    come_back(&rt, rt.alloc(), settings);
+                    assert!(rt;
+                        come_back(&rt, rt.alloc(), settings),
+                        "at {bits} bits, size {size}, r {reference}, {count} numbers"
+                    );
                 }
             }
         }
@@ -207,7 +202,7 @@ fn is_body(
     let params = params_of(rt, s);
     assert!(rt; numbers.len() as u64 == params.shape.sample_count());
     let found = written(rt, alloc, &params, numbers).expect(rt, "a body");
-    assert_eq!(rt; found.as_slice(), body);
+    same(rt, &found, body, "a body");
 }
 
 /// Bits of a sample, reference interval, numbers in blocks of 8, and their body.
@@ -238,7 +233,7 @@ fn bodies(rt: HostRuntime) {
 }
 
 /// What a body of so many numbers in blocks of 8 is refused for; the reader stands where it stood.
-fn refusal_of(rt: &impl Abort, bits: u32, reference: u32, bytes: &[u8]) -> Fault {
+fn refusal_of(rt: &impl Abort, bits: u32, reference: u32, bytes: &[u8]) -> Option<Fault> {
     assert!(rt; bytes.len() < 1_000_000);
     let params = params_of(
         rt,
@@ -256,7 +251,7 @@ fn refusal_of(rt: &impl Abort, bits: u32, reference: u32, bytes: &[u8]) -> Fault
     let first = blocks.next(&mut reader).err();
     let left = reader.left();
     assert!(rt; left == 8 * bytes.len() as u64);
-    first.expect(rt, "a refusal")
+    first
 }
 
 /// What is refused, bits of a sample, reference interval, body, and the fault.
@@ -272,6 +267,6 @@ fn refusals(rt: HostRuntime) {
         let [name, bits, reference, body, fault] = parts_of(&rt, row);
         let body = bytes_of(&rt, rt.alloc(), body);
         let found = refusal_of(&rt, number_of(&rt, bits), number_of(&rt, reference), &body);
-        assert_eq!(rt; found, fault_of(&rt, fault), "{name}");
+        same_fault(&rt, found, fault_of(&rt, fault), name);
     }
 }

@@ -1,9 +1,9 @@
 //! Bodies made by hand: lawful ones that the writer never chooses, and those at the borders of what is lawful.
 
-ghost use Rattle.std.specs.Prelude.{◌≡◌, ◌*◌, ◌%◌, length};
+ghost use Rattle.std.specs.Prelude.{◌≡◌, ◌*◌, ◌%◌, ◌^◌, ◌≤◌, length};
 
 use crate::blocks::{Settings, params_of, read};
-use crate::texts::{bytes_of, number_of, numbers_of, parts_of};
+use crate::texts::{bytes_of, number_of, numbers_of, parts_of, same_fault};
 use block_adaptive::options::Choice;
 use cube_core::fault::Fault;
 use header_bits::bit_writer::BitWriter;
@@ -18,24 +18,35 @@ fn append_fundamental(rt: &impl Abort, writer: &mut BitWriter, zeros: u64) {
     writer.push(1, 1).expect(rt, "memory");
 }
 
+/// Appends the lowest bits of values.
+fn append_low_bits(rt: &impl Abort, writer: &mut BitWriter, values: &[u16], bits: u32)
+    requires { bits ≤ 8 }
+{
+    for value in values {
+        let low = u64::from(*value) % (1 << bits);
+        writer.push(low, bits).expect(rt, "memory");
+    }
+}
+
+/// Appends the numbers of pairs.
+fn append_pairs(rt: &impl Abort, writer: &mut BitWriter, values: &[u16]) {
+    for pair in values.chunks(2) {
+        assert!(rt; pair.len() == 2);
+        let sum = u64::from(pair[0]) + u64::from(pair[1]);
+        append_fundamental(rt, writer, sum * (sum + 1) / 2 + u64::from(pair[1]));
+    }
+}
+
 /// Appends the text of a block of 8 under an option for samples of 8 bits, bit by bit.
 fn append_block(rt: &impl Abort, writer: &mut BitWriter, option: Choice, values: &[u16]) {
     match option {
         Choice::Uncoded => {
             writer.push(0b111, 3).expect(rt, "memory");
-            for value in values {
-                writer
-                    .push(u64::from(*value) & 0xFF, 8)
-                    .expect(rt, "memory");
-            }
+            append_low_bits(rt, writer, values, 8);
         }
         Choice::Second => {
             writer.push(0b0001, 4).expect(rt, "memory");
-            for pair in values.chunks(2) {
-                assert!(rt; pair.len() == 2);
-                let sum = u64::from(pair[0]) + u64::from(pair[1]);
-                append_fundamental(rt, writer, sum * (sum + 1) / 2 + u64::from(pair[1]));
-            }
+            append_pairs(rt, writer, values);
         }
         Choice::Split(k) => {
             assert!(rt; k < 6);
@@ -43,11 +54,7 @@ fn append_block(rt: &impl Abort, writer: &mut BitWriter, option: Choice, values:
             for value in values {
                 append_fundamental(rt, writer, u64::from(*value >> k));
             }
-            for value in values {
-                writer
-                    .push(u64::from(*value) % (1 << k), k)
-                    .expect(rt, "memory");
-            }
+            append_low_bits(rt, writer, values, k);
         }
     }
 }
@@ -160,7 +167,8 @@ fn every_split_of_a_run_is_read(rt: HostRuntime) {
 /// That a body of so many numbers is refused for a fault.
 fn is_refused(rt: &impl Abort, alloc: Global, s: Settings, body: &[u8], fault: Fault) {
     let params = params_of(rt, s);
-    assert_eq!(rt; read(rt, alloc, &params, body).err(), Some(fault));
+    let found = read(rt, alloc, &params, body).err();
+    same_fault(rt, found, fault, "a body");
 }
 
 /// Reference interval, how many numbers, and a body with a run past its segment.

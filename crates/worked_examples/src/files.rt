@@ -7,7 +7,7 @@ use crate::rows::{
     BLOCK_ROWS, CUBE_A_ROWS, REGISTER_ROWS, RUN_ROWS, SEGMENT_ROWS, SMALL_ROWS, WEIGHT_ROWS,
 };
 use crate::settings::params_of;
-use crate::texts::{file_of, header_of, parts_of, samples_of};
+use crate::texts::{file_of, header_of, parts_of, same, samples_of};
 use coder_pipe::decode::decode;
 use coder_pipe::encode::encode_one;
 use cube_core::cube::Cube;
@@ -33,11 +33,6 @@ pub(super) fn decoded(
 ) -> Result<(Params, Cube), Fault> {
     assert!(rt; bytes.len() <= 1000);
     decode(alloc, bytes)
-}
-
-/// That bytes are those that are expected.
-fn same(rt: &impl Abort, found: &[u8], expected: &[u8], name: &str) {
-    assert_eq!(rt; found, expected, "{name}");
 }
 
 /// The file that is written of raw bytes by these settings.

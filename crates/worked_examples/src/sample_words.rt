@@ -3,7 +3,7 @@
 ghost use Rattle.std.specs.Prelude.{◌≡◌, ◌+◌, ◌^◌, ◌<◌, ◌≤◌, length};
 ghost use Rattle.sample_adaptive.specs.Settings.{AreForSamples};
 
-use crate::texts::{bytes_of, fault_of, number_of, numbers_of, parts_of};
+use crate::texts::{bytes_of, fault_of, number_of, numbers_of, parts_of, same, same_fault};
 use cube_core::fault::Fault;
 use cube_core::kind::Kind;
 use cube_core::order::Order;
@@ -69,25 +69,22 @@ fn params_of(rt: &impl Abort, s: Settings) -> Params
 }
 
 /// The body of a band's numbers, with the zeros that fill its last byte.
-fn written(
-    rt: &impl Abort,
-    alloc: Global,
-    params: &Params,
-    numbers: &[u16],
-) -> Result<Vec<u8>, Fault>
+fn written(rt: &impl Abort, alloc: Global, params: &Params, numbers: &[u16]) -> Vec<u8>
     requires lawful { AreForSamples params.now }
     requires bands { 1 ≤ params.now.shape.bands }
 {
-    let mut stats = Stats::new(alloc, params)?;
+    let mut stats = Stats::new(alloc, params).expect(rt, "memory");
     let mut writer = BitWriter::new(alloc);
     for (t, number) in numbers.iter().enumerate() {
         assert!(rt; u32::from(*number) < 1 << params.kind.bits());
-        stats.put(0, t as u64, *number, &mut writer)?;
+        stats
+            .put(0, t as u64, *number, &mut writer)
+            .expect(rt, "memory");
     }
     let fill = (8 - writer.bit_count() % 8) % 8;
-    writer.push(0, fill as u32)?;
+    writer.push(0, fill as u32).expect(rt, "memory");
     assert!(rt; writer.bit_count() % 8 == 0);
-    Ok(writer.into_bytes())
+    writer.into_bytes()
 }
 
 /// So many numbers of one band, and how many bits are left behind them.
@@ -97,18 +94,19 @@ fn read(
     params: &Params,
     bytes: &[u8],
     count: u64,
-) -> Result<(Vec<u16>, u64), Fault>
+) -> (Vec<u16>, u64)
     requires lawful { AreForSamples params.now }
     requires bands { 1 ≤ params.now.shape.bands }
 {
     assert!(rt; bytes.len() < 1_000_000);
-    let mut stats = Stats::new(alloc, params)?;
+    let mut stats = Stats::new(alloc, params).expect(rt, "memory");
     let mut reader = BitReader::new(bytes);
     let mut numbers = Vec::new(alloc);
     for t in 0..count {
-        numbers.push(stats.get(0, t, &mut reader)?)?;
+        let number = stats.get(0, t, &mut reader).expect(rt, "a number");
+        numbers.push(number).expect(rt, "memory");
     }
-    Ok((numbers, reader.left()))
+    (numbers, reader.left())
 }
 
 /// Numbers that begin with the greatest one, and go on with zeros, great and middle ones in runs.
@@ -134,26 +132,16 @@ fn sample_numbers(alloc: Global, bits: u32, seed: u64) -> Result<Vec<u16>, Fault
     Ok(numbers)
 }
 
-/// That so many numbers are written and read back.
-fn come_back(rt: &impl Abort, alloc: Global, s: Settings)
+/// Whether numbers are written and read back, with fewer than eight bits behind them.
+fn come_back(rt: &impl Abort, alloc: Global, s: Settings) -> bool
     requires { (2 ≤ s.bits) × (s.bits ≤ 16) × (s.constant < 16) }
 {
     let params = params_of(rt, s);
     let seed = u64::from(s.bits * 100 + s.constant);
     let numbers = sample_numbers(alloc, s.bits, seed).expect(rt, "memory");
-    let bytes = written(rt, alloc, &params, &numbers).expect(rt, "a body");
-    let count = numbers.len() as u64;
-    let (back, left) = read(rt, alloc, &params, &bytes, count).expect(rt, "numbers");
-    assert!(rt;
-        back.as_slice() == numbers.as_slice(),
-        "at {} bits, k {}, {} {} {}",
-        s.bits,
-        s.constant,
-        s.umax,
-        s.gamma_star,
-        s.gamma_zero
-    );
-    assert!(rt; left < 8);
+    let bytes = written(rt, alloc, &params, &numbers);
+    let (back, left) = read(rt, alloc, &params, &bytes, numbers.len() as u64);
+    back.as_slice() == numbers.as_slice() && left < 8
 }
 
 #[test]
@@ -168,7 +156,10 @@ fn numbers_come_back(rt: HostRuntime) {
                     gamma_zero,
                     constant,
                 };
-                come_back(&rt, rt.alloc(), settings);
+                assert!(rt;
+                    come_back(&rt, rt.alloc(), settings),
+                    "at {bits} bits, k {constant}, {umax} {gamma_star} {gamma_zero}"
+                );
             }
         }
     }
@@ -177,9 +168,8 @@ fn numbers_come_back(rt: HostRuntime) {
 /// That these numbers are written as this body.
 fn is_body(rt: &impl Abort, alloc: Global, s: Settings, numbers: &str, body: &str) {
     let params = params_of(rt, s);
-    let numbers = numbers_of(rt, alloc, numbers);
-    let found = written(rt, alloc, &params, &numbers).expect(rt, "a body");
-    assert_eq!(rt; found.as_slice(), bytes_of(rt, alloc, body).as_slice());
+    let found = written(rt, alloc, &params, &numbers_of(rt, alloc, numbers));
+    same(rt, &found, &bytes_of(rt, alloc, body), numbers);
 }
 
 #[test]
@@ -211,18 +201,16 @@ fn escape(rt: HostRuntime) {
 }
 
 /// What the second number of a band is refused for, and that it is refused so for ever.
-fn refusal_of(rt: &impl Abort, alloc: Global, s: Settings, bytes: &[u8]) -> Option<Fault> {
+fn is_refused(rt: &impl Abort, alloc: Global, s: Settings, bytes: &[u8], fault: Fault, name: &str) {
     assert!(rt; bytes.len() < 1_000_000);
     let params = params_of(rt, s);
     let mut stats = Stats::new(alloc, &params).expect(rt, "memory");
     let mut reader = BitReader::new(bytes);
     stats.get(0, 0, &mut reader).expect(rt, "a number");
     let left = reader.left();
-    let first = stats.get(0, 1, &mut reader).err();
-    let again = stats.get(0, 1, &mut reader).err();
-    assert_eq!(rt; first, again);
+    same_fault(rt, stats.get(0, 1, &mut reader).err(), fault, name);
+    same_fault(rt, stats.get(0, 1, &mut reader).err(), fault, name);
     assert_eq!(rt; reader.left(), left);
-    first
 }
 
 /// The bits of a sample, a body, and what its second number is refused for.
@@ -237,7 +225,14 @@ fn bad_codes(rt: HostRuntime) {
     for row in BAD_CODES.split('\n') {
         let [name, bits, body, fault, _] = parts_of(&rt, row);
         let body = bytes_of(&rt, rt.alloc(), body);
-        let found = refusal_of(&rt, rt.alloc(), short_codes(number_of(&rt, bits)), &body);
-        assert_eq!(rt; found, Some(fault_of(&rt, fault)), "{name}");
+        let fault = fault_of(&rt, fault);
+        is_refused(
+            &rt,
+            rt.alloc(),
+            short_codes(number_of(&rt, bits)),
+            &body,
+            fault,
+            name,
+        );
     }
 }

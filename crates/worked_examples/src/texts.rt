@@ -99,3 +99,13 @@ pub(crate) fn fault_of(rt: &impl Abort, words: &str) -> Fault {
         }
     }
 }
+
+/// That bytes are those that are expected.
+pub(crate) fn same(rt: &impl Abort, found: &[u8], expected: &[u8], name: &str) {
+    assert_eq!(rt; found, expected, "{name}");
+}
+
+/// That a fault is the one that is expected.
+pub(crate) fn same_fault(rt: &impl Abort, found: Option<Fault>, expected: Fault, name: &str) {
+    assert_eq!(rt; found, Some(expected), "{name}");
+}
