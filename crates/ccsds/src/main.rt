@@ -1,7 +1,8 @@
 //! The program `ccsds`: the commands over files and the standard streams.
 #![tactic(auto)]
 
-ghost use Rattle.std.specs.Prelude.{IfOk};
+ghost use Rattle.std.specs.Prelude.{◌≡◌, ◌⊎◌, IfOk, IfErr};
+ghost use Rattle.cube_core.specs.declared.fault.Fault.TheVariants.{Usage, WantOfMemory};
 ghost use Rattle.command_words.specs.Settings.{AreInRange};
 
 use ccsds_command::compress::run_compress;
@@ -46,7 +47,8 @@ fn run(rt: &HostRuntime) -> Result<(), Fault> {
 
 /// What the words behind the program's name ask for. Words that aren't text are `Usage`.
 fn asked(rt: &HostRuntime) -> Result<Settings, Fault>
-    ensures { IfOk result AreInRange }
+    ensures ranges { IfOk result AreInRange }
+    ensures refused { IfErr result (λ e. (e ≡ Usage) ⊎ (e ≡ WantOfMemory)) }
 {
     let Ok(args) = env::args(rt) else {
         return Err(Fault::Usage);

@@ -1,4 +1,5 @@
 pub mod Compress
+pub mod Cut
 pub mod Devices
 pub mod Everything
 pub mod Expand
