@@ -4,7 +4,6 @@ ghost use Rattle.std.specs.Prelude.{◌≡◌};
 ghost use Rattle.cube_core.specs.declared.fault.Fault.TheVariants.{WantOfMemory};
 
 use std::alloc::{AllocError, AllocFailed};
-use std::fmt;
 use thiserror::Error;
 
 /// A parameter, or a field of the header, that has a range of its own.
@@ -35,12 +34,6 @@ pub enum Field {
     Reference,
     Predictors,
     Slots,
-}
-
-impl fmt::Display for Field {
-    fn fmt<W: fmt::Write>(&self, f: &mut fmt::Formatter<W>) -> fmt::Result {
-        write!(f, "{self:?}")
-    }
 }
 
 /// A rule between two parameters.
@@ -78,12 +71,6 @@ pub enum Rule {
     RestrictedOverFour,
 }
 
-impl fmt::Display for Rule {
-    fn fmt<W: fmt::Write>(&self, f: &mut fmt::Formatter<W>) -> fmt::Result {
-        write!(f, "{self:?}")
-    }
-}
-
 /// Why a call is refused. Its `Display` is what the program prints: number, name and values.
 ///
 /// A bit, a place, a block or an index counts from 0.
@@ -96,10 +83,10 @@ pub enum Fault {
     #[error("2 Reserved {bit}")]
     Reserved { bit: u64 },
     /// A parameter out of its own range; `value` is the number itself, after any offset of its field.
-    #[error("3 FieldRange {field} {value}")]
+    #[error("3 FieldRange {field:?} {value}")]
     FieldRange { field: Field, value: i64 },
     /// Two parameters break a rule.
-    #[error("4 Disagree {rule}")]
+    #[error("4 Disagree {rule:?}")]
     Disagree { rule: Rule },
     /// A custom weight start without a table in the file.
     #[error("5 TableElsewhere")]
