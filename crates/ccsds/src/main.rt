@@ -1,9 +1,12 @@
 //! The program `ccsds`: the commands over files and the standard streams.
 #![tactic(auto)]
 
-ghost use Rattle.std.specs.Prelude.{◌≡◌, ◌⊎◌, IfOk, IfErr};
+ghost use Rattle.std.specs.Prelude.{◌≡◌, ◌⊎◌, IfOk, IfErr, map, string_bytes};
 ghost use Rattle.cube_core.specs.declared.fault.Fault.TheVariants.{Usage, WantOfMemory};
+ghost use Rattle.std.specs.Process.{exit_status};
+ghost use Rattle.ccsds_command.specs.Status.{status};
 ghost use Rattle.command_words.specs.Settings.{AreInRange};
+ghost use Rattle.command_words.specs.Words.{texts, AreNamedBy, IsWhole};
 
 use ccsds_command::compress::run_compress;
 use ccsds_command::expand::run_expand;
@@ -14,6 +17,7 @@ use ccsds_command::stream::{ReaderSource, WriterSink};
 use command_settings::settings::Settings;
 use command_words::words::settings;
 use cube_core::fault::Fault;
+use std::alloc::{AllocError, Global};
 use std::fs::File;
 use std::io::Write;
 use std::process::ExitCode;
@@ -31,7 +35,7 @@ fn run(rt: &HostRuntime) -> Result<(), Fault> {
     let alloc = rt.alloc();
     let mut input = ReaderSource::new(rt.stdin());
     let mut output = WriterSink::new(io::writer(rt));
-    match asked(rt)? {
+    match asked(alloc, &words(rt)?)? {
         Settings::Show => run_show(alloc, &mut input, &mut output),
         Settings::Compress(settings, from, to) => {
             let (mut source, mut sink) = opened(rt, from.as_str(), to.as_str())?;
@@ -45,17 +49,32 @@ fn run(rt: &HostRuntime) -> Result<(), Fault> {
     }
 }
 
-/// What the words behind the program's name ask for. Words that aren't text are `Usage`.
-fn asked(rt: &HostRuntime) -> Result<Settings, Fault>
+/// What the words behind the program's name ask for.
+fn asked(alloc: Global, words: &[String]) -> Result<Settings, Fault>
     ensures ranges { IfOk result AreInRange }
-    ensures refused { IfErr result (λ e. (e ≡ Usage) ⊎ (e ≡ WantOfMemory)) }
+    ensures named { IfOk result (AreNamedBy (map string_bytes words.now)) }
+    ensures refused { IfErr result (λ e. ((e ≡ Usage) × ¬ (IsWhole (map string_bytes words.now))) ⊎ (e ≡ WantOfMemory)) }
 {
-    let Ok(args) = env::args(rt) else {
+    settings(alloc, texts_of(alloc, words)?.as_slice())
+}
+
+/// The texts of words.
+fn texts_of<'a>(alloc: Global, words: &'a [String]) -> Result<Vec<&'a str>, AllocError>
+    ensures { IfOk result (λ v. texts v.items ≡ map string_bytes words.now) }
+{
+    let mut texts = Vec::new(alloc);
+    for word in words {
+        texts.push(word.as_str())?;
+    }
+    Ok(texts)
+}
+
+/// The words behind the program's name. Words that aren't text are `Usage`.
+fn words(rt: &HostRuntime) -> Result<Vec<String>, Fault> {
+    let Ok(words) = env::args(rt) else {
         return Err(Fault::Usage);
     };
-    let args: Vec<String> = args.skip(1).collect(rt.alloc())?;
-    let words: Vec<&str> = args.iter().map(|word| word.as_str()).collect(rt.alloc())?;
-    settings(rt.alloc(), words.as_slice())
+    Ok(words.skip(1).collect(rt.alloc())?)
 }
 
 /// Opens the one file, and then makes or empties the other.
@@ -75,7 +94,9 @@ fn opened(
 
 /// Prints the fault's line on standard error, and gives its exit status. Where there is no memory for
 /// the line, nothing is printed.
-fn report(rt: &HostRuntime, fault: &Fault) -> ExitCode {
+fn report(rt: &HostRuntime, fault: &Fault) -> ExitCode
+    ensures { (exit_status result ≡ status fault.now) ⊎ (exit_status result ≡ status WantOfMemory) }
+{
     match fault_line(rt.alloc(), fault) {
         Ok(line) => {
             // Nobody is left to tell that standard error failed.

@@ -29,17 +29,15 @@ k 3
 block 8
 reference 64";
 
-/// The commands with their options and files.
-pub(crate) fn command<'a>(alloc: Global) -> Result<Command<'a>, AllocError> {
-    let compress = image_options(alloc, Command::new(alloc, "compress"))?;
-    let compress = layout_options(alloc, compress)?;
-    let expand = layout_options(alloc, Command::new(alloc, "expand"))?;
-    Command::new(alloc, "ccsds")
-        .no_binary_name(true)
-        .subcommand(Command::new(alloc, "show"))?
-        .subcommand(compress)?
-        .subcommand(expand)?
-        .subcommand(Command::new(alloc, "inspect"))
+/// `compress`, with its options and files.
+pub(crate) fn compress_command<'a>(alloc: Global) -> Result<Command<'a>, AllocError> {
+    let command = image_options(alloc, Command::new(alloc, "compress"))?;
+    layout_options(alloc, command)
+}
+
+/// `expand`, with its options and files.
+pub(crate) fn expand_command<'a>(alloc: Global) -> Result<Command<'a>, AllocError> {
+    layout_options(alloc, Command::new(alloc, "expand"))
 }
 
 /// The image, and how it is predicted and coded.

@@ -1,15 +1,16 @@
 //! From the words of a command line to its settings.
 
-ghost use Rattle.std.specs.Prelude.{◌≡◌, ◌≢◌, ◌⊎◌, ◌≤◌, ◌<◌, ◌^◌, IfOk, IfErr, string_bytes};
+ghost use Rattle.std.specs.Prelude.{◌≡◌, ◌≢◌, ◌⊎◌, ◌≤◌, ◌<◌, ◌^◌, IfOk, IfErr, codes, string_bytes};
 ghost use Rattle.cube_core.specs.declared.fault.Fault.TheVariants.{Usage, WantOfMemory};
 ghost use Rattle.cube_core.specs.Shape.{InRange};
 ghost use Rattle.cube_core.specs.Layout.{IsLayout};
 ghost use Rattle.header_bits.specs.Lawful.{IsExponent};
-ghost use Rattle.command_words.specs.Settings.{AreInRange, AreParams, IsDepth, IsCoderInRange};
+ghost use Rattle.command_words.specs.Settings.{AreInRange, AreParams, IsCoderInRange, IsDepth};
+ghost use Rattle.command_words.specs.Words.{texts, AreNamedBy, AreOfOptions, BeginWith, IsWhole};
 
-use crate::options::command;
+use crate::options::{compress_command, expand_command};
 use clap::error::ErrorKind;
-use clap::{ArgMatches, Error};
+use clap::{ArgMatches, Command, Error};
 use command_settings::settings::{CompressSettings, Settings};
 use cube_core::fault::Fault;
 use cube_core::kind::Kind;
@@ -19,24 +20,22 @@ use cube_core::shape::Shape;
 use header_bits::params::{Coder, CountStart, Params, WeightStart};
 use std::alloc::Global;
 
-/// The settings that the words behind the program's name ask for.
+/// The settings that the words behind the program's name ask for. The first word names the command, and
+/// behind `show` and `inspect` there is none.
 ///
 /// `Usage` where they are no lawful command: an unknown word, a word too many or too few, an option
 /// twice or with a value out of its range, the same text for both files, and also where they ask for
 /// help or a version. Nothing is printed. `WantOfMemory` where memory was refused.
 pub fn settings<'a>(alloc: Global, words: &'a [&'a str]) -> Result<Settings, Fault>
     ensures ranges { IfOk result AreInRange }
-    ensures refused { IfErr result (λ e. (e ≡ Usage) ⊎ (e ≡ WantOfMemory)) }
+    ensures named { IfOk result (AreNamedBy (texts words.entry.now)) }
+    ensures refused { IfErr result (λ e. ((e ≡ Usage) × ¬ (IsWhole (texts words.entry.now))) ⊎ ((e ≡ WantOfMemory) × AreOfOptions (texts words.entry.now))) }
 {
-    let matches = match command(alloc)?.try_get_matches_from(words) {
-        Ok(matches) => matches,
-        Err(error) => return Err(fault_of(&error)),
-    };
-    match matches.subcommand() {
-        Some(("show", _)) => Ok(Settings::Show),
-        Some(("compress", matches)) => compress_settings(alloc, matches),
-        Some(("expand", matches)) => expand_settings(alloc, matches),
-        Some(("inspect", _)) => Ok(Settings::Inspect),
+    match *words {
+        ["show"] => Ok(Settings::Show),
+        ["compress", ..] => compress_settings(alloc, words),
+        ["expand", ..] => expand_settings(alloc, words),
+        ["inspect"] => Ok(Settings::Inspect),
         _ => Err(Fault::Usage),
     }
 }
@@ -51,23 +50,38 @@ fn fault_of(error: &Error) -> Fault
     }
 }
 
-fn compress_settings(alloc: Global, matches: &ArgMatches<'_>) -> Result<Settings, Fault>
+fn compress_settings<'a>(alloc: Global, words: &'a [&'a str]) -> Result<Settings, Fault>
+    requires { BeginWith (codes "compress") (texts words.now) }
+    ensures named { IfOk result (AreNamedBy (texts words.entry.now)) }
     ensures ranges { IfOk result AreInRange }
     ensures refused { IfErr result (λ e. (e ≡ Usage) ⊎ (e ≡ WantOfMemory)) }
 {
-    let params = params(matches)?;
-    let layout = layout(matches)?;
-    let (from, to) = files(alloc, matches)?;
+    let matches = matches(compress_command(alloc)?, words)?;
+    let params = params(&matches)?;
+    let layout = layout(&matches)?;
+    let (from, to) = files(alloc, &matches)?;
     Ok(Settings::Compress(CompressSettings { params, layout }, from, to))
 }
 
-fn expand_settings(alloc: Global, matches: &ArgMatches<'_>) -> Result<Settings, Fault>
+fn expand_settings<'a>(alloc: Global, words: &'a [&'a str]) -> Result<Settings, Fault>
+    requires { BeginWith (codes "expand") (texts words.now) }
+    ensures named { IfOk result (AreNamedBy (texts words.entry.now)) }
     ensures ranges { IfOk result AreInRange }
     ensures refused { IfErr result (λ e. (e ≡ Usage) ⊎ (e ≡ WantOfMemory)) }
 {
-    let layout = layout(matches)?;
-    let (from, to) = files(alloc, matches)?;
+    let matches = matches(expand_command(alloc)?, words)?;
+    let layout = layout(&matches)?;
+    let (from, to) = files(alloc, &matches)?;
     Ok(Settings::Expand(layout, from, to))
+}
+
+/// What a command finds in words, the first of which is its name.
+fn matches<'a>(command: Command<'a>, words: &'a [&'a str]) -> Result<ArgMatches<'a>, Fault>
+    ensures { IfErr result (λ e. (e ≡ Usage) ⊎ (e ≡ WantOfMemory)) }
+{
+    command
+        .try_get_matches_from(words)
+        .map_err(|error| fault_of(&error))
 }
 
 fn params(matches: &ArgMatches<'_>) -> Result<Params, Fault>
