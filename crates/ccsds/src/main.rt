@@ -6,7 +6,7 @@ ghost use Rattle.cube_core.specs.declared.fault.Fault.TheVariants.{Usage, WantOf
 ghost use Rattle.std.specs.Process.{exit_status};
 ghost use Rattle.ccsds_command.specs.Status.{status};
 ghost use Rattle.command_words.specs.Settings.{AreInRange};
-ghost use Rattle.command_words.specs.Words.{texts, AreNamedBy, IsWhole};
+ghost use Rattle.command_words.specs.Words.{texts, Ask, AskForNone};
 
 use ccsds_command::compress::run_compress;
 use ccsds_command::expand::run_expand;
@@ -52,8 +52,8 @@ fn run(rt: &HostRuntime) -> Result<(), Fault> {
 /// What the words behind the program's name ask for.
 fn asked(alloc: Global, words: &[String]) -> Result<Settings, Fault>
     ensures ranges { IfOk result AreInRange }
-    ensures named { IfOk result (AreNamedBy (map string_bytes words.now)) }
-    ensures refused { IfErr result (λ e. ((e ≡ Usage) × ¬ (IsWhole (map string_bytes words.now))) ⊎ (e ≡ WantOfMemory)) }
+    ensures asked { IfOk result (Ask (map string_bytes words.now)) }
+    ensures refused { IfErr result (λ e. ((e ≡ Usage) × AskForNone (map string_bytes words.now)) ⊎ (e ≡ WantOfMemory)) }
 {
     settings(alloc, texts_of(alloc, words)?.as_slice())
 }

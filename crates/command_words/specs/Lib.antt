@@ -1,2 +1,5 @@
 pub mod Settings
 pub mod Words
+pub mod Options
+pub mod Reading
+pub mod Worked

@@ -1,12 +1,25 @@
--- Which words name which command.
-use Rattle.std.specs.Prelude.{◌≡◌, ◌≤◌, ◌⊎◌, ℕ, List, [], length, map, slice_index_or, codes}
+-- Which words ask for what.
+use Rattle.std.specs.Prelude.{◌≡◌, ◌≤◌, ◌⊎◌, ℕ, List, [], length, map, slice_index_or, codes, String}
+use Rattle.std.specs.declared.alloc.Global.{Global}
 use Rattle.std.specs.Borrow.{Bor}
+use Rattle.clap.specs.Walk.{Row}
+use Rattle.clap.specs.Simple.{App, matches_of}
+use Rattle.clap.specs.Faults.{fault_of}
+use Rattle.cube_core.specs.declared.layout.Layout.{Layout}
+use Rattle.command_settings.specs.declared.settings.CompressSettings.{CompressSettings}
 use Rattle.command_settings.specs.declared.settings.Settings.{Settings}
 use Rattle.command_settings.specs.declared.settings.Settings.TheVariants.{Show, Compress, Expand, Inspect}
+use Rattle.command_words.specs.Options.{compress_app, expand_app}
+use Rattle.command_words.specs.Reading.{AreFilesOf, AreParamsOf, IsLayoutOf}
+use Rattle.command_words.specs.Settings.{AreInRange}
 
 -- the texts of words
 abbrev pub texts : List (Bor (List ℕ)) → List (List ℕ)
 texts words = map (λ w. w.now) words
+
+-- the command takes the words: it finds nothing wrong with them
+abbrev pub AreTaken : App → List (List ℕ) → Type 0
+AreTaken app words = fault_of app words ≡ []
 
 -- there is a first word, and it is this
 abbrev pub BeginWith : List ℕ → List (List ℕ) → Type 0
@@ -16,17 +29,25 @@ BeginWith name words = (1 ≤ length words) × (slice_index_or words 0 [] ≡ na
 abbrev pub IsAlone : List ℕ → List (List ℕ) → Type 0
 IsAlone name words = (length words ≡ 1) × (slice_index_or words 0 [] ≡ name)
 
--- one word is a whole command
-abbrev pub IsWhole : List (List ℕ) → Type 0
-IsWhole words = IsAlone (codes "show") words ⊎ IsAlone (codes "inspect") words
-
 -- the words are for a command that takes options
 abbrev pub AreOfOptions : List (List ℕ) → Type 0
 AreOfOptions words = BeginWith (codes "compress") words ⊎ BeginWith (codes "expand") words
 
--- the first word names the command; behind show and inspect there is none
-abbrev pub AreNamedBy : List (List ℕ) → Settings → Type 0
-AreNamedBy words Show = IsAlone (codes "show") words
-AreNamedBy words (Compress s from to) = BeginWith (codes "compress") words
-AreNamedBy words (Expand l from to) = BeginWith (codes "expand") words
-AreNamedBy words Inspect = IsAlone (codes "inspect") words
+-- options say how a cube is compressed, and which files are read and written
+abbrev pub AreCompressed : List Row → CompressSettings → String Global → String Global → Type 0
+AreCompressed rows s from to = AreParamsOf rows s.params × IsLayoutOf rows s.layout × AreFilesOf rows from to
+
+-- and how a file is expanded
+abbrev pub AreExpanded : List Row → Layout → String Global → String Global → Type 0
+AreExpanded rows l from to = IsLayoutOf rows l × AreFilesOf rows from to
+
+-- the words ask for a command with its settings: the first is its name, and the others are its options and files
+abbrev pub Ask : List (List ℕ) → Settings → Type 0
+Ask words Show = IsAlone (codes "show") words
+Ask words (Compress s from to) = BeginWith (codes "compress") words × AreTaken compress_app words × AreCompressed (matches_of compress_app words) s from to
+Ask words (Expand l from to) = BeginWith (codes "expand") words × AreTaken expand_app words × AreExpanded (matches_of expand_app words) l from to
+Ask words Inspect = IsAlone (codes "inspect") words
+
+-- the words ask for no settings whose values are in their ranges
+abbrev pub AskForNone : List (List ℕ) → Type 0
+AskForNone words = (s : Settings) → Ask words s → ¬ (AreInRange s)

@@ -3,3 +3,4 @@
 
 mod options;
 pub mod words;
+pub mod worked;

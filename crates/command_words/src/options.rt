@@ -1,64 +1,77 @@
 //! The words that the commands take, as `clap` knows them.
 
+ghost use Rattle.std.specs.Prelude.{◌≡◌, IfOk};
+ghost use Rattle.clap.specs.Simple.{app_of};
+ghost use Rattle.clap.specs.Walk.{rule_of};
+ghost use Rattle.command_words.specs.Options as defined;
+
 use clap::{Arg, ArgAction, Command};
 use std::alloc::{AllocError, Global};
 
 /// What says how large an image is, and what its samples are.
-const SIZES: &str = "columns rows bands bits";
-
-/// The flags of `compress`.
-const FLAGS: &str = "signed reduced column-sums";
+static SIZES: [&str; 4] = ["columns", "rows", "bands", "bits"];
 
 /// The options of `compress`, each with its value where it is left out: the encoding order and what goes
 /// into the header's first part, how samples are predicted, and how residuals are coded.
-const OPTIONS: &str = "order bsq
-depth 1
-user 0
-word 1
-previous 3
-register 64
-omega 13
-interval-log 6
-vmin-code 5
-vmax-code 9
-coder sample
-umax 16
-gamma-star 6
-gamma-zero 1
-k 3
-block 8
-reference 64";
+static OPTIONS: [(&str, &str); 17] = [
+    ("order", "bsq"),
+    ("depth", "1"),
+    ("user", "0"),
+    ("word", "1"),
+    ("previous", "3"),
+    ("register", "64"),
+    ("omega", "13"),
+    ("interval-log", "6"),
+    ("vmin-code", "5"),
+    ("vmax-code", "9"),
+    ("coder", "sample"),
+    ("umax", "16"),
+    ("gamma-star", "6"),
+    ("gamma-zero", "1"),
+    ("k", "3"),
+    ("block", "8"),
+    ("reference", "64"),
+];
+
+/// The flags of `compress`.
+static FLAGS: [&str; 3] = ["signed", "reduced", "column-sums"];
 
 /// `compress`, with its options and files.
-pub(crate) fn compress_command<'a>(alloc: Global) -> Result<Command<'a>, AllocError> {
+pub(crate) fn compress_command<'a>(alloc: Global) -> Result<Command<'a>, AllocError>
+    ensures { IfOk result (λ c. app_of c ≡ defined.compress_app) }
+{
     let command = image_options(alloc, Command::new(alloc, "compress"))?;
     layout_options(alloc, command)
 }
 
 /// `expand`, with its options and files.
-pub(crate) fn expand_command<'a>(alloc: Global) -> Result<Command<'a>, AllocError> {
+pub(crate) fn expand_command<'a>(alloc: Global) -> Result<Command<'a>, AllocError>
+    ensures { IfOk result (λ c. app_of c ≡ defined.expand_app) }
+{
     layout_options(alloc, Command::new(alloc, "expand"))
 }
 
 /// The image, and how it is predicted and coded.
-fn image_options<'a>(alloc: Global, command: Command<'a>) -> Result<Command<'a>, AllocError> {
+fn image_options<'a>(alloc: Global, command: Command<'a>) -> Result<Command<'a>, AllocError>
+    ensures { IfOk result (λ c. app_of c ≡ defined.with_rules (app_of command.entry) defined.image_rules) }
+{
     let mut command = command;
-    for name in SIZES.split(' ') {
-        command = command.arg(required(alloc, name))?;
+    for name in SIZES.iter() {
+        command = command.arg(required(alloc, *name))?;
     }
-    for line in OPTIONS.split('\n') {
-        if let Some((name, default)) = line.split_once(' ') {
-            command = command.arg(option(alloc, name, default))?;
-        }
+    for (name, default) in OPTIONS.iter() {
+        command = command.arg(option(alloc, *name, *default))?;
     }
-    for name in FLAGS.split(' ') {
-        command = command.arg(flag(alloc, name))?;
+    for name in FLAGS.iter() {
+        command = command.arg(flag(alloc, *name))?;
     }
     Ok(command)
 }
 
 /// How raw bytes lie, and the two files.
-fn layout_options<'a>(alloc: Global, command: Command<'a>) -> Result<Command<'a>, AllocError> {
+fn layout_options<'a>(alloc: Global, command: Command<'a>) -> Result<Command<'a>, AllocError>
+    ensures { IfOk result (λ c. app_of c ≡ defined.with_rules (app_of command.entry) defined.layout_rules) }
+{
     command
         .arg(option(alloc, "layout", "bsq"))?
         .arg(option(alloc, "bytes", "2"))?
@@ -68,7 +81,9 @@ fn layout_options<'a>(alloc: Global, command: Command<'a>) -> Result<Command<'a>
 }
 
 /// An option with a value, which may not be left out.
-fn required<'a>(alloc: Global, name: &'a str) -> Arg<'a> {
+fn required<'a>(alloc: Global, name: &'a str) -> Arg<'a>
+    ensures { rule_of result ≡ defined.required name.entry.now }
+{
     Arg::new(alloc, name)
         .long(name)
         .action(ArgAction::Set)
@@ -76,17 +91,23 @@ fn required<'a>(alloc: Global, name: &'a str) -> Arg<'a> {
 }
 
 /// An option with a value, which is this one where it is left out.
-fn option<'a>(alloc: Global, name: &'a str, default: &'a str) -> Arg<'a> {
+fn option<'a>(alloc: Global, name: &'a str, default: &'a str) -> Arg<'a>
+    ensures { rule_of result ≡ defined.option (name.entry.now, default.entry.now) }
+{
     Arg::new(alloc, name)
         .long(name)
         .action(ArgAction::Set)
         .default_value(default)
 }
 
-fn flag<'a>(alloc: Global, name: &'a str) -> Arg<'a> {
+fn flag<'a>(alloc: Global, name: &'a str) -> Arg<'a>
+    ensures { rule_of result ≡ defined.flag name.entry.now }
+{
     Arg::new(alloc, name).long(name).action(ArgAction::SetTrue)
 }
 
-fn file<'a>(alloc: Global, name: &'a str) -> Arg<'a> {
+fn file<'a>(alloc: Global, name: &'a str) -> Arg<'a>
+    ensures { rule_of result ≡ defined.file name.entry.now }
+{
     Arg::new(alloc, name).required(true).action(ArgAction::Set)
 }

@@ -1,12 +1,25 @@
 //! From the words of a command line to its settings.
 
-ghost use Rattle.std.specs.Prelude.{◌≡◌, ◌≢◌, ◌⊎◌, ◌≤◌, ◌<◌, ◌^◌, IfOk, IfErr, codes, string_bytes};
+ghost use Rattle.std.specs.Prelude.{◌≡◌, ◌≢◌, ◌⊎◌, ◌≤◌, ◌<◌, ◌^◌, ℕ, ℤ, IfOk, IfErr, true, option_map, codes, string_bytes, String};
 ghost use Rattle.cube_core.specs.declared.fault.Fault.TheVariants.{Usage, WantOfMemory};
-ghost use Rattle.cube_core.specs.Shape.{InRange};
+ghost use Rattle.cube_core.specs.declared.layout.Layout.{Layout};
+ghost use Rattle.cube_core.specs.declared.layout.RawOrder.{RawOrder};
+ghost use Rattle.cube_core.specs.Shape.{AreSizes, InRange, Sizes};
+ghost use Rattle.cube_core.specs.Kind.{IsKind, SampleKind};
+ghost use Rattle.cube_core.specs.declared.order.Order.{Order};
 ghost use Rattle.cube_core.specs.Layout.{IsLayout};
+ghost use Rattle.header_bits.specs.declared.params.Params.{Params};
+ghost use Rattle.header_bits.specs.declared.params.Coder.{Coder};
 ghost use Rattle.header_bits.specs.Lawful.{IsExponent};
+ghost use Rattle.std.specs.declared.alloc.Global.{Global};
+ghost use Rattle.clap.specs.Values.{kind_of};
+ghost use Rattle.clap.specs.Walk.{first_of};
+ghost use Rattle.clap.specs.Simple.{app_of, is_simple, matches_of};
+ghost use Rattle.clap.specs.Faults.{is_simple_and_free};
+ghost use Rattle.clap.specs.declared.error.ErrorKind.TheVariants.{OutOfMemory};
 ghost use Rattle.command_words.specs.Settings.{AreInRange, AreParams, IsCoderInRange, IsDepth};
-ghost use Rattle.command_words.specs.Words.{texts, AreNamedBy, AreOfOptions, BeginWith, IsWhole};
+ghost use Rattle.command_words.specs.Reading.{AreFilesOf, AreParamsOf, AreSizesOf, HasExponent, HasFlag, HasNumber, HasWord, IsBlockOf, IsCoderOf, IsKindOf, IsLayoutOf, IsOrderOf, IsSampleOf, raw_order_word, rows};
+ghost use Rattle.command_words.specs.Words.{texts, AreOfOptions, AreTaken, Ask, AskForNone, BeginWith};
 
 use crate::options::{compress_command, expand_command};
 use clap::error::ErrorKind;
@@ -28,8 +41,8 @@ use std::alloc::Global;
 /// help or a version. Nothing is printed. `WantOfMemory` where memory was refused.
 pub fn settings<'a>(alloc: Global, words: &'a [&'a str]) -> Result<Settings, Fault>
     ensures ranges { IfOk result AreInRange }
-    ensures named { IfOk result (AreNamedBy (texts words.entry.now)) }
-    ensures refused { IfErr result (λ e. ((e ≡ Usage) × ¬ (IsWhole (texts words.entry.now))) ⊎ ((e ≡ WantOfMemory) × AreOfOptions (texts words.entry.now))) }
+    ensures asked { IfOk result (Ask (texts words.entry.now)) }
+    ensures refused { IfErr result (λ e. ((e ≡ Usage) × AskForNone (texts words.entry.now)) ⊎ ((e ≡ WantOfMemory) × AreOfOptions (texts words.entry.now))) }
 {
     match *words {
         ["show"] => Ok(Settings::Show),
@@ -42,7 +55,7 @@ pub fn settings<'a>(alloc: Global, words: &'a [&'a str]) -> Result<Settings, Fau
 
 /// Why words were not taken.
 fn fault_of(error: &Error) -> Fault
-    ensures { (result ≡ Usage) ⊎ (result ≡ WantOfMemory) }
+    ensures { ((result ≡ Usage) × (kind_of error.now ≢ OutOfMemory)) ⊎ (result ≡ WantOfMemory) }
 {
     match error.kind() {
         ErrorKind::OutOfMemory => Fault::WantOfMemory,
@@ -52,9 +65,9 @@ fn fault_of(error: &Error) -> Fault
 
 fn compress_settings<'a>(alloc: Global, words: &'a [&'a str]) -> Result<Settings, Fault>
     requires { BeginWith (codes "compress") (texts words.now) }
-    ensures named { IfOk result (AreNamedBy (texts words.entry.now)) }
     ensures ranges { IfOk result AreInRange }
-    ensures refused { IfErr result (λ e. (e ≡ Usage) ⊎ (e ≡ WantOfMemory)) }
+    ensures asked { IfOk result (Ask (texts words.entry.now)) }
+    ensures refused { IfErr result (λ e. ((e ≡ Usage) × AskForNone (texts words.entry.now)) ⊎ (e ≡ WantOfMemory)) }
 {
     let matches = matches(compress_command(alloc)?, words)?;
     let params = params(&matches)?;
@@ -65,9 +78,9 @@ fn compress_settings<'a>(alloc: Global, words: &'a [&'a str]) -> Result<Settings
 
 fn expand_settings<'a>(alloc: Global, words: &'a [&'a str]) -> Result<Settings, Fault>
     requires { BeginWith (codes "expand") (texts words.now) }
-    ensures named { IfOk result (AreNamedBy (texts words.entry.now)) }
     ensures ranges { IfOk result AreInRange }
-    ensures refused { IfErr result (λ e. (e ≡ Usage) ⊎ (e ≡ WantOfMemory)) }
+    ensures asked { IfOk result (Ask (texts words.entry.now)) }
+    ensures refused { IfErr result (λ e. ((e ≡ Usage) × AskForNone (texts words.entry.now)) ⊎ (e ≡ WantOfMemory)) }
 {
     let matches = matches(expand_command(alloc)?, words)?;
     let layout = layout(&matches)?;
@@ -77,7 +90,9 @@ fn expand_settings<'a>(alloc: Global, words: &'a [&'a str]) -> Result<Settings, 
 
 /// What a command finds in words, the first of which is its name.
 fn matches<'a>(command: Command<'a>, words: &'a [&'a str]) -> Result<ArgMatches<'a>, Fault>
-    ensures { IfErr result (λ e. (e ≡ Usage) ⊎ (e ≡ WantOfMemory)) }
+    ensures found { is_simple (app_of command.entry) ≡ true → IfOk result (λ m. rows m ≡ matches_of (app_of command.entry) (texts words.entry.now)) }
+    ensures taken { is_simple_and_free (app_of command.entry) ≡ true → IfOk result (λ m. AreTaken (app_of command.entry) (texts words.entry.now)) }
+    ensures refused { IfErr result (λ e. ((e ≡ Usage) × (is_simple_and_free (app_of command.entry) ≡ true → ¬ (AreTaken (app_of command.entry) (texts words.entry.now)))) ⊎ (e ≡ WantOfMemory)) }
 {
     command
         .try_get_matches_from(words)
@@ -86,7 +101,8 @@ fn matches<'a>(command: Command<'a>, words: &'a [&'a str]) -> Result<ArgMatches<
 
 fn params(matches: &ArgMatches<'_>) -> Result<Params, Fault>
     ensures ranges { IfOk result AreParams }
-    ensures refused { IfErr result (λ e. e ≡ Usage) }
+    ensures read { IfOk result (AreParamsOf (rows matches.now)) }
+    ensures refused { IfErr result (λ e. (e ≡ Usage) × ((p : Params) → AreParamsOf (rows matches.now) p → ¬ (AreParams p))) }
 {
     Ok(Params {
         shape: shape(matches)?,
@@ -95,8 +111,8 @@ fn params(matches: &ArgMatches<'_>) -> Result<Params, Fault>
         user: number(matches, "user", 0, 255)?,
         word: number(matches, "word", 1, 8)?,
         previous: number(matches, "previous", 0, 15)?,
-        reduced: matches.get_flag("reduced"),
-        column: matches.get_flag("column-sums"),
+        reduced: flag(matches, "reduced"),
+        column: flag(matches, "column-sums"),
         register: number(matches, "register", 32, 64)?,
         omega: number(matches, "omega", 4, 19)?,
         interval_log: number(matches, "interval-log", 4, 11)?,
@@ -108,7 +124,8 @@ fn params(matches: &ArgMatches<'_>) -> Result<Params, Fault>
 }
 
 fn shape(matches: &ArgMatches<'_>) -> Result<Shape, Fault>
-    ensures { IfErr result (λ e. e ≡ Usage) }
+    ensures read { IfOk result (AreSizesOf (rows matches.now)) }
+    ensures refused { IfErr result (λ e. (e ≡ Usage) × ((s : Sizes) → AreSizesOf (rows matches.now) s → ¬ (AreSizes s))) }
 {
     let columns = number(matches, "columns", 1, 65_536)?;
     let rows = number(matches, "rows", 1, 65_536)?;
@@ -117,19 +134,21 @@ fn shape(matches: &ArgMatches<'_>) -> Result<Shape, Fault>
 }
 
 fn kind(matches: &ArgMatches<'_>) -> Result<Kind, Fault>
-    ensures { IfErr result (λ e. e ≡ Usage) }
+    ensures read { IfOk result (IsKindOf (rows matches.now)) }
+    ensures refused { IfErr result (λ e. (e ≡ Usage) × ((k : SampleKind) → IsKindOf (rows matches.now) k → ¬ (IsKind k))) }
 {
     let bits = number(matches, "bits", 2, 16)?;
-    Ok(Kind::new(matches.get_flag("signed"), bits).unwrap())
+    Ok(Kind::new(flag(matches, "signed"), bits).unwrap())
 }
 
 /// The encoding order. The depth is judged in either order, and told in one.
 fn order(matches: &ArgMatches<'_>) -> Result<Order, Fault>
     ensures depth { IfOk result IsDepth }
-    ensures refused { IfErr result (λ e. e ≡ Usage) }
+    ensures read { IfOk result (IsOrderOf (rows matches.now)) }
+    ensures refused { IfErr result (λ e. (e ≡ Usage) × ((o : Order) → IsOrderOf (rows matches.now) o → ¬ (IsDepth o))) }
 {
     let depth = number(matches, "depth", 1, 65_536)?;
-    match matches.get_str("order") {
+    match word(matches, "order") {
         Some("bsq") => Ok(Order::Bsq),
         Some("bi") => Ok(Order::Bi(depth)),
         _ => Err(Fault::Usage),
@@ -139,11 +158,12 @@ fn order(matches: &ArgMatches<'_>) -> Result<Order, Fault>
 /// The coder. The options of both are judged, and those of one are told.
 fn coder(matches: &ArgMatches<'_>) -> Result<Coder, Fault>
     ensures ranges { IfOk result IsCoderInRange }
-    ensures refused { IfErr result (λ e. e ≡ Usage) }
+    ensures read { IfOk result (IsCoderOf (rows matches.now)) }
+    ensures refused { IfErr result (λ e. (e ≡ Usage) × ((c : Coder) → ¬ (IsCoderOf (rows matches.now) c))) }
 {
     let sample = sample_coder(matches)?;
     let block = block_coder(matches)?;
-    match matches.get_str("coder") {
+    match word(matches, "coder") {
         Some("sample") => Ok(sample),
         Some("block") => Ok(block),
         _ => Err(Fault::Usage),
@@ -152,7 +172,8 @@ fn coder(matches: &ArgMatches<'_>) -> Result<Coder, Fault>
 
 fn sample_coder(matches: &ArgMatches<'_>) -> Result<Coder, Fault>
     ensures ranges { IfOk result IsCoderInRange }
-    ensures refused { IfErr result (λ e. e ≡ Usage) }
+    ensures read { IfOk result (IsSampleOf (rows matches.now)) }
+    ensures refused { IfErr result (λ e. (e ≡ Usage) × ((c : Coder) → IsSampleOf (rows matches.now) c → ¬ (IsCoderInRange c))) }
 {
     Ok(Coder::Sample {
         umax: number(matches, "umax", 8, 32)?,
@@ -164,7 +185,8 @@ fn sample_coder(matches: &ArgMatches<'_>) -> Result<Coder, Fault>
 
 fn block_coder(matches: &ArgMatches<'_>) -> Result<Coder, Fault>
     ensures ranges { IfOk result IsCoderInRange }
-    ensures refused { IfErr result (λ e. e ≡ Usage) }
+    ensures read { IfOk result (IsBlockOf (rows matches.now)) }
+    ensures refused { IfErr result (λ e. (e ≡ Usage) × ((c : Coder) → IsBlockOf (rows matches.now) c → ¬ (IsCoderInRange c))) }
 {
     let size = match number(matches, "block", 8, 64)? {
         size @ (8 | 16 | 32 | 64) => size,
@@ -179,27 +201,35 @@ fn block_coder(matches: &ArgMatches<'_>) -> Result<Coder, Fault>
 
 fn layout(matches: &ArgMatches<'_>) -> Result<Layout, Fault>
     ensures bytes { IfOk result IsLayout }
-    ensures refused { IfErr result (λ e. e ≡ Usage) }
+    ensures read { IfOk result (IsLayoutOf (rows matches.now)) }
+    ensures refused { IfErr result (λ e. (e ≡ Usage) × ((l : Layout) → IsLayoutOf (rows matches.now) l → ¬ (IsLayout l))) }
 {
-    let order = match matches.get_str("layout") {
-        Some("bsq") => RawOrder::Bsq,
-        Some("bil") => RawOrder::Bil,
-        Some("bip") => RawOrder::Bip,
-        _ => return Err(Fault::Usage),
-    };
     Ok(Layout {
-        order,
+        order: raw_order(matches)?,
         bytes: number(matches, "bytes", 1, 2)?,
-        little: matches.get_flag("little"),
+        little: flag(matches, "little"),
     })
+}
+
+fn raw_order(matches: &ArgMatches<'_>) -> Result<RawOrder, Fault>
+    ensures read { IfOk result (λ o. HasWord (rows matches.now) (codes "layout") (raw_order_word o)) }
+    ensures refused { IfErr result (λ e. (e ≡ Usage) × ((o : RawOrder) → ¬ (HasWord (rows matches.now) (codes "layout") (raw_order_word o)))) }
+{
+    match word(matches, "layout") {
+        Some("bsq") => Ok(RawOrder::Bsq),
+        Some("bil") => Ok(RawOrder::Bil),
+        Some("bip") => Ok(RawOrder::Bip),
+        _ => Err(Fault::Usage),
+    }
 }
 
 /// The two files, IN and OUT.
 fn files(alloc: Global, matches: &ArgMatches<'_>) -> Result<(String, String), Fault>
     ensures apart { IfOk result (λ f. string_bytes f.0 ≢ string_bytes f.1) }
-    ensures refused { IfErr result (λ e. (e ≡ Usage) ⊎ (e ≡ WantOfMemory)) }
+    ensures read { IfOk result (λ f. AreFilesOf (rows matches.now) f.0 f.1) }
+    ensures refused { IfErr result (λ e. ((e ≡ Usage) × ((from to : String Global) → AreFilesOf (rows matches.now) from to → string_bytes from ≡ string_bytes to)) ⊎ (e ≡ WantOfMemory)) }
 {
-    let (Some(from), Some(to)) = (matches.get_str("IN"), matches.get_str("OUT")) else {
+    let (Some(from), Some(to)) = (word(matches, "IN"), word(matches, "OUT")) else {
         return Err(Fault::Usage);
     };
     if from == to {
@@ -213,16 +243,32 @@ fn files(alloc: Global, matches: &ArgMatches<'_>) -> Result<(String, String), Fa
 /// A weight update scaling exponent, which is told as a number from 0.
 fn exponent(matches: &ArgMatches<'_>, name: &str) -> Result<i32, Fault>
     ensures range { IfOk result IsExponent }
-    ensures refused { IfErr result (λ e. e ≡ Usage) }
+    ensures read { IfOk result (HasExponent (rows matches.now) name.now) }
+    ensures refused { IfErr result (λ e. (e ≡ Usage) × ((v : ℤ) → HasExponent (rows matches.now) name.now v → ¬ (IsExponent v))) }
 {
     let code = number(matches, name, 0, 15)?;
     Ok(code as i32 - 6)
 }
 
+/// Whether a flag was given.
+fn flag(matches: &ArgMatches<'_>, name: &str) -> bool
+    ensures { HasFlag (rows matches.now) name.now result }
+{
+    matches.get_flag(name)
+}
+
+/// An option's word.
+fn word<'a>(matches: &ArgMatches<'a>, name: &str) -> Option<&'a str>
+    ensures { option_map (λ w. w.now) result ≡ first_of name.now (rows matches.now) }
+{
+    matches.get_str(name)
+}
+
 /// An option's number, in its range.
 fn number(matches: &ArgMatches<'_>, name: &str, least: u32, most: u32) -> Result<u32, Fault>
     ensures range { IfOk result (InRange least most) }
-    ensures refused { IfErr result (λ e. e ≡ Usage) }
+    ensures read { IfOk result (HasNumber (rows matches.now) name.now) }
+    ensures refused { IfErr result (λ e. (e ≡ Usage) × ((n : ℕ) → HasNumber (rows matches.now) name.now n → ¬ (InRange least most n))) }
 {
     match matches.get_one::<u32>(name) {
         Some(number) if least <= number && number <= most => Ok(number),

@@ -1,0 +1,4 @@
+mod Asked
+mod Commands
+mod Numbers
+mod Refused
