@@ -5,6 +5,7 @@ ghost use Rattle.cube_core.specs.Shape.{sample_count};
 ghost use Rattle.header_bits.specs.Lawful.{IsLawful};
 ghost use Rattle.header_bits.specs.Reach.{here};
 ghost use Rattle.speed.specs.Along.{AreAt};
+ghost use Rattle.speed.specs.Numbers.{checksum};
 
 use crate::cube::sum_of_cube;
 use crate::report::Report;
@@ -171,7 +172,10 @@ pub fn synthetic_cube(alloc: Global, shape: Shape, kind: Kind) -> Result<Cube>
     Ok(cube)
 }
 
-fn sum_of(numbers: &[u16]) -> u64 {
+/// The checksum of numbers.
+fn sum_of(numbers: &[u16]) -> u64
+    ensures { result ≡ checksum numbers.now }
+{
     let mut sum = 0;
     for number in numbers {
         sum = mixed(sum, u64::from(*number));
