@@ -1,2 +1,3 @@
 pub mod Along
+pub mod Formats
 pub mod Numbers

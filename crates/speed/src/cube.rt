@@ -1,8 +1,9 @@
 //! The speed of raw bytes taken in and given out, and of a walk over all places.
 
-ghost use Rattle.std.specs.Prelude.{◌≤◌};
+ghost use Rattle.std.specs.Prelude.{◌≡◌, ◌≤◌};
 ghost use Rattle.cube_core.specs.Layout.{IsLayout};
 ghost use Rattle.cube_core.specs.Order.{IsOrder};
+ghost use Rattle.speed.specs.Formats.{format_name, bits_of, layout_of};
 
 use crate::report::Report;
 use crate::synthetic::{Generator, mixed, sum_of_bytes};
@@ -24,7 +25,10 @@ enum Format {
 }
 
 impl Format {
-    fn name(self) -> &'static str {
+    /// The name that is printed.
+    fn name(self) -> &'static str
+        ensures { result.now ≡ format_name self }
+    {
         match self {
             Format::Little => "little",
             Format::Big => "big",
@@ -34,7 +38,8 @@ impl Format {
 
     /// How many bits the samples have.
     fn bits(self) -> u32
-        ensures { (2 ≤ result) × (result ≤ 16) }
+        ensures value { result ≡ bits_of self }
+        ensures range { (2 ≤ result) × (result ≤ 16) }
     {
         match self {
             Format::Little | Format::Big => 12,
@@ -42,8 +47,10 @@ impl Format {
         }
     }
 
+    /// How the samples lie in this order.
     fn layout(self, order: RawOrder) -> Layout
-        ensures { IsLayout result }
+        ensures value { result ≡ layout_of self order }
+        ensures lawful { IsLayout result }
     {
         match self {
             Format::Little => Layout {
