@@ -1,3 +1,4 @@
 pub mod Along
 pub mod Formats
+pub mod Measured
 pub mod Numbers

@@ -1,8 +1,9 @@
 //! The speed of the block-adaptive coder.
 
-ghost use Rattle.std.specs.Prelude.{◌≡◌, ◌≤◌, IfOk, length};
+ghost use Rattle.std.specs.Prelude.{◌≡◌, ◌≤◌, IfOk, length, false};
 ghost use Rattle.cube_core.specs.Shape.{sample_count};
 ghost use Rattle.block_adaptive.specs.Settings.{AreForBlocks, IsSize};
+ghost use Rattle.speed.specs.Measured.{coder_alone};
 
 use crate::report::Report;
 use crate::sample_coder::whole_bytes;
@@ -32,8 +33,8 @@ pub fn measure(report: &Report) -> Result<()> {
 /// Parameters of blocks of this size.
 fn params(shape: Shape, kind: Kind, size: u32) -> Params
     requires size { IsSize size }
+    ensures value { result ≡ coder_alone shape kind (Coder.Block size false 4096) }
     ensures lawful { AreForBlocks result }
-    ensures bits { result.kind ≡ kind }
 {
     let _bits = kind.bits();
     Params {

@@ -5,6 +5,7 @@ ghost use Rattle.cube_core.specs.Shape.{sample_count};
 ghost use Rattle.header_bits.specs.Lawful.{IsLawful};
 ghost use Rattle.header_bits.specs.Reach.{here};
 ghost use Rattle.speed.specs.Along.{AreAt};
+ghost use Rattle.speed.specs.Measured.{usual_coder, measured, lawful_or_fault};
 ghost use Rattle.speed.specs.Numbers.{checksum};
 
 use crate::cube::sum_of_cube;
@@ -13,6 +14,7 @@ use crate::synthetic::{Generator, mixed};
 use anyhow::Result;
 use cube_core::cube::Cube;
 use cube_core::cursor::Places;
+use cube_core::fault::Fault;
 use cube_core::kind::Kind;
 use cube_core::order::Order;
 use cube_core::shape::Shape;
@@ -37,7 +39,9 @@ pub fn measure(report: &Report) -> Result<()> {
 }
 
 /// The sample-adaptive coder with the usual numbers.
-pub fn usual_coder() -> Coder {
+pub fn usual_coder() -> Coder
+    ensures { result ≡ usual_coder }
+{
     Coder::Sample {
         umax: 16,
         gamma_star: 6,
@@ -47,15 +51,17 @@ pub fn usual_coder() -> Coder {
 }
 
 /// The parameters of a measurement: 12 bits, neighbour sums, and the usual numbers.
+///
+/// Where they aren't lawful the answer is their first refusal.
 pub fn params_of(
     shape: Shape,
     reduced: bool,
     previous: u32,
     order: Order,
     coder: Coder,
-) -> Result<Params>
+) -> Result<Params, Fault>
+    ensures value { result ≡ lawful_or_fault (measured shape reduced previous order coder) }
     ensures lawful { IfOk result (λ p. IsLawful here p) }
-    ensures shape { IfOk result (λ p. p.shape ≡ shape) }
 {
     let params = Params {
         shape,

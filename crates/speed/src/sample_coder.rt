@@ -2,6 +2,7 @@
 
 ghost use Rattle.std.specs.Prelude.{◌≡◌, ◌≤◌};
 ghost use Rattle.sample_adaptive.specs.Settings.{AreForSamples};
+ghost use Rattle.speed.specs.Measured.{coder_alone};
 
 use crate::report::Report;
 use crate::synthetic::{mixed, residuals, sum_of_bytes};
@@ -29,8 +30,8 @@ pub fn measure(report: &Report) -> Result<()> {
 /// Parameters for samples of twelve bits.
 fn params(shape: Shape, kind: Kind) -> Params
     requires { kind.bits ≡ 12 }
+    ensures value { result ≡ coder_alone shape kind (Coder.Sample 18 6 1 (CountStart.Constant 5)) }
     ensures lawful { AreForSamples result }
-    ensures bits { result.kind ≡ kind }
     ensures bands { 1 ≤ result.shape.bands }
 {
     let _bands = shape.bands();
