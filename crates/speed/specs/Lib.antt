@@ -1,4 +1,3 @@
-pub mod Along
 pub mod Formats
 pub mod Measured
 pub mod Numbers
