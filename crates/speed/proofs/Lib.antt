@@ -1,1 +1,2 @@
+mod Draws
 mod Walk

@@ -1,7 +1,7 @@
 //! Synthetic numbers, the same as in `bench/src/synthetic.rs`.
 
 ghost use Rattle.std.specs.Prelude.{◌≡◌, ◌≤◌, ◌<◌, ◌^◌, length, IfOk};
-ghost use Rattle.speed.specs.Numbers.{first_state, next_state, highest, mixed, checksum};
+ghost use Rattle.speed.specs.Numbers.{first_state, next_state, highest, synthetic_residuals, mixed, checksum};
 
 use std::alloc::{AllocError, Global};
 use std::marker::Model;
@@ -50,7 +50,8 @@ impl Generator {
 /// many random bits the low part; how many changes each 4,096 residuals, and each eighth of these
 /// stretches is zeros.
 pub fn residuals(alloc: Global, count: u64) -> Result<Vec<u16>, AllocError>
-    ensures { IfOk result (λ v. length v.items ≡ count) }
+    ensures value { IfOk result (λ v. v.items ≡ synthetic_residuals count) }
+    ensures len { IfOk result (λ v. length v.items ≡ count) }
 {
     let mut generator = Generator::new();
     let mut residuals = Vec::new(alloc);
