@@ -87,7 +87,7 @@ fn encode(report: &Report, size: &str, params: &Params, numbers: &[u16]) -> Resu
         blocks.put(*number, &mut writer)?;
     }
     blocks.end(&mut writer)?;
-    let body = whole_bytes(report, writer)?;
+    let body = whole_bytes(writer)?;
     let time = report.since(start)?;
     let sum = sum_of_bytes(&body);
     let name = format!(in report.alloc(); "block_encode_{size}")?;

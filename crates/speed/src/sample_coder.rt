@@ -1,12 +1,16 @@
 //! The speed of the sample-adaptive coder.
 
-ghost use Rattle.std.specs.Prelude.{◌≡◌, ◌≤◌};
+ghost use Rattle.std.specs.Prelude.{◌≡◌, ◌≤◌, IfOk, IfErr};
+ghost use Rattle.coder_pipe.specs.File.{filled};
+ghost use Rattle.cube_core.specs.declared.fault.Fault.TheVariants.{WantOfMemory};
+ghost use Rattle.header_bits.specs.Bits.{bits_of_bytes};
 ghost use Rattle.sample_adaptive.specs.Settings.{AreForSamples};
 ghost use Rattle.speed.specs.Measured.{coder_alone};
 
 use crate::report::Report;
 use crate::synthetic::{mixed, residuals, sum_of_bytes};
 use anyhow::Result;
+use cube_core::fault::Fault;
 use cube_core::kind::Kind;
 use cube_core::order::Order;
 use cube_core::shape::Shape;
@@ -75,7 +79,7 @@ fn encode(report: &Report, params: &Params, numbers: &[u16]) -> Result<Vec<u8>>
         }
         stats.put(0, t as u64, *number, &mut writer)?;
     }
-    let body = whole_bytes(report, writer)?;
+    let body = whole_bytes(writer)?;
     let time = report.since(start)?;
     let sum = sum_of_bytes(&body);
     report.line("sample_encode", numbers.len() as u64, time, sum)?;
@@ -101,12 +105,11 @@ fn decode(report: &Report, params: &Params, count: u64, body: &[u8]) -> Result<(
 }
 
 /// The bytes of a writer, with zeros that fill the last.
-pub fn whole_bytes(report: &Report, mut writer: BitWriter) -> Result<Vec<u8>> {
+pub fn whole_bytes(mut writer: BitWriter) -> Result<Vec<u8>, Fault>
+    ensures filled { IfOk result (λ bytes. bits_of_bytes bytes.items ≡ filled 1 writer.bits) }
+    ensures refused { IfErr result (λ e. e ≡ WantOfMemory) }
+{
     let over = (writer.bit_count() % 8) as u32;
     writer.push(0, (8 - over) % 8)?;
-    Ok(if writer.bit_count() % 8 == 0 {
-        writer.into_bytes()
-    } else {
-        Vec::new(report.alloc())
-    })
+    Ok(writer.into_bytes())
 }
