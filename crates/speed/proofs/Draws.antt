@@ -1,7 +1,9 @@
 -- Numbers that are drawn one after another.
-use Rattle.std.proofs.Common.{◌≡◌, ◌≢◌, ◌+◌, ◌*◌, ◌/◌, ◌%◌, ◌^◌, ◌<◌, ◌≤◌, ℕ, zero, suc, List, [], ◌∷◌, ◌++◌, length, map, bit_and, bit_or, refl, ap, ◌∙◌, add-one, arith}
+use Rattle.std.proofs.Common.{◌≡◌, ◌≢◌, ◌+◌, ◌*◌, ◌/◌, ◌%◌, ◌^◌, ◌<◌, ◌≤◌, ℕ, zero, suc, List, [], ◌∷◌, ◌++◌, length, map, bit_and, bit_or, refl, ap, ◌∙◌, add-one, append-nil, arith}
 use Rattle.std.specs.Int.{w16, leading_zeros}
 use Rattle.std.proofs.lemmas.List.{map-append, length-map}
+use Rattle.std.specs.List.{flat_map}
+use Rattle.std.proofs.lemmas.Grind.{flat_map-append}
 use Rattle.std.proofs.lemmas.Nat.{and_block, and_le_l, and_le_r, or_disjoint, leading_le, div_below, pow_pos}
 use Rattle.std.proofs.lemmas.Bool.{ne_eqb, eq-eqb}
 use Rattle.std.proofs.Math.Pow.{pow_mono}
@@ -21,6 +23,9 @@ upto_more n = rw add-one (from_more 0 n ∙ ap (λ (k : ℕ). upto n ++ k ∷ []
 -- one more of the values of a function
 pub mapped_more : (f : ℕ → ℕ) (n : ℕ) → map f (upto (n + 1)) ≡ map f (upto n) ++ f n ∷ []
 mapped_more f n = ap (map f) (upto_more n) ∙ map-append f (upto n) (n ∷ [])
+
+pub pieces_more : (f : ℕ → List ℕ) (n : ℕ) → flat_map f (upto (n + 1)) ≡ flat_map f (upto n) ++ f n
+pieces_more f n = ap (flat_map f) (upto_more n) ∙ flat_map-append f (upto n) (n ∷ []) ∙ ap (λ (ks : List ℕ). flat_map f (upto n) ++ ks) (append-nil (f n))
 
 pub length-mapped : (f : ℕ → ℕ) (n : ℕ) → length (map f (upto n)) ≡ n
 length-mapped f n = length-map (upto n) f ∙ length-from 0 n

@@ -1,2 +1,3 @@
 mod Draws
+mod Scene
 mod Walk

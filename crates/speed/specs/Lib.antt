@@ -1,3 +1,4 @@
 pub mod Formats
+pub mod Images
 pub mod Measured
 pub mod Numbers

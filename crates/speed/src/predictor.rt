@@ -9,6 +9,7 @@ ghost use Rattle.header_bits.specs.Lawful.{IsLawful};
 ghost use Rattle.header_bits.specs.Reach.{here};
 ghost use Rattle.predict_core.specs.Following.{Learner};
 ghost use Rattle.predict_core.specs.Residual.{residuals as residuals_of};
+ghost use Rattle.speed.specs.Images.{synthetic_image};
 ghost use Rattle.speed.specs.Measured.{usual_coder, measured, lawful_or_fault};
 ghost use Rattle.speed.specs.Numbers.{checksum};
 
@@ -170,8 +171,9 @@ fn all_bands(alloc: Global, params: &Params) -> Result<Vec<Band>, Fault>
 }
 
 /// A cube that changes slowly, with some noise.
-pub fn synthetic_cube(alloc: Global, shape: Shape, kind: Kind) -> Result<Cube>
-    ensures { IfOk result (λ c. (c.shape ≡ shape) × (c.kind ≡ kind)) }
+pub fn synthetic_cube(alloc: Global, shape: Shape, kind: Kind) -> Result<Cube, Fault>
+    ensures cube { IfOk result (λ c. c ≡ synthetic_image shape kind) }
+    ensures refused { IfErr result (λ e. e ≡ WantOfMemory) }
 {
     let mut generator = Generator::new();
     let mut cube = Cube::new(alloc, shape, kind)?;
