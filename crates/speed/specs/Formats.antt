@@ -15,10 +15,10 @@ format_name Big = codes "big"
 format_name Byte = codes "byte"
 
 -- 12 bits in two bytes, or 8 in one
-abbrev pub bits_of : Format → ℕ
-bits_of Little = 12
-bits_of Big = 12
-bits_of Byte = 8
+abbrev pub format_bits : Format → ℕ
+format_bits Little = 12
+format_bits Big = 12
+format_bits Byte = 8
 
 abbrev pub layout_of : Format → RawOrder → Layout
 layout_of Little order = record { order = order; bytes = 2; little = true }
@@ -32,4 +32,4 @@ number_bytes Byte number = number ∷ []
 
 -- the bytes of so many numbers that are drawn
 abbrev pub synthetic_bytes : Format → ℕ → List ℕ
-synthetic_bytes format n = flat_map (λ i. number_bytes format (highest (bits_of format) (state_behind (i + 1)))) (upto n)
+synthetic_bytes format n = flat_map (λ i. number_bytes format (highest (format_bits format) (state_behind (i + 1)))) (upto n)

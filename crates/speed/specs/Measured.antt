@@ -1,5 +1,5 @@
 -- The parameters of the measurements.
-use Rattle.std.specs.Prelude.{ℕ, Bool, true, false, pos, negsuc, Result, Ok}
+use Rattle.std.specs.Prelude.{ℕ, Bool, true, false, pos, negsuc, if◌then◌else◌, Result, Ok}
 use Rattle.cube_core.specs.declared.fault.Fault.{Fault}
 use Rattle.cube_core.specs.declared.order.Order.{Order}
 use Rattle.cube_core.specs.declared.order.Order.TheVariants.{Bsq}
@@ -13,6 +13,10 @@ use Rattle.header_bits.specs.declared.params.CountStart.TheVariants.{Constant}
 use Rattle.header_bits.specs.declared.params.WeightStart.TheVariants.{Usual}
 use Rattle.header_bits.specs.Lawful.{params_fault}
 use Rattle.header_bits.specs.Reach.{here}
+
+-- the sizes of the cube that is gone through: large ones where times are told
+abbrev pub measured_shape : Bool → Sizes
+measured_shape timed = if timed then record { columns = 512; rows = 512; bands = 24 } else record { columns = 23; rows = 17; bands = 5 }
 
 -- the sample-adaptive coder with the usual numbers
 abbrev pub usual_coder : Coder

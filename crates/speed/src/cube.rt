@@ -3,7 +3,7 @@
 ghost use Rattle.std.specs.Prelude.{◌≡◌, ◌≤◌, IfOk};
 ghost use Rattle.cube_core.specs.Layout.{IsLayout};
 ghost use Rattle.cube_core.specs.Order.{IsOrder};
-ghost use Rattle.speed.specs.Formats.{format_name, bits_of, layout_of, synthetic_bytes};
+ghost use Rattle.speed.specs.Formats.{format_name, format_bits, layout_of, synthetic_bytes};
 ghost use Rattle.speed.specs.Images.{heights_of};
 ghost use Rattle.speed.specs.Numbers.{checksum};
 
@@ -40,7 +40,7 @@ impl Format {
 
     /// How many bits the samples have.
     fn bits(self) -> u32
-        ensures value { result ≡ bits_of self }
+        ensures value { result ≡ format_bits self }
         ensures range { (2 ≤ result) × (result ≤ 16) }
     {
         match self {

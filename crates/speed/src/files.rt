@@ -1,8 +1,10 @@
 //! The speed of whole files, there and back.
 
-ghost use Rattle.std.specs.Prelude.{◌≡◌};
+ghost use Rattle.std.specs.Prelude.{◌≡◌, IfOk};
+ghost use Rattle.coder_pipe.specs.File.{file_of};
 ghost use Rattle.header_bits.specs.Lawful.{IsLawful};
 ghost use Rattle.header_bits.specs.Reach.{here};
+ghost use Rattle.speed.specs.Images.{synthetic_image};
 
 use crate::cube::sum_of_cube;
 use crate::predictor::{params_of, synthetic_cube, usual_coder};
@@ -60,6 +62,7 @@ fn there_and_back(report: &Report, coder: &str, order: &str, params: &Params) ->
 /// Measures how a synthetic cube is encoded, and answers its file.
 fn encoded(report: &Report, coder: &str, order: &str, params: &Params) -> Result<Vec<u8>>
     requires { IsLawful here params.now }
+    ensures { IfOk result (λ file. file.items ≡ file_of (synthetic_image params.now.shape params.now.kind) params.now) }
 {
     let alloc = report.alloc();
     let cube = synthetic_cube(alloc, params.shape, params.kind)?;

@@ -1,7 +1,7 @@
 use Rattle.std.proofs.Common.{◌≡◌, ◌+◌, ◌∷◌, ◌++◌, [], ℕ, List, Vec, Global, refl, sym, ap, ◌∙◌}
 use Rattle.speed.specs.declared.cube.Format.{Format}
 use Rattle.speed.specs.declared.cube.Format.TheVariants.{Little, Big, Byte}
-use Rattle.speed.specs.Formats.{bits_of, number_bytes, synthetic_bytes}
+use Rattle.speed.specs.Formats.{format_bits, number_bytes, synthetic_bytes}
 use Rattle.speed.specs.Numbers.{next_state, state_behind, highest}
 use Rattle.speed.proofs.Draws.{none_behind, one_behind, pieces_more}
 use Rattle.speed.proofs.cube.raw_bytes.Goals as goal
@@ -13,8 +13,8 @@ loop-sample-init c = record { state = c.new-generator.ensures ∙ sym none_behin
 drawn : (c : Joined-format) → c.number-number.new.self ≡ state_behind (c.loop-sample._sample + 1)
 drawn c = c.number-number.ensures.state ∙ ap next_state c.loop-sample.invariant.state ∙ sym (one_behind c.loop-sample._sample)
 
-number_is : (c : Joined-format) → c.number-number.result ≡ highest (bits_of c.args.format) (state_behind (c.loop-sample._sample + 1))
-number_is c = c.number-number.ensures.number ∙ ap (λ (n : ℕ). highest n c.number-number.new.self) c.bits.ensures.value ∙ ap (highest (bits_of c.args.format)) (drawn c)
+number_is : (c : Joined-format) → c.number-number.result ≡ highest (format_bits c.args.format) (state_behind (c.loop-sample._sample + 1))
+number_is c = c.number-number.ensures.number ∙ ap (λ (n : ℕ). highest n c.number-number.new.self) c.bits.ensures.value ∙ ap (highest (format_bits c.args.format)) (drawn c)
 
 -- the bytes grow by those of the number
 grown : (c : Joined-format) (bytes : List ℕ) (format : Format) → c.match-format.bytes.items ≡ c.loop-sample.bytes.items ++ bytes → bytes ≡ number_bytes format c.number-number.result → c.args.format ≡ format
@@ -34,5 +34,5 @@ loop-sample-preserved c = record {
   value = bytes_are c
       ∙ ap (λ (bytes : List ℕ). bytes ++ number_bytes c.args.format c.number-number.result) c.loop-sample.invariant.value
       ∙ ap (λ (n : ℕ). synthetic_bytes c.args.format c.loop-sample._sample ++ number_bytes c.args.format n) (number_is c)
-      ∙ sym (pieces_more (λ i. number_bytes c.args.format (highest (bits_of c.args.format) (state_behind (i + 1)))) c.loop-sample._sample);
+      ∙ sym (pieces_more (λ i. number_bytes c.args.format (highest (format_bits c.args.format) (state_behind (i + 1)))) c.loop-sample._sample);
 }
