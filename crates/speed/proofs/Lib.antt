@@ -1,3 +1,4 @@
+mod Coded
 mod Draws
 mod Scene
 mod Walk

@@ -1,3 +1,4 @@
+pub mod Bodies
 pub mod Formats
 pub mod Images
 pub mod Measured

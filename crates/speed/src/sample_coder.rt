@@ -5,6 +5,7 @@ ghost use Rattle.coder_pipe.specs.File.{filled};
 ghost use Rattle.cube_core.specs.declared.fault.Fault.TheVariants.{WantOfMemory};
 ghost use Rattle.header_bits.specs.Bits.{bits_of_bytes};
 ghost use Rattle.sample_adaptive.specs.Settings.{AreForSamples};
+ghost use Rattle.speed.specs.Bodies.{AreOfTwelveBits, one_band_body};
 ghost use Rattle.speed.specs.Measured.{coder_alone};
 
 use crate::report::Report;
@@ -18,6 +19,7 @@ use header_bits::bit_reader::BitReader;
 use header_bits::bit_writer::BitWriter;
 use header_bits::params::{Coder, CountStart, Params, WeightStart};
 use sample_adaptive::stats::Stats;
+use std::alloc::Global;
 
 /// The greatest number of twelve bits.
 const MOST: u16 = 4095;
@@ -27,7 +29,10 @@ pub fn measure(report: &Report) -> Result<()> {
     let params = params(report.shape()?, Kind::new(false, 12)?);
     let count = params.shape.sample_count();
     let numbers = residuals(report.alloc(), count)?;
-    let body = encode(report, &params, &numbers)?;
+    let start = report.start()?;
+    let body = encoded(report.alloc(), &params, &numbers)?;
+    let time = report.since(start)?;
+    report.line("sample_encode", count, time, sum_of_bytes(&body))?;
     decode(report, &params, count, &body)
 }
 
@@ -63,15 +68,16 @@ fn params(shape: Shape, kind: Kind) -> Params
     }
 }
 
-/// Measures how the numbers are written, and gives their body in whole bytes.
-fn encode(report: &Report, params: &Params, numbers: &[u16]) -> Result<Vec<u8>>
+/// The code words of numbers of twelve bits, all of the first band, in whole bytes.
+fn encoded(alloc: Global, params: &Params, numbers: &[u16]) -> Result<Vec<u8>, Fault>
     requires lawful { AreForSamples params.now }
     requires bits { params.now.kind.bits ≡ 12 }
     requires bands { 1 ≤ params.now.shape.bands }
+    ensures body { IfOk result (λ body. AreOfTwelveBits numbers.now → bits_of_bytes body.items ≡ filled 1 (one_band_body params.now numbers.now)) }
+    ensures refused { IfErr result (λ e. e ≡ WantOfMemory) }
 {
-    let start = report.start()?;
-    let mut stats = Stats::new(report.alloc(), params)?;
-    let mut writer = BitWriter::new(report.alloc());
+    let mut stats = Stats::new(alloc, params)?;
+    let mut writer = BitWriter::new(alloc);
     for (t, number) in numbers.iter().enumerate() {
         // None is greater, as `put` asks.
         if *number > MOST {
@@ -79,11 +85,7 @@ fn encode(report: &Report, params: &Params, numbers: &[u16]) -> Result<Vec<u8>>
         }
         stats.put(0, t as u64, *number, &mut writer)?;
     }
-    let body = whole_bytes(writer)?;
-    let time = report.since(start)?;
-    let sum = sum_of_bytes(&body);
-    report.line("sample_encode", numbers.len() as u64, time, sum)?;
-    Ok(body)
+    whole_bytes(writer)
 }
 
 /// Measures how so many numbers are read.
