@@ -1,6 +1,7 @@
-use Rattle.std.proofs.Common.{◌≡◌, ◌+◌, ◌*◌, ◌∷◌, ◌++◌, [], ℕ, List, length, arith, sym, ap, ◌∙◌}
+use Rattle.std.proofs.Common.{◌≡◌, ◌+◌, ◌*◌, ◌∷◌, ◌++◌, [], ℕ, List, length, arith, sym, ap, subst, ◌∙◌}
+use Rattle.speed.specs.Bodies.{AreOfTwelveBits}
 use Rattle.speed.specs.Numbers.{next_state, state_behind, highest, synthetic_residual, synthetic_residuals}
-use Rattle.speed.proofs.Draws.{one_behind, none_behind, mapped_more, length-mapped, silent_residual, spoken_residual, residual_is}
+use Rattle.speed.proofs.Draws.{one_behind, none_behind, mapped_more, length-mapped, silent_residual, spoken_residual, residual_is, residuals_below}
 use Rattle.speed.proofs.synthetic.residuals.Goals as goal
 use Rattle.speed.proofs.synthetic.residuals.Goals.{In_ok-push, then-i-eq7, else-i-eq7}
 
@@ -36,3 +37,6 @@ pub returns-clause-len : goal.returns-clause-len
 returns-clause-len c =
     let all : c.loop-i.i ≡ c.args.count = omega arith in
     ap (λ (ns : List ℕ). length ns) c.loop-i.invariant.value ∙ length-mapped synthetic_residual c.loop-i.i ∙ all
+
+pub returns-clause-few : goal.returns-clause-few
+returns-clause-few c = subst AreOfTwelveBits (sym c.loop-i.invariant.value) (residuals_below c.loop-i.i)
