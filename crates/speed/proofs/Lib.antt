@@ -1,1 +1,4 @@
-mod Going
+mod Coded
+mod Draws
+mod Scene
+mod Walk

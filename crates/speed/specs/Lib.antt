@@ -1,1 +1,5 @@
-pub mod Along
+pub mod Bodies
+pub mod Formats
+pub mod Images
+pub mod Measured
+pub mod Numbers

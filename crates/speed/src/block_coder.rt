@@ -1,8 +1,13 @@
 //! The speed of the block-adaptive coder.
 
-ghost use Rattle.std.specs.Prelude.{◌≡◌, ◌≤◌, IfOk, length};
+ghost use Rattle.std.specs.Prelude.{◌≡◌, ◌≤◌, IfOk, IfErr, length, false};
+ghost use Rattle.cube_core.specs.declared.fault.Fault.TheVariants.{WantOfMemory};
 ghost use Rattle.cube_core.specs.Shape.{sample_count};
 ghost use Rattle.block_adaptive.specs.Settings.{AreForBlocks, IsSize};
+ghost use Rattle.coder_pipe.specs.File.{body_of, filled};
+ghost use Rattle.header_bits.specs.Bits.{bits_of_bytes};
+ghost use Rattle.speed.specs.Bodies.{AreOfTwelveBits};
+ghost use Rattle.speed.specs.Measured.{coder_alone};
 
 use crate::report::Report;
 use crate::sample_coder::whole_bytes;
@@ -10,12 +15,14 @@ use crate::synthetic::{mixed, residuals, sum_of_bytes};
 use anyhow::Result;
 use block_adaptive::block_reader::BlockReader;
 use block_adaptive::block_writer::BlockWriter;
+use cube_core::fault::Fault;
 use cube_core::kind::Kind;
 use cube_core::order::Order;
 use cube_core::shape::Shape;
 use header_bits::bit_reader::BitReader;
 use header_bits::bit_writer::BitWriter;
 use header_bits::params::{Coder, Params, WeightStart};
+use std::alloc::Global;
 
 /// The greatest number of twelve bits.
 const MOST: u16 = 4095;
@@ -32,8 +39,8 @@ pub fn measure(report: &Report) -> Result<()> {
 /// Parameters of blocks of this size.
 fn params(shape: Shape, kind: Kind, size: u32) -> Params
     requires size { IsSize size }
+    ensures value { result ≡ coder_alone shape kind (Coder.Block size false 4096) }
     ensures lawful { AreForBlocks result }
-    ensures bits { result.kind ≡ kind }
 {
     let _bits = kind.bits();
     Params {
@@ -65,19 +72,25 @@ fn coded(report: &Report, size: &str, params: &Params) -> Result<()>
     requires bits { params.now.kind.bits ≡ 12 }
 {
     let numbers = residuals(report.alloc(), params.shape.sample_count())?;
-    let body = encode(report, size, params, &numbers)?;
+    let start = report.start()?;
+    let body = encoded(report.alloc(), params, &numbers)?;
+    let time = report.since(start)?;
+    let sum = sum_of_bytes(&body);
+    let name = format!(in report.alloc(); "block_encode_{size}")?;
+    report.line(name.as_str(), numbers.len() as u64, time, sum)?;
     decode(report, size, params, &body)
 }
 
-/// Measures how the numbers are written, and gives their body in whole bytes.
-fn encode(report: &Report, size: &str, params: &Params, numbers: &[u16]) -> Result<Vec<u8>>
+/// The body of numbers of twelve bits, in whole bytes.
+fn encoded(alloc: Global, params: &Params, numbers: &[u16]) -> Result<Vec<u8>, Fault>
     requires lawful { AreForBlocks params.now }
     requires bits { params.now.kind.bits ≡ 12 }
     requires count { length numbers.now ≡ sample_count params.now.shape }
+    ensures body { IfOk result (λ body. AreOfTwelveBits numbers.now → bits_of_bytes body.items ≡ filled 1 (body_of params.now numbers.now)) }
+    ensures refused { IfErr result (λ e. e ≡ WantOfMemory) }
 {
-    let start = report.start()?;
     let mut blocks = BlockWriter::new(params);
-    let mut writer = BitWriter::new(report.alloc());
+    let mut writer = BitWriter::new(alloc);
     for number in numbers {
         // None is greater, as `put` asks.
         if *number > MOST {
@@ -86,12 +99,7 @@ fn encode(report: &Report, size: &str, params: &Params, numbers: &[u16]) -> Resu
         blocks.put(*number, &mut writer)?;
     }
     blocks.end(&mut writer)?;
-    let body = whole_bytes(report, writer)?;
-    let time = report.since(start)?;
-    let sum = sum_of_bytes(&body);
-    let name = format!(in report.alloc(); "block_encode_{size}")?;
-    report.line(name.as_str(), numbers.len() as u64, time, sum)?;
-    Ok(body)
+    whole_bytes(writer)
 }
 
 /// Measures how the numbers are read.

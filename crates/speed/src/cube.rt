@@ -1,8 +1,11 @@
 //! The speed of raw bytes taken in and given out, and of a walk over all places.
 
-ghost use Rattle.std.specs.Prelude.{◌≤◌};
+ghost use Rattle.std.specs.Prelude.{◌≡◌, ◌≤◌, IfOk};
 ghost use Rattle.cube_core.specs.Layout.{IsLayout};
 ghost use Rattle.cube_core.specs.Order.{IsOrder};
+ghost use Rattle.speed.specs.Formats.{format_name, format_bits, layout_of, synthetic_bytes};
+ghost use Rattle.speed.specs.Images.{heights_of};
+ghost use Rattle.speed.specs.Numbers.{checksum};
 
 use crate::report::Report;
 use crate::synthetic::{Generator, mixed, sum_of_bytes};
@@ -13,7 +16,7 @@ use cube_core::kind::Kind;
 use cube_core::layout::{Layout, RawOrder};
 use cube_core::order::Order;
 use cube_core::shape::Shape;
-use std::alloc::Global;
+use std::alloc::{AllocError, Global};
 
 /// How the bytes of a sample lie.
 #[derive(Clone, Copy)]
@@ -24,7 +27,10 @@ enum Format {
 }
 
 impl Format {
-    fn name(self) -> &'static str {
+    /// The name that is printed.
+    fn name(self) -> &'static str
+        ensures { result.now ≡ format_name self }
+    {
         match self {
             Format::Little => "little",
             Format::Big => "big",
@@ -34,7 +40,8 @@ impl Format {
 
     /// How many bits the samples have.
     fn bits(self) -> u32
-        ensures { (2 ≤ result) × (result ≤ 16) }
+        ensures value { result ≡ format_bits self }
+        ensures range { (2 ≤ result) × (result ≤ 16) }
     {
         match self {
             Format::Little | Format::Big => 12,
@@ -42,8 +49,10 @@ impl Format {
         }
     }
 
+    /// How the samples lie in this order.
     fn layout(self, order: RawOrder) -> Layout
-        ensures { IsLayout result }
+        ensures value { result ≡ layout_of self order }
+        ensures lawful { IsLayout result }
     {
         match self {
             Format::Little => Layout {
@@ -119,20 +128,27 @@ fn walk(report: &Report, name: &str, shape: Shape, order: Order) -> Result<()>
 }
 
 /// The bytes of so many samples.
-fn raw_bytes(alloc: Global, format: Format, count: u64) -> Result<Vec<u8>> {
+fn raw_bytes(alloc: Global, format: Format, count: u64) -> Result<Vec<u8>, AllocError>
+    ensures { IfOk result (λ bytes. bytes.items ≡ synthetic_bytes format count) }
+{
     let mut generator = Generator::new();
     let mut bytes = Vec::new(alloc);
-    for _ in 0..count {
+    for _sample in 0..count {
+        let number = generator.number(format.bits());
         match format {
-            Format::Little => bytes.extend_from_slice(&generator.number(12).to_le_bytes())?,
-            Format::Big => bytes.extend_from_slice(&generator.number(12).to_be_bytes())?,
-            Format::Byte => bytes.push(generator.number(8) as u8)?,
+            Format::Little => bytes.extend_from_slice(&number.to_le_bytes())?,
+            Format::Big => bytes.extend_from_slice(&number.to_be_bytes())?,
+            Format::Byte => bytes.push(number as u8)?,
         }
     }
     Ok(bytes)
 }
 
-pub fn sum_of_cube(cube: &Cube) -> u64 {
+/// The checksum of the heights of a cube's samples above the least one.
+pub fn sum_of_cube(cube: &Cube) -> u64
+    ensures { result ≡ checksum (heights_of cube.now) }
+{
+    cube.is_cube();
     let shape = cube.shape();
     let mut sum = 0;
     for z in 0..shape.bands() {

@@ -13,7 +13,6 @@ use coder_pipe::decode::decode;
 use coder_pipe::encode::encode_one;
 use cube_core::order::Order;
 use header_bits::params::{Coder, Params};
-use std::alloc::Global;
 
 /// The longest file that can be decoded.
 const MOST_BYTES: usize = 1 << 60;
@@ -39,14 +38,20 @@ pub fn measure(report: &Report) -> Result<()> {
     Ok(())
 }
 
-/// Measures both ways. The cube is given up before the file is decoded, so that no more is held than
-/// either way needs.
+/// Measures both ways.
 fn there_and_back(report: &Report, coder: &str, order: &str, params: &Params) -> Result<()>
     requires { IsLawful here params.now }
 {
     let alloc = report.alloc();
     let count = params.shape.sample_count();
-    let file = encoded(report, coder, order, params)?;
+    let cube = synthetic_cube(alloc, params.shape, params.kind)?;
+    let start = report.start()?;
+    let file = encode_one(alloc, &cube, params)?;
+    let time = report.since(start)?;
+    let name = format!(in alloc; "encode_{coder}_{order}")?;
+    report.line(name.as_str(), count, time, sum_of_bytes(&file))?;
+    // So that no more is held than either way needs.
+    drop(cube);
     if file.len() > MOST_BYTES {
         return Ok(());
     }
@@ -55,23 +60,4 @@ fn there_and_back(report: &Report, coder: &str, order: &str, params: &Params) ->
     let time = report.since(start)?;
     let name = format!(in alloc; "decode_{coder}_{order}")?;
     report.line(name.as_str(), count, time, sum_of_cube(&cube))
-}
-
-/// Measures how a synthetic cube is encoded, and answers its file.
-fn encoded(report: &Report, coder: &str, order: &str, params: &Params) -> Result<Vec<u8>>
-    requires { IsLawful here params.now }
-{
-    let alloc = report.alloc();
-    let cube = synthetic_cube(alloc, params.shape, params.kind)?;
-    let start = report.start()?;
-    let file = encode_one(alloc, &cube, params)?;
-    let time = report.since(start)?;
-    let name = format!(in alloc; "encode_{coder}_{order}")?;
-    report.line(
-        name.as_str(),
-        params.shape.sample_count(),
-        time,
-        sum_of_bytes(&file),
-    )?;
-    Ok(file)
 }

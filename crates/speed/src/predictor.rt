@@ -1,10 +1,17 @@
 //! The speed of the predictor, sample by sample, there and back.
 
-ghost use Rattle.std.specs.Prelude.{◌≡◌, ◌<◌, ◌^◌, length, slice_index, vec_len, IfOk, ℕ};
+ghost use Rattle.std.specs.Prelude.{◌≡◌, ◌<◌, ◌^◌, length, slice_get, slice_index, vec_len, IfOk, IfErr, OnOk, ℕ};
+ghost use Rattle.coder_pipe.specs.Walked.{AreAlong};
+ghost use Rattle.cube_core.specs.declared.fault.Fault.TheVariants.{WantOfMemory};
+ghost use Rattle.cube_core.specs.Image.{Image};
 ghost use Rattle.cube_core.specs.Shape.{sample_count};
 ghost use Rattle.header_bits.specs.Lawful.{IsLawful};
 ghost use Rattle.header_bits.specs.Reach.{here};
-ghost use Rattle.speed.specs.Along.{AreAt};
+ghost use Rattle.predict_core.specs.Following.{Learner};
+ghost use Rattle.predict_core.specs.Residual.{residuals as residuals_of};
+ghost use Rattle.speed.specs.Images.{synthetic_image};
+ghost use Rattle.speed.specs.Measured.{usual_coder, measured, lawful_or_fault};
+ghost use Rattle.speed.specs.Numbers.{checksum};
 
 use crate::cube::sum_of_cube;
 use crate::report::Report;
@@ -12,6 +19,7 @@ use crate::synthetic::{Generator, mixed};
 use anyhow::Result;
 use cube_core::cube::Cube;
 use cube_core::cursor::Places;
+use cube_core::fault::Fault;
 use cube_core::kind::Kind;
 use cube_core::order::Order;
 use cube_core::shape::Shape;
@@ -36,7 +44,9 @@ pub fn measure(report: &Report) -> Result<()> {
 }
 
 /// The sample-adaptive coder with the usual numbers.
-pub fn usual_coder() -> Coder {
+pub fn usual_coder() -> Coder
+    ensures { result ≡ usual_coder }
+{
     Coder::Sample {
         umax: 16,
         gamma_star: 6,
@@ -46,15 +56,17 @@ pub fn usual_coder() -> Coder {
 }
 
 /// The parameters of a measurement: 12 bits, neighbour sums, and the usual numbers.
+///
+/// Where they aren't lawful the answer is their first refusal.
 pub fn params_of(
     shape: Shape,
     reduced: bool,
     previous: u32,
     order: Order,
     coder: Coder,
-) -> Result<Params>
+) -> Result<Params, Fault>
+    ensures value { result ≡ lawful_or_fault (measured shape reduced previous order coder) }
     ensures lawful { IfOk result (λ p. IsLawful here p) }
-    ensures shape { IfOk result (λ p. p.shape ≡ shape) }
 {
     let params = Params {
         shape,
@@ -99,15 +111,16 @@ fn there_and_back(report: &Report, mode: &str, order: &str, params: &Params) -> 
     report.line(name.as_str(), count, time, sum_of_cube(&back))
 }
 
-/// The residuals of a cube.
-fn forward(alloc: Global, cube: &Cube, params: &Params, residuals: &mut [u16]) -> Result<()>
+/// Writes the residuals of a cube, in encoding order.
+fn forward(alloc: Global, cube: &Cube, params: &Params, residuals: &mut [u16]) -> Result<(), Fault>
     requires lawful { IsLawful here params.now }
     requires shape { cube.now.shape ≡ params.now.shape }
     requires kind { cube.now.kind ≡ params.now.kind }
     requires room { length residuals.old ≡ sample_count params.now.shape }
-    requires below { (i : ℕ) → i < length residuals.old → slice_index residuals.old i < 2 ^ params.now.kind.bits }
+    ensures residuals { OnOk result (residuals.new ≡ residuals_of params.now cube.now) }
+    ensures below { OnOk result ((i : ℕ) → i < length residuals.new → slice_index residuals.new i < 2 ^ params.now.kind.bits) }
     ensures len { length residuals.new ≡ length residuals.old }
-    ensures below { (i : ℕ) → i < length residuals.new → slice_index residuals.new i < 2 ^ params.now.kind.bits }
+    ensures refused { IfErr result (λ e. e ≡ WantOfMemory) }
 {
     let mut bands = all_bands(alloc, params)?;
     let mut places = Places::new(params.shape, params.order);
@@ -120,13 +133,16 @@ fn forward(alloc: Global, cube: &Cube, params: &Params, residuals: &mut [u16]) -
     Ok(())
 }
 
-/// The samples of residuals.
-fn inverse(alloc: Global, cube: &mut Cube, params: &Params, residuals: &[u16]) -> Result<()>
+/// Writes the samples of residuals, which are in encoding order.
+fn inverse(alloc: Global, cube: &mut Cube, params: &Params, residuals: &[u16]) -> Result<(), Fault>
     requires lawful { IsLawful here params.now }
     requires shape { cube.old.shape ≡ params.now.shape }
     requires kind { cube.old.kind ≡ params.now.kind }
     requires all { length residuals.now ≡ sample_count params.now.shape }
     requires below { (i : ℕ) → i < length residuals.now → slice_index residuals.now i < 2 ^ params.now.kind.bits }
+    ensures samples { OnOk result (residuals_of params.now cube.new ≡ residuals.now) }
+    ensures same { (cube.new.shape ≡ cube.old.shape) × (cube.new.kind ≡ cube.old.kind) }
+    ensures refused { IfErr result (λ e. e ≡ WantOfMemory) }
 {
     let mut bands = all_bands(alloc, params)?;
     let mut places = Places::new(params.shape, params.order);
@@ -140,10 +156,12 @@ fn inverse(alloc: Global, cube: &mut Cube, params: &Params, residuals: &[u16]) -
 }
 
 /// The predictors of all bands, each before its first place.
-fn all_bands(alloc: Global, params: &Params) -> Result<Vec<Band>>
+fn all_bands(alloc: Global, params: &Params) -> Result<Vec<Band>, Fault>
     requires { IsLawful here params.now }
     ensures len { IfOk result (λ bands. vec_len bands ≡ params.now.shape.bands) }
-    ensures first { IfOk result (λ bands. AreAt params.now 0 bands.items) }
+    ensures along { IfOk result (λ bands. (c : Image) → AreAlong params.now c 0 bands.items) }
+    ensures first { IfOk result (λ bands. (z : ℕ) (b : Learner) → slice_get bands.items z ≡ Some b → b.place ≡ 0) }
+    ensures refused { IfErr result (λ e. e ≡ WantOfMemory) }
 {
     let mut bands = Vec::new(alloc);
     for z in 0..params.shape.bands() {
@@ -153,8 +171,9 @@ fn all_bands(alloc: Global, params: &Params) -> Result<Vec<Band>>
 }
 
 /// A cube that changes slowly, with some noise.
-pub fn synthetic_cube(alloc: Global, shape: Shape, kind: Kind) -> Result<Cube>
-    ensures { IfOk result (λ c. (c.shape ≡ shape) × (c.kind ≡ kind)) }
+pub fn synthetic_cube(alloc: Global, shape: Shape, kind: Kind) -> Result<Cube, Fault>
+    ensures cube { IfOk result (λ c. c ≡ synthetic_image shape kind) }
+    ensures refused { IfErr result (λ e. e ≡ WantOfMemory) }
 {
     let mut generator = Generator::new();
     let mut cube = Cube::new(alloc, shape, kind)?;
@@ -171,7 +190,10 @@ pub fn synthetic_cube(alloc: Global, shape: Shape, kind: Kind) -> Result<Cube>
     Ok(cube)
 }
 
-fn sum_of(numbers: &[u16]) -> u64 {
+/// The checksum of numbers.
+fn sum_of(numbers: &[u16]) -> u64
+    ensures { result ≡ checksum numbers.now }
+{
     let mut sum = 0;
     for number in numbers {
         sum = mixed(sum, u64::from(*number));

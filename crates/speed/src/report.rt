@@ -1,6 +1,10 @@
 //! What is printed of a measured loop.
 
+ghost use Rattle.std.specs.Prelude.{◌≡◌, true, false};
+ghost use Rattle.speed.specs.Measured.{measured_shape};
+
 use anyhow::Result;
+use cube_core::fault::Fault;
 use cube_core::shape::Shape;
 use std::alloc::Global;
 use std::time::{Duration, Instant};
@@ -14,12 +18,16 @@ pub struct Report<'a> {
 
 impl<'a> Report<'a> {
     /// A report of names and checksums, of little data.
-    pub fn of_checksums(rt: &'a HostRuntime) -> Report<'a> {
+    pub fn of_checksums(rt: &'a HostRuntime) -> Report<'a>
+        ensures { result.timed ≡ false }
+    {
         Report { rt, timed: false }
     }
 
     /// A report of speeds too, of enough data for them.
-    pub fn of_times(rt: &'a HostRuntime) -> Report<'a> {
+    pub fn of_times(rt: &'a HostRuntime) -> Report<'a>
+        ensures { result.timed ≡ true }
+    {
         Report { rt, timed: true }
     }
 
@@ -28,7 +36,9 @@ impl<'a> Report<'a> {
     }
 
     /// The shape of the cube that is gone through.
-    pub fn shape(&self) -> Result<Shape> {
+    pub fn shape(&self) -> Result<Shape, Fault>
+        ensures { result ≡ Ok (measured_shape self.now.timed) }
+    {
         let shape = if self.timed {
             Shape::new(512, 512, 24)?
         } else {

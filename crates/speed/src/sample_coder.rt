@@ -1,11 +1,17 @@
 //! The speed of the sample-adaptive coder.
 
-ghost use Rattle.std.specs.Prelude.{◌≡◌, ◌≤◌};
+ghost use Rattle.std.specs.Prelude.{◌≡◌, ◌≤◌, IfOk, IfErr};
+ghost use Rattle.coder_pipe.specs.File.{filled};
+ghost use Rattle.cube_core.specs.declared.fault.Fault.TheVariants.{WantOfMemory};
+ghost use Rattle.header_bits.specs.Bits.{bits_of_bytes};
 ghost use Rattle.sample_adaptive.specs.Settings.{AreForSamples};
+ghost use Rattle.speed.specs.Bodies.{AreOfTwelveBits, one_band_body};
+ghost use Rattle.speed.specs.Measured.{coder_alone};
 
 use crate::report::Report;
 use crate::synthetic::{mixed, residuals, sum_of_bytes};
 use anyhow::Result;
+use cube_core::fault::Fault;
 use cube_core::kind::Kind;
 use cube_core::order::Order;
 use cube_core::shape::Shape;
@@ -13,6 +19,7 @@ use header_bits::bit_reader::BitReader;
 use header_bits::bit_writer::BitWriter;
 use header_bits::params::{Coder, CountStart, Params, WeightStart};
 use sample_adaptive::stats::Stats;
+use std::alloc::Global;
 
 /// The greatest number of twelve bits.
 const MOST: u16 = 4095;
@@ -22,15 +29,18 @@ pub fn measure(report: &Report) -> Result<()> {
     let params = params(report.shape()?, Kind::new(false, 12)?);
     let count = params.shape.sample_count();
     let numbers = residuals(report.alloc(), count)?;
-    let body = encode(report, &params, &numbers)?;
+    let start = report.start()?;
+    let body = encoded(report.alloc(), &params, &numbers)?;
+    let time = report.since(start)?;
+    report.line("sample_encode", count, time, sum_of_bytes(&body))?;
     decode(report, &params, count, &body)
 }
 
 /// Parameters for samples of twelve bits.
 fn params(shape: Shape, kind: Kind) -> Params
     requires { kind.bits ≡ 12 }
+    ensures value { result ≡ coder_alone shape kind (Coder.Sample 18 6 1 (CountStart.Constant 5)) }
     ensures lawful { AreForSamples result }
-    ensures bits { result.kind ≡ kind }
     ensures bands { 1 ≤ result.shape.bands }
 {
     let _bands = shape.bands();
@@ -58,15 +68,16 @@ fn params(shape: Shape, kind: Kind) -> Params
     }
 }
 
-/// Measures how the numbers are written, and gives their body in whole bytes.
-fn encode(report: &Report, params: &Params, numbers: &[u16]) -> Result<Vec<u8>>
+/// The code words of numbers of twelve bits, all of the first band, in whole bytes.
+fn encoded(alloc: Global, params: &Params, numbers: &[u16]) -> Result<Vec<u8>, Fault>
     requires lawful { AreForSamples params.now }
     requires bits { params.now.kind.bits ≡ 12 }
     requires bands { 1 ≤ params.now.shape.bands }
+    ensures body { IfOk result (λ body. AreOfTwelveBits numbers.now → bits_of_bytes body.items ≡ filled 1 (one_band_body params.now numbers.now)) }
+    ensures refused { IfErr result (λ e. e ≡ WantOfMemory) }
 {
-    let start = report.start()?;
-    let mut stats = Stats::new(report.alloc(), params)?;
-    let mut writer = BitWriter::new(report.alloc());
+    let mut stats = Stats::new(alloc, params)?;
+    let mut writer = BitWriter::new(alloc);
     for (t, number) in numbers.iter().enumerate() {
         // None is greater, as `put` asks.
         if *number > MOST {
@@ -74,11 +85,7 @@ fn encode(report: &Report, params: &Params, numbers: &[u16]) -> Result<Vec<u8>>
         }
         stats.put(0, t as u64, *number, &mut writer)?;
     }
-    let body = whole_bytes(report, writer)?;
-    let time = report.since(start)?;
-    let sum = sum_of_bytes(&body);
-    report.line("sample_encode", numbers.len() as u64, time, sum)?;
-    Ok(body)
+    whole_bytes(writer)
 }
 
 /// Measures how so many numbers are read.
@@ -100,12 +107,11 @@ fn decode(report: &Report, params: &Params, count: u64, body: &[u8]) -> Result<(
 }
 
 /// The bytes of a writer, with zeros that fill the last.
-pub fn whole_bytes(report: &Report, mut writer: BitWriter) -> Result<Vec<u8>> {
+pub fn whole_bytes(mut writer: BitWriter) -> Result<Vec<u8>, Fault>
+    ensures filled { IfOk result (λ bytes. bits_of_bytes bytes.items ≡ filled 1 writer.bits) }
+    ensures refused { IfErr result (λ e. e ≡ WantOfMemory) }
+{
     let over = (writer.bit_count() % 8) as u32;
     writer.push(0, (8 - over) % 8)?;
-    Ok(if writer.bit_count() % 8 == 0 {
-        writer.into_bytes()
-    } else {
-        Vec::new(report.alloc())
-    })
+    Ok(writer.into_bytes())
 }

@@ -1,8 +1,11 @@
 //! Synthetic numbers, the same as in `bench/src/synthetic.rs`.
 
 ghost use Rattle.std.specs.Prelude.{◌≡◌, ◌≤◌, ◌<◌, ◌^◌, length, IfOk};
+ghost use Rattle.speed.specs.Bodies.{AreOfTwelveBits};
+ghost use Rattle.speed.specs.Numbers.{first_state, next_state, highest, synthetic_residuals, mixed, checksum};
 
 use std::alloc::{AllocError, Global};
+use std::marker::Model;
 
 /// A linear congruential generator of 64 bits, whose highest bits are its numbers.
 #[derive(Drop)]
@@ -10,8 +13,19 @@ pub struct Generator {
     state: u64,
 }
 
+impl Model for Generator {
+    ghost use Rattle.std.specs.Prelude.{ℕ};
+
+    ghost Value = { ℕ };
+
+    ghost view = { λ g. g.state };
+}
+
 impl Generator {
-    pub fn new() -> Generator {
+    /// The generator before its first number.
+    pub fn new() -> Generator
+        ensures { result ≡ first_state }
+    {
         Generator {
             state: 0x9E37_79B9_7F4A_7C15,
         }
@@ -20,7 +34,9 @@ impl Generator {
     /// The next number of so many bits.
     pub fn number(&mut self, bits: u32) -> u16
         requires { (1 ≤ bits) × (bits ≤ 16) }
-        ensures { result < 2 ^ bits }
+        ensures state { self.new ≡ next_state self.old }
+        ensures number { result ≡ highest bits self.new }
+        ensures bound { result < 2 ^ bits }
     {
         self.state = self
             .state
@@ -35,7 +51,9 @@ impl Generator {
 /// many random bits the low part; how many changes each 4,096 residuals, and each eighth of these
 /// stretches is zeros.
 pub fn residuals(alloc: Global, count: u64) -> Result<Vec<u16>, AllocError>
-    ensures { IfOk result (λ v. length v.items ≡ count) }
+    ensures value { IfOk result (λ v. v.items ≡ synthetic_residuals count) }
+    ensures len { IfOk result (λ v. length v.items ≡ count) }
+    ensures few { IfOk result (λ v. AreOfTwelveBits v.items) }
 {
     let mut generator = Generator::new();
     let mut residuals = Vec::new(alloc);
@@ -52,12 +70,16 @@ pub fn residuals(alloc: Global, count: u64) -> Result<Vec<u16>, AllocError>
 }
 
 /// A checksum with one more number.
-pub fn mixed(checksum: u64, number: u64) -> u64 {
+pub fn mixed(checksum: u64, number: u64) -> u64
+    ensures { result ≡ mixed checksum number }
+{
     checksum.rotate_left(5).wrapping_add(number)
 }
 
 /// The checksum of bytes.
-pub fn sum_of_bytes(bytes: &[u8]) -> u64 {
+pub fn sum_of_bytes(bytes: &[u8]) -> u64
+    ensures { result ≡ checksum bytes.now }
+{
     let mut sum = 0;
     for byte in bytes {
         sum = mixed(sum, u64::from(*byte));

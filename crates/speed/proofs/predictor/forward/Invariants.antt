@@ -1,13 +1,15 @@
 use Rattle.std.proofs.Common.{◌≡◌, ◌<◌, ◌^◌, ℕ, length, slice_index}
 use Rattle.cube_core.specs.Shape.{sample_count}
-use Rattle.speed.proofs.Going.{IsGoing}
+use Rattle.coder_pipe.proofs.Walking.{IsOnWalk}
+use Rattle.speed.proofs.Walk.{AreResiduals}
 use Rattle.speed.proofs.predictor.forward.Given as goal
 
 abbrev pub invariant-loop-place : goal.invariant-loop-place
 invariant-loop-place l = record {
-  going : IsGoing l.params l.i l.places l.bands.items;
   room : length l.residuals ≡ sample_count l.params.shape;
-  below : (i : ℕ) → i < length l.residuals → slice_index l.residuals i < 2 ^ l.params.kind.bits;
+  walk : IsOnWalk l.params l.cube l.places l.bands.items;
+  written : AreResiduals l.params l.cube l.places l.i l.residuals;
+  below : (k : ℕ) → k < l.i → slice_index l.residuals k < 2 ^ l.params.kind.bits;
 }
 
 abbrev pub decreases-loop-place : goal.decreases-loop-place

@@ -1,12 +1,14 @@
 use Rattle.std.proofs.Common.{◌≡◌, length}
-use Rattle.speed.proofs.Going.{IsGoing}
+use Rattle.coder_pipe.proofs.Walking.{IsOnWalk}
+use Rattle.speed.proofs.Walk.{AreResiduals}
 use Rattle.speed.proofs.predictor.inverse.Given as goal
 
 abbrev pub invariant-loop-place : goal.invariant-loop-place
 invariant-loop-place l = record {
-  going : IsGoing l.params l.i l.places l.bands.items;
   shape : l.cube.shape ≡ l.params.shape;
   kind : l.cube.kind ≡ l.params.kind;
+  walk : IsOnWalk l.params l.cube l.places l.bands.items;
+  read : AreResiduals l.params l.cube l.places l.i l.residuals;
 }
 
 abbrev pub decreases-loop-place : goal.decreases-loop-place

@@ -14,4 +14,4 @@ below_same n held made e all i h = rw e (all i (rw e at h))
 pub inverse-requires-clause-below : goal.inverse-requires-clause-below
 inverse-requires-clause-below c =
     let long : length c.forward.new.residuals ≡ c.in_ok-residuals.residuals.len = omega (arith, c.forward.ensures.len, c.deref_mut.ensures.len, c.in_ok-residuals.residuals.ok.0) in
-    below_same (2 ^ c.args.params.now.kind.bits) c.deref-2.result.now c.forward.new.residuals (c.deref-2.ensures.value ∙ take_front _ c.forward.new.residuals _ long) c.forward.ensures.below
+    below_same (2 ^ c.args.params.now.kind.bits) c.deref-2.result.now c.forward.new.residuals (c.deref-2.ensures.value ∙ take_front _ c.forward.new.residuals _ long) c.in_ok-forward.ensures.below

@@ -1,5 +1,9 @@
-use Rattle.std.proofs.Common.{◌≡◌, length}
+use Rattle.std.proofs.Common.{◌≡◌, ◌*◌}
+use Rattle.speed.specs.Numbers.{state_behind, synthetic_residuals}
 use Rattle.speed.proofs.synthetic.residuals.Given as goal
 
 abbrev pub invariant-loop-i : goal.invariant-loop-i
-invariant-loop-i l = length l.residuals.items ≡ l.i
+invariant-loop-i l = record {
+  state : l.generator ≡ state_behind (2 * l.i);
+  value : l.residuals.items ≡ synthetic_residuals l.i;
+}

@@ -1,0 +1,99 @@
+-- The walk along the encoding order, there and back: numbers that are the residuals of the places gone by.
+use Rattle.std.proofs.Common.{◌≡◌, ◌+◌, ◌*◌, ◌<◌, ◌≤◌, ℕ, suc, zero, ℤ, false, List, [], ◌∷◌, ◌++◌, length, map, take, get_or, set, Some, refl, sym, ap, ◌∙◌, subst, arith}
+use Rattle.std.proofs.lemmas.List.{take_more, take_more_set, take_all}
+use Rattle.std.specs.List.{slice_get, slice_index}
+use Rattle.cube_core.specs.declared.order.Place.{Place}
+use Rattle.cube_core.specs.Shape.{Sizes, sample_count}
+use Rattle.cube_core.specs.Image.{Image, put}
+use Rattle.cube_core.specs.Order.{IsOrder, IsPlaceOf, places, place_index}
+use Rattle.cube_core.proofs.Keys.{order_is_by_key, index_of_item}
+use Rattle.cube_core.proofs.Orders.{StandsAt, length-places}
+use Rattle.header_bits.specs.declared.params.Params.{Params}
+use Rattle.header_bits.specs.Reach.{here}
+use Rattle.header_bits.specs.Lawful.{IsLawful}
+use Rattle.predict_core.specs.Following.{Learner}
+use Rattle.predict_core.specs.Residual.{mapped_residual, residuals}
+use Rattle.coder_pipe.specs.Walked.{residuals_at}
+use Rattle.coder_pipe.proofs.Alike.{put_residual}
+use Rattle.coder_pipe.proofs.Walking.{IsOnWalk, next_goes, band_here, gone_by, gone_count, residuals_push, residuals_whole}
+
+-- the first i numbers are the residuals of the places gone by
+pub record AreResiduals (p : Params) (c : Image) (left : List Place) (i : ℕ) (numbers : List ℕ) : Type 0 where
+  pub count : i ≡ gone_count p left
+  pub gone : residuals_at p c (gone_by p left) ≡ take i numbers
+
+pub none_yet : (p : Params) (c : Image) (numbers : List ℕ) → IsOrder p.shape p.order → AreResiduals p c (places p.shape p.order) 0 numbers
+none_yet p c numbers lawful =
+    let none : gone_count p (places p.shape p.order) ≡ 0 = omega (arith, length-places p.shape p.order lawful) in
+    record { count = sym none; gone = rw none refl }
+
+-- all places have gone by
+pub all_residuals : (p : Params) (c : Image) (i : ℕ) (numbers : List ℕ) → IsOrder p.shape p.order → c.shape ≡ p.shape → length numbers ≡ sample_count p.shape → AreResiduals p c [] i numbers → residuals p c ≡ numbers
+all_residuals p c i numbers lawful shape long known = sym (residuals_whole p c lawful shape) ∙ known.gone ∙ take_all i numbers (omega (arith, known.count, long))
+
+-- ---- there: the next residual is written
+
+pub written_more : (p : Params) (c : Image) (left rest : List Place) (bands : List Learner) (q : Place) (b : Learner) (numbers : List ℕ) (i number : ℕ)
+    → IsOrder p.shape p.order → c.shape ≡ p.shape → IsOnWalk p c left bands → left ≡ q ∷ rest → slice_get bands q.z ≡ Some b → AreResiduals p c left i numbers → i < length numbers
+    → number ≡ mapped_residual p c b.band b.place → AreResiduals p c rest (i + 1) (set numbers i number)
+written_more p c left rest bands q b numbers i number lawful shape walk is band known lt value =
+    let next = next_goes p q left rest lawful walk.rest is in
+    let here = band_here p c (gone_by p left) bands q b lawful walk.known next.stands band in
+    let place : b.place ≡ q.y * c.shape.columns + q.x = here.1 ∙ ap (λ (s : Sizes). q.y * s.columns + q.x) (sym shape) in
+    let there : number ≡ mapped_residual p c q.z (q.y * c.shape.columns + q.x) = value ∙ ap (λ z. mapped_residual p c z b.place) here.0.band ∙ ap (mapped_residual p c q.z) place in
+    record {
+      count = omega (arith, known.count, next.index);
+      gone = ap (residuals_at p c) next.gone
+          ∙ residuals_push p c (gone_by p left) q
+          ∙ ap (λ (n : ℕ). residuals_at p c (gone_by p left) ++ n ∷ []) (sym there)
+          ∙ ap (λ (ns : List ℕ). ns ++ number ∷ []) known.gone
+          ∙ sym (take_more_set numbers i number lt);
+    }
+
+-- numbers below a bound are so with one more
+pub below_more : (n : ℕ) (xs : List ℕ) (i x : ℕ) → i < length xs → ((k : ℕ) → k < i → slice_index xs k < n) → x < n → (k : ℕ) → k < i + 1 → slice_index (set xs i x) k < n
+below_more n [] i x some all lt k h = absurd (omega (arith, some))
+below_more n (y ∷ ys) zero x some all lt zero h = lt
+below_more n (y ∷ ys) zero x some all lt (suc k) h = absurd (omega (arith, h))
+below_more n (y ∷ ys) (suc i) x some all lt zero h = all zero (omega arith)
+below_more n (y ∷ ys) (suc i) x some all lt (suc k) h = below_more n ys i x (omega (arith, some)) (λ j g. all (suc j) (omega (arith, g))) lt k (omega (arith, h))
+
+-- ---- back: the sample of the next residual is put
+
+map_take_same : (f g : Place → ℕ) (i : ℕ) (ps : List Place) → ((j : ℕ) (r : Place) → j < i → slice_get ps j ≡ Some r → f r ≡ g r) → map f (take i ps) ≡ map g (take i ps)
+map_take_same f g zero ps h = refl
+map_take_same f g (suc i) [] h = refl
+map_take_same f g (suc i) (p ∷ ps) h =
+    ap (λ (n : ℕ). n ∷ map f (take i ps)) (h 0 p (omega arith) refl) ∙ ap (λ (ns : List ℕ). g p ∷ ns) (map_take_same f g i ps (λ j r lt e. h (suc j) r (omega (arith, lt)) e))
+
+wide_of : (p : Params) (c : Image) → IsLawful here p → c.shape ≡ p.shape → p.column ≡ false → 2 ≤ c.shape.columns
+wide_of p c lawful shape h = omega (arith, lawful.sums h, ap (λ (s : Sizes). s.columns) shape)
+
+-- the residuals of the places gone by stay
+residuals_kept : (p : Params) (c : Image) (q : Place) (v : ℤ) (left : List Place) → IsLawful here p → c.shape ≡ p.shape → StandsAt p.shape p.order q (gone_count p left) → residuals_at p c (gone_by p left) ≡ residuals_at p (put c q.z q.y q.x v) (gone_by p left)
+residuals_kept p c q v left lawful shape stands =
+    map_take_same (λ r. mapped_residual p c r.z (r.y * c.shape.columns + r.x)) (λ r. mapped_residual p (put c q.z q.y q.x v) r.z (r.y * c.shape.columns + r.x)) (gone_count p left) (places p.shape p.order)
+    (λ j r lt e.
+    let order : IsOrder c.shape p.order = subst (λ (s : Sizes). IsOrder s p.order) (sym shape) lawful.order in
+    let there : StandsAt c.shape p.order q (gone_count p left) = subst (λ (s : Sizes). StandsAt s p.order q (gone_count p left)) (sym shape) stands in
+    let place : IsPlaceOf c.shape r = subst (λ (s : Sizes). IsPlaceOf s r) (sym shape) ((order_is_by_key p.shape p.order lawful.order).only j r e) in
+    let index : place_index c.shape p.order r ≡ j = ap (λ (s : Sizes). place_index s p.order r) shape ∙ index_of_item p.shape p.order r j lawful.order e in
+    put_residual p c q r v (gone_count p left) order (wide_of p c lawful shape) there place (omega (arith, index, lt)))
+
+pub read_more : (p : Params) (c : Image) (left rest : List Place) (bands : List Learner) (q : Place) (b : Learner) (numbers : List ℕ) (i : ℕ) (v : ℤ)
+    → IsLawful here p → c.shape ≡ p.shape → IsOnWalk p c left bands → left ≡ q ∷ rest → slice_get bands q.z ≡ Some b → AreResiduals p c left i numbers → i < length numbers
+    → mapped_residual p (put c q.z q.y q.x v) q.z b.place ≡ get_or numbers i 0 → AreResiduals p (put c q.z q.y q.x v) rest (i + 1) numbers
+read_more p c left rest bands q b numbers i v lawful shape walk is band known lt value =
+    let next = next_goes p q left rest lawful.order walk.rest is in
+    let here = band_here p c (gone_by p left) bands q b lawful.order walk.known next.stands band in
+    let place : b.place ≡ q.y * c.shape.columns + q.x = here.1 ∙ ap (λ (s : Sizes). q.y * s.columns + q.x) (sym shape) in
+    let stands : StandsAt p.shape p.order q (gone_count p left) = subst (λ (k : ℕ). StandsAt p.shape p.order q k) next.count next.stands in
+    let last : mapped_residual p (put c q.z q.y q.x v) q.z (q.y * c.shape.columns + q.x) ≡ get_or numbers i 0 = ap (mapped_residual p (put c q.z q.y q.x v) q.z) (sym place) ∙ value in
+    record {
+      count = omega (arith, known.count, next.index);
+      gone = ap (residuals_at p (put c q.z q.y q.x v)) next.gone
+          ∙ residuals_push p (put c q.z q.y q.x v) (gone_by p left) q
+          ∙ ap (λ (n : ℕ). residuals_at p (put c q.z q.y q.x v) (gone_by p left) ++ n ∷ []) last
+          ∙ ap (λ (ns : List ℕ). ns ++ get_or numbers i 0 ∷ []) (sym (residuals_kept p c q v left lawful shape stands) ∙ known.gone)
+          ∙ sym (take_more numbers i 0 lt);
+    }

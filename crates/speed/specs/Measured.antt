@@ -1,0 +1,51 @@
+-- The parameters of the measurements.
+use Rattle.std.specs.Prelude.{ℕ, Bool, true, false, pos, negsuc, if◌then◌else◌, Result, Ok}
+use Rattle.cube_core.specs.declared.fault.Fault.{Fault}
+use Rattle.cube_core.specs.declared.order.Order.{Order}
+use Rattle.cube_core.specs.declared.order.Order.TheVariants.{Bsq}
+use Rattle.cube_core.specs.Shape.{Sizes}
+use Rattle.cube_core.specs.Kind.{SampleKind}
+use Rattle.cube_core.specs.Steps.{◌>>◌}
+use Rattle.header_bits.specs.declared.params.Params.{Params}
+use Rattle.header_bits.specs.declared.params.Coder.{Coder}
+use Rattle.header_bits.specs.declared.params.Coder.TheVariants.{Sample}
+use Rattle.header_bits.specs.declared.params.CountStart.TheVariants.{Constant}
+use Rattle.header_bits.specs.declared.params.WeightStart.TheVariants.{Usual}
+use Rattle.header_bits.specs.Lawful.{params_fault}
+use Rattle.header_bits.specs.Reach.{here}
+
+-- the sizes of the cube that is gone through: large ones where times are told
+abbrev pub measured_shape : Bool → Sizes
+measured_shape timed = if timed then record { columns = 512; rows = 512; bands = 24 } else record { columns = 23; rows = 17; bands = 5 }
+
+-- the sample-adaptive coder with the usual numbers
+abbrev pub usual_coder : Coder
+usual_coder = Sample 16 6 1 (Constant 3)
+
+-- parameters of 12 bits, neighbour sums, and the usual numbers
+abbrev pub measured : Sizes → Bool → ℕ → Order → Coder → Params
+measured shape reduced previous order coder = record {
+  shape = shape;
+  kind = record { signed = false; bits = 12 };
+  order = order;
+  user = 0;
+  word = 1;
+  previous = previous;
+  reduced = reduced;
+  column = false;
+  register = 32;
+  omega = 13;
+  interval_log = 6;
+  vmin = negsuc 0;
+  vmax = pos 3;
+  start = Usual;
+  coder = coder;
+}
+
+-- the plainest parameters of a kind, for a coder that is measured alone
+abbrev pub coder_alone : Sizes → SampleKind → Coder → Params
+coder_alone shape kind coder = record (measured shape true 0 Bsq coder) { kind = kind; column = true }
+
+-- parameters, or the first refusal of them
+abbrev pub lawful_or_fault : Params → Result Params Fault
+lawful_or_fault p = params_fault here p >> Ok p
