@@ -13,7 +13,7 @@ use ccsds_command::expand::run_expand;
 use ccsds_command::inspect::run_inspect;
 use ccsds_command::report::{fault_line, status_of};
 use ccsds_command::show::run_show;
-use ccsds_command::stream::{ReaderSource, WriterSink};
+use command_devices::stream::{ReaderSource, WriterSink};
 use command_settings::settings::Settings;
 use command_words::words::settings;
 use cube_core::fault::Fault;

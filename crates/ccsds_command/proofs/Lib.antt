@@ -1,4 +1,2 @@
-pub mod Devices
 pub mod Runs
 pub mod Showing
-pub mod Streams

@@ -7,9 +7,9 @@ use Rattle.cube_core.specs.declared.fault.Fault.{Fault}
 use Rattle.cube_core.specs.declared.fault.Fault.TheVariants.{WantOfMemory, RawLength}
 use Rattle.cube_core.specs.Shape.{sample_count}
 use Rattle.cube_core.specs.Raw.{IsBadSample}
-use Rattle.ccsds_command.specs.Devices.{Gave, GaveWithin, IsEnd}
+use Rattle.command_devices.specs.Devices.{Gave, GaveWithin, IsEnd}
 use Rattle.ccsds_command.specs.Show.{shown_kind, shown_layout, sizes_of, show_limit, length_fault, IsTextOf, IsShown, IsShowRefusal}
-use Rattle.ccsds_command.proofs.Devices.{gave_more}
+use Rattle.command_devices.proofs.Devices.{gave_more}
 
 -- the sizes stand in the first six bytes
 pub sizes_front : (x rest : List ℕ) → length x ≡ 6 → sizes_of (x ++ rest) ≡ sizes_of x

@@ -11,8 +11,8 @@ use Rattle.header_bits.specs.Lawful.{IsLawful, params_fault}
 use Rattle.coder_pipe.specs.File.{file_of}
 use Rattle.coder_pipe.specs.Files.{IsCubeOf}
 use Rattle.command_settings.specs.declared.settings.CompressSettings.{CompressSettings}
-use Rattle.ccsds_command.specs.Devices.{Took, Rose, IsFront, IsAll}
-use Rattle.ccsds_command.specs.Writing.{IsCutShort}
+use Rattle.command_devices.specs.Devices.{Took, Rose, IsFront, IsAll}
+use Rattle.command_devices.specs.Writing.{IsCutShort}
 
 -- how many raw bytes a cube of the settings has
 abbrev pub raw_length : CompressSettings → ℕ

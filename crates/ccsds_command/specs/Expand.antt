@@ -10,9 +10,9 @@ use Rattle.header_bits.specs.declared.params.Params.{Params}
 use Rattle.header_bits.specs.Bits.{bits_of_bytes}
 use Rattle.header_bits.specs.Reach.{here}
 use Rattle.coder_pipe.specs.Files.{IsFile, file_test}
-use Rattle.ccsds_command.specs.Devices.{Took, IsAll}
-use Rattle.ccsds_command.specs.Reading.{IsReadRefusal}
-use Rattle.ccsds_command.specs.Writing.{IsCutShort}
+use Rattle.command_devices.specs.Devices.{Took, IsAll}
+use Rattle.command_devices.specs.Reading.{IsReadRefusal}
+use Rattle.command_devices.specs.Writing.{IsCutShort}
 
 -- the source has a file of this cube, of at most 2^40 bytes
 abbrev pub HasFileOf : Option (List ℕ) → Image → Type 0

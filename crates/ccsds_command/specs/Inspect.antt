@@ -14,9 +14,9 @@ use Rattle.header_bits.specs.declared.params.CountStart.TheVariants.{Constant, E
 use Rattle.header_bits.specs.Bits.{bits_of_bytes}
 use Rattle.header_bits.specs.Reach.{here}
 use Rattle.header_bits.specs.Header.{ReadsHeader}
-use Rattle.ccsds_command.specs.Devices.{Took, IsAll}
-use Rattle.ccsds_command.specs.Reading.{IsReadRefusal}
-use Rattle.ccsds_command.specs.Writing.{IsCutShort}
+use Rattle.command_devices.specs.Devices.{Took, IsAll}
+use Rattle.command_devices.specs.Reading.{IsReadRefusal}
+use Rattle.command_devices.specs.Writing.{IsCutShort}
 
 -- ---- the lines
 

@@ -1,10 +1,6 @@
 pub mod Compress
-pub mod Cut
-pub mod Devices
 pub mod Everything
 pub mod Expand
 pub mod Inspect
-pub mod Reading
 pub mod Show
 pub mod Status
-pub mod Writing

@@ -15,8 +15,8 @@ use Rattle.header_bits.specs.declared.params.WeightStart.TheVariants.{Usual}
 use Rattle.header_bits.specs.declared.params.Coder.TheVariants.{Sample}
 use Rattle.header_bits.specs.declared.params.CountStart.TheVariants.{Constant}
 use Rattle.coder_pipe.specs.File.{file_of}
-use Rattle.ccsds_command.specs.Devices.{Took, Rose}
-use Rattle.ccsds_command.specs.Writing.{IsCutShort}
+use Rattle.command_devices.specs.Devices.{Took, Rose}
+use Rattle.command_devices.specs.Writing.{IsCutShort}
 
 -- unsigned samples of 8 bits
 abbrev pub shown_kind : SampleKind

@@ -6,13 +6,13 @@ ghost use Rattle.cube_core.specs.Layout.{IsLayout};
 ghost use Rattle.header_bits.specs.Reach.{here};
 ghost use Rattle.header_bits.specs.Lawful.{IsLawful, params_fault};
 ghost use Rattle.ccsds_command.specs.Compress.{Compresses, IsCompressFault, IsCubeRefusal, HasCube, HasFile, raw_limit};
-ghost use Rattle.ccsds_command.specs.Devices.{GaveWithin};
+ghost use Rattle.command_devices.specs.Devices.{GaveWithin};
 
-use crate::reading::read_up_to;
-use crate::sink::Sink;
-use crate::source::Source;
-use crate::writing::write_all;
 use coder_pipe::encode::encode_one;
+use command_devices::reading::read_up_to;
+use command_devices::sink::Sink;
+use command_devices::source::Source;
+use command_devices::writing::write_all;
 use command_settings::settings::CompressSettings;
 use cube_core::cube::Cube;
 use cube_core::fault::Fault;

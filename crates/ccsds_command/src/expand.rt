@@ -3,14 +3,14 @@
 ghost use Rattle.std.specs.Prelude.{◌⊎◌, IfOk, IfErr, OnOk};
 ghost use Rattle.cube_core.specs.Layout.{IsLayout};
 ghost use Rattle.ccsds_command.specs.Expand.{Expands, HasFileOf, HasNoFile, HasRaw, IsExpandFault, IsExpandRefusal};
-ghost use Rattle.ccsds_command.specs.Reading.{IsReadRefusal, file_limit};
-ghost use Rattle.ccsds_command.specs.Devices.{GaveWithin};
+ghost use Rattle.command_devices.specs.Reading.{IsReadRefusal, file_limit};
+ghost use Rattle.command_devices.specs.Devices.{GaveWithin};
 
-use crate::reading::read_file;
-use crate::sink::Sink;
-use crate::source::Source;
-use crate::writing::write_all;
 use coder_pipe::decode::decode;
+use command_devices::reading::read_file;
+use command_devices::sink::Sink;
+use command_devices::source::Source;
+use command_devices::writing::write_all;
 use cube_core::cube::Cube;
 use cube_core::fault::Fault;
 use cube_core::layout::Layout;

@@ -3,15 +3,15 @@
 ghost use Rattle.std.specs.Prelude.{◌⊎◌, IfOk, IfErr, OnOk};
 ghost use Rattle.header_bits.specs.Reach.{here};
 ghost use Rattle.header_bits.specs.Lawful.{IsLawful};
-ghost use Rattle.ccsds_command.specs.Reading.{file_limit};
+ghost use Rattle.command_devices.specs.Reading.{file_limit};
 ghost use Rattle.ccsds_command.specs.Inspect.{HasHeader, HasLines, Inspects, IsInspectFault, IsInspectRefusal};
-ghost use Rattle.ccsds_command.specs.Devices.{GaveWithin};
+ghost use Rattle.command_devices.specs.Devices.{GaveWithin};
 
 use crate::lines::header_lines;
-use crate::reading::read_file;
-use crate::sink::Sink;
-use crate::source::Source;
-use crate::writing::write_all;
+use command_devices::reading::read_file;
+use command_devices::sink::Sink;
+use command_devices::source::Source;
+use command_devices::writing::write_all;
 use cube_core::fault::Fault;
 use header_bits::header::read_header;
 use header_bits::params::Params;

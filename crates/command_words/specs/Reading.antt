@@ -26,7 +26,7 @@ rows m = rows_of (found_of m)
 abbrev pub HasWord : List Row → Text → Text → Type 0
 HasWord rows name word = first_of name rows ≡ Some word
 
--- the option's word is a number in decimal digits
+-- the option's word is a number in decimal digits, before which a plus may stand
 abbrev pub HasNumber : List Row → Text → ℕ → Type 0
 HasNumber rows name n = (t : Text) × (one_of name rows ≡ Some t) × IsNumeral 10 (without_leading_plus t) × (digits_value 10 (without_leading_plus t) ≡ n)
 
@@ -51,10 +51,10 @@ abbrev pub AreFilesOf : List Row → String Global → String Global → Type 0
 AreFilesOf rows from to = HasWord rows (codes "IN") (string_bytes from) × HasWord rows (codes "OUT") (string_bytes to)
 
 -- how large an image is
-pub record AreSizesOf (rows : List Row) (s : Sizes) : Type 0 where
-  pub columns : HasNumber rows (codes "columns") s.columns
-  pub lines : HasNumber rows (codes "rows") s.rows
-  pub bands : HasNumber rows (codes "bands") s.bands
+pub record AreSizesOf (found : List Row) (s : Sizes) : Type 0 where
+  pub columns : HasNumber found (codes "columns") s.columns
+  pub rows : HasNumber found (codes "rows") s.rows
+  pub bands : HasNumber found (codes "bands") s.bands
 
 -- what its samples are
 pub record IsKindOf (rows : List Row) (k : SampleKind) : Type 0 where

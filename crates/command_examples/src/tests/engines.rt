@@ -4,9 +4,9 @@ use super::support::{
     ONE_BYTE, TWO_BYTES, TWO_EQUAL_FILE, band, compressed, expanded, inspected, two_equal,
 };
 use ccsds_command::compress::run_compress;
-use ccsds_command::cut::{CutSink, CutSource};
 use ccsds_command::expand::run_expand;
 use ccsds_command::inspect::run_inspect;
+use command_devices::cut::{CutSink, CutSource};
 use command_settings::settings::CompressSettings;
 use cube_core::fault::{Fault, Rule};
 use cube_core::layout::Layout;

@@ -2,11 +2,11 @@
 
 ghost use Rattle.std.specs.Prelude.{◌≡◌, ◌<◌, [], Some};
 
-use ccsds_command::cut::{CutSink, CutSource};
 use ccsds_command::show::run_show;
-use ccsds_command::sink::Sink;
-use ccsds_command::source::{Failed, Source};
-use ccsds_command::stream::{ReaderSource, WriterSink};
+use command_devices::cut::{CutSink, CutSource};
+use command_devices::sink::Sink;
+use command_devices::source::{Failed, Source};
+use command_devices::stream::{ReaderSource, WriterSink};
 use cube_core::fault::Fault;
 use std::test::Fail;
 

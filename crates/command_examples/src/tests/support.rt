@@ -4,9 +4,9 @@ ghost use Rattle.std.specs.Prelude.{IfOk};
 ghost use Rattle.cube_core.specs.Layout.{IsLayout};
 
 use ccsds_command::compress::run_compress;
-use ccsds_command::cut::{CutSink, CutSource};
 use ccsds_command::expand::run_expand;
 use ccsds_command::inspect::run_inspect;
+use command_devices::cut::{CutSink, CutSource};
 use command_settings::settings::CompressSettings;
 use cube_core::fault::Fault;
 use cube_core::kind::Kind;

@@ -4,8 +4,8 @@ ghost use Rattle.std.specs.Prelude.{IfOk};
 ghost use Rattle.command_words.specs.Settings.{AreInRange};
 
 use ccsds_command::compress::run_compress;
-use ccsds_command::cut::{CutSink, CutSource};
 use ccsds_command::inspect::run_inspect;
+use command_devices::cut::{CutSink, CutSource};
 use command_settings::settings::Settings;
 use command_words::words::settings;
 use cube_core::fault::Fault;

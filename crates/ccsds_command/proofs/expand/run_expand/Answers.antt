@@ -1,6 +1,6 @@
-use Rattle.ccsds_command.specs.Devices.{Took}
+use Rattle.command_devices.specs.Devices.{Took}
 use Rattle.ccsds_command.specs.Expand.{HasRaw}
-use Rattle.ccsds_command.specs.Writing.{IsCutShort}
+use Rattle.command_devices.specs.Writing.{IsCutShort}
 use Rattle.ccsds_command.proofs.Runs.{gained, cut_short}
 use Rattle.ccsds_command.proofs.expand.run_expand.Goals as goal
 

@@ -1,5 +1,4 @@
 use Rattle.std.proofs.Common.{◌≡◌, ℕ, List, Result, refl, arith, subst, sym}
-use Rattle.std.specs.Str.Parse.{ParsesUnsigned, ExplainsUnsignedError, HasUnsignedDigitsIfOk}
 use Rattle.clap.specs.Matches.{found_of}
 use Rattle.clap.specs.Walk.{rows_of}
 use Rattle.command_words.specs.Reading.{HasNumber}
@@ -8,13 +7,13 @@ use Rattle.command_words.proofs.words.number.Goals as goal
 
 pub returns-in-Some-clause-read : goal.returns-in-Some-clause-read
 returns-in-Some-clause-read c =
-    some_number (λ bs r. ParsesUnsigned 32 10 bs r × ExplainsUnsignedError 10 bs r × HasUnsignedDigitsIfOk bs r) (λ t x g. g.0) (found_of c.args.matches.now) c.args.name.now c.in-Some.number c.in-Some.ensures.none c.in-Some.ensures.value
+    some_number (found_of c.args.matches.now) c.args.name.now c.in-Some.number c.in-Some.ensures.none c.in-Some.ensures.value
 
 pub returns-in_default-clause-refused : goal.returns-in_default-clause-refused
 returns-in_default-clause-refused c = (
   refl,
   λ n has range.
-      let same = same_number (λ bs r. ParsesUnsigned 32 10 bs r × ExplainsUnsignedError 10 bs r × HasUnsignedDigitsIfOk bs r) (λ t x g. g.0) (found_of c.args.matches.now) c.args.name.now c.in-Some.number n c.in-Some.ensures.value has in
+      let same = same_number (found_of c.args.matches.now) c.args.name.now c.in-Some.number n c.in-Some.ensures.value has in
       absurd (omega (arith, same, range, c.if-number-most.false)),
 )
 
@@ -22,7 +21,7 @@ pub returns-in_default-2-clause-refused : goal.returns-in_default-2-clause-refus
 returns-in_default-2-clause-refused c = (
   refl,
   λ n has range.
-      let same = same_number (λ bs r. ParsesUnsigned 32 10 bs r × ExplainsUnsignedError 10 bs r × HasUnsignedDigitsIfOk bs r) (λ t x g. g.0) (found_of c.args.matches.now) c.args.name.now c.in-Some.number n c.in-Some.ensures.value has in
+      let same = same_number (found_of c.args.matches.now) c.args.name.now c.in-Some.number n c.in-Some.ensures.value has in
       absurd (omega (arith, same, range, c.if-least-number.false)),
 )
 
@@ -30,5 +29,5 @@ pub returns-in_default-3-clause-refused : goal.returns-in_default-3-clause-refus
 returns-in_default-3-clause-refused c = (
   refl,
   λ n has range.
-      no_number (λ bs r. ParsesUnsigned 32 10 bs r × ExplainsUnsignedError 10 bs r × HasUnsignedDigitsIfOk bs r) (λ t x g. g.0) (found_of c.args.matches.now) c.args.name.now n c.in_default.ensures.value has (omega (arith, range, c.ranges.most.fits)),
+      no_number (found_of c.args.matches.now) c.args.name.now n c.in_default.ensures.value has (omega (arith, range, c.ranges.most.fits)),
 )

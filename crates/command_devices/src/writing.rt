@@ -1,8 +1,8 @@
 //! Bytes written whole to a sink.
 
 ghost use Rattle.std.specs.Prelude.{◌≡◌, ◌≤◌, length, OnOk, IfErr};
-ghost use Rattle.ccsds_command.specs.Devices.{Took};
-ghost use Rattle.ccsds_command.specs.Writing.{IsCutShort};
+ghost use Rattle.command_devices.specs.Devices.{Took};
+ghost use Rattle.command_devices.specs.Writing.{IsCutShort};
 
 use crate::sink::Sink;
 use cube_core::fault::Fault;
@@ -10,7 +10,7 @@ use cube_core::fault::Fault;
 /// Writes all bytes to the sink.
 ///
 /// `Write` with the number of bytes that went out, where the sink failed or took nothing of a piece.
-pub(crate) fn write_all<K: Sink>(sink: &mut K, bytes: &[u8]) -> Result<(), Fault>
+pub fn write_all<K: Sink>(sink: &mut K, bytes: &[u8]) -> Result<(), Fault>
     ensures whole { OnOk result (Took (K.taken sink.old) (K.taken sink.new) bytes.now) }
     ensures cut { IfErr result (IsCutShort (K.taken sink.old) (K.taken sink.new) (K.failures sink.old) (K.failures sink.new) (K.stalls sink.old) (K.stalls sink.new) bytes.now) }
 {

@@ -2,7 +2,7 @@
 use Rattle.std.specs.Prelude.{◌≡◌, ◌⊎◌, ℕ, ◌+◌, ◌^◌, List, Option}
 use Rattle.cube_core.specs.declared.fault.Fault.{Fault}
 use Rattle.cube_core.specs.declared.fault.Fault.TheVariants.{WantOfMemory, Read}
-use Rattle.ccsds_command.specs.Devices.{Rose, IsLonger}
+use Rattle.command_devices.specs.Devices.{Rose, IsLonger}
 
 -- no more is read than 2^40 bytes and one
 abbrev pub file_limit : ℕ

@@ -1,9 +1,9 @@
 use Rattle.std.proofs.Common.{◌+◌, ◌-◌, ◌≤◌, ℕ, List, Option, Result, Ok, Err, IfOk, take, drop, length, sym, subst}
 use borrow.Rule.Slice.PartMut.{put_mid}
-use Rattle.ccsds_command.specs.declared.source.Failed.{Failed}
-use Rattle.ccsds_command.specs.Devices.{Gave}
-use Rattle.ccsds_command.proofs.Devices.{part_written}
-use Rattle.ccsds_command.proofs.reading.read_behind.Goals as goal
+use Rattle.command_devices.specs.declared.source.Failed.{Failed}
+use Rattle.command_devices.specs.Devices.{Gave}
+use Rattle.command_devices.proofs.Devices.{part_written}
+use Rattle.command_devices.proofs.reading.read_behind.Goals as goal
 
 given_behind : (r : Result ℕ Failed) (old new : Option (List ℕ)) (had k : ℕ) (bytes piece : List ℕ) → had ≤ length bytes → IfOk r (λ n. n ≤ length piece) → IfOk r (λ n. Gave old new (take n piece)) → IfOk r (λ n. Gave old new (drop had (take (had + n) (put_mid had k bytes piece))))
 given_behind (Ok n) old new had k bytes piece h le given = subst (λ (x : List ℕ). Gave old new x) (sym (part_written had k n bytes piece h le)) given

@@ -1,7 +1,7 @@
 //! Where a command's output goes.
 
 ghost use Rattle.std.specs.Prelude.{◌≡◌, ◌<◌, ◌≤◌, ℕ, List, [], Option, Ok, length, take, IfOk, OnErr};
-ghost use Rattle.ccsds_command.specs.Devices.{Took, Rises, CountsStall};
+ghost use Rattle.command_devices.specs.Devices.{Took, Rises, CountsStall};
 
 use crate::source::Failed;
 

@@ -1,9 +1,9 @@
 use Rattle.std.proofs.Common.{◌≡◌, ◌+◌, ◌++◌, ◌∙◌, ℕ, List, take, drop, arith, ap, refl}
 use Rattle.std.proofs.lemmas.List.{with_items_is}
 use Rattle.std.specs.Vec.{with_items}
-use Rattle.ccsds_command.proofs.Devices.{gave_more, read_more, front_kept}
-use Rattle.ccsds_command.proofs.reading.read_up_to.Goals as goal
-use Rattle.ccsds_command.proofs.reading.read_up_to.Goals.{then-had-len+in_ok-grow, else-had-len}
+use Rattle.command_devices.proofs.Devices.{gave_more, read_more, front_kept}
+use Rattle.command_devices.proofs.reading.read_up_to.Goals as goal
+use Rattle.command_devices.proofs.reading.read_up_to.Goals.{then-had-len+in_ok-grow, else-had-len}
 
 pub loop-had-preserved : goal.loop-had-preserved
 loop-had-preserved g c =

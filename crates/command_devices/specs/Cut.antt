@@ -1,6 +1,6 @@
 -- What is known of devices over memory that go piece by piece and may fail once.
 use Rattle.std.specs.Prelude.{◌≡◌, ◌+◌, ◌<◌, ℕ, List, [], length, min, Option}
-use Rattle.ccsds_command.specs.Devices.{Rises}
+use Rattle.command_devices.specs.Devices.{Rises}
 
 -- a source: the bytes that are left, how many a call gives at most, the call that fails, and how many were made and failed
 pub record Giving : Type 0 where

@@ -2,8 +2,8 @@
 
 ghost use Rattle.std.specs.Prelude.{◌≡◌, ◌≢◌, ◌⊎◌, ◌<◌, ◌≤◌, [], Ok, Some, length, take, min, IfOk, IfErr, OnOk, OnErr};
 ghost use Rattle.cube_core.specs.declared.fault.Fault.TheVariants.{WantOfMemory};
-ghost use Rattle.ccsds_command.specs.Cut.{Giving, Taking, new_giving, new_taking, CountsGiving, CountsTaking, IsFull};
-ghost use Rattle.ccsds_command.specs.Devices.{Gave, IsEnd, Took, Rises, CountsStall};
+ghost use Rattle.command_devices.specs.Cut.{Giving, Taking, new_giving, new_taking, CountsGiving, CountsTaking, IsFull};
+ghost use Rattle.command_devices.specs.Devices.{Gave, IsEnd, Took, Rises, CountsStall};
 
 use crate::sink::Sink;
 use crate::source::{Failed, Source};
@@ -93,7 +93,7 @@ pub struct CutSink {
 
 impl Model for CutSink {
     ghost use Rattle.std.specs.Prelude.{◌<◌, ◌≤◌, vec_len, vec_capacity};
-    ghost use Rattle.ccsds_command.specs.Cut.{Taking};
+    ghost use Rattle.command_devices.specs.Cut.{Taking};
 
     ghost Value = { Taking };
 

@@ -1,7 +1,7 @@
 use Rattle.std.proofs.Common.{◌≡◌, ◌≤◌, ◌∙◌, ℕ, List, take, drop, take-add, length, inl, inr, refl, ap, arith, append-nil, length-drop, []}
-use Rattle.ccsds_command.proofs.Devices.{took_more, rises_is_rose, no_stall, stall_rises, rest_is}
-use Rattle.ccsds_command.proofs.writing.write_all.Goals as goal
-use Rattle.ccsds_command.proofs.writing.write_all.Goals.{In-Ok}
+use Rattle.command_devices.proofs.Devices.{took_more, rises_is_rose, no_stall, stall_rises, rest_is}
+use Rattle.command_devices.proofs.writing.write_all.Goals as goal
+use Rattle.command_devices.proofs.writing.write_all.Goals.{In-Ok}
 
 pub loop-written-preserved : goal.loop-written-preserved
 loop-written-preserved g c =

@@ -1,7 +1,7 @@
 //! Where a command's input comes from.
 
 ghost use Rattle.std.specs.Prelude.{◌≡◌, ◌<◌, ◌≤◌, ℕ, List, [], Option, Ok, length, take, IfOk, OnErr};
-ghost use Rattle.ccsds_command.specs.Devices.{Gave, IsEnd, Rises};
+ghost use Rattle.command_devices.specs.Devices.{Gave, IsEnd, Rises};
 
 /// A device failed. It says nothing more.
 #[derive(Clone, Copy, Debug, PartialEq, Eq)]

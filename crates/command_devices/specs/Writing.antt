@@ -2,7 +2,7 @@
 use Rattle.std.specs.Prelude.{◌≡◌, ◌⊎◌, ℕ, ◌<◌, List, length, take, Option}
 use Rattle.cube_core.specs.declared.fault.Fault.{Fault}
 use Rattle.cube_core.specs.declared.fault.Fault.TheVariants.{Write}
-use Rattle.ccsds_command.specs.Devices.{Took, Rose}
+use Rattle.command_devices.specs.Devices.{Took, Rose}
 
 -- the sink gained the first bytes, as many as the refusal says, and failed or stalled then
 abbrev pub IsCutShort : Option (List ℕ) → Option (List ℕ) → ℕ → ℕ → ℕ → ℕ → List ℕ → Fault → Type 0

@@ -3,7 +3,7 @@ use Rattle.std.proofs.Common.{◌≡◌, ℕ, ◌+◌, ◌-◌, ◌<◌, ◌≤�
 use Rattle.std.proofs.lemmas.List.{take_all, take-append-le, take-append-drop, drop_at, take_at}
 use Rattle.std.proofs.Math.Seq.{take-append-add}
 use borrow.Rule.Slice.PartMut.{put_mid, post_of}
-use Rattle.ccsds_command.specs.Devices.{Gave, Took, Rises, Rose, CountsStall}
+use Rattle.command_devices.specs.Devices.{Gave, Took, Rises, Rose, CountsStall}
 
 pub took_more : (a b c : Option (List ℕ)) (x y : List ℕ) → Took a b x → Took b c y → Took a c (x ++ y)
 took_more a b c x y first second before e = second (before ++ x) (first before e) ∙ ap (λ (bytes : List ℕ). Some bytes) (append_assoc before x y)

@@ -2,7 +2,7 @@
 use Rattle.std.proofs.Common.{ℕ, List, [], ◌++◌, Option, Some, None, refl, sym, ap, ◌∙◌, append-nil}
 use Rattle.std.proofs.lemmas.Option.{none-some, same_Some}
 use Rattle.std.specs.Io.KnownBytes.{Consumes, Keeps, Appends, IsAtEnd}
-use Rattle.ccsds_command.specs.Devices.{Gave, Took, IsEnd}
+use Rattle.command_devices.specs.Devices.{Gave, Took, IsEnd}
 
 pub consumed_gave : (old new : Option (List ℕ)) (bytes : List ℕ) → Consumes old new bytes → Gave old new bytes
 consumed_gave None new bytes h before e = absurd (none-some before e)

@@ -1,6 +1,6 @@
 use Rattle.std.proofs.Common.{◌≡◌, ◌≤◌, ◌-◌, vec_len, take}
-use Rattle.ccsds_command.specs.Devices.{Gave}
-use Rattle.ccsds_command.proofs.reading.read_up_to.Given as goal
+use Rattle.command_devices.specs.Devices.{Gave}
+use Rattle.command_devices.proofs.reading.read_up_to.Given as goal
 
 abbrev pub invariant-loop-had : goal.invariant-loop-had
 invariant-loop-had g l = record {

@@ -2,8 +2,8 @@
 
 ghost use Rattle.std.specs.Prelude.{◌≡◌, ◌⊎◌, ◌+◌, ◌<◌, ◌≤◌, ◌^◌, Ok, [], length, take, drop, IfOk, IfErr, OnOk, OnErr};
 ghost use Rattle.cube_core.specs.declared.fault.Fault.TheVariants.{Read, WantOfMemory};
-ghost use Rattle.ccsds_command.specs.Devices.{Gave, GaveWithin, IsFront, IsAll, IsEnd, Rises, Rose};
-ghost use Rattle.ccsds_command.specs.Reading.{IsReadRefusal, file_limit};
+ghost use Rattle.command_devices.specs.Devices.{Gave, GaveWithin, IsFront, IsAll, IsEnd, Rises, Rose};
+ghost use Rattle.command_devices.specs.Reading.{IsReadRefusal, file_limit};
 
 use crate::source::{Failed, Source};
 use cube_core::fault::Fault;
@@ -18,7 +18,7 @@ const FILE_LIMIT: u64 = 1 << 40;
 /// Reads a file to the source's end: at most 2^40 bytes.
 ///
 /// `Read` where the source failed, or gave a byte more.
-pub(crate) fn read_file<S: Source>(alloc: Global, source: &mut S) -> Result<Vec<u8>, Fault>
+pub fn read_file<S: Source>(alloc: Global, source: &mut S) -> Result<Vec<u8>, Fault>
     ensures all { IfOk result (λ bytes. IsAll (S.left source.old) bytes.items) }
     ensures limited { IfOk result (λ bytes. length bytes.items ≤ 2 ^ 40) }
     ensures refused { IfErr result (IsReadRefusal (S.left source.old) (S.failures source.old) (S.failures source.new)) }
@@ -35,11 +35,7 @@ pub(crate) fn read_file<S: Source>(alloc: Global, source: &mut S) -> Result<Vec<
 ///
 /// The memory grows with what came, and is never asked for what was announced. `Read` where the
 /// source failed.
-pub(crate) fn read_up_to<S: Source>(
-    alloc: Global,
-    source: &mut S,
-    limit: u64,
-) -> Result<Vec<u8>, Fault>
+pub fn read_up_to<S: Source>(alloc: Global, source: &mut S, limit: u64) -> Result<Vec<u8>, Fault>
     ensures given { IfOk result (λ bytes. Gave (S.left source.old) (S.left source.new) bytes.items) }
     ensures front { IfOk result (λ bytes. IsFront limit (S.left source.old) bytes.items) }
     ensures limited { IfOk result (λ bytes. length bytes.items ≤ limit) }

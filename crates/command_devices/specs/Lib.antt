@@ -1,0 +1,4 @@
+pub mod Cut
+pub mod Devices
+pub mod Reading
+pub mod Writing

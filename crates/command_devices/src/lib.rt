@@ -1,0 +1,9 @@
+//! What a command reads from and writes to, and bytes read and written whole.
+#![tactic(auto)]
+
+pub mod cut;
+pub mod reading;
+pub mod sink;
+pub mod source;
+pub mod stream;
+pub mod writing;

@@ -1,0 +1,45 @@
+//! Bytes read and written whole, piece by piece.
+
+use command_devices::cut::{CutSink, CutSource};
+use command_devices::reading::{read_file, read_up_to};
+use command_devices::writing::write_all;
+use cube_core::fault::Fault;
+use std::test::Fail;
+
+const BYTES: [u8; 5] = [10, 20, 30, 40, 50];
+
+#[test]
+fn a_source_is_read_to_its_end_or_a_limit(rt: HostRuntime) -> Result<(), Fail> {
+    for piece in [1, 2, 5, 100] {
+        let all = read_file(rt.alloc(), &mut CutSource::new(&BYTES, piece, None))?;
+        assert_eq!(rt; all.as_slice(), BYTES.as_slice());
+        for limit in 0..7 {
+            let mut source = CutSource::new(&BYTES, piece, None);
+            let front = read_up_to(rt.alloc(), &mut source, limit)?;
+            let most = BYTES.len().min(limit as usize);
+            assert_eq!(rt; Some(front.as_slice()), BYTES.get(..most));
+        }
+    }
+    Ok(())
+}
+
+#[test]
+fn a_source_that_fails_is_read(rt: HostRuntime) {
+    for call in 0..6 {
+        let mut source = CutSource::new(&BYTES, 1, Some(call));
+        let answer = read_file(rt.alloc(), &mut source);
+        assert_eq!(rt; answer.err(), Some(Fault::Read));
+    }
+}
+
+#[test]
+fn what_a_sink_took_is_told(rt: HostRuntime) -> Result<(), Fail> {
+    let mut whole = CutSink::new(rt.alloc(), 5, 2, None)?;
+    assert_eq!(rt; write_all(&mut whole, &BYTES), Ok(()));
+    assert_eq!(rt; whole.taken(), BYTES.as_slice());
+    let mut small = CutSink::new(rt.alloc(), 3, 2, None)?;
+    let answer = write_all(&mut small, &BYTES);
+    assert_eq!(rt; answer, Err(Fault::Write { written: 2 }));
+    assert_eq!(rt; Some(small.taken()), BYTES.get(..2));
+    Ok(())
+}
