@@ -116,7 +116,7 @@ blocks_put z t number old new written now puts kept p numbers bits h next =
     let did = puts numbers bits h.taken in
     (did.0, did.1, record { coder = h.coder; cut = kept ∙ h.cut; taken = did.2 })
 
-block_body_is : (p : Params) (c : Cut) (numbers : List ℕ) → IsBlock p.coder → c ≡ cut_by p → chosen_block_body c.set c.size c.reference numbers ≡ body_of p numbers
+pub block_body_is : (p : Params) (c : Cut) (numbers : List ℕ) → IsBlock p.coder → c ≡ cut_by p → chosen_block_body c.set c.size c.reference numbers ≡ body_of p numbers
 unfolding body_of
 block_body_is p c numbers coder e = rw e (by_coder p.coder coder)
   where

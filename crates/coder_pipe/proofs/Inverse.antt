@@ -61,7 +61,7 @@ map_take_same f g (suc i) [] h = refl
 map_take_same f g (suc i) (p ∷ ps) h =
     ap (λ (n : ℕ). n ∷ map f (take i ps)) (h 0 p (omega arith) refl) ∙ ap (λ (ns : List ℕ). g p ∷ ns) (map_take_same f g i ps (λ j r lt e. h (suc j) r (omega (arith, lt)) e))
 
-residuals_kept : (p : Params) (c : Image) (q : Place) (v : ℤ) (left : List Place) → IsLawful here p → c.shape ≡ p.shape → StandsAt p.shape p.order q (gone_count p left) → residuals_at p c (gone_by p left) ≡ residuals_at p (put c q.z q.y q.x v) (gone_by p left)
+pub residuals_kept : (p : Params) (c : Image) (q : Place) (v : ℤ) (left : List Place) → IsLawful here p → c.shape ≡ p.shape → StandsAt p.shape p.order q (gone_count p left) → residuals_at p c (gone_by p left) ≡ residuals_at p (put c q.z q.y q.x v) (gone_by p left)
 residuals_kept p c q v left lawful shape stands =
     map_take_same (λ r. mapped_residual p c r.z (r.y * c.shape.columns + r.x)) (λ r. mapped_residual p (put c q.z q.y q.x v) r.z (r.y * c.shape.columns + r.x)) (gone_count p left) (places p.shape p.order)
     (λ j r lt e.

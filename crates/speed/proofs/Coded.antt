@@ -5,22 +5,19 @@ use Rattle.cube_core.specs.declared.fault.Fault.{Fault}
 use Rattle.cube_core.specs.declared.order.Place.{Place}
 use Rattle.cube_core.specs.Shape.{sample_count}
 use Rattle.header_bits.specs.declared.params.Params.{Params}
-use Rattle.header_bits.specs.declared.params.Coder.{Coder}
-use Rattle.header_bits.specs.declared.params.Coder.TheVariants.{Sample, Block}
 use Rattle.sample_adaptive.specs.Settings.{settings}
 use Rattle.sample_adaptive.specs.Body.{sample_body, words_after, band_numbers}
 use Rattle.sample_adaptive.specs.Taken.{Counts, HasTaken, PutsNumber}
 use Rattle.sample_adaptive.specs.Words.{code_word, code_at}
 use Rattle.sample_adaptive.proofs.Bodies.{body_push}
 use Rattle.sample_adaptive.proofs.Taking.{taken_along}
-use Rattle.block_adaptive.specs.Settings.{AreForBlocks, IsBlock, cut_by, coder_cut}
-use Rattle.block_adaptive.specs.Chosen.{chosen_block_body}
-use Rattle.block_adaptive.specs.Texts.{Cut}
+use Rattle.block_adaptive.specs.Settings.{AreForBlocks, cut_by}
 use Rattle.block_adaptive.specs.Segments.{block_count}
 use Rattle.block_adaptive.specs.Taken.{Packed, EndsBody, HasTaken as HaveTaken}
 use Rattle.block_adaptive.proofs.Calls.{cut_count}
 use Rattle.header_bits.specs.Bits.{bits_of_bytes}
-use Rattle.coder_pipe.specs.File.{body_of, body_by, filled}
+use Rattle.coder_pipe.specs.File.{body_of, filled}
+use Rattle.coder_pipe.proofs.Coders.{block_body_is}
 use Rattle.speed.specs.Bodies.{AreOfTwelveBits, first_place, one_band_body}
 
 -- the numbers by band: all are of the first
@@ -63,14 +60,6 @@ coded_more p old new t number numbers bits now known puts is =
     }
 
 -- ---- by blocks
-
-pub block_body_is : (p : Params) (c : Cut) (numbers : List ℕ) → IsBlock p.coder → c ≡ cut_by p → chosen_block_body c.set c.size c.reference numbers ≡ body_of p numbers
-unfolding body_of
-block_body_is p c numbers coder e = rw e (by_coder p.coder coder)
-  where
-    by_coder : (coder : Coder) → IsBlock coder → chosen_block_body (coder_cut p.kind.bits (sample_count p.shape) coder).set (coder_cut p.kind.bits (sample_count p.shape) coder).size (coder_cut p.kind.bits (sample_count p.shape) coder).reference numbers ≡ body_by coder p numbers
-    by_coder (Block size restricted reference) s = refl
-    by_coder (Sample umax gamma_star gamma_zero start) s = absurd s
 
 -- all numbers were taken, and the body is ended
 pub blocks_ended : (p : Params) (v : Packed) (numbers : List ℕ) (bits now : List Bool) → AreForBlocks p → v.cut ≡ cut_by p → length numbers ≡ sample_count p.shape → HaveTaken v numbers bits → EndsBody v bits now → now ≡ body_of p numbers

@@ -1,12 +1,11 @@
 -- The walk along the encoding order, there and back: numbers that are the residuals of the places gone by.
-use Rattle.std.proofs.Common.{◌≡◌, ◌+◌, ◌*◌, ◌<◌, ◌≤◌, ℕ, suc, zero, ℤ, false, List, [], ◌∷◌, ◌++◌, length, map, take, get_or, set, Some, refl, sym, ap, ◌∙◌, subst, arith}
+use Rattle.std.proofs.Common.{◌≡◌, ◌+◌, ◌*◌, ◌<◌, ℕ, suc, zero, ℤ, List, [], ◌∷◌, ◌++◌, length, take, get_or, set, Some, refl, sym, ap, ◌∙◌, subst, arith}
 use Rattle.std.proofs.lemmas.List.{take_more, take_more_set, take_all}
 use Rattle.std.specs.List.{slice_get, slice_index}
 use Rattle.cube_core.specs.declared.order.Place.{Place}
 use Rattle.cube_core.specs.Shape.{Sizes, sample_count}
 use Rattle.cube_core.specs.Image.{Image, put}
-use Rattle.cube_core.specs.Order.{IsOrder, IsPlaceOf, places, place_index}
-use Rattle.cube_core.proofs.Keys.{order_is_by_key, index_of_item}
+use Rattle.cube_core.specs.Order.{IsOrder, places}
 use Rattle.cube_core.proofs.Orders.{StandsAt, length-places}
 use Rattle.header_bits.specs.declared.params.Params.{Params}
 use Rattle.header_bits.specs.Reach.{here}
@@ -14,7 +13,7 @@ use Rattle.header_bits.specs.Lawful.{IsLawful}
 use Rattle.predict_core.specs.Following.{Learner}
 use Rattle.predict_core.specs.Residual.{mapped_residual, residuals}
 use Rattle.coder_pipe.specs.Walked.{residuals_at}
-use Rattle.coder_pipe.proofs.Alike.{put_residual}
+use Rattle.coder_pipe.proofs.Inverse.{residuals_kept}
 use Rattle.coder_pipe.proofs.Walking.{IsOnWalk, next_goes, band_here, gone_by, gone_count, residuals_push, residuals_whole}
 
 -- the first i numbers are the residuals of the places gone by
@@ -59,26 +58,6 @@ below_more n (y ∷ ys) (suc i) x some all lt zero h = all zero (omega arith)
 below_more n (y ∷ ys) (suc i) x some all lt (suc k) h = below_more n ys i x (omega (arith, some)) (λ j g. all (suc j) (omega (arith, g))) lt k (omega (arith, h))
 
 -- ---- back: the sample of the next residual is put
-
-map_take_same : (f g : Place → ℕ) (i : ℕ) (ps : List Place) → ((j : ℕ) (r : Place) → j < i → slice_get ps j ≡ Some r → f r ≡ g r) → map f (take i ps) ≡ map g (take i ps)
-map_take_same f g zero ps h = refl
-map_take_same f g (suc i) [] h = refl
-map_take_same f g (suc i) (p ∷ ps) h =
-    ap (λ (n : ℕ). n ∷ map f (take i ps)) (h 0 p (omega arith) refl) ∙ ap (λ (ns : List ℕ). g p ∷ ns) (map_take_same f g i ps (λ j r lt e. h (suc j) r (omega (arith, lt)) e))
-
-wide_of : (p : Params) (c : Image) → IsLawful here p → c.shape ≡ p.shape → p.column ≡ false → 2 ≤ c.shape.columns
-wide_of p c lawful shape h = omega (arith, lawful.sums h, ap (λ (s : Sizes). s.columns) shape)
-
--- the residuals of the places gone by stay
-residuals_kept : (p : Params) (c : Image) (q : Place) (v : ℤ) (left : List Place) → IsLawful here p → c.shape ≡ p.shape → StandsAt p.shape p.order q (gone_count p left) → residuals_at p c (gone_by p left) ≡ residuals_at p (put c q.z q.y q.x v) (gone_by p left)
-residuals_kept p c q v left lawful shape stands =
-    map_take_same (λ r. mapped_residual p c r.z (r.y * c.shape.columns + r.x)) (λ r. mapped_residual p (put c q.z q.y q.x v) r.z (r.y * c.shape.columns + r.x)) (gone_count p left) (places p.shape p.order)
-    (λ j r lt e.
-    let order : IsOrder c.shape p.order = subst (λ (s : Sizes). IsOrder s p.order) (sym shape) lawful.order in
-    let there : StandsAt c.shape p.order q (gone_count p left) = subst (λ (s : Sizes). StandsAt s p.order q (gone_count p left)) (sym shape) stands in
-    let place : IsPlaceOf c.shape r = subst (λ (s : Sizes). IsPlaceOf s r) (sym shape) ((order_is_by_key p.shape p.order lawful.order).only j r e) in
-    let index : place_index c.shape p.order r ≡ j = ap (λ (s : Sizes). place_index s p.order r) shape ∙ index_of_item p.shape p.order r j lawful.order e in
-    put_residual p c q r v (gone_count p left) order (wide_of p c lawful shape) there place (omega (arith, index, lt)))
 
 pub read_more : (p : Params) (c : Image) (left rest : List Place) (bands : List Learner) (q : Place) (b : Learner) (numbers : List ℕ) (i : ℕ) (v : ℤ)
     → IsLawful here p → c.shape ≡ p.shape → IsOnWalk p c left bands → left ≡ q ∷ rest → slice_get bands q.z ≡ Some b → AreResiduals p c left i numbers → i < length numbers

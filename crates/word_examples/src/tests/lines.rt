@@ -66,7 +66,9 @@ zip
 Show
 sho
 show now
+show --
 show --bytes 1
+inspect --
 inspect file
 inspect --help
 show show
