@@ -17,7 +17,7 @@ const FILE_LIMIT: u64 = 1 << 40;
 
 /// Reads a file to the source's end: at most 2^40 bytes.
 ///
-/// `Read` where the source failed, or gave a byte more.
+/// `Read` where the source failed, or gave a byte more; `WantOfMemory`. What had come by then is dropped.
 pub fn read_file<S: Source>(alloc: Global, source: &mut S) -> Result<Vec<u8>, Fault>
     ensures all { IfOk result (λ bytes. IsAll (S.left source.old) bytes.items) }
     ensures limited { IfOk result (λ bytes. length bytes.items ≤ 2 ^ 40) }
@@ -34,7 +34,7 @@ pub fn read_file<S: Source>(alloc: Global, source: &mut S) -> Result<Vec<u8>, Fa
 /// Reads to the source's end, and no more than `limit` bytes.
 ///
 /// The memory grows with what came, and is never asked for what was announced. `Read` where the
-/// source failed.
+/// source failed; `WantOfMemory`. What had come by then is dropped.
 pub fn read_up_to<S: Source>(alloc: Global, source: &mut S, limit: u64) -> Result<Vec<u8>, Fault>
     ensures given { IfOk result (λ bytes. Gave (S.left source.old) (S.left source.new) bytes.items) }
     ensures front { IfOk result (λ bytes. IsFront limit (S.left source.old) bytes.items) }
