@@ -1,7 +1,5 @@
-use Rattle.std.proofs.Common.{◌≡◌, ℕ, List, Result, refl, arith, subst, sym}
+use Rattle.std.proofs.Common.{refl, arith}
 use Rattle.clap.specs.Matches.{found_of}
-use Rattle.clap.specs.Walk.{rows_of}
-use Rattle.command_words.specs.Reading.{HasNumber}
 use Rattle.command_words.proofs.Numbers.{some_number, same_number, no_number}
 use Rattle.command_words.proofs.words.number.Goals as goal
 
