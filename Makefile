@@ -1,8 +1,19 @@
-.PHONY: show test bench
+PREFIX ?= /usr/local
+PROGRAM = crates/ccsds/out/ccsds
 
-# Builds the program and shows the sample cube's file in hexadecimal.
-show:
-	cd crates/ccsds && rt run -- show < ../../samples/small.cube
+.PHONY: all show install test interop bench beside plain
+
+# Proves and builds the program and its libraries, as many side by side as there are processors.
+all:
+	@tools/build.py ccsds
+
+# Builds the program, and shows the sample cube's file in hexadecimal.
+show: all
+	@$(PROGRAM) show < samples/small.cube
+
+# Puts the program into PREFIX/bin.
+install: all
+	install -D $(PROGRAM) $(DESTDIR)$(PREFIX)/bin/ccsds
 
 # Proves every crate from nothing, tries the must-fail edits, and runs the tests and the program; then tries the
 # program that was proved on files and devices.
@@ -10,8 +21,18 @@ test:
 	rt ci
 	tests/command.sh
 
+# Sets our block-adaptive bodies beside those of libaec's program `aec`, both ways.
+interop: all plain
+	tests/interop.py
+
 # Measures the benchmark program beside plain Rust, and prints a table.
-bench:
-	cd crates/speed && rt run > /dev/null
-	cd bench && cargo build --release
+bench: plain
+	@tools/build.py speed
 	bench/compare
+
+# Sets the program beside common compressors, on a scene that looks like an imaging spectrometer's.
+beside: all plain
+	bench/beside
+
+plain:
+	@cd bench && cargo build --release --quiet
