@@ -1,4 +1,11 @@
-//! The loops of the benchmark program `speed` in plain Rust, over the same data and with the same checksums.
+//! The loops of the benchmark program `speed` in plain Rust, over the same data and with the same checksums, and
+//! scenes for other programs to code.
+//!
+//!     plain                                          the checksum of each loop, over a small cube
+//!     plain SUBJECT                                  a line for each loop of a subject, timed
+//!     plain raw                                      the raw bytes of the cube that is measured
+//!     plain scene SEED COLUMNS ROWS BANDS BITS       raw bytes that look like an imaging spectrometer's
+//!     plain small BITS, plain residuals BITS         a small scene, and its mapped residuals
 
 mod bits;
 mod block_coder;
@@ -7,15 +14,18 @@ mod files;
 mod predictor;
 mod report;
 mod sample_coder;
+mod scene;
 mod synthetic;
 
-use report::Report;
+use report::{Report, Shape};
 
 /// How often each subject's loops are measured.
 const ROUNDS: usize = 5;
 
 fn main() {
-    match std::env::args().nth(1) {
+    let words: Vec<String> = std::env::args().skip(1).collect();
+    let number = |i: usize| words[i].parse::<u64>().expect("a number");
+    match words.first().map(String::as_str) {
         None => {
             let report = Report { timed: false };
             cube::measure(&report);
@@ -24,10 +34,21 @@ fn main() {
             block_coder::measure(&report);
             files::measure(&report);
         }
-        Some(subject) if subject == "raw" => predictor::print_raw(),
+        Some("raw") => predictor::print_raw(),
+        Some("scene") => {
+            let [columns, rows, bands] = [2, 3, 4].map(|i| number(i) as usize);
+            let shape = Shape {
+                columns,
+                rows,
+                bands,
+            };
+            scene::print_scene(number(1), shape, number(5) as u32);
+        }
+        Some("small") => scene::print_small(number(1) as u32),
+        Some("residuals") => scene::print_residuals(number(1) as u32),
         Some(subject) => {
             for _ in 0..ROUNDS {
-                measure(&subject);
+                measure(subject);
             }
         }
     }

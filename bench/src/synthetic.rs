@@ -7,8 +7,13 @@ pub struct Generator {
 
 impl Generator {
     pub fn new() -> Generator {
+        Generator::seeded(0)
+    }
+
+    /// A generator for each seed.
+    pub fn seeded(seed: u64) -> Generator {
         Generator {
-            state: 0x9E37_79B9_7F4A_7C15,
+            state: 0x9E37_79B9_7F4A_7C15 ^ seed,
         }
     }
 
