@@ -1,12 +1,10 @@
 //! The program `ccsds`: the commands over files and the standard streams.
 #![tactic(auto)]
 
-ghost use Rattle.std.specs.Prelude.{◌≡◌, ◌⊎◌, IfOk, IfErr, map, string_bytes};
-ghost use Rattle.cube_core.specs.declared.fault.Fault.TheVariants.{Usage, WantOfMemory};
+ghost use Rattle.std.specs.Prelude.{◌≡◌, ◌⊎◌};
+ghost use Rattle.cube_core.specs.declared.fault.Fault.TheVariants.{WantOfMemory};
 ghost use Rattle.std.specs.Process.{exit_status};
 ghost use Rattle.ccsds_command.specs.Status.{status};
-ghost use Rattle.command_words.specs.Settings.{AreInRange};
-ghost use Rattle.command_words.specs.Words.{texts, Ask, AskForNone};
 
 use ccsds_command::compress::run_compress;
 use ccsds_command::expand::run_expand;
@@ -15,9 +13,8 @@ use ccsds_command::report::{fault_line, status_of};
 use ccsds_command::show::run_show;
 use command_devices::stream::{ReaderSource, WriterSink};
 use command_settings::settings::Settings;
-use command_words::words::settings;
+use command_words::command_line::settings_of;
 use cube_core::fault::Fault;
-use std::alloc::{AllocError, Global};
 use std::fs::File;
 use std::io::Write;
 use std::process::ExitCode;
@@ -35,7 +32,7 @@ fn run(rt: &HostRuntime) -> Result<(), Fault> {
     let alloc = rt.alloc();
     let mut input = ReaderSource::new(rt.stdin());
     let mut output = WriterSink::new(io::writer(rt));
-    match asked(alloc, &words(rt)?)? {
+    match settings_of(alloc, &words(rt)?)? {
         Settings::Show => run_show(alloc, &mut input, &mut output),
         Settings::Compress(settings, from, to) => {
             let (mut source, mut sink) = opened(rt, from.as_str(), to.as_str())?;
@@ -47,26 +44,6 @@ fn run(rt: &HostRuntime) -> Result<(), Fault> {
         }
         Settings::Inspect => run_inspect(alloc, &mut input, &mut output),
     }
-}
-
-/// What the words behind the program's name ask for.
-fn asked(alloc: Global, words: &[String]) -> Result<Settings, Fault>
-    ensures ranges { IfOk result AreInRange }
-    ensures asked { IfOk result (Ask (map string_bytes words.now)) }
-    ensures refused { IfErr result (λ e. ((e ≡ Usage) × AskForNone (map string_bytes words.now)) ⊎ (e ≡ WantOfMemory)) }
-{
-    settings(alloc, texts_of(alloc, words)?.as_slice())
-}
-
-/// The texts of words.
-fn texts_of<'a>(alloc: Global, words: &'a [String]) -> Result<Vec<&'a str>, AllocError>
-    ensures { IfOk result (λ v. texts v.items ≡ map string_bytes words.now) }
-{
-    let mut texts = Vec::new(alloc);
-    for word in words {
-        texts.push(word.as_str())?;
-    }
-    Ok(texts)
 }
 
 /// The words behind the program's name. Words that aren't text are `Usage`.

@@ -1,6 +1,7 @@
 //! From the words of a command line to the settings of its command.
 #![tactic(auto)]
 
+pub mod command_line;
 mod options;
 pub mod words;
 pub mod worked;

@@ -1,7 +1,7 @@
 use Rattle.std.proofs.Common.{◌≡◌, ◌∙◌, ◌+◌, ◌++◌, ◌∷◌, [], ℕ, List, map, take, get_or, string_bytes, sym, ap, refl, Bor, String, Global}
 use Rattle.std.proofs.lemmas.List.{map_push, map_more, take_all}
 use Rattle.command_words.specs.Words.{texts}
-use Rattle.ccsds.proofs.texts_of.Goals as goal
+use Rattle.command_words.proofs.command_line.texts_of.Goals as goal
 
 -- one word more, on both sides
 push_word : (told : List (Bor (List ℕ))) (word : Bor (List ℕ)) (words : List (String Global)) (i : ℕ) (item : String Global)

@@ -1,6 +1,6 @@
 use Rattle.std.proofs.Common.{◌≡◌, map, take, string_bytes}
 use Rattle.command_words.specs.Words.{texts}
-use Rattle.ccsds.proofs.texts_of.Given as goal
+use Rattle.command_words.proofs.command_line.texts_of.Given as goal
 
 abbrev pub invariant-loop-word : goal.invariant-loop-word
 invariant-loop-word l = texts l.texts.items ≡ map string_bytes (take l.word-index l.words)
