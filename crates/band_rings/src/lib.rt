@@ -1,5 +1,9 @@
 //! Lanes that carry residuals from a predictor's thread to the coding thread.
 #![tactic(auto)]
 
+pub mod lane;
 pub mod laws;
+pub mod receiver;
+pub mod sender;
+pub mod settled;
 pub mod worked;
