@@ -66,3 +66,7 @@ after l (step ∷ steps) = after (stepped l step) steps
 -- what the two ends do keeps it so, in whatever order they do it
 abbrev pub ReceivedIsPrefix : Type 0
 ReceivedIsPrefix = (steps : List Step) → IsLane (after fresh steps)
+
+-- and each lane of which it is so is one that they can come to
+abbrev pub EachLaneIsReached : Type 0
+EachLaneIsReached = (l : Lane) → IsLane l → (steps : List Step) × (after fresh steps ≡ l)

@@ -1,9 +1,10 @@
-//! The end of a lane that sends, open and closed.
+//! The end of a lane that sends.
 
 ghost use Rattle.std.specs.Prelude.{◌≡◌, ◌+◌, ◌-◌, ◌^◌, ◌<◌, ◌≤◌, [], ◌∷◌, ◌++◌, length, IfErr, IsOk, IsErr, OnOk, IsTrue, IsFalse};
 ghost use Rattle.rtrb.specs.Ring.{sent, known_free, producer_capacity};
 ghost use Rattle.band_rings.specs.Ends.{name_of_producer};
 
+use crate::closed::ClosedLane;
 use rtrb::{Producer, PushError};
 use std::marker::Model;
 
@@ -27,28 +28,6 @@ impl Model for LaneSender {
     ghost view = { λ s. record { lane = name_of_producer s.producer; sent = sent s.producer; free = known_free s.producer; slots = producer_capacity s.producer } };
 
     ghost invariant = { λ s. s.count ≡ length (sent s.producer) };
-}
-
-/// An end that sends no more. It keeps the ring until the lane is settled.
-///
-/// Contracts see its lane and all that it sent.
-#[derive(Drop)]
-pub struct ClosedLane {
-    pub(crate) producer: Producer<u16>,
-    pub(crate) count: u64,
-}
-
-impl Model for ClosedLane {
-    ghost use Rattle.std.specs.Prelude.{◌≡◌, length};
-    ghost use Rattle.rtrb.specs.Ring.{sent};
-    ghost use Rattle.band_rings.specs.Lane.{Closing};
-    ghost use Rattle.band_rings.specs.Ends.{name_of_producer};
-
-    ghost Value = { Closing };
-
-    ghost view = { λ c. record { lane = name_of_producer c.producer; sent = sent c.producer } };
-
-    ghost invariant = { λ c. c.count ≡ length (sent c.producer) };
 }
 
 impl LaneSender {
@@ -118,15 +97,6 @@ impl LaneSender {
         ensures { (result.lane ≡ self.lane) × (result.sent ≡ self.sent) }
     {
         let LaneSender { producer, count } = self;
-        ClosedLane { producer, count }
-    }
-}
-
-impl ClosedLane {
-    /// How many numbers were sent.
-    pub fn sent_count(&self) -> u64
-        ensures { result ≡ length self.now.sent }
-    {
-        self.count
+        ClosedLane::new(producer, count)
     }
 }

@@ -4,8 +4,8 @@ ghost use Rattle.std.specs.Prelude.{◌≡◌, ◌-◌, [], ◌∷◌, ◌++◌,
 ghost use Rattle.rtrb.specs.Ring.{received, known_items};
 ghost use Rattle.band_rings.specs.Lane.{IsLane};
 
+use crate::closed::ClosedLane;
 use crate::receiver::LaneReceiver;
-use crate::sender::ClosedLane;
 use rtrb::Consumer;
 use std::marker::Model;
 
