@@ -147,8 +147,8 @@ fn small_params(bits: u32) -> Params {
     }
 }
 
-/// In each band rows of a slope, rows of one number, and rows of noise that gets stronger row by row: so there are
-/// long and short runs of zero blocks, every split, and blocks that are best left uncoded.
+/// In each band rows of noise that gets stronger row by row, rows of a slope, and rows of one number: so there are
+/// every split, blocks that are best left uncoded, and short and long runs of zero blocks, the last to the image's end.
 fn small_cube(bits: u32) -> Cube {
     let mut generator = Generator::seeded(u64::from(bits));
     let mut heights = Vec::with_capacity(SMALL.sample_count());
@@ -156,9 +156,9 @@ fn small_cube(bits: u32) -> Cube {
         for y in 0..SMALL.rows {
             for x in 0..SMALL.columns {
                 let height = match y {
-                    0..=7 => (3 * z + y + x / 8) as u16,
-                    8..=23 => (1_u16 << (bits - 1)) + u16::from(y == 17 && x % 31 == 0),
-                    _ => generator.number((y as u32 - 23).min(bits)),
+                    0..=15 => generator.number((y as u32 + 1).min(bits)),
+                    16..=23 => (3 * z + y + x / 8) as u16,
+                    _ => (1_u16 << (bits - 1)) + u16::from(y == 30 && x % 31 == 0),
                 };
                 heights.push(height & (u16::MAX >> (16 - bits)));
             }
