@@ -4,14 +4,14 @@
 ghost use Rattle.std.specs.Prelude.{◌≡◌, ◌⊎◌};
 ghost use Rattle.cube_core.specs.declared.fault.Fault.TheVariants.{WantOfMemory};
 ghost use Rattle.std.specs.Process.{exit_status};
-ghost use Rattle.ccsds_command.specs.Status.{status};
+ghost use Rattle.command_reports.specs.Status.{status};
 
 use ccsds_command::compress::run_compress;
 use ccsds_command::expand::run_expand;
 use ccsds_command::inspect::run_inspect;
-use ccsds_command::report::{fault_line, status_of};
 use ccsds_command::show::run_show;
 use command_devices::stream::{ReaderSource, WriterSink};
+use command_reports::report::{fault_line, status_of};
 use command_settings::settings::Settings;
 use command_words::command_line::settings_of;
 use cube_core::fault::Fault;

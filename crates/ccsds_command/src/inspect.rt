@@ -7,11 +7,11 @@ ghost use Rattle.command_devices.specs.Reading.{file_limit};
 ghost use Rattle.ccsds_command.specs.Inspect.{HasHeader, HasLines, Inspects, IsInspectFault, IsInspectRefusal};
 ghost use Rattle.command_devices.specs.Devices.{GaveWithin};
 
-use crate::lines::header_lines;
 use command_devices::reading::read_file;
 use command_devices::sink::Sink;
 use command_devices::source::Source;
 use command_devices::writing::write_all;
+use command_reports::lines::header_lines;
 use cube_core::fault::Fault;
 use header_bits::header::read_header;
 use header_bits::params::Params;

@@ -1,11 +1,7 @@
-//! The commands: engines over sources and sinks, and what the program reports.
+//! The commands: engines over sources and sinks.
 #![tactic(auto)]
 
 pub mod compress;
 pub mod expand;
-mod hexadecimal;
 pub mod inspect;
-mod lines;
-pub mod report;
 pub mod show;
-pub mod worked;

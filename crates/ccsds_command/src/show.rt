@@ -6,13 +6,13 @@ ghost use Rattle.cube_core.specs.Shape.{sample_count};
 ghost use Rattle.ccsds_command.specs.Show.{Shows, IsShown, IsTextOf, IsShowFault, IsShowRefusal, common, size_of, sizes_of, show_limit};
 ghost use Rattle.command_devices.specs.Devices.{GaveWithin};
 
-use crate::hexadecimal::hexadecimal;
 use byteorder::{BigEndian, ByteOrder};
 use coder_pipe::encode::encode_one;
 use command_devices::reading::read_up_to;
 use command_devices::sink::Sink;
 use command_devices::source::Source;
 use command_devices::writing::write_all;
+use command_reports::hexadecimal::hexadecimal;
 use cube_core::cube::Cube;
 use cube_core::fault::Fault;
 use cube_core::kind::Kind;

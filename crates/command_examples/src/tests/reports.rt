@@ -1,6 +1,6 @@
 //! What the program reports of each fault.
 
-use ccsds_command::report::{fault_line, status_of};
+use command_reports::report::{fault_line, status_of};
 use cube_core::fault::{Fault, Field, Rule};
 use std::test::Fail;
 

@@ -5,7 +5,7 @@ ghost use Rattle.std.specs.Fmt.{signed_decimal};
 ghost use Rattle.cube_core.specs.declared.fault.Fault.TheVariants.{WantOfMemory};
 ghost use Rattle.header_bits.specs.Reach.{here};
 ghost use Rattle.header_bits.specs.Lawful.{IsLawful};
-ghost use Rattle.ccsds_command.specs.Inspect.{line, choice, coder_text, order_text, start_text, constant_text, image_lines, predictor_lines, coder_lines, header_lines as lines_of};
+ghost use Rattle.command_reports.specs.Lines.{line, choice, coder_text, order_text, start_text, constant_text, image_lines, predictor_lines, coder_lines, header_lines as lines_of};
 
 use cube_core::fault::Fault;
 use cube_core::order::Order;
@@ -14,7 +14,7 @@ use std::alloc::Global;
 use std::fmt::Display;
 
 /// A line for each field of a header with these parameters and so many bytes.
-pub(crate) fn header_lines(alloc: Global, params: &Params, size: usize) -> Result<Vec<u8>, Fault>
+pub fn header_lines(alloc: Global, params: &Params, size: usize) -> Result<Vec<u8>, Fault>
     requires { IsLawful here params.now }
     ensures lines { IfOk result (λ text. text.items ≡ lines_of params.now size) }
     ensures refused { IfErr result (λ e. e ≡ WantOfMemory) }
@@ -160,7 +160,7 @@ fn constant_text(alloc: Global, start: &CountStart) -> Result<String, Fault>
 }
 
 /// Appends a line: a name, a space, a value and a newline.
-#[tactic(auto, unfolding(crate::specs::Inspect::line))]
+#[tactic(auto, unfolding(crate::specs::Lines::line))]
 fn put_line<T: Display + Drop>(
     alloc: Global,
     text: &mut String,

@@ -1,7 +1,7 @@
 use Rattle.std.proofs.Common.{refl}
 use Rattle.std.specs.Fmt.{digits}
-use Rattle.ccsds_command.specs.Everything.{everything}
-use Rattle.ccsds_command.proofs.worked.block_coder.Goals as goal
+use Rattle.command_reports.specs.Everything.{everything}
+use Rattle.command_reports.proofs.worked.block_coder.Goals as goal
 
 pub returns : goal.returns
 unfolding everything digits

@@ -1,6 +1,6 @@
 use Rattle.std.proofs.Common.{decimal, refl, append_assoc}
-use Rattle.ccsds_command.specs.Inspect.{header_lines as lines_of}
-use Rattle.ccsds_command.proofs.lines.header_lines.Goals as goal
+use Rattle.command_reports.specs.Lines.{header_lines as lines_of}
+use Rattle.command_reports.proofs.lines.header_lines.Goals as goal
 
 pub returns-clause-lines : goal.returns-clause-lines
 unfolding lines_of

@@ -1,6 +1,6 @@
 use Rattle.std.proofs.Common.{◌≡◌, ℕ, List, Some, refl, ap, append_assoc}
-use Rattle.ccsds_command.specs.Inspect.{coder_lines}
-use Rattle.ccsds_command.proofs.lines.put_coder.Goals as goal
+use Rattle.command_reports.specs.Lines.{coder_lines}
+use Rattle.command_reports.proofs.lines.put_coder.Goals as goal
 
 shown : (a b : List ℕ) → a ≡ b → Some a ≡ Some b
 shown a b e = ap (λ (t : List ℕ). Some t) e

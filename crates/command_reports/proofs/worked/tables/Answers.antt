@@ -1,7 +1,7 @@
 use Rattle.std.proofs.Common.{refl}
 use Rattle.std.specs.Fmt.{digits}
-use Rattle.ccsds_command.specs.Everything.{everything}
-use Rattle.ccsds_command.proofs.worked.tables.Goals as goal
+use Rattle.command_reports.specs.Everything.{everything}
+use Rattle.command_reports.proofs.worked.tables.Goals as goal
 
 pub returns-clause-weights : goal.returns-clause-weights
 unfolding everything digits

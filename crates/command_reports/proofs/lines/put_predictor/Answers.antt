@@ -1,8 +1,8 @@
 use Rattle.std.proofs.Common.{◌≡◌, ◌^◌, ℕ, List, Some, decimal, codes, refl, ap, append_assoc, SFits, w32, to_z-of_z, arith}
 use Rattle.std.proofs.lemmas.Int.{ints}
 use Rattle.std.specs.Fmt.{signed_decimal}
-use Rattle.ccsds_command.specs.Inspect.{choice, start_text, predictor_lines}
-use Rattle.ccsds_command.proofs.lines.put_predictor.Goals as goal
+use Rattle.command_reports.specs.Lines.{choice, start_text, predictor_lines}
+use Rattle.command_reports.proofs.lines.put_predictor.Goals as goal
 
 told : (m n : ℕ) → m ≡ n → Some (decimal m) ≡ Some (decimal n)
 told m n e = ap (λ (k : ℕ). Some (decimal k)) e

@@ -1,6 +1,6 @@
 use Rattle.std.proofs.Common.{◌≡◌, ℕ, List, Some, decimal, codes, refl, ap, append_assoc}
-use Rattle.ccsds_command.specs.Inspect.{choice, coder_text, order_text, image_lines}
-use Rattle.ccsds_command.proofs.lines.put_image.Goals as goal
+use Rattle.command_reports.specs.Lines.{choice, coder_text, order_text, image_lines}
+use Rattle.command_reports.proofs.lines.put_image.Goals as goal
 
 told : (m n : ℕ) → m ≡ n → Some (decimal m) ≡ Some (decimal n)
 told m n e = ap (λ (k : ℕ). Some (decimal k)) e

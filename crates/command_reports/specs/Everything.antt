@@ -1,5 +1,5 @@
 -- Opens each definition, for the worked examples.
-use Rattle.ccsds_command.specs.Inspect.{line, image_lines, predictor_lines, coder_lines, header_lines}
+use Rattle.command_reports.specs.Lines.{line, image_lines, predictor_lines, coder_lines, header_lines}
 
 unfoldable pub everything : Unit {0}
 unfolding line image_lines predictor_lines coder_lines header_lines

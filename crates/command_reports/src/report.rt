@@ -2,7 +2,7 @@
 
 ghost use Rattle.std.specs.Prelude.{◌≡◌, ℕ, List, [], ◌∷◌, ◌++◌, codes, IfOk, IfErr};
 ghost use Rattle.cube_core.specs.declared.fault.Fault.TheVariants.{WantOfMemory};
-ghost use Rattle.ccsds_command.specs.Status.{status};
+ghost use Rattle.command_reports.specs.Status.{status};
 
 use cube_core::fault::Fault;
 use std::alloc::Global;

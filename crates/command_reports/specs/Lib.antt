@@ -1,0 +1,3 @@
+pub mod Everything
+pub mod Lines
+pub mod Status
