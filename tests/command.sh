@@ -165,6 +165,47 @@ check 'a full device behind show' 4 $'ccsds: 19 Write 0\n' $?
 "$program" inspect < coded > /dev/full 2> stderr
 check 'a full device behind inspect' 4 $'ccsds: 19 Write 0\n' $?
 
+# ---- OUT is IN by another name: neither is touched
+
+mkdir -p folder
+for name in ./raw folder/../raw "$room/raw"; do
+    run "IN is also $name" 4 $'ccsds: 19 Write 0\n' compress $two raw "$name"
+done
+ln -s raw link
+ln raw hard
+ln -s ../raw folder/link
+for name in link hard folder/link; do
+    run "IN is also $name" 4 $'ccsds: 19 Write 0\n' compress $two raw "$name"
+    run "$name is also IN" 4 $'ccsds: 19 Write 0\n' compress $two "$name" raw
+done
+holds 'IN under other names' raw c8c8
+run 'IN that is also OUT is expanded' 4 $'ccsds: 19 Write 0\n' expand coded ./coded
+holds 'IN that is also OUT is expanded' coded "$file"
+cp raw again
+run 'OUT has the same bytes' 0 '' compress $two raw again
+holds 'OUT has the same bytes' again "$file"
+
+# ---- a body that is missing, for whatever sizes: memory isn't asked for
+
+# Runs the program in 32 MB of memory, and no more than a second.
+run_small() {
+    local name=$1 status=$2 line=$3
+    shift 3
+    (
+        ulimit -v 32768 -t 1
+        exec "$program" "$@" > stdout 2> stderr < /dev/null
+    )
+    check "$name" "$status" "$line" $?
+}
+
+for size in 0000 8000 0001; do
+    for coding in 080002a09259008226 0c0002a09259000001; do
+        header=00$size$size${size}110000$coding
+        printf "$(printf %s "$header" | sed 's/../\\x&/g')" > cut
+        run_small "no body behind $header" 2 $'ccsds: 6 Truncated 152\n' expand cut out
+    done
+done
+
 head -c 8192 /dev/zero > zeros
 run 'zeros are compressed' 0 '' compress --columns 64 --rows 64 --bands 1 --bits 12 zeros coded
 (

@@ -1,9 +1,9 @@
 -- What callers of the reader and the writer of blocks know.
-use Rattle.std.proofs.Common.{◌≡◌, ℕ, zero, suc, ◌+◌, ◌-◌, ◌*◌, ◌/◌, ◌<◌, ◌≤◌, Bool, true, false, leb, List, [], ◌∷◌, ◌++◌, length, replicate, Ok, Err, refl, sym, ap, subst, ◌∙◌, inl, inr, arith, append_assoc}
+use Rattle.std.proofs.Common.{◌≡◌, ℕ, zero, suc, ◌+◌, ◌-◌, ◌*◌, ◌/◌, ◌%◌, ◌<◌, ◌≤◌, Bool, true, false, leb, List, [], ◌∷◌, ◌++◌, length, replicate, Result, Ok, Err, IfErr, refl, sym, ap, subst, ◌∙◌, inl, inr, arith, append_assoc}
 use Rattle.std.proofs.lemmas.Bool.{cases_lt}
 use Rattle.std.proofs.lemmas.Bool.Decides.{nat_tests}
-use Rattle.std.proofs.lemmas.Nat.{mul-le}
-use Rattle.std.proofs.Math.Nat.{lt-div-mul-add}
+use Rattle.std.proofs.lemmas.Nat.{mul-le, mod-mul-add}
+use Rattle.std.proofs.Math.Nat.{lt-div-mul-add, mul-mod_left}
 use Rattle.std.proofs.lemmas.List.{append-nil, length-append, length-replicate}
 use Rattle.cube_core.specs.declared.fault.Fault.{Fault}
 use Rattle.block_adaptive.specs.declared.options.CodeSet.{CodeSet}
@@ -17,7 +17,7 @@ use Rattle.header_bits.specs.declared.params.Coder.{Coder}
 use Rattle.header_bits.specs.declared.params.Coder.TheVariants as coder
 use Rattle.block_adaptive.specs.Settings.{IsCut, AreForBlocks, cut_by, coder_cut}
 use Rattle.block_adaptive.specs.Given.{Unpacked, HasGiven, HasMore}
-use Rattle.block_adaptive.specs.Taken.{Packed, HasTaken}
+use Rattle.block_adaptive.specs.Taken.{Packed, HasTaken, EndsBlock, EndsInside}
 use Rattle.block_adaptive.specs.Prefixes.{TakenIsPrefix}
 use Rattle.block_adaptive.proofs.Again.{text_again}
 use Rattle.block_adaptive.proofs.Bodies.{blocks_enough, length-first_blocks, text_some, texts_few}
@@ -32,13 +32,34 @@ block_left size count n many all few =
       | inr ge ↦ (let p = mul-le count size many size ge (omega arith) in absurd (omega arith))
     ]
 
+taken_length : (v : Packed) (taken : List ℕ) (bits : List Bool) → (h : HasTaken v taken bits) → length taken ≡ length h.blocks * v.cut.size + length v.held
+taken_length v taken bits h = ap length h.numbers ∙ length-append (values_of h.blocks) v.held ∙ ap (λ (k : ℕ). k + length v.held) (values_length v.cut.set v.cut.size h.blocks h.whole)
+
 -- where fewer numbers were taken than there are, one more may be put
 pub room_left : (v : Packed) (taken : List ℕ) (bits : List Bool) (n : ℕ) → IsCut v.cut → v.cut.count ≡ block_count v.cut.size n → length taken < n → HasTaken v taken bits → v.start + v.zeros < v.cut.count
 room_left v taken bits n cut count few h =
-    let size : length taken ≡ length h.blocks * v.cut.size + length v.held = ap length h.numbers ∙ length-append (values_of h.blocks) v.held ∙ ap (λ (k : ℕ). k + length v.held) (values_length v.cut.set v.cut.size h.blocks h.whole) in
+    let size = taken_length v taken bits h in
     let all : n ≤ v.cut.count * v.cut.size = subst (λ (k : ℕ). n ≤ k * v.cut.size) (sym count) (blocks_enough v.cut.size n (omega (arith, size_least v.cut.size cut.size))) in
     let left = block_left v.cut.size v.cut.count n (length h.blocks) all (omega arith) in
     omega (arith, left, h.place)
+
+-- where all values but one of a block are held, the next number ends it
+pub ends_block : (v : Packed) (r : Result (Unit {0}) Fault) → length v.held + 1 ≡ v.cut.size → IfErr r (λ _. EndsBlock v)
+ends_block v (Ok x) last = tt
+ends_block v (Err e) last = λ taken bits t. by_length taken t
+  where
+    by_length : (taken : List ℕ) {bits : List Bool} → HasTaken v taken bits → (length taken + 1) % v.cut.size ≡ 0
+    by_length taken {bits} t =
+        let whole : length taken + 1 ≡ (length t.blocks + 1) * v.cut.size = omega (arith, taken_length v taken bits t, last) in
+        rw whole (mul-mod_left (length t.blocks + 1) v.cut.size)
+
+-- where values are held, the numbers end inside a block
+pub ends_inside : (v : Packed) (r : Result (Unit {0}) Fault) → 0 < length v.held → length v.held < v.cut.size → IfErr r (λ _. EndsInside v)
+ends_inside v (Ok x) some few = tt
+ends_inside v (Err e) some few = λ taken bits t. by_length taken t
+  where
+    by_length : (taken : List ℕ) {bits : List Bool} → HasTaken v taken bits → 0 < length taken % v.cut.size
+    by_length taken {bits} t = rw (taken_length v taken bits t, mod-mul-add (length t.blocks) v.cut.size (length v.held) few) some
 
 -- ---- texts and the blocks that they stand for
 

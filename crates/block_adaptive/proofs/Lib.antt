@@ -23,3 +23,4 @@ pub mod Emits
 pub mod Gathers
 pub mod Packing
 pub mod Stored
+pub mod Segmented

@@ -10,7 +10,7 @@ use Rattle.block_adaptive.specs.Segments.{filled}
 use Rattle.block_adaptive.specs.Chosen.{is_zero}
 use Rattle.block_adaptive.proofs.Costs.{quotients_cons, split_cost}
 
-sum_cons : (v : ℕ) (vs : List ℕ) → sum (v ∷ vs) ≡ v + sum vs
+pub sum_cons : (v : ℕ) (vs : List ℕ) → sum (v ∷ vs) ≡ v + sum vs
 sum_cons v vs = sum_by-cons (λ (x : ℕ). x) v vs
 
 -- each quotient has a bit more

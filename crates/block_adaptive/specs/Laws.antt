@@ -1,9 +1,9 @@
 -- What holds of the definitions alone.
-use Rattle.std.specs.Prelude.{ℕ, ◌≡◌, ◌+◌, ◌*◌, ◌^◌, ◌<◌, ◌≤◌, Bool, List, ◌++◌, length, Ok}
+use Rattle.std.specs.Prelude.{ℕ, ◌≡◌, ◌+◌, ◌*◌, ◌^◌, ◌<◌, ◌≤◌, Bool, List, ◌++◌, length, sum, Ok}
 use Rattle.std.specs.List.{AllByRecursion}
 use Rattle.block_adaptive.specs.declared.options.CodeSet.{CodeSet}
 use Rattle.block_adaptive.specs.Options.{pair_number}
-use Rattle.block_adaptive.specs.Segments.{block_count}
+use Rattle.block_adaptive.specs.Segments.{block_count, segments, segment_count}
 use Rattle.block_adaptive.specs.Texts.{Text, spelled, spelling, IsText, Cut, cut_of, AreTexts, blocks_told, IsBlockBody}
 use Rattle.block_adaptive.specs.Reading.{Site, text_at, block_body_at}
 use Rattle.block_adaptive.specs.Chosen.{IsChosen, chosen_option, chosen_from, chosen_block_body}
@@ -56,3 +56,15 @@ BodyIsRead =
 -- no pair of values up to m has a number above 2·m·(m + 1)
 abbrev pub PairBound : Type 0
 PairBound = (most a b : ℕ) → a ≤ most → b ≤ most → pair_number a b ≤ 2 * most * (most + 1)
+
+-- the blocks of n numbers are cut into as many segments as are counted, and these are all blocks
+abbrev pub SegmentsAreCounted : Type 0
+SegmentsAreCounted =
+    (n size reference : ℕ) → 1 ≤ reference
+    → (length (segments n size reference) ≡ segment_count n size reference) × (sum (segments n size reference) ≡ block_count size n)
+
+-- a body has three bits at least for each segment
+abbrev pub NoShorterBody : Type 0
+NoShorterBody =
+    (s : CodeSet) (size reference : ℕ) (numbers : List ℕ) (bits : List Bool) → 1 ≤ s.bits → 2 ≤ size → 1 ≤ reference
+    → IsBlockBody s size reference numbers bits → 3 * segment_count (length numbers) size reference ≤ length bits

@@ -1,5 +1,5 @@
 -- Blocks, and the segments in which runs of zero blocks stay (CCSDS 121.0-B, "Zero-block option").
-use Rattle.std.specs.Prelude.{ℕ, zero, suc, ◌+◌, ◌-◌, ◌*◌, ◌/◌, ◌%◌, min, List, [], ◌∷◌, ◌++◌, length, take, drop, replicate}
+use Rattle.std.specs.Prelude.{ℕ, zero, suc, ◌+◌, ◌-◌, ◌*◌, ◌/◌, ◌%◌, min, nat_le, if◌then◌else◌, List, [], ◌∷◌, ◌++◌, length, take, drop, replicate}
 
 -- a block, filled with zeros up to its size
 abbrev pub filled : ℕ → List ℕ → List ℕ
@@ -21,7 +21,17 @@ blocks size numbers = first_blocks size (block_count size (length numbers)) numb
 unfoldable pub segment_rest : ℕ → ℕ → ℕ → ℕ
 segment_rest reference n i = min (64 - i % reference % 64) (min (reference - i % reference) (n - i))
 
--- how many segments the blocks of n numbers make
+-- the sizes of the segments that n blocks are cut into, from block i on, so many segments at most
+unfoldable pub segments_from : ℕ → ℕ → ℕ → ℕ → List ℕ
+segments_from reference n zero i = []
+segments_from reference n (suc most) i =
+    if nat_le n i then [] else segment_rest reference n i ∷ segments_from reference n most (i + segment_rest reference n i)
+
+-- the sizes of the segments that the blocks of n numbers are cut into
+unfoldable pub segments : ℕ → ℕ → ℕ → List ℕ
+segments n size reference = segments_from reference (block_count size n) (block_count size n) 0
+
+-- how many segments the blocks of n numbers make: in each whole interval as many as its 64s, a part counted too, and those of what is left behind
 abbrev pub segment_count : ℕ → ℕ → ℕ → ℕ
 segment_count n size reference =
     let count = block_count size n in

@@ -1,5 +1,5 @@
 -- What a writer of blocks holds back, and which numbers it has taken.
-use Rattle.std.specs.Prelude.{ℕ, ◌≡◌, ◌+◌, ◌-◌, ◌<◌, ◌≤◌, ◌==◌, nat_le, Bool, if◌then◌else◌, List, [], ◌∷◌, ◌++◌, length, replicate}
+use Rattle.std.specs.Prelude.{ℕ, ◌≡◌, ◌+◌, ◌-◌, ◌%◌, ◌<◌, ◌≤◌, ◌==◌, nat_le, Bool, if◌then◌else◌, List, [], ◌∷◌, ◌++◌, length, replicate}
 use Rattle.header_bits.specs.Bits.{Written}
 use Rattle.block_adaptive.specs.declared.options.CodeSet.{CodeSet}
 use Rattle.block_adaptive.specs.Segments.{block_count}
@@ -62,6 +62,14 @@ abbrev pub PutsNumber : ℕ → Packed → List Bool → Packed → List Bool �
 PutsNumber number old written new written_now =
     (taken : List ℕ) (bits : List Bool) → HasTaken old taken bits
     → (more : List Bool) × (written_now ≡ written ++ more) × HasTaken new (taken ++ number ∷ []) (bits ++ more)
+
+-- the next number ends a block
+abbrev pub EndsBlock : Packed → Type 0
+EndsBlock v = (taken : List ℕ) (bits : List Bool) → HasTaken v taken bits → (length taken + 1) % v.cut.size ≡ 0
+
+-- the numbers that were taken end inside a block
+abbrev pub EndsInside : Packed → Type 0
+EndsInside v = (taken : List ℕ) (bits : List Bool) → HasTaken v taken bits → 0 < length taken % v.cut.size
 
 -- where as many numbers were taken as there are: all bits together are the chosen body
 abbrev pub EndsBody : Packed → List Bool → List Bool → Type 0

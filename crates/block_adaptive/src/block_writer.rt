@@ -4,7 +4,7 @@ ghost use Rattle.std.specs.Prelude.{ℕ, ◌∷◌, ◌-◌, ◌≡◌, ◌+◌,
 ghost use Rattle.std.specs.List.{AllByRecursion};
 ghost use Rattle.cube_core.specs.declared.fault.Fault.TheVariants.{WantOfMemory};
 ghost use Rattle.block_adaptive.specs.Settings.{AreForBlocks, cut_by};
-ghost use Rattle.block_adaptive.specs.Taken.{HasTaken, PutsNumber, EndsBody, packed, texts_packed};
+ghost use Rattle.block_adaptive.specs.Taken.{HasTaken, PutsNumber, EndsBlock, EndsInside, EndsBody, packed, texts_packed};
 
 use crate::options::CodeSet;
 use crate::segments::Place;
@@ -83,8 +83,9 @@ impl BlockWriter {
 
     /// Takes the next number, and appends what is then known of the body.
     ///
-    /// Fewer numbers were taken than there are, and the number is at most 2^D - 1. After
-    /// `WantOfMemory` nothing was changed, and the call may be made again.
+    /// Fewer numbers were taken than there are, and the number is at most 2^D - 1. Memory is asked for
+    /// only where the number ends a block. After `WantOfMemory` nothing was changed, and the call may be
+    /// made again.
     #[inline]
     pub fn put(&mut self, delta: u16, writer: &mut BitWriter) -> Result<(), Fault>
         requires number { delta < 2 ^ self.old.cut.set.bits }
@@ -92,6 +93,7 @@ impl BlockWriter {
         ensures taken { OnOk result (PutsNumber delta self.old writer.old.bits self.new writer.new.bits) }
         ensures same { OnErr result ((self.new ≡ self.old) × (writer.new.bits ≡ writer.old.bits)) }
         ensures refused { IfErr result (λ e. e ≡ WantOfMemory) }
+        ensures memory { IfErr result (λ _. EndsBlock self.old) }
         ensures cut { self.new.cut ≡ self.old.cut }
     {
         if self.held + 1 < self.size {
@@ -138,11 +140,13 @@ impl BlockWriter {
 
     /// Ends the body: appends what is still held, with the block begun filled with zeros.
     ///
-    /// All numbers were taken. After `WantOfMemory` nothing was changed, and the call may be made again.
+    /// All numbers were taken. Memory is asked for only where they end inside a block. After
+    /// `WantOfMemory` nothing was changed, and the call may be made again.
     pub fn end(&mut self, writer: &mut BitWriter) -> Result<(), Fault>
         ensures ended { OnOk result (EndsBody self.old writer.old.bits writer.new.bits) }
         ensures same { OnErr result ((self.new ≡ self.old) × (writer.new.bits ≡ writer.old.bits)) }
         ensures refused { IfErr result (λ e. e ≡ WantOfMemory) }
+        ensures memory { IfErr result (λ _. EndsInside self.old) }
     {
         if self.held == 0 {
             return Ok(());

@@ -1,6 +1,6 @@
 //! Laws of the coder's definitions.
 
-ghost use Rattle.block_adaptive.specs.Laws.{OneText, OneBody, OptionIsLeast, ChosenIsLawful, ChosenIsBody, TextIsTaken, BodyIsRead, PairBound};
+ghost use Rattle.block_adaptive.specs.Laws.{OneText, OneBody, OptionIsLeast, ChosenIsLawful, ChosenIsBody, TextIsTaken, BodyIsRead, PairBound, SegmentsAreCounted, NoShorterBody};
 ghost use Rattle.block_adaptive.specs.Prefixes.{TakenIsPrefix};
 
 /// Two lawful texts of which one begins the other are one text.
@@ -46,4 +46,14 @@ pub fn body_is_read()
 /// A pair of values up to m has at most 2·m·(m + 1) zeros under the second extension.
 pub fn pair_bound()
     ensures { PairBound }
+{}
+
+/// The blocks of numbers are cut into as many segments as are counted, which together are all blocks.
+pub fn segments_are_counted()
+    ensures { SegmentsAreCounted }
+{}
+
+/// A body has three bits at least for each segment of its blocks.
+pub fn no_shorter_body()
+    ensures { NoShorterBody }
 {}

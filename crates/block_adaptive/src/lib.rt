@@ -9,7 +9,7 @@ mod found;
 pub mod laws;
 pub mod options;
 mod pairs;
-mod segments;
+pub mod segments;
 mod texts;
 pub mod worked;
 pub mod worked_codes;

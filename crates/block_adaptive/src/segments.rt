@@ -1,7 +1,25 @@
 //! The segments in which runs of zero blocks stay (CCSDS 121.0-B, "Zero-block option").
 
-ghost use Rattle.std.specs.Prelude.{◌≡◌, ◌≤◌};
+ghost use Rattle.std.specs.Prelude.{◌≡◌, ◌^◌, ◌≤◌};
+ghost use Rattle.cube_core.specs.Shape.{InRange};
 ghost use Rattle.block_adaptive.specs.Places.{IsPlace, blocks_from};
+ghost use Rattle.block_adaptive.specs.Segments.{segment_count};
+ghost use Rattle.block_adaptive.specs.Settings.{IsSize};
+
+/// How many segments the blocks of so many numbers are cut into. It takes no memory.
+///
+/// There are 1 to 2^48 numbers, in blocks of 8, 16, 32 or 64; at each `reference`-th block, 1 to 4096,
+/// segments of 64 blocks begin anew.
+pub fn segment_count(samples: u64, size: u32, reference: u32) -> u64
+    requires samples { InRange 1 (2 ^ 48) samples }
+    requires size { IsSize size }
+    requires reference { InRange 1 4096 reference }
+    ensures { result ≡ segment_count samples size reference }
+{
+    let blocks = samples.div_ceil(u64::from(size));
+    let interval = u64::from(reference);
+    blocks / interval * interval.div_ceil(64) + (blocks % interval).div_ceil(64)
+}
 
 /// Where a block stands among the others.
 #[derive(Clone, Copy, Drop)]

@@ -15,8 +15,9 @@ use command_reports::report::{fault_line, status_of};
 use command_settings::settings::Settings;
 use command_words::command_line::settings_of;
 use cube_core::fault::Fault;
-use std::fs::File;
+use std::fs::{self, File};
 use std::io::Write;
+use std::os::unix::fs::MetadataExt;
 use std::process::ExitCode;
 use std::{env, io};
 
@@ -54,7 +55,7 @@ fn words(rt: &HostRuntime) -> Result<Vec<String>, Fault> {
     Ok(words.skip(1).collect(rt.alloc())?)
 }
 
-/// Opens the one file, and then makes or empties the other.
+/// Opens the one file, and then makes or empties the other. Where that would empty the one, it can't be made.
 fn opened(
     rt: &HostRuntime,
     from: &str,
@@ -63,10 +64,21 @@ fn opened(
     let Ok(from) = File::open(rt, from) else {
         return Err(Fault::Read);
     };
+    if leads_to(rt, to, &from) {
+        return Err(Fault::Write { written: 0 });
+    }
     let Ok(to) = File::create(rt, to) else {
         return Err(Fault::Write { written: 0 });
     };
     Ok((ReaderSource::new(from), WriterSink::new(to)))
+}
+
+/// Whether a name, through whatever links, leads to a file that is open: its numbers say so.
+fn leads_to(rt: &HostRuntime, name: &str, open: &File) -> bool {
+    match (fs::metadata(rt, name), open.metadata()) {
+        (Ok(there), Ok(here)) => there.dev() == here.dev() && there.ino() == here.ino(),
+        _ => false,
+    }
 }
 
 /// Prints the fault's line on standard error, and gives its exit status. Where there is no memory for

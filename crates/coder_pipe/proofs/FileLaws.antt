@@ -1,5 +1,5 @@
 -- Files: what is written is one, a file has no fault, and is a file of one cube alone.
-use Rattle.std.proofs.Common.{◌≡◌, ◌*◌, ◌/◌, ◌%◌, ◌-◌, ◌<◌, ◌≤◌, ◌^◌, ℕ, zero, suc, Bool, false, leb, List, [], ◌∷◌, ◌++◌, length, take, drop, replicate, Ok, refl, sym, ap, subst, ◌∙◌, append_assoc, arith}
+use Rattle.std.proofs.Common.{◌≡◌, ◌*◌, ◌/◌, ◌%◌, ◌-◌, ◌<◌, ◌≤◌, ◌^◌, ◌+◌, ℕ, zero, suc, Bool, false, leb, List, [], ◌∷◌, ◌++◌, length, take, drop, replicate, Ok, refl, sym, ap, subst, ◌∙◌, append_assoc, length-append, arith}
 use Rattle.std.specs.List.{AllByRecursion}
 use Rattle.std.proofs.lemmas.List.{append_cancel_left, length-replicate, length-map, take-append-drop, length-take, length-drop}
 use Rattle.std.proofs.lemmas.Nat.{mod_below}
@@ -18,6 +18,7 @@ use Rattle.header_bits.specs.Parts.{fine}
 use Rattle.header_bits.specs.Reach.{Reach, here}
 use Rattle.header_bits.specs.Lawful.{IsLawful, IsCoder}
 use Rattle.header_bits.specs.Header.{header_at, header_of, SpellsHeader}
+use Rattle.header_bits.proofs.Bytes.{length-bits_of_bytes}
 use Rattle.header_bits.proofs.Numbers.{bits_of-number_of}
 use Rattle.header_bits.proofs.Exact.{one_spelling}
 use Rattle.header_bits.proofs.Headers.{header_exact}
@@ -34,9 +35,11 @@ use Rattle.block_adaptive.specs.declared.options.CodeSet.{CodeSet}
 use Rattle.block_adaptive.specs.Segments.{block_count}
 use Rattle.block_adaptive.specs.Settings.{IsSize}
 use Rattle.coder_pipe.specs.File.{body_of, body_by, fill_length, filled, packed_from, packed, file_bits, file_of_residuals, file_of}
-use Rattle.coder_pipe.specs.Files.{IsBodyBy, IsBody, IsCubeOf, IsFile, behind_by, behind_body, some_one, fill_test, body_test, file_test}
-use Rattle.coder_pipe.specs.Laws.{ChosenIsFile, FileIsFine, OneFile}
+use Rattle.coder_pipe.specs.Files.{IsBodyBy, IsBody, IsCubeOf, IsFile, behind_by, behind_body, some_one, fill_test, body_test, head_at, file_test}
+use Rattle.coder_pipe.specs.Laws.{ChosenIsFile, FileIsFine, NoShorterFile, OneFile}
+use Rattle.coder_pipe.specs.Least.{least_length}
 use Rattle.coder_pipe.proofs.Coders.{settings_bits}
+use Rattle.coder_pipe.proofs.Long.{body_long, least_passes}
 use Rattle.coder_pipe.proofs.Packed.{filled_whole}
 use Rattle.coder_pipe.proofs.OneCube.{residuals_inside, one_cube}
 
@@ -139,15 +142,26 @@ zeros_pass word n lt =
 file_text : (reach : Reach) (bytes : List ℕ) (p : Params) (c : Image) → (f : IsFile reach bytes p c) → bits_of_bytes bytes ≡ f.header ++ (f.body ++ replicate f.fill false)
 file_text reach bytes p c f = f.text ∙ append_assoc f.header f.body (replicate f.fill false)
 
+body_of_file_long : (reach : Reach) (bytes : List ℕ) (p : Params) (c : Image) → IsLawful reach p → (f : IsFile reach bytes p c) → least_length p ≤ length f.body
+body_of_file_long reach bytes p c lawful f = body_long reach p (residuals p c) f.body lawful (length-residuals reach p c lawful f.cube) f.coded
+
+pub no_shorter_file : NoShorterFile
+no_shorter_file reach bytes p c lawful f =
+    let long = body_of_file_long reach bytes p c lawful f in
+    let bits : length (bits_of_bytes bytes) ≡ length f.header + (length f.body + length (replicate f.fill false)) =
+    ap length (file_text reach bytes p c f) ∙ length-append f.header (f.body ++ replicate f.fill false) ∙ ap (λ (n : ℕ). length f.header + n) (length-append f.body (replicate f.fill false)) in
+    omega (arith, long, bits, length-bits_of_bytes bytes)
+
 pub file_is_fine : FileIsFine
-unfolding file_test body_test
+unfolding file_test body_test head_at
 file_is_fine reach bytes p c lawful f =
     let rest : List Bool = replicate f.fill false in
     let count : ℕ = length (f.header ++ (f.body ++ rest)) in
     let text = file_text reach bytes p c f in
     let header = (header_exact reach).again p f.header (f.body ++ rest) f.spelt in
     let body = behind_again reach p count (residuals p c) f.body rest lawful (inside reach p c lawful f.cube) (length-residuals reach p c lawful f.cube) f.coded in
-    rw (text, header, body) (zeros_pass p.word f.fill f.few)
+    let enough = least_passes count p (f.body ++ rest) (omega (arith, body_of_file_long reach bytes p c lawful f, length-append f.body rest)) in
+    rw (text, header, enough, body) (zeros_pass p.word f.fill f.few)
 
 -- ---- one file
 

@@ -1,5 +1,5 @@
 -- What a decoder finds, read as a file or as its first fault.
-use Rattle.std.proofs.Common.{◌≡◌, ◌⊎◌, ℕ, false, Bool, List, ◌++◌, length, take, drop, replicate, Result, Ok, Err, IfOk, IfErr, refl, sym, ap, ◌∙◌, inl, inr, append_assoc}
+use Rattle.std.proofs.Common.{◌≡◌, ◌⊎◌, ◌*◌, ℕ, false, Bool, List, ◌++◌, length, take, drop, replicate, Result, Ok, Err, IfOk, IfErr, refl, sym, ap, ◌∙◌, inl, inr, append_assoc}
 use Rattle.std.proofs.lemmas.List.{take-append-drop}
 use Rattle.cube_core.specs.declared.fault.Fault.{Fault}
 use Rattle.cube_core.specs.declared.fault.Fault.TheVariants.{WantOfMemory}
@@ -10,29 +10,60 @@ use Rattle.header_bits.specs.Parts.{fine}
 use Rattle.header_bits.specs.Reach.{here}
 use Rattle.header_bits.specs.Lawful.{IsLawful}
 use Rattle.header_bits.specs.Header.{header_at, SpellsHeader}
+use Rattle.header_bits.proofs.Bytes.{length-bits_of_bytes}
 use Rattle.header_bits.proofs.SpeltLawful.{spelt_is_lawful}
 use Rattle.predict_core.specs.Residual.{residuals}
 use Rattle.coder_pipe.specs.Decoding.{TakesCube, AnswersOr, IsNoFile}
-use Rattle.coder_pipe.specs.Files.{IsFile, behind_body, fill_test, body_test, file_test}
+use Rattle.coder_pipe.specs.Files.{IsFile, behind_body, fill_test, body_test, head_at, file_test}
+use Rattle.coder_pipe.specs.Least.{least_test}
 use Rattle.coder_pipe.proofs.FileLaws.{inside, length-residuals, behind_again, file_is_fine, one_file}
 use Rattle.coder_pipe.proofs.Fills.{passed}
 
 -- ---- a refusal is the file's first fault
 
-pub header_refused : (bits : List Bool) (e : Fault) → header_at here bits ≡ Err e → file_test here bits ≡ Err e
-unfolding file_test
+pub header_refused : (bits : List Bool) (e : Fault) → header_at here bits ≡ Err e → head_at here bits ≡ Err e
+unfolding head_at
 header_refused bits e h = rw h refl
 
-pub body_refused : (p : Params) (bits rest : List Bool) (e : Fault) → header_at here bits ≡ Ok (p, rest) → behind_body (length bits) p rest ≡ Err e → file_test here bits ≡ Err e
+-- what is known behind a header: its parameters, and a reader of the file's bits that are left
+header_left : (bytes : List ℕ) (p : Params) (n : ℕ) (left : List Bool) → header_at here (bits_of_bytes bytes) ≡ Ok (p, drop n (bits_of_bytes bytes)) → left ≡ drop n (bits_of_bytes bytes) → header_at here (bits_of_bytes bytes) ≡ Ok (p, left)
+header_left bytes p n left header is = header ∙ ap (λ (rest : List Bool). Ok (p, rest)) (sym is)
+
+test_of_all : (bytes : List ℕ) (p : Params) (count : ℕ) (left : List Bool) → count ≡ 8 * length bytes → least_test (length (bits_of_bytes bytes)) p left ≡ least_test count p left
+test_of_all bytes p count left is = ap (λ (n : ℕ). least_test n p left) (length-bits_of_bytes bytes ∙ sym is)
+
+pub length_refused : (bytes : List ℕ) (p : Params) (n count : ℕ) (left : List Bool) (e : Fault) → header_at here (bits_of_bytes bytes) ≡ Ok (p, drop n (bits_of_bytes bytes)) → count ≡ 8 * length bytes → left ≡ drop n (bits_of_bytes bytes)
+    → Err e ≡ least_test count p left → head_at here (bits_of_bytes bytes) ≡ Err e
+unfolding head_at
+length_refused bytes p n count left e header all is test = rw (header_left bytes p n left header is, test_of_all bytes p count left all ∙ sym test) refl
+
+pub head_taken : (bytes : List ℕ) (p : Params) (n count : ℕ) (left : List Bool) → header_at here (bits_of_bytes bytes) ≡ Ok (p, drop n (bits_of_bytes bytes)) → count ≡ 8 * length bytes → left ≡ drop n (bits_of_bytes bytes)
+    → fine ≡ least_test count p left → head_at here (bits_of_bytes bytes) ≡ Ok (p, left)
+unfolding head_at
+head_taken bytes p n count left header all is test = rw (header_left bytes p n left header is, test_of_all bytes p count left all ∙ sym test) refl
+
+pub head_refused : (bits : List Bool) (e : Fault) → head_at here bits ≡ Err e → file_test here bits ≡ Err e
+unfolding file_test
+head_refused bits e h = rw h refl
+
+pub body_refused : (p : Params) (bits rest : List Bool) (e : Fault) → head_at here bits ≡ Ok (p, rest) → behind_body (length bits) p rest ≡ Err e → file_test here bits ≡ Err e
 unfolding file_test body_test
 body_refused p bits rest e h b = rw (h, b) refl
 
-pub fill_refused : (p : Params) (c : Image) (bits rest left : List Bool) (e : Fault) → IsLawful here p → header_at here bits ≡ Ok (p, rest) → TakesCube p c rest left → fill_test p.word left ≡ Err e → file_test here bits ≡ Err e
+pub fill_refused : (p : Params) (c : Image) (bits rest left : List Bool) (e : Fault) → IsLawful here p → head_at here bits ≡ Ok (p, rest) → TakesCube p c rest left → fill_test p.word left ≡ Err e → file_test here bits ≡ Err e
 unfolding file_test body_test
 fill_refused p c bits rest left e lawful h t f =
     let body : behind_body (length bits) p rest ≡ Ok left =
     ap (behind_body (length bits) p) t.text ∙ behind_again here p (length bits) (residuals p c) t.body left lawful (inside here p c lawful t.cube) (length-residuals here p c lawful t.cube) t.coded in
     rw (h, body) f
+
+-- where a head is refused, nothing else is answered
+pub no_head : {X : Type 0} (bits : List Bool) (p : Params) (rest : List Bool) (e : Fault) → head_at here bits ≡ Ok (p, rest) → head_at here bits ≡ Err e → X
+no_head bits p rest e taken refused = absurd (let both = sym taken ∙ refused in cc)
+
+-- a refused head is refused for one thing
+pub one_refusal : (bits : List Bool) (e f : Fault) → head_at here bits ≡ Err e → head_at here bits ≡ Err f → e ≡ f
+one_refusal bits e f h k = (let both = sym h ∙ k in cc)
 
 -- ---- where nothing is refused, the bytes are a file
 

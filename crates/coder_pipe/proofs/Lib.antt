@@ -11,3 +11,4 @@ pub mod OneCube
 pub mod Packed
 pub mod Walking
 pub mod Weaves
+pub mod Long

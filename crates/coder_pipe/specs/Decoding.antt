@@ -1,8 +1,8 @@
 -- The coder in the direction of reading: which residuals it has given, in encoding order.
-use Rattle.std.specs.Prelude.{ℕ, ◌≡◌, ◌^◌, ◌<◌, ◌≤◌, Bool, List, [], ◌∷◌, ◌++◌, length, Result, Ok, Err, MatchResult}
+use Rattle.std.specs.Prelude.{ℕ, ◌≡◌, ◌^◌, ◌<◌, ◌≤◌, Bool, List, [], ◌∷◌, ◌++◌, length, Option, option_map, Result, Ok, Err, MatchResult}
 use Rattle.std.specs.List.{AllByRecursion}
 use Rattle.cube_core.specs.declared.fault.Fault.{Fault}
-use Rattle.cube_core.specs.declared.fault.Fault.TheVariants.{WantOfMemory}
+use Rattle.cube_core.specs.declared.fault.Fault.TheVariants.{WantOfMemory, BadCode}
 use Rattle.cube_core.specs.Image.{Image}
 use Rattle.header_bits.specs.declared.params.Params.{Params}
 use Rattle.header_bits.specs.Bits.{Unread}
@@ -27,6 +27,16 @@ pub record BlocksGiven (p : Params) (v : Unpacked) (numbers : List ℕ) (bits : 
 abbrev pub HasGiven : Params → Decoder → List ℕ → List Bool → Type 0
 HasGiven p (Samples v) numbers bits = SamplesTaken p v numbers bits × AllByRecursion (λ n. n < 2 ^ p.kind.bits) numbers
 HasGiven p (Blocks v) numbers bits = BlocksGiven p v numbers bits
+
+-- a bad code word is refused by its place in encoding order
+abbrev pub placed_at : ℕ → Fault → Fault
+placed_at place (BadCode t) = BadCode place
+placed_at place fault = fault
+
+-- what every call is refused for, where one was refused
+abbrev pub refusal_at : ℕ → Decoder → Option Fault
+refusal_at place (Samples v) = option_map (placed_at place) v.refused
+refusal_at place (Blocks v) = v.refused
 
 -- a number of band z may be asked for
 abbrev pub MayAsk : Decoder → ℕ → Type 0

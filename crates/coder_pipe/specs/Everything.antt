@@ -5,8 +5,8 @@ use Rattle.sample_adaptive.specs.Everything.{everything as of_samples}
 use Rattle.block_adaptive.specs.Everything.{everything as of_blocks}
 use Rattle.coder_pipe.specs.File.{body_of, packed_from, packed, file_bits, file_of_residuals, file_of}
 use Rattle.coder_pipe.specs.Weave.{owners_of, part, weave}
-use Rattle.coder_pipe.specs.Files.{behind_body, body_test, file_test}
+use Rattle.coder_pipe.specs.Files.{behind_body, body_test, head_at, file_test}
 
 unfoldable pub everything : Unit {0}
-unfolding of_headers of_residuals of_samples of_blocks body_of packed_from packed file_bits file_of_residuals file_of owners_of part weave behind_body body_test file_test
+unfolding of_headers of_residuals of_samples of_blocks body_of packed_from packed file_bits file_of_residuals file_of owners_of part weave behind_body body_test head_at file_test
 everything = tt

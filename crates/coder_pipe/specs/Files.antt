@@ -11,6 +11,7 @@ use Rattle.header_bits.specs.declared.params.Coder.{Coder}
 use Rattle.header_bits.specs.declared.params.Coder.TheVariants.{Sample, Block}
 use Rattle.header_bits.specs.Bits.{bits_of_bytes}
 use Rattle.header_bits.specs.Reach.{Reach}
+use Rattle.header_bits.specs.Reading.{Reading}
 use Rattle.header_bits.specs.Header.{header_at, SpellsHeader}
 use Rattle.predict_core.specs.Residual.{residuals}
 use Rattle.sample_adaptive.specs.Settings.{settings}
@@ -18,6 +19,7 @@ use Rattle.sample_adaptive.specs.Body.{sample_body}
 use Rattle.sample_adaptive.specs.Reading.{sample_body_at}
 use Rattle.block_adaptive.specs.Texts.{IsBlockBody}
 use Rattle.block_adaptive.specs.Reading.{block_body_at}
+use Rattle.coder_pipe.specs.Least.{least_test}
 
 -- the bits are the residuals' code words; or lawful texts of their blocks
 abbrev pub IsBodyBy : Coder → Params → List ℕ → List Bool → Type 0
@@ -68,6 +70,10 @@ fill_test word bits = refuse_if (nat_le (8 * word) (length bits)) (TooLong (leng
 unfoldable pub body_test : ℕ → Params → List Bool → Test
 body_test count p bits = behind_body count p bits >>= λ rest. fill_test p.word rest
 
--- a file is refused for the first fault of its header, of its body, and of its fill
+-- a header behind which there are as many bits as the shortest body has: its parameters and these bits, or the first refusal
+unfoldable pub head_at : Reach → Reading Params
+head_at reach bits = header_at reach bits >>= λ header. least_test (length bits) header.0 header.1 >> Ok header
+
+-- a file is refused for the first fault of its header, for too few bits behind it, and for the first fault of its body and of its fill
 unfoldable pub file_test : Reach → List Bool → Test
-file_test reach bits = header_at reach bits >>= λ header. body_test (length bits) header.0 header.1
+file_test reach bits = head_at reach bits >>= λ header. body_test (length bits) header.0 header.1

@@ -1,5 +1,5 @@
 -- What holds of the definitions alone.
-use Rattle.std.specs.Prelude.{ℕ, ◌≡◌, List}
+use Rattle.std.specs.Prelude.{ℕ, ◌≡◌, ◌+◌, ◌*◌, ◌≤◌, List, length}
 use Rattle.cube_core.specs.Image.{Image}
 use Rattle.header_bits.specs.declared.params.Params.{Params}
 use Rattle.header_bits.specs.Bits.{bits_of_bytes}
@@ -9,6 +9,7 @@ use Rattle.header_bits.specs.Lawful.{IsLawful}
 use Rattle.predict_core.specs.Residual.{residuals}
 use Rattle.coder_pipe.specs.File.{file_of}
 use Rattle.coder_pipe.specs.Files.{IsCubeOf, IsFile, file_test}
+use Rattle.coder_pipe.specs.Least.{least_length}
 
 -- the file that is written of a cube is a file of it
 abbrev pub ChosenIsFile : Type 0
@@ -17,6 +18,12 @@ ChosenIsFile = (p : Params) (c : Image) → IsLawful here p → IsCubeOf p c →
 -- a file has no fault
 abbrev pub FileIsFine : Type 0
 FileIsFine = (reach : Reach) (bytes : List ℕ) (p : Params) (c : Image) → IsLawful reach p → IsFile reach bytes p c → file_test reach (bits_of_bytes bytes) ≡ fine
+
+-- no file is shorter: behind its header there are as many bits as the shortest body has
+abbrev pub NoShorterFile : Type 0
+NoShorterFile =
+    (reach : Reach) (bytes : List ℕ) (p : Params) (c : Image) → IsLawful reach p → (f : IsFile reach bytes p c)
+    → length f.header + least_length p ≤ 8 * length bytes
 
 -- two cubes that have the same residuals are one
 abbrev pub OneCube : Type 0

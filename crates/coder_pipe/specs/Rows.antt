@@ -1,5 +1,5 @@
 -- Cubes and files of the worked examples.
-use Rattle.std.specs.Prelude.{ℕ, ◌*◌, List, [], ◌∷◌, map, replicate, Bool, true, false, ℤ, pos, negsuc}
+use Rattle.std.specs.Prelude.{ℕ, zero, suc, ◌+◌, ◌*◌, List, [], ◌∷◌, map, take, replicate, Bool, true, false, ℤ, pos, negsuc}
 use Rattle.cube_core.specs.declared.order.Order.TheVariants.{Bi}
 use Rattle.cube_core.specs.Image.{Image}
 use Rattle.header_bits.specs.declared.params.Params.{Params}
@@ -28,6 +28,11 @@ bytes n number = packed (bits_of (8 * n) number)
 -- the test of a file of so many bytes, told as one number
 abbrev pub test : ℕ → ℕ → Test
 test n number = file_test here (bits_of_bytes (bytes n number))
+
+-- the tests of a file's first n bytes, of its first n + 1, and so on, so many of them
+abbrev pub tests_of_cuts : List ℕ → ℕ → ℕ → List Test
+tests_of_cuts file n zero = []
+tests_of_cuts file n (suc more) = file_test here (bits_of_bytes (take n file)) ∷ tests_of_cuts file (n + 1) more
 
 abbrev pub one_below : ℕ → ℕ → ℕ → Params
 one_below nx ny nz = record (common nx ny nz) { previous = 1 }

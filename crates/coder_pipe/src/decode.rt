@@ -1,6 +1,7 @@
 //! Decoding: from a file's bytes to its parameters and its cube.
 
 ghost use Rattle.std.specs.Prelude.{◌≡◌, ◌⊎◌, ◌*◌, ◌^◌, ◌≤◌, Err, IfOk, IfErr, length, drop};
+ghost use Rattle.cube_core.specs.declared.fault.Fault.{Fault as Refusal};
 ghost use Rattle.cube_core.specs.declared.fault.Fault.TheVariants.{WantOfMemory};
 ghost use Rattle.cube_core.specs.Shape.{InRange};
 ghost use Rattle.cube_core.specs.Image.{Image};
@@ -8,11 +9,12 @@ ghost use Rattle.header_bits.specs.declared.params.Params.{Params as Parameters}
 ghost use Rattle.header_bits.specs.Bits.{bits_of_bytes};
 ghost use Rattle.header_bits.specs.Reach.{here};
 ghost use Rattle.header_bits.specs.Lawful.{IsLawful};
-ghost use Rattle.coder_pipe.specs.Files.{IsFile, behind_body, fill_test, file_test};
+ghost use Rattle.coder_pipe.specs.Files.{IsFile, behind_body, fill_test, head_at, file_test};
 ghost use Rattle.coder_pipe.specs.Decoding.{TakesCube, AnswersOr, IsNoFile};
 
 use crate::bands::all_bands;
 use crate::decoder::Decoder;
+use crate::least::test_length;
 use cube_core::cube::Cube;
 use cube_core::cursor::Places;
 use cube_core::fault::Fault;
@@ -23,29 +25,34 @@ use std::alloc::Global;
 
 /// The parameters and the cube of a file of at most 2^60 bytes.
 ///
-/// The refusals come in this order: those of the header; `WantOfMemory`; the first fault of the body
+/// The refusals come in this order: those of the header, and `Truncated` where fewer bits stand behind
+/// it than the shortest body has, whatever memory there is; `WantOfMemory`; the first fault of the body
 /// in bit order, which is `Truncated`, `BadCode`, `BadOption` or `RunPastSegment`; `TooLong` where an
-/// output word's bits or more stand behind the body; `BadFill` where one of them is a one.
+/// output word's bits or more stand behind the body; `BadFill` where one of them is a one. `Truncated`
+/// names the number of the file's bits.
 pub fn decode(alloc: Global, bytes: &[u8]) -> Result<(Params, Cube), Fault>
     requires { length bytes.now ≤ 2 ^ 60 }
     ensures lawful { IfOk result (λ found. IsLawful here found.0) }
     ensures file { IfOk result (λ found. IsFile here bytes.now found.0 found.1) }
     ensures only { (p : Parameters) (c : Image) → IsFile here bytes.now p c → AnswersOr result p c }
+    ensures head { (e : Refusal) → head_at here (bits_of_bytes bytes.now) ≡ Err e → result ≡ Err e }
     ensures fault { IfErr result (λ e. (e ≡ WantOfMemory) ⊎ (file_test here (bits_of_bytes bytes.now) ≡ Err e)) }
     ensures none { IfErr result (λ e. (e ≡ WantOfMemory) ⊎ IsNoFile bytes.now) }
 {
     read_file(alloc, bytes)
 }
 
-/// Reads header, body and fill, one after another.
+/// Reads header, body and fill, one after another; memory for the cube is asked for where there can be one.
 fn read_file(alloc: Global, bytes: &[u8]) -> Result<(Params, Cube), Fault>
     requires { length bytes.now ≤ 2 ^ 60 }
     ensures lawful { IfOk result (λ found. IsLawful here found.0) }
     ensures file { IfOk result (λ found. IsFile here bytes.now found.0 found.1) }
+    ensures head { (e : Refusal) → head_at here (bits_of_bytes bytes.now) ≡ Err e → result ≡ Err e }
     ensures fault { IfErr result (λ e. (e ≡ WantOfMemory) ⊎ (file_test here (bits_of_bytes bytes.now) ≡ Err e)) }
 {
     let (params, size) = read_header(alloc, bytes)?;
     let mut reader = reader_behind(bytes, size);
+    test_length(&params, &reader)?;
     let cube = take_cube(alloc, &params, &mut reader)?;
     test_fill(params.word, &reader)?;
     Ok((params, cube))

@@ -1,10 +1,12 @@
 //! The reading end: one of the two entropy coders, which gives an image's residuals in encoding order.
 
-ghost use Rattle.std.specs.Prelude.{ℕ, ◌≡◌, [], IfOk, IfErr};
-ghost use Rattle.cube_core.specs.declared.fault.Fault.TheVariants.{WantOfMemory, BadCode, Truncated};
+ghost use Rattle.std.specs.Prelude.{◌≡◌, [], Err, Some, IsOk, IfOk, IfErr, OnErr};
+ghost use Rattle.cube_core.specs.declared.fault.Fault.{Fault as Refusal};
+ghost use Rattle.cube_core.specs.declared.fault.Fault.TheVariants.{WantOfMemory};
 ghost use Rattle.header_bits.specs.Reach.{here};
 ghost use Rattle.header_bits.specs.Lawful.{IsLawful};
-ghost use Rattle.coder_pipe.specs.Decoding.{HasGiven, MayAsk, GivesNumber};
+ghost use Rattle.block_adaptive.specs.Settings.{IsBlock};
+ghost use Rattle.coder_pipe.specs.Decoding.{HasGiven, MayAsk, GivesNumber, placed_at, refusal_at};
 
 use block_adaptive::block_reader::BlockReader;
 use cube_core::fault::Fault;
@@ -23,11 +25,13 @@ pub enum Decoder {
 impl Decoder {
     /// The coder of an image, which has given no residual yet.
     ///
-    /// `WantOfMemory` where there is none for the statistics of all bands.
+    /// `WantOfMemory` where there is none for the statistics of all bands; the block-adaptive coder
+    /// takes none.
     pub fn new(alloc: Global, params: &Params) -> Result<Decoder, Fault>
         requires { IsLawful here params.now }
         ensures given { IfOk result (λ coder. HasGiven params.now coder [] []) }
         ensures refused { IfErr result (λ e. e ≡ WantOfMemory) }
+        ensures blocks { IsBlock params.now.coder → IsOk result }
     {
         match params.coder {
             Coder::Sample { .. } => Ok(Decoder::Samples(Stats::new(alloc, params)?)),
@@ -39,11 +43,15 @@ impl Decoder {
     /// encoding order.
     ///
     /// Fewer were given than there are samples. Where none is spelt there, the answer is the first
-    /// fault of the body: `Truncated`, `BadCode` with the place, `BadOption` or `RunPastSegment`. No
-    /// memory is taken.
+    /// fault of the body: `Truncated`, `BadCode` with the place, `BadOption` or `RunPastSegment`. Then
+    /// the bits that are left are as before, and every later call answers the same, a `BadCode` with its
+    /// own place. No memory is taken.
     pub fn next(&mut self, z: u32, t: u64, place: u64, reader: &mut BitReader) -> Result<u16, Fault>
         requires { MayAsk self.old z }
         ensures given { GivesNumber z t place result self.old reader.old self.new reader.new.left }
+        ensures again { (fault : Refusal) → refusal_at place self.old ≡ Some fault → result ≡ Err fault }
+        ensures kept { IfErr result (λ fault. refusal_at place self.new ≡ Some fault) }
+        ensures same { OnErr result (reader.new ≡ reader.old) }
         ensures count { reader.new.count ≡ reader.old.count }
     {
         match self {
@@ -58,8 +66,7 @@ impl Decoder {
 
 /// A fault of a code word, at its place in encoding order.
 fn placed(fault: Fault, place: u64) -> Fault
-    ensures bad { (t : ℕ) → fault ≡ BadCode t → result ≡ BadCode place }
-    ensures ended { (bit : ℕ) → fault ≡ Truncated bit → result ≡ Truncated bit }
+    ensures { result ≡ placed_at place fault }
 {
     match fault {
         Fault::BadCode { .. } => Fault::BadCode { place },

@@ -7,6 +7,7 @@ pub mod decoder;
 pub mod encode;
 pub mod encoder;
 pub mod laws;
+pub mod least;
 pub mod worked;
 pub mod worked_least;
 pub mod worked_parts;

@@ -16,3 +16,4 @@ pub mod Scaled
 pub mod Spans
 pub mod Starting
 pub mod Raising
+pub mod Largest

@@ -45,7 +45,7 @@ three low high a b d h k l = (omega (arith, ints, h.0, h.1, k.0, k.1, l.0, l.1),
 all : (low high a b d u : ℤ) → Between low high a → Between low high b → Between low high d → Between low high u → Between (pos 4 *ℤ low) (pos 4 *ℤ high) (a +ℤ b +ℤ d +ℤ u)
 all low high a b d u h k l m = (omega (arith, ints, h.0, h.1, k.0, k.1, l.0, l.1, m.0, m.1), omega (arith, ints, h.0, h.1, k.0, k.1, l.0, l.1, m.0, m.1))
 
-apart : (low high a s : ℤ) (power : ℕ) → high -ℤ low ≡ pos power -ℤ pos 1 → Between low high a → Between (pos 4 *ℤ low) (pos 4 *ℤ high) s → unsigned_abs (pos 4 *ℤ a -ℤ s) ≤ 4 * power
+pub apart : (low high a s : ℤ) (power : ℕ) → high -ℤ low ≡ pos power -ℤ pos 1 → Between low high a → Between (pos 4 *ℤ low) (pos 4 *ℤ high) s → unsigned_abs (pos 4 *ℤ a -ℤ s) ≤ 4 * power
 apart low high a s power e h k = omega (arith, ints, e, h.0, h.1, k.0, k.1)
 
 module _ (p : Predictor) (c : Image) (cube : IsCube c) (y x : ℕ) (later : 0 < y + x) (wide : p.column ≡ false → 2 ≤ c.shape.columns) where
@@ -79,7 +79,7 @@ module _ (p : Predictor) (c : Image) (cube : IsCube c) (y x : ℕ) (later : 0 < 
           ]
         ]
 
-    sum_within : Between (pos 4 *ℤ smin c.kind) (pos 4 *ℤ smax c.kind) (local_sum p c z y x)
+    pub sum_within : Between (pos 4 *ℤ smin c.kind) (pos 4 *ℤ smax c.kind) (local_sum p c z y x)
     sum_within = elim (cases_eq y 0) [ inl e ↦ rw (sum_in_first_row p c z y x e) (four (smin c.kind) (smax c.kind) _ left) | inr n ↦ by_sums n p.column refl ]
 
     difference_within : (sample : ℤ) → IsSample c.kind sample → unsigned_abs (difference_from p c z y x sample) ≤ 4 * 2 ^ c.kind.bits

@@ -90,7 +90,7 @@ count_is made z first f = by_mode made.reduced refl
     by_mode false h = let n : first ≡ 3 = grind (arith, f) in omega (arith, n, full_count made z h)
 
 -- the first weight, as the code computes it
-seven_fits : (k : ℕ) → k ≤ 16 → 7 * 2 ^ k ≤ 458752
+pub seven_fits : (k : ℕ) → k ≤ 16 → 7 * 2 ^ k ≤ 458752
 seven_fits k h = let p : 2 ^ k ≤ 2 ^ 16 = pow_mono h in omega (arith, p)
 
 first_weight : (k : ℕ) → k ≤ 16 → to_z w32 ((7 * 2 ^ k) % 2 ^ 32) ≡ pos (7 * 2 ^ k)

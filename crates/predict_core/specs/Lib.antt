@@ -3,6 +3,7 @@ pub mod Bounds
 pub mod Differences
 pub mod Following
 pub mod HeightSum
+pub mod Largest
 pub mod Learner
 pub mod LocalSum
 pub mod Mapping

@@ -1,7 +1,6 @@
 //! The predictor of one band.
 
-ghost use Rattle.std.specs.Prelude.{◌≡◌, ◌+◌, ◌*◌, ◌^◌, ◌<◌, ◌≤◌, IfOk, IfErr, if◌then◌else◌, take};
-ghost use Rattle.cube_core.specs.declared.fault.Fault.TheVariants.{WantOfMemory};
+ghost use Rattle.std.specs.Prelude.{◌≡◌, ◌+◌, ◌*◌, ◌^◌, ◌<◌, ◌≤◌, IsOk, IfOk, if◌then◌else◌, take};
 ghost use Rattle.cube_core.specs.Image.{Image, IsPlace, sample_at, put};
 ghost use Rattle.cube_core.specs.Kind.{IsSample};
 ghost use Rattle.header_bits.specs.Lawful.{IsLawful};
@@ -52,13 +51,13 @@ impl Band {
     /// The predictor of band `z`, before its first place.
     ///
     /// `z` is below the number of bands. The room for weights is part of the band, so that no memory is
-    /// asked for today; a refusal is `WantOfMemory`.
+    /// asked for and nothing is refused.
     pub fn new(_alloc: Global, params: &Params, z: u32) -> Result<Band, Fault>
         requires lawful { IsLawful here params.now }
         requires band { z < params.now.shape.bands }
         ensures made { IfOk result (λ b. IsMadeFor params.now b × (b.band ≡ z) × (b.place ≡ 0)) }
         ensures follows { IfOk result (λ b. (c : Image) → Follows params.now b c) }
-        ensures refused { IfErr result (λ e. e ≡ WantOfMemory) }
+        ensures had { IsOk result }
     {
         let predictor = Predictor::of(params);
         let first = first_spectral(params.reduced);

@@ -1,5 +1,6 @@
 //! Laws over the definitions alone.
 
+ghost use Rattle.predict_core.specs.Largest.{RegisterBound};
 ghost use Rattle.predict_core.specs.Mapping.{OneSample};
 ghost use Rattle.predict_core.specs.Precedence.{PlacesPrecede};
 
@@ -13,4 +14,9 @@ pub fn one_sample()
 /// It holds in every encoding order: band sequential, and interleaved with each depth.
 pub fn places_precede()
     ensures { PlacesPrecede }
+{}
+
+/// What the register takes, before it is wrapped, is below 2^45 with either sign.
+pub fn register_bound()
+    ensures { RegisterBound }
 {}

@@ -1,4 +1,4 @@
-use Rattle.std.proofs.Common.{◌≡◌, ◌∙◌, ◌+◌, ◌++◌, ◌∷◌, [], ℕ, List, map, take, get_or, string_bytes, sym, ap, refl, Bor, String, Global}
+use Rattle.std.proofs.Common.{◌≡◌, ◌∙◌, ◌+◌, ◌++◌, ◌∷◌, [], ℕ, List, map, take, get_or, string_bytes, sym, ap, Bor, String, Global}
 use Rattle.std.proofs.lemmas.List.{map_push, map_more, take_all}
 use Rattle.command_words.specs.Words.{texts}
 use Rattle.command_words.proofs.command_line.texts_of.Goals as goal

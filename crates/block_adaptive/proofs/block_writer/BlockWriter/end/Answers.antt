@@ -5,6 +5,7 @@ use Rattle.std.proofs.lemmas.Nat.{pow_pos}
 use Rattle.block_adaptive.specs.Segments.{filled}
 use Rattle.block_adaptive.specs.Settings.{IsCut}
 use Rattle.block_adaptive.specs.Taken.{Packed}
+use Rattle.block_adaptive.proofs.Calls.{ends_inside}
 use Rattle.block_adaptive.proofs.Handed.{size_most}
 use Rattle.block_adaptive.proofs.Packing.{nothing_left, last_block, range_filled, on_ok_of}
 use Rattle.block_adaptive.proofs.block_writer.BlockWriter.end.Goals as goal
@@ -44,3 +45,11 @@ returns-clause-ended c =
     on_ok_of c.pack-2.result _ _
     (λ p. last_block c.args.self.now c.args.writer.now.bits c.pack-2.new.writer.bits cut some most more (range_filled (2 ^ c.args.self.now.cut.set.bits) c.args.self.now.cut.size c.args.self.now.held (pow_pos c.args.self.now.cut.set.bits) range) p)
     (rw block-is at c.pack-2.ensures.appended)
+
+pub returns-clause-memory : goal.returns-clause-memory
+returns-clause-memory c =
+    let held-is : c.args.self.now.held ≡ take c.self.inside.held c.self.inside.values = ap (λ (v : Packed). v.held) (sym c.self.view_is) in
+    let size-is : c.args.self.now.cut.size ≡ c.self.inside.size = ap (λ (v : Packed). v.cut.size) (sym c.self.view_is) in
+    let most = size_most c.self.inside.size c.self.invariant.cut.size in
+    let size : length (take c.self.inside.held c.self.inside.values) ≡ c.self.inside.held = omega (arith, length-take c.self.inside.held c.self.inside.values, c.self.told, c.self.invariant.few) in
+    ends_inside c.args.self.now c.pack-2.result (omega (arith, ap length held-is, size, c.if-self-eq0.false)) (omega (arith, ap length held-is, size, size-is, c.self.invariant.few))

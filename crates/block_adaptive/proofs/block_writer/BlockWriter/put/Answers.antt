@@ -4,6 +4,7 @@ use Rattle.std.proofs.lemmas.List.{length-append, length-take}
 use Rattle.block_adaptive.specs.Settings.{IsCut}
 use Rattle.block_adaptive.specs.Taken.{Packed}
 use Rattle.block_adaptive.specs.contracts.block_writer.BlockWriter.{the_view}
+use Rattle.block_adaptive.proofs.Calls.{ends_block}
 use Rattle.block_adaptive.proofs.Handed.{size_most}
 use Rattle.block_adaptive.proofs.Packing.{number_held, number_packed, held_more, range_push, on_ok_both}
 use Rattle.block_adaptive.proofs.Stored.{total_few}
@@ -32,3 +33,10 @@ returns-clause-taken c =
     on_ok_both c.put_last.result _ _ _
     (λ p q. number_packed c.args.self.now c.put_last.new.self c.args.writer.now.bits c.put_last.new.writer.bits c.args.delta cut c.requires.more len (range_push (2 ^ c.args.self.now.cut.set.bits) c.args.self.now.held c.args.delta range c.requires.number) p q)
     c.put_last.ensures.appended c.put_last.ensures.packed
+
+pub returns-clause-memory : goal.returns-clause-memory
+returns-clause-memory c =
+    let held-is : c.args.self.now.held ≡ take c.self.inside.held c.self.inside.values = ap (λ (v : Packed). v.held) (sym c.self.view_is) in
+    let size-is : c.args.self.now.cut.size ≡ c.self.inside.size = ap (λ (v : Packed). v.cut.size) (sym c.self.view_is) in
+    let one : c.self.inside.size ≡ c.self.inside.held + 1 = omega (arith, c.if-self.false, c.self.invariant.few, length-take c.self.inside.held c.self.inside.values, c.self.told) in
+    ends_block c.args.self.now c.put_last.result (omega (arith, ap length held-is, length-take c.self.inside.held c.self.inside.values, c.self.told, one, size-is, size_most c.self.inside.size c.self.invariant.cut.size))

@@ -1,3 +1,5 @@
+use Rattle.std.proofs.Common.{ap, ◌∙◌}
+use Rattle.coder_pipe.specs.Decoding.{placed_at}
 use Rattle.coder_pipe.proofs.Givers.{samples_given, samples_refused, blocks_given}
 use Rattle.coder_pipe.proofs.decoder.Decoder.next.Goals as goal
 
@@ -7,7 +9,7 @@ returns-in-Ok-clause-given c = λ p numbers bits lawful given next at.
 
 pub returns-in-Err-clause-given : goal.returns-in-Err-clause-given
 returns-in-Err-clause-given c = λ p numbers bits lawful given next at.
-    samples_refused c.args.z c.args.t c.args.place c.in-Err.fault c.placed.result c.in-Samples.stats c.get.new.self c.args.reader.now c.get.new.reader.left c.in-Err.ensures.taken c.placed.ensures.bad c.placed.ensures.ended p numbers bits (rw c.in-Samples.is at given) next at
+    samples_refused c.args.z c.args.t c.args.place c.in-Err.fault c.placed.result c.in-Samples.stats c.get.new.self c.args.reader.now c.get.new.reader.left c.in-Err.ensures.taken (λ s e. c.placed.ensures ∙ ap (placed_at c.args.place) e) (λ n e. c.placed.ensures ∙ ap (placed_at c.args.place) e) p numbers bits (rw c.in-Samples.is at given) next at
 
 pub returns-in-Blocks-clause-given : goal.returns-in-Blocks-clause-given
 returns-in-Blocks-clause-given c = λ p numbers bits lawful given next at.

@@ -1,0 +1,5 @@
+use Rattle.coder_pipe.proofs.FileLaws.{no_shorter_file}
+use Rattle.coder_pipe.proofs.laws.no_shorter_file.Goals as goal
+
+pub returns : goal.returns
+returns c = no_shorter_file

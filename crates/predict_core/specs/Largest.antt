@@ -1,0 +1,23 @@
+-- How large the sum can be from which a sample is predicted (CCSDS 123.0-B-1, "Prediction Calculation").
+use Rattle.std.specs.Prelude.{ℕ, ◌≡◌, ◌+◌, ◌*◌, ◌^◌, ◌<◌, ℤ, pos, ◌+ℤ◌, ◌-ℤ◌, ◌*ℤ◌, unsigned_abs}
+use Rattle.header_bits.specs.declared.params.Params.{Params}
+use Rattle.header_bits.specs.Reach.{here}
+use Rattle.header_bits.specs.Lawful.{IsLawful}
+use Rattle.cube_core.specs.Kind.{smid}
+use Rattle.cube_core.specs.Image.{Image, IsCube, IsPlace}
+use Rattle.predict_core.specs.Predictor.{predictor_of}
+use Rattle.predict_core.specs.LocalSum.{local_sum}
+use Rattle.predict_core.specs.Differences.{difference_vector}
+use Rattle.predict_core.specs.Prediction.{inner_product, weight_vector}
+
+-- what the register takes at row y, column x: the products of weights and differences, and the local sum less four middles with the weights' fraction
+abbrev pub register_sum : Params → Image → ℕ → ℕ → ℕ → ℤ
+register_sum p c z y x =
+    inner_product (weight_vector p c z (y * c.shape.columns + x)) (difference_vector (predictor_of p) c z y x)
+    +ℤ pos (2 ^ p.omega) *ℤ (local_sum (predictor_of p) c z y x -ℤ pos 4 *ℤ smid c.kind)
+
+-- before it is wrapped to the register it is below 2^45, the sign aside
+abbrev pub RegisterBound : Type 0
+RegisterBound =
+    (p : Params) (c : Image) (z y x : ℕ) → IsLawful here p → IsCube c → c.shape ≡ p.shape → c.kind ≡ p.kind
+    → IsPlace c.shape z y x → 0 < y + x → unsigned_abs (register_sum p c z y x) < 2 ^ 45
