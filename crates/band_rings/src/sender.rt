@@ -1,6 +1,7 @@
 //! The end of a lane that sends.
 
 ghost use Rattle.std.specs.Prelude.{◌≡◌, ◌+◌, ◌-◌, ◌^◌, ◌<◌, ◌≤◌, [], ◌∷◌, ◌++◌, length, IfErr, IsOk, IsErr, OnOk, IsTrue, IsFalse};
+ghost use Rattle.cube_core.specs.Shape.{InRange};
 ghost use Rattle.rtrb.specs.Ring.{sent, known_free, producer_capacity};
 ghost use Rattle.band_rings.specs.Ends.{name_of_producer};
 
@@ -20,6 +21,7 @@ pub struct LaneSender {
 impl Model for LaneSender {
     ghost use Rattle.std.specs.Prelude.{◌≡◌, length};
     ghost use Rattle.rtrb.specs.Ring.{sent, known_free, producer_capacity};
+    ghost use Rattle.cube_core.specs.Shape.{InRange};
     ghost use Rattle.band_rings.specs.Lane.{Sending};
     ghost use Rattle.band_rings.specs.Ends.{name_of_producer};
 
@@ -27,16 +29,25 @@ impl Model for LaneSender {
 
     ghost view = { λ s. record { lane = name_of_producer s.producer; sent = sent s.producer; free = known_free s.producer; slots = producer_capacity s.producer } };
 
-    ghost invariant = { λ s. s.count ≡ length (sent s.producer) };
+    ghost invariant = { λ s. (s.count ≡ length (sent s.producer)) × InRange 1 65536 (producer_capacity s.producer) };
 }
 
 impl LaneSender {
     /// The sending end of a new ring.
     pub(crate) fn new(producer: Producer<u16>) -> LaneSender
-        requires { sent producer ≡ [] }
+        requires fresh { sent producer ≡ [] }
+        requires range { InRange 1 65536 (producer_capacity producer) }
         ensures { (result.lane ≡ name_of_producer producer) × (result.sent ≡ []) × (result.free ≡ known_free producer) × (result.slots ≡ producer_capacity producer) }
     {
         LaneSender { producer, count: 0 }
+    }
+
+    /// How many slots the lane has.
+    pub fn slots(&self) -> u32
+        ensures value { result ≡ self.now.slots }
+        ensures range { InRange 1 65536 result }
+    {
+        self.producer.capacity() as u32
     }
 
     /// How many numbers were sent.

@@ -1,6 +1,8 @@
 pub mod Alike
 pub mod Coders
 pub mod Come
+pub mod Encoding
+pub mod Endings
 pub mod FileLaws
 pub mod Fills
 pub mod ForSamples
@@ -9,6 +11,9 @@ pub mod Givers
 pub mod Inverse
 pub mod OneCube
 pub mod Packed
+pub mod Planning
+pub mod Times
 pub mod Walking
 pub mod Weaves
 pub mod Long
+pub mod Weaving

@@ -2,12 +2,16 @@
 #![tactic(auto)]
 
 mod bands;
+mod coding_end;
+mod copied;
 pub mod decode;
 pub mod decoder;
 pub mod encode;
 pub mod encoder;
 pub mod laws;
 pub mod least;
+pub mod plan;
+pub mod weaver;
 pub mod worked;
 pub mod worked_least;
 pub mod worked_parts;

@@ -3,7 +3,7 @@ use Rattle.cube_core.specs.declared.fault.Fault.{Fault}
 use Rattle.header_bits.specs.Bits.{bits_of}
 use Rattle.coder_pipe.specs.File.{filled, fill_length}
 use Rattle.coder_pipe.proofs.Packed.{zeros_are}
-use Rattle.coder_pipe.proofs.encode.put_fill.Goals as goal
+use Rattle.coder_pipe.proofs.coding_end.put_fill.Goals as goal
 
 fills : (r : Result (Unit {0}) Fault) (word n : ℕ) (old new : List Bool) → n ≡ fill_length word (length old) → OnOk r (new ≡ old ++ bits_of n 0) → OnOk r (new ≡ filled word old)
 fills (Ok u) word n old new e h = h ∙ ap (λ (x : List Bool). old ++ x) (zeros_are n ∙ ap (λ k. replicate k false) e)
