@@ -1,4 +1,7 @@
-//! Lanes through their public calls.
+//! Lanes and workers through their public calls.
 
+mod gates;
 mod lanes;
+mod runs;
 mod threads;
+mod workers;

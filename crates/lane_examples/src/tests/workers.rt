@@ -1,0 +1,154 @@
+//! Workers in threads of their own, and what is handed on of them.
+
+ghost use Rattle.std.specs.Prelude.{◌≡◌, [], length};
+ghost use Rattle.cube_core.specs.Shape.{InRange};
+
+use super::gates::StopAt;
+use cube_core::fault::Fault;
+use lane_workers::gate::{Gate, OpenGate};
+use lane_workers::list_feed::ListFeed;
+use lane_workers::ready::Ready;
+use lane_workers::stage::Stage;
+use std::sync::Wait;
+use std::sync::atomic::AtomicBool;
+use std::test::Fail;
+use std::thread;
+use std::thread::{Scope, Threads};
+
+/// What came of a worker.
+#[derive(Clone, Copy, Debug, PartialEq, Eq)]
+enum Outcome {
+    /// All of its numbers were handed on, so many were sent, and so many received.
+    Whole {
+        sent: u64,
+        received: u64,
+    },
+    /// It was stopped, after so many were handed on, as it was told before it was joined, and by the join.
+    Stopped {
+        handed: usize,
+        sent: u64,
+        joined: Option<u64>,
+    },
+}
+
+/// Starts a worker, and takes its numbers into a room as long as its list.
+fn run<'s, E, R: Threads + Wait + Sync + 's, G: Gate + Sync + 's>(
+    scope: &Scope<'s, E>,
+    rt: &'s R,
+    ready: Ready<ListFeed<'s>>,
+    gate: &'s G,
+    over: &'s AtomicBool,
+    room: &mut [u16],
+) -> Result<Outcome, Fault>
+    requires { length room.old ≡ length ready.feed.numbers.now }
+{
+    let mut stage = Stage::start(scope, rt, ready, gate, over)?;
+    for handed in 0..room.len() {
+        let Some(number) = stage.next(rt, over) else {
+            let sent = stage.stopped_at();
+            return Ok(Outcome::Stopped {
+                handed,
+                sent,
+                joined: stage.stop(rt),
+            });
+        };
+        room[handed] = number;
+    }
+    let lane = stage.finish(rt);
+    Ok(Outcome::Whole {
+        sent: lane.sent_count(),
+        received: lane.received_count(),
+    })
+}
+
+/// Numbers of a list.
+fn numbers<const COUNT: usize>() -> [u16; COUNT] {
+    let mut numbers = [0; COUNT];
+    for i in 0..COUNT {
+        numbers[i] = (i % 4096) as u16;
+    }
+    numbers
+}
+
+#[test]
+fn list_is_handed_on(rt: HostRuntime) -> Result<(), Fail> {
+    let list = numbers::<200>();
+    for slots in [1, 2, 5, 8, 1024] {
+        let over = AtomicBool::new(false);
+        let mut room = [0; 200];
+        let feed = ListFeed {
+            predictor: 3,
+            numbers: &list,
+        };
+        let ready = Ready::new(rt.alloc(), slots, feed)?;
+        let outcome = thread::scope(thread::scope_env(), &rt, |scope| {
+            run(scope, &rt, ready, &OpenGate, &over, &mut room)
+        })?;
+        let whole = Outcome::Whole {
+            sent: 200,
+            received: 200,
+        };
+        assert_eq!(rt; outcome, whole);
+        assert_eq!(rt; room, list);
+    }
+    Ok(())
+}
+
+#[test]
+fn stopped_worker_is_told(rt: HostRuntime) -> Result<(), Fail> {
+    let list = numbers::<200>();
+    for slots in [1, 2, 5, 8, 1024] {
+        for nth in [0, 1, 7, 8, 9, 63, 64, 65, 199] {
+            let gate = StopAt {
+                predictor: 3,
+                nth,
+                turn: 0,
+            };
+            let over = AtomicBool::new(false);
+            let mut room = [0; 200];
+            let feed = ListFeed {
+                predictor: 3,
+                numbers: &list,
+            };
+            let ready = Ready::new(rt.alloc(), slots, feed)?;
+            let outcome = thread::scope(thread::scope_env(), &rt, |scope| {
+                run(scope, &rt, ready, &gate, &over, &mut room)
+            })?;
+            let stopped = Outcome::Stopped {
+                handed: nth as usize,
+                sent: nth,
+                joined: Some(nth),
+            };
+            assert_eq!(rt; outcome, stopped);
+            assert_eq!(rt; room[..nth as usize], list[..nth as usize]);
+        }
+    }
+    Ok(())
+}
+
+#[test]
+fn gate_behind_the_list_stops_nobody(rt: HostRuntime) -> Result<(), Fail> {
+    let list = numbers::<6>();
+    let gate = StopAt {
+        predictor: 3,
+        nth: 6,
+        turn: 0,
+    };
+    let over = AtomicBool::new(false);
+    let mut room = [0; 6];
+    let feed = ListFeed {
+        predictor: 3,
+        numbers: &list,
+    };
+    let ready = Ready::new(rt.alloc(), 1, feed)?;
+    let outcome = thread::scope(thread::scope_env(), &rt, |scope| {
+        run(scope, &rt, ready, &gate, &over, &mut room)
+    })?;
+    let whole = Outcome::Whole {
+        sent: 6,
+        received: 6,
+    };
+    assert_eq!(rt; outcome, whole);
+    assert_eq!(rt; room, list);
+    Ok(())
+}
