@@ -1,0 +1,230 @@
+#!/usr/bin/env python3
+"""Holds the built program to what its options say: raw layouts, fields of the header, great sizes, and refusals.
+
+    tests/options.py [PROGRAM]
+
+Raw bytes are laid out here, after the definition of each layout, so that no expected value comes from the program. `rt ci` leaves the
+program where this looks for it; so does `make`.
+"""
+
+import itertools
+import os
+import random
+import resource
+import subprocess
+import sys
+import tempfile
+
+TOP = os.path.dirname(os.path.dirname(os.path.abspath(__file__)))
+PROGRAM = os.path.realpath(sys.argv[1] if len(sys.argv) > 1 else os.path.join(TOP, "crates", "ccsds", "out", "ccsds"))
+
+
+class Room:
+    """A folder, the program over its files, and what has passed."""
+
+    def __init__(self, folder):
+        self.folder, self.passed, self.failed = folder, 0, 0
+
+    def path(self, name):
+        return os.path.join(self.folder, name)
+
+    def read(self, name):
+        with open(self.path(name), "rb") as file:
+            return file.read()
+
+    def write(self, name, data):
+        with open(self.path(name), "wb") as file:
+            file.write(data)
+
+    def run(self, *words, given=b"", limit=None):
+        """The status, the output and the line on standard error of a run."""
+        bound = (lambda: resource.setrlimit(resource.RLIMIT_AS, (limit, limit))) if limit else None
+        ran = subprocess.run([PROGRAM, *map(str, words)], input=given, capture_output=True, cwd=self.folder, preexec_fn=bound, check=False)
+        return ran.returncode, ran.stdout, ran.stderr.decode()
+
+    def hold(self, name, found, wanted):
+        if found == wanted:
+            self.passed += 1
+        else:
+            self.failed += 1
+            print(f"FAILED: {name}: {str(found)[:300]}, and not {str(wanted)[:300]}")
+
+
+# ---- raw layouts
+
+# The index of a sample in each layout, by band, row and column, for so many columns, rows and bands.
+LAYOUTS = {
+    "bsq": lambda z, y, x, nx, ny, nz: (z * ny + y) * nx + x,
+    "bil": lambda z, y, x, nx, ny, nz: (y * nz + z) * nx + x,
+    "bip": lambda z, y, x, nx, ny, nz: (y * nx + x) * nz + z,
+}
+
+
+def raw_bytes(samples, shape, layout, size, little, signed):
+    """The samples, in band sequential order, laid out in so many bytes each."""
+    nx, ny, nz = shape
+    found = [b""] * len(samples)
+    for i, (z, y, x) in enumerate(itertools.product(range(nz), range(ny), range(nx))):
+        end = "little" if little else "big"
+        found[LAYOUTS[layout](z, y, x, nx, ny, nz)] = samples[i].to_bytes(size, end, signed=signed)
+    return b"".join(found)
+
+
+def layouts(room):
+    """Each raw layout is compressed to one file, and that is expanded to each."""
+    for signed, bits in itertools.product((False, True), (7, 8, 13, 16)):
+        shape, chance = (3, 4, 5), random.Random(bits)
+        low = -(1 << bits - 1) if signed else 0
+        samples = [chance.randrange(low, low + (1 << bits)) for _ in range(60)]
+        forms = [(layout, size, little) for layout in LAYOUTS for size in (1, 2) if size == 2 or bits <= 8 for little in (False, True)]
+        sizes = ["--columns", 3, "--rows", 4, "--bands", 5, "--bits", bits, *(["--signed"] if signed else [])]
+        files = []
+        for layout, size, little in forms:
+            words = ["--layout", layout, "--bytes", size, *(["--little"] if little else [])]
+            raw = raw_bytes(samples, shape, layout, size, little, signed)
+            room.write("raw", raw)
+            name = f"{bits} bits, {'signed' if signed else 'unsigned'}, {' '.join(map(str, words))}"
+            room.hold(name, room.run("compress", *sizes, *words, "raw", "file"), (0, b"", ""))
+            files.append(room.read("file"))
+            room.hold(f"{name}, expanded", room.run("expand", *words, "file", "back"), (0, b"", ""))
+            room.hold(f"{name}, expanded to its bytes", room.read("back"), raw)
+        room.hold(f"{bits} bits: one file for all layouts", len(set(files)), 1)
+
+
+# ---- options, as the header tells them
+
+USUAL = {
+    "user": 0, "columns": 4, "rows": 2, "bands": 3, "sample": "unsigned", "bits": 12, "order": "bsq", "word": 1, "coder": "sample",
+    "previous": 3, "mode": "full", "sums": "neighbour", "register": 64, "omega": 13, "interval": 64, "vmin": -1, "vmax": 3,
+    "start": "usual", "umax": 16, "gamma-star": 6, "gamma-zero": 1, "k": 3, "header": 19,
+}
+SIZES = ["--columns", 4, "--rows", 2, "--bands", 3, "--bits", 12]
+
+# What is asked for, and which lines then differ from the usual ones.
+ASKED = [
+    (["--user", 255], {"user": 255}),
+    (["--signed"], {"sample": "signed"}),
+    (["--order", "bi"], {"order": "bi 1"}),
+    (["--order", "bi", "--depth", 3], {"order": "bi 3"}),
+    (["--order", "bsq", "--depth", 3], {}),
+    (["--word", 8], {"word": 8}),
+    (["--previous", 0], {"previous": 0}),
+    (["--previous", 15], {"previous": 15}),
+    (["--reduced"], {"mode": "reduced"}),
+    (["--column-sums"], {"sums": "column"}),
+    (["--register", 32], {"register": 32}),
+    (["--omega", 4], {"omega": 4}),
+    (["--omega", 19], {"omega": 19}),
+    (["--interval-log", 4], {"interval": 16}),
+    (["--interval-log", 11], {"interval": 2048}),
+    (["--vmin-code", 0], {"vmin": -6}),
+    (["--vmax-code", 15], {"vmax": 9}),
+    (["--umax", 8], {"umax": 8}),
+    (["--umax", 32], {"umax": 32}),
+    (["--gamma-star", 9, "--gamma-zero", 8], {"gamma-star": 9, "gamma-zero": 8}),
+    (["--gamma-star", 4], {"gamma-star": 4}),
+    (["--k", 0], {"k": 0}),
+    (["--k", 10], {"k": 10}),
+]
+BLOCKS = [
+    ([], {}),
+    (["--block", 16], {"block": 16}),
+    (["--block", 32], {"block": 32}),
+    (["--block", 64], {"block": 64}),
+    (["--reference", 1], {"reference": 1}),
+    (["--reference", 4096], {"reference": 4096}),
+]
+
+
+def told(fields):
+    return "".join(f"{name} {value}\n" for name, value in fields.items()).encode()
+
+
+def options(room):
+    """Each option of `compress` reaches its field of the header, and no other."""
+    room.write("raw", bytes(48))
+    for words, changed in ASKED:
+        compared(room, words, USUAL | changed)
+    front = {name: value for name, value in USUAL.items() if name not in ("umax", "gamma-star", "gamma-zero", "k", "header")}
+    for words, changed in BLOCKS:
+        rest = {"block": 8, "restricted": "no", "reference": 64, "header": 19} | changed
+        compared(room, ["--coder", "block", *words], front | {"coder": "block"} | rest)
+
+
+def compared(room, words, fields):
+    name = " ".join(map(str, words))
+    room.hold(name, room.run("compress", *SIZES, *words, "raw", "file"), (0, b"", ""))
+    room.hold(f"{name}, told", room.run("inspect", given=room.read("file")), (0, told(fields), ""))
+    room.hold(f"{name}, expanded", room.run("expand", "file", "back"), (0, b"", ""))
+    room.hold(f"{name}, expanded to its bytes", room.read("back"), bytes(48))
+
+
+# ---- great sizes
+
+GREAT = [(65_536, 3, 1), (3, 65_536, 1), (3, 1, 65_536), (4_097, 4_096, 1)]
+
+
+def great_sizes(room):
+    """The greatest sizes each way, and more than 2^24 samples, by both coders."""
+    for shape in GREAT:
+        count = shape[0] * shape[1] * shape[2]
+        raw = random.Random(count).randbytes(count)
+        room.write("raw", raw)
+        sizes = ["--columns", shape[0], "--rows", shape[1], "--bands", shape[2], "--bits", 8, "--bytes", 1]
+        for coder in ("sample", "block"):
+            name = f"{shape} by {coder}"
+            room.hold(name, room.run("compress", *sizes, "--coder", coder, "raw", "file"), (0, b"", ""))
+            room.hold(f"{name}, expanded", room.run("expand", "--bytes", 1, "file", "back"), (0, b"", ""))
+            room.hold(f"{name}, expanded to its bytes", room.read("back") == raw, True)
+
+
+# ---- refusals
+
+HEADER = "00 0001 0002 0001 11 0000 08 00 02 a0 92 59 00 82 26"
+
+
+def header(*changes):
+    """The header of two samples, but for some bytes, each behind its place."""
+    found = bytearray.fromhex(HEADER)
+    for place, byte in changes:
+        found[place] = byte
+    return bytes(found)
+
+
+BLOCK = ((10, 0x0C), (17, 0x00), (18, 0x01))
+REFUSED = [
+    (header()[:18], "1 ShortHeader"),
+    (header((11, 0x01)), "2 Reserved 95"),
+    (header((7, 0x03)), "3 FieldRange DynamicRange 1"),
+    (header((13, 0x20)), "4 Disagree NeighbourOneColumn"),
+    (header() + b"\x90", "6 Truncated 160"),
+    (header((17, 0x42), (18, 0x20)) + b"\x90\x00\x03", "7 BadCode 1"),
+    (header(*BLOCK) + b"\xC0\x00\x00", "8 BadOption 0"),
+    (header(*BLOCK) + b"\x04", "9 RunPastSegment 0"),
+    (header() + b"\x90\x81", "10 BadFill"),
+    (header() + b"\x90\x80\x00", "11 TooLong 12"),
+]
+
+
+def refusals(room):
+    """Each refusal of a file is told by its line, and leaves OUT empty; so is want of memory."""
+    for file, line in REFUSED:
+        room.write("file", file)
+        room.hold(line, room.run("expand", "file", "back"), (2, b"", f"ccsds: {line}\n"))
+        room.hold(f"{line}: OUT", room.read("back"), b"")
+    room.write("raw", bytes(1 << 25))
+    words = ["compress", "--columns", 4096, "--rows", 4096, "--bands", 1, "--bits", 16, "raw", "file"]
+    room.hold("memory", room.run(*words, limit=1 << 25), (3, b"", "ccsds: 12 WantOfMemory\n"))
+
+
+def main():
+    with tempfile.TemporaryDirectory() as folder:
+        room = Room(folder)
+        for part in (layouts, options, great_sizes, refusals):
+            part(room)
+    print(f"options.py: {room.passed} passed, {room.failed} failed")
+    return 1 if room.failed else 0
+
+
+if __name__ == "__main__":
+    sys.exit(main())
