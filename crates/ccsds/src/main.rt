@@ -1,25 +1,26 @@
 //! The program `ccsds`: the commands over files and the standard streams.
 #![tactic(auto)]
 
-ghost use Rattle.std.specs.Prelude.{◌≡◌, ◌⊎◌};
+ghost use Rattle.std.specs.Prelude.{◌≡◌, ◌⊎◌, IfOk, map, string_bytes};
 ghost use Rattle.cube_core.specs.declared.fault.Fault.TheVariants.{WantOfMemory};
 ghost use Rattle.std.specs.Process.{exit_status};
+ghost use Rattle.ccsds_command.specs.Command.{Ran, name_in, name_out};
 ghost use Rattle.command_reports.specs.Status.{status};
+ghost use Rattle.command_settings.specs.declared.settings.Settings.{Settings as Asked};
+ghost use Rattle.command_words.specs.Words.{Ask};
 
-use ccsds_command::compress::run_compress;
-use ccsds_command::expand::run_expand;
-use ccsds_command::inspect::run_inspect;
-use ccsds_command::show::run_show;
-use command_devices::stream::{ReaderSource, WriterSink};
+mod system;
+
+use ccsds_command::command::run_command;
+use ccsds_command::opener::{Ended, Opener};
 use command_reports::report::{fault_line, status_of};
-use command_settings::settings::Settings;
 use command_words::command_line::settings_of;
 use cube_core::fault::Fault;
-use std::fs::{self, File};
+use std::alloc::Global;
+use std::env;
 use std::io::Write;
-use std::os::unix::fs::MetadataExt;
 use std::process::ExitCode;
-use std::{env, io};
+use system::System;
 
 fn main(rt: HostRuntime) -> ExitCode {
     match run(&rt) {
@@ -28,23 +29,21 @@ fn main(rt: HostRuntime) -> ExitCode {
     }
 }
 
-/// Runs the command that the words name.
+/// Runs the command that the words name, over the system.
 fn run(rt: &HostRuntime) -> Result<(), Fault> {
-    let alloc = rt.alloc();
-    let mut input = ReaderSource::new(rt.stdin());
-    let mut output = WriterSink::new(io::writer(rt));
-    match settings_of(alloc, &words(rt)?)? {
-        Settings::Show => run_show(alloc, &mut input, &mut output),
-        Settings::Compress(settings, from, to) => {
-            let (mut source, mut sink) = opened(rt, from.as_str(), to.as_str())?;
-            run_compress(alloc, &mut source, &mut sink, &settings)
-        }
-        Settings::Expand(layout, from, to) => {
-            let (mut source, mut sink) = opened(rt, from.as_str(), to.as_str())?;
-            run_expand(alloc, &mut source, &mut sink, &layout)
-        }
-        Settings::Inspect => run_inspect(alloc, &mut input, &mut output),
-    }
+    run_words(rt.alloc(), &System { rt }, &words(rt)?)?.answer
+}
+
+/// Runs the command that words ask for, between the ends that they name.
+fn run_words<O: Opener>(
+    alloc: Global,
+    opener: &O,
+    words: &[String],
+) -> Result<Ended<O::Input, O::Output>, Fault>
+    ensures ran { IfOk result (λ ended. (settings : Asked) × Ask (map string_bytes words.now) settings × (s : O.Input) × (k : O.Output) × O.opens opener.now (name_in settings) s × O.makes opener.now (name_out settings) k × Ran settings (O.Input.left s) (O.Input.failures s) (O.Input.failures ended.input) (O.Output.taken k) (O.Output.taken ended.output) (O.Output.failures k) (O.Output.failures ended.output) (O.Output.stalls k) (O.Output.stalls ended.output) ended.answer) }
+{
+    let settings = settings_of(alloc, words)?;
+    run_command(alloc, opener, &settings)
 }
 
 /// The words behind the program's name. Words that aren't text are `Usage`.
@@ -53,32 +52,6 @@ fn words(rt: &HostRuntime) -> Result<Vec<String>, Fault> {
         return Err(Fault::Usage);
     };
     Ok(words.skip(1).collect(rt.alloc())?)
-}
-
-/// Opens the one file, and then makes or empties the other. Where that would empty the one, it can't be made.
-fn opened(
-    rt: &HostRuntime,
-    from: &str,
-    to: &str,
-) -> Result<(ReaderSource<File>, WriterSink<File>), Fault> {
-    let Ok(from) = File::open(rt, from) else {
-        return Err(Fault::Read);
-    };
-    if leads_to(rt, to, &from) {
-        return Err(Fault::Write { written: 0 });
-    }
-    let Ok(to) = File::create(rt, to) else {
-        return Err(Fault::Write { written: 0 });
-    };
-    Ok((ReaderSource::new(from), WriterSink::new(to)))
-}
-
-/// Whether a name, through whatever links, leads to a file that is open: its numbers say so.
-fn leads_to(rt: &HostRuntime, name: &str, open: &File) -> bool {
-    match (fs::metadata(rt, name), open.metadata()) {
-        (Ok(there), Ok(here)) => there.dev() == here.dev() && there.ino() == here.ino(),
-        _ => false,
-    }
 }
 
 /// Prints the fault's line on standard error, and gives its exit status. Where there is no memory for

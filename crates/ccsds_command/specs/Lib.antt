@@ -1,3 +1,4 @@
+pub mod Command
 pub mod Compress
 pub mod Expand
 pub mod Inspect

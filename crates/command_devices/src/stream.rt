@@ -24,6 +24,13 @@ impl<R: Read> ReaderSource<R> {
             failures: 0,
         }
     }
+
+    /// The reader below.
+    pub fn reader(&self) -> &R
+        ensures { R.remaining result.now ≡ ⟦<ReaderSource<R> as Source>⟧.left self.now }
+    {
+        &self.reader
+    }
 }
 
 impl<R: Read> Source for ReaderSource<R> {
@@ -62,6 +69,13 @@ impl<W: Write> WriterSink<W> {
             failures: 0,
             stalls: 0,
         }
+    }
+
+    /// The writer, with what it took.
+    pub fn into_writer(self) -> W
+        ensures { W.contents result ≡ ⟦<WriterSink<W> as Sink>⟧.taken self }
+    {
+        self.writer
     }
 }
 

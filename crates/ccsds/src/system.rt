@@ -1,0 +1,112 @@
+//! The system that the program runs on: its standard streams and its files, as the ends of a command.
+
+ghost use Rattle.std.specs.Prelude.{◌≡◌, ⊤};
+
+use ccsds_command::opener::Opener;
+use command_devices::sink::Sink;
+use command_devices::source::Source;
+use command_devices::stream::{ReaderSource, WriterSink};
+use cube_core::fault::Fault;
+use std::fs::{self, File};
+use std::io::{self, Printer, Read, Stdin, Write};
+use std::os::unix::fs::MetadataExt;
+
+/// The system, by what the program was started with.
+#[derive(Drop)]
+pub(crate) struct System<'a> {
+    pub rt: &'a HostRuntime,
+}
+
+/// Where a command reads: the standard input, or a file.
+#[derive(Drop)]
+pub(crate) enum Reader {
+    Standard(Stdin),
+    File(File),
+}
+
+impl Read for Reader {
+    fn read(&mut self, buffer: &mut [u8]) -> io::Result<usize> {
+        match self {
+            Reader::Standard(input) => input.read(buffer),
+            Reader::File(file) => file.read(buffer),
+        }
+    }
+}
+
+/// Where a command writes: the standard output, or a file.
+#[derive(Drop)]
+pub(crate) enum Writer<'a> {
+    Standard(Printer<'a, HostRuntime>),
+    File(File),
+}
+
+impl Write for Writer<'_> {
+    fn write(&mut self, piece: &[u8]) -> io::Result<usize> {
+        match self {
+            Writer::Standard(output) => output.write(piece),
+            Writer::File(file) => file.write(piece),
+        }
+    }
+
+    fn flush(&mut self) -> io::Result<()> {
+        match self {
+            Writer::Standard(output) => output.flush(),
+            Writer::File(file) => file.flush(),
+        }
+    }
+}
+
+impl<'a> Opener for System<'a> {
+    type Input = ReaderSource<Reader>;
+
+    type Output = WriterSink<Writer<'a>>;
+
+    // Nothing is known of what a file or stream of the system holds, but that it hasn't failed yet.
+    ghost opens = { λ s name input. ⟦<ReaderSource<Reader> as Source>⟧.failures input ≡ 0 };
+
+    ghost makes = { λ s name output. ⟦<WriterSink<Writer<'a>> as Sink>⟧.failures output ≡ 0 };
+
+    ghost has_none = { λ s name. ⊤ };
+
+    ghost makes_none = { λ s name. ⊤ };
+
+    fn standard_input(&self) -> ReaderSource<Reader> {
+        ReaderSource::new(Reader::Standard(self.rt.stdin()))
+    }
+
+    fn standard_output(&self) -> WriterSink<Writer<'a>> {
+        WriterSink::new(Writer::Standard(io::writer(self.rt)))
+    }
+
+    fn open(&self, name: &str) -> Result<ReaderSource<Reader>, Fault> {
+        match File::open(self.rt, name) {
+            Ok(file) => Ok(ReaderSource::new(Reader::File(file))),
+            Err(_) => Err(Fault::Read),
+        }
+    }
+
+    fn create(
+        &self,
+        input: &ReaderSource<Reader>,
+        name: &str,
+    ) -> Result<WriterSink<Writer<'a>>, Fault> {
+        if leads_to(self.rt, name, input.reader()) {
+            return Err(Fault::Write { written: 0 });
+        }
+        match File::create(self.rt, name) {
+            Ok(file) => Ok(WriterSink::new(Writer::File(file))),
+            Err(_) => Err(Fault::Write { written: 0 }),
+        }
+    }
+}
+
+/// Whether a name, through whatever links, leads to the file that is read: its numbers say so.
+fn leads_to(rt: &HostRuntime, name: &str, input: &Reader) -> bool {
+    let Reader::File(open) = input else {
+        return false;
+    };
+    match (fs::metadata(rt, name), open.metadata()) {
+        (Ok(there), Ok(here)) => there.dev() == here.dev() && there.ino() == here.ino(),
+        _ => false,
+    }
+}

@@ -1,0 +1,67 @@
+-- What the run of a command promises, whichever it is: what its engine does.
+use Rattle.std.specs.Prelude.{ℕ, List, Option, Some, None, string_bytes, ⊤, Result, OnOk, IfErr}
+use Rattle.cube_core.specs.declared.fault.Fault.{Fault}
+use Rattle.cube_core.specs.Layout.{IsLayout}
+use Rattle.header_bits.specs.declared.params.Params.{Params}
+use Rattle.command_settings.specs.declared.settings.Settings.{Settings}
+use Rattle.command_settings.specs.declared.settings.Settings.TheVariants.{Show, Compress, Expand, Inspect}
+use Rattle.command_devices.specs.Reading.{file_limit}
+use Rattle.ccsds_command.specs.Compress.{Compresses, IsCompressFault, raw_limit}
+use Rattle.ccsds_command.specs.Expand.{Expands, IsExpandFault}
+use Rattle.ccsds_command.specs.Inspect.{Inspects, IsInspectFault}
+use Rattle.ccsds_command.specs.Show.{Shows, IsShowFault, show_limit}
+
+-- the file that a command reads; with no name it is the standard input
+abbrev pub name_in : Settings → Option (List ℕ)
+name_in Show = None
+name_in (Compress settings from to) = Some (string_bytes from)
+name_in (Expand layout from to) = Some (string_bytes from)
+name_in Inspect = None
+
+-- the file that it writes; with no name it is the standard output
+abbrev pub name_out : Settings → Option (List ℕ)
+name_out Show = None
+name_out (Compress settings from to) = Some (string_bytes to)
+name_out (Expand layout from to) = Some (string_bytes to)
+name_out Inspect = None
+
+-- the parameters that are judged before anything is read
+abbrev pub judged : Settings → Option Params
+judged Show = None
+judged (Compress settings from to) = Some settings.params
+judged (Expand layout from to) = None
+judged Inspect = None
+
+-- raw samples have one byte or two
+abbrev pub HasLayout : Settings → Type 0
+HasLayout Show = ⊤
+HasLayout (Compress settings from to) = IsLayout settings.layout
+HasLayout (Expand layout from to) = IsLayout layout
+HasLayout Inspect = ⊤
+
+-- what the sink gained of the source's bytes
+abbrev pub Does : Settings → Option (List ℕ) → Option (List ℕ) → Option (List ℕ) → Type 0
+Does Show left old new = Shows left old new
+Does (Compress settings from to) left old new = Compresses settings left old new
+Does (Expand layout from to) left old new = Expands layout left old new
+Does Inspect left old new = Inspects left old new
+
+-- why it is refused, and what was written then
+abbrev pub IsFaultOf : Settings → Option (List ℕ) → ℕ → ℕ → Option (List ℕ) → Option (List ℕ) → ℕ → ℕ → ℕ → ℕ → Fault → Type 0
+IsFaultOf Show = IsShowFault
+IsFaultOf (Compress settings from to) = IsCompressFault settings
+IsFaultOf (Expand layout from to) = IsExpandFault layout
+IsFaultOf Inspect = IsInspectFault
+
+-- how many bytes are read of an input at most
+abbrev pub limit_of : Settings → List ℕ → ℕ
+limit_of Show = show_limit
+limit_of (Compress settings from to) = λ _. raw_limit settings
+limit_of (Expand layout from to) = λ _. file_limit
+limit_of Inspect = λ _. file_limit
+
+-- between a source and a sink a command did what it is to do, or was refused for a reason of its own
+abbrev pub Ran : {U : Type 0} → Settings → Option (List ℕ) → ℕ → ℕ → Option (List ℕ) → Option (List ℕ) → ℕ → ℕ → ℕ → ℕ → Result U Fault → Type 0
+Ran settings left read_failures read_failures_now old new failures failures_now stalls stalls_now answer =
+    OnOk answer (Does settings left old new)
+    × IfErr answer (IsFaultOf settings left read_failures read_failures_now old new failures failures_now stalls stalls_now)

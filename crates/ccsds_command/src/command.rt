@@ -1,0 +1,95 @@
+//! A command, whichever it is, from its settings to the ends that they name.
+
+ghost use Rattle.std.specs.Prelude.{◌≡◌, ◌⊎◌, ℕ, List, Some, Err, IfOk, IfErr, OnOk, string_bytes};
+ghost use Rattle.cube_core.specs.declared.fault.Fault.{Fault as Refusal};
+ghost use Rattle.cube_core.specs.declared.fault.Fault.TheVariants.{Read, Write};
+ghost use Rattle.header_bits.specs.declared.params.Params.{Params as Parameters};
+ghost use Rattle.header_bits.specs.Reach.{here};
+ghost use Rattle.header_bits.specs.Lawful.{params_fault};
+ghost use Rattle.command_devices.specs.Devices.{GaveWithin};
+ghost use Rattle.ccsds_command.specs.Command.{Does, HasLayout, IsFaultOf, Ran, judged, limit_of, name_in, name_out};
+
+use crate::compress::run_compress;
+use crate::expand::run_expand;
+use crate::inspect::run_inspect;
+use crate::opener::{Ended, Opener};
+use crate::show::run_show;
+use command_devices::sink::Sink;
+use command_devices::source::Source;
+use command_settings::settings::Settings;
+use cube_core::fault::Fault;
+use std::alloc::Global;
+
+/// Opens the ends that a command names, the input first, and runs it between them.
+///
+/// `Read` where the input can't be opened; then no output was made. `Write` with no byte where the output
+/// can't be made; then nothing was read. What the command itself answers stands with its ends.
+pub fn run_command<O: Opener>(
+    alloc: Global,
+    opener: &O,
+    settings: &Settings,
+) -> Result<Ended<O::Input, O::Output>, Fault>
+    requires { HasLayout settings.now }
+    ensures ran { IfOk result (λ ended. (s : O.Input) × (k : O.Output) × O.opens opener.now (name_in settings.now) s × O.makes opener.now (name_out settings.now) k × Ran settings.now (O.Input.left s) (O.Input.failures s) (O.Input.failures ended.input) (O.Output.taken k) (O.Output.taken ended.output) (O.Output.failures k) (O.Output.failures ended.output) (O.Output.stalls k) (O.Output.stalls ended.output) ended.answer) }
+    ensures refused { IfErr result (λ e. ((name : List ℕ) × (name_in settings.now ≡ Some name) × (e ≡ Read) × O.has_none opener.now name) ⊎ ((name : List ℕ) × (name_out settings.now ≡ Some name) × (e ≡ Write 0) × O.makes_none opener.now name)) }
+{
+    let mut input = input_of(opener, settings)?;
+    let mut output = output_of(opener, &input, settings)?;
+    let answer = run_between(alloc, settings, &mut input, &mut output);
+    Ok(Ended {
+        input,
+        output,
+        answer,
+    })
+}
+
+/// Opens where a command reads.
+fn input_of<O: Opener>(opener: &O, settings: &Settings) -> Result<O::Input, Fault>
+    ensures opened { IfOk result (O.opens opener.now (name_in settings.now)) }
+    ensures refused { IfErr result (λ e. (name : List ℕ) × (name_in settings.now ≡ Some name) × (e ≡ Read) × O.has_none opener.now name) }
+{
+    match settings {
+        Settings::Show | Settings::Inspect => Ok(opener.standard_input()),
+        Settings::Compress(_, from, _) | Settings::Expand(_, from, _) => opener.open(from.as_str()),
+    }
+}
+
+/// Makes where a command writes.
+fn output_of<O: Opener>(
+    opener: &O,
+    input: &O::Input,
+    settings: &Settings,
+) -> Result<O::Output, Fault>
+    ensures made { IfOk result (O.makes opener.now (name_out settings.now)) }
+    ensures refused { IfErr result (λ e. (name : List ℕ) × (name_out settings.now ≡ Some name) × (e ≡ Write 0) × O.makes_none opener.now name) }
+{
+    match settings {
+        Settings::Show | Settings::Inspect => Ok(opener.standard_output()),
+        Settings::Compress(_, _, to) | Settings::Expand(_, _, to) => {
+            opener.create(input, to.as_str())
+        }
+    }
+}
+
+/// Runs a command between its two ends.
+///
+/// Its refusals, and what is then written, are those of the command.
+pub fn run_between<S: Source, K: Sink>(
+    alloc: Global,
+    settings: &Settings,
+    source: &mut S,
+    sink: &mut K,
+) -> Result<(), Fault>
+    requires { HasLayout settings.now }
+    ensures checked { (p : Parameters) (fault : Refusal) → judged settings.now ≡ Some p → params_fault here p ≡ Err fault → (result ≡ Err fault) × (source.new ≡ source.old) × (sink.new ≡ sink.old) }
+    ensures done { OnOk result (Does settings.now (S.left source.old) (K.taken sink.old) (K.taken sink.new)) }
+    ensures refused { IfErr result (IsFaultOf settings.now (S.left source.old) (S.failures source.old) (S.failures source.new) (K.taken sink.old) (K.taken sink.new) (K.failures sink.old) (K.failures sink.new) (K.stalls sink.old) (K.stalls sink.new)) }
+    ensures bounded { GaveWithin (limit_of settings.now) (S.left source.old) (S.left source.new) }
+{
+    match settings {
+        Settings::Show => run_show(alloc, source, sink),
+        Settings::Compress(settings, _, _) => run_compress(alloc, source, sink, settings),
+        Settings::Expand(layout, _, _) => run_expand(alloc, source, sink, layout),
+        Settings::Inspect => run_inspect(alloc, source, sink),
+    }
+}

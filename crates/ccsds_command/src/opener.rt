@@ -1,0 +1,54 @@
+//! What a command is run over: whatever opens its ends.
+
+ghost use Rattle.std.specs.Prelude.{◌≡◌, List, Option, Some, None, ℕ, IfOk, IfErr};
+ghost use Rattle.cube_core.specs.declared.fault.Fault.TheVariants.{Read, Write};
+
+use command_devices::sink::Sink;
+use command_devices::source::Source;
+use cube_core::fault::Fault;
+
+/// Opens the ends of a command: where its input comes from and where its output goes, each a standard
+/// stream or a file by its name.
+///
+/// Contracts see which source or sink a name may stand for (no name stands for the standard stream), and
+/// which names stand for none. An output is asked for with the input in hand, so the input is opened first.
+pub trait Opener {
+    type Input: Source + Drop;
+
+    type Output: Sink + Drop;
+
+    ghost opens: { Self → Option (List ℕ) → Self.Input → Type 0 };
+
+    ghost makes: { Self → Option (List ℕ) → Self.Output → Type 0 };
+
+    ghost has_none: { Self → List ℕ → Type 0 };
+
+    ghost makes_none: { Self → List ℕ → Type 0 };
+
+    /// The standard input.
+    fn standard_input(&self) -> Self::Input
+        ensures { opens self.now None result };
+
+    /// The standard output.
+    fn standard_output(&self) -> Self::Output
+        ensures { makes self.now None result };
+
+    /// The file of this name. `Read` where it can't be opened.
+    fn open(&self, name: &str) -> Result<Self::Input, Fault>
+        ensures opened { IfOk result (opens self.now (Some name.now)) }
+        ensures refused { IfErr result (λ e. (e ≡ Read) × has_none self.now name.now) };
+
+    /// A new file of this name, or the one that is there, emptied. `Write` with no byte where it can't be
+    /// made, or where it is the input.
+    fn create(&self, input: &Self::Input, name: &str) -> Result<Self::Output, Fault>
+        ensures made { IfOk result (makes self.now (Some name.now)) }
+        ensures refused { IfErr result (λ e. (e ≡ Write 0) × makes_none self.now name.now) };
+}
+
+/// A command that was run: what is left of its ends, and its answer.
+#[derive(Drop)]
+pub struct Ended<S: Drop, K: Drop> {
+    pub input: S,
+    pub output: K,
+    pub answer: Result<(), Fault>,
+}

@@ -1,0 +1,125 @@
+//! Each command between the ends that it names, over files in memory.
+
+ghost use Rattle.std.specs.Prelude.{◌≡◌, ◌≢◌, codes};
+ghost use Rattle.ccsds_command.specs.Command.{HasLayout};
+
+use super::support::{ONE_BYTE, TWO_EQUAL_FILE, inspected, two_equal};
+use ccsds_command::command::run_command;
+use ccsds_command::opener::Opener;
+use command_devices::sink::Sink;
+use command_devices::source::Source;
+use command_devices::stream::{ReaderSource, WriterSink};
+use command_settings::settings::Settings;
+use cube_core::fault::Fault;
+use std::alloc::Global;
+use std::test::Fail;
+
+/// A standard input, and one file, whose name is `in`. Any new file can be made but one of that name.
+#[derive(Drop)]
+struct Memory<'a> {
+    alloc: Global,
+    standard: &'a [u8],
+    file: &'a [u8],
+}
+
+impl<'a> Opener for Memory<'a> {
+    type Input = ReaderSource<&'a [u8]>;
+
+    type Output = WriterSink<Vec<u8>>;
+
+    ghost opens = { λ m name input. ⟦<ReaderSource<&'a [u8]> as Source>⟧.failures input ≡ 0 };
+
+    ghost makes = { λ m name output. ⟦<WriterSink<Vec<u8>> as Sink>⟧.failures output ≡ 0 };
+
+    ghost has_none = { λ m name. name ≢ codes "in" };
+
+    ghost makes_none = { λ m name. name ≡ codes "in" };
+
+    fn standard_input(&self) -> ReaderSource<&'a [u8]> {
+        ReaderSource::new(self.standard)
+    }
+
+    fn standard_output(&self) -> WriterSink<Vec<u8>> {
+        WriterSink::new(Vec::new(self.alloc))
+    }
+
+    fn open(&self, name: &str) -> Result<ReaderSource<&'a [u8]>, Fault> {
+        if name == "in" {
+            Ok(ReaderSource::new(self.file))
+        } else {
+            Err(Fault::Read)
+        }
+    }
+
+    fn create(
+        &self,
+        _input: &ReaderSource<&'a [u8]>,
+        name: &str,
+    ) -> Result<WriterSink<Vec<u8>>, Fault> {
+        if name == "in" {
+            Err(Fault::Write { written: 0 })
+        } else {
+            Ok(WriterSink::new(Vec::new(self.alloc)))
+        }
+    }
+}
+
+/// What a command writes over a standard input and a file.
+fn written(
+    rt: &HostRuntime,
+    standard: &[u8],
+    file: &[u8],
+    settings: &Settings,
+) -> Result<Vec<u8>, Fault>
+    requires { HasLayout settings.now }
+{
+    let alloc = rt.alloc();
+    let memory = Memory {
+        alloc,
+        standard,
+        file,
+    };
+    let ended = run_command(alloc, &memory, settings)?;
+    ended.answer?;
+    Ok(ended.output.into_writer())
+}
+
+/// A file's name.
+fn name(rt: &HostRuntime, text: &str) -> Result<String, Fail> {
+    Ok(String::from_str(rt.alloc(), text)?)
+}
+
+#[test]
+fn compress_and_expand_go_from_file_to_file(rt: HostRuntime) -> Result<(), Fail> {
+    let settings = Settings::Compress(two_equal()?, name(&rt, "in")?, name(&rt, "out")?);
+    let file = written(&rt, &[], &[200, 200], &settings)?;
+    assert_eq!(rt; file.as_slice(), TWO_EQUAL_FILE.as_slice());
+    let settings = Settings::Expand(ONE_BYTE, name(&rt, "in")?, name(&rt, "out")?);
+    let raw = written(&rt, &[], &TWO_EQUAL_FILE, &settings)?;
+    assert_eq!(rt; raw.as_slice(), [200u8, 200].as_slice());
+    Ok(())
+}
+
+#[test]
+fn show_and_inspect_go_between_the_standard_streams(rt: HostRuntime) -> Result<(), Fail> {
+    let shown = written(&rt, &[0, 1, 0, 2, 0, 1, 200, 200], &[], &Settings::Show)?;
+    let text = b"00000100020001110000080002a092590082269080\n";
+    assert_eq!(rt; shown.as_slice(), text.as_slice());
+    let told = written(&rt, &TWO_EQUAL_FILE, &[], &Settings::Inspect)?;
+    assert_eq!(rt;
+        told.as_slice(),
+        inspected(&rt, &TWO_EQUAL_FILE)?.as_slice()
+    );
+    Ok(())
+}
+
+#[test]
+fn ends_that_are_not_there_are_told(rt: HostRuntime) -> Result<(), Fail> {
+    let settings = Settings::Expand(ONE_BYTE, name(&rt, "other")?, name(&rt, "out")?);
+    let refused = written(&rt, &[], &TWO_EQUAL_FILE, &settings);
+    assert_eq!(rt; refused.err(), Some(Fault::Read));
+    let settings = Settings::Expand(ONE_BYTE, name(&rt, "in")?, name(&rt, "in")?);
+    let refused = written(&rt, &[], &TWO_EQUAL_FILE, &settings);
+    assert_eq!(rt; refused.err(), Some(Fault::Write { written: 0 }));
+    Ok(())
+}
