@@ -4,8 +4,10 @@ mod bits;
 mod block_coder;
 mod cube;
 mod files;
+mod lanes;
 mod predictor;
 mod report;
+mod ring;
 mod sample_coder;
 mod synthetic;
 
@@ -23,6 +25,7 @@ fn main() {
             sample_coder::measure(&report);
             block_coder::measure(&report);
             files::measure(&report);
+            lanes::measure(&report);
         }
         Some(subject) if subject == "raw" => predictor::print_raw(),
         Some(subject) => {
@@ -42,6 +45,7 @@ fn measure(subject: &str) {
         "sample_coder" => sample_coder::measure(&report),
         "block_coder" => block_coder::measure(&report),
         "files" => files::measure(&report),
+        "lanes" => lanes::measure(&report),
         _ => {}
     }
 }
