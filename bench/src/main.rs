@@ -11,8 +11,10 @@ mod bits;
 mod block_coder;
 mod cube;
 mod files;
+mod lanes;
 mod predictor;
 mod report;
+mod ring;
 mod sample_coder;
 mod scene;
 mod synthetic;
@@ -33,6 +35,7 @@ fn main() {
             sample_coder::measure(&report);
             block_coder::measure(&report);
             files::measure(&report);
+            lanes::measure(&report);
         }
         Some("raw") => predictor::print_raw(),
         Some("scene") => {
@@ -63,6 +66,7 @@ fn measure(subject: &str) {
         "sample_coder" => sample_coder::measure(&report),
         "block_coder" => block_coder::measure(&report),
         "files" => files::measure(&report),
+        "lanes" => lanes::measure(&report),
         _ => {}
     }
 }

@@ -18,6 +18,10 @@ use Rattle.header_bits.specs.Reach.{here}
 abbrev pub measured_shape : Bool → Sizes
 measured_shape timed = if timed then record { columns = 512; rows = 512; bands = 24 } else record { columns = 23; rows = 17; bands = 5 }
 
+-- how many numbers go through a lane
+abbrev pub measured_numbers : Bool → ℕ
+measured_numbers timed = if timed then 1000000 else 5000
+
 -- the sample-adaptive coder with the usual numbers
 abbrev pub usual_coder : Coder
 usual_coder = Sample 16 6 1 (Constant 3)

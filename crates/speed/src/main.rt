@@ -9,6 +9,7 @@
 mod block_coder;
 mod cube;
 mod files;
+mod lanes;
 mod predictor;
 mod report;
 mod sample_coder;
@@ -17,6 +18,7 @@ mod synthetic;
 use crate::report::Report;
 use anyhow::Result;
 use std::env;
+use std::thread::Threads;
 
 /// How often each subject's loops are measured.
 const ROUNDS: u32 = 5;
@@ -31,12 +33,13 @@ fn main(rt: HostRuntime) -> Result<()> {
             predictor::measure(&report)?;
             sample_coder::measure(&report)?;
             block_coder::measure(&report)?;
-            files::measure(&report)
+            files::measure(&report)?;
+            lanes::measure(&rt, &report)
         }
         Some(subject) => {
             let report = Report::of_times(&rt);
             for _ in 0..ROUNDS {
-                measure(&report, subject.as_str())?;
+                measure(&rt, &report, subject.as_str())?;
             }
             Ok(())
         }
@@ -44,13 +47,14 @@ fn main(rt: HostRuntime) -> Result<()> {
 }
 
 /// Measures the loops of a subject.
-fn measure(report: &Report, subject: &str) -> Result<()> {
+fn measure<R: Threads>(rt: &R, report: &Report, subject: &str) -> Result<()> {
     match subject {
         "cube" => cube::measure(report),
         "predictor" => predictor::measure(report),
         "sample_coder" => sample_coder::measure(report),
         "block_coder" => block_coder::measure(report),
         "files" => files::measure(report),
+        "lanes" => lanes::measure(rt, report),
         _ => Ok(()),
     }
 }

@@ -1,7 +1,7 @@
 //! What is printed of a measured loop.
 
 ghost use Rattle.std.specs.Prelude.{◌≡◌, true, false};
-ghost use Rattle.speed.specs.Measured.{measured_shape};
+ghost use Rattle.speed.specs.Measured.{measured_numbers, measured_shape};
 
 use anyhow::Result;
 use cube_core::fault::Fault;
@@ -33,6 +33,13 @@ impl<'a> Report<'a> {
 
     pub fn alloc(&self) -> Global {
         self.rt.alloc()
+    }
+
+    /// How many numbers go through a lane.
+    pub fn lane_numbers(&self) -> u64
+        ensures { result ≡ measured_numbers self.now.timed }
+    {
+        if self.timed { 1_000_000 } else { 5_000 }
     }
 
     /// The shape of the cube that is gone through.

@@ -10,7 +10,7 @@ use lane_workers::list_feed::ListFeed;
 use lane_workers::ready::Ready;
 use lane_workers::stage::Stage;
 use std::sync::Wait;
-use std::sync::atomic::AtomicBool;
+use std::sync::atomic::{AtomicBool, Ordering};
 use std::test::Fail;
 use std::thread;
 use std::thread::{Scope, Threads};
@@ -59,6 +59,30 @@ fn run<'s, E, R: Threads + Wait + Sync + 's, G: Gate + Sync + 's>(
         sent: lane.sent_count(),
         received: lane.received_count(),
     })
+}
+
+/// How often a worker's lane is looked into, before it is given up.
+const MOST_LOOKS: u32 = 10_000_000;
+
+/// Starts a worker, drops its numbers until it sends no more, and joins it. Whether it came to that, and after how many it was stopped.
+fn skipped<'s, E, R: Threads + Wait + Sync + 's, G: Gate + Sync + 's>(
+    scope: &Scope<'s, E>,
+    rt: &'s R,
+    ready: Ready<ListFeed<'s>>,
+    gate: &'s G,
+    over: &'s AtomicBool,
+) -> Result<(bool, Option<u64>), Fault> {
+    let mut stage = Stage::start(scope, rt, ready, gate, over)?;
+    let mut ended = false;
+    for _ in 0..MOST_LOOKS {
+        ended = over.load(Ordering::SeqCst);
+        stage.skip();
+        if ended {
+            break;
+        }
+        thread::yield_now();
+    }
+    Ok((ended, stage.stop(rt)))
 }
 
 /// Numbers of a list.
@@ -150,5 +174,28 @@ fn gate_behind_the_list_stops_nobody(rt: HostRuntime) -> Result<(), Fail> {
     };
     assert_eq!(rt; outcome, whole);
     assert_eq!(rt; room, list);
+    Ok(())
+}
+
+#[test]
+fn worker_ends_whose_numbers_are_dropped(rt: HostRuntime) -> Result<(), Fail> {
+    let list = numbers::<200>();
+    for (nth, stopped) in [(130, Some(130)), (200, None)] {
+        let gate = StopAt {
+            predictor: 3,
+            nth,
+            turn: 0,
+        };
+        let over = AtomicBool::new(false);
+        let feed = ListFeed {
+            predictor: 3,
+            numbers: &list,
+        };
+        let ready = Ready::new(rt.alloc(), 2, feed)?;
+        let outcome = thread::scope(thread::scope_env(), &rt, |scope| {
+            skipped(scope, &rt, ready, &gate, &over)
+        })?;
+        assert_eq!(rt; outcome, (true, stopped));
+    }
     Ok(())
 }
