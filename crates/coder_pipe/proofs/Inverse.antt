@@ -22,7 +22,7 @@ use Rattle.coder_pipe.proofs.Alike.{put_residual, put_weights}
 use Rattle.coder_pipe.proofs.Givers.{given_whole}
 use Rattle.coder_pipe.proofs.Walking.{IsOnWalk, next_goes, band_here, gone_by, gone_count, gone_all, residuals_push, residuals_whole, length-residuals_at}
 
-wide_of : (p : Params) (c : Image) → IsLawful here p → c.shape ≡ p.shape → p.column ≡ false → 2 ≤ c.shape.columns
+pub wide_of : (p : Params) (c : Image) → IsLawful here p → c.shape ≡ p.shape → p.column ≡ false → 2 ≤ c.shape.columns
 wide_of p c lawful shape h = omega (arith, lawful.sums h, ap (λ (s : Sizes). s.columns) shape)
 
 -- ---- a band that isn't at its turn follows the image with another sample, too

@@ -12,3 +12,5 @@ pub mod Packed
 pub mod Walking
 pub mod Weaves
 pub mod Long
+pub mod Built
+pub mod FineFiles

@@ -19,6 +19,10 @@ ChosenIsFile = (p : Params) (c : Image) → IsLawful here p → IsCubeOf p c →
 abbrev pub FileIsFine : Type 0
 FileIsFine = (reach : Reach) (bytes : List ℕ) (p : Params) (c : Image) → IsLawful reach p → IsFile reach bytes p c → file_test reach (bits_of_bytes bytes) ≡ fine
 
+-- bytes without a fault are a file
+abbrev pub FineIsFile : Type 0
+FineIsFile = (bytes : List ℕ) → file_test here (bits_of_bytes bytes) ≡ fine → (p : Params) × (c : Image) × IsLawful here p × IsFile here bytes p c
+
 -- no file is shorter: behind its header there are as many bits as the shortest body has
 abbrev pub NoShorterFile : Type 0
 NoShorterFile =
