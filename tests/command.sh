@@ -206,6 +206,53 @@ for size in 0000 8000 0001; do
     done
 done
 
+# ---- little memory: the command is done, or memory was refused and OUT is empty
+
+# Runs the program in so many kilobytes, and holds it to that. Where the system can't load it, or has no memory
+# for its words, nothing is asked.
+in_little_memory() {
+    local name=$1 kilobytes=$2 whole=$3 status line
+    shift 3
+    rm -f out
+    (
+        ulimit -v "$kilobytes"
+        exec "$program" "$@" > stdout 2> stderr < /dev/null
+    )
+    status=$?
+    if [ "$status" -eq 0 ]; then
+        whole_runs=$((whole_runs + 1))
+        same "$name in $kilobytes kB" out "$whole"
+    elif [ "$status" -eq 1 ]; then
+        check "$name in $kilobytes kB" 1 "$usage" "$status"
+    elif [ "$status" -ne 127 ]; then
+        refused_runs=$((refused_runs + 1))
+        # Where there is no memory for the line, nothing is printed.
+        if [ -s stderr ]; then line=$'ccsds: 12 WantOfMemory\n'; else line=''; fi
+        check "$name in $kilobytes kB" 3 "$line" "$status"
+        if [ -e out ]; then holds "$name in $kilobytes kB" out ''; fi
+    fi
+}
+
+head -c 200000 "$program" > scene
+words='--columns 100 --rows 100 --bands 10 --bits 16 --previous 2'
+for coder in sample block; do
+    run "a scene is compressed by $coder" 0 '' compress $words --coder $coder scene wanted
+    for command in compress expand; do
+        whole_runs=0
+        refused_runs=0
+        for kilobytes in $(seq 2600 20 4600); do
+            if [ "$command" = compress ]; then
+                in_little_memory compress "$kilobytes" wanted compress $words --coder $coder scene out
+            else
+                in_little_memory expand "$kilobytes" scene expand wanted out
+            fi
+        done
+        if [ "$whole_runs" -eq 0 ] || [ "$refused_runs" -eq 0 ]; then
+            complain "$command by $coder: memory was always or never refused"
+        fi
+    done
+done
+
 head -c 8192 /dev/zero > zeros
 run 'zeros are compressed' 0 '' compress --columns 64 --rows 64 --bands 1 --bits 12 zeros coded
 (

@@ -24,3 +24,4 @@ pub mod Gathers
 pub mod Packing
 pub mod Stored
 pub mod Segmented
+pub mod Stable

@@ -1,6 +1,8 @@
 -- What holds of the definitions alone.
-use Rattle.std.specs.Prelude.{ℕ, ◌≡◌, ◌+◌, ◌*◌, ◌^◌, ◌<◌, ◌≤◌, Bool, List, ◌++◌, length, sum, Ok}
+use Rattle.std.specs.Prelude.{ℕ, ◌≡◌, ◌+◌, ◌*◌, ◌^◌, ◌<◌, ◌≤◌, Bool, List, ◌++◌, length, sum, Ok, Err}
 use Rattle.std.specs.List.{AllByRecursion}
+use Rattle.cube_core.specs.declared.fault.Fault.{Fault}
+use Rattle.cube_core.specs.declared.fault.Fault.TheVariants.{Truncated}
 use Rattle.block_adaptive.specs.declared.options.CodeSet.{CodeSet}
 use Rattle.block_adaptive.specs.Options.{pair_number}
 use Rattle.block_adaptive.specs.Segments.{block_count, segments, segment_count}
@@ -68,3 +70,10 @@ abbrev pub NoShorterBody : Type 0
 NoShorterBody =
     (s : CodeSet) (size reference : ℕ) (numbers : List ℕ) (bits : List Bool) → 1 ≤ s.bits → 2 ≤ size → 1 ≤ reference
     → IsBlockBody s size reference numbers bits → 3 * segment_count (length numbers) size reference ≤ length bits
+
+-- where a text is refused none begins the bits; and none does whatever bits follow, unless they were said to end too early
+abbrev pub FaultIsNoText : Type 0
+FaultIsNoText =
+    (site : Site) (s : CodeSet) (half left : ℕ) (e : Fault) (bits : List Bool) → text_at site s (2 * half) left bits ≡ Err e
+    → (e ≡ Truncated site.count → (t : Text) (rest : List Bool) → IsText s (2 * half) left t → bits ≡ spelled s t ++ rest → ⊥)
+    × ((e ≡ Truncated site.count → ⊥) → (more : List Bool) (t : Text) (rest : List Bool) → IsText s (2 * half) left t → bits ++ more ≡ spelled s t ++ rest → ⊥)

@@ -1,6 +1,6 @@
 //! Laws of the coder's definitions.
 
-ghost use Rattle.block_adaptive.specs.Laws.{OneText, OneBody, OptionIsLeast, ChosenIsLawful, ChosenIsBody, TextIsTaken, BodyIsRead, PairBound, SegmentsAreCounted, NoShorterBody};
+ghost use Rattle.block_adaptive.specs.Laws.{OneText, OneBody, OptionIsLeast, ChosenIsLawful, ChosenIsBody, TextIsTaken, BodyIsRead, PairBound, SegmentsAreCounted, NoShorterBody, FaultIsNoText};
 ghost use Rattle.block_adaptive.specs.Prefixes.{TakenIsPrefix};
 
 /// Two lawful texts of which one begins the other are one text.
@@ -56,4 +56,10 @@ pub fn segments_are_counted()
 /// A body has three bits at least for each segment of its blocks.
 pub fn no_shorter_body()
     ensures { NoShorterBody }
+{}
+
+/// Where a text is refused no lawful text begins the bits. Unless they ended too early, none does whatever
+/// bits follow.
+pub fn fault_is_no_text()
+    ensures { FaultIsNoText }
 {}

@@ -15,7 +15,7 @@ use Rattle.header_bits.specs.declared.params.Coder.{Coder}
 use Rattle.header_bits.specs.declared.params.Coder.TheVariants.{Sample, Block}
 use Rattle.header_bits.specs.Bits.{bits_of, bits_of_bytes, number_of}
 use Rattle.header_bits.specs.Parts.{fine}
-use Rattle.header_bits.specs.Reach.{Reach, here}
+use Rattle.header_bits.specs.Reach.{Reach}
 use Rattle.header_bits.specs.Lawful.{IsLawful, IsCoder}
 use Rattle.header_bits.specs.Header.{header_at, header_of, SpellsHeader}
 use Rattle.header_bits.proofs.Bytes.{length-bits_of_bytes}
@@ -81,7 +81,7 @@ chosen_body reach p numbers (Block size restricted reference) lawful range =
 
 pub chosen_is_file : ChosenIsFile
 unfolding file_of file_of_residuals file_bits body_of
-chosen_is_file p c lawful cube =
+chosen_is_file reach p c lawful cube =
     let bits : List Bool = header_of p ++ body_of p (residuals p c) in
     let fill : ℕ = fill_length p.word (length bits) in
     let whole : length (filled p.word bits) % 8 ≡ 0 = filled_whole p.word bits lawful.word.0 in
@@ -90,8 +90,8 @@ chosen_is_file p c lawful cube =
       header = header_of p;
       body = body_of p (residuals p c);
       fill = fill;
-      spelt = chosen_is_spelt p lawful;
-      coded = chosen_body here p (residuals p c) p.coder lawful.coder (inside here p c lawful cube);
+      spelt = chosen_is_spelt reach p lawful;
+      coded = chosen_body reach p (residuals p c) p.coder lawful.coder (inside reach p c lawful cube);
       few = mod_below (8 * p.word - length bits % (8 * p.word)) (8 * p.word) (omega (arith, lawful.word.0));
       text = packed_again (filled p.word bits) whole;
     }

@@ -84,7 +84,7 @@ not_fine : (e : Fault) → fine ≡ Err e → ⊥
 not_fine e h = absurd (cc)
 
 no_file : (bytes : List ℕ) (e : Fault) → file_test here (bits_of_bytes bytes) ≡ Err e → IsNoFile bytes
-no_file bytes e t p c f = not_fine e (sym (file_is_fine here bytes p c (spelt_is_lawful p f.header f.spelt) f) ∙ t)
+no_file bytes e t p c f = not_fine e (sym (file_is_fine here bytes p c (spelt_is_lawful here p f.header f.spelt) f) ∙ t)
 
 pub only_one : (bytes : List ℕ) (r : Result (Params × Image) Fault) → IfOk r (λ found. IsLawful here found.0) → IfOk r (λ found. IsFile here bytes found.0 found.1) → Faulty bytes r → (p : Params) (c : Image) → IsFile here bytes p c → AnswersOr r p c
 only_one bytes (Ok found) lawful file fault p c f = one_file here bytes found.0 p found.1 c lawful file f

@@ -212,7 +212,7 @@ text_range s size left (Whole o vs) h = rw (append-nil vs) h.range
 text_range s size left (Run n) h = zeros_range (2 ^ s.bits) n size (pow_pos s.bits)
 text_range s size left Rest h = zeros_range (2 ^ s.bits) left size (pow_pos s.bits)
 
-told_range : (c : Cut) (i j : ℕ) (texts : List Text) → AreTexts c i texts j → AllByRecursion (λ v. v < 2 ^ c.set.bits) (values_of (blocks_told c i texts))
+pub told_range : (c : Cut) (i j : ℕ) (texts : List Text) → AreTexts c i texts j → AllByRecursion (λ v. v < 2 ^ c.set.bits) (values_of (blocks_told c i texts))
 unfolding AreTexts blocks_told
 told_range c i j [] h = tt
 told_range c i j (t ∷ texts) h =

@@ -17,3 +17,5 @@ pub mod Walking
 pub mod Weaves
 pub mod Long
 pub mod Weaving
+pub mod Built
+pub mod FineFiles

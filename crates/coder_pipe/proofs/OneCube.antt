@@ -36,7 +36,7 @@ unfolding sample_at
 sample_inside c q cube place =
     cube.range (index_in c.shape.columns c.shape.rows q.z q.y q.x) (omega (arith, cube.whole, index_below c.shape.columns c.shape.rows c.shape.bands q.z q.y q.x place.band place.row place.column))
 
-least_inside : (k : SampleKind) → IsKind k → smin k ≤ℤ smid k
+pub least_inside : (k : SampleKind) → IsKind k → smin k ≤ℤ smid k
 least_inside k h = by_sign k.signed
   where
     by_sign : (signed : Bool) → smin (record { signed = signed; bits = k.bits }) ≤ℤ smid (record { signed = signed; bits = k.bits })

@@ -6,7 +6,7 @@ use Rattle.cube_core.specs.Order.{IsOrder, places}
 use Rattle.header_bits.specs.declared.params.Params.{Params}
 use Rattle.header_bits.specs.Bits.{bits_of_bytes}
 use Rattle.header_bits.specs.Parts.{fine}
-use Rattle.header_bits.specs.Reach.{Reach, here}
+use Rattle.header_bits.specs.Reach.{Reach}
 use Rattle.header_bits.specs.Lawful.{IsLawful}
 use Rattle.predict_core.specs.Residual.{residuals}
 use Rattle.coder_pipe.specs.Coding.{of_band}
@@ -16,11 +16,15 @@ use Rattle.coder_pipe.specs.Least.{least_length}
 
 -- the file that is written of a cube is a file of it
 abbrev pub ChosenIsFile : Type 0
-ChosenIsFile = (p : Params) (c : Image) → IsLawful here p → IsCubeOf p c → IsFile here (file_of c p) p c
+ChosenIsFile = (reach : Reach) (p : Params) (c : Image) → IsLawful reach p → IsCubeOf p c → IsFile reach (file_of c p) p c
 
 -- a file has no fault
 abbrev pub FileIsFine : Type 0
 FileIsFine = (reach : Reach) (bytes : List ℕ) (p : Params) (c : Image) → IsLawful reach p → IsFile reach bytes p c → file_test reach (bits_of_bytes bytes) ≡ fine
+
+-- bytes without a fault are a file
+abbrev pub FineIsFile : Type 0
+FineIsFile = (reach : Reach) (bytes : List ℕ) → file_test reach (bits_of_bytes bytes) ≡ fine → (p : Params) × (c : Image) × IsLawful reach p × IsFile reach bytes p c
 
 -- no file is shorter: behind its header there are as many bits as the shortest body has
 abbrev pub NoShorterFile : Type 0

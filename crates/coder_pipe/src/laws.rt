@@ -1,6 +1,6 @@
 //! Laws of the definitions alone.
 
-ghost use Rattle.coder_pipe.specs.Laws.{ChosenIsFile, FileIsFine, NoShorterFile, OneCube, OneFile, TimeOfPlace};
+ghost use Rattle.coder_pipe.specs.Laws.{ChosenIsFile, FileIsFine, FineIsFile, NoShorterFile, OneCube, OneFile, TimeOfPlace};
 ghost use Rattle.coder_pipe.specs.Plans.{PlanFaultIsExact};
 ghost use Rattle.coder_pipe.specs.Weave.{PartsOfWeave, WeaveOfParts, WeaveOfTaken};
 
@@ -12,6 +12,11 @@ pub fn chosen_is_file()
 /// A file has no fault.
 pub fn file_is_fine()
     ensures { FileIsFine }
+{}
+
+/// Bytes without a fault are a file.
+pub fn fine_is_file()
+    ensures { FineIsFile }
 {}
 
 /// No file is shorter than its header and the shortest body by its parameters.

@@ -1,10 +1,10 @@
--- The header that a coder writes is a spelling of its parameters, where there is no table.
-use Rattle.std.proofs.Common.{◌≡◌, inl, inr, ℕ, zero, suc, ◌+◌, ◌-◌, ◌*◌, ◌/◌, ◌^◌, ◌≤◌, ◌≤ℤ◌, Bool, true, false, cond, ◌&&◌, ltb, eqb, List, [], ◌∷◌, ◌++◌, ℤ, pos, negsuc, refl, sym, subst, arith}
+-- The header that a coder writes is a spelling of its parameters.
+use Rattle.std.proofs.Common.{◌≡◌, inl, inr, ℕ, zero, suc, ◌+◌, ◌-◌, ◌*◌, ◌/◌, ◌^◌, ◌<◌, ◌≤◌, ◌≤ℤ◌, Bool, true, false, cond, not, ◌&&◌, ltb, eqb, List, [], ◌∷◌, ◌++◌, length, map, take, get_or, ℤ, pos, negsuc, refl, sym, ap, subst, ◌∙◌, arith}
 use Rattle.std.proofs.lemmas.Int.{ints}
-use Rattle.std.proofs.lemmas.List.{append-nil}
+use Rattle.std.specs.List.{AllByRecursion}
+use Rattle.std.proofs.lemmas.List.{length-map}
 use Rattle.std.proofs.lemmas.Nat.{pow_pos}
 use Rattle.std.proofs.Math.Nat.{div-eq_of_lt}
-use Rattle.header_bits.proofs.Headers.{coder_behind}
 use Rattle.std.proofs.lemmas.Bool.{le-ltb, ne_eqb, eq-eqb}
 use Rattle.cube_core.specs.declared.order.Order.{Order}
 use Rattle.cube_core.specs.declared.order.Order.TheVariants.{Bsq, Bi}
@@ -15,21 +15,23 @@ use Rattle.header_bits.specs.declared.params.WeightStart.{WeightStart}
 use Rattle.header_bits.specs.declared.params.WeightStart.TheVariants.{Usual, Table}
 use Rattle.header_bits.specs.declared.params.Coder.{Coder}
 use Rattle.header_bits.specs.declared.params.Coder.TheVariants.{Sample, Block}
+use Rattle.header_bits.specs.declared.params.CountStart.{CountStart}
 use Rattle.header_bits.specs.declared.params.CountStart.TheVariants.{Constant, Each}
 use Rattle.header_bits.specs.declared.image_part.ImagePart.{ImagePart}
 use Rattle.header_bits.specs.declared.predictor_part.PredictorPart.{PredictorPart}
-use Rattle.header_bits.specs.declared.coder_part.CoderPart.{CoderPart}
 use Rattle.header_bits.specs.Layout.{AreValues, spelled}
 use Rattle.header_bits.specs.Parts.{fine, unused, SpellsPart}
-use Rattle.header_bits.specs.Reach.{here}
+use Rattle.header_bits.specs.Reach.{Reach}
 use Rattle.header_bits.specs.ImagePart.{image, image_numbers, flag, order_flag, depth_number}
 use Rattle.header_bits.specs.PredictorPart.{predictor, start_tests, predictor_numbers, exponent_of, exponent_code}
 use Rattle.header_bits.specs.CoderPart.{coder, coder_by, coder_fields, coder_numbers, size_code}
-use Rattle.header_bits.specs.TableParts.{weights, weights_by, weight_count, constants, constants_by, has_constants}
-use Rattle.header_bits.specs.Header.{said, params_of, start_by, coder_by_part, coder_place, header_of, SpellsHeader, SpellsParts, image_part_of, predictor_part_of, coder_part_of, is_block, is_custom, resolution_of}
-use Rattle.header_bits.specs.Lawful.{IsLawful, IsExponent, IsBlockSize, IsWeightStart, IsCoder}
+use Rattle.header_bits.specs.TableParts.{weights, weights_by, weight_count, constants, constants_by, table_fields, signed_code}
+use Rattle.header_bits.specs.Header.{Said, params_of, start_by, coder_by_part, coder_place, header_of, SpellsHeader, SpellsParts, image_part_of, predictor_part_of, coder_part_of, is_block, is_custom, resolution_of, is_each, weight_bits, each_bits, constant_bits}
+use Rattle.header_bits.specs.Lawful.{IsLawful, IsExponent, IsBlockSize, IsWeightStart, IsCountStart, IsCoder}
 use Rattle.header_bits.proofs.Tests.{then_fine, refuse_fine, not_under}
-use Rattle.header_bits.proofs.Held.{image_held, predictor_held, coder_held, image_bits, predictor_bits, coder_bits, header_parts}
+use Rattle.header_bits.proofs.Held.{image_held, predictor_held, coder_held, image_bits, predictor_bits, coder_bits}
+use Rattle.header_bits.proofs.Lawfulness.{above_none}
+use Rattle.header_bits.proofs.TableTexts.{codes_small, codes_back, table_held, table_front, table_fill}
 
 -- no reserved bit is set
 unused_zero : (at n : ℕ) → unused at n 0 ≡ fine
@@ -55,13 +57,13 @@ order_passes : (s : Sizes) (o : Order) → IsOrder s o → (eqb (order_flag o) 0
 order_passes s Bsq h = refl
 order_passes s (Bi depth) h = le-ltb s.bands depth h.1
 
-image_chosen : (p : Params) → IsLawful here p → SpellsPart image (image_part_of p) (image_bits p)
+image_chosen : (reach : Reach) (p : Params) → IsLawful reach p → SpellsPart image (image_part_of p) (image_bits p)
 unfolding image
-image_chosen p h =
+image_chosen reach p h =
     let i : ImagePart = image_part_of p in
     record {
       numbers = image_numbers i;
-      held = image_held here p h;
+      held = image_held reach p h;
       passed = then_fine _ _ (unused_zero 57 2) (then_fine _ _ (refuse_fine _ _ (ne_eqb p.kind.bits 1 (λ e. omega (arith, e, h.kind)))) (then_fine _ _ (refuse_fine _ _ (order_passes p.shape p.order h.order)) (then_fine _ _ (unused_zero 80 2) (unused_zero 86 10))));
       said = rw (flag_back p.kind.signed, order_back p.order, flag_back i.block) refl;
       text = refl;
@@ -82,20 +84,26 @@ exponent_codes (negsuc m) (negsuc n) a b h = omega (arith, ints, h, a.0, b.0)
 mode_passes : (b : Bool) (columns : ℕ) → (b ≡ false → 2 ≤ columns) → (eqb (flag b) 0 && eqb columns 1) ≡ false
 mode_passes b columns h = not_under (eqb (flag b) 0) (eqb columns 1) (λ e. let more = h (flag_none b e) in ne_eqb columns 1 (λ one. omega (arith, more, one)))
 
-start_passes : (p : Params) (s : WeightStart) (a b c d f g h i j k l m : ℕ) → IsWeightStart here p s → start_tests here (a ∷ b ∷ c ∷ d ∷ f ∷ g ∷ h ∷ i ∷ j ∷ k ∷ l ∷ m ∷ flag (is_custom s) ∷ flag (is_custom s) ∷ resolution_of s ∷ []) ≡ fine
-start_passes p Usual a b c d f g h i j k l m w = refuse_fine _ _ (le-ltb (i + 3) 0 (omega arith))
-start_passes p (Table q values) a b c d f g h i j k l m w = let never = w.0 in absurd cc
+-- a flag that is taken
+taken : (b : Bool) → b ≡ true → not b ≡ false
+taken b e = rw e refl
 
-predictor_chosen : (p : Params) → IsLawful here p → SpellsPart (predictor here (image_part_of p)) (predictor_part_of p) (predictor_bits p)
+start_passes : (reach : Reach) (p : Params) (s : WeightStart) (a b c d f g h j k l m : ℕ) → IsWeightStart reach p s
+    → start_tests reach (a ∷ b ∷ c ∷ d ∷ f ∷ g ∷ h ∷ p.omega ∷ j ∷ k ∷ l ∷ m ∷ flag (is_custom s) ∷ flag (is_custom s) ∷ resolution_of s ∷ []) ≡ fine
+start_passes reach p Usual a b c d f g h j k l m w = refuse_fine _ _ (le-ltb (p.omega + 3) 0 (omega arith))
+start_passes reach p (Table q values) a b c d f g h j k l m w =
+    then_fine _ _ (refuse_fine _ _ (taken reach.tables w.0)) (then_fine _ _ refl (then_fine _ _ refl (then_fine _ _ refl (then_fine _ _ (refuse_fine _ _ (le-ltb q 3 w.1.0)) (refuse_fine _ _ (le-ltb (p.omega + 3) q w.1.1))))))
+
+predictor_chosen : (reach : Reach) (p : Params) → IsLawful reach p → SpellsPart (predictor reach (image_part_of p)) (predictor_part_of p) (predictor_bits p)
 unfolding predictor
-predictor_chosen p h =
+predictor_chosen reach p h =
     let d : PredictorPart = predictor_part_of p in
     record {
       numbers = predictor_numbers d;
-      held = predictor_held here p h;
+      held = predictor_held reach p h;
       passed = then_fine _ _ (unused_zero 96 2) (then_fine _ _ (refuse_fine _ _ (mode_passes p.reduced p.shape.columns h.mode)) (then_fine _ _ (unused_zero 103 1) (then_fine _ _ (refuse_fine _ _ (mode_passes p.column p.shape.columns h.sums)) (then_fine _ _ (unused_zero 105 1)
           (then_fine _ _ (refuse_fine _ _ (le-ltb p.register 32 h.register.0)) (then_fine _ _ (refuse_fine _ _ (le-ltb p.register (p.kind.bits + p.omega + 2) h.wide)) (then_fine _ _ (refuse_fine _ _ (le-ltb 11 p.interval_log h.interval.1))
-          (then_fine _ _ (refuse_fine _ _ (le-ltb (exponent_code p.vmax) (exponent_code p.vmin) (exponent_codes p.vmin p.vmax h.vmin h.vmax h.exponents))) (then_fine _ _ (unused_zero 128 1) (start_passes p p.start 0 p.previous (flag p.reduced) 0 (flag p.column) 0 p.register p.omega p.interval_log (exponent_code p.vmin) (exponent_code p.vmax) 0 h.start))))))))));
+          (then_fine _ _ (refuse_fine _ _ (le-ltb (exponent_code p.vmax) (exponent_code p.vmin) (exponent_codes p.vmin p.vmax h.vmin h.vmax h.exponents))) (then_fine _ _ (unused_zero 128 1) (start_passes reach p p.start 0 p.previous (flag p.reduced) 0 (flag p.column) 0 p.register p.interval_log (exponent_code p.vmin) (exponent_code p.vmax) 0 h.start))))))))));
       said = rw (flag_back p.reduced, flag_back p.column, exponent_back p.vmin h.vmin, exponent_back p.vmax h.vmax, flag_back d.custom) refl;
       text = refl;
     }
@@ -108,9 +116,9 @@ size_back size (inr (inl e)) = rw e refl
 size_back size (inr (inr (inl e))) = rw e refl
 size_back size (inr (inr (inr e))) = rw e refl
 
-coder_by_chosen : (p : Params) (i : ImagePart) (c : Coder) → i.kind ≡ p.kind → IsCoder here p c → AreValues (coder_fields (coder_part_of c)) (coder_numbers (coder_part_of c))
-    → SpellsPart (coder_by (is_block c) here 136 i) (coder_part_of c) (spelled (coder_fields (coder_part_of c)) (coder_numbers (coder_part_of c)))
-coder_by_chosen p i (Sample umax gamma_star gamma_zero (Constant k)) e h held = record {
+coder_by_chosen : (reach : Reach) (at : ℕ) (p : Params) (i : ImagePart) (c : Coder) → i.kind ≡ p.kind → IsCoder reach p c → AreValues (coder_fields (coder_part_of c)) (coder_numbers (coder_part_of c))
+    → SpellsPart (coder_by (is_block c) reach at i) (coder_part_of c) (spelled (coder_fields (coder_part_of c)) (coder_numbers (coder_part_of c)))
+coder_by_chosen reach at p i (Sample umax gamma_star gamma_zero (Constant k)) e h held = record {
   numbers = umax ∷ gamma_star ∷ gamma_zero ∷ k ∷ 0 ∷ [];
   held = held;
   passed = then_fine _ _ (refuse_fine _ _ (le-ltb umax 8 h.0.0)) (then_fine _ _ (refuse_fine _ _ (le-ltb 9 gamma_star h.1.1)) (then_fine _ _ (refuse_fine _ _ (le-ltb gamma_star (gamma_zero + 1) h.3)) (then_fine _ _ refl
@@ -118,91 +126,146 @@ coder_by_chosen p i (Sample umax gamma_star gamma_zero (Constant k)) e h held = 
   said = refl;
   text = refl;
 }
-coder_by_chosen p i (Sample umax gamma_star gamma_zero (Each values)) e h held = let never = h.4 in absurd cc
-coder_by_chosen p i (Block size true reference) e h held = let never = (h.1 refl).0 in absurd cc
-coder_by_chosen p i (Block size false reference) e h held = record {
+coder_by_chosen reach at p i (Sample umax gamma_star gamma_zero (Each values)) e h held = record {
+  numbers = umax ∷ gamma_star ∷ gamma_zero ∷ 15 ∷ 1 ∷ [];
+  held = held;
+  passed = then_fine _ _ (refuse_fine _ _ (le-ltb umax 8 h.0.0)) (then_fine _ _ (refuse_fine _ _ (le-ltb 9 gamma_star h.1.1)) (then_fine _ _ (refuse_fine _ _ (le-ltb gamma_star (gamma_zero + 1) h.3))
+      (then_fine _ _ (refuse_fine _ _ (taken reach.tables h.4.0)) (then_fine _ _ refl refl))));
+  said = refl;
+  text = refl;
+}
+coder_by_chosen reach at p i (Block size true reference) e h held = record {
+  numbers = 0 ∷ size_code size ∷ 1 ∷ reference ∷ [];
+  held = held;
+  passed = then_fine _ _ (unused_zero at 1) (then_fine _ _ (refuse_fine _ _ (taken reach.restricted (h.1 refl).0)) (refuse_fine _ _ (le-ltb 4 i.kind.bits (rw e (h.1 refl).1))));
+  said = rw (size_back size h.0) refl;
+  text = refl;
+}
+coder_by_chosen reach at p i (Block size false reference) e h held = record {
   numbers = 0 ∷ size_code size ∷ 0 ∷ reference ∷ [];
   held = held;
-  passed = then_fine _ _ (unused_zero 136 1) refl;
+  passed = then_fine _ _ (unused_zero at 1) refl;
   said = rw (size_back size h.0) refl;
   text = refl;
 }
 
-coder_chosen : (p : Params) → IsLawful here p → SpellsPart (coder here 136 (image_part_of p)) (coder_part_of p.coder) (coder_bits p)
+coder_chosen : (reach : Reach) (at : ℕ) (p : Params) → IsLawful reach p → SpellsPart (coder reach at (image_part_of p)) (coder_part_of p.coder) (coder_bits p)
 unfolding coder
-coder_chosen p h = coder_by_chosen p (image_part_of p) p.coder refl h.coder (coder_held here p h)
+coder_chosen reach at p h = coder_by_chosen reach at p (image_part_of p) p.coder refl h.coder (coder_held reach p h)
 
--- ---- no table
+-- ---- the weight table
 
-usual : (p : Params) (s : WeightStart) → IsWeightStart here p s → is_custom s ≡ false
-usual p Usual h = refl
-usual p (Table q values) h = let never = h.0 in absurd cc
+-- the weights that a start tells
+weights_of : WeightStart → List ℤ
+weights_of Usual = []
+weights_of (Table q values) = values
 
-constant : (p : Params) (c : Coder) → IsCoder here p c → has_constants (coder_part_of c) ≡ false
-constant p (Sample umax gamma_star gamma_zero (Constant k)) h = refl
-constant p (Sample umax gamma_star gamma_zero (Each values)) h = let never = h.4 in absurd cc
-constant p (Block size restricted reference) h = refl
-
-no_weights_spelt : (i : ImagePart) (d : PredictorPart) → d.custom ≡ false → SpellsPart (weights i d) [] []
-unfolding weights spelled
-no_weights_spelt i d e = by_flag d.custom e
+weights_chosen : (reach : Reach) (p : Params) (s : WeightStart) → IsWeightStart reach p s → SpellsPart (weights_by (is_custom s) (weight_count p.previous p.reduced p.shape.bands) (resolution_of s)) (weights_of s) (weight_bits s)
+unfolding weights_of spelled
+weights_chosen reach p Usual h = record { numbers = []; held = tt; passed = refl; said = refl; text = refl }
+weights_chosen reach p (Table q values) h = subst (λ (n : ℕ). SpellsPart (weights_by true n q) values (spelled (table_fields (length values) q) (map (signed_code q) values ++ 0 ∷ []))) h.2 spelt
   where
-    by_flag : (b : Bool) → b ≡ false → SpellsPart (weights_by b (weight_count d.previous d.reduced i.shape.bands) d.resolution) [] []
-    by_flag true h = absurd cc
-    by_flag false h = record { numbers = []; held = tt; passed = refl; said = refl; text = refl }
+    codes : List ℕ
+    codes = map (signed_code q) values
 
-no_constants_spelt : (at : ℕ) (i : ImagePart) (c : CoderPart) → has_constants c ≡ false → SpellsPart (constants at i c) [] []
-unfolding constants spelled
-no_constants_spelt at i c e = by_flag (has_constants c) e
-  where
-    by_flag : (b : Bool) → b ≡ false → SpellsPart (constants_by b at i) [] []
-    by_flag true h = absurd cc
-    by_flag false h = record { numbers = []; held = tt; passed = refl; said = refl; text = refl }
+    many : length (map (signed_code q) values) ≡ length values
+    many = length-map values (signed_code q)
+
+    small : AllByRecursion (λ v. v < 2 ^ q) (map (signed_code q) values)
+    small = codes_small q values (omega (arith, h.1.0)) h.3
+
+    spelt : SpellsPart (weights_by true (length values) q) values (spelled (table_fields (length values) q) (map (signed_code q) values ++ 0 ∷ []))
+    spelt = record {
+      numbers = map (signed_code q) values ++ 0 ∷ [];
+      held = subst (λ (n : ℕ). AreValues (table_fields n q) (map (signed_code q) values ++ 0 ∷ [])) many (table_held q (map (signed_code q) values) small);
+      passed = (let fill : get_or (map (signed_code q) values ++ 0 ∷ []) (length values) 0 ≡ 0 = rw (← many) (table_fill (map (signed_code q) values)) in rw fill (unused_zero _ _));
+      said = (let front : take (length values) (map (signed_code q) values ++ 0 ∷ []) ≡ map (signed_code q) values = rw (← many) (table_front (map (signed_code q) values)) in rw front (codes_back q values (omega (arith, h.1.0)) h.3));
+      text = refl;
+    }
+
+-- ---- the accumulator table
+
+-- the constants that a start tells
+each_of : CountStart → List ℕ
+each_of (Constant k) = []
+each_of (Each values) = values
+
+entries_of : Coder → List ℕ
+entries_of (Sample umax gamma_star gamma_zero start) = each_of start
+entries_of (Block size restricted reference) = []
+
+entries_small : (most limit : ℕ) (vs : List ℕ) → most < limit → AllByRecursion (λ v. v ≤ most) vs → AllByRecursion (λ v. v < limit) vs
+entries_small most limit [] lt h = tt
+entries_small most limit (v ∷ vs) lt h = (omega (arith, h.0), entries_small most limit vs lt h.1)
+
+each_chosen : (reach : Reach) (at : ℕ) (p : Params) (i : ImagePart) (s : CountStart) → i.kind ≡ p.kind → i.shape ≡ p.shape → p.kind.bits ≤ 16 → IsCountStart reach p s → SpellsPart (constants_by (is_each s) at i) (each_of s) (each_bits s)
+unfolding each_of spelled
+each_chosen reach at p i (Constant k) e f deep h = record { numbers = []; held = tt; passed = refl; said = refl; text = refl }
+each_chosen reach at p i (Each values) e f deep h =
+    let bands : length values ≡ i.shape.bands = h.1 ∙ ap (λ (s : Sizes). s.bands) (sym f) in
+    let most : AllByRecursion (λ v. v ≤ i.kind.bits - 2) values = rw e h.2 in
+    let front : take i.shape.bands (values ++ 0 ∷ []) ≡ values = rw (← bands) (table_front values) in
+    let fill : get_or (values ++ 0 ∷ []) i.shape.bands 0 ≡ 0 = rw (← bands) (table_fill values) in
+    let small : AllByRecursion (λ v. v < 2 ^ 4) values = entries_small (p.kind.bits - 2) (2 ^ 4) values (omega (arith, deep)) h.2 in
+    record {
+      numbers = values ++ 0 ∷ [];
+      held = subst (λ (n : ℕ). AreValues (table_fields n 4) (values ++ 0 ∷ [])) bands (table_held 4 values small);
+      passed = rw (front, fill) (then_fine _ _ (refuse_fine _ _ (above_none (i.kind.bits - 2) values most)) (unused_zero _ _));
+      said = front;
+      text = ap (λ (n : ℕ). spelled (table_fields n 4) (values ++ 0 ∷ [])) bands;
+    }
+
+constants_chosen : (reach : Reach) (at : ℕ) (p : Params) (i : ImagePart) (c : Coder) → i.kind ≡ p.kind → i.shape ≡ p.shape → p.kind.bits ≤ 16 → IsCoder reach p c → SpellsPart (constants at i (coder_part_of c)) (entries_of c) (constant_bits c)
+unfolding constants entries_of spelled
+constants_chosen reach at p i (Sample umax gamma_star gamma_zero start) e f deep h = each_chosen reach at p i start e f deep h.4
+constants_chosen reach at p i (Block size restricted reference) e f deep h = record { numbers = []; held = tt; passed = refl; said = refl; text = refl }
 
 -- ---- the header
 
-start_back : (p : Params) (s : WeightStart) → IsWeightStart here p s → start_by (is_custom s) (resolution_of s) [] ≡ s
-start_back p Usual h = refl
-start_back p (Table q values) h = let never = h.0 in absurd cc
+start_back : (s : WeightStart) → start_by (is_custom s) (resolution_of s) (weights_of s) ≡ s
+unfolding weights_of
+start_back Usual = refl
+start_back (Table q values) = refl
 
-coder_back : (p : Params) (c : Coder) → IsCoder here p c → coder_by_part (coder_part_of c) [] ≡ c
-coder_back p (Sample umax gamma_star gamma_zero (Constant k)) h = refl
-coder_back p (Sample umax gamma_star gamma_zero (Each values)) h = let never = h.4 in absurd cc
-coder_back p (Block size restricted reference) h = refl
+coder_back : (c : Coder) → coder_by_part (coder_part_of c) (entries_of c) ≡ c
+unfolding entries_of each_of
+coder_back (Sample umax gamma_star gamma_zero (Constant k)) = refl
+coder_back (Sample umax gamma_star gamma_zero (Each values)) = refl
+coder_back (Block size restricted reference) = refl
 
-params_back : (p : Params) → IsLawful here p → params_of (said (image_part_of p) (predictor_part_of p) (coder_part_of p.coder)) ≡ p
-params_back p h = rw (start_back p p.start h.start, coder_back p p.coder h.coder) refl
+-- what the parts of a header say
+all_said : Params → Said
+all_said p = ((((image_part_of p, predictor_part_of p), weights_of p.start), coder_part_of p.coder), entries_of p.coder)
 
-parts_chosen : (p : Params) → IsLawful here p → SpellsParts here (said (image_part_of p) (predictor_part_of p) (coder_part_of p.coder)) (image_bits p ++ predictor_bits p ++ coder_bits p)
-parts_chosen p h =
+params_back : (p : Params) → params_of (all_said p) ≡ p
+unfolding all_said
+params_back p = rw (start_back p.start, coder_back p.coder) refl
+
+parts_chosen : (reach : Reach) (p : Params) → IsLawful reach p → SpellsParts reach (all_said p) (image_bits p ++ predictor_bits p ++ weight_bits p.start ++ coder_bits p ++ constant_bits p.coder)
+unfolding all_said weights
+parts_chosen reach p h =
     let i : ImagePart = image_part_of p in
     let d : PredictorPart = predictor_part_of p in
-    let c : CoderPart = coder_part_of p.coder in
-    let place : coder_place i d ≡ 136 = coder_behind i d (usual p p.start h.start) in
-    let third : SpellsPart (coder here (coder_place i d) i) c (coder_bits p) = subst (λ (at : ℕ). SpellsPart (coder here at i) c (coder_bits p)) (sym place) (coder_chosen p h) in
     record {
-      front = image_bits p ++ predictor_bits p ++ coder_bits p;
-      back = [];
+      front = image_bits p ++ predictor_bits p ++ weight_bits p.start ++ coder_bits p;
+      back = constant_bits p.coder;
       first = record {
-        front = image_bits p ++ predictor_bits p;
+        front = image_bits p ++ predictor_bits p ++ weight_bits p.start;
         back = coder_bits p;
         first = record {
           front = image_bits p ++ predictor_bits p;
-          back = [];
-          first = record { front = image_bits p; back = predictor_bits p; first = image_chosen p h; second = predictor_chosen p h; text = refl };
-          second = no_weights_spelt i d (usual p p.start h.start);
-          text = sym (append-nil (image_bits p ++ predictor_bits p));
+          back = weight_bits p.start;
+          first = record { front = image_bits p; back = predictor_bits p; first = image_chosen reach p h; second = predictor_chosen reach p h; text = refl };
+          second = weights_chosen reach p p.start h.start;
+          text = refl;
         };
-        second = third;
+        second = coder_chosen reach (coder_place i d) p h;
         text = refl;
       };
-      second = no_constants_spelt _ i c (constant p p.coder h.coder);
-      text = sym (append-nil (image_bits p ++ predictor_bits p ++ coder_bits p));
+      second = constants_chosen reach (coder_place i d + 16) p i p.coder refl refl h.kind.1 h.coder;
+      text = refl;
     }
 
-pub chosen_is_spelt : (p : Params) → IsLawful here p → SpellsHeader here p (header_of p)
-chosen_is_spelt p h = record {
-  from = said (image_part_of p) (predictor_part_of p) (coder_part_of p.coder);
-  same = params_back p h;
-  spells = subst (λ (bits : List Bool). SpellsParts here (said (image_part_of p) (predictor_part_of p) (coder_part_of p.coder)) bits) (sym (header_parts p h)) (parts_chosen p h);
-}
+pub chosen_is_spelt : (reach : Reach) (p : Params) → IsLawful reach p → SpellsHeader reach p (header_of p)
+unfolding header_of
+chosen_is_spelt reach p h = record { from = all_said p; same = params_back p; spells = parts_chosen reach p h }

@@ -17,3 +17,5 @@ pub mod Tests
 pub mod Unused
 pub mod Windows
 pub mod Words
+pub mod Later
+pub mod TableTexts

@@ -1,8 +1,10 @@
 -- The laws of headers.
-use Rattle.std.specs.Prelude.{◌≡◌, List, Bool, ◌++◌}
+use Rattle.std.specs.Prelude.{◌≡◌, List, Bool, ◌++◌, Err}
+use Rattle.cube_core.specs.declared.fault.Fault.{Fault}
+use Rattle.cube_core.specs.declared.fault.Fault.TheVariants.{ShortHeader}
 use Rattle.header_bits.specs.declared.params.Params.{Params}
 use Rattle.header_bits.specs.Parts.{IsExact}
-use Rattle.header_bits.specs.Reach.{Reach, here}
+use Rattle.header_bits.specs.Reach.{Reach}
 use Rattle.header_bits.specs.Header.{header_at, header_of, SpellsHeader}
 use Rattle.header_bits.specs.Lawful.{IsLawful}
 
@@ -13,7 +15,13 @@ abbrev pub HeaderIsExact : Type 0
 HeaderIsExact = (reach : Reach) → IsExact (header_at reach) (SpellsHeader reach)
 
 abbrev pub HeaderIsLawful : Type 0
-HeaderIsLawful = (p : Params) (h : List Bool) → SpellsHeader here p h → IsLawful here p
+HeaderIsLawful = (reach : Reach) (p : Params) (h : List Bool) → SpellsHeader reach p h → IsLawful reach p
 
 abbrev pub ChosenIsSpelt : Type 0
-ChosenIsSpelt = (p : Params) → IsLawful here p → SpellsHeader here p (header_of p)
+ChosenIsSpelt = (reach : Reach) (p : Params) → IsLawful reach p → SpellsHeader reach p (header_of p)
+
+-- where a header is refused, other than for its length, none begins the bits, whatever bits follow
+abbrev pub FaultIsNoHeader : Type 0
+FaultIsNoHeader =
+    (reach : Reach) (e : Fault) (bits : List Bool) → header_at reach bits ≡ Err e → (e ≡ ShortHeader → ⊥)
+    → (more : List Bool) (p : Params) (h rest : List Bool) → SpellsHeader reach p h → bits ++ more ≡ h ++ rest → ⊥

@@ -1,6 +1,6 @@
 //! Laws of the definitions alone.
 
-ghost use Rattle.header_bits.specs.Laws.{OneHeader, HeaderIsExact, HeaderIsLawful, ChosenIsSpelt};
+ghost use Rattle.header_bits.specs.Laws.{OneHeader, HeaderIsExact, HeaderIsLawful, ChosenIsSpelt, FaultIsNoHeader};
 
 /// No spelling of parameters begins a spelling of others.
 pub fn one_header()
@@ -20,4 +20,9 @@ pub fn header_is_lawful()
 /// The header that a coder writes for lawful parameters is a spelling of them.
 pub fn chosen_is_spelt()
     ensures { ChosenIsSpelt }
+{}
+
+/// Where a header is refused, other than as too short, the bits begin with none, whatever bits follow.
+pub fn fault_is_no_header()
+    ensures { FaultIsNoHeader }
 {}

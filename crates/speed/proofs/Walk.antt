@@ -64,8 +64,8 @@ pub read_more : (p : Params) (c : Image) (left rest : List Place) (bands : List 
     → mapped_residual p (put c q.z q.y q.x v) q.z b.place ≡ get_or numbers i 0 → AreResiduals p (put c q.z q.y q.x v) rest (i + 1) numbers
 read_more p c left rest bands q b numbers i v lawful shape walk is band known lt value =
     let next = next_goes p q left rest lawful.order walk.rest is in
-    let here = band_here p c (gone_by p left) bands q b lawful.order walk.known next.stands band in
-    let place : b.place ≡ q.y * c.shape.columns + q.x = here.1 ∙ ap (λ (s : Sizes). q.y * s.columns + q.x) (sym shape) in
+    let mine = band_here p c (gone_by p left) bands q b lawful.order walk.known next.stands band in
+    let place : b.place ≡ q.y * c.shape.columns + q.x = mine.1 ∙ ap (λ (s : Sizes). q.y * s.columns + q.x) (sym shape) in
     let stands : StandsAt p.shape p.order q (gone_count p left) = subst (λ (k : ℕ). StandsAt p.shape p.order q k) next.count next.stands in
     let last : mapped_residual p (put c q.z q.y q.x v) q.z (q.y * c.shape.columns + q.x) ≡ get_or numbers i 0 = ap (mapped_residual p (put c q.z q.y q.x v) q.z) (sym place) ∙ value in
     record {
@@ -73,6 +73,6 @@ read_more p c left rest bands q b numbers i v lawful shape walk is band known lt
       gone = ap (residuals_at p (put c q.z q.y q.x v)) next.gone
           ∙ residuals_push p (put c q.z q.y q.x v) (gone_by p left) q
           ∙ ap (λ (n : ℕ). residuals_at p (put c q.z q.y q.x v) (gone_by p left) ++ n ∷ []) last
-          ∙ ap (λ (ns : List ℕ). ns ++ get_or numbers i 0 ∷ []) (sym (residuals_kept p c q v left lawful shape stands) ∙ known.gone)
+          ∙ ap (λ (ns : List ℕ). ns ++ get_or numbers i 0 ∷ []) (sym (residuals_kept here p c q v left lawful shape stands) ∙ known.gone)
           ∙ sym (take_more numbers i 0 lt);
     }

@@ -2,6 +2,8 @@
 #![tactic(auto)]
 
 #[cfg(test)]
+mod bit_by_bit;
+#[cfg(test)]
 mod blocks;
 #[cfg(test)]
 mod blocks_by_hand;

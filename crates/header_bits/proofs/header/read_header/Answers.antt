@@ -4,6 +4,7 @@ use Rattle.header_bits.specs.Bits.{bits_of_bytes}
 use Rattle.header_bits.specs.Parts.{part_at}
 use Rattle.header_bits.specs.ImagePart.{image}
 use Rattle.header_bits.proofs.Bytes.{length-bits_of_bytes}
+use Rattle.header_bits.specs.Reach.{here}
 use Rattle.header_bits.proofs.SpeltLawful.{read_usual, read_constant, spelt_is_lawful}
 use Rattle.header_bits.proofs.Headers.{image_refused, predictor_refused, coder_refused, header_read, parts_leave, front_spells, refused_spells_none}
 use Rattle.header_bits.proofs.header.read_header.Goals as goal
@@ -68,7 +69,7 @@ returns-clause-lawful c =
     let constant = read_constant 136 c.in_ok-image.image c.in_ok-coder.coder c.read-2.new.reader.left c.read-3.new.reader.left c.in_ok-coder.ensures in
     let leaves = parts_leave c.in_ok-image.image c.in_ok-predictor.predictor c.in_ok-coder.coder (bits_of_bytes c.args.bytes.now) c.read.new.reader.left c.read-2.new.reader.left c.read-3.new.reader.left first c.in_ok-predictor.ensures c.in_ok-coder.ensures in
     let reads = header_read c.in_ok-image.image c.in_ok-predictor.predictor c.in_ok-coder.coder (bits_of_bytes c.args.bytes.now) c.read.new.reader.left c.read-2.new.reader.left c.read-3.new.reader.left c.params_from.result first c.in_ok-predictor.ensures usual c.in_ok-coder.ensures constant c.params_from.ensures in
-    spelt_is_lawful c.params_from.result (take 152 (bits_of_bytes c.args.bytes.now)) (front_spells c.params_from.result 152 (bits_of_bytes c.args.bytes.now) leaves.1 reads)
+    spelt_is_lawful here c.params_from.result (take 152 (bits_of_bytes c.args.bytes.now)) (front_spells c.params_from.result 152 (bits_of_bytes c.args.bytes.now) leaves.1 reads)
 
 pub returns-clause-spelt : goal.returns-clause-spelt
 returns-clause-spelt c =

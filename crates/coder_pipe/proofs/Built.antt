@@ -1,0 +1,139 @@
+-- A cube is built of any residuals.
+use Rattle.std.proofs.Common.{◌≡◌, ◌⊎◌, ◌+◌, ◌*◌, ◌<◌, ◌≤◌, ◌^◌, ℕ, ℤ, pos, false, List, [], ◌∷◌, ◌++◌, length, drop, set, replicate, get_or, refl, sym, ap, ◌∙◌, subst, inl, inr, append-nil, append_assoc, arith}
+use Rattle.std.specs.List.{AllByRecursion}
+use Rattle.std.proofs.lemmas.List.{get_or-set_same, get_or-set_other, get_or-replicate, length-set, length-replicate}
+use Rattle.std.proofs.lemmas.Bool.{cases_eq}
+use Rattle.cube_core.specs.declared.order.Place.{Place}
+use Rattle.cube_core.specs.Shape.{Sizes, sample_count}
+use Rattle.cube_core.specs.Kind.{SampleKind, IsSample, smid}
+use Rattle.cube_core.specs.Image.{Image, IsCube, sample_at, index_in, put}
+use Rattle.cube_core.specs.Order.{IsOrder, IsPlaceOf, places}
+use Rattle.cube_core.proofs.Bounds.{index_below, middle_inside}
+use Rattle.cube_core.proofs.Orders.{StandsAt, length-places}
+use Rattle.header_bits.specs.declared.params.Params.{Params}
+use Rattle.header_bits.specs.Reach.{Reach}
+use Rattle.header_bits.specs.Lawful.{IsLawful}
+use Rattle.predict_core.specs.Prediction.{scaled_prediction}
+use Rattle.predict_core.specs.Residual.{mapped, mapped_residual, residuals}
+use Rattle.predict_core.proofs.OneSample.{one_sample_lem}
+use Rattle.coder_pipe.specs.Files.{IsCubeOf}
+use Rattle.coder_pipe.specs.Walked.{residuals_at}
+use Rattle.coder_pipe.proofs.Alike.{agree_at, mapped_at, scaled_alike, put_alike, put_same}
+use Rattle.coder_pipe.proofs.Inverse.{wide_of, residuals_kept}
+use Rattle.coder_pipe.proofs.OneCube.{scaled_inside, least_inside}
+use Rattle.coder_pipe.proofs.Walking.{next_goes, gone_by, gone_count, residuals_push, residuals_whole}
+
+-- ---- another sample
+
+inside_of : (c : Image) (q : Place) → IsCube c → IsPlaceOf c.shape q → index_in c.shape.columns c.shape.rows q.z q.y q.x < length c.samples
+inside_of c q cube place = omega (arith, cube.whole, index_below c.shape.columns c.shape.rows c.shape.bands q.z q.y q.x place.band place.row place.column)
+
+sample_put : (c : Image) (q : Place) (v : ℤ) → IsCube c → IsPlaceOf c.shape q → sample_at (put c q.z q.y q.x v) q.z q.y q.x ≡ v
+unfolding sample_at
+sample_put c q v cube place = get_or-set_same c.samples (index_in c.shape.columns c.shape.rows q.z q.y q.x) v (pos 0) (inside_of c q cube place)
+
+set_range : (k : SampleKind) (xs : List ℤ) (i : ℕ) (v : ℤ) → IsSample k v → ((j : ℕ) → j < length xs → IsSample k (get_or xs j (pos 0))) → (j : ℕ) → j < length (set xs i v) → IsSample k (get_or (set xs i v) j (pos 0))
+set_range k xs i v s h j lt = by_place (cases_eq j i) (omega (arith, lt, length-set xs i v))
+  where
+    by_place : (j ≡ i) ⊎ (j ≡ i → ⊥) → j < length xs → IsSample k (get_or (set xs i v) j (pos 0))
+    by_place (inl e) inside = rw (e, get_or-set_same xs i v (pos 0) (subst (λ (n : ℕ). n < length xs) e inside)) s
+    by_place (inr e) inside = rw (get_or-set_other xs i j v (pos 0) e) (h j inside)
+
+put_cube : (c : Image) (q : Place) (v : ℤ) → IsCube c → IsSample c.kind v → IsCube (put c q.z q.y q.x v)
+put_cube c q v cube s = record {
+  sizes = cube.sizes;
+  bits = cube.bits;
+  whole = length-set c.samples (index_in c.shape.columns c.shape.rows q.z q.y q.x) v ∙ cube.whole;
+  range = set_range c.kind c.samples (index_in c.shape.columns c.shape.rows q.z q.y q.x) v s cube.range;
+}
+
+-- a sample that has this residual at the place that comes next
+record HasResidual (p : Params) (c : Image) (q : Place) (n : ℕ) : Type 0 where
+  sample : ℤ
+  inside : IsSample c.kind sample
+  residual : mapped_residual p (put c q.z q.y q.x sample) q.z (q.y * c.shape.columns + q.x) ≡ n
+
+has_residual : (p : Params) (c : Image) (q : Place) (n i : ℕ) → IsOrder c.shape p.order → (p.column ≡ false → 2 ≤ c.shape.columns) → IsCube c → StandsAt c.shape p.order q i → n < 2 ^ c.kind.bits → HasResidual p c q n
+has_residual p c q n i order wide cube stands lt =
+    let t : ℕ = q.y * c.shape.columns + q.x in
+    let place : IsPlaceOf c.shape q = stands.place in
+    let law = one_sample_lem c.kind (scaled_prediction p c q.z (q.y * c.shape.columns + q.x)) cube.bits (scaled_inside p c q.z (q.y * c.shape.columns + q.x) cube place.band) in
+    let found = law.1 n lt in
+    let v : ℤ = found.0 in
+    let d : Image = put c q.z q.y q.x v in
+    let agree = agree_at p.order c (put c q.z q.y q.x found.0) i q (q.y * c.shape.columns + q.x) order (put_alike c q found.0) (put_same p.order c q found.0 i place stands.index) place refl (omega (arith, stands.index)) in
+    let scaled = scaled_alike p c (put c q.z q.y q.x found.0) q (q.y * c.shape.columns + q.x) wide place refl agree in
+    record {
+      sample = found.0;
+      inside = found.1;
+      residual =
+          mapped_at p (put c q.z q.y q.x found.0) q (q.y * c.shape.columns + q.x) refl place.column
+          ∙ ap (λ (s : ℤ). mapped c.kind s (sample_at (put c q.z q.y q.x found.0) q.z q.y q.x)) (sym scaled)
+          ∙ ap (mapped c.kind (scaled_prediction p c q.z (q.y * c.shape.columns + q.x))) (sample_put c q found.0 cube place)
+          ∙ found.2;
+    }
+
+-- ---- sample after sample
+
+-- a cube of the parameters with these residuals
+pub record Built (p : Params) (numbers : List ℕ) : Type 0 where
+  pub image : Image
+  pub cube : IsCubeOf p image
+  pub same : residuals p image ≡ numbers
+
+pushed : (reach : Reach) (p : Params) (c : Image) (q : Place) (left : List Place) (n : ℕ) → IsLawful reach p → c.shape ≡ p.shape → q ∷ left ≡ drop (gone_count p (q ∷ left)) (places p.shape p.order) → (h : HasResidual p c q n)
+    → residuals_at p (put c q.z q.y q.x h.sample) (gone_by p left) ≡ residuals_at p c (gone_by p (q ∷ left)) ++ n ∷ []
+pushed reach p c q left n lawful shape is h =
+    let goes = next_goes p q (q ∷ left) left lawful.order is refl in
+    let stands : StandsAt p.shape p.order q (gone_count p (q ∷ left)) = subst (λ (k : ℕ). StandsAt p.shape p.order q k) goes.count goes.stands in
+    let d : Image = put c q.z q.y q.x h.sample in
+    ap (residuals_at p (put c q.z q.y q.x h.sample)) goes.gone
+    ∙ residuals_push p (put c q.z q.y q.x h.sample) (gone_by p (q ∷ left)) q
+    ∙ ap (λ (k : ℕ). residuals_at p (put c q.z q.y q.x h.sample) (gone_by p (q ∷ left)) ++ k ∷ []) h.residual
+    ∙ ap (λ (ns : List ℕ). ns ++ n ∷ []) (sym (residuals_kept reach p c q h.sample (q ∷ left) lawful shape stands))
+
+build : (reach : Reach) (p : Params) → IsLawful reach p → (left : List Place) (c : Image) (rest : List ℕ) → left ≡ drop (gone_count p left) (places p.shape p.order) → IsCubeOf p c → length rest ≡ length left
+    → AllByRecursion (λ n. n < 2 ^ p.kind.bits) rest → Built p (residuals_at p c (gone_by p left) ++ rest)
+build reach p lawful [] c [] is cube long range = record { image = c; cube = cube; same = sym (residuals_whole p c lawful.order cube.shape) ∙ sym (append-nil (residuals_at p c (gone_by p []))) }
+build reach p lawful [] c (n ∷ ns) is cube long range = absurd (omega arith)
+build reach p lawful (q ∷ left) c [] is cube long range = absurd (omega arith)
+build reach p lawful (q ∷ left) c (n ∷ ns) is cube long range =
+    let goes = next_goes p q (q ∷ left) left lawful.order is refl in
+    let stands : StandsAt c.shape p.order q (length (gone_by p (q ∷ left))) = subst (λ (s : Sizes). StandsAt s p.order q (length (gone_by p (q ∷ left)))) (sym cube.shape) goes.stands in
+    let order : IsOrder c.shape p.order = subst (λ (s : Sizes). IsOrder s p.order) (sym cube.shape) lawful.order in
+    let below : n < 2 ^ c.kind.bits = subst (λ (k : SampleKind). n < 2 ^ k.bits) (sym cube.kind) range.0 in
+    let h = has_residual p c q n (length (gone_by p (q ∷ left))) order (wide_of reach p c lawful cube.shape) cube.cube stands below in
+    let after : IsCubeOf p (put c q.z q.y q.x h.sample) = record { cube = put_cube c q h.sample cube.cube h.inside; shape = cube.shape; kind = cube.kind } in
+    let others = build reach p lawful left (put c q.z q.y q.x h.sample) ns goes.others after (omega arith) range.1 in
+    subst (Built p) (ap (λ (x : List ℕ). x ++ ns) (pushed reach p c q left n lawful cube.shape is h) ∙ append_assoc (residuals_at p c (gone_by p (q ∷ left))) (n ∷ []) ns) others
+
+-- ---- from the first place on
+
+middles : Params → Image
+middles p = record { shape = p.shape; kind = p.kind; samples = replicate (sample_count p.shape) (smid p.kind) }
+
+middle_range : (k : SampleKind) (n : ℕ) → IsSample k (smid k) → (i : ℕ) → i < length (replicate n (smid k)) → IsSample k (get_or (replicate n (smid k)) i (pos 0))
+middle_range k n s i lt = rw (get_or-replicate n i (smid k) (pos 0) (omega (arith, lt, length-replicate n (smid k)))) s
+
+middles_cube : (reach : Reach) (p : Params) → IsLawful reach p → IsCubeOf p (middles p)
+unfolding middles
+middles_cube reach p lawful = record {
+  cube = record {
+    sizes = lawful.sizes;
+    bits = lawful.kind;
+    whole = length-replicate (sample_count p.shape) (smid p.kind);
+    range = middle_range p.kind (sample_count p.shape) (least_inside p.kind lawful.kind, middle_inside p.kind lawful.kind);
+  };
+  shape = refl;
+  kind = refl;
+}
+
+-- numbers in range, as many as there are samples, are the residuals of a cube
+pub built : (reach : Reach) (p : Params) (numbers : List ℕ) → IsLawful reach p → length numbers ≡ sample_count p.shape → AllByRecursion (λ n. n < 2 ^ p.kind.bits) numbers → Built p numbers
+built reach p numbers lawful long range =
+    let whole = length-places p.shape p.order lawful.order in
+    let none : gone_count p (places p.shape p.order) ≡ 0 = omega (arith, whole) in
+    let start : places p.shape p.order ≡ drop (gone_count p (places p.shape p.order)) (places p.shape p.order) = rw none refl in
+    let all = build reach p lawful (places p.shape p.order) (middles p) numbers start (middles_cube reach p lawful) (omega (arith, long, whole)) range in
+    let nothing : residuals_at p (middles p) (gone_by p (places p.shape p.order)) ≡ [] = rw none refl in
+    subst (λ (ns : List ℕ). Built p (ns ++ numbers)) nothing all

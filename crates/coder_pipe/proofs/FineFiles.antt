@@ -1,0 +1,153 @@
+-- Bytes without a fault are a file.
+use Rattle.std.proofs.Common.{◌≡◌, ◌*◌, ◌/◌, ◌^◌, ◌<◌, ◌≤◌, ℕ, zero, suc, Bool, true, false, List, [], ◌∷◌, ◌++◌, length, take, replicate, Ok, refl, sym, ap, subst, ◌∙◌, append_assoc, arith}
+use Rattle.std.specs.List.{AllByRecursion}
+use Rattle.std.proofs.lemmas.List.{length-take}
+use Rattle.cube_core.specs.declared.fault.Fault.{Fault}
+use Rattle.cube_core.specs.Steps.{◌>>=◌, ◌>>◌, refuse_if}
+use Rattle.cube_core.specs.Shape.{sample_count}
+use Rattle.cube_core.specs.Image.{Image}
+use Rattle.cube_core.specs.Order.{IsOrder, places}
+use Rattle.cube_core.proofs.Orders.{length-places}
+use Rattle.header_bits.specs.declared.params.Params.{Params}
+use Rattle.header_bits.specs.declared.params.Coder.{Coder}
+use Rattle.header_bits.specs.declared.params.Coder.TheVariants.{Sample, Block}
+use Rattle.header_bits.specs.Bits.{bits_of_bytes}
+use Rattle.header_bits.specs.Parts.{fine}
+use Rattle.header_bits.specs.Reach.{Reach}
+use Rattle.header_bits.specs.Lawful.{IsCoder}
+use Rattle.header_bits.specs.declared.params.CountStart.{CountStart}
+use Rattle.header_bits.specs.Header.{header_at, SpellsHeader}
+use Rattle.header_bits.proofs.Fronts.{bind_ok}
+use Rattle.header_bits.proofs.Headers.{header_exact}
+use Rattle.header_bits.proofs.Reading.{ok_is}
+use Rattle.header_bits.proofs.SpeltLawful.{spelt_is_lawful}
+use Rattle.predict_core.specs.Residual.{residuals}
+use Rattle.sample_adaptive.specs.Settings.{settings}
+use Rattle.sample_adaptive.specs.Body.{sample_body}
+use Rattle.sample_adaptive.specs.Reading.{sample_body_at}
+use Rattle.sample_adaptive.proofs.Bodies as samples
+use Rattle.block_adaptive.specs.declared.options.CodeSet.{CodeSet}
+use Rattle.block_adaptive.specs.Segments.{block_count}
+use Rattle.block_adaptive.specs.Settings.{IsSize}
+use Rattle.block_adaptive.specs.Texts.{Text, Cut, cut_of, AreTexts, blocks_told, values_of, spelling, IsBlockBody}
+use Rattle.block_adaptive.specs.Reading.{block_body_at}
+use Rattle.block_adaptive.proofs.Bodies as blocks
+use Rattle.block_adaptive.proofs.Calls.{told_length}
+use Rattle.block_adaptive.proofs.Handed.{size_halved, size_least}
+use Rattle.coder_pipe.specs.Files.{IsBodyBy, IsBody, IsCubeOf, IsFile, behind_by, behind_body, fill_test, body_test, head_at, file_test}
+use Rattle.coder_pipe.specs.Least.{least_test}
+use Rattle.coder_pipe.specs.Laws.{FineIsFile}
+use Rattle.coder_pipe.proofs.Built.{built}
+use Rattle.coder_pipe.proofs.Coders.{settings_bits}
+use Rattle.coder_pipe.proofs.Fills.{passed}
+use Rattle.coder_pipe.proofs.Givers.{told_range}
+
+-- ---- a body that is read is a body
+
+-- numbers in range, one for each sample, whose body the bits begin with
+record IsRead (p : Params) (coder : Coder) (bits left : List Bool) : Type 0 where
+  numbers : List ℕ
+  body : List Bool
+  coded : IsBodyBy coder p numbers body
+  text : bits ≡ body ++ left
+  long : length numbers ≡ sample_count p.shape
+  range : AllByRecursion (λ n. n < 2 ^ p.kind.bits) numbers
+
+samples_read : (p : Params) (count : ℕ) (bits left : List Bool) (umax gamma_star gamma_zero : ℕ) (start : CountStart) → IsOrder p.shape p.order
+    → (sample_body_at count (settings p) (places p.shape p.order) bits >>= λ read. Ok read.1) ≡ Ok left → IsRead p (Sample umax gamma_star gamma_zero start) bits left
+unfolding sample_body sample_body_at
+samples_read p count bits left umax gamma_star gamma_zero start order e =
+    let a = bind_ok (sample_body_at count (settings p) (places p.shape p.order) bits) (λ read. Ok read.1) left e in
+    let words = samples.words_takes count (settings p) [] [] (places p.shape p.order) bits a.0 a.1 in
+    record {
+      numbers = a.0.0;
+      body = sample_body (settings p) (places p.shape p.order) a.0.0;
+      coded = refl;
+      text = words.text ∙ ap (λ (x : List Bool). sample_body (settings p) (places p.shape p.order) a.0.0 ++ x) (ok_is a.0.1 left a.2);
+      long = words.count ∙ length-places p.shape p.order order;
+      range = rw (settings_bits p) at words.numbers;
+    }
+
+range_take : (limit n : ℕ) (vs : List ℕ) → AllByRecursion (λ v. v < limit) vs → AllByRecursion (λ v. v < limit) (take n vs)
+range_take limit zero vs h = tt
+range_take limit (suc n) [] h = tt
+range_take limit (suc n) (v ∷ vs) h = (h.0, range_take limit n vs h.1)
+
+-- texts that were read for n numbers are a body of the first n values that they tell
+texts_body : (s : CodeSet) (size reference n : ℕ) (texts : List Text) (numbers : List ℕ) → length numbers ≡ n → take n (values_of (blocks_told (cut_of s size reference n) 0 texts)) ≡ numbers → AreTexts (cut_of s size reference n) 0 texts (block_count size n)
+    → IsBlockBody s size reference numbers (spelling s texts)
+texts_body s size reference n texts numbers long told lawful = record {
+  texts = texts;
+  lawful = subst (λ (k : ℕ). AreTexts (cut_of s size reference k) 0 texts (block_count size k)) (sym long) lawful;
+  text = refl;
+  told = ap (λ (k : ℕ). take k (values_of (blocks_told (cut_of s size reference k) 0 texts))) long ∙ told;
+}
+
+even_read : (p : Params) (count half reference : ℕ) (restricted : Bool) (bits left : List Bool) → 1 ≤ half → 1 ≤ reference
+    → (block_body_at count (record { bits = p.kind.bits; restricted = restricted }) (2 * half) reference (sample_count p.shape) bits >>= λ read. Ok read.1) ≡ Ok left → IsRead p (Block (2 * half) restricted reference) bits left
+even_read p count half reference restricted bits left some least e =
+    let s : CodeSet = record { bits = p.kind.bits; restricted = restricted } in
+    let n : ℕ = sample_count p.shape in
+    let c : Cut = cut_of (record { bits = p.kind.bits; restricted = restricted }) (2 * half) reference (sample_count p.shape) in
+    let a = bind_ok (block_body_at count (record { bits = p.kind.bits; restricted = restricted }) (2 * half) reference (sample_count p.shape) bits) (λ read. Ok read.1) left e in
+    let read = (blocks.body_is_read count (record { bits = p.kind.bits; restricted = restricted }) half reference (sample_count p.shape) a.0.0 bits a.0.1 least).1 a.1 in
+    let values : List ℕ = values_of (blocks_told (cut_of (record { bits = p.kind.bits; restricted = restricted }) (2 * half) reference (sample_count p.shape)) 0 a.0.0) in
+    let told = told_length (cut_of (record { bits = p.kind.bits; restricted = restricted }) (2 * half) reference (sample_count p.shape)) 0 c.count a.0.0 read.0 in
+    let enough = blocks.blocks_enough (2 * half) (sample_count p.shape) (omega arith) in
+    let long : length (take (sample_count p.shape) (values_of (blocks_told (cut_of (record { bits = p.kind.bits; restricted = restricted }) (2 * half) reference (sample_count p.shape)) 0 a.0.0))) ≡ sample_count p.shape = omega (arith, told, enough, length-take (sample_count p.shape) values) in
+    record {
+      numbers = take (sample_count p.shape) (values_of (blocks_told (cut_of (record { bits = p.kind.bits; restricted = restricted }) (2 * half) reference (sample_count p.shape)) 0 a.0.0));
+      body = spelling (record { bits = p.kind.bits; restricted = restricted }) a.0.0;
+      coded = texts_body (record { bits = p.kind.bits; restricted = restricted }) (2 * half) reference (sample_count p.shape) a.0.0 _ long refl read.0;
+      text = read.1 ∙ ap (λ (x : List Bool). spelling (record { bits = p.kind.bits; restricted = restricted }) a.0.0 ++ x) (ok_is a.0.1 left a.2);
+      long = long;
+      range = range_take (2 ^ p.kind.bits) (sample_count p.shape) values (told_range (cut_of (record { bits = p.kind.bits; restricted = restricted }) (2 * half) reference (sample_count p.shape)) 0 c.count a.0.0 read.0);
+    }
+
+block_read : (p : Params) (count size reference : ℕ) (restricted : Bool) (bits left : List Bool) → IsSize size → 1 ≤ reference
+    → (block_body_at count (record { bits = p.kind.bits; restricted = restricted }) size reference (sample_count p.shape) bits >>= λ read. Ok read.1) ≡ Ok left → IsRead p (Block size restricted reference) bits left
+block_read p count size reference restricted bits left sized least =
+    subst (λ (k : ℕ). (block_body_at count (record { bits = p.kind.bits; restricted = restricted }) k reference (sample_count p.shape) bits >>= λ read. Ok read.1) ≡ Ok left → IsRead p (Block k restricted reference) bits left)
+    (size_halved size sized) (even_read p count (size / 2) reference restricted bits left (omega (arith, size_least size sized)) least)
+
+body_read : (reach : Reach) (p : Params) (count : ℕ) (coder : Coder) (bits left : List Bool) → IsCoder reach p coder → IsOrder p.shape p.order → behind_by coder count p bits ≡ Ok left → IsRead p coder bits left
+body_read reach p count (Sample umax gamma_star gamma_zero start) bits left lawful order e = samples_read p count bits left umax gamma_star gamma_zero start order e
+body_read reach p count (Block size restricted reference) bits left lawful order e = block_read p count size reference restricted bits left lawful.0 lawful.2.0 e
+
+-- ---- header, body and fill
+
+passes_on : {X : Type 0} (b : Bool) (fault : Fault) (x y : X) → (refuse_if b fault >> Ok x) ≡ Ok y → x ≡ y
+passes_on true fault x y e = absurd (cc)
+passes_on false fault x y e = ok_is x y e
+
+head_read : (reach : Reach) (bits : List Bool) (x : Params × List Bool) → head_at reach bits ≡ Ok x → header_at reach bits ≡ Ok x
+unfolding head_at
+head_read reach bits x e =
+    let a = bind_ok (header_at reach bits) (λ header. least_test (length bits) header.0 header.1 >> Ok header) x e in
+    a.1 ∙ ap (λ (y : Params × List Bool). Ok y) (passes_on _ _ a.0 x a.2)
+
+whole : (reach : Reach) (bytes : List ℕ) (p : Params) (header rest body left : List Bool) (c : Image) → IsCubeOf p c → IsBody p (residuals p c) body → SpellsHeader reach p header → bits_of_bytes bytes ≡ header ++ rest → rest ≡ body ++ left → fill_test p.word left ≡ fine → IsFile reach bytes p c
+whole reach bytes p header rest body left c cube coded spelt front behind filled =
+    let zeros = passed p.word left filled in
+    record {
+      cube = cube;
+      header = header;
+      body = body;
+      fill = length left;
+      spelt = spelt;
+      coded = coded;
+      few = zeros.0;
+      text = front ∙ ap (λ (x : List Bool). header ++ x) (behind ∙ ap (λ (x : List Bool). body ++ x) zeros.1) ∙ sym (append_assoc header body (replicate (length left) false));
+    }
+
+pub fine_is_file : FineIsFile
+unfolding file_test body_test behind_body
+fine_is_file reach bytes e =
+    let bits : List Bool = bits_of_bytes bytes in
+    let a = bind_ok (head_at reach (bits_of_bytes bytes)) (λ header. body_test (length (bits_of_bytes bytes)) header.0 header.1) tt e in
+    let found = (header_exact reach).found a.0.0 (bits_of_bytes bytes) a.0.1 (head_read reach (bits_of_bytes bytes) a.0 a.1) in
+    let lawful = spelt_is_lawful reach a.0.0 found.0 found.1 in
+    let b = bind_ok (behind_body (length (bits_of_bytes bytes)) a.0.0 a.0.1) (λ rest. fill_test a.0.0.word rest) tt a.2 in
+    let read = body_read reach a.0.0 (length (bits_of_bytes bytes)) a.0.0.coder a.0.1 b.0 lawful.coder lawful.order b.1 in
+    let made = built reach a.0.0 read.numbers lawful read.long read.range in
+    (a.0.0, made.image, lawful, whole reach bytes a.0.0 found.0 a.0.1 read.body b.0 made.image made.cube (subst (λ (ns : List ℕ). IsBody a.0.0 ns read.body) (sym made.same) read.coded) found.1 found.2 read.text b.2)

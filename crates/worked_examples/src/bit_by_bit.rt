@@ -1,0 +1,170 @@
+//! A writer and a reader that go bit by bit give the bytes and the answers of ours, on worked files and on others.
+
+ghost use Rattle.std.specs.Prelude.{◌≤◌};
+
+use crate::rows::{
+    BLOCK_ROWS, CUBE_A_ROWS, REGISTER_ROWS, RUN_ROWS, SEGMENT_ROWS, SMALL_ROWS, WEIGHT_ROWS,
+};
+use crate::texts::{file_of, parts_of};
+use header_bits::bit_reader::BitReader;
+use header_bits::bit_writer::BitWriter;
+use std::alloc::Global;
+use std::process::Abort;
+
+/// Numbers that a seed decides.
+#[derive(Drop)]
+struct Draw(u64);
+
+impl Draw {
+    /// A number below 2^31.
+    fn next(&mut self) -> u64 {
+        self.0 = self
+            .0
+            .wrapping_mul(6_364_136_223_846_793_005)
+            .wrapping_add(1_442_695_040_888_963_407);
+        self.0 >> 33
+    }
+}
+
+/// Reads one bit after another.
+#[derive(Drop)]
+struct SlowReader<'a> {
+    bytes: &'a [u8],
+    at: usize,
+}
+
+impl SlowReader<'_> {
+    fn bit(&mut self) -> Option<bool> {
+        let byte = *self.bytes.get(self.at / 8)?;
+        let place = 7 - self.at % 8;
+        self.at = self.at.wrapping_add(1);
+        Some(byte >> place as u32 & 1 == 1)
+    }
+
+    fn take(&mut self, n: u32) -> Option<u64> {
+        let start = self.at;
+        let mut number = 0u64;
+        for _ in 0..n {
+            let Some(bit) = self.bit() else {
+                self.at = start;
+                return None;
+            };
+            number = number.wrapping_mul(2) | if bit { 1 } else { 0 };
+        }
+        Some(number)
+    }
+
+    fn count_zeros(&mut self, limit: u64) -> Option<u64> {
+        let start = self.at;
+        for zeros in 0..limit {
+            match self.bit() {
+                Some(true) => return Some(zeros),
+                Some(false) => {}
+                None => {
+                    self.at = start;
+                    return None;
+                }
+            }
+        }
+        Some(limit)
+    }
+}
+
+/// The bits of a number, the first the most significant.
+fn push(rt: &impl Abort, bits: &mut Vec<bool>, number: u64, n: u32)
+    requires { n ≤ 64 }
+{
+    for k in 0..n {
+        let place = n - 1 - k;
+        bits.push(number >> place & 1 == 1).expect(rt, "memory");
+    }
+}
+
+/// The bits in whole bytes, filled with zeros.
+fn packed(rt: &impl Abort, alloc: Global, bits: &[bool]) -> Vec<u8> {
+    let mut bytes = Vec::new(alloc);
+    for (i, bit) in bits.iter().enumerate() {
+        if i % 8 == 0 {
+            bytes.push(0u8).expect(rt, "memory");
+        }
+        if *bit && let Some(last) = bytes.last_mut() {
+            *last |= 0x80 >> (i % 8) as u32;
+        }
+    }
+    bytes
+}
+
+/// That both read the same out of bytes, and write the same of what was read.
+fn agree(rt: &impl Abort, alloc: Global, draw: &mut Draw, bytes: &[u8]) {
+    assert!(rt; bytes.len() <= 1000);
+    let mut reader = BitReader::new(bytes);
+    let mut slow = SlowReader { bytes, at: 0 };
+    let mut writer = BitWriter::new(alloc);
+    let mut bits = Vec::new(alloc);
+    for _ in 0..400 {
+        let n = (draw.next() % 65) as u32;
+        if draw.next() % 3 == 0 {
+            let limit = draw.next() % 20;
+            assert_eq!(rt; reader.count_zeros(limit).ok(), slow.count_zeros(limit));
+        }
+        match reader.take(n) {
+            Ok(number) => {
+                assert_eq!(rt; slow.take(n), Some(number));
+                writer.push(number, n).expect(rt, "memory");
+                push(rt, &mut bits, number, n);
+            }
+            Err(_) => assert_eq!(rt; slow.take(n), None),
+        }
+        assert_eq!(rt; reader.left(), reader.count().wrapping_sub(slow.at as u64));
+    }
+    assert_eq!(rt; writer.bit_count(), bits.len() as u64);
+    for _ in 0..writer.bit_count().wrapping_neg() % 8 {
+        writer.push(0, 1).expect(rt, "memory");
+    }
+    assert_eq!(rt; writer.bit_count() % 8, 0);
+    assert!(rt; writer.into_bytes().as_slice() == packed(rt, alloc, &bits).as_slice());
+}
+
+#[test]
+fn worked_files_bit_by_bit(rt: HostRuntime) {
+    let mut draw = Draw(1);
+    for rows in [
+        SMALL_ROWS,
+        REGISTER_ROWS,
+        WEIGHT_ROWS,
+        CUBE_A_ROWS,
+        BLOCK_ROWS,
+        RUN_ROWS,
+        SEGMENT_ROWS,
+    ] {
+        for row in rows.split('\n') {
+            let [_name, _settings, _samples, header, body] = parts_of(&rt, row);
+            for _ in 0..8 {
+                agree(
+                    &rt,
+                    rt.alloc(),
+                    &mut draw,
+                    &file_of(&rt, rt.alloc(), header, body),
+                );
+            }
+        }
+    }
+}
+
+#[test]
+fn random_bytes_bit_by_bit(rt: HostRuntime) {
+    let mut draw = Draw(2);
+    for size in 0..200 {
+        let mut bytes = Vec::new(rt.alloc());
+        for _ in 0..size {
+            // Half of the bytes are zero, so that runs of zeros are long.
+            let byte = if draw.next() % 2 == 0 {
+                0
+            } else {
+                draw.next() % 256
+            };
+            bytes.push(byte as u8).expect(&rt, "memory");
+        }
+        agree(&rt, rt.alloc(), &mut draw, &bytes);
+    }
+}
