@@ -8,10 +8,14 @@ pub mod Fills
 pub mod ForSamples
 pub mod Found
 pub mod Givers
+pub mod Groups
 pub mod Inverse
 pub mod OneCube
+pub mod Owning
 pub mod Packed
+pub mod Parts
 pub mod Planning
+pub mod Sending
 pub mod Times
 pub mod Walking
 pub mod Weaves

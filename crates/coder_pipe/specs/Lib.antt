@@ -6,8 +6,10 @@ pub mod File
 pub mod Files
 pub mod Laws
 pub mod Least
+pub mod Own
 pub mod Plans
 pub mod Rows
+pub mod Sends
 pub mod Walked
 pub mod Weave
 pub mod Woven

@@ -4,12 +4,15 @@
 mod bands;
 mod coding_end;
 mod copied;
+pub mod cube_feed;
 pub mod decode;
 pub mod decoder;
 pub mod encode;
 pub mod encoder;
 pub mod laws;
 pub mod plan;
+pub mod predict_lane;
+mod walk;
 pub mod weaver;
 pub mod worked;
 pub mod worked_least;
