@@ -17,6 +17,7 @@ pub mod Packed
 pub mod Parts
 pub mod Pipelines
 pub mod Planning
+pub mod Predicted
 pub mod Sending
 pub mod Standings
 pub mod Taking

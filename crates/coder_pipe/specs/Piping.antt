@@ -4,9 +4,13 @@ use Rattle.std.specs.List.{All}
 use Rattle.band_rings.specs.Lane.{Lane}
 use Rattle.cube_core.specs.declared.fault.Fault.{Fault}
 use Rattle.cube_core.specs.declared.fault.Fault.TheVariants.{WantOfMemory, SpawnRefused, Stopped}
-use Rattle.coder_pipe.specs.File.{file_of_residuals}
+use Rattle.cube_core.specs.Image.{Image}
+use Rattle.header_bits.specs.Reach.{here}
+use Rattle.predict_core.specs.Residual.{residuals}
+use Rattle.coder_pipe.specs.File.{file_of_residuals, file_of}
+use Rattle.coder_pipe.specs.Files.{IsFile}
 use Rattle.coder_pipe.specs.Plans.{Dealing}
-use Rattle.coder_pipe.specs.Weave.{owners, share, weave}
+use Rattle.coder_pipe.specs.Weave.{owners, part, parts, share, weave}
 
 -- a lane that carried a list: all of it was sent and received, and nothing is left
 abbrev pub carried : List ℕ → Lane
@@ -36,3 +40,15 @@ EndsEarly SpawnRefused At = Unit {0}
 EndsEarly WantOfMemory At = Unit {0}
 EndsEarly (Stopped q n) At = At q n
 EndsEarly other At = ⊥
+
+-- what the pipeline makes of a cube: each lane carried its predictor's part of the residuals, none twice, none left, and the bytes are the definition's file,
+-- which is a file of this cube and these parameters and of no others
+pub record IsFileOf (plan : Dealing) (c : Image) (file : List ℕ) (lanes : List Lane) : Type 0 where
+  pub carries : lanes ≡ map carried (parts plan.predictors plan.deal plan.params c)
+  pub made : file ≡ file_of c plan.params
+  pub back : IsFile here file plan.params c
+
+-- the gate may stop predictor q at its n-th residual, and its part has that residual
+abbrev pub MayStopPart : {G : Type 0} → (G → ℕ → ℕ → Bool) → G → Dealing → Image → ℕ → ℕ → Type 0
+MayStopPart may_stop gate plan c q n =
+    (q < plan.predictors) × IsTrue (may_stop gate q n) × (n < length (part q (owners plan.deal plan.params) (residuals plan.params c)))

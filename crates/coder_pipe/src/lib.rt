@@ -8,6 +8,7 @@ pub mod cube_feed;
 pub mod decode;
 pub mod decoder;
 pub mod encode;
+pub mod encode_predicted;
 pub mod encoder;
 pub mod laws;
 pub mod pipeline;
@@ -20,3 +21,6 @@ pub mod worked;
 pub mod worked_least;
 pub mod worked_parts;
 pub mod worked_refusals;
+
+pub use lane_workers::feed::{Feed, LaneEnd};
+pub use lane_workers::gate::{Gate, OpenGate};
