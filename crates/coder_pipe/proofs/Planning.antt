@@ -11,7 +11,7 @@ use Rattle.header_bits.specs.Parts.{fine}
 use Rattle.header_bits.proofs.Tests.{then_ok, then_fine, refuse_ok, refuse_fine, not_false, in_range_ok, in_range_fine}
 use Rattle.coder_pipe.specs.Plans.{told_band, owner_fault, length_fault, plan_fault, PlanFaultIsExact}
 
-all_at : (limit : ℕ) (xs : List ℕ) → AllByRecursion (λ q. q < limit) xs → All (λ q. q < limit) xs
+pub all_at : (limit : ℕ) (xs : List ℕ) → AllByRecursion (λ q. q < limit) xs → All (λ q. q < limit) xs
 all_at limit [] h k d lt = absurd (omega arith)
 all_at limit (x ∷ xs) h zero d lt = h.0
 all_at limit (x ∷ xs) h (suc k) d lt = all_at limit xs h.1 k d (omega (arith, lt))

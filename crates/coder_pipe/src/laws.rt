@@ -1,6 +1,7 @@
 //! Laws of the definitions alone.
 
 ghost use Rattle.coder_pipe.specs.Laws.{ChosenIsFile, FileIsFine, FineIsFile, NoShorterFile, OneCube, OneFile, TimeOfPlace};
+ghost use Rattle.coder_pipe.specs.Own.{OwnIsPart};
 ghost use Rattle.coder_pipe.specs.Plans.{PlanFaultIsExact};
 ghost use Rattle.coder_pipe.specs.Weave.{PartsOfWeave, WeaveOfParts, WeaveOfTaken};
 
@@ -57,4 +58,9 @@ pub fn time_of_place()
 /// Nothing of a plan is refused exactly where it may be made.
 pub fn plan_fault_is_exact()
     ensures { PlanFaultIsExact }
+{}
+
+/// A predictor's part of an image's residuals is those of its own bands, in encoding order.
+pub fn own_is_part()
+    ensures { OwnIsPart }
 {}

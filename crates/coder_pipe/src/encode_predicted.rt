@@ -1,0 +1,37 @@
+//! A cube coded by predictors in threads of their own.
+
+ghost use Rattle.std.specs.Prelude.{◌≡◌, IfOk, IfErr};
+ghost use Rattle.coder_pipe.specs.Piping.{EndsEarly, IsFileOf, MayStopPart};
+ghost use Rattle.coder_pipe.specs.Sends.{IsSeen};
+
+use crate::cube_feed::cube_feeds;
+use crate::pipeline::{Piped, encode_piped};
+use crate::plan::Plan;
+use cube_core::cube::Cube;
+use cube_core::fault::Fault;
+use lane_workers::gate::Gate;
+use std::alloc::Global;
+use std::sync::Wait;
+use std::thread::Threads;
+
+/// The file of a cube of the plan's shape and kind, whose residuals the predictors of the plan have sent.
+///
+/// Each predictor's residuals were received once each, in the order sent, and none is left; they are those of its bands. The bytes are
+/// those that `encode_one` gives, and `decode` gives the cube and its parameters back, where memory isn't refused. The answer is `WantOfMemory`, `SpawnRefused`
+/// where a thread wasn't started, or `Stopped`, only where the gate may stop a predictor at a residual of its part.
+pub fn encode_predicted<R: Threads + Wait + Sync, G: Gate + Sync>(
+    rt: &R,
+    alloc: Global,
+    cube: &Cube,
+    plan: &Plan,
+    gate: &G,
+) -> Result<Piped, Fault>
+    requires { IsSeen plan.now.params cube.now }
+    ensures file { IfOk result (λ p. IsFileOf plan.now cube.now p.file.items p.lanes.items) }
+    ensures early { IfErr result (λ e. EndsEarly e (λ q n. MayStopPart G.may_stop gate.now plan.now cube.now q n)) }
+{
+    plan.is_plan();
+    cube.is_cube();
+    let feeds = cube_feeds(alloc, cube, plan)?;
+    encode_piped(rt, alloc, plan.params(), plan, feeds, gate)
+}
