@@ -159,6 +159,23 @@ def compared(room, words, fields):
     room.hold(f"{name}, expanded to its bytes", room.read("back"), bytes(48))
 
 
+# ---- predictors in threads
+
+SHARED = [[], ["--order", "bi"], ["--order", "bi", "--depth", 7], ["--coder", "block", "--order", "bi", "--depth", 9], ["--coder", "block"]]
+
+
+def predictors(room):
+    """However many predictors and slots there are, the file is the same."""
+    room.write("raw", random.Random(9).randbytes(2 * 20 * 15 * 9))
+    for words in SHARED:
+        sizes = ["compress", "--columns", 20, "--rows", 15, "--bands", 9, "--bits", 16, *words]
+        room.hold(f"{words} on one thread", room.run(*sizes, "raw", "file"), (0, b"", ""))
+        for count, slots in ((1, 1), (2, 1024), (3, 1), (9, 7), (64, 1)):
+            name = f"{words} by {count} predictors with {slots} slots"
+            room.hold(name, room.run(*sizes, "--predictors", count, "--slots", slots, "raw", "other"), (0, b"", ""))
+            room.hold(f"{name}: one file", room.read("other") == room.read("file"), True)
+
+
 # ---- great sizes
 
 GREAT = [(65_536, 3, 1), (3, 65_536, 1), (3, 1, 65_536), (4_097, 4_096, 1)]
@@ -220,7 +237,7 @@ def refusals(room):
 def main():
     with tempfile.TemporaryDirectory() as folder:
         room = Room(folder)
-        for part in (layouts, options, great_sizes, refusals):
+        for part in (layouts, options, predictors, great_sizes, refusals):
             part(room)
     print(f"options.py: {room.passed} passed, {room.failed} failed")
     return 1 if room.failed else 0

@@ -20,6 +20,8 @@ use std::alloc::Global;
 use std::env;
 use std::io::Write;
 use std::process::ExitCode;
+use std::sync::Wait;
+use std::thread::Threads;
 use system::System;
 
 fn main(rt: HostRuntime) -> ExitCode {
@@ -31,11 +33,12 @@ fn main(rt: HostRuntime) -> ExitCode {
 
 /// Runs the command that the words name, over the system.
 fn run(rt: &HostRuntime) -> Result<(), Fault> {
-    run_words(rt.alloc(), &System { rt }, &words(rt)?)?.answer
+    run_words(rt, rt.alloc(), &System { rt }, &words(rt)?)?.answer
 }
 
 /// Runs the command that words ask for, between the ends that they name.
-fn run_words<O: Opener>(
+fn run_words<R: Threads + Wait + Sync, O: Opener>(
+    rt: &R,
     alloc: Global,
     opener: &O,
     words: &[String],
@@ -43,7 +46,7 @@ fn run_words<O: Opener>(
     ensures ran { IfOk result (λ ended. (settings : Asked) × Ask (map string_bytes words.now) settings × (s : O.Input) × (k : O.Output) × O.opens opener.now (name_in settings) s × O.makes opener.now (name_out settings) k × Ran settings (O.Input.left s) (O.Input.failures s) (O.Input.failures ended.input) (O.Output.taken k) (O.Output.taken ended.output) (O.Output.failures k) (O.Output.failures ended.output) (O.Output.stalls k) (O.Output.stalls ended.output) ended.answer) }
 {
     let settings = settings_of(alloc, words)?;
-    run_command(alloc, opener, &settings)
+    run_command(rt, alloc, opener, &settings)
 }
 
 /// The words behind the program's name. Words that aren't text are `Usage`.

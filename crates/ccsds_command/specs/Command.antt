@@ -1,5 +1,5 @@
 -- What the run of a command promises, whichever it is: what its engine does.
-use Rattle.std.specs.Prelude.{ℕ, List, Option, Some, None, string_bytes, ⊤, Result, OnOk, IfErr}
+use Rattle.std.specs.Prelude.{◌⊎◌, false, ℕ, List, Option, Some, None, string_bytes, ⊤, Result, OnOk, IfErr}
 use Rattle.cube_core.specs.declared.fault.Fault.{Fault}
 use Rattle.cube_core.specs.Layout.{IsLayout}
 use Rattle.header_bits.specs.declared.params.Params.{Params}
@@ -9,6 +9,7 @@ use Rattle.command_devices.specs.Reading.{file_limit}
 use Rattle.ccsds_command.specs.Compress.{Compresses, IsCompressFault, raw_limit}
 use Rattle.ccsds_command.specs.Expand.{Expands, IsExpandFault}
 use Rattle.ccsds_command.specs.Inspect.{Inspects, IsInspectFault}
+use Rattle.ccsds_command.specs.Piped.{IsPipedFault}
 use Rattle.ccsds_command.specs.Show.{Shows, IsShowFault, show_limit}
 
 -- the file that a command reads; with no name it is the standard input
@@ -49,7 +50,9 @@ Does Inspect left old new = Inspects left old new
 -- why it is refused, and what was written then
 abbrev pub IsFaultOf : Settings → Option (List ℕ) → ℕ → ℕ → Option (List ℕ) → Option (List ℕ) → ℕ → ℕ → ℕ → ℕ → Fault → Type 0
 IsFaultOf Show = IsShowFault
-IsFaultOf (Compress settings from to) = IsCompressFault settings
+IsFaultOf (Compress settings from to) = λ left read_failures read_failures_now old new failures failures_now stalls stalls_now fault.
+    IsCompressFault settings left read_failures read_failures_now old new failures failures_now stalls stalls_now fault
+    ⊎ IsPipedFault {G = Unit {0}} (λ gate q n. false) tt settings left read_failures read_failures_now old new failures failures_now stalls stalls_now fault
 IsFaultOf (Expand layout from to) = IsExpandFault layout
 IsFaultOf Inspect = IsInspectFault
 

@@ -2,4 +2,5 @@ pub mod Command
 pub mod Compress
 pub mod Expand
 pub mod Inspect
+pub mod Piped
 pub mod Show

@@ -13,18 +13,23 @@ use crate::compress::run_compress;
 use crate::expand::run_expand;
 use crate::inspect::run_inspect;
 use crate::opener::{Ended, Opener};
+use crate::piped::run_piped;
 use crate::show::run_show;
 use command_devices::sink::Sink;
 use command_devices::source::Source;
 use command_settings::settings::Settings;
 use cube_core::fault::Fault;
+use lane_workers::gate::OpenGate;
 use std::alloc::Global;
+use std::sync::Wait;
+use std::thread::Threads;
 
 /// Opens the ends that a command names, the input first, and runs it between them.
 ///
 /// `Read` where the input can't be opened; then no output was made. `Write` with no byte where the output
 /// can't be made; then nothing was read. What the command itself answers stands with its ends.
-pub fn run_command<O: Opener>(
+pub fn run_command<R: Threads + Wait + Sync, O: Opener>(
+    rt: &R,
     alloc: Global,
     opener: &O,
     settings: &Settings,
@@ -35,7 +40,7 @@ pub fn run_command<O: Opener>(
 {
     let mut input = input_of(opener, settings)?;
     let mut output = output_of(opener, &input, settings)?;
-    let answer = run_between(alloc, settings, &mut input, &mut output);
+    let answer = run_between(rt, alloc, settings, &mut input, &mut output);
     Ok(Ended {
         input,
         output,
@@ -71,10 +76,11 @@ fn output_of<O: Opener>(
     }
 }
 
-/// Runs a command between its two ends.
+/// Runs a command between its two ends; `compress` in threads where it has predictors.
 ///
 /// Its refusals, and what is then written, are those of the command.
-pub fn run_between<S: Source, K: Sink>(
+pub fn run_between<R: Threads + Wait + Sync, S: Source, K: Sink>(
+    rt: &R,
     alloc: Global,
     settings: &Settings,
     source: &mut S,
@@ -88,7 +94,12 @@ pub fn run_between<S: Source, K: Sink>(
 {
     match settings {
         Settings::Show => run_show(alloc, source, sink),
-        Settings::Compress(settings, _, _) => run_compress(alloc, source, sink, settings),
+        Settings::Compress(settings, _, _) if settings.predictors == 0 => {
+            run_compress(alloc, source, sink, settings)
+        }
+        Settings::Compress(settings, _, _) => {
+            run_piped(rt, alloc, source, sink, settings, &OpenGate)
+        }
         Settings::Expand(layout, _, _) => run_expand(alloc, source, sink, layout),
         Settings::Inspect => run_inspect(alloc, source, sink),
     }

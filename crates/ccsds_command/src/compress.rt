@@ -59,7 +59,7 @@ fn file_of_source<S: Source>(
 }
 
 /// Reads the cube that the source has the raw bytes of.
-fn read_cube<S: Source>(
+pub(crate) fn read_cube<S: Source>(
     alloc: Global,
     source: &mut S,
     settings: &CompressSettings,

@@ -6,4 +6,5 @@ pub mod compress;
 pub mod expand;
 pub mod inspect;
 pub mod opener;
+pub mod piped;
 pub mod show;

@@ -9,6 +9,10 @@ pub struct CompressSettings {
     pub params: Params,
     /// How the samples lie in the raw bytes.
     pub layout: Layout,
+    /// How many predictors run in threads of their own, at most 64; with none the cube is coded on one thread.
+    pub predictors: u32,
+    /// How many residuals a predictor may be ahead of the coding end, at most 65,536.
+    pub slots: u32,
 }
 
 /// A command with its settings, and the paths that it reads from and writes to.

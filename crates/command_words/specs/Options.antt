@@ -23,14 +23,15 @@ file name = record (new_rule name) { action = Some Set; required = true }
 unfoldable pub sizes : List Text
 sizes = codes "columns" ∷ codes "rows" ∷ codes "bands" ∷ codes "bits" ∷ []
 
--- the encoding order and what goes into the header's first part, how samples are predicted, and how residuals are coded
+-- the encoding order and what goes into the header's first part, how samples are predicted, how residuals are coded, and by how many threads
 unfoldable pub options : List (Text × Text)
 options =
     (codes "order", codes "bsq") ∷ (codes "depth", codes "1") ∷ (codes "user", codes "0") ∷ (codes "word", codes "1")
     ∷ (codes "previous", codes "3") ∷ (codes "register", codes "64") ∷ (codes "omega", codes "13") ∷ (codes "interval-log", codes "6")
     ∷ (codes "vmin-code", codes "5") ∷ (codes "vmax-code", codes "9")
     ∷ (codes "coder", codes "sample") ∷ (codes "umax", codes "16") ∷ (codes "gamma-star", codes "6") ∷ (codes "gamma-zero", codes "1") ∷ (codes "k", codes "3")
-    ∷ (codes "block", codes "8") ∷ (codes "reference", codes "64") ∷ []
+    ∷ (codes "block", codes "8") ∷ (codes "reference", codes "64")
+    ∷ (codes "predictors", codes "0") ∷ (codes "slots", codes "1024") ∷ []
 
 unfoldable pub flags : List Text
 flags = codes "signed" ∷ codes "reduced" ∷ codes "column-sums" ∷ []

@@ -44,6 +44,7 @@ pub record AreParams (p : Params) : Type 0 where
 -- each value is in its range, and the two files have different names
 abbrev pub AreInRange : Settings → Type 0
 AreInRange command.Show = Unit {0}
-AreInRange (command.Compress s from to) = AreParams s.params × IsLayout s.layout × (string_bytes from ≢ string_bytes to)
+AreInRange (command.Compress s from to) =
+    AreParams s.params × IsLayout s.layout × InRange 0 64 s.predictors × InRange 1 65536 s.slots × (string_bytes from ≢ string_bytes to)
 AreInRange (command.Expand l from to) = IsLayout l × (string_bytes from ≢ string_bytes to)
 AreInRange command.Inspect = Unit {0}

@@ -10,7 +10,7 @@ use Rattle.command_settings.specs.declared.settings.CompressSettings.{CompressSe
 use Rattle.command_settings.specs.declared.settings.Settings.{Settings}
 use Rattle.command_settings.specs.declared.settings.Settings.TheVariants.{Show, Compress, Expand, Inspect}
 use Rattle.command_words.specs.Options.{compress_app, expand_app}
-use Rattle.command_words.specs.Reading.{AreFilesOf, AreParamsOf, IsLayoutOf}
+use Rattle.command_words.specs.Reading.{AreFilesOf, AreParamsOf, HasNumber, IsLayoutOf}
 use Rattle.command_words.specs.Settings.{AreInRange}
 
 -- the texts of words
@@ -35,7 +35,8 @@ AreOfOptions words = BeginWith (codes "compress") words ⊎ BeginWith (codes "ex
 
 -- options say how a cube is compressed, and which files are read and written
 abbrev pub AreCompressed : List Row → CompressSettings → String Global → String Global → Type 0
-AreCompressed rows s from to = AreParamsOf rows s.params × IsLayoutOf rows s.layout × AreFilesOf rows from to
+AreCompressed rows s from to =
+    AreParamsOf rows s.params × IsLayoutOf rows s.layout × HasNumber rows (codes "predictors") s.predictors × HasNumber rows (codes "slots") s.slots × AreFilesOf rows from to
 
 -- and how a file is expanded
 abbrev pub AreExpanded : List Row → Layout → String Global → String Global → Type 0

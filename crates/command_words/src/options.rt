@@ -12,8 +12,8 @@ use std::alloc::{AllocError, Global};
 static SIZES: [&str; 4] = ["columns", "rows", "bands", "bits"];
 
 /// The options of `compress`, each with its value where it is left out: the encoding order and what goes
-/// into the header's first part, how samples are predicted, and how residuals are coded.
-static OPTIONS: [(&str, &str); 17] = [
+/// into the header's first part, how samples are predicted, how residuals are coded, and by how many threads.
+static OPTIONS: [(&str, &str); 19] = [
     ("order", "bsq"),
     ("depth", "1"),
     ("user", "0"),
@@ -31,6 +31,8 @@ static OPTIONS: [(&str, &str); 17] = [
     ("k", "3"),
     ("block", "8"),
     ("reference", "64"),
+    ("predictors", "0"),
+    ("slots", "1024"),
 ];
 
 /// The flags of `compress`.

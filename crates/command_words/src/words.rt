@@ -72,8 +72,16 @@ fn compress_settings<'a>(alloc: Global, words: &'a [&'a str]) -> Result<Settings
     let matches = matches(compress_command(alloc)?, words)?;
     let params = params(&matches)?;
     let layout = layout(&matches)?;
+    let predictors = number(&matches, "predictors", 0, 64)?;
+    let slots = number(&matches, "slots", 1, 65_536)?;
     let (from, to) = files(alloc, &matches)?;
-    Ok(Settings::Compress(CompressSettings { params, layout }, from, to))
+    let settings = CompressSettings {
+        params,
+        layout,
+        predictors,
+        slots,
+    };
+    Ok(Settings::Compress(settings, from, to))
 }
 
 fn expand_settings<'a>(alloc: Global, words: &'a [&'a str]) -> Result<Settings, Fault>

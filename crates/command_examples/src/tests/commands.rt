@@ -79,7 +79,7 @@ fn written(
         standard,
         file,
     };
-    let ended = run_command(alloc, &memory, settings)?;
+    let ended = run_command(rt, alloc, &memory, settings)?;
     ended.answer?;
     Ok(ended.output.into_writer())
 }

@@ -46,6 +46,8 @@ fn a_sample_out_of_range_is_refused(rt: HostRuntime) -> Result<(), Fail> {
     let settings = CompressSettings {
         params: band(2, 1, 11)?,
         layout: TWO_BYTES,
+        predictors: 0,
+        slots: 1024,
     };
     let answer = compressed(&rt, &settings, &[0x07, 0xFF, 0x08, 0x00]);
     assert_eq!(rt; answer.err(), Some(Fault::SampleRange { index: 1 }));
@@ -65,6 +67,8 @@ fn parameters_are_refused_before_anything_is_read(rt: HostRuntime) -> Result<(),
         let settings = CompressSettings {
             params,
             layout: ONE_BYTE,
+            predictors: 0,
+            slots: 1024,
         };
         // Its first call would fail.
         let mut source = CutSource::new(&[0xC8, 0xC8], 1, Some(0));
@@ -118,6 +122,8 @@ fn a_sample_too_large_for_its_byte_is_refused(rt: HostRuntime) -> Result<(), Fai
     let settings = CompressSettings {
         params: band(2, 1, 9)?,
         layout: TWO_BYTES,
+        predictors: 0,
+        slots: 1024,
     };
     let file = compressed(&rt, &settings, &[0x00, 0xFF, 0x01, 0x00])?;
     let answer = expanded(&rt, &ONE_BYTE, &file);

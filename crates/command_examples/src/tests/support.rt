@@ -45,6 +45,8 @@ pub(crate) fn two_equal() -> Result<CompressSettings, Fault>
     Ok(CompressSettings {
         params: band(1, 2, 8)?,
         layout: ONE_BYTE,
+        predictors: 0,
+        slots: 1024,
     })
 }
 

@@ -38,6 +38,9 @@ const VALUES: &str = "--depth 0
 --block 128
 --reference 0
 --reference 4097
+--predictors 65
+--slots 0
+--slots 65537
 --layout pixel
 --bytes 0
 --bytes 3
@@ -90,8 +93,6 @@ compress --columns=3 --rows=2 --bands=2 --bits=8 --unknown a b
 compress --columns=3 --rows=2 --bands=2 --bits=8 -x a b
 compress --columns=3 --rows=2 --bands=2 --bits=8 --help a b
 compress --columns=3 --rows=2 --bands=2 --bits=8 --restricted a b
-compress --columns=3 --rows=2 --bands=2 --bits=8 --predictors 2 a b
-compress --columns=3 --rows=2 --bands=2 --bits=8 --slots 8 a b
 expand
 expand a
 expand a a

@@ -116,6 +116,19 @@ fn layouts(rt: HostRuntime) -> Result<(), Fail> {
 }
 
 #[test]
+fn predictors_and_slots(rt: HostRuntime) -> Result<(), Fail> {
+    for (options, predictors, slots) in [("", 0, 1024), (" --predictors 64 --slots 65536", 64, 65_536)] {
+        let line = format!(in rt.alloc(); "{IMAGE}{options}")?;
+        let Settings::Compress(settings, _from, _to) = parsed(&rt, line.as_str())? else {
+            continue;
+        };
+        assert_eq!(rt; settings.predictors, predictors);
+        assert_eq!(rt; settings.slots, slots);
+    }
+    Ok(())
+}
+
+#[test]
 fn commands_without_options(rt: HostRuntime) {
     assert!(rt; matches!(parsed(&rt, "show"), Ok(Settings::Show)));
     assert!(rt; matches!(parsed(&rt, "inspect"), Ok(Settings::Inspect)));
