@@ -1,5 +1,5 @@
 -- One step of the walk along the encoding order.
-use Rattle.std.proofs.Common.{◌≡◌, ◌≢◌, ◌⊎◌, ◌+◌, ◌*◌, ◌-◌, ◌<◌, ℕ, suc, zero, Bool, cond, List, [], ◌∷◌, ◌++◌, length, take, drop, set, get_or, Some, refl, sym, ap, ◌∙◌, subst, inl, inr, append_assoc, append-nil, length-append, length-take, length-drop, arith}
+use Rattle.std.proofs.Common.{◌≡◌, ◌≢◌, ◌⊎◌, ◌+◌, ◌*◌, ◌-◌, ◌<◌, ℕ, suc, zero, Bool, cond, List, [], ◌∷◌, ◌++◌, length, take, drop, set, get_or, Some, refl, sym, ap, ◌∙◌, subst, inl, inr, length-append, length-take, length-drop, arith}
 use Rattle.std.proofs.lemmas.List.{length-set, length-map, take_more, take_all}
 use Rattle.std.proofs.lemmas.Bool.{ne_eqb, eq-eqb}
 use Rattle.std.proofs.Math.Arith.{digits_lt}
@@ -15,9 +15,7 @@ use Rattle.predict_core.specs.Following.{Learner, Follows, MovesOn}
 use Rattle.predict_core.specs.Residual.{mapped_residual, residuals}
 use Rattle.sample_adaptive.specs.Body.{band_numbers}
 use Rattle.sample_adaptive.proofs.Bodies.{band_push}
-use Rattle.coder_pipe.specs.declared.encoder.Encoder.{Encoder}
-use Rattle.coder_pipe.specs.Coding.{places_of, of_band, HasTaken, IsNumber, PutsNumber, EndsBody}
-use Rattle.coder_pipe.specs.File.{body_of}
+use Rattle.coder_pipe.specs.Coding.{places_of, of_band, IsNumber}
 use Rattle.coder_pipe.specs.Walked.{HasCome, IsAlong, AreAlong, residuals_at}
 use Rattle.coder_pipe.proofs.Come.{time_of, come_here, come_step, come_other}
 
@@ -48,14 +46,14 @@ get_set (x ∷ xs) zero (suc z) d f e = inr ((λ h. absurd (omega arith)), e)
 get_set (x ∷ xs) (suc i) zero d f e = inr ((λ h. absurd (omega arith)), e)
 get_set (x ∷ xs) (suc i) (suc z) d f e = elim (get_set xs i z d f e) [ inl (h, k) ↦ inl (ap suc h, k) | inr (h, k) ↦ inr ((λ g. h (omega arith)), k) ]
 
-band_numbers_same : (z : ℕ) (gone : List Place) (ns : List ℕ) (q : Place) (n : ℕ) → length ns ≡ length gone → q.z ≡ z → band_numbers z (gone ++ q ∷ []) (ns ++ n ∷ []) ≡ band_numbers z gone ns ++ n ∷ []
+pub band_numbers_same : (z : ℕ) (gone : List Place) (ns : List ℕ) (q : Place) (n : ℕ) → length ns ≡ length gone → q.z ≡ z → band_numbers z (gone ++ q ∷ []) (ns ++ n ∷ []) ≡ band_numbers z gone ns ++ n ∷ []
 band_numbers_same z gone ns q n long e = band_push z gone ns q n long ∙ ap (λ (b : Bool). cond b (band_numbers z gone ns ++ n ∷ []) (band_numbers z gone ns)) (eq-eqb q.z z e)
 
-band_numbers_other : (z : ℕ) (gone : List Place) (ns : List ℕ) (q : Place) (n : ℕ) → length ns ≡ length gone → q.z ≢ z → band_numbers z (gone ++ q ∷ []) (ns ++ n ∷ []) ≡ band_numbers z gone ns
+pub band_numbers_other : (z : ℕ) (gone : List Place) (ns : List ℕ) (q : Place) (n : ℕ) → length ns ≡ length gone → q.z ≢ z → band_numbers z (gone ++ q ∷ []) (ns ++ n ∷ []) ≡ band_numbers z gone ns
 band_numbers_other z gone ns q n long e = band_push z gone ns q n long ∙ ap (λ (b : Bool). cond b (band_numbers z gone ns ++ n ∷ []) (band_numbers z gone ns)) (ne_eqb q.z z e)
 
 -- numbers are some numbers and a last one
-last_of : (ns : List ℕ) (n : ℕ) → length ns ≡ n + 1 → (front : List ℕ) × (last : ℕ) × (ns ≡ front ++ last ∷ []) × (length front ≡ n)
+pub last_of : (ns : List ℕ) (n : ℕ) → length ns ≡ n + 1 → (front : List ℕ) × (last : ℕ) × (ns ≡ front ++ last ∷ []) × (length front ≡ n)
 last_of [] n e = absurd (omega arith)
 last_of (x ∷ []) n e = ([], x, refl, omega arith)
 last_of (x ∷ (y ∷ ns)) zero e = absurd (omega arith)
@@ -197,43 +195,20 @@ pub residuals_whole : (p : Params) (c : Image) → IsOrder p.shape p.order → c
 unfolding residuals
 residuals_whole p c lawful shape = ap (residuals_at p c) (gone_all p lawful ∙ ap (λ (s : Sizes). places s p.order) (sym shape))
 
--- ---- the coding end on the walk
-
--- the coder has taken the residuals of the places gone by, and its bits stand behind `start`
-pub record IsCoded (p : Params) (c : Image) (left : List Place) (coder : Encoder) (start bits : List Bool) : Type 0 where
-  pub written : List Bool
-  pub text : bits ≡ start ++ written
-  pub taken : HasTaken p coder (residuals_at p c (gone_by p left)) written
-
-pub coded_first : (p : Params) (c : Image) (coder : Encoder) (start : List Bool) → IsOrder p.shape p.order → HasTaken p coder [] [] → IsCoded p c (places p.shape p.order) coder start start
-coded_first p c coder start lawful taken =
-    let none : gone_count p (places p.shape p.order) ≡ 0 = omega (arith, length-places p.shape p.order lawful) in
-    record { written = []; text = sym (append-nil start); taken = rw none taken }
-
-pub coded_more : (p : Params) (c : Image) (left rest : List Place) (bands : List Learner) (old new : Encoder) (start bits more : List Bool) (q : Place) (b : Learner) (number : ℕ)
-    → IsOrder p.shape p.order → c.shape ≡ p.shape → IsOnWalk p c left bands → left ≡ q ∷ rest → slice_get bands q.z ≡ Some b → IsCoded p c left old start bits
-    → number ≡ mapped_residual p c b.band b.place → PutsNumber q.z b.place number old bits new more → IsCoded p c rest new start more
-coded_more p c left rest bands old new start bits more q b number lawful shape walk is band coded value puts =
+-- the residuals of one place more
+pub residuals_more : (p : Params) (c : Image) (left rest : List Place) (bands : List Learner) (q : Place) (b : Learner) (number : ℕ)
+    → IsOrder p.shape p.order → c.shape ≡ p.shape → IsOnWalk p c left bands → left ≡ q ∷ rest → slice_get bands q.z ≡ Some b → number ≡ mapped_residual p c b.band b.place
+    → residuals_at p c (gone_by p rest) ≡ residuals_at p c (gone_by p left) ++ number ∷ []
+residuals_more p c left rest bands q b number lawful shape walk is band value =
     let next = next_goes p q left rest lawful walk.rest is in
     let here = band_here p c (gone_by p left) bands q b lawful walk.known next.stands band in
-    let ns : List ℕ = residuals_at p c (gone_by p left) in
     let place : b.place ≡ q.y * c.shape.columns + q.x = here.1 ∙ ap (λ (s : Sizes). q.y * s.columns + q.x) (sym shape) in
     let there : number ≡ mapped_residual p c q.z (q.y * c.shape.columns + q.x) = value ∙ ap (λ z. mapped_residual p c z b.place) here.0.band ∙ ap (mapped_residual p c q.z) place in
-    let pushed : residuals_at p c (gone_by p rest) ≡ residuals_at p c (gone_by p left) ++ number ∷ [] = ap (residuals_at p c) next.gone ∙ residuals_push p c (gone_by p left) q ∙ ap (λ n. residuals_at p c (gone_by p left) ++ n ∷ []) (sym there) in
-    let did = puts p ns coded.written coded.taken (is_number p c left rest bands ns q b lawful walk is band (length-residuals_at p c (gone_by p left))) in
-    record {
-      written = coded.written ++ did.0;
-      text = did.1 ∙ ap (λ (x : List Bool). x ++ did.0) coded.text ∙ append_assoc start coded.written did.0;
-      taken = subst (λ (r : List ℕ). HasTaken p new r (coded.written ++ did.0)) (sym pushed) did.2;
-    }
+    ap (residuals_at p c) next.gone ∙ residuals_push p c (gone_by p left) q ∙ ap (λ n. residuals_at p c (gone_by p left) ++ n ∷ []) (sym there)
 
--- all residuals were taken, and the body is ended
-pub coded_ended : (p : Params) (c : Image) (coder : Encoder) (start bits now : List Bool) → IsOrder p.shape p.order → c.shape ≡ p.shape → IsCoded p c [] coder start bits → EndsBody coder bits now → now ≡ start ++ body_of p (residuals p c)
-coded_ended p c coder start bits now lawful shape coded ends =
-    let ns : List ℕ = residuals_at p c (gone_by p []) in
-    let long : length ns ≡ sample_count p.shape = length-residuals_at p c (gone_by p []) ∙ ap (λ (ps : List Place). length ps) (gone_all p lawful) ∙ length-places p.shape p.order lawful in
-    let did = ends p ns coded.written coded.taken lawful long in
-    did.1 ∙ ap (λ (x : List Bool). x ++ did.0) coded.text ∙ append_assoc start coded.written did.0 ∙ ap (λ (x : List Bool). start ++ x) (did.2 ∙ ap (body_of p) (residuals_whole p c lawful shape))
+-- of no place
+pub residuals_none : (p : Params) (c : Image) → IsOrder p.shape p.order → residuals_at p c (gone_by p (places p.shape p.order)) ≡ []
+residuals_none p c lawful = let none : gone_count p (places p.shape p.order) ≡ 0 = omega (arith, length-places p.shape p.order lawful) in rw none refl
 
 -- ---- all bands
 

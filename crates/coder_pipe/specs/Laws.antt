@@ -1,12 +1,15 @@
 -- What holds of the definitions alone.
-use Rattle.std.specs.Prelude.{ℕ, ◌≡◌, ◌+◌, ◌*◌, ◌≤◌, List, length}
+use Rattle.std.specs.Prelude.{ℕ, ◌≡◌, ◌+◌, ◌*◌, ◌≤◌, List, length, slice_get, Some}
+use Rattle.cube_core.specs.declared.order.Place.{Place}
 use Rattle.cube_core.specs.Image.{Image}
+use Rattle.cube_core.specs.Order.{IsOrder, places}
 use Rattle.header_bits.specs.declared.params.Params.{Params}
 use Rattle.header_bits.specs.Bits.{bits_of_bytes}
 use Rattle.header_bits.specs.Parts.{fine}
 use Rattle.header_bits.specs.Reach.{Reach}
 use Rattle.header_bits.specs.Lawful.{IsLawful}
 use Rattle.predict_core.specs.Residual.{residuals}
+use Rattle.coder_pipe.specs.Coding.{of_band}
 use Rattle.coder_pipe.specs.File.{file_of}
 use Rattle.coder_pipe.specs.Files.{IsCubeOf, IsFile, file_test}
 use Rattle.coder_pipe.specs.Least.{least_length}
@@ -38,3 +41,9 @@ abbrev pub OneFile : Type 0
 OneFile =
     (reach : Reach) (bytes : List ℕ) (p q : Params) (c d : Image) → IsLawful reach p → IsFile reach bytes p c → IsFile reach bytes q d
     → (p ≡ q) × (c ≡ d)
+
+-- before a place come as many numbers of its band as the band has places before it, row after row
+abbrev pub TimeOfPlace : Type 0
+TimeOfPlace =
+    (p : Params) (numbers : List ℕ) (q : Place) → IsOrder p.shape p.order → slice_get (places p.shape p.order) (length numbers) ≡ Some q
+    → length (of_band p numbers q.z) ≡ q.y * p.shape.columns + q.x

@@ -1,10 +1,15 @@
 pub mod Coding
 pub mod Decoding
+pub mod Ends
 pub mod Everything
 pub mod File
 pub mod Files
 pub mod Laws
 pub mod Least
+pub mod Own
+pub mod Plans
 pub mod Rows
+pub mod Sends
 pub mod Walked
 pub mod Weave
+pub mod Woven

@@ -1,5 +1,5 @@
 -- Bands dealt to predictors: each predictor's part of the residuals, and the parts woven together again.
-use Rattle.std.specs.Prelude.{◌≡◌, ℕ, ◌<◌, ◌==◌, if◌then◌else◌, List, [], ◌∷◌, map, length, slice_index_or, slice_set}
+use Rattle.std.specs.Prelude.{◌≡◌, ℕ, ◌<◌, ◌≤◌, ◌==◌, if◌then◌else◌, List, [], ◌∷◌, map, length, count_by, slice_index_or, slice_set}
 use Rattle.std.specs.List.{All}
 use Rattle.cube_core.specs.declared.order.Place.{Place}
 use Rattle.cube_core.specs.Image.{Image}
@@ -28,15 +28,41 @@ weave [] lists = []
 weave (o ∷ owners) lists = elim (slice_index_or lists o []) [ [] ↦ [] | n ∷ rest ↦ n ∷ weave owners (slice_set lists o rest) ]
 
 -- the owners of an image's places, in encoding order
-abbrev pub owners : List ℕ → Params → Image → List ℕ
-owners deal p c = owners_of deal (places c.shape p.order)
+abbrev pub owners : List ℕ → Params → List ℕ
+owners deal p = owners_of deal (places p.shape p.order)
+
+-- how many places predictor q owns
+abbrev pub share : ℕ → List ℕ → ℕ
+share q owners = count_by (λ o. o == q) owners
+
+-- the numbers of each of so many predictors
+abbrev pub parts_of : ℕ → List ℕ → List ℕ → List (List ℕ)
+parts_of predictors owners numbers = map (λ q. part q owners numbers) (upto predictors)
 
 -- each predictor's part of an image's residuals
 abbrev pub parts : ℕ → List ℕ → Params → Image → List (List ℕ)
-parts predictors deal p c = map (λ q. part q (owners deal p c) (residuals p c)) (upto predictors)
+parts predictors deal p c = parts_of predictors (owners deal p) (residuals p c)
+
+-- ---- laws
 
 -- all parts, woven together, are the residuals
 abbrev pub WeaveOfParts : Type 0
 WeaveOfParts =
-    (p : Params) (c : Image) (predictors : ℕ) (deal : List ℕ) → IsOrder c.shape p.order → IsDeal predictors c.shape.bands deal
-    → weave (owners deal p c) (parts predictors deal p c) ≡ residuals p c
+    (p : Params) (c : Image) (predictors : ℕ) (deal : List ℕ) → c.shape ≡ p.shape → IsOrder p.shape p.order → IsDeal predictors p.shape.bands deal
+    → weave (owners deal p) (parts predictors deal p c) ≡ residuals p c
+
+-- so are those of any numbers, taken along the first of the places
+abbrev pub WeaveOfTaken : Type 0
+WeaveOfTaken =
+    (predictors : ℕ) (owners numbers : List ℕ) → All (λ o. o < predictors) owners → length numbers ≤ length owners
+    → weave owners (parts_of predictors owners numbers) ≡ numbers
+
+-- each list has a number for each place of its predictor
+abbrev pub AreWhole : List ℕ → List (List ℕ) → Type 0
+AreWhole owners lists = (q : ℕ) → q < length lists → length (slice_index_or lists q []) ≡ share q owners
+
+-- such lists are the parts of what they are woven to, which has a number for each place
+abbrev pub PartsOfWeave : Type 0
+PartsOfWeave =
+    (owners : List ℕ) (lists : List (List ℕ)) → All (λ o. o < length lists) owners → AreWhole owners lists
+    → (length (weave owners lists) ≡ length owners) × (parts_of (length lists) owners (weave owners lists) ≡ lists)

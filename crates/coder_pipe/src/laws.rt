@@ -1,7 +1,9 @@
 //! Laws of the definitions alone.
 
-ghost use Rattle.coder_pipe.specs.Laws.{ChosenIsFile, FileIsFine, FineIsFile, NoShorterFile, OneCube, OneFile};
-ghost use Rattle.coder_pipe.specs.Weave.{WeaveOfParts};
+ghost use Rattle.coder_pipe.specs.Laws.{ChosenIsFile, FileIsFine, FineIsFile, NoShorterFile, OneCube, OneFile, TimeOfPlace};
+ghost use Rattle.coder_pipe.specs.Own.{OwnIsPart};
+ghost use Rattle.coder_pipe.specs.Plans.{PlanFaultIsExact};
+ghost use Rattle.coder_pipe.specs.Weave.{PartsOfWeave, WeaveOfParts, WeaveOfTaken};
 
 /// The file that is written of a cube is a file of it.
 pub fn chosen_is_file()
@@ -36,4 +38,29 @@ pub fn one_file()
 /// The parts of all predictors, woven together along the encoding order, are the residuals.
 pub fn weave_of_parts()
     ensures { WeaveOfParts }
+{}
+
+/// Numbers along the first of the places are what their parts are woven to.
+pub fn weave_of_taken()
+    ensures { WeaveOfTaken }
+{}
+
+/// Lists with a number for each place of their predictors are the parts of what they are woven to.
+pub fn parts_of_weave()
+    ensures { PartsOfWeave }
+{}
+
+/// Which number of its band stands at a place of the encoding order.
+pub fn time_of_place()
+    ensures { TimeOfPlace }
+{}
+
+/// Nothing of a plan is refused exactly where it may be made.
+pub fn plan_fault_is_exact()
+    ensures { PlanFaultIsExact }
+{}
+
+/// A predictor's part of an image's residuals is those of its own bands, in encoding order.
+pub fn own_is_part()
+    ensures { OwnIsPart }
 {}

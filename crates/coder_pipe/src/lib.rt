@@ -2,12 +2,19 @@
 #![tactic(auto)]
 
 mod bands;
+mod coding_end;
+mod copied;
+pub mod cube_feed;
 pub mod decode;
 pub mod decoder;
 pub mod encode;
 pub mod encoder;
 pub mod laws;
 pub mod least;
+pub mod plan;
+pub mod predict_lane;
+mod walk;
+pub mod weaver;
 pub mod worked;
 pub mod worked_least;
 pub mod worked_parts;

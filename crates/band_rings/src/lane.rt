@@ -1,0 +1,37 @@
+//! A lane between two threads: a ring of slots through which numbers go in order.
+
+ghost use Rattle.std.specs.Prelude.{◌≡◌, ◌<◌, ◌⊎◌, [], pos, IsOk, IfOk, IfErr};
+ghost use Rattle.cube_core.specs.Shape.{InRange};
+ghost use Rattle.cube_core.specs.declared.fault.Fault.TheVariants.{FieldRange, WantOfMemory};
+ghost use Rattle.cube_core.specs.declared.fault.Field.TheVariants.{Slots};
+
+use crate::receiver::LaneReceiver;
+use crate::sender::LaneSender;
+use cube_core::fault::{Fault, Field};
+use rtrb::RingBuffer;
+use std::alloc::Global;
+
+/// The most slots that a lane has.
+const MOST_SLOTS: u32 = 65_536;
+
+/// A lane of so many slots, 1 to 65,536: the end that sends and the end that receives. Either may
+/// move to a thread of its own, and no call of either waits or takes memory.
+///
+/// Where the number of slots is out of range the answer is `FieldRange` of `Slots`; `WantOfMemory`
+/// where the room isn't had.
+pub fn lane(alloc: Global, slots: u32) -> Result<(LaneSender, LaneReceiver), Fault>
+    ensures pair { IfOk result (λ ends. ends.0.lane ≡ ends.1.lane) }
+    ensures sender { IfOk result (λ ends. (ends.0.sent ≡ []) × (ends.0.free ≡ slots) × (ends.0.slots ≡ slots)) }
+    ensures receiver { IfOk result (λ ends. (ends.1.received ≡ []) × (ends.1.known ≡ [])) }
+    ensures range { IsOk result → InRange 1 65536 slots }
+    ensures refused { IfErr result (λ e. (((slots ≡ 0) ⊎ (65536 < slots)) × (e ≡ FieldRange Slots (pos slots))) ⊎ (InRange 1 65536 slots × (e ≡ WantOfMemory))) }
+{
+    if slots == 0 || slots > MOST_SLOTS {
+        return Err(Fault::FieldRange {
+            field: Field::Slots,
+            value: i64::from(slots),
+        });
+    }
+    let (producer, consumer) = RingBuffer::new(alloc, slots as usize)?;
+    Ok((LaneSender::new(producer), LaneReceiver::new(consumer)))
+}

@@ -1,0 +1,5 @@
+use Rattle.coder_pipe.proofs.Times.{time_of_place}
+use Rattle.coder_pipe.proofs.laws.time_of_place.Goals as goal
+
+pub returns : goal.returns
+returns c = time_of_place

@@ -1,0 +1,8 @@
+use Rattle.coder_pipe.proofs.Weaving.{place_comes, dealt_more}
+use Rattle.coder_pipe.proofs.weaver.Weaver.take.Goals as goal
+
+pub unreachable-requires : goal.unreachable-requires
+unreachable-requires c = place_comes c.self.inside.end c.args.residual (rw (← c.self.view_is) at c.requires) c.in_default.ensures
+
+pub invariant_of-self : goal.invariant_of-self
+invariant_of-self c = dealt_more c.put.result c.self.inside.deal.items c.self.inside.end c.put.new.self c.in-Some.place c.put.ensures.moved c.put.ensures.same c.self.invariant

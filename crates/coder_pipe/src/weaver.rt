@@ -1,0 +1,88 @@
+//! The coding end of predictors: it weaves what they send along the encoding order, and codes it.
+
+ghost use Rattle.std.specs.Prelude.{◌≡◌, ℕ, List, [], ◌∷◌, ◌++◌, length, slice_get, IfOk, IfErr, OnOk, OnErr};
+ghost use Rattle.cube_core.specs.declared.fault.Fault.TheVariants.{WantOfMemory};
+ghost use Rattle.header_bits.specs.declared.params.Params.{Params as Parameters};
+ghost use Rattle.coder_pipe.specs.Ends.{MayCode};
+ghost use Rattle.coder_pipe.specs.File.{file_of_residuals};
+ghost use Rattle.coder_pipe.specs.Weave.{owners};
+ghost use Rattle.coder_pipe.specs.Woven.{HasWoven};
+
+use crate::coding_end::CodingEnd;
+use crate::plan::Plan;
+use cube_core::fault::Fault;
+use header_bits::params::Params;
+use std::alloc::Global;
+use std::marker::Model;
+
+/// The coding end of an image whose residuals come from predictors. It sees no cube.
+///
+/// Contracts say of it which numbers it has taken, in encoding order, whoever they came from.
+#[derive(Drop)]
+pub struct Weaver {
+    end: CodingEnd,
+    deal: Vec<u8>,
+}
+
+impl Model for Weaver {
+    ghost use Rattle.coder_pipe.specs.Woven.{Weaving, AreDealt};
+
+    ghost Value = { Weaving };
+
+    ghost view = { λ w. record { end = w.end; deal = w.deal.items } };
+
+    ghost invariant = { λ w. AreDealt (record { end = w.end; deal = w.deal.items }) };
+}
+
+impl Weaver {
+    /// The coding end of an image by a plan for its parameters. It has taken nothing.
+    ///
+    /// `WantOfMemory` where the header's bytes aren't had, the room for the statistics of all bands, or
+    /// that for the deal.
+    pub fn new(alloc: Global, params: &Params, plan: &Plan) -> Result<Weaver, Fault>
+        requires { plan.now.params ≡ params.now }
+        ensures woven { IfOk result (λ w. HasWoven params.now plan.now.deal w []) }
+        ensures refused { IfErr result (λ e. e ≡ WantOfMemory) }
+    {
+        plan.is_plan();
+        Ok(Weaver {
+            end: CodingEnd::new(alloc, params)?,
+            deal: plan.deal().to_vec(alloc)?,
+        })
+    }
+
+    /// The predictor whose residual comes next; none behind the last place. No memory is taken.
+    pub fn wants(&self) -> Option<u32>
+        ensures { (p : Parameters) (deal numbers : List ℕ) → HasWoven p deal self.now numbers → result ≡ slice_get (owners deal p) (length numbers) }
+    {
+        let place = self.end.place()?;
+        Some(u32::from(self.deal[place.z as usize]))
+    }
+
+    /// Takes the next residual, which is at most 2^D - 1; fewer were taken than there are samples.
+    ///
+    /// After `WantOfMemory` nothing was changed.
+    pub fn take(&mut self, residual: u16) -> Result<(), Fault>
+        requires { MayCode self.old.end residual }
+        ensures woven { OnOk result ((p : Parameters) (deal numbers : List ℕ) → HasWoven p deal self.old numbers → HasWoven p deal self.new (numbers ++ residual ∷ [])) }
+        ensures same { OnErr result (self.new ≡ self.old) }
+        ensures refused { IfErr result (λ e. e ≡ WantOfMemory) }
+    {
+        let Some(place) = self.end.place() else {
+            unreachable!()
+        };
+        self.end.put(place, residual)
+    }
+
+    /// The bytes of the file, once a residual was taken for each sample.
+    ///
+    /// `WantOfMemory` where they aren't had.
+    pub fn finish(self) -> Result<Vec<u8>, Fault>
+        requires { self.end.left ≡ [] }
+        ensures file { IfOk result (λ bytes. (p : Parameters) (deal numbers : List ℕ) → HasWoven p deal self numbers → bytes.items ≡ file_of_residuals numbers p) }
+        ensures refused { IfErr result (λ e. e ≡ WantOfMemory) }
+    {
+        let Weaver { end, deal: _ } = self;
+        end.finish()
+    }
+}

@@ -1,0 +1,4 @@
+//! Lanes through their public calls.
+
+mod lanes;
+mod threads;

@@ -1,0 +1,4 @@
+pub mod Feeds
+pub mod Runs
+pub mod Stages
+pub mod States

@@ -1,0 +1,31 @@
+//! Feeds, which a worker sends along its lane.
+
+ghost use Rattle.std.specs.Prelude.{◌≡◌, ℕ, List, []};
+ghost use Rattle.lane_workers.specs.Feeds.{Keeps};
+
+use crate::gate::Gate;
+use band_rings::closed::ClosedLane;
+use band_rings::sender::LaneSender;
+use std::sync::Wait;
+
+/// What a worker gives back: its end of the lane, and whether it has sent its whole list.
+#[derive(Drop)]
+pub struct LaneEnd {
+    pub closed: ClosedLane,
+    pub whole: bool,
+}
+
+/// A list of numbers that one predictor sends.
+pub trait Feed: Drop {
+    /// The predictor's number.
+    ghost predictor: { Self → ℕ };
+
+    /// The numbers, in order.
+    ghost items: { Self → List ℕ };
+
+    /// Sends the list along a lane into which nothing was sent, and closes it. What was sent begins the list: all of it where the
+    /// end is whole, else the gate may stop the predictor there, and the list is longer.
+    fn run<R: Wait, G: Gate>(self, rt: &R, sender: LaneSender, gate: &G) -> LaneEnd
+        requires { sender.sent ≡ [] }
+        ensures { Keeps (G.may_stop gate.now) (predictor self) (items self) sender.lane result };
+}

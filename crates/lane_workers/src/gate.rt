@@ -1,0 +1,26 @@
+//! Gates, which may stop a worker before a number that it would send.
+
+ghost use Rattle.std.specs.Prelude.{ℕ, Bool, false, IsTrue, IsFalse};
+
+/// Whether a worker may go on.
+pub trait Gate {
+    /// The pairs of a predictor and of how many numbers it has sent at which it may be stopped.
+    ghost may_stop: { Self → ℕ → ℕ → Bool };
+
+    /// Asked before each try to send a number: the `nth` of a predictor, counted from 0, which has come back
+    /// `turn` times so far. False stops the predictor there, and comes only at a pair of the set.
+    fn pass(&self, predictor: u32, nth: u64, turn: u64) -> bool
+        ensures { IsFalse result → IsTrue (may_stop self.now predictor nth) };
+}
+
+/// The gate that stops nobody.
+#[derive(Clone, Copy, Debug)]
+pub struct OpenGate;
+
+impl Gate for OpenGate {
+    ghost may_stop = { λ _ _ _. false };
+
+    fn pass(&self, _predictor: u32, _nth: u64, _turn: u64) -> bool {
+        true
+    }
+}

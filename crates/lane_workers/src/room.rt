@@ -1,0 +1,67 @@
+//! Numbers that were received and are not yet handed on.
+
+ghost use Rattle.std.specs.Prelude.{◌≡◌, [], ◌∷◌, ◌++◌, IfSome, IfNone};
+ghost use mathlib.Core.List.{IsPrefix};
+
+use band_rings::receiver::LaneReceiver;
+use std::marker::Model;
+
+/// How many numbers a room holds.
+const PLACES: usize = 64;
+
+/// A small room beside a receiver. Contracts see the numbers that wait in it, in order.
+#[derive(Drop)]
+pub(crate) struct Room {
+    numbers: [u16; PLACES],
+    /// Those from `first` up to `end` wait.
+    first: usize,
+    end: usize,
+}
+
+impl Model for Room {
+    ghost use Rattle.std.specs.Prelude.{ℕ, List, ◌-◌, ◌≤◌, take, drop};
+
+    ghost Value = { List ℕ };
+
+    ghost view = { λ r. take (r.end - r.first) (drop r.first r.numbers) };
+
+    ghost invariant = { λ r. (r.first ≤ r.end) × (r.end ≤ 64) };
+}
+
+impl Room {
+    /// A room in which nothing waits.
+    pub(crate) fn new() -> Room
+        ensures { result ≡ [] }
+    {
+        Room {
+            numbers: [0; PLACES],
+            first: 0,
+            end: 0,
+        }
+    }
+
+    /// Hands on the first number.
+    #[inline(always)]
+    pub(crate) fn next(&mut self) -> Option<u16>
+        ensures handed { IfSome result (λ number. self.old ≡ number ∷ self.new) }
+        ensures none { IfNone result ((self.old ≡ []) × (self.new ≡ [])) }
+    {
+        if self.first == self.end {
+            return None;
+        }
+        let number = self.numbers[self.first];
+        self.first += 1;
+        Some(number)
+    }
+
+    /// Receives anew what is there to see of a lane. What waited is gone.
+    pub(crate) fn fill(&mut self, receiver: &mut LaneReceiver)
+        ensures lane { receiver.new.lane ≡ receiver.old.lane }
+        ensures received { receiver.new.received ≡ receiver.old.received ++ self.new }
+        ensures seen { IsPrefix receiver.old.known (self.new ++ receiver.new.known) }
+        ensures none { self.new ≡ [] → receiver.new.known ≡ [] }
+    {
+        self.first = 0;
+        self.end = receiver.recv_run(&mut self.numbers);
+    }
+}

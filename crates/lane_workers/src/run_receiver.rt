@@ -1,0 +1,141 @@
+//! Receivers that take numbers from their lane in runs, and hand them on one by one.
+
+ghost use Rattle.std.specs.Prelude.{◌≡◌, [], ◌∷◌, ◌++◌, length, IfSome, IfNone};
+ghost use mathlib.Core.List.{IsPrefix};
+ghost use Rattle.band_rings.specs.Lane.{IsLane};
+
+use crate::room::Room;
+use band_rings::closed::ClosedLane;
+use band_rings::receiver::LaneReceiver;
+use band_rings::settled::{SettledLane, settle};
+use std::marker::Model;
+
+/// A receiver with a small room beside it.
+///
+/// Contracts see it as a receiver whose numbers are received when they are handed on; those in the room are known to be there.
+#[derive(Drop)]
+pub struct RunReceiver {
+    receiver: LaneReceiver,
+    room: Room,
+}
+
+impl Model for RunReceiver {
+    ghost use Rattle.std.specs.Prelude.{◌≡◌, ◌++◌};
+    ghost use Rattle.band_rings.specs.Lane.{Receiving};
+    ghost use Rattle.lane_workers.specs.Runs.{before};
+
+    ghost Value = { Receiving };
+
+    ghost view = { λ r. record { lane = r.receiver.lane; received = before r.receiver.received r.room; known = r.room ++ r.receiver.known } };
+
+    ghost invariant = { λ r. r.receiver.received ≡ before r.receiver.received r.room ++ r.room };
+}
+
+/// A lane of which the two ends have met, and what its receiver still has in its room.
+///
+/// Contracts see it as a settled lane whose numbers are received when they are handed on.
+#[derive(Drop)]
+pub struct SettledRuns {
+    lane: SettledLane,
+    room: Room,
+}
+
+impl Model for SettledRuns {
+    ghost use Rattle.std.specs.Prelude.{◌≡◌, ◌++◌};
+    ghost use Rattle.band_rings.specs.Lane.{Lane, IsLane};
+    ghost use Rattle.lane_workers.specs.Runs.{before};
+
+    ghost Value = { Lane };
+
+    ghost view = { λ s. record { sent = s.lane.sent; received = before s.lane.received s.room; rest = s.room ++ s.lane.rest } };
+
+    ghost invariant = { λ s. IsLane s.lane × (s.lane.received ≡ before s.lane.received s.room ++ s.room) };
+}
+
+impl RunReceiver {
+    /// A receiver of runs in whose room nothing waits.
+    pub fn new(receiver: LaneReceiver) -> RunReceiver
+        ensures { result ≡ receiver }
+    {
+        RunReceiver {
+            receiver,
+            room: Room::new(),
+        }
+    }
+
+    /// Hands on the next number that is in the room.
+    #[inline(always)]
+    pub fn next_held(&mut self) -> Option<u16>
+        ensures lane { self.new.lane ≡ self.old.lane }
+        ensures received { IfSome result (λ number. (self.new.received ≡ self.old.received ++ number ∷ []) × (self.old.known ≡ number ∷ self.new.known)) }
+        ensures none { IfNone result (self.new ≡ self.old) }
+    {
+        self.room.next()
+    }
+
+    /// Hands on the next number, or none where none was there to see.
+    #[inline(always)]
+    pub fn next(&mut self) -> Option<u16>
+        ensures lane { self.new.lane ≡ self.old.lane }
+        ensures received { IfSome result (λ number. (self.new.received ≡ self.old.received ++ number ∷ []) × IsPrefix self.old.known (number ∷ self.new.known)) }
+        ensures none { IfNone result ((self.new.received ≡ self.old.received) × (self.old.known ≡ []) × (self.new.known ≡ [])) }
+    {
+        if let Some(number) = self.room.next() {
+            return Some(number);
+        }
+        self.room.fill(&mut self.receiver);
+        self.room.next()
+    }
+
+    /// Receives what is there to see, up to a room, in place of what waits in it, which is handed on to nobody.
+    pub fn skip(&mut self)
+        ensures lane { self.new.lane ≡ self.old.lane }
+    {
+        self.room.fill(&mut self.receiver);
+    }
+
+    /// Brings the two ends of one lane together. What is in the room counts among the rest.
+    pub fn settle(self, closed: ClosedLane) -> SettledRuns
+        requires { self.lane ≡ closed.lane }
+        ensures kept { (result.sent ≡ closed.sent) × (result.received ≡ self.received) }
+        ensures lane { IsLane result }
+    {
+        let RunReceiver { receiver, room } = self;
+        SettledRuns {
+            lane: settle(receiver, closed),
+            room,
+        }
+    }
+}
+
+impl SettledRuns {
+    /// Hands on the first number of the rest. None exactly where the rest is empty.
+    #[inline(always)]
+    pub fn take_left(&mut self) -> Option<u16>
+        ensures kept { self.new.sent ≡ self.old.sent }
+        ensures lane { IsLane self.new }
+        ensures received { IfSome result (λ number. (self.old.rest ≡ number ∷ self.new.rest) × (self.new.received ≡ self.old.received ++ number ∷ [])) }
+        ensures none { IfNone result ((self.old.rest ≡ []) × (self.new ≡ self.old)) }
+    {
+        if let Some(number) = self.room.next() {
+            return Some(number);
+        }
+        self.lane.take_left()
+    }
+
+    /// How many numbers were sent.
+    pub fn sent_count(&self) -> u64
+        ensures { result ≡ length self.now.sent }
+    {
+        self.lane.sent_count()
+    }
+
+    /// The settled lane, once all was handed on.
+    pub fn into_lane(self) -> SettledLane
+        requires { self.rest ≡ [] }
+        ensures { result ≡ self }
+    {
+        let SettledRuns { lane, room: _ } = self;
+        lane
+    }
+}

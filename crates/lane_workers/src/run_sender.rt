@@ -1,0 +1,201 @@
+//! Senders that take numbers one by one, and send them in runs past a gate.
+
+ghost use Rattle.std.specs.Prelude.{◌≡◌, ◌+◌, ◌-◌, ◌^◌, ◌<◌, ◌≤◌, [], ◌∷◌, ◌++◌, true, false, length, drop, slice_index, IsTrue, IsFalse};
+ghost use Rattle.lane_workers.specs.Feeds.{Keeps};
+
+use crate::feed::LaneEnd;
+use crate::gate::Gate;
+use crate::waiting::{MOST, Waiting};
+use band_rings::sender::LaneSender;
+use std::marker::Model;
+use std::sync::Wait;
+use std::thread;
+
+/// A sender of runs: of eight numbers, or as many as the lane has slots.
+///
+/// Before a run is tried the gate is asked for each of its numbers. Where the gate passes all of them and the lane has no room for the
+/// run, each has come back once, and the first then goes alone. Where the gate passes one of them not, those before it go one by one, each
+/// asked for again before each try, and the sender stops there.
+///
+/// Contracts see its lane, its predictor, its gate, all numbers that it took, whether it takes more, and whether it has stopped.
+#[derive(Drop)]
+pub struct RunSender<'g, G: Gate> {
+    sender: LaneSender,
+    predictor: u32,
+    gate: &'g G,
+    waiting: Waiting,
+    /// How many numbers a run has.
+    run: usize,
+    stopped: bool,
+}
+
+impl<'g, G: Gate> Model for RunSender<'g, G> {
+    ghost use Rattle.std.specs.Prelude.{◌+◌, ◌^◌, ◌<◌, ◌≤◌, ◌++◌, ◌&&◌, not, nat_lt, length, IsTrue};
+    ghost use Rattle.lane_workers.specs.Runs.{RunSending};
+
+    ghost Value = { RunSending G };
+
+    ghost view = { λ s. record { lane = s.sender.lane; predictor = s.predictor; gate = s.gate.now; taken = s.sender.sent ++ s.waiting; ready = not s.stopped && nat_lt (length s.waiting) s.run; stopped = s.stopped } };
+
+    ghost invariant = { λ s. (1 ≤ s.run) × (s.run ≤ 8) × (length s.sender.sent + length s.waiting < 2 ^ 64) × (IsTrue s.stopped → (0 < length s.waiting) × IsTrue (G.may_stop s.gate.now s.predictor (length s.sender.sent))) };
+}
+
+impl<'g, G: Gate> RunSender<'g, G> {
+    /// A sender of a predictor's numbers, past a gate.
+    pub fn new(predictor: u32, sender: LaneSender, gate: &'g G) -> RunSender<'g, G>
+        ensures { result ≡ record { lane = sender.lane; predictor = predictor; gate = gate.now; taken = sender.sent; ready = true; stopped = false } }
+    {
+        let run = MOST.min(sender.slots() as usize);
+        RunSender {
+            sender,
+            predictor,
+            gate,
+            waiting: Waiting::new(),
+            run,
+            stopped: false,
+        }
+    }
+
+    /// Takes a number, and sends it with those before it once they make a run. False where the gate has stopped the sender.
+    #[inline(always)]
+    pub fn send<R: Wait>(&mut self, rt: &R, number: u16) -> bool
+        requires ready { IsTrue self.old.ready }
+        requires few { length self.old.taken < 2 ^ 64 - 1 }
+        ensures same { (self.new.lane ≡ self.old.lane) × (self.new.predictor ≡ self.old.predictor) × (self.new.gate ≡ self.old.gate) }
+        ensures taken { self.new.taken ≡ self.old.taken ++ number ∷ [] }
+        ensures ready { IsTrue result → IsTrue self.new.ready }
+        ensures stopped { IsFalse result → IsTrue self.new.stopped }
+    {
+        self.waiting.push(number);
+        if self.waiting.count() < self.run {
+            return true;
+        }
+        self.stopped = !send_run(
+            rt,
+            self.predictor,
+            &mut self.sender,
+            &mut self.waiting,
+            self.gate,
+        );
+        !self.stopped
+    }
+
+    /// Sends what still waits, unless the gate stops it, and closes the lane. It keeps to the numbers taken.
+    pub fn end<R: Wait>(self, rt: &R) -> LaneEnd
+        ensures keeps { Keeps (G.may_stop self.entry.gate) self.entry.predictor self.entry.taken self.entry.lane result }
+        ensures stopped { IsTrue self.entry.stopped → IsFalse result.whole }
+    {
+        let RunSender {
+            mut sender,
+            predictor,
+            gate,
+            mut waiting,
+            run: _,
+            stopped,
+        } = self;
+        let whole = !stopped && send_all(rt, predictor, &mut sender, &mut waiting, gate);
+        LaneEnd {
+            closed: sender.close(),
+            whole,
+        }
+    }
+}
+
+/// Sends all that wait. False where the gate has stopped the first that still waits.
+fn send_all<R: Wait, G: Gate>(
+    rt: &R,
+    predictor: u32,
+    sender: &mut LaneSender,
+    waiting: &mut Waiting,
+    gate: &G,
+) -> bool
+    requires few { length sender.old.sent + length waiting.old < 2 ^ 64 }
+    ensures lane { sender.new.lane ≡ sender.old.lane }
+    ensures taken { sender.new.sent ++ waiting.new ≡ sender.old.sent ++ waiting.old }
+    ensures whole { IsTrue result → waiting.new ≡ [] }
+    ensures stopped { IsFalse result → (0 < length waiting.new) × IsTrue (G.may_stop gate.now predictor (length sender.new.sent)) }
+{
+    while waiting.count() > 0 {
+        if !send_run(rt, predictor, sender, waiting, gate) {
+            return false;
+        }
+    }
+    true
+}
+
+/// Sends those that wait as one run; or else the first of them alone. False where the gate has stopped the first that still waits.
+fn send_run<R: Wait, G: Gate>(
+    rt: &R,
+    predictor: u32,
+    sender: &mut LaneSender,
+    waiting: &mut Waiting,
+    gate: &G,
+) -> bool
+    requires some { 0 < length waiting.old }
+    requires few { length sender.old.sent + length waiting.old < 2 ^ 64 }
+    ensures lane { sender.new.lane ≡ sender.old.lane }
+    ensures taken { sender.new.sent ++ waiting.new ≡ sender.old.sent ++ waiting.old }
+    ensures fewer { IsTrue result → length waiting.new < length waiting.old }
+    ensures stopped { IsFalse result → (0 < length waiting.new) × IsTrue (G.may_stop gate.now predictor (length sender.new.sent)) }
+{
+    let passed = passed(predictor, sender, waiting, gate);
+    if passed < waiting.count() {
+        for _ in 0..passed {
+            if !send_first(rt, predictor, sender, waiting, gate) {
+                return false;
+            }
+        }
+        return false;
+    }
+    if sender.send_run(waiting.numbers()) {
+        waiting.clear();
+        return true;
+    }
+    waiting.come_back();
+    thread::yield_now();
+    send_first(rt, predictor, sender, waiting, gate)
+}
+
+/// How many of those that wait the gate passes, asked for each until it passes one not.
+fn passed<G: Gate>(predictor: u32, sender: &LaneSender, waiting: &Waiting, gate: &G) -> usize
+    requires few { length sender.now.sent + length waiting.now < 2 ^ 64 }
+    ensures most { result ≤ length waiting.now }
+    ensures stopped { result < length waiting.now → IsTrue (G.may_stop gate.now predictor (length sender.now.sent + result)) }
+{
+    let sent = sender.sent_count();
+    for i in 0..waiting.count() {
+        if !gate.pass(predictor, sent + i as u64, waiting.turn(i)) {
+            return i;
+        }
+    }
+    waiting.count()
+}
+
+/// Sends the first of those that wait, alone. False where the gate stops it.
+fn send_first<R: Wait, G: Gate>(
+    rt: &R,
+    predictor: u32,
+    sender: &mut LaneSender,
+    waiting: &mut Waiting,
+    gate: &G,
+) -> bool
+    requires some { 0 < length waiting.old }
+    ensures lane { sender.new.lane ≡ sender.old.lane }
+    ensures taken { sender.new.sent ++ waiting.new ≡ sender.old.sent ++ waiting.old }
+    ensures sent { IsTrue result → (length waiting.new + 1 ≡ length waiting.old) × (length sender.new.sent ≡ length sender.old.sent + 1) }
+    ensures stopped { IsFalse result → (waiting.new ≡ waiting.old) × (sender.new.sent ≡ sender.old.sent) × IsTrue (G.may_stop gate.now predictor (length sender.new.sent)) }
+{
+    let number = waiting.numbers()[0];
+    for _ in rt.forever() {
+        if !gate.pass(predictor, sender.sent_count(), waiting.turn(0)) {
+            return false;
+        }
+        if sender.try_send(number).is_ok() {
+            waiting.drop_first();
+            return true;
+        }
+        waiting.first_comes_back();
+        thread::yield_now();
+    }
+    unreachable!()
+}

@@ -1,0 +1,134 @@
+//! Workers as the thread sees them that takes their numbers.
+
+ghost use Rattle.std.specs.Prelude.{◌≡◌, ℕ, ◌<◌, ◌≤◌, List, [], ◌∷◌, ◌++◌, length, All, Some, None, IfOk, IfErr, IfSome, IfNone, IsTrue};
+ghost use Rattle.cube_core.specs.declared.fault.Fault.TheVariants.{SpawnRefused};
+
+use crate::feed::Feed;
+use crate::gate::Gate;
+use crate::ready::Ready;
+use crate::state::{State, joined};
+use crate::worker::{Ended, start};
+use band_rings::settled::SettledLane;
+use cube_core::fault::Fault;
+use std::marker::Model;
+use std::sync::Wait;
+use std::sync::atomic::AtomicBool;
+use std::thread::{Scope, Threads};
+
+/// A worker, in a thread of its own until it is joined.
+///
+/// Contracts see its feed and its gate, which numbers were handed on, and, once it was joined and its lane settled, which are left.
+#[derive(Drop)]
+pub struct Stage<F: Feed, G: Gate> {
+    state: State<F, G>,
+}
+
+impl<F: Feed, G: Gate> Model for Stage<F, G> {
+    ghost use Rattle.lane_workers.specs.Stages.{Standing};
+
+    ghost Value = { Standing F G };
+
+    ghost use Rattle.lane_workers.specs.States.{standing_of};
+
+    ghost view = { λ s. standing_of s.state };
+}
+
+impl<F: Feed, G: Gate> Stage<F, G> {
+    /// Starts a worker in a scope. `over` is set once the worker sends no more; no more than waiting rests on it.
+    ///
+    /// `SpawnRefused` where its thread wasn't started.
+    pub fn start<'s, E, R: Wait + Sync + 's>(
+        scope: &Scope<'s, E>,
+        rt: &'s R,
+        ready: Ready<F>,
+        gate: &'s G,
+        over: &'s AtomicBool,
+    ) -> Result<Stage<F, G>, Fault>
+    where
+        F: Send + 's,
+        G: Sync + 's,
+        ensures stage { IfOk result (λ s. s ≡ record { feed = ready.feed; gate = gate.now; handed = []; left = None }) }
+        ensures refused { IfErr result (λ e. e ≡ SpawnRefused) }
+    {
+        let worker = start(scope, rt, ready, gate, over)?;
+        Ok(Stage {
+            state: State::Running(worker),
+        })
+    }
+
+    /// Waits for the next number, and hands it on. None once the worker has ended, all that it sent was handed on, and it was joined.
+    #[inline(always)]
+    pub fn next<R: Threads + Wait>(&mut self, rt: &R, over: &AtomicBool) -> Option<u16>
+        ensures same { (self.new.feed ≡ self.old.feed) × (self.new.gate ≡ self.old.gate) }
+        ensures handed { IfSome result (λ number. self.new.handed ≡ self.old.handed ++ number ∷ []) }
+        ensures none { IfNone result ((self.new.handed ≡ self.old.handed) × (self.new.left ≡ Some [])) }
+    {
+        if let Some(number) = self.state.next_held() {
+            return Some(number);
+        }
+        self.state.next(rt, over)
+    }
+
+    /// Receives what is there to see, and hands it on to nobody: for a worker that would else find no free slot.
+    pub fn skip(&mut self)
+        ensures { (self.new.feed ≡ self.old.feed) × (self.new.gate ≡ self.old.gate) }
+    {
+        self.state.skip();
+    }
+
+    /// How many numbers were sent by a worker that was stopped, once all of them were handed on.
+    pub fn stopped_at(&self) -> u64
+        requires spent { self.now.left ≡ Some [] }
+        requires short { length self.now.handed < length (F.items self.now.feed) }
+        ensures count { result ≡ length self.now.handed }
+        ensures stopped { IsTrue (G.may_stop self.now.gate (F.predictor self.now.feed) result) }
+    {
+        self.state.stopped_at()
+    }
+
+    /// Joins the worker, and tells how many numbers it sent where it was stopped.
+    pub fn stop<R: Threads>(self, rt: &R) -> Option<u64>
+        ensures { IfSome result (λ sent. IsTrue (G.may_stop self.gate (F.predictor self.feed) sent) × (sent < length (F.items self.feed))) }
+    {
+        let Stage { state } = self;
+        let ended = joined(rt, state);
+        if ended.whole {
+            None
+        } else {
+            Some(ended.lane.sent_count())
+        }
+    }
+
+    /// The settled lane of a worker, joined, once as many numbers were handed on as its feed has: these are the feed's, and nothing is left.
+    pub fn finish<R: Threads>(self, rt: &R) -> SettledLane
+        requires { length self.handed ≡ length (F.items self.feed) }
+        ensures handed { self.handed ≡ F.items self.feed }
+        ensures lane { result ≡ record { sent = F.items self.feed; received = F.items self.feed; rest = [] } }
+    {
+        let Stage { state } = self;
+        let Ended {
+            lane,
+            whole: _,
+            feed: _,
+            gate: _,
+        } = joined(rt, state);
+        lane.into_lane()
+    }
+
+    /// A number greater than any of the feed is never handed on: it is known once the worker was joined.
+    pub fn never<R: Threads>(self, rt: &R, number: u16, most: u16)
+        requires list { All (λ n. n ≤ most) (F.items self.feed) }
+        requires last { (before : List ℕ) × (self.handed ≡ before ++ number ∷ []) }
+        requires above { most < number }
+        ensures { ⊥ }
+    {
+        let Stage { state } = self;
+        let Ended {
+            lane: _lane,
+            whole: _,
+            feed: _,
+            gate: _,
+        } = joined(rt, state);
+        unreachable!()
+    }
+}
