@@ -9,13 +9,17 @@ pub mod ForSamples
 pub mod Found
 pub mod Givers
 pub mod Groups
+pub mod Heads
 pub mod Inverse
 pub mod OneCube
 pub mod Owning
 pub mod Packed
 pub mod Parts
+pub mod Pipelines
 pub mod Planning
 pub mod Sending
+pub mod Standings
+pub mod Taking
 pub mod Times
 pub mod Walking
 pub mod Weaves

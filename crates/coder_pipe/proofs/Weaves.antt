@@ -20,7 +20,7 @@ use Rattle.coder_pipe.specs.Weave.{IsDeal, owners_of, owners, share, part, parts
 
 -- ---- one number more
 
-part_none : (q : ℕ) (os : List ℕ) → part q os [] ≡ []
+pub part_none : (q : ℕ) (os : List ℕ) → part q os [] ≡ []
 unfolding part
 part_none q [] = refl
 part_none q (o ∷ os) = refl

@@ -7,9 +7,12 @@ pub mod Files
 pub mod Laws
 pub mod Least
 pub mod Own
+pub mod Piping
 pub mod Plans
 pub mod Rows
 pub mod Sends
+pub mod Standings
+pub mod Stops
 pub mod Walked
 pub mod Weave
 pub mod Woven

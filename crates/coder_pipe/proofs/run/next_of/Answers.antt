@@ -1,0 +1,42 @@
+use Rattle.std.proofs.Common.{◌≡◌, ◌<◌, ◌≤◌, [], length, get_or, ap, sym, subst, ◌∙◌, rules, get_or-set_same}
+use Rattle.std.specs.List.{All}
+use Rattle.coder_pipe.specs.Standings.{feeds_of, handed_of}
+use Rattle.std.proofs.lemmas.List.{map-set}
+use Rattle.coder_pipe.proofs.Standings.{at_of, same_feeds, same_gates}
+use Rattle.coder_pipe.proofs.run.next_of.Goals as goal
+
+pub stopped_at-requires-clause-short : goal.stopped_at-requires-clause-short
+stopped_at-requires-clause-short g c =
+    let s = c.index_mut-stage.result.now in
+    let lt : c.args.q < length c.args.stages.now.items = search rules in
+    let handed : get_or (handed_of c.args.stages.now.items) c.args.q [] ≡ s.handed = at_of (λ s. s.handed) c.args.stages.now.items c.args.q s [] lt c.index_mut-stage.ensures.value in
+    let feed : get_or (feeds_of c.args.stages.now.items) c.args.q s.feed ≡ s.feed = at_of (λ s. s.feed) c.args.stages.now.items c.args.q s s.feed lt c.index_mut-stage.ensures.value in
+    let short : length s.handed < length (g.F.Feed.items s.feed) = rw (handed, feed) at (c.requires.short s.feed) in
+    rw (c.in_default.ensures.same.0, c.in_default.ensures.none.0) short
+
+pub returns-in_default-clause-feeds : goal.returns-in_default-clause-feeds
+returns-in_default-clause-feeds g c = same_feeds c.args.stages.now.items c.args.q c.next.new.self c.index_mut-stage.result.now c.index_mut-stage.ensures.value c.next.ensures.same.0
+
+pub returns-in_default-clause-gates : goal.returns-in_default-clause-gates
+returns-in_default-clause-gates g c = same_gates c.args.stages.now.items c.args.q c.next.new.self c.index_mut-stage.result.now c.index_mut-stage.ensures.value c.next.ensures.same.1
+
+pub never-requires-clause-list : goal.never-requires-clause-list
+never-requires-clause-list g c =
+    let s = c.index_mut-stage.result.now in
+    let lt : c.args.q < length c.args.stages.now.items = search rules in
+    let feed : get_or (feeds_of c.args.stages.now.items) c.args.q s.feed ≡ s.feed = at_of (λ s. s.feed) c.args.stages.now.items c.args.q s s.feed lt c.index_mut-stage.ensures.value in
+    let taken : c.swap_remove.result ≡ c.next.new.self = c.swap_remove.ensures.value ∙ get_or-set_same c.args.stages.now.items c.args.q c.next.new.self c.swap_remove.result lt in
+    subst (λ f. All (λ n. n ≤ c.args.most) (g.F.Feed.items f)) (feed ∙ sym (ap (λ t. t.feed) taken ∙ c.in-Some.ensures.same.0)) (c.requires.range s.feed)
+
+pub returns-clause-feeds : goal.returns-clause-feeds
+returns-clause-feeds g c = same_feeds c.args.stages.now.items c.args.q c.next.new.self c.index_mut-stage.result.now c.index_mut-stage.ensures.value c.next.ensures.same.0
+
+pub returns-clause-gates : goal.returns-clause-gates
+returns-clause-gates g c = same_gates c.args.stages.now.items c.args.q c.next.new.self c.index_mut-stage.result.now c.index_mut-stage.ensures.value c.next.ensures.same.1
+
+pub returns-clause-ok : goal.returns-clause-ok
+returns-clause-ok g c =
+    let s = c.index_mut-stage.result.now in
+    let lt : c.args.q < length c.args.stages.now.items = search rules in
+    let handed : get_or (handed_of c.args.stages.now.items) c.args.q [] ≡ s.handed = at_of (λ s. s.handed) c.args.stages.now.items c.args.q s [] lt c.index_mut-stage.ensures.value in
+    rw (map-set, handed, c.in-Some.ensures.handed)

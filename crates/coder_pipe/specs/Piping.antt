@@ -1,0 +1,38 @@
+-- The pipeline: what its feeds state, what comes out, and why it may end early.
+use Rattle.std.specs.Prelude.{◌≡◌, ℕ, ◌<◌, ◌^◌, Bool, List, [], map, length, slice_index_or, IsTrue}
+use Rattle.std.specs.List.{All}
+use Rattle.band_rings.specs.Lane.{Lane}
+use Rattle.cube_core.specs.declared.fault.Fault.{Fault}
+use Rattle.cube_core.specs.declared.fault.Fault.TheVariants.{WantOfMemory, SpawnRefused, Stopped}
+use Rattle.coder_pipe.specs.File.{file_of_residuals}
+use Rattle.coder_pipe.specs.Plans.{Dealing}
+use Rattle.coder_pipe.specs.Weave.{owners, share, weave}
+
+-- a lane that carried a list: all of it was sent and received, and nothing is left
+abbrev pub carried : List ℕ → Lane
+carried items = record { sent = items; received = items; rest = [] }
+
+module _ {F : Type 0} where
+  -- one feed for each predictor of a plan: it states its number, and a list as long as its part, of numbers in range
+  pub record AreFeeds (predictor : F → ℕ) (items : F → List ℕ) (plan : Dealing) (feeds : List F) : Type 0 where
+    pub many : length feeds ≡ plan.predictors
+    pub named : (q : ℕ) (f : F) → q < plan.predictors → predictor (slice_index_or feeds q f) ≡ q
+    pub whole : (q : ℕ) (f : F) → q < plan.predictors → length (items (slice_index_or feeds q f)) ≡ share q (owners plan.deal plan.params)
+    pub range : (q : ℕ) (f : F) → q < plan.predictors → All (λ n. n < 2 ^ plan.params.kind.bits) (items (slice_index_or feeds q f))
+
+  -- each lane carried its feed's list, and the file is that of these lists, woven along the encoding order
+  pub record IsPiped (items : F → List ℕ) (plan : Dealing) (feeds : List F) (file : List ℕ) (lanes : List Lane) : Type 0 where
+    pub carries : lanes ≡ map (λ f. carried (items f)) feeds
+    pub woven : file ≡ file_of_residuals (weave (owners plan.deal plan.params) (map items feeds)) plan.params
+
+  -- the gate may stop predictor q at its n-th number, and its feed has that number
+  abbrev pub MayStop : {G : Type 0} → (G → ℕ → ℕ → Bool) → G → (F → List ℕ) → List F → ℕ → ℕ → Type 0
+  MayStop may_stop gate items feeds q n =
+      (q < length feeds) × IsTrue (may_stop gate q n) × ((f : F) → n < length (items (slice_index_or feeds q f)))
+
+-- a thread wasn't started, memory was refused, or a predictor was stopped, of which this is said
+abbrev pub EndsEarly : Fault → (ℕ → ℕ → Type 0) → Type 0
+EndsEarly SpawnRefused At = Unit {0}
+EndsEarly WantOfMemory At = Unit {0}
+EndsEarly (Stopped q n) At = At q n
+EndsEarly other At = ⊥

@@ -1,0 +1,195 @@
+//! The pipeline: predictors in threads of their own, and the coding end in the thread that calls.
+
+ghost use Rattle.std.specs.Prelude.{◌≡◌, ◌≤◌, [], length, map, IfOk, IfErr, IfSome, vec_len, vec_capacity};
+ghost use Rattle.cube_core.specs.Shape.{InRange};
+ghost use Rattle.cube_core.specs.declared.fault.Fault.TheVariants.{WantOfMemory};
+ghost use Rattle.coder_pipe.specs.Piping.{AreFeeds, IsPiped, MayStop, EndsEarly};
+ghost use Rattle.coder_pipe.specs.Woven.{HasWoven};
+
+use crate::plan::Plan;
+use crate::run::{Woven, drain, finish_all, join_all, start_all, stop_all, weave};
+use crate::weaver::Weaver;
+use band_rings::settled::SettledLane;
+use cube_core::fault::Fault;
+use header_bits::params::Params;
+use lane_workers::feed::Feed;
+use lane_workers::gate::Gate;
+use lane_workers::ready::Ready;
+use lane_workers::stage::Stage;
+use std::alloc::Global;
+use std::sync::Wait;
+use std::sync::atomic::AtomicBool;
+use std::thread;
+use std::thread::{Scope, Threads};
+
+/// A file, and the lanes through which its residuals came, one for each predictor, by its number.
+#[derive(Drop)]
+pub struct Piped {
+    pub file: Vec<u8>,
+    pub lanes: Vec<SettledLane>,
+}
+
+/// The file of the residuals that the predictors of a plan send, woven along the encoding order, and their lanes.
+///
+/// The plan is for these parameters, and there is one feed for each predictor, in their order, which states a list as long as its part of an image's
+/// residuals, each at most 2^D - 1. Each feed runs in a thread of its own, and is spent whatever the answer; the calling thread codes while they send. It sees no cube. The answer is
+/// `WantOfMemory`, `SpawnRefused` where a thread wasn't started, or `Stopped`, with the first predictor that the gate stopped and
+/// how many residuals it had sent. All workers that were started have then been joined.
+pub fn encode_piped<R: Threads + Wait + Sync, F: Feed + Send, G: Gate + Sync>(
+    rt: &R,
+    alloc: Global,
+    params: &Params,
+    plan: &Plan,
+    feeds: Vec<F>,
+    gate: &G,
+) -> Result<Piped, Fault>
+    requires plan { plan.now.params ≡ params.now }
+    requires feeds { AreFeeds F.predictor F.items plan.now feeds.items }
+    ensures piped { IfOk result (λ p. IsPiped F.items plan.now feeds.items p.file.items p.lanes.items) }
+    ensures early { IfErr result (λ e. EndsEarly e (λ q n. MayStop G.may_stop gate.now F.items feeds.items q n)) }
+{
+    plan.is_plan();
+    let count = feeds.len();
+    let overs = flags(alloc, count)?;
+    let room = room_for(alloc, params, plan, count)?;
+    let readies = prepare(alloc, plan.slots(), feeds)?;
+    in_threads(rt, plan, readies, room, gate, &overs)
+}
+
+/// Runs the workers in threads of their own, which end before it returns.
+fn in_threads<R: Threads + Wait + Sync, F: Feed + Send, G: Gate + Sync>(
+    rt: &R,
+    plan: &Plan,
+    readies: Vec<Ready<F>>,
+    room: Room<F, G>,
+    gate: &G,
+    overs: &[AtomicBool],
+) -> Result<Piped, Fault>
+    requires many { vec_len readies ≡ plan.now.predictors }
+    requires overs { length overs.now ≡ vec_len readies }
+    requires room { (vec_len readies ≤ vec_capacity room.stages) × (vec_len readies ≤ vec_capacity room.lanes) }
+    requires empty { (room.stages.items ≡ []) × (room.lanes.items ≡ []) × HasWoven plan.now.params plan.now.deal room.weaver [] }
+    requires lists { AreFeeds F.predictor F.items plan.now (map (λ r. r.feed) readies.items) }
+    ensures piped { IfOk result (λ p. IsPiped F.items plan.now (map (λ r. r.feed) readies.items) p.file.items p.lanes.items) }
+    ensures early { IfErr result (λ e. EndsEarly e (λ q n. MayStop G.may_stop gate.now F.items (map (λ r. r.feed) readies.items) q n)) }
+{
+    thread::scope(
+        thread::scope_env(),
+        rt,
+        move |scope| -> Result<Piped, Fault>
+            requires many { vec_len readies ≡ plan.now.predictors }
+            requires overs { length overs.now ≡ vec_len readies }
+            requires room { (vec_len readies ≤ vec_capacity room.stages) × (vec_len readies ≤ vec_capacity room.lanes) }
+            requires empty { (room.stages.items ≡ []) × (room.lanes.items ≡ []) × HasWoven plan.now.params plan.now.deal room.weaver [] }
+            requires lists { AreFeeds F.predictor F.items plan.now (map (λ r. r.feed) readies.items) }
+            ensures piped { IfOk result (λ p. IsPiped F.items plan.entry.now (map (λ r. r.feed) readies.items) p.file.items p.lanes.items) }
+            ensures early { IfErr result (λ e. EndsEarly e (λ q n. MayStop G.may_stop gate.entry.now F.items (map (λ r. r.feed) readies.items) q n)) }
+        { run_in(scope, rt, plan, readies, room, gate, overs) },
+    )
+}
+
+/// What the coding end needs room for.
+#[derive(Drop)]
+struct Room<F: Feed, G: Gate> {
+    stages: Vec<Stage<F, G>>,
+    lanes: Vec<SettledLane>,
+    weaver: Weaver,
+}
+
+/// Room for so many workers, and a weaver that has taken nothing.
+fn room_for<F: Feed, G: Gate>(
+    alloc: Global,
+    params: &Params,
+    plan: &Plan,
+    count: usize,
+) -> Result<Room<F, G>, Fault>
+    requires { plan.now.params ≡ params.now }
+    ensures room { IfOk result (λ r. (count ≤ vec_capacity r.stages) × (count ≤ vec_capacity r.lanes)) }
+    ensures empty { IfOk result (λ r. (r.stages.items ≡ []) × (r.lanes.items ≡ []) × HasWoven plan.now.params plan.now.deal r.weaver []) }
+    ensures refused { IfErr result (λ e. e ≡ WantOfMemory) }
+{
+    Ok(Room {
+        stages: Vec::with_capacity(alloc, count)?,
+        lanes: Vec::with_capacity(alloc, count)?,
+        weaver: Weaver::new(alloc, params, plan)?,
+    })
+}
+
+/// A flag for each worker, none of which is set.
+fn flags(alloc: Global, count: usize) -> Result<Vec<AtomicBool>, Fault>
+    ensures many { IfOk result (λ v. vec_len v ≡ count) }
+    ensures refused { IfErr result (λ e. e ≡ WantOfMemory) }
+{
+    let mut all = Vec::with_capacity(alloc, count)?;
+    for _ in 0..count {
+        all.push_reserved(AtomicBool::new(false));
+    }
+    Ok(all)
+}
+
+/// Gives each feed a lane of so many slots.
+fn prepare<F: Drop>(alloc: Global, slots: u32, feeds: Vec<F>) -> Result<Vec<Ready<F>>, Fault>
+    requires { InRange 1 65536 slots }
+    ensures feeds { IfOk result (λ v. map (λ r. r.feed) v.items ≡ feeds.items) }
+    ensures refused { IfErr result (λ e. e ≡ WantOfMemory) }
+{
+    let mut readies = Vec::with_capacity(alloc, feeds.len())?;
+    for feed in feeds {
+        readies.push_reserved(Ready::new(alloc, slots, feed)?);
+    }
+    Ok(readies)
+}
+
+/// Starts all workers, weaves what they send, and joins them.
+fn run_in<'s, E, R: Threads + Wait + Sync + 's, F: Feed + Send + 's, G: Gate + Sync + 's>(
+    scope: &Scope<'s, E>,
+    rt: &'s R,
+    plan: &Plan,
+    readies: Vec<Ready<F>>,
+    room: Room<F, G>,
+    gate: &'s G,
+    overs: &'s [AtomicBool],
+) -> Result<Piped, Fault>
+    requires many { vec_len readies ≡ plan.now.predictors }
+    requires overs { length overs.now ≡ vec_len readies }
+    requires room { (vec_len readies ≤ vec_capacity room.stages) × (vec_len readies ≤ vec_capacity room.lanes) }
+    requires empty { (room.stages.items ≡ []) × (room.lanes.items ≡ []) × HasWoven plan.now.params plan.now.deal room.weaver [] }
+    requires lists { AreFeeds F.predictor F.items plan.now (map (λ r. r.feed) readies.items) }
+    ensures piped { IfOk result (λ p. IsPiped F.items plan.now (map (λ r. r.feed) readies.items) p.file.items p.lanes.items) }
+    ensures early { IfErr result (λ e. EndsEarly e (λ q n. MayStop G.may_stop gate.now F.items (map (λ r. r.feed) readies.items) q n)) }
+{
+    plan.is_plan();
+    let Room {
+        stages,
+        lanes,
+        mut weaver,
+    } = room;
+    let (mut stages, all) = start_all(scope, rt, readies, stages, gate, overs);
+    if !all {
+        drain(rt, &mut stages, overs);
+        join_all(rt, stages);
+        return Err(Fault::SpawnRefused);
+    }
+    match weave(rt, plan, &mut stages, overs, &mut weaver) {
+        Woven::Whole => {
+            let lanes = finish_all(rt, stages, lanes);
+            let file = weaver.finish()?;
+            Ok(Piped { file, lanes })
+        }
+        Woven::Stopped(q, n) => {
+            drain(rt, &mut stages, overs);
+            match stop_all(rt, stages) {
+                Some((predictor, sent)) => Err(Fault::Stopped { predictor, sent }),
+                None => Err(Fault::Stopped {
+                    predictor: q,
+                    sent: n,
+                }),
+            }
+        }
+        Woven::Memory => {
+            drain(rt, &mut stages, overs);
+            join_all(rt, stages);
+            Err(Fault::WantOfMemory)
+        }
+    }
+}

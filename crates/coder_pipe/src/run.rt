@@ -1,0 +1,231 @@
+//! All workers of a pipeline: started, woven and joined.
+
+ghost use Rattle.std.specs.Prelude.{◌≡◌, ℕ, ◌-◌, ◌<◌, ◌≤◌, ◌⊎◌, ◌^◌, [], ◌∷◌, ◌++◌, length, map, All, IfOk, IfErr, Some, None, IfSome, IfNone, IsTrue, vec_len, vec_capacity, slice_index_or, slice_set};
+ghost use Rattle.std.specs.Prelude.{◌+◌};
+ghost use Rattle.cube_core.specs.Kind.{IsKind};
+ghost use Rattle.cube_core.specs.Shape.{sample_count};
+ghost use Rattle.header_bits.specs.declared.params.Params.{Params as Parameters};
+ghost use Rattle.lane_workers.specs.Stages.{Standing};
+ghost use Rattle.coder_pipe.specs.Piping.{AreFeeds, IsPiped, MayStop, EndsEarly, carried};
+ghost use Rattle.coder_pipe.specs.Standings.{feeds_of, gates_of, handed_of, IsWoven};
+ghost use Rattle.coder_pipe.specs.Stops.{MayStopAt, IfWhole, IfStopped};
+ghost use Rattle.coder_pipe.specs.Weave.{owners};
+ghost use Rattle.coder_pipe.specs.Woven.{HasWoven};
+
+use crate::plan::Plan;
+use crate::weaver::Weaver;
+use band_rings::settled::SettledLane;
+use cube_core::fault::Fault;
+use cube_core::kind::Kind;
+use lane_workers::feed::Feed;
+use lane_workers::gate::Gate;
+use lane_workers::ready::Ready;
+use lane_workers::stage::Stage;
+use std::sync::Wait;
+use std::sync::atomic::{AtomicBool, Ordering};
+use std::thread;
+use std::thread::{Scope, Threads};
+
+/// How the weaving ended.
+pub(crate) enum Woven {
+    /// A residual was taken for each place.
+    Whole,
+    /// A predictor was stopped after it had sent so many.
+    Stopped(u32, u64),
+    /// Memory was refused.
+    Memory,
+}
+
+/// Waits for the next residual of a predictor, which is at most so great; or says after how many it was stopped.
+fn next_of<R: Threads + Wait, F: Feed, G: Gate>(
+    rt: &R,
+    stages: &mut Vec<Stage<F, G>>,
+    q: usize,
+    over: &AtomicBool,
+    most: u16,
+) -> Result<u16, u64>
+    requires place { q < vec_len stages.old }
+    requires short { (f : _) → length (slice_index_or (handed_of stages.old.items) q []) < length (F.items (slice_index_or (feeds_of stages.old.items) q f)) }
+    requires range { (f : _) → All (λ n. n ≤ most) (F.items (slice_index_or (feeds_of stages.old.items) q f)) }
+    ensures feeds { feeds_of stages.new.items ≡ feeds_of stages.old.items }
+    ensures gates { gates_of stages.new.items ≡ gates_of stages.old.items }
+    ensures len { vec_len stages.new ≡ vec_len stages.old }
+    ensures ok { IfOk result (λ residual. handed_of stages.new.items ≡ slice_set (handed_of stages.old.items) q (slice_index_or (handed_of stages.old.items) q [] ++ residual ∷ [])) }
+    ensures most { IfOk result (λ residual. residual ≤ most) }
+    ensures err { IfErr result (λ n. (f : _) (g : _) → IsTrue (G.may_stop (slice_index_or (gates_of stages.old.items) q g) (F.predictor (slice_index_or (feeds_of stages.old.items) q f)) n) × (n < length (F.items (slice_index_or (feeds_of stages.old.items) q f)))) }
+{
+    let stage = &mut stages[q];
+    let Some(residual) = stage.next(rt, over) else {
+        return Err(stage.stopped_at());
+    };
+    if residual > most {
+        // Joining the worker shows that its feed, which has no such number, didn't send it.
+        stages.swap_remove(q).never(rt, residual, most);
+        unreachable!()
+    }
+    Ok(residual)
+}
+
+/// Takes a residual for each place, from the lane of its predictor.
+pub(crate) fn weave<R: Threads + Wait, F: Feed, G: Gate>(
+    rt: &R,
+    plan: &Plan,
+    stages: &mut Vec<Stage<F, G>>,
+    overs: &[AtomicBool],
+    weaver: &mut Weaver,
+) -> Woven
+    requires many { vec_len stages.old ≡ plan.now.predictors }
+    requires overs { vec_len stages.old ≤ length overs.now }
+    requires fresh { All (λ r. r ≡ []) (handed_of stages.old.items) }
+    requires woven { HasWoven plan.now.params plan.now.deal weaver.old [] }
+    requires lists { AreFeeds F.predictor F.items plan.now (feeds_of stages.old.items) }
+    ensures feeds { feeds_of stages.new.items ≡ feeds_of stages.old.items }
+    ensures gates { gates_of stages.new.items ≡ gates_of stages.old.items }
+    ensures whole { IfWhole result (IsWoven plan.now.params plan.now.deal weaver.new (handed_of stages.new.items) (sample_count plan.now.params.shape)) }
+    ensures stopped { IfStopped result (λ q n. MayStopAt G.may_stop F.items (feeds_of stages.old.items) (gates_of stages.old.items) q n) }
+{
+    plan.is_plan();
+    let most = greatest(plan.params().kind);
+    for i in 0..plan.params().shape.sample_count() {
+        let _place = i;
+        let Some(owner) = weaver.wants() else {
+            unreachable!()
+        };
+        let q = owner as usize;
+        match next_of(rt, stages, q, &overs[q], most) {
+            Ok(residual) => {
+                let Ok(()) = weaver.take(residual) else {
+                    return Woven::Memory;
+                };
+            }
+            Err(sent) => return Woven::Stopped(owner, sent),
+        }
+    }
+    Woven::Whole
+}
+
+/// The greatest residual of a kind.
+fn greatest(kind: Kind) -> u16
+    requires { IsKind kind }
+    ensures { result + 1 ≡ 2 ^ kind.bits }
+{
+    ((1u32 << kind.bits()) - 1) as u16
+}
+
+/// Receives what there is to see of a worker, and drops it.
+fn skip_one<F: Feed, G: Gate>(stages: &mut Vec<Stage<F, G>>, q: usize)
+    requires { q < vec_len stages.old }
+    ensures feeds { feeds_of stages.new.items ≡ feeds_of stages.old.items }
+    ensures gates { gates_of stages.new.items ≡ gates_of stages.old.items }
+    ensures len { vec_len stages.new ≡ vec_len stages.old }
+{
+    let stage = &mut stages[q];
+    stage.skip();
+}
+
+/// Drops all that is sent until each worker sends no more.
+pub(crate) fn drain<R: Wait, F: Feed, G: Gate>(
+    rt: &R,
+    stages: &mut Vec<Stage<F, G>>,
+    overs: &[AtomicBool],
+)
+    requires { vec_len stages.old ≤ length overs.now }
+    ensures feeds { feeds_of stages.new.items ≡ feeds_of stages.old.items }
+    ensures gates { gates_of stages.new.items ≡ gates_of stages.old.items }
+    ensures len { vec_len stages.new ≡ vec_len stages.old }
+{
+    'rounds: for _ in rt.forever() {
+        let mut is_over = true;
+        for q in 0..stages.len() {
+            is_over = overs[q].load(Ordering::SeqCst) && is_over;
+            skip_one(stages, q);
+        }
+        if is_over {
+            return;
+        }
+        thread::yield_now();
+    }
+    unreachable!()
+}
+
+/// Starts the workers, until a start is refused.
+pub(crate) fn start_all<'s, E, R: Wait + Sync + 's, F: Feed + Send + 's, G: Gate + Sync + 's>(
+    scope: &Scope<'s, E>,
+    rt: &'s R,
+    readies: Vec<Ready<F>>,
+    stages: Vec<Stage<F, G>>,
+    gate: &'s G,
+    overs: &'s [AtomicBool],
+) -> (Vec<Stage<F, G>>, bool)
+    requires overs { length overs.now ≡ vec_len readies }
+    requires room { vec_len readies ≤ vec_capacity stages }
+    requires empty { stages.items ≡ [] }
+    ensures feeds { IsTrue result.1 → feeds_of result.0.items ≡ map (λ r. r.feed) readies.items }
+    ensures gates { All (λ w. w ≡ gate.now) (gates_of result.0.items) }
+    ensures handed { All (λ r. r ≡ []) (handed_of result.0.items) }
+    ensures all { IsTrue result.1 → vec_len result.0 ≡ vec_len readies }
+    ensures some { vec_len result.0 ≤ length overs.now }
+{
+    let mut stages = stages;
+    for ready in readies {
+        let Ok(stage) = Stage::start(scope, rt, ready, gate, &overs[stages.len()]) else {
+            return (stages, false);
+        };
+        stages.push_reserved(stage);
+    }
+    (stages, true)
+}
+
+/// The settled lanes of all workers, joined, once each has handed on as many numbers as its feed has.
+pub(crate) fn finish_all<R: Threads, F: Feed, G: Gate>(
+    rt: &R,
+    stages: Vec<Stage<F, G>>,
+    lanes: Vec<SettledLane>,
+) -> Vec<SettledLane>
+    requires room { vec_len stages ≤ vec_capacity lanes }
+    requires empty { lanes.items ≡ [] }
+    requires whole { All (λ s. length s.handed ≡ length (F.items s.feed)) stages.items }
+    ensures handed { handed_of stages.items ≡ map F.items (feeds_of stages.items) }
+    ensures lanes { result.items ≡ map (λ f. carried (F.items f)) (feeds_of stages.items) }
+{
+    let mut lanes = lanes;
+    for stage in stages {
+        lanes.push_reserved(stage.finish(rt));
+    }
+    lanes
+}
+
+/// Joins all workers, and names the first that was stopped.
+pub(crate) fn stop_all<R: Threads, F: Feed, G: Gate>(
+    rt: &R,
+    stages: Vec<Stage<F, G>>,
+) -> Option<(u32, u64)>
+    requires few { vec_len stages ≤ 64 }
+    requires named { (k : ℕ) (f : _) → k < vec_len stages → F.predictor (slice_index_or (feeds_of stages.items) k f) ≡ k }
+    ensures { IfSome result (λ r. MayStopAt G.may_stop F.items (feeds_of stages.items) (gates_of stages.items) r.0 r.1) }
+{
+    let mut first = None;
+    let mut q = 0;
+    for stage in stages {
+        first = first_of(first, q, stage.stop(rt));
+        q += 1;
+    }
+    first
+}
+
+/// Who was stopped first, once predictor `q` has ended.
+fn first_of(first: Option<(u32, u64)>, q: u32, sent: Option<u64>) -> Option<(u32, u64)>
+    ensures { IfSome result (λ r. (first ≡ Some r) ⊎ ((r.0 ≡ q) × (sent ≡ Some r.1))) }
+{
+    match (first, sent) {
+        (None, Some(sent)) => Some((q, sent)),
+        _ => first,
+    }
+}
+
+/// Joins all workers.
+pub(crate) fn join_all<R: Threads, F: Feed, G: Gate>(rt: &R, stages: Vec<Stage<F, G>>) {
+    for stage in stages {
+        let _sent = stage.stop(rt);
+    }
+}
