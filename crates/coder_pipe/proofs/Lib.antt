@@ -28,3 +28,4 @@ pub mod Long
 pub mod Weaving
 pub mod Built
 pub mod FineFiles
+pub mod Weaving
