@@ -1,5 +1,5 @@
 -- Lists that are gone through from the front.
-use Rattle.std.proofs.Common.{◌≡◌, ℕ, suc, zero, ◌+◌, ◌<◌, List, [], ◌∷◌, ◌++◌, length, take, drop, get_or, map, refl, ap, arith, sym, ◌∙◌, add-one, subst, Option, Some, None, IfSome, inl, inr, ◌⊎◌}
+use Rattle.std.proofs.Common.{◌≡◌, ℕ, suc, zero, ◌+◌, ◌<◌, List, [], ◌∷◌, ◌++◌, length, take, drop, get_or, map, ap, arith, sym, ◌∙◌, add-one, subst, Option, Some, None, IfSome, inl, inr, ◌⊎◌}
 use Rattle.std.proofs.lemmas.List.{take_more, get_or-map}
 
 -- the head of what is left, and what is left behind it

@@ -1,16 +1,19 @@
 pub mod Alike
+pub mod Built
 pub mod Coders
 pub mod Come
 pub mod Encoding
 pub mod Endings
 pub mod FileLaws
 pub mod Fills
+pub mod FineFiles
 pub mod ForSamples
 pub mod Found
 pub mod Givers
 pub mod Groups
 pub mod Heads
 pub mod Inverse
+pub mod Long
 pub mod OneCube
 pub mod Owning
 pub mod Packed
@@ -24,7 +27,4 @@ pub mod Taking
 pub mod Times
 pub mod Walking
 pub mod Weaves
-pub mod Long
 pub mod Weaving
-pub mod Built
-pub mod FineFiles

@@ -1,5 +1,5 @@
 -- A predictor's part of the residuals is those of its own bands, in encoding order.
-use Rattle.std.proofs.Common.{◌≡◌, ◌+◌, ◌*◌, ◌<◌, ◌≤◌, ℕ, zero, suc, Bool, true, false, List, [], ◌∷◌, ◌++◌, length, map, refl, sym, ap, ap₂, ◌∙◌, subst, append-nil, append_assoc, arith}
+use Rattle.std.proofs.Common.{◌≡◌, ◌+◌, ◌*◌, ℕ, Bool, true, false, List, [], ◌∷◌, ◌++◌, map, refl, sym, ap, ap₂, ◌∙◌}
 use Rattle.std.specs.Prelude.{◌==◌, if◌then◌else◌, filter, slice_index_or}
 use Rattle.std.specs.List.{flat_map}
 use Rattle.std.proofs.lemmas.List.{map-append}
@@ -13,7 +13,7 @@ use Rattle.header_bits.specs.declared.params.Params.{Params}
 use Rattle.predict_core.specs.Residual.{mapped_residual, residuals}
 use Rattle.coder_pipe.specs.Own.{own, column_of, row_of, rows_of, line_of, own_residuals, OwnIsPart}
 use Rattle.coder_pipe.specs.Walked.{residuals_at}
-use Rattle.coder_pipe.specs.Weave.{owners_of, owners, part}
+use Rattle.coder_pipe.specs.Weave.{owners_of, part}
 
 module _ (p : Params) (c : Image) (q : ℕ) (deal : List ℕ) where
   -- the residuals of those of some places that are the predictor's

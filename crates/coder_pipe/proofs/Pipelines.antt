@@ -1,5 +1,5 @@
 -- What the parts of a run come to.
-use Rattle.std.proofs.Common.{◌≡◌, ◌+◌, ◌<◌, ◌≤◌, ℕ, Bool, List, [], ◌∷◌, ◌++◌, length, map, get_or, drop, refl, sym, ap, ◌∙◌, subst, IsTrue, arith}
+use Rattle.std.proofs.Common.{◌≡◌, ◌<◌, ℕ, Bool, List, [], ◌∷◌, length, map, get_or, sym, ap, ◌∙◌, IsTrue, arith}
 use Rattle.std.specs.List.{All}
 use Rattle.std.proofs.Math.ListN.{drop_of_length-le}
 use Rattle.std.proofs.lemmas.List.{length-map, get_or-map}
@@ -12,7 +12,7 @@ use Rattle.lane_workers.specs.Stages.{Standing}
 use Rattle.coder_pipe.specs.File.{file_of_residuals}
 use Rattle.coder_pipe.specs.Piping.{carried, AreFeeds, IsPiped, MayStop}
 use Rattle.coder_pipe.specs.Plans.{Dealing, IsPlan}
-use Rattle.coder_pipe.specs.Standings.{feeds_of, gates_of, handed_of, IsWoven}
+use Rattle.coder_pipe.specs.Standings.{feeds_of, handed_of, IsWoven}
 use Rattle.coder_pipe.specs.Stops.{MayStopAt}
 use Rattle.coder_pipe.specs.Weave.{owners, part, share, weave}
 use Rattle.coder_pipe.specs.Woven.{Weaving, HasWoven}

@@ -1,11 +1,11 @@
 -- The walk over a predictor's own places, step by step.
-use Rattle.std.proofs.Common.{◌≡◌, ◌+◌, ◌*◌, ◌-◌, ◌<◌, ◌≤◌, ℕ, zero, suc, Bool, true, false, List, [], ◌∷◌, ◌++◌, length, take, drop, get_or, set, map, IsTrue, IsFalse, inl, inr, refl, sym, ap, ◌∙◌, subst, append-nil, append_assoc, length-append, length-take, length-drop, add-one, arith}
+use Rattle.std.proofs.Common.{◌≡◌, ◌+◌, ◌*◌, ◌<◌, ◌≤◌, ℕ, zero, suc, Bool, true, false, List, [], ◌∷◌, ◌++◌, length, take, drop, get_or, set, IsTrue, IsFalse, inl, inr, refl, sym, ap, ◌∙◌, subst, append-nil, append_assoc, length-append, length-take, length-drop, add-one, arith}
 use Rattle.std.specs.List.{flat_map}
 use Rattle.std.proofs.lemmas.Bool.{cases_eq}
 use Rattle.std.proofs.lemmas.Grind.{flat_map-append}
 use Rattle.std.proofs.lemmas.Slice.{take-put_mid, drop-put_mid}
 use borrow.Rule.Slice.PartMut.{put_mid}
-use Rattle.std.proofs.lemmas.List.{map-append, take-append-drop, take_more, length-map, get_or-map, get_or_default, nil_from_length}
+use Rattle.std.proofs.lemmas.List.{map-append, take-append-drop, take_more, length-map, get_or-map, nil_from_length}
 use Rattle.std.proofs.Math.Seq.{map-set_same}
 use Rattle.cube_core.specs.Image.{Image}
 use Rattle.cube_core.specs.Order.{from, upto}
@@ -13,7 +13,7 @@ use Rattle.header_bits.specs.declared.params.Params.{Params}
 use Rattle.lane_workers.specs.Runs.{RunSending}
 use Rattle.predict_core.specs.Following.{Learner, Follows, MovesOn}
 use Rattle.predict_core.specs.Residual.{mapped_residual}
-use Rattle.coder_pipe.specs.Own.{column_of, row_of, rows_of, line_of, own}
+use Rattle.coder_pipe.specs.Own.{column_of, row_of, rows_of}
 use Rattle.coder_pipe.specs.Sends.{IsAt, AreAt, bands_of, Sends}
 
 -- ---- the sender

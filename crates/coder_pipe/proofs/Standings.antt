@@ -1,9 +1,9 @@
 -- All workers, of which one has moved on.
-use Rattle.std.proofs.Common.{◌≡◌, ◌<◌, ◌++◌, ℕ, List, [], ◌∷◌, length, map, get_or, set, ap, sym, ◌∙◌}
+use Rattle.std.proofs.Common.{◌≡◌, ◌<◌, ℕ, List, length, map, get_or, set, ap, sym, ◌∙◌}
 use Rattle.std.proofs.Math.Seq.{map-set_same}
 use Rattle.std.proofs.lemmas.List.{get_or-map}
 use Rattle.lane_workers.specs.Stages.{Standing}
-use Rattle.coder_pipe.specs.Standings.{feeds_of, gates_of, handed_of}
+use Rattle.coder_pipe.specs.Standings.{feeds_of, gates_of}
 
 pub at_of : {S A : Type 0} (f : S → A) (ss : List S) (q : ℕ) (s : S) (d : A) → q < length ss → s ≡ get_or ss q s → get_or (map f ss) q d ≡ f s
 at_of f ss q s d lt e = get_or-map f ss q s d lt ∙ ap f (sym e)

@@ -1,11 +1,11 @@
 -- What the coding end has taken of all predictors, number after number.
-use Rattle.std.proofs.Common.{◌≡◌, ◌+◌, ◌<◌, ◌≤◌, ℕ, zero, suc, Bool, true, false, List, [], ◌∷◌, ◌++◌, length, map, get_or, set, Some, None, refl, sym, ap, ◌∙◌, subst, inl, inr, append-nil, length-append, length-set, get_or-set_same, get_or-set_other, arith}
+use Rattle.std.proofs.Common.{◌≡◌, ◌+◌, ◌<◌, ℕ, Bool, true, false, List, [], ◌∷◌, ◌++◌, length, get_or, set, Some, None, refl, sym, ap, ◌∙◌, inl, inr, append-nil, length-append, length-set, get_or-set_same, get_or-set_other, arith}
 use Rattle.std.specs.Prelude.{◌==◌, if◌then◌else◌}
 use Rattle.std.specs.List.{All, slice_get}
 use Rattle.std.proofs.lemmas.Bool.{cases_eq, eq-eqb, ne_eqb}
 use Rattle.std.proofs.lemmas.Option.{slice_get_within, slice_get-get_or, get_or_from_slice_get}
 use Rattle.cube_core.specs.Shape.{sample_count}
-use Rattle.cube_core.specs.Order.{IsOrder, places}
+use Rattle.cube_core.specs.Order.{IsOrder}
 use Rattle.cube_core.proofs.Orders.{length-places}
 use Rattle.header_bits.specs.declared.params.Params.{Params}
 use Rattle.coder_pipe.specs.Standings.{IsWoven}

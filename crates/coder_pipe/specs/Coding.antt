@@ -8,7 +8,7 @@ use Rattle.sample_adaptive.specs.Settings.{settings, IsSample}
 use Rattle.sample_adaptive.specs.Body.{band_numbers, sample_body}
 use Rattle.sample_adaptive.specs.Taken.{Counts, HasTaken as HaveTaken}
 use Rattle.block_adaptive.specs.Settings.{IsBlock, cut_by}
-use Rattle.block_adaptive.specs.Taken.{Packed, HasTaken as HasPacked}
+use Rattle.block_adaptive.specs.Taken.{Packed, EndsBlock, EndsInside, HasTaken as HasPacked}
 use Rattle.coder_pipe.specs.declared.encoder.Encoder.{Encoder}
 use Rattle.coder_pipe.specs.declared.encoder.Encoder.TheVariants.{Samples, Blocks}
 use Rattle.coder_pipe.specs.File.{body_of}
@@ -44,6 +44,16 @@ HasTaken p (Blocks v) numbers bits = BlocksTaken p v numbers bits
 abbrev pub MayPut : Encoder → ℕ → ℕ → Type 0
 MayPut (Samples v) z number = (z < length v.bands) × (number < 2 ^ v.bits)
 MayPut (Blocks v) z number = (v.start + v.zeros < v.cut.count) × (number < 2 ^ v.cut.set.bits)
+
+-- a number may ask for memory: among blocks, only where it ends one
+abbrev pub MayGrow : Encoder → Type 0
+MayGrow (Samples v) = Unit {0}
+MayGrow (Blocks v) = EndsBlock v
+
+-- so may the end of a body of blocks, where the numbers end inside one
+abbrev pub MayGrowAtEnd : Encoder → Type 0
+MayGrowAtEnd (Samples v) = ⊥
+MayGrowAtEnd (Blocks v) = EndsInside v
 
 -- the next number is number t of band z
 abbrev pub IsNumber : Params → List ℕ → ℕ → ℕ → Type 0

@@ -1,4 +1,4 @@
-use Rattle.std.proofs.Common.{◌≡◌, ◌≤◌, ◌++◌, ◌∷◌, [], ℕ, map, arith, ◌∙◌, sym, ap, subst}
+use Rattle.std.proofs.Common.{◌++◌, ◌∷◌, [], ℕ, ◌∙◌, sym, ap}
 use Rattle.std.proofs.lemmas.List.{map-append}
 use Rattle.cube_core.specs.Order.{upto}
 use Rattle.coder_pipe.specs.Sends.{Predicting}

@@ -1,11 +1,11 @@
-use Rattle.std.proofs.Common.{◌<◌, List, get_or, ◌≡◌, ◌≤◌, ◌++◌, ◌∷◌, [], ℕ, arith, ◌∙◌, sym, ap, subst}
+use Rattle.std.proofs.Common.{◌<◌, List, get_or, ◌≡◌, ◌++◌, ◌∷◌, [], ℕ, arith, ◌∙◌, sym, ap}
 use Rattle.std.proofs.lemmas.List.{map-append}
 use Rattle.cube_core.specs.Image.{Image}
 use Rattle.cube_core.specs.Order.{upto}
 use Rattle.header_bits.specs.declared.params.Params.{Params}
 use Rattle.predict_core.specs.Following.{Learner, Follows, IsMadeFor}
 use Rattle.coder_pipe.specs.Own.{own}
-use Rattle.coder_pipe.specs.Sends.{AreAt, AreFresh, bands_of}
+use Rattle.coder_pipe.specs.Sends.{AreAt, bands_of}
 use Rattle.coder_pipe.proofs.Sending.{at_append}
 use Rattle.coder_pipe.proofs.Groups.{own_next, own_skip}
 use Rattle.coder_pipe.proofs.cube_feed.own_bands.Goals as goal

@@ -1,8 +1,7 @@
-use Rattle.std.proofs.Common.{◌≡◌, ℕ, ◌<◌, length, get_or, [], arith, rules, ap, sym, ◌∙◌, vec_len, map, Option, Some, None, IfSome, subst}
+use Rattle.std.proofs.Common.{◌≡◌, ◌<◌, length, arith, ap, sym, ◌∙◌, map}
 use Rattle.std.specs.List.{All}
 use Rattle.std.proofs.lemmas.List.{length-map}
 use Rattle.coder_pipe.specs.Standings.{feeds_of, gates_of, handed_of}
-use Rattle.coder_pipe.specs.Stops.{MayStopAt}
 use Rattle.coder_pipe.proofs.Pipelines.{one_gate, nothing_left, handed_whole, piped}
 use Rattle.coder_pipe.proofs.pipeline.run_in.Goals as goal
 

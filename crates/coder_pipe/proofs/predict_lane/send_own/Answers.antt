@@ -1,4 +1,4 @@
-use Rattle.std.proofs.Common.{◌≡◌, ◌+◌, ◌^◌, ◌<◌, ◌≤◌, length, ap, sym, subst, ◌∙◌, arith, []}
+use Rattle.std.proofs.Common.{◌≡◌, ◌^◌, ◌≤◌, length, ap, sym, subst, ◌∙◌, arith}
 use Rattle.cube_core.specs.declared.order.Order.TheVariants.{Bsq, Bi}
 use Rattle.coder_pipe.specs.Own.{own_residuals}
 use Rattle.coder_pipe.proofs.Parts.{own_few, bands_fit}

@@ -1,8 +1,8 @@
-use Rattle.std.proofs.Common.{◌≡◌, ℕ, ◌<◌, ◌+◌, ◌∷◌, map, length, get_or, [], arith, rules, ap, sym, ◌∙◌, vec_len, take, subst}
-use Rattle.std.proofs.lemmas.List.{length-map, get_or-map, take_all}
+use Rattle.std.proofs.Common.{◌≡◌, ◌<◌, ◌+◌, map, length, get_or, arith, ap, sym, ◌∙◌, vec_len}
+use Rattle.std.proofs.lemmas.List.{length-map, get_or-map}
 use Rattle.coder_pipe.specs.Piping.{carried}
 use Rattle.coder_pipe.specs.Standings.{feeds_of, handed_of}
-use Rattle.coder_pipe.proofs.Heads.{Head, drop_head, head_map, copy_step, agree_step}
+use Rattle.coder_pipe.proofs.Heads.{drop_head, head_map, copy_step, agree_step}
 use Rattle.coder_pipe.proofs.run.finish_all.Goals as goal
 
 pub finish-requires : goal.finish-requires

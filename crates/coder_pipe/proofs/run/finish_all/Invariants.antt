@@ -1,4 +1,4 @@
-use Rattle.std.proofs.Common.{◌≡◌, ◌+◌, ◌≤◌, ◌++◌, map, vec_len, vec_capacity, length, take, drop}
+use Rattle.std.proofs.Common.{◌≡◌, ◌≤◌, map, vec_len, vec_capacity, length, take, drop}
 use Rattle.std.specs.Vec.Iter.{into_iter_items}
 use Rattle.coder_pipe.specs.Piping.{carried}
 use Rattle.coder_pipe.specs.Standings.{feeds_of, handed_of}

@@ -1,9 +1,6 @@
-use Rattle.std.proofs.Common.{◌≡◌, ◌<◌, ◌≤◌, ◌++◌, ◌∷◌, ℕ, [], length, map, get_or, set, ap, sym, subst, ◌∙◌, arith, rules, vec_len, get_or-set_same}
+use Rattle.std.proofs.Common.{◌≡◌, ◌<◌, ◌≤◌, [], length, get_or, ap, sym, subst, ◌∙◌, rules, get_or-set_same}
 use Rattle.std.specs.List.{All}
-use Rattle.std.proofs.Math.Seq.{map-set_same}
-use Rattle.std.proofs.lemmas.List.{get_or-map, length-map}
-use Rattle.lane_workers.specs.Stages.{Standing}
-use Rattle.coder_pipe.specs.Standings.{feeds_of, gates_of, handed_of}
+use Rattle.coder_pipe.specs.Standings.{feeds_of, handed_of}
 use Rattle.std.proofs.lemmas.List.{map-set}
 use Rattle.coder_pipe.proofs.Standings.{at_of, same_feeds, same_gates}
 use Rattle.coder_pipe.proofs.run.next_of.Goals as goal

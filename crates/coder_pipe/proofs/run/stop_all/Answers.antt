@@ -1,8 +1,7 @@
-use Rattle.std.proofs.Common.{◌≡◌, ℕ, ◌<◌, ◌+◌, ◌∷◌, ◌⊎◌, map, length, get_or, [], arith, rules, ap, sym, ◌∙◌, vec_len, subst, Some, IfSome, IsTrue, Option}
+use Rattle.std.proofs.Common.{◌≡◌, ◌<◌, length, get_or, arith, ap, sym, ◌∙◌, subst, Some, IfSome, Option}
 use Rattle.std.proofs.lemmas.List.{length-map}
 use Rattle.coder_pipe.specs.Standings.{feeds_of, gates_of}
-use Rattle.coder_pipe.specs.Stops.{MayStopAt}
-use Rattle.coder_pipe.proofs.Heads.{Head, drop_head, head_map, some_step}
+use Rattle.coder_pipe.proofs.Heads.{drop_head, head_map, some_step}
 use Rattle.coder_pipe.proofs.run.stop_all.Goals as goal
 
 if_some : {R : Type 0} (o : Option R) (x : R) (P : R → Type 0) → o ≡ Some x → IfSome o P → P x

@@ -1,4 +1,4 @@
-use Rattle.std.proofs.Common.{◌≡◌, ◌≤◌, arith, ◌∙◌, sym}
+use Rattle.std.proofs.Common.{arith}
 use Rattle.coder_pipe.proofs.Groups.{own_yes, own_no}
 use Rattle.coder_pipe.proofs.walk.count_own.Goals as goal
 use Rattle.coder_pipe.proofs.walk.count_own.Goals.{then-from-predictor, else-from-predictor}

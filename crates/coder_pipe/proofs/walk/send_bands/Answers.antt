@@ -1,9 +1,8 @@
-use Rattle.std.proofs.Common.{◌≡◌, ◌+◌, ◌-◌, ◌*◌, ◌<◌, ◌≤◌, ◌^◌, ◌++◌, ◌∷◌, [], IsTrue, ℕ, List, Bool, true, false, ap, sym, subst, length, take, drop, get_or, arith, refl, ◌∙◌}
+use Rattle.std.proofs.Common.{◌≡◌, ◌+◌, ◌-◌, ◌<◌, ◌^◌, ◌++◌, ◌∷◌, [], true, length, take, drop, get_or, arith}
 use Rattle.std.specs.List.{flat_map}
 use Rattle.std.proofs.lemmas.List.{length-map}
-use Rattle.predict_core.specs.Following.{Learner}
 use Rattle.coder_pipe.specs.Own.{rows_of}
-use Rattle.coder_pipe.specs.Sends.{AreAt, Sends, bands_of}
+use Rattle.coder_pipe.specs.Sends.{bands_of}
 use Rattle.coder_pipe.proofs.Sending.{Pieces, piece_fits, piece_cut, sends_then, take_rest, band_there, bands_put, left_put}
 use Rattle.coder_pipe.proofs.walk.send_bands.Goals as goal
 use Rattle.coder_pipe.proofs.walk.send_bands.Goals.{In-loop-i, After-send_rows}

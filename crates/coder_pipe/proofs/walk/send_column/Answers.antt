@@ -1,4 +1,4 @@
-use Rattle.std.proofs.Common.{◌≡◌, ◌<◌, ◌+◌, ◌*◌, ◌++◌, ◌∷◌, [], Bool, IsTrue, IsFalse, ap, sym, length, take, drop, get_or, true, false, arith, refl, ◌∙◌, take-append-drop}
+use Rattle.std.proofs.Common.{◌≡◌, ◌<◌, ◌+◌, ◌*◌, ◌++◌, ◌∷◌, [], ap, sym, length, take, drop, get_or, true, false, arith, ◌∙◌, take-append-drop}
 use Rattle.predict_core.specs.Following.{Learner}
 use Rattle.coder_pipe.specs.Own.{column_of}
 use Rattle.coder_pipe.specs.Sends.{IsAt, bands_of}

@@ -1,10 +1,9 @@
-use Rattle.std.proofs.Common.{rules, ◌≡◌, ◌+◌, ◌-◌, ◌*◌, ◌/◌, ◌<◌, ◌≤◌, ◌^◌, ◌++◌, IsTrue, ℕ, List, Bool, true, false, min, ap, sym, subst, length, take, drop, arith, refl, ◌∙◌}
+use Rattle.std.proofs.Common.{rules, ◌≡◌, ◌+◌, ◌-◌, ◌*◌, ◌/◌, ◌<◌, ◌≤◌, ◌^◌, ℕ, List, true, min, ap, sym, subst, length, take, drop, arith, ◌∙◌}
 use Rattle.std.specs.List.{flat_map}
 use Rattle.std.proofs.lemmas.List.{length-map, take_all}
 use Rattle.cube_core.specs.Order.{upto, group, group_count}
-use Rattle.predict_core.specs.Following.{Learner}
 use Rattle.coder_pipe.specs.Own.{own, row_of, line_of}
-use Rattle.coder_pipe.specs.Sends.{AreAt, Sends, bands_of}
+use Rattle.coder_pipe.specs.Sends.{AreAt, bands_of}
 use Rattle.coder_pipe.proofs.Sending.{Pieces, piece_fits, piece_cut, pieces_whole, sends_then, upto_more, bands_put, left_put, done_put}
 use Rattle.coder_pipe.proofs.Groups.{IsGroup, is_group, all_groups, line_is, line_pieces, own_few, group_there}
 use Rattle.coder_pipe.proofs.walk.send_line.Goals as goal

@@ -1,8 +1,7 @@
-use Rattle.std.proofs.Common.{◌≡◌, ◌+◌, ◌*◌, ◌<◌, ◌≤◌, ◌^◌, ◌++◌, IsTrue, ℕ, List, Bool, true, false, ap, sym, subst, length, arith, refl, ◌∙◌}
+use Rattle.std.proofs.Common.{◌^◌, true, ap, arith, refl, ◌∙◌}
 use Rattle.std.specs.List.{flat_map}
 use Rattle.cube_core.specs.Order.{upto}
 use Rattle.coder_pipe.specs.Own.{line_of}
-use Rattle.coder_pipe.specs.Sends.{AreAt, Sends, bands_of}
 use Rattle.coder_pipe.proofs.Sending.{Pieces, upto_rest, pieces_whole, piece_fits, piece_cut, sends_then, upto_more}
 use Rattle.coder_pipe.proofs.walk.send_lines.Goals as goal
 use Rattle.coder_pipe.proofs.walk.send_lines.Goals.{In-loop-y}

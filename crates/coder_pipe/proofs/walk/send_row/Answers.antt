@@ -1,9 +1,8 @@
-use Rattle.std.proofs.Common.{◌≡◌, ◌+◌, ◌*◌, ◌<◌, ◌≤◌, ◌^◌, ◌++◌, IsTrue, ℕ, List, Bool, true, false, ap, sym, subst, length, arith, refl, ◌∙◌}
+use Rattle.std.proofs.Common.{◌^◌, true, ap, arith, ◌∙◌}
 use Rattle.std.specs.List.{flat_map}
 use Rattle.cube_core.specs.Order.{upto}
-use Rattle.predict_core.specs.Following.{Learner}
 use Rattle.coder_pipe.specs.Own.{column_of, row_of}
-use Rattle.coder_pipe.specs.Sends.{AreAt, Sends, bands_of}
+use Rattle.coder_pipe.specs.Sends.{Sends, bands_of}
 use Rattle.coder_pipe.proofs.Sending.{Pieces, pieces_whole, at_same, piece_fits, piece_cut, sends_then, upto_more, row_is, row_pieces, length-column}
 use Rattle.coder_pipe.proofs.walk.send_row.Goals as goal
 use Rattle.coder_pipe.proofs.walk.send_row.Goals.{In-loop-x, After-send_column}

@@ -1,10 +1,9 @@
-use Rattle.std.proofs.Common.{◌≡◌, ◌+◌, ◌*◌, ◌<◌, ◌≤◌, ◌^◌, ◌++◌, IsTrue, ℕ, List, Bool, true, false, ap, sym, subst, length, arith, refl, ◌∙◌}
+use Rattle.std.proofs.Common.{◌^◌, true, ap, arith, ◌∙◌}
 use Rattle.std.specs.List.{flat_map}
 use Rattle.cube_core.specs.Order.{upto}
-use Rattle.predict_core.specs.Following.{Learner}
 use Rattle.coder_pipe.specs.Own.{row_of, rows_of}
-use Rattle.coder_pipe.specs.Sends.{AreAt, Sends, bands_of}
-use Rattle.coder_pipe.proofs.Sending.{Pieces, pieces_whole, at_same, piece_fits, piece_cut, sends_then, upto_more, rows_is, rows_pieces}
+use Rattle.coder_pipe.specs.Sends.{Sends, bands_of}
+use Rattle.coder_pipe.proofs.Sending.{Pieces, pieces_whole, piece_fits, piece_cut, sends_then, upto_more, rows_is, rows_pieces}
 use Rattle.coder_pipe.proofs.walk.send_rows.Goals as goal
 use Rattle.coder_pipe.proofs.walk.send_rows.Goals.{In-loop-y, After-send_row}
 use Rattle.coder_pipe.proofs.walk.send_rows.Given.{Over}

@@ -1,4 +1,4 @@
-use Rattle.std.proofs.Common.{◌≡◌, ◌+◌, ◌*◌, true}
+use Rattle.std.proofs.Common.{◌≡◌, ◌*◌, true}
 use Rattle.std.specs.List.{flat_map}
 use Rattle.cube_core.specs.Order.{upto}
 use Rattle.coder_pipe.specs.Own.{row_of}

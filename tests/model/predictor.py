@@ -1,0 +1,106 @@
+"""From residuals back to samples (the sections on prediction, weights and mapped residuals)."""
+
+from .coders import places
+
+
+class Predictor:
+    """Takes residuals back to samples, place after place."""
+
+    def __init__(self, told):
+        self.told = told
+        self.samples = {}
+        self.weights = {}
+
+    def sum_at(self, z, y, x):
+        def s(row, column):
+            return self.samples[z, row, column]
+
+        if y == 0:
+            return 4 * s(0, x - 1)
+        if self.told.column:
+            return 4 * s(y - 1, x)
+        if x == 0:
+            return 2 * (s(y - 1, 0) + s(y - 1, 1))
+        if x == self.told.sizes[0] - 1:
+            return s(y, x - 1) + s(y - 1, x - 1) + 2 * s(y - 1, x)
+        return s(y, x - 1) + s(y - 1, x - 1) + s(y - 1, x) + s(y - 1, x + 1)
+
+    def differences(self, z, y, x, local_sum):
+        directional = []
+        if not self.told.reduced and y == 0:
+            directional = [0, 0, 0]
+        elif not self.told.reduced:
+            north = self.samples[z, y - 1, x]
+            west = self.samples[z, y, x - 1] if x else north
+            north_west = self.samples[z, y - 1, x - 1] if x else north
+            directional = [4 * neighbour - local_sum for neighbour in (north, west, north_west)]
+        below = range(z - 1, z - 1 - min(z, self.told.previous), -1)
+        return directional + [4 * self.samples[b, y, x] - self.sum_at(b, y, x) for b in below]
+
+    def start(self, z):
+        weights, weight = [], 7 << self.told.omega - 3
+        for _ in range(min(z, self.told.previous)):
+            weights.append(weight)
+            weight //= 8
+        return weights if self.told.reduced else [0, 0, 0] + weights
+
+    def scaled(self, local_sum, weights, differences):
+        told = self.told
+        product = sum(weight * difference for weight, difference in zip(weights, differences))
+        held = product + (local_sum - 4 * told.middle << told.omega)
+        half = 1 << told.register - 1
+        held = (held + half) % (2 * half) - half
+        value = (held >> told.omega + 1) + 2 * told.middle + 1
+        return min(max(value, 2 * told.least), 2 * told.greatest + 1)
+
+    def sample(self, scaled, residual):
+        """The sample whose mapped residual this is."""
+        predicted = scaled // 2
+        near = min(predicted - self.told.least, self.told.greatest - predicted)
+        if residual > 2 * near:
+            away = residual - near
+            return predicted + (away if predicted - self.told.least == near else -away)
+        half = (residual + 1) // 2
+        return predicted + (half if (residual + scaled) % 2 == 0 else -half)
+
+    def learn(self, t, weights, differences, error):
+        told = self.told
+        growth = told.vmin + (t - told.sizes[0] >> told.interval_log)
+        exponent = min(max(growth, told.vmin), told.vmax) + told.bits - told.omega
+        limit = 1 << told.omega + 2
+        for place, difference in enumerate(differences):
+            signed = difference if error >= 0 else -difference
+            if exponent >= 0:
+                step = signed + (1 << exponent) >> exponent + 1
+            else:
+                step = signed << -exponent - 1
+            weights[place] = min(max(weights[place] + step, -limit), limit - 1)
+
+    def take(self, z, y, x, residual):
+        told = self.told
+        t = y * told.sizes[0] + x
+        if t == 0:
+            below = self.samples[z - 1, 0, 0] if told.previous and z else told.middle
+            self.weights[z] = self.start(z)
+            self.samples[z, y, x] = self.sample(2 * below, residual)
+            return
+        local_sum = self.sum_at(z, y, x)
+        differences = self.differences(z, y, x, local_sum)
+        scaled = self.scaled(local_sum, self.weights[z], differences)
+        sample = self.sample(scaled, residual)
+        self.samples[z, y, x] = sample
+        self.learn(t, self.weights[z], differences, 2 * sample - scaled)
+
+
+def raw_bytes(told, numbers):
+    """What the residuals are expanded to: band after band, two bytes a sample, the high one first."""
+    predictor = Predictor(told)
+    for (z, y, x), number in zip(places(told), numbers):
+        predictor.take(z, y, x, number)
+    columns, rows, bands = told.sizes
+    return b"".join(
+        predictor.samples[z, y, x].to_bytes(2, "big", signed=told.signed)
+        for z in range(bands)
+        for y in range(rows)
+        for x in range(columns)
+    )
