@@ -11,6 +11,7 @@ ghost use Rattle.ccsds_command.specs.Piped.{EndedEarly, HasNoPlan, IsPipedFault,
 ghost use Rattle.command_devices.specs.Devices.{GaveWithin};
 
 use crate::compress::read_cube;
+use coder_pipe::Gate;
 use coder_pipe::encode_predicted::encode_predicted;
 use coder_pipe::plan::Plan;
 use command_devices::sink::Sink;
@@ -18,7 +19,6 @@ use command_devices::source::Source;
 use command_devices::writing::write_all;
 use command_settings::settings::CompressSettings;
 use cube_core::fault::Fault;
-use lane_workers::gate::Gate;
 use std::alloc::Global;
 use std::sync::Wait;
 use std::thread::Threads;
