@@ -36,6 +36,7 @@ fn all_bands_to_one(rt: HostRuntime) -> Result<(), Fail> {
     let params = params_of(&rt, Order::Bi(2), by_samples());
     let made = piped(&rt, rt.alloc(), &params, 2, &[0, 0], 1, &OpenGate)?;
     assert_eq!(rt; made.file.as_slice(), FILE.as_slice());
+    assert_eq!(rt; made.lanes.len(), 2);
     assert_eq!(rt; made.lanes[0].sent_count(), 12);
     assert_eq!(rt; made.lanes[1].sent_count(), 0);
     Ok(())
