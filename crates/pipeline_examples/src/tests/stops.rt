@@ -1,0 +1,69 @@
+//! Pipelines that a gate stops.
+
+use super::cubes::{by_samples, params_of, piped};
+use super::gates::StopTwo;
+use cube_core::fault::Fault;
+use cube_core::order::Order;
+use std::alloc::Global;
+use std::process::Abort;
+use std::sync::Wait;
+use std::thread::Threads;
+
+/// No predictor has so many residuals.
+const NEVER: u64 = 6;
+
+/// Why the pipeline of cube A ends, if its two predictors may be stopped at these residuals.
+fn fault<R: Threads + Wait + Sync + Abort>(
+    rt: &R,
+    alloc: Global,
+    order: Order,
+    slots: u32,
+    first: u64,
+    second: u64,
+) -> Option<Fault> {
+    let params = params_of(rt, order, by_samples());
+    let gate = StopTwo { first, second };
+    piped(rt, alloc, &params, 2, &[0, 1], slots, &gate).err()
+}
+
+/// The first predictor stopped at each of its residuals.
+#[test]
+fn the_first_is_stopped(rt: HostRuntime) {
+    for sent in 0..NEVER {
+        let stopped = Some(Fault::Stopped { predictor: 0, sent });
+        assert_eq!(rt; fault(&rt, rt.alloc(), Order::Bsq, 1, sent, NEVER), stopped);
+        assert_eq!(rt;
+            fault(&rt, rt.alloc(), Order::Bi(2), 8, sent, NEVER),
+            stopped
+        );
+    }
+}
+
+/// The second predictor stopped at each of its residuals.
+#[test]
+fn the_second_is_stopped(rt: HostRuntime) {
+    for sent in 0..NEVER {
+        let stopped = Some(Fault::Stopped { predictor: 1, sent });
+        assert_eq!(rt; fault(&rt, rt.alloc(), Order::Bsq, 8, NEVER, sent), stopped);
+        assert_eq!(rt;
+            fault(&rt, rt.alloc(), Order::Bi(2), 1, NEVER, sent),
+            stopped
+        );
+    }
+}
+
+/// A residual that there isn't stops nobody.
+#[test]
+fn none_is_stopped_behind_the_last(rt: HostRuntime) {
+    assert_eq!(rt; fault(&rt, rt.alloc(), Order::Bi(2), 1, NEVER, NEVER), None);
+}
+
+/// Of two that are stopped the first is named, though the other is met first.
+#[test]
+fn the_first_of_two_is_named(rt: HostRuntime) {
+    let stopped = Some(Fault::Stopped {
+        predictor: 0,
+        sent: 2,
+    });
+    assert_eq!(rt; fault(&rt, rt.alloc(), Order::Bi(2), 1, 2, 0), stopped);
+}
