@@ -20,32 +20,38 @@ fn refusal(
     Plan::new(alloc, &params, predictors, deal, slots).err()
 }
 
-/// Predictors before slots, slots before the deal, and its first wrong entry before its length.
+/// Predictors before slots, and slots before the deal.
 #[test]
-fn refusals_come_in_order(rt: HostRuntime) {
-    let rows: [(u32, &[u8], u32, Fault); 10] = [
-        (0, &[0, 2], 0, range(Field::Predictors, 0)),
-        (65, &[0, 1], 1, range(Field::Predictors, 65)),
-        (2, &[0, 2], 0, range(Field::Slots, 0)),
-        (2, &[0, 1], 65_537, range(Field::Slots, 65_537)),
-        (2, &[0, 2], 1, Fault::BadDeal { band: 1 }),
-        (2, &[0], 1, Fault::BadDeal { band: 1 }),
-        (2, &[], 1, Fault::BadDeal { band: 0 }),
-        (2, &[0, 0, 0], 1, Fault::BadDeal { band: 2 }),
-        (2, &[0, 0, 0, 2], 1, Fault::BadDeal { band: 3 }),
-        (1, &[1, 0, 0], 1, Fault::BadDeal { band: 0 }),
-    ];
-    for (predictors, deal, slots, fault) in rows {
-        assert_eq!(rt;
-            refusal(&rt, rt.alloc(), predictors, deal, slots),
-            Some(fault)
-        );
-    }
+fn numbers_are_judged_in_order(rt: HostRuntime) {
+    let none = range(Field::Predictors, 0);
+    assert_eq!(rt; refusal(&rt, rt.alloc(), 0, &[0, 2], 0), none);
+    let many = range(Field::Predictors, 65);
+    assert_eq!(rt; refusal(&rt, rt.alloc(), 65, &[0, 1], 1), many);
+    let none = range(Field::Slots, 0);
+    assert_eq!(rt; refusal(&rt, rt.alloc(), 2, &[0, 2], 0), none);
+    let many = range(Field::Slots, 65_537);
+    assert_eq!(rt; refusal(&rt, rt.alloc(), 2, &[0, 1], 65_537), many);
     assert_eq!(rt; refusal(&rt, rt.alloc(), 2, &[0, 1], 65_536), None);
     assert_eq!(rt; refusal(&rt, rt.alloc(), 64, &[63, 0], 1), None);
 }
 
+/// The first wrong entry of a deal before its length.
+#[test]
+fn entries_are_judged_before_the_length(rt: HostRuntime) {
+    assert_eq!(rt; refusal(&rt, rt.alloc(), 2, &[0, 2], 1), band(1));
+    assert_eq!(rt; refusal(&rt, rt.alloc(), 2, &[0], 1), band(1));
+    assert_eq!(rt; refusal(&rt, rt.alloc(), 2, &[], 1), band(0));
+    assert_eq!(rt; refusal(&rt, rt.alloc(), 2, &[0, 0, 0], 1), band(2));
+    assert_eq!(rt; refusal(&rt, rt.alloc(), 2, &[0, 0, 0, 2], 1), band(3));
+    assert_eq!(rt; refusal(&rt, rt.alloc(), 1, &[1, 0, 0], 1), band(0));
+}
+
 /// A number out of its range.
-fn range(field: Field, value: i64) -> Fault {
-    Fault::FieldRange { field, value }
+fn range(field: Field, value: i64) -> Option<Fault> {
+    Some(Fault::FieldRange { field, value })
+}
+
+/// A band that is dealt to no predictor.
+fn band(band: u32) -> Option<Fault> {
+    Some(Fault::BadDeal { band })
 }
