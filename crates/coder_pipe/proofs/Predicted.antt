@@ -80,7 +80,7 @@ module _ (plan : Dealing) (c : Image) (lawful : IsPlan plan) (cube : IsCubeOf pl
       record {
         carries = h.carries ∙ sym (map_twice carried part_of (feeds_from c plan)) ∙ ap (map carried) lists;
         made = made;
-        back = subst (λ bytes. IsFile here bytes plan.params c) (sym made) (chosen_is_file plan.params c lawful.lawful cube);
+        back = subst (λ bytes. IsFile here bytes plan.params c) (sym made) (chosen_is_file here plan.params c lawful.lawful cube);
       }
 
   pub may_stop_part : {G : Type 0} (may_stop : G → ℕ → ℕ → Bool) (gate : G) (q n : ℕ) → MayStop may_stop gate part_of (feeds_from c plan) q n → MayStopPart may_stop gate plan c q n
