@@ -76,7 +76,8 @@ fn dealt(alloc: Global, settings: &CompressSettings) -> Result<Vec<u8>, Fault>
     }
     let mut deal = Vec::new(alloc);
     for z in 0..settings.params.shape.bands() {
-        deal.push((z % predictors) as u8)?;
+        let owner = (z % predictors) as u8;
+        deal.push(owner)?;
     }
     Ok(deal)
 }
