@@ -25,15 +25,15 @@ use std::thread::Threads;
 use system::System;
 
 fn main(rt: HostRuntime) -> ExitCode {
-    match run(&rt) {
+    match run(&rt, &rt) {
         Ok(()) => ExitCode::SUCCESS,
         Err(fault) => report(&rt, &fault),
     }
 }
 
-/// Runs the command that the words name, over the system.
-fn run(rt: &HostRuntime) -> Result<(), Fault> {
-    run_words(rt, rt.alloc(), &System { rt }, &words(rt)?)?.answer
+/// Runs the command that the words name, over the system, with the leave to start threads.
+fn run<R: Threads + Wait + Sync>(rt: &HostRuntime, threads: &R) -> Result<(), Fault> {
+    run_words(threads, rt.alloc(), &System { rt }, &words(rt)?)?.answer
 }
 
 /// Runs the command that words ask for, between the ends that they name.

@@ -9,10 +9,12 @@ use ccsds_command::opener::Opener;
 use command_devices::sink::Sink;
 use command_devices::source::Source;
 use command_devices::stream::{ReaderSource, WriterSink};
-use command_settings::settings::Settings;
+use command_settings::settings::{CompressSettings, Settings};
 use cube_core::fault::Fault;
 use std::alloc::Global;
+use std::sync::Wait;
 use std::test::Fail;
+use std::thread::Threads;
 
 /// A standard input, and one file, whose name is `in`. Any new file can be made but one of that name.
 #[derive(Drop)]
@@ -65,21 +67,21 @@ impl<'a> Opener for Memory<'a> {
 }
 
 /// What a command writes over a standard input and a file.
-fn written(
-    rt: &HostRuntime,
+fn written<R: Threads + Wait + Sync>(
+    threads: &R,
+    alloc: Global,
     standard: &[u8],
     file: &[u8],
     settings: &Settings,
 ) -> Result<Vec<u8>, Fault>
     requires { HasLayout settings.now }
 {
-    let alloc = rt.alloc();
     let memory = Memory {
         alloc,
         standard,
         file,
     };
-    let ended = run_command(rt, alloc, &memory, settings)?;
+    let ended = run_command(threads, alloc, &memory, settings)?;
     ended.answer?;
     Ok(ended.output.into_writer())
 }
@@ -92,20 +94,33 @@ fn name(rt: &HostRuntime, text: &str) -> Result<String, Fail> {
 #[test]
 fn compress_and_expand_go_from_file_to_file(rt: HostRuntime) -> Result<(), Fail> {
     let settings = Settings::Compress(two_equal()?, name(&rt, "in")?, name(&rt, "out")?);
-    let file = written(&rt, &[], &[200, 200], &settings)?;
+    let file = written(&rt, rt.alloc(), &[], &[200, 200], &settings)?;
+    assert_eq!(rt; file.as_slice(), TWO_EQUAL_FILE.as_slice());
+    let settings = CompressSettings {
+        predictors: 2,
+        ..two_equal()?
+    };
+    let settings = Settings::Compress(settings, name(&rt, "in")?, name(&rt, "out")?);
+    let file = written(&rt, rt.alloc(), &[], &[200, 200], &settings)?;
     assert_eq!(rt; file.as_slice(), TWO_EQUAL_FILE.as_slice());
     let settings = Settings::Expand(ONE_BYTE, name(&rt, "in")?, name(&rt, "out")?);
-    let raw = written(&rt, &[], &TWO_EQUAL_FILE, &settings)?;
+    let raw = written(&rt, rt.alloc(), &[], &TWO_EQUAL_FILE, &settings)?;
     assert_eq!(rt; raw.as_slice(), [200u8, 200].as_slice());
     Ok(())
 }
 
 #[test]
 fn show_and_inspect_go_between_the_standard_streams(rt: HostRuntime) -> Result<(), Fail> {
-    let shown = written(&rt, &[0, 1, 0, 2, 0, 1, 200, 200], &[], &Settings::Show)?;
+    let shown = written(
+        &rt,
+        rt.alloc(),
+        &[0, 1, 0, 2, 0, 1, 200, 200],
+        &[],
+        &Settings::Show,
+    )?;
     let text = b"00000100020001110000080002a092590082269080\n";
     assert_eq!(rt; shown.as_slice(), text.as_slice());
-    let told = written(&rt, &TWO_EQUAL_FILE, &[], &Settings::Inspect)?;
+    let told = written(&rt, rt.alloc(), &TWO_EQUAL_FILE, &[], &Settings::Inspect)?;
     assert_eq!(rt;
         told.as_slice(),
         inspected(&rt, &TWO_EQUAL_FILE)?.as_slice()
@@ -116,10 +131,10 @@ fn show_and_inspect_go_between_the_standard_streams(rt: HostRuntime) -> Result<(
 #[test]
 fn ends_that_are_not_there_are_told(rt: HostRuntime) -> Result<(), Fail> {
     let settings = Settings::Expand(ONE_BYTE, name(&rt, "other")?, name(&rt, "out")?);
-    let refused = written(&rt, &[], &TWO_EQUAL_FILE, &settings);
+    let refused = written(&rt, rt.alloc(), &[], &TWO_EQUAL_FILE, &settings);
     assert_eq!(rt; refused.err(), Some(Fault::Read));
     let settings = Settings::Expand(ONE_BYTE, name(&rt, "in")?, name(&rt, "in")?);
-    let refused = written(&rt, &[], &TWO_EQUAL_FILE, &settings);
+    let refused = written(&rt, rt.alloc(), &[], &TWO_EQUAL_FILE, &settings);
     assert_eq!(rt; refused.err(), Some(Fault::Write { written: 0 }));
     Ok(())
 }

@@ -117,7 +117,10 @@ fn layouts(rt: HostRuntime) -> Result<(), Fail> {
 
 #[test]
 fn predictors_and_slots(rt: HostRuntime) -> Result<(), Fail> {
-    for (options, predictors, slots) in [("", 0, 1024), (" --predictors 64 --slots 65536", 64, 65_536)] {
+    for (options, predictors, slots) in [
+        ("", 0, 1024),
+        (" --predictors 64 --slots 65536", 64, 65_536),
+    ] {
         let line = format!(in rt.alloc(); "{IMAGE}{options}")?;
         let Settings::Compress(settings, _from, _to) = parsed(&rt, line.as_str())? else {
             continue;
