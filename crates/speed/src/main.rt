@@ -10,6 +10,7 @@ mod block_coder;
 mod cube;
 mod files;
 mod lanes;
+mod pipeline;
 mod predictor;
 mod report;
 mod sample_coder;
@@ -18,6 +19,7 @@ mod synthetic;
 use crate::report::Report;
 use anyhow::Result;
 use std::env;
+use std::sync::Wait;
 use std::thread::Threads;
 
 /// How often each subject's loops are measured.
@@ -34,7 +36,8 @@ fn main(rt: HostRuntime) -> Result<()> {
             sample_coder::measure(&report)?;
             block_coder::measure(&report)?;
             files::measure(&report)?;
-            lanes::measure(&rt, &report)
+            lanes::measure(&rt, &report)?;
+            pipeline::measure(&rt, &report)
         }
         Some(subject) => {
             let report = Report::of_times(&rt);
@@ -47,7 +50,7 @@ fn main(rt: HostRuntime) -> Result<()> {
 }
 
 /// Measures the loops of a subject.
-fn measure<R: Threads>(rt: &R, report: &Report, subject: &str) -> Result<()> {
+fn measure<R: Threads + Wait + Sync>(rt: &R, report: &Report, subject: &str) -> Result<()> {
     match subject {
         "cube" => cube::measure(report),
         "predictor" => predictor::measure(report),
@@ -55,6 +58,7 @@ fn measure<R: Threads>(rt: &R, report: &Report, subject: &str) -> Result<()> {
         "block_coder" => block_coder::measure(report),
         "files" => files::measure(report),
         "lanes" => lanes::measure(rt, report),
+        "pipeline" => pipeline::measure(rt, report),
         _ => Ok(()),
     }
 }

@@ -1,0 +1,79 @@
+//! The speed of the pipeline: predictors in threads of their own beside the coder.
+
+ghost use Rattle.std.specs.Prelude.{◌≤◌};
+ghost use Rattle.header_bits.specs.Lawful.{IsLawful};
+ghost use Rattle.header_bits.specs.Reach.{here};
+
+use crate::predictor::{params_of, synthetic_cube, usual_coder};
+use crate::report::Report;
+use crate::synthetic::sum_of_bytes;
+use anyhow::Result;
+use coder_pipe::OpenGate;
+use coder_pipe::encode::encode_one;
+use coder_pipe::encode_predicted::encode_predicted;
+use coder_pipe::plan::Plan;
+use cube_core::cube::Cube;
+use cube_core::order::Order;
+use header_bits::params::Params;
+use std::alloc::Global;
+use std::sync::Wait;
+use std::thread::Threads;
+
+/// The most predictors that are measured.
+const MOST: u32 = 3;
+
+/// Measures the sample-adaptive coder in each order, in full mode with three previous bands: by one thread, and by predictors beside it.
+pub fn measure<R: Threads + Wait + Sync>(rt: &R, report: &Report) -> Result<()> {
+    let shape = report.shape()?;
+    for (name, order) in [
+        ("bsq", Order::Bsq),
+        ("bil", Order::Bi(1)),
+        ("bip", Order::Bi(shape.bands())),
+    ] {
+        let params = params_of(shape, false, 3, order, usual_coder())?;
+        measure_order(rt, report, name, &params)?;
+    }
+    Ok(())
+}
+
+/// Measures one thread, and each number of predictors by few slots and by many.
+fn measure_order<R: Threads + Wait + Sync>(
+    rt: &R,
+    report: &Report,
+    order: &str,
+    params: &Params,
+) -> Result<()>
+    requires { IsLawful here params.now }
+{
+    let alloc = report.alloc();
+    let cube = synthetic_cube(alloc, params.shape, params.kind)?;
+    let start = report.start()?;
+    let file = encode_one(alloc, &cube, params)?;
+    let time = report.since(start)?;
+    let name = format!(in alloc; "pipeline_{order}_one_thread")?;
+    let count = params.shape.sample_count();
+    report.line(name.as_str(), count, time, sum_of_bytes(&file))?;
+    for predictors in 1..MOST + 1 {
+        for slots in [1024, 65_536] {
+            let deal = dealt(alloc, params.shape.bands(), predictors)?;
+            let plan = Plan::new(alloc, params, predictors, &deal, slots)?;
+            let start = report.start()?;
+            let piped = encode_predicted(rt, alloc, &cube, &plan, &OpenGate)?;
+            let time = report.since(start)?;
+            let name = format!(in alloc; "pipeline_{order}_{predictors}_by_{slots}")?;
+            report.line(name.as_str(), count, time, sum_of_bytes(&piped.file))?;
+        }
+    }
+    Ok(())
+}
+
+/// A deal of bands to predictors by turns.
+fn dealt(alloc: Global, bands: u32, predictors: u32) -> Result<Vec<u8>>
+    requires { (1 ≤ predictors) × (predictors ≤ 64) }
+{
+    let mut deal = Vec::new(alloc);
+    for z in 0..bands {
+        deal.push((z % predictors) as u8)?;
+    }
+    Ok(deal)
+}

@@ -1,0 +1,147 @@
+#!/usr/bin/env python3
+"""Refuses each call for memory of the built program in turn, and sets limits on its memory.
+
+    tests/refused.py [PROGRAM]
+
+`tests/refuse.c`, which this compiles by `cc`, is loaded before the program and refuses the first of its calls for memory, then the second, until a run
+meets none. Each such run ends with status 3, tells want of memory or a refused thread, or nothing where there was none for the line,
+and writes nothing. Where nothing is refused, the outputs are those of an undisturbed run. `rt ci` leaves the program where this looks for it; so does `make`.
+"""
+
+import os
+import random
+import resource
+import subprocess
+import sys
+import tempfile
+
+TOP = os.path.dirname(os.path.dirname(os.path.abspath(__file__)))
+PROGRAM = os.path.realpath(sys.argv[1] if len(sys.argv) > 1 else os.path.join(TOP, "crates", "ccsds", "out", "ccsds"))
+
+DONE, REFUSED = 0, 3
+MEMORY, THREAD = b"ccsds: 12 WantOfMemory\n", b"ccsds: 16 SpawnRefused\n"
+
+# More growths than any of these commands has.
+MOST = 1000
+
+
+class Room:
+    """A folder with a scene, the program over it, and what has passed."""
+
+    def __init__(self, folder):
+        self.folder, self.passed, self.failed = folder, 0, 0
+
+    def path(self, name):
+        return os.path.join(self.folder, name)
+
+    def read(self, name):
+        with open(self.path(name), "rb") as file:
+            return file.read()
+
+    def write(self, name, data):
+        with open(self.path(name), "wb") as file:
+            file.write(data)
+
+    def run(self, words, refuse=None, limit=None):
+        """The status, the line on standard error, and all that was written: standard output and `out`."""
+        self.write("out", b"")
+        around = {} if refuse is None else {"LD_PRELOAD": self.path("refuse.so"), "REFUSE": str(refuse), "REFUSED": self.path("mark")}
+        bound = (lambda: resource.setrlimit(resource.RLIMIT_AS, (limit, limit))) if limit else None
+        with open(self.path("scene.cube"), "rb") as given:
+            ran = subprocess.run(
+                [PROGRAM, *map(str, words)], stdin=given, capture_output=True, cwd=self.folder, env=around, preexec_fn=bound, timeout=60, check=False
+            )
+        return ran.returncode, ran.stderr, ran.stdout + self.read("out")
+
+    def met(self):
+        """Whether the last run met the call to refuse."""
+        try:
+            os.remove(self.path("mark"))
+            return True
+        except FileNotFoundError:
+            return False
+
+    def hold(self, name, is_well, found):
+        if is_well:
+            self.passed += 1
+        else:
+            self.failed += 1
+            print(f"FAILED: {name}: {str(found)[:300]}")
+
+
+SIZES = ["--columns", 40, "--rows", 9, "--bands", 6, "--bits", 12]
+BLOCKS = ["--coder", "block", "--block", 8, "--reference", 4]
+
+# Commands by the line on standard error that a refusal may have, beside none.
+COMMANDS = {
+    "compress, sample-adaptive": (["compress", *SIZES, "scene.raw", "out"], [MEMORY]),
+    "compress, block-adaptive": (["compress", *SIZES, *BLOCKS, "--order", "bi", "--depth", 2, "scene.raw", "out"], [MEMORY]),
+    "compress, one predictor": (["compress", *SIZES, "--predictors", 1, "scene.raw", "out"], [MEMORY, THREAD]),
+    "compress, three predictors": (["compress", *SIZES, "--predictors", 3, "--slots", 8, "scene.raw", "out"], [MEMORY, THREAD]),
+    "expand, sample-adaptive": (["expand", "sample.file", "out"], [MEMORY]),
+    "expand, block-adaptive": (["expand", "block.file", "out"], [MEMORY]),
+    "inspect": (["inspect", "sample.file"], [MEMORY]),
+    "show": (["show"], [MEMORY]),
+}
+
+
+def make(room):
+    """The scene, its files, a cube for `show`, and the library that refuses."""
+    chance = random.Random(1)
+    heights = [2000 + 5 * (i % 40) + chance.randrange(64) for i in range(40 * 9 * 6)]
+    room.write("scene.raw", b"".join(height.to_bytes(2, "little") for height in heights))
+    room.write("scene.cube", bytes([0, 2, 0, 1, 0, 1, 200, 190]))
+    subprocess.run(["cc", "-O1", "-shared", "-fPIC", "-o", room.path("refuse.so"), os.path.join(TOP, "tests", "refuse.c")], check=True)
+    for name, words in (("sample.file", []), ("block.file", BLOCKS)):
+        status, line, _ = room.run(["compress", *SIZES, *words, "scene.raw", name])
+        room.hold(f"making {name}", (status, line) == (DONE, b""), (status, line))
+
+
+def each_growth(room, name, words, lines):
+    """Refuses the first call for memory, then the second, until a run meets none; how many there are."""
+    wanted = room.run(words)
+    room.hold(name, wanted[:2] == (DONE, b"") and wanted[2], wanted)
+    for nth in range(1, MOST):
+        found = room.run(words, refuse=nth)
+        if not room.met():
+            room.hold(f"{name}: nothing refused", found == wanted, found)
+            return nth - 1
+        status, line, written = found
+        room.hold(f"{name}: call {nth} refused", status == REFUSED and line in (*lines, b"") and written == b"", found)
+    room.hold(f"{name}: more than {MOST} growths", False, None)
+    return MOST
+
+
+def limits(room, name, words, lines):
+    """Bounds the program's memory more and less: it is whole, or it is refused, and then nothing is written."""
+    wanted, whole = room.run(words), 0
+    for pages in range(256, 8192, 64):
+        found = room.run(words, limit=4096 * pages)
+        status, line, written = found
+        # Under the least limits the system can't begin the program at all, and says so itself.
+        if status == REFUSED:
+            room.hold(f"{name}: {pages} pages", line in (*lines, b"") and written == b"", found)
+        elif status == DONE:
+            whole += 1
+            room.hold(f"{name}: {pages} pages", found == wanted, found)
+        else:
+            room.hold(f"{name}: {pages} pages", written == b"" and whole == 0, found)
+    return whole
+
+
+def main():
+    if not os.access(PROGRAM, os.X_OK):
+        sys.exit(f"there is no program {PROGRAM}")
+    with tempfile.TemporaryDirectory() as folder:
+        room = Room(folder)
+        make(room)
+        for name, (words, lines) in COMMANDS.items():
+            print(f"{name}: {each_growth(room, name, words, lines)} growths refused in turn")
+        for name, (words, lines) in COMMANDS.items():
+            print(f"{name}: whole under {limits(room, name, words, lines)} limits of {len(range(256, 8192, 64))}")
+        print(f"{room.passed} passed, {room.failed} failed")
+        sys.exit(1 if room.failed else 0)
+
+
+if __name__ == "__main__":
+    main()
