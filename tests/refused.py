@@ -5,7 +5,7 @@
 
 `tests/refuse.c`, which this compiles by `cc`, is loaded before the program and refuses the first of its calls for memory, then the second, until a run
 meets none. Each such run ends with status 3, tells want of memory or a refused thread, or nothing where there was none for the line,
-and writes nothing. Where nothing is refused, the outputs are those of an undisturbed run. `rt ci` leaves the program where this looks for it; so does `make`.
+and writes nothing. Where nothing is refused, the outputs are those of an undisturbed run. At last come files that end behind a header of any size. `rt ci` leaves the program where this looks for it; so does `make`.
 """
 
 import os
@@ -18,8 +18,11 @@ import tempfile
 TOP = os.path.dirname(os.path.dirname(os.path.abspath(__file__)))
 PROGRAM = os.path.realpath(sys.argv[1] if len(sys.argv) > 1 else os.path.join(TOP, "crates", "ccsds", "out", "ccsds"))
 
-DONE, REFUSED = 0, 3
+DONE, INPUT, REFUSED = 0, 2, 3
 MEMORY, THREAD = b"ccsds: 12 WantOfMemory\n", b"ccsds: 16 SpawnRefused\n"
+
+# The answer to a file that ends behind a header of 19 bytes, in so many seconds and so much memory.
+CUT, SOON, LITTLE = b"ccsds: 6 Truncated 152\n", 0.05, 32 << 20
 
 # More growths than any of these commands has.
 MOST = 1000
@@ -129,6 +132,21 @@ def limits(room, name, words, lines):
     return whole
 
 
+def announced(room):
+    """Files that end behind their header, whatever sizes it announces, are refused at once and in little memory."""
+    chance = random.Random(2)
+    sizes = [(65536, 65536, 65536)] + [tuple(1 << chance.randrange(17) for _ in range(3)) for _ in range(40)]
+    for shape in sizes:
+        for coder, kind in ((b"\x82\x26", b"\x08"), (b"\x00\x01", b"\x0c")):
+            image = b"\x00" + b"".join((size % 65536).to_bytes(2, "big") for size in shape) + b"\x11\x00\x00" + kind + b"\x00"
+            room.write("header", image + b"\x02\xa0\x92\x59\x00" + coder)
+            before = resource.getrusage(resource.RUSAGE_CHILDREN)
+            found = room.run(["expand", "header", "out"], limit=LITTLE)
+            after = resource.getrusage(resource.RUSAGE_CHILDREN)
+            seconds = after.ru_utime - before.ru_utime + after.ru_stime - before.ru_stime
+            room.hold(f"{shape} announced", found == (INPUT, CUT, b"") and seconds < SOON, (found, seconds))
+
+
 def main():
     if not os.access(PROGRAM, os.X_OK):
         sys.exit(f"there is no program {PROGRAM}")
@@ -139,6 +157,7 @@ def main():
             print(f"{name}: {each_growth(room, name, words, lines)} growths refused in turn")
         for name, (words, lines) in COMMANDS.items():
             print(f"{name}: whole under {limits(room, name, words, lines)} limits of {len(range(256, 8192, 64))}")
+        announced(room)
         print(f"{room.passed} passed, {room.failed} failed")
         sys.exit(1 if room.failed else 0)
 
