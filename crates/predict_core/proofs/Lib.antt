@@ -17,3 +17,5 @@ pub mod Spans
 pub mod Starting
 pub mod Raising
 pub mod Largest
+pub mod Floors
+pub mod ErrorSigns

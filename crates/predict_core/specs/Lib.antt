@@ -4,6 +4,7 @@ pub mod Differences
 pub mod Following
 pub mod HeightSum
 pub mod Largest
+pub mod ErrorSign
 pub mod Learner
 pub mod LocalSum
 pub mod Mapping
