@@ -19,3 +19,6 @@ pub mod Raising
 pub mod Largest
 pub mod Floors
 pub mod ErrorSigns
+pub mod Borders
+pub mod BandLines
+pub mod Places

@@ -7,6 +7,7 @@ pub mod Largest
 pub mod ErrorSign
 pub mod Learner
 pub mod LocalSum
+pub mod Lines
 pub mod Mapping
 pub mod Precedence
 pub mod Prediction

@@ -4,7 +4,9 @@
 pub mod band;
 mod differences;
 mod exponent;
+mod fills;
 pub mod laws;
+mod lines;
 mod neighbourhood;
 mod prediction;
 pub mod predictor;
