@@ -21,4 +21,5 @@ pub mod Floors
 pub mod ErrorSigns
 pub mod Borders
 pub mod BandLines
+pub mod RunSteps
 pub mod Places

@@ -13,6 +13,7 @@ pub mod predictor;
 mod range;
 mod register;
 pub mod residual;
+mod run;
 mod settings;
 mod start;
 mod weights;
