@@ -17,3 +17,9 @@ pub mod Spans
 pub mod Starting
 pub mod Raising
 pub mod Largest
+pub mod Floors
+pub mod ErrorSigns
+pub mod Borders
+pub mod BandLines
+pub mod RunSteps
+pub mod Places

@@ -44,14 +44,14 @@ heights_in_first_row column y row above x e = grind (arith, nat_tests)
 heights_by_column : (column : Bool) (y : ℕ) (row above : List ℕ) (x : ℕ) → y ≢ 0 → column ≡ true → height_sum column y row above x ≡ 4 * get_or above x 0
 heights_by_column column y row above x a b = grind (arith, nat_tests)
 
-heights_at_left : (column : Bool) (y : ℕ) (row above : List ℕ) (x : ℕ) → y ≢ 0 → column ≡ false → x ≡ 0 → height_sum column y row above x ≡ 2 * (get_or above x 0 + get_or above (x + 1) 0)
+pub heights_at_left : (column : Bool) (y : ℕ) (row above : List ℕ) (x : ℕ) → y ≢ 0 → column ≡ false → x ≡ 0 → height_sum column y row above x ≡ 2 * (get_or above x 0 + get_or above (x + 1) 0)
 heights_at_left column y row above x a b d = grind (arith, nat_tests)
 
-heights_at_right : (column : Bool) (y : ℕ) (row above : List ℕ) (x : ℕ) → y ≢ 0 → column ≡ false → x ≢ 0 → x + 1 ≡ length row
+pub heights_at_right : (column : Bool) (y : ℕ) (row above : List ℕ) (x : ℕ) → y ≢ 0 → column ≡ false → x ≢ 0 → x + 1 ≡ length row
     → height_sum column y row above x ≡ get_or row (x - 1) 0 + get_or above (x - 1) 0 + 2 * get_or above x 0
 heights_at_right column y row above x a b d e = grind (arith, nat_tests)
 
-heights_inside : (column : Bool) (y : ℕ) (row above : List ℕ) (x : ℕ) → y ≢ 0 → column ≡ false → x ≢ 0 → x + 1 ≢ length row
+pub heights_inside : (column : Bool) (y : ℕ) (row above : List ℕ) (x : ℕ) → y ≢ 0 → column ≡ false → x ≢ 0 → x + 1 ≢ length row
     → height_sum column y row above x ≡ get_or row (x - 1) 0 + get_or above (x - 1) 0 + get_or above x 0 + get_or above (x + 1) 0
 heights_inside column y row above x a b d e = grind (arith, nat_tests)
 

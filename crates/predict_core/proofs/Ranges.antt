@@ -48,18 +48,18 @@ all low high a b d u h k l m = (omega (arith, ints, h.0, h.1, k.0, k.1, l.0, l.1
 pub apart : (low high a s : ℤ) (power : ℕ) → high -ℤ low ≡ pos power -ℤ pos 1 → Between low high a → Between (pos 4 *ℤ low) (pos 4 *ℤ high) s → unsigned_abs (pos 4 *ℤ a -ℤ s) ≤ 4 * power
 apart low high a s power e h k = omega (arith, ints, e, h.0, h.1, k.0, k.1)
 
-module _ (p : Predictor) (c : Image) (cube : IsCube c) (y x : ℕ) (later : 0 < y + x) (wide : p.column ≡ false → 2 ≤ c.shape.columns) where
-  sample_within : (z y' x' : ℕ) → IsPlace c.shape z y' x' → IsSample c.kind (sample_at c z y' x')
-  unfolding sample_at
-  sample_within z y' x' q =
-      cube.range (index_in c.shape.columns c.shape.rows z y' x') (rw cube.whole (index_below c.shape.columns c.shape.rows c.shape.bands z y' x' q.band q.row q.column))
+pub sample_within : (c : Image) → IsCube c → (z y x : ℕ) → IsPlace c.shape z y x → IsSample c.kind (sample_at c z y x)
+unfolding sample_at
+sample_within c cube z y x q =
+    cube.range (index_in c.shape.columns c.shape.rows z y x) (rw cube.whole (index_below c.shape.columns c.shape.rows c.shape.bands z y x q.band q.row q.column))
 
+module _ (p : Predictor) (c : Image) (cube : IsCube c) (y x : ℕ) (later : 0 < y + x) (wide : p.column ≡ false → 2 ≤ c.shape.columns) where
   module _ (z : ℕ) (place : IsPlace c.shape z y x) where
     up : (x' : ℕ) → x' < c.shape.columns → IsSample c.kind (sample_at c z (y - 1) x')
-    up x' h = sample_within z (y - 1) x' (record { band = place.band; row = (let r = place.row in omega arith); column = h })
+    up x' h = sample_within c cube z (y - 1) x' (record { band = place.band; row = (let r = place.row in omega arith); column = h })
 
     left : IsSample c.kind (sample_at c z y (x - 1))
-    left = sample_within z y (x - 1) (record { band = place.band; row = place.row; column = (let q = place.column in omega arith) })
+    left = sample_within c cube z y (x - 1) (record { band = place.band; row = place.row; column = (let q = place.column in omega arith) })
 
     column : x < c.shape.columns
     column = place.column
@@ -87,7 +87,7 @@ module _ (p : Predictor) (c : Image) (cube : IsCube c) (y x : ℕ) (later : 0 < 
 
     central_within : unsigned_abs (central_difference p c z y x) ≤ 4 * 2 ^ c.kind.bits
     unfolding central_difference
-    central_within = difference_within (sample_at c z y x) (sample_within z y x place)
+    central_within = difference_within (sample_at c z y x) (sample_within c cube z y x place)
 
     directional_within : AllWithin (4 * 2 ^ c.kind.bits) (directional_differences p c z y x)
     directional_within =

@@ -35,3 +35,11 @@ pub record MovesOn (old new : Learner) : Type 0 where
   pub kind : new.kind ≡ old.kind
   pub band : new.band ≡ old.band
   pub place : new.place ≡ old.place + 1
+
+-- the same predictor, n places on
+pub record MovesBy (n : ℕ) (old new : Learner) : Type 0 where
+  pub predictor : new.predictor ≡ old.predictor
+  pub shape : new.shape ≡ old.shape
+  pub kind : new.kind ≡ old.kind
+  pub band : new.band ≡ old.band
+  pub place : new.place ≡ old.place + n

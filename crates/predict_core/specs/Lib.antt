@@ -4,8 +4,10 @@ pub mod Differences
 pub mod Following
 pub mod HeightSum
 pub mod Largest
+pub mod ErrorSign
 pub mod Learner
 pub mod LocalSum
+pub mod Lines
 pub mod Mapping
 pub mod Precedence
 pub mod Prediction

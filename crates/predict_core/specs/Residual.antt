@@ -3,7 +3,7 @@ use Rattle.std.specs.Prelude.{ℕ, ◌+◌, ◌-◌, ◌*◌, ◌/◌, ◌%◌, 
 use Rattle.header_bits.specs.declared.params.Params.{Params}
 use Rattle.cube_core.specs.Kind.{SampleKind, smin, smax}
 use Rattle.cube_core.specs.Image.{Image, sample_at}
-use Rattle.cube_core.specs.Order.{places}
+use Rattle.cube_core.specs.Order.{places, from}
 use Rattle.predict_core.specs.Arithmetic.{floor_div}
 use Rattle.predict_core.specs.Prediction.{scaled_prediction}
 
@@ -34,6 +34,10 @@ mapped k scaled sample = mapped_between (smin k) (smax k) scaled sample
 unfoldable pub mapped_residual : Params → Image → ℕ → ℕ → ℕ
 mapped_residual p c z t =
     mapped c.kind (scaled_prediction p c z t) (sample_at c z (t / c.shape.columns) (t % c.shape.columns))
+
+-- those of n places of band z, from place t on
+abbrev pub run_residuals : Params → Image → ℕ → ℕ → ℕ → List ℕ
+run_residuals p c z t n = map (mapped_residual p c z) (from t n)
 
 -- those of all samples, in encoding order
 unfoldable pub residuals : Params → Image → List ℕ

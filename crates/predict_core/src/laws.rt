@@ -1,5 +1,6 @@
 //! Laws over the definitions alone.
 
+ghost use Rattle.predict_core.specs.ErrorSign.{DifferenceBound, ErrorSign, UnwrappedPrediction};
 ghost use Rattle.predict_core.specs.Largest.{RegisterBound};
 ghost use Rattle.predict_core.specs.Mapping.{OneSample};
 ghost use Rattle.predict_core.specs.Precedence.{PlacesPrecede};
@@ -19,4 +20,25 @@ pub fn places_precede()
 /// What the register takes, before it is wrapped, is below 2^45 with either sign.
 pub fn register_bound()
     ensures { RegisterBound }
+{}
+
+/// A predicted central difference, without the fraction of the weights, is at most 18·2^20 with either sign.
+pub fn difference_bound()
+    ensures { DifferenceBound }
+{}
+
+/// In a register of 46 bits or more a prediction comes from the predicted difference and the local sum alone.
+///
+/// Nothing wraps there, and the fraction of the weights may be dropped before the two are added.
+pub fn unwrapped_prediction()
+    ensures { UnwrappedPrediction }
+{}
+
+/// In a register of 46 bits or more an error is negative exactly where the central difference is at
+/// most the predicted one.
+///
+/// So the weights move on without the prediction, and its clip changes nothing for them
+/// (CCSDS 123.0-B-1, "Weight Update").
+pub fn error_sign()
+    ensures { ErrorSign }
 {}

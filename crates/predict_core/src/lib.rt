@@ -4,13 +4,16 @@
 pub mod band;
 mod differences;
 mod exponent;
+mod fills;
 pub mod laws;
+mod lines;
 mod neighbourhood;
 mod prediction;
 pub mod predictor;
 mod range;
 mod register;
 pub mod residual;
+mod run;
 mod settings;
 mod start;
 mod weights;

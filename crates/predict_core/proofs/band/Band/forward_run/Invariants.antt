@@ -1,0 +1,14 @@
+use Rattle.std.proofs.Common.{◌≡◌, ℕ, ◌<◌, ◌^◌, length, take, slice_index}
+use Rattle.header_bits.specs.declared.params.Params.{Params}
+use Rattle.predict_core.specs.Residual.{run_residuals}
+use Rattle.predict_core.specs.Following.{Follows, MovesBy}
+use Rattle.predict_core.proofs.band.Band.forward_run.Given as goal
+
+abbrev pub invariant-loop-i : goal.invariant-loop-i
+invariant-loop-i l = record {
+  moved : MovesBy l.i l.initial.self l.self;
+  long : length l.residuals ≡ length l.initial.residuals;
+  bound : (k : ℕ) → k < l.i → slice_index l.residuals k < 2 ^ l.cube.kind.bits;
+  residuals : (p : Params) → Follows p l.initial.self l.cube → take l.i l.residuals ≡ run_residuals p l.cube l.initial.self.band l.initial.self.place l.i;
+  follows : (p : Params) → Follows p l.initial.self l.cube → Follows p l.self l.cube;
+}

@@ -1,0 +1,68 @@
+//! The sums and differences of a run, found from its lines for all places at once.
+//!
+//! Each loop goes over all 64 places of rooms of fixed length, so that it has no test and no tail, and the
+//! compiler makes vectors of it. What is written behind the last place of a shorter run isn't read.
+
+ghost use Rattle.std.specs.Prelude.{◌≡◌, ◌<◌, ◌≤◌, ℕ, pos, [], ◌∷◌, ◌++◌, slice_index_or, unsigned_abs};
+ghost use Rattle.predict_core.specs.Lines.{line_sum, line_difference, line_directions};
+
+use crate::lines::{Lines, sum_of_lines};
+use crate::neighbourhood::difference_of;
+
+/// Writes the local sum of heights and the central difference of each place.
+pub(crate) fn fill_own(column: bool, lines: &Lines, sums: &mut [i32; 64], own: &mut [i32; 64])
+    ensures sums { (i : ℕ) → i < 64 → slice_index_or sums.new i (pos 0) ≡ pos (line_sum column lines.now.here lines.now.over i) }
+    ensures own { (i : ℕ) → i < 64 → slice_index_or own.new i (pos 0) ≡ line_difference column lines.now.here lines.now.over i }
+{
+    for i in 0..64usize {
+        let sum = sum_of_lines(column, &lines.here, &lines.over, i);
+        sums[i] = sum as i32;
+        own[i] = difference_of(lines.here[i + 1], sum);
+    }
+}
+
+/// Writes the central differences of four bands at each place, the first band's first.
+pub(crate) fn fill_four(
+    column: bool,
+    first: &Lines,
+    second: &Lines,
+    third: &Lines,
+    fourth: &Lines,
+    out: &mut [[i32; 4]; 64],
+)
+    ensures { (i : ℕ) → i < 64 → slice_index_or out.new i [] ≡ line_difference column first.now.here first.now.over i ∷ line_difference column second.now.here second.now.over i ∷ line_difference column third.now.here third.now.over i ∷ line_difference column fourth.now.here fourth.now.over i ∷ [] }
+{
+    for i in 0..64usize {
+        out[i] = [
+            central_at(column, first, i),
+            central_at(column, second, i),
+            central_at(column, third, i),
+            central_at(column, fourth, i),
+        ];
+    }
+}
+
+/// Writes the directional differences of each place and the central difference of another band: north,
+/// west, north-west, and that band's.
+pub(crate) fn fill_directions(column: bool, lines: &Lines, below: &Lines, out: &mut [[i32; 4]; 64])
+    ensures { (i : ℕ) → i < 64 → slice_index_or out.new i [] ≡ line_directions column lines.now.here lines.now.over i ++ line_difference column below.now.here below.now.over i ∷ [] }
+{
+    for i in 0..64usize {
+        let sum = sum_of_lines(column, &lines.here, &lines.over, i);
+        let north = difference_of(lines.over[i + 1], sum);
+        let west = difference_of(lines.here[i], sum);
+        let north_west = difference_of(lines.over[i], sum);
+        out[i] = [north, west, north_west, central_at(column, below, i)];
+    }
+}
+
+/// The central difference of place `i`.
+#[inline(always)]
+fn central_at(column: bool, lines: &Lines, i: usize) -> i32
+    requires { i < 64 }
+    ensures value { result ≡ line_difference column lines.now.here lines.now.over i }
+    ensures bound { unsigned_abs result ≤ 262144 }
+{
+    let sum = sum_of_lines(column, &lines.here, &lines.over, i);
+    difference_of(lines.here[i + 1], sum)
+}

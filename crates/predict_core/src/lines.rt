@@ -1,0 +1,133 @@
+//! The heights of a run of places and of their neighbours, in lines of fixed length.
+//!
+//! A run is at most 64 places of one row. Its lines have one place more on each side, so that every place has
+//! its neighbours at the same distances, and a loop over all 64 needs no test.
+
+ghost use Rattle.std.specs.Prelude.{◌≡◌, ◌+◌, ◌-◌, ◌*◌, ◌<◌, ◌≤◌, ℕ, false, ◌||◌, ◌==◌, length, slice_index};
+ghost use Rattle.predict_core.specs.Lines.{bordered, line_sum, AreLines, AreBandLines};
+ghost use Rattle.cube_core.specs.Image.{IsPlace};
+
+use crate::predictor::Predictor;
+use cube_core::cube::Cube;
+
+/// A run's own row and the row above, each behind one place more and before another.
+#[derive(Clone, Copy)]
+pub(crate) struct Lines {
+    pub here: [u16; 66],
+    pub over: [u16; 66],
+}
+
+/// Writes the lines of `count` places of band `z` from row `y`, column `x` on.
+pub(crate) fn fill_band_lines(
+    predictor: &Predictor,
+    cube: &Cube,
+    z: u32,
+    y: u32,
+    x: u32,
+    count: usize,
+    lines: &mut Lines,
+)
+    requires place { IsPlace cube.now.shape z y x }
+    requires some { 1 ≤ count }
+    requires few { count ≤ 64 }
+    requires inside { x + count ≤ cube.now.shape.columns }
+    requires wide { predictor.now.column ≡ false → 2 ≤ cube.now.shape.columns }
+    ensures { AreBandLines predictor.now cube.now z y x count lines.new.here lines.new.over }
+{
+    let row = cube.row(z, y);
+    let above = cube.row(z, y.saturating_sub(1));
+    fill_lines(
+        predictor.column,
+        y,
+        row,
+        above,
+        x as usize,
+        count,
+        &mut lines.here,
+        &mut lines.over,
+    );
+}
+
+/// Writes the neighbours of `count` places of a row from column `x` on: `here` those in the row itself, and
+/// `over` those in the row above.
+///
+/// Where a place has no neighbour, what stands in for it makes the sum of all four right. In the first row,
+/// where the sum is of the western neighbours alone, they stand above their places
+/// (CCSDS 123.0-B-1, "Local Sums").
+fn fill_lines(
+    column: bool,
+    y: u32,
+    row: &[u16],
+    above: &[u16],
+    x: usize,
+    count: usize,
+    here: &mut [u16; 66],
+    over: &mut [u16; 66],
+)
+    requires some { 1 ≤ count }
+    requires few { count ≤ 64 }
+    requires inside { x + count ≤ length row.now }
+    requires same { length above.now ≡ length row.now }
+    requires wide { column ≡ false → 2 ≤ length row.now }
+    ensures { AreLines column y row.now above.now x count here.new over.new }
+{
+    let north = above[0];
+    fill_line(row, x, count, north, north, here);
+    if y == 0 {
+        over[1..count + 1].copy_from_slice(&here[..count]);
+    } else if column {
+        fill_line(above, x, count, north, north, over);
+    } else {
+        fill_line(above, x, count, above[1], above[above.len() - 1], over);
+    }
+}
+
+/// Writes `count` heights of a row from column `x` on, and one more on each side.
+///
+/// `before` and `after` stand in where the row ends.
+fn fill_line(row: &[u16], x: usize, count: usize, before: u16, after: u16, line: &mut [u16; 66])
+    requires few { count ≤ 64 }
+    requires inside { x + count ≤ length row.now }
+    ensures { (k : ℕ) → k < count + 2 → slice_index line.new k ≡ slice_index (bordered before row.now after) (x + k) }
+{
+    copy_places(row, x, count, line);
+    line[0] = height_at(row, x, before, after);
+    line[count + 1] = height_at(row, x + count + 1, before, after);
+}
+
+/// Writes `count` heights of a row from column `x` on behind the first place of a line.
+fn copy_places(row: &[u16], x: usize, count: usize, line: &mut [u16; 66])
+    requires few { count ≤ 64 }
+    requires inside { x + count ≤ length row.now }
+    ensures { (k : ℕ) → k < count → slice_index line.new (k + 1) ≡ slice_index row.now (x + k) }
+{
+    line[1..count + 1].copy_from_slice(&row[x..x + count]);
+}
+
+/// The height before column `k` of a row, with one more at each end.
+fn height_at(row: &[u16], k: usize, before: u16, after: u16) -> u16
+    requires { k ≤ length row.now + 1 }
+    ensures { result ≡ slice_index (bordered before row.now after) k }
+{
+    if k == 0 {
+        before
+    } else if k <= row.len() {
+        row[k - 1]
+    } else {
+        after
+    }
+}
+
+/// Four times an average of the neighbours of place `i`.
+#[inline(always)]
+pub(crate) fn sum_of_lines(column: bool, here: &[u16; 66], over: &[u16; 66], i: usize) -> u32
+    requires { i < 64 }
+    ensures value { result ≡ line_sum column here.now over.now i }
+    ensures bound { result ≤ 262140 }
+{
+    if column {
+        4 * over[i + 1] as u32
+    } else {
+        here[i] as u32 + over[i] as u32 + over[i + 1] as u32 + over[i + 2] as u32
+    }
+}
