@@ -23,7 +23,7 @@ pub(crate) fn scaled_by(
 ) -> i32
     requires lawful { IsPredictor predictor.now }
     requires count_in { count ≤ 18 }
-    requires weights_in { AllWithin (2 ^ 21) weights.now }
+    requires weights_in { AllWithin (2 ^ (predictor.now.fraction + 2)) weights.now }
     requires differences_in { AllWithin (2 ^ 18) differences.now }
     requires sum_in { (negsuc 131071 ≤ℤ sum) × (sum ≤ℤ pos 262140) }
     ensures value { (us : List ℤ) → length us ≡ count → differences.now ≡ us ++ replicate (18 - count) (pos 0) → result ≡ scaled_of predictor.now range.now.kind sum (take count weights.now) us }
