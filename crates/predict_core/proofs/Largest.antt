@@ -22,6 +22,7 @@ use Rattle.predict_core.specs.Largest.{RegisterBound}
 use Rattle.predict_core.proofs.Moves.{clipped_low, clipped_high, limit_within, within_most}
 use Rattle.predict_core.proofs.Padding.{vector_length}
 use Rattle.predict_core.proofs.Ranges.{vector_within, sum_within, apart}
+use Rattle.predict_core.proofs.Inner.{inner_within}
 use Rattle.predict_core.proofs.Spans.{span, doubled}
 use Rattle.predict_core.proofs.Scaled.{halved_shrinks}
 use Rattle.predict_core.proofs.Starting.{usual_by_law}
@@ -34,9 +35,6 @@ within_none n i l = absurd (omega (arith, l))
 within_cons : (n : ℕ) (x : ℤ) (xs : List ℤ) → unsigned_abs x ≤ n → AllWithin n xs → AllWithin n (x ∷ xs)
 within_cons n x xs h k zero l = h
 within_cons n x xs h k (suc i) l = k i (omega (arith, l))
-
-within_tail : (n : ℕ) (x : ℤ) (xs : List ℤ) → AllWithin n (x ∷ xs) → AllWithin n xs
-within_tail n x xs h i l = h (suc i) (omega (arith, l))
 
 eighths_within : (n : ℕ) (w : ℤ) (k : ℕ) → unsigned_abs w ≤ n → AllWithin n (eighths w k)
 unfolding eighths
@@ -88,18 +86,6 @@ weights_within p c z (suc zero) lawful = start_within p z lawful
 weights_within p c z (suc (suc t)) lawful = updated_within p.omega _ _ (weight_vector p c z (suc t)) _
 
 -- ---- the products
-
-inner_within : (n : ℕ) (ws us : List ℤ) → AllWithin n ws → AllWithin (2 ^ 18) us → unsigned_abs (inner_product ws us) ≤ length us * (n * 2 ^ 18)
-unfolding inner_product
-inner_within n [] us h k = omega arith
-inner_within n (w ∷ ws) [] h k = omega arith
-inner_within n (w ∷ ws) (u ∷ us) h k =
-    let product = product_within n w u (h 0 (omega arith)) (k 0 (omega arith)) in
-    let rest = inner_within n ws us (within_tail n w ws h) (within_tail (2 ^ 18) u us k) in
-    omega (arith, ints, product, rest)
-  where
-    product_within : (n : ℕ) (w u : ℤ) → unsigned_abs w ≤ n → unsigned_abs u ≤ 2 ^ 18 → unsigned_abs (w *ℤ u) ≤ n * 2 ^ 18
-    product_within n w u h k = rw (unsigned_abs-mul w u) (mul-le (unsigned_abs w) (unsigned_abs u) n (2 ^ 18) h k)
 
 few_components : (p : Predictor) (z : ℕ) → p.previous ≤ 15 → component_count p z ≤ 18
 few_components p z few = by_reduced p.reduced

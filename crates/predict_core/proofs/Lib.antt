@@ -23,3 +23,4 @@ pub mod Borders
 pub mod BandLines
 pub mod RunSteps
 pub mod Places
+pub mod Inner

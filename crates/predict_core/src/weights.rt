@@ -1,6 +1,6 @@
 //! The weights of the differences: the products with them, and their update.
 
-ghost use Rattle.std.specs.Prelude.{◌≡◌, ◌+◌, ◌-◌, ◌*◌, ◌^◌, ◌≤◌, pos, negsuc, ◌≤ℤ◌, ◌+ℤ◌, ◌-ℤ◌, unsigned_abs, ℤ, List, length, take, ◌++◌, replicate};
+ghost use Rattle.std.specs.Prelude.{◌≡◌, ◌+◌, ◌-◌, ◌*◌, ◌^◌, ◌≤◌, pos, negsuc, ◌≤ℤ◌, ◌+ℤ◌, ◌-ℤ◌, unsigned_abs, ℕ, ℤ, List, length, take, ◌++◌, replicate};
 ghost use Rattle.predict_core.specs.Arithmetic.{clip};
 ghost use Rattle.predict_core.specs.Prediction.{inner_product};
 ghost use Rattle.predict_core.specs.Weights.{step, signed_by, weight_min, weight_max, updated_weight as updated, updated_weights};
@@ -16,6 +16,7 @@ pub(crate) fn product_of(count: usize, weights: &[i32; 18], differences: &[i32; 
     requires differences_in { AllWithin (2 ^ 18) differences.now }
     ensures value { (us : List ℤ) → length us ≡ count → differences.now ≡ us ++ replicate (18 - count) (pos 0) → result ≡ inner_product (take count weights.now) us }
     ensures bound { unsigned_abs result ≤ 2 ^ 44 }
+    ensures bound_by { (n : ℕ) → AllWithin n weights.now → unsigned_abs result ≤ 18 * (n * 2 ^ 18) }
 {
     if count == 0 {
         0
@@ -34,6 +35,7 @@ fn product_of_first<const N: usize>(weights: &[i32; 18], differences: &[i32; 18]
     requires differences_in { AllWithin (2 ^ 18) differences.now }
     ensures value { result ≡ inner_product (take N weights.now) (take N differences.now) }
     ensures bound { unsigned_abs result ≤ 2 ^ 44 }
+    ensures bound_by { (n : ℕ) → AllWithin n weights.now → unsigned_abs result ≤ 18 * (n * 2 ^ 18) }
 {
     let mut sum = 0i64;
     for i in 0..N {
