@@ -9,7 +9,7 @@ use Rattle.predict_core.specs.Bounds.{AllWithin}
 within_tail : (n : ℕ) (x : ℤ) (xs : List ℤ) → AllWithin n (x ∷ xs) → AllWithin n xs
 within_tail n x xs h i l = h (suc i) (omega (arith, l))
 
-within_take : (n k : ℕ) (xs : List ℤ) → AllWithin n xs → AllWithin n (take k xs)
+pub within_take : (n k : ℕ) (xs : List ℤ) → AllWithin n xs → AllWithin n (take k xs)
 within_take n k xs h i l =
     let e = length-take k xs in
     rw (get_or-take k xs i (pos 0) (omega (arith, l, e))) (h i (omega (arith, l, e)))

@@ -24,3 +24,4 @@ pub mod BandLines
 pub mod RunSteps
 pub mod Places
 pub mod Inner
+pub mod Links
