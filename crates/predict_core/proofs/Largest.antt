@@ -22,6 +22,7 @@ use Rattle.predict_core.specs.Largest.{RegisterBound}
 use Rattle.predict_core.proofs.Moves.{clipped_low, clipped_high, limit_within, within_most}
 use Rattle.predict_core.proofs.Padding.{vector_length}
 use Rattle.predict_core.proofs.Ranges.{vector_within, sum_within, apart}
+use Rattle.predict_core.proofs.Inner.{inner_within}
 use Rattle.predict_core.proofs.Spans.{span, doubled}
 use Rattle.predict_core.proofs.Scaled.{halved_shrinks}
 use Rattle.predict_core.proofs.Starting.{usual_by_law}
@@ -34,9 +35,6 @@ within_none n i l = absurd (omega (arith, l))
 within_cons : (n : ℕ) (x : ℤ) (xs : List ℤ) → unsigned_abs x ≤ n → AllWithin n xs → AllWithin n (x ∷ xs)
 within_cons n x xs h k zero l = h
 within_cons n x xs h k (suc i) l = k i (omega (arith, l))
-
-within_tail : (n : ℕ) (x : ℤ) (xs : List ℤ) → AllWithin n (x ∷ xs) → AllWithin n xs
-within_tail n x xs h i l = h (suc i) (omega (arith, l))
 
 eighths_within : (n : ℕ) (w : ℤ) (k : ℕ) → unsigned_abs w ≤ n → AllWithin n (eighths w k)
 unfolding eighths
@@ -89,18 +87,6 @@ weights_within p c z (suc (suc t)) lawful = updated_within p.omega _ _ (weight_v
 
 -- ---- the products
 
-inner_within : (n : ℕ) (ws us : List ℤ) → AllWithin n ws → AllWithin (2 ^ 18) us → unsigned_abs (inner_product ws us) ≤ length us * (n * 2 ^ 18)
-unfolding inner_product
-inner_within n [] us h k = omega arith
-inner_within n (w ∷ ws) [] h k = omega arith
-inner_within n (w ∷ ws) (u ∷ us) h k =
-    let product = product_within n w u (h 0 (omega arith)) (k 0 (omega arith)) in
-    let rest = inner_within n ws us (within_tail n w ws h) (within_tail (2 ^ 18) u us k) in
-    omega (arith, ints, product, rest)
-  where
-    product_within : (n : ℕ) (w u : ℤ) → unsigned_abs w ≤ n → unsigned_abs u ≤ 2 ^ 18 → unsigned_abs (w *ℤ u) ≤ n * 2 ^ 18
-    product_within n w u h k = rw (unsigned_abs-mul w u) (mul-le (unsigned_abs w) (unsigned_abs u) n (2 ^ 18) h k)
-
 few_components : (p : Predictor) (z : ℕ) → p.previous ≤ 15 → component_count p z ≤ 18
 few_components p z few = by_reduced p.reduced
   where
@@ -120,34 +106,38 @@ raised_small k v le small = rw (unsigned_abs-mul (pos (2 ^ k)) v) (let power : 2
 turned : (a b : ℤ) (n : ℕ) → unsigned_abs (a -ℤ b) ≤ n → unsigned_abs (b -ℤ a) ≤ n
 turned a b n h = omega (arith, ints, h)
 
--- what is predicted from at a place of a cube
-module _ (p : Params) (c : Image) (z y x : ℕ) (lawful : IsLawful here p) (cube : IsCube c) (shape : c.shape ≡ p.shape) (place : IsPlace c.shape z y x) (later : 0 < y + x) where
-  pub wide_enough : p.column ≡ false → 2 ≤ c.shape.columns
-  wide_enough e = subst (λ (s : Sizes). 2 ≤ s.columns) (sym shape) (lawful.sums e)
-
-  pub sum_between : Between (pos 4 *ℤ smin c.kind) (pos 4 *ℤ smax c.kind) (local_sum (predictor_of p) c z y x)
-  sum_between = sum_within (predictor_of p) c cube y x later wide_enough z place
-
-  -- the products, by how far a weight can be from 0
-  pub products_within : unsigned_abs (inner_product (weight_vector p c z (y * c.shape.columns + x)) (difference_vector (predictor_of p) c z y x)) ≤ 18 * (2 ^ (p.omega + 2) * 2 ^ 18)
-  products_within =
-      let us : List ℤ = difference_vector (predictor_of p) c z y x in
-      let bits : c.kind.bits ≤ 16 = cube.bits.1 in
-      let vector = within_most c.kind.bits us bits (vector_within (predictor_of p) c cube y x later wide_enough z place) in
-      let few : length us ≤ 18 = omega (arith, vector_length (predictor_of p) c z y x, few_components (predictor_of p) z lawful.previous) in
-      le_trans (inner_within (2 ^ (p.omega + 2)) (weight_vector p c z (y * c.shape.columns + x)) us (weights_within p c z (y * c.shape.columns + x) lawful) vector)
-      (mul-le (length us) (2 ^ (p.omega + 2) * 2 ^ 18) 18 (2 ^ (p.omega + 2) * 2 ^ 18) few (omega arith))
-
 both_small : (a b : ℤ) (n : ℕ) → n ≤ 2 ^ 21 → unsigned_abs a ≤ 18 * (n * 2 ^ 18) → unsigned_abs b ≤ 2 ^ 37 → unsigned_abs (a +ℤ b) < 2 ^ 45
 both_small a b n most h k = omega (arith, ints, h, k)
 
+-- what is predicted from at a place of a cube, by weights between their bounds
+module _ (q : Predictor) (c : Image) (z y x : ℕ) (ws : List ℤ) (cube : IsCube c) (place : IsPlace c.shape z y x) (later : 0 < y + x) (wide : q.column ≡ false → 2 ≤ c.shape.columns) (few : q.previous ≤ 15) (most : q.fraction ≤ 19)
+    (within : AllWithin (2 ^ (q.fraction + 2)) ws) where
+  pub products_small : unsigned_abs (inner_product ws (difference_vector q c z y x)) ≤ 18 * (2 ^ (q.fraction + 2) * 2 ^ 18)
+  products_small =
+      let us : List ℤ = difference_vector q c z y x in
+      let bits : c.kind.bits ≤ 16 = cube.bits.1 in
+      let vector = within_most c.kind.bits us bits (vector_within q c cube y x later wide z place) in
+      let short : length us ≤ 18 = omega (arith, vector_length q c z y x, few_components q z few) in
+      le_trans (inner_within (2 ^ (q.fraction + 2)) ws us within vector) (mul-le (length us) (2 ^ (q.fraction + 2) * 2 ^ 18) 18 (2 ^ (q.fraction + 2) * 2 ^ 18) short (omega arith))
+
+  pub register_small : unsigned_abs (inner_product ws (difference_vector q c z y x) +ℤ pos (2 ^ q.fraction) *ℤ (local_sum q c z y x -ℤ pos 4 *ℤ smid c.kind)) < 2 ^ 45
+  register_small =
+      let bits : c.kind.bits ≤ 16 = cube.bits.1 in
+      let middle = middle_between c.kind.signed c.kind.bits cube.bits.0 in
+      let power : 2 ^ c.kind.bits ≤ 2 ^ 16 = pow_mono bits in
+      let near = apart (smin c.kind) (smax c.kind) (smid c.kind) (local_sum q c z y x) (2 ^ c.kind.bits) (span c.kind cube.bits) middle (sum_within q c cube y x later wide z place) in
+      let small = turned (pos 4 *ℤ smid c.kind) (local_sum q c z y x) (2 ^ 18) (omega (arith, near, power)) in
+      both_small (inner_product ws (difference_vector q c z y x)) (pos (2 ^ q.fraction) *ℤ (local_sum q c z y x -ℤ pos 4 *ℤ smid c.kind)) (2 ^ (q.fraction + 2)) (limit_within q.fraction most) products_small (raised_small q.fraction (local_sum q c z y x -ℤ pos 4 *ℤ smid c.kind) most small)
+
+-- and by those of a cube
+wide_enough : (p : Params) (c : Image) → IsLawful here p → c.shape ≡ p.shape → p.column ≡ false → 2 ≤ c.shape.columns
+wide_enough p c lawful shape e = subst (λ (s : Sizes). 2 ≤ s.columns) (sym shape) (lawful.sums e)
+
+pub products_within : (p : Params) (c : Image) (z y x : ℕ) → IsLawful here p → IsCube c → c.shape ≡ p.shape → IsPlace c.shape z y x → 0 < y + x
+    → unsigned_abs (inner_product (weight_vector p c z (y * c.shape.columns + x)) (difference_vector (predictor_of p) c z y x)) ≤ 18 * (2 ^ (p.omega + 2) * 2 ^ 18)
+products_within p c z y x lawful cube shape place later =
+    products_small (predictor_of p) c z y x (weight_vector p c z (y * c.shape.columns + x)) cube place later (wide_enough p c lawful shape) lawful.previous lawful.fraction.1 (weights_within p c z (y * c.shape.columns + x) lawful)
+
 pub register_bound : RegisterBound
 register_bound p c z y x lawful cube shape kind place later =
-    let q : Predictor = predictor_of p in
-    let bits : c.kind.bits ≤ 16 = cube.bits.1 in
-    let products = products_within p c z y x lawful cube shape place later in
-    let middle = middle_between c.kind.signed c.kind.bits cube.bits.0 in
-    let power : 2 ^ c.kind.bits ≤ 2 ^ 16 = pow_mono bits in
-    let near = apart (smin c.kind) (smax c.kind) (smid c.kind) (local_sum q c z y x) (2 ^ c.kind.bits) (span c.kind cube.bits) middle (sum_between p c z y x lawful cube shape place later) in
-    let small = turned (pos 4 *ℤ smid c.kind) (local_sum q c z y x) (2 ^ 18) (omega (arith, near, power)) in
-    both_small (inner_product (weight_vector p c z (y * c.shape.columns + x)) (difference_vector q c z y x)) (pos (2 ^ p.omega) *ℤ (local_sum q c z y x -ℤ pos 4 *ℤ smid c.kind)) (2 ^ (p.omega + 2)) (limit_within p.omega lawful.fraction.1) products (raised_small p.omega (local_sum q c z y x -ℤ pos 4 *ℤ smid c.kind) lawful.fraction.1 small)
+    register_small (predictor_of p) c z y x (weight_vector p c z (y * c.shape.columns + x)) cube place later (wide_enough p c lawful shape) lawful.previous lawful.fraction.1 (weights_within p c z (y * c.shape.columns + x) lawful)

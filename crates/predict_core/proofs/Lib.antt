@@ -23,3 +23,5 @@ pub mod Borders
 pub mod BandLines
 pub mod RunSteps
 pub mod Places
+pub mod Inner
+pub mod Links

@@ -52,8 +52,8 @@ clipped_low a low high r e = omega (arith, ints, clamps)
 pub clipped_high : (a low high r : ℤ) → low ≤ℤ high → r ≡ clip a low high → r ≤ℤ high
 clipped_high a low high r h e = omega (arith, ints, clamps)
 
-pub held_within : (n : ℕ) (r : ℤ) → n ≤ 2 ^ 21 → 1 ≤ n → (pos 0 -ℤ pos n) ≤ℤ r → r ≤ℤ (pos n -ℤ pos 1) → unsigned_abs r ≤ 2 ^ 21
-held_within n r h k a b = omega (arith, ints)
+pub held_within : (n : ℕ) (r : ℤ) → 1 ≤ n → (pos 0 -ℤ pos n) ≤ℤ r → r ≤ℤ (pos n -ℤ pos 1) → unsigned_abs r ≤ n
+held_within n r k a b = omega (arith, ints)
 
 pub moved_is : (fraction : ℕ) (exponent : ℤ) (negative : Bool) (weight difference size moved r : ℤ) → size ≡ signed_by negative difference → moved ≡ step exponent size
     → r ≡ clip (weight +ℤ moved) (weight_min fraction) (weight_max fraction) → r ≡ updated_weight fraction exponent negative weight difference

@@ -1,6 +1,7 @@
 -- The weights that a band starts from, written one after another.
 use Rattle.std.proofs.Common.{◌≡◌, ◌+◌, ◌-◌, ◌*◌, ◌^◌, ◌<◌, ◌≤◌, ℕ, zero, suc, ℤ, pos, unsigned_abs, SFits, w32, Bool, true, false, List, ◌++◌, length, take, drop, set, replicate, arith, refl, ◌∙◌, sym, ap, add-one, append_assoc, append-nil, pow_mono, to_z, ◌%◌, if◌then◌else◌}
 use Rattle.std.proofs.Math.Seq.{take-suc-set}
+use Rattle.std.proofs.Math.Pow.{pow-add}
 use Rattle.std.proofs.lemmas.List.{take-replicate, take-append-drop}
 use Rattle.std.proofs.lemmas.Int.{to_z_pos, fits_signed_from_abs}
 use Rattle.header_bits.specs.declared.params.Params.{Params}
@@ -107,6 +108,12 @@ module _ (fraction first count : ℕ) (least : 4 ≤ fraction) (most : fraction 
 
   pub small_first : unsigned_abs (to_z w32 ((7 * 2 ^ (fraction - 3)) % 2 ^ 32)) ≤ 1048576
   small_first = let s = seven_fits (fraction - 3) (omega arith) in rw (first_weight (fraction - 3) (omega arith)) (omega (arith, s))
+
+pub begun_within : (fraction : ℕ) → 4 ≤ fraction → fraction ≤ 19 → unsigned_abs (to_z w32 ((7 * 2 ^ (fraction - 3)) % 2 ^ 32)) ≤ 2 ^ (fraction + 2)
+begun_within fraction least most =
+    let e : (fraction - 3) + 5 ≡ fraction + 2 = omega arith in
+    let power : 2 ^ (fraction + 2) ≡ 2 ^ (fraction - 3) * 2 ^ 5 = ap (λ k. 2 ^ k) (sym e) ∙ pow-add 2 (fraction - 3) 5 in
+    rw (first_weight (fraction - 3) (omega arith)) (omega (arith, power))
 
 -- as long as no tables are taken, lawful weights start as usual
 pub usual_by_law : (p : Params) → IsLawful here p → p.start ≡ Usual

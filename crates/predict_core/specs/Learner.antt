@@ -1,5 +1,5 @@
 -- What holds of the fields of a band's predictor.
-use Rattle.std.specs.Prelude.{◌≡◌, ◌^◌, ◌<◌, ◌≤◌, ℤ, List}
+use Rattle.std.specs.Prelude.{◌≡◌, ◌+◌, ◌^◌, ◌<◌, ◌≤◌, ℤ, List}
 use Rattle.cube_core.specs.Shape.{Sizes}
 use Rattle.predict_core.specs.declared.settings.Settings.{Settings}
 use Rattle.predict_core.specs.Bounds.{AllWithin}
@@ -8,4 +8,4 @@ pub record IsLearner (s : Settings) (shape : Sizes) (weights : List ℤ) : Type 
   pub rows : shape.rows ≤ 65536
   pub columns : s.columns ≡ shape.columns
   pub inside : s.band < shape.bands
-  pub bounded : AllWithin (2 ^ 21) weights
+  pub bounded : AllWithin (2 ^ (s.predictor.fraction + 2)) weights

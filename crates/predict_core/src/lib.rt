@@ -2,6 +2,7 @@
 #![tactic(auto)]
 
 pub mod band;
+mod chain;
 mod differences;
 mod exponent;
 mod fills;

@@ -1,8 +1,8 @@
 //! The scaled prediction at a place that is not the first of its band.
 
 ghost use Rattle.std.specs.Prelude.{◌≡◌, ◌+◌, ◌*◌, ◌^◌, ◌<◌, ◌≤◌, pos, negsuc, ◌≤ℤ◌, ◌+ℤ◌, ◌*ℤ◌, unsigned_abs, ◌-◌, ℤ, List, length, take, ◌++◌, replicate};
-ghost use Rattle.predict_core.specs.Arithmetic.{clip};
-ghost use Rattle.predict_core.specs.Prediction.{scaled_by as scaled_of};
+ghost use Rattle.predict_core.specs.Arithmetic.{clip, floor_div};
+ghost use Rattle.predict_core.specs.Prediction.{inner_product, scaled_by as scaled_of};
 ghost use Rattle.predict_core.specs.Mapping.{IsScaled};
 ghost use Rattle.predict_core.specs.Bounds.{AllWithin, IsPredictor};
 
@@ -23,7 +23,7 @@ pub(crate) fn scaled_by(
 ) -> i32
     requires lawful { IsPredictor predictor.now }
     requires count_in { count ≤ 18 }
-    requires weights_in { AllWithin (2 ^ 21) weights.now }
+    requires weights_in { AllWithin (2 ^ (predictor.now.fraction + 2)) weights.now }
     requires differences_in { AllWithin (2 ^ 18) differences.now }
     requires sum_in { (negsuc 131071 ≤ℤ sum) × (sum ≤ℤ pos 262140) }
     ensures value { (us : List ℤ) → length us ≡ count → differences.now ≡ us ++ replicate (18 - count) (pos 0) → result ≡ scaled_of predictor.now range.now.kind sum (take count weights.now) us }
@@ -37,6 +37,24 @@ pub(crate) fn scaled_by(
     );
     let upper = halved(register, predictor.fraction + 1);
     scaled_from(range.smin, range.smax, middle, upper)
+}
+
+/// The predicted central difference: the products, without the weights' fraction, rounded down.
+#[inline(always)]
+pub(crate) fn predicted_difference(
+    fraction: u32,
+    count: usize,
+    weights: &[i32; 18],
+    differences: &[i32; 18],
+) -> i32
+    requires fraction_in { fraction ≤ 19 }
+    requires count_in { count ≤ 18 }
+    requires weights_in { AllWithin (2 ^ (fraction + 2)) weights.now }
+    requires differences_in { AllWithin (2 ^ 18) differences.now }
+    ensures value { (us : List ℤ) → length us ≡ count → differences.now ≡ us ++ replicate (18 - count) (pos 0) → result ≡ floor_div (inner_product (take count weights.now) us) (2 ^ fraction) }
+    ensures bound { unsigned_abs result ≤ 18 * 2 ^ 20 }
+{
+    halved(product_of(count, weights, differences), fraction) as i32
 }
 
 /// The middle of the prediction's range, moved by the upper part of the register.

@@ -10,7 +10,7 @@ pub(crate) fn usual_start(fraction: u32, first: usize, count: usize) -> [i32; 18
     requires fraction_in { (4 ≤ fraction) × (fraction ≤ 19) }
     requires room { first + count ≤ 18 }
     ensures value { result ≡ replicate first (pos 0) ++ eighths (pos (7 * 2 ^ (fraction - 3))) count ++ replicate (18 - first - count) (pos 0) }
-    ensures bound { AllWithin (2 ^ 21) result }
+    ensures bound { AllWithin (2 ^ (fraction + 2)) result }
 {
     let mut weights = [0i32; 18];
     let mut weight = 7i32 << (fraction - 3);

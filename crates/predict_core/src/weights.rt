@@ -1,6 +1,6 @@
 //! The weights of the differences: the products with them, and their update.
 
-ghost use Rattle.std.specs.Prelude.{◌≡◌, ◌+◌, ◌-◌, ◌*◌, ◌^◌, ◌≤◌, pos, negsuc, ◌≤ℤ◌, ◌+ℤ◌, ◌-ℤ◌, unsigned_abs, ℤ, List, length, take, ◌++◌, replicate};
+ghost use Rattle.std.specs.Prelude.{◌≡◌, ◌+◌, ◌-◌, ◌*◌, ◌^◌, ◌≤◌, pos, negsuc, ◌≤ℤ◌, ◌+ℤ◌, ◌-ℤ◌, unsigned_abs, ℕ, ℤ, List, length, take, ◌++◌, replicate};
 ghost use Rattle.predict_core.specs.Arithmetic.{clip};
 ghost use Rattle.predict_core.specs.Prediction.{inner_product};
 ghost use Rattle.predict_core.specs.Weights.{step, signed_by, weight_min, weight_max, updated_weight as updated, updated_weights};
@@ -16,6 +16,7 @@ pub(crate) fn product_of(count: usize, weights: &[i32; 18], differences: &[i32; 
     requires differences_in { AllWithin (2 ^ 18) differences.now }
     ensures value { (us : List ℤ) → length us ≡ count → differences.now ≡ us ++ replicate (18 - count) (pos 0) → result ≡ inner_product (take count weights.now) us }
     ensures bound { unsigned_abs result ≤ 2 ^ 44 }
+    ensures bound_by { (n : ℕ) → AllWithin n weights.now → unsigned_abs result ≤ 18 * (n * 2 ^ 18) }
 {
     if count == 0 {
         0
@@ -34,6 +35,7 @@ fn product_of_first<const N: usize>(weights: &[i32; 18], differences: &[i32; 18]
     requires differences_in { AllWithin (2 ^ 18) differences.now }
     ensures value { result ≡ inner_product (take N weights.now) (take N differences.now) }
     ensures bound { unsigned_abs result ≤ 2 ^ 44 }
+    ensures bound_by { (n : ℕ) → AllWithin n weights.now → unsigned_abs result ≤ 18 * (n * 2 ^ 18) }
 {
     let mut sum = 0i64;
     for i in 0..N {
@@ -62,10 +64,10 @@ pub(crate) fn update(
     requires bits_in { (2 ≤ bits) × (bits ≤ 16) }
     requires exponent_least { (pos bits -ℤ pos 25) ≤ℤ exponent }
     requires exponent_most { exponent ≤ℤ pos 21 }
-    requires weights_in { AllWithin (2 ^ 21) weights.old }
+    requires weights_in { AllWithin (2 ^ (fraction + 2)) weights.old }
     requires differences_in { AllWithin (4 * 2 ^ bits) differences.now }
     ensures value { (us : List ℤ) → length us ≡ count → differences.now ≡ us ++ replicate (18 - count) (pos 0) → take count weights.new ≡ updated_weights fraction exponent negative (take count weights.old) us }
-    ensures bound { AllWithin (2 ^ 21) weights.new }
+    ensures bound { AllWithin (2 ^ (fraction + 2)) weights.new }
 {
     if count == 0 {
         return;
@@ -92,10 +94,10 @@ fn update_first<const N: usize>(
     requires bits_in { (2 ≤ bits) × (bits ≤ 16) }
     requires exponent_least { (pos bits -ℤ pos 25) ≤ℤ exponent }
     requires exponent_most { exponent ≤ℤ pos 21 }
-    requires weights_in { AllWithin (2 ^ 21) weights.old }
+    requires weights_in { AllWithin (2 ^ (fraction + 2)) weights.old }
     requires differences_in { AllWithin (4 * 2 ^ bits) differences.now }
     ensures value { take N weights.new ≡ updated_weights fraction exponent negative (take N weights.old) (take N differences.now) }
-    ensures bound { AllWithin (2 ^ 21) weights.new }
+    ensures bound { AllWithin (2 ^ (fraction + 2)) weights.new }
 {
     if exponent < 0 {
         let by = (-1 - exponent) as u32;
@@ -118,10 +120,10 @@ fn update_by_products<const N: usize>(
     requires few { N ≤ 18 }
     requires fraction_in { fraction ≤ 19 }
     requires by_in { by ≤ 22 }
-    requires weights_in { AllWithin (2 ^ 21) weights.old }
+    requires weights_in { AllWithin (2 ^ (fraction + 2)) weights.old }
     requires differences_in { AllWithin (2 ^ (26 - by)) differences.now }
     ensures value { take N weights.new ≡ updated_weights fraction (negsuc by) negative (take N weights.old) (take N differences.now) }
-    ensures bound { AllWithin (2 ^ 21) weights.new }
+    ensures bound { AllWithin (2 ^ (fraction + 2)) weights.new }
 {
     for i in 0..N {
         weights[i] = moved_by_product(fraction, by, negative, weights[i], differences[i]);
@@ -140,10 +142,10 @@ fn update_by_halves<const N: usize>(
     requires few { N ≤ 18 }
     requires fraction_in { fraction ≤ 19 }
     requires by_in { by ≤ 21 }
-    requires weights_in { AllWithin (2 ^ 21) weights.old }
+    requires weights_in { AllWithin (2 ^ (fraction + 2)) weights.old }
     requires differences_in { AllWithin (2 ^ 18) differences.now }
     ensures value { take N weights.new ≡ updated_weights fraction (pos by) negative (take N weights.old) (take N differences.now) }
-    ensures bound { AllWithin (2 ^ 21) weights.new }
+    ensures bound { AllWithin (2 ^ (fraction + 2)) weights.new }
 {
     for i in 0..N {
         weights[i] = moved_by_halves(fraction, by, negative, weights[i], differences[i]);
@@ -158,7 +160,7 @@ fn moved_by_product(fraction: u32, by: u32, negative: bool, weight: i32, differe
     requires weight_in { unsigned_abs weight ≤ 2 ^ 21 }
     requires difference_in { unsigned_abs difference ≤ 2 ^ (26 - by) }
     ensures value { result ≡ updated fraction (negsuc by) negative weight difference }
-    ensures bound { unsigned_abs result ≤ 2 ^ 21 }
+    ensures bound { unsigned_abs result ≤ 2 ^ (fraction + 2) }
 {
     let size = turned(negative, difference);
     held(fraction, weight, raised(size, by))
@@ -172,7 +174,7 @@ fn moved_by_halves(fraction: u32, by: u32, negative: bool, weight: i32, differen
     requires weight_in { unsigned_abs weight ≤ 2 ^ 21 }
     requires difference_in { unsigned_abs difference ≤ 2 ^ 18 }
     ensures value { result ≡ updated fraction (pos by) negative weight difference }
-    ensures bound { unsigned_abs result ≤ 2 ^ 21 }
+    ensures bound { unsigned_abs result ≤ 2 ^ (fraction + 2) }
 {
     let size = turned(negative, difference);
     held(fraction, weight, lowered(size, by))
@@ -217,7 +219,7 @@ fn held(fraction: u32, weight: i32, step: i32) -> i32
     requires weight_in { unsigned_abs weight ≤ 2 ^ 21 }
     requires step_in { unsigned_abs step ≤ 2 ^ 26 }
     ensures value { result ≡ clip (weight +ℤ step) (weight_min fraction) (weight_max fraction) }
-    ensures bound { unsigned_abs result ≤ 2 ^ 21 }
+    ensures bound { unsigned_abs result ≤ 2 ^ (fraction + 2) }
 {
     let limit = 1i32 << (fraction + 2);
     let least = -limit;

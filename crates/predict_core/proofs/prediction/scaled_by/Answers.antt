@@ -1,5 +1,6 @@
-use Rattle.std.proofs.Common.{take, SFits, w32, w64, to_z-of_z, rules}
+use Rattle.std.proofs.Common.{take, SFits, w32, w64, to_z-of_z, rules, le_trans}
 use Rattle.std.proofs.lemmas.Int.{ints}
+use Rattle.predict_core.proofs.Moves.{limit_within}
 use Rattle.predict_core.proofs.Scaled.{scaled_is}
 use Rattle.predict_core.proofs.prediction.scaled_by.Goals as goal
 use Rattle.predict_core.proofs.prediction.scaled_by.Goals.{After-scaled_from}
@@ -12,6 +13,9 @@ middle_fits c = let h = c.args.range.now.mid in search (rules, ints)
 
 high_fits : (c : After-scaled_from) → SFits w32 c.args.range.now.smax
 high_fits c = let h = c.args.range.now.high in search (rules, ints)
+
+pub product_of-product-requires-clause-weights_in : goal.product_of-product-requires-clause-weights_in
+product_of-product-requires-clause-weights_in c = λ i l. le_trans (c.requires.weights_in i l) (limit_within c.args.predictor.now.fraction c.requires.lawful.fraction.1)
 
 pub returns-clause-value : goal.returns-clause-value
 returns-clause-value c us l same =

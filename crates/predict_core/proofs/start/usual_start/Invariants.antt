@@ -9,5 +9,6 @@ invariant-loop-i l = record {
   rest : drop (l.first + l.i) l.weights ≡ drop (l.first + l.i) (replicate 18 (pos 0));
   long : length l.weights ≡ 18;
   small : unsigned_abs l.weight ≤ 2 ^ 20;
-  bounded : AllWithin (2 ^ 21) l.weights;
+  least : unsigned_abs l.weight ≤ 2 ^ (l.fraction + 2);
+  bounded : AllWithin (2 ^ (l.fraction + 2)) l.weights;
 }

@@ -38,4 +38,4 @@ returns-clause-bound c =
     let q : 1 ≤ 2 ^ (c.args.fraction + 2) = pow_pos (c.args.fraction + 2) in
     let fits : SFits w32 c.max.result = search rules in
     let e = clipped (goal.at.returns-clause-bound c).After-max in
-    rw (to_z-of_z fits) (held_within (2 ^ (c.args.fraction + 2)) c.max.result p q (clipped_low (c.args.weight +ℤ c.args.step) (pos 0 -ℤ pos (2 ^ (c.args.fraction + 2))) (pos (2 ^ (c.args.fraction + 2)) -ℤ pos 1) c.max.result e) (clipped_high (c.args.weight +ℤ c.args.step) (pos 0 -ℤ pos (2 ^ (c.args.fraction + 2))) (pos (2 ^ (c.args.fraction + 2)) -ℤ pos 1) c.max.result (omega (arith, ints, q)) e))
+    rw (to_z-of_z fits) (held_within (2 ^ (c.args.fraction + 2)) c.max.result q (clipped_low (c.args.weight +ℤ c.args.step) (pos 0 -ℤ pos (2 ^ (c.args.fraction + 2))) (pos (2 ^ (c.args.fraction + 2)) -ℤ pos 1) c.max.result e) (clipped_high (c.args.weight +ℤ c.args.step) (pos 0 -ℤ pos (2 ^ (c.args.fraction + 2))) (pos (2 ^ (c.args.fraction + 2)) -ℤ pos 1) c.max.result (omega (arith, ints, q)) e))

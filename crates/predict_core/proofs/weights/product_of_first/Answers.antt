@@ -2,6 +2,7 @@ use Rattle.std.proofs.Common.{◌≡◌, ◌≤◌, ◌*◌, ◌^◌, ◌*ℤ◌
 use Rattle.predict_core.specs.Prediction.{inner_product}
 use Rattle.predict_core.proofs.Products.{product_up, product_bound, sum_bound, sum_fits}
 use Rattle.predict_core.proofs.Prefixes.{product_next, product_none}
+use Rattle.predict_core.proofs.Inner.{first_within}
 use Rattle.predict_core.proofs.weights.product_of_first.Goals as goal
 
 pub loop-i-init : goal.loop-i-init
@@ -38,3 +39,10 @@ returns-clause-value g c =
 
 pub returns-clause-bound : goal.returns-clause-bound
 returns-clause-bound g c = omega (arith, c.loop-i.invariant.bound)
+
+pub returns-clause-bound_by : goal.returns-clause-bound_by
+returns-clause-bound_by g c n within =
+    let done : c.loop-i.i ≡ g.row.N = omega arith in
+    let sum : c.loop-i.sum ≡ inner_product (take g.row.N c.args.weights.now) (take g.row.N c.args.differences.now) =
+    subst (λ n. c.loop-i.sum ≡ inner_product (take n c.args.weights.now) (take n c.args.differences.now)) done (rw c.loop-i.sum-is at c.loop-i.invariant.begun) in
+    rw (c.loop-i.sum-is, sum) (first_within n g.row.N c.args.weights.now c.args.differences.now c.requires.few within c.requires.differences_in)

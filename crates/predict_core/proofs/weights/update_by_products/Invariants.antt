@@ -1,4 +1,4 @@
-use Rattle.std.proofs.Common.{negsuc, ◌≡◌, ◌^◌, take, drop, length}
+use Rattle.std.proofs.Common.{negsuc, ◌≡◌, ◌+◌, ◌^◌, take, drop, length}
 use Rattle.predict_core.specs.Weights.{updated_weights}
 use Rattle.predict_core.specs.Bounds.{AllWithin}
 use Rattle.predict_core.proofs.weights.update_by_products.Given as goal
@@ -7,6 +7,6 @@ abbrev pub invariant-loop-i : goal.invariant-loop-i
 invariant-loop-i g l = record {
   done : take l.i l.weights ≡ updated_weights l.fn.fraction (negsuc l.fn.by) l.fn.negative (take l.i l.fn.weights) (take l.i l.fn.differences);
   kept : drop l.i l.weights ≡ drop l.i l.fn.weights;
-  bound : AllWithin (2 ^ 21) l.weights;
+  bound : AllWithin (2 ^ (l.fn.fraction + 2)) l.weights;
   long : length l.weights ≡ 18;
 }
