@@ -2,6 +2,11 @@
 
 mod cubes;
 mod gates;
+mod lanes;
 mod pipes;
 mod plans;
 mod stops;
+mod together;
+mod weavers;
+mod weaving;
+mod whole_lists;

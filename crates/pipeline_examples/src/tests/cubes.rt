@@ -1,10 +1,16 @@
-//! Cube A, 3 x 2 x 2, in full mode with one previous band, and the plans of its tests.
+//! Cube A, 3 x 2 x 2, in full mode with one previous band, and what predictors make of it.
 
+ghost use Rattle.std.specs.Prelude.{◌≡◌, [], ◌∷◌, IfOk};
+ghost use Rattle.coder_pipe.specs.Sends.{IsSeen};
+
+use ccsds_command::piped::run_piped;
 use coder_pipe::Gate;
 use coder_pipe::encode::encode_one;
 use coder_pipe::encode_predicted::encode_predicted;
 use coder_pipe::pipeline::Piped;
 use coder_pipe::plan::Plan;
+use command_devices::cut::{CutSink, CutSource};
+use command_settings::settings::CompressSettings;
 use cube_core::cube::Cube;
 use cube_core::fault::Fault;
 use cube_core::kind::Kind;
@@ -20,6 +26,16 @@ use std::thread::Threads;
 /// Its samples, band after band.
 pub(crate) const SAMPLES: [u8; 12] = [100, 102, 105, 101, 104, 103, 110, 111, 115, 112, 113, 114];
 
+/// Its file by the sample-adaptive coder, interleaved by pixel.
+pub(crate) const BY_PIXEL: [u8; 26] = [
+    0x00, 0x00, 0x03, 0x00, 0x02, 0x00, 0x02, 0x10, 0x00, 0x02, 0x08, 0x00, 0x04, 0x20, 0x92, 0x59,
+    0x00, 0x82, 0x26, // the header
+    0x37, 0x14, 0xB9, 0xDA, 0x8C, 0x97, 0x60,
+];
+
+/// The room of a sink, and the pieces in which a command reads and writes.
+const ROOM: usize = 1000;
+
 /// Samples of one byte, band after band.
 const BYTES: Layout = Layout {
     order: RawOrder::Bsq,
@@ -28,7 +44,11 @@ const BYTES: Layout = Layout {
 };
 
 /// Its parameters, in an order and by a coder.
-pub(crate) fn params_of(rt: &impl Abort, order: Order, coder: Coder) -> Params {
+pub(crate) fn params_of(rt: &impl Abort, order: Order, coder: Coder) -> Params
+    ensures shape { result.shape ≡ record { columns = 3; rows = 2; bands = 2 } }
+    ensures kind { result.kind.bits ≡ 8 }
+    ensures order { result.order ≡ order }
+{
     Params {
         shape: Shape::new(3, 2, 2).expect(rt, "a shape"),
         kind: Kind::new(false, 8).expect(rt, "a kind"),
@@ -67,6 +87,24 @@ pub(crate) fn by_blocks() -> Coder {
     }
 }
 
+/// A plan for it, and the cube itself.
+pub(crate) fn plan_and_cube(
+    rt: &impl Abort,
+    alloc: Global,
+    params: &Params,
+    predictors: u32,
+    deal: &[u8],
+    slots: u32,
+) -> Result<(Plan, Cube), Fault>
+    ensures plan { IfOk result (λ r. (r.0.params ≡ params.now) × (r.0.predictors ≡ predictors) × (r.0.deal ≡ deal.now)) }
+    ensures cube { IfOk result (λ r. IsSeen params.now r.1) }
+{
+    assert!(rt; params.check().is_ok());
+    let plan = Plan::new(alloc, params, predictors, deal, slots)?;
+    let cube = Cube::from_raw(alloc, params.shape, params.kind, BYTES, &SAMPLES)?;
+    Ok((plan, cube))
+}
+
 /// What predictors of a plan make of it, past a gate.
 pub(crate) fn piped<R: Threads + Wait + Sync + Abort, G: Gate + Sync>(
     rt: &R,
@@ -77,10 +115,28 @@ pub(crate) fn piped<R: Threads + Wait + Sync + Abort, G: Gate + Sync>(
     slots: u32,
     gate: &G,
 ) -> Result<Piped, Fault> {
-    assert!(rt; params.check().is_ok());
-    let plan = Plan::new(alloc, params, predictors, deal, slots)?;
-    let cube = Cube::from_raw(alloc, params.shape, params.kind, BYTES, &SAMPLES)?;
+    let (plan, cube) = plan_and_cube(rt, alloc, params, predictors, deal, slots)?;
     encode_predicted(rt, alloc, &cube, &plan, gate)
+}
+
+/// What the command makes of its raw bytes by two predictors, of which each has a band, past a gate.
+pub(crate) fn compressed<R: Threads + Wait + Sync + Abort, G: Gate + Sync>(
+    rt: &R,
+    alloc: Global,
+    params: Params,
+    slots: u32,
+    gate: &G,
+) -> Result<Vec<u8>, Fault> {
+    let settings = CompressSettings {
+        params,
+        layout: BYTES,
+        predictors: 2,
+        slots,
+    };
+    let mut source = CutSource::new(&SAMPLES, ROOM, None);
+    let mut sink = CutSink::new(alloc, ROOM, ROOM, None)?;
+    run_piped(rt, alloc, &mut source, &mut sink, &settings, gate)?;
+    Ok(Vec::from_slice(alloc, sink.taken())?)
 }
 
 /// What one thread makes of it.

@@ -1,8 +1,13 @@
-//! Gates that stop predictors.
+//! Gates that stop predictors, and gates at which they wait for one another.
 
 ghost use Rattle.std.specs.Prelude.{◌==◌, ◌&&◌, ◌||◌};
 
 use coder_pipe::Gate;
+use std::sync::atomic::{AtomicBool, Ordering};
+use std::thread;
+
+/// How often a gate looks for another predictor, before it gives up.
+const MOST_LOOKS: u32 = 10_000_000;
 
 /// Stops predictor 0 at one number, and predictor 1 at another.
 #[derive(Clone, Copy, Drop)]
@@ -17,4 +22,94 @@ impl Gate for StopTwo {
     fn pass(&self, predictor: u32, nth: u64, _turn: u64) -> bool {
         !((predictor == 0 && nth == self.first) || (predictor == 1 && nth == self.second))
     }
+}
+
+/// Stops a predictor at a residual, once it has come back so often.
+#[derive(Clone, Copy, Drop)]
+pub(crate) struct StopAt {
+    pub(crate) predictor: u32,
+    pub(crate) nth: u64,
+    pub(crate) turn: u64,
+}
+
+impl Gate for StopAt {
+    ghost may_stop = { λ s q n. (q == s.predictor) && (n == s.nth) };
+
+    fn pass(&self, predictor: u32, nth: u64, turn: u64) -> bool {
+        predictor != self.predictor || nth != self.nth || turn < self.turn
+    }
+}
+
+/// Holds the first residual of predictor 0 until the second of predictor 1 was asked for; or stops it, where that takes too long.
+#[derive(Drop)]
+pub(crate) struct FirstWaits {
+    second: AtomicBool,
+}
+
+impl FirstWaits {
+    pub(crate) fn new() -> FirstWaits {
+        FirstWaits {
+            second: AtomicBool::new(false),
+        }
+    }
+}
+
+impl Gate for FirstWaits {
+    ghost may_stop = { λ _ q n. (q == 0) && (n == 0) };
+
+    fn pass(&self, predictor: u32, nth: u64, _turn: u64) -> bool {
+        if predictor == 1 && nth == 1 {
+            self.second.store(true, Ordering::SeqCst);
+        }
+        predictor != 0 || nth != 0 || is_set_in_time(&self.second)
+    }
+}
+
+/// Holds the second residual of each of two predictors until that of the other was asked for; or stops it, where that takes too long.
+#[derive(Drop)]
+pub(crate) struct Meeting {
+    first: AtomicBool,
+    second: AtomicBool,
+}
+
+impl Meeting {
+    pub(crate) fn new() -> Meeting {
+        Meeting {
+            first: AtomicBool::new(false),
+            second: AtomicBool::new(false),
+        }
+    }
+
+    /// Whether both predictors have come.
+    pub(crate) fn took_place(&self) -> bool {
+        self.first.load(Ordering::SeqCst) && self.second.load(Ordering::SeqCst)
+    }
+}
+
+impl Gate for Meeting {
+    ghost may_stop = { λ _ _ n. n == 1 };
+
+    fn pass(&self, predictor: u32, nth: u64, _turn: u64) -> bool {
+        if nth != 1 {
+            return true;
+        }
+        let (own, other) = if predictor == 0 {
+            (&self.first, &self.second)
+        } else {
+            (&self.second, &self.first)
+        };
+        own.store(true, Ordering::SeqCst);
+        is_set_in_time(other)
+    }
+}
+
+/// Looks at a flag until it is set, but not for ever.
+fn is_set_in_time(flag: &AtomicBool) -> bool {
+    for _ in 0..MOST_LOOKS {
+        if flag.load(Ordering::SeqCst) {
+            return true;
+        }
+        thread::yield_now();
+    }
+    false
 }

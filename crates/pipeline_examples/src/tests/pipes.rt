@@ -1,6 +1,6 @@
 //! What predictors in threads make of cube A.
 
-use super::cubes::{by_blocks, by_one, by_samples, params_of, piped};
+use super::cubes::{BY_PIXEL, by_blocks, by_one, by_samples, params_of, piped};
 use coder_pipe::OpenGate;
 use cube_core::order::Order;
 use std::process::Abort;
@@ -8,19 +8,13 @@ use std::sync::Wait;
 use std::test::Fail;
 use std::thread::Threads;
 
-/// Interleaved by pixel.
-const FILE: [u8; 26] = [
-    0x00, 0x00, 0x03, 0x00, 0x02, 0x00, 0x02, 0x10, 0x00, 0x02, 0x08, 0x00, 0x04, 0x20, 0x92, 0x59,
-    0x00, 0x82, 0x26, 0x37, 0x14, 0xB9, 0xDA, 0x8C, 0x97, 0x60,
-];
-
 /// A predictor for each band, by one slot and by many.
 #[test]
 fn a_band_each(rt: HostRuntime) -> Result<(), Fail> {
     let params = params_of(&rt, Order::Bi(2), by_samples());
     for slots in [1, 2, 8, 1024] {
         let made = piped(&rt, rt.alloc(), &params, 2, &[0, 1], slots, &OpenGate)?;
-        assert_eq!(rt; made.file.as_slice(), FILE.as_slice());
+        assert_eq!(rt; made.file.as_slice(), BY_PIXEL.as_slice());
         assert_eq!(rt; made.lanes.len(), 2);
         for lane in &made.lanes {
             assert_eq!(rt; lane.sent_count(), 6);
@@ -35,7 +29,7 @@ fn a_band_each(rt: HostRuntime) -> Result<(), Fail> {
 fn all_bands_to_one(rt: HostRuntime) -> Result<(), Fail> {
     let params = params_of(&rt, Order::Bi(2), by_samples());
     let made = piped(&rt, rt.alloc(), &params, 2, &[0, 0], 1, &OpenGate)?;
-    assert_eq!(rt; made.file.as_slice(), FILE.as_slice());
+    assert_eq!(rt; made.file.as_slice(), BY_PIXEL.as_slice());
     assert_eq!(rt; made.lanes.len(), 2);
     assert_eq!(rt; made.lanes[0].sent_count(), 12);
     assert_eq!(rt; made.lanes[1].sent_count(), 0);
@@ -47,7 +41,7 @@ fn all_bands_to_one(rt: HostRuntime) -> Result<(), Fail> {
 fn all_bands_to_the_last_of_64(rt: HostRuntime) -> Result<(), Fail> {
     let params = params_of(&rt, Order::Bi(2), by_samples());
     let made = piped(&rt, rt.alloc(), &params, 64, &[63, 63], 1, &OpenGate)?;
-    assert_eq!(rt; made.file.as_slice(), FILE.as_slice());
+    assert_eq!(rt; made.file.as_slice(), BY_PIXEL.as_slice());
     assert_eq!(rt; made.lanes.len(), 64);
     for lane in made.lanes.iter().take(63) {
         assert_eq!(rt; lane.sent_count(), 0);

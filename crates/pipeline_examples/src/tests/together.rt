@@ -1,0 +1,32 @@
+//! That predictors run beside each other: gates at which one of them waits for what another does.
+
+use super::cubes::{BY_PIXEL, by_samples, compressed, params_of, piped};
+use super::gates::{FirstWaits, Meeting};
+use cube_core::order::Order;
+use std::test::Fail;
+
+/// Predictor 0 may send its first residual only once predictor 1 wants to send its second.
+#[test]
+fn gate_first_waits_for_second(rt: HostRuntime) -> Result<(), Fail> {
+    let params = params_of(&rt, Order::Bi(2), by_samples());
+    let made = piped(&rt, rt.alloc(), &params, 2, &[0, 1], 1, &FirstWaits::new())?;
+    assert_eq!(rt; made.file.as_slice(), BY_PIXEL.as_slice());
+    let file = compressed(&rt, rt.alloc(), params, 1, &FirstWaits::new())?;
+    assert_eq!(rt; file.as_slice(), BY_PIXEL.as_slice());
+    Ok(())
+}
+
+/// Each of two predictors may send its second residual only once the other wants to send its own.
+#[test]
+fn gates_meet(rt: HostRuntime) -> Result<(), Fail> {
+    let params = params_of(&rt, Order::Bi(2), by_samples());
+    let meeting = Meeting::new();
+    let made = piped(&rt, rt.alloc(), &params, 2, &[0, 1], 1, &meeting)?;
+    assert_eq!(rt; made.file.as_slice(), BY_PIXEL.as_slice());
+    assert!(rt; meeting.took_place());
+    let meeting = Meeting::new();
+    let file = compressed(&rt, rt.alloc(), params, 1, &meeting)?;
+    assert_eq!(rt; file.as_slice(), BY_PIXEL.as_slice());
+    assert!(rt; meeting.took_place());
+    Ok(())
+}

@@ -1,0 +1,54 @@
+//! Whole lists, woven by the coding end of predictors.
+
+ghost use Rattle.std.specs.Prelude.{◌≡◌, ◌<◌};
+
+use coder_pipe::plan::Plan;
+use coder_pipe::weaver::Weaver;
+use cube_core::fault::Fault;
+use std::alloc::Global;
+use std::process::Abort;
+
+/// What became of lists that were woven.
+#[derive(Drop)]
+pub(crate) struct Woven {
+    /// The predictors that were wanted, in order.
+    pub(crate) wanted: Vec<u32>,
+    pub(crate) file: Vec<u8>,
+}
+
+/// Weaves a list of each predictor, of residuals of eight bits, by what the coding end wants; it then wants nobody.
+pub(crate) fn weave_all(
+    rt: &impl Abort,
+    alloc: Global,
+    plan: &Plan,
+    lists: &[Vec<u16>],
+) -> Result<Woven, Fault>
+    requires { plan.now.params.kind.bits ≡ 8 }
+{
+    plan.is_plan();
+    let mut weaver = Weaver::new(alloc, plan.params(), plan)?;
+    let mut wanted = Vec::new(alloc);
+    for place in 0..plan.params().shape.sample_count() {
+        let _place = place;
+        let predictor = weaver.wants().expect(rt, "a predictor that is wanted");
+        let residual = next_of(rt, lists, predictor, &wanted);
+        weaver.take(residual)?;
+        wanted.push(predictor)?;
+    }
+    assert_eq!(rt; weaver.wants(), None);
+    Ok(Woven {
+        wanted,
+        file: weaver.finish()?,
+    })
+}
+
+/// The number of a predictor's list that comes next, once it was wanted as often as it was.
+fn next_of(rt: &impl Abort, lists: &[Vec<u16>], predictor: u32, wanted: &[u32]) -> u16
+    ensures { result < 256 }
+{
+    let before = wanted.iter().filter(|q| **q == predictor).count();
+    let list = lists.get(predictor as usize).expect(rt, "a list");
+    let residual = *list.get(before).expect(rt, "a residual");
+    assert!(rt; residual < 256);
+    residual
+}

@@ -1,0 +1,139 @@
+//! The pipeline beside a plain form of it: each predictor fills a whole list, and the lists are woven once all of them are there.
+
+ghost use Rattle.std.specs.Prelude.{◌≡◌, ◌<◌};
+ghost use Rattle.coder_pipe.specs.Sends.{IsSeen};
+
+use super::cubes::{by_blocks, by_samples, params_of, plan_and_cube};
+use super::weaving::weave_all;
+use coder_pipe::OpenGate;
+use coder_pipe::encode_predicted::encode_predicted;
+use coder_pipe::plan::Plan;
+use cube_core::cube::Cube;
+use cube_core::cursor::Places;
+use cube_core::fault::Fault;
+use cube_core::order::{Order, Place};
+use predict_core::band::Band;
+use std::alloc::Global;
+use std::process::Abort;
+use std::test::Fail;
+use std::thread;
+use std::thread::Threads;
+
+/// A predictor of an image of two bands, and the list that it fills.
+#[derive(Drop)]
+struct Job<'a> {
+    cube: &'a Cube,
+    plan: &'a Plan,
+    predictor: u32,
+    first: Band,
+    second: Band,
+    list: Vec<u16>,
+    ghost two_bands: { cube.now.shape.bands ≡ 2 },
+    ghost first_is: { (first.shape ≡ cube.now.shape) × (first.kind ≡ cube.now.kind) × (first.band ≡ 0) },
+    ghost second_is: { (second.shape ≡ cube.now.shape) × (second.kind ≡ cube.now.kind) × (second.band ≡ 1) },
+}
+
+/// A job for each predictor, with a list that has room for all residuals.
+fn jobs<'a>(alloc: Global, cube: &'a Cube, plan: &'a Plan) -> Result<Vec<Job<'a>>, Fault>
+    requires seen { IsSeen plan.now.params cube.now }
+    requires bands { plan.now.params.shape.bands ≡ 2 }
+{
+    plan.is_plan();
+    let params = plan.params();
+    let mut jobs = Vec::new(alloc);
+    for predictor in 0..plan.predictors() {
+        jobs.push(Job {
+            cube,
+            plan,
+            predictor,
+            first: Band::new(alloc, params, 0)?,
+            second: Band::new(alloc, params, 1)?,
+            list: Vec::with_capacity(alloc, ALL)?,
+        })?;
+    }
+    Ok(jobs)
+}
+
+/// How many residuals there are.
+const ALL: usize = 12;
+
+/// A predictor's list, filled.
+fn filled<R: Abort>(rt: &R, job: Job<'_>) -> Vec<u16> {
+    let Job {
+        cube,
+        plan,
+        predictor,
+        mut first,
+        mut second,
+        mut list,
+    } = job;
+    plan.is_plan();
+    for place in Places::new(plan.params().shape, plan.params().order) {
+        let residual = if place.z == 0 {
+            residual_at(rt, cube, &mut first, place)
+        } else {
+            residual_at(rt, cube, &mut second, place)
+        };
+        let owner = *plan
+            .deal()
+            .get(place.z as usize)
+            .expect(rt, "a band that is dealt");
+        if u32::from(owner) == predictor {
+            list.push(residual).expect(rt, "room for all residuals");
+        }
+    }
+    list
+}
+
+/// The residual of a band at the place that comes next.
+fn residual_at(rt: &impl Abort, cube: &Cube, band: &mut Band, place: Place) -> u16
+    requires seen { (cube.now.shape ≡ band.old.shape) × (cube.now.kind ≡ band.old.kind) }
+    requires band { band.old.band < cube.now.shape.bands }
+    ensures { (band.new.shape ≡ band.old.shape) × (band.new.kind ≡ band.old.kind) × (band.new.band ≡ band.old.band) }
+{
+    let shape = cube.shape();
+    assert!(rt; place.y < shape.rows() && place.x < shape.columns());
+    let next = u64::from(place.y) * u64::from(shape.columns()) + u64::from(place.x);
+    assert!(rt; band.next() == next);
+    band.forward(cube, place.y, place.x)
+}
+
+/// The file, and the length of each list.
+fn by_whole_lists<R: Threads + Sync + Abort>(
+    rt: &R,
+    alloc: Global,
+    cube: &Cube,
+    plan: &Plan,
+) -> Result<(Vec<u8>, Vec<u64>), Fault>
+    requires seen { IsSeen plan.now.params cube.now }
+    requires bands { (plan.now.params.shape.bands ≡ 2) × (plan.now.params.kind.bits ≡ 8) }
+{
+    let lists = thread::map_vec(rt, jobs(alloc, cube, plan)?, &|job| filled(rt, job))?;
+    let mut lengths = Vec::new(alloc);
+    for list in &lists {
+        lengths.push(list.len() as u64)?;
+    }
+    Ok((weave_all(rt, alloc, plan, &lists)?.file, lengths))
+}
+
+/// The same file, and as many residuals of each predictor.
+#[test]
+fn as_whole_lists(rt: HostRuntime) -> Result<(), Fail> {
+    for order in [Order::Bsq, Order::Bi(1), Order::Bi(2)] {
+        for coder in [by_samples(), by_blocks()] {
+            let params = params_of(&rt, order, coder);
+            for (predictors, deal) in [(2, [0, 1]), (2, [0, 0]), (64, [63, 63]), (64, [40, 7])] {
+                let (plan, cube) = plan_and_cube(&rt, rt.alloc(), &params, predictors, &deal, 1)?;
+                let (file, lengths) = by_whole_lists(&rt, rt.alloc(), &cube, &plan)?;
+                let made = encode_predicted(&rt, rt.alloc(), &cube, &plan, &OpenGate)?;
+                assert_eq!(rt; made.file, file);
+                assert_eq!(rt; made.lanes.len(), lengths.len());
+                for (lane, length) in made.lanes.iter().zip(&lengths) {
+                    assert_eq!(rt; lane.sent_count(), *length);
+                    assert_eq!(rt; lane.received_count(), *length);
+                }
+            }
+        }
+    }
+    Ok(())
+}
