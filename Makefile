@@ -16,11 +16,12 @@ install: all
 	install -D $(PROGRAM) $(DESTDIR)$(PREFIX)/bin/ccsds
 
 # Proves every crate from nothing, tries the must-fail edits, and runs the tests and the program; then tries the
-# program that was proved on files and devices, on all its options, and on damaged files.
+# program that was proved on files and devices, on all its options, with predictors in threads, and on damaged files.
 test:
 	rt ci
 	tests/command.sh
 	tests/options.py
+	tests/pipelines.py
 	tests/fuzz
 
 # Sets our block-adaptive bodies beside those of libaec's program `aec`, both ways.
