@@ -117,6 +117,16 @@ check 'show' 0 '' $?
 printf '%s\n' "$file" > text
 same 'show' text shown
 
+# ---- a cube of two bands, by a predictor for each of them, in threads of their own
+
+printf 'dfiehgnospqr' > cube
+both='--columns 3 --rows=2 --bands 2 --bits 8 --bytes 1 --previous 1 --register 32 --order bi --depth 2'
+by_pixel=000003000200021000020800042092590082263714b9da8c9760
+for shared in '' '--predictors 2' '--predictors 2 --slots 1' '--predictors 64 --slots 65536'; do
+    run "two bands: $shared" 0 '' compress $both $shared cube woven
+    holds "two bands: $shared" woven "$by_pixel"
+done
+
 # ---- refused input leaves OUT empty
 
 printf '\xc8' > short
@@ -250,6 +260,36 @@ for coder in sample block; do
         if [ "$whole_runs" -eq 0 ] || [ "$refused_runs" -eq 0 ]; then
             complain "$command by $coder: memory was always or never refused"
         fi
+    done
+done
+
+# ---- a thread that isn't started: those that were are joined, and OUT is empty
+
+# Runs the program with room for so many stacks of threads.
+with_stacks() {
+    local name=$1 stacks=$2 status=$3 line=$4
+    shift 4
+    (
+        ulimit -S -s 65536 && ulimit -v $((32768 + 65536 * stacks)) || exit 126
+        exec "$program" "$@" > stdout 2> stderr < /dev/null
+    )
+    check "$name" "$status" "$line" $?
+}
+
+refused=$'ccsds: 16 SpawnRefused\n'
+run 'a scene is compressed' 0 '' compress $words scene wanted
+for slots in 1 65536; do
+    for stacks in 0 1 2; do
+        for predictors in 1 2 3; do
+            name="$predictors predictors with $slots slots, $stacks started"
+            if [ "$predictors" -le "$stacks" ]; then
+                with_stacks "$name" "$stacks" 0 '' compress $words --predictors $predictors --slots $slots scene out
+                same "$name" out wanted
+            else
+                with_stacks "$name" "$stacks" 3 "$refused" compress $words --predictors $predictors --slots $slots scene out
+                holds "$name" out ''
+            fi
+        done
     done
 done
 

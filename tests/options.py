@@ -16,14 +16,16 @@ import sys
 import tempfile
 
 TOP = os.path.dirname(os.path.dirname(os.path.abspath(__file__)))
-PROGRAM = os.path.realpath(sys.argv[1] if len(sys.argv) > 1 else os.path.join(TOP, "crates", "ccsds", "out", "ccsds"))
+PROGRAM = os.path.join(TOP, "crates", "ccsds", "out", "ccsds")
+LIMIT = 120
+"""The most seconds that a run may take."""
 
 
 class Room:
     """A folder, the program over its files, and what has passed."""
 
-    def __init__(self, folder):
-        self.folder, self.passed, self.failed = folder, 0, 0
+    def __init__(self, folder, program):
+        self.folder, self.program, self.passed, self.failed = folder, os.path.realpath(program), 0, 0
 
     def path(self, name):
         return os.path.join(self.folder, name)
@@ -36,10 +38,16 @@ class Room:
         with open(self.path(name), "wb") as file:
             file.write(data)
 
-    def run(self, *words, given=b"", limit=None):
-        """The status, the output and the line on standard error of a run."""
-        bound = (lambda: resource.setrlimit(resource.RLIMIT_AS, (limit, limit))) if limit else None
-        ran = subprocess.run([PROGRAM, *map(str, words)], input=given, capture_output=True, cwd=self.folder, preexec_fn=bound, check=False)
+    def run(self, *words, given=b"", limit=None, processors=None):
+        """The status, the output and the line on standard error of a run, in so much memory, and on these processors."""
+
+        def bound():
+            if limit:
+                resource.setrlimit(resource.RLIMIT_AS, (limit, limit))
+            if processors:
+                os.sched_setaffinity(0, processors)
+
+        ran = subprocess.run([self.program, *map(str, words)], input=given, capture_output=True, cwd=self.folder, preexec_fn=bound, timeout=LIMIT, check=False)
         return ran.returncode, ran.stdout, ran.stderr.decode()
 
     def hold(self, name, found, wanted):
@@ -236,7 +244,7 @@ def refusals(room):
 
 def main():
     with tempfile.TemporaryDirectory() as folder:
-        room = Room(folder)
+        room = Room(folder, sys.argv[1] if len(sys.argv) > 1 else PROGRAM)
         for part in (layouts, options, predictors, great_sizes, refusals):
             part(room)
     print(f"options.py: {room.passed} passed, {room.failed} failed")

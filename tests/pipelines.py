@@ -1,0 +1,141 @@
+#!/usr/bin/env python3
+"""Holds the built program, with predictors in threads, to what it does on one thread.
+
+    tests/pipelines.py [SEED [COUNT [PROGRAM]]]
+
+SEED alone decides COUNT sets of lawful parameters and raw bytes for each. By each number of predictors and slots that is drawn, `compress` has
+to end as it does without predictors, with the same bytes in OUT, and `expand` has to give the raw bytes back; on two processors every other
+time. Some raw bytes are too few, too many or out of range: these are refused alike. Left out, SEED is 1 and COUNT 200.
+"""
+
+import os
+import random
+import sys
+import tempfile
+
+sys.dont_write_bytecode = True
+from options import LAYOUTS, PROGRAM, Room, raw_bytes
+
+SLOTS = (1, 2, 8, 1024, 65_536)
+RUNS = 3
+"""How many numbers of predictors and slots are drawn for each set of parameters."""
+PROCESSORS = set(sorted(os.sched_getaffinity(0))[:2])
+
+
+# ---- parameters
+
+
+def shape_of(chance):
+    """Columns, rows and bands; mostly few, at times many of one of them."""
+    shape = [chance.randint(1, 9) for _ in range(3)]
+    if chance.random() < 0.3:
+        shape[chance.randrange(3)] = chance.randint(10, 300)
+    return shape
+
+
+def flag(chance, word, often=0.5):
+    return [word] if chance.random() < often else []
+
+
+def file_words(chance, bands):
+    """What the file as a whole is like: its order, its words, a byte of the user's own."""
+    words = ["--user", chance.randrange(256), "--word", chance.randint(1, 8)]
+    if chance.random() < 0.7:
+        depth = chance.choice((1, bands, chance.randint(1, bands)))
+        words += ["--order", "bi", "--depth", depth]
+    return words
+
+
+def predictor_words(chance, columns, bits):
+    """Mode, sums, register and weights. One column asks for reduced mode and column-oriented sums."""
+    often = 1 if columns == 1 else 0.5
+    omega = chance.randint(4, 19)
+    least, greatest = sorted(chance.randint(0, 15) for _ in range(2))
+    words = [*flag(chance, "--reduced", often), *flag(chance, "--column-sums", often), "--previous", chance.choice((0, 1, 2, 3, 15))]
+    words += ["--omega", omega, "--register", chance.choice((max(32, bits + omega + 2), chance.randint(40, 64)))]
+    return words + ["--interval-log", chance.randint(4, 11), "--vmin-code", least, "--vmax-code", greatest]
+
+
+def coder_words(chance, bits):
+    """Either entropy coder."""
+    k = ["--k", chance.randint(0, min(14, bits - 2))]
+    if chance.random() < 0.5:
+        return ["--coder", "block", "--block", chance.choice((8, 16, 32, 64)), "--reference", chance.choice((1, 2, 64, 4096)), *k]
+    zero = chance.randint(1, 8)
+    star = chance.randint(max(4, zero + 1), 9)
+    return ["--umax", chance.randint(8, 32), "--gamma-star", star, "--gamma-zero", zero, *k]
+
+
+# ---- raw bytes
+
+
+def samples_of(chance, count, low, high):
+    """Samples of one kind each time: any, a slow walk, or all alike."""
+    form, found, value = chance.choice(("any", "walk", "alike")), [], chance.randint(low, high)
+    step = max(1, (high - low) // 50)
+    for _ in range(count):
+        if form == "any":
+            value = chance.randint(low, high)
+        elif form == "walk":
+            value = min(high, max(low, value + chance.randint(-step, step)))
+        found.append(value)
+    return found
+
+
+def damaged(chance, raw):
+    """Raw bytes that may be too few, too many, or out of range."""
+    slip = chance.choice(("short", "long", "any"))
+    if slip == "short":
+        return raw[: chance.randrange(len(raw))]
+    if slip == "long":
+        return raw + chance.randbytes(chance.randint(1, 9))
+    return chance.randbytes(len(raw))
+
+
+# ---- runs
+
+
+def hold_set(room, chance, name):
+    """Draws parameters and raw bytes, and holds all runs on them to the one without predictors."""
+    columns, rows, bands = shape = shape_of(chance)
+    bits, signed = chance.randint(2, 16), chance.random() < 0.5
+    low = -(1 << bits - 1) if signed else 0
+    size = 1 if bits <= 8 and chance.random() < 0.5 else 2
+    layout, little = chance.choice(list(LAYOUTS)), chance.random() < 0.5
+    samples = samples_of(chance, columns * rows * bands, low, low + (1 << bits) - 1)
+    raw = raw_bytes(samples, shape, layout, size, little, signed)
+    sound = chance.random() < 0.9
+    if not sound:
+        raw = damaged(chance, raw)
+    laid = ["--layout", layout, "--bytes", size, *(["--little"] if little else [])]
+    words = ["--columns", columns, "--rows", rows, "--bands", bands, "--bits", bits, *(["--signed"] if signed else []), *laid]
+    words += file_words(chance, bands) + predictor_words(chance, columns, bits) + coder_words(chance, bits)
+    room.write("raw", raw)
+    ended = room.run("compress", *words, "raw", "file")
+    name = f"{name}: {' '.join(map(str, words))}"
+    if sound:
+        room.hold(f"{name}: compressed", ended, (0, b"", ""))
+    else:
+        room.hold(f"{name}: compressed or refused", ended[0] in (0, 2), True)
+    if ended[0] == 0:
+        room.hold(f"{name}: expanded", room.run("expand", *laid, "file", "back"), (0, b"", ""))
+        room.hold(f"{name}: expanded to its bytes", room.read("back") == raw, True)
+    for turn in range(RUNS):
+        shared = ["--predictors", chance.choice((1, 2, 3, 64, chance.randint(1, 64))), "--slots", chance.choice(SLOTS)]
+        found = room.run("compress", *words, *shared, "raw", "other", processors=PROCESSORS if turn % 2 else None)
+        room.hold(f"{name} {' '.join(map(str, shared))}", found, ended)
+        room.hold(f"{name} {' '.join(map(str, shared))}: one file", room.read("other") == room.read("file"), True)
+    return ended[0]
+
+
+def main():
+    seed, count = (int(word) for word in (sys.argv[1:3] + ["1", "200"][len(sys.argv[1:3]) :]))
+    with tempfile.TemporaryDirectory() as folder:
+        room = Room(folder, sys.argv[3] if len(sys.argv) > 3 else PROGRAM)
+        ends = [hold_set(room, random.Random(f"{seed} {i}"), f"set {i}") for i in range(count)]
+    print(f"pipelines.py: {ends.count(0)} of {count} sets compressed, {ends.count(2)} refused; {room.passed} passed, {room.failed} failed")
+    return 1 if room.failed else 0
+
+
+if __name__ == "__main__":
+    sys.exit(main())
