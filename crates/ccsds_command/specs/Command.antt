@@ -1,11 +1,12 @@
 -- What the run of a command promises, whichever it is: what its engine does.
-use Rattle.std.specs.Prelude.{◌⊎◌, false, ℕ, List, Option, Some, None, string_bytes, ⊤, Result, OnOk, IfErr}
+use Rattle.std.specs.Prelude.{◌≡◌, ◌⊎◌, false, ℕ, List, Option, Some, None, string_bytes, ⊤, Result, OnOk, IfErr}
 use Rattle.cube_core.specs.declared.fault.Fault.{Fault}
 use Rattle.cube_core.specs.Layout.{IsLayout}
 use Rattle.header_bits.specs.declared.params.Params.{Params}
 use Rattle.command_settings.specs.declared.settings.Settings.{Settings}
 use Rattle.command_settings.specs.declared.settings.Settings.TheVariants.{Show, Compress, Expand, Inspect}
-use Rattle.command_devices.specs.Reading.{file_limit}
+use Rattle.command_devices.specs.Reading.{ToldAsRead, file_limit}
+use Rattle.command_devices.specs.Writing.{ToldAsWrite}
 use Rattle.ccsds_command.specs.Compress.{Compresses, IsCompressFault, raw_limit}
 use Rattle.ccsds_command.specs.Expand.{Expands, IsExpandFault}
 use Rattle.ccsds_command.specs.Inspect.{Inspects, IsInspectFault}
@@ -63,8 +64,11 @@ limit_of (Compress settings from to) = λ _. raw_limit settings
 limit_of (Expand layout from to) = λ _. file_limit
 limit_of Inspect = λ _. file_limit
 
--- between a source and a sink a command did what it is to do, or was refused for a reason of its own
+-- between a source and a sink a command did what it is to do, and neither failed; or it was refused for a reason of its own, which tells what failed
 abbrev pub Ran : {U : Type 0} → Settings → Option (List ℕ) → ℕ → ℕ → Option (List ℕ) → Option (List ℕ) → ℕ → ℕ → ℕ → ℕ → Result U Fault → Type 0
 Ran settings left read_failures read_failures_now old new failures failures_now stalls stalls_now answer =
     OnOk answer (Does settings left old new)
     × IfErr answer (IsFaultOf settings left read_failures read_failures_now old new failures failures_now stalls stalls_now)
+    × OnOk answer ((read_failures_now ≡ read_failures) × (failures_now ≡ failures) × (stalls_now ≡ stalls))
+    × IfErr answer (ToldAsRead read_failures read_failures_now)
+    × IfErr answer (ToldAsWrite failures failures_now stalls stalls_now)

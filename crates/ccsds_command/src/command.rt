@@ -7,6 +7,8 @@ ghost use Rattle.header_bits.specs.declared.params.Params.{Params as Parameters}
 ghost use Rattle.header_bits.specs.Reach.{here};
 ghost use Rattle.header_bits.specs.Lawful.{params_fault};
 ghost use Rattle.command_devices.specs.Devices.{GaveWithin};
+ghost use Rattle.command_devices.specs.Reading.{ToldAsRead};
+ghost use Rattle.command_devices.specs.Writing.{IsWrite};
 ghost use Rattle.ccsds_command.specs.Command.{Does, HasLayout, IsFaultOf, Ran, judged, limit_of, name_in, name_out};
 
 use crate::compress::run_compress;
@@ -90,6 +92,9 @@ pub fn run_between<R: Threads + Wait + Sync, S: Source, K: Sink>(
     ensures checked { (p : Parameters) (fault : Refusal) → judged settings.now ≡ Some p → params_fault here p ≡ Err fault → (result ≡ Err fault) × (source.new ≡ source.old) × (sink.new ≡ sink.old) }
     ensures done { OnOk result (Does settings.now (S.left source.old) (K.taken sink.old) (K.taken sink.new)) }
     ensures refused { IfErr result (IsFaultOf settings.now (S.left source.old) (S.failures source.old) (S.failures source.new) (K.taken sink.old) (K.taken sink.new) (K.failures sink.old) (K.failures sink.new) (K.stalls sink.old) (K.stalls sink.new)) }
+    ensures worked { OnOk result ((S.failures source.new ≡ S.failures source.old) × (K.failures sink.new ≡ K.failures sink.old) × (K.stalls sink.new ≡ K.stalls sink.old)) }
+    ensures told { IfErr result (ToldAsRead (S.failures source.old) (S.failures source.new)) }
+    ensures unwritten { IfErr result (λ e. IsWrite e ⊎ (sink.new ≡ sink.old)) }
     ensures bounded { GaveWithin (limit_of settings.now) (S.left source.old) (S.left source.new) }
 {
     match settings {

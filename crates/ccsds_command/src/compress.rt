@@ -1,12 +1,14 @@
 //! A cube's raw bytes in, its file out.
 
-ghost use Rattle.std.specs.Prelude.{◌≡◌, IfOk, IfErr, OnOk, Err};
+ghost use Rattle.std.specs.Prelude.{◌≡◌, ◌⊎◌, IfOk, IfErr, OnOk, Err};
 ghost use Rattle.cube_core.specs.declared.fault.Fault.{Fault as Refusal};
 ghost use Rattle.cube_core.specs.Layout.{IsLayout};
 ghost use Rattle.header_bits.specs.Reach.{here};
 ghost use Rattle.header_bits.specs.Lawful.{IsLawful, params_fault};
 ghost use Rattle.ccsds_command.specs.Compress.{Compresses, IsCompressFault, IsCubeRefusal, HasCube, HasFile, raw_limit};
 ghost use Rattle.command_devices.specs.Devices.{GaveWithin};
+ghost use Rattle.command_devices.specs.Reading.{ToldAsRead};
+ghost use Rattle.command_devices.specs.Writing.{IsWrite};
 
 use coder_pipe::encode::encode_one;
 use command_devices::reading::read_up_to;
@@ -35,6 +37,9 @@ pub fn run_compress<S: Source, K: Sink>(
     ensures checked { (fault : Refusal) → params_fault here settings.now.params ≡ Err fault → (result ≡ Err fault) × (source.new ≡ source.old) × (sink.new ≡ sink.old) }
     ensures compressed { OnOk result (Compresses settings.now (S.left source.old) (K.taken sink.old) (K.taken sink.new)) }
     ensures refused { IfErr result (IsCompressFault settings.now (S.left source.old) (S.failures source.old) (S.failures source.new) (K.taken sink.old) (K.taken sink.new) (K.failures sink.old) (K.failures sink.new) (K.stalls sink.old) (K.stalls sink.new)) }
+    ensures worked { OnOk result ((S.failures source.new ≡ S.failures source.old) × (K.failures sink.new ≡ K.failures sink.old) × (K.stalls sink.new ≡ K.stalls sink.old)) }
+    ensures told { IfErr result (ToldAsRead (S.failures source.old) (S.failures source.new)) }
+    ensures unwritten { IfErr result (λ e. IsWrite e ⊎ (sink.new ≡ sink.old)) }
     ensures bounded { GaveWithin (λ _. raw_limit settings.now) (S.left source.old) (S.left source.new) }
 {
     settings.params.check()?;
@@ -52,6 +57,8 @@ fn file_of_source<S: Source>(
     requires layout { IsLayout settings.now.layout }
     ensures file { IfOk result (λ file. HasFile settings.now (S.left source.old) file.items) }
     ensures refused { IfErr result (IsCubeRefusal settings.now (S.left source.old) (S.failures source.old) (S.failures source.new)) }
+    ensures worked { OnOk result (S.failures source.new ≡ S.failures source.old) }
+    ensures told { IfErr result (ToldAsRead (S.failures source.old) (S.failures source.new)) }
     ensures bounded { GaveWithin (λ _. raw_limit settings.now) (S.left source.old) (S.left source.new) }
 {
     let cube = read_cube(alloc, source, settings)?;
@@ -67,6 +74,8 @@ pub(crate) fn read_cube<S: Source>(
     requires { IsLayout settings.now.layout }
     ensures cube { IfOk result (HasCube settings.now (S.left source.old)) }
     ensures refused { IfErr result (IsCubeRefusal settings.now (S.left source.old) (S.failures source.old) (S.failures source.new)) }
+    ensures worked { OnOk result (S.failures source.new ≡ S.failures source.old) }
+    ensures told { IfErr result (ToldAsRead (S.failures source.old) (S.failures source.new)) }
     ensures bounded { GaveWithin (λ _. raw_limit settings.now) (S.left source.old) (S.left source.new) }
 {
     let params = &settings.params;

@@ -1,10 +1,11 @@
 //! A file in, its cube's raw bytes out.
 
-ghost use Rattle.std.specs.Prelude.{◌⊎◌, IfOk, IfErr, OnOk};
+ghost use Rattle.std.specs.Prelude.{◌≡◌, ◌⊎◌, IfOk, IfErr, OnOk};
 ghost use Rattle.cube_core.specs.Layout.{IsLayout};
 ghost use Rattle.ccsds_command.specs.Expand.{Expands, HasFileOf, HasNoFile, HasRaw, IsExpandFault, IsExpandRefusal};
-ghost use Rattle.command_devices.specs.Reading.{IsReadRefusal, file_limit};
+ghost use Rattle.command_devices.specs.Reading.{IsReadRefusal, ToldAsRead, file_limit};
 ghost use Rattle.command_devices.specs.Devices.{GaveWithin};
+ghost use Rattle.command_devices.specs.Writing.{IsWrite};
 
 use coder_pipe::decode::decode;
 use command_devices::reading::read_file;
@@ -31,6 +32,9 @@ pub fn run_expand<S: Source, K: Sink>(
     requires { IsLayout layout.now }
     ensures expanded { OnOk result (Expands layout.now (S.left source.old) (K.taken sink.old) (K.taken sink.new)) }
     ensures refused { IfErr result (IsExpandFault layout.now (S.left source.old) (S.failures source.old) (S.failures source.new) (K.taken sink.old) (K.taken sink.new) (K.failures sink.old) (K.failures sink.new) (K.stalls sink.old) (K.stalls sink.new)) }
+    ensures worked { OnOk result ((S.failures source.new ≡ S.failures source.old) × (K.failures sink.new ≡ K.failures sink.old) × (K.stalls sink.new ≡ K.stalls sink.old)) }
+    ensures told { IfErr result (ToldAsRead (S.failures source.old) (S.failures source.new)) }
+    ensures unwritten { IfErr result (λ e. IsWrite e ⊎ (sink.new ≡ sink.old)) }
     ensures bounded { GaveWithin (λ _. file_limit) (S.left source.old) (S.left source.new) }
 {
     let raw = raw_of_source(alloc, source, *layout)?;
@@ -42,6 +46,8 @@ fn raw_of_source<S: Source>(alloc: Global, source: &mut S, layout: Layout) -> Re
     requires { IsLayout layout }
     ensures raw { IfOk result (λ raw. HasRaw layout (S.left source.old) raw.items) }
     ensures refused { IfErr result (IsExpandRefusal layout (S.left source.old) (S.failures source.old) (S.failures source.new)) }
+    ensures worked { OnOk result (S.failures source.new ≡ S.failures source.old) }
+    ensures told { IfErr result (ToldAsRead (S.failures source.old) (S.failures source.new)) }
     ensures bounded { GaveWithin (λ _. file_limit) (S.left source.old) (S.left source.new) }
 {
     let cube = decoded(alloc, source)?;
@@ -52,6 +58,8 @@ fn raw_of_source<S: Source>(alloc: Global, source: &mut S, layout: Layout) -> Re
 fn decoded<S: Source>(alloc: Global, source: &mut S) -> Result<Cube, Fault>
     ensures cube { IfOk result (HasFileOf (S.left source.old)) }
     ensures refused { IfErr result (λ e. IsReadRefusal (S.left source.old) (S.failures source.old) (S.failures source.new) e ⊎ HasNoFile (S.left source.old) e) }
+    ensures worked { OnOk result (S.failures source.new ≡ S.failures source.old) }
+    ensures told { IfErr result (ToldAsRead (S.failures source.old) (S.failures source.new)) }
     ensures bounded { GaveWithin (λ _. file_limit) (S.left source.old) (S.left source.new) }
 {
     let bytes = read_file(alloc, source)?;

@@ -1,9 +1,10 @@
 //! A file in, its header's fields out as lines of text.
 
-ghost use Rattle.std.specs.Prelude.{◌⊎◌, IfOk, IfErr, OnOk};
+ghost use Rattle.std.specs.Prelude.{◌≡◌, ◌⊎◌, IfOk, IfErr, OnOk};
 ghost use Rattle.header_bits.specs.Reach.{here};
 ghost use Rattle.header_bits.specs.Lawful.{IsLawful};
-ghost use Rattle.command_devices.specs.Reading.{file_limit};
+ghost use Rattle.command_devices.specs.Reading.{ToldAsRead, file_limit};
+ghost use Rattle.command_devices.specs.Writing.{IsWrite};
 ghost use Rattle.ccsds_command.specs.Inspect.{HasHeader, HasLines, Inspects, IsInspectFault, IsInspectRefusal};
 ghost use Rattle.command_devices.specs.Devices.{GaveWithin};
 
@@ -29,6 +30,9 @@ pub fn run_inspect<S: Source, K: Sink>(
 ) -> Result<(), Fault>
     ensures inspected { OnOk result (Inspects (S.left source.old) (K.taken sink.old) (K.taken sink.new)) }
     ensures refused { IfErr result (IsInspectFault (S.left source.old) (S.failures source.old) (S.failures source.new) (K.taken sink.old) (K.taken sink.new) (K.failures sink.old) (K.failures sink.new) (K.stalls sink.old) (K.stalls sink.new)) }
+    ensures worked { OnOk result ((S.failures source.new ≡ S.failures source.old) × (K.failures sink.new ≡ K.failures sink.old) × (K.stalls sink.new ≡ K.stalls sink.old)) }
+    ensures told { IfErr result (ToldAsRead (S.failures source.old) (S.failures source.new)) }
+    ensures unwritten { IfErr result (λ e. IsWrite e ⊎ (sink.new ≡ sink.old)) }
     ensures bounded { GaveWithin (λ _. file_limit) (S.left source.old) (S.left source.new) }
 {
     let text = lines_of_source(alloc, source)?;
@@ -39,6 +43,8 @@ pub fn run_inspect<S: Source, K: Sink>(
 fn lines_of_source<S: Source>(alloc: Global, source: &mut S) -> Result<Vec<u8>, Fault>
     ensures lines { IfOk result (λ text. HasLines (S.left source.old) text.items) }
     ensures refused { IfErr result (IsInspectRefusal (S.left source.old) (S.failures source.old) (S.failures source.new)) }
+    ensures worked { OnOk result (S.failures source.new ≡ S.failures source.old) }
+    ensures told { IfErr result (ToldAsRead (S.failures source.old) (S.failures source.new)) }
     ensures bounded { GaveWithin (λ _. file_limit) (S.left source.old) (S.left source.new) }
 {
     let (params, size) = header_of_source(alloc, source)?;
@@ -50,6 +56,8 @@ fn header_of_source<S: Source>(alloc: Global, source: &mut S) -> Result<(Params,
     ensures header { IfOk result (λ found. HasHeader (S.left source.old) found.0 found.1) }
     ensures lawful { IfOk result (λ found. IsLawful here found.0) }
     ensures refused { IfErr result (IsInspectRefusal (S.left source.old) (S.failures source.old) (S.failures source.new)) }
+    ensures worked { OnOk result (S.failures source.new ≡ S.failures source.old) }
+    ensures told { IfErr result (ToldAsRead (S.failures source.old) (S.failures source.new)) }
     ensures bounded { GaveWithin (λ _. file_limit) (S.left source.old) (S.left source.new) }
 {
     let bytes = read_file(alloc, source)?;

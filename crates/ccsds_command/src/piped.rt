@@ -9,6 +9,8 @@ ghost use Rattle.header_bits.specs.Lawful.{IsLawful, params_fault};
 ghost use Rattle.ccsds_command.specs.Compress.{Compresses, IsCubeRefusal, HasFile, raw_limit};
 ghost use Rattle.ccsds_command.specs.Piped.{EndedEarly, HasNoPlan, IsPipedFault, are_in_range, deal_of, plan_of as planned};
 ghost use Rattle.command_devices.specs.Devices.{GaveWithin};
+ghost use Rattle.command_devices.specs.Reading.{ToldAsRead};
+ghost use Rattle.command_devices.specs.Writing.{IsWrite};
 
 use crate::compress::read_cube;
 use coder_pipe::Gate;
@@ -40,6 +42,9 @@ pub fn run_piped<R: Threads + Wait + Sync, S: Source, K: Sink, G: Gate + Sync>(
     ensures checked { (fault : Refusal) → params_fault here settings.now.params ≡ Err fault → (result ≡ Err fault) × (source.new ≡ source.old) × (sink.new ≡ sink.old) }
     ensures compressed { OnOk result (Compresses settings.now (S.left source.old) (K.taken sink.old) (K.taken sink.new)) }
     ensures refused { IfErr result (IsPipedFault G.may_stop gate.now settings.now (S.left source.old) (S.failures source.old) (S.failures source.new) (K.taken sink.old) (K.taken sink.new) (K.failures sink.old) (K.failures sink.new) (K.stalls sink.old) (K.stalls sink.new)) }
+    ensures worked { OnOk result ((S.failures source.new ≡ S.failures source.old) × (K.failures sink.new ≡ K.failures sink.old) × (K.stalls sink.new ≡ K.stalls sink.old)) }
+    ensures told { IfErr result (ToldAsRead (S.failures source.old) (S.failures source.new)) }
+    ensures unwritten { IfErr result (λ e. IsWrite e ⊎ (sink.new ≡ sink.old)) }
     ensures bounded { GaveWithin (λ _. raw_limit settings.now) (S.left source.old) (S.left source.new) }
 {
     settings.params.check()?;
@@ -95,6 +100,8 @@ fn piped_file<R: Threads + Wait + Sync, S: Source, G: Gate + Sync>(
     requires plan { plan.now ≡ planned settings.now }
     ensures file { IfOk result (λ file. HasFile settings.now (S.left source.old) file.items) }
     ensures refused { IfErr result (λ e. IsCubeRefusal settings.now (S.left source.old) (S.failures source.old) (S.failures source.new) e ⊎ EndedEarly G.may_stop gate.now settings.now (S.left source.old) e) }
+    ensures worked { OnOk result (S.failures source.new ≡ S.failures source.old) }
+    ensures told { IfErr result (ToldAsRead (S.failures source.old) (S.failures source.new)) }
     ensures bounded { GaveWithin (λ _. raw_limit settings.now) (S.left source.old) (S.left source.new) }
 {
     let cube = read_cube(alloc, source, settings)?;

@@ -5,6 +5,8 @@ ghost use Rattle.cube_core.specs.declared.fault.Fault.TheVariants.{WantOfMemory,
 ghost use Rattle.cube_core.specs.Shape.{sample_count};
 ghost use Rattle.ccsds_command.specs.Show.{Shows, IsShown, IsTextOf, IsShowFault, IsShowRefusal, common, size_of, sizes_of, show_limit};
 ghost use Rattle.command_devices.specs.Devices.{GaveWithin};
+ghost use Rattle.command_devices.specs.Reading.{ToldAsRead};
+ghost use Rattle.command_devices.specs.Writing.{IsWrite};
 
 use byteorder::{BigEndian, ByteOrder};
 use coder_pipe::encode::encode_one;
@@ -48,6 +50,9 @@ pub fn run_show<S: Source, K: Sink>(
 ) -> Result<(), Fault>
     ensures shown { OnOk result (Shows (S.left source.old) (K.taken sink.old) (K.taken sink.new)) }
     ensures refused { IfErr result (IsShowFault (S.left source.old) (S.failures source.old) (S.failures source.new) (K.taken sink.old) (K.taken sink.new) (K.failures sink.old) (K.failures sink.new) (K.stalls sink.old) (K.stalls sink.new)) }
+    ensures worked { OnOk result ((S.failures source.new ≡ S.failures source.old) × (K.failures sink.new ≡ K.failures sink.old) × (K.stalls sink.new ≡ K.stalls sink.old)) }
+    ensures told { IfErr result (ToldAsRead (S.failures source.old) (S.failures source.new)) }
+    ensures unwritten { IfErr result (λ e. IsWrite e ⊎ (sink.new ≡ sink.old)) }
     ensures bounded { GaveWithin show_limit (S.left source.old) (S.left source.new) }
 {
     let text = shown_text(alloc, source)?;
@@ -58,6 +63,8 @@ pub fn run_show<S: Source, K: Sink>(
 fn shown_text<S: Source>(alloc: Global, source: &mut S) -> Result<Vec<u8>, Fault>
     ensures shown { IfOk result (λ text. IsShown (S.left source.old) text.items) }
     ensures refused { IfErr result (IsShowRefusal (S.left source.old) (S.failures source.old) (S.failures source.new)) }
+    ensures worked { OnOk result (S.failures source.new ≡ S.failures source.old) }
+    ensures told { IfErr result (ToldAsRead (S.failures source.old) (S.failures source.new)) }
     ensures bounded { GaveWithin show_limit (S.left source.old) (S.left source.new) }
 {
     let sizes = read_up_to(alloc, source, SIZES as u64)?;

@@ -8,3 +8,11 @@ use Rattle.command_devices.specs.Devices.{Took, Rose}
 abbrev pub IsCutShort : Option (List ℕ) → Option (List ℕ) → ℕ → ℕ → ℕ → ℕ → List ℕ → Fault → Type 0
 IsCutShort old new failures failures_after stalls stalls_after bytes fault =
     (n : ℕ) × (fault ≡ Write n) × (n < length bytes) × Took old new (take n bytes) × (Rose failures failures_after ⊎ Rose stalls stalls_after)
+
+-- a refusal that says how many bytes went out
+abbrev pub IsWrite : Fault → Type 0
+IsWrite fault = (n : ℕ) × (fault ≡ Write n)
+
+-- a failure or a stall of the sink is told as `Write`: behind any other refusal they are as many as before
+abbrev pub ToldAsWrite : ℕ → ℕ → ℕ → ℕ → Fault → Type 0
+ToldAsWrite failures failures_now stalls stalls_now fault = IsWrite fault ⊎ ((failures_now ≡ failures) × (stalls_now ≡ stalls))

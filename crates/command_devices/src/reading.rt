@@ -1,9 +1,9 @@
 //! Bytes read whole from a source.
 
-ghost use Rattle.std.specs.Prelude.{◌≡◌, ◌⊎◌, ◌+◌, ◌<◌, ◌≤◌, ◌^◌, Ok, [], length, take, drop, IfOk, IfErr, OnOk, OnErr};
+ghost use Rattle.std.specs.Prelude.{◌≡◌, ◌⊎◌, ◌+◌, ◌<◌, ◌≤◌, ◌^◌, max, Ok, [], length, take, drop, IfOk, IfErr, OnOk, OnErr};
 ghost use Rattle.cube_core.specs.declared.fault.Fault.TheVariants.{Read, WantOfMemory};
 ghost use Rattle.command_devices.specs.Devices.{Gave, GaveWithin, IsFront, IsAll, IsEnd, Rises, Rose};
-ghost use Rattle.command_devices.specs.Reading.{IsReadRefusal, file_limit};
+ghost use Rattle.command_devices.specs.Reading.{IsReadRefusal, ToldAsRead, file_limit};
 
 use crate::source::{Failed, Source};
 use cube_core::fault::Fault;
@@ -21,7 +21,9 @@ const FILE_LIMIT: u64 = 1 << 40;
 pub fn read_file<S: Source>(alloc: Global, source: &mut S) -> Result<Vec<u8>, Fault>
     ensures all { IfOk result (λ bytes. IsAll (S.left source.old) bytes.items) }
     ensures limited { IfOk result (λ bytes. length bytes.items ≤ 2 ^ 40) }
+    ensures worked { OnOk result (S.failures source.new ≡ S.failures source.old) }
     ensures refused { IfErr result (IsReadRefusal (S.left source.old) (S.failures source.old) (S.failures source.new)) }
+    ensures told { IfErr result (ToldAsRead (S.failures source.old) (S.failures source.new)) }
     ensures bounded { GaveWithin (λ _. file_limit) (S.left source.old) (S.left source.new) }
 {
     let bytes = read_up_to(alloc, source, FILE_LIMIT + 1)?;
@@ -42,7 +44,8 @@ pub fn read_up_to<S: Source>(alloc: Global, source: &mut S, limit: u64) -> Resul
     ensures bounded { GaveWithin (λ _. limit) (S.left source.old) (S.left source.new) }
     ensures whole { IfOk result (λ bytes. (length bytes.items ≡ limit) ⊎ IsEnd (S.left source.new)) }
     ensures worked { IfOk result (λ _. S.failures source.new ≡ S.failures source.old) }
-    ensures refused { IfErr result (λ e. (e ≡ WantOfMemory) ⊎ ((e ≡ Read) × Rose (S.failures source.old) (S.failures source.new))) }
+    ensures refused { IfErr result (λ e. ((e ≡ WantOfMemory) × (S.failures source.new ≡ S.failures source.old)) ⊎ ((e ≡ Read) × Rose (S.failures source.old) (S.failures source.new))) }
+    ensures told { IfErr result (ToldAsRead (S.failures source.old) (S.failures source.new)) }
 {
     let mut bytes = Vec::new(alloc);
     // The bytes behind the first `had` are zeros, into which the next piece is read.
@@ -70,6 +73,7 @@ fn grow(bytes: &mut Vec<u8>, limit: u64) -> Result<(), Fault>
     ensures kept { OnOk result (take (length bytes.old.items) bytes.new.items ≡ bytes.old.items) }
     ensures grown { OnOk result (length bytes.old.items < length bytes.new.items) }
     ensures limited { OnOk result (length bytes.new.items ≤ limit) }
+    ensures doubled { OnOk result (length bytes.new.items ≤ length bytes.old.items + max (length bytes.old.items) (2 ^ 16)) }
     ensures refused { IfErr result (λ e. e ≡ WantOfMemory) }
 {
     let had = bytes.len();

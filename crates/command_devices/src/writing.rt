@@ -7,11 +7,12 @@ ghost use Rattle.command_devices.specs.Writing.{IsCutShort};
 use crate::sink::Sink;
 use cube_core::fault::Fault;
 
-/// Writes all bytes to the sink.
+/// Writes all bytes to the sink, whose failures and stalls are then as many as before.
 ///
 /// `Write` with the number of bytes that went out, where the sink failed or took nothing of a piece.
 pub fn write_all<K: Sink>(sink: &mut K, bytes: &[u8]) -> Result<(), Fault>
     ensures whole { OnOk result (Took (K.taken sink.old) (K.taken sink.new) bytes.now) }
+    ensures worked { OnOk result ((K.failures sink.new ≡ K.failures sink.old) × (K.stalls sink.new ≡ K.stalls sink.old)) }
     ensures cut { IfErr result (IsCutShort (K.taken sink.old) (K.taken sink.new) (K.failures sink.old) (K.failures sink.new) (K.stalls sink.old) (K.stalls sink.new) bytes.now) }
 {
     let mut written = 0;

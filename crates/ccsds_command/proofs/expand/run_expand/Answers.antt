@@ -1,3 +1,5 @@
+use Rattle.std.proofs.Common.{inl, refl}
+use Rattle.std.proofs.lemmas.Result.{err_from_is_err_and}
 use Rattle.command_devices.specs.Devices.{Took}
 use Rattle.ccsds_command.specs.Expand.{HasRaw}
 use Rattle.command_devices.specs.Writing.{IsCutShort}
@@ -13,3 +15,8 @@ returns-clause-refused g c =
     cut_short c.write_all.result _ (HasRaw c.args.layout.now (g.S.Source.left c.args.source.now))
     (IsCutShort (g.K.Sink.taken c.args.sink.now) (g.K.Sink.taken c.write_all.new.sink) (g.K.Sink.failures c.args.sink.now) (g.K.Sink.failures c.write_all.new.sink) (g.K.Sink.stalls c.args.sink.now) (g.K.Sink.stalls c.write_all.new.sink))
     c.in_ok-raw.raw.items c.in_ok-raw.ensures.raw (rw c.deref.ensures.value at c.write_all.ensures.cut)
+
+pub returns-in_err-raw-clause-refused : goal.returns-in_err-raw-clause-refused
+returns-in_err-raw-clause-refused g c =
+    let p = err_from_is_err_and c.from_residual.result c.from_residual.ensures.1 in
+    rw (p.1, p.2) (inl (c.in_err-raw.ensures.refused, refl))
