@@ -17,7 +17,7 @@ sys.dont_write_bytecode = True
 from options import LAYOUTS, PROGRAM, Room, raw_bytes
 
 SLOTS = (1, 2, 8, 1024, 65_536)
-RUNS = 3
+RUNS = 4
 """How many numbers of predictors and slots are drawn for each set of parameters."""
 PROCESSORS = set(sorted(os.sched_getaffinity(0))[:2])
 
