@@ -6,4 +6,5 @@ mod engines;
 mod headers;
 mod reports;
 mod shows;
+mod streams;
 mod support;
