@@ -19,6 +19,8 @@ import subprocess
 import sys
 import tempfile
 
+from workroom import Workroom
+
 TOP = os.path.dirname(os.path.dirname(os.path.abspath(__file__)))
 PLAIN = os.path.join(TOP, "bench", "target", "release", "plain")
 SIZES = ["--columns", "97", "--rows", "40", "--bands", "5"]
@@ -28,22 +30,12 @@ BLOCKS = [8, 16, 32, 64]
 INTERVALS = [1, 64, 4096]
 
 
-class Room:
+class Room(Workroom):
     """A folder for the files of a run, and the two programs over them."""
 
     def __init__(self, folder, program):
-        self.folder, self.program = folder, program
-
-    def path(self, name):
-        return os.path.join(self.folder, name)
-
-    def read(self, name):
-        with open(self.path(name), "rb") as file:
-            return file.read()
-
-    def write(self, name, data):
-        with open(self.path(name), "wb") as file:
-            file.write(data)
+        super().__init__(folder)
+        self.program = program
 
     def compress(self, bits, block, interval):
         words = ["compress", *SIZES, "--bits", str(bits), "--register", "32", "--word", str(WORD)]

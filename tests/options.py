@@ -15,28 +15,20 @@ import subprocess
 import sys
 import tempfile
 
+from workroom import Workroom
+
 TOP = os.path.dirname(os.path.dirname(os.path.abspath(__file__)))
 PROGRAM = os.path.join(TOP, "crates", "ccsds", "out", "ccsds")
 LIMIT = 120
 """The most seconds that a run may take."""
 
 
-class Room:
+class Room(Workroom):
     """A folder, the program over its files, and what has passed."""
 
     def __init__(self, folder, program):
-        self.folder, self.program, self.passed, self.failed = folder, os.path.realpath(program), 0, 0
-
-    def path(self, name):
-        return os.path.join(self.folder, name)
-
-    def read(self, name):
-        with open(self.path(name), "rb") as file:
-            return file.read()
-
-    def write(self, name, data):
-        with open(self.path(name), "wb") as file:
-            file.write(data)
+        super().__init__(folder)
+        self.program, self.passed, self.failed = os.path.realpath(program), 0, 0
 
     def run(self, *words, given=b"", limit=None, processors=None):
         """The status, the output and the line on standard error of a run, in so much memory, and on these processors."""

@@ -15,6 +15,8 @@ import subprocess
 import sys
 import tempfile
 
+from workroom import Workroom
+
 TOP = os.path.dirname(os.path.dirname(os.path.abspath(__file__)))
 PROGRAM = os.path.realpath(sys.argv[1] if len(sys.argv) > 1 else os.path.join(TOP, "crates", "ccsds", "out", "ccsds"))
 
@@ -28,22 +30,12 @@ CUT, LITTLE = b"ccsds: 6 Truncated 152\n", 32 << 20
 MOST = 1000
 
 
-class Room:
+class Room(Workroom):
     """A folder with a scene, the program over it, and what has passed."""
 
     def __init__(self, folder):
-        self.folder, self.passed, self.failed = folder, 0, 0
-
-    def path(self, name):
-        return os.path.join(self.folder, name)
-
-    def read(self, name):
-        with open(self.path(name), "rb") as file:
-            return file.read()
-
-    def write(self, name, data):
-        with open(self.path(name), "wb") as file:
-            file.write(data)
+        super().__init__(folder)
+        self.passed, self.failed = 0, 0
 
     def run(self, words, refuse=None, limit=None):
         """The status, the line on standard error, and all that was written: standard output and `out`."""
