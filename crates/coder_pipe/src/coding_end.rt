@@ -71,6 +71,7 @@ impl CodingEnd {
     /// Takes the residual of the place that comes next.
     ///
     /// The residual is at most 2^D - 1. After `WantOfMemory` nothing was changed.
+    #[inline(always)]
     pub(crate) fn put(&mut self, place: Place, delta: u16) -> Result<(), Fault>
         requires next { slice_get self.old.left 0 ≡ Some place }
         requires may { MayCode self.old delta }

@@ -1,6 +1,6 @@
 //! All workers of a pipeline: started, woven and joined.
 
-ghost use Rattle.std.specs.Prelude.{◌≡◌, ℕ, ◌-◌, ◌<◌, ◌≤◌, ◌⊎◌, ◌^◌, [], ◌∷◌, ◌++◌, length, map, All, IfOk, IfErr, Some, None, IfSome, IfNone, IsTrue, vec_len, vec_capacity, slice_index_or, slice_set};
+ghost use Rattle.std.specs.Prelude.{◌≡◌, ℕ, ◌-◌, ◌<◌, ◌≤◌, ◌⊎◌, ◌^◌, [], ◌∷◌, ◌++◌, List, length, map, All, IfOk, IfErr, Some, None, IfSome, IfNone, IsTrue, vec_len, vec_capacity, slice_index_or, slice_set};
 ghost use Rattle.std.specs.Prelude.{◌+◌};
 ghost use Rattle.cube_core.specs.Kind.{IsKind};
 ghost use Rattle.cube_core.specs.Shape.{sample_count};
@@ -59,11 +59,29 @@ fn next_of<R: Threads + Wait, F: Feed, G: Gate>(
         return Err(stage.stopped_at());
     };
     if residual > most {
-        // Joining the worker shows that its feed, which has no such number, didn't send it.
-        stages.swap_remove(q).never(rt, residual, most);
+        no_such_number(rt, stages, q, residual, most);
         unreachable!()
     }
     Ok(residual)
+}
+
+/// A number greater than any of a feed is never handed on: joining the worker shows that it wasn't sent.
+// It stands apart so that the way of all other numbers has no room for a worker to make.
+#[inline(never)]
+fn no_such_number<R: Threads, F: Feed, G: Gate>(
+    rt: &R,
+    stages: &mut Vec<Stage<F, G>>,
+    q: usize,
+    number: u16,
+    most: u16,
+)
+    requires place { q < vec_len stages.old }
+    requires list { (s : _) → All (λ n. n ≤ most) (F.items (slice_index_or stages.old.items q s).feed) }
+    requires last { (s : _) → (before : List ℕ) × ((slice_index_or stages.old.items q s).handed ≡ before ++ number ∷ []) }
+    requires above { most < number }
+    ensures { ⊥ }
+{
+    stages.swap_remove(q).never(rt, number, most);
 }
 
 /// Takes a residual for each place, from the lane of its predictor.

@@ -46,6 +46,8 @@ impl<F: Feed, G: Gate> State<F, G> {
     }
 
     /// Waits for the next number, and hands it on. None once the worker has ended, all that it sent was handed on, and it was joined.
+    // It stands apart from the way of a number that is in the room.
+    #[inline(never)]
     pub(crate) fn next<R: Threads + Wait>(&mut self, rt: &R, over: &AtomicBool) -> Option<u16>
         ensures same { ((standing_of self.new).feed ≡ (standing_of self.old).feed) × ((standing_of self.new).gate ≡ (standing_of self.old).gate) }
         ensures handed { IfSome result (λ number. (standing_of self.new).handed ≡ (standing_of self.old).handed ++ number ∷ []) }

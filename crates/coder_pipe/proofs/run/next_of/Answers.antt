@@ -20,13 +20,18 @@ returns-in_default-clause-feeds g c = same_feeds c.args.stages.now.items c.args.
 pub returns-in_default-clause-gates : goal.returns-in_default-clause-gates
 returns-in_default-clause-gates g c = same_gates c.args.stages.now.items c.args.q c.next.new.self c.index_mut-stage.result.now c.index_mut-stage.ensures.value c.next.ensures.same.1
 
-pub never-requires-clause-list : goal.never-requires-clause-list
-never-requires-clause-list g c =
+pub no_such_number-requires-clause-list : goal.no_such_number-requires-clause-list
+no_such_number-requires-clause-list g c = λ other.
     let s = c.index_mut-stage.result.now in
     let lt : c.args.q < length c.args.stages.now.items = search rules in
     let feed : get_or (feeds_of c.args.stages.now.items) c.args.q s.feed ≡ s.feed = at_of (λ s. s.feed) c.args.stages.now.items c.args.q s s.feed lt c.index_mut-stage.ensures.value in
-    let taken : c.swap_remove.result ≡ c.next.new.self = c.swap_remove.ensures.value ∙ get_or-set_same c.args.stages.now.items c.args.q c.next.new.self c.swap_remove.result lt in
-    subst (λ f. All (λ n. n ≤ c.args.most) (g.F.Feed.items f)) (feed ∙ sym (ap (λ t. t.feed) taken ∙ c.in-Some.ensures.same.0)) (c.requires.range s.feed)
+    let there = get_or-set_same c.args.stages.now.items c.args.q c.next.new.self other lt in
+    subst (λ f. All (λ n. n ≤ c.args.most) (g.F.Feed.items f)) (feed ∙ sym (ap (λ t. t.feed) there ∙ c.in-Some.ensures.same.0)) (c.requires.range s.feed)
+
+pub no_such_number-requires-clause-last : goal.no_such_number-requires-clause-last
+no_such_number-requires-clause-last g c = λ other.
+    let lt : c.args.q < length c.args.stages.now.items = search rules in
+    (c.index_mut-stage.result.now.handed, ap (λ t. t.handed) (get_or-set_same c.args.stages.now.items c.args.q c.next.new.self other lt) ∙ c.in-Some.ensures.handed)
 
 pub returns-clause-feeds : goal.returns-clause-feeds
 returns-clause-feeds g c = same_feeds c.args.stages.now.items c.args.q c.next.new.self c.index_mut-stage.result.now c.index_mut-stage.ensures.value c.next.ensures.same.0
