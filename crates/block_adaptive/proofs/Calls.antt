@@ -1,65 +1,24 @@
 -- What callers of the reader and the writer of blocks know.
-use Rattle.std.proofs.Common.{◌≡◌, ℕ, zero, suc, ◌+◌, ◌-◌, ◌*◌, ◌/◌, ◌%◌, ◌<◌, ◌≤◌, Bool, true, false, leb, List, [], ◌∷◌, ◌++◌, length, replicate, Result, Ok, Err, IfErr, refl, sym, ap, subst, ◌∙◌, inl, inr, arith, append_assoc}
+use Rattle.std.proofs.Common.{◌≡◌, ℕ, zero, suc, ◌+◌, ◌-◌, ◌*◌, ◌/◌, ◌<◌, ◌≤◌, Bool, true, false, leb, List, [], ◌∷◌, ◌++◌, length, replicate, Ok, Err, refl, sym, ap, subst, ◌∙◌, inl, inr, arith, append_assoc}
 use Rattle.std.proofs.lemmas.Bool.{cases_lt}
 use Rattle.std.proofs.lemmas.Bool.Decides.{nat_tests}
-use Rattle.std.proofs.lemmas.Nat.{mul-le, mod-mul-add}
-use Rattle.std.proofs.Math.Nat.{lt-div-mul-add, mul-mod_left}
+use Rattle.std.proofs.lemmas.Nat.{mul-le}
+use Rattle.std.proofs.Math.Nat.{lt-div-mul-add}
 use Rattle.std.proofs.lemmas.List.{append-nil, length-append, length-replicate}
 use Rattle.cube_core.specs.declared.fault.Fault.{Fault}
 use Rattle.block_adaptive.specs.declared.options.CodeSet.{CodeSet}
 use Rattle.block_adaptive.specs.Segments.{blocks, first_blocks, block_count}
-use Rattle.block_adaptive.specs.Texts.{Text, Block, Run, Rest, Cut, left_at, IsText, AreTexts, blocks_in, blocks_of, blocks_told, values_of, spelled, spelling}
+use Rattle.block_adaptive.specs.Texts.{Text, Block, Run, Rest, Cut, capacity, left_at, IsText, AreTexts, blocks_in, blocks_of, blocks_told, values_of, spelled, spelling}
 use Rattle.block_adaptive.specs.Chosen.{chosen_from, chosen_texts, chosen_block_body}
 use Rattle.block_adaptive.specs.Reading.{Site, text_at, texts_at}
-use Rattle.cube_core.specs.Shape.{sample_count}
-use Rattle.header_bits.specs.declared.params.Params.{Params}
-use Rattle.header_bits.specs.declared.params.Coder.{Coder}
-use Rattle.header_bits.specs.declared.params.Coder.TheVariants as coder
-use Rattle.block_adaptive.specs.Settings.{IsCut, AreForBlocks, cut_by, coder_cut}
-use Rattle.block_adaptive.specs.Given.{Unpacked, HasGiven, HasMore}
-use Rattle.block_adaptive.specs.Taken.{Packed, HasTaken, EndsBlock, EndsInside}
+use Rattle.block_adaptive.specs.Settings.{IsCut}
+use Rattle.block_adaptive.specs.Given.{Unpacked, HasGiven, given_count}
 use Rattle.block_adaptive.specs.Prefixes.{TakenIsPrefix}
 use Rattle.block_adaptive.proofs.Again.{text_again}
-use Rattle.block_adaptive.proofs.Bodies.{blocks_enough, length-first_blocks, text_some, texts_few}
+use Rattle.block_adaptive.proofs.Bodies.{length-first_blocks, text_some, texts_few}
+use Rattle.block_adaptive.proofs.Counts.{text_left}
 use Rattle.block_adaptive.proofs.Handed.{size_least, size_halved, values_append}
 use Rattle.block_adaptive.proofs.Packing.{values_length, first_of_blocks}
-
--- fewer numbers than there are leave a block
-block_left : (size count n many : ℕ) → n ≤ count * size → many * size < n → many < count
-block_left size count n many all few =
-    elim (cases_lt many count) [
-      | inl lt ↦ lt
-      | inr ge ↦ (let p = mul-le count size many size ge (omega arith) in absurd (omega arith))
-    ]
-
-taken_length : (v : Packed) (taken : List ℕ) (bits : List Bool) → (h : HasTaken v taken bits) → length taken ≡ length h.blocks * v.cut.size + length v.held
-taken_length v taken bits h = ap length h.numbers ∙ length-append (values_of h.blocks) v.held ∙ ap (λ (k : ℕ). k + length v.held) (values_length v.cut.set v.cut.size h.blocks h.whole)
-
--- where fewer numbers were taken than there are, one more may be put
-pub room_left : (v : Packed) (taken : List ℕ) (bits : List Bool) (n : ℕ) → IsCut v.cut → v.cut.count ≡ block_count v.cut.size n → length taken < n → HasTaken v taken bits → v.start + v.zeros < v.cut.count
-room_left v taken bits n cut count few h =
-    let size = taken_length v taken bits h in
-    let all : n ≤ v.cut.count * v.cut.size = subst (λ (k : ℕ). n ≤ k * v.cut.size) (sym count) (blocks_enough v.cut.size n (omega (arith, size_least v.cut.size cut.size))) in
-    let left = block_left v.cut.size v.cut.count n (length h.blocks) all (omega arith) in
-    omega (arith, left, h.place)
-
--- where all values but one of a block are held, the next number ends it
-pub ends_block : (v : Packed) (r : Result (Unit {0}) Fault) → length v.held + 1 ≡ v.cut.size → IfErr r (λ _. EndsBlock v)
-ends_block v (Ok x) last = tt
-ends_block v (Err e) last = λ taken bits t. by_length taken t
-  where
-    by_length : (taken : List ℕ) {bits : List Bool} → HasTaken v taken bits → (length taken + 1) % v.cut.size ≡ 0
-    by_length taken {bits} t =
-        let whole : length taken + 1 ≡ (length t.blocks + 1) * v.cut.size = omega (arith, taken_length v taken bits t, last) in
-        rw whole (mul-mod_left (length t.blocks + 1) v.cut.size)
-
--- where values are held, the numbers end inside a block
-pub ends_inside : (v : Packed) (r : Result (Unit {0}) Fault) → 0 < length v.held → length v.held < v.cut.size → IfErr r (λ _. EndsInside v)
-ends_inside v (Ok x) some few = tt
-ends_inside v (Err e) some few = λ taken bits t. by_length taken t
-  where
-    by_length : (taken : List ℕ) {bits : List Bool} → HasTaken v taken bits → 0 < length taken % v.cut.size
-    by_length taken {bits} t = rw (taken_length v taken bits t, mod-mul-add (length t.blocks) v.cut.size (length v.held) few) some
 
 -- ---- texts and the blocks that they stand for
 
@@ -83,15 +42,6 @@ told_length c i j (t ∷ texts) h =
     ap length (values_append (blocks_of c.size (left_at c i) t) (blocks_told c (i + k) texts)) ∙ length-append (values_of (blocks_of c.size (left_at c i) t)) (values_of (blocks_told c (i + k) texts)) in
     let spread : (i + k) * c.size ≡ i * c.size + k * c.size = omega arith in
     omega arith
-
--- where fewer numbers were given than there are, one more may be asked for
-pub more_left : (v : Unpacked) (given : List ℕ) (bits : List Bool) (n : ℕ) → IsCut v.cut → v.cut.count ≡ block_count v.cut.size n → length given < n → HasGiven v given bits → HasMore v
-more_left v given bits n cut count few h = λ none.
-    let told : length (values_of (blocks_told v.cut 0 h.texts)) ≡ length given = ap length (h.told ∙ ap (λ (held : List ℕ). given ++ held) none ∙ append-nil given) in
-    let whole = told_length v.cut 0 v.block h.texts h.lawful in
-    let start : 0 * v.cut.size ≡ 0 = omega arith in
-    let all : n ≤ v.cut.count * v.cut.size = subst (λ (k : ℕ). n ≤ k * v.cut.size) (sym count) (blocks_enough v.cut.size n (omega (arith, size_least v.cut.size cut.size))) in
-    block_left v.cut.size v.cut.count n v.block all (omega arith)
 
 -- ---- the whole body
 
@@ -122,9 +72,10 @@ texts_refused count half (suc n) i j c (t ∷ texts) left e even lt fuel h bad =
     rw (more, append_assoc (spelled c.set t) (spelling c.set texts) left, one, texts_refused count half n (i + blocks_in (left_at c i) t) j c texts left e even lt (omega arith) h.1 bad) refl
 
 -- a refusal of the next text is that of the body, out of which the numbers given were read
-pub body_refused : (v : Unpacked) (given : List ℕ) (bits left : List Bool) (count : ℕ) (e : Fault) → IsCut v.cut → v.block < v.cut.count → HasGiven v given bits
+pub body_refused : (v : Unpacked) (given : List ℕ) (bits left : List Bool) (count : ℕ) (e : Fault) → IsCut v.cut → given_count v < capacity v.cut → v.held ≡ [] → HasGiven v given bits
     → text_at (record { count = count; block = v.block }) v.cut.set v.cut.size (left_at v.cut v.block) left ≡ Err e → texts_at count v.cut v.cut.count 0 (bits ++ left) ≡ Err e
-body_refused v given bits left count e cut lt h bad =
+body_refused v given bits left count e cut few none h bad =
+    let lt : v.block < v.cut.count = text_left v few none in
     ap (λ (bs : List Bool). texts_at count v.cut v.cut.count 0 (bs ++ left)) h.text
     ∙ texts_refused count (v.cut.size / 2) v.cut.count 0 v.block v.cut h.texts left e (sym (size_halved v.cut.size cut.size)) lt (omega arith) h.lawful bad
 
@@ -157,15 +108,3 @@ taken_is_prefix v taken future bits cut count h =
     let length-so : length (h.blocks ++ first_blocks c.size m rest) ≡ c.count = omega (arith, length-append h.blocks (first_blocks c.size m rest), length-first_blocks c.size m rest) in
     let goes = h.goes_on (first_blocks c.size m rest) (omega (arith, length-first_blocks c.size m rest)) in
     (spelling c.set (chosen_from c c.count v.start (replicate v.zeros (replicate c.size 0) ++ first_blocks c.size m rest)), rw (count, cut-so, length-so) goes)
-
--- ---- a cut by parameters
-
-coder_count : (bits n : ℕ) (c : Coder) → (coder_cut bits n c).count ≡ block_count (coder_cut bits n c).size n
-coder_count bits n (coder.Block size restricted reference) = refl
-coder_count bits n (coder.Sample umax gamma_star gamma_zero start) = refl
-
-pub cut_count : (p : Params) (c : Cut) → c ≡ cut_by p → c.count ≡ block_count c.size (sample_count p.shape)
-cut_count p c e = rw e (coder_count p.kind.bits (sample_count p.shape) p.coder)
-
-pub cut_lawful : (p : Params) (c : Cut) → AreForBlocks p → c ≡ cut_by p → IsCut c
-cut_lawful p c h e = rw e h.lawful

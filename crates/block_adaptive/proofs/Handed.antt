@@ -91,6 +91,7 @@ run_parts c i given counted n h le most = record {
   inside = omega arith;
   one = inl refl;
   few = (let p = mul-le n c.size 64 64 (omega arith) (size_most c.size h.cut.size) in omega arith);
+  behind = omega arith;
 }
 
 -- ---- texts in hand

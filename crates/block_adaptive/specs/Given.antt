@@ -1,5 +1,5 @@
 -- What a reader of blocks holds, and which numbers it has given.
-use Rattle.std.specs.Prelude.{ℕ, ◌≡◌, ◌+◌, ◌<◌, Bool, List, [], ◌∷◌, ◌++◌, Result, Ok, IfOk, Option, None}
+use Rattle.std.specs.Prelude.{ℕ, ◌≡◌, ◌+◌, ◌-◌, ◌*◌, Bool, List, [], ◌∷◌, ◌++◌, length, Result, Ok, IfOk, Option, None}
 use Rattle.cube_core.specs.declared.fault.Fault.{Fault}
 use Rattle.cube_core.specs.Steps.{◌>>=◌}
 use Rattle.header_bits.specs.Bits.{Unread}
@@ -35,9 +35,9 @@ pub record HasGiven (v : Unpacked) (given : List ℕ) (bits : List Bool) : Type 
   pub told : values_of (blocks_told v.cut 0 texts) ≡ given ++ v.held
   pub working : v.refused ≡ None
 
--- a value is in hand, or there is a block that was not read yet
-abbrev pub HasMore : Unpacked → Type 0
-HasMore v = v.held ≡ [] → v.block < v.cut.count
+-- how many numbers were given
+abbrev pub given_count : Unpacked → ℕ
+given_count v = v.block * v.cut.size - length v.held
 
 -- the first value in hand was given
 abbrev pub GivesFirst : Unpacked → ℕ → Unpacked → Type 0

@@ -1,10 +1,11 @@
 -- What parameters tell the block-adaptive coder.
-use Rattle.std.specs.Prelude.{ℕ, ◌≡◌, ◌⊎◌, false}
+use Rattle.std.specs.Prelude.{ℕ, ◌≡◌, ◌⊎◌, ◌≤◌, false}
 use Rattle.cube_core.specs.Shape.{InRange, sample_count}
 use Rattle.header_bits.specs.declared.params.Params.{Params}
 use Rattle.header_bits.specs.declared.params.Coder.{Coder}
 use Rattle.header_bits.specs.declared.params.Coder.TheVariants.{Sample, Block}
-use Rattle.block_adaptive.specs.Texts.{Cut, cut_of}
+use Rattle.block_adaptive.specs.Segments.{block_count}
+use Rattle.block_adaptive.specs.Texts.{Cut, cut_of, capacity}
 
 -- the cut of n numbers of so many bits
 abbrev pub coder_cut : ℕ → ℕ → Coder → Cut
@@ -29,6 +30,12 @@ pub record IsCut (c : Cut) : Type 0 where
   pub bits : InRange 2 16 c.set.bits
   pub size : IsSize c.size
   pub reference : InRange 1 4096 c.reference
+
+-- a cut of n numbers: as many blocks as they take, which have room for all of them
+pub record IsCutOf (n : ℕ) (c : Cut) : Type 0 where
+  pub lawful : IsCut c
+  pub blocks : c.count ≡ block_count c.size n
+  pub room : n ≤ capacity c
 
 -- the parameters are for this coder, and in range
 pub record AreForBlocks (p : Params) : Type 0 where

@@ -1,8 +1,8 @@
 -- What a writer of blocks holds back, and which numbers it has taken.
-use Rattle.std.specs.Prelude.{ℕ, ◌≡◌, ◌+◌, ◌-◌, ◌%◌, ◌<◌, ◌≤◌, ◌==◌, nat_le, Bool, if◌then◌else◌, List, [], ◌∷◌, ◌++◌, length, replicate}
+use Rattle.std.specs.Prelude.{ℕ, ◌≡◌, ◌+◌, ◌-◌, ◌*◌, ◌%◌, ◌<◌, ◌≤◌, ◌==◌, nat_le, Bool, if◌then◌else◌, List, [], ◌∷◌, ◌++◌, length, replicate}
 use Rattle.header_bits.specs.Bits.{Written}
 use Rattle.block_adaptive.specs.declared.options.CodeSet.{CodeSet}
-use Rattle.block_adaptive.specs.Segments.{block_count}
+use Rattle.block_adaptive.specs.Segments.{block_count, filled}
 use Rattle.block_adaptive.specs.Texts.{Text, Block, Run, Rest, Cut, left_at, spelling, values_of}
 use Rattle.block_adaptive.specs.Chosen.{chosen_option, chosen_from, chosen_block_body, is_zero}
 use Rattle.block_adaptive.specs.Laws.{AreBlocks}
@@ -18,6 +18,10 @@ pub record Packed : Type 0 where
   pub start : ℕ
   pub zeros : ℕ
   pub held : List ℕ
+
+-- how many numbers were taken
+abbrev pub taken_count : Packed → ℕ
+taken_count v = (v.start + v.zeros) * v.cut.size + length v.held
 
 -- the text of all blocks that are left in a segment, where they are zeros
 abbrev pub rest_of : ℕ → Text
@@ -43,6 +47,10 @@ packed v b =
     let zeros = zeros_after (left_at v.cut v.start) v.zeros b in
     record v { start = v.start + (v.zeros + 1 - zeros); zeros = zeros; held = [] }
 
+-- behind the last number: a block begun was filled with zeros and taken whole
+abbrev pub ended : Packed → Packed
+ended v = if length v.held == 0 then v else packed v (filled v.cut.size v.held)
+
 abbrev pub texts_packed : Packed → List ℕ → List Bool
 texts_packed v b = spelling v.cut.set (texts_after v.cut.set (left_at v.cut v.start) v.zeros b)
 
@@ -65,11 +73,11 @@ PutsNumber number old written new written_now =
 
 -- the next number ends a block
 abbrev pub EndsBlock : Packed → Type 0
-EndsBlock v = (taken : List ℕ) (bits : List Bool) → HasTaken v taken bits → (length taken + 1) % v.cut.size ≡ 0
+EndsBlock v = (taken_count v + 1) % v.cut.size ≡ 0
 
 -- the numbers that were taken end inside a block
 abbrev pub EndsInside : Packed → Type 0
-EndsInside v = (taken : List ℕ) (bits : List Bool) → HasTaken v taken bits → 0 < length taken % v.cut.size
+EndsInside v = 0 < taken_count v % v.cut.size
 
 -- where as many numbers were taken as there are: all bits together are the chosen body
 abbrev pub EndsBody : Packed → List Bool → List Bool → Type 0

@@ -1,5 +1,5 @@
 -- The texts that a body is made of, and the bodies that are lawful (CCSDS 121.0-B, "Coded data set").
-use Rattle.std.specs.Prelude.{ℕ, ◌+◌, ◌-◌, ◌^◌, ◌<◌, ◌≤◌, ◌≡◌, nat_le, Bool, List, [], ◌∷◌, ◌++◌, length, take, replicate, if◌then◌else◌}
+use Rattle.std.specs.Prelude.{ℕ, ◌+◌, ◌-◌, ◌^◌, ◌<◌, ◌≤◌, ◌≡◌, ◌*◌, nat_le, Bool, List, [], ◌∷◌, ◌++◌, length, take, replicate, if◌then◌else◌}
 use Rattle.std.specs.List.{flat_map, AllByRecursion}
 use Rattle.header_bits.specs.Bits.{fundamental}
 use Rattle.block_adaptive.specs.declared.options.CodeSet.{CodeSet}
@@ -60,6 +60,10 @@ pub record Cut : Type 0 where
   pub size : ℕ
   pub reference : ℕ
   pub count : ℕ
+
+-- how many values its blocks have
+abbrev pub capacity : Cut → ℕ
+capacity c = c.count * c.size
 
 -- how many blocks there are from block i to its segment's end
 abbrev pub left_at : Cut → ℕ → ℕ

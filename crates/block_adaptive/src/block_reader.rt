@@ -3,9 +3,10 @@
 ghost use Rattle.std.specs.Prelude.{◌≡◌, ◌+◌, ◌%◌, ◌<◌, ◌≤◌, [], ◌∷◌, Ok, Err, Some, None, IfOk, IfErr, OnErr, MatchResult, length};
 ghost use Rattle.cube_core.specs.declared.fault.Fault.{Fault};
 ghost use Rattle.header_bits.specs.Reading.{Reads};
-ghost use Rattle.block_adaptive.specs.Texts.{Cut, left_at};
-ghost use Rattle.block_adaptive.specs.Settings.{AreForBlocks, cut_by};
-ghost use Rattle.block_adaptive.specs.Given.{Unpacked, HasMore, GivesFirst, GivesNext, HasGiven, next_text, in_hand};
+ghost use Rattle.block_adaptive.specs.Texts.{Cut, left_at, capacity};
+ghost use Rattle.cube_core.specs.Shape.{sample_count};
+ghost use Rattle.block_adaptive.specs.Settings.{AreForBlocks, IsCutOf, cut_by};
+ghost use Rattle.block_adaptive.specs.Given.{Unpacked, given_count, GivesFirst, GivesNext, HasGiven, next_text, in_hand};
 
 use crate::found::Found;
 use crate::options::CodeSet;
@@ -57,7 +58,9 @@ impl BlockReader {
     pub fn new(params: &Params) -> BlockReader
         requires { AreForBlocks params.now }
         ensures cut { result.cut ≡ cut_by params.now }
+        ensures room { IsCutOf (sample_count params.now.shape) result.cut }
         ensures given { HasGiven result [] [] }
+        ensures count { given_count result ≡ 0 }
     {
         match params.coder {
             Coder::Block {
@@ -84,18 +87,21 @@ impl BlockReader {
 
     /// Gives the next number of the body.
     ///
-    /// Fewer numbers were given than there are. The number is the first in hand; where none is, the
+    /// Fewer numbers were given than all blocks have. The number is the first in hand; where none is, the
     /// text that stands next is taken whole, and its values are in hand. Where no lawful text stands
     /// there the answer is the refusal of its first part that isn't lawful: `Truncated` where the bits
     /// end inside it, `RunPastSegment` for a run code, and `BadOption` for any other. Then the reader
-    /// stands where it stood, and every later call answers the same. No memory is taken.
+    /// stands where it stood, every later call answers the same, and nothing else was changed. No memory
+    /// is taken.
     #[inline]
     pub fn next(&mut self, reader: &mut BitReader) -> Result<u16, Fault>
-        requires { HasMore self.old }
+        requires { given_count self.old < capacity self.old.cut }
         ensures first { self.old.refused ≡ None → MatchResult result (λ value. (new : Unpacked) × (in_hand self.old reader.old self.old.held ≡ Ok (new, reader.new.left)) × GivesFirst new value self.new) (λ fault. (self.old.held ≡ []) × (next_text self.old reader.old ≡ Err fault)) }
         ensures given { GivesNext self.old reader.old result self.new reader.new.left }
         ensures again { (fault : Fault) → self.old.refused ≡ Some fault → result ≡ Err fault }
-        ensures kept { IfErr result (λ fault. self.new.refused ≡ Some fault) }
+        ensures kept { IfErr result (λ fault. self.new ≡ record self.old { refused = Some fault }) }
+        ensures counted { IfOk result (λ _. given_count self.new ≡ given_count self.old + 1) }
+        ensures inside { self.new.block ≤ self.new.cut.count }
         ensures same { OnErr result (reader.new ≡ reader.old) }
         ensures count { reader.new.count ≡ reader.old.count }
         ensures cut { self.new.cut ≡ self.old.cut }
@@ -116,6 +122,7 @@ impl BlockReader {
         requires more { self.old.block < self.old.cut.count }
         ensures read { Reads (λ _. self.new) result reader.new.left (next_text self.old reader.old) }
         ensures some { IfOk result (λ _. 0 < length self.new.held) }
+        ensures counted { IfOk result (λ _. given_count self.new ≡ given_count self.old) }
         ensures refused { IfErr result (λ fault. self.new ≡ record self.old { refused = Some fault }) }
         ensures same { OnErr result (reader.new ≡ reader.old) }
         ensures count { reader.new.count ≡ reader.old.count }
@@ -167,7 +174,9 @@ impl BlockReader {
     /// Gives the first value in hand.
     fn give(&mut self) -> u16
         requires { 0 < length self.old.held }
-        ensures { GivesFirst self.old result self.new }
+        ensures first { GivesFirst self.old result self.new }
+        ensures counted { given_count self.new ≡ given_count self.old + 1 }
+        ensures inside { self.new.block ≤ self.new.cut.count }
     {
         if self.at < self.size {
             let value = self.values[self.at as usize];

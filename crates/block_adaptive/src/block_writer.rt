@@ -3,8 +3,10 @@
 ghost use Rattle.std.specs.Prelude.{ℕ, ◌∷◌, ◌-◌, ◌≡◌, ◌+◌, ◌%◌, ◌^◌, ◌<◌, ◌≤◌, ◌++◌, [], length, sum, take, replicate, OnOk, OnErr, IfErr};
 ghost use Rattle.std.specs.List.{AllByRecursion};
 ghost use Rattle.cube_core.specs.declared.fault.Fault.TheVariants.{WantOfMemory};
-ghost use Rattle.block_adaptive.specs.Settings.{AreForBlocks, cut_by};
-ghost use Rattle.block_adaptive.specs.Taken.{HasTaken, PutsNumber, EndsBlock, EndsInside, EndsBody, packed, texts_packed};
+ghost use Rattle.block_adaptive.specs.Settings.{AreForBlocks, IsCutOf, cut_by};
+ghost use Rattle.block_adaptive.specs.Taken.{HasTaken, PutsNumber, EndsBlock, EndsInside, EndsBody, taken_count, packed, ended, texts_packed};
+ghost use Rattle.block_adaptive.specs.Texts.{capacity};
+ghost use Rattle.cube_core.specs.Shape.{sample_count};
 
 use crate::options::CodeSet;
 use crate::segments::Place;
@@ -56,7 +58,9 @@ impl BlockWriter {
     pub fn new(params: &Params) -> BlockWriter
         requires { AreForBlocks params.now }
         ensures cut { result.cut ≡ cut_by params.now }
+        ensures room { IsCutOf (sample_count params.now.shape) result.cut }
         ensures taken { HasTaken result [] [] }
+        ensures count { taken_count result ≡ 0 }
     {
         match params.coder {
             Coder::Block {
@@ -83,14 +87,15 @@ impl BlockWriter {
 
     /// Takes the next number, and appends what is then known of the body.
     ///
-    /// Fewer numbers were taken than there are, and the number is at most 2^D - 1. Memory is asked for
-    /// only where the number ends a block. After `WantOfMemory` nothing was changed, and the call may be
-    /// made again.
+    /// Fewer numbers were taken than all blocks have, and the number is at most 2^D - 1. Memory is asked
+    /// for only where the number ends a block. After `WantOfMemory` nothing was changed, and the call may
+    /// be made again.
     #[inline]
     pub fn put(&mut self, delta: u16, writer: &mut BitWriter) -> Result<(), Fault>
         requires number { delta < 2 ^ self.old.cut.set.bits }
-        requires more { self.old.start + self.old.zeros < self.old.cut.count }
+        requires more { taken_count self.old < capacity self.old.cut }
         ensures taken { OnOk result (PutsNumber delta self.old writer.old.bits self.new writer.new.bits) }
+        ensures counted { OnOk result (taken_count self.new ≡ taken_count self.old + 1) }
         ensures same { OnErr result ((self.new ≡ self.old) × (writer.new.bits ≡ writer.old.bits)) }
         ensures refused { IfErr result (λ e. e ≡ WantOfMemory) }
         ensures memory { IfErr result (λ _. EndsBlock self.old) }
@@ -144,6 +149,7 @@ impl BlockWriter {
     /// `WantOfMemory` nothing was changed, and the call may be made again.
     pub fn end(&mut self, writer: &mut BitWriter) -> Result<(), Fault>
         ensures ended { OnOk result (EndsBody self.old writer.old.bits writer.new.bits) }
+        ensures behind { OnOk result (self.new ≡ ended self.old) }
         ensures same { OnErr result ((self.new ≡ self.old) × (writer.new.bits ≡ writer.old.bits)) }
         ensures refused { IfErr result (λ e. e ≡ WantOfMemory) }
         ensures memory { IfErr result (λ _. EndsInside self.old) }

@@ -18,13 +18,11 @@ use Rattle.sample_adaptive.specs.Taken.{Counts, HasTaken as HaveTaken, PutsNumbe
 use Rattle.sample_adaptive.specs.Words.{code_word, code_at}
 use Rattle.sample_adaptive.proofs.Bodies.{body_push}
 use Rattle.sample_adaptive.proofs.Taking.{taken_along}
-use Rattle.block_adaptive.specs.Settings.{IsBlock, cut_by, coder_cut}
+use Rattle.block_adaptive.specs.Settings.{IsBlock, IsCutOf, cut_by, coder_cut}
 use Rattle.block_adaptive.specs.Chosen.{chosen_block_body}
 use Rattle.block_adaptive.specs.Texts.{Cut}
 use Rattle.block_adaptive.specs.Segments.{block_count}
-use Rattle.block_adaptive.specs.Taken.{Packed, PutsNumber as PutsValue, EndsBody as EndsBlocks}
-use Rattle.block_adaptive.proofs.Calls.{room_left, cut_count, cut_lawful}
-use Rattle.block_adaptive.proofs.ForBlocks.{for_blocks}
+use Rattle.block_adaptive.specs.Taken.{Packed, taken_count, PutsNumber as PutsValue, EndsBody as EndsBlocks}
 use Rattle.coder_pipe.specs.declared.encoder.Encoder.{Encoder}
 use Rattle.coder_pipe.specs.declared.encoder.Encoder.TheVariants.{Samples, Blocks}
 use Rattle.coder_pipe.specs.File.{body_of, body_by}
@@ -111,10 +109,13 @@ samples_end v written p numbers bits h lawful long = (
 
 -- ---- by blocks
 
-pub blocks_put : (z t number : ℕ) (old new : Packed) (written now : List Bool) → PutsValue number old written new now → new.cut ≡ old.cut → PutsNumber z t number (Blocks old) written (Blocks new) now
-blocks_put z t number old new written now puts kept p numbers bits h next =
+pub blocks_put : (z t number : ℕ) (old new : Packed) (written now : List Bool) → PutsValue number old written new now → new.cut ≡ old.cut → taken_count new ≡ taken_count old + 1
+    → PutsNumber z t number (Blocks old) written (Blocks new) now
+blocks_put z t number old new written now puts kept counted p numbers bits h next =
     let did = puts numbers bits h.taken in
-    (did.0, did.1, record { coder = h.coder; cut = kept ∙ h.cut; taken = did.2 })
+    let room : IsCutOf (sample_count p.shape) new.cut = rw kept h.room in
+    let count : taken_count new ≡ length (numbers ++ number ∷ []) = omega (arith, counted, h.count, length-append numbers (number ∷ [])) in
+    (did.0, did.1, record { coder = h.coder; cut = kept ∙ h.cut; room = room; taken = did.2; count = count })
 
 pub block_body_is : (p : Params) (c : Cut) (numbers : List ℕ) → IsBlock p.coder → c ≡ cut_by p → chosen_block_body c.set c.size c.reference numbers ≡ body_of p numbers
 unfolding body_of
@@ -126,7 +127,7 @@ block_body_is p c numbers coder e = rw e (by_coder p.coder coder)
 
 pub blocks_end : (v : Packed) (written now : List Bool) → EndsBlocks v written now → EndsBody (Blocks v) written now
 blocks_end v written now ends p numbers bits h lawful long =
-    let count : block_count v.cut.size (length numbers) ≡ v.cut.count = ap (block_count v.cut.size) long ∙ sym (cut_count p v.cut h.cut) in
+    let count : block_count v.cut.size (length numbers) ≡ v.cut.count = ap (block_count v.cut.size) long ∙ sym h.room.blocks in
     let did = ends numbers bits h.taken count in
     (did.0, did.1, did.2 ∙ block_body_is p v.cut numbers h.coder h.cut)
 
@@ -143,6 +144,6 @@ cut_bits p c e = rw e (by_coder p.coder)
 pub may_put : (p : Params) (e : Encoder) (numbers : List ℕ) (bits : List Bool) (z number : ℕ) → IsLawful here p → HasTaken p e numbers bits → length numbers < sample_count p.shape → z < p.shape.bands → number < 2 ^ p.kind.bits → MayPut e z number
 may_put p (Samples v) numbers bits z number lawful h few band range = (omega (arith, h.bands, band), rw h.depth range)
 may_put p (Blocks v) numbers bits z number lawful h few band range = (
-  room_left v numbers bits (sample_count p.shape) (cut_lawful p v.cut (for_blocks here p lawful h.coder) h.cut) (cut_count p v.cut h.cut) few h.taken,
+  omega (arith, h.count, few, h.room.room),
   rw (cut_bits p v.cut h.cut) range,
 )

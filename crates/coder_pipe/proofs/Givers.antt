@@ -1,5 +1,5 @@
 -- What the reading end has given, number after number, and how it refuses.
-use Rattle.std.proofs.Common.{◌≡◌, ◌⊎◌, ◌+◌, ◌*◌, ◌/◌, ◌-◌, ◌^◌, ◌<◌, ◌≤◌, ℕ, zero, suc, Bool, true, false, cond, List, [], ◌∷◌, ◌++◌, length, take, drop, replicate, Some, None, Result, Ok, Err, MatchResult, refl, sym, ap, ◌∙◌, subst, inl, inr, append-nil, append_assoc, length-append, pow_pos, arith}
+use Rattle.std.proofs.Common.{◌≡◌, ◌⊎◌, ◌+◌, ◌*◌, ◌/◌, ◌-◌, ◌^◌, ◌<◌, ◌≤◌, ℕ, zero, suc, Bool, true, false, cond, List, [], ◌∷◌, ◌++◌, length, take, drop, replicate, Some, None, Result, Ok, Err, IfOk, MatchResult, refl, sym, ap, ◌∙◌, subst, inl, inr, append-nil, append_assoc, length-append, pow_pos, arith}
 use Rattle.std.specs.List.{slice_get, AllByRecursion}
 use Rattle.std.proofs.lemmas.Nat.{mul-le}
 use Rattle.std.proofs.lemmas.Bool.{cases_lt}
@@ -18,8 +18,7 @@ use Rattle.header_bits.specs.Bits.{Unread}
 use Rattle.header_bits.specs.Reach.{here}
 use Rattle.header_bits.specs.Lawful.{IsLawful}
 use Rattle.header_bits.specs.Reading.{number_at, zeros_at}
-use Rattle.header_bits.proofs.Fronts.{bind_ok, bind_err, number_fault, zeros_fault, fault_is}
-use Rattle.header_bits.proofs.Reading.{ok_is}
+use Rattle.header_bits.proofs.Fronts.{bind_err, number_fault, zeros_fault, fault_is}
 use Rattle.sample_adaptive.specs.declared.code_word.Code.{Code}
 use Rattle.sample_adaptive.specs.Statistics.{CoderSettings}
 use Rattle.sample_adaptive.specs.Settings.{settings, IsSample}
@@ -31,18 +30,14 @@ use Rattle.sample_adaptive.specs.Laws.{AreNumbers}
 use Rattle.sample_adaptive.proofs.Bodies.{code_bits}
 use Rattle.sample_adaptive.proofs.Refusals.{word_again, word_takes}
 use Rattle.sample_adaptive.proofs.Taking.{taken_along}
-use Rattle.block_adaptive.specs.Settings.{IsBlock, IsCut, cut_by, coder_cut}
+use Rattle.block_adaptive.specs.Settings.{IsBlock, IsCut, IsCutOf, cut_by, coder_cut}
 use Rattle.block_adaptive.specs.Segments.{block_count}
-use Rattle.block_adaptive.specs.Texts.{Text, Block as Whole, Run, Rest, Cut, cut_of, left_at, IsText, AreTexts, blocks_in, blocks_of, blocks_told, values_of}
-use Rattle.block_adaptive.specs.Given.{Unpacked, holding, next_text, in_hand, GivesFirst, GivesNext, HasMore, HasGiven as HaveGiven}
+use Rattle.block_adaptive.specs.Texts.{Text, Block as Whole, Run, Rest, Cut, capacity, cut_of, left_at, IsText, AreTexts, blocks_in, blocks_of, blocks_told, values_of}
+use Rattle.block_adaptive.specs.Given.{Unpacked, given_count, holding, next_text, in_hand, GivesFirst, GivesNext, HasGiven as HaveGiven}
 use Rattle.block_adaptive.specs.Reading.{Site, text_at, texts_at, block_body_at}
 use Rattle.block_adaptive.specs.declared.options.CodeSet.{CodeSet}
-use Rattle.block_adaptive.proofs.Bodies.{text_most}
-use Rattle.block_adaptive.proofs.Calls.{more_left, body_refused, told_length, cut_count, cut_lawful}
-use Rattle.block_adaptive.proofs.ForBlocks.{for_blocks}
-use Rattle.block_adaptive.proofs.Handed.{rest_most, size_halved, size_least, values_append}
-use Rattle.block_adaptive.proofs.Lawful.{rest_least}
-use Rattle.block_adaptive.proofs.Taken.{text_is_taken}
+use Rattle.block_adaptive.proofs.Calls.{body_refused, told_length}
+use Rattle.block_adaptive.proofs.Handed.{size_least, values_append}
 use Rattle.coder_pipe.specs.declared.decoder.Decoder.{Decoder}
 use Rattle.coder_pipe.specs.declared.decoder.Decoder.TheVariants.{Samples, Blocks}
 use Rattle.coder_pipe.specs.Coding.{places_of, of_band, IsNumber}
@@ -225,22 +220,6 @@ given_range : (v : Unpacked) (numbers : List ℕ) (number : ℕ) (bits : List Bo
 given_range v numbers number bits h =
     range_there (2 ^ v.cut.set.bits) numbers number v.held (subst (λ (vs : List ℕ). AllByRecursion (λ n. n < 2 ^ v.cut.set.bits) vs) h.told (told_range v.cut 0 v.block h.texts h.lawful))
 
--- a text that is read begins at a block that there is, and ends at one, or behind the last
-text_inside : (site : Site) (c : Cut) (i : ℕ) (t : Text) (bits rest : List Bool) → IsCut c → i < c.count → text_at site c.set c.size (left_at c i) bits ≡ Ok (t, rest) → i + blocks_in (left_at c i) t ≤ c.count
-text_inside site c i t bits rest cut lt e =
-    let half : c.size ≡ 2 * (c.size / 2) = sym (size_halved c.size cut.size) in
-    let some = rest_least c.reference c.count i cut.reference.0 lt in
-    let taken = text_is_taken site c.set (c.size / 2) (left_at c i) t bits rest some (subst (λ (k : ℕ). text_at site c.set k (left_at c i) bits ≡ Ok (t, rest)) half e) in
-    let lawful : IsText c.set c.size (left_at c i) t = subst (λ (k : ℕ). IsText c.set k (left_at c i) t) (sym half) taken.1 in
-    omega (arith, rest_most c i, text_most c.set c.size (left_at c i) t some lawful, lt)
-
-hand_inside : (v w : Unpacked) (unread : Unread) (held : List ℕ) (left : List Bool) → (held ≡ [] → v.block < v.cut.count) → v.block ≤ v.cut.count → IsCut v.cut → in_hand v unread held ≡ Ok (w, left) → w.block ≤ v.cut.count
-hand_inside v w unread (value ∷ held) left more le cut e = subst (λ (x : Unpacked × List Bool). x.0.block ≤ v.cut.count) (ok_is (v, unread.left) (w, left) e) le
-hand_inside v w unread [] left more le cut e =
-    let site : Site = record { count = unread.count; block = v.block } in
-    let a = bind_ok (text_at site v.cut.set v.cut.size (left_at v.cut v.block) unread.left) (λ t. Ok (holding v t.0, t.1)) (w, left) e in
-    subst (λ (x : Unpacked × List Bool). x.0.block ≤ v.cut.count) (ok_is (holding v a.0.0, a.0.1) (w, left) a.2) (text_inside site v.cut v.block a.0.0 unread.left a.0.1 cut (more refl) a.1)
-
 block_behind : (p : Params) (v : Cut) (count : ℕ) (bits : List Bool) → IsBlock p.coder → v ≡ cut_by p → behind_body count p bits ≡ (texts_at count v v.count 0 bits >>= λ read. Ok read.1)
 unfolding behind_body block_body_at
 block_behind p v count bits coder e = rw e (by_coder p.coder coder)
@@ -255,26 +234,24 @@ no_step x e h = absurd (cc)
 abbrev pub AnswersFirst : Result ℕ Fault → Unpacked → Unread → Unpacked → List Bool → Type 0
 AnswersFirst r old unread new left = old.refused ≡ None → MatchResult r (λ value. (w : Unpacked) × (in_hand old unread old.held ≡ Ok (w, left)) × GivesFirst w value new) (λ fault. (old.held ≡ []) × (next_text old unread ≡ Err fault))
 
-pub blocks_given : (r : Result ℕ Fault) (z t place : ℕ) (old new : Unpacked) (unread : Unread) (left : List Bool) → AnswersFirst r old unread new left → GivesNext old unread r new left → new.cut ≡ old.cut → HasMore old → GivesNumber z t place r (Blocks old) unread (Blocks new) left
-blocks_given (Ok value) z t place old new unread left first gives kept more p numbers bits lawful h next at =
+pub blocks_given : (r : Result ℕ Fault) (z t place : ℕ) (old new : Unpacked) (unread : Unread) (left : List Bool) → AnswersFirst r old unread new left → GivesNext old unread r new left → new.cut ≡ old.cut
+    → given_count old < capacity old.cut → IfOk r (λ _. given_count new ≡ given_count old + 1) → new.block ≤ new.cut.count → GivesNumber z t place r (Blocks old) unread (Blocks new) left
+blocks_given (Ok value) z t place old new unread left first gives kept more counted inside p numbers bits lawful h next at =
     let did = gives numbers bits h.given in
-    let seen = first h.given.working in
-    let cut = cut_lawful p old.cut (for_blocks here p lawful h.coder) h.cut in
     let there : new.cut ≡ cut_by p = kept ∙ h.cut in
-    let block : new.block ≡ seen.0.block = ap (λ (u : Unpacked). u.block) seen.2.1 in
-    let inside : new.block ≤ new.cut.count = omega (arith, block, ap (λ (c : Cut). c.count) kept, hand_inside old seen.0 unread old.held left more h.inside cut seen.1) in (
+    let room : IsCutOf (sample_count p.shape) new.cut = rw kept h.room in
+    let count : given_count new ≡ length (numbers ++ value ∷ []) = omega (arith, counted, h.count, length-append numbers (value ∷ [])) in (
       rw (cut_bits p new.cut there) at (given_range new numbers value (bits ++ did.0) did.2),
       did.0,
       did.1,
-      record { coder = h.coder; cut = there; inside = inside; given = did.2 },
+      record { coder = h.coder; cut = there; room = room; inside = inside; given = did.2; count = count },
     )
-blocks_given (Err fault) z t place old new unread left first gives kept more p numbers bits lawful h next at =
+blocks_given (Err fault) z t place old new unread left first gives kept more counted inside p numbers bits lawful h next at =
     let seen = first h.given.working in
-    let cut = cut_lawful p old.cut (for_blocks here p lawful h.coder) h.cut in
     let site : Site = record { count = unread.count; block = old.block } in
     let bad : text_at site old.cut.set old.cut.size (left_at old.cut old.block) unread.left ≡ Err fault =
     elim (bind_err (text_at site old.cut.set old.cut.size (left_at old.cut old.block) unread.left) (λ x. Ok (holding old x.0, x.1)) fault seen.1) [ inl k ↦ k | inr (x, k, m) ↦ absurd (no_step (holding old x.0, x.1) fault m) ] in
-    let body = body_refused old numbers bits unread.left unread.count fault cut (more seen.0) h.given bad in
+    let body = body_refused old numbers bits unread.left unread.count fault h.room.lawful more seen.0 h.given bad in
     block_behind p old.cut unread.count (bits ++ unread.left) h.coder h.cut ∙ rw body refl
 
 -- ---- by either
@@ -282,7 +259,7 @@ blocks_given (Err fault) z t place old new unread left first gives kept more p n
 pub may_ask : (p : Params) (d : Decoder) (numbers : List ℕ) (bits : List Bool) (z : ℕ) → IsLawful here p → HasGiven p d numbers bits → length numbers < sample_count p.shape → z < p.shape.bands → MayAsk d z
 may_ask p (Samples v) numbers bits z lawful h few band = omega (arith, h.0.bands, band)
 may_ask p (Blocks v) numbers bits z lawful h few band =
-    more_left v numbers bits (sample_count p.shape) (cut_lawful p v.cut (for_blocks here p lawful h.coder) h.cut) (cut_count p v.cut h.cut) few h.given
+    omega (arith, h.count, few, h.room.room)
 
 -- where all are given, the bits are a body of them
 
@@ -321,4 +298,4 @@ pub given_whole : (p : Params) (d : Decoder) (numbers : List ℕ) (bits : List B
 given_whole p (Samples v) numbers bits lawful h long =
     whole_sample p p.coder numbers bits h.0.coder (h.0.text ∙ ap (λ (ps : List Place). sample_body (settings p) ps numbers) (places_whole p numbers lawful.order long))
 given_whole p (Blocks v) numbers bits lawful h long =
-    whole_blocks p p.coder v numbers bits h.coder (cut_lawful p v.cut (for_blocks here p lawful h.coder) h.cut) h.cut (cut_count p v.cut h.cut) h.inside long h.given
+    whole_blocks p p.coder v numbers bits h.coder h.room.lawful h.cut h.room.blocks h.inside long h.given

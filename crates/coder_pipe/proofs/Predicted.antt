@@ -1,10 +1,9 @@
 -- What the pipeline makes of a cube.
-use Rattle.std.proofs.Common.{◌≡◌, ◌+◌, ◌^◌, ◌<◌, ◌≤◌, ℕ, Bool, true, false, List, [], ◌∷◌, length, map, get_or, refl, sym, ap, ◌∙◌, subst, arith, IsTrue, IfErr, IfOk, Result, Ok, Err}
+use Rattle.std.proofs.Common.{◌≡◌, ◌^◌, ◌<◌, ℕ, Bool, true, false, List, [], ◌∷◌, length, map, get_or, refl, sym, ap, ◌∙◌, subst, arith}
 use Rattle.std.specs.Prelude.{◌==◌, if◌then◌else◌}
 use Rattle.std.specs.List.{All, AllByRecursion}
 use Rattle.std.proofs.lemmas.List.{length-map, get_or-map}
 use Rattle.band_rings.specs.Lane.{Lane}
-use Rattle.cube_core.specs.declared.fault.Fault.{Fault}
 use Rattle.cube_core.specs.Image.{Image}
 use Rattle.cube_core.specs.Order.{IsOrder, upto}
 use Rattle.cube_core.specs.Shape.{Sizes, sample_count}
@@ -18,7 +17,7 @@ use Rattle.coder_pipe.specs.Files.{IsCubeOf, IsFile}
 use Rattle.coder_pipe.specs.Piping.{carried, AreFeeds, IsPiped, MayStop, IsFileOf, MayStopPart}
 use Rattle.coder_pipe.specs.Plans.{Dealing, IsPlan}
 use Rattle.coder_pipe.specs.Sends.{Predicting, part_of}
-use Rattle.coder_pipe.specs.Weave.{owners, part, parts, share, weave}
+use Rattle.coder_pipe.specs.Weave.{owners, part, parts, weave}
 use Rattle.coder_pipe.proofs.FileLaws.{inside, chosen_is_file}
 use Rattle.coder_pipe.proofs.Parts.{length-residuals}
 use Rattle.coder_pipe.proofs.Planning.{all_at}

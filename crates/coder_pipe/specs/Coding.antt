@@ -1,5 +1,5 @@
 -- The coding end: which residuals it has taken, in encoding order.
-use Rattle.std.specs.Prelude.{ℕ, ◌≡◌, ◌+◌, ◌^◌, ◌<◌, Bool, List, [], ◌∷◌, ◌++◌, length, take, slice_get, Some}
+use Rattle.std.specs.Prelude.{ℕ, ◌≡◌, ◌^◌, ◌<◌, Bool, List, [], ◌∷◌, ◌++◌, length, take, slice_get, Some}
 use Rattle.cube_core.specs.declared.order.Place.{Place}
 use Rattle.cube_core.specs.Shape.{sample_count}
 use Rattle.cube_core.specs.Order.{IsOrder, places}
@@ -7,8 +7,9 @@ use Rattle.header_bits.specs.declared.params.Params.{Params}
 use Rattle.sample_adaptive.specs.Settings.{settings, IsSample}
 use Rattle.sample_adaptive.specs.Body.{band_numbers, sample_body}
 use Rattle.sample_adaptive.specs.Taken.{Counts, HasTaken as HaveTaken}
-use Rattle.block_adaptive.specs.Settings.{IsBlock, cut_by}
-use Rattle.block_adaptive.specs.Taken.{Packed, EndsBlock, EndsInside, HasTaken as HasPacked}
+use Rattle.block_adaptive.specs.Settings.{IsBlock, IsCutOf, cut_by}
+use Rattle.block_adaptive.specs.Taken.{Packed, EndsBlock, EndsInside, taken_count, HasTaken as HasPacked}
+use Rattle.block_adaptive.specs.Texts.{capacity}
 use Rattle.coder_pipe.specs.declared.encoder.Encoder.{Encoder}
 use Rattle.coder_pipe.specs.declared.encoder.Encoder.TheVariants.{Samples, Blocks}
 use Rattle.coder_pipe.specs.File.{body_of}
@@ -33,7 +34,9 @@ pub record SamplesTaken (p : Params) (v : Counts) (numbers : List ℕ) (bits : L
 pub record BlocksTaken (p : Params) (v : Packed) (numbers : List ℕ) (bits : List Bool) : Type 0 where
   pub coder : IsBlock p.coder
   pub cut : v.cut ≡ cut_by p
+  pub room : IsCutOf (sample_count p.shape) v.cut
   pub taken : HasPacked v numbers bits
+  pub count : taken_count v ≡ length numbers
 
 -- the coding end of parameters has taken the numbers, and appended the bits
 abbrev pub HasTaken : Params → Encoder → List ℕ → List Bool → Type 0
@@ -43,7 +46,7 @@ HasTaken p (Blocks v) numbers bits = BlocksTaken p v numbers bits
 -- a number of band z may be put
 abbrev pub MayPut : Encoder → ℕ → ℕ → Type 0
 MayPut (Samples v) z number = (z < length v.bands) × (number < 2 ^ v.bits)
-MayPut (Blocks v) z number = (v.start + v.zeros < v.cut.count) × (number < 2 ^ v.cut.set.bits)
+MayPut (Blocks v) z number = (taken_count v < capacity v.cut) × (number < 2 ^ v.cut.set.bits)
 
 -- a number may ask for memory: among blocks, only where it ends one
 abbrev pub MayGrow : Encoder → Type 0

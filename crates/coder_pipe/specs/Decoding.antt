@@ -4,13 +4,15 @@ use Rattle.std.specs.List.{AllByRecursion}
 use Rattle.cube_core.specs.declared.fault.Fault.{Fault}
 use Rattle.cube_core.specs.declared.fault.Fault.TheVariants.{WantOfMemory, BadCode}
 use Rattle.cube_core.specs.Image.{Image}
+use Rattle.cube_core.specs.Shape.{sample_count}
 use Rattle.header_bits.specs.declared.params.Params.{Params}
 use Rattle.header_bits.specs.Bits.{Unread}
 use Rattle.header_bits.specs.Reach.{here}
 use Rattle.header_bits.specs.Lawful.{IsLawful}
 use Rattle.predict_core.specs.Residual.{residuals}
-use Rattle.block_adaptive.specs.Settings.{IsBlock, cut_by}
-use Rattle.block_adaptive.specs.Given.{Unpacked, HasMore, HasGiven as HaveGiven}
+use Rattle.block_adaptive.specs.Settings.{IsBlock, IsCutOf, cut_by}
+use Rattle.block_adaptive.specs.Given.{Unpacked, given_count, HasGiven as HaveGiven}
+use Rattle.block_adaptive.specs.Texts.{capacity}
 use Rattle.coder_pipe.specs.declared.decoder.Decoder.{Decoder}
 use Rattle.coder_pipe.specs.declared.decoder.Decoder.TheVariants.{Samples, Blocks}
 use Rattle.coder_pipe.specs.Coding.{SamplesTaken, IsNumber}
@@ -20,8 +22,10 @@ use Rattle.coder_pipe.specs.Files.{IsBody, IsCubeOf, IsFile, behind_body}
 pub record BlocksGiven (p : Params) (v : Unpacked) (numbers : List ℕ) (bits : List Bool) : Type 0 where
   pub coder : IsBlock p.coder
   pub cut : v.cut ≡ cut_by p
+  pub room : IsCutOf (sample_count p.shape) v.cut
   pub inside : v.block ≤ v.cut.count
   pub given : HaveGiven v numbers bits
+  pub count : given_count v ≡ length numbers
 
 -- the coder of parameters has given the numbers, each in range, and has read the bits
 abbrev pub HasGiven : Params → Decoder → List ℕ → List Bool → Type 0
@@ -41,7 +45,7 @@ refusal_at place (Blocks v) = v.refused
 -- a number of band z may be asked for
 abbrev pub MayAsk : Decoder → ℕ → Type 0
 MayAsk (Samples v) z = z < length v.bands
-MayAsk (Blocks v) z = HasMore v
+MayAsk (Blocks v) z = given_count v < capacity v.cut
 
 -- bits were read, and with them one number more is given
 abbrev pub GivesMore : Params → Decoder → List ℕ → List Bool → List Bool → List Bool → ℕ → Type 0

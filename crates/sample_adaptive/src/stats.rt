@@ -93,15 +93,15 @@ impl Stats {
     ///
     /// `t` counts the band's numbers from 0. Where no code word stands next the answer is `BadCode`
     /// with `t` as its place if a form stands there that is no number's word (a needless escape, or a
-    /// number above 2^D - 1), else `Truncated`. Then the reader stands where it stood, and every
-    /// later call answers the same.
+    /// number above 2^D - 1), else `Truncated`. Then the reader stands where it stood, every later
+    /// call answers the same, and nothing else was changed.
     #[inline(always)]
     pub fn get(&mut self, z: u32, t: u64, reader: &mut BitReader) -> Result<u16, Fault>
         requires { z < length self.old.bands }
         ensures taken { GetsNumber z t result self.old reader.old self.new reader.new.left }
         ensures below { IfOk result (λ number. number < 2 ^ self.old.bits) }
         ensures again { (fault : Fault) → self.old.refused ≡ Some fault → result ≡ Err fault }
-        ensures kept { IfErr result (λ fault. self.new.refused ≡ Some fault) }
+        ensures kept { IfErr result (λ fault. self.new ≡ record self.old { refused = Some fault }) }
         ensures same { OnErr result (reader.new ≡ reader.old) }
         ensures count { reader.new.count ≡ reader.old.count }
         ensures bands { (length self.new.bands ≡ length self.old.bands) × (self.new.bits ≡ self.old.bits) }

@@ -11,10 +11,9 @@ use Rattle.sample_adaptive.specs.Taken.{Counts, HasTaken, PutsNumber}
 use Rattle.sample_adaptive.specs.Words.{code_word, code_at}
 use Rattle.sample_adaptive.proofs.Bodies.{body_push}
 use Rattle.sample_adaptive.proofs.Taking.{taken_along}
-use Rattle.block_adaptive.specs.Settings.{AreForBlocks, cut_by}
+use Rattle.block_adaptive.specs.Settings.{AreForBlocks, IsCutOf, cut_by}
 use Rattle.block_adaptive.specs.Segments.{block_count}
 use Rattle.block_adaptive.specs.Taken.{Packed, EndsBody, HasTaken as HaveTaken}
-use Rattle.block_adaptive.proofs.Calls.{cut_count}
 use Rattle.header_bits.specs.Bits.{bits_of_bytes}
 use Rattle.coder_pipe.specs.File.{body_of, filled}
 use Rattle.coder_pipe.proofs.Coders.{block_body_is}
@@ -62,9 +61,9 @@ coded_more p old new t number numbers bits now known puts is =
 -- ---- by blocks
 
 -- all numbers were taken, and the body is ended
-pub blocks_ended : (p : Params) (v : Packed) (numbers : List ℕ) (bits now : List Bool) → AreForBlocks p → v.cut ≡ cut_by p → length numbers ≡ sample_count p.shape → HaveTaken v numbers bits → EndsBody v bits now → now ≡ body_of p numbers
-blocks_ended p v numbers bits now lawful cut long taken ends =
-    let count : block_count v.cut.size (length numbers) ≡ v.cut.count = ap (block_count v.cut.size) long ∙ sym (cut_count p v.cut cut) in
+pub blocks_ended : (p : Params) (v : Packed) (numbers : List ℕ) (bits now : List Bool) → AreForBlocks p → v.cut ≡ cut_by p → IsCutOf (sample_count p.shape) v.cut → length numbers ≡ sample_count p.shape → HaveTaken v numbers bits → EndsBody v bits now → now ≡ body_of p numbers
+blocks_ended p v numbers bits now lawful cut room long taken ends =
+    let count : block_count v.cut.size (length numbers) ≡ v.cut.count = ap (block_count v.cut.size) long ∙ sym room.blocks in
     let did = ends numbers bits taken count in
     did.1 ∙ did.2 ∙ block_body_is p v.cut numbers lawful.coder cut
 

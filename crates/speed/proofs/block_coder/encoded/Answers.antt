@@ -1,8 +1,6 @@
 use Rattle.std.proofs.Common.{arith, ◌≡◌, ◌+◌, ◌∙◌, ◌∷◌, ◌++◌, [], ℕ, List, get_or, take, subst}
-use Rattle.std.proofs.lemmas.List.{length-take, take_more, take_all}
-use Rattle.cube_core.specs.Shape.{sample_count}
+use Rattle.std.proofs.lemmas.List.{take_more, take_all}
 use Rattle.block_adaptive.specs.Taken.{HasTaken}
-use Rattle.block_adaptive.proofs.Calls.{room_left, cut_count, cut_lawful}
 use Rattle.coder_pipe.specs.File.{body_of}
 use Rattle.speed.specs.Bodies.{AreOfTwelveBits}
 use Rattle.speed.proofs.Coded.{blocks_ended, whole_text, none_greater}
@@ -10,20 +8,22 @@ use Rattle.speed.proofs.block_coder.encoded.Goals as goal
 use Rattle.speed.proofs.block_coder.encoded.Goals.{After-whole_bytes, else-loop-number-test, then-loop-number-test+then-number-gt-MOST}
 
 pub loop-number-init : goal.loop-number-init
-loop-number-init c = record { cut = c.new-blocks.ensures.cut; taken = rw c.new-writer.ensures c.new-blocks.ensures.taken }
+loop-number-init c = record { cut = c.new-blocks.ensures.cut; room = c.new-blocks.ensures.room; count = c.new-blocks.ensures.count; taken = rw c.new-writer.ensures c.new-blocks.ensures.taken }
 
 pub put-requires-clause-more : goal.put-requires-clause-more
 put-requires-clause-more c =
-    room_left c.loop-number.blocks (take c.loop-number.number-index c.args.numbers.now) c.loop-number.writer.bits (sample_count c.args.params.now.shape)
-    (cut_lawful c.args.params.now c.loop-number.blocks.cut c.requires.lawful c.loop-number.invariant.cut)
-    (cut_count c.args.params.now c.loop-number.blocks.cut c.loop-number.invariant.cut)
-    (omega (arith, length-take c.loop-number.number-index c.args.numbers.now, c.requires.count, c.loop-number-test.true)) c.loop-number.invariant.taken
+    omega (arith, c.loop-number.invariant.count, c.loop-number.invariant.room.room, c.requires.count, c.loop-number-test.true)
 
 pub loop-number-preserved : goal.loop-number-preserved
 loop-number-preserved c =
     let next = c.in_ok-put.ensures.taken (take c.loop-number.number-index c.args.numbers.now) c.loop-number.writer.bits c.loop-number.invariant.taken in
     let more : take (c.loop-number.number-index + 1) c.args.numbers.now ≡ take c.loop-number.number-index c.args.numbers.now ++ get_or c.args.numbers.now c.loop-number.number-index 0 ∷ [] = take_more c.args.numbers.now c.loop-number.number-index 0 c.loop-number-test.true in
-    record { cut = c.in_ok-put.ensures.cut ∙ c.loop-number.invariant.cut; taken = rw (more, next.1) next.2 }
+    record {
+      cut = c.in_ok-put.ensures.cut ∙ c.loop-number.invariant.cut;
+      room = rw c.in_ok-put.ensures.cut c.loop-number.invariant.room;
+      count = omega (arith, c.in_ok-put.ensures.counted, c.loop-number.invariant.count);
+      taken = rw (more, next.1) next.2;
+    }
 
 -- where no number is greater all were taken
 all_taken : (c : After-whole_bytes) → AreOfTwelveBits c.args.numbers.now → take c.loop-number.number-index c.args.numbers.now ≡ c.args.numbers.now
@@ -37,4 +37,4 @@ returns-clause-body c =
     whole_text c.whole_bytes.result (AreOfTwelveBits c.args.numbers.now) c.end.new.writer.bits (body_of c.args.params.now c.args.numbers.now) c.whole_bytes.ensures.filled
     (λ small.
     let taken : HasTaken c.loop-number.blocks c.args.numbers.now c.loop-number.writer.bits = subst (λ (numbers : List ℕ). HasTaken c.loop-number.blocks numbers c.loop-number.writer.bits) (all_taken c small) c.loop-number.invariant.taken in
-    blocks_ended c.args.params.now c.loop-number.blocks c.args.numbers.now c.loop-number.writer.bits c.end.new.writer.bits c.requires.lawful c.loop-number.invariant.cut c.requires.count taken c.in_ok-end.ensures.ended)
+    blocks_ended c.args.params.now c.loop-number.blocks c.args.numbers.now c.loop-number.writer.bits c.end.new.writer.bits c.requires.lawful c.loop-number.invariant.cut c.loop-number.invariant.room c.requires.count taken c.in_ok-end.ensures.ended)

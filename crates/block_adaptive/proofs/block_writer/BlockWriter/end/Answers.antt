@@ -5,7 +5,7 @@ use Rattle.std.proofs.lemmas.Nat.{pow_pos}
 use Rattle.block_adaptive.specs.Segments.{filled}
 use Rattle.block_adaptive.specs.Settings.{IsCut}
 use Rattle.block_adaptive.specs.Taken.{Packed}
-use Rattle.block_adaptive.proofs.Calls.{ends_inside}
+use Rattle.block_adaptive.proofs.Counts.{ends_inside}
 use Rattle.block_adaptive.proofs.Handed.{size_most}
 use Rattle.block_adaptive.proofs.Packing.{nothing_left, last_block, range_filled, on_ok_of}
 use Rattle.block_adaptive.proofs.block_writer.BlockWriter.end.Goals as goal

@@ -1,7 +1,7 @@
-use Rattle.std.proofs.Common.{◌≡◌, ℕ, List, Bool, Result, Ok, Err, OnOk, length}
+use Rattle.std.proofs.Common.{◌≡◌, ◌+◌, ℕ, List, Bool, Result, Ok, Err, OnOk, length}
 use Rattle.cube_core.specs.declared.fault.Fault.{Fault}
 use Rattle.sample_adaptive.specs.Taken.{Counts, PutsNumber as PutsOne}
-use Rattle.block_adaptive.specs.Taken.{Packed, PutsNumber as PutsValue}
+use Rattle.block_adaptive.specs.Taken.{Packed, taken_count, PutsNumber as PutsValue}
 use Rattle.coder_pipe.specs.declared.encoder.Encoder.TheVariants.{Samples, Blocks}
 use Rattle.coder_pipe.specs.Coding.{PutsNumber}
 use Rattle.coder_pipe.proofs.Coders.{samples_put, blocks_put}
@@ -12,13 +12,13 @@ by_samples : (r : Result (Unit {0}) Fault) (z t number : ℕ) (old new : Counts)
 by_samples (Ok u) z t number old new written now kept h = samples_put z t number old new written now h kept
 by_samples (Err e) z t number old new written now kept h = tt
 
-by_blocks : (r : Result (Unit {0}) Fault) (z t number : ℕ) (old new : Packed) (written now : List Bool) → new.cut ≡ old.cut
+by_blocks : (r : Result (Unit {0}) Fault) (z t number : ℕ) (old new : Packed) (written now : List Bool) → new.cut ≡ old.cut → OnOk r (taken_count new ≡ taken_count old + 1)
     → OnOk r (PutsValue number old written new now) → OnOk r (PutsNumber z t number (Blocks old) written (Blocks new) now)
-by_blocks (Ok u) z t number old new written now kept h = blocks_put z t number old new written now h kept
-by_blocks (Err e) z t number old new written now kept h = tt
+by_blocks (Ok u) z t number old new written now kept counted h = blocks_put z t number old new written now h kept counted
+by_blocks (Err e) z t number old new written now kept counted h = tt
 
 pub returns-in-Samples-clause-taken : goal.returns-in-Samples-clause-taken
 returns-in-Samples-clause-taken c = rw c.in-Samples.is (by_samples c.put.result c.args.z c.args.t c.args.delta c.in-Samples.stats c.put.new.self c.args.writer.now.bits c.put.new.writer.bits c.put.ensures.bands c.put.ensures.taken)
 
 pub returns-in-Blocks-clause-taken : goal.returns-in-Blocks-clause-taken
-returns-in-Blocks-clause-taken c = rw c.in-Blocks.is (by_blocks c.put-in-Blocks.result c.args.z c.args.t c.args.delta c.in-Blocks.blocks c.put-in-Blocks.new.self c.args.writer.now.bits c.put-in-Blocks.new.writer.bits c.put-in-Blocks.ensures.cut c.put-in-Blocks.ensures.taken)
+returns-in-Blocks-clause-taken c = rw c.in-Blocks.is (by_blocks c.put-in-Blocks.result c.args.z c.args.t c.args.delta c.in-Blocks.blocks c.put-in-Blocks.new.self c.args.writer.now.bits c.put-in-Blocks.new.writer.bits c.put-in-Blocks.ensures.cut c.put-in-Blocks.ensures.counted c.put-in-Blocks.ensures.taken)
