@@ -5,7 +5,10 @@
 
 `tests/refuse.c`, which this compiles by `cc`, is loaded before the program and refuses the first of its calls for memory, then the second, until a run
 meets none. Each such run ends with status 3, tells want of memory or a refused thread, or nothing where there was none for the line,
-and writes nothing; or it does without, and then its outputs are those of an undisturbed run. At last come files that end behind a header of any size. `rt ci` leaves the program where this looks for it; so does `make`.
+and writes nothing; or it does without, and then its outputs are those of an undisturbed run. Then come files that end behind a header of any size.
+
+At last the same is done to `refusals`, a program over the libraries, which makes each library call again that was refused: whichever it is, its bodies
+and files are those of an undisturbed run. `rt ci` leaves both programs where this looks for them; `make` builds the first.
 """
 
 import os
@@ -19,6 +22,8 @@ from workroom import Workroom
 
 TOP = os.path.dirname(os.path.dirname(os.path.abspath(__file__)))
 PROGRAM = os.path.realpath(sys.argv[1] if len(sys.argv) > 1 else os.path.join(TOP, "crates", "ccsds", "out", "ccsds"))
+
+CALLS = os.path.join(TOP, "crates", "refusals", "out", "refusals")
 
 DONE, INPUT, REFUSED = 0, 2, 3
 MEMORY, THREAD = b"ccsds: 12 WantOfMemory\n", b"ccsds: 16 SpawnRefused\n"
@@ -37,14 +42,14 @@ class Room(Workroom):
         super().__init__(folder)
         self.passed, self.failed = 0, 0
 
-    def run(self, words, refuse=None, limit=None):
+    def run(self, words, refuse=None, limit=None, program=PROGRAM):
         """The status, the line on standard error, and all that was written: standard output and `out`."""
         self.write("out", b"")
         around = {} if refuse is None else {"LD_PRELOAD": self.path("refuse.so"), "REFUSE": str(refuse), "REFUSED": self.path("mark")}
         bound = (lambda: resource.setrlimit(resource.RLIMIT_AS, (limit, limit))) if limit else None
         with open(self.path("sample.file" if words == ["inspect"] else "scene.cube"), "rb") as given:
             ran = subprocess.run(
-                [PROGRAM, *map(str, words)], stdin=given, capture_output=True, cwd=self.folder, env=around, preexec_fn=bound, timeout=60, check=False
+                [program, *map(str, words)], stdin=given, capture_output=True, cwd=self.folder, env=around, preexec_fn=bound, timeout=60, check=False
             )
         return ran.returncode, ran.stderr, ran.stdout + self.read("out")
 
@@ -126,6 +131,26 @@ def limits(room, name, words, lines):
     return whole
 
 
+def each_call(room):
+    """Refuses each call for memory of `refusals` in turn; in how many runs a library call was refused and made again."""
+    status, _, wanted = room.run(["all"], program=CALLS)
+    bodies, last = wanted.rsplit(b"made again: ", 1)
+    room.hold("calls", (status, last) == (DONE, b"0\n") and bodies.count(b"by predictors true, back true") == 2, wanted)
+    again = 0
+    for nth in range(1, MOST):
+        found = room.run(["all"], refuse=nth, program=CALLS)
+        if not room.met():
+            room.hold("calls: nothing refused", found[2] == wanted, found)
+            return again
+        # Where the refusal comes before the first call, or where there is none for the lines, the program says so and prints nothing.
+        early = found[0] != DONE and found[2] == b""
+        repeated = found[2] == bodies + b"made again: 1\n"
+        room.hold(f"calls: call {nth} refused", early or repeated or found[2] == wanted, found)
+        again += repeated
+    room.hold(f"calls: more than {MOST} growths", False, None)
+    return again
+
+
 def announced(room):
     """Files that end behind their header, whatever sizes it announces, are refused in little memory."""
     chance = random.Random(2)
@@ -149,6 +174,10 @@ def main():
         for name, (words, lines) in COMMANDS.items():
             print(f"{name}: whole under {limits(room, name, words, lines)} limits of {len(range(256, 8192, 64))}")
         announced(room)
+        if os.access(CALLS, os.X_OK):
+            again = each_call(room)
+            room.hold("calls made again", again > 0, again)
+            print(f"calls: in {again} runs a refused call was made again")
         print(f"{room.passed} passed, {room.failed} failed")
         sys.exit(1 if room.failed else 0)
 

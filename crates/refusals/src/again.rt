@@ -1,0 +1,43 @@
+//! How many calls were made again.
+
+/// Counts calls that were refused memory and made again.
+#[derive(Drop)]
+pub struct Again {
+    count: u32,
+}
+
+impl Again {
+    /// None so far.
+    pub fn new() -> Again {
+        Again { count: 0 }
+    }
+
+    /// One more.
+    pub fn more(&mut self) {
+        self.count = self.count.saturating_add(1);
+    }
+
+    /// How many.
+    pub fn count(&self) -> u32 {
+        self.count
+    }
+}
+
+/// So many numbers of twelve bits: runs of zeros of many lengths, and small, middle and great ones between them.
+pub fn numbers(alloc: std::alloc::Global, count: u32) -> Result<Vec<u16>, cube_core::fault::Fault> {
+    let mut numbers = Vec::new(alloc);
+    let mut state = 1u64;
+    for t in 0..count {
+        state = state
+            .wrapping_mul(6_364_136_223_846_793_005)
+            .wrapping_add(1_442_695_040_888_963_407);
+        let some = (state >> 52) as u16;
+        numbers.push(match (t / 7 + t / 64) % 6 {
+            0 => 4095,
+            1 => some,
+            2 => some >> 11,
+            _ => 0,
+        })?;
+    }
+    Ok(numbers)
+}

@@ -1,0 +1,231 @@
+//! Files, there and back, on one thread and by predictors.
+
+ghost use Rattle.std.specs.Prelude.{◌≡◌, ◌^◌, ◌≤◌, IfOk, vec_len};
+ghost use Rattle.header_bits.specs.Lawful.{IsLawful};
+ghost use Rattle.header_bits.specs.Reach.{here};
+ghost use Rattle.coder_pipe.specs.Sends.{IsSeen};
+
+use crate::again::{Again, numbers};
+use coder_pipe::OpenGate;
+use coder_pipe::decode::decode;
+use coder_pipe::encode::encode_one;
+use coder_pipe::encode_predicted::encode_predicted;
+use coder_pipe::pipeline::Piped;
+use coder_pipe::plan::Plan;
+use cube_core::cube::Cube;
+use cube_core::fault::Fault;
+use cube_core::kind::Kind;
+use cube_core::layout::{Layout, RawOrder};
+use cube_core::order::Order;
+use cube_core::shape::Shape;
+use header_bits::bit_writer::BitWriter;
+use header_bits::params::{Coder, CountStart, Params, WeightStart};
+use std::alloc::Global;
+use std::sync::Wait;
+use std::thread::Threads;
+
+/// How many samples a cube has: 23 x 17 x 5.
+const SAMPLES: u32 = 1955;
+
+/// The longest file that can be decoded.
+const MOST_BYTES: usize = 1 << 60;
+
+/// Samples of two bytes, band after band.
+const BYTES: Layout = Layout {
+    order: RawOrder::Bsq,
+    bytes: 2,
+    little: false,
+};
+
+/// A line for each coder: its file's length and checksum, whether predictors give the same, and whether it gives the cube back.
+pub fn lines<R: Threads + Wait + Sync>(
+    rt: &R,
+    alloc: Global,
+    again: &mut Again,
+) -> Result<String, Fault> {
+    let samples = Coder::Sample {
+        umax: 16,
+        gamma_star: 6,
+        gamma_zero: 1,
+        start: CountStart::Constant(3),
+    };
+    let blocks = Coder::Block {
+        size: 16,
+        restricted: false,
+        reference: 64,
+    };
+    let first = line(rt, alloc, &params_of(Order::Bi(2), samples)?, again)?;
+    let second = line(rt, alloc, &params_of(Order::Bsq, blocks)?, again)?;
+    let lines = format!(in alloc; "{first}{second}")?;
+    Ok(lines)
+}
+
+/// Parameters of 12 bits.
+fn params_of(order: Order, coder: Coder) -> Result<Params, Fault>
+    ensures { IfOk result (λ p. IsLawful here p) }
+{
+    let params = Params {
+        shape: Shape::new(23, 17, 5)?,
+        kind: Kind::new(false, 12)?,
+        order,
+        user: 0,
+        word: 1,
+        previous: 3,
+        reduced: false,
+        column: false,
+        register: 32,
+        omega: 13,
+        interval_log: 6,
+        vmin: -1,
+        vmax: 3,
+        start: WeightStart::Usual,
+        coder,
+    };
+    params.check()?;
+    Ok(params)
+}
+
+/// The line of parameters.
+fn line<R: Threads + Wait + Sync>(
+    rt: &R,
+    alloc: Global,
+    params: &Params,
+    again: &mut Again,
+) -> Result<String, Fault>
+    requires { IsLawful here params.now }
+{
+    let cube = scene(alloc, params, again)?;
+    let file = encoded(alloc, &cube, params, again)?;
+    let plan = plan_of(alloc, params, again)?;
+    let piped = piped(rt, alloc, &cube, &plan, again)?;
+    let is_same = piped.file.as_slice() == file.as_slice();
+    let is_back = comes_back(alloc, &cube, &file, again)?;
+    let length = file.len();
+    let sum = sum_of(&file);
+    let line = format!(in alloc;
+        "file: {length} bytes, {sum:016x}, by predictors {is_same}, back {is_back}\n"
+    )?;
+    Ok(line)
+}
+
+/// A cube of numbers, asked for again where it was refused.
+fn scene(alloc: Global, params: &Params, again: &mut Again) -> Result<Cube, Fault>
+    ensures cube { IfOk result (λ c. (c.shape ≡ params.now.shape) × (c.kind ≡ params.now.kind)) }
+{
+    let mut bytes = Vec::new(alloc);
+    for number in numbers(alloc, SAMPLES)? {
+        bytes.push((number >> 8) as u8)?;
+        bytes.push((number & 0xff) as u8)?;
+    }
+    match Cube::from_raw(alloc, params.shape, params.kind, BYTES, &bytes) {
+        Ok(cube) => Ok(cube),
+        Err(_) => {
+            again.more();
+            Cube::from_raw(alloc, params.shape, params.kind, BYTES, &bytes)
+        }
+    }
+}
+
+/// A plan for two predictors with eight slots each, asked for again where it was refused.
+fn plan_of(alloc: Global, params: &Params, again: &mut Again) -> Result<Plan, Fault>
+    requires { IsLawful here params.now }
+    ensures { IfOk result (λ plan. plan.params ≡ params.now) }
+{
+    let deal = [0, 1, 1, 0, 1];
+    match Plan::new(alloc, params, 2, &deal, 8) {
+        Ok(plan) => Ok(plan),
+        Err(_) => {
+            again.more();
+            Plan::new(alloc, params, 2, &deal, 8)
+        }
+    }
+}
+
+/// The file of a cube, encoded again where that was refused.
+fn encoded(alloc: Global, cube: &Cube, params: &Params, again: &mut Again) -> Result<Vec<u8>, Fault>
+    requires lawful { IsLawful here params.now }
+    requires shape { cube.now.shape ≡ params.now.shape }
+    requires kind { cube.now.kind ≡ params.now.kind }
+{
+    match encode_one(alloc, cube, params) {
+        Ok(file) => Ok(file),
+        Err(_) => {
+            again.more();
+            encode_one(alloc, cube, params)
+        }
+    }
+}
+
+/// What predictors make of a cube, made again where that was refused, be it memory or a thread.
+fn piped<R: Threads + Wait + Sync>(
+    rt: &R,
+    alloc: Global,
+    cube: &Cube,
+    plan: &Plan,
+    again: &mut Again,
+) -> Result<Piped, Fault>
+    requires { IsSeen plan.now.params cube.now }
+{
+    match encode_predicted(rt, alloc, cube, plan, &OpenGate) {
+        Ok(piped) => Ok(piped),
+        Err(_) => {
+            again.more();
+            encode_predicted(rt, alloc, cube, plan, &OpenGate)
+        }
+    }
+}
+
+/// Whether a file gives a cube back; it is decoded again where that was refused.
+fn comes_back(alloc: Global, cube: &Cube, file: &[u8], again: &mut Again) -> Result<bool, Fault> {
+    if file.len() > MOST_BYTES {
+        return Ok(false);
+    }
+    let (_params, found) = match decode(alloc, file) {
+        Ok(found) => found,
+        Err(_) => {
+            again.more();
+            decode(alloc, file)?
+        }
+    };
+    let raw = raw_of(alloc, cube, again)?;
+    let raw_found = raw_of(alloc, &found, again)?;
+    Ok(raw.as_slice() == raw_found.as_slice())
+}
+
+/// The raw bytes of a cube, asked for again where they were refused.
+fn raw_of(alloc: Global, cube: &Cube, again: &mut Again) -> Result<Vec<u8>, Fault> {
+    match cube.to_raw(alloc, BYTES) {
+        Ok(raw) => Ok(raw),
+        Err(_) => {
+            again.more();
+            cube.to_raw(alloc, BYTES)
+        }
+    }
+}
+
+/// The bytes of a writer, with zeros that fill the last, pushed again where that was refused.
+pub fn whole_bytes(
+    alloc: Global,
+    mut writer: BitWriter,
+    again: &mut Again,
+) -> Result<Vec<u8>, Fault> {
+    let over = (writer.bit_count() % 8) as u32;
+    let fill = (8 - over) % 8;
+    if writer.push(0, fill).is_err() {
+        again.more();
+        writer.push(0, fill)?;
+    }
+    if writer.bit_count() % 8 != 0 {
+        return Ok(Vec::new(alloc));
+    }
+    Ok(writer.into_bytes())
+}
+
+/// A checksum of bytes.
+pub fn sum_of(bytes: &[u8]) -> u64 {
+    let mut sum = 0u64;
+    for byte in bytes {
+        sum = sum.rotate_left(5).wrapping_add(u64::from(*byte));
+    }
+    sum
+}

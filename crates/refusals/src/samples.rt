@@ -1,0 +1,119 @@
+//! Bodies of code words.
+
+ghost use Rattle.std.specs.Prelude.{◌≡◌, ◌^◌, ◌<◌, ◌≤◌, length, IfOk};
+ghost use Rattle.sample_adaptive.specs.Settings.{AreForSamples};
+
+use crate::again::{Again, numbers};
+use cube_core::fault::Fault;
+use cube_core::kind::Kind;
+use cube_core::order::Order;
+use cube_core::shape::Shape;
+use header_bits::bit_writer::BitWriter;
+use header_bits::params::{Coder, CountStart, Params, WeightStart};
+use sample_adaptive::stats::Stats;
+use std::alloc::Global;
+
+/// How many numbers are written.
+const COUNT: u32 = 6001;
+
+/// The length of a body and its checksum.
+pub fn line(alloc: Global, again: &mut Again) -> Result<String, Fault> {
+    let params = params(Shape::new(1, COUNT, 1)?, Kind::new(false, 12)?);
+    let numbers = numbers(alloc, COUNT)?;
+    let body = body(alloc, &params, &numbers, again)?;
+    let length = body.len();
+    let sum = crate::files::sum_of(&body);
+    let line = format!(in alloc; "samples: {length} bytes, {sum:016x}\n")?;
+    Ok(line)
+}
+
+/// Parameters of one band.
+fn params(shape: Shape, kind: Kind) -> Params
+    requires { kind.bits ≡ 12 }
+    ensures lawful { AreForSamples result }
+    ensures bits { result.kind.bits ≡ 12 }
+    ensures bands { 1 ≤ result.shape.bands }
+{
+    let _bands = shape.bands();
+    Params {
+        shape,
+        kind,
+        order: Order::Bsq,
+        user: 0,
+        word: 1,
+        previous: 0,
+        reduced: true,
+        column: true,
+        register: 32,
+        omega: 13,
+        interval_log: 6,
+        vmin: -1,
+        vmax: 3,
+        start: WeightStart::Usual,
+        coder: Coder::Sample {
+            umax: 18,
+            gamma_star: 6,
+            gamma_zero: 1,
+            start: CountStart::Constant(5),
+        },
+    }
+}
+
+/// The code words of numbers, in whole bytes.
+fn body(
+    alloc: Global,
+    params: &Params,
+    numbers: &[u16],
+    again: &mut Again,
+) -> Result<Vec<u8>, Fault>
+    requires lawful { AreForSamples params.now }
+    requires bits { params.now.kind.bits ≡ 12 }
+    requires bands { 1 ≤ params.now.shape.bands }
+{
+    let mut stats = statistics(alloc, params, again)?;
+    let mut writer = BitWriter::new(alloc);
+    for (t, number) in numbers.iter().enumerate() {
+        // None is greater, as `put` asks.
+        if *number > 4095 {
+            break;
+        }
+        put(&mut stats, t as u64, *number, &mut writer, again)?;
+    }
+    crate::files::whole_bytes(alloc, writer, again)
+}
+
+/// The coder of an image, asked for again where it was refused.
+fn statistics(alloc: Global, params: &Params, again: &mut Again) -> Result<Stats, Fault>
+    requires { AreForSamples params.now }
+    ensures bands { IfOk result (λ s. length s.bands ≡ params.now.shape.bands) }
+    ensures bits { IfOk result (λ s. s.bits ≡ params.now.kind.bits) }
+{
+    match Stats::new(alloc, params) {
+        Ok(stats) => Ok(stats),
+        Err(_) => {
+            again.more();
+            Stats::new(alloc, params)
+        }
+    }
+}
+
+/// Puts a number, and puts it again where that was refused.
+fn put(
+    stats: &mut Stats,
+    t: u64,
+    number: u16,
+    writer: &mut BitWriter,
+    again: &mut Again,
+) -> Result<(), Fault>
+    requires band { 0 < length stats.old.bands }
+    requires number { number < 2 ^ stats.old.bits }
+    ensures bands { (length stats.new.bands ≡ length stats.old.bands) × (stats.new.bits ≡ stats.old.bits) }
+{
+    match stats.put(0, t, number, writer) {
+        Ok(()) => Ok(()),
+        Err(_) => {
+            again.more();
+            stats.put(0, t, number, writer)
+        }
+    }
+}
