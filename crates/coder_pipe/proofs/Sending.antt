@@ -1,18 +1,17 @@
 -- The walk over a predictor's own places, step by step.
-use Rattle.std.proofs.Common.{◌≡◌, ◌+◌, ◌*◌, ◌<◌, ◌≤◌, ℕ, zero, suc, Bool, true, false, List, [], ◌∷◌, ◌++◌, length, take, drop, get_or, set, IsTrue, IsFalse, inl, inr, refl, sym, ap, ◌∙◌, subst, append-nil, append_assoc, length-append, length-take, length-drop, add-one, arith}
+use Rattle.std.proofs.Common.{◌≡◌, ◌+◌, ◌<◌, ◌≤◌, ℕ, zero, suc, Bool, true, false, List, [], ◌∷◌, ◌++◌, length, take, drop, get_or, set, IsTrue, IsFalse, inl, inr, refl, sym, ap, ◌∙◌, subst, append-nil, append_assoc, length-append, length-take, length-drop, add-one, arith}
 use Rattle.std.specs.List.{flat_map}
 use Rattle.std.proofs.lemmas.Bool.{cases_eq}
 use Rattle.std.proofs.lemmas.Grind.{flat_map-append}
 use Rattle.std.proofs.lemmas.Slice.{take-put_mid, drop-put_mid}
 use borrow.Rule.Slice.PartMut.{put_mid}
-use Rattle.std.proofs.lemmas.List.{map-append, take-append-drop, take_more, length-map, get_or-map, nil_from_length}
+use Rattle.std.proofs.lemmas.List.{map-append, take-append-drop, nil_from_length}
 use Rattle.std.proofs.Math.Seq.{map-set_same}
 use Rattle.cube_core.specs.Image.{Image}
 use Rattle.cube_core.specs.Order.{from, upto}
 use Rattle.header_bits.specs.declared.params.Params.{Params}
 use Rattle.lane_workers.specs.Runs.{RunSending}
-use Rattle.predict_core.specs.Following.{Learner, Follows, MovesOn}
-use Rattle.predict_core.specs.Residual.{mapped_residual}
+use Rattle.predict_core.specs.Following.{Learner}
 use Rattle.coder_pipe.specs.Own.{column_of, row_of, rows_of}
 use Rattle.coder_pipe.specs.Sends.{IsAt, AreAt, bands_of, Sends}
 
@@ -68,36 +67,13 @@ module _ {G : Type 0} where
 
 -- ---- one band behind another
 
-pub at_step : (p : Params) (c : Image) (t u i : ℕ) (bands : List Learner) (d : Learner) → i < length bands → AreAt p c u (take i bands) → AreAt p c t (drop i bands) → IsAt p c u d → AreAt p c u (take (i + 1) (set bands i d)) × AreAt p c t (drop (i + 1) (set bands i d))
-at_step p c t u i [] d lt done left here = absurd (omega arith)
-at_step p c t u zero (b ∷ bands) d lt done left here = ((here, tt), left.1)
-at_step p c t u (suc i) (b ∷ bands) d lt done left here =
-    let more = at_step p c t u i bands d (omega (arith, lt)) done.1 left here in
-    rw add-one ((done.0, (rw add-one at more.0)), (rw add-one at more.1))
-
 pub at_index : (p : Params) (c : Image) (t i : ℕ) (bands : List Learner) (b : Learner) → i < length bands → AreAt p c t (drop i bands) → b ≡ get_or bands i b → IsAt p c t b
 at_index p c t i [] b lt left e = absurd (omega arith)
 at_index p c t zero (a ∷ bands) b lt left e = subst (IsAt p c t) (sym e) left.0
 at_index p c t (suc i) (a ∷ bands) b lt left e = at_index p c t i bands b (omega (arith, lt)) left e
 
-pub moved_on : (p : Params) (c : Image) (t : ℕ) (b d : Learner) → IsAt p c t b → MovesOn b d → (Follows p b c → Follows p d c) → IsAt p c (t + 1) d
-moved_on p c t b d h moves follows = record { follows = follows h.follows; place = moves.place ∙ ap (λ n. n + 1) h.place; inside = omega (arith, h.inside, moves.band) }
-
-pub same_bands : (bands was : List Learner) (i : ℕ) (b d : Learner) → bands_of bands ≡ bands_of was → b ≡ get_or bands i b → MovesOn b d → bands_of (set bands i d) ≡ bands_of was
-same_bands bands was i b d same e moves = map-set_same (λ r. r.band) bands i d b (moves.band ∙ ap (λ (r : Learner). r.band) e) ∙ same
-
--- the residual of the next band
-pub next_of_column : (p : Params) (c : Image) (y x i number : ℕ) (bands was : List Learner) (b : Learner) → i < length bands → bands_of bands ≡ bands_of was → b ≡ get_or bands i b → b.place ≡ y * c.shape.columns + x → number ≡ mapped_residual p c b.band b.place
-    → take (i + 1) (column_of p c (bands_of was) y x) ≡ take i (column_of p c (bands_of was) y x) ++ number ∷ []
-next_of_column p c y x i number bands was b lt same e at value =
-    let t : ℕ = y * c.shape.columns + x in
-    let zs : List ℕ = bands_of was in
-    let long : i < length (bands_of was) = omega (arith, ap (λ (ns : List ℕ). length ns) same, length-map bands (λ r. r.band)) in
-    let list : List ℕ = column_of p c (bands_of was) y x in
-    let within : i < length (column_of p c (bands_of was) y x) = omega (arith, long, length-map (bands_of was) (λ z. mapped_residual p c z (y * c.shape.columns + x))) in
-    let band : get_or (bands_of was) i 0 ≡ b.band = ap (λ (ns : List ℕ). get_or ns i 0) (sym same) ∙ get_or-map (λ r. r.band) bands i b 0 lt ∙ ap (λ (r : Learner). r.band) (sym e) in
-    let item : get_or (column_of p c (bands_of was) y x) i 0 ≡ number = get_or-map (λ z. mapped_residual p c z (y * c.shape.columns + x)) (bands_of was) i 0 0 long ∙ ap (λ z. mapped_residual p c z (y * c.shape.columns + x)) band ∙ ap (λ k. mapped_residual p c b.band k) (sym at) ∙ sym value in
-    take_more (column_of p c (bands_of was) y x) i 0 within ∙ ap (λ n. take i (column_of p c (bands_of was) y x) ++ n ∷ []) item
+pub same_bands : (bands was : List Learner) (i : ℕ) (b d : Learner) → bands_of bands ≡ bands_of was → b ≡ get_or bands i b → d.band ≡ b.band → bands_of (set bands i d) ≡ bands_of was
+same_bands bands was i b d same e band = map-set_same (λ r. r.band) bands i d b (band ∙ ap (λ (r : Learner). r.band) e) ∙ same
 
 -- ---- pieces, one behind another
 
@@ -168,10 +144,6 @@ pub row_is : (p : Params) (c : Image) (zs : List ℕ) (y : ℕ) → row_of p c z
 unfolding row_of
 row_is p c zs y = refl
 
-pub row_pieces : (p : Params) (c : Image) (zs : List ℕ) (y x : ℕ) → x < c.shape.columns → Pieces (row_of p c zs y) (flat_map (λ x. column_of p c zs y x) (upto x)) (column_of p c zs y x)
-unfolding row_of
-row_pieces p c zs y x lt = upto_rest (λ x. column_of p c zs y x) x c.shape.columns lt
-
 pub rows_is : (p : Params) (c : Image) (zs : List ℕ) → rows_of p c zs ≡ flat_map (λ y. row_of p c zs y) (upto c.shape.rows)
 unfolding rows_of
 rows_is p c zs = refl
@@ -179,9 +151,6 @@ rows_is p c zs = refl
 pub rows_pieces : (p : Params) (c : Image) (zs : List ℕ) (y : ℕ) → y < c.shape.rows → Pieces (rows_of p c zs) (flat_map (λ y. row_of p c zs y) (upto y)) (row_of p c zs y)
 unfolding rows_of
 rows_pieces p c zs y lt = upto_rest (λ y. row_of p c zs y) y c.shape.rows lt
-
-pub length-column : (p : Params) (c : Image) (bands was : List Learner) (y x : ℕ) → bands_of bands ≡ bands_of was → length (column_of p c (bands_of was) y x) ≡ length bands
-length-column p c bands was y x same = length-map (bands_of was) (λ z. mapped_residual p c z (y * c.shape.columns + x)) ∙ ap (λ (zs : List ℕ). length zs) (sym same) ∙ length-map bands (λ r. r.band)
 
 -- ---- some of the bands
 

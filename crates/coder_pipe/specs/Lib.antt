@@ -7,6 +7,7 @@ pub mod Files
 pub mod Laws
 pub mod Least
 pub mod Own
+pub mod Pieces
 pub mod Piping
 pub mod Plans
 pub mod Rows

@@ -4,8 +4,9 @@ ghost use Rattle.std.specs.Prelude.{◌≡◌, ◌+◌, ◌*◌, ◌-◌, ◌^�
 ghost use Rattle.std.specs.List.{flat_map};
 ghost use Rattle.cube_core.specs.Order.{IsOrder, from, upto, group, group_count};
 ghost use Rattle.cube_core.specs.declared.order.Order.TheVariants.{Bi};
-ghost use Rattle.coder_pipe.specs.Own.{own, column_of, row_of, rows_of, line_of, own_residuals};
+ghost use Rattle.coder_pipe.specs.Own.{own, row_of, rows_of, line_of, own_residuals};
 ghost use Rattle.coder_pipe.specs.Sends.{IsSeen, AreAt, bands_of, Sends};
+ghost use Rattle.coder_pipe.specs.Pieces.{ArePast, held_at, held_of};
 
 use crate::plan::Plan;
 use cube_core::cube::Cube;
@@ -15,30 +16,60 @@ use lane_workers::run_sender::RunSender;
 use predict_core::band::Band;
 use std::sync::Wait;
 
-/// Sends the residuals of some bands at row `y`, column `x`. False where the gate has stopped the sender.
-#[inline(always)]
-fn send_column<R: Wait, G: Gate>(
-    rt: &R,
-    cube: &Cube,
-    plan: &Plan,
-    y: u32,
-    x: u32,
-    bands: &mut [Band],
-    sender: &mut RunSender<'_, G>,
-) -> bool
+/// The most places of a piece of a row.
+const PIECE: u32 = 64;
+
+/// Each of some bands goes over so many places of row `y`, from column `x` on, and holds their residuals.
+fn predict_pieces(cube: &Cube, plan: &Plan, y: u32, x: u32, count: u32, bands: &mut [Band])
     requires image { IsSeen plan.now.params cube.now }
     requires place { (y < cube.now.shape.rows) × (x < cube.now.shape.columns) }
+    requires piece { (count ≤ 64) × (x + count ≤ cube.now.shape.columns) }
     requires at { AreAt plan.now.params cube.now (y * cube.now.shape.columns + x) bands.old }
-    requires ready { IsTrue sender.old.ready }
-    requires few { length sender.old.taken + length bands.old < 2 ^ 64 }
-    ensures sent { Sends sender.old sender.new result (column_of plan.now.params cube.now (bands_of bands.old) y x) }
-    ensures at { IsTrue result → AreAt plan.now.params cube.now (y * cube.now.shape.columns + x + 1) bands.new }
+    ensures past { ArePast plan.now.params cube.now (y * cube.now.shape.columns + x) count bands.new }
     ensures same { bands_of bands.new ≡ bands_of bands.old }
 {
     for i in 0..bands.len() {
         let band = &mut bands[i];
-        let residual = band.forward(cube, y, x);
+        band.predict_piece(cube, y, x, count as usize);
+    }
+}
+
+/// Sends the residuals that some bands hold of place `i` of their pieces. False where the gate has stopped the sender.
+#[inline(always)]
+fn send_column<R: Wait, G: Gate>(
+    rt: &R,
+    i: u32,
+    bands: &[Band],
+    sender: &mut RunSender<'_, G>,
+) -> bool
+    requires place { i < 64 }
+    requires ready { IsTrue sender.old.ready }
+    requires few { length sender.old.taken + length bands.now < 2 ^ 64 }
+    ensures sent { Sends sender.old sender.new result (held_at bands.now i) }
+{
+    for k in 0..bands.len() {
+        let residual = bands[k].piece_residual(i as usize);
         if !sender.send(rt, residual) {
+            return false;
+        }
+    }
+    true
+}
+
+/// Sends the residuals that some bands hold of their pieces, column after column. False where the gate has stopped the sender.
+fn send_pieces<R: Wait, G: Gate>(
+    rt: &R,
+    count: u32,
+    bands: &[Band],
+    sender: &mut RunSender<'_, G>,
+) -> bool
+    requires piece { count ≤ 64 }
+    requires ready { IsTrue sender.old.ready }
+    requires few { length sender.old.taken + length (held_of bands.now count) < 2 ^ 64 }
+    ensures sent { Sends sender.old sender.new result (held_of bands.now count) }
+{
+    for i in 0..count {
+        if !send_column(rt, i, bands, sender) {
             return false;
         }
     }
@@ -63,10 +94,15 @@ fn send_row<R: Wait, G: Gate>(
     ensures at { IsTrue result → AreAt plan.now.params cube.now ((y + 1) * cube.now.shape.columns) bands.new }
     ensures same { bands_of bands.new ≡ bands_of bands.old }
 {
-    for x in 0..cube.shape().columns() {
-        if !send_column(rt, cube, plan, y, x, bands, sender) {
+    let columns = cube.shape().columns();
+    let mut x = 0;
+    while x < columns {
+        let count = PIECE.min(columns - x);
+        predict_pieces(cube, plan, y, x, count, bands);
+        if !send_pieces(rt, count, bands, sender) {
             return false;
         }
+        x += count;
     }
     true
 }
