@@ -21,6 +21,7 @@ pub mod Parts
 pub mod Pipelines
 pub mod Planning
 pub mod Predicted
+pub mod RowPieces
 pub mod Sending
 pub mod Standings
 pub mod Taking

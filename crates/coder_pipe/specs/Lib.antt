@@ -7,12 +7,15 @@ pub mod Files
 pub mod Laws
 pub mod Least
 pub mod Own
+pub mod Pieces
 pub mod Piping
 pub mod Plans
 pub mod Rows
 pub mod Sends
 pub mod Standings
 pub mod Stops
+pub mod TakingLaws
+pub mod Takings
 pub mod Walked
 pub mod Weave
 pub mod Woven

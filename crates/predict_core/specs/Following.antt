@@ -8,7 +8,7 @@ use Rattle.predict_core.specs.declared.predictor.Predictor.{Predictor}
 use Rattle.predict_core.specs.Predictor.{predictor_of}
 use Rattle.predict_core.specs.Prediction.{weight_vector}
 
--- what a band's predictor knows: its parameters, the place that comes next, and the weights there
+-- what a band's predictor knows: its parameters, the place that comes next, the weights there, and the residuals of the piece behind it
 pub record Learner : Type 0 where
   pub predictor : Predictor
   pub shape : Sizes
@@ -16,6 +16,7 @@ pub record Learner : Type 0 where
   pub band : ℕ
   pub place : ℕ
   pub weights : List ℤ
+  pub piece : List ℕ
 
 -- the predictor was made for these parameters
 pub record IsMadeFor (p : Params) (b : Learner) : Type 0 where

@@ -33,6 +33,7 @@ pub struct Band {
     shape: Shape,
     next: u64,
     weights: [i32; 18],
+    pub(crate) piece: [u16; 64],
 }
 
 impl Model for Band {
@@ -42,7 +43,7 @@ impl Model for Band {
 
     ghost Value = { Learner };
 
-    ghost view = { λ b. record { predictor = b.settings.predictor; shape = b.shape; kind = b.settings.range.kind; band = b.settings.band; place = b.next; weights = take b.settings.count b.weights } };
+    ghost view = { λ b. record { predictor = b.settings.predictor; shape = b.shape; kind = b.settings.range.kind; band = b.settings.band; place = b.next; weights = take b.settings.count b.weights; piece = b.piece } };
 
     ghost invariant = { λ b. IsLearner b.settings b.shape b.weights };
 }
@@ -76,6 +77,7 @@ impl Band {
             shape: params.shape,
             next: 0,
             weights: usual_start(params.omega, first, previous),
+            piece: [0; 64],
         })
     }
 

@@ -9,6 +9,7 @@ mod fills;
 pub mod laws;
 mod lines;
 mod neighbourhood;
+mod piece;
 mod prediction;
 pub mod predictor;
 mod range;
