@@ -13,6 +13,7 @@ pub mod Precedence
 pub mod Prediction
 pub mod Predictor
 pub mod Residual
+pub mod Rooms
 pub mod Weights
 pub mod Rows
 pub mod Everything

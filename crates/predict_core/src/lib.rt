@@ -14,6 +14,7 @@ pub mod predictor;
 mod range;
 mod register;
 pub mod residual;
+mod room;
 mod run;
 mod settings;
 mod start;
