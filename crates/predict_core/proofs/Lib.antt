@@ -1,3 +1,4 @@
+pub mod Chains
 pub mod Directions
 pub mod Filling
 pub mod Following
@@ -5,6 +6,7 @@ pub mod Frame
 pub mod Inverting
 pub mod LocalSums
 pub mod Moves
+pub mod Gathered
 pub mod OneSample
 pub mod Padding
 pub mod Prefixes
@@ -25,3 +27,4 @@ pub mod RunSteps
 pub mod Places
 pub mod Inner
 pub mod Links
+pub mod Runs

@@ -1,5 +1,6 @@
 pub mod Arithmetic
 pub mod Bounds
+pub mod Chain
 pub mod Differences
 pub mod Following
 pub mod HeightSum
