@@ -15,6 +15,7 @@ pub mod Residuals
 pub mod Scaled
 pub mod Spans
 pub mod Starting
+pub mod Told
 pub mod Raising
 pub mod Largest
 pub mod Floors
@@ -23,5 +24,6 @@ pub mod Borders
 pub mod BandLines
 pub mod RunSteps
 pub mod Places
+pub mod Quads
 pub mod Inner
 pub mod Links
