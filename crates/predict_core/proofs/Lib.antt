@@ -17,6 +17,7 @@ pub mod Residuals
 pub mod Scaled
 pub mod Spans
 pub mod Starting
+pub mod Told
 pub mod Raising
 pub mod Largest
 pub mod Floors
@@ -25,6 +26,7 @@ pub mod Borders
 pub mod BandLines
 pub mod RunSteps
 pub mod Places
+pub mod Quads
 pub mod Inner
 pub mod Links
 pub mod Runs

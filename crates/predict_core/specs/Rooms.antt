@@ -1,10 +1,12 @@
 -- What the samples tell of a run of places, before its weights are known.
-use Rattle.std.specs.Prelude.{ℕ, ◌≡◌, ◌+◌, ◌-◌, ◌*◌, ◌/◌, ◌^◌, ◌<◌, ◌≤◌, ℤ, pos, ◌+ℤ◌, ◌*ℤ◌, ◌≤ℤ◌, unsigned_abs, List, [], ◌++◌, take, replicate, slice_index_or}
+use Rattle.std.specs.Prelude.{ℕ, ◌≡◌, ◌+◌, ◌-◌, ◌*◌, ◌/◌, ◌^◌, ◌<◌, ◌≤◌, nat_le, ℤ, pos, ◌+ℤ◌, ◌*ℤ◌, ◌≤ℤ◌, unsigned_abs, List, [], ◌++◌, map, take, replicate, slice_index_or, if◌then◌else◌}
 use Rattle.std.specs.List.{flat_map}
 use Rattle.cube_core.specs.Kind.{smin}
 use Rattle.cube_core.specs.Image.{Image}
+use Rattle.cube_core.specs.Order.{from}
 use Rattle.predict_core.specs.declared.predictor.Predictor.{Predictor}
 use Rattle.predict_core.specs.declared.room.Quad.{Quad}
+use Rattle.predict_core.specs.Predictor.{previous_bands}
 use Rattle.predict_core.specs.LocalSum.{local_sum}
 use Rattle.predict_core.specs.Differences.{central_difference, difference_vector}
 use Rattle.predict_core.specs.Bounds.{AllWithin}
@@ -16,6 +18,14 @@ components_at n quads i = flat_map (λ (q : Quad). slice_index_or q.places i [])
 -- how many quads so many components take
 abbrev pub quads_of : ℕ → ℕ
 quads_of count = (count + 3) / 4
+
+-- the central difference of the kth band below at a place, and 0 where there is none
+unfoldable pub lower_difference : Predictor → Image → ℕ → ℕ → ℕ → ℕ → ℤ
+lower_difference p c z y x k = if nat_le k (previous_bands p z) then central_difference p c (z - k) y x else pos 0
+
+-- those of n bands, from the kth below on
+unfoldable pub lower_differences : Predictor → Image → ℕ → ℕ → ℕ → ℕ → ℕ → List ℤ
+lower_differences p c z y x k n = map (lower_difference p c z y x) (from k n)
 
 -- a room tells the sums and differences of a run of count places of band z from row y, column x on, but for the first of the band
 pub record IsRoom (p : Predictor) (c : Image) (z y x count components : ℕ) (sums own : List ℤ) (quads : List Quad) : Type 0 where
