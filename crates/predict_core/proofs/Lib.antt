@@ -30,3 +30,4 @@ pub mod Quads
 pub mod Inner
 pub mod Links
 pub mod Runs
+pub mod Intervals

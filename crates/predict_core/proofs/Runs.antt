@@ -1,11 +1,12 @@
 -- The chain of a run, place after place.
-use Rattle.std.proofs.Common.{◌≡◌, ℕ, zero, suc, ◌+◌, ◌-◌, ◌*◌, ◌<◌, ◌≤◌, ℤ, pos, List, ◌∷◌, ◌++◌, length, take, replicate, get_or, set, append_assoc, refl, ap, ◌∙◌, arith, inl, inr, get_or-set_same, get_or-set_other}
-use Rattle.std.proofs.lemmas.Bool.{cases_eq}
+use Rattle.std.proofs.Common.{◌≡◌, ℕ, zero, suc, ◌+◌, ◌-◌, ◌*◌, ◌<◌, ◌≤◌, ℤ, pos, List, ◌∷◌, ◌++◌, length, take, replicate, get_or, set, append_assoc, refl, sym, subst, ap, ◌∙◌, arith, inl, inr, get_or-set_same, get_or-set_other}
+use Rattle.std.proofs.lemmas.Bool.{cases_eq, cases_lt}
 use Rattle.header_bits.specs.declared.params.Params.{Params}
 use Rattle.cube_core.specs.Image.{Image}
 use Rattle.predict_core.specs.Chain.{scaled_by_difference, AreWeightsAt}
 use Rattle.predict_core.specs.declared.predictor.Predictor.{Predictor}
 use Rattle.predict_core.specs.LocalSum.{local_sum}
+use Rattle.predict_core.specs.Weights.{step_exponent}
 use Rattle.predict_core.specs.Prediction.{scaled_there, scaled_prediction, next_weights, weight_vector}
 use Rattle.predict_core.proofs.Following.{row_is, column_is, follows_by}
 use Rattle.predict_core.proofs.Prefixes.{take_padded}
@@ -51,3 +52,17 @@ module _ (p : Params) (made : Predictor) (c : Image) (z y x i : ℕ) (ws : List 
 
   pub part_is : (part : ℤ) → scaled_there made c z y (x + i) ws ≡ scaled_by_difference c.kind part (local_sum made c z y (x + i)) → scaled_prediction p c z (y * c.shape.columns + (x + i)) ≡ scaled_by_difference c.kind part (local_sum made c z y (x + i))
   part_is part e = scaled_is p c z (y * c.shape.columns + (x + i)) y (x + i) ws made (later_place c.shape.columns y (x + i) later inside) refl inside follows ∙ e
+
+-- ---- from piece to piece
+
+pub piece_exponent : (p : Predictor) (e : ℤ) (columns bits t columns' bits' t' k : ℕ) → e ≡ step_exponent p columns bits t → step_exponent p columns bits (t + k) ≡ step_exponent p columns bits t → columns' ≡ columns → bits' ≡ bits → t + k ≡ t'
+    → e ≡ step_exponent p columns' bits' t'
+piece_exponent p e columns bits t columns' bits' t' k a b same_columns same_bits place = rw (same_columns, same_bits, ← place) (a ∙ sym b)
+
+pub joined_places : (P : ℕ → ℤ → Type 0) (first at next : ℕ) (old new : List ℤ) → ((k : ℕ) → k < at → get_or new k (pos 0) ≡ get_or old k (pos 0)) → ((k : ℕ) → first ≤ k → k < at → P k (get_or old k (pos 0)))
+    → ((k : ℕ) → at ≤ k → k < next → P k (get_or new k (pos 0))) → (k : ℕ) → first ≤ k → k < next → P k (get_or new k (pos 0))
+joined_places P first at next old new same a b k l m =
+    elim (cases_lt k at) [
+      | inl h ↦ subst (P k) (sym (same k h)) (a k l h)
+      | inr h ↦ b k (omega (arith, h)) m
+    ]

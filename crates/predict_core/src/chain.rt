@@ -24,14 +24,14 @@ use cube_core::cube::Cube;
 
 /// What the steps of the weights have in common, over places of one exponent.
 #[derive(Clone, Copy)]
-struct Steps {
-    fraction: u32,
-    bits: u32,
-    exponent: i32,
-    ghost fraction_in: { fraction ≤ 19 },
-    ghost bits_in: { (2 ≤ bits) × (bits ≤ 16) },
-    ghost least: { (pos bits -ℤ pos 25) ≤ℤ exponent },
-    ghost most: { exponent ≤ℤ pos 21 },
+pub(crate) struct Steps {
+    pub fraction: u32,
+    pub bits: u32,
+    pub exponent: i32,
+    pub ghost fraction_in: { fraction ≤ 19 },
+    pub ghost bits_in: { (2 ≤ bits) × (bits ≤ 16) },
+    pub ghost least: { (pos bits -ℤ pos 25) ≤ℤ exponent },
+    pub ghost most: { exponent ≤ℤ pos 21 },
 }
 
 /// The predicted central difference of a place, and the first `N` weights behind it.
@@ -150,7 +150,7 @@ fn follow_at<const N: usize>(
 ///
 /// The weights stand in a copy of their own, so that the compiler can keep them in registers.
 #[inline(always)]
-fn follow_places<const Q: usize, const N: usize>(
+pub(crate) fn follow_places<const Q: usize, const N: usize>(
     settings: &Settings,
     cube: &Cube,
     y: u32,

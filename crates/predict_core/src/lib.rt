@@ -9,6 +9,7 @@ mod fills;
 pub mod laws;
 mod lines;
 mod neighbourhood;
+mod pieces;
 mod prediction;
 pub mod predictor;
 mod range;
