@@ -180,11 +180,10 @@ pub(crate) fn follow_places<const Q: usize, const N: usize>(
     requires own_is { (i : ℕ) → first ≤ i → i < last → slice_index_or own.now i (pos 0) ≡ central_difference settings.now.predictor cube.now settings.now.band y (x + i) }
     requires components { (i : ℕ) → first ≤ i → i < last → components_at (quads_of settings.now.count) quads.now i ≡ difference_vector settings.now.predictor cube.now settings.now.band y (x + i) ++ replicate (4 * quads_of settings.now.count - settings.now.count) (pos 0) }
     requires weights_in { AllWithin (2 ^ (steps.fraction + 2)) weights.old }
-    requires parts_in { AllWithin (18 * 2 ^ 20) parts.old }
     ensures weights { (p : Parameters) → AreWeightsAt p settings.now.predictor cube.now settings.now.band (y * cube.now.shape.columns + (x + first)) (take settings.now.count weights.old) → take settings.now.count weights.new ≡ weight_vector p cube.now settings.now.band (y * cube.now.shape.columns + (x + last)) }
     ensures parts { (p : Parameters) → AreWeightsAt p settings.now.predictor cube.now settings.now.band (y * cube.now.shape.columns + (x + first)) (take settings.now.count weights.old) → (i : ℕ) → first ≤ i → i < last → scaled_prediction p cube.now settings.now.band (y * cube.now.shape.columns + (x + i)) ≡ scaled_by_difference cube.now.kind (slice_index_or parts.new i (pos 0)) (local_sum settings.now.predictor cube.now settings.now.band y (x + i)) }
     ensures kept { (i : ℕ) → i < first → slice_index_or parts.new i (pos 0) ≡ slice_index_or parts.old i (pos 0) }
-    ensures small { AllWithin (18 * 2 ^ 20) parts.new }
+    ensures small { (i : ℕ) → first ≤ i → i < last → unsigned_abs (slice_index_or parts.new i (pos 0)) ≤ 18 * 2 ^ 20 }
     ensures bound { AllWithin (2 ^ (steps.fraction + 2)) weights.new }
 {
     cube.is_cube();

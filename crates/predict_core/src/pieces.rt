@@ -1,6 +1,6 @@
 //! The chain of a run, cut where the exponent of the steps changes.
 
-ghost use Rattle.std.specs.Prelude.{◌≡◌, ◌+◌, ◌*◌, ◌^◌, ◌<◌, ◌≤◌, ℕ, pos, take, slice_index_or};
+ghost use Rattle.std.specs.Prelude.{◌≡◌, ◌+◌, ◌*◌, ◌^◌, ◌<◌, ◌≤◌, ℕ, pos, take, unsigned_abs, slice_index_or};
 ghost use Rattle.cube_core.specs.Image.{IsPlace};
 ghost use Rattle.header_bits.specs.declared.params.Params.{Params as Parameters};
 ghost use Rattle.predict_core.specs.LocalSum.{local_sum};
@@ -39,11 +39,10 @@ pub(crate) fn follow_run(
     requires later { 0 < y + (x + first) }
     requires room { IsRoom settings.now.predictor cube.now settings.now.band y x last settings.now.count room.old.sums room.old.own room.old.quads }
     requires weights_in { AllWithin (2 ^ (settings.now.predictor.fraction + 2)) weights.old }
-    requires parts_in { AllWithin (18 * 2 ^ 20) room.old.parts }
     ensures weights { (p : Parameters) → AreWeightsAt p settings.now.predictor cube.now settings.now.band (y * cube.now.shape.columns + (x + first)) (take settings.now.count weights.old) → take settings.now.count weights.new ≡ weight_vector p cube.now settings.now.band (y * cube.now.shape.columns + (x + last)) }
     ensures parts { (p : Parameters) → AreWeightsAt p settings.now.predictor cube.now settings.now.band (y * cube.now.shape.columns + (x + first)) (take settings.now.count weights.old) → (i : ℕ) → first ≤ i → i < last → scaled_prediction p cube.now settings.now.band (y * cube.now.shape.columns + (x + i)) ≡ scaled_by_difference cube.now.kind (slice_index_or room.new.parts i (pos 0)) (local_sum settings.now.predictor cube.now settings.now.band y (x + i)) }
     ensures same { room.new.sums ≡ room.old.sums }
-    ensures small { AllWithin (18 * 2 ^ 20) room.new.parts }
+    ensures small { (i : ℕ) → first ≤ i → i < last → unsigned_abs (slice_index_or room.new.parts i (pos 0)) ≤ 18 * 2 ^ 20 }
     ensures bound { AllWithin (2 ^ (settings.now.predictor.fraction + 2)) weights.new }
 {
     let count = settings.count;
@@ -86,11 +85,10 @@ fn follow_pieces<const Q: usize, const N: usize>(
     requires later { 0 < y + (x + first) }
     requires room { IsRoom settings.now.predictor cube.now settings.now.band y x last settings.now.count room.old.sums room.old.own room.old.quads }
     requires weights_in { AllWithin (2 ^ (settings.now.predictor.fraction + 2)) weights.old }
-    requires parts_in { AllWithin (18 * 2 ^ 20) room.old.parts }
     ensures weights { (p : Parameters) → AreWeightsAt p settings.now.predictor cube.now settings.now.band (y * cube.now.shape.columns + (x + first)) (take settings.now.count weights.old) → take settings.now.count weights.new ≡ weight_vector p cube.now settings.now.band (y * cube.now.shape.columns + (x + last)) }
     ensures parts { (p : Parameters) → AreWeightsAt p settings.now.predictor cube.now settings.now.band (y * cube.now.shape.columns + (x + first)) (take settings.now.count weights.old) → (i : ℕ) → first ≤ i → i < last → scaled_prediction p cube.now settings.now.band (y * cube.now.shape.columns + (x + i)) ≡ scaled_by_difference cube.now.kind (slice_index_or room.new.parts i (pos 0)) (local_sum settings.now.predictor cube.now settings.now.band y (x + i)) }
     ensures same { room.new.sums ≡ room.old.sums }
-    ensures small { AllWithin (18 * 2 ^ 20) room.new.parts }
+    ensures small { (i : ℕ) → first ≤ i → i < last → unsigned_abs (slice_index_or room.new.parts i (pos 0)) ≤ 18 * 2 ^ 20 }
     ensures bound { AllWithin (2 ^ (settings.now.predictor.fraction + 2)) weights.new }
 {
     cube.is_cube();

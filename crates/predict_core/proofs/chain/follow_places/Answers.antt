@@ -1,4 +1,4 @@
-use Rattle.std.proofs.Common.{◌≡◌, ◌≤◌, ◌<◌, ◌+◌, ◌-◌, ◌*◌, length, take, SFits, w32, to_z-of_z, rules, arith, sym, ◌∙◌, length-set}
+use Rattle.std.proofs.Common.{◌≡◌, unsigned_abs, ◌≤◌, ◌<◌, ◌+◌, ◌-◌, ◌*◌, length, take, SFits, w32, to_z-of_z, rules, arith, sym, ◌∙◌, length-set}
 use Rattle.header_bits.specs.declared.params.Params.{Params}
 use Rattle.predict_core.specs.Chain.{AreWeightsAt, scaled_by_difference}
 use Rattle.predict_core.specs.Differences.{difference_vector}
@@ -6,7 +6,6 @@ use Rattle.predict_core.specs.LocalSum.{local_sum}
 use Rattle.predict_core.specs.Prediction.{scaled_prediction}
 use Rattle.predict_core.specs.Rooms.{components_at}
 use Rattle.predict_core.proofs.Padding.{vector_length}
-use Rattle.predict_core.proofs.Products.{step_bound}
 use Rattle.predict_core.proofs.Runs.{gathered_is, written_place, kept_place, weights_next, part_is}
 use Rattle.predict_core.proofs.chain.follow_places.Goals as goal
 
@@ -33,7 +32,7 @@ loop-i-preserved g c =
       parts = λ p f. written_place (λ k v. scaled_prediction p c.args.cube.now s.band (c.args.y * c.args.cube.now.shape.columns + (c.args.x + k)) ≡ scaled_by_difference c.args.cube.now.kind v (local_sum s.predictor c.args.cube.now s.band c.args.y (c.args.x + k))) c.args.first c.loop-i.i c.loop-i.parts c.follow_at.result inside
           (part_is p s.predictor c.args.cube.now s.band c.args.y c.args.x c.loop-i.i (take s.count c.loop-i.held) later column (there p f) c.follow_at.result c.follow_at.ensures.scaled) (kept.parts p f);
       kept = kept_place c.args.first c.loop-i.i c.args.parts.now c.loop-i.parts c.follow_at.result begun kept.kept;
-      small = step_bound 18874368 c.loop-i.parts c.loop-i.i c.follow_at.result kept.small c.follow_at.ensures.small;
+      small = written_place (λ k v. unsigned_abs v ≤ 18874368) c.args.first c.loop-i.i c.loop-i.parts c.follow_at.result inside c.follow_at.ensures.small kept.small;
       bound = c.follow_at.ensures.bound;
       long = rw length-set kept.long;
     })

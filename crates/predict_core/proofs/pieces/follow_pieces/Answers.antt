@@ -1,4 +1,4 @@
-use Rattle.std.proofs.Common.{◌≡◌, ◌+◌, ◌-◌, ◌*◌, take, SFits, w32, to_z-of_z, rules, arith, sym, ◌∙◌, ap}
+use Rattle.std.proofs.Common.{◌≡◌, unsigned_abs, ◌≤◌, ◌+◌, ◌-◌, ◌*◌, take, SFits, w32, to_z-of_z, rules, arith, sym, ◌∙◌, ap}
 use Rattle.header_bits.specs.declared.params.Params.{Params}
 use Rattle.predict_core.specs.Chain.{AreWeightsAt, scaled_by_difference}
 use Rattle.predict_core.specs.LocalSum.{local_sum}
@@ -30,6 +30,6 @@ loop-at-preserved g c =
       sums = kept.sums;
       own = kept.own;
       quads = kept.quads;
-      small = c.follow_places.ensures.small;
+      small = joined_places (λ k v. unsigned_abs v ≤ 18874368) c.args.first c.loop-at.at (c.loop-at.at + c.places_alike.result) c.loop-at.room.parts c.follow_places.new.parts c.follow_places.ensures.kept kept.small c.follow_places.ensures.small;
       bound = c.follow_places.ensures.bound;
     }

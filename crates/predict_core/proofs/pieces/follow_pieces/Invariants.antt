@@ -1,4 +1,4 @@
-use Rattle.std.proofs.Common.{◌≡◌, ℕ, ◌+◌, ◌-◌, ◌*◌, ◌^◌, ◌≤◌, ◌<◌, pos, take, slice_index_or}
+use Rattle.std.proofs.Common.{◌≡◌, ℕ, ◌+◌, ◌-◌, ◌*◌, ◌^◌, ◌≤◌, ◌<◌, pos, take, unsigned_abs, slice_index_or}
 use Rattle.header_bits.specs.declared.params.Params.{Params}
 use Rattle.predict_core.specs.LocalSum.{local_sum}
 use Rattle.predict_core.specs.Prediction.{weight_vector, scaled_prediction}
@@ -15,7 +15,7 @@ invariant-loop-at g l = record {
   sums : l.room.sums ≡ l.initial.room.sums;
   own : l.room.own ≡ l.initial.room.own;
   quads : l.room.quads ≡ l.initial.room.quads;
-  small : AllWithin (18 * 2 ^ 20) l.room.parts;
+  small : (k : ℕ) → l.first ≤ k → k < l.at → unsigned_abs (slice_index_or l.room.parts k (pos 0)) ≤ 18 * 2 ^ 20;
   bound : AllWithin (2 ^ (l.settings.predictor.fraction + 2)) l.weights;
 }
 
