@@ -5,6 +5,7 @@ pub mod Frame
 pub mod Inverting
 pub mod LocalSums
 pub mod Moves
+pub mod Numbers
 pub mod OneSample
 pub mod Padding
 pub mod Prefixes
