@@ -7,6 +7,7 @@ pub mod Inverting
 pub mod LocalSums
 pub mod Moves
 pub mod Gathered
+pub mod Numbers
 pub mod OneSample
 pub mod Padding
 pub mod Prefixes

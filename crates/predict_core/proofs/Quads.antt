@@ -2,7 +2,7 @@
 use Rattle.std.proofs.Common.{◌≡◌, ◌≢◌, ℕ, zero, suc, ◌+◌, ◌-◌, ◌*◌, ◌<◌, ◌≤◌, ◌||◌, ◌==◌, ℤ, pos, Bool, true, false, List, [], ◌∷◌, ◌++◌, map, take, set, get_or, length, replicate, arith, refl, sym, ap, inl, inr, ap₂, ◌∙◌, add-one, append_assoc, append-nil}
 use Rattle.std.proofs.Math.Seq.{take-suc-set}
 use Rattle.std.proofs.lemmas.List.Concat.{flat_map-append}
-use Rattle.std.proofs.lemmas.List.{get_or-replicate, get_or_past}
+use Rattle.std.proofs.lemmas.List.{get_or-replicate, get_or_past, length-replicate}
 use Rattle.std.proofs.lemmas.Bool.{cases_lt}
 use Rattle.std.proofs.lemmas.Bool.Decides.{nat_tests}
 use Rattle.cube_core.specs.Image.{Image}
@@ -101,13 +101,17 @@ module _ (p : Predictor) (c : Image) (z y x : ℕ) where
       ∙ sym (append_assoc (directional_differences p c z y x) (spectral_differences p c z y x (previous_bands p z)) (replicate (1 + 4 * (quads_of count - 1) - previous_bands p z) (pos 0)))
       ∙ ap₂ (λ us k. us ++ replicate k (pos 0)) (sym (full_vector_is p c z y x r)) (sym m)
 
-zero_at : (i : ℕ) → ◌≡◌ {A = ℕ} (get_or (replicate 66 0) i 0) 0
-zero_at i = elim (cases_lt i 66) [ inl h ↦ get_or-replicate 66 i 0 0 h | inr h ↦ get_or_past (replicate 66 0) i 0 h ]
+pub zero_at : (n i : ℕ) → ◌≡◌ {A = ℕ} (get_or (replicate n 0) i 0) 0
+zero_at n i =
+    elim (cases_lt i n) [
+      | inl h ↦ get_or-replicate n i 0 0 h
+      | inr h ↦ get_or_past (replicate n 0) i 0 (let e = length-replicate {A = ℕ} n 0 in omega (arith, e))
+    ]
 
 -- the difference of empty lines
 pub empty_difference : (column : Bool) (here over : List ℕ) (i : ℕ) → here ≡ replicate 66 0 → over ≡ replicate 66 0 → line_difference column here over i ≡ pos 0
-empty_difference true here over i a b = rw (a, b, zero_at (i + 1)) refl
-empty_difference false here over i a b = rw (a, b, zero_at i, zero_at (i + 1), zero_at (i + 2)) refl
+empty_difference true here over i a b = rw (a, b, zero_at 66 (i + 1)) refl
+empty_difference false here over i a b = rw (a, b, zero_at 66 i, zero_at 66 (i + 1), zero_at 66 (i + 2)) refl
 
 -- a quad behind those that stand
 pub quads_next : (p : Predictor) (c : Image) (z y x first nearest q i : ℕ) (heads : List ℤ) (quads : List Quad) (v : Quad) → first ≤ q → q < length quads

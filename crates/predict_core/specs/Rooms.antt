@@ -10,6 +10,8 @@ use Rattle.predict_core.specs.Predictor.{previous_bands}
 use Rattle.predict_core.specs.LocalSum.{local_sum}
 use Rattle.predict_core.specs.Differences.{central_difference, difference_vector}
 use Rattle.predict_core.specs.Bounds.{AllWithin}
+use Rattle.predict_core.specs.Arithmetic.{floor_div, clip}
+use Rattle.predict_core.specs.Residual.{mapped_between}
 
 -- the components of place i of a run, from the first n quads of its room
 unfoldable pub components_at : ℕ → List Quad → ℕ → List ℤ
@@ -36,3 +38,8 @@ pub record IsRoom (p : Predictor) (c : Image) (z y x count components : ℕ) (su
   pub sum_most : (i : ℕ) → i < count → 0 < y + (x + i) → slice_index_or sums i (pos 0) ≤ℤ pos 262140
   pub central_in : (i : ℕ) → i < count → 0 < y + (x + i) → unsigned_abs (slice_index_or own i (pos 0)) ≤ 4 * 2 ^ c.kind.bits
   pub vector_in : (i : ℕ) → i < count → 0 < y + (x + i) → AllWithin (4 * 2 ^ c.kind.bits) (components_at (quads_of components) quads i)
+
+-- the number of a height above the least sample, by a predicted difference and a local sum of heights
+unfoldable pub height_number : ℤ → ℤ → ℤ → ℕ → ℕ
+height_number greatest part sum height =
+    mapped_between (pos 0) greatest (clip (floor_div (part +ℤ sum) 2 +ℤ pos 1) (pos 0) (pos 2 *ℤ greatest +ℤ pos 1)) (pos height)

@@ -8,6 +8,7 @@ mod exponent;
 mod fills;
 pub mod laws;
 mod lines;
+mod mapping;
 mod neighbourhood;
 mod pieces;
 mod prediction;
