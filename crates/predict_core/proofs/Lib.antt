@@ -32,3 +32,4 @@ pub mod Inner
 pub mod Links
 pub mod Runs
 pub mod Intervals
+pub mod WholeRuns
