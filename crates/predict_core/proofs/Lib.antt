@@ -1,3 +1,4 @@
+pub mod Chains
 pub mod Directions
 pub mod Filling
 pub mod Following
@@ -5,6 +6,8 @@ pub mod Frame
 pub mod Inverting
 pub mod LocalSums
 pub mod Moves
+pub mod Gathered
+pub mod Numbers
 pub mod OneSample
 pub mod Padding
 pub mod Prefixes
@@ -15,6 +18,7 @@ pub mod Residuals
 pub mod Scaled
 pub mod Spans
 pub mod Starting
+pub mod Told
 pub mod Raising
 pub mod Largest
 pub mod Floors
@@ -23,5 +27,9 @@ pub mod Borders
 pub mod BandLines
 pub mod RunSteps
 pub mod Places
+pub mod Quads
 pub mod Inner
 pub mod Links
+pub mod Runs
+pub mod Intervals
+pub mod WholeRuns

@@ -16,10 +16,10 @@ use Rattle.predict_core.proofs.Ranges.{sample_within}
 
 module _ (q : Predictor) (c : Image) (z y x : ℕ) (ws : List ℤ) (cube : IsCube c) (place : IsPlace c.shape z y x) (later : 0 < y + x) (wide : q.column ≡ false → 2 ≤ c.shape.columns) (few : q.previous ≤ 15) (most : q.fraction ≤ 19)
     (within : AllWithin (2 ^ (q.fraction + 2)) ws) (register : 46 ≤ q.register) where
-  pub scaled_by_difference : (part : ℤ) → part ≡ floor_div (inner_product ws (difference_vector q c z y x)) (2 ^ q.fraction)
+  pub scaled_without_wrap : (part : ℤ) → part ≡ floor_div (inner_product ws (difference_vector q c z y x)) (2 ^ q.fraction)
       → scaled_there q c z y x ws ≡ clip (floor_div (part +ℤ (local_sum q c z y x -ℤ pos 4 *ℤ smid c.kind)) 2 +ℤ pos 2 *ℤ smid c.kind +ℤ pos 1) (pos 2 *ℤ smin c.kind) (pos 2 *ℤ smax c.kind +ℤ pos 1)
   unfolding scaled_there
-  scaled_by_difference part e =
+  scaled_without_wrap part e =
       rw e (unwrapped_by q c.kind (local_sum q c z y x) ws (difference_vector q c z y x) register (register_small q c z y x ws cube place later wide few most within))
 
   sign : int_lt (pos 2 *ℤ sample_at c z y x -ℤ scaled_there q c z y x ws) (pos 0) ≡ int_le (central_difference q c z y x) (floor_div (inner_product ws (difference_vector q c z y x)) (2 ^ q.fraction))

@@ -17,12 +17,12 @@ number_cases near size n true e = grind (arith, nat_tests)
 number_cases near size n false e = grind (arith, nat_tests)
 
 -- the sign of an error, by the parity of the scaled prediction
-abbrev signed_by : ℕ → ℤ → Bool → Type 0
+abbrev pub signed_by : ℕ → ℤ → Bool → Type 0
 signed_by parity e sign =
     ((sign ≡ true) × (parity % 2 ≡ 0) × (pos 0 ≤ℤ e)) ⊎ (((sign ≡ false) × (parity % 2 ≡ 0) × (e <ℤ pos 0))
     ⊎ (((sign ≡ true) × (parity % 2 ≡ 1) × (e ≤ℤ pos 0)) ⊎ ((sign ≡ false) × (parity % 2 ≡ 1) × (pos 0 <ℤ e))))
 
-agrees_cases : (scaled e : ℤ) (sign : Bool) → sign ≡ agrees scaled e → signed_by (unsigned_abs scaled) e sign
+pub agrees_cases : (scaled e : ℤ) (sign : Bool) → sign ≡ agrees scaled e → signed_by (unsigned_abs scaled) e sign
 agrees_cases scaled e sign h = by_parity (cases_lt 0 (unsigned_abs scaled % 2))
   where
     by_parity : (0 < unsigned_abs scaled % 2) ⊎ (unsigned_abs scaled % 2 ≤ 0) → signed_by (unsigned_abs scaled) e sign
@@ -42,7 +42,7 @@ error_cases : (near below parity n : ℕ) (e : ℤ) → e ≡ error_of near belo
     ⊎ (((n ≤ 2 * near) × ((n + parity) % 2 ≡ 0) × (e ≡ pos ((n + 1) / 2))) ⊎ ((n ≤ 2 * near) × ((n + parity) % 2 ≡ 1) × (e ≡ neg_ℤ (pos ((n + 1) / 2))))))
 error_cases near below parity n e h = grind (arith, nat_tests)
 
-abbrev NumberBy : ℕ → ℕ → Bool → ℕ → Type 0
+abbrev pub NumberBy : ℕ → ℕ → Bool → ℕ → Type 0
 NumberBy near size sign n = ((near < size) × (n ≡ size + near)) ⊎ (((size ≤ near) × (sign ≡ true) × (n ≡ 2 * size)) ⊎ ((size ≤ near) × (sign ≡ false) × (n ≡ 2 * size - 1)))
 
 abbrev ErrorBy : ℕ → ℕ → ℕ → ℕ → ℤ → Type 0
@@ -51,7 +51,7 @@ ErrorBy near below parity n e =
     ⊎ (((n ≤ 2 * near) × ((n + parity) % 2 ≡ 0) × (e ≡ pos ((n + 1) / 2))) ⊎ ((n ≤ 2 * near) × ((n + parity) % 2 ≡ 1) × (e ≡ neg_ℤ (pos ((n + 1) / 2))))))
 
 -- a sign that is both is none
-not_both : (s : Bool) → s ≡ true → s ≡ false → ⊥
+pub not_both : (s : Bool) → s ≡ true → s ≡ false → ⊥
 not_both s a b = cc
 
 same_error : (near a b parity n : ℕ) (e r : ℤ) (sign : Bool) → near ≡ min a b → neg_ℤ (pos a) ≤ℤ e → e ≤ℤ pos b → signed_by parity e sign → NumberBy near (unsigned_abs e) sign n → ErrorBy near a parity n r → r ≡ e
@@ -71,11 +71,11 @@ small_error near a b parity n e m h d = (grind (arith, ints), grind (arith, ints
 same_number : (near a b parity n k : ℕ) (e : ℤ) (sign : Bool) → near ≡ min a b → n ≤ a + b → ErrorBy near a parity n e → signed_by parity e sign → NumberBy near (unsigned_abs e) sign k → k ≡ n
 same_number near a b parity n k e sign m h d s c = grind (arith, ints)
 
-half_low : (z : ℤ) → (pos 2 *ℤ floor_div z 2) ≤ℤ z
+pub half_low : (z : ℤ) → (pos 2 *ℤ floor_div z 2) ≤ℤ z
 half_low (pos a) = omega (arith, ints)
 half_low (negsuc a) = omega (arith, ints)
 
-half_high : (z : ℤ) → z ≤ℤ (pos 2 *ℤ floor_div z 2 +ℤ pos 1)
+pub half_high : (z : ℤ) → z ≤ℤ (pos 2 *ℤ floor_div z 2 +ℤ pos 1)
 half_high (pos a) = omega (arith, ints)
 half_high (negsuc a) = omega (arith, ints)
 

@@ -75,7 +75,7 @@ take_of_take (x ∷ xs) zero m h = refl
 take_of_take (x ∷ xs) (suc n) zero h = absurd (omega arith)
 take_of_take (x ∷ xs) (suc n) (suc m) h = ap (λ ys. x ∷ ys) (take_of_take xs n m (omega arith))
 
-take_padded : (us : List ℤ) (n m k : ℕ) → length us ≡ n → n ≤ m → m ≤ n + k → take m (us ++ replicate k (pos 0)) ≡ us ++ replicate (m - n) (pos 0)
+pub take_padded : (us : List ℤ) (n m k : ℕ) → length us ≡ n → n ≤ m → m ≤ n + k → take m (us ++ replicate k (pos 0)) ≡ us ++ replicate (m - n) (pos 0)
 take_padded us n m k e h l =
     let s : length us + (m - n) ≡ m = omega (arith, e) in
     subst (λ j. take j (us ++ replicate k (pos 0)) ≡ us ++ replicate (m - n) (pos 0)) s

@@ -85,7 +85,7 @@ module _ (p : Predictor) (c : Image) (cube : IsCube c) (y x : ℕ) (later : 0 < 
     difference_within : (sample : ℤ) → IsSample c.kind sample → unsigned_abs (difference_from p c z y x sample) ≤ 4 * 2 ^ c.kind.bits
     difference_within sample h = apart (smin c.kind) (smax c.kind) sample (local_sum p c z y x) (2 ^ c.kind.bits) (span c.kind cube.bits) h sum_within
 
-    central_within : unsigned_abs (central_difference p c z y x) ≤ 4 * 2 ^ c.kind.bits
+    pub central_within : unsigned_abs (central_difference p c z y x) ≤ 4 * 2 ^ c.kind.bits
     unfolding central_difference
     central_within = difference_within (sample_at c z y x) (sample_within c cube z y x place)
 

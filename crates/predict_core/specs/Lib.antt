@@ -1,5 +1,6 @@
 pub mod Arithmetic
 pub mod Bounds
+pub mod Chain
 pub mod Differences
 pub mod Following
 pub mod HeightSum
@@ -13,6 +14,7 @@ pub mod Precedence
 pub mod Prediction
 pub mod Predictor
 pub mod Residual
+pub mod Rooms
 pub mod Weights
 pub mod Rows
 pub mod Everything

@@ -29,10 +29,10 @@ use std::marker::Model;
 /// looked at. The calls for two bands don't depend on each other.
 #[derive(Drop)]
 pub struct Band {
-    settings: Settings,
+    pub(crate) settings: Settings,
     shape: Shape,
-    next: u64,
-    weights: [i32; 18],
+    pub(crate) next: u64,
+    pub(crate) weights: [i32; 18],
     pub(crate) piece: [u16; 64],
 }
 
@@ -151,7 +151,7 @@ fn first_spectral(reduced: bool) -> usize
 
 /// The mapped residual at the first place of a band.
 #[inline(always)]
-fn first_residual(settings: &Settings, cube: &Cube, y: u32, x: u32) -> u16
+pub(crate) fn first_residual(settings: &Settings, cube: &Cube, y: u32, x: u32) -> u16
     requires kind { cube.now.kind ≡ settings.now.range.kind }
     requires place { IsPlace cube.now.shape settings.now.band y x }
     ensures value { result ≡ mapped cube.now.kind (first_prediction settings.now.predictor cube.now settings.now.band) (sample_at cube.now settings.now.band y x) }

@@ -4,55 +4,109 @@
 //! weights don't wait for the prediction and its clip. What no place can do before the one ahead of it is
 //! done is thus short; predictions and residuals are found behind it.
 
-ghost use Rattle.std.specs.Prelude.{◌≡◌, ◌+◌, ◌-◌, ◌*◌, ◌^◌, ◌<◌, ◌≤◌, pos, ◌≤ℤ◌, ◌+ℤ◌, ◌-ℤ◌, ◌*ℤ◌, int_le, unsigned_abs, ℤ, List, length, take, ◌++◌, replicate};
-ghost use Rattle.cube_core.specs.Kind.{smin, smid, smax};
+ghost use Rattle.std.specs.Prelude.{◌≡◌, ◌+◌, ◌-◌, ◌*◌, ◌^◌, ◌<◌, ◌≤◌, ℕ, pos, ◌≤ℤ◌, ◌+ℤ◌, ◌-ℤ◌, ◌*ℤ◌, int_le, unsigned_abs, ℤ, List, length, take, ◌++◌, replicate, slice_index_or};
 ghost use Rattle.cube_core.specs.Image.{IsPlace};
-ghost use Rattle.predict_core.specs.Arithmetic.{floor_div, clip};
+ghost use Rattle.header_bits.specs.declared.params.Params.{Params as Parameters};
+ghost use Rattle.predict_core.specs.Arithmetic.{floor_div};
 ghost use Rattle.predict_core.specs.LocalSum.{local_sum};
 ghost use Rattle.predict_core.specs.Differences.{central_difference, difference_vector};
-ghost use Rattle.predict_core.specs.Prediction.{inner_product, scaled_there, next_weights};
+ghost use Rattle.predict_core.specs.Prediction.{inner_product, scaled_there, next_weights, weight_vector, scaled_prediction};
 ghost use Rattle.predict_core.specs.Weights.{step_exponent, updated_weights};
 ghost use Rattle.predict_core.specs.Bounds.{AllWithin};
+ghost use Rattle.predict_core.specs.Rooms.{components_at, quads_of};
+ghost use Rattle.predict_core.specs.Chain.{scaled_by_difference, quad_or_zeros, AreWeightsAt};
 
 use crate::prediction::predicted_difference;
+use crate::room::Quad;
 use crate::settings::Settings;
-use crate::weights::update;
+use crate::weights::update_first;
 use cube_core::cube::Cube;
 
-/// The predicted central difference of a place, and the weights behind it.
+/// What the steps of the weights have in common, over places of one exponent.
+#[derive(Clone, Copy)]
+pub(crate) struct Steps {
+    pub fraction: u32,
+    pub bits: u32,
+    pub exponent: i32,
+    pub ghost fraction_in: { fraction ≤ 19 },
+    pub ghost bits_in: { (2 ≤ bits) × (bits ≤ 16) },
+    pub ghost least: { (pos bits -ℤ pos 25) ≤ℤ exponent },
+    pub ghost most: { exponent ≤ℤ pos 21 },
+}
+
+/// The predicted central difference of a place, and the first `N` weights behind it.
 ///
-/// `own` is the central difference there, and `exponent` that of the steps after it
-/// (CCSDS 123.0-B-1, "Weight Update").
+/// `own` is the central difference there (CCSDS 123.0-B-1, "Weight Update").
 #[inline(always)]
-fn follow(
-    settings: &Settings,
-    exponent: i32,
+fn follow<const N: usize>(
+    steps: Steps,
     own: i32,
     weights: &mut [i32; 18],
     differences: &[i32; 18],
 ) -> i32
-    requires exponent_least { (pos settings.now.range.bits -ℤ pos 25) ≤ℤ exponent }
-    requires exponent_most { exponent ≤ℤ pos 21 }
-    requires weights_in { AllWithin (2 ^ (settings.now.predictor.fraction + 2)) weights.old }
-    requires differences_in { AllWithin (4 * 2 ^ settings.now.range.bits) differences.now }
-    ensures value { (us : List ℤ) → length us ≡ settings.now.count → differences.now ≡ us ++ replicate (18 - settings.now.count) (pos 0) → result ≡ floor_div (inner_product (take settings.now.count weights.old) us) (2 ^ settings.now.predictor.fraction) }
+    requires few { N ≤ 18 }
+    requires weights_in { AllWithin (2 ^ (steps.fraction + 2)) weights.old }
+    requires differences_in { AllWithin (4 * 2 ^ steps.bits) differences.now }
+    ensures value { result ≡ floor_div (inner_product (take N weights.old) (take N differences.now)) (2 ^ steps.fraction) }
     ensures small { unsigned_abs result ≤ 18 * 2 ^ 20 }
-    ensures weights { (us : List ℤ) → length us ≡ settings.now.count → differences.now ≡ us ++ replicate (18 - settings.now.count) (pos 0) → take settings.now.count weights.new ≡ updated_weights settings.now.predictor.fraction exponent (int_le own result) (take settings.now.count weights.old) us }
-    ensures bound { AllWithin (2 ^ (settings.now.predictor.fraction + 2)) weights.new }
+    ensures weights { take N weights.new ≡ updated_weights steps.fraction steps.exponent (int_le own result) (take N weights.old) (take N differences.now) }
+    ensures bound { AllWithin (2 ^ (steps.fraction + 2)) weights.new }
 {
-    let fraction = settings.predictor.fraction;
-    let predicted = predicted_difference(fraction, settings.count, weights, differences);
+    let predicted = predicted_difference::<N>(steps.fraction, weights, differences);
     let negative = own <= predicted;
-    update(
-        settings.count,
+    update_first::<N>(
         weights,
         differences,
-        fraction,
-        settings.range.bits,
-        exponent,
+        steps.fraction,
+        steps.bits,
+        steps.exponent,
         negative,
     );
     predicted
+}
+
+/// The components of place `i` from the first `Q` quads of a room, and zeros behind them.
+#[inline(always)]
+fn differences_at<const Q: usize>(quads: &[Quad; 5], i: usize) -> [i32; 18]
+    requires few { Q ≤ 5 }
+    requires place { i < 64 }
+    ensures { result ≡ take 18 (components_at Q quads.now i ++ replicate 18 (pos 0)) }
+{
+    let first = quad_at::<Q>(quads, 0, i);
+    let second = quad_at::<Q>(quads, 1, i);
+    let third = quad_at::<Q>(quads, 2, i);
+    let fourth = quad_at::<Q>(quads, 3, i);
+    let fifth = quad_at::<Q>(quads, 4, i);
+    [
+        first[0], first[1], first[2], first[3], second[0], second[1], second[2], second[3],
+        third[0], third[1], third[2], third[3], fourth[0], fourth[1], fourth[2], fourth[3],
+        fifth[0], fifth[1],
+    ]
+}
+
+/// The components of place `i` in quad `k`, which are zeros behind the first `Q` quads.
+#[inline(always)]
+fn quad_at<const Q: usize>(quads: &[Quad; 5], k: usize, i: usize) -> [i32; 4]
+    requires few { Q ≤ 5 }
+    requires quad { k < 5 }
+    requires place { i < 64 }
+    ensures value { result ≡ quad_or_zeros Q quads.now k i }
+    ensures long { length result ≡ 4 }
+{
+    if k < Q {
+        four_of(&quads[k].places[i])
+    } else {
+        [0; 4]
+    }
+}
+
+/// Four components, of which it is known that they are four.
+#[inline(always)]
+fn four_of(components: &[i32; 4]) -> [i32; 4]
+    ensures value { result ≡ components.now }
+    ensures long { length result ≡ 4 }
+{
+    *components
 }
 
 /// The predicted central difference at row `y`, column `x` of a cube, and the weights at the next place.
@@ -60,33 +114,92 @@ fn follow(
 /// The scaled prediction is found from the difference and the local sum alone. The place is not the first
 /// of its band.
 #[inline(always)]
-pub(crate) fn follow_at(
+fn follow_at<const N: usize>(
     settings: &Settings,
     cube: &Cube,
     y: u32,
     x: u32,
-    exponent: i32,
+    steps: Steps,
     own: i32,
     weights: &mut [i32; 18],
     differences: &[i32; 18],
 ) -> i32
+    requires few { N ≤ 18 }
+    requires enough { settings.now.count ≤ N }
     requires register { 46 ≤ settings.now.predictor.register }
     requires place { IsPlace cube.now.shape settings.now.band y x }
     requires columns { cube.now.shape.columns ≡ settings.now.columns }
     requires kind { cube.now.kind ≡ settings.now.range.kind }
     requires later { 0 < y + x }
-    requires exponent_is { exponent ≡ step_exponent settings.now.predictor cube.now.shape.columns cube.now.kind.bits (y * cube.now.shape.columns + x) }
-    requires exponent_least { (pos settings.now.range.bits -ℤ pos 25) ≤ℤ exponent }
-    requires exponent_most { exponent ≤ℤ pos 21 }
+    requires fraction { steps.fraction ≡ settings.now.predictor.fraction }
+    requires bits { steps.bits ≡ settings.now.range.bits }
+    requires exponent { steps.exponent ≡ step_exponent settings.now.predictor cube.now.shape.columns cube.now.kind.bits (y * cube.now.shape.columns + x) }
     requires own_is { own ≡ central_difference settings.now.predictor cube.now settings.now.band y x }
-    requires weights_in { AllWithin (2 ^ (settings.now.predictor.fraction + 2)) weights.old }
-    requires differences_in { AllWithin (4 * 2 ^ settings.now.range.bits) differences.now }
+    requires weights_in { AllWithin (2 ^ (steps.fraction + 2)) weights.old }
     requires differences_are { differences.now ≡ difference_vector settings.now.predictor cube.now settings.now.band y x ++ replicate (18 - settings.now.count) (pos 0) }
-    ensures scaled { scaled_there settings.now.predictor cube.now settings.now.band y x (take settings.now.count weights.old) ≡ clip (floor_div (result +ℤ (local_sum settings.now.predictor cube.now settings.now.band y x -ℤ pos 4 *ℤ smid cube.now.kind)) 2 +ℤ pos 2 *ℤ smid cube.now.kind +ℤ pos 1) (pos 2 *ℤ smin cube.now.kind) (pos 2 *ℤ smax cube.now.kind +ℤ pos 1) }
+    ensures scaled { scaled_there settings.now.predictor cube.now settings.now.band y x (take settings.now.count weights.old) ≡ scaled_by_difference cube.now.kind result (local_sum settings.now.predictor cube.now settings.now.band y x) }
     ensures small { unsigned_abs result ≤ 18 * 2 ^ 20 }
     ensures weights { take settings.now.count weights.new ≡ next_weights settings.now.predictor cube.now settings.now.band (y * cube.now.shape.columns + x) (take settings.now.count weights.old) }
-    ensures bound { AllWithin (2 ^ (settings.now.predictor.fraction + 2)) weights.new }
+    ensures bound { AllWithin (2 ^ (steps.fraction + 2)) weights.new }
 {
     cube.is_cube();
-    follow(settings, exponent, own, weights, differences)
+    follow::<N>(steps, own, weights, differences)
+}
+
+/// The predicted central differences of the places `first..last` of a run, and the weights behind them.
+///
+/// The weights stand in a copy of their own, so that the compiler can keep them in registers.
+#[inline(always)]
+pub(crate) fn follow_places<const Q: usize, const N: usize>(
+    settings: &Settings,
+    cube: &Cube,
+    y: u32,
+    x: u32,
+    first: usize,
+    last: usize,
+    steps: Steps,
+    own: &[i32; 64],
+    quads: &[Quad; 5],
+    parts: &mut [i32; 64],
+    weights: &mut [i32; 18],
+)
+    requires few { N ≤ 18 }
+    requires enough { settings.now.count ≤ N }
+    requires quads { Q ≡ quads_of settings.now.count }
+    requires register { 46 ≤ settings.now.predictor.register }
+    requires place { IsPlace cube.now.shape settings.now.band y x }
+    requires columns { cube.now.shape.columns ≡ settings.now.columns }
+    requires kind { cube.now.kind ≡ settings.now.range.kind }
+    requires run { last ≤ 64 }
+    requires order { first ≤ last }
+    requires inside { x + last ≤ cube.now.shape.columns }
+    requires later { 0 < y + (x + first) }
+    requires fraction { steps.fraction ≡ settings.now.predictor.fraction }
+    requires bits { steps.bits ≡ settings.now.range.bits }
+    requires exponent { (i : ℕ) → first ≤ i → i < last → steps.exponent ≡ step_exponent settings.now.predictor cube.now.shape.columns cube.now.kind.bits (y * cube.now.shape.columns + (x + i)) }
+    requires own_is { (i : ℕ) → first ≤ i → i < last → slice_index_or own.now i (pos 0) ≡ central_difference settings.now.predictor cube.now settings.now.band y (x + i) }
+    requires components { (i : ℕ) → first ≤ i → i < last → components_at (quads_of settings.now.count) quads.now i ≡ difference_vector settings.now.predictor cube.now settings.now.band y (x + i) ++ replicate (4 * quads_of settings.now.count - settings.now.count) (pos 0) }
+    requires weights_in { AllWithin (2 ^ (steps.fraction + 2)) weights.old }
+    ensures weights { (p : Parameters) → AreWeightsAt p settings.now.predictor cube.now settings.now.band (y * cube.now.shape.columns + (x + first)) (take settings.now.count weights.old) → take settings.now.count weights.new ≡ weight_vector p cube.now settings.now.band (y * cube.now.shape.columns + (x + last)) }
+    ensures parts { (p : Parameters) → AreWeightsAt p settings.now.predictor cube.now settings.now.band (y * cube.now.shape.columns + (x + first)) (take settings.now.count weights.old) → (i : ℕ) → first ≤ i → i < last → scaled_prediction p cube.now settings.now.band (y * cube.now.shape.columns + (x + i)) ≡ scaled_by_difference cube.now.kind (slice_index_or parts.new i (pos 0)) (local_sum settings.now.predictor cube.now settings.now.band y (x + i)) }
+    ensures kept { (i : ℕ) → i < first → slice_index_or parts.new i (pos 0) ≡ slice_index_or parts.old i (pos 0) }
+    ensures small { (i : ℕ) → first ≤ i → i < last → unsigned_abs (slice_index_or parts.new i (pos 0)) ≤ 18 * 2 ^ 20 }
+    ensures bound { AllWithin (2 ^ (steps.fraction + 2)) weights.new }
+{
+    cube.is_cube();
+    let mut held = *weights;
+    for i in first..last {
+        let differences = differences_at::<Q>(quads, i);
+        parts[i] = follow_at::<N>(
+            settings,
+            cube,
+            y,
+            x + i as u32,
+            steps,
+            own[i],
+            &mut held,
+            &differences,
+        );
+    }
+    *weights = held;
 }

@@ -1,7 +1,7 @@
 //! The exponent of the weights' steps.
 
-ghost use Rattle.std.specs.Prelude.{◌≡◌, ◌^◌, ◌<◌, ◌≤◌, pos, negsuc, ◌≤ℤ◌, ◌-ℤ◌, unsigned_abs};
-ghost use Rattle.predict_core.specs.Arithmetic.{floor_div};
+ghost use Rattle.std.specs.Prelude.{◌≡◌, ◌+◌, ◌/◌, ◌^◌, ◌<◌, ◌≤◌, ℕ, pos, negsuc, ◌≤ℤ◌, ◌+ℤ◌, ◌-ℤ◌, unsigned_abs};
+ghost use Rattle.predict_core.specs.Arithmetic.{floor_div, clip};
 ghost use Rattle.predict_core.specs.Weights.{growth, step_exponent};
 ghost use Rattle.predict_core.specs.Bounds.{IsPredictor};
 
@@ -48,4 +48,62 @@ fn intervals_at(interval_log: u32, columns: u32, t: u64) -> i64
     ensures bound { unsigned_abs result ≤ 2 ^ 33 }
 {
     halved(t as i64 - columns as i64, interval_log)
+}
+
+/// How many places from place `t` on, of `most`, have the exponent of that place for certain: one at least.
+///
+/// It changes with each interval from the second row on, until it is the greatest.
+pub(crate) fn places_alike(predictor: &Predictor, columns: u32, t: u64, most: usize) -> usize
+    requires lawful { IsPredictor predictor.now }
+    requires columns_in { columns ≤ 65536 }
+    requires t_in { t < 2 ^ 32 }
+    requires some { 1 ≤ most }
+    ensures some { 1 ≤ result }
+    ensures few { result ≤ most }
+    ensures alike { (bits k : ℕ) → k < result → step_exponent predictor.now columns bits (t + k) ≡ step_exponent predictor.now columns bits t }
+{
+    let behind = columns as u64;
+    if t < behind {
+        (behind - t).min(most as u64) as usize
+    } else {
+        alike_behind(predictor, t - behind, most)
+    }
+}
+
+/// The same from `t` places behind the first row on.
+fn alike_behind(predictor: &Predictor, t: u64, most: usize) -> usize
+    requires lawful { IsPredictor predictor.now }
+    requires t_in { t < 2 ^ 32 }
+    requires some { 1 ≤ most }
+    ensures some { 1 ≤ result }
+    ensures few { result ≤ most }
+    ensures alike { (k : ℕ) → k < result → clip (predictor.now.vmin +ℤ pos ((t + k) / 2 ^ predictor.now.interval_log)) predictor.now.vmin predictor.now.vmax ≡ clip (predictor.now.vmin +ℤ pos (t / 2 ^ predictor.now.interval_log)) predictor.now.vmin predictor.now.vmax }
+{
+    let intervals = intervals_in(predictor.interval_log, t);
+    if predictor.vmin as i64 + intervals as i64 >= predictor.vmax as i64 {
+        most
+    } else {
+        left_of_interval(predictor.interval_log, t, intervals).min(most as u64) as usize
+    }
+}
+
+/// How many whole intervals are in so many places.
+fn intervals_in(interval_log: u32, t: u64) -> u64
+    requires interval_in { interval_log ≤ 11 }
+    requires t_in { t < 2 ^ 32 }
+    ensures value { result ≡ t / 2 ^ interval_log }
+    ensures bound { result < 2 ^ 32 }
+{
+    t >> interval_log
+}
+
+/// How many places from place `t` on are in its interval, the one behind `intervals` whole ones.
+fn left_of_interval(interval_log: u32, t: u64, intervals: u64) -> u64
+    requires interval_in { interval_log ≤ 11 }
+    requires t_in { t < 2 ^ 32 }
+    requires intervals_are { intervals ≡ t / 2 ^ interval_log }
+    ensures some { 1 ≤ result }
+    ensures alike { (k : ℕ) → k < result → (t + k) / 2 ^ interval_log ≡ intervals }
+{
+    ((intervals + 1) << interval_log) - t
 }

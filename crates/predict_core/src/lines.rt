@@ -3,7 +3,7 @@
 //! A run is at most 64 places of one row. Its lines have one place more on each side, so that every place has
 //! its neighbours at the same distances, and a loop over all 64 needs no test.
 
-ghost use Rattle.std.specs.Prelude.{◌≡◌, ◌+◌, ◌-◌, ◌*◌, ◌<◌, ◌≤◌, ℕ, false, ◌||◌, ◌==◌, length, slice_index};
+ghost use Rattle.std.specs.Prelude.{◌≡◌, ◌+◌, ◌-◌, ◌*◌, ◌<◌, ◌≤◌, ℕ, false, ◌||◌, ◌==◌, length, replicate, slice_index};
 ghost use Rattle.predict_core.specs.Lines.{bordered, line_sum, AreLines, AreBandLines};
 ghost use Rattle.cube_core.specs.Image.{IsPlace};
 
@@ -15,6 +15,19 @@ use cube_core::cube::Cube;
 pub(crate) struct Lines {
     pub here: [u16; 66],
     pub over: [u16; 66],
+}
+
+impl Lines {
+    /// Lines of zeros, whose differences are 0.
+    pub(crate) fn empty() -> Lines
+        ensures here { result.here ≡ replicate 66 0 }
+        ensures over { result.over ≡ replicate 66 0 }
+    {
+        Lines {
+            here: [0; 66],
+            over: [0; 66],
+        }
+    }
 }
 
 /// Writes the lines of `count` places of band `z` from row `y`, column `x` on.

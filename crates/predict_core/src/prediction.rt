@@ -10,7 +10,7 @@ ghost use Rattle.predict_core.specs.Bounds.{AllWithin, IsPredictor};
 use crate::predictor::Predictor;
 use crate::range::Range;
 use crate::register::{halved, register_of, wrapped_value};
-use crate::weights::product_of;
+use crate::weights::{product_of, product_of_first};
 
 /// Twice a predicted sample, from the local sum, the weights and the differences.
 #[inline(always)]
@@ -40,22 +40,21 @@ pub(crate) fn scaled_by(
     scaled_from(range.smin, range.smax, middle, upper)
 }
 
-/// The predicted central difference: the products, without the weights' fraction, rounded down.
+/// The predicted central difference: the first `N` products, without the weights' fraction, rounded down.
 #[inline(always)]
-pub(crate) fn predicted_difference(
+pub(crate) fn predicted_difference<const N: usize>(
     fraction: u32,
-    count: usize,
     weights: &[i32; 18],
     differences: &[i32; 18],
 ) -> i32
+    requires few { N ≤ 18 }
     requires fraction_in { fraction ≤ 19 }
-    requires count_in { count ≤ 18 }
     requires weights_in { AllWithin (2 ^ (fraction + 2)) weights.now }
     requires differences_in { AllWithin (2 ^ 18) differences.now }
-    ensures value { (us : List ℤ) → length us ≡ count → differences.now ≡ us ++ replicate (18 - count) (pos 0) → result ≡ floor_div (inner_product (take count weights.now) us) (2 ^ fraction) }
+    ensures value { result ≡ floor_div (inner_product (take N weights.now) (take N differences.now)) (2 ^ fraction) }
     ensures bound { unsigned_abs result ≤ 18 * 2 ^ 20 }
 {
-    halved(product_of(count, weights, differences), fraction) as i32
+    halved(product_of_first::<N>(weights, differences), fraction) as i32
 }
 
 /// The scaled prediction from the predicted difference and the local sum, where nothing wraps.

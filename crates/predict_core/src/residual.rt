@@ -75,7 +75,7 @@ pub(crate) fn unmap_between(low: i32, high: i32, scaled: i32, delta: u16) -> i32
 
 /// Half of a scaled prediction, rounded down.
 #[inline(always)]
-fn prediction_of(scaled: i32) -> i32
+pub(crate) fn prediction_of(scaled: i32) -> i32
     ensures value { result ≡ floor_div scaled 2 }
     ensures low { (pos 2 *ℤ result) ≤ℤ scaled }
     ensures high { scaled ≤ℤ (pos 2 *ℤ result +ℤ pos 1) }

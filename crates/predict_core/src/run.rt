@@ -1,12 +1,19 @@
 //! A band's predictor moved on by a run: places of one row, one behind another.
 
-ghost use Rattle.std.specs.Prelude.{◌≡◌, ◌+◌, ◌*◌, ◌^◌, ◌<◌, ◌≤◌, ℕ, length, slice_index};
+ghost use Rattle.std.specs.Prelude.{◌≡◌, ◌+◌, ◌*◌, ◌^◌, ◌<◌, ◌≤◌, ℕ, ◌==◌, if◌then◌else◌, take, length, slice_index};
 ghost use Rattle.cube_core.specs.Image.{IsPlace};
 ghost use Rattle.header_bits.specs.declared.params.Params.{Params as Parameters};
+ghost use Rattle.predict_core.specs.Bounds.{AllWithin};
+ghost use Rattle.predict_core.specs.Chain.{AreWeightsAt};
+ghost use Rattle.predict_core.specs.Prediction.{weight_vector};
 ghost use Rattle.predict_core.specs.Residual.{run_residuals};
 ghost use Rattle.predict_core.specs.Following.{Follows, MovesBy};
 
-use crate::band::Band;
+use crate::band::{Band, first_residual};
+use crate::mapping::map_run;
+use crate::pieces::follow_run;
+use crate::room::{Room, fill_room};
+use crate::settings::Settings;
 use cube_core::cube::Cube;
 
 impl Band {
@@ -28,8 +35,77 @@ impl Band {
         ensures follows { (p : Parameters) → Follows p self.old cube.now → Follows p self.new cube.now }
     {
         cube.is_cube();
+        let count = residuals.len();
+        if self.settings.predictor.register < 46 || count == 0 {
+            self.forward_each(cube, y, x, residuals);
+        } else {
+            self.next += count as u64;
+            predict_run(&self.settings, cube, y, x, &mut self.weights, residuals);
+        }
+    }
+
+    /// The same, one place after another.
+    fn forward_each(&mut self, cube: &Cube, y: u32, x: u32, residuals: &mut [u16])
+        requires shape { cube.now.shape ≡ self.old.shape }
+        requires kind { cube.now.kind ≡ self.old.kind }
+        requires place { IsPlace cube.now.shape self.old.band y x }
+        requires few { length residuals.old ≤ 64 }
+        requires inside { x + length residuals.old ≤ cube.now.shape.columns }
+        requires next { self.old.place ≡ y * cube.now.shape.columns + x }
+        ensures moved { MovesBy (length residuals.old) self.old self.new }
+        ensures bound { (i : ℕ) → i < length residuals.new → slice_index residuals.new i < 2 ^ cube.now.kind.bits }
+        ensures residuals { (p : Parameters) → Follows p self.old cube.now → residuals.new ≡ run_residuals p cube.now self.old.band self.old.place (length residuals.old) }
+        ensures follows { (p : Parameters) → Follows p self.old cube.now → Follows p self.new cube.now }
+    {
+        cube.is_cube();
         for i in 0..residuals.len() {
             residuals[i] = self.forward(cube, y, x + i as u32);
         }
     }
+}
+
+/// The mapped residuals of a run in a register that nothing wraps, and the weights behind it.
+///
+/// What the samples tell is found first, for all places at once, then the predicted differences one after
+/// another, and all residuals at once behind them.
+fn predict_run(
+    settings: &Settings,
+    cube: &Cube,
+    y: u32,
+    x: u32,
+    weights: &mut [i32; 18],
+    residuals: &mut [u16],
+)
+    requires register { 46 ≤ settings.now.predictor.register }
+    requires place { IsPlace cube.now.shape settings.now.band y x }
+    requires columns { cube.now.shape.columns ≡ settings.now.columns }
+    requires kind { cube.now.kind ≡ settings.now.range.kind }
+    requires some { 1 ≤ length residuals.old }
+    requires few { length residuals.old ≤ 64 }
+    requires inside { x + length residuals.old ≤ cube.now.shape.columns }
+    requires weights_in { AllWithin (2 ^ (settings.now.predictor.fraction + 2)) weights.old }
+    ensures bound { (i : ℕ) → i < length residuals.new → slice_index residuals.new i < 2 ^ cube.now.kind.bits }
+    ensures residuals { (p : Parameters) → AreWeightsAt p settings.now.predictor cube.now settings.now.band (y * cube.now.shape.columns + x) (take settings.now.count weights.old) → residuals.new ≡ run_residuals p cube.now settings.now.band (y * cube.now.shape.columns + x) (length residuals.old) }
+    ensures weights { (p : Parameters) → AreWeightsAt p settings.now.predictor cube.now settings.now.band (y * cube.now.shape.columns + x) (take settings.now.count weights.old) → take settings.now.count weights.new ≡ weight_vector p cube.now settings.now.band (y * cube.now.shape.columns + x + length residuals.old) }
+    ensures within { AllWithin (2 ^ (settings.now.predictor.fraction + 2)) weights.new }
+{
+    let count = residuals.len();
+    let mut room = Room::new();
+    fill_room(settings, cube, y, x, count, &mut room);
+    let first = first_later(y, x);
+    follow_run(settings, cube, y, x, first, count, &mut room, weights);
+    map_run(settings, cube, y, x, &room.parts, &room.sums, residuals);
+    if first == 1 {
+        residuals[0] = first_residual(settings, cube, y, x);
+    }
+}
+
+/// The first place of a run from row `y`, column `x` on that is not the first of its band.
+fn first_later(y: u32, x: u32) -> usize
+    ensures value { result ≡ (if y + x == 0 then 1 else 0) }
+    ensures later { 0 < y + (x + result) }
+    ensures most { result ≤ 1 }
+    ensures start { result ≡ 1 → y + x ≡ 0 }
+{
+    if y == 0 && x == 0 { 1 } else { 0 }
 }

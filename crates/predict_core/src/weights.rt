@@ -29,7 +29,7 @@ pub(crate) fn product_of(count: usize, weights: &[i32; 18], differences: &[i32; 
 
 /// The sum of the products of the first `N` weights with their differences.
 #[inline(always)]
-fn product_of_first<const N: usize>(weights: &[i32; 18], differences: &[i32; 18]) -> i64
+pub(crate) fn product_of_first<const N: usize>(weights: &[i32; 18], differences: &[i32; 18]) -> i64
     requires few { N ≤ 18 }
     requires weights_in { AllWithin (2 ^ 21) weights.now }
     requires differences_in { AllWithin (2 ^ 18) differences.now }
@@ -81,7 +81,7 @@ pub(crate) fn update(
 
 /// The first `N` weights after an error.
 #[inline(always)]
-fn update_first<const N: usize>(
+pub(crate) fn update_first<const N: usize>(
     weights: &mut [i32; 18],
     differences: &[i32; 18],
     fraction: u32,

@@ -18,6 +18,8 @@ mod refusals;
 #[cfg(test)]
 mod rows;
 #[cfg(test)]
+mod runs;
+#[cfg(test)]
 mod sample_words;
 #[cfg(test)]
 mod settings;

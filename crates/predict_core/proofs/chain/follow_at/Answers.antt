@@ -1,37 +1,39 @@
-use Rattle.std.proofs.Common.{◌≡◌, ◌≤◌, ◌+◌, ◌^◌, false, List, ℤ, length, take, SFits, w32, to_z-of_z, rules, arith, sym, ◌∙◌}
+use Rattle.std.proofs.Common.{◌≡◌, ◌≤◌, ◌-◌, ◌^◌, ◌+◌, false, ap, subst, ◌∙◌, int_le, take, SFits, w32, to_z-of_z, rules, arith}
+use Rattle.predict_core.specs.Arithmetic.{floor_div}
 use Rattle.predict_core.specs.Bounds.{AllWithin}
-use Rattle.predict_core.specs.Differences.{difference_vector}
-use Rattle.predict_core.proofs.Inner.{within_take}
-use Rattle.predict_core.proofs.Links.{scaled_by_difference, next_by_difference}
-use Rattle.predict_core.proofs.Padding.{vector_length}
+use Rattle.predict_core.specs.Prediction.{inner_product}
+use Rattle.predict_core.specs.Weights.{updated_weights}
+use Rattle.predict_core.proofs.Chains.{scaled_from_room, next_from_room}
+use Rattle.predict_core.proofs.Ranges.{padded_within}
+use Rattle.predict_core.proofs.chain.follow_at.Given as given
 use Rattle.predict_core.proofs.chain.follow_at.Goals as goal
-use Rattle.predict_core.proofs.chain.follow_at.Goals.{After-follow}
+use Rattle.predict_core.proofs.chain.follow_at.Goals.{After-is_cube, After-follow}
 
-module _ (c : After-follow) where
-  wide : c.args.settings.now.predictor.column ≡ false → 2 ≤ c.args.cube.now.shape.columns
-  wide h = let w = c.args.settings.now.wide h in let e = c.requires.columns in omega (arith, w, e)
+wide : (g : given.Over) (c : After-is_cube g) → c.args.settings.now.predictor.column ≡ false → 2 ≤ c.args.cube.now.shape.columns
+wide g c h = let w = c.args.settings.now.wide h in let e = c.requires.columns in omega (arith, w, e)
 
-  long : length (difference_vector c.args.settings.now.predictor c.args.cube.now c.args.settings.now.band c.args.y c.args.x) ≡ c.args.settings.now.count
-  long = vector_length c.args.settings.now.predictor c.args.cube.now c.args.settings.now.band c.args.y c.args.x ∙ sym c.args.settings.now.count_is
-
-  within : AllWithin (2 ^ (c.args.settings.now.predictor.fraction + 2)) (take c.args.settings.now.count c.args.weights.now)
-  within = within_take (2 ^ (c.args.settings.now.predictor.fraction + 2)) c.args.settings.now.count c.args.weights.now c.requires.weights_in
+pub follow-requires-clause-differences_in : goal.follow-requires-clause-differences_in
+follow-requires-clause-differences_in g c =
+    let d = (goal.at.follow-requires-clause-differences_in g c).After-is_cube in
+    let s = c.args.settings.now in
+    rw (c.requires.differences_are, c.requires.bits, s.range.bits_is, ← c.requires.kind)
+    (padded_within s.predictor c.args.cube.now c.is_cube.ensures c.args.y c.args.x c.requires.later (wide g d) s.band c.requires.place (18 - s.count))
 
 pub returns-clause-scaled : goal.returns-clause-scaled
-returns-clause-scaled c =
-    let d = (goal.at.returns-clause-scaled c).After-follow in
+returns-clause-scaled g c =
+    let d = (goal.at.returns-clause-scaled g c).After-is_cube in
     let s = c.args.settings.now in
     let fits : SFits w32 c.follow.result = search rules in
-    let ws : List ℤ = take s.count c.args.weights.now in
-    let us = difference_vector s.predictor c.args.cube.now s.band c.args.y c.args.x in
+    let within = subst (λ f. AllWithin (2 ^ (f + 2)) c.args.weights.now) c.requires.fraction c.requires.weights_in in
+    let value = c.follow.ensures.value ∙ ap (λ f. floor_div (inner_product (take g.row.N c.args.weights.now) (take g.row.N c.args.differences.now)) (2 ^ f)) c.requires.fraction in
     rw (to_z-of_z fits)
-    (scaled_by_difference s.predictor c.args.cube.now s.band c.args.y c.args.x ws c.is_cube.ensures c.requires.place c.requires.later (wide d) s.lawful.few s.lawful.fraction.1 (within d) c.requires.register c.follow.result (c.follow.ensures.value us (long d) c.requires.differences_are))
+    (scaled_from_room s.predictor c.args.cube.now s.band c.args.y c.args.x s.count g.row.N c.args.weights.now c.args.differences.now c.is_cube.ensures c.requires.place c.requires.later (wide g d) s.lawful.few s.lawful.fraction.1 within c.requires.register s.count_is c.requires.enough c.requires.few c.requires.differences_are c.follow.result value)
 
 pub returns-clause-weights : goal.returns-clause-weights
-returns-clause-weights c =
-    let d = (goal.at.returns-clause-weights c).After-follow in
+returns-clause-weights g c =
+    let d = (goal.at.returns-clause-weights g c).After-is_cube in
     let s = c.args.settings.now in
-    let ws : List ℤ = take s.count c.args.weights.now in
-    let us = difference_vector s.predictor c.args.cube.now s.band c.args.y c.args.x in
-    let moved = rw c.requires.exponent_is at (simp (to_z-of_z c.ranges.exponent, to_z-of_z c.ranges.own) at c.follow.ensures.weights us (long d) c.requires.differences_are) in
-    next_by_difference s.predictor c.args.cube.now s.band c.args.y c.args.x ws c.is_cube.ensures c.requires.place c.requires.later (wide d) s.lawful.few s.lawful.fraction.1 (within d) c.requires.register _ c.args.own c.follow.result c.requires.own_is (c.follow.ensures.value us (long d) c.requires.differences_are) moved
+    let within = subst (λ f. AllWithin (2 ^ (f + 2)) c.args.weights.now) c.requires.fraction c.requires.weights_in in
+    let value = c.follow.ensures.value ∙ ap (λ f. floor_div (inner_product (take g.row.N c.args.weights.now) (take g.row.N c.args.differences.now)) (2 ^ f)) c.requires.fraction in
+    let moved = (simp (to_z-of_z c.ranges.own) at c.follow.ensures.weights) ∙ ap (λ f. updated_weights f c.args.steps.exponent (int_le c.args.own c.follow.result) (take g.row.N c.args.weights.now) (take g.row.N c.args.differences.now)) c.requires.fraction in
+    next_from_room s.predictor c.args.cube.now s.band c.args.y c.args.x s.count g.row.N c.args.weights.now c.args.differences.now c.is_cube.ensures c.requires.place c.requires.later (wide g d) s.lawful.few s.lawful.fraction.1 within c.requires.register s.count_is c.requires.enough c.requires.few c.requires.differences_are c.follow.new.weights c.args.own c.follow.result c.args.steps.exponent c.requires.own_is c.requires.exponent value moved

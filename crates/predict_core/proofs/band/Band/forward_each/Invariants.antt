@@ -2,7 +2,7 @@ use Rattle.std.proofs.Common.{◌≡◌, ℕ, ◌<◌, ◌^◌, length, take, sl
 use Rattle.header_bits.specs.declared.params.Params.{Params}
 use Rattle.predict_core.specs.Residual.{run_residuals}
 use Rattle.predict_core.specs.Following.{Follows, MovesBy}
-use Rattle.predict_core.proofs.band.Band.forward_run.Given as goal
+use Rattle.predict_core.proofs.band.Band.forward_each.Given as goal
 
 abbrev pub invariant-loop-i : goal.invariant-loop-i
 invariant-loop-i l = record {

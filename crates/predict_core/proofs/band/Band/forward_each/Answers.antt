@@ -1,7 +1,7 @@
 use Rattle.std.proofs.Common.{◌<◌, ◌^◌, length, arith, ap₂, ◌∙◌, length-set}
 use Rattle.predict_core.specs.Residual.{mapped_residual}
 use Rattle.predict_core.proofs.RunSteps.{run_next, bound_next, moved_next}
-use Rattle.predict_core.proofs.band.Band.forward_run.Goals as goal
+use Rattle.predict_core.proofs.band.Band.forward_each.Goals as goal
 
 pub loop-i-preserved : goal.loop-i-preserved
 loop-i-preserved c =

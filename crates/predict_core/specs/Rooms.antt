@@ -1,0 +1,45 @@
+-- What the samples tell of a run of places, before its weights are known.
+use Rattle.std.specs.Prelude.{ℕ, ◌≡◌, ◌+◌, ◌-◌, ◌*◌, ◌/◌, ◌^◌, ◌<◌, ◌≤◌, nat_le, ℤ, pos, ◌+ℤ◌, ◌*ℤ◌, ◌≤ℤ◌, unsigned_abs, List, [], ◌++◌, map, take, replicate, slice_index_or, if◌then◌else◌}
+use Rattle.std.specs.List.{flat_map}
+use Rattle.cube_core.specs.Kind.{smin}
+use Rattle.cube_core.specs.Image.{Image}
+use Rattle.cube_core.specs.Order.{from}
+use Rattle.predict_core.specs.declared.predictor.Predictor.{Predictor}
+use Rattle.predict_core.specs.declared.room.Quad.{Quad}
+use Rattle.predict_core.specs.Predictor.{previous_bands}
+use Rattle.predict_core.specs.LocalSum.{local_sum}
+use Rattle.predict_core.specs.Differences.{central_difference, difference_vector}
+use Rattle.predict_core.specs.Bounds.{AllWithin}
+use Rattle.predict_core.specs.Arithmetic.{floor_div, clip}
+use Rattle.predict_core.specs.Residual.{mapped_between}
+
+-- the components of place i of a run, from the first n quads of its room
+unfoldable pub components_at : ℕ → List Quad → ℕ → List ℤ
+components_at n quads i = flat_map (λ (q : Quad). slice_index_or q.places i []) (take n quads)
+
+-- how many quads so many components take
+abbrev pub quads_of : ℕ → ℕ
+quads_of count = (count + 3) / 4
+
+-- the central difference of the kth band below at a place, and 0 where there is none
+unfoldable pub lower_difference : Predictor → Image → ℕ → ℕ → ℕ → ℕ → ℤ
+lower_difference p c z y x k = if nat_le k (previous_bands p z) then central_difference p c (z - k) y x else pos 0
+
+-- those of n bands, from the kth below on
+unfoldable pub lower_differences : Predictor → Image → ℕ → ℕ → ℕ → ℕ → ℕ → List ℤ
+lower_differences p c z y x k n = map (lower_difference p c z y x) (from k n)
+
+-- a room tells the sums and differences of a run of count places of band z from row y, column x on, but for the first of the band
+pub record IsRoom (p : Predictor) (c : Image) (z y x count components : ℕ) (sums own : List ℤ) (quads : List Quad) : Type 0 where
+  pub sum : (i : ℕ) → i < count → 0 < y + (x + i) → pos 4 *ℤ smin c.kind +ℤ slice_index_or sums i (pos 0) ≡ local_sum p c z y (x + i)
+  pub central : (i : ℕ) → i < count → 0 < y + (x + i) → slice_index_or own i (pos 0) ≡ central_difference p c z y (x + i)
+  pub vector : (i : ℕ) → i < count → 0 < y + (x + i) → components_at (quads_of components) quads i ≡ difference_vector p c z y (x + i) ++ replicate (4 * quads_of components - components) (pos 0)
+  pub sum_least : (i : ℕ) → i < count → 0 < y + (x + i) → pos 0 ≤ℤ slice_index_or sums i (pos 0)
+  pub sum_most : (i : ℕ) → i < count → 0 < y + (x + i) → slice_index_or sums i (pos 0) ≤ℤ pos 262140
+  pub central_in : (i : ℕ) → i < count → 0 < y + (x + i) → unsigned_abs (slice_index_or own i (pos 0)) ≤ 4 * 2 ^ c.kind.bits
+  pub vector_in : (i : ℕ) → i < count → 0 < y + (x + i) → AllWithin (4 * 2 ^ c.kind.bits) (components_at (quads_of components) quads i)
+
+-- the number of a height above the least sample, by a predicted difference and a local sum of heights
+unfoldable pub height_number : ℤ → ℤ → ℤ → ℕ → ℕ
+height_number greatest part sum height =
+    mapped_between (pos 0) greatest (clip (floor_div (part +ℤ sum) 2 +ℤ pos 1) (pos 0) (pos 2 *ℤ greatest +ℤ pos 1)) (pos height)

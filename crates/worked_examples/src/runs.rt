@@ -1,0 +1,197 @@
+//! A band that moves on by runs has the residuals of one that goes place after place.
+
+ghost use Rattle.std.specs.Prelude.{◌≡◌, ◌<◌};
+ghost use Rattle.header_bits.specs.Lawful.{IsLawful};
+ghost use Rattle.header_bits.specs.Reach.{here};
+
+use cube_core::cube::Cube;
+use cube_core::kind::Kind;
+use cube_core::layout::{Layout, RawOrder};
+use cube_core::order::Order;
+use cube_core::shape::Shape;
+use header_bits::params::{Coder, CountStart, Params, WeightStart};
+use predict_core::band::Band;
+use std::alloc::Global;
+use std::process::Abort;
+
+/// Numbers that a seed decides.
+#[derive(Drop)]
+struct Draw(u64);
+
+impl Draw {
+    /// A number below 2^31.
+    fn next(&mut self) -> u64 {
+        self.0 = self
+            .0
+            .wrapping_mul(6_364_136_223_846_793_005)
+            .wrapping_add(1_442_695_040_888_963_407);
+        self.0 >> 33
+    }
+}
+
+/// One band of a cube, twice.
+#[derive(Drop)]
+struct Twice {
+    cube: Cube,
+    runs: Band,
+    singles: Band,
+    ghost runs_shape: { cube.shape ≡ runs.shape },
+    ghost runs_kind: { cube.kind ≡ runs.kind },
+    ghost runs_inside: { runs.band < cube.shape.bands },
+    ghost singles_shape: { cube.shape ≡ singles.shape },
+    ghost singles_kind: { cube.kind ≡ singles.kind },
+    ghost singles_inside: { singles.band < cube.shape.bands },
+}
+
+impl Twice {
+    /// The residuals of a run, as many as there is room for.
+    fn run(&mut self, rt: &impl Abort, y: u32, x: u32, residuals: &mut [u16]) {
+        let shape = self.cube.shape();
+        let place = u64::from(y) * u64::from(shape.columns()) + u64::from(x);
+        assert!(rt; y < shape.rows());
+        assert!(rt; x < shape.columns());
+        assert!(rt; residuals.len() <= 64);
+        assert!(rt; u64::from(x) + residuals.len() as u64 <= u64::from(shape.columns()));
+        assert!(rt; self.runs.next() == place);
+        self.runs.forward_run(&self.cube, y, x, residuals);
+    }
+
+    /// The residual of one place.
+    fn single(&mut self, rt: &impl Abort, y: u32, x: u32) -> u16 {
+        let shape = self.cube.shape();
+        let place = u64::from(y) * u64::from(shape.columns()) + u64::from(x);
+        assert!(rt; y < shape.rows());
+        assert!(rt; x < shape.columns());
+        assert!(rt; self.singles.next() == place);
+        self.singles.forward(&self.cube, y, x)
+    }
+}
+
+/// Parameters of five rows, whose exponent grows every 16 places.
+fn params_of(
+    rt: &impl Abort,
+    columns: u32,
+    previous: u32,
+    reduced: bool,
+    column: bool,
+    register: u32,
+) -> Params
+    ensures { IsLawful here result }
+{
+    assert!(rt; previous <= 15);
+    let params = Params {
+        shape: Shape::new(columns, 5, previous + 1).expect(rt, "a shape"),
+        kind: Kind::new(false, 12).expect(rt, "a kind"),
+        order: Order::Bsq,
+        user: 0,
+        word: 1,
+        previous,
+        reduced,
+        column,
+        register,
+        omega: 13,
+        interval_log: 4,
+        vmin: -1,
+        vmax: 3,
+        start: WeightStart::Usual,
+        coder: Coder::Sample {
+            umax: 16,
+            gamma_star: 6,
+            gamma_zero: 1,
+            start: CountStart::Constant(3),
+        },
+    };
+    assert!(rt; params.check().is_ok());
+    params
+}
+
+/// A cube of a slope and noise, with ends of the range here and there.
+fn cube_of(rt: &impl Abort, alloc: Global, params: &Params, draw: &mut Draw) -> Cube
+    ensures shape { result.shape ≡ params.now.shape }
+    ensures kind { result.kind ≡ params.now.kind }
+{
+    let mut bytes = Vec::new(alloc);
+    let shape = params.shape;
+    for place in 0..shape.sample_count() {
+        let drawn = draw.next();
+        let height = match drawn % 16 {
+            0 => 0,
+            1 => 4095,
+            _ => (drawn >> 8) % 512 + place % 97 * 16,
+        };
+        bytes.push((height % 256) as u8).expect(rt, "memory");
+        bytes.push((height / 256) as u8).expect(rt, "memory");
+    }
+    let layout = Layout {
+        order: RawOrder::Bsq,
+        bytes: 2,
+        little: true,
+    };
+    Cube::from_raw(alloc, shape, params.kind, layout, &bytes).expect(rt, "a cube")
+}
+
+/// Goes over all rows of band `z` by runs of so many places, the last of a row shorter, and by single places.
+fn are_the_same(rt: &impl Abort, alloc: Global, params: &Params, z: u32, most: u32, draw: &mut Draw)
+    requires { IsLawful here params.now }
+{
+    assert!(rt; z < params.shape.bands());
+    assert!(rt; most <= 64);
+    let mut twice = Twice {
+        cube: cube_of(rt, alloc, params, draw),
+        runs: Band::new(alloc, params, z).expect(rt, "a band"),
+        singles: Band::new(alloc, params, z).expect(rt, "a band"),
+    };
+    let columns = params.shape.columns();
+    for y in 0..5 {
+        let mut x = 0;
+        for _ in 0..columns {
+            let count = most.min(columns.saturating_sub(x)) as usize;
+            let mut room = [0u16; 64];
+            let residuals = &mut room[..count];
+            if count > 0 {
+                twice.run(rt, y, x, residuals);
+            }
+            for residual in residuals {
+                assert_eq!(rt; *residual, twice.single(rt, y, x));
+                x = x.saturating_add(1);
+            }
+        }
+    }
+}
+
+#[test]
+fn runs_are_as_single_places(rt: HostRuntime) {
+    let mut draw = Draw(20_261_123);
+    for columns in [1, 2, 63, 64, 65, 129] {
+        for previous in 0..16u32 {
+            for (reduced, column) in [(false, true), (true, true), (false, false), (true, false)] {
+                // One column alone asks for reduced mode and column-oriented sums.
+                if columns > 1 || (reduced && column) {
+                    for register in [32 + previous % 14, 46 + previous * 7 % 19] {
+                        let params = params_of(&rt, columns, previous, reduced, column, register);
+                        are_the_same(&rt, rt.alloc(), &params, previous, 64, &mut draw);
+                    }
+                }
+            }
+        }
+    }
+}
+
+#[test]
+fn runs_of_any_length_are_as_single_places(rt: HostRuntime) {
+    let mut draw = Draw(1);
+    for most in 1..65u32 {
+        let previous = most % 16;
+        let params = params_of(
+            &rt,
+            129,
+            previous,
+            most % 4 < 2,
+            most % 3 == 0,
+            46 + most % 19,
+        );
+        for z in [0, previous / 2, previous] {
+            are_the_same(&rt, rt.alloc(), &params, z, most, &mut draw);
+        }
+    }
+}
