@@ -42,6 +42,20 @@ pub(crate) fn fill_four(
     }
 }
 
+/// Writes the central differences of two bands at each place, and zeros behind them.
+pub(crate) fn fill_two(column: bool, first: &Lines, second: &Lines, out: &mut [[i32; 4]; 64])
+    ensures { (i : ℕ) → i < 64 → slice_index_or out.new i [] ≡ line_difference column first.now.here first.now.over i ∷ line_difference column second.now.here second.now.over i ∷ pos 0 ∷ pos 0 ∷ [] }
+{
+    for i in 0..64usize {
+        out[i] = [
+            central_at(column, first, i),
+            central_at(column, second, i),
+            0,
+            0,
+        ];
+    }
+}
+
 /// Writes the directional differences of each place and the central difference of another band: north,
 /// west, north-west, and that band's.
 pub(crate) fn fill_directions(column: bool, lines: &Lines, below: &Lines, out: &mut [[i32; 4]; 64])

@@ -9,7 +9,7 @@ ghost use Rattle.predict_core.specs.Differences.{directional_differences, differ
 ghost use Rattle.predict_core.specs.Lines.{line_difference, AreBandLines};
 ghost use Rattle.predict_core.specs.Rooms.{IsRoom, components_at, quads_of, lower_difference, lower_differences};
 
-use crate::fills::{fill_directions, fill_four, fill_own};
+use crate::fills::{fill_directions, fill_four, fill_own, fill_two};
 use crate::lines::{Lines, fill_band_lines};
 use crate::settings::Settings;
 use cube_core::cube::Cube;
@@ -160,6 +160,31 @@ fn fill_lower(
     requires nearest_in { (1 ≤ nearest) × (nearest ≤ 64) }
     ensures { (i : ℕ) → i < count → 0 < y + (x + i) → slice_index_or quad.new.places i [] ≡ lower_differences settings.now.predictor cube.now settings.now.band y (x + i) nearest 4 }
 {
+    if settings.near <= nearest + 1 {
+        fill_last_two(settings, cube, y, x, count, nearest, quad);
+    } else {
+        fill_next_four(settings, cube, y, x, count, nearest, quad);
+    }
+}
+
+/// The same where all four are looked at, or three of them.
+fn fill_next_four(
+    settings: &Settings,
+    cube: &Cube,
+    y: u32,
+    x: u32,
+    count: usize,
+    nearest: usize,
+    quad: &mut Quad,
+)
+    requires place { IsPlace cube.now.shape settings.now.band y x }
+    requires columns { cube.now.shape.columns ≡ settings.now.columns }
+    requires some { 1 ≤ count }
+    requires few { count ≤ 64 }
+    requires inside { x + count ≤ cube.now.shape.columns }
+    requires nearest_in { (1 ≤ nearest) × (nearest ≤ 64) }
+    ensures { (i : ℕ) → i < count → 0 < y + (x + i) → slice_index_or quad.new.places i [] ≡ lower_differences settings.now.predictor cube.now settings.now.band y (x + i) nearest 4 }
+{
     let mut first = Lines::empty();
     let mut second = Lines::empty();
     let mut third = Lines::empty();
@@ -170,6 +195,33 @@ fn fill_lower(
     fill_below(settings, cube, y, x, count, nearest + 3, &mut fourth);
     let column = is_column(settings.predictor.column, y);
     fill_four(column, &first, &second, &third, &fourth, &mut quad.places);
+}
+
+/// The same where at most two of them are looked at, so that the loop is shorter.
+fn fill_last_two(
+    settings: &Settings,
+    cube: &Cube,
+    y: u32,
+    x: u32,
+    count: usize,
+    nearest: usize,
+    quad: &mut Quad,
+)
+    requires place { IsPlace cube.now.shape settings.now.band y x }
+    requires columns { cube.now.shape.columns ≡ settings.now.columns }
+    requires some { 1 ≤ count }
+    requires few { count ≤ 64 }
+    requires inside { x + count ≤ cube.now.shape.columns }
+    requires nearest_in { (1 ≤ nearest) × (nearest ≤ 64) }
+    requires last { settings.now.near ≤ nearest + 1 }
+    ensures { (i : ℕ) → i < count → 0 < y + (x + i) → slice_index_or quad.new.places i [] ≡ lower_differences settings.now.predictor cube.now settings.now.band y (x + i) nearest 4 }
+{
+    let mut first = Lines::empty();
+    let mut second = Lines::empty();
+    fill_below(settings, cube, y, x, count, nearest, &mut first);
+    fill_below(settings, cube, y, x, count, nearest + 1, &mut second);
+    let column = is_column(settings.predictor.column, y);
+    fill_two(column, &first, &second, &mut quad.places);
 }
 
 /// Writes the lines of the band that is `below` bands below; empty lines stay so where there is none to
