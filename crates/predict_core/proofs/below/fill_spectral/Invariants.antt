@@ -1,6 +1,6 @@
 use Rattle.std.proofs.Common.{◌≡◌, ℕ, ◌+◌, ◌-◌, ◌*◌, ◌<◌, ◌++◌, length}
 use Rattle.predict_core.specs.Rooms.{components_at, lower_differences}
-use Rattle.predict_core.proofs.room.fill_spectral.Given as goal
+use Rattle.predict_core.proofs.below.fill_spectral.Given as goal
 
 abbrev pub invariant-loop-q : goal.invariant-loop-q
 invariant-loop-q g l = record {

@@ -1,7 +1,7 @@
 use Rattle.std.proofs.Common.{◌+◌, ◌<◌, length, arith, length-set}
 use Rattle.predict_core.specs.Rooms.{components_at}
 use Rattle.predict_core.proofs.Quads.{quads_begun, quads_next}
-use Rattle.predict_core.proofs.room.fill_spectral.Goals as goal
+use Rattle.predict_core.proofs.below.fill_spectral.Goals as goal
 
 pub loop-q-init : goal.loop-q-init
 loop-q-init g c =

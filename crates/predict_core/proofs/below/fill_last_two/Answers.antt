@@ -1,7 +1,7 @@
 use Rattle.std.proofs.Common.{◌+◌, ◌≤◌, arith, ◌∙◌}
 use Rattle.predict_core.specs.Predictor.{previous_bands}
 use Rattle.predict_core.proofs.Quads.{lower_two}
-use Rattle.predict_core.proofs.room.fill_last_two.Goals as goal
+use Rattle.predict_core.proofs.below.fill_last_two.Goals as goal
 
 pub returns : goal.returns
 returns c = λ i l h.
