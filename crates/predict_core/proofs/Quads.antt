@@ -49,6 +49,16 @@ module _ (p : Predictor) (c : Image) (z y x : ℕ) where
       let d : k + 3 ≡ suc (suc (suc k)) = omega arith in
       rw (a, b, d) refl
 
+  pub lower_none : (k : ℕ) → previous_bands p z < k → lower_difference p c z y x k ≡ pos 0
+  unfolding lower_difference
+  lower_none k h = grind (arith, nat_tests)
+
+  pub lower_two : (k : ℕ) → previous_bands p z ≤ k + 1 → lower_difference p c z y x k ∷ lower_difference p c z y x (k + 1) ∷ pos 0 ∷ pos 0 ∷ [] ≡ lower_differences p c z y x k 4
+  lower_two k h =
+      let third = lower_none (k + 2) (omega (arith, h)) in
+      let fourth = lower_none (k + 3) (omega (arith, h)) in
+      ap₂ (λ u v. lower_difference p c z y x k ∷ lower_difference p c z y x (k + 1) ∷ u ∷ v ∷ []) (sym third) (sym fourth) ∙ lower_four k
+
   pub lower_one : (k : ℕ) → lower_differences p c z y x k 1 ≡ lower_difference p c z y x k ∷ []
   unfolding lower_differences
   lower_one k = refl
@@ -56,10 +66,6 @@ module _ (p : Predictor) (c : Image) (z y x : ℕ) where
   pub lower_is : (k : ℕ) → k ≤ previous_bands p z → lower_difference p c z y x k ≡ central_difference p c (z - k) y x
   unfolding lower_difference
   lower_is k h = grind (arith, nat_tests)
-
-  pub lower_none : (k : ℕ) → previous_bands p z < k → lower_difference p c z y x k ≡ pos 0
-  unfolding lower_difference
-  lower_none k h = grind (arith, nat_tests)
 
   lower_zeros : (k n : ℕ) → previous_bands p z < k → lower_differences p c z y x k n ≡ replicate n (pos 0)
   unfolding lower_differences

@@ -42,13 +42,38 @@ pub(crate) fn fill_four(
     }
 }
 
-/// Writes the directional differences of each place and the central difference of another band: north,
-/// west, north-west, and that band's.
-pub(crate) fn fill_directions(column: bool, lines: &Lines, below: &Lines, out: &mut [[i32; 4]; 64])
-    ensures { (i : ℕ) → i < 64 → slice_index_or out.new i [] ≡ line_directions column lines.now.here lines.now.over i ++ line_difference column below.now.here below.now.over i ∷ [] }
+/// Writes the central differences of two bands at each place, and zeros behind them.
+pub(crate) fn fill_two(column: bool, first: &Lines, second: &Lines, out: &mut [[i32; 4]; 64])
+    ensures { (i : ℕ) → i < 64 → slice_index_or out.new i [] ≡ line_difference column first.now.here first.now.over i ∷ line_difference column second.now.here second.now.over i ∷ pos 0 ∷ pos 0 ∷ [] }
+{
+    for i in 0..64usize {
+        out[i] = [
+            central_at(column, first, i),
+            central_at(column, second, i),
+            0,
+            0,
+        ];
+    }
+}
+
+/// Writes the local sum of heights, the central and the directional differences of each place, and the
+/// central difference of another band: in a quad stand north, west, north-west, and that band's.
+pub(crate) fn fill_directions(
+    column: bool,
+    lines: &Lines,
+    below: &Lines,
+    sums: &mut [i32; 64],
+    own: &mut [i32; 64],
+    out: &mut [[i32; 4]; 64],
+)
+    ensures sums { (i : ℕ) → i < 64 → slice_index_or sums.new i (pos 0) ≡ pos (line_sum column lines.now.here lines.now.over i) }
+    ensures own { (i : ℕ) → i < 64 → slice_index_or own.new i (pos 0) ≡ line_difference column lines.now.here lines.now.over i }
+    ensures quads { (i : ℕ) → i < 64 → slice_index_or out.new i [] ≡ line_directions column lines.now.here lines.now.over i ++ line_difference column below.now.here below.now.over i ∷ [] }
 {
     for i in 0..64usize {
         let sum = sum_of_lines(column, &lines.here, &lines.over, i);
+        sums[i] = sum as i32;
+        own[i] = difference_of(lines.here[i + 1], sum);
         let north = difference_of(lines.over[i + 1], sum);
         let west = difference_of(lines.here[i], sum);
         let north_west = difference_of(lines.over[i], sum);

@@ -2,6 +2,7 @@
 #![tactic(auto)]
 
 pub mod band;
+mod below;
 mod chain;
 mod differences;
 mod exponent;

@@ -131,6 +131,13 @@ fn height_at(row: &[u16], k: usize, before: u16, after: u16) -> u16
     }
 }
 
+/// Whether a sum is of one neighbour alone: a column's, or the western one in the first row.
+pub(crate) fn is_column(column: bool, y: u32) -> bool
+    ensures { result ≡ (column || y == 0) }
+{
+    column | (y == 0)
+}
+
 /// Four times an average of the neighbours of place `i`.
 #[inline(always)]
 pub(crate) fn sum_of_lines(column: bool, here: &[u16; 66], over: &[u16; 66], i: usize) -> u32

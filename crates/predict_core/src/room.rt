@@ -1,16 +1,16 @@
 //! The room of a run: what the samples alone tell of its places, before a weight is known.
 //!
-//! A place's components stand in quads of four, each written by one loop over all places, and a quad takes
-//! the lines of four bands. Behind the last component stand the differences of empty lines, which are 0.
+//! A place's components stand in quads of four, each written by one loop over all places.
 
 ghost use Rattle.std.specs.Prelude.{◌≡◌, ◌+◌, ◌-◌, ◌*◌, ◌<◌, ◌≤◌, ◌||◌, ◌==◌, ℕ, ℤ, false, [], ◌∷◌, ◌++◌, replicate, slice_index_or, pos};
 ghost use Rattle.cube_core.specs.Image.{IsPlace};
-ghost use Rattle.predict_core.specs.Differences.{directional_differences, difference_vector};
-ghost use Rattle.predict_core.specs.Lines.{line_difference, AreBandLines};
-ghost use Rattle.predict_core.specs.Rooms.{IsRoom, components_at, quads_of, lower_difference, lower_differences};
+ghost use Rattle.predict_core.specs.Differences.{directional_differences};
+ghost use Rattle.predict_core.specs.Lines.{line_sum, line_difference, AreBandLines};
+ghost use Rattle.predict_core.specs.Rooms.{IsRoom, quads_of, lower_differences};
 
+use crate::below::{fill_below, fill_spectral};
 use crate::fills::{fill_directions, fill_four, fill_own};
-use crate::lines::{Lines, fill_band_lines};
+use crate::lines::{Lines, fill_band_lines, is_column};
 use crate::settings::Settings;
 use cube_core::cube::Cube;
 
@@ -65,6 +65,37 @@ pub(crate) fn fill_room(
     requires inside { x + count ≤ cube.now.shape.columns }
     ensures { IsRoom settings.now.predictor cube.now settings.now.band y x count settings.now.count room.new.sums room.new.own room.new.quads }
 {
+    fill_run::<5>(
+        settings,
+        cube,
+        y,
+        x,
+        count,
+        &mut room.sums,
+        &mut room.own,
+        &mut room.quads,
+    );
+}
+
+/// Writes the same into rooms that stand apart, with as many quads as are needed or more.
+pub(crate) fn fill_run<const Q: usize>(
+    settings: &Settings,
+    cube: &Cube,
+    y: u32,
+    x: u32,
+    count: usize,
+    sums: &mut [i32; 64],
+    own: &mut [i32; 64],
+    quads: &mut [Quad; Q],
+)
+    requires place { IsPlace cube.now.shape settings.now.band y x }
+    requires columns { cube.now.shape.columns ≡ settings.now.columns }
+    requires some { 1 ≤ count }
+    requires few { count ≤ 64 }
+    requires inside { x + count ≤ cube.now.shape.columns }
+    requires enough { quads_of settings.now.count ≤ Q }
+    ensures { IsRoom settings.now.predictor cube.now settings.now.band y x count settings.now.count sums.new own.new quads.new }
+{
     cube.is_cube();
     let mut lines = Lines::empty();
     fill_band_lines(
@@ -76,130 +107,19 @@ pub(crate) fn fill_room(
         count,
         &mut lines,
     );
-    let column = is_column(settings.predictor.column, y);
-    fill_own(column, &lines, &mut room.sums, &mut room.own);
-    fill_quads(settings, cube, y, x, count, &lines, &mut room.quads);
-}
-
-/// Whether a sum is of one neighbour alone: a column's, or the western one in the first row.
-fn is_column(column: bool, y: u32) -> bool
-    ensures { result ≡ (column || y == 0) }
-{
-    column | (y == 0)
-}
-
-/// Writes all components of a run of band `settings.band`, whose lines these are.
-fn fill_quads(
-    settings: &Settings,
-    cube: &Cube,
-    y: u32,
-    x: u32,
-    count: usize,
-    lines: &Lines,
-    quads: &mut [Quad; 5],
-)
-    requires place { IsPlace cube.now.shape settings.now.band y x }
-    requires columns { cube.now.shape.columns ≡ settings.now.columns }
-    requires some { 1 ≤ count }
-    requires few { count ≤ 64 }
-    requires inside { x + count ≤ cube.now.shape.columns }
-    requires lines { AreBandLines settings.now.predictor cube.now settings.now.band y x count lines.now.here lines.now.over }
-    ensures { (i : ℕ) → i < count → 0 < y + (x + i) → components_at (quads_of settings.now.count) quads.new i ≡ difference_vector settings.now.predictor cube.now settings.now.band y (x + i) ++ replicate (4 * quads_of settings.now.count - settings.now.count) (pos 0) }
-{
     if settings.predictor.reduced {
-        fill_spectral(settings, cube, y, x, count, 0, 1, quads);
+        let column = is_column(settings.predictor.column, y);
+        fill_own(column, &lines, sums, own);
+        fill_spectral::<Q>(settings, cube, y, x, count, 0, 1, quads);
     } else {
         let first = &mut quads[0];
-        fill_first(settings, cube, y, x, count, lines, first);
-        fill_spectral(settings, cube, y, x, count, 1, 2, quads);
+        fill_first(settings, cube, y, x, count, &lines, sums, own, first);
+        fill_spectral::<Q>(settings, cube, y, x, count, 1, 2, quads);
     }
 }
 
-/// Writes the quads behind the first so many: the central differences of the bands below, from the
-/// `nearest` of them on.
-fn fill_spectral(
-    settings: &Settings,
-    cube: &Cube,
-    y: u32,
-    x: u32,
-    count: usize,
-    first: usize,
-    nearest: usize,
-    quads: &mut [Quad; 5],
-)
-    requires place { IsPlace cube.now.shape settings.now.band y x }
-    requires columns { cube.now.shape.columns ≡ settings.now.columns }
-    requires some { 1 ≤ count }
-    requires few { count ≤ 64 }
-    requires inside { x + count ≤ cube.now.shape.columns }
-    requires first_in { first ≤ quads_of settings.now.count }
-    requires nearest_in { (1 ≤ nearest) × (nearest ≤ 2) }
-    ensures { (i : ℕ) → i < count → 0 < y + (x + i) → components_at (quads_of settings.now.count) quads.new i ≡ components_at first quads.old i ++ lower_differences settings.now.predictor cube.now settings.now.band y (x + i) nearest (4 * (quads_of settings.now.count - first)) }
-{
-    for q in first..(settings.count + 3) / 4 {
-        let quad = &mut quads[q];
-        fill_lower(settings, cube, y, x, count, nearest + 4 * (q - first), quad);
-    }
-}
-
-/// Writes the central differences of four bands below, from the `nearest` of them on.
-fn fill_lower(
-    settings: &Settings,
-    cube: &Cube,
-    y: u32,
-    x: u32,
-    count: usize,
-    nearest: usize,
-    quad: &mut Quad,
-)
-    requires place { IsPlace cube.now.shape settings.now.band y x }
-    requires columns { cube.now.shape.columns ≡ settings.now.columns }
-    requires some { 1 ≤ count }
-    requires few { count ≤ 64 }
-    requires inside { x + count ≤ cube.now.shape.columns }
-    requires nearest_in { (1 ≤ nearest) × (nearest ≤ 64) }
-    ensures { (i : ℕ) → i < count → 0 < y + (x + i) → slice_index_or quad.new.places i [] ≡ lower_differences settings.now.predictor cube.now settings.now.band y (x + i) nearest 4 }
-{
-    let mut first = Lines::empty();
-    let mut second = Lines::empty();
-    let mut third = Lines::empty();
-    let mut fourth = Lines::empty();
-    fill_below(settings, cube, y, x, count, nearest, &mut first);
-    fill_below(settings, cube, y, x, count, nearest + 1, &mut second);
-    fill_below(settings, cube, y, x, count, nearest + 2, &mut third);
-    fill_below(settings, cube, y, x, count, nearest + 3, &mut fourth);
-    let column = is_column(settings.predictor.column, y);
-    fill_four(column, &first, &second, &third, &fourth, &mut quad.places);
-}
-
-/// Writes the lines of the band that is `below` bands below; empty lines stay so where there is none to
-/// look at.
-fn fill_below(
-    settings: &Settings,
-    cube: &Cube,
-    y: u32,
-    x: u32,
-    count: usize,
-    below: usize,
-    lines: &mut Lines,
-)
-    requires place { IsPlace cube.now.shape settings.now.band y x }
-    requires columns { cube.now.shape.columns ≡ settings.now.columns }
-    requires some { 1 ≤ count }
-    requires few { count ≤ 64 }
-    requires inside { x + count ≤ cube.now.shape.columns }
-    requires below_in { 1 ≤ below }
-    requires here { lines.old.here ≡ replicate 66 0 }
-    requires over { lines.old.over ≡ replicate 66 0 }
-    ensures { (i : ℕ) → i < count → 0 < y + (x + i) → line_difference (settings.now.predictor.column || y == 0) lines.new.here lines.new.over i ≡ lower_difference settings.now.predictor cube.now settings.now.band y (x + i) below }
-{
-    if below <= settings.near {
-        let z = settings.band - below as u32;
-        fill_band_lines(&settings.predictor, cube, z, y, x, count, lines);
-    }
-}
-
-/// Writes the first quad in full mode: the three directions, and the band below.
+/// Writes the sums, the central differences and the first quad in full mode: the three directions, and the
+/// band below.
 fn fill_first(
     settings: &Settings,
     cube: &Cube,
@@ -207,6 +127,8 @@ fn fill_first(
     x: u32,
     count: usize,
     lines: &Lines,
+    sums: &mut [i32; 64],
+    own: &mut [i32; 64],
     quad: &mut Quad,
 )
     requires place { IsPlace cube.now.shape settings.now.band y x }
@@ -215,16 +137,26 @@ fn fill_first(
     requires few { count ≤ 64 }
     requires inside { x + count ≤ cube.now.shape.columns }
     requires lines { AreBandLines settings.now.predictor cube.now settings.now.band y x count lines.now.here lines.now.over }
-    ensures { (i : ℕ) → i < count → 0 < y + (x + i) → slice_index_or quad.new.places i [] ≡ directional_differences settings.now.predictor cube.now settings.now.band y (x + i) ++ lower_differences settings.now.predictor cube.now settings.now.band y (x + i) 1 1 }
+    ensures sums { (i : ℕ) → i < 64 → slice_index_or sums.new i (pos 0) ≡ pos (line_sum (settings.now.predictor.column || y == 0) lines.now.here lines.now.over i) }
+    ensures own { (i : ℕ) → i < 64 → slice_index_or own.new i (pos 0) ≡ line_difference (settings.now.predictor.column || y == 0) lines.now.here lines.now.over i }
+    ensures quad { (i : ℕ) → i < count → 0 < y + (x + i) → slice_index_or quad.new.places i [] ≡ directional_differences settings.now.predictor cube.now settings.now.band y (x + i) ++ lower_differences settings.now.predictor cube.now settings.now.band y (x + i) 1 1 }
 {
     let mut below = Lines::empty();
     fill_below(settings, cube, y, x, count, 1, &mut below);
     if y == 0 {
         let none = Lines::empty();
+        fill_own(true, lines, sums, own);
         fill_four(true, &none, &none, &none, &below, &mut quad.places);
         return;
     }
-    fill_directions(settings.predictor.column, lines, &below, &mut quad.places);
+    fill_directions(
+        settings.predictor.column,
+        lines,
+        &below,
+        sums,
+        own,
+        &mut quad.places,
+    );
     if x == 0 {
         repeat_north(&mut quad.places);
     }

@@ -1,7 +1,7 @@
 use Rattle.std.proofs.Common.{◌+◌, ◌≤◌, arith, sym, ◌∙◌}
 use Rattle.predict_core.specs.Predictor.{previous_bands}
 use Rattle.predict_core.proofs.Quads.{lower_is, lower_none, empty_difference}
-use Rattle.predict_core.proofs.room.fill_below.Goals as goal
+use Rattle.predict_core.proofs.below.fill_below.Goals as goal
 
 pub returns-then-below-settings : goal.returns-then-below-settings
 returns-then-below-settings c = λ i l h.

@@ -1,6 +1,6 @@
 use Rattle.std.proofs.Common.{◌+◌, arith, ◌∙◌}
 use Rattle.predict_core.proofs.Quads.{lower_four}
-use Rattle.predict_core.proofs.room.fill_lower.Goals as goal
+use Rattle.predict_core.proofs.below.fill_next_four.Goals as goal
 
 pub returns : goal.returns
 returns c = λ i l h.

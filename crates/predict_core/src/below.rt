@@ -1,0 +1,152 @@
+//! The central differences of the bands below, in quads of four components.
+//!
+//! A quad takes the lines of four bands. Behind the last band that is looked at stand the differences of
+//! empty lines, which are 0.
+
+ghost use Rattle.std.specs.Prelude.{◌≡◌, ◌+◌, ◌-◌, ◌*◌, ◌<◌, ◌≤◌, ◌||◌, ◌==◌, ℕ, [], ◌++◌, replicate, slice_index_or};
+ghost use Rattle.cube_core.specs.Image.{IsPlace};
+ghost use Rattle.predict_core.specs.Lines.{line_difference};
+ghost use Rattle.predict_core.specs.Rooms.{components_at, quads_of, lower_difference, lower_differences};
+
+use crate::fills::{fill_four, fill_two};
+use crate::lines::{Lines, fill_band_lines, is_column};
+use crate::room::Quad;
+use crate::settings::Settings;
+use cube_core::cube::Cube;
+
+/// Writes the quads behind the first so many: the central differences of the bands below, from the
+/// `nearest` of them on.
+pub(crate) fn fill_spectral<const Q: usize>(
+    settings: &Settings,
+    cube: &Cube,
+    y: u32,
+    x: u32,
+    count: usize,
+    first: usize,
+    nearest: usize,
+    quads: &mut [Quad; Q],
+)
+    requires place { IsPlace cube.now.shape settings.now.band y x }
+    requires columns { cube.now.shape.columns ≡ settings.now.columns }
+    requires some { 1 ≤ count }
+    requires few { count ≤ 64 }
+    requires inside { x + count ≤ cube.now.shape.columns }
+    requires enough { quads_of settings.now.count ≤ Q }
+    requires first_in { first ≤ quads_of settings.now.count }
+    requires nearest_in { (1 ≤ nearest) × (nearest ≤ 2) }
+    ensures { (i : ℕ) → i < count → 0 < y + (x + i) → components_at (quads_of settings.now.count) quads.new i ≡ components_at first quads.old i ++ lower_differences settings.now.predictor cube.now settings.now.band y (x + i) nearest (4 * (quads_of settings.now.count - first)) }
+{
+    for q in first..(settings.count + 3) / 4 {
+        let quad = &mut quads[q];
+        fill_lower(settings, cube, y, x, count, nearest + 4 * (q - first), quad);
+    }
+}
+
+/// Writes the central differences of four bands below, from the `nearest` of them on.
+fn fill_lower(
+    settings: &Settings,
+    cube: &Cube,
+    y: u32,
+    x: u32,
+    count: usize,
+    nearest: usize,
+    quad: &mut Quad,
+)
+    requires place { IsPlace cube.now.shape settings.now.band y x }
+    requires columns { cube.now.shape.columns ≡ settings.now.columns }
+    requires some { 1 ≤ count }
+    requires few { count ≤ 64 }
+    requires inside { x + count ≤ cube.now.shape.columns }
+    requires nearest_in { (1 ≤ nearest) × (nearest ≤ 64) }
+    ensures { (i : ℕ) → i < count → 0 < y + (x + i) → slice_index_or quad.new.places i [] ≡ lower_differences settings.now.predictor cube.now settings.now.band y (x + i) nearest 4 }
+{
+    if settings.near <= nearest + 1 {
+        fill_last_two(settings, cube, y, x, count, nearest, quad);
+    } else {
+        fill_next_four(settings, cube, y, x, count, nearest, quad);
+    }
+}
+
+/// The same where all four are looked at, or three of them.
+fn fill_next_four(
+    settings: &Settings,
+    cube: &Cube,
+    y: u32,
+    x: u32,
+    count: usize,
+    nearest: usize,
+    quad: &mut Quad,
+)
+    requires place { IsPlace cube.now.shape settings.now.band y x }
+    requires columns { cube.now.shape.columns ≡ settings.now.columns }
+    requires some { 1 ≤ count }
+    requires few { count ≤ 64 }
+    requires inside { x + count ≤ cube.now.shape.columns }
+    requires nearest_in { (1 ≤ nearest) × (nearest ≤ 64) }
+    ensures { (i : ℕ) → i < count → 0 < y + (x + i) → slice_index_or quad.new.places i [] ≡ lower_differences settings.now.predictor cube.now settings.now.band y (x + i) nearest 4 }
+{
+    let mut first = Lines::empty();
+    let mut second = Lines::empty();
+    let mut third = Lines::empty();
+    let mut fourth = Lines::empty();
+    fill_below(settings, cube, y, x, count, nearest, &mut first);
+    fill_below(settings, cube, y, x, count, nearest + 1, &mut second);
+    fill_below(settings, cube, y, x, count, nearest + 2, &mut third);
+    fill_below(settings, cube, y, x, count, nearest + 3, &mut fourth);
+    let column = is_column(settings.predictor.column, y);
+    fill_four(column, &first, &second, &third, &fourth, &mut quad.places);
+}
+
+/// The same where at most two of them are looked at, so that the loop is shorter.
+fn fill_last_two(
+    settings: &Settings,
+    cube: &Cube,
+    y: u32,
+    x: u32,
+    count: usize,
+    nearest: usize,
+    quad: &mut Quad,
+)
+    requires place { IsPlace cube.now.shape settings.now.band y x }
+    requires columns { cube.now.shape.columns ≡ settings.now.columns }
+    requires some { 1 ≤ count }
+    requires few { count ≤ 64 }
+    requires inside { x + count ≤ cube.now.shape.columns }
+    requires nearest_in { (1 ≤ nearest) × (nearest ≤ 64) }
+    requires last { settings.now.near ≤ nearest + 1 }
+    ensures { (i : ℕ) → i < count → 0 < y + (x + i) → slice_index_or quad.new.places i [] ≡ lower_differences settings.now.predictor cube.now settings.now.band y (x + i) nearest 4 }
+{
+    let mut first = Lines::empty();
+    let mut second = Lines::empty();
+    fill_below(settings, cube, y, x, count, nearest, &mut first);
+    fill_below(settings, cube, y, x, count, nearest + 1, &mut second);
+    let column = is_column(settings.predictor.column, y);
+    fill_two(column, &first, &second, &mut quad.places);
+}
+
+/// Writes the lines of the band that is `below` bands below; empty lines stay so where there is none to
+/// look at.
+pub(crate) fn fill_below(
+    settings: &Settings,
+    cube: &Cube,
+    y: u32,
+    x: u32,
+    count: usize,
+    below: usize,
+    lines: &mut Lines,
+)
+    requires place { IsPlace cube.now.shape settings.now.band y x }
+    requires columns { cube.now.shape.columns ≡ settings.now.columns }
+    requires some { 1 ≤ count }
+    requires few { count ≤ 64 }
+    requires inside { x + count ≤ cube.now.shape.columns }
+    requires below_in { 1 ≤ below }
+    requires here { lines.old.here ≡ replicate 66 0 }
+    requires over { lines.old.over ≡ replicate 66 0 }
+    ensures { (i : ℕ) → i < count → 0 < y + (x + i) → line_difference (settings.now.predictor.column || y == 0) lines.new.here lines.new.over i ≡ lower_difference settings.now.predictor cube.now settings.now.band y (x + i) below }
+{
+    if below <= settings.near {
+        let z = settings.band - below as u32;
+        fill_band_lines(&settings.predictor, cube, z, y, x, count, lines);
+    }
+}
