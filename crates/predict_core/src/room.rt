@@ -2,7 +2,7 @@
 //!
 //! A place's components stand in quads of four, each written by one loop over all places.
 
-ghost use Rattle.std.specs.Prelude.{◌≡◌, ◌+◌, ◌-◌, ◌*◌, ◌<◌, ◌≤◌, ◌||◌, ◌==◌, ℕ, ℤ, false, [], ◌∷◌, ◌++◌, replicate, slice_index_or, pos};
+ghost use Rattle.std.specs.Prelude.{◌≡◌, ◌+◌, ◌-◌, ◌<◌, ◌≤◌, ◌||◌, ◌==◌, ℕ, ℤ, [], ◌∷◌, ◌++◌, slice_index_or, pos};
 ghost use Rattle.cube_core.specs.Image.{IsPlace};
 ghost use Rattle.predict_core.specs.Differences.{directional_differences};
 ghost use Rattle.predict_core.specs.Lines.{line_sum, line_difference, AreBandLines};
