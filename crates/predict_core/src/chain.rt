@@ -67,7 +67,7 @@ fn follow<const N: usize>(
 
 /// The components of place `i` from the first `Q` quads of a room, and zeros behind them.
 #[inline(always)]
-fn differences_at<const Q: usize>(quads: &[Quad; 5], i: usize) -> [i32; 18]
+fn differences_at<const Q: usize>(quads: &[Quad; Q], i: usize) -> [i32; 18]
     requires few { Q ≤ 5 }
     requires place { i < 64 }
     ensures { result ≡ take 18 (components_at Q quads.now i ++ replicate 18 (pos 0)) }
@@ -86,9 +86,7 @@ fn differences_at<const Q: usize>(quads: &[Quad; 5], i: usize) -> [i32; 18]
 
 /// The components of place `i` in quad `k`, which are zeros behind the first `Q` quads.
 #[inline(always)]
-fn quad_at<const Q: usize>(quads: &[Quad; 5], k: usize, i: usize) -> [i32; 4]
-    requires few { Q ≤ 5 }
-    requires quad { k < 5 }
+fn quad_at<const Q: usize>(quads: &[Quad; Q], k: usize, i: usize) -> [i32; 4]
     requires place { i < 64 }
     ensures value { result ≡ quad_or_zeros Q quads.now k i }
     ensures long { length result ≡ 4 }
@@ -159,7 +157,7 @@ pub(crate) fn follow_places<const Q: usize, const N: usize>(
     last: usize,
     steps: Steps,
     own: &[i32; 64],
-    quads: &[Quad; 5],
+    quads: &[Quad; Q],
     parts: &mut [i32; 64],
     weights: &mut [i32; 18],
 )

@@ -1,75 +1,36 @@
 //! The chain of a run, cut where the exponent of the steps changes.
 
-ghost use Rattle.std.specs.Prelude.{◌≡◌, ◌+◌, ◌*◌, ◌^◌, ◌<◌, ◌≤◌, ℕ, pos, take, unsigned_abs, slice_index_or};
+ghost use Rattle.std.specs.Prelude.{◌≡◌, ◌+◌, ◌-◌, ◌*◌, ◌++◌, replicate, ◌^◌, ◌<◌, ◌≤◌, ℕ, pos, take, unsigned_abs, slice_index_or};
 ghost use Rattle.cube_core.specs.Image.{IsPlace};
 ghost use Rattle.header_bits.specs.declared.params.Params.{Params as Parameters};
 ghost use Rattle.predict_core.specs.LocalSum.{local_sum};
+ghost use Rattle.predict_core.specs.Differences.{central_difference, difference_vector};
 ghost use Rattle.predict_core.specs.Prediction.{weight_vector, scaled_prediction};
 ghost use Rattle.predict_core.specs.Bounds.{AllWithin};
-ghost use Rattle.predict_core.specs.Rooms.{IsRoom, quads_of};
+ghost use Rattle.predict_core.specs.Rooms.{components_at, quads_of};
 ghost use Rattle.predict_core.specs.Chain.{scaled_by_difference, AreWeightsAt};
 
 use crate::chain::{Steps, follow_places};
 use crate::exponent::{exponent_at, places_alike};
-use crate::room::Room;
+use crate::room::Quad;
 use crate::settings::Settings;
 use cube_core::cube::Cube;
 
 /// The predicted central differences of the places `first..last` of a run, and the weights behind them.
 ///
-/// The place `first` is not the first of its band. How many weights there are is found once, so that the
-/// compiler knows it in the loop over places (CCSDS 123.0-B-1, "Weight Update").
-pub(crate) fn follow_run(
+/// The place `first` is not the first of its band. `Q` quads tell the differences, and `N` weights are
+/// reckoned with (CCSDS 123.0-B-1, "Weight Update").
+#[inline(always)]
+pub(crate) fn follow_run<const Q: usize, const N: usize>(
     settings: &Settings,
     cube: &Cube,
     y: u32,
     x: u32,
     first: usize,
     last: usize,
-    room: &mut Room,
-    weights: &mut [i32; 18],
-)
-    requires register { 46 ≤ settings.now.predictor.register }
-    requires place { IsPlace cube.now.shape settings.now.band y x }
-    requires columns { cube.now.shape.columns ≡ settings.now.columns }
-    requires kind { cube.now.kind ≡ settings.now.range.kind }
-    requires run { last ≤ 64 }
-    requires order { first ≤ last }
-    requires inside { x + last ≤ cube.now.shape.columns }
-    requires later { 0 < y + (x + first) }
-    requires room { IsRoom settings.now.predictor cube.now settings.now.band y x last settings.now.count room.old.sums room.old.own room.old.quads }
-    requires weights_in { AllWithin (2 ^ (settings.now.predictor.fraction + 2)) weights.old }
-    ensures weights { (p : Parameters) → AreWeightsAt p settings.now.predictor cube.now settings.now.band (y * cube.now.shape.columns + (x + first)) (take settings.now.count weights.old) → take settings.now.count weights.new ≡ weight_vector p cube.now settings.now.band (y * cube.now.shape.columns + (x + last)) }
-    ensures parts { (p : Parameters) → AreWeightsAt p settings.now.predictor cube.now settings.now.band (y * cube.now.shape.columns + (x + first)) (take settings.now.count weights.old) → (i : ℕ) → first ≤ i → i < last → scaled_prediction p cube.now settings.now.band (y * cube.now.shape.columns + (x + i)) ≡ scaled_by_difference cube.now.kind (slice_index_or room.new.parts i (pos 0)) (local_sum settings.now.predictor cube.now settings.now.band y (x + i)) }
-    ensures same { room.new.sums ≡ room.old.sums }
-    ensures small { (i : ℕ) → first ≤ i → i < last → unsigned_abs (slice_index_or room.new.parts i (pos 0)) ≤ 18 * 2 ^ 20 }
-    ensures bound { AllWithin (2 ^ (settings.now.predictor.fraction + 2)) weights.new }
-{
-    let count = settings.count;
-    if count == 0 {
-        follow_pieces::<0, 0>(settings, cube, y, x, first, last, room, weights);
-    } else if count <= 4 {
-        follow_pieces::<1, 4>(settings, cube, y, x, first, last, room, weights);
-    } else if count <= 8 {
-        follow_pieces::<2, 8>(settings, cube, y, x, first, last, room, weights);
-    } else if count <= 12 {
-        follow_pieces::<3, 12>(settings, cube, y, x, first, last, room, weights);
-    } else if count <= 16 {
-        follow_pieces::<4, 16>(settings, cube, y, x, first, last, room, weights);
-    } else {
-        follow_pieces::<5, 18>(settings, cube, y, x, first, last, room, weights);
-    }
-}
-
-/// The same, where `Q` quads tell the differences, and `N` weights are reckoned with.
-fn follow_pieces<const Q: usize, const N: usize>(
-    settings: &Settings,
-    cube: &Cube,
-    y: u32,
-    x: u32,
-    first: usize,
-    last: usize,
-    room: &mut Room,
+    own: &[i32; 64],
+    quads: &[Quad; Q],
+    parts: &mut [i32; 64],
     weights: &mut [i32; 18],
 )
     requires few { N ≤ 18 }
@@ -83,12 +44,12 @@ fn follow_pieces<const Q: usize, const N: usize>(
     requires order { first ≤ last }
     requires inside { x + last ≤ cube.now.shape.columns }
     requires later { 0 < y + (x + first) }
-    requires room { IsRoom settings.now.predictor cube.now settings.now.band y x last settings.now.count room.old.sums room.old.own room.old.quads }
+    requires own_is { (i : ℕ) → first ≤ i → i < last → slice_index_or own.now i (pos 0) ≡ central_difference settings.now.predictor cube.now settings.now.band y (x + i) }
+    requires components { (i : ℕ) → first ≤ i → i < last → components_at (quads_of settings.now.count) quads.now i ≡ difference_vector settings.now.predictor cube.now settings.now.band y (x + i) ++ replicate (4 * quads_of settings.now.count - settings.now.count) (pos 0) }
     requires weights_in { AllWithin (2 ^ (settings.now.predictor.fraction + 2)) weights.old }
     ensures weights { (p : Parameters) → AreWeightsAt p settings.now.predictor cube.now settings.now.band (y * cube.now.shape.columns + (x + first)) (take settings.now.count weights.old) → take settings.now.count weights.new ≡ weight_vector p cube.now settings.now.band (y * cube.now.shape.columns + (x + last)) }
-    ensures parts { (p : Parameters) → AreWeightsAt p settings.now.predictor cube.now settings.now.band (y * cube.now.shape.columns + (x + first)) (take settings.now.count weights.old) → (i : ℕ) → first ≤ i → i < last → scaled_prediction p cube.now settings.now.band (y * cube.now.shape.columns + (x + i)) ≡ scaled_by_difference cube.now.kind (slice_index_or room.new.parts i (pos 0)) (local_sum settings.now.predictor cube.now settings.now.band y (x + i)) }
-    ensures same { room.new.sums ≡ room.old.sums }
-    ensures small { (i : ℕ) → first ≤ i → i < last → unsigned_abs (slice_index_or room.new.parts i (pos 0)) ≤ 18 * 2 ^ 20 }
+    ensures parts { (p : Parameters) → AreWeightsAt p settings.now.predictor cube.now settings.now.band (y * cube.now.shape.columns + (x + first)) (take settings.now.count weights.old) → (i : ℕ) → first ≤ i → i < last → scaled_prediction p cube.now settings.now.band (y * cube.now.shape.columns + (x + i)) ≡ scaled_by_difference cube.now.kind (slice_index_or parts.new i (pos 0)) (local_sum settings.now.predictor cube.now settings.now.band y (x + i)) }
+    ensures small { (i : ℕ) → first ≤ i → i < last → unsigned_abs (slice_index_or parts.new i (pos 0)) ≤ 18 * 2 ^ 20 }
     ensures bound { AllWithin (2 ^ (settings.now.predictor.fraction + 2)) weights.new }
 {
     cube.is_cube();
@@ -104,17 +65,7 @@ fn follow_pieces<const Q: usize, const N: usize>(
             exponent: exponent_at(predictor, settings.columns, settings.range.bits, t),
         };
         follow_places::<Q, N>(
-            settings,
-            cube,
-            y,
-            x,
-            at,
-            next,
-            steps,
-            &room.own,
-            &room.quads,
-            &mut room.parts,
-            weights,
+            settings, cube, y, x, at, next, steps, own, quads, parts, weights,
         );
         at = next;
     }

@@ -7,12 +7,13 @@ ghost use Rattle.predict_core.specs.Bounds.{AllWithin};
 ghost use Rattle.predict_core.specs.Chain.{AreWeightsAt};
 ghost use Rattle.predict_core.specs.Prediction.{weight_vector};
 ghost use Rattle.predict_core.specs.Residual.{run_residuals};
+ghost use Rattle.predict_core.specs.Rooms.{quads_of};
 ghost use Rattle.predict_core.specs.Following.{Follows, MovesBy};
 
 use crate::band::{Band, first_residual};
 use crate::mapping::map_run;
 use crate::pieces::follow_run;
-use crate::room::{Room, fill_room};
+use crate::room::{Quad, fill_run};
 use crate::settings::Settings;
 use cube_core::cube::Cube;
 
@@ -66,8 +67,7 @@ impl Band {
 
 /// The mapped residuals of a run in a register that nothing wraps, and the weights behind it.
 ///
-/// What the samples tell is found first, for all places at once, then the predicted differences one after
-/// another, and all residuals at once behind them.
+/// How many weights there are is found once, so that the compiler knows it in the loops over places.
 fn predict_run(
     settings: &Settings,
     cube: &Cube,
@@ -89,12 +89,64 @@ fn predict_run(
     ensures weights { (p : Parameters) → AreWeightsAt p settings.now.predictor cube.now settings.now.band (y * cube.now.shape.columns + x) (take settings.now.count weights.old) → take settings.now.count weights.new ≡ weight_vector p cube.now settings.now.band (y * cube.now.shape.columns + x + length residuals.old) }
     ensures within { AllWithin (2 ^ (settings.now.predictor.fraction + 2)) weights.new }
 {
+    let count = settings.count;
+    if count == 0 {
+        predict_by::<0, 0>(settings, cube, y, x, weights, residuals);
+    } else if count <= 4 {
+        predict_by::<1, 4>(settings, cube, y, x, weights, residuals);
+    } else if count <= 8 {
+        predict_by::<2, 8>(settings, cube, y, x, weights, residuals);
+    } else if count <= 12 {
+        predict_by::<3, 12>(settings, cube, y, x, weights, residuals);
+    } else if count <= 16 {
+        predict_by::<4, 16>(settings, cube, y, x, weights, residuals);
+    } else {
+        predict_by::<5, 18>(settings, cube, y, x, weights, residuals);
+    }
+}
+
+/// The same by `N` weights, whose differences take `Q` quads.
+///
+/// What the samples tell is found first, for all places at once, then the predicted differences one after
+/// another, and all residuals at once behind them.
+fn predict_by<const Q: usize, const N: usize>(
+    settings: &Settings,
+    cube: &Cube,
+    y: u32,
+    x: u32,
+    weights: &mut [i32; 18],
+    residuals: &mut [u16],
+)
+    requires few_weights { N ≤ 18 }
+    requires enough { settings.now.count ≤ N }
+    requires quads { Q ≡ quads_of settings.now.count }
+    requires register { 46 ≤ settings.now.predictor.register }
+    requires place { IsPlace cube.now.shape settings.now.band y x }
+    requires columns { cube.now.shape.columns ≡ settings.now.columns }
+    requires kind { cube.now.kind ≡ settings.now.range.kind }
+    requires some { 1 ≤ length residuals.old }
+    requires few { length residuals.old ≤ 64 }
+    requires inside { x + length residuals.old ≤ cube.now.shape.columns }
+    requires weights_in { AllWithin (2 ^ (settings.now.predictor.fraction + 2)) weights.old }
+    ensures bound { (i : ℕ) → i < length residuals.new → slice_index residuals.new i < 2 ^ cube.now.kind.bits }
+    ensures residuals { (p : Parameters) → AreWeightsAt p settings.now.predictor cube.now settings.now.band (y * cube.now.shape.columns + x) (take settings.now.count weights.old) → residuals.new ≡ run_residuals p cube.now settings.now.band (y * cube.now.shape.columns + x) (length residuals.old) }
+    ensures weights { (p : Parameters) → AreWeightsAt p settings.now.predictor cube.now settings.now.band (y * cube.now.shape.columns + x) (take settings.now.count weights.old) → take settings.now.count weights.new ≡ weight_vector p cube.now settings.now.band (y * cube.now.shape.columns + x + length residuals.old) }
+    ensures within { AllWithin (2 ^ (settings.now.predictor.fraction + 2)) weights.new }
+{
     let count = residuals.len();
-    let mut room = Room::new();
-    fill_room(settings, cube, y, x, count, &mut room);
+    let mut sums = [0i32; 64];
+    let mut own = [0i32; 64];
+    let mut parts = [0i32; 64];
+    let quad = Quad {
+        places: [[0; 4]; 64],
+    };
+    let mut quads = [quad; Q];
+    fill_run::<Q>(settings, cube, y, x, count, &mut sums, &mut own, &mut quads);
     let first = first_later(y, x);
-    follow_run(settings, cube, y, x, first, count, &mut room, weights);
-    map_run(settings, cube, y, x, &room.parts, &room.sums, residuals);
+    follow_run::<Q, N>(
+        settings, cube, y, x, first, count, &own, &quads, &mut parts, weights,
+    );
+    map_run(settings, cube, y, x, &parts, &sums, residuals);
     if first == 1 {
         residuals[0] = first_residual(settings, cube, y, x);
     }
