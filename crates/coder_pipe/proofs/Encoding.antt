@@ -1,78 +1,81 @@
--- Encoding on one thread: the bands and the coding end come along together.
-use Rattle.std.proofs.Common.{◌≡◌, ◌^◌, ◌<◌, ℕ, List, [], ◌∷◌, ◌++◌, length, get_or, set, Some, sym, ap, ◌∙◌, subst, arith}
-use Rattle.std.specs.List.{slice_get}
-use Rattle.std.proofs.lemmas.Option.{slice_get-get_or}
+-- Encoding on one thread: all bands are the first predictor's, and their residuals are those of the image.
+use Rattle.std.proofs.Common.{◌≡◌, ◌+◌, ◌^◌, ◌<◌, ℕ, suc, List, [], ◌∷◌, length, Some, refl, sym, ap, ap₂, ◌∙◌, subst, arith}
+use Rattle.std.specs.List.{AllByRecursion, slice_get}
+use Rattle.std.proofs.lemmas.List.{drop_all}
+use Rattle.std.proofs.lemmas.Option.{slice_get_within}
 use Rattle.cube_core.specs.declared.order.Place.{Place}
 use Rattle.cube_core.specs.Shape.{sample_count}
-use Rattle.cube_core.specs.Image.{Image}
-use Rattle.cube_core.specs.Order.{IsOrder, IsPlaceOf, places}
+use Rattle.cube_core.specs.Kind.{SampleKind}
+use Rattle.cube_core.specs.Image.{Image, IsCube}
+use Rattle.cube_core.specs.Order.{IsOrder, from, upto, places}
+use Rattle.cube_core.proofs.Orders.{length-places}
 use Rattle.header_bits.specs.declared.params.Params.{Params}
 use Rattle.header_bits.specs.Reach.{here}
 use Rattle.header_bits.specs.Lawful.{IsLawful}
-use Rattle.predict_core.specs.Following.{Learner, Follows, MovesOn}
-use Rattle.predict_core.specs.Residual.{mapped_residual, residuals}
-use Rattle.coder_pipe.specs.Ends.{Ending, HasCoded, MayCode}
-use Rattle.coder_pipe.specs.Walked.{IsAlong, residuals_at}
-use Rattle.coder_pipe.proofs.Come.{time_of}
-use Rattle.coder_pipe.proofs.Endings.{first_of}
-use Rattle.coder_pipe.proofs.Walking.{AreWalked, IsOnWalk, next_goes, band_here, gone_by, on_walk_first, on_walk_more, residuals_more, residuals_none, residuals_whole, length-residuals_at}
+use Rattle.predict_core.specs.Following.{Learner}
+use Rattle.predict_core.specs.Residual.{residuals}
+use Rattle.coder_pipe.specs.Ends.{Ending, HasCoded}
+use Rattle.coder_pipe.specs.Own.{own, own_residuals}
+use Rattle.coder_pipe.specs.Sends.{IsSeen, IsAt, AreAt, AreFresh, bands_of}
+use Rattle.coder_pipe.specs.Takings.{MayTake}
+use Rattle.coder_pipe.specs.Walked.{IsAlong, AreAlong}
+use Rattle.coder_pipe.specs.Weave.{owners_of, part}
+use Rattle.coder_pipe.proofs.OneCube.{residuals_inside}
+use Rattle.coder_pipe.proofs.Owning.{own_is_part}
+use Rattle.coder_pipe.proofs.Parts.{length-residuals}
 
--- the bands have come to the place that comes next, and the residuals of the places before it were taken
-pub record IsEncoding (p : Params) (c : Image) (e : Ending) (bands : List Learner) : Type 0 where
-  pub walk : IsOnWalk p c e.left bands
-  pub coded : HasCoded p e (residuals_at p c (gone_by p e.left))
+-- ---- the bands
 
-pub encoding_first : (p : Params) (c : Image) (e : Ending) (bands : List Learner) → IsOrder p.shape p.order → AreWalked p c [] bands → HasCoded p e [] → IsEncoding p c e bands
-encoding_first p c e bands lawful known coded =
-    let all : places p.shape p.order ≡ e.left = sym coded.left in
-    record {
-      walk = subst (λ left. IsOnWalk p c left bands) all (on_walk_first p c bands lawful known);
-      coded = subst (λ left. HasCoded p e (residuals_at p c (gone_by p left))) all (subst (HasCoded p e) (sym (residuals_none p c lawful)) coded);
-    }
+own_all : (zs : List ℕ) → own 0 [] zs ≡ zs
+own_all [] = refl
+own_all (z ∷ zs) = ap (λ (ys : List ℕ). z ∷ ys) (own_all zs)
 
--- the place that comes next, and its band
-pub record IsHere (p : Params) (c : Image) (e : Ending) (bands : List Learner) (place : Place) : Type 0 where
-  pub rest : List Place
-  pub left : e.left ≡ place ∷ rest
-  pub there : IsPlaceOf p.shape place
-  pub more : length (residuals_at p c (gone_by p e.left)) < sample_count p.shape
-  pub band : place.z < length bands
-  pub along : (b : Learner) → b ≡ get_or bands place.z b → (slice_get bands place.z ≡ Some b) × IsAlong p c (length (gone_by p e.left)) place.z b × (b.place ≡ time_of p.shape place)
+numbered : (a : ℕ) (bands : List Learner) → ((z : ℕ) (b : Learner) → slice_get bands z ≡ Some b → b.band ≡ a + z) → bands_of bands ≡ from a (length bands)
+numbered a [] h = refl
+numbered a (b ∷ bands) h = ap₂ (λ z zs. z ∷ zs) (h 0 b refl ∙ omega arith) (numbered (suc a) bands (λ z d e. h (suc z) d e ∙ omega arith))
 
-pub is_here : (p : Params) (c : Image) (e : Ending) (bands : List Learner) (place : Place) → IsOrder p.shape p.order → IsEncoding p c e bands → Some place ≡ slice_get e.left 0 → IsHere p c e bands place
-is_here p c e bands place lawful h first =
-    let behind = first_of e.left place (sym first) in
-    let next = next_goes p place e.left behind.0 lawful h.walk.rest behind.1 in
-    let within : place.z < length bands = omega (arith, next.stands.place.band, h.walk.known.many) in
-    record {
-      rest = behind.0;
-      left = behind.1;
-      there = next.stands.place;
-      more = omega (arith, next.below, length-residuals_at p c (gone_by p e.left));
-      band = within;
-      along = λ b is.
-          let at : slice_get bands place.z ≡ Some b = slice_get-get_or bands place.z b within ∙ ap (λ (d : Learner). Some d) (sym is) in
-          let known = band_here p c (gone_by p e.left) bands place b lawful h.walk.known next.stands at in
-          (at, known.0, known.1);
-    }
+all_at : (p : Params) (c : Image) (t : ℕ) (bands : List Learner) → ((z : ℕ) (b : Learner) → slice_get bands z ≡ Some b → IsAt p c t b) → AreAt p c t bands
+all_at p c t [] h = tt
+all_at p c t (b ∷ bands) h = (h 0 b refl, all_at p c t bands (λ z d e. h (suc z) d e))
 
--- the next residual may be put
-pub may_encode : (p : Params) (c : Image) (e : Ending) (bands : List Learner) (place : Place) (number : ℕ) → IsLawful here p → IsEncoding p c e bands → IsHere p c e bands place → c.kind ≡ p.kind → number < 2 ^ c.kind.bits → MayCode e number
-may_encode p c e bands place number lawful h at kind range =
-    record { params = p; numbers = residuals_at p c (gone_by p e.left); lawful = lawful; coded = h.coded; more = at.more; range = subst (λ k. number < 2 ^ k.bits) kind range }
+pub all_fresh : (p : Params) (c : Image) (bands : List Learner) → length bands ≡ p.shape.bands → AreAlong p c 0 bands → ((z : ℕ) (b : Learner) → slice_get bands z ≡ Some b → b.place ≡ 0) → AreFresh p 0 [] c bands
+all_fresh p c bands many along first = record {
+  own = numbered 0 bands (λ z b e. (known z b e).band ∙ omega arith) ∙ ap upto many ∙ sym (own_all (upto p.shape.bands));
+  at = all_at p c 0 bands (λ z b e. record { follows = (known z b e).follows; place = first z b e; inside = omega (arith, (known z b e).band, within z b e) });
+}
+  where
+    within : (z : ℕ) (b : Learner) → slice_get bands z ≡ Some b → z < p.shape.bands
+    within z b e = omega (arith, slice_get_within bands z b e, many)
 
--- the residual of the place was put, and its band moved on
-pub encoding_more : (p : Params) (c : Image) (old new : Ending) (bands : List Learner) (place : Place) (b d : Learner) (number : ℕ) → IsOrder p.shape p.order → c.shape ≡ p.shape → IsEncoding p c old bands → IsHere p c old bands place → b ≡ get_or bands place.z b
-    → old.left ≡ place ∷ new.left → MovesOn b d → (Follows p b c → Follows p d c) → (Follows p b c → number ≡ mapped_residual p c b.band b.place) → ((q : Params) (numbers : List ℕ) → HasCoded q old numbers → HasCoded q new (numbers ++ number ∷ []))
-    → IsEncoding p c new (set bands place.z d)
-encoding_more p c old new bands place b d number lawful shape h at is moved moves follows value codes =
-    let known = at.along b is in
-    let more = residuals_more p c old.left new.left bands place b number lawful shape h.walk moved known.0 (value known.1.follows) in
-    record {
-      walk = on_walk_more p c c old.left new.left bands place b d lawful h.walk moved known.0 moves (follows known.1.follows) (λ z f lt apart along. along.follows);
-      coded = subst (HasCoded p new) (sym more) (codes p (residuals_at p c (gone_by p old.left)) h.coded);
-    }
+    known : (z : ℕ) (b : Learner) → slice_get bands z ≡ Some b → IsAlong p c 0 z b
+    known z b e = along z (within z b e) b e
 
--- all were put
-pub encoded : (p : Params) (c : Image) (e : Ending) (bands : List Learner) → IsOrder p.shape p.order → c.shape ≡ p.shape → IsEncoding p c e bands → e.left ≡ [] → HasCoded p e (residuals p c)
-encoded p c e bands lawful shape h none = subst (HasCoded p e) (ap (λ left. residuals_at p c (gone_by p left)) none ∙ residuals_whole p c lawful shape) h.coded
+-- ---- their residuals
+
+part_all : (ps : List Place) (ns : List ℕ) → length ns ≡ length ps → part 0 (owners_of [] ps) ns ≡ ns
+unfolding part owners_of
+part_all [] [] e = refl
+part_all [] (n ∷ ns) e = absurd (omega (arith, e))
+part_all (q ∷ ps) [] e = refl
+part_all (q ∷ ps) (n ∷ ns) e = ap (λ (xs : List ℕ). n ∷ xs) (part_all ps ns (omega (arith, e)))
+
+length-all : (p : Params) (c : Image) → IsOrder p.shape p.order → c.shape ≡ p.shape → length (residuals p c) ≡ sample_count p.shape
+length-all p c lawful shape = length-residuals p c (subst (λ s. IsOrder s p.order) (sym shape) lawful) ∙ ap sample_count shape
+
+pub all_residuals : (p : Params) (c : Image) → IsOrder p.shape p.order → c.shape ≡ p.shape → own_residuals p c 0 [] p.order ≡ residuals p c
+all_residuals p c lawful shape = sym (own_is_part p c 0 [] shape) ∙ part_all (places p.shape p.order) (residuals p c) (length-all p c lawful shape ∙ sym (length-places p.shape p.order lawful))
+
+-- they may be taken by a coding end that has taken nothing
+pub may_take : (p : Params) (c : Image) (e : Ending) → IsLawful here p → IsSeen p c → IsCube c → HasCoded p e [] → MayTake e (own_residuals p c 0 [] p.order)
+may_take p c e lawful seen cube coded = subst (MayTake e) (sym (all_residuals p c lawful.order seen.shape)) (record {
+  params = p;
+  numbers = [];
+  lawful = lawful;
+  coded = coded;
+  more = omega (arith, length-all p c lawful.order seen.shape);
+  range = subst (λ (k : SampleKind). AllByRecursion (λ n. n < 2 ^ k.bits) (residuals p c)) seen.kind (residuals_inside p c (subst (λ s. IsOrder s p.order) (sym seen.shape) lawful.order) cube);
+})
+
+-- and then no place is left
+pub none_left : (p : Params) (c : Image) (e : Ending) → IsOrder p.shape p.order → c.shape ≡ p.shape → HasCoded p e (residuals p c) → e.left ≡ []
+none_left p c e lawful shape coded = coded.left ∙ drop_all (length (residuals p c)) (places p.shape p.order) (omega (arith, length-all p c lawful shape, length-places p.shape p.order lawful))

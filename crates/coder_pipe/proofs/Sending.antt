@@ -1,69 +1,19 @@
 -- The walk over a predictor's own places, step by step.
-use Rattle.std.proofs.Common.{◌≡◌, ◌+◌, ◌<◌, ◌≤◌, ℕ, zero, suc, Bool, true, false, List, [], ◌∷◌, ◌++◌, length, take, drop, get_or, set, IsTrue, IsFalse, inl, inr, refl, sym, ap, ◌∙◌, subst, append-nil, append_assoc, length-append, length-take, length-drop, add-one, arith}
+use Rattle.std.proofs.Common.{◌≡◌, ◌+◌, ◌<◌, ◌≤◌, ℕ, zero, suc, Bool, true, false, List, [], ◌∷◌, ◌++◌, length, take, drop, get_or, set, inl, inr, refl, sym, ap, ◌∙◌, subst, append-nil, append_assoc, length-take, length-drop, add-one, arith}
 use Rattle.std.specs.List.{flat_map}
 use Rattle.std.proofs.lemmas.Bool.{cases_eq}
 use Rattle.std.proofs.lemmas.Grind.{flat_map-append}
 use Rattle.std.proofs.lemmas.Slice.{take-put_mid, drop-put_mid}
 use borrow.Rule.Slice.PartMut.{put_mid}
-use Rattle.std.proofs.lemmas.List.{map-append, take-append-drop, nil_from_length}
+use Rattle.std.proofs.lemmas.List.{map-append, take-append-drop}
 use Rattle.std.proofs.Math.Seq.{map-set_same}
 use Rattle.cube_core.specs.Image.{Image}
 use Rattle.cube_core.specs.Order.{from, upto}
 use Rattle.header_bits.specs.declared.params.Params.{Params}
-use Rattle.lane_workers.specs.Runs.{RunSending}
 use Rattle.predict_core.specs.Following.{Learner}
 use Rattle.coder_pipe.specs.Own.{column_of, row_of, rows_of}
-use Rattle.coder_pipe.specs.Sends.{IsAt, AreAt, bands_of, Sends}
-
--- ---- the sender
-
-module _ {G : Type 0} where
-  -- a sender that has taken a number
-  pub record TakesOne (old new : RunSending G) (number : ℕ) (all : Bool) : Type 0 where
-    pub same : (new.lane ≡ old.lane) × (new.predictor ≡ old.predictor) × (new.gate ≡ old.gate)
-    pub taken : new.taken ≡ old.taken ++ number ∷ []
-    pub ready : IsTrue all → IsTrue new.ready
-    pub stopped : IsFalse all → IsTrue new.stopped
-
-  whole_taken : (old new : RunSending G) (list : List ℕ) → Sends old new true list → old.taken ++ list ≡ new.taken
-  whole_taken old new list h = h.taken ∙ ap (λ rest. new.taken ++ rest) (nil_from_length h.rest (h.whole refl).0) ∙ append-nil new.taken
-
-  pub sends_none : (old : RunSending G) → IsTrue old.ready → Sends old old true []
-  sends_none old ready = record { lane = refl; predictor = refl; gate = refl; rest = []; taken = refl; whole = λ h. (refl, ready); stopped = λ h. absurd (cc) }
-
-  pub sends_then : (old mid new : RunSending G) (all : Bool) (xs ys : List ℕ) → Sends old mid true xs → Sends mid new all ys → Sends old new all (xs ++ ys)
-  sends_then old mid new all xs ys a b = record {
-    lane = b.lane ∙ a.lane;
-    predictor = b.predictor ∙ a.predictor;
-    gate = b.gate ∙ a.gate;
-    rest = b.rest;
-    taken = sym (append_assoc old.taken xs ys) ∙ ap (λ ns. ns ++ ys) (whole_taken old mid xs a) ∙ b.taken;
-    whole = b.whole;
-    stopped = b.stopped;
-  }
-
-  pub sends_one : (old mid new : RunSending G) (all : Bool) (xs : List ℕ) (number : ℕ) → Sends old mid true xs → TakesOne mid new number all → Sends old new all (xs ++ number ∷ [])
-  sends_one old mid new all xs number a one = record {
-    lane = one.same.0 ∙ a.lane;
-    predictor = one.same.1 ∙ a.predictor;
-    gate = one.same.2 ∙ a.gate;
-    rest = [];
-    taken = sym (append_assoc old.taken xs (number ∷ [])) ∙ ap (λ ns. ns ++ number ∷ []) (whole_taken old mid xs a) ∙ sym one.taken ∙ sym (append-nil new.taken);
-    whole = λ h. (refl, one.ready h);
-    stopped = one.stopped;
-  }
-
-  -- one that was stopped doesn't care what comes behind
-  pub sends_cut : (old new : RunSending G) (xs all ys : List ℕ) → Sends old new false xs → all ≡ xs ++ ys → Sends old new false all
-  sends_cut old new xs all ys a e = record {
-    lane = a.lane;
-    predictor = a.predictor;
-    gate = a.gate;
-    rest = a.rest ++ ys;
-    taken = ap (λ ns. old.taken ++ ns) e ∙ sym (append_assoc old.taken xs ys) ∙ ap (λ ns. ns ++ ys) a.taken ∙ append_assoc new.taken a.rest ys;
-    whole = λ h. absurd (cc);
-    stopped = a.stopped;
-  }
+use Rattle.coder_pipe.specs.Sends.{IsAt, AreAt, bands_of}
+use Rattle.coder_pipe.specs.Takings.{AreTakings}
 
 -- ---- one band behind another
 
@@ -119,21 +69,21 @@ take_rest f (z ∷ zs) (suc i) lt =
       },
     )
 
-module _ {G : Type 0} where
-  -- the next piece goes into what is left of the count
-  pub piece_fits : (old mid : RunSending G) (all done next : List ℕ) (limit : ℕ) → Sends old mid true done → Pieces all done next → length old.taken + length all < limit → length mid.taken + length next < limit
-  piece_fits old mid all done next limit h pieces few =
-      let had : length old.taken + length done ≡ length mid.taken = sym (length-append old.taken done) ∙ ap (λ (v : List ℕ). length v) (whole_taken old mid done h) in
-      let whole : length all ≡ length done + length next + length pieces.tail = ap (λ (v : List ℕ). length v) pieces.whole ∙ length-append (done ++ next) pieces.tail ∙ ap (λ k. k + length pieces.tail) (length-append done next) in
-      omega (arith, had, whole, few)
+module _ {S : Type 0} {may : S → List ℕ → Type 0} {takes : S → S → Bool → List ℕ → Type 0} (laws : AreTakings may takes) where
+  pub none_yet : (s : S) (list : List ℕ) → may s list → takes s s true []
+  none_yet s list h = laws.none s (laws.less s [] list h)
 
-  -- it was taken, or the sender was stopped in it
-  pub piece_cut : (old mid new : RunSending G) (all done next : List ℕ) → Sends old mid true done → Pieces all done next → Sends mid new false next → Sends old new false all
-  piece_cut old mid new all done next h pieces cut = sends_cut old new (done ++ next) all pieces.tail (sends_then old mid new false done next h cut) pieces.whole
+  -- the next piece may be taken
+  pub piece_fits : (old mid : S) (all done next : List ℕ) → takes old mid true done → Pieces all done next → may old all → may mid next
+  piece_fits old mid all done next h pieces m = laws.more old mid done next h (laws.less old (done ++ next) pieces.tail (subst (may old) pieces.whole m))
+
+  -- it was taken, or the taker stopped in it
+  pub piece_cut : (old mid new : S) (all done next : List ℕ) → takes old mid true done → Pieces all done next → takes mid new false next → takes old new false all
+  piece_cut old mid new all done next h pieces cut = subst (takes old new false) (sym pieces.whole) (laws.cut old new (done ++ next) pieces.tail (laws.behind old mid new false done next h cut))
 
   -- all pieces were taken
-  pub pieces_whole : (old new : RunSending G) (f : ℕ → List ℕ) (all : List ℕ) (i n : ℕ) → Sends old new true (flat_map f (upto i)) → i ≡ n → all ≡ flat_map f (upto n) → Sends old new true all
-  pieces_whole old new f all i n h e is = subst (Sends old new true) (ap (λ k. flat_map f (upto k)) e ∙ sym is) h
+  pub pieces_whole : (old new : S) (f : ℕ → List ℕ) (all : List ℕ) (i n : ℕ) → takes old new true (flat_map f (upto i)) → i ≡ n → all ≡ flat_map f (upto n) → takes old new true all
+  pieces_whole old new f all i n h e is = subst (takes old new true) (ap (λ k. flat_map f (upto k)) e ∙ sym is) h
 
 pub at_same : (p : Params) (c : Image) (t u : ℕ) (bands : List Learner) → AreAt p c t bands → t ≡ u → AreAt p c u bands
 at_same p c t u bands h e = subst (λ k. AreAt p c k bands) e h

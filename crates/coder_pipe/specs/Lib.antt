@@ -14,6 +14,8 @@ pub mod Rows
 pub mod Sends
 pub mod Standings
 pub mod Stops
+pub mod TakingLaws
+pub mod Takings
 pub mod Walked
 pub mod Weave
 pub mod Woven

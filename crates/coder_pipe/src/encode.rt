@@ -8,6 +8,7 @@ ghost use Rattle.coder_pipe.specs.File.{file_of};
 
 use crate::bands::all_bands;
 use crate::coding_end::CodingEnd;
+use crate::walk::send_own;
 use cube_core::cube::Cube;
 use cube_core::fault::Fault;
 use header_bits::params::Params;
@@ -23,12 +24,11 @@ pub fn encode_one(alloc: Global, cube: &Cube, params: &Params) -> Result<Vec<u8>
     ensures file { IfOk result (λ bytes. bytes.items ≡ file_of cube.now params.now) }
     ensures refused { IfErr result (λ e. e ≡ WantOfMemory) }
 {
+    cube.is_cube();
     let mut bands = all_bands(alloc, params)?;
     let mut end = CodingEnd::new(alloc, params)?;
-    while let Some(place) = end.place() {
-        let band = &mut bands[place.z as usize];
-        let delta = band.forward(cube, place.y, place.x);
-        end.put(place, delta)?;
+    if !send_own(&(), cube, params, 0, &[], &mut bands, &mut end) {
+        return Err(Fault::WantOfMemory);
     }
     end.finish()
 }

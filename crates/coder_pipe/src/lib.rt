@@ -16,6 +16,7 @@ pub mod pipeline;
 pub mod plan;
 pub mod predict_lane;
 mod run;
+mod taker;
 mod walk;
 pub mod weaver;
 pub mod worked;

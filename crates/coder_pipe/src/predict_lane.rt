@@ -1,17 +1,15 @@
 //! One predictor at work: it sends the residuals of its own bands along its lane.
 
-ghost use Rattle.std.specs.Prelude.{◌≡◌, [], ◌<◌, ◌^◌, ◌+◌, length, IsTrue};
+ghost use Rattle.std.specs.Prelude.{◌≡◌, []};
 ghost use Rattle.predict_core.specs.Residual.{residuals};
 ghost use Rattle.lane_workers.specs.Feeds.{Keeps};
-ghost use Rattle.coder_pipe.specs.Own.{own_residuals};
-ghost use Rattle.coder_pipe.specs.Sends.{AreFresh, IsSeen, Sends};
+ghost use Rattle.coder_pipe.specs.Sends.{AreFresh, IsSeen};
 ghost use Rattle.coder_pipe.specs.Weave.{owners, part};
 
 use crate::plan::Plan;
-use crate::walk::{send_bands, send_lines};
+use crate::walk::send_own;
 use band_rings::sender::LaneSender;
 use cube_core::cube::Cube;
-use cube_core::order::Order;
 use lane_workers::feed::LaneEnd;
 use lane_workers::gate::Gate;
 use lane_workers::run_sender::RunSender;
@@ -37,31 +35,11 @@ pub fn predict_lane<R: Wait, G: Gate>(
     requires sent { sender.sent ≡ [] }
     ensures { Keeps (G.may_stop gate.now) predictor (part predictor (owners plan.now.deal plan.now.params) (residuals plan.now.params cube.now)) sender.lane result }
 {
-    let mut bands = bands;
-    let mut sender = RunSender::new(predictor, sender, gate);
-    let _all = send_own(rt, cube, plan, predictor, &mut bands, &mut sender);
-    sender.end(rt)
-}
-
-/// Sends a predictor's residuals. False where the gate has stopped the sender.
-fn send_own<R: Wait, G: Gate>(
-    rt: &R,
-    cube: &Cube,
-    plan: &Plan,
-    predictor: u32,
-    bands: &mut [Band],
-    sender: &mut RunSender<'_, G>,
-) -> bool
-    requires image { IsSeen plan.now.params cube.now }
-    requires bands { AreFresh plan.now.params predictor plan.now.deal cube.now bands.old }
-    requires ready { IsTrue sender.old.ready }
-    requires few { sender.old.taken ≡ [] }
-    ensures { Sends sender.old sender.new result (own_residuals plan.now.params cube.now predictor plan.now.deal plan.now.params.order) }
-{
     plan.is_plan();
     let _count = cube.shape().sample_count();
-    match plan.params().order {
-        Order::Bsq => send_bands(rt, cube, plan, bands, sender),
-        Order::Bi(depth) => send_lines(rt, cube, plan, predictor, depth, bands, sender),
-    }
+    let mut bands = bands;
+    let mut sender = RunSender::new(predictor, sender, gate);
+    let (params, deal) = (plan.params(), plan.deal());
+    let _all = send_own(rt, cube, params, predictor, deal, &mut bands, &mut sender);
+    sender.end(rt)
 }

@@ -6,7 +6,7 @@ use Rattle.coder_pipe.proofs.walk.predict_pieces.Goals as goal
 
 pub loop-i-preserved : goal.loop-i-preserved
 loop-i-preserved c =
-    let p = c.args.plan.now.params in
+    let p = c.args.params.now in
     let t = c.args.y * c.args.cube.now.shape.columns + c.args.x in
     let at : Learner = get_or c.loop-i.bands c.loop-i.i c.index-bands-i.result in
     let there : get_or c.loop-i.bands c.loop-i.i c.index-bands-i.result ≡ get_or c.loop-i.bands c.loop-i.i (get_or c.loop-i.bands c.loop-i.i c.index-bands-i.result) = ap (λ d. get_or c.loop-i.bands c.loop-i.i d) c.index-bands-i.is in

@@ -5,7 +5,7 @@ use Rattle.coder_pipe.proofs.walk.predict_pieces.Given as goal
 
 abbrev pub invariant-loop-i : goal.invariant-loop-i
 invariant-loop-i l = record {
-  done : ArePast l.plan.params l.cube (l.y * l.cube.shape.columns + l.x) l.count (take l.i l.bands);
-  left : AreAt l.plan.params l.cube (l.y * l.cube.shape.columns + l.x) (drop l.i l.bands);
+  done : ArePast l.params l.cube (l.y * l.cube.shape.columns + l.x) l.count (take l.i l.bands);
+  left : AreAt l.params l.cube (l.y * l.cube.shape.columns + l.x) (drop l.i l.bands);
   same : bands_of l.bands ≡ bands_of l.initial.bands;
 }

@@ -1,10 +1,10 @@
-use Rattle.std.proofs.Common.{rules, ◌≡◌, ◌+◌, ◌-◌, ◌*◌, ◌/◌, ◌<◌, ◌≤◌, ◌^◌, ℕ, List, true, min, ap, sym, subst, length, take, drop, arith, ◌∙◌}
+use Rattle.std.proofs.Common.{rules, ◌≡◌, ◌+◌, ◌-◌, ◌*◌, ◌/◌, ◌<◌, ◌≤◌, ℕ, List, true, min, refl, ap, sym, subst, length, take, drop, arith, ◌∙◌}
 use Rattle.std.specs.List.{flat_map}
 use Rattle.std.proofs.lemmas.List.{length-map, take_all}
 use Rattle.cube_core.specs.Order.{upto, group, group_count}
 use Rattle.coder_pipe.specs.Own.{own, row_of, line_of}
 use Rattle.coder_pipe.specs.Sends.{AreAt, bands_of}
-use Rattle.coder_pipe.proofs.Sending.{Pieces, piece_fits, piece_cut, pieces_whole, sends_then, upto_more, bands_put, left_put, done_put}
+use Rattle.coder_pipe.proofs.Sending.{Pieces, none_yet, piece_fits, piece_cut, pieces_whole, upto_more, bands_put, left_put, done_put}
 use Rattle.coder_pipe.proofs.Groups.{IsGroup, is_group, all_groups, line_is, line_pieces, own_few, group_there}
 use Rattle.coder_pipe.proofs.walk.send_line.Goals as goal
 use Rattle.coder_pipe.proofs.walk.send_line.Goals.{After-count_own-count, After-loop-i}
@@ -17,24 +17,24 @@ module _ (g : Over) (c : After-count_own-count g) where
   in_order : c.loop-i.i < group_count c.args.cube.now.shape c.args.depth
   in_order = subst (λ n. c.loop-i.i < (n + c.args.depth - 1) / c.args.depth) bands_are c.loop-i-test.true
 
-  there : IsGroup c.args.predictor c.args.plan.now.deal c.args.cube.now.shape c.args.depth c.loop-i.i c.loop-i.first c.min-end.result c.loop-i.slot c.count_own-count.result
-  there = is_group c.args.predictor c.args.plan.now.deal c.args.cube.now.shape c.args.depth c.loop-i.i c.loop-i.first c.min-end.result c.loop-i.slot c.count_own-count.result c.requires.depth.0 in_order c.loop-i.invariant.first
-      (c.min-end.ensures ∙ ap (λ n. min n (c.loop-i.first + c.args.depth)) bands_are) c.loop-i.invariant.slot (rw c.deal.ensures at c.count_own-count.ensures)
+  there : IsGroup c.args.predictor c.args.deal.now c.args.cube.now.shape c.args.depth c.loop-i.i c.loop-i.first c.min-end.result c.loop-i.slot c.count_own-count.result
+  there = is_group c.args.predictor c.args.deal.now c.args.cube.now.shape c.args.depth c.loop-i.i c.loop-i.first c.min-end.result c.loop-i.slot c.count_own-count.result c.requires.depth.0 in_order c.loop-i.invariant.first
+      (c.min-end.ensures ∙ ap (λ n. min n (c.loop-i.first + c.args.depth)) bands_are) c.loop-i.invariant.slot c.count_own-count.ensures
 
-  long : length c.loop-i.bands ≡ length (own c.args.predictor c.args.plan.now.deal (upto c.args.cube.now.shape.bands))
+  long : length c.loop-i.bands ≡ length (own c.args.predictor c.args.deal.now (upto c.args.cube.now.shape.bands))
   long = sym (length-map c.loop-i.bands (λ b. b.band)) ∙ ap (λ (zs : List ℕ). length zs) (c.loop-i.invariant.same ∙ c.requires.own)
 
   within : c.loop-i.slot + c.count_own-count.result ≤ length c.loop-i.bands
   within = omega (arith, long, there.fits)
 
   few : length c.loop-i.bands ≤ 65536
-  few = omega (arith, long, own_few c.args.predictor c.args.plan.now.deal 0 c.args.cube.now.shape.bands, c.bands-total.ensures.range, bands_are)
+  few = omega (arith, long, own_few c.args.predictor c.args.deal.now 0 c.args.cube.now.shape.bands, c.bands-total.ensures.range, bands_are)
 
-  own_bands : bands_of (take (c.loop-i.slot + c.count_own-count.result - c.loop-i.slot) (drop c.loop-i.slot c.loop-i.bands)) ≡ own c.args.predictor c.args.plan.now.deal (group c.args.cube.now.shape c.args.depth c.loop-i.i)
-  own_bands = group_there c.args.predictor c.args.plan.now.deal c.args.cube.now.shape c.args.depth c.loop-i.i c.loop-i.first c.min-end.result c.loop-i.slot c.count_own-count.result (c.loop-i.slot + c.count_own-count.result - c.loop-i.slot) c.loop-i.bands c.args.bands.now there (omega arith) c.loop-i.invariant.same c.requires.own
+  own_bands : bands_of (take (c.loop-i.slot + c.count_own-count.result - c.loop-i.slot) (drop c.loop-i.slot c.loop-i.bands)) ≡ own c.args.predictor c.args.deal.now (group c.args.cube.now.shape c.args.depth c.loop-i.i)
+  own_bands = group_there c.args.predictor c.args.deal.now c.args.cube.now.shape c.args.depth c.loop-i.i c.loop-i.first c.min-end.result c.loop-i.slot c.count_own-count.result (c.loop-i.slot + c.count_own-count.result - c.loop-i.slot) c.loop-i.bands c.args.bands.now there (omega arith) c.loop-i.invariant.same c.requires.own
 
-  pieces : Pieces (line_of c.args.plan.now.params c.args.cube.now c.args.predictor c.args.plan.now.deal c.args.depth c.args.y) (flat_map (λ i. row_of c.args.plan.now.params c.args.cube.now (own c.args.predictor c.args.plan.now.deal (group c.args.cube.now.shape c.args.depth i)) c.args.y) (upto c.loop-i.i)) (row_of c.args.plan.now.params c.args.cube.now (own c.args.predictor c.args.plan.now.deal (group c.args.cube.now.shape c.args.depth c.loop-i.i)) c.args.y)
-  pieces = line_pieces c.args.plan.now.params c.args.cube.now c.args.predictor c.args.plan.now.deal c.args.depth c.args.y c.loop-i.i in_order
+  pieces : Pieces (line_of c.args.params.now c.args.cube.now c.args.predictor c.args.deal.now c.args.depth c.args.y) (flat_map (λ i. row_of c.args.params.now c.args.cube.now (own c.args.predictor c.args.deal.now (group c.args.cube.now.shape c.args.depth i)) c.args.y) (upto c.loop-i.i)) (row_of c.args.params.now c.args.cube.now (own c.args.predictor c.args.deal.now (group c.args.cube.now.shape c.args.depth c.loop-i.i)) c.args.y)
+  pieces = line_pieces c.args.params.now c.args.cube.now c.args.predictor c.args.deal.now c.args.depth c.args.y c.loop-i.i in_order
 
 pub overflow_add-slot : goal.overflow_add-slot
 overflow_add-slot g c = omega (arith, within g c, few g c)
@@ -45,15 +45,15 @@ offset_bounds-bands-slot g c = omega (arith, within g c, few g c)
 pub slice_bounds-send_row-end : goal.slice_bounds-send_row-end
 slice_bounds-send_row-end g c = let h : c.loop-i.slot + c.count_own-count.result ≤ length c.loop-i.bands = within g c in search rules
 
-pub send_row-requires-clause-few : goal.send_row-requires-clause-few
-send_row-requires-clause-few g c =
-    let d = (goal.at.send_row-requires-clause-few g c).After-count_own-count in
-    rw (own_bands g d) (piece_fits c.args.sender.now c.loop-i.sender _ _ _ (2 ^ 64) c.loop-i.invariant.sent (pieces g d) c.requires.few)
+pub send_row-requires-clause-may : goal.send_row-requires-clause-may
+send_row-requires-clause-may g c =
+    let d = (goal.at.send_row-requires-clause-may g c).After-count_own-count in
+    rw (own_bands g d) (piece_fits g.met.T.Taker.laws c.args.taker.now c.loop-i.taker _ _ _ c.loop-i.invariant.sent (pieces g d) c.requires.may)
 
 pub returns-then-not-send_row-clause-sent : goal.returns-then-not-send_row-clause-sent
 returns-then-not-send_row-clause-sent g c =
     let d = (goal.at.returns-then-not-send_row-clause-sent g c).After-count_own-count in
-    piece_cut c.args.sender.now c.loop-i.sender c.send_row.new.sender _ _ _ c.loop-i.invariant.sent (pieces g d) (rw (own_bands g d, c.if-not-send_row.true) at c.send_row.ensures.sent)
+    piece_cut g.met.T.Taker.laws c.args.taker.now c.loop-i.taker c.send_row.new.taker _ _ _ c.loop-i.invariant.sent (pieces g d) (rw (own_bands g d, c.if-not-send_row.true) at c.send_row.ensures.sent)
 
 pub returns-then-not-send_row-clause-same : goal.returns-then-not-send_row-clause-same
 returns-then-not-send_row-clause-same g c = bands_put c.loop-i.bands c.args.bands.now c.send_row.new.bands c.loop-i.slot (c.loop-i.slot + c.count_own-count.result - c.loop-i.slot) c.loop-i.invariant.same c.send_row.ensures.same
@@ -61,7 +61,7 @@ returns-then-not-send_row-clause-same g c = bands_put c.loop-i.bands c.args.band
 pub loop-i-preserved : goal.loop-i-preserved
 loop-i-preserved g c =
     let d = (goal.at.loop-i-preserved g c).After-count_own-count in
-    let p = c.args.plan.now.params in
+    let p = c.args.params.now in
     let n = c.loop-i.slot + c.count_own-count.result - c.loop-i.slot in
     record {
       first = (there g d).next;
@@ -69,7 +69,7 @@ loop-i-preserved g c =
       done = done_put p c.args.cube.now _ c.loop-i.slot n (c.loop-i.slot + c.count_own-count.result) c.loop-i.bands c.send_row.new.bands (omega arith) (within g d) c.send_row.auto.bands c.loop-i.invariant.done (c.send_row.ensures.at c.if-not-send_row.false);
       left = left_put p c.args.cube.now _ c.loop-i.slot n (c.loop-i.slot + c.count_own-count.result) c.loop-i.bands c.send_row.new.bands (omega arith) (within g d) c.send_row.auto.bands c.loop-i.invariant.left;
       same = bands_put c.loop-i.bands c.args.bands.now c.send_row.new.bands c.loop-i.slot n c.loop-i.invariant.same c.send_row.ensures.same;
-      sent = rw upto_more (sends_then c.args.sender.now c.loop-i.sender c.send_row.new.sender true _ _ c.loop-i.invariant.sent (rw (own_bands g d, c.if-not-send_row.false) at c.send_row.ensures.sent));
+      sent = rw upto_more (g.met.T.Taker.laws.behind c.args.taker.now c.loop-i.taker c.send_row.new.taker true _ _ c.loop-i.invariant.sent (rw (own_bands g d, c.if-not-send_row.false) at c.send_row.ensures.sent));
     }
 
 module _ (g : Over) (c : After-loop-i g) where
@@ -83,12 +83,15 @@ module _ (g : Over) (c : After-loop-i g) where
   past = c.loop-i.invariant.first ∙ all_groups c.args.cube.now.shape c.args.depth c.loop-i.i c.requires.depth.0 (omega (arith, last))
 
   whole : length c.loop-i.bands ≤ c.loop-i.slot
-  whole = omega (arith, c.loop-i.invariant.slot, ap (λ n. length (own c.args.predictor c.args.plan.now.deal (upto n))) past, length-map c.loop-i.bands (λ b. b.band), ap (λ (zs : List ℕ). length zs) (c.loop-i.invariant.same ∙ c.requires.own))
+  whole = omega (arith, c.loop-i.invariant.slot, ap (λ n. length (own c.args.predictor c.args.deal.now (upto n))) past, length-map c.loop-i.bands (λ b. b.band), ap (λ (zs : List ℕ). length zs) (c.loop-i.invariant.same ∙ c.requires.own))
 
 pub returns-clause-sent : goal.returns-clause-sent
 returns-clause-sent g c =
-    pieces_whole c.args.sender.now c.loop-i.sender (λ i. row_of c.args.plan.now.params c.args.cube.now (own c.args.predictor c.args.plan.now.deal (group c.args.cube.now.shape c.args.depth i)) c.args.y) _ c.loop-i.i (group_count c.args.cube.now.shape c.args.depth) c.loop-i.invariant.sent
-    (last g c) (line_is c.args.plan.now.params c.args.cube.now c.args.predictor c.args.plan.now.deal c.args.depth c.args.y)
+    pieces_whole g.met.T.Taker.laws c.args.taker.now c.loop-i.taker (λ i. row_of c.args.params.now c.args.cube.now (own c.args.predictor c.args.deal.now (group c.args.cube.now.shape c.args.depth i)) c.args.y) _ c.loop-i.i (group_count c.args.cube.now.shape c.args.depth) c.loop-i.invariant.sent
+    (last g c) (line_is c.args.params.now c.args.cube.now c.args.predictor c.args.deal.now c.args.depth c.args.y)
 
 pub returns-clause-at : goal.returns-clause-at
-returns-clause-at g c = λ h. subst (AreAt c.args.plan.now.params c.args.cube.now ((c.args.y + 1) * c.args.cube.now.shape.columns)) (take_all c.loop-i.slot c.loop-i.bands (whole g c)) c.loop-i.invariant.done
+returns-clause-at g c = λ h. subst (AreAt c.args.params.now c.args.cube.now ((c.args.y + 1) * c.args.cube.now.shape.columns)) (take_all c.loop-i.slot c.loop-i.bands (whole g c)) c.loop-i.invariant.done
+
+pub loop-i-init : goal.loop-i-init
+loop-i-init g c = record { first = omega arith; slot = refl; done = tt; left = c.requires.at; same = refl; sent = none_yet g.met.T.Taker.laws c.args.taker.now _ c.requires.may }

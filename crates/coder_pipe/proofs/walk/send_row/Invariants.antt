@@ -2,15 +2,15 @@ use Rattle.std.proofs.Common.{◌≡◌, ◌+◌, ◌*◌, ◌-◌, ◌≤◌, t
 use Rattle.std.specs.List.{flat_map}
 use Rattle.cube_core.specs.Order.{upto}
 use Rattle.coder_pipe.specs.Own.{column_of}
-use Rattle.coder_pipe.specs.Sends.{AreAt, bands_of, Sends}
+use Rattle.coder_pipe.specs.Sends.{AreAt, bands_of}
 use Rattle.coder_pipe.proofs.walk.send_row.Given as goal
 
 abbrev pub invariant-loop-x : goal.invariant-loop-x
 invariant-loop-x g l = record {
   within : l.x ≤ l.cube.shape.columns;
-  at : AreAt l.plan.params l.cube (l.y * l.cube.shape.columns + l.x) l.bands;
+  at : AreAt l.params l.cube (l.y * l.cube.shape.columns + l.x) l.bands;
   same : bands_of l.bands ≡ bands_of l.initial.bands;
-  sent : Sends l.initial.sender l.sender true (flat_map (λ x. column_of l.plan.params l.cube (bands_of l.initial.bands) l.y x) (upto l.x));
+  sent : g.T.Taker.takes l.initial.taker l.taker true (flat_map (λ x. column_of l.params l.cube (bands_of l.initial.bands) l.y x) (upto l.x));
 }
 
 abbrev pub decreases-loop-x : goal.decreases-loop-x
