@@ -36,7 +36,7 @@ pub(super) fn decoded(
 }
 
 /// The file that is written of raw bytes by these settings.
-fn encoded(
+pub(super) fn encoded(
     rt: &impl Abort,
     alloc: Global,
     name: &str,
@@ -53,7 +53,7 @@ fn encoded(
 }
 
 /// That a file is decoded to parameters with this header and a cube with these raw bytes.
-fn decodes_to(
+pub(super) fn decodes_to(
     rt: &impl Abort,
     alloc: Global,
     name: &str,

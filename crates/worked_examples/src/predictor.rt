@@ -221,3 +221,27 @@ fn mapping_there_and_back(rt: HostRuntime) {
     is_mapped(&rt, 511, 255, 0);
     is_mapped(&rt, 511, 0, 255);
 }
+
+/// The residuals of a row of cube A, as a piece.
+fn coded_row(rt: &impl Abort, coder: &mut BandOfA, cube: &CubeOfA, y: u32) -> [u16; 3] {
+    assert!(rt; y < 2);
+    assert!(rt; coder.band.next() == u64::from(y) * 3);
+    coder.band.predict_piece(&cube.cube, y, 0, 3);
+    [
+        coder.band.piece_residual(0),
+        coder.band.piece_residual(1),
+        coder.band.piece_residual(2),
+    ]
+}
+
+#[test]
+fn rows_of_cube_a_as_pieces(rt: HostRuntime) {
+    let alloc = rt.alloc();
+    let cube = cube_of_a(&rt, alloc, &CUBE_A);
+    let mut first = band_of_a(&rt, alloc, 0);
+    let mut second = band_of_a(&rt, alloc, 1);
+    assert_eq!(rt; coded_row(&rt, &mut first, &cube, 0), [55, 3, 5]);
+    assert_eq!(rt; coded_row(&rt, &mut second, &cube, 0), [20, 1, 2]);
+    assert_eq!(rt; coded_row(&rt, &mut first, &cube, 1), [0, 4, 2]);
+    assert_eq!(rt; coded_row(&rt, &mut second, &cube, 1), [2, 1, 2]);
+}
