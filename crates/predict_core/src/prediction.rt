@@ -57,40 +57,6 @@ pub(crate) fn predicted_difference<const N: usize>(
     halved(product_of_first::<N>(weights, differences), fraction) as i32
 }
 
-/// The scaled prediction from the predicted difference and the local sum, where nothing wraps.
-#[inline(always)]
-pub(crate) fn scaled_by_difference(range: &Range, predicted: i32, sum: i32) -> i32
-    requires predicted_in { unsigned_abs predicted ≤ 18 * 2 ^ 20 }
-    requires sum_in { (negsuc 131071 ≤ℤ sum) × (sum ≤ℤ pos 262140) }
-    ensures value { result ≡ clip (floor_div (predicted +ℤ (sum -ℤ pos 4 *ℤ smid range.now.kind)) 2 +ℤ pos 2 *ℤ smid range.now.kind +ℤ pos 1) (pos 2 *ℤ smin range.now.kind) (pos 2 *ℤ smax range.now.kind +ℤ pos 1) }
-    ensures scaled { IsScaled range.now.kind result }
-{
-    let middle = range.smid;
-    let upper = half_of(predicted + (sum - 4 * middle));
-    held_between(upper + 2 * middle + 1, 2 * range.smin, 2 * range.smax + 1)
-}
-
-/// Half of a number, rounded down.
-#[inline(always)]
-fn half_of(value: i32) -> i32
-    requires { unsigned_abs value ≤ 2 ^ 25 }
-    ensures value { result ≡ floor_div value 2 }
-    ensures bound { unsigned_abs result ≤ 2 ^ 25 }
-{
-    value >> 1
-}
-
-/// A number held between two bounds.
-#[inline(always)]
-fn held_between(value: i32, low: i32, high: i32) -> i32
-    requires order { low ≤ℤ high }
-    ensures value { result ≡ clip value low high }
-    ensures low_end { low ≤ℤ result }
-    ensures high_end { result ≤ℤ high }
-{
-    value.clamp(low, high)
-}
-
 /// The middle of the prediction's range, moved by the upper part of the register.
 #[inline(always)]
 fn center_of(upper: i64, middle: i32) -> i64

@@ -20,64 +20,11 @@ pub(crate) struct Quad {
     pub places: [[i32; 4]; 64],
 }
 
-/// The local sums of heights, the central differences and the components of a run, and room for what is
-/// predicted of its differences.
+/// Writes the local sums of heights, the central differences and the components of `count` places from row
+/// `y`, column `x` on.
 ///
-/// Component k of a place stands in quad k / 4, in lane k % 4.
-#[derive(Drop)]
-pub(crate) struct Room {
-    pub sums: [i32; 64],
-    pub own: [i32; 64],
-    pub parts: [i32; 64],
-    pub quads: [Quad; 5],
-}
-
-impl Room {
-    /// A room of zeros.
-    pub(crate) fn new() -> Room {
-        let quad = Quad {
-            places: [[0; 4]; 64],
-        };
-        Room {
-            sums: [0; 64],
-            own: [0; 64],
-            parts: [0; 64],
-            quads: [quad; 5],
-        }
-    }
-}
-
-/// Fills the room of `count` places from row `y`, column `x` on, but for what is predicted.
-///
+/// Component k of a place stands in quad k / 4, in lane k % 4; there are as many quads as are needed, or more.
 /// Of the first place of a band it tells nothing (CCSDS 123.0-B-1, "Local Sums", "Local Differences").
-pub(crate) fn fill_room(
-    settings: &Settings,
-    cube: &Cube,
-    y: u32,
-    x: u32,
-    count: usize,
-    room: &mut Room,
-)
-    requires place { IsPlace cube.now.shape settings.now.band y x }
-    requires columns { cube.now.shape.columns ≡ settings.now.columns }
-    requires some { 1 ≤ count }
-    requires few { count ≤ 64 }
-    requires inside { x + count ≤ cube.now.shape.columns }
-    ensures { IsRoom settings.now.predictor cube.now settings.now.band y x count settings.now.count room.new.sums room.new.own room.new.quads }
-{
-    fill_run::<5>(
-        settings,
-        cube,
-        y,
-        x,
-        count,
-        &mut room.sums,
-        &mut room.own,
-        &mut room.quads,
-    );
-}
-
-/// Writes the same into rooms that stand apart, with as many quads as are needed or more.
 pub(crate) fn fill_run<const Q: usize>(
     settings: &Settings,
     cube: &Cube,
