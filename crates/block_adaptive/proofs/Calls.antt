@@ -6,13 +6,15 @@ use Rattle.std.proofs.lemmas.Nat.{mul-le}
 use Rattle.std.proofs.Math.Nat.{lt-div-mul-add}
 use Rattle.std.proofs.lemmas.List.{append-nil, length-append, length-replicate}
 use Rattle.cube_core.specs.declared.fault.Fault.{Fault}
+use Rattle.header_bits.specs.Bits.{Unread}
+use Rattle.header_bits.proofs.Fronts.{bind_err}
 use Rattle.block_adaptive.specs.declared.options.CodeSet.{CodeSet}
 use Rattle.block_adaptive.specs.Segments.{blocks, first_blocks, block_count}
 use Rattle.block_adaptive.specs.Texts.{Text, Block, Run, Rest, Cut, capacity, left_at, IsText, AreTexts, blocks_in, blocks_of, blocks_told, values_of, spelled, spelling}
 use Rattle.block_adaptive.specs.Chosen.{chosen_from, chosen_texts, chosen_block_body}
-use Rattle.block_adaptive.specs.Reading.{Site, text_at, texts_at}
+use Rattle.block_adaptive.specs.Reading.{Site, site_of, text_at, texts_at}
 use Rattle.block_adaptive.specs.Settings.{IsCut}
-use Rattle.block_adaptive.specs.Given.{Unpacked, HasGiven, given_count}
+use Rattle.block_adaptive.specs.Given.{Unpacked, HasGiven, given_count, holding, next_text}
 use Rattle.block_adaptive.specs.Prefixes.{TakenIsPrefix}
 use Rattle.block_adaptive.proofs.Again.{text_again}
 use Rattle.block_adaptive.proofs.Bodies.{length-first_blocks, text_some, texts_few}
@@ -72,12 +74,24 @@ texts_refused count half (suc n) i j c (t ∷ texts) left e even lt fuel h bad =
     rw (more, append_assoc (spelled c.set t) (spelling c.set texts) left, one, texts_refused count half n (i + blocks_in (left_at c i) t) j c texts left e even lt (omega arith) h.1 bad) refl
 
 -- a refusal of the next text is that of the body, out of which the numbers given were read
-pub body_refused : (v : Unpacked) (given : List ℕ) (bits left : List Bool) (count : ℕ) (e : Fault) → IsCut v.cut → given_count v < capacity v.cut → v.held ≡ [] → HasGiven v given bits
+body_refused : (v : Unpacked) (given : List ℕ) (bits left : List Bool) (count : ℕ) (e : Fault) → IsCut v.cut → given_count v < capacity v.cut → v.held ≡ [] → HasGiven v given bits
     → text_at (record { count = count; block = v.block }) v.cut.set v.cut.size (left_at v.cut v.block) left ≡ Err e → texts_at count v.cut v.cut.count 0 (bits ++ left) ≡ Err e
 body_refused v given bits left count e cut few none h bad =
     let lt : v.block < v.cut.count = text_left v few none in
     ap (λ (bs : List Bool). texts_at count v.cut v.cut.count 0 (bs ++ left)) h.text
     ∙ texts_refused count (v.cut.size / 2) v.cut.count 0 v.block v.cut h.texts left e (sym (size_halved v.cut.size cut.size)) lt (omega arith) h.lawful bad
+
+no_step : (x : Unpacked × List Bool) (e : Fault) → Ok x ≡ Err e → ⊥
+no_step x e h = absurd (cc)
+
+-- so is that of a number that would come next
+pub next_refused : (v : Unpacked) (reader : Unread) (e : Fault) → IsCut v.cut → given_count v < capacity v.cut → v.held ≡ [] → next_text v reader ≡ Err e → (given : List ℕ) (bits : List Bool) → HasGiven v given bits
+    → texts_at reader.count v.cut v.cut.count 0 (bits ++ reader.left) ≡ Err e
+next_refused v reader e cut few none bad given bits h =
+    let site : Site = site_of reader v.block in
+    let text : text_at site v.cut.set v.cut.size (left_at v.cut v.block) reader.left ≡ Err e =
+    elim (bind_err (text_at site v.cut.set v.cut.size (left_at v.cut v.block) reader.left) (λ x. Ok (holding v x.0, x.1)) e bad) [ inl k ↦ k | inr (x, k, m) ↦ absurd (no_step (holding v x.0, x.1) e m) ] in
+    body_refused v given bits reader.left reader.count e cut few none h text
 
 -- ---- what was appended begins the body
 

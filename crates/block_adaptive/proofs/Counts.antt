@@ -1,8 +1,8 @@
 -- How many numbers a writer has taken, and how many a reader has given.
-use Rattle.std.proofs.Common.{◌≡◌, ℕ, ◌+◌, ◌-◌, ◌*◌, ◌<◌, ◌≤◌, List, [], length, Result, Ok, Err, IfErr, refl, sym, ap, subst, ◌∙◌, inl, inr, arith}
+use Rattle.std.proofs.Common.{◌≡◌, ℕ, suc, ◌/◌, ◌+◌, ◌-◌, ◌*◌, ◌<◌, ◌≤◌, List, [], length, Result, Ok, Err, IfErr, refl, sym, ap, subst, ◌∙◌, inl, inr, arith}
 use Rattle.std.proofs.lemmas.Bool.{cases_lt}
 use Rattle.std.proofs.lemmas.Nat.{mul-le, mod-mul-add}
-use Rattle.std.proofs.Math.Nat.{mul-mod_left}
+use Rattle.std.proofs.Math.Nat.{mul-mod_left, div-mul-le_self}
 use Rattle.cube_core.specs.declared.fault.Fault.{Fault}
 use Rattle.cube_core.specs.Shape.{sample_count}
 use Rattle.header_bits.specs.declared.params.Params.{Params}
@@ -57,6 +57,14 @@ text_left v few none = block_left v.cut.size v.cut.count v.block 0 (omega (arith
 
 -- ---- a cut by parameters
 
+-- fewer blocks than n numbers take have no room for them
+blocks_least : (size n blocks : ℕ) → 1 ≤ size → n ≤ blocks * size → block_count size n ≤ blocks
+blocks_least size n blocks some enough =
+    elim (cases_lt blocks (block_count size n)) [
+      | inl lt ↦ (let low : (n + size - 1) / size * size ≤ n + size - 1 = div-mul-le_self (n + size - 1) size in let p = mul-le (suc blocks) size (block_count size n) size lt (omega arith) in absurd (omega (arith, low, p)))
+      | inr ge ↦ ge
+    ]
+
 coder_blocks : (bits n : ℕ) (c : Coder) → (coder_cut bits n c).count ≡ block_count (coder_cut bits n c).size n
 coder_blocks bits n (coder.Block size restricted reference) = refl
 coder_blocks bits n (coder.Sample umax gamma_star gamma_zero start) = refl
@@ -66,8 +74,10 @@ cut_of_all p c h e =
     let n : ℕ = sample_count p.shape in
     let lawful : IsCut c = rw e h.lawful in
     let blocks : c.count ≡ block_count c.size n = rw e (coder_blocks p.kind.bits n p.coder) in
+    let some : 1 ≤ c.size = omega (arith, size_least c.size lawful.size) in
     record {
       lawful = lawful;
       blocks = blocks;
-      room = subst (λ (k : ℕ). n ≤ k * c.size) (sym blocks) (blocks_enough c.size n (omega (arith, size_least c.size lawful.size)));
+      room = subst (λ (k : ℕ). n ≤ k * c.size) (sym blocks) (blocks_enough c.size n some);
+      least = λ many enough. subst (λ (k : ℕ). k ≤ many) (sym blocks) (blocks_least c.size n many some enough);
     }

@@ -13,7 +13,7 @@ use Rattle.block_adaptive.specs.Reading.{site_of, text_at}
 use Rattle.block_adaptive.proofs.Lawful.{rest_least}
 use Rattle.block_adaptive.proofs.Taken.{text_is_taken}
 use Rattle.block_adaptive.specs.Texts.{Text, Run, Rest, Cut, IsText, AreTexts, left_at, blocks_in, blocks_of, blocks_told, values_of, spelled, spelling}
-use Rattle.block_adaptive.specs.Given.{Unpacked, HasGiven, GivesFirst, GivesNext, holding, next_text}
+use Rattle.block_adaptive.specs.Given.{Unpacked, HasGiven, GivesFirst, holding, next_text}
 
 -- of the values up to the size nothing stands behind them
 pub nothing_behind : (size : ℕ) (values : List ℕ) → drop size (take size values) ≡ []
@@ -151,20 +151,27 @@ text_given v reader given bits left t cut more none h e =
       },
     )
 
+-- what was given before, and one number more, of the same cut; the bits between were read
+abbrev pub Gives : Unpacked → Unread → ℕ → Unpacked → List Bool → Type 0
+Gives old reader value new left =
+    (new.cut ≡ old.cut) × ((given : List ℕ) (bits : List Bool) → HasGiven old given bits → (read : List Bool) × (reader.left ≡ read ++ left) × HasGiven new (given ++ value ∷ []) (bits ++ read))
+
 -- the next number, where a text was taken
-pub next_given : (v held new : Unpacked) (reader : Unread) (left : List Bool) (value : ℕ) → IsCut v.cut → v.block < v.cut.count → v.held ≡ [] → next_text v reader ≡ Ok (held, left) → GivesFirst held value new → GivesNext v reader (Ok value) new left
-next_given v held new reader left value cut more none e first = λ given bits h.
+pub next_given : (v held new : Unpacked) (reader : Unread) (left : List Bool) (value : ℕ) → IsCut v.cut → v.block < v.cut.count → v.held ≡ [] → next_text v reader ≡ Ok (held, left) → GivesFirst held value new → Gives v reader value new left
+next_given v held new reader left value cut more none e first =
     let a = bind_ok (text_at (site_of reader v.block) v.cut.set v.cut.size (left_at v.cut v.block) reader.left) (λ t. Ok (holding v t.0, t.1)) (held, left) e in
     let same = ok_is (holding v a.0.0, a.0.1) (held, left) a.2 in
     let is : holding v a.0.0 ≡ held = ap (λ (x : Unpacked × List Bool). x.0) same in
-    let rest : a.0.1 ≡ left = ap (λ (x : Unpacked × List Bool). x.1) same in
-    let taken = text_given v reader given bits a.0.1 a.0.0 cut more none h a.1 in
-    (spelled v.cut.set a.0.0, taken.0 ∙ ap (λ (bs : List Bool). spelled v.cut.set a.0.0 ++ bs) rest, value_given held new given (bits ++ spelled v.cut.set a.0.0) value (rw is at taken.1) first)
+    let rest : a.0.1 ≡ left = ap (λ (x : Unpacked × List Bool). x.1) same in (
+      ap (λ (u : Unpacked). u.cut) first.1 ∙ sym (ap (λ (u : Unpacked). u.cut) is),
+      λ given bits h.
+          let taken = text_given v reader given bits a.0.1 a.0.0 cut more none h a.1 in
+          (spelled v.cut.set a.0.0, taken.0 ∙ ap (λ (bs : List Bool). spelled v.cut.set a.0.0 ++ bs) rest, value_given held new given (bits ++ spelled v.cut.set a.0.0) value (rw is at taken.1) first),
+    )
 
 -- the next number, where one was in hand
-pub held_given : (v new : Unpacked) (reader : Unread) (value : ℕ) → GivesFirst v value new → GivesNext v reader (Ok value) new reader.left
-held_given v new reader value first = λ given bits h.
-    ([], refl, rw (append-nil bits) (value_given v new given bits value h first))
+pub held_given : (v new : Unpacked) (reader : Unread) (value : ℕ) → GivesFirst v value new → Gives v reader value new reader.left
+held_given v new reader value first = (ap (λ (u : Unpacked). u.cut) first.1, λ given bits h. ([], refl, rw (append-nil bits) (value_given v new given bits value h first)))
 
 pub put_back : (v w : Unpacked) (held : List ℕ) → v ≡ w → record v { held = held } ≡ record w { held = held }
 put_back v w held e = ap (λ (u : Unpacked). record u { held = held }) e

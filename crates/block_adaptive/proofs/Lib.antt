@@ -4,6 +4,7 @@ pub mod Again
 pub mod Bodies
 pub mod Calls
 pub mod Counts
+pub mod InRange
 pub mod Costs
 pub mod Sums
 pub mod Least

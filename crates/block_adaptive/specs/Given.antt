@@ -1,10 +1,10 @@
 -- What a reader of blocks holds, and which numbers it has given.
-use Rattle.std.specs.Prelude.{ℕ, ◌≡◌, ◌+◌, ◌-◌, ◌*◌, Bool, List, [], ◌∷◌, ◌++◌, length, Result, Ok, IfOk, Option, None}
+use Rattle.std.specs.Prelude.{ℕ, ◌≡◌, ◌+◌, ◌-◌, ◌*◌, ◌^◌, ◌<◌, Bool, List, [], ◌∷◌, ◌++◌, length, Result, Ok, Err, MatchResult, Option, None}
 use Rattle.cube_core.specs.declared.fault.Fault.{Fault}
 use Rattle.cube_core.specs.Steps.{◌>>=◌}
 use Rattle.header_bits.specs.Bits.{Unread}
 use Rattle.block_adaptive.specs.Texts.{Text, Cut, AreTexts, left_at, blocks_in, blocks_of, blocks_told, spelling, values_of}
-use Rattle.block_adaptive.specs.Reading.{site_of, text_at}
+use Rattle.block_adaptive.specs.Reading.{site_of, text_at, texts_at}
 
 -- how the numbers are cut, the block of the next text, the values in hand, and the refusal that was met
 pub record Unpacked : Type 0 where
@@ -43,8 +43,9 @@ given_count v = v.block * v.cut.size - length v.held
 abbrev pub GivesFirst : Unpacked → ℕ → Unpacked → Type 0
 GivesFirst v value new = (v.held ≡ value ∷ new.held) × (new ≡ record v { held = new.held })
 
--- what was given before, and one number more; the bits between were read
+-- what was given before, and one number more, in range; the bits between were read. Or the refusal is that of the whole body
 abbrev pub GivesNext : Unpacked → Unread → Result ℕ Fault → Unpacked → List Bool → Type 0
 GivesNext old reader result new left =
     (given : List ℕ) (bits : List Bool) → HasGiven old given bits
-    → IfOk result (λ value. (read : List Bool) × (reader.left ≡ read ++ left) × HasGiven new (given ++ value ∷ []) (bits ++ read))
+    → MatchResult result (λ value. (value < 2 ^ old.cut.set.bits) × (read : List Bool) × (reader.left ≡ read ++ left) × HasGiven new (given ++ value ∷ []) (bits ++ read))
+    (λ fault. texts_at reader.count old.cut old.cut.count 0 (bits ++ reader.left) ≡ Err fault)

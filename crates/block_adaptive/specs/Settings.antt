@@ -1,5 +1,5 @@
 -- What parameters tell the block-adaptive coder.
-use Rattle.std.specs.Prelude.{ℕ, ◌≡◌, ◌⊎◌, ◌≤◌, false}
+use Rattle.std.specs.Prelude.{ℕ, ◌≡◌, ◌⊎◌, ◌*◌, ◌≤◌, false}
 use Rattle.cube_core.specs.Shape.{InRange, sample_count}
 use Rattle.header_bits.specs.declared.params.Params.{Params}
 use Rattle.header_bits.specs.declared.params.Coder.{Coder}
@@ -31,11 +31,12 @@ pub record IsCut (c : Cut) : Type 0 where
   pub size : IsSize c.size
   pub reference : InRange 1 4096 c.reference
 
--- a cut of n numbers: as many blocks as they take, which have room for all of them
+-- a cut of n numbers: as many blocks as they take, which have room for all of them, as no fewer blocks have
 pub record IsCutOf (n : ℕ) (c : Cut) : Type 0 where
   pub lawful : IsCut c
   pub blocks : c.count ≡ block_count c.size n
   pub room : n ≤ capacity c
+  pub least : (blocks : ℕ) → n ≤ blocks * c.size → c.count ≤ blocks
 
 -- the parameters are for this coder, and in range
 pub record AreForBlocks (p : Params) : Type 0 where

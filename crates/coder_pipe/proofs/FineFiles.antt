@@ -40,7 +40,7 @@ use Rattle.coder_pipe.specs.Laws.{FineIsFile}
 use Rattle.coder_pipe.proofs.Built.{built}
 use Rattle.coder_pipe.proofs.Coders.{settings_bits}
 use Rattle.coder_pipe.proofs.Fills.{passed}
-use Rattle.coder_pipe.proofs.Givers.{told_range}
+use Rattle.block_adaptive.proofs.InRange.{told_range}
 
 -- ---- a body that is read is a body
 

@@ -1,10 +1,7 @@
 -- What the reading end has given, number after number, and how it refuses.
-use Rattle.std.proofs.Common.{◌≡◌, ◌⊎◌, ◌+◌, ◌*◌, ◌/◌, ◌-◌, ◌^◌, ◌<◌, ◌≤◌, ℕ, zero, suc, Bool, true, false, cond, List, [], ◌∷◌, ◌++◌, length, take, drop, replicate, Some, None, Result, Ok, Err, IfOk, MatchResult, refl, sym, ap, ◌∙◌, subst, inl, inr, append-nil, append_assoc, length-append, pow_pos, arith}
+use Rattle.std.proofs.Common.{◌≡◌, ◌⊎◌, ◌+◌, ◌*◌, ◌^◌, ◌<◌, ◌≤◌, ℕ, zero, suc, Bool, true, false, cond, List, [], ◌∷◌, ◌++◌, length, take, drop, Some, Result, Ok, Err, IfOk, refl, sym, ap, ◌∙◌, subst, inl, inr, append-nil, append_assoc, length-append, arith}
 use Rattle.std.specs.List.{slice_get, AllByRecursion}
-use Rattle.std.proofs.lemmas.Nat.{mul-le}
-use Rattle.std.proofs.lemmas.Bool.{cases_lt}
 use Rattle.std.proofs.lemmas.List.{take_at}
-use Rattle.std.proofs.Math.Nat.{div-mul-le_self}
 use Rattle.cube_core.specs.declared.fault.Fault.{Fault}
 use Rattle.cube_core.specs.declared.fault.Fault.TheVariants.{Truncated, BadCode}
 use Rattle.cube_core.specs.declared.order.Place.{Place}
@@ -30,14 +27,11 @@ use Rattle.sample_adaptive.specs.Laws.{AreNumbers}
 use Rattle.sample_adaptive.proofs.Bodies.{code_bits}
 use Rattle.sample_adaptive.proofs.Refusals.{word_again, word_takes}
 use Rattle.sample_adaptive.proofs.Taking.{taken_along}
-use Rattle.block_adaptive.specs.Settings.{IsBlock, IsCut, IsCutOf, cut_by, coder_cut}
+use Rattle.block_adaptive.specs.Settings.{IsBlock, IsCutOf, cut_by, coder_cut}
 use Rattle.block_adaptive.specs.Segments.{block_count}
-use Rattle.block_adaptive.specs.Texts.{Text, Block as Whole, Run, Rest, Cut, capacity, cut_of, left_at, IsText, AreTexts, blocks_in, blocks_of, blocks_told, values_of}
-use Rattle.block_adaptive.specs.Given.{Unpacked, given_count, holding, next_text, in_hand, GivesFirst, GivesNext, HasGiven as HaveGiven}
-use Rattle.block_adaptive.specs.Reading.{Site, text_at, texts_at, block_body_at}
-use Rattle.block_adaptive.specs.declared.options.CodeSet.{CodeSet}
-use Rattle.block_adaptive.proofs.Calls.{body_refused, told_length}
-use Rattle.block_adaptive.proofs.Handed.{size_least, values_append}
+use Rattle.block_adaptive.specs.Texts.{Cut, cut_of, blocks_told, values_of}
+use Rattle.block_adaptive.specs.Given.{Unpacked, given_count, GivesNext, HasGiven as HaveGiven}
+use Rattle.block_adaptive.specs.Reading.{texts_at, block_body_at}
 use Rattle.coder_pipe.specs.declared.decoder.Decoder.{Decoder}
 use Rattle.coder_pipe.specs.declared.decoder.Decoder.TheVariants.{Samples, Blocks}
 use Rattle.coder_pipe.specs.Coding.{places_of, of_band, IsNumber}
@@ -50,14 +44,6 @@ use Rattle.coder_pipe.proofs.Coders.{take_next, places_long, places_whole, sampl
 range_more : (limit : ℕ) (ns : List ℕ) (n : ℕ) → AllByRecursion (λ v. v < limit) ns → n < limit → AllByRecursion (λ v. v < limit) (ns ++ n ∷ [])
 range_more limit [] n h lt = (lt, tt)
 range_more limit (m ∷ ns) n h lt = (h.0, range_more limit ns n h.1 lt)
-
-range_append : (limit : ℕ) (xs ys : List ℕ) → AllByRecursion (λ v. v < limit) xs → AllByRecursion (λ v. v < limit) ys → AllByRecursion (λ v. v < limit) (xs ++ ys)
-range_append limit [] ys h k = k
-range_append limit (x ∷ xs) ys h k = (h.0, range_append limit xs ys h.1 k)
-
-range_there : (limit : ℕ) (xs : List ℕ) (n : ℕ) (ys : List ℕ) → AllByRecursion (λ v. v < limit) ((xs ++ n ∷ []) ++ ys) → n < limit
-range_there limit [] n ys h = h.0
-range_there limit (x ∷ xs) n ys h = range_there limit xs n ys h.1
 
 some_same : (p q : Place) → Some p ≡ Some q → p ≡ q
 some_same p q k = cc
@@ -194,32 +180,6 @@ samples_refused z t place fault told old new unread left gets bad ended p number
 
 -- ---- by blocks
 
-zeros_range : (limit n size : ℕ) → 0 < limit → AllByRecursion (λ v. v < limit) (values_of (replicate n (replicate size 0)))
-zeros_range limit zero size pos = tt
-zeros_range limit (suc n) size pos = range_append limit (replicate size 0) (values_of (replicate n (replicate size 0))) (block_range size) (zeros_range limit n size pos)
-  where
-    block_range : (m : ℕ) → AllByRecursion (λ v. v < limit) (replicate m 0)
-    block_range zero = tt
-    block_range (suc m) = (pos, block_range m)
-
-text_range : (s : CodeSet) (size left : ℕ) (t : Text) → IsText s size left t → AllByRecursion (λ v. v < 2 ^ s.bits) (values_of (blocks_of size left t))
-text_range s size left (Whole o vs) h = rw (append-nil vs) h.range
-text_range s size left (Run n) h = zeros_range (2 ^ s.bits) n size (pow_pos s.bits)
-text_range s size left Rest h = zeros_range (2 ^ s.bits) left size (pow_pos s.bits)
-
-pub told_range : (c : Cut) (i j : ℕ) (texts : List Text) → AreTexts c i texts j → AllByRecursion (λ v. v < 2 ^ c.set.bits) (values_of (blocks_told c i texts))
-unfolding AreTexts blocks_told
-told_range c i j [] h = tt
-told_range c i j (t ∷ texts) h =
-    let k : ℕ = blocks_in (left_at c i) t in
-    rw (values_append (blocks_of c.size (left_at c i) t) (blocks_told c (i + k) texts))
-    (range_append (2 ^ c.set.bits) (values_of (blocks_of c.size (left_at c i) t)) (values_of (blocks_told c (i + k) texts)) (text_range c.set c.size (left_at c i) t h.0) (told_range c (i + k) j texts h.1))
-
--- a number that was given is in range
-given_range : (v : Unpacked) (numbers : List ℕ) (number : ℕ) (bits : List Bool) → HaveGiven v (numbers ++ number ∷ []) bits → number < 2 ^ v.cut.set.bits
-given_range v numbers number bits h =
-    range_there (2 ^ v.cut.set.bits) numbers number v.held (subst (λ (vs : List ℕ). AllByRecursion (λ n. n < 2 ^ v.cut.set.bits) vs) h.told (told_range v.cut 0 v.block h.texts h.lawful))
-
 block_behind : (p : Params) (v : Cut) (count : ℕ) (bits : List Bool) → IsBlock p.coder → v ≡ cut_by p → behind_body count p bits ≡ (texts_at count v v.count 0 bits >>= λ read. Ok read.1)
 unfolding behind_body block_body_at
 block_behind p v count bits coder e = rw e (by_coder p.coder coder)
@@ -228,31 +188,20 @@ block_behind p v count bits coder e = rw e (by_coder p.coder coder)
     by_coder (Block size restricted reference) s = refl
     by_coder (Sample umax gamma_star gamma_zero start) s = absurd s
 
-no_step : (x : Unpacked × List Bool) (e : Fault) → Ok x ≡ Err e → ⊥
-no_step x e h = absurd (cc)
-
-abbrev pub AnswersFirst : Result ℕ Fault → Unpacked → Unread → Unpacked → List Bool → Type 0
-AnswersFirst r old unread new left = old.refused ≡ None → MatchResult r (λ value. (w : Unpacked) × (in_hand old unread old.held ≡ Ok (w, left)) × GivesFirst w value new) (λ fault. (old.held ≡ []) × (next_text old unread ≡ Err fault))
-
-pub blocks_given : (r : Result ℕ Fault) (z t place : ℕ) (old new : Unpacked) (unread : Unread) (left : List Bool) → AnswersFirst r old unread new left → GivesNext old unread r new left → new.cut ≡ old.cut
-    → given_count old < capacity old.cut → IfOk r (λ _. given_count new ≡ given_count old + 1) → new.block ≤ new.cut.count → GivesNumber z t place r (Blocks old) unread (Blocks new) left
-blocks_given (Ok value) z t place old new unread left first gives kept more counted inside p numbers bits lawful h next at =
+pub blocks_given : (r : Result ℕ Fault) (z t place : ℕ) (old new : Unpacked) (unread : Unread) (left : List Bool) → GivesNext old unread r new left → new.cut ≡ old.cut
+    → IfOk r (λ _. given_count new ≡ given_count old + 1) → new.block ≤ new.cut.count → GivesNumber z t place r (Blocks old) unread (Blocks new) left
+blocks_given (Ok value) z t place old new unread left gives kept counted inside p numbers bits lawful h next at =
     let did = gives numbers bits h.given in
     let there : new.cut ≡ cut_by p = kept ∙ h.cut in
     let room : IsCutOf (sample_count p.shape) new.cut = rw kept h.room in
     let count : given_count new ≡ length (numbers ++ value ∷ []) = omega (arith, counted, h.count, length-append numbers (value ∷ [])) in (
-      rw (cut_bits p new.cut there) at (given_range new numbers value (bits ++ did.0) did.2),
-      did.0,
+      rw (cut_bits p old.cut h.cut) at did.0,
       did.1,
-      record { coder = h.coder; cut = there; room = room; inside = inside; given = did.2; count = count },
+      did.2,
+      record { coder = h.coder; cut = there; room = room; inside = inside; given = did.3; count = count },
     )
-blocks_given (Err fault) z t place old new unread left first gives kept more counted inside p numbers bits lawful h next at =
-    let seen = first h.given.working in
-    let site : Site = record { count = unread.count; block = old.block } in
-    let bad : text_at site old.cut.set old.cut.size (left_at old.cut old.block) unread.left ≡ Err fault =
-    elim (bind_err (text_at site old.cut.set old.cut.size (left_at old.cut old.block) unread.left) (λ x. Ok (holding old x.0, x.1)) fault seen.1) [ inl k ↦ k | inr (x, k, m) ↦ absurd (no_step (holding old x.0, x.1) fault m) ] in
-    let body = body_refused old numbers bits unread.left unread.count fault h.room.lawful more seen.0 h.given bad in
-    block_behind p old.cut unread.count (bits ++ unread.left) h.coder h.cut ∙ rw body refl
+blocks_given (Err fault) z t place old new unread left gives kept counted inside p numbers bits lawful h next at =
+    block_behind p old.cut unread.count (bits ++ unread.left) h.coder h.cut ∙ rw (gives numbers bits h.given) refl
 
 -- ---- by either
 
@@ -267,23 +216,12 @@ whole_sample : (p : Params) (coder : Coder) (numbers : List ℕ) (bits : List Bo
 whole_sample p (Sample umax gamma_star gamma_zero start) numbers bits s e = e
 whole_sample p (Block size restricted reference) numbers bits s e = absurd s
 
--- n numbers in whole blocks, of which there are no more than they fill, fill these blocks
-last_block : (size n block : ℕ) → 1 ≤ size → n ≤ block * size → block ≤ block_count size n → block ≡ block_count size n
-last_block size n block some enough le =
-    elim (cases_lt block (block_count size n)) [
-      | inl lt ↦ (let low : (n + size - 1) / size * size ≤ n + size - 1 = div-mul-le_self (n + size - 1) size in let p = mul-le (suc block) size (block_count size n) size lt (omega arith) in absurd (omega (arith, low, p)))
-      | inr ge ↦ omega (arith, le, ge)
-    ]
-
-whole_blocks : (p : Params) (coder : Coder) (v : Unpacked) (numbers : List ℕ) (bits : List Bool) → IsBlock coder → IsCut v.cut → v.cut ≡ coder_cut p.kind.bits (sample_count p.shape) coder → v.cut.count ≡ block_count v.cut.size (sample_count p.shape) → v.block ≤ v.cut.count → length numbers ≡ sample_count p.shape → HaveGiven v numbers bits
-    → IsBodyBy coder p numbers bits
-whole_blocks p (Sample umax gamma_star gamma_zero start) v numbers bits s cut is count inside long h = absurd s
-whole_blocks p (Block size restricted reference) v numbers bits s cut is count inside long h =
-    let told = told_length v.cut 0 v.block h.texts h.lawful in
-    let values : length (values_of (blocks_told v.cut 0 h.texts)) ≡ length numbers + length v.held = ap length h.told ∙ length-append numbers v.held in
-    let start : 0 * v.cut.size ≡ 0 = omega arith in
-    let enough : sample_count p.shape ≤ v.block * v.cut.size = omega (arith, told, values, start, long) in
-    let last : v.block ≡ block_count v.cut.size (sample_count p.shape) = last_block v.cut.size (sample_count p.shape) v.block (omega (arith, size_least v.cut.size cut.size)) enough (omega (arith, inside, count)) in
+whole_blocks : (p : Params) (coder : Coder) (v : Unpacked) (numbers : List ℕ) (bits : List Bool) → IsBlock coder → IsCutOf (sample_count p.shape) v.cut → v.cut ≡ coder_cut p.kind.bits (sample_count p.shape) coder → v.block ≤ v.cut.count
+    → length numbers ≡ sample_count p.shape → given_count v ≡ length numbers → HaveGiven v numbers bits → IsBodyBy coder p numbers bits
+whole_blocks p (Sample umax gamma_star gamma_zero start) v numbers bits s room is inside long given h = absurd s
+whole_blocks p (Block size restricted reference) v numbers bits s room is inside long given h =
+    let enough : sample_count p.shape ≤ v.block * v.cut.size = omega (arith, given, long) in
+    let last : v.block ≡ block_count v.cut.size (sample_count p.shape) = omega (arith, inside, room.least v.block enough, room.blocks) in
     let same : v.cut ≡ cut_of (record { bits = p.kind.bits; restricted = restricted }) size reference (length numbers) = is ∙ ap (cut_of (record { bits = p.kind.bits; restricted = restricted }) size reference) (sym long) in
     let sizes : v.cut.size ≡ size = ap (λ (c : Cut). c.size) is in
     let ends : v.block ≡ block_count size (length numbers) = last ∙ ap (λ (k : ℕ). block_count k (sample_count p.shape)) sizes ∙ ap (block_count size) (sym long) in
@@ -298,4 +236,4 @@ pub given_whole : (p : Params) (d : Decoder) (numbers : List ℕ) (bits : List B
 given_whole p (Samples v) numbers bits lawful h long =
     whole_sample p p.coder numbers bits h.0.coder (h.0.text ∙ ap (λ (ps : List Place). sample_body (settings p) ps numbers) (places_whole p numbers lawful.order long))
 given_whole p (Blocks v) numbers bits lawful h long =
-    whole_blocks p p.coder v numbers bits h.coder h.room.lawful h.cut h.room.blocks h.inside long h.given
+    whole_blocks p p.coder v numbers bits h.coder h.room h.cut h.inside long h.count h.given

@@ -17,6 +17,9 @@ use crate::room::{Quad, fill_run};
 use crate::settings::Settings;
 use cube_core::cube::Cube;
 
+/// The least run that goes over rooms of 64 places. They cost a shorter one more than its places do.
+const LEAST: usize = 9;
+
 impl Band {
     /// The mapped residuals of a run, as many as there is room for, and so many places on.
     ///
@@ -37,7 +40,7 @@ impl Band {
     {
         cube.is_cube();
         let count = residuals.len();
-        if self.settings.predictor.register < 46 || count == 0 {
+        if self.settings.predictor.register < 46 || count < LEAST {
             self.forward_each(cube, y, x, residuals);
         } else {
             self.next += count as u64;

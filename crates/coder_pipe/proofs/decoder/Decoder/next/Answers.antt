@@ -13,4 +13,4 @@ returns-in-Err-clause-given c = λ p numbers bits lawful given next at.
 
 pub returns-in-Blocks-clause-given : goal.returns-in-Blocks-clause-given
 returns-in-Blocks-clause-given c = λ p numbers bits lawful given next at.
-    blocks_given c.next.result c.args.z c.args.t c.args.place c.in-Blocks.blocks c.next.new.self c.args.reader.now c.next.new.reader.left c.next.ensures.first c.next.ensures.given c.next.ensures.cut (rw c.in-Blocks.is at c.requires) c.next.ensures.counted c.next.ensures.inside p numbers bits lawful (rw c.in-Blocks.is at given) next at
+    blocks_given c.next.result c.args.z c.args.t c.args.place c.in-Blocks.blocks c.next.new.self c.args.reader.now c.next.new.reader.left c.next.ensures.given c.next.ensures.cut c.next.ensures.counted c.next.ensures.inside p numbers bits lawful (rw c.in-Blocks.is at given) next at
