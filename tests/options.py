@@ -98,7 +98,8 @@ USUAL = {
     "previous": 3, "mode": "full", "sums": "neighbour", "register": 64, "omega": 13, "interval": 64, "vmin": -1, "vmax": 3,
     "start": "usual", "umax": 16, "gamma-star": 6, "gamma-zero": 1, "k": 3, "header": 19,
 }
-SIZES = ["--columns", 4, "--rows", 2, "--bands", 3, "--bits", 12]
+SIZES = ["--columns", 4, "--rows", 2, "--bands", 3]
+BITS = ["--bits", 12]
 
 # What is asked for, and which lines then differ from the usual ones.
 ASKED = [
@@ -125,6 +126,13 @@ ASKED = [
     (["--gamma-star", 4], {"gamma-star": 4}),
     (["--k", 0], {"k": 0}),
     (["--k", 10], {"k": 10}),
+    (
+        ["--order", "bi", "--depth", 3, "--user", 7, "--word", 2, "--previous", 1, "--register", 40, "--omega", 9, "--interval-log", 5]
+        + ["--vmin-code", 4, "--vmax-code", 8, "--coder", "sample", "--umax", 9, "--gamma-star", 7, "--gamma-zero", 2, "--k", 5, "--block", 16]
+        + ["--reference", 9, "--predictors", 2, "--slots", 3, "--signed", "--reduced", "--column-sums", "--layout", "bip", "--bytes", 2, "--little"],
+        {"order": "bi 3", "user": 7, "word": 2, "previous": 1, "register": 40, "omega": 9, "interval": 32, "vmin": -2, "vmax": 2, "umax": 9}
+        | {"gamma-star": 7, "gamma-zero": 2, "k": 5, "sample": "signed", "mode": "reduced", "sums": "column"},
+    ),
 ]
 BLOCKS = [
     ([], {}),
@@ -133,6 +141,8 @@ BLOCKS = [
     (["--block", 64], {"block": 64}),
     (["--reference", 1], {"reference": 1}),
     (["--reference", 4096], {"reference": 4096}),
+    (["--bits", 4, "--restricted"], {"bits": 4, "restricted": "yes"}),
+    (["--bits", 2, "--restricted"], {"bits": 2, "restricted": "yes"}),
 ]
 
 
@@ -153,7 +163,8 @@ def options(room):
 
 def compared(room, words, fields):
     name = " ".join(map(str, words))
-    room.hold(name, room.run("compress", *SIZES, *words, "raw", "file"), (0, b"", ""))
+    bits = [] if "--bits" in words else BITS
+    room.hold(name, room.run("compress", *SIZES, *bits, *words, "raw", "file"), (0, b"", ""))
     room.hold(f"{name}, told", room.run("inspect", given=room.read("file")), (0, told(fields), ""))
     room.hold(f"{name}, expanded", room.run("expand", "file", "back"), (0, b"", ""))
     room.hold(f"{name}, expanded to its bytes", room.read("back"), bytes(48))

@@ -1,7 +1,7 @@
 """The body of a file (sections "The sample-adaptive coder", "The block-adaptive coder", "Body and end"): its residuals."""
 
 from .bits import Bits, Refusal
-from .header import HEADER_BYTES, header
+from .header import header
 
 
 def places(told):
@@ -16,11 +16,12 @@ def places(told):
 class Statistics:
     """The counter and the accumulator of a band."""
 
-    def __init__(self, told):
+    def __init__(self, told, band):
         self.told = told
         self.first = True
         self.counter = 1 << told.gamma_zero
-        self.accumulator = (3 * (1 << told.constant + 6) - 49) * self.counter // 128
+        constant = told.constant if told.constants is None else told.constants[band]
+        self.accumulator = (3 * (1 << constant + 6) - 49) * self.counter // 128
 
     def parameter(self):
         level = self.accumulator + 49 * self.counter // 128
@@ -57,7 +58,7 @@ def sample_body(told, bits):
     bands = {}
     numbers = []
     for place, (z, _, _) in enumerate(places(told)):
-        statistics = bands.setdefault(z, Statistics(told))
+        statistics = bands.setdefault(z, Statistics(told, z))
         number = word(told, statistics, bits, place)
         if statistics.first:
             statistics.first = False
@@ -109,9 +110,15 @@ class Block:
             raise Refusal(f"9 RunPastSegment {self.block}")
         return blocks
 
+    def identifier_width(self):
+        """How many bits tell an option; zero blocks and the second extension have one more."""
+        if self.told.restricted:
+            return 1 if self.told.bits == 2 else 2
+        return 3 if self.told.bits <= 8 else 4
+
     def read(self, left):
         """The values of the text, and how many blocks they are."""
-        width = 3 if self.told.bits <= 8 else 4
+        width = self.identifier_width()
         identifier = self.bits.take(width)
         if identifier == 0 and not self.bits.take(1):
             blocks = self.run(left)
@@ -153,7 +160,7 @@ def residuals(file):
     """The parameters, and the residuals in encoding order."""
     told = header(file)
     bits = Bits(file)
-    bits.at = 8 * HEADER_BYTES
+    bits.at = 8 * told.length
     if bits.left() < least_length(told):
         raise bits.ended()
     numbers = (block_body if told.block else sample_body)(told, bits)

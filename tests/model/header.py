@@ -4,22 +4,18 @@ from dataclasses import dataclass
 
 from .bits import Bits, Refusal
 
-HEADER_BYTES = 19
-"""A header without tables."""
-
-
 @dataclass
 class Parameters:
     """What a header says; `sizes` are columns, rows and bands."""
 
-    user: int
-    sizes: tuple
-    signed: bool
-    bits: int
-    depth: int
+    user: int = 0
+    sizes: tuple = (1, 1, 1)
+    signed: bool = False
+    bits: int = 0
+    depth: int = 0
     """How many bands are interleaved; 0 is band sequential order."""
-    word: int
-    block: bool
+    word: int = 0
+    block: bool = False
     previous: int = 0
     reduced: bool = False
     column: bool = False
@@ -33,12 +29,24 @@ class Parameters:
     gamma_zero: int = 0
     constant: int = 0
     size: int = 0
+    restricted: bool = False
     reference: int = 0
+    resolution: int = 0
+    weights: list = None
+    """The weight table, where there is one: a list of numbers for each band."""
+    constants: list = None
+    """The accumulator table, where there is one: a constant for each band."""
+    length: int = 0
+    """How many bytes of the header were read."""
 
     @property
     def count(self):
         columns, rows, bands = self.sizes
         return columns * rows * bands
+
+    def components(self, band):
+        """How many weights a band has."""
+        return min(band, self.previous) + (0 if self.reduced else 3)
 
     @property
     def least(self):
@@ -56,14 +64,19 @@ class Parameters:
 class Part:
     """One part of a header, whose fields are read one after another."""
 
-    def __init__(self, file, at, size):
-        if len(file) < at + size:
+    def __init__(self, file, told, size):
+        if len(file) < told.length + size:
             raise Refusal("1 ShortHeader")
         self.bits = Bits(file)
-        self.bits.at = 8 * at
+        self.bits.at = 8 * told.length
+        told.length += size
 
     def field(self, width):
         return self.bits.take(width)
+
+    def signed_field(self, width):
+        number = self.field(width)
+        return number - (1 << width) if number >> width - 1 else number
 
     def or_whole(self, width):
         """A number of which 0 stands for the power behind the greatest."""
@@ -83,28 +96,28 @@ def disagree(rule):
     return Refusal(f"4 Disagree {rule}")
 
 
-def image_part(file):
-    part = Part(file, 0, 12)
-    user = part.field(8)
-    sizes = tuple(part.or_whole(16) for _ in range(3))
-    signed = bool(part.field(1))
+def image_part(file, told):
+    part = Part(file, told, 12)
+    told.user = part.field(8)
+    told.sizes = tuple(part.or_whole(16) for _ in range(3))
+    told.signed = bool(part.field(1))
     part.reserved(2)
-    bits = part.or_whole(4)
-    if bits < 2:
-        raise out_of_range("DynamicRange", bits)
+    told.bits = part.or_whole(4)
+    if told.bits < 2:
+        raise out_of_range("DynamicRange", told.bits)
     sequential = part.field(1)
     depth = part.or_whole(16)
-    if not sequential and depth > sizes[2]:
+    if not sequential and depth > told.sizes[2]:
         raise disagree("DepthOverBands")
+    told.depth = 0 if sequential else depth
     part.reserved(2)
-    word = part.or_whole(3)
-    block = bool(part.field(1))
+    told.word = part.or_whole(3)
+    told.block = bool(part.field(1))
     part.reserved(10)
-    return Parameters(user, sizes, signed, bits, 0 if sequential else depth, word, block)
 
 
 def predictor_part(file, told):
-    part = Part(file, 12, 5)
+    part = Part(file, told, 5)
     part.reserved(2)
     told.previous = part.field(4)
     told.reduced = bool(part.field(1))
@@ -129,16 +142,49 @@ def predictor_part(file, told):
     if told.vmin > told.vmax:
         raise disagree("ExponentOrder")
     part.reserved(1)
-    if part.field(1):
-        raise out_of_range("WeightStart", 1)
-    if part.field(1):
+    custom = part.field(1)
+    table = part.field(1)
+    if table and not custom:
         raise disagree("DefaultWithTable")
-    if part.field(5):
+    if custom and not table:
+        raise Refusal("5 TableElsewhere")
+    told.resolution = part.field(5)
+    if not custom and told.resolution:
         raise disagree("DefaultWithResolution")
+    if custom and told.resolution < 3:
+        raise out_of_range("Resolution", told.resolution)
+    if told.resolution > told.omega + 3:
+        raise disagree("ResolutionOverOmega")
+    if table:
+        weight_table(file, told)
+
+
+def whole_bytes(bits):
+    """How many bytes so many bits take, and the bits that are left of them."""
+    size = -(-bits // 8)
+    return size, 8 * size - bits
+
+
+def weight_table(file, told):
+    counts = [told.components(band) for band in range(told.sizes[2])]
+    size, fill = whole_bytes(sum(counts) * told.resolution)
+    part = Part(file, told, size)
+    told.weights = [[part.signed_field(told.resolution) for _ in range(count)] for count in counts]
+    part.reserved(fill)
+
+
+def accumulator_table(file, told):
+    bands = told.sizes[2]
+    size, fill = whole_bytes(4 * bands)
+    part = Part(file, told, size)
+    told.constants = [part.field(4) for _ in range(bands)]
+    if max(told.constants) > told.bits - 2:
+        raise disagree("AccumulatorEntry")
+    part.reserved(fill)
 
 
 def sample_part(file, told):
-    part = Part(file, 17, 2)
+    part = Part(file, told, 2)
     told.umax = part.or_whole(5)
     if told.umax < 8:
         raise out_of_range("Umax", told.umax)
@@ -149,24 +195,29 @@ def sample_part(file, told):
     if told.gamma_star <= told.gamma_zero:
         raise disagree("CounterOrder")
     told.constant = part.field(4)
-    if part.field(1):
-        raise out_of_range("AccumulatorTable", 1)
-    if told.constant > told.bits - 2:
+    table = part.field(1)
+    if not table and told.constant > told.bits - 2:
         raise disagree("StartConstant")
+    if table and told.constant != 15:
+        raise disagree("ConstantWithTable")
+    if table:
+        accumulator_table(file, told)
 
 
 def block_part(file, told):
-    part = Part(file, 17, 2)
+    part = Part(file, told, 2)
     part.reserved(1)
     told.size = 8 << part.field(2)
-    if part.field(1):
-        raise out_of_range("Restricted", 1)
+    told.restricted = bool(part.field(1))
+    if told.restricted and told.bits > 4:
+        raise disagree("RestrictedOverFour")
     told.reference = part.or_whole(12)
 
 
 def header(file):
     """The parameters that a file's header says."""
-    told = image_part(file)
+    told = Parameters()
+    image_part(file, told)
     predictor_part(file, told)
     (block_part if told.block else sample_part)(file, told)
     return told
@@ -186,11 +237,14 @@ def inspected(told):
         "mode reduced" if told.reduced else "mode full",
         "sums column" if told.column else "sums neighbour",
         f"register {told.register}\nomega {told.omega}\ninterval {1 << told.interval_log}",
-        f"vmin {told.vmin}\nvmax {told.vmax}\nstart usual",
+        f"vmin {told.vmin}\nvmax {told.vmax}",
+        f"start table {told.resolution}" if told.weights is not None else "start usual",
     ]
     if told.block:
-        lines.append(f"block {told.size}\nrestricted no\nreference {told.reference}")
+        restricted = "yes" if told.restricted else "no"
+        lines.append(f"block {told.size}\nrestricted {restricted}\nreference {told.reference}")
     else:
-        lines.append(f"umax {told.umax}\ngamma-star {told.gamma_star}\ngamma-zero {told.gamma_zero}\nk {told.constant}")
-    lines.append(f"header {HEADER_BYTES}\n")
+        constant = "table" if told.constants is not None else told.constant
+        lines.append(f"umax {told.umax}\ngamma-star {told.gamma_star}\ngamma-zero {told.gamma_zero}\nk {constant}")
+    lines.append(f"header {told.length}\n")
     return "\n".join(lines)

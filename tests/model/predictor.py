@@ -38,6 +38,15 @@ class Predictor:
         return directional + [4 * self.samples[b, y, x] - self.sum_at(b, y, x) for b in below]
 
     def start(self, z):
+        """The weights that a band starts from."""
+        told = self.told
+        if told.weights is None:
+            return self.usual_start(z)
+        under = told.omega + 2 - told.resolution
+        ones = (1 << under) - 1 if under >= 0 else 0
+        return [(entry << under + 1) + ones for entry in told.weights[z]]
+
+    def usual_start(self, z):
         weights, weight = [], 7 << self.told.omega - 3
         for _ in range(min(z, self.told.previous)):
             weights.append(weight)

@@ -4,13 +4,12 @@ use Rattle.cube_core.specs.Shape.{InRange}
 use Rattle.header_bits.specs.declared.params.Params.{Params}
 use Rattle.header_bits.specs.declared.params.Coder.{Coder}
 use Rattle.header_bits.specs.declared.params.Coder.TheVariants.{Sample, Block}
-use Rattle.header_bits.specs.Reach.{Reach}
 use Rattle.header_bits.specs.Lawful.{IsLawful, IsCoder}
 use Rattle.block_adaptive.specs.Settings.{IsBlock, IsCut, AreForBlocks, coder_cut}
 
-by_coder : (reach : Reach) (p : Params) (n : ℕ) (coder : Coder) → InRange 2 16 p.kind.bits → IsCoder reach p coder → IsBlock coder → IsCut (coder_cut p.kind.bits n coder)
-by_coder reach p n (Block size restricted reference) b h s = record { bits = b; size = h.0; reference = h.2 }
-by_coder reach p n (Sample umax gamma_star gamma_zero start) b h s = absurd s
+by_coder : (p : Params) (n : ℕ) (coder : Coder) → InRange 2 16 p.kind.bits → IsCoder p coder → IsBlock coder → IsCut (coder_cut p.kind.bits n coder)
+by_coder p n (Block size restricted reference) b h s = record { bits = b; size = h.0; reference = h.2 }
+by_coder p n (Sample umax gamma_star gamma_zero start) b h s = absurd s
 
-pub for_blocks : (reach : Reach) (p : Params) → IsLawful reach p → IsBlock p.coder → AreForBlocks p
-for_blocks reach p h s = record { coder = s; lawful = by_coder reach p _ p.coder h.kind h.coder s }
+pub for_blocks : (p : Params) → IsLawful p → IsBlock p.coder → AreForBlocks p
+for_blocks p h s = record { coder = s; lawful = by_coder p _ p.coder h.kind h.coder s }

@@ -6,7 +6,6 @@ use Rattle.cube_core.specs.Shape.{sample_count}
 use Rattle.cube_core.specs.Image.{Image}
 use Rattle.cube_core.specs.Layout.{raw_bytes, HaveBytes}
 use Rattle.cube_core.specs.Raw.{IsBadSample}
-use Rattle.header_bits.specs.Reach.{here}
 use Rattle.header_bits.specs.Lawful.{IsLawful, params_fault}
 use Rattle.coder_pipe.specs.File.{file_of}
 use Rattle.coder_pipe.specs.Files.{IsCubeOf}
@@ -32,7 +31,7 @@ HasFile s left file = (c : Image) × HasCube s left c × (file ≡ file_of c s.p
 
 -- the parameters are lawful, and the sink gained the file of the source's cube
 abbrev pub Compresses : CompressSettings → Option (List ℕ) → Option (List ℕ) → Option (List ℕ) → Type 0
-Compresses s left old new = IsLawful here s.params × (file : List ℕ) × HasFile s left file × Took old new file
+Compresses s left old new = IsLawful s.params × (file : List ℕ) × HasFile s left file × Took old new file
 
 -- bytes are no cube's: their number is wrong, or one of their samples isn't of the kind
 abbrev pub IsBadRaw : CompressSettings → List ℕ → Fault → Type 0
@@ -48,6 +47,6 @@ IsCubeRefusal s left failures failures_now fault =
 -- why a run is refused: the parameters aren't lawful, or the source has no cube, and nothing was written; or the sink cut the file short
 abbrev pub IsCompressFault : CompressSettings → Option (List ℕ) → ℕ → ℕ → Option (List ℕ) → Option (List ℕ) → ℕ → ℕ → ℕ → ℕ → Fault → Type 0
 IsCompressFault s left read_failures read_failures_now old new failures failures_now stalls stalls_now fault =
-    ((params_fault here s.params ≡ Err fault) × (new ≡ old))
-    ⊎ ((IsLawful here s.params × IsCubeRefusal s left read_failures read_failures_now fault × (new ≡ old))
-    ⊎ ((file : List ℕ) × IsLawful here s.params × HasFile s left file × IsCutShort old new failures failures_now stalls stalls_now file fault))
+    ((params_fault s.params ≡ Err fault) × (new ≡ old))
+    ⊎ ((IsLawful s.params × IsCubeRefusal s left read_failures read_failures_now fault × (new ≡ old))
+    ⊎ ((file : List ℕ) × IsLawful s.params × HasFile s left file × IsCutShort old new failures failures_now stalls stalls_now file fault))

@@ -8,7 +8,6 @@ use Rattle.cube_core.specs.Layout.{raw_bytes, HaveBytes}
 use Rattle.cube_core.specs.Raw.{IsUnfit}
 use Rattle.header_bits.specs.declared.params.Params.{Params}
 use Rattle.header_bits.specs.Bits.{bits_of_bytes}
-use Rattle.header_bits.specs.Reach.{here}
 use Rattle.coder_pipe.specs.Files.{IsFile, file_test}
 use Rattle.command_devices.specs.Devices.{Took, IsAll}
 use Rattle.command_devices.specs.Reading.{IsReadRefusal}
@@ -16,7 +15,7 @@ use Rattle.command_devices.specs.Writing.{IsCutShort}
 
 -- the source has a file of this cube, of at most 2^40 bytes
 abbrev pub HasFileOf : Option (List ℕ) → Image → Type 0
-HasFileOf left c = (bytes : List ℕ) × (p : Params) × IsAll left bytes × (length bytes ≤ 2 ^ 40) × IsFile here bytes p c
+HasFileOf left c = (bytes : List ℕ) × (p : Params) × IsAll left bytes × (length bytes ≤ 2 ^ 40) × IsFile bytes p c
 
 -- the source has a file of a cube whose samples fit their bytes, and these are its raw bytes
 abbrev pub HasRaw : Layout → Option (List ℕ) → List ℕ → Type 0
@@ -28,7 +27,7 @@ Expands l left old new = (raw : List ℕ) × HasRaw l left raw × Took old new r
 
 -- the source has bytes, at most 2^40, that are no file, and this is their first fault
 abbrev pub HasNoFile : Option (List ℕ) → Fault → Type 0
-HasNoFile left fault = (bytes : List ℕ) × IsAll left bytes × (length bytes ≤ 2 ^ 40) × (file_test here (bits_of_bytes bytes) ≡ Err fault)
+HasNoFile left fault = (bytes : List ℕ) × IsAll left bytes × (length bytes ≤ 2 ^ 40) × (file_test (bits_of_bytes bytes) ≡ Err fault)
 
 -- the source has a file of a cube that has no raw bytes in this layout
 abbrev pub HasUnfit : Layout → Option (List ℕ) → Fault → Type 0

@@ -3,7 +3,6 @@ use Rattle.std.specs.Prelude.{◌≡◌, ◌⊎◌, ℕ, ◌^◌, ◌≤◌, Lis
 use Rattle.cube_core.specs.declared.fault.Fault.{Fault}
 use Rattle.header_bits.specs.declared.params.Params.{Params}
 use Rattle.header_bits.specs.Bits.{bits_of_bytes}
-use Rattle.header_bits.specs.Reach.{here}
 use Rattle.header_bits.specs.Header.{ReadsHeader}
 use Rattle.command_devices.specs.Devices.{Took, IsAll}
 use Rattle.command_devices.specs.Reading.{IsReadRefusal}
@@ -12,7 +11,7 @@ use Rattle.command_reports.specs.Lines.{header_lines}
 
 -- the source has bytes, at most 2^40, that begin with a header of these parameters, and of so many bytes
 abbrev pub HasHeader : Option (List ℕ) → Params → ℕ → Type 0
-HasHeader left p size = (bytes : List ℕ) × IsAll left bytes × (length bytes ≤ 2 ^ 40) × (size ≤ length bytes) × ReadsHeader here (bits_of_bytes bytes) (Ok (p, size))
+HasHeader left p size = (bytes : List ℕ) × IsAll left bytes × (length bytes ≤ 2 ^ 40) × (size ≤ length bytes) × ReadsHeader (bits_of_bytes bytes) (Ok (p, size))
 
 -- the source has a header, whose lines these are
 abbrev pub HasLines : Option (List ℕ) → List ℕ → Type 0
@@ -24,7 +23,7 @@ Inspects left old new = (text : List ℕ) × HasLines left text × Took old new 
 
 -- the source has bytes, at most 2^40, that begin with no header, and this is the first refusal
 abbrev pub HasNoHeader : Option (List ℕ) → Fault → Type 0
-HasNoHeader left fault = (bytes : List ℕ) × IsAll left bytes × (length bytes ≤ 2 ^ 40) × ReadsHeader here (bits_of_bytes bytes) (Err fault)
+HasNoHeader left fault = (bytes : List ℕ) × IsAll left bytes × (length bytes ≤ 2 ^ 40) × ReadsHeader (bits_of_bytes bytes) (Err fault)
 
 -- why there are no lines: nothing was read, or there is no header
 abbrev pub IsInspectRefusal : Option (List ℕ) → ℕ → ℕ → Fault → Type 0

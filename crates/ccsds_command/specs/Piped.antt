@@ -3,7 +3,6 @@ use Rattle.std.specs.Prelude.{◌≡◌, ◌⊎◌, ℕ, ◌%◌, ◌≤◌, ◌
 use Rattle.cube_core.specs.declared.fault.Fault.{Fault}
 use Rattle.cube_core.specs.Image.{Image}
 use Rattle.cube_core.specs.Order.{upto}
-use Rattle.header_bits.specs.Reach.{here}
 use Rattle.header_bits.specs.Lawful.{IsLawful, params_fault}
 use Rattle.coder_pipe.specs.Piping.{EndsEarly, MayStopPart}
 use Rattle.coder_pipe.specs.Plans.{Dealing, plan_fault}
@@ -34,8 +33,8 @@ EndedEarly may_stop gate s left fault = (c : Image) × HasCube s left c × EndsE
 -- or the sink cut the file short
 abbrev pub IsPipedFault : {G : Type 0} → (G → ℕ → ℕ → Bool) → G → CompressSettings → Option (List ℕ) → ℕ → ℕ → Option (List ℕ) → Option (List ℕ) → ℕ → ℕ → ℕ → ℕ → Fault → Type 0
 IsPipedFault may_stop gate s left read_failures read_failures_now old new failures failures_now stalls stalls_now fault =
-    ((params_fault here s.params ≡ Err fault) × (new ≡ old))
-    ⊎ ((IsLawful here s.params × HasNoPlan s fault × (new ≡ old))
-    ⊎ ((IsLawful here s.params × IsCubeRefusal s left read_failures read_failures_now fault × (new ≡ old))
-    ⊎ ((IsLawful here s.params × EndedEarly may_stop gate s left fault × (new ≡ old))
-    ⊎ ((file : List ℕ) × IsLawful here s.params × HasFile s left file × IsCutShort old new failures failures_now stalls stalls_now file fault))))
+    ((params_fault s.params ≡ Err fault) × (new ≡ old))
+    ⊎ ((IsLawful s.params × HasNoPlan s fault × (new ≡ old))
+    ⊎ ((IsLawful s.params × IsCubeRefusal s left read_failures read_failures_now fault × (new ≡ old))
+    ⊎ ((IsLawful s.params × EndedEarly may_stop gate s left fault × (new ≡ old))
+    ⊎ ((file : List ℕ) × IsLawful s.params × HasFile s left file × IsCutShort old new failures failures_now stalls stalls_now file fault))))

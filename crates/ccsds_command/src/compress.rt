@@ -3,7 +3,6 @@
 ghost use Rattle.std.specs.Prelude.{◌≡◌, ◌⊎◌, IfOk, IfErr, OnOk, Err};
 ghost use Rattle.cube_core.specs.declared.fault.Fault.{Fault as Refusal};
 ghost use Rattle.cube_core.specs.Layout.{IsLayout};
-ghost use Rattle.header_bits.specs.Reach.{here};
 ghost use Rattle.header_bits.specs.Lawful.{IsLawful, params_fault};
 ghost use Rattle.ccsds_command.specs.Compress.{Compresses, IsCompressFault, IsCubeRefusal, HasCube, HasFile, raw_limit};
 ghost use Rattle.command_devices.specs.Devices.{GaveWithin};
@@ -34,7 +33,7 @@ pub fn run_compress<S: Source, K: Sink>(
     settings: &CompressSettings,
 ) -> Result<(), Fault>
     requires { IsLayout settings.now.layout }
-    ensures checked { (fault : Refusal) → params_fault here settings.now.params ≡ Err fault → (result ≡ Err fault) × (source.new ≡ source.old) × (sink.new ≡ sink.old) }
+    ensures checked { (fault : Refusal) → params_fault settings.now.params ≡ Err fault → (result ≡ Err fault) × (source.new ≡ source.old) × (sink.new ≡ sink.old) }
     ensures compressed { OnOk result (Compresses settings.now (S.left source.old) (K.taken sink.old) (K.taken sink.new)) }
     ensures refused { IfErr result (IsCompressFault settings.now (S.left source.old) (S.failures source.old) (S.failures source.new) (K.taken sink.old) (K.taken sink.new) (K.failures sink.old) (K.failures sink.new) (K.stalls sink.old) (K.stalls sink.new)) }
     ensures worked { OnOk result ((S.failures source.new ≡ S.failures source.old) × (K.failures sink.new ≡ K.failures sink.old) × (K.stalls sink.new ≡ K.stalls sink.old)) }
@@ -53,7 +52,7 @@ fn file_of_source<S: Source>(
     source: &mut S,
     settings: &CompressSettings,
 ) -> Result<Vec<u8>, Fault>
-    requires lawful { IsLawful here settings.now.params }
+    requires lawful { IsLawful settings.now.params }
     requires layout { IsLayout settings.now.layout }
     ensures file { IfOk result (λ file. HasFile settings.now (S.left source.old) file.items) }
     ensures refused { IfErr result (IsCubeRefusal settings.now (S.left source.old) (S.failures source.old) (S.failures source.new)) }

@@ -1,7 +1,6 @@
 //! A file in, its header's fields out as lines of text.
 
 ghost use Rattle.std.specs.Prelude.{◌≡◌, ◌⊎◌, IfOk, IfErr, OnOk};
-ghost use Rattle.header_bits.specs.Reach.{here};
 ghost use Rattle.header_bits.specs.Lawful.{IsLawful};
 ghost use Rattle.command_devices.specs.Reading.{ToldAsRead, file_limit};
 ghost use Rattle.command_devices.specs.Writing.{IsWrite};
@@ -54,7 +53,7 @@ fn lines_of_source<S: Source>(alloc: Global, source: &mut S) -> Result<Vec<u8>, 
 /// The source's header: its parameters, and its length in bytes.
 fn header_of_source<S: Source>(alloc: Global, source: &mut S) -> Result<(Params, usize), Fault>
     ensures header { IfOk result (λ found. HasHeader (S.left source.old) found.0 found.1) }
-    ensures lawful { IfOk result (λ found. IsLawful here found.0) }
+    ensures lawful { IfOk result (λ found. IsLawful found.0) }
     ensures refused { IfErr result (IsInspectRefusal (S.left source.old) (S.failures source.old) (S.failures source.new)) }
     ensures worked { OnOk result (S.failures source.new ≡ S.failures source.old) }
     ensures told { IfErr result (ToldAsRead (S.failures source.old) (S.failures source.new)) }

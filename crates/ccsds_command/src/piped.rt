@@ -4,7 +4,6 @@ ghost use Rattle.std.specs.Prelude.{◌≡◌, ◌⊎◌, IfOk, IfErr, OnOk, Err
 ghost use Rattle.cube_core.specs.declared.fault.Fault.{Fault as Refusal};
 ghost use Rattle.cube_core.specs.declared.fault.Fault.TheVariants.{WantOfMemory};
 ghost use Rattle.cube_core.specs.Layout.{IsLayout};
-ghost use Rattle.header_bits.specs.Reach.{here};
 ghost use Rattle.header_bits.specs.Lawful.{IsLawful, params_fault};
 ghost use Rattle.ccsds_command.specs.Compress.{Compresses, IsCubeRefusal, HasFile, raw_limit};
 ghost use Rattle.ccsds_command.specs.Piped.{EndedEarly, HasNoPlan, IsPipedFault, are_in_range, deal_of, plan_of as planned};
@@ -39,7 +38,7 @@ pub fn run_piped<R: Threads + Wait + Sync, S: Source, K: Sink, G: Gate + Sync>(
     gate: &G,
 ) -> Result<(), Fault>
     requires { IsLayout settings.now.layout }
-    ensures checked { (fault : Refusal) → params_fault here settings.now.params ≡ Err fault → (result ≡ Err fault) × (source.new ≡ source.old) × (sink.new ≡ sink.old) }
+    ensures checked { (fault : Refusal) → params_fault settings.now.params ≡ Err fault → (result ≡ Err fault) × (source.new ≡ source.old) × (sink.new ≡ sink.old) }
     ensures compressed { OnOk result (Compresses settings.now (S.left source.old) (K.taken sink.old) (K.taken sink.new)) }
     ensures refused { IfErr result (IsPipedFault G.may_stop gate.now settings.now (S.left source.old) (S.failures source.old) (S.failures source.new) (K.taken sink.old) (K.taken sink.new) (K.failures sink.old) (K.failures sink.new) (K.stalls sink.old) (K.stalls sink.new)) }
     ensures worked { OnOk result ((S.failures source.new ≡ S.failures source.old) × (K.failures sink.new ≡ K.failures sink.old) × (K.stalls sink.new ≡ K.stalls sink.old)) }
@@ -55,7 +54,7 @@ pub fn run_piped<R: Threads + Wait + Sync, S: Source, K: Sink, G: Gate + Sync>(
 
 /// The plan of the settings.
 fn plan_of(alloc: Global, settings: &CompressSettings) -> Result<Plan, Fault>
-    requires { IsLawful here settings.now.params }
+    requires { IsLawful settings.now.params }
     ensures plan { IfOk result (λ plan. plan ≡ planned settings.now) }
     ensures refused { IfErr result (λ e. (e ≡ WantOfMemory) ⊎ HasNoPlan settings.now e) }
 {

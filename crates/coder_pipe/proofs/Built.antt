@@ -11,7 +11,6 @@ use Rattle.cube_core.specs.Order.{IsOrder, IsPlaceOf, places}
 use Rattle.cube_core.proofs.Bounds.{index_below, middle_inside}
 use Rattle.cube_core.proofs.Orders.{StandsAt, length-places}
 use Rattle.header_bits.specs.declared.params.Params.{Params}
-use Rattle.header_bits.specs.Reach.{Reach}
 use Rattle.header_bits.specs.Lawful.{IsLawful}
 use Rattle.predict_core.specs.Prediction.{scaled_prediction}
 use Rattle.predict_core.specs.Residual.{mapped, mapped_residual, residuals}
@@ -81,31 +80,31 @@ pub record Built (p : Params) (numbers : List ℕ) : Type 0 where
   pub cube : IsCubeOf p image
   pub same : residuals p image ≡ numbers
 
-pushed : (reach : Reach) (p : Params) (c : Image) (q : Place) (left : List Place) (n : ℕ) → IsLawful reach p → c.shape ≡ p.shape → q ∷ left ≡ drop (gone_count p (q ∷ left)) (places p.shape p.order) → (h : HasResidual p c q n)
+pushed : (p : Params) (c : Image) (q : Place) (left : List Place) (n : ℕ) → IsLawful p → c.shape ≡ p.shape → q ∷ left ≡ drop (gone_count p (q ∷ left)) (places p.shape p.order) → (h : HasResidual p c q n)
     → residuals_at p (put c q.z q.y q.x h.sample) (gone_by p left) ≡ residuals_at p c (gone_by p (q ∷ left)) ++ n ∷ []
-pushed reach p c q left n lawful shape is h =
+pushed p c q left n lawful shape is h =
     let goes = next_goes p q (q ∷ left) left lawful.order is refl in
     let stands : StandsAt p.shape p.order q (gone_count p (q ∷ left)) = subst (λ (k : ℕ). StandsAt p.shape p.order q k) goes.count goes.stands in
     let d : Image = put c q.z q.y q.x h.sample in
     ap (residuals_at p (put c q.z q.y q.x h.sample)) goes.gone
     ∙ residuals_push p (put c q.z q.y q.x h.sample) (gone_by p (q ∷ left)) q
     ∙ ap (λ (k : ℕ). residuals_at p (put c q.z q.y q.x h.sample) (gone_by p (q ∷ left)) ++ k ∷ []) h.residual
-    ∙ ap (λ (ns : List ℕ). ns ++ n ∷ []) (sym (residuals_kept reach p c q h.sample (q ∷ left) lawful shape stands))
+    ∙ ap (λ (ns : List ℕ). ns ++ n ∷ []) (sym (residuals_kept p c q h.sample (q ∷ left) lawful shape stands))
 
-build : (reach : Reach) (p : Params) → IsLawful reach p → (left : List Place) (c : Image) (rest : List ℕ) → left ≡ drop (gone_count p left) (places p.shape p.order) → IsCubeOf p c → length rest ≡ length left
+build : (p : Params) → IsLawful p → (left : List Place) (c : Image) (rest : List ℕ) → left ≡ drop (gone_count p left) (places p.shape p.order) → IsCubeOf p c → length rest ≡ length left
     → AllByRecursion (λ n. n < 2 ^ p.kind.bits) rest → Built p (residuals_at p c (gone_by p left) ++ rest)
-build reach p lawful [] c [] is cube long range = record { image = c; cube = cube; same = sym (residuals_whole p c lawful.order cube.shape) ∙ sym (append-nil (residuals_at p c (gone_by p []))) }
-build reach p lawful [] c (n ∷ ns) is cube long range = absurd (omega arith)
-build reach p lawful (q ∷ left) c [] is cube long range = absurd (omega arith)
-build reach p lawful (q ∷ left) c (n ∷ ns) is cube long range =
+build p lawful [] c [] is cube long range = record { image = c; cube = cube; same = sym (residuals_whole p c lawful.order cube.shape) ∙ sym (append-nil (residuals_at p c (gone_by p []))) }
+build p lawful [] c (n ∷ ns) is cube long range = absurd (omega arith)
+build p lawful (q ∷ left) c [] is cube long range = absurd (omega arith)
+build p lawful (q ∷ left) c (n ∷ ns) is cube long range =
     let goes = next_goes p q (q ∷ left) left lawful.order is refl in
     let stands : StandsAt c.shape p.order q (length (gone_by p (q ∷ left))) = subst (λ (s : Sizes). StandsAt s p.order q (length (gone_by p (q ∷ left)))) (sym cube.shape) goes.stands in
     let order : IsOrder c.shape p.order = subst (λ (s : Sizes). IsOrder s p.order) (sym cube.shape) lawful.order in
     let below : n < 2 ^ c.kind.bits = subst (λ (k : SampleKind). n < 2 ^ k.bits) (sym cube.kind) range.0 in
-    let h = has_residual p c q n (length (gone_by p (q ∷ left))) order (wide_of reach p c lawful cube.shape) cube.cube stands below in
+    let h = has_residual p c q n (length (gone_by p (q ∷ left))) order (wide_of p c lawful cube.shape) cube.cube stands below in
     let after : IsCubeOf p (put c q.z q.y q.x h.sample) = record { cube = put_cube c q h.sample cube.cube h.inside; shape = cube.shape; kind = cube.kind } in
-    let others = build reach p lawful left (put c q.z q.y q.x h.sample) ns goes.others after (omega arith) range.1 in
-    subst (Built p) (ap (λ (x : List ℕ). x ++ ns) (pushed reach p c q left n lawful cube.shape is h) ∙ append_assoc (residuals_at p c (gone_by p (q ∷ left))) (n ∷ []) ns) others
+    let others = build p lawful left (put c q.z q.y q.x h.sample) ns goes.others after (omega arith) range.1 in
+    subst (Built p) (ap (λ (x : List ℕ). x ++ ns) (pushed p c q left n lawful cube.shape is h) ∙ append_assoc (residuals_at p c (gone_by p (q ∷ left))) (n ∷ []) ns) others
 
 -- ---- from the first place on
 
@@ -115,9 +114,9 @@ middles p = record { shape = p.shape; kind = p.kind; samples = replicate (sample
 middle_range : (k : SampleKind) (n : ℕ) → IsSample k (smid k) → (i : ℕ) → i < length (replicate n (smid k)) → IsSample k (get_or (replicate n (smid k)) i (pos 0))
 middle_range k n s i lt = rw (get_or-replicate n i (smid k) (pos 0) (omega (arith, lt, length-replicate n (smid k)))) s
 
-middles_cube : (reach : Reach) (p : Params) → IsLawful reach p → IsCubeOf p (middles p)
+middles_cube : (p : Params) → IsLawful p → IsCubeOf p (middles p)
 unfolding middles
-middles_cube reach p lawful = record {
+middles_cube p lawful = record {
   cube = record {
     sizes = lawful.sizes;
     bits = lawful.kind;
@@ -129,11 +128,11 @@ middles_cube reach p lawful = record {
 }
 
 -- numbers in range, as many as there are samples, are the residuals of a cube
-pub built : (reach : Reach) (p : Params) (numbers : List ℕ) → IsLawful reach p → length numbers ≡ sample_count p.shape → AllByRecursion (λ n. n < 2 ^ p.kind.bits) numbers → Built p numbers
-built reach p numbers lawful long range =
+pub built : (p : Params) (numbers : List ℕ) → IsLawful p → length numbers ≡ sample_count p.shape → AllByRecursion (λ n. n < 2 ^ p.kind.bits) numbers → Built p numbers
+built p numbers lawful long range =
     let whole = length-places p.shape p.order lawful.order in
     let none : gone_count p (places p.shape p.order) ≡ 0 = omega (arith, whole) in
     let start : places p.shape p.order ≡ drop (gone_count p (places p.shape p.order)) (places p.shape p.order) = rw none refl in
-    let all = build reach p lawful (places p.shape p.order) (middles p) numbers start (middles_cube reach p lawful) (omega (arith, long, whole)) range in
+    let all = build p lawful (places p.shape p.order) (middles p) numbers start (middles_cube p lawful) (omega (arith, long, whole)) range in
     let nothing : residuals_at p (middles p) (gone_by p (places p.shape p.order)) ≡ [] = rw none refl in
     subst (λ (ns : List ℕ). Built p (ns ++ numbers)) nothing all

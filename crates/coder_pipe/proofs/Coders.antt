@@ -10,7 +10,6 @@ use Rattle.cube_core.proofs.Orders.{length-places}
 use Rattle.header_bits.specs.declared.params.Params.{Params}
 use Rattle.header_bits.specs.declared.params.Coder.{Coder}
 use Rattle.header_bits.specs.declared.params.Coder.TheVariants.{Sample, Block}
-use Rattle.header_bits.specs.Reach.{here}
 use Rattle.header_bits.specs.Lawful.{IsLawful}
 use Rattle.sample_adaptive.specs.Settings.{settings, coder_settings, IsSample}
 use Rattle.sample_adaptive.specs.Body.{sample_body, words_after, band_numbers}
@@ -141,7 +140,7 @@ cut_bits p c e = rw e (by_coder p.coder)
 -- ---- by either
 
 -- where fewer numbers were taken than there are samples, one more may be put
-pub may_put : (p : Params) (e : Encoder) (numbers : List ℕ) (bits : List Bool) (z number : ℕ) → IsLawful here p → HasTaken p e numbers bits → length numbers < sample_count p.shape → z < p.shape.bands → number < 2 ^ p.kind.bits → MayPut e z number
+pub may_put : (p : Params) (e : Encoder) (numbers : List ℕ) (bits : List Bool) (z number : ℕ) → IsLawful p → HasTaken p e numbers bits → length numbers < sample_count p.shape → z < p.shape.bands → number < 2 ^ p.kind.bits → MayPut e z number
 may_put p (Samples v) numbers bits z number lawful h few band range = (omega (arith, h.bands, band), rw h.depth range)
 may_put p (Blocks v) numbers bits z number lawful h few band range = (
   omega (arith, h.count, few, h.room.room),

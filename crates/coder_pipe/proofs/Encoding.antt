@@ -10,7 +10,6 @@ use Rattle.cube_core.specs.Image.{Image, IsCube}
 use Rattle.cube_core.specs.Order.{IsOrder, from, upto, places}
 use Rattle.cube_core.proofs.Orders.{length-places}
 use Rattle.header_bits.specs.declared.params.Params.{Params}
-use Rattle.header_bits.specs.Reach.{here}
 use Rattle.header_bits.specs.Lawful.{IsLawful}
 use Rattle.predict_core.specs.Following.{Learner}
 use Rattle.predict_core.specs.Residual.{residuals}
@@ -66,7 +65,7 @@ pub all_residuals : (p : Params) (c : Image) → IsOrder p.shape p.order → c.s
 all_residuals p c lawful shape = sym (own_is_part p c 0 [] shape) ∙ part_all (places p.shape p.order) (residuals p c) (length-all p c lawful shape ∙ sym (length-places p.shape p.order lawful))
 
 -- they may be taken by a coding end that has taken nothing
-pub may_take : (p : Params) (c : Image) (e : Ending) → IsLawful here p → IsSeen p c → IsCube c → HasCoded p e [] → MayTake e (own_residuals p c 0 [] p.order)
+pub may_take : (p : Params) (c : Image) (e : Ending) → IsLawful p → IsSeen p c → IsCube c → HasCoded p e [] → MayTake e (own_residuals p c 0 [] p.order)
 may_take p c e lawful seen cube coded = subst (MayTake e) (sym (all_residuals p c lawful.order seen.shape)) (record {
   params = p;
   numbers = [];

@@ -13,7 +13,6 @@ use Rattle.header_bits.specs.declared.params.Coder.{Coder}
 use Rattle.header_bits.specs.declared.params.Coder.TheVariants.{Sample, Block}
 use Rattle.header_bits.specs.Bits.{bits_of_bytes}
 use Rattle.header_bits.specs.Parts.{fine}
-use Rattle.header_bits.specs.Reach.{Reach}
 use Rattle.header_bits.specs.Lawful.{IsCoder}
 use Rattle.header_bits.specs.declared.params.CountStart.{CountStart}
 use Rattle.header_bits.specs.Header.{header_at, SpellsHeader}
@@ -110,9 +109,9 @@ block_read p count size reference restricted bits left sized least =
     subst (λ (k : ℕ). (block_body_at count (record { bits = p.kind.bits; restricted = restricted }) k reference (sample_count p.shape) bits >>= λ read. Ok read.1) ≡ Ok left → IsRead p (Block k restricted reference) bits left)
     (size_halved size sized) (even_read p count (size / 2) reference restricted bits left (omega (arith, size_least size sized)) least)
 
-body_read : (reach : Reach) (p : Params) (count : ℕ) (coder : Coder) (bits left : List Bool) → IsCoder reach p coder → IsOrder p.shape p.order → behind_by coder count p bits ≡ Ok left → IsRead p coder bits left
-body_read reach p count (Sample umax gamma_star gamma_zero start) bits left lawful order e = samples_read p count bits left umax gamma_star gamma_zero start order e
-body_read reach p count (Block size restricted reference) bits left lawful order e = block_read p count size reference restricted bits left lawful.0 lawful.2.0 e
+body_read : (p : Params) (count : ℕ) (coder : Coder) (bits left : List Bool) → IsCoder p coder → IsOrder p.shape p.order → behind_by coder count p bits ≡ Ok left → IsRead p coder bits left
+body_read p count (Sample umax gamma_star gamma_zero start) bits left lawful order e = samples_read p count bits left umax gamma_star gamma_zero start order e
+body_read p count (Block size restricted reference) bits left lawful order e = block_read p count size reference restricted bits left lawful.0 lawful.2.0 e
 
 -- ---- header, body and fill
 
@@ -120,14 +119,14 @@ passes_on : {X : Type 0} (b : Bool) (fault : Fault) (x y : X) → (refuse_if b f
 passes_on true fault x y e = absurd (cc)
 passes_on false fault x y e = ok_is x y e
 
-head_read : (reach : Reach) (bits : List Bool) (x : Params × List Bool) → head_at reach bits ≡ Ok x → header_at reach bits ≡ Ok x
+head_read : (bits : List Bool) (x : Params × List Bool) → head_at bits ≡ Ok x → header_at bits ≡ Ok x
 unfolding head_at
-head_read reach bits x e =
-    let a = bind_ok (header_at reach bits) (λ header. least_test (length bits) header.0 header.1 >> Ok header) x e in
+head_read bits x e =
+    let a = bind_ok (header_at bits) (λ header. least_test (length bits) header.0 header.1 >> Ok header) x e in
     a.1 ∙ ap (λ (y : Params × List Bool). Ok y) (passes_on _ _ a.0 x a.2)
 
-whole : (reach : Reach) (bytes : List ℕ) (p : Params) (header rest body left : List Bool) (c : Image) → IsCubeOf p c → IsBody p (residuals p c) body → SpellsHeader reach p header → bits_of_bytes bytes ≡ header ++ rest → rest ≡ body ++ left → fill_test p.word left ≡ fine → IsFile reach bytes p c
-whole reach bytes p header rest body left c cube coded spelt front behind filled =
+whole : (bytes : List ℕ) (p : Params) (header rest body left : List Bool) (c : Image) → IsCubeOf p c → IsBody p (residuals p c) body → SpellsHeader p header → bits_of_bytes bytes ≡ header ++ rest → rest ≡ body ++ left → fill_test p.word left ≡ fine → IsFile bytes p c
+whole bytes p header rest body left c cube coded spelt front behind filled =
     let zeros = passed p.word left filled in
     record {
       cube = cube;
@@ -142,12 +141,12 @@ whole reach bytes p header rest body left c cube coded spelt front behind filled
 
 pub fine_is_file : FineIsFile
 unfolding file_test body_test behind_body
-fine_is_file reach bytes e =
+fine_is_file bytes e =
     let bits : List Bool = bits_of_bytes bytes in
-    let a = bind_ok (head_at reach (bits_of_bytes bytes)) (λ header. body_test (length (bits_of_bytes bytes)) header.0 header.1) tt e in
-    let found = (header_exact reach).found a.0.0 (bits_of_bytes bytes) a.0.1 (head_read reach (bits_of_bytes bytes) a.0 a.1) in
-    let lawful = spelt_is_lawful reach a.0.0 found.0 found.1 in
+    let a = bind_ok (head_at (bits_of_bytes bytes)) (λ header. body_test (length (bits_of_bytes bytes)) header.0 header.1) tt e in
+    let found = header_exact.found a.0.0 (bits_of_bytes bytes) a.0.1 (head_read (bits_of_bytes bytes) a.0 a.1) in
+    let lawful = spelt_is_lawful a.0.0 found.0 found.1 in
     let b = bind_ok (behind_body (length (bits_of_bytes bytes)) a.0.0 a.0.1) (λ rest. fill_test a.0.0.word rest) tt a.2 in
-    let read = body_read reach a.0.0 (length (bits_of_bytes bytes)) a.0.0.coder a.0.1 b.0 lawful.coder lawful.order b.1 in
-    let made = built reach a.0.0 read.numbers lawful read.long read.range in
-    (a.0.0, made.image, lawful, whole reach bytes a.0.0 found.0 a.0.1 read.body b.0 made.image made.cube (subst (λ (ns : List ℕ). IsBody a.0.0 ns read.body) (sym made.same) read.coded) found.1 found.2 read.text b.2)
+    let read = body_read a.0.0 (length (bits_of_bytes bytes)) a.0.0.coder a.0.1 b.0 lawful.coder lawful.order b.1 in
+    let made = built a.0.0 read.numbers lawful read.long read.range in
+    (a.0.0, made.image, lawful, whole bytes a.0.0 found.0 a.0.1 read.body b.0 made.image made.cube (subst (λ (ns : List ℕ). IsBody a.0.0 ns read.body) (sym made.same) read.coded) found.1 found.2 read.text b.2)

@@ -6,30 +6,29 @@ use Rattle.header_bits.specs.declared.params.Coder.{Coder}
 use Rattle.header_bits.specs.declared.params.Coder.TheVariants.{Sample, Block}
 use Rattle.header_bits.specs.declared.params.CountStart.{CountStart}
 use Rattle.header_bits.specs.declared.params.CountStart.TheVariants.{Constant, Each}
-use Rattle.header_bits.specs.Reach.{Reach}
 use Rattle.header_bits.specs.Lawful.{IsLawful, IsCoder, IsCountStart}
 use Rattle.cube_core.specs.Shape.{InRange}
 use Rattle.sample_adaptive.specs.Statistics.{constant_of}
 use Rattle.sample_adaptive.specs.Settings.{IsSample, HasEntries, AreLawful, AreForSamples, coder_settings}
 
-entries : (reach : Reach) (p : Params) (start : CountStart) → IsCountStart reach p start → HasEntries p.shape.bands start
-entries reach p (Constant k) h = tt
-entries reach p (Each table) h = h.1
+entries : (p : Params) (start : CountStart) → IsCountStart p start → HasEntries p.shape.bands start
+entries p (Constant k) h = tt
+entries p (Each table) h = h.0
 
 all_at : {n : ℕ} (table : List ℕ) (z : ℕ) → AllByRecursion (λ v. v ≤ n) table → z < length table → slice_index table z ≤ n
 all_at [] z h lt = absurd (omega arith)
 all_at (x ∷ xs) zero h lt = h.0
 all_at (x ∷ xs) (suc z) h lt = all_at xs z h.1 (omega arith)
 
-constants : (reach : Reach) (p : Params) (start : CountStart) → 2 ≤ p.kind.bits → IsCountStart reach p start → (z : ℕ) → z < p.shape.bands → constant_of start z + 2 ≤ p.kind.bits
+constants : (p : Params) (start : CountStart) → 2 ≤ p.kind.bits → IsCountStart p start → (z : ℕ) → z < p.shape.bands → constant_of start z + 2 ≤ p.kind.bits
 unfolding constant_of
-constants reach p (Constant k) b h z lt = omega (arith, h)
-constants reach p (Each table) b h z lt = let below : slice_index table z ≤ p.kind.bits - 2 = all_at table z h.2 (omega (arith, h.1)) in omega (arith, below)
+constants p (Constant k) b h z lt = omega (arith, h)
+constants p (Each table) b h z lt = let below : slice_index table z ≤ p.kind.bits - 2 = all_at table z h.1 (omega (arith, h.0)) in omega (arith, below)
 
-by_coder : (reach : Reach) (p : Params) (coder : Coder) → InRange 2 16 p.kind.bits → IsCoder reach p coder → IsSample coder → AreLawful p.shape.bands (coder_settings p.kind.bits coder)
-by_coder reach p (Sample umax gamma_star gamma_zero start) b h s =
-    record { bits = b; umax = h.0; gamma_star = h.1; gamma_zero = h.2; order = h.3; entries = entries reach p start h.4; constants = constants reach p start b.0 h.4 }
-by_coder reach p (Block size restricted reference) b h s = absurd s
+by_coder : (p : Params) (coder : Coder) → InRange 2 16 p.kind.bits → IsCoder p coder → IsSample coder → AreLawful p.shape.bands (coder_settings p.kind.bits coder)
+by_coder p (Sample umax gamma_star gamma_zero start) b h s =
+    record { bits = b; umax = h.0; gamma_star = h.1; gamma_zero = h.2; order = h.3; entries = entries p start h.4; constants = constants p start b.0 h.4 }
+by_coder p (Block size restricted reference) b h s = absurd s
 
-pub for_samples : (reach : Reach) (p : Params) → IsLawful reach p → IsSample p.coder → AreForSamples p
-for_samples reach p h s = record { coder = s; lawful = by_coder reach p p.coder h.kind h.coder s }
+pub for_samples : (p : Params) → IsLawful p → IsSample p.coder → AreForSamples p
+for_samples p h s = record { coder = s; lawful = by_coder p p.coder h.kind h.coder s }

@@ -12,7 +12,6 @@ use Rattle.header_bits.specs.declared.params.Params.{Params}
 use Rattle.header_bits.specs.declared.params.Coder.{Coder}
 use Rattle.header_bits.specs.declared.params.Coder.TheVariants.{Sample, Block}
 use Rattle.header_bits.specs.Bits.{Unread}
-use Rattle.header_bits.specs.Reach.{here}
 use Rattle.header_bits.specs.Lawful.{IsLawful}
 use Rattle.header_bits.specs.Reading.{number_at, zeros_at}
 use Rattle.header_bits.proofs.Fronts.{bind_err, number_fault, zeros_fault, fault_is}
@@ -205,7 +204,7 @@ blocks_given (Err fault) z t place old new unread left gives kept counted inside
 
 -- ---- by either
 
-pub may_ask : (p : Params) (d : Decoder) (numbers : List ℕ) (bits : List Bool) (z : ℕ) → IsLawful here p → HasGiven p d numbers bits → length numbers < sample_count p.shape → z < p.shape.bands → MayAsk d z
+pub may_ask : (p : Params) (d : Decoder) (numbers : List ℕ) (bits : List Bool) (z : ℕ) → IsLawful p → HasGiven p d numbers bits → length numbers < sample_count p.shape → z < p.shape.bands → MayAsk d z
 may_ask p (Samples v) numbers bits z lawful h few band = omega (arith, h.0.bands, band)
 may_ask p (Blocks v) numbers bits z lawful h few band =
     omega (arith, h.count, few, h.room.room)
@@ -232,7 +231,7 @@ whole_blocks p (Block size restricted reference) v numbers bits s room is inside
       told = ap (λ (c : Cut). take (length numbers) (values_of (blocks_told c 0 h.texts))) (sym same) ∙ ap (take (length numbers)) h.told ∙ take_at numbers v.held (length numbers) refl;
     }
 
-pub given_whole : (p : Params) (d : Decoder) (numbers : List ℕ) (bits : List Bool) → IsLawful here p → HasGiven p d numbers bits → length numbers ≡ sample_count p.shape → IsBody p numbers bits
+pub given_whole : (p : Params) (d : Decoder) (numbers : List ℕ) (bits : List Bool) → IsLawful p → HasGiven p d numbers bits → length numbers ≡ sample_count p.shape → IsBody p numbers bits
 given_whole p (Samples v) numbers bits lawful h long =
     whole_sample p p.coder numbers bits h.0.coder (h.0.text ∙ ap (λ (ps : List Place). sample_body (settings p) ps numbers) (places_whole p numbers lawful.order long))
 given_whole p (Blocks v) numbers bits lawful h long =

@@ -10,7 +10,6 @@ use Rattle.header_bits.specs.declared.params.Coder.{Coder}
 use Rattle.header_bits.specs.declared.params.Coder.TheVariants.{Sample, Block}
 use Rattle.header_bits.specs.Bits.{bits_of}
 use Rattle.header_bits.specs.Parts.{fine}
-use Rattle.header_bits.specs.Reach.{Reach}
 use Rattle.header_bits.specs.Lawful.{IsLawful, IsCoder}
 use Rattle.header_bits.proofs.Numbers.{length-bits_of}
 use Rattle.sample_adaptive.specs.declared.code_word.Code.{Code}
@@ -43,20 +42,20 @@ words_long c gone before (p ∷ ps) (n ∷ ns) some long =
     let one = form_some code (form_of code n) deep in
     omega (arith, one, words_long c (gone ++ p ∷ []) (before ++ n ∷ []) ps ns some (omega arith), length-append (code_word code n) (words_after c (gone ++ p ∷ []) (before ++ n ∷ []) ps ns))
 
-by_coder_long : (reach : Reach) (p : Params) (coder : Coder) (numbers : List ℕ) (body : List Bool) → 2 ≤ p.kind.bits → IsCoder reach p coder → IsOrder p.shape p.order → length numbers ≡ sample_count p.shape → IsBodyBy coder p numbers body
+by_coder_long : (p : Params) (coder : Coder) (numbers : List ℕ) (body : List Bool) → 2 ≤ p.kind.bits → IsCoder p coder → IsOrder p.shape p.order → length numbers ≡ sample_count p.shape → IsBodyBy coder p numbers body
     → least_by coder (sample_count p.shape) ≤ length body
 unfolding sample_body
-by_coder_long reach p (Sample umax gamma_star gamma_zero start) numbers body deep lawful order long coded =
+by_coder_long p (Sample umax gamma_star gamma_zero start) numbers body deep lawful order long coded =
     let some : 1 ≤ (settings p).bits = omega (arith, settings_bits p) in
     let words = words_long (settings p) [] [] (places p.shape p.order) numbers some (long ∙ sym (length-places p.shape p.order order)) in
     omega (arith, words, ap length coded)
-by_coder_long reach p (Block size restricted reference) numbers body deep lawful order long coded =
+by_coder_long p (Block size restricted reference) numbers body deep lawful order long coded =
     let least = no_shorter_body (record { bits = p.kind.bits; restricted = restricted }) size reference numbers body (omega arith) (omega (arith, size_least size lawful.0)) lawful.2.0 coded in
     subst (λ (n : ℕ). 3 * segment_count n size reference ≤ length body) long least
 
 -- a body of as many numbers as there are samples is no shorter than the least length
-pub body_long : (reach : Reach) (p : Params) (numbers : List ℕ) (body : List Bool) → IsLawful reach p → length numbers ≡ sample_count p.shape → IsBody p numbers body → least_length p ≤ length body
-body_long reach p numbers body lawful long coded = by_coder_long reach p p.coder numbers body lawful.kind.0 lawful.coder lawful.order long coded
+pub body_long : (p : Params) (numbers : List ℕ) (body : List Bool) → IsLawful p → length numbers ≡ sample_count p.shape → IsBody p numbers body → least_length p ≤ length body
+body_long p numbers body lawful long coded = by_coder_long p p.coder numbers body lawful.kind.0 lawful.coder lawful.order long coded
 
 pub least_passes : (count : ℕ) (p : Params) (bits : List Bool) → least_length p ≤ length bits → least_test count p bits ≡ fine
 least_passes count p bits le = (let enough : ltb (length bits) (least_length p) ≡ false = le-ltb (length bits) (least_length p) le in rw enough refl)

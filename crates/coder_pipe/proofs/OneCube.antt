@@ -155,7 +155,7 @@ module _ (p : Params) (c d : Image) (lawful : IsOrder c.shape p.order) (wide : p
 
 pub one_cube : OneCube
 unfolding residuals
-one_cube reach p c d lawful a b e =
+one_cube p c d lawful a b e =
     let shape : c.shape ≡ d.shape = a.shape ∙ sym b.shape in
     let kind : c.kind ≡ d.kind = a.kind ∙ sym b.kind in
     let order : IsOrder c.shape p.order = subst (λ (s : Sizes). IsOrder s p.order) (sym a.shape) lawful.order in

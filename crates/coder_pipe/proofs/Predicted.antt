@@ -10,7 +10,6 @@ use Rattle.cube_core.specs.Shape.{Sizes, sample_count}
 use Rattle.cube_core.proofs.Lists.{length-from, get_or-from}
 use Rattle.cube_core.proofs.Orders.{length-places}
 use Rattle.header_bits.specs.declared.params.Params.{Params}
-use Rattle.header_bits.specs.Reach.{here}
 use Rattle.predict_core.specs.Residual.{residuals}
 use Rattle.coder_pipe.specs.File.{file_of, file_of_residuals}
 use Rattle.coder_pipe.specs.Files.{IsCubeOf, IsFile}
@@ -67,7 +66,7 @@ module _ (plan : Dealing) (c : Image) (lawful : IsPlan plan) (cube : IsCubeOf pl
     named = λ q f lt. ap (λ (d : Predicting). d.predictor) (feed_at c plan q f lt);
     whole = λ q f lt. ap (λ (d : Predicting). length (part_of d)) (feed_at c plan q f lt) ∙ part_share q (owners plan.deal plan.params) (residuals plan.params c) whole;
     range = λ q f lt. subst (λ (d : Predicting). All (λ n. n < 2 ^ plan.params.kind.bits) (part_of d)) (sym (feed_at c plan q f lt))
-        (all_at (2 ^ plan.params.kind.bits) (of q) (part_inside (2 ^ plan.params.kind.bits) q (owners plan.deal plan.params) (residuals plan.params c) (inside here plan.params c lawful.lawful cube)));
+        (all_at (2 ^ plan.params.kind.bits) (of q) (part_inside (2 ^ plan.params.kind.bits) q (owners plan.deal plan.params) (residuals plan.params c) (inside plan.params c lawful.lawful cube)));
   }
 
   lists : map part_of (feeds_from c plan) ≡ parts plan.predictors plan.deal plan.params c
@@ -79,7 +78,7 @@ module _ (plan : Dealing) (c : Image) (lawful : IsPlan plan) (cube : IsCubeOf pl
       record {
         carries = h.carries ∙ sym (map_twice carried part_of (feeds_from c plan)) ∙ ap (map carried) lists;
         made = made;
-        back = subst (λ bytes. IsFile here bytes plan.params c) (sym made) (chosen_is_file here plan.params c lawful.lawful cube);
+        back = subst (λ bytes. IsFile bytes plan.params c) (sym made) (chosen_is_file plan.params c lawful.lawful cube);
       }
 
   pub may_stop_part : {G : Type 0} (may_stop : G → ℕ → ℕ → Bool) (gate : G) (q n : ℕ) → MayStop may_stop gate part_of (feeds_from c plan) q n → MayStopPart may_stop gate plan c q n

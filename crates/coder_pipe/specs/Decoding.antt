@@ -7,7 +7,6 @@ use Rattle.cube_core.specs.Image.{Image}
 use Rattle.cube_core.specs.Shape.{sample_count}
 use Rattle.header_bits.specs.declared.params.Params.{Params}
 use Rattle.header_bits.specs.Bits.{Unread}
-use Rattle.header_bits.specs.Reach.{here}
 use Rattle.header_bits.specs.Lawful.{IsLawful}
 use Rattle.predict_core.specs.Residual.{residuals}
 use Rattle.block_adaptive.specs.Settings.{IsBlock, IsCutOf, cut_by}
@@ -55,7 +54,7 @@ GivesMore p new numbers bits unread left number =
 -- whatever numbers were given before: the next one is given, or the refusal is that of the body
 abbrev pub GivesNumber : ℕ → ℕ → ℕ → Result ℕ Fault → Decoder → Unread → Decoder → List Bool → Type 0
 GivesNumber z t place result old unread new left =
-    (p : Params) (numbers : List ℕ) (bits : List Bool) → IsLawful here p → HasGiven p old numbers bits → IsNumber p numbers z t → place ≡ length numbers
+    (p : Params) (numbers : List ℕ) (bits : List Bool) → IsLawful p → HasGiven p old numbers bits → IsNumber p numbers z t → place ≡ length numbers
     → MatchResult result (λ number. GivesMore p new numbers bits unread.left left number) (λ fault. behind_body unread.count p (bits ++ unread.left) ≡ Err fault)
 
 -- the bits begin with a body of the cube's residuals, and these are left
@@ -72,4 +71,4 @@ AnswersOr (Err e) p c = e ≡ WantOfMemory
 
 -- the bytes are a file of no parameters and no cube
 abbrev pub IsNoFile : List ℕ → Type 0
-IsNoFile bytes = (p : Params) (c : Image) → IsFile here bytes p c → ⊥
+IsNoFile bytes = (p : Params) (c : Image) → IsFile bytes p c → ⊥

@@ -5,7 +5,6 @@ use Rattle.cube_core.specs.Shape.{sample_count}
 use Rattle.cube_core.specs.Order.{IsOrder, places}
 use Rattle.header_bits.specs.declared.params.Params.{Params}
 use Rattle.header_bits.specs.Header.{header_of}
-use Rattle.header_bits.specs.Reach.{here}
 use Rattle.header_bits.specs.Lawful.{IsLawful}
 use Rattle.coder_pipe.specs.declared.encoder.Encoder.{Encoder}
 use Rattle.coder_pipe.specs.Coding.{HasTaken}
@@ -33,7 +32,7 @@ pub record HasCoded (p : Params) (e : Ending) (numbers : List ℕ) : Type 0 wher
 pub record MayCode (e : Ending) (number : ℕ) : Type 0 where
   pub params : Params
   pub numbers : List ℕ
-  pub lawful : IsLawful here params
+  pub lawful : IsLawful params
   pub coded : HasCoded params e numbers
   pub more : length numbers < sample_count params.shape
   pub range : number < 2 ^ params.kind.bits

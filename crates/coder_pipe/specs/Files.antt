@@ -10,7 +10,6 @@ use Rattle.header_bits.specs.declared.params.Params.{Params}
 use Rattle.header_bits.specs.declared.params.Coder.{Coder}
 use Rattle.header_bits.specs.declared.params.Coder.TheVariants.{Sample, Block}
 use Rattle.header_bits.specs.Bits.{bits_of_bytes}
-use Rattle.header_bits.specs.Reach.{Reach}
 use Rattle.header_bits.specs.Reading.{Reading}
 use Rattle.header_bits.specs.Header.{header_at, SpellsHeader}
 use Rattle.predict_core.specs.Residual.{residuals}
@@ -37,12 +36,12 @@ pub record IsCubeOf (p : Params) (c : Image) : Type 0 where
   pub kind : c.kind ≡ p.kind
 
 -- the bytes are a header of the parameters, a body of the cube's residuals, and fewer zeros than an output word has bits
-pub record IsFile (reach : Reach) (bytes : List ℕ) (p : Params) (c : Image) : Type 0 where
+pub record IsFile (bytes : List ℕ) (p : Params) (c : Image) : Type 0 where
   pub cube : IsCubeOf p c
   pub header : List Bool
   pub body : List Bool
   pub fill : ℕ
-  pub spelt : SpellsHeader reach p header
+  pub spelt : SpellsHeader p header
   pub coded : IsBody p (residuals p c) body
   pub few : fill < 8 * p.word
   pub text : bits_of_bytes bytes ≡ header ++ body ++ replicate fill false
@@ -71,9 +70,9 @@ unfoldable pub body_test : ℕ → Params → List Bool → Test
 body_test count p bits = behind_body count p bits >>= λ rest. fill_test p.word rest
 
 -- a header behind which there are as many bits as the shortest body has: its parameters and these bits, or the first refusal
-unfoldable pub head_at : Reach → Reading Params
-head_at reach bits = header_at reach bits >>= λ header. least_test (length bits) header.0 header.1 >> Ok header
+unfoldable pub head_at : Reading Params
+head_at bits = header_at bits >>= λ header. least_test (length bits) header.0 header.1 >> Ok header
 
 -- a file is refused for the first fault of its header, for too few bits behind it, and for the first fault of its body and of its fill
-unfoldable pub file_test : Reach → List Bool → Test
-file_test reach bits = head_at reach bits >>= λ header. body_test (length bits) header.0 header.1
+unfoldable pub file_test : List Bool → Test
+file_test bits = head_at bits >>= λ header. body_test (length bits) header.0 header.1

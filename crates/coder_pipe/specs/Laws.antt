@@ -6,7 +6,6 @@ use Rattle.cube_core.specs.Order.{IsOrder, places}
 use Rattle.header_bits.specs.declared.params.Params.{Params}
 use Rattle.header_bits.specs.Bits.{bits_of_bytes}
 use Rattle.header_bits.specs.Parts.{fine}
-use Rattle.header_bits.specs.Reach.{Reach}
 use Rattle.header_bits.specs.Lawful.{IsLawful}
 use Rattle.predict_core.specs.Residual.{residuals}
 use Rattle.coder_pipe.specs.Coding.{of_band}
@@ -16,30 +15,30 @@ use Rattle.coder_pipe.specs.Least.{least_length}
 
 -- the file that is written of a cube is a file of it
 abbrev pub ChosenIsFile : Type 0
-ChosenIsFile = (reach : Reach) (p : Params) (c : Image) → IsLawful reach p → IsCubeOf p c → IsFile reach (file_of c p) p c
+ChosenIsFile = (p : Params) (c : Image) → IsLawful p → IsCubeOf p c → IsFile (file_of c p) p c
 
 -- a file has no fault
 abbrev pub FileIsFine : Type 0
-FileIsFine = (reach : Reach) (bytes : List ℕ) (p : Params) (c : Image) → IsLawful reach p → IsFile reach bytes p c → file_test reach (bits_of_bytes bytes) ≡ fine
+FileIsFine = (bytes : List ℕ) (p : Params) (c : Image) → IsLawful p → IsFile bytes p c → file_test (bits_of_bytes bytes) ≡ fine
 
 -- bytes without a fault are a file
 abbrev pub FineIsFile : Type 0
-FineIsFile = (reach : Reach) (bytes : List ℕ) → file_test reach (bits_of_bytes bytes) ≡ fine → (p : Params) × (c : Image) × IsLawful reach p × IsFile reach bytes p c
+FineIsFile = (bytes : List ℕ) → file_test (bits_of_bytes bytes) ≡ fine → (p : Params) × (c : Image) × IsLawful p × IsFile bytes p c
 
 -- no file is shorter: behind its header there are as many bits as the shortest body has
 abbrev pub NoShorterFile : Type 0
 NoShorterFile =
-    (reach : Reach) (bytes : List ℕ) (p : Params) (c : Image) → IsLawful reach p → (f : IsFile reach bytes p c)
+    (bytes : List ℕ) (p : Params) (c : Image) → IsLawful p → (f : IsFile bytes p c)
     → length f.header + least_length p ≤ 8 * length bytes
 
 -- two cubes that have the same residuals are one
 abbrev pub OneCube : Type 0
-OneCube = (reach : Reach) (p : Params) (c d : Image) → IsLawful reach p → IsCubeOf p c → IsCubeOf p d → residuals p c ≡ residuals p d → c ≡ d
+OneCube = (p : Params) (c d : Image) → IsLawful p → IsCubeOf p c → IsCubeOf p d → residuals p c ≡ residuals p d → c ≡ d
 
 -- no bytes are a file of two pairs of parameters and cube
 abbrev pub OneFile : Type 0
 OneFile =
-    (reach : Reach) (bytes : List ℕ) (p q : Params) (c d : Image) → IsLawful reach p → IsFile reach bytes p c → IsFile reach bytes q d
+    (bytes : List ℕ) (p q : Params) (c d : Image) → IsLawful p → IsFile bytes p c → IsFile bytes q d
     → (p ≡ q) × (c ≡ d)
 
 -- before a place come as many numbers of its band as the band has places before it, row after row

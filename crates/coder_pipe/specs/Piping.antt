@@ -5,7 +5,6 @@ use Rattle.band_rings.specs.Lane.{Lane}
 use Rattle.cube_core.specs.declared.fault.Fault.{Fault}
 use Rattle.cube_core.specs.declared.fault.Fault.TheVariants.{WantOfMemory, SpawnRefused, Stopped}
 use Rattle.cube_core.specs.Image.{Image}
-use Rattle.header_bits.specs.Reach.{here}
 use Rattle.predict_core.specs.Residual.{residuals}
 use Rattle.coder_pipe.specs.File.{file_of_residuals, file_of}
 use Rattle.coder_pipe.specs.Files.{IsFile}
@@ -46,7 +45,7 @@ EndsEarly other At = ⊥
 pub record IsFileOf (plan : Dealing) (c : Image) (file : List ℕ) (lanes : List Lane) : Type 0 where
   pub carries : lanes ≡ map carried (parts plan.predictors plan.deal plan.params c)
   pub made : file ≡ file_of c plan.params
-  pub back : IsFile here file plan.params c
+  pub back : IsFile file plan.params c
 
 -- the gate may stop predictor q at its n-th residual, and its part has that residual
 abbrev pub MayStopPart : {G : Type 0} → (G → ℕ → ℕ → Bool) → G → Dealing → Image → ℕ → ℕ → Type 0

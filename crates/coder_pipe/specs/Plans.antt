@@ -7,7 +7,6 @@ use Rattle.cube_core.specs.Shape.{InRange}
 use Rattle.header_bits.specs.declared.params.Params.{Params}
 use Rattle.header_bits.specs.Lawful.{IsLawful, in_range_or}
 use Rattle.header_bits.specs.Parts.{fine}
-use Rattle.header_bits.specs.Reach.{here}
 use Rattle.coder_pipe.specs.Weave.{IsDeal}
 
 -- for which parameters; how many predictors; the predictor of each band; and the room of a lane
@@ -25,7 +24,7 @@ pub record MayPlan (predictors slots bands : ℕ) (deal : List ℕ) : Type 0 whe
 
 -- a plan for lawful parameters
 pub record IsPlan (d : Dealing) : Type 0 where
-  pub lawful : IsLawful here d.params
+  pub lawful : IsLawful d.params
   pub may : MayPlan d.predictors d.slots d.params.shape.bands d.deal
 
 -- ---- the first refusal

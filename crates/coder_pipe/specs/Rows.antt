@@ -9,7 +9,6 @@ use Rattle.header_bits.specs.declared.params.CountStart.TheVariants.{Constant, E
 use Rattle.header_bits.specs.Bits.{bits_of, bits_of_bytes}
 use Rattle.header_bits.specs.Rows.{common, unsigned}
 use Rattle.cube_core.specs.Steps.{Test}
-use Rattle.header_bits.specs.Reach.{here}
 use Rattle.coder_pipe.specs.File.{packed, file_of}
 use Rattle.coder_pipe.specs.Files.{file_test}
 
@@ -27,12 +26,12 @@ bytes n number = packed (bits_of (8 * n) number)
 
 -- the test of a file of so many bytes, told as one number
 abbrev pub test : ℕ → ℕ → Test
-test n number = file_test here (bits_of_bytes (bytes n number))
+test n number = file_test (bits_of_bytes (bytes n number))
 
 -- the tests of a file's first n bytes, of its first n + 1, and so on, so many of them
 abbrev pub tests_of_cuts : List ℕ → ℕ → ℕ → List Test
 tests_of_cuts file n zero = []
-tests_of_cuts file n (suc more) = file_test here (bits_of_bytes (take n file)) ∷ tests_of_cuts file (n + 1) more
+tests_of_cuts file n (suc more) = file_test (bits_of_bytes (take n file)) ∷ tests_of_cuts file (n + 1) more
 
 abbrev pub one_below : ℕ → ℕ → ℕ → Params
 one_below nx ny nz = record (common nx ny nz) { previous = 1 }
@@ -63,6 +62,10 @@ two_below = record (common 1 2 3) { previous = 2; omega = 4 }
 
 abbrev pub table_of : ℕ → ℤ → Params
 table_of q entry = record (one_below 1 2 2) { start = Table q (entry ∷ []) }
+
+-- a table without entries
+abbrev pub no_weights : Params
+no_weights = record (common 1 1 1) { start = Table 3 [] }
 
 abbrev pub coarse_table : ℕ → ℤ → Params
 coarse_table q entry = record (table_of q entry) { omega = 4 }

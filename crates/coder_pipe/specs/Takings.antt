@@ -3,7 +3,6 @@ use Rattle.std.specs.Prelude.{ℕ, ◌+◌, ◌^◌, ◌<◌, ◌≤◌, Bool, t
 use Rattle.std.specs.List.{AllByRecursion}
 use Rattle.cube_core.specs.Shape.{sample_count}
 use Rattle.header_bits.specs.declared.params.Params.{Params}
-use Rattle.header_bits.specs.Reach.{here}
 use Rattle.header_bits.specs.Lawful.{IsLawful}
 use Rattle.lane_workers.specs.Runs.{RunSending}
 use Rattle.coder_pipe.specs.Ends.{Ending, HasCoded}
@@ -25,7 +24,7 @@ pub record MaySend {G : Type 0} (s : RunSending G) (list : List ℕ) : Type 0 wh
 pub record MayTake (e : Ending) (list : List ℕ) : Type 0 where
   pub params : Params
   pub numbers : List ℕ
-  pub lawful : IsLawful here params
+  pub lawful : IsLawful params
   pub coded : HasCoded params e numbers
   pub more : length numbers + length list ≤ sample_count params.shape
   pub range : AllByRecursion (λ n. n < 2 ^ params.kind.bits) list

@@ -3,7 +3,6 @@
 ghost use Rattle.std.specs.Prelude.{◌≡◌, ℕ, Some, slice_get, vec_len, IfOk, IfErr};
 ghost use Rattle.cube_core.specs.declared.fault.Fault.TheVariants.{WantOfMemory};
 ghost use Rattle.cube_core.specs.Image.{Image};
-ghost use Rattle.header_bits.specs.Reach.{here};
 ghost use Rattle.header_bits.specs.Lawful.{IsLawful};
 ghost use Rattle.predict_core.specs.Following.{Learner};
 ghost use Rattle.coder_pipe.specs.Walked.{AreAlong};
@@ -15,7 +14,7 @@ use std::alloc::Global;
 
 /// The predictors of all bands, each before its first place.
 pub(crate) fn all_bands(alloc: Global, params: &Params) -> Result<Vec<Band>, Fault>
-    requires { IsLawful here params.now }
+    requires { IsLawful params.now }
     ensures len { IfOk result (λ bands. vec_len bands ≡ params.now.shape.bands) }
     ensures along { IfOk result (λ bands. (c : Image) → AreAlong params.now c 0 bands.items) }
     ensures first { IfOk result (λ bands. (z : ℕ) (b : Learner) → slice_get bands.items z ≡ Some b → b.place ≡ 0) }

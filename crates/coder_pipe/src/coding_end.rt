@@ -5,7 +5,6 @@ ghost use Rattle.cube_core.specs.declared.fault.Fault.TheVariants.{WantOfMemory}
 ghost use Rattle.cube_core.specs.Shape.{InRange};
 ghost use Rattle.header_bits.specs.declared.params.Params.{Params as Parameters};
 ghost use Rattle.header_bits.specs.Bits.{bits_of_bytes};
-ghost use Rattle.header_bits.specs.Reach.{here};
 ghost use Rattle.header_bits.specs.Lawful.{IsLawful};
 ghost use Rattle.coder_pipe.specs.Ends.{HasCoded, MayCode};
 ghost use Rattle.coder_pipe.specs.File.{filled, packed, file_of_residuals};
@@ -46,7 +45,7 @@ impl CodingEnd {
     ///
     /// `WantOfMemory` where the header's bytes aren't had, or the room for the statistics of all bands.
     pub(crate) fn new(alloc: Global, params: &Params) -> Result<CodingEnd, Fault>
-        requires { IsLawful here params.now }
+        requires { IsLawful params.now }
         ensures coded { IfOk result (λ end. HasCoded params.now end []) }
         ensures refused { IfErr result (λ e. e ≡ WantOfMemory) }
     {

@@ -7,8 +7,8 @@ ghost use Rattle.cube_core.specs.Shape.{InRange};
 ghost use Rattle.cube_core.specs.Image.{Image};
 ghost use Rattle.header_bits.specs.declared.params.Params.{Params as Parameters};
 ghost use Rattle.header_bits.specs.Bits.{bits_of_bytes};
-ghost use Rattle.header_bits.specs.Reach.{here};
 ghost use Rattle.header_bits.specs.Lawful.{IsLawful};
+ghost use Rattle.header_bits.specs.Header.{header_at, BeginsWithTable};
 ghost use Rattle.coder_pipe.specs.Files.{IsFile, behind_body, fill_test, head_at, file_test};
 ghost use Rattle.coder_pipe.specs.Decoding.{TakesCube, AnswersOr, IsNoFile};
 
@@ -25,18 +25,20 @@ use std::alloc::Global;
 
 /// The parameters and the cube of a file of at most 2^60 bytes.
 ///
-/// The refusals come in this order: those of the header, and `Truncated` where fewer bits stand behind
-/// it than the shortest body has, whatever memory there is; `WantOfMemory`; the first fault of the body
-/// in bit order, which is `Truncated`, `BadCode`, `BadOption` or `RunPastSegment`; `TooLong` where an
-/// output word's bits or more stand behind the body; `BadFill` where one of them is a one. `Truncated`
-/// names the number of the file's bits.
+/// The refusals come in this order: those of the header, whatever memory there is; `WantOfMemory` where
+/// the header holds tables and there is none for them; `Truncated` where fewer bits stand behind the
+/// header than the shortest body has; `WantOfMemory`; the first fault of the body in bit order, which is
+/// `Truncated`, `BadCode`, `BadOption` or `RunPastSegment`; `TooLong` where an output word's bits or more
+/// stand behind the body; `BadFill` where one of them is a one. So where the header holds no table, no
+/// memory is asked for up to the first `Truncated`. `Truncated` names the number of the file's bits.
 pub fn decode(alloc: Global, bytes: &[u8]) -> Result<(Params, Cube), Fault>
     requires { length bytes.now ≤ 2 ^ 60 }
-    ensures lawful { IfOk result (λ found. IsLawful here found.0) }
-    ensures file { IfOk result (λ found. IsFile here bytes.now found.0 found.1) }
-    ensures only { (p : Parameters) (c : Image) → IsFile here bytes.now p c → AnswersOr result p c }
-    ensures head { (e : Refusal) → head_at here (bits_of_bytes bytes.now) ≡ Err e → result ≡ Err e }
-    ensures fault { IfErr result (λ e. (e ≡ WantOfMemory) ⊎ (file_test here (bits_of_bytes bytes.now) ≡ Err e)) }
+    ensures lawful { IfOk result (λ found. IsLawful found.0) }
+    ensures file { IfOk result (λ found. IsFile bytes.now found.0 found.1) }
+    ensures only { (p : Parameters) (c : Image) → IsFile bytes.now p c → AnswersOr result p c }
+    ensures header { (e : Refusal) → header_at (bits_of_bytes bytes.now) ≡ Err e → result ≡ Err e }
+    ensures head { (e : Refusal) → head_at (bits_of_bytes bytes.now) ≡ Err e → (result ≡ Err e) ⊎ ((result ≡ Err WantOfMemory) × BeginsWithTable (bits_of_bytes bytes.now)) }
+    ensures fault { IfErr result (λ e. (e ≡ WantOfMemory) ⊎ (file_test (bits_of_bytes bytes.now) ≡ Err e)) }
     ensures none { IfErr result (λ e. (e ≡ WantOfMemory) ⊎ IsNoFile bytes.now) }
 {
     read_file(alloc, bytes)
@@ -45,10 +47,10 @@ pub fn decode(alloc: Global, bytes: &[u8]) -> Result<(Params, Cube), Fault>
 /// Reads header, body and fill, one after another; memory for the cube is asked for where there can be one.
 fn read_file(alloc: Global, bytes: &[u8]) -> Result<(Params, Cube), Fault>
     requires { length bytes.now ≤ 2 ^ 60 }
-    ensures lawful { IfOk result (λ found. IsLawful here found.0) }
-    ensures file { IfOk result (λ found. IsFile here bytes.now found.0 found.1) }
-    ensures head { (e : Refusal) → head_at here (bits_of_bytes bytes.now) ≡ Err e → result ≡ Err e }
-    ensures fault { IfErr result (λ e. (e ≡ WantOfMemory) ⊎ (file_test here (bits_of_bytes bytes.now) ≡ Err e)) }
+    ensures lawful { IfOk result (λ found. IsLawful found.0) }
+    ensures file { IfOk result (λ found. IsFile bytes.now found.0 found.1) }
+    ensures head { (e : Refusal) → head_at (bits_of_bytes bytes.now) ≡ Err e → (result ≡ Err e) ⊎ ((result ≡ Err WantOfMemory) × BeginsWithTable (bits_of_bytes bytes.now)) }
+    ensures fault { IfErr result (λ e. (e ≡ WantOfMemory) ⊎ (file_test (bits_of_bytes bytes.now) ≡ Err e)) }
 {
     let (params, size) = read_header(alloc, bytes)?;
     let mut reader = reader_behind(bytes, size);
@@ -74,7 +76,7 @@ fn reader_behind(bytes: &[u8], size: usize) -> BitReader<'_>
 
 /// The cube whose body stands next.
 fn take_cube(alloc: Global, params: &Params, reader: &mut BitReader) -> Result<Cube, Fault>
-    requires { IsLawful here params.now }
+    requires { IsLawful params.now }
     ensures taken { IfOk result (λ cube. TakesCube params.now cube reader.old.left reader.new.left) }
     ensures refused { IfErr result (λ e. (e ≡ WantOfMemory) ⊎ (behind_body reader.old.count params.now reader.old.left ≡ Err e)) }
     ensures count { reader.new.count ≡ reader.old.count }

@@ -3,7 +3,6 @@
 ghost use Rattle.std.specs.Prelude.{◌≡◌, [], Err, Some, IsOk, IfOk, IfErr, OnErr};
 ghost use Rattle.cube_core.specs.declared.fault.Fault.{Fault as Refusal};
 ghost use Rattle.cube_core.specs.declared.fault.Fault.TheVariants.{WantOfMemory};
-ghost use Rattle.header_bits.specs.Reach.{here};
 ghost use Rattle.header_bits.specs.Lawful.{IsLawful};
 ghost use Rattle.block_adaptive.specs.Settings.{IsBlock};
 ghost use Rattle.coder_pipe.specs.Decoding.{HasGiven, MayAsk, GivesNumber, placed_at, refusal_at};
@@ -28,7 +27,7 @@ impl Decoder {
     /// `WantOfMemory` where there is none for the statistics of all bands; the block-adaptive coder
     /// takes none.
     pub fn new(alloc: Global, params: &Params) -> Result<Decoder, Fault>
-        requires { IsLawful here params.now }
+        requires { IsLawful params.now }
         ensures given { IfOk result (λ coder. HasGiven params.now coder [] []) }
         ensures refused { IfErr result (λ e. e ≡ WantOfMemory) }
         ensures blocks { IsBlock params.now.coder → IsOk result }

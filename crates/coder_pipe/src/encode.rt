@@ -2,7 +2,6 @@
 
 ghost use Rattle.std.specs.Prelude.{◌≡◌, IfOk, IfErr};
 ghost use Rattle.cube_core.specs.declared.fault.Fault.TheVariants.{WantOfMemory};
-ghost use Rattle.header_bits.specs.Reach.{here};
 ghost use Rattle.header_bits.specs.Lawful.{IsLawful};
 ghost use Rattle.coder_pipe.specs.File.{file_of};
 
@@ -18,7 +17,7 @@ use std::alloc::Global;
 ///
 /// `WantOfMemory` where the bytes aren't had, or the room for what the bands learn.
 pub fn encode_one(alloc: Global, cube: &Cube, params: &Params) -> Result<Vec<u8>, Fault>
-    requires lawful { IsLawful here params.now }
+    requires lawful { IsLawful params.now }
     requires shape { cube.now.shape ≡ params.now.shape }
     requires kind { cube.now.kind ≡ params.now.kind }
     ensures file { IfOk result (λ bytes. bytes.items ≡ file_of cube.now params.now) }

@@ -2,7 +2,6 @@
 
 ghost use Rattle.std.specs.Prelude.{◌≡◌, [], IsOk, IfOk, IfErr, OnOk, OnErr};
 ghost use Rattle.cube_core.specs.declared.fault.Fault.TheVariants.{WantOfMemory};
-ghost use Rattle.header_bits.specs.Reach.{here};
 ghost use Rattle.header_bits.specs.Lawful.{IsLawful};
 ghost use Rattle.block_adaptive.specs.Settings.{IsBlock};
 ghost use Rattle.coder_pipe.specs.Coding.{HasTaken, MayPut, MayGrow, MayGrowAtEnd, PutsNumber, EndsBody};
@@ -27,7 +26,7 @@ impl Encoder {
     /// `WantOfMemory` where there is none for the statistics of all bands; the block-adaptive coder
     /// takes none.
     pub fn new(alloc: Global, params: &Params) -> Result<Encoder, Fault>
-        requires { IsLawful here params.now }
+        requires { IsLawful params.now }
         ensures taken { IfOk result (λ coder. HasTaken params.now coder [] []) }
         ensures refused { IfErr result (λ e. e ≡ WantOfMemory) }
         ensures blocks { IsBlock params.now.coder → IsOk result }

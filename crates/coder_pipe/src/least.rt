@@ -1,7 +1,6 @@
 //! The fewest bits that a body has.
 
 ghost use Rattle.std.specs.Prelude.{◌≡◌};
-ghost use Rattle.header_bits.specs.Reach.{here};
 ghost use Rattle.header_bits.specs.Lawful.{IsLawful};
 ghost use Rattle.coder_pipe.specs.Least.{least_length as fewest_bits, least_test};
 
@@ -13,7 +12,7 @@ use header_bits::params::{Coder, Params};
 /// The fewest bits that a body by lawful parameters has: one for each sample, or three for each segment
 /// of their blocks. It takes no memory.
 pub fn least_length(params: &Params) -> u64
-    requires { IsLawful here params.now }
+    requires { IsLawful params.now }
     ensures { result ≡ fewest_bits params.now }
 {
     let samples = params.shape.sample_count();
@@ -30,7 +29,7 @@ pub fn least_length(params: &Params) -> u64
 /// Tests that as many bits are left as the shortest body has, whatever they are: else the file is
 /// `Truncated`.
 pub(crate) fn test_length(params: &Params, reader: &BitReader) -> Result<(), Fault>
-    requires { IsLawful here params.now }
+    requires { IsLawful params.now }
     ensures { result ≡ least_test reader.now.count params.now reader.now.left }
 {
     if reader.left() < least_length(params) {

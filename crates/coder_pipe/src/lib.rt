@@ -23,6 +23,8 @@ pub mod worked;
 pub mod worked_least;
 pub mod worked_parts;
 pub mod worked_refusals;
+pub mod worked_restricted;
+pub mod worked_tables;
 
 pub use lane_workers::feed::{Feed, LaneEnd};
 pub use lane_workers::gate::{Gate, OpenGate};

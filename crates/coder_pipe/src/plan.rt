@@ -2,7 +2,6 @@
 
 ghost use Rattle.std.specs.Prelude.{◌≡◌, ◌⊎◌, ◌+◌, ◌<◌, ◌^◌, ◌↔◌, drop, length, slice_index, IfOk, IfErr, OnOk, OnErr};
 ghost use Rattle.cube_core.specs.declared.fault.Fault.TheVariants.{WantOfMemory};
-ghost use Rattle.header_bits.specs.Reach.{here};
 ghost use Rattle.header_bits.specs.Lawful.{IsLawful, in_range_or};
 ghost use Rattle.header_bits.specs.Parts.{fine};
 ghost use Rattle.coder_pipe.specs.Plans.{IsPlan, MayPlan, owner_fault, length_fault, plan_fault};
@@ -42,7 +41,8 @@ impl Plan {
     /// There are 1 to 64 predictors and 1 to 65,536 slots; else the answer is `FieldRange` of
     /// `Predictors`, then of `Slots`. `BadDeal` names the first band that is dealt to no predictor; where
     /// there is none and the deal has not one entry for each band, it names the first band that one of
-    /// the two lacks. `WantOfMemory` comes only behind these.
+    /// the two lacks. `WantOfMemory` comes only behind these, where there is none for the deal or for the
+    /// tables of the parameters, which the plan holds once more.
     pub fn new(
         alloc: Global,
         params: &Params,
@@ -50,7 +50,7 @@ impl Plan {
         deal: &[u8],
         slots: u32,
     ) -> Result<Plan, Fault>
-        requires { IsLawful here params.now }
+        requires { IsLawful params.now }
         ensures plan { IfOk result (λ plan. plan ≡ record { params = params.now; predictors = predictors; deal = deal.now; slots = slots }) }
         ensures may { OnOk result (MayPlan predictors slots params.now.shape.bands deal.now) }
         ensures refused { IfErr result (λ e. ((e ≡ WantOfMemory) × MayPlan predictors slots params.now.shape.bands deal.now) ⊎ (plan_fault predictors slots params.now.shape.bands deal.now ≡ Err e)) }
@@ -67,7 +67,7 @@ impl Plan {
         deal: &[u8],
         slots: u32,
     ) -> Result<Plan, Fault>
-        requires lawful { IsLawful here params.now }
+        requires lawful { IsLawful params.now }
         requires may { MayPlan predictors slots params.now.shape.bands deal.now }
         ensures plan { IfOk result (λ plan. plan ≡ record { params = params.now; predictors = predictors; deal = deal.now; slots = slots }) }
         ensures refused { IfErr result (λ e. e ≡ WantOfMemory) }

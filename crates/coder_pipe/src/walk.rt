@@ -4,7 +4,6 @@ ghost use Rattle.std.specs.Prelude.{◌≡◌, ◌+◌, ◌*◌, ◌-◌, ◌^�
 ghost use Rattle.std.specs.List.{flat_map};
 ghost use Rattle.cube_core.specs.Order.{IsOrder, from, upto, group, group_count};
 ghost use Rattle.cube_core.specs.declared.order.Order.TheVariants.{Bi};
-ghost use Rattle.header_bits.specs.Reach.{here};
 ghost use Rattle.header_bits.specs.Lawful.{IsLawful};
 ghost use Rattle.coder_pipe.specs.Own.{own, row_of, rows_of, line_of, own_residuals};
 ghost use Rattle.coder_pipe.specs.Sends.{IsSeen, AreAt, AreFresh, bands_of};
@@ -239,7 +238,7 @@ pub(crate) fn send_own<R, T: Taker<R>>(
     taker: &mut T,
 ) -> bool
     requires image { IsSeen params.now cube.now }
-    requires lawful { IsLawful here params.now }
+    requires lawful { IsLawful params.now }
     requires bands { AreFresh params.now predictor deal.now cube.now bands.old }
     requires may { T.may taker.old (own_residuals params.now cube.now predictor deal.now params.now.order) }
     ensures { T.takes taker.old taker.new result (own_residuals params.now cube.now predictor deal.now params.now.order) }

@@ -3,7 +3,6 @@
 ghost use Rattle.std.specs.Prelude.{◌≡◌, ◌++◌, ◌≤◌, ◌^◌, ℕ, List, Some, IfOk, IfErr, OnOk, string_bytes};
 ghost use Rattle.std.specs.Fmt.{signed_decimal};
 ghost use Rattle.cube_core.specs.declared.fault.Fault.TheVariants.{WantOfMemory};
-ghost use Rattle.header_bits.specs.Reach.{here};
 ghost use Rattle.header_bits.specs.Lawful.{IsLawful};
 ghost use Rattle.command_reports.specs.Lines.{line, choice, coder_text, order_text, start_text, constant_text, image_lines, predictor_lines, coder_lines, header_lines as lines_of};
 
@@ -15,7 +14,7 @@ use std::fmt::Display;
 
 /// A line for each field of a header with these parameters and so many bytes.
 pub fn header_lines(alloc: Global, params: &Params, size: usize) -> Result<Vec<u8>, Fault>
-    requires { IsLawful here params.now }
+    requires { IsLawful params.now }
     ensures lines { IfOk result (λ text. text.items ≡ lines_of params.now size) }
     ensures refused { IfErr result (λ e. e ≡ WantOfMemory) }
 {
@@ -47,7 +46,7 @@ fn put_image(alloc: Global, text: &mut String, params: &Params) -> Result<(), Fa
 
 /// Appends what the predictor part says.
 fn put_predictor(alloc: Global, text: &mut String, params: &Params) -> Result<(), Fault>
-    requires { IsLawful here params.now }
+    requires { IsLawful params.now }
     ensures lines { OnOk result (string_bytes text.new ≡ string_bytes text.old ++ predictor_lines params.now) }
     ensures refused { IfErr result (λ e. e ≡ WantOfMemory) }
 {

@@ -1,15 +1,14 @@
 -- Words that ask for a command, and words that ask for none.
-use Rattle.std.proofs.Common.{◌≡◌, ◌∙◌, ◌⊎◌, ◌≤◌, ℕ, List, [], Bool, true, Result, Ok, Err, IfErr, IsErrAnd, inl, inr, refl, sym, ap, subst, length, slice_index_or, codes, string_bytes, String, Global, arith}
+use Rattle.std.proofs.Common.{◌≡◌, ◌∙◌, ◌⊎◌, ℕ, List, [], Result, IfErr, IsErrAnd, inl, inr, sym, slice_index_or, codes, String, Global}
 use Rattle.clap.specs.Simple.{matches_of}
 use Rattle.cube_core.specs.declared.fault.Fault.{Fault}
 use Rattle.cube_core.specs.declared.fault.Fault.TheVariants.{Usage, WantOfMemory}
 use Rattle.cube_core.specs.declared.layout.Layout.{Layout}
 use Rattle.command_settings.specs.declared.settings.CompressSettings.{CompressSettings}
-use Rattle.command_settings.specs.declared.settings.Settings.{Settings}
 use Rattle.command_settings.specs.declared.settings.Settings.TheVariants.{Show, Compress, Expand, Inspect}
 use Rattle.command_words.specs.Options.{compress_app, expand_app}
 use Rattle.command_words.specs.Settings.{AreInRange}
-use Rattle.command_words.specs.Words.{AreCompressed, AreExpanded, AreTaken, Ask, AskForNone, BeginWith}
+use Rattle.command_words.specs.Words.{AreCompressed, AreExpanded, AreTaken, AskForNone, BeginWith}
 use Rattle.command_words.proofs.Refused.{passed}
 
 -- two words that aren't the same don't both come first

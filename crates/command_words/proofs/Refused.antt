@@ -1,5 +1,5 @@
 -- Why there are no lawful settings, from the option that has no lawful value.
-use Rattle.std.proofs.Common.{◌≡◌, ◌∙◌, ◌≤◌, ℕ, ℤ, pos, List, Result, Ok, Err, IfErr, IsErrAnd, arith, codes, subst, sym}
+use Rattle.std.proofs.Common.{◌≡◌, ◌∙◌, ◌≤◌, ℕ, ℤ, List, Result, Ok, Err, IfErr, IsErrAnd, arith, codes, subst, sym}
 use Rattle.std.proofs.lemmas.Int.{ints}
 use Rattle.header_bits.specs.declared.params.CountStart.TheVariants.{Constant}
 use Rattle.cube_core.specs.declared.fault.Fault.{Fault}
@@ -56,4 +56,4 @@ no_size rows none (coder.Block size restricted reference) of range = none size o
 
 pub no_reference : (rows : List Row) → HasNone rows (codes "reference") 1 4096 → (c : Coder) → IsBlockOf rows c → ¬ (IsCoderInRange c)
 no_reference rows none (coder.Sample umax gamma_star gamma_zero start) of range = of
-no_reference rows none (coder.Block size restricted reference) of range = none reference of.1 range.2
+no_reference rows none (coder.Block size restricted reference) of range = none reference of.2 range.1

@@ -34,7 +34,7 @@ options =
     ∷ (codes "predictors", codes "0") ∷ (codes "slots", codes "1024") ∷ []
 
 unfoldable pub flags : List Text
-flags = codes "signed" ∷ codes "reduced" ∷ codes "column-sums" ∷ []
+flags = codes "signed" ∷ codes "reduced" ∷ codes "column-sums" ∷ codes "restricted" ∷ []
 
 -- the image, and how it is predicted and coded
 unfoldable pub image_rules : List Rule

@@ -80,7 +80,8 @@ IsSampleOf rows (coder.Block size restricted reference) = ⊥
 -- those of the block-adaptive coder
 abbrev pub IsBlockOf : List Row → Coder → Type 0
 IsBlockOf rows (coder.Sample umax gamma_star gamma_zero start) = ⊥
-IsBlockOf rows (coder.Block size restricted reference) = HasNumber rows (codes "block") size × HasNumber rows (codes "reference") reference
+IsBlockOf rows (coder.Block size restricted reference) =
+    HasNumber rows (codes "block") size × HasFlag rows (codes "restricted") restricted × HasNumber rows (codes "reference") reference
 
 -- the options of both coders are lawful, and the coder that is named has its own
 pub record IsCoderOf (rows : List Row) (c : Coder) : Type 0 where

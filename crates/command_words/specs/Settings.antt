@@ -1,5 +1,5 @@
 -- The ranges of what a command line asks for.
-use Rattle.std.specs.Prelude.{◌≡◌, ◌≢◌, ℕ, ◌≤◌, false, string_bytes}
+use Rattle.std.specs.Prelude.{◌≡◌, ◌≢◌, ℕ, ◌≤◌, string_bytes}
 use Rattle.cube_core.specs.declared.order.Order.{Order}
 use Rattle.cube_core.specs.declared.order.Order.TheVariants.{Bsq, Bi}
 use Rattle.cube_core.specs.Shape.{AreSizes, InRange}
@@ -19,11 +19,11 @@ abbrev pub IsDepth : Order → Type 0
 IsDepth Bsq = Unit {0}
 IsDepth (Bi depth) = InRange 1 65536 depth
 
--- each of a coder's parameters is in its own range; no table is told, and no restricted set
+-- each of a coder's parameters is in its own range; no table is told
 abbrev pub IsCoderInRange : Coder → Type 0
 IsCoderInRange (coder.Sample umax gamma_star gamma_zero start) =
     InRange 8 32 umax × InRange 4 9 gamma_star × InRange 1 8 gamma_zero × (k : ℕ) × (start ≡ Constant k) × (k ≤ 14)
-IsCoderInRange (coder.Block size restricted reference) = IsBlockSize size × (restricted ≡ false) × InRange 1 4096 reference
+IsCoderInRange (coder.Block size restricted reference) = IsBlockSize size × InRange 1 4096 reference
 
 -- each parameter is in its own range
 pub record AreParams (p : Params) : Type 0 where

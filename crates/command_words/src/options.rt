@@ -36,7 +36,7 @@ static OPTIONS: [(&str, &str); 19] = [
 ];
 
 /// The flags of `compress`.
-static FLAGS: [&str; 3] = ["signed", "reduced", "column-sums"];
+static FLAGS: [&str; 4] = ["signed", "reduced", "column-sums", "restricted"];
 
 /// `compress`, with its options and files.
 pub(crate) fn compress_command<'a>(alloc: Global) -> Result<Command<'a>, AllocError>

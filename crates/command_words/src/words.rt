@@ -55,7 +55,8 @@ pub fn settings<'a>(alloc: Global, words: &'a [&'a str]) -> Result<Settings, Fau
 
 /// Why words were not taken.
 fn fault_of(error: &Error) -> Fault
-    ensures { ((result ≡ Usage) × (kind_of error.now ≢ OutOfMemory)) ⊎ (result ≡ WantOfMemory) }
+    ensures memory { kind_of error.now ≡ OutOfMemory → result ≡ WantOfMemory }
+    ensures usage { kind_of error.now ≢ OutOfMemory → result ≡ Usage }
 {
     match error.kind() {
         ErrorKind::OutOfMemory => Fault::WantOfMemory,
@@ -202,7 +203,7 @@ fn block_coder(matches: &ArgMatches<'_>) -> Result<Coder, Fault>
     };
     Ok(Coder::Block {
         size,
-        restricted: false,
+        restricted: flag(matches, "restricted"),
         reference: number(matches, "reference", 1, 4096)?,
     })
 }

@@ -1,5 +1,5 @@
 -- The header that a coder writes is a spelling of its parameters.
-use Rattle.std.proofs.Common.{◌≡◌, inl, inr, ℕ, zero, suc, ◌+◌, ◌-◌, ◌*◌, ◌/◌, ◌^◌, ◌<◌, ◌≤◌, ◌≤ℤ◌, Bool, true, false, cond, not, ◌&&◌, ltb, eqb, List, [], ◌∷◌, ◌++◌, length, map, take, get_or, ℤ, pos, negsuc, refl, sym, ap, subst, ◌∙◌, arith}
+use Rattle.std.proofs.Common.{◌≡◌, inl, inr, ℕ, zero, suc, ◌+◌, ◌-◌, ◌*◌, ◌/◌, ◌^◌, ◌<◌, ◌≤◌, ◌≤ℤ◌, Bool, true, false, cond, ◌&&◌, ltb, eqb, List, [], ◌∷◌, ◌++◌, length, map, take, get_or, ℤ, pos, negsuc, refl, sym, ap, subst, ◌∙◌, arith}
 use Rattle.std.proofs.lemmas.Int.{ints}
 use Rattle.std.specs.List.{AllByRecursion}
 use Rattle.std.proofs.lemmas.List.{length-map}
@@ -21,7 +21,6 @@ use Rattle.header_bits.specs.declared.image_part.ImagePart.{ImagePart}
 use Rattle.header_bits.specs.declared.predictor_part.PredictorPart.{PredictorPart}
 use Rattle.header_bits.specs.Layout.{AreValues, spelled}
 use Rattle.header_bits.specs.Parts.{fine, unused, SpellsPart}
-use Rattle.header_bits.specs.Reach.{Reach}
 use Rattle.header_bits.specs.ImagePart.{image, image_numbers, flag, order_flag, depth_number}
 use Rattle.header_bits.specs.PredictorPart.{predictor, start_tests, predictor_numbers, exponent_of, exponent_code}
 use Rattle.header_bits.specs.CoderPart.{coder, coder_by, coder_fields, coder_numbers, size_code}
@@ -57,13 +56,13 @@ order_passes : (s : Sizes) (o : Order) → IsOrder s o → (eqb (order_flag o) 0
 order_passes s Bsq h = refl
 order_passes s (Bi depth) h = le-ltb s.bands depth h.1
 
-image_chosen : (reach : Reach) (p : Params) → IsLawful reach p → SpellsPart image (image_part_of p) (image_bits p)
+image_chosen : (p : Params) → IsLawful p → SpellsPart image (image_part_of p) (image_bits p)
 unfolding image
-image_chosen reach p h =
+image_chosen p h =
     let i : ImagePart = image_part_of p in
     record {
       numbers = image_numbers i;
-      held = image_held reach p h;
+      held = image_held p h;
       passed = then_fine _ _ (unused_zero 57 2) (then_fine _ _ (refuse_fine _ _ (ne_eqb p.kind.bits 1 (λ e. omega (arith, e, h.kind)))) (then_fine _ _ (refuse_fine _ _ (order_passes p.shape p.order h.order)) (then_fine _ _ (unused_zero 80 2) (unused_zero 86 10))));
       said = rw (flag_back p.kind.signed, order_back p.order, flag_back i.block) refl;
       text = refl;
@@ -84,26 +83,22 @@ exponent_codes (negsuc m) (negsuc n) a b h = omega (arith, ints, h, a.0, b.0)
 mode_passes : (b : Bool) (columns : ℕ) → (b ≡ false → 2 ≤ columns) → (eqb (flag b) 0 && eqb columns 1) ≡ false
 mode_passes b columns h = not_under (eqb (flag b) 0) (eqb columns 1) (λ e. let more = h (flag_none b e) in ne_eqb columns 1 (λ one. omega (arith, more, one)))
 
--- a flag that is taken
-taken : (b : Bool) → b ≡ true → not b ≡ false
-taken b e = rw e refl
+start_passes : (p : Params) (s : WeightStart) (a b c d f g h j k l m : ℕ) → IsWeightStart p s
+    → start_tests (a ∷ b ∷ c ∷ d ∷ f ∷ g ∷ h ∷ p.omega ∷ j ∷ k ∷ l ∷ m ∷ flag (is_custom s) ∷ flag (is_custom s) ∷ resolution_of s ∷ []) ≡ fine
+start_passes p Usual a b c d f g h j k l m w = refuse_fine _ _ (le-ltb (p.omega + 3) 0 (omega arith))
+start_passes p (Table q values) a b c d f g h j k l m w =
+    then_fine _ _ refl (then_fine _ _ refl (then_fine _ _ refl (then_fine _ _ (refuse_fine _ _ (le-ltb q 3 w.0.0)) (refuse_fine _ _ (le-ltb (p.omega + 3) q w.0.1)))))
 
-start_passes : (reach : Reach) (p : Params) (s : WeightStart) (a b c d f g h j k l m : ℕ) → IsWeightStart reach p s
-    → start_tests reach (a ∷ b ∷ c ∷ d ∷ f ∷ g ∷ h ∷ p.omega ∷ j ∷ k ∷ l ∷ m ∷ flag (is_custom s) ∷ flag (is_custom s) ∷ resolution_of s ∷ []) ≡ fine
-start_passes reach p Usual a b c d f g h j k l m w = refuse_fine _ _ (le-ltb (p.omega + 3) 0 (omega arith))
-start_passes reach p (Table q values) a b c d f g h j k l m w =
-    then_fine _ _ (refuse_fine _ _ (taken reach.tables w.0)) (then_fine _ _ refl (then_fine _ _ refl (then_fine _ _ refl (then_fine _ _ (refuse_fine _ _ (le-ltb q 3 w.1.0)) (refuse_fine _ _ (le-ltb (p.omega + 3) q w.1.1))))))
-
-predictor_chosen : (reach : Reach) (p : Params) → IsLawful reach p → SpellsPart (predictor reach (image_part_of p)) (predictor_part_of p) (predictor_bits p)
+predictor_chosen : (p : Params) → IsLawful p → SpellsPart (predictor (image_part_of p)) (predictor_part_of p) (predictor_bits p)
 unfolding predictor
-predictor_chosen reach p h =
+predictor_chosen p h =
     let d : PredictorPart = predictor_part_of p in
     record {
       numbers = predictor_numbers d;
-      held = predictor_held reach p h;
+      held = predictor_held p h;
       passed = then_fine _ _ (unused_zero 96 2) (then_fine _ _ (refuse_fine _ _ (mode_passes p.reduced p.shape.columns h.mode)) (then_fine _ _ (unused_zero 103 1) (then_fine _ _ (refuse_fine _ _ (mode_passes p.column p.shape.columns h.sums)) (then_fine _ _ (unused_zero 105 1)
           (then_fine _ _ (refuse_fine _ _ (le-ltb p.register 32 h.register.0)) (then_fine _ _ (refuse_fine _ _ (le-ltb p.register (p.kind.bits + p.omega + 2) h.wide)) (then_fine _ _ (refuse_fine _ _ (le-ltb 11 p.interval_log h.interval.1))
-          (then_fine _ _ (refuse_fine _ _ (le-ltb (exponent_code p.vmax) (exponent_code p.vmin) (exponent_codes p.vmin p.vmax h.vmin h.vmax h.exponents))) (then_fine _ _ (unused_zero 128 1) (start_passes reach p p.start 0 p.previous (flag p.reduced) 0 (flag p.column) 0 p.register p.interval_log (exponent_code p.vmin) (exponent_code p.vmax) 0 h.start))))))))));
+          (then_fine _ _ (refuse_fine _ _ (le-ltb (exponent_code p.vmax) (exponent_code p.vmin) (exponent_codes p.vmin p.vmax h.vmin h.vmax h.exponents))) (then_fine _ _ (unused_zero 128 1) (start_passes p p.start 0 p.previous (flag p.reduced) 0 (flag p.column) 0 p.register p.interval_log (exponent_code p.vmin) (exponent_code p.vmax) 0 h.start))))))))));
       said = rw (flag_back p.reduced, flag_back p.column, exponent_back p.vmin h.vmin, exponent_back p.vmax h.vmax, flag_back d.custom) refl;
       text = refl;
     }
@@ -116,32 +111,31 @@ size_back size (inr (inl e)) = rw e refl
 size_back size (inr (inr (inl e))) = rw e refl
 size_back size (inr (inr (inr e))) = rw e refl
 
-coder_by_chosen : (reach : Reach) (at : ℕ) (p : Params) (i : ImagePart) (c : Coder) → i.kind ≡ p.kind → IsCoder reach p c → AreValues (coder_fields (coder_part_of c)) (coder_numbers (coder_part_of c))
-    → SpellsPart (coder_by (is_block c) reach at i) (coder_part_of c) (spelled (coder_fields (coder_part_of c)) (coder_numbers (coder_part_of c)))
-coder_by_chosen reach at p i (Sample umax gamma_star gamma_zero (Constant k)) e h held = record {
+coder_by_chosen : (at : ℕ) (p : Params) (i : ImagePart) (c : Coder) → i.kind ≡ p.kind → IsCoder p c → AreValues (coder_fields (coder_part_of c)) (coder_numbers (coder_part_of c))
+    → SpellsPart (coder_by (is_block c) at i) (coder_part_of c) (spelled (coder_fields (coder_part_of c)) (coder_numbers (coder_part_of c)))
+coder_by_chosen at p i (Sample umax gamma_star gamma_zero (Constant k)) e h held = record {
   numbers = umax ∷ gamma_star ∷ gamma_zero ∷ k ∷ 0 ∷ [];
   held = held;
-  passed = then_fine _ _ (refuse_fine _ _ (le-ltb umax 8 h.0.0)) (then_fine _ _ (refuse_fine _ _ (le-ltb 9 gamma_star h.1.1)) (then_fine _ _ (refuse_fine _ _ (le-ltb gamma_star (gamma_zero + 1) h.3)) (then_fine _ _ refl
-      (then_fine _ _ (refuse_fine _ _ (le-ltb (i.kind.bits - 2) k (rw e h.4))) refl))));
+  passed = then_fine _ _ (refuse_fine _ _ (le-ltb umax 8 h.0.0)) (then_fine _ _ (refuse_fine _ _ (le-ltb 9 gamma_star h.1.1)) (then_fine _ _ (refuse_fine _ _ (le-ltb gamma_star (gamma_zero + 1) h.3))
+      (then_fine _ _ (refuse_fine _ _ (le-ltb (i.kind.bits - 2) k (rw e h.4))) refl)));
   said = refl;
   text = refl;
 }
-coder_by_chosen reach at p i (Sample umax gamma_star gamma_zero (Each values)) e h held = record {
+coder_by_chosen at p i (Sample umax gamma_star gamma_zero (Each values)) e h held = record {
   numbers = umax ∷ gamma_star ∷ gamma_zero ∷ 15 ∷ 1 ∷ [];
   held = held;
-  passed = then_fine _ _ (refuse_fine _ _ (le-ltb umax 8 h.0.0)) (then_fine _ _ (refuse_fine _ _ (le-ltb 9 gamma_star h.1.1)) (then_fine _ _ (refuse_fine _ _ (le-ltb gamma_star (gamma_zero + 1) h.3))
-      (then_fine _ _ (refuse_fine _ _ (taken reach.tables h.4.0)) (then_fine _ _ refl refl))));
+  passed = then_fine _ _ (refuse_fine _ _ (le-ltb umax 8 h.0.0)) (then_fine _ _ (refuse_fine _ _ (le-ltb 9 gamma_star h.1.1)) (then_fine _ _ (refuse_fine _ _ (le-ltb gamma_star (gamma_zero + 1) h.3)) (then_fine _ _ refl refl)));
   said = refl;
   text = refl;
 }
-coder_by_chosen reach at p i (Block size true reference) e h held = record {
+coder_by_chosen at p i (Block size true reference) e h held = record {
   numbers = 0 ∷ size_code size ∷ 1 ∷ reference ∷ [];
   held = held;
-  passed = then_fine _ _ (unused_zero at 1) (then_fine _ _ (refuse_fine _ _ (taken reach.restricted (h.1 refl).0)) (refuse_fine _ _ (le-ltb 4 i.kind.bits (rw e (h.1 refl).1))));
+  passed = then_fine _ _ (unused_zero at 1) (refuse_fine _ _ (le-ltb 4 i.kind.bits (rw e (h.1 refl))));
   said = rw (size_back size h.0) refl;
   text = refl;
 }
-coder_by_chosen reach at p i (Block size false reference) e h held = record {
+coder_by_chosen at p i (Block size false reference) e h held = record {
   numbers = 0 ∷ size_code size ∷ 0 ∷ reference ∷ [];
   held = held;
   passed = then_fine _ _ (unused_zero at 1) refl;
@@ -149,9 +143,9 @@ coder_by_chosen reach at p i (Block size false reference) e h held = record {
   text = refl;
 }
 
-coder_chosen : (reach : Reach) (at : ℕ) (p : Params) → IsLawful reach p → SpellsPart (coder reach at (image_part_of p)) (coder_part_of p.coder) (coder_bits p)
+coder_chosen : (at : ℕ) (p : Params) → IsLawful p → SpellsPart (coder at (image_part_of p)) (coder_part_of p.coder) (coder_bits p)
 unfolding coder
-coder_chosen reach at p h = coder_by_chosen reach at p (image_part_of p) p.coder refl h.coder (coder_held reach p h)
+coder_chosen at p h = coder_by_chosen at p (image_part_of p) p.coder refl h.coder (coder_held p h)
 
 -- ---- the weight table
 
@@ -160,10 +154,10 @@ weights_of : WeightStart → List ℤ
 weights_of Usual = []
 weights_of (Table q values) = values
 
-weights_chosen : (reach : Reach) (p : Params) (s : WeightStart) → IsWeightStart reach p s → SpellsPart (weights_by (is_custom s) (weight_count p.previous p.reduced p.shape.bands) (resolution_of s)) (weights_of s) (weight_bits s)
+weights_chosen : (p : Params) (s : WeightStart) → IsWeightStart p s → SpellsPart (weights_by (is_custom s) (weight_count p.previous p.reduced p.shape.bands) (resolution_of s)) (weights_of s) (weight_bits s)
 unfolding weights_of spelled
-weights_chosen reach p Usual h = record { numbers = []; held = tt; passed = refl; said = refl; text = refl }
-weights_chosen reach p (Table q values) h = subst (λ (n : ℕ). SpellsPart (weights_by true n q) values (spelled (table_fields (length values) q) (map (signed_code q) values ++ 0 ∷ []))) h.2 spelt
+weights_chosen p Usual h = record { numbers = []; held = tt; passed = refl; said = refl; text = refl }
+weights_chosen p (Table q values) h = subst (λ (n : ℕ). SpellsPart (weights_by true n q) values (spelled (table_fields (length values) q) (map (signed_code q) values ++ 0 ∷ []))) h.1 spelt
   where
     codes : List ℕ
     codes = map (signed_code q) values
@@ -172,14 +166,14 @@ weights_chosen reach p (Table q values) h = subst (λ (n : ℕ). SpellsPart (wei
     many = length-map values (signed_code q)
 
     small : AllByRecursion (λ v. v < 2 ^ q) (map (signed_code q) values)
-    small = codes_small q values (omega (arith, h.1.0)) h.3
+    small = codes_small q values (omega (arith, h.0.0)) h.2
 
     spelt : SpellsPart (weights_by true (length values) q) values (spelled (table_fields (length values) q) (map (signed_code q) values ++ 0 ∷ []))
     spelt = record {
       numbers = map (signed_code q) values ++ 0 ∷ [];
       held = subst (λ (n : ℕ). AreValues (table_fields n q) (map (signed_code q) values ++ 0 ∷ [])) many (table_held q (map (signed_code q) values) small);
       passed = (let fill : get_or (map (signed_code q) values ++ 0 ∷ []) (length values) 0 ≡ 0 = rw (← many) (table_fill (map (signed_code q) values)) in rw fill (unused_zero _ _));
-      said = (let front : take (length values) (map (signed_code q) values ++ 0 ∷ []) ≡ map (signed_code q) values = rw (← many) (table_front (map (signed_code q) values)) in rw front (codes_back q values (omega (arith, h.1.0)) h.3));
+      said = (let front : take (length values) (map (signed_code q) values ++ 0 ∷ []) ≡ map (signed_code q) values = rw (← many) (table_front (map (signed_code q) values)) in rw front (codes_back q values (omega (arith, h.0.0)) h.2));
       text = refl;
     }
 
@@ -198,15 +192,15 @@ entries_small : (most limit : ℕ) (vs : List ℕ) → most < limit → AllByRec
 entries_small most limit [] lt h = tt
 entries_small most limit (v ∷ vs) lt h = (omega (arith, h.0), entries_small most limit vs lt h.1)
 
-each_chosen : (reach : Reach) (at : ℕ) (p : Params) (i : ImagePart) (s : CountStart) → i.kind ≡ p.kind → i.shape ≡ p.shape → p.kind.bits ≤ 16 → IsCountStart reach p s → SpellsPart (constants_by (is_each s) at i) (each_of s) (each_bits s)
+each_chosen : (at : ℕ) (p : Params) (i : ImagePart) (s : CountStart) → i.kind ≡ p.kind → i.shape ≡ p.shape → p.kind.bits ≤ 16 → IsCountStart p s → SpellsPart (constants_by (is_each s) at i) (each_of s) (each_bits s)
 unfolding each_of spelled
-each_chosen reach at p i (Constant k) e f deep h = record { numbers = []; held = tt; passed = refl; said = refl; text = refl }
-each_chosen reach at p i (Each values) e f deep h =
-    let bands : length values ≡ i.shape.bands = h.1 ∙ ap (λ (s : Sizes). s.bands) (sym f) in
-    let most : AllByRecursion (λ v. v ≤ i.kind.bits - 2) values = rw e h.2 in
+each_chosen at p i (Constant k) e f deep h = record { numbers = []; held = tt; passed = refl; said = refl; text = refl }
+each_chosen at p i (Each values) e f deep h =
+    let bands : length values ≡ i.shape.bands = h.0 ∙ ap (λ (s : Sizes). s.bands) (sym f) in
+    let most : AllByRecursion (λ v. v ≤ i.kind.bits - 2) values = rw e h.1 in
     let front : take i.shape.bands (values ++ 0 ∷ []) ≡ values = rw (← bands) (table_front values) in
     let fill : get_or (values ++ 0 ∷ []) i.shape.bands 0 ≡ 0 = rw (← bands) (table_fill values) in
-    let small : AllByRecursion (λ v. v < 2 ^ 4) values = entries_small (p.kind.bits - 2) (2 ^ 4) values (omega (arith, deep)) h.2 in
+    let small : AllByRecursion (λ v. v < 2 ^ 4) values = entries_small (p.kind.bits - 2) (2 ^ 4) values (omega (arith, deep)) h.1 in
     record {
       numbers = values ++ 0 ∷ [];
       held = subst (λ (n : ℕ). AreValues (table_fields n 4) (values ++ 0 ∷ [])) bands (table_held 4 values small);
@@ -215,10 +209,10 @@ each_chosen reach at p i (Each values) e f deep h =
       text = ap (λ (n : ℕ). spelled (table_fields n 4) (values ++ 0 ∷ [])) bands;
     }
 
-constants_chosen : (reach : Reach) (at : ℕ) (p : Params) (i : ImagePart) (c : Coder) → i.kind ≡ p.kind → i.shape ≡ p.shape → p.kind.bits ≤ 16 → IsCoder reach p c → SpellsPart (constants at i (coder_part_of c)) (entries_of c) (constant_bits c)
+constants_chosen : (at : ℕ) (p : Params) (i : ImagePart) (c : Coder) → i.kind ≡ p.kind → i.shape ≡ p.shape → p.kind.bits ≤ 16 → IsCoder p c → SpellsPart (constants at i (coder_part_of c)) (entries_of c) (constant_bits c)
 unfolding constants entries_of spelled
-constants_chosen reach at p i (Sample umax gamma_star gamma_zero start) e f deep h = each_chosen reach at p i start e f deep h.4
-constants_chosen reach at p i (Block size restricted reference) e f deep h = record { numbers = []; held = tt; passed = refl; said = refl; text = refl }
+constants_chosen at p i (Sample umax gamma_star gamma_zero start) e f deep h = each_chosen at p i start e f deep h.4
+constants_chosen at p i (Block size restricted reference) e f deep h = record { numbers = []; held = tt; passed = refl; said = refl; text = refl }
 
 -- ---- the header
 
@@ -241,9 +235,9 @@ params_back : (p : Params) → params_of (all_said p) ≡ p
 unfolding all_said
 params_back p = rw (start_back p.start, coder_back p.coder) refl
 
-parts_chosen : (reach : Reach) (p : Params) → IsLawful reach p → SpellsParts reach (all_said p) (image_bits p ++ predictor_bits p ++ weight_bits p.start ++ coder_bits p ++ constant_bits p.coder)
+parts_chosen : (p : Params) → IsLawful p → SpellsParts (all_said p) (image_bits p ++ predictor_bits p ++ weight_bits p.start ++ coder_bits p ++ constant_bits p.coder)
 unfolding all_said weights
-parts_chosen reach p h =
+parts_chosen p h =
     let i : ImagePart = image_part_of p in
     let d : PredictorPart = predictor_part_of p in
     record {
@@ -255,17 +249,17 @@ parts_chosen reach p h =
         first = record {
           front = image_bits p ++ predictor_bits p;
           back = weight_bits p.start;
-          first = record { front = image_bits p; back = predictor_bits p; first = image_chosen reach p h; second = predictor_chosen reach p h; text = refl };
-          second = weights_chosen reach p p.start h.start;
+          first = record { front = image_bits p; back = predictor_bits p; first = image_chosen p h; second = predictor_chosen p h; text = refl };
+          second = weights_chosen p p.start h.start;
           text = refl;
         };
-        second = coder_chosen reach (coder_place i d) p h;
+        second = coder_chosen (coder_place i d) p h;
         text = refl;
       };
-      second = constants_chosen reach (coder_place i d + 16) p i p.coder refl refl h.kind.1 h.coder;
+      second = constants_chosen (coder_place i d + 16) p i p.coder refl refl h.kind.1 h.coder;
       text = refl;
     }
 
-pub chosen_is_spelt : (reach : Reach) (p : Params) → IsLawful reach p → SpellsHeader reach p (header_of p)
+pub chosen_is_spelt : (p : Params) → IsLawful p → SpellsHeader p (header_of p)
 unfolding header_of
-chosen_is_spelt reach p h = record { from = all_said p; same = params_back p; spells = parts_chosen reach p h }
+chosen_is_spelt p h = record { from = all_said p; same = params_back p; spells = parts_chosen p h }

@@ -1,8 +1,6 @@
 -- The numbers of lawful parameters fit their slots.
-use Rattle.std.proofs.Common.{◌≡◌, ℕ, ◌<◌, ◌≤◌, Bool, true, false, cond, eqb, List, [], ◌++◌, length, append_assoc, ℤ, pos, negsuc, refl, sym, ap, ◌∙◌, arith, lit<}
+use Rattle.std.proofs.Common.{◌≡◌, ℕ, ◌<◌, ◌≤◌, Bool, true, false, cond, eqb, List, ℤ, pos, negsuc, refl, arith, lit<}
 use Rattle.std.proofs.lemmas.Int.{ints}
-use Rattle.std.proofs.lemmas.List.{append-nil, length-append}
-use Rattle.header_bits.proofs.Slots.{length-spelled}
 use Rattle.cube_core.specs.declared.order.Order.{Order}
 use Rattle.cube_core.specs.declared.order.Order.TheVariants.{Bsq, Bi}
 use Rattle.cube_core.specs.Shape.{Sizes, InRange}
@@ -17,11 +15,10 @@ use Rattle.header_bits.specs.declared.params.CountStart.TheVariants.{Constant, E
 use Rattle.header_bits.specs.declared.coder_part.CoderPart.{CoderPart}
 use Rattle.header_bits.specs.declared.coder_part.CoderPart.TheVariants as part
 use Rattle.header_bits.specs.Layout.{AreValues, total, spelled}
-use Rattle.header_bits.specs.Reach.{Reach, here}
 use Rattle.header_bits.specs.ImagePart.{image_fields, image_numbers, flag, order_flag, depth_number}
 use Rattle.header_bits.specs.PredictorPart.{predictor_fields, predictor_numbers, exponent_code}
 use Rattle.header_bits.specs.CoderPart.{sample_fields, block_fields, coder_fields, coder_numbers, size_code}
-use Rattle.header_bits.specs.Header.{is_block, image_part_of, predictor_part_of, coder_part_of, is_custom, resolution_of, constant_of, is_each, weight_bits, each_bits, constant_bits, header_of}
+use Rattle.header_bits.specs.Header.{is_block, image_part_of, predictor_part_of, coder_part_of, is_custom, resolution_of, constant_of, is_each}
 use Rattle.header_bits.specs.Lawful.{IsLawful, IsExponent, IsCountStart, IsWeightStart, IsCoder}
 
 pub flag_small : (b : Bool) → flag b < 2
@@ -40,13 +37,13 @@ pub exponent_small : (v : ℤ) → IsExponent v → exponent_code v < 16
 exponent_small (pos n) h = omega (arith, ints, h.1)
 exponent_small (negsuc n) h = omega arith
 
-resolution_small : (reach : Reach) (p : Params) (start : WeightStart) → p.omega ≤ 19 → IsWeightStart reach p start → resolution_of start < 32
-resolution_small reach p Usual le h = lit< tt
-resolution_small reach p (Table q values) le h = omega (arith, h.1)
+resolution_small : (p : Params) (start : WeightStart) → p.omega ≤ 19 → IsWeightStart p start → resolution_of start < 32
+resolution_small p Usual le h = lit< tt
+resolution_small p (Table q values) le h = omega (arith, h.0)
 
-constant_small : (reach : Reach) (p : Params) (start : CountStart) → p.kind.bits ≤ 16 → IsCountStart reach p start → constant_of start < 16
-constant_small reach p (Constant k) le h = omega (arith, h)
-constant_small reach p (Each values) le h = lit< tt
+constant_small : (p : Params) (start : CountStart) → p.kind.bits ≤ 16 → IsCountStart p start → constant_of start < 16
+constant_small p (Constant k) le h = omega (arith, h)
+constant_small p (Each values) le h = lit< tt
 
 size_small : (size : ℕ) → size_code size < 4
 size_small size = by_cases (eqb size 8) (eqb size 16) (eqb size 32)
@@ -57,8 +54,8 @@ size_small size = by_cases (eqb size 8) (eqb size 16) (eqb size 32)
     by_cases false false true = lit< tt
     by_cases false false false = lit< tt
 
-pub image_held : (reach : Reach) (p : Params) → IsLawful reach p → AreValues image_fields (image_numbers (image_part_of p))
-image_held reach p h =
+pub image_held : (p : Params) → IsLawful p → AreValues image_fields (image_numbers (image_part_of p))
+image_held p h =
     let depth = depth_in p.shape p.order h.order h.sizes.bands.1 in (
       (omega arith, omega (arith, h.user)),
       (
@@ -82,8 +79,8 @@ image_held reach p h =
       ),
     )
 
-pub predictor_held : (reach : Reach) (p : Params) → IsLawful reach p → AreValues predictor_fields (predictor_numbers (predictor_part_of p))
-predictor_held reach p h = (
+pub predictor_held : (p : Params) → IsLawful p → AreValues predictor_fields (predictor_numbers (predictor_part_of p))
+predictor_held p h = (
   lit< tt,
   (
     (omega arith, omega (arith, h.previous)),
@@ -107,7 +104,7 @@ predictor_held reach p h = (
                       (omega arith, exponent_small p.vmax h.vmax),
                       (
                         lit< tt,
-                        ((omega arith, flag_small (is_custom p.start)), ((omega arith, flag_small (is_custom p.start)), ((omega arith, resolution_small reach p p.start h.fraction.1 h.start), tt))),
+                        ((omega arith, flag_small (is_custom p.start)), ((omega arith, flag_small (is_custom p.start)), ((omega arith, resolution_small p p.start h.fraction.1 h.start), tt))),
                       ),
                     ),
                   ),
@@ -121,16 +118,16 @@ predictor_held reach p h = (
   ),
 )
 
-held_by : (reach : Reach) (p : Params) (c : Coder) → p.kind.bits ≤ 16 → IsCoder reach p c → AreValues (coder_fields (coder_part_of c)) (coder_numbers (coder_part_of c))
-held_by reach p (Sample umax gamma_star gamma_zero start) le h =
-    ((omega (arith, h.0), h.0.1), ((h.1.0, omega (arith, h.1)), ((h.2.0, h.2.1), ((omega arith, constant_small reach p start le h.4), ((omega arith, flag_small (is_each start)), tt)))))
-held_by reach p (Block size restricted reference) le h =
+held_by : (p : Params) (c : Coder) → p.kind.bits ≤ 16 → IsCoder p c → AreValues (coder_fields (coder_part_of c)) (coder_numbers (coder_part_of c))
+held_by p (Sample umax gamma_star gamma_zero start) le h =
+    ((omega (arith, h.0), h.0.1), ((h.1.0, omega (arith, h.1)), ((h.2.0, h.2.1), ((omega arith, constant_small p start le h.4), ((omega arith, flag_small (is_each start)), tt)))))
+held_by p (Block size restricted reference) le h =
     (lit< tt, ((omega arith, size_small size), ((omega arith, flag_small restricted), ((h.2.0, h.2.1), tt))))
 
-pub coder_held : (reach : Reach) (p : Params) → IsLawful reach p → AreValues (coder_fields (coder_part_of p.coder)) (coder_numbers (coder_part_of p.coder))
-coder_held reach p h = held_by reach p p.coder (h.kind.1) h.coder
+pub coder_held : (p : Params) → IsLawful p → AreValues (coder_fields (coder_part_of p.coder)) (coder_numbers (coder_part_of p.coder))
+coder_held p h = held_by p p.coder (h.kind.1) h.coder
 
--- ---- the header's bits, where there is no table
+-- ---- the bits of each part
 
 pub image_total : total image_fields ≡ 96
 unfolding total
@@ -152,18 +149,6 @@ pub coder_total : (c : CoderPart) → total (coder_fields c) ≡ 16
 coder_total (part.Sample umax gamma_star gamma_zero constant table) = sample_total
 coder_total (part.Block size restricted reference) = block_total
 
-no_weights : (p : Params) (start : WeightStart) → IsWeightStart here p start → weight_bits start ≡ []
-no_weights p Usual h = refl
-no_weights p (Table q values) h = let never = h.0 in absurd cc
-
-no_each : (p : Params) (start : CountStart) → IsCountStart here p start → each_bits start ≡ []
-no_each p (Constant k) h = refl
-no_each p (Each values) h = let never = h.0 in absurd cc
-
-no_constants : (p : Params) (c : Coder) → IsCoder here p c → constant_bits c ≡ []
-no_constants p (Sample umax gamma_star gamma_zero start) h = no_each p start h.4
-no_constants p (Block size restricted reference) h = refl
-
 abbrev pub image_bits : Params → List Bool
 image_bits p = spelled image_fields (image_numbers (image_part_of p))
 
@@ -172,19 +157,3 @@ predictor_bits p = spelled predictor_fields (predictor_numbers (predictor_part_o
 
 abbrev pub coder_bits : Params → List Bool
 coder_bits p = spelled (coder_fields (coder_part_of p.coder)) (coder_numbers (coder_part_of p.coder))
-
-pub header_parts : (p : Params) → IsLawful here p → header_of p ≡ image_bits p ++ predictor_bits p ++ coder_bits p
-unfolding header_of
-header_parts p h =
-    let front : List Bool = image_bits p ++ predictor_bits p in
-    rw (no_weights p p.start h.start, no_constants p p.coder h.coder) (append-nil (front ++ [] ++ coder_bits p) ∙ ap (λ (x : List Bool). x ++ coder_bits p) (append-nil front))
-
-pub header_written : (p : Params) → IsLawful here p → (old one two new : List Bool) → one ≡ old ++ image_bits p → two ≡ one ++ predictor_bits p → new ≡ two ++ coder_bits p → new ≡ old ++ header_of p
-header_written p h old one two new first second third =
-    third ∙ ap (λ (x : List Bool). x ++ coder_bits p) (second ∙ ap (λ (x : List Bool). x ++ predictor_bits p) first ∙ append_assoc old (image_bits p) (predictor_bits p))
-    ∙ append_assoc old (image_bits p ++ predictor_bits p) (coder_bits p) ∙ ap (λ (x : List Bool). old ++ x) (sym (header_parts p h))
-
-pub header_length : (p : Params) → IsLawful here p → length (header_of p) ≡ 152
-header_length p h =
-    ap length (header_parts p h) ∙ length-append (image_bits p ++ predictor_bits p) (coder_bits p)
-    ∙ omega (arith, length-append (image_bits p) (predictor_bits p), length-spelled image_fields (image_numbers (image_part_of p)) (image_held here p h), length-spelled predictor_fields (predictor_numbers (predictor_part_of p)) (predictor_held here p h), length-spelled (coder_fields (coder_part_of p.coder)) (coder_numbers (coder_part_of p.coder)) (coder_held here p h), image_total, predictor_total, coder_total (coder_part_of p.coder))

@@ -9,7 +9,6 @@ use Rattle.header_bits.specs.declared.layout.Slot.{Slot}
 use Rattle.header_bits.specs.Reading.{Reading}
 use Rattle.header_bits.specs.Layout.{width, total, values}
 use Rattle.header_bits.specs.Parts.{Part, part_at, then_at, as_at}
-use Rattle.header_bits.specs.Reach.{Reach}
 use Rattle.header_bits.specs.ImagePart.{image}
 use Rattle.header_bits.specs.PredictorPart.{predictor}
 use Rattle.header_bits.specs.CoderPart.{coder}
@@ -68,17 +67,17 @@ as_goes : {X Y : Type 0} (form : X → Y) (read : Reading X) → GoesOn read →
 unfolding as_at
 as_goes form read p more bits = goes_then more (read bits) (read (bits ++ more)) (λ x. Ok (form x.0, x.1)) (p more bits) (λ x rest. refl)
 
-parts_goes : (reach : Reach) → GoesOn (parts_at reach)
+parts_goes : GoesOn parts_at
 unfolding parts_at
-parts_goes reach =
-    let one = then_goes (part_at image) (λ i. part_at (predictor reach i)) (part_goes image) (λ i. part_goes (predictor reach i)) in
+parts_goes =
+    let one = then_goes (part_at image) (λ i. part_at (predictor i)) (part_goes image) (λ i. part_goes (predictor i)) in
     let two = then_goes _ (λ x. part_at (weights x.0 x.1)) one (λ x. part_goes (weights x.0 x.1)) in
-    let three = then_goes _ (λ x. part_at (coder reach (coder_place x.0.0 x.0.1) x.0.0)) two (λ x. part_goes (coder reach (coder_place x.0.0 x.0.1) x.0.0)) in
+    let three = then_goes _ (λ x. part_at (coder (coder_place x.0.0 x.0.1) x.0.0)) two (λ x. part_goes (coder (coder_place x.0.0 x.0.1) x.0.0)) in
     then_goes _ (λ x. part_at (constants (coder_place x.0.0.0 x.0.0.1 + 16) x.0.0.0 x.1)) three (λ x. part_goes (constants (coder_place x.0.0.0 x.0.0.1 + 16) x.0.0.0 x.1))
 
-header_goes : (reach : Reach) → GoesOn (header_at reach)
+header_goes : GoesOn header_at
 unfolding header_at
-header_goes reach = as_goes params_of (parts_at reach) (parts_goes reach)
+header_goes = as_goes params_of parts_at parts_goes
 
 -- ---- what is refused is no header
 
@@ -86,9 +85,9 @@ no_both : {X : Type 0} (e : Fault) (x : X × List Bool) (r : Result (X × List B
 no_both e x r a b = absurd (cc)
 
 pub fault_is_no_header : FaultIsNoHeader
-fault_is_no_header reach e bits bad other more p h rest spelt begins =
-    by_later (rw bad at (header_goes reach more bits))
+fault_is_no_header e bits bad other more p h rest spelt begins =
+    by_later (rw bad at (header_goes more bits))
   where
-    by_later : (e ≡ ShortHeader) ⊎ (header_at reach (bits ++ more) ≡ Err e) → ⊥
+    by_later : (e ≡ ShortHeader) ⊎ (header_at (bits ++ more) ≡ Err e) → ⊥
     by_later (inl short) = other short
-    by_later (inr later) = no_both e (p, rest) (header_at reach (bits ++ more)) later (ap (header_at reach) begins ∙ (header_exact reach).again p h rest spelt)
+    by_later (inr later) = no_both e (p, rest) (header_at (bits ++ more)) later (ap header_at begins ∙ header_exact.again p h rest spelt)

@@ -19,7 +19,6 @@ use Rattle.header_bits.specs.declared.params.Coder.TheVariants.{Sample, Block}
 use Rattle.header_bits.specs.declared.params.CountStart.{CountStart}
 use Rattle.header_bits.specs.declared.params.CountStart.TheVariants.{Constant, Each}
 use Rattle.header_bits.specs.Parts.{fine}
-use Rattle.header_bits.specs.Reach.{Reach}
 use Rattle.header_bits.specs.TableParts.{weight_count, some_above}
 use Rattle.header_bits.specs.Lawful.{IsLawful, IsExponent, IsSigned, IsBlockSize, IsWeightStart, IsCountStart, IsCoder, in_range_or, exponent_or, order_fault, predictor_fault, entries_fault, start_fault, count_fault, block_size_fault, coder_fault, params_fault}
 use Rattle.header_bits.proofs.Tests.{then_ok, then_fine, refuse_ok, refuse_fine, not_false, in_range_ok, in_range_fine, exponent_ok, exponent_fine, le_true, true_le, lt_false, false_lt, under, not_under}
@@ -76,32 +75,30 @@ unfolding some_above
 above_none most [] h = refl
 above_none most (v ∷ vs) h = rw (le-ltb most v h.0) (above_none most vs h.1)
 
-start_ok : (reach : Reach) (p : Params) (s : WeightStart) → start_fault reach p s ≡ fine → IsWeightStart reach p s
-start_ok reach p Usual e = tt
-start_ok reach p (Table q values) e =
-    let a = then_ok (refuse_if (not reach.tables) (FieldRange field.WeightStart (pos 1))) _ e in
-    let b = then_ok (refuse_if (ltb q 3) (FieldRange field.Resolution (pos q))) _ a.1 in
+start_ok : (p : Params) (s : WeightStart) → start_fault p s ≡ fine → IsWeightStart p s
+start_ok p Usual e = tt
+start_ok p (Table q values) e =
+    let b = then_ok (refuse_if (ltb q 3) (FieldRange field.Resolution (pos q))) _ e in
     let c = then_ok (refuse_if (ltb (p.omega + 3) q) (Disagree rule.ResolutionOverOmega)) _ b.1 in
     let d = then_ok (refuse_if (not (eqb (length values) (weight_count p.previous p.reduced p.shape.bands))) (Disagree rule.WeightTableLength)) (entries_fault q values) c.1 in
-    (not_false reach.tables (refuse_ok _ _ a.0), (ltb-false q 3 (refuse_ok _ _ b.0), ltb-false (p.omega + 3) q (refuse_ok _ _ c.0)), eqb-true _ _ (not_false _ (refuse_ok _ _ d.0)), entries_ok q values d.1)
+    ((ltb-false q 3 (refuse_ok _ _ b.0), ltb-false (p.omega + 3) q (refuse_ok _ _ c.0)), eqb-true _ _ (not_false _ (refuse_ok _ _ d.0)), entries_ok q values d.1)
 
-start_fine : (reach : Reach) (p : Params) (s : WeightStart) → IsWeightStart reach p s → start_fault reach p s ≡ fine
-start_fine reach p Usual h = refl
-start_fine reach p (Table q values) h =
-    then_fine _ _ (refuse_fine _ _ (not_from_true _ h.0)) (then_fine _ _ (refuse_fine _ _ (le-ltb q 3 h.1.0)) (then_fine _ _ (refuse_fine _ _ (le-ltb (p.omega + 3) q h.1.1))
-    (then_fine _ _ (refuse_fine _ _ (not_from_true _ (eq-eqb _ _ h.2))) (entries_fine q values h.3))))
+start_fine : (p : Params) (s : WeightStart) → IsWeightStart p s → start_fault p s ≡ fine
+start_fine p Usual h = refl
+start_fine p (Table q values) h =
+    then_fine _ _ (refuse_fine _ _ (le-ltb q 3 h.0.0)) (then_fine _ _ (refuse_fine _ _ (le-ltb (p.omega + 3) q h.0.1))
+    (then_fine _ _ (refuse_fine _ _ (not_from_true _ (eq-eqb _ _ h.1))) (entries_fine q values h.2)))
 
-count_ok : (reach : Reach) (p : Params) (s : CountStart) → count_fault reach p s ≡ fine → IsCountStart reach p s
-count_ok reach p (Constant k) e = ltb-false (p.kind.bits - 2) k (refuse_ok _ _ e)
-count_ok reach p (Each values) e =
-    let a = then_ok (refuse_if (not reach.tables) (FieldRange field.AccumulatorTable (pos 1))) _ e in
-    let b = then_ok (refuse_if (not (eqb (length values) p.shape.bands)) (Disagree rule.AccumulatorTableLength)) (refuse_if (some_above (p.kind.bits - 2) values) (Disagree rule.AccumulatorEntry)) a.1 in
-    (not_false reach.tables (refuse_ok _ _ a.0), eqb-true _ _ (not_false _ (refuse_ok _ _ b.0)), none_above _ values (refuse_ok _ _ b.1))
+count_ok : (p : Params) (s : CountStart) → count_fault p s ≡ fine → IsCountStart p s
+count_ok p (Constant k) e = ltb-false (p.kind.bits - 2) k (refuse_ok _ _ e)
+count_ok p (Each values) e =
+    let b = then_ok (refuse_if (not (eqb (length values) p.shape.bands)) (Disagree rule.AccumulatorTableLength)) (refuse_if (some_above (p.kind.bits - 2) values) (Disagree rule.AccumulatorEntry)) e in
+    (eqb-true _ _ (not_false _ (refuse_ok _ _ b.0)), none_above _ values (refuse_ok _ _ b.1))
 
-count_fine : (reach : Reach) (p : Params) (s : CountStart) → IsCountStart reach p s → count_fault reach p s ≡ fine
-count_fine reach p (Constant k) h = refuse_fine _ _ (le-ltb (p.kind.bits - 2) k h)
-count_fine reach p (Each values) h =
-    then_fine _ _ (refuse_fine _ _ (not_from_true _ h.0)) (then_fine _ _ (refuse_fine _ _ (not_from_true _ (eq-eqb _ _ h.1))) (refuse_fine _ _ (above_none _ values h.2)))
+count_fine : (p : Params) (s : CountStart) → IsCountStart p s → count_fault p s ≡ fine
+count_fine p (Constant k) h = refuse_fine _ _ (le-ltb (p.kind.bits - 2) k h)
+count_fine p (Each values) h =
+    then_fine _ _ (refuse_fine _ _ (not_from_true _ (eq-eqb _ _ h.0))) (refuse_fine _ _ (above_none _ values h.1))
 
 size_ok : (size : ℕ) → block_size_fault size ≡ fine → IsBlockSize size
 size_ok size e = by_tests (eqb size 8) (eqb size 16) (eqb size 32) (eqb size 64) refl refl refl refl (refuse_ok _ _ e)
@@ -119,29 +116,28 @@ size_fine size (inr (inl e)) = rw e refl
 size_fine size (inr (inr (inl e))) = rw e refl
 size_fine size (inr (inr (inr e))) = rw e refl
 
-coder_ok : (reach : Reach) (p : Params) (c : Coder) → coder_fault reach p c ≡ fine → IsCoder reach p c
-coder_ok reach p (Sample umax gamma_star gamma_zero start) e =
+coder_ok : (p : Params) (c : Coder) → coder_fault p c ≡ fine → IsCoder p c
+coder_ok p (Sample umax gamma_star gamma_zero start) e =
     let a = then_ok (in_range_or field.Umax 8 32 umax) _ e in
     let b = then_ok (in_range_or field.GammaStar 4 9 gamma_star) _ a.1 in
     let c = then_ok (in_range_or field.GammaZero 1 8 gamma_zero) _ b.1 in
-    let d = then_ok (refuse_if (ltb gamma_star (gamma_zero + 1)) (Disagree rule.CounterOrder)) (count_fault reach p start) c.1 in
-    (in_range_ok _ 8 32 umax a.0, in_range_ok _ 4 9 gamma_star b.0, in_range_ok _ 1 8 gamma_zero c.0, ltb-false gamma_star (gamma_zero + 1) (refuse_ok _ _ d.0), count_ok reach p start d.1)
-coder_ok reach p (Block size restricted reference) e =
+    let d = then_ok (refuse_if (ltb gamma_star (gamma_zero + 1)) (Disagree rule.CounterOrder)) (count_fault p start) c.1 in
+    (in_range_ok _ 8 32 umax a.0, in_range_ok _ 4 9 gamma_star b.0, in_range_ok _ 1 8 gamma_zero c.0, ltb-false gamma_star (gamma_zero + 1) (refuse_ok _ _ d.0), count_ok p start d.1)
+coder_ok p (Block size restricted reference) e =
     let a = then_ok (block_size_fault size) _ e in
-    let b = then_ok (refuse_if (restricted && not reach.restricted) (FieldRange field.Restricted (pos 1))) _ a.1 in
-    let c = then_ok (refuse_if (restricted && ltb 4 p.kind.bits) (Disagree rule.RestrictedOverFour)) (in_range_or field.Reference 1 4096 reference) b.1 in (
+    let c = then_ok (refuse_if (restricted && ltb 4 p.kind.bits) (Disagree rule.RestrictedOverFour)) (in_range_or field.Reference 1 4096 reference) a.1 in (
       size_ok size a.0,
-      (λ h. (not_false reach.restricted (under restricted (not reach.restricted) (refuse_ok _ _ b.0) h), ltb-false 4 p.kind.bits (under restricted (ltb 4 p.kind.bits) (refuse_ok _ _ c.0) h))),
+      (λ h. ltb-false 4 p.kind.bits (under restricted (ltb 4 p.kind.bits) (refuse_ok _ _ c.0) h)),
       in_range_ok _ 1 4096 reference c.1,
     )
 
-coder_fine : (reach : Reach) (p : Params) (c : Coder) → IsCoder reach p c → coder_fault reach p c ≡ fine
-coder_fine reach p (Sample umax gamma_star gamma_zero start) h =
+coder_fine : (p : Params) (c : Coder) → IsCoder p c → coder_fault p c ≡ fine
+coder_fine p (Sample umax gamma_star gamma_zero start) h =
     then_fine _ _ (in_range_fine field.Umax 8 32 umax h.0) (then_fine _ _ (in_range_fine field.GammaStar 4 9 gamma_star h.1) (then_fine _ _ (in_range_fine field.GammaZero 1 8 gamma_zero h.2)
-    (then_fine _ _ (refuse_fine _ _ (le-ltb gamma_star (gamma_zero + 1) h.3)) (count_fine reach p start h.4))))
-coder_fine reach p (Block size restricted reference) h =
-    then_fine _ _ (size_fine size h.0) (then_fine _ _ (refuse_fine _ _ (not_under restricted (not reach.restricted) (λ r. not_from_true _ (h.1 r).0)))
-    (then_fine _ _ (refuse_fine _ _ (not_under restricted (ltb 4 p.kind.bits) (λ r. le-ltb 4 p.kind.bits (h.1 r).1))) (in_range_fine field.Reference 1 4096 reference h.2)))
+    (then_fine _ _ (refuse_fine _ _ (le-ltb gamma_star (gamma_zero + 1) h.3)) (count_fine p start h.4))))
+coder_fine p (Block size restricted reference) h =
+    then_fine _ _ (size_fine size h.0)
+    (then_fine _ _ (refuse_fine _ _ (not_under restricted (ltb 4 p.kind.bits) (λ r. le-ltb 4 p.kind.bits (h.1 r)))) (in_range_fine field.Reference 1 4096 reference h.2))
 
 -- what the tests of the predictor's parameters leave
 record IsPredictor (p : Params) : Type 0 where
@@ -180,26 +176,26 @@ predictor_ok p some e =
       exponents = lt_false p.vmax p.vmin (refuse_ok _ _ j.1);
     }
 
-predictor_fine : (reach : Reach) (p : Params) → IsLawful reach p → predictor_fault p ≡ fine
-predictor_fine reach p h =
+predictor_fine : (p : Params) → IsLawful p → predictor_fault p ≡ fine
+predictor_fine p h =
     then_fine _ _ (in_range_fine field.Previous 0 15 p.previous (omega arith, h.previous)) (then_fine _ _ (refuse_fine _ _ (columns_fine p.reduced p.shape.columns h.mode)) (then_fine _ _ (refuse_fine _ _ (columns_fine p.column p.shape.columns h.sums))
     (then_fine _ _ (in_range_fine field.Register 32 64 p.register h.register) (then_fine _ _ (in_range_fine field.Omega 4 19 p.omega h.fraction) (then_fine _ _ (refuse_fine _ _ (le-ltb p.register (p.kind.bits + p.omega + 2) h.wide))
     (then_fine _ _ (in_range_fine field.Interval 4 11 p.interval_log h.interval) (then_fine _ _ (exponent_fine field.VMin p.vmin h.vmin) (then_fine _ _ (exponent_fine field.VMax p.vmax h.vmax) (refuse_fine _ _ (false_lt p.vmax p.vmin h.exponents))))))))))
 
-pub lawful_is_fine : (reach : Reach) (p : Params) → IsLawful reach p → params_fault reach p ≡ fine
+pub lawful_is_fine : (p : Params) → IsLawful p → params_fault p ≡ fine
 unfolding params_fault
-lawful_is_fine reach p h =
+lawful_is_fine p h =
     then_fine _ _ (in_range_fine field.User 0 255 p.user (omega arith, h.user)) (then_fine _ _ (order_fine p.shape p.order h.order) (then_fine _ _ (in_range_fine field.WordSize 1 8 p.word h.word)
-    (then_fine _ _ (predictor_fine reach p h) (then_fine _ _ (start_fine reach p p.start h.start) (coder_fine reach p p.coder h.coder)))))
+    (then_fine _ _ (predictor_fine p h) (then_fine _ _ (start_fine p p.start h.start) (coder_fine p p.coder h.coder)))))
 
-pub fine_is_lawful : (reach : Reach) (p : Params) → AreSizes p.shape → IsKind p.kind → params_fault reach p ≡ fine → IsLawful reach p
+pub fine_is_lawful : (p : Params) → AreSizes p.shape → IsKind p.kind → params_fault p ≡ fine → IsLawful p
 unfolding params_fault
-fine_is_lawful reach p sizes kind e =
+fine_is_lawful p sizes kind e =
     let a = then_ok (in_range_or field.User 0 255 p.user) _ e in
     let b = then_ok (order_fault p.shape p.order) _ a.1 in
     let c = then_ok (in_range_or field.WordSize 1 8 p.word) _ b.1 in
     let d = then_ok (predictor_fault p) _ c.1 in
-    let f = then_ok (start_fault reach p p.start) (coder_fault reach p p.coder) d.1 in
+    let f = then_ok (start_fault p p.start) (coder_fault p p.coder) d.1 in
     let h = predictor_ok p sizes.columns.0 d.0 in
     record {
       sizes = sizes;
@@ -217,11 +213,11 @@ fine_is_lawful reach p sizes kind e =
       vmin = h.vmin;
       vmax = h.vmax;
       exponents = h.exponents;
-      start = start_ok reach p p.start f.0;
-      coder = coder_ok reach p p.coder f.1;
+      start = start_ok p p.start f.0;
+      coder = coder_ok p p.coder f.1;
     }
 
 -- a check that gives the first refusal is Ok exactly for lawful parameters
-pub lawful_where_ok : (reach : Reach) (p : Params) (r : Test) → OnOk r (AreSizes p.shape × IsKind p.kind) → r ≡ params_fault reach p → IsOk r ↔ IsLawful reach p
-lawful_where_ok reach p (Ok t) h e = (λ _. fine_is_lawful reach p h.0 h.1 (sym e), λ _. refl)
-lawful_where_ok reach p (Err f) h e = (λ ok. absurd cc, λ lawful. let both : fine ≡ Err f = sym (e ∙ lawful_is_fine reach p lawful) in absurd cc)
+pub lawful_where_ok : (p : Params) (r : Test) → OnOk r (AreSizes p.shape × IsKind p.kind) → r ≡ params_fault p → IsOk r ↔ IsLawful p
+lawful_where_ok p (Ok t) h e = (λ _. fine_is_lawful p h.0 h.1 (sym e), λ _. refl)
+lawful_where_ok p (Err f) h e = (λ ok. absurd cc, λ lawful. let both : fine ≡ Err f = sym (e ∙ lawful_is_fine p lawful) in absurd cc)

@@ -1,9 +1,11 @@
 pub mod Ahead
 pub mod Bytes
 pub mod Chosen
+pub mod Entries
 pub mod Exact
 pub mod Fronts
 pub mod Headers
+pub mod HeaderTexts
 pub mod Held
 pub mod Lawfulness
 pub mod Numbers
@@ -13,6 +15,9 @@ pub mod Reading
 pub mod SlotLoops
 pub mod Slots
 pub mod SpeltLawful
+pub mod TableNumbers
+pub mod TablePassing
+pub mod TableWriting
 pub mod Tests
 pub mod Unused
 pub mod Windows

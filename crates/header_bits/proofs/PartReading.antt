@@ -7,7 +7,6 @@ use Rattle.header_bits.specs.Layout.{AreValues, total, values}
 use Rattle.header_bits.specs.Parts.{Part, fine, part_at}
 use Rattle.header_bits.specs.declared.image_part.ImagePart.{ImagePart}
 use Rattle.header_bits.specs.declared.coder_part.CoderPart.{CoderPart}
-use Rattle.header_bits.specs.Reach.{Reach}
 use Rattle.header_bits.specs.ImagePart.{image}
 use Rattle.header_bits.specs.PredictorPart.{predictor}
 use Rattle.header_bits.specs.CoderPart.{coder_by, coder}
@@ -32,20 +31,20 @@ pub image_size : total image.fields ≡ 96
 unfolding total image
 image_size = refl
 
-pub predictor_size : (reach : Reach) (i : ImagePart) → total (predictor reach i).fields ≡ 40
+pub predictor_size : (i : ImagePart) → total (predictor i).fields ≡ 40
 unfolding total predictor
-predictor_size reach i = refl
+predictor_size i = refl
 
-pub coder_by_size : (b : Bool) (reach : Reach) (at : ℕ) (i : ImagePart) → total (coder_by b reach at i).fields ≡ 16
+pub coder_by_size : (b : Bool) (at : ℕ) (i : ImagePart) → total (coder_by b at i).fields ≡ 16
 unfolding total
-coder_by_size true reach at i = refl
-coder_by_size false reach at i = refl
+coder_by_size true at i = refl
+coder_by_size false at i = refl
 
-pub coder_size : (reach : Reach) (at : ℕ) (i : ImagePart) → total (coder reach at i).fields ≡ 16
+pub coder_size : (at : ℕ) (i : ImagePart) → total (coder at i).fields ≡ 16
 unfolding coder
-coder_size reach at i = coder_by_size i.block reach at i
+coder_size at i = coder_by_size i.block at i
 
 -- the coder that the image part names
-pub coder_is : (b : Bool) (reach : Reach) (at : ℕ) (i : ImagePart) (bits : List Bool) (r : Result (CoderPart × List Bool) Fault) → i.block ≡ b → part_at (coder_by b reach at i) bits ≡ r → part_at (coder reach at i) bits ≡ r
+pub coder_is : (b : Bool) (at : ℕ) (i : ImagePart) (bits : List Bool) (r : Result (CoderPart × List Bool) Fault) → i.block ≡ b → part_at (coder_by b at i) bits ≡ r → part_at (coder at i) bits ≡ r
 unfolding coder
-coder_is b reach at i bits r e h = subst (λ (c : Bool). part_at (coder_by c reach at i) bits ≡ r) (sym e) h
+coder_is b at i bits r e h = subst (λ (c : Bool). part_at (coder_by c at i) bits ≡ r) (sym e) h

@@ -1,5 +1,5 @@
 -- What a header spells is lawful.
-use Rattle.std.proofs.Common.{◌≡◌, inl, inr, ℕ, zero, suc, ◌+◌, ◌-◌, ◌*◌, ◌^◌, ◌<◌, ◌≤◌, ◌≤ℤ◌, Bool, true, false, cond, not, ◌&&◌, ltb, eqb, List, [], ◌∷◌, length, take, get_or, ℤ, pos, Ok, refl, sym, subst, ◌∙◌, arith, lit<}
+use Rattle.std.proofs.Common.{◌≡◌, inl, inr, ℕ, zero, suc, ◌+◌, ◌-◌, ◌*◌, ◌^◌, ◌<◌, ◌≤◌, ◌≤ℤ◌, Bool, true, false, cond, not, ◌&&◌, ltb, eqb, List, [], ◌∷◌, length, take, get_or, ℤ, pos, Ok, refl, subst, ◌∙◌, arith, lit<}
 use Rattle.std.specs.List.{AllByRecursion}
 use Rattle.std.proofs.lemmas.Int.{ints}
 use Rattle.std.proofs.lemmas.List.{length-map}
@@ -21,7 +21,6 @@ use Rattle.header_bits.specs.declared.coder_part.CoderPart.{CoderPart}
 use Rattle.header_bits.specs.declared.coder_part.CoderPart.TheVariants.{Sample, Block}
 use Rattle.header_bits.specs.Layout.{IsValue, AreValues}
 use Rattle.header_bits.specs.Parts.{fine, unused, part_at, SpellsPart}
-use Rattle.header_bits.specs.Reach.{Reach, here}
 use Rattle.header_bits.specs.ImagePart.{image, image_fields, image_tests, image_says}
 use Rattle.header_bits.specs.PredictorPart.{predictor, predictor_fields, predictor_tests, start_tests, predictor_says, exponent_of}
 use Rattle.header_bits.specs.CoderPart.{coder_by, coder, sample_fields, sample_tests, sample_says, block_fields, block_tests, block_says}
@@ -31,7 +30,7 @@ use Rattle.header_bits.specs.Lawful.{IsLawful, IsExponent, IsSigned, IsBlockSize
 use Rattle.header_bits.proofs.Exact.{part_exact}
 use Rattle.header_bits.proofs.Lawfulness.{none_above}
 use Rattle.header_bits.proofs.TableTexts.{table_count, table_small, all_signed}
-use Rattle.header_bits.proofs.Tests.{then_ok, refuse_ok, not_false, under}
+use Rattle.header_bits.proofs.Tests.{then_ok, refuse_ok, under}
 
 -- each number is one that its slot holds
 pub held_at : (ss : List Slot) (vs : List ℕ) (i : ℕ) → AreValues ss vs → i < length ss → IsValue (get_or ss i (Unused 0)) (get_or vs i 0)
@@ -75,7 +74,7 @@ image_spelt i bits s = subst (λ (x : ImagePart). IsImage x) s.said (image_said 
 
 -- ---- the predictor part
 
-record IsPredictorPart (reach : Reach) (i : ImagePart) (p : PredictorPart) : Type 0 where
+record IsPredictorPart (i : ImagePart) (p : PredictorPart) : Type 0 where
   previous : p.previous ≤ 15
   mode : p.reduced ≡ false → 2 ≤ i.shape.columns
   sums : p.column ≡ false → 2 ≤ i.shape.columns
@@ -86,7 +85,8 @@ record IsPredictorPart (reach : Reach) (i : ImagePart) (p : PredictorPart) : Typ
   vmin : IsExponent p.vmin
   vmax : IsExponent p.vmax
   exponents : p.vmin ≤ℤ p.vmax
-  start : p.custom ≡ true → (reach.tables ≡ true) × InRange 3 (p.omega + 3) p.resolution
+  start : p.custom ≡ true → InRange 3 (p.omega + 3) p.resolution
+  few : p.resolution ≤ p.omega + 3
 
 flag_said : (n columns : ℕ) → n < 2 → 1 ≤ columns → (eqb n 0 && eqb columns 1) ≡ false → eqb n 1 ≡ false → 2 ≤ columns
 flag_said n columns small some e other =
@@ -103,8 +103,8 @@ exponent_said n lt = (omega (arith, ints), omega (arith, ints))
 exponents_said : (m n : ℕ) → m ≤ n → exponent_of m ≤ℤ exponent_of n
 exponents_said m n le = omega (arith, ints)
 
-predictor_said : (reach : Reach) (i : ImagePart) (v : List ℕ) → 1 ≤ i.shape.columns → AreValues predictor_fields v → predictor_tests reach i v ≡ fine → IsPredictorPart reach i (predictor_says v)
-predictor_said reach i v some h e =
+predictor_said : (i : ImagePart) (v : List ℕ) → 1 ≤ i.shape.columns → AreValues predictor_fields v → predictor_tests i v ≡ fine → IsPredictorPart i (predictor_says v)
+predictor_said i v some h e =
     let a = then_ok (unused 96 2 (get_or v 0 0)) _ e in
     let b = then_ok (refuse_if (eqb (get_or v 2 0) 0 && eqb i.shape.columns 1) (Disagree rule.FullOneColumn)) _ a.1 in
     let c = then_ok (unused 103 1 (get_or v 3 0)) _ b.1 in
@@ -114,9 +114,8 @@ predictor_said reach i v some h e =
     let j = then_ok (refuse_if (ltb (get_or v 6 0) (i.kind.bits + get_or v 7 0 + 2)) (Disagree rule.RegisterTooSmall)) _ g.1 in
     let k = then_ok (refuse_if (ltb 11 (get_or v 8 0)) (FieldRange field.Interval (pos (get_or v 8 0)))) _ j.1 in
     let l = then_ok (refuse_if (ltb (get_or v 10 0) (get_or v 9 0)) (Disagree rule.ExponentOrder)) _ k.1 in
-    let m = then_ok (unused 128 1 (get_or v 11 0)) (start_tests reach v) l.1 in
-    let n = then_ok (refuse_if (eqb (get_or v 12 0) 1 && not reach.tables) (FieldRange field.WeightStart (pos 1))) _ m.1 in
-    let o = then_ok (refuse_if (not (eqb (get_or v 12 0) 1) && eqb (get_or v 13 0) 1) (Disagree rule.DefaultWithTable)) _ n.1 in
+    let m = then_ok (unused 128 1 (get_or v 11 0)) (start_tests v) l.1 in
+    let o = then_ok (refuse_if (not (eqb (get_or v 12 0) 1) && eqb (get_or v 13 0) 1) (Disagree rule.DefaultWithTable)) _ m.1 in
     let q = then_ok (refuse_if (eqb (get_or v 12 0) 1 && not (eqb (get_or v 13 0) 1)) TableElsewhere) _ o.1 in
     let r = then_ok (refuse_if (not (eqb (get_or v 12 0) 1) && ltb 0 (get_or v 14 0)) (Disagree rule.DefaultWithResolution)) _ q.1 in
     let s = then_ok (refuse_if (eqb (get_or v 12 0) 1 && ltb (get_or v 14 0) 3) (FieldRange field.Resolution (pos (get_or v 14 0)))) (refuse_if (ltb (get_or v 7 0 + 3) (get_or v 14 0)) (Disagree rule.ResolutionOverOmega)) r.1 in
@@ -135,17 +134,15 @@ predictor_said reach i v some h e =
       vmax = exponent_said (get_or v 10 0) (held_at predictor_fields v 10 h (lit< tt)).1;
       exponents = exponents_said (get_or v 9 0) (get_or v 10 0) (ltb-false (get_or v 10 0) (get_or v 9 0) (refuse_ok _ _ l.0));
       start = λ custom. (
-        not_false reach.tables (under (eqb (get_or v 12 0) 1) (not reach.tables) (refuse_ok _ _ n.0) custom),
-        (
-          ltb-false (get_or v 14 0) 3 (under (eqb (get_or v 12 0) 1) (ltb (get_or v 14 0) 3) (refuse_ok _ _ s.0) custom),
-          ltb-false (get_or v 7 0 + 3) (get_or v 14 0) (refuse_ok _ _ s.1),
-        ),
+        ltb-false (get_or v 14 0) 3 (under (eqb (get_or v 12 0) 1) (ltb (get_or v 14 0) 3) (refuse_ok _ _ s.0) custom),
+        ltb-false (get_or v 7 0 + 3) (get_or v 14 0) (refuse_ok _ _ s.1),
       );
+      few = ltb-false (get_or v 7 0 + 3) (get_or v 14 0) (refuse_ok _ _ s.1);
     }
 
-predictor_spelt : (reach : Reach) (i : ImagePart) (p : PredictorPart) (bits : List Bool) → 1 ≤ i.shape.columns → SpellsPart (predictor reach i) p bits → IsPredictorPart reach i p
+predictor_spelt : (i : ImagePart) (p : PredictorPart) (bits : List Bool) → 1 ≤ i.shape.columns → SpellsPart (predictor i) p bits → IsPredictorPart i p
 unfolding predictor
-predictor_spelt reach i p bits some s = subst (λ (x : PredictorPart). IsPredictorPart reach i x) s.said (predictor_said reach i s.numbers some s.held s.passed)
+predictor_spelt i p bits some s = subst (λ (x : PredictorPart). IsPredictorPart i x) s.said (predictor_said i s.numbers some s.held s.passed)
 
 -- ---- the weight table
 
@@ -169,22 +166,20 @@ weights_spelt i p ws bits some s custom = by_flag p.custom custom s
 
 -- ---- the coder part
 
-abbrev IsCoderPart : Reach → ImagePart → CoderPart → Type 0
-IsCoderPart reach i (Sample umax gamma_star gamma_zero constant table) = InRange 8 32 umax × InRange 4 9 gamma_star × InRange 1 8 gamma_zero × (gamma_zero + 1 ≤ gamma_star) × (table ≡ true → reach.tables ≡ true) × (table ≡ false → constant ≤ i.kind.bits - 2)
-IsCoderPart reach i (Block size restricted reference) = IsBlockSize size × (restricted ≡ true → (reach.restricted ≡ true) × (i.kind.bits ≤ 4)) × InRange 1 4096 reference
+abbrev IsCoderPart : ImagePart → CoderPart → Type 0
+IsCoderPart i (Sample umax gamma_star gamma_zero constant table) = InRange 8 32 umax × InRange 4 9 gamma_star × InRange 1 8 gamma_zero × (gamma_zero + 1 ≤ gamma_star) × (table ≡ false → constant ≤ i.kind.bits - 2)
+IsCoderPart i (Block size restricted reference) = IsBlockSize size × (restricted ≡ true → i.kind.bits ≤ 4) × InRange 1 4096 reference
 
-sample_said : (reach : Reach) (i : ImagePart) (v : List ℕ) → AreValues sample_fields v → sample_tests reach i v ≡ fine → IsCoderPart reach i (sample_says v)
-sample_said reach i v h e =
+sample_said : (i : ImagePart) (v : List ℕ) → AreValues sample_fields v → sample_tests i v ≡ fine → IsCoderPart i (sample_says v)
+sample_said i v h e =
     let a = then_ok (refuse_if (ltb (get_or v 0 0) 8) (FieldRange field.Umax (pos (get_or v 0 0)))) _ e in
     let b = then_ok (refuse_if (ltb 9 (get_or v 1 0)) (FieldRange field.GammaStar (pos (get_or v 1 0)))) _ a.1 in
     let c = then_ok (refuse_if (ltb (get_or v 1 0) (get_or v 2 0 + 1)) (Disagree rule.CounterOrder)) _ b.1 in
-    let d = then_ok (refuse_if (eqb (get_or v 4 0) 1 && not reach.tables) (FieldRange field.AccumulatorTable (pos 1))) _ c.1 in
-    let f = then_ok (refuse_if (not (eqb (get_or v 4 0) 1) && ltb (i.kind.bits - 2) (get_or v 3 0)) (Disagree rule.StartConstant)) _ d.1 in (
+    let f = then_ok (refuse_if (not (eqb (get_or v 4 0) 1) && ltb (i.kind.bits - 2) (get_or v 3 0)) (Disagree rule.StartConstant)) _ c.1 in (
       (ltb-false (get_or v 0 0) 8 (refuse_ok _ _ a.0), (held_at sample_fields v 0 h (lit< tt)).1),
       ((held_at sample_fields v 1 h (lit< tt)).0, ltb-false 9 (get_or v 1 0) (refuse_ok _ _ b.0)),
       held_at sample_fields v 2 h (lit< tt),
       ltb-false (get_or v 1 0) (get_or v 2 0 + 1) (refuse_ok _ _ c.0),
-      (λ table. not_false reach.tables (under (eqb (get_or v 4 0) 1) (not reach.tables) (refuse_ok _ _ d.0) table)),
       (λ none. ltb-false (i.kind.bits - 2) (get_or v 3 0) (under (not (eqb (get_or v 4 0) 1)) (ltb (i.kind.bits - 2) (get_or v 3 0)) (refuse_ok _ _ f.0) (rw none refl))),
     )
 
@@ -195,25 +190,21 @@ size_said (suc (suc zero)) lt = inr (inr (inl refl))
 size_said (suc (suc (suc zero))) lt = inr (inr (inr refl))
 size_said (suc (suc (suc (suc n)))) lt = absurd (omega arith)
 
-block_said : (reach : Reach) (at : ℕ) (i : ImagePart) (v : List ℕ) → AreValues block_fields v → block_tests reach at i v ≡ fine → IsCoderPart reach i (block_says v)
-block_said reach at i v h e =
-    let a = then_ok (unused at 1 (get_or v 0 0)) _ e in
-    let b = then_ok (refuse_if (eqb (get_or v 2 0) 1 && not reach.restricted) (FieldRange field.Restricted (pos 1))) (refuse_if (eqb (get_or v 2 0) 1 && ltb 4 i.kind.bits) (Disagree rule.RestrictedOverFour)) a.1 in (
+block_said : (at : ℕ) (i : ImagePart) (v : List ℕ) → AreValues block_fields v → block_tests at i v ≡ fine → IsCoderPart i (block_says v)
+block_said at i v h e =
+    let b = then_ok (unused at 1 (get_or v 0 0)) (refuse_if (eqb (get_or v 2 0) 1 && ltb 4 i.kind.bits) (Disagree rule.RestrictedOverFour)) e in (
       size_said (get_or v 1 0) (held_at block_fields v 1 h (lit< tt)).1,
-      (λ restricted. (
-        not_false reach.restricted (under (eqb (get_or v 2 0) 1) (not reach.restricted) (refuse_ok _ _ b.0) restricted),
-        ltb-false 4 i.kind.bits (under (eqb (get_or v 2 0) 1) (ltb 4 i.kind.bits) (refuse_ok _ _ b.1) restricted),
-      )),
+      (λ restricted. ltb-false 4 i.kind.bits (under (eqb (get_or v 2 0) 1) (ltb 4 i.kind.bits) (refuse_ok _ _ b.1) restricted)),
       held_at block_fields v 3 h (lit< tt),
     )
 
-coder_by_spelt : (b : Bool) (reach : Reach) (at : ℕ) (i : ImagePart) (c : CoderPart) (bits : List Bool) → SpellsPart (coder_by b reach at i) c bits → IsCoderPart reach i c
-coder_by_spelt true reach at i c bits s = subst (λ (x : CoderPart). IsCoderPart reach i x) s.said (block_said reach at i s.numbers s.held s.passed)
-coder_by_spelt false reach at i c bits s = subst (λ (x : CoderPart). IsCoderPart reach i x) s.said (sample_said reach i s.numbers s.held s.passed)
+coder_by_spelt : (b : Bool) (at : ℕ) (i : ImagePart) (c : CoderPart) (bits : List Bool) → SpellsPart (coder_by b at i) c bits → IsCoderPart i c
+coder_by_spelt true at i c bits s = subst (λ (x : CoderPart). IsCoderPart i x) s.said (block_said at i s.numbers s.held s.passed)
+coder_by_spelt false at i c bits s = subst (λ (x : CoderPart). IsCoderPart i x) s.said (sample_said i s.numbers s.held s.passed)
 
-coder_spelt : (reach : Reach) (at : ℕ) (i : ImagePart) (c : CoderPart) (bits : List Bool) → SpellsPart (coder reach at i) c bits → IsCoderPart reach i c
+coder_spelt : (at : ℕ) (i : ImagePart) (c : CoderPart) (bits : List Bool) → SpellsPart (coder at i) c bits → IsCoderPart i c
 unfolding coder
-coder_spelt reach at i c bits s = coder_by_spelt i.block reach at i c bits s
+coder_spelt at i c bits s = coder_by_spelt i.block at i c bits s
 
 -- ---- the accumulator table
 
@@ -230,33 +221,33 @@ constants_spelt at i c ks bits s table = by_flag (has_constants c) table s
 
 -- ---- the header
 
-start_said : (reach : Reach) (p : Params) (b : Bool) (q : ℕ) (ws : List ℤ) → (b ≡ true → (reach.tables ≡ true) × InRange 3 (p.omega + 3) q) → (b ≡ true → (length ws ≡ weight_count p.previous p.reduced p.shape.bands) × AllByRecursion (IsSigned q) ws)
-    → IsWeightStart reach p (start_by b q ws)
-start_said reach p true q ws h k = (let there = h refl in let table = k refl in (there.0, there.1, table.0, table.1))
-start_said reach p false q ws h k = tt
+start_said : (p : Params) (b : Bool) (q : ℕ) (ws : List ℤ) → (b ≡ true → InRange 3 (p.omega + 3) q) → (b ≡ true → (length ws ≡ weight_count p.previous p.reduced p.shape.bands) × AllByRecursion (IsSigned q) ws)
+    → IsWeightStart p (start_by b q ws)
+start_said p true q ws h k = (let there = h refl in let table = k refl in (there, table.0, table.1))
+start_said p false q ws h k = tt
 
-count_said : (reach : Reach) (p : Params) (b : Bool) (constant : ℕ) (ks : List ℕ) → (b ≡ true → reach.tables ≡ true) → (b ≡ false → constant ≤ p.kind.bits - 2) → (b ≡ true → (length ks ≡ p.shape.bands) × AllByRecursion (λ v. v ≤ p.kind.bits - 2) ks)
-    → IsCountStart reach p (count_by b constant ks)
-count_said reach p true constant ks h one k = (let table = k refl in (h refl, table.0, table.1))
-count_said reach p false constant ks h one k = one refl
+count_said : (p : Params) (b : Bool) (constant : ℕ) (ks : List ℕ) → (b ≡ false → constant ≤ p.kind.bits - 2) → (b ≡ true → (length ks ≡ p.shape.bands) × AllByRecursion (λ v. v ≤ p.kind.bits - 2) ks)
+    → IsCountStart p (count_by b constant ks)
+count_said p true constant ks one k = k refl
+count_said p false constant ks one k = one refl
 
-coder_said : (reach : Reach) (p : Params) (i : ImagePart) (c : CoderPart) (ks : List ℕ) → p.kind ≡ i.kind → p.shape ≡ i.shape → IsCoderPart reach i c → (has_constants c ≡ true → (length ks ≡ i.shape.bands) × AllByRecursion (λ v. v ≤ i.kind.bits - 2) ks) → IsCoder reach p (coder_by_part c ks)
-coder_said reach p i (Sample umax gamma_star gamma_zero constant table) ks e f h k =
-    (h.0, h.1, h.2, h.3, count_said reach p table constant ks h.4 (λ none. rw e (h.5 none)) (λ there. rw (e, f) (k there)))
-coder_said reach p i (Block size restricted reference) ks e f h k = (h.0, (λ there. rw e (h.1 there)), h.2)
+coder_said : (p : Params) (i : ImagePart) (c : CoderPart) (ks : List ℕ) → p.kind ≡ i.kind → p.shape ≡ i.shape → IsCoderPart i c → (has_constants c ≡ true → (length ks ≡ i.shape.bands) × AllByRecursion (λ v. v ≤ i.kind.bits - 2) ks) → IsCoder p (coder_by_part c ks)
+coder_said p i (Sample umax gamma_star gamma_zero constant table) ks e f h k =
+    (h.0, h.1, h.2, h.3, count_said p table constant ks (λ none. rw e (h.4 none)) (λ there. rw (e, f) (k there)))
+coder_said p i (Block size restricted reference) ks e f h k = (h.0, (λ there. rw e (h.1 there)), h.2)
 
-pub spelt_is_lawful : (reach : Reach) (p : Params) (bits : List Bool) → SpellsHeader reach p bits → IsLawful reach p
+pub spelt_is_lawful : (p : Params) (bits : List Bool) → SpellsHeader p bits → IsLawful p
 unfolding AreWeights
-spelt_is_lawful reach p bits s = subst (λ (x : Params). IsLawful reach x) s.same said
+spelt_is_lawful p bits s = subst (λ (x : Params). IsLawful x) s.same said
   where
-    said : IsLawful reach (params_of s.from)
+    said : IsLawful (params_of s.from)
     said =
         let x = s.from in
         let i : ImagePart = x.0.0.0.0 in
         let d : PredictorPart = x.0.0.0.1 in
         let first = image_spelt i _ s.spells.first.first.first.first in
-        let second = predictor_spelt reach i d _ first.sizes.columns.0 s.spells.first.first.first.second in
-        let third = coder_spelt reach _ i x.0.1 _ s.spells.first.second in
+        let second = predictor_spelt i d _ first.sizes.columns.0 s.spells.first.first.first.second in
+        let third = coder_spelt _ i x.0.1 _ s.spells.first.second in
         record {
           sizes = first.sizes;
           kind = first.kind;
@@ -273,27 +264,16 @@ spelt_is_lawful reach p bits s = subst (λ (x : Params). IsLawful reach x) s.sam
           vmin = second.vmin;
           vmax = second.vmax;
           exponents = second.exponents;
-          start = start_said reach (params_of x) d.custom d.resolution x.0.0.1 second.start (λ custom. weights_spelt i d x.0.0.1 _ (omega (arith, (second.start custom).1)) s.spells.first.first.second custom);
-          coder = coder_said reach (params_of x) i x.0.1 x.1 refl refl third (λ table. constants_spelt _ i x.0.1 x.1 _ s.spells.second table);
+          start = start_said (params_of x) d.custom d.resolution x.0.0.1 second.start (λ custom. weights_spelt i d x.0.0.1 _ (omega (arith, second.start custom)) s.spells.first.first.second custom);
+          coder = coder_said (params_of x) i x.0.1 x.1 refl refl third (λ table. constants_spelt _ i x.0.1 x.1 _ s.spells.second table);
         }
 
 -- ---- what reading the parts tells
 
-not_here : (b : Bool) → (b ≡ true → false ≡ true) → b ≡ false
-not_here true h = sym (h refl)
-not_here false h = refl
-
-pub read_usual : (i : ImagePart) (p : PredictorPart) (bits one rest : List Bool) → part_at image bits ≡ Ok (i, one) → part_at (predictor here i) one ≡ Ok (p, rest) → p.custom ≡ false
-read_usual i p bits one rest first second =
+-- the numbers of a weight table that is announced have a few bits each
+pub start_read : (i : ImagePart) (p : PredictorPart) (bits one rest : List Bool) → part_at image bits ≡ Ok (i, one) → part_at (predictor i) one ≡ Ok (p, rest) → (p.previous ≤ 15) × (p.resolution ≤ 22) × (p.custom ≡ true → 1 ≤ p.resolution)
+start_read i p bits one rest first second =
     let a = (part_exact image).found i bits one first in
-    let b = (part_exact (predictor here i)).found p one rest second in
-    not_here p.custom (λ custom. ((predictor_spelt here i p b.0 (image_spelt i a.0 a.1).sizes.columns.0 b.1).start custom).0)
-
-no_table : (i : ImagePart) (c : CoderPart) → IsCoderPart here i c → has_constants c ≡ false
-no_table i (Sample umax gamma_star gamma_zero constant table) h = not_here table h.4
-no_table i (Block size restricted reference) h = refl
-
-pub read_constant : (at : ℕ) (i : ImagePart) (c : CoderPart) (bits rest : List Bool) → part_at (coder here at i) bits ≡ Ok (c, rest) → has_constants c ≡ false
-read_constant at i c bits rest e =
-    let a = (part_exact (coder here at i)).found c bits rest e in
-    no_table i c (coder_spelt here at i c a.0 a.1)
+    let b = (part_exact (predictor i)).found p one rest second in
+    let facts = predictor_spelt i p b.0 (image_spelt i a.0 a.1).sizes.columns.0 b.1 in
+    (facts.previous, omega (arith, facts.few, facts.fraction), (λ custom. omega (arith, facts.start custom)))

@@ -9,7 +9,6 @@ use Rattle.header_bits.specs.declared.layout.Slot.TheVariants.{Unused, Plain, Mo
 use Rattle.header_bits.specs.declared.image_part.ImagePart.{ImagePart}
 use Rattle.header_bits.specs.declared.coder_part.CoderPart.{CoderPart}
 use Rattle.header_bits.specs.declared.coder_part.CoderPart.TheVariants.{Sample, Block}
-use Rattle.header_bits.specs.Reach.{Reach}
 use Rattle.header_bits.specs.Parts.{Part, unused}
 use Rattle.header_bits.specs.ImagePart.{flag}
 
@@ -22,13 +21,12 @@ sample_fields =
     ∷ Plain 1 0  -- 4 accumulator table in the file
     ∷ []
 
-abbrev pub sample_tests : Reach → ImagePart → List ℕ → Test
-sample_tests reach i v =
+abbrev pub sample_tests : ImagePart → List ℕ → Test
+sample_tests i v =
     let table = slice_index v 4 == 1 in
     refuse_if (nat_lt (slice_index v 0) 8) (FieldRange field.Umax (pos (slice_index v 0)))
     >> refuse_if (nat_lt 9 (slice_index v 1)) (FieldRange field.GammaStar (pos (slice_index v 1)))
     >> refuse_if (nat_lt (slice_index v 1) (slice_index v 2 + 1)) (Disagree rule.CounterOrder)
-    >> refuse_if (table && not reach.tables) (FieldRange field.AccumulatorTable (pos 1))
     >> refuse_if (not table && nat_lt (i.kind.bits - 2) (slice_index v 3)) (Disagree rule.StartConstant)
     >> refuse_if (table && nat_lt (slice_index v 3) 15) (Disagree rule.ConstantWithTable)
 
@@ -43,23 +41,22 @@ block_fields =
     ∷ Modulo 12  -- 3 reference sample interval
     ∷ []
 
-abbrev pub block_tests : Reach → ℕ → ImagePart → List ℕ → Test
-block_tests reach at i v =
+abbrev pub block_tests : ℕ → ImagePart → List ℕ → Test
+block_tests at i v =
     let restricted = slice_index v 2 == 1 in
     unused at 1 (slice_index v 0)
-    >> refuse_if (restricted && not reach.restricted) (FieldRange field.Restricted (pos 1))
     >> refuse_if (restricted && nat_lt 4 i.kind.bits) (Disagree rule.RestrictedOverFour)
 
 abbrev pub block_says : List ℕ → CoderPart
 block_says v = Block (8 * 2 ^ slice_index v 1) (slice_index v 2 == 1) (slice_index v 3)
 
 -- the part of one coder or of the other; `at` is its first bit's place in the file
-abbrev pub coder_by : Bool → Reach → ℕ → ImagePart → Part CoderPart
-coder_by true reach at i = record { fields = block_fields; tests = block_tests reach at i; says = block_says }
-coder_by false reach at i = record { fields = sample_fields; tests = sample_tests reach i; says = sample_says }
+abbrev pub coder_by : Bool → ℕ → ImagePart → Part CoderPart
+coder_by true at i = record { fields = block_fields; tests = block_tests at i; says = block_says }
+coder_by false at i = record { fields = sample_fields; tests = sample_tests i; says = sample_says }
 
-unfoldable pub coder : Reach → ℕ → ImagePart → Part CoderPart
-coder reach at i = coder_by i.block reach at i
+unfoldable pub coder : ℕ → ImagePart → Part CoderPart
+coder at i = coder_by i.block at i
 
 -- the code of a block size
 abbrev pub size_code : ℕ → ℕ

@@ -1,6 +1,7 @@
 -- The whole header: the image part, the predictor part, a weight table, the coder part and an accumulator table.
-use Rattle.std.specs.Prelude.{◌≡◌, ℕ, ◌+◌, ◌*◌, drop, Option, Some, None, Ok, Err, Bool, true, false, List, ◌∷◌, ◌++◌, [], length, map, Result, ℤ}
+use Rattle.std.specs.Prelude.{◌≡◌, ◌⊎◌, ◌||◌, ℕ, ◌+◌, ◌*◌, ◌≤◌, drop, Option, Some, None, Ok, Err, Bool, true, false, List, ◌∷◌, ◌++◌, [], length, map, Result, ℤ}
 use Rattle.cube_core.specs.declared.fault.Fault.{Fault}
+use Rattle.cube_core.specs.declared.fault.Fault.TheVariants.{WantOfMemory}
 use Rattle.header_bits.specs.declared.params.Params.{Params}
 use Rattle.header_bits.specs.declared.params.WeightStart.{WeightStart}
 use Rattle.header_bits.specs.declared.params.WeightStart.TheVariants.{Usual, Table}
@@ -13,36 +14,31 @@ use Rattle.header_bits.specs.declared.predictor_part.PredictorPart.{PredictorPar
 use Rattle.header_bits.specs.declared.coder_part.CoderPart.{CoderPart}
 use Rattle.header_bits.specs.declared.coder_part.CoderPart.TheVariants.{Sample, Block}
 use Rattle.header_bits.specs.Reading.{Reading}
-use Rattle.header_bits.specs.Layout.{total, spelled}
+use Rattle.header_bits.specs.Layout.{total, spelled, values}
 use Rattle.header_bits.specs.Parts.{part_at, then_at, as_at, SpellsPart, SpellsThen, SpellsAs}
-use Rattle.header_bits.specs.Reach.{Reach}
 use Rattle.header_bits.specs.ImagePart.{image, image_fields, image_numbers}
 use Rattle.header_bits.specs.PredictorPart.{predictor, predictor_fields, predictor_numbers}
 use Rattle.header_bits.specs.CoderPart.{coder, coder_fields, coder_numbers}
-use Rattle.header_bits.specs.TableParts.{weights, constants, table_fields, signed_code}
+use Rattle.header_bits.specs.TableParts.{weight_count, weights, has_constants, constants, table_fields, signed_code}
 
 -- what the parts say, one after another
 abbrev pub Said : Type 0
 Said = (((ImagePart × PredictorPart) × List ℤ) × CoderPart) × List ℕ
-
--- the parts of a header without tables
-abbrev pub said : ImagePart → PredictorPart → CoderPart → Said
-said i p c = ((((i, p), []), c), [])
 
 -- the first bit behind the weight table
 abbrev pub coder_place : ImagePart → PredictorPart → ℕ
 coder_place i p = 136 + total (weights i p).fields
 
 -- the parts, read in order
-unfoldable pub parts_at : Reach → Reading Said
-parts_at reach =
-    then_at (then_at (then_at (then_at (part_at image) (λ i. part_at (predictor reach i))) (λ x. part_at (weights x.0 x.1))) (λ x. part_at (coder reach (coder_place x.0.0 x.0.1) x.0.0)))
+unfoldable pub parts_at : Reading Said
+parts_at =
+    then_at (then_at (then_at (then_at (part_at image) (λ i. part_at (predictor i))) (λ x. part_at (weights x.0 x.1))) (λ x. part_at (coder (coder_place x.0.0 x.0.1) x.0.0)))
     (λ x. part_at (constants (coder_place x.0.0.0 x.0.0.1 + 16) x.0.0.0 x.1))
 
 -- the parts, spelt in order
-abbrev pub SpellsParts : Reach → Said → List Bool → Type 0
-SpellsParts reach =
-    SpellsThen (SpellsThen (SpellsThen (SpellsThen (SpellsPart image) (λ i. SpellsPart (predictor reach i))) (λ x. SpellsPart (weights x.0 x.1))) (λ x. SpellsPart (coder reach (coder_place x.0.0 x.0.1) x.0.0)))
+abbrev pub SpellsParts : Said → List Bool → Type 0
+SpellsParts =
+    SpellsThen (SpellsThen (SpellsThen (SpellsThen (SpellsPart image) (λ i. SpellsPart (predictor i))) (λ x. SpellsPart (weights x.0 x.1))) (λ x. SpellsPart (coder (coder_place x.0.0 x.0.1) x.0.0)))
     (λ x. SpellsPart (constants (coder_place x.0.0.0 x.0.0.1 + 16) x.0.0.0 x.1))
 
 abbrev pub start_by : Bool → ℕ → List ℤ → WeightStart
@@ -56,6 +52,21 @@ count_by true constant values = Each values
 abbrev pub coder_by_part : CoderPart → List ℕ → Coder
 coder_by_part (Sample umax gamma_star gamma_zero constant table) values = coding.Sample umax gamma_star gamma_zero (count_by table constant values)
 coder_by_part (Block size restricted reference) values = coding.Block size restricted reference
+
+-- what the parts say where the bits from these on hold the tables, if there are any
+abbrev pub said : ImagePart → PredictorPart → List Bool → CoderPart → List Bool → Said
+said i p at_weights c at_constants =
+    let ws = weights i p in
+    let ks = constants (coder_place i p + 16) i c in
+    ((((i, p), ws.says (values ws.fields at_weights)), c), ks.says (values ks.fields at_constants))
+
+-- the tables that are announced are there, with numbers of a few bits each
+pub record AreThere (i : ImagePart) (p : PredictorPart) (at_weights : List Bool) (c : CoderPart) (at_constants : List Bool) : Type 0 where
+  pub previous : p.previous ≤ 15
+  pub most : p.resolution ≤ 22
+  pub least : p.custom ≡ true → 1 ≤ p.resolution
+  pub weights : p.custom ≡ true → weight_count p.previous p.reduced i.shape.bands * p.resolution ≤ length at_weights
+  pub constants : has_constants c ≡ true → i.shape.bands * 4 ≤ length at_constants
 
 -- the parameters that the parts say
 abbrev pub params_of : Said → Params
@@ -81,12 +92,12 @@ params_of s =
     }
 
 -- reading a header gives its parameters, or the first refusal in the order of the fields
-unfoldable pub header_at : Reach → Reading Params
-header_at reach = as_at params_of (parts_at reach)
+unfoldable pub header_at : Reading Params
+header_at = as_at params_of parts_at
 
 -- the bits are a header of these parameters
-abbrev pub SpellsHeader : Reach → Params → List Bool → Type 0
-SpellsHeader reach p bits = SpellsAs params_of (SpellsParts reach) p bits
+abbrev pub SpellsHeader : Params → List Bool → Type 0
+SpellsHeader p bits = SpellsAs params_of SpellsParts p bits
 
 -- ---- the spelling that a coder chooses
 
@@ -150,19 +161,31 @@ header_of p =
     spelled image_fields (image_numbers (image_part_of p)) ++ spelled predictor_fields (predictor_numbers (predictor_part_of p)) ++ weight_bits p.start
     ++ spelled (coder_fields (coder_part_of p.coder)) (coder_numbers (coder_part_of p.coder)) ++ constant_bits p.coder
 
--- what reading a header answers: its parameters and its length in bytes, or the first refusal
-abbrev pub ReadsHeader : Reach → List Bool → Result (Params × ℕ) Fault → Type 0
-ReadsHeader reach bits (Ok x) = header_at reach bits ≡ Ok (x.0, drop (8 * x.1) bits)
-ReadsHeader reach bits (Err e) = header_at reach bits ≡ Err e
+abbrev pub has_each : Coder → Bool
+has_each (coding.Sample umax gamma_star gamma_zero start) = is_each start
+has_each (coding.Block size restricted reference) = false
+
+-- a table of weights or of constants is among the parameters
+abbrev pub has_table : Params → Bool
+has_table p = is_custom p.start || has_each p.coder
+
+-- a table is in the header that the bits begin with
+abbrev pub BeginsWithTable : List Bool → Type 0
+BeginsWithTable bits = (x : Params × List Bool) × (header_at bits ≡ Ok x) × (has_table x.0 ≡ true)
+
+-- what reading a header answers: its parameters and its length in bytes, or the first refusal; or no memory for a table of a header that is all there
+abbrev pub ReadsHeader : List Bool → Result (Params × ℕ) Fault → Type 0
+ReadsHeader bits (Ok x) = header_at bits ≡ Ok (x.0, drop (8 * x.1) bits)
+ReadsHeader bits (Err e) = (header_at bits ≡ Err e) ⊎ ((e ≡ WantOfMemory) × BeginsWithTable bits)
 
 -- the bits begin with no header
-abbrev pub BeginsNoHeader : Reach → List Bool → Type 0
-BeginsNoHeader reach bits = (p : Params) (h rest : List Bool) → SpellsHeader reach p h → bits ≡ h ++ rest → ⊥
+abbrev pub BeginsNoHeader : List Bool → Type 0
+BeginsNoHeader bits = (p : Params) (h rest : List Bool) → SpellsHeader p h → bits ≡ h ++ rest → ⊥
 
 -- the first refusal of a header, or none
 abbrev pub fault_of : {X : Type 0} → Result X Fault → Option Fault
 fault_of (Ok x) = None
 fault_of (Err e) = Some e
 
-unfoldable pub header_fault : Reach → List Bool → Option Fault
-header_fault reach bits = fault_of (header_at reach bits)
+unfoldable pub header_fault : List Bool → Option Fault
+header_fault bits = fault_of (header_at bits)

@@ -19,7 +19,6 @@ use Rattle.header_bits.specs.declared.params.Coder.TheVariants.{Sample, Block}
 use Rattle.header_bits.specs.declared.params.CountStart.{CountStart}
 use Rattle.header_bits.specs.declared.params.CountStart.TheVariants.{Constant, Each}
 use Rattle.header_bits.specs.Parts.{fine}
-use Rattle.header_bits.specs.Reach.{Reach}
 use Rattle.header_bits.specs.TableParts.{weight_count, some_above}
 
 -- a weight update scaling exponent is -6 to 9
@@ -33,22 +32,22 @@ IsSigned bits v = (neg_ℤ (pos (2 ^ (bits - 1))) ≤ℤ v) × (v ≤ℤ (pos (2
 abbrev pub IsBlockSize : ℕ → Type 0
 IsBlockSize size = (size ≡ 8) ⊎ ((size ≡ 16) ⊎ ((size ≡ 32) ⊎ (size ≡ 64)))
 
--- the usual start; or a table, where tables are taken, with one number for each weight
-abbrev pub IsWeightStart : Reach → Params → WeightStart → Type 0
-IsWeightStart reach p Usual = Unit {0}
-IsWeightStart reach p (Table q values) = (reach.tables ≡ true) × InRange 3 (p.omega + 3) q × (length values ≡ weight_count p.previous p.reduced p.shape.bands) × AllByRecursion (IsSigned q) values
+-- the usual start; or a table with one number for each weight
+abbrev pub IsWeightStart : Params → WeightStart → Type 0
+IsWeightStart p Usual = Unit {0}
+IsWeightStart p (Table q values) = InRange 3 (p.omega + 3) q × (length values ≡ weight_count p.previous p.reduced p.shape.bands) × AllByRecursion (IsSigned q) values
 
--- one constant; or a table, where tables are taken, with one constant for each band
-abbrev pub IsCountStart : Reach → Params → CountStart → Type 0
-IsCountStart reach p (Constant k) = k ≤ p.kind.bits - 2
-IsCountStart reach p (Each values) = (reach.tables ≡ true) × (length values ≡ p.shape.bands) × AllByRecursion (λ v. v ≤ p.kind.bits - 2) values
+-- one constant; or a table with one constant for each band
+abbrev pub IsCountStart : Params → CountStart → Type 0
+IsCountStart p (Constant k) = k ≤ p.kind.bits - 2
+IsCountStart p (Each values) = (length values ≡ p.shape.bands) × AllByRecursion (λ v. v ≤ p.kind.bits - 2) values
 
-abbrev pub IsCoder : Reach → Params → Coder → Type 0
-IsCoder reach p (Sample umax gamma_star gamma_zero start) = InRange 8 32 umax × InRange 4 9 gamma_star × InRange 1 8 gamma_zero × (gamma_zero + 1 ≤ gamma_star) × IsCountStart reach p start
-IsCoder reach p (Block size restricted reference) = IsBlockSize size × (restricted ≡ true → (reach.restricted ≡ true) × (p.kind.bits ≤ 4)) × InRange 1 4096 reference
+abbrev pub IsCoder : Params → Coder → Type 0
+IsCoder p (Sample umax gamma_star gamma_zero start) = InRange 8 32 umax × InRange 4 9 gamma_star × InRange 1 8 gamma_zero × (gamma_zero + 1 ≤ gamma_star) × IsCountStart p start
+IsCoder p (Block size restricted reference) = IsBlockSize size × (restricted ≡ true → p.kind.bits ≤ 4) × InRange 1 4096 reference
 
 -- all ranges and rules hold
-pub record IsLawful (reach : Reach) (p : Params) : Type 0 where
+pub record IsLawful (p : Params) : Type 0 where
   pub sizes : AreSizes p.shape
   pub kind : IsKind p.kind
   pub user : p.user ≤ 255
@@ -64,8 +63,8 @@ pub record IsLawful (reach : Reach) (p : Params) : Type 0 where
   pub vmin : IsExponent p.vmin
   pub vmax : IsExponent p.vmax
   pub exponents : p.vmin ≤ℤ p.vmax
-  pub start : IsWeightStart reach p p.start
-  pub coder : IsCoder reach p p.coder
+  pub start : IsWeightStart p p.start
+  pub coder : IsCoder p p.coder
 
 -- ---- the first refusal, in the order of the header's fields
 
@@ -80,40 +79,40 @@ abbrev pub order_fault : Sizes → Order → Test
 order_fault s Bsq = fine
 order_fault s (Bi depth) = refuse_if (depth == 0) (FieldRange field.Depth (pos 0)) >> refuse_if (nat_lt s.bands depth) (Disagree rule.DepthOverBands)
 
+abbrev pub weight_fault : ℕ → ℤ → Test
+weight_fault q v = refuse_if (not (int_le (neg_ℤ (pos (2 ^ (q - 1)))) v && int_le v (pos (2 ^ (q - 1)) -ℤ pos 1))) (FieldRange field.WeightEntry v)
+
 -- the first entry that isn't a signed number of so many bits
 unfoldable pub entries_fault : ℕ → List ℤ → Test
 entries_fault q [] = fine
-entries_fault q (v ∷ vs) = refuse_if (not (int_le (neg_ℤ (pos (2 ^ (q - 1)))) v && int_le v (pos (2 ^ (q - 1)) -ℤ pos 1))) (FieldRange field.WeightEntry v) >> entries_fault q vs
+entries_fault q (v ∷ vs) = weight_fault q v >> entries_fault q vs
 
-abbrev pub start_fault : Reach → Params → WeightStart → Test
-start_fault reach p Usual = fine
-start_fault reach p (Table q values) =
-    refuse_if (not reach.tables) (FieldRange field.WeightStart (pos 1))
-    >> refuse_if (nat_lt q 3) (FieldRange field.Resolution (pos q))
+abbrev pub start_fault : Params → WeightStart → Test
+start_fault p Usual = fine
+start_fault p (Table q values) =
+    refuse_if (nat_lt q 3) (FieldRange field.Resolution (pos q))
     >> refuse_if (nat_lt (p.omega + 3) q) (Disagree rule.ResolutionOverOmega)
     >> refuse_if (not (length values == weight_count p.previous p.reduced p.shape.bands)) (Disagree rule.WeightTableLength)
     >> entries_fault q values
 
-abbrev pub count_fault : Reach → Params → CountStart → Test
-count_fault reach p (Constant k) = refuse_if (nat_lt (p.kind.bits - 2) k) (Disagree rule.StartConstant)
-count_fault reach p (Each values) =
-    refuse_if (not reach.tables) (FieldRange field.AccumulatorTable (pos 1))
-    >> refuse_if (not (length values == p.shape.bands)) (Disagree rule.AccumulatorTableLength)
+abbrev pub count_fault : Params → CountStart → Test
+count_fault p (Constant k) = refuse_if (nat_lt (p.kind.bits - 2) k) (Disagree rule.StartConstant)
+count_fault p (Each values) =
+    refuse_if (not (length values == p.shape.bands)) (Disagree rule.AccumulatorTableLength)
     >> refuse_if (some_above (p.kind.bits - 2) values) (Disagree rule.AccumulatorEntry)
 
 abbrev pub block_size_fault : ℕ → Test
 block_size_fault size = refuse_if (not (size == 8) && not (size == 16) && not (size == 32) && not (size == 64)) (FieldRange field.BlockSize (pos size))
 
-abbrev pub coder_fault : Reach → Params → Coder → Test
-coder_fault reach p (Sample umax gamma_star gamma_zero start) =
+abbrev pub coder_fault : Params → Coder → Test
+coder_fault p (Sample umax gamma_star gamma_zero start) =
     in_range_or field.Umax 8 32 umax
     >> in_range_or field.GammaStar 4 9 gamma_star
     >> in_range_or field.GammaZero 1 8 gamma_zero
     >> refuse_if (nat_lt gamma_star (gamma_zero + 1)) (Disagree rule.CounterOrder)
-    >> count_fault reach p start
-coder_fault reach p (Block size restricted reference) =
+    >> count_fault p start
+coder_fault p (Block size restricted reference) =
     block_size_fault size
-    >> refuse_if (restricted && not reach.restricted) (FieldRange field.Restricted (pos 1))
     >> refuse_if (restricted && nat_lt 4 p.kind.bits) (Disagree rule.RestrictedOverFour)
     >> in_range_or field.Reference 1 4096 reference
 
@@ -131,11 +130,11 @@ predictor_fault p =
     >> refuse_if (int_lt p.vmax p.vmin) (Disagree rule.ExponentOrder)
 
 -- the first refusal of parameters
-unfoldable pub params_fault : Reach → Params → Test
-params_fault reach p =
+unfoldable pub params_fault : Params → Test
+params_fault p =
     in_range_or field.User 0 255 p.user
     >> order_fault p.shape p.order
     >> in_range_or field.WordSize 1 8 p.word
     >> predictor_fault p
-    >> start_fault reach p p.start
-    >> coder_fault reach p p.coder
+    >> start_fault p p.start
+    >> coder_fault p p.coder

@@ -4,24 +4,23 @@ use Rattle.cube_core.specs.declared.fault.Fault.{Fault}
 use Rattle.cube_core.specs.declared.fault.Fault.TheVariants.{ShortHeader}
 use Rattle.header_bits.specs.declared.params.Params.{Params}
 use Rattle.header_bits.specs.Parts.{IsExact}
-use Rattle.header_bits.specs.Reach.{Reach}
 use Rattle.header_bits.specs.Header.{header_at, header_of, SpellsHeader}
 use Rattle.header_bits.specs.Lawful.{IsLawful}
 
 abbrev pub OneHeader : Type 0
-OneHeader = (reach : Reach) (g h x y : List Bool) (p q : Params) → SpellsHeader reach p g → SpellsHeader reach q h → g ++ x ≡ h ++ y → (p ≡ q) × (g ≡ h)
+OneHeader = (g h x y : List Bool) (p q : Params) → SpellsHeader p g → SpellsHeader q h → g ++ x ≡ h ++ y → (p ≡ q) × (g ≡ h)
 
 abbrev pub HeaderIsExact : Type 0
-HeaderIsExact = (reach : Reach) → IsExact (header_at reach) (SpellsHeader reach)
+HeaderIsExact = IsExact header_at SpellsHeader
 
 abbrev pub HeaderIsLawful : Type 0
-HeaderIsLawful = (reach : Reach) (p : Params) (h : List Bool) → SpellsHeader reach p h → IsLawful reach p
+HeaderIsLawful = (p : Params) (h : List Bool) → SpellsHeader p h → IsLawful p
 
 abbrev pub ChosenIsSpelt : Type 0
-ChosenIsSpelt = (reach : Reach) (p : Params) → IsLawful reach p → SpellsHeader reach p (header_of p)
+ChosenIsSpelt = (p : Params) → IsLawful p → SpellsHeader p (header_of p)
 
 -- where a header is refused, other than for its length, none begins the bits, whatever bits follow
 abbrev pub FaultIsNoHeader : Type 0
 FaultIsNoHeader =
-    (reach : Reach) (e : Fault) (bits : List Bool) → header_at reach bits ≡ Err e → (e ≡ ShortHeader → ⊥)
-    → (more : List Bool) (p : Params) (h rest : List Bool) → SpellsHeader reach p h → bits ++ more ≡ h ++ rest → ⊥
+    (e : Fault) (bits : List Bool) → header_at bits ≡ Err e → (e ≡ ShortHeader → ⊥)
+    → (more : List Bool) (p : Params) (h rest : List Bool) → SpellsHeader p h → bits ++ more ≡ h ++ rest → ⊥

@@ -8,7 +8,6 @@ pub mod Laws
 pub mod Layout
 pub mod Parts
 pub mod PredictorPart
-pub mod Reach
 pub mod Reading
 pub mod Rows
 pub mod TableParts

@@ -4,7 +4,7 @@ use Rattle.cube_core.specs.declared.fault.Fault.TheVariants.{ShortHeader, Reserv
 use Rattle.cube_core.specs.Steps.{Test, ◌>>=◌}
 use Rattle.header_bits.specs.declared.layout.Slot.{Slot}
 use Rattle.header_bits.specs.Layout.{AreValues, total, spelled, values}
-use Rattle.header_bits.specs.Reading.{Reading}
+use Rattle.header_bits.specs.Reading.{Reading, Reads}
 
 abbrev pub fine : Test
 fine = Ok (tt {0})
@@ -24,6 +24,10 @@ unfoldable pub part_at : {X : Type 0} → Part X → Reading X
 part_at part bits =
     if nat_lt (length bits) (total part.fields) then Err ShortHeader
     else (part.tests (values part.fields bits) >>= λ _. Ok (part.says (values part.fields bits), drop (total part.fields) bits))
+
+-- a part was looked through: it is refused, or what it says is left to be read again
+abbrev pub Passes : {X : Type 0} → Part X → Test → List Bool → List Bool → Type 0
+Passes part result old new = Reads (λ _. part.says (values part.fields old)) result new (part_at part old)
 
 -- the bits are numbers in the part's slots that pass its tests and say this
 pub record SpellsPart {X : Type 0} (part : Part X) (x : X) (bits : List Bool) : Type 0 where

@@ -8,7 +8,6 @@ use Rattle.header_bits.specs.declared.layout.Slot.{Slot}
 use Rattle.header_bits.specs.declared.layout.Slot.TheVariants.{Unused, Plain, Modulo}
 use Rattle.header_bits.specs.declared.image_part.ImagePart.{ImagePart}
 use Rattle.header_bits.specs.declared.predictor_part.PredictorPart.{PredictorPart}
-use Rattle.header_bits.specs.Reach.{Reach}
 use Rattle.header_bits.specs.Parts.{Part, unused}
 use Rattle.header_bits.specs.ImagePart.{flag}
 
@@ -40,21 +39,20 @@ exponent_code (pos n) = n + 6
 exponent_code (negsuc n) = 5 - n
 
 -- the refusals of the weight start, in order
-abbrev pub start_tests : Reach → List ℕ → Test
-start_tests reach v =
+abbrev pub start_tests : List ℕ → Test
+start_tests v =
     let custom = slice_index v 12 == 1 in
     let table = slice_index v 13 == 1 in
     let resolution = slice_index v 14 in
-    refuse_if (custom && not reach.tables) (FieldRange field.WeightStart (pos 1))
-    >> refuse_if (not custom && table) (Disagree rule.DefaultWithTable)
+    refuse_if (not custom && table) (Disagree rule.DefaultWithTable)
     >> refuse_if (custom && not table) TableElsewhere
     >> refuse_if (not custom && nat_lt 0 resolution) (Disagree rule.DefaultWithResolution)
     >> refuse_if (custom && nat_lt resolution 3) (FieldRange field.Resolution (pos resolution))
     >> refuse_if (nat_lt (slice_index v 7 + 3) resolution) (Disagree rule.ResolutionOverOmega)
 
 -- the refusals, in order
-abbrev pub predictor_tests : Reach → ImagePart → List ℕ → Test
-predictor_tests reach i v =
+abbrev pub predictor_tests : ImagePart → List ℕ → Test
+predictor_tests i v =
     unused 96 2 (slice_index v 0)
     >> refuse_if ((slice_index v 2 == 0) && (i.shape.columns == 1)) (Disagree rule.FullOneColumn)
     >> unused 103 1 (slice_index v 3)
@@ -65,7 +63,7 @@ predictor_tests reach i v =
     >> refuse_if (nat_lt 11 (slice_index v 8)) (FieldRange field.Interval (pos (slice_index v 8)))
     >> refuse_if (nat_lt (slice_index v 10) (slice_index v 9)) (Disagree rule.ExponentOrder)
     >> unused 128 1 (slice_index v 11)
-    >> start_tests reach v
+    >> start_tests v
 
 abbrev pub predictor_says : List ℕ → PredictorPart
 predictor_says v = record {
@@ -81,8 +79,8 @@ predictor_says v = record {
   resolution = slice_index v 14;
 }
 
-unfoldable pub predictor : Reach → ImagePart → Part PredictorPart
-predictor reach i = record { fields = predictor_fields; tests = predictor_tests reach i; says = predictor_says }
+unfoldable pub predictor : ImagePart → Part PredictorPart
+predictor i = record { fields = predictor_fields; tests = predictor_tests i; says = predictor_says }
 
 -- the numbers that a coder puts into the slots
 abbrev pub predictor_numbers : PredictorPart → List ℕ

@@ -1,5 +1,5 @@
 -- The tables that may stand in a header: weights to start from, and an accumulator constant for each band.
-use Rattle.std.specs.Prelude.{ℕ, zero, suc, ◌+◌, ◌-◌, ◌*◌, ◌%◌, ◌^◌, nat_lt, min, Bool, true, false, if◌then◌else◌, List, [], ◌∷◌, ◌++◌, map, take, replicate, slice_index, ℤ, pos, negsuc, ◌-ℤ◌}
+use Rattle.std.specs.Prelude.{ℕ, zero, suc, ◌+◌, ◌-◌, ◌*◌, ◌%◌, ◌^◌, nat_lt, min, Bool, true, false, if◌then◌else◌, List, [], ◌∷◌, ◌++◌, length, map, take, replicate, slice_index, ℤ, pos, negsuc, ◌-ℤ◌}
 use Rattle.cube_core.specs.declared.fault.Fault.TheVariants.{Disagree}
 use Rattle.cube_core.specs.declared.fault.Rule.TheVariants as rule
 use Rattle.cube_core.specs.Steps.{Test, ◌>>◌, refuse_if}
@@ -9,6 +9,7 @@ use Rattle.header_bits.specs.declared.image_part.ImagePart.{ImagePart}
 use Rattle.header_bits.specs.declared.predictor_part.PredictorPart.{PredictorPart}
 use Rattle.header_bits.specs.declared.coder_part.CoderPart.{CoderPart}
 use Rattle.header_bits.specs.declared.coder_part.CoderPart.TheVariants.{Sample, Block}
+use Rattle.header_bits.specs.Layout.{spelled}
 use Rattle.header_bits.specs.Parts.{Part, fine, unused}
 
 -- how many weights the first bands have in all: a directional one for each of three neighbours in full mode, and one for each previous band
@@ -20,9 +21,16 @@ weight_count previous reduced (suc z) = weight_count previous reduced z + (min z
 abbrev pub fill_of : ℕ → ℕ
 fill_of bits = (8 - bits % 8) % 8
 
--- so many numbers of so many bits each, and fill bits
+-- so many numbers of so many bits each
+abbrev pub number_fields : ℕ → ℕ → List Slot
+number_fields count bits = replicate count (Plain bits 0)
+
+abbrev pub numbers_text : ℕ → List ℕ → List Bool
+numbers_text bits v = spelled (number_fields (length v) bits) v
+
+-- the numbers, and fill bits
 abbrev pub table_fields : ℕ → ℕ → List Slot
-table_fields count bits = replicate count (Plain bits 0) ++ Unused (fill_of (count * bits)) ∷ []
+table_fields count bits = number_fields count bits ++ Unused (fill_of (count * bits)) ∷ []
 
 -- fill bits are zero
 abbrev pub fill_test : ℕ → ℕ → ℕ → List ℕ → Test

@@ -1,13 +1,17 @@
 //! Whether parameters are lawful together, and the first reason where they aren't.
 
-ghost use Rattle.std.specs.Prelude.{◌≡◌, ◌↔◌, IsOk, OnOk};
+ghost use Rattle.std.specs.Prelude.{◌≡◌, ◌↔◌, ◌≤◌, IsOk, OnOk};
+ghost use Rattle.cube_core.specs.declared.fault.Fault.TheVariants.{Disagree};
+ghost use Rattle.cube_core.specs.declared.fault.Rule.TheVariants as rule;
+ghost use Rattle.cube_core.specs.Steps.{refuse_if};
 ghost use Rattle.cube_core.specs.Shape.{AreSizes};
 ghost use Rattle.cube_core.specs.Kind.{IsKind};
-ghost use Rattle.header_bits.specs.Reach.{here};
-ghost use Rattle.header_bits.specs.Lawful.{IsLawful, in_range_or, exponent_or, order_fault, predictor_fault, start_fault, count_fault, block_size_fault, coder_fault, params_fault};
+ghost use Rattle.header_bits.specs.TableParts.{some_above};
+ghost use Rattle.header_bits.specs.Lawful.{IsLawful, in_range_or, exponent_or, order_fault, predictor_fault, start_fault, weight_fault, entries_fault, count_fault, block_size_fault, coder_fault, params_fault};
 
 use crate::params::{Coder, CountStart, Params, WeightStart};
-use crate::refusal::{disagree_if, refuse_if};
+use crate::refusal::{disagree_if, out_of_range_if, refuse_if};
+use crate::weight_part::{power_of_two, weight_count};
 use cube_core::fault::{Fault, Field, Rule};
 use cube_core::order::Order;
 use cube_core::shape::Shape;
@@ -16,12 +20,11 @@ impl Params {
     /// Whether the parameters are lawful; else the first refusal in the order of the header's fields.
     ///
     /// `FieldRange` names a parameter out of its own range, with its value, and `Disagree` a rule
-    /// that two parameters break (CCSDS 123.0-B-1, "Header"). A table of weights is refused as
-    /// `WeightStart`, a table of constants as `AccumulatorTable`, and the restricted set of code
-    /// options as `Restricted`, each with the value 1. It takes no memory.
+    /// that two parameters break (CCSDS 123.0-B-1, "Header"). The first weight of a table that
+    /// doesn't fit the table's bits is refused as `WeightEntry`. It takes no memory.
     pub fn check(&self) -> Result<(), Fault>
-        ensures fault { result ≡ params_fault here self.now }
-        ensures lawful { IsOk result ↔ IsLawful here self.now }
+        ensures fault { result ≡ params_fault self.now }
+        ensures lawful { IsOk result ↔ IsLawful self.now }
     {
         first_fault(self)
     }
@@ -30,7 +33,7 @@ impl Params {
 /// The first refusal of parameters.
 #[tactic(auto, unfolding(crate::specs::Lawful::params_fault))]
 fn first_fault(params: &Params) -> Result<(), Fault>
-    ensures fault { result ≡ params_fault here params.now }
+    ensures fault { result ≡ params_fault params.now }
     ensures ranges { OnOk result (AreSizes params.now.shape × IsKind params.now.kind) }
 {
     in_range(Field::User, 0, 255, params.user)?;
@@ -85,6 +88,8 @@ fn check_order(shape: Shape, order: Order) -> Result<(), Fault>
 fn check_predictor(params: &Params) -> Result<(), Fault>
     ensures fault { result ≡ predictor_fault params.now }
     ensures kind { OnOk result (IsKind params.now.kind) }
+    ensures previous { OnOk result (params.now.previous ≤ 15) }
+    ensures omega { OnOk result (params.now.omega ≤ 19) }
 {
     let one_column = params.shape.columns() == 1;
     in_range(Field::Previous, 0, 15, params.previous)?;
@@ -100,22 +105,51 @@ fn check_predictor(params: &Params) -> Result<(), Fault>
     disagree_if(params.vmax < params.vmin, Rule::ExponentOrder)
 }
 
-/// Refuses a table of weights.
+/// Refuses a table of weights that doesn't go with the other parameters.
 fn check_start(params: &Params) -> Result<(), Fault>
-    ensures { result ≡ start_fault here params.now params.now.start }
+    requires previous { params.now.previous ≤ 15 }
+    requires omega { params.now.omega ≤ 19 }
+    ensures { result ≡ start_fault params.now params.now.start }
 {
-    match params.start {
-        WeightStart::Usual => Ok(()),
-        WeightStart::Table { .. } => Err(Fault::FieldRange {
-            field: Field::WeightStart,
-            value: 1,
-        }),
+    let WeightStart::Table { q, values } = &params.start else {
+        return Ok(());
+    };
+    let weights = values.as_slice();
+    let bands = params.shape.bands();
+    let count = weight_count(params.previous, params.reduced, bands);
+    out_of_range_if(*q < 3, Field::Resolution, *q)?;
+    disagree_if(params.omega + 3 < *q, Rule::ResolutionOverOmega)?;
+    disagree_if(weights.len() != count, Rule::WeightTableLength)?;
+    check_weights(*q, weights)
+}
+
+/// Refuses the first weight that isn't a signed number of so many bits.
+fn check_weights(bits: u32, weights: &[i32]) -> Result<(), Fault>
+    requires { (1 ≤ bits) × (bits ≤ 22) }
+    ensures { result ≡ entries_fault bits weights.now }
+{
+    for weight in weights {
+        check_weight(bits, *weight)?;
     }
+    Ok(())
+}
+
+/// Refuses a weight that isn't a signed number of so many bits.
+fn check_weight(bits: u32, weight: i32) -> Result<(), Fault>
+    requires { (1 ≤ bits) × (bits ≤ 22) }
+    ensures { result ≡ weight_fault bits weight }
+{
+    let bound = power_of_two(bits - 1);
+    let entry = Fault::FieldRange {
+        field: Field::WeightEntry,
+        value: i64::from(weight),
+    };
+    refuse_if(!(-bound <= weight && weight <= bound - 1), entry)
 }
 
 /// Refuses parameters of the entropy coder.
 fn check_coder(params: &Params) -> Result<(), Fault>
-    ensures { result ≡ coder_fault here params.now params.now.coder }
+    ensures { result ≡ coder_fault params.now params.now.coder }
 {
     match &params.coder {
         Coder::Sample {
@@ -136,27 +170,40 @@ fn check_coder(params: &Params) -> Result<(), Fault>
             reference,
         } => {
             check_block_size(*size)?;
-            let set = Fault::FieldRange {
-                field: Field::Restricted,
-                value: 1,
-            };
-            refuse_if(*restricted, set)?;
+            let deep = params.kind.bits() > 4;
+            disagree_if(*restricted && deep, Rule::RestrictedOverFour)?;
             in_range(Field::Reference, 1, 4096, *reference)
         }
     }
 }
 
-/// Refuses a table of constants, and a constant above D - 2.
+/// Refuses a constant above D - 2, and a table that isn't one constant for each band.
 fn check_count(params: &Params, start: &CountStart) -> Result<(), Fault>
-    ensures { result ≡ count_fault here params.now start.now }
+    ensures { result ≡ count_fault params.now start.now }
 {
     match start {
         CountStart::Constant(k) => disagree_if(params.kind.bits() - 2 < *k, Rule::StartConstant),
-        CountStart::Each(_) => Err(Fault::FieldRange {
-            field: Field::AccumulatorTable,
-            value: 1,
-        }),
+        CountStart::Each(table) => {
+            let constants = table.as_slice();
+            let bands = params.shape.bands() as usize;
+            disagree_if(constants.len() != bands, Rule::AccumulatorTableLength)?;
+            check_constants(params.kind.bits() - 2, constants)
+        }
     }
+}
+
+/// Refuses constants of which one is above the most.
+fn check_constants(most: u32, constants: &[u8]) -> Result<(), Fault>
+    ensures { result ≡ refuse_if (some_above most constants.now) (Disagree rule.AccumulatorEntry) }
+{
+    for constant in constants {
+        if most < u32::from(*constant) {
+            return Err(Fault::Disagree {
+                rule: Rule::AccumulatorEntry,
+            });
+        }
+    }
+    Ok(())
 }
 
 /// Refuses a block size that isn't 8, 16, 32 or 64.

@@ -1,18 +1,17 @@
 //! The coder part of a header, two bytes.
 
-ghost use Rattle.std.specs.Prelude.{◌≡◌};
+ghost use Rattle.std.specs.Prelude.{◌≡◌, ◌^◌, ◌<◌};
 ghost use Rattle.header_bits.specs.Reading.{Reads};
 ghost use Rattle.header_bits.specs.Layout.{AreValues};
 ghost use Rattle.header_bits.specs.Parts.{part_at};
-ghost use Rattle.header_bits.specs.Reach.{here};
 ghost use Rattle.header_bits.specs.CoderPart.{coder, sample_fields, sample_tests, sample_says, block_fields, block_tests, block_says, size_code};
+ghost use Rattle.header_bits.specs.TableParts.{has_constants};
 ghost use Rattle.header_bits.specs.Header.{constant_of, is_each, coder_part_of};
 
 use crate::bit_reader::BitReader;
 use crate::image_part::ImagePart;
 use crate::layout::{Slot, read_values};
 use crate::params::{Coder, CountStart};
-use crate::reach::{RESTRICTED, TABLES};
 use crate::refusal::{disagree_if, out_of_range_if, unused};
 use cube_core::fault::{Fault, Field, Rule};
 
@@ -53,9 +52,14 @@ pub(crate) enum CoderPart {
 }
 
 impl CoderPart {
-    /// Reads the coder part that follows the predictor part of an image without a weight table.
-    pub(crate) fn read(image: &ImagePart, reader: &mut BitReader) -> Result<CoderPart, Fault>
-        ensures { Reads (λ x. x) result reader.new.left (part_at (coder here 136 image.now) reader.old.left) }
+    /// Reads the coder part of an image; `at` is its first bit's place in the file.
+    pub(crate) fn read(
+        at: u64,
+        image: &ImagePart,
+        reader: &mut BitReader,
+    ) -> Result<CoderPart, Fault>
+        requires { at < 2 ^ 32 }
+        ensures { Reads (λ x. x) result reader.new.left (part_at (coder at image.now) reader.old.left) }
     {
         if reader.left() < 16 {
             return Err(Fault::ShortHeader);
@@ -63,7 +67,7 @@ impl CoderPart {
         if image.block {
             let mut numbers = [0; 4];
             read_values(&BLOCK_FIELDS, reader, &mut numbers);
-            test_block(image, &numbers)?;
+            test_block(at, image, &numbers)?;
             Ok(said_block(&numbers))
         } else {
             let mut numbers = [0; 5];
@@ -71,6 +75,13 @@ impl CoderPart {
             test_sample(image, &numbers)?;
             Ok(said_sample(&numbers))
         }
+    }
+
+    /// Whether an accumulator table follows.
+    pub(crate) fn has_table(&self) -> bool
+        ensures { result ≡ has_constants self.now }
+    {
+        matches!(self, CoderPart::Sample { table: true, .. })
     }
 
     /// The coder part of a coder.
@@ -128,14 +139,13 @@ pub(crate) fn size_code(size: u32) -> u32
 /// Tests the numbers of the sample-adaptive coder's part, in order.
 fn test_sample(image: &ImagePart, numbers: &[u32; 5]) -> Result<(), Fault>
     requires { AreValues sample_fields numbers.now }
-    ensures { result ≡ sample_tests here image.now numbers.now }
+    ensures { result ≡ sample_tests image.now numbers.now }
 {
     let table = numbers[4] == 1;
     let most = image.kind.bits() - 2;
     out_of_range_if(numbers[0] < 8, Field::Umax, numbers[0])?;
     out_of_range_if(numbers[1] > 9, Field::GammaStar, numbers[1])?;
     disagree_if(numbers[1] < numbers[2] + 1, Rule::CounterOrder)?;
-    out_of_range_if(table && !TABLES, Field::AccumulatorTable, 1)?;
     disagree_if(!table && most < numbers[3], Rule::StartConstant)?;
     disagree_if(table && numbers[3] < 15, Rule::ConstantWithTable)
 }
@@ -154,12 +164,12 @@ fn said_sample(numbers: &[u32; 5]) -> CoderPart
 }
 
 /// Tests the numbers of the block-adaptive coder's part, in order.
-fn test_block(image: &ImagePart, numbers: &[u32; 4]) -> Result<(), Fault>
-    ensures { result ≡ block_tests here 136 image.now numbers.now }
+fn test_block(at: u64, image: &ImagePart, numbers: &[u32; 4]) -> Result<(), Fault>
+    requires { at < 2 ^ 32 }
+    ensures { result ≡ block_tests at image.now numbers.now }
 {
     let restricted = numbers[2] == 1;
-    unused(136, 1, numbers[0])?;
-    out_of_range_if(restricted && !RESTRICTED, Field::Restricted, 1)?;
+    unused(at, 1, numbers[0])?;
     disagree_if(
         restricted && 4 < image.kind.bits(),
         Rule::RestrictedOverFour,

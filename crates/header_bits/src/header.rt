@@ -1,37 +1,35 @@
 //! The whole header, written and read.
 
-ghost use Rattle.std.specs.Prelude.{◌≡◌, ◌+◌, ◌*◌, ◌^◌, ◌≤◌, ◌++◌, [], false, length, take, IsOk, IfOk, IfErr, OnOk, OnErr};
+ghost use Rattle.std.specs.Prelude.{◌≡◌, ◌⊎◌, ◌||◌, ◌+◌, ◌*◌, ◌%◌, ◌^◌, ◌<◌, ◌≤◌, ◌++◌, true, length, take, IsOk, IfOk, IfErr, OnOk, OnErr};
 ghost use Rattle.cube_core.specs.declared.fault.Fault.TheVariants.{WantOfMemory};
 ghost use Rattle.header_bits.specs.Bits.{bits_of_bytes};
-ghost use Rattle.header_bits.specs.Layout.{AreValues, total, spelled};
+ghost use Rattle.header_bits.specs.Reading.{Reads};
+ghost use Rattle.header_bits.specs.Layout.{AreValues, spelled, values};
 ghost use Rattle.header_bits.specs.CoderPart.{coder_fields, coder_numbers};
-ghost use Rattle.header_bits.specs.Reach.{here};
+ghost use Rattle.header_bits.specs.TableParts.{has_constants, number_fields};
 ghost use Rattle.header_bits.specs.Lawful.{IsLawful};
-ghost use Rattle.header_bits.specs.TableParts.{has_constants};
-ghost use Rattle.header_bits.specs.Header.{header_of, params_of, coder_by_part, said, SpellsHeader, ReadsHeader, BeginsNoHeader};
+ghost use Rattle.header_bits.specs.Header.{header_of, said, AreThere, coder_by_part, params_of, parts_at, SpellsHeader, ReadsHeader, BeginsNoHeader};
 
 use crate::bit_reader::BitReader;
 use crate::bit_writer::BitWriter;
 use crate::coder_part::{self, CoderPart};
 use crate::image_part::{self, ImagePart};
 use crate::layout::write_values;
-use crate::params::{Coder, CountStart, Params, WeightStart};
+use crate::params::{Coder, Params};
 use crate::predictor_part::{self, PredictorPart};
+use crate::{constant_part, weight_part};
 use cube_core::fault::Fault;
 use std::alloc::Global;
 
-/// How many bits a header has that holds no table.
-const BITS: u64 = 152;
-
-/// And how many bytes.
-const BYTES: usize = 19;
+/// How many bits a header has without its tables.
+const PART_BITS: u64 = 152;
 
 /// The header of lawful parameters, in whole bytes (CCSDS 123.0-B-1, "Header").
 ///
 /// Under band sequential order zeros stand in the place of the depth. `WantOfMemory` where the
 /// bytes aren't had.
 pub fn write_header(alloc: Global, params: &Params) -> Result<Vec<u8>, Fault>
-    requires { IsLawful here params.now }
+    requires { IsLawful params.now }
     ensures header { IfOk result (λ bytes. bits_of_bytes bytes.items ≡ header_of params.now) }
     ensures refused { IfErr result (λ e. e ≡ WantOfMemory) }
 {
@@ -40,55 +38,111 @@ pub fn write_header(alloc: Global, params: &Params) -> Result<Vec<u8>, Fault>
     Ok(writer.into_bytes())
 }
 
-/// Appends the header of lawful parameters to the bits of a writer: 152 bits.
+/// Appends the header of lawful parameters to the bits of a writer: 152 bits and its tables, which
+/// are whole bytes.
 ///
 /// Within the writer's room it succeeds. After `WantOfMemory` the bits are as before.
 pub fn put_header(params: &Params, writer: &mut BitWriter) -> Result<(), Fault>
-    requires { IsLawful here params.now }
+    requires { IsLawful params.now }
     ensures appended { OnOk result (writer.new.bits ≡ writer.old.bits ++ header_of params.now) }
-    ensures size { length (header_of params.now) ≡ 152 }
+    ensures whole { length (header_of params.now) % 8 ≡ 0 }
     ensures same { OnErr result (writer.new.bits ≡ writer.old.bits) }
     ensures kept { OnErr result (writer.old.room ≤ writer.new.room) }
-    ensures within { 152 ≤ writer.old.room → IsOk result }
-    ensures room { OnOk result (writer.old.room ≤ writer.new.room + 152) }
+    ensures within { length (header_of params.now) ≤ writer.old.room → IsOk result }
+    ensures room { OnOk result (writer.old.room ≤ writer.new.room + length (header_of params.now)) }
     ensures refused { IfErr result (λ e. e ≡ WantOfMemory) }
 {
-    writer.reserve(BITS)?;
+    writer.reserve(header_bits(params))?;
     let image = ImagePart::of(params).numbers();
     write_values(&image_part::FIELDS, &image, writer).unwrap();
     let predictor = PredictorPart::of(params).numbers();
     write_values(&predictor_part::FIELDS, &predictor, writer).unwrap();
+    weight_part::put(params, writer);
     put_coder(CoderPart::of(&params.coder), writer).unwrap();
+    constant_part::put(params, writer);
     Ok(())
+}
+
+/// How many bits the header of lawful parameters has.
+fn header_bits(params: &Params) -> u64
+    requires { IsLawful params.now }
+    ensures { result ≡ length (header_of params.now) }
+{
+    PART_BITS + weight_part::bits(params) + constant_part::bits(params)
 }
 
 /// Reads a header from the front of at most 2^60 bytes: its parameters, and its length in bytes.
 ///
 /// The refusals are the first in the order of the fields: `ShortHeader` where the bytes end inside
-/// a part, `Reserved` with the bit's place, `FieldRange`, `Disagree` and `TableElsewhere`
-/// (CCSDS 123.0-B-1, "Header"). Without tables no memory is taken.
-pub fn read_header(_alloc: Global, bytes: &[u8]) -> Result<(Params, usize), Fault>
+/// a part or a table, `Reserved` with the bit's place, `FieldRange`, `Disagree` and `TableElsewhere`
+/// (CCSDS 123.0-B-1, "Header"). Only where there are none is memory taken, for the tables:
+/// `WantOfMemory` where it isn't had.
+pub fn read_header(alloc: Global, bytes: &[u8]) -> Result<(Params, usize), Fault>
     requires { length bytes.now ≤ 2 ^ 60 }
-    ensures reads { ReadsHeader here (bits_of_bytes bytes.now) result }
-    ensures lawful { IfOk result (λ x. IsLawful here x.0) }
-    ensures spelt { IfOk result (λ x. SpellsHeader here x.0 (take (8 * x.1) (bits_of_bytes bytes.now))) }
+    ensures reads { ReadsHeader (bits_of_bytes bytes.now) result }
+    ensures lawful { IfOk result (λ x. IsLawful x.0) }
+    ensures spelt { IfOk result (λ x. SpellsHeader x.0 (take (8 * x.1) (bits_of_bytes bytes.now))) }
     ensures within { IfOk result (λ x. x.1 ≤ length bytes.now) }
-    ensures none { IfErr result (λ _. BeginsNoHeader here (bits_of_bytes bytes.now)) }
+    ensures none { IfErr result (λ e. (e ≡ WantOfMemory) ⊎ BeginsNoHeader (bits_of_bytes bytes.now)) }
 {
     let mut reader = BitReader::new(bytes);
-    let image = ImagePart::read(&mut reader)?;
-    let predictor = PredictorPart::read(&image, &mut reader)?;
-    let coder = CoderPart::read(&image, &mut reader)?;
-    Ok((params_from(image, predictor, coder), BYTES))
+    let parts = look_through(&mut reader)?;
+    let behind = (reader.left() / 8) as usize;
+    let params = read_params(alloc, parts)?;
+    Ok((params, bytes.len() - behind))
 }
 
-/// The parameters that the parts of a header without tables say.
-fn params_from(image: ImagePart, predictor: PredictorPart, coder: CoderPart) -> Params
-    requires usual { predictor.custom ≡ false }
-    requires constant { has_constants coder ≡ false }
-    ensures { result ≡ params_of (said image predictor coder) }
+/// What the parts of a header say, with readers at its tables: a reader stands at a table's place
+/// whether there is one or not.
+struct Parts<'a> {
+    image: ImagePart,
+    predictor: PredictorPart,
+    weights: BitReader<'a>,
+    coder: CoderPart,
+    constants: BitReader<'a>,
+}
+
+/// Looks through a whole header, and takes no memory. The refusals are the first in the order of the
+/// fields.
+fn look_through<'a>(reader: &mut BitReader<'a>) -> Result<Parts<'a>, Fault>
+    ensures reads { Reads (λ x. said x.image x.predictor x.weights.left x.coder x.constants.left) result reader.new.left (parts_at reader.old.left) }
+    ensures there { IfOk result (λ x. AreThere x.image x.predictor x.weights.left x.coder x.constants.left) }
 {
-    Params {
+    let image = ImagePart::read(reader)?;
+    let predictor = PredictorPart::read(&image, reader)?;
+    let weights = reader.fork();
+    weight_part::pass(&image, &predictor, reader)?;
+    let place = weight_part::end(&image, &predictor);
+    let coder = CoderPart::read(place, &image, reader)?;
+    let constants = reader.fork();
+    constant_part::pass(place + 16, &image, &coder, reader)?;
+    Ok(Parts {
+        image,
+        predictor,
+        weights,
+        coder,
+        constants,
+    })
+}
+
+/// The parameters of a header that was looked through.
+///
+/// `WantOfMemory` where memory for a table isn't had.
+fn read_params(alloc: Global, parts: Parts) -> Result<Params, Fault>
+    requires { AreThere parts.image parts.predictor parts.weights.left parts.coder parts.constants.left }
+    ensures params { IfOk result (λ p. p ≡ params_of (said parts.entry.image parts.entry.predictor parts.entry.weights.left parts.entry.coder parts.entry.constants.left)) }
+    ensures refused { IfErr result (λ e. (e ≡ WantOfMemory) × ((parts.entry.predictor.custom || has_constants parts.entry.coder) ≡ true)) }
+{
+    let Parts {
+        image,
+        predictor,
+        mut weights,
+        coder,
+        mut constants,
+    } = parts;
+    let start = weight_part::read(alloc, &image, &predictor, &mut weights)?;
+    let coder = read_coder(alloc, &image, coder, &mut constants)?;
+    Ok(Params {
         shape: image.shape,
         kind: image.kind,
         order: image.order,
@@ -102,15 +156,21 @@ fn params_from(image: ImagePart, predictor: PredictorPart, coder: CoderPart) -> 
         interval_log: predictor.interval_log,
         vmin: predictor.vmin,
         vmax: predictor.vmax,
-        start: WeightStart::Usual,
-        coder: coder_from(coder),
-    }
+        start,
+        coder,
+    })
 }
 
-/// The coder that a coder part without a table says.
-fn coder_from(part: CoderPart) -> Coder
-    requires { has_constants part ≡ false }
-    ensures { result ≡ coder_by_part part [] }
+/// The coder that a coder part says, with the accumulator table that a reader stands at.
+fn read_coder(
+    alloc: Global,
+    image: &ImagePart,
+    part: CoderPart,
+    constants: &mut BitReader,
+) -> Result<Coder, Fault>
+    requires { has_constants part ≡ true → image.now.shape.bands * 4 ≤ length constants.old.left }
+    ensures coder { IfOk result (λ c. c ≡ coder_by_part part (values (number_fields image.now.shape.bands 4) constants.old.left)) }
+    ensures refused { IfErr result (λ e. (e ≡ WantOfMemory) × (has_constants part ≡ true)) }
 {
     match part {
         CoderPart::Sample {
@@ -118,22 +178,22 @@ fn coder_from(part: CoderPart) -> Coder
             gamma_star,
             gamma_zero,
             constant,
-            table: _,
-        } => Coder::Sample {
+            table,
+        } => Ok(Coder::Sample {
             umax,
             gamma_star,
             gamma_zero,
-            start: CountStart::Constant(constant),
-        },
+            start: constant_part::read(alloc, image, constant, table, constants)?,
+        }),
         CoderPart::Block {
             size,
             restricted,
             reference,
-        } => Coder::Block {
+        } => Ok(Coder::Block {
             size,
             restricted,
             reference,
-        },
+        }),
     }
 }
 

@@ -4,7 +4,6 @@ ghost use Rattle.std.specs.Prelude.{◌≡◌, ◌<◌};
 ghost use Rattle.header_bits.specs.Reading.{Reads};
 ghost use Rattle.header_bits.specs.Layout.{AreValues};
 ghost use Rattle.header_bits.specs.Parts.{part_at};
-ghost use Rattle.header_bits.specs.Reach.{here};
 ghost use Rattle.header_bits.specs.ImagePart.{flag};
 ghost use Rattle.header_bits.specs.PredictorPart.{predictor, predictor_fields, predictor_tests, start_tests, predictor_says, exponent_of, exponent_code, predictor_numbers};
 ghost use Rattle.header_bits.specs.Lawful.{IsExponent};
@@ -14,7 +13,6 @@ use crate::bit_reader::BitReader;
 use crate::image_part::ImagePart;
 use crate::layout::{Slot, read_values};
 use crate::params::{Params, WeightStart};
-use crate::reach::TABLES;
 use crate::refusal::{disagree_if, out_of_range_if, refuse_if, unused};
 use cube_core::fault::{Fault, Field, Rule};
 
@@ -57,7 +55,7 @@ pub(crate) struct PredictorPart {
 impl PredictorPart {
     /// Reads the predictor part that follows an image part.
     pub(crate) fn read(image: &ImagePart, reader: &mut BitReader) -> Result<PredictorPart, Fault>
-        ensures { Reads (λ x. x) result reader.new.left (part_at (predictor here image.now) reader.old.left) }
+        ensures { Reads (λ x. x) result reader.new.left (part_at (predictor image.now) reader.old.left) }
     {
         if reader.left() < 40 {
             return Err(Fault::ShortHeader);
@@ -133,7 +131,7 @@ fn exponent_code(exponent: i32) -> u32
 /// Tests the numbers of the predictor part, in order.
 fn test(image: &ImagePart, numbers: &[u32; 15]) -> Result<(), Fault>
     requires { AreValues predictor_fields numbers.now }
-    ensures { result ≡ predictor_tests here image.now numbers.now }
+    ensures { result ≡ predictor_tests image.now numbers.now }
 {
     let one_column = image.shape.columns() == 1;
     let register = numbers[6];
@@ -154,12 +152,11 @@ fn test(image: &ImagePart, numbers: &[u32; 15]) -> Result<(), Fault>
 /// Tests the numbers that tell the weight start, in order.
 fn test_start(numbers: &[u32; 15]) -> Result<(), Fault>
     requires { AreValues predictor_fields numbers.now }
-    ensures { result ≡ start_tests here numbers.now }
+    ensures { result ≡ start_tests numbers.now }
 {
     let custom = numbers[12] == 1;
     let table = numbers[13] == 1;
     let resolution = numbers[14];
-    out_of_range_if(custom && !TABLES, Field::WeightStart, 1)?;
     disagree_if(!custom && table, Rule::DefaultWithTable)?;
     refuse_if(custom && !table, Fault::TableElsewhere)?;
     disagree_if(!custom && resolution > 0, Rule::DefaultWithResolution)?;

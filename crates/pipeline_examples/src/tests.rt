@@ -6,6 +6,7 @@ mod lanes;
 mod pipes;
 mod plans;
 mod stops;
+mod tables;
 mod together;
 mod weavers;
 mod weaving;

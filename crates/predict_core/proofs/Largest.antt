@@ -7,8 +7,9 @@ use Rattle.cube_core.specs.Shape.{Sizes}
 use Rattle.cube_core.specs.Kind.{smin, smid, smax}
 use Rattle.cube_core.specs.Image.{Image, IsCube, IsPlace}
 use Rattle.header_bits.specs.declared.params.Params.{Params}
-use Rattle.header_bits.specs.Reach.{here}
-use Rattle.header_bits.specs.Lawful.{IsLawful}
+use Rattle.header_bits.specs.declared.params.WeightStart.{WeightStart}
+use Rattle.header_bits.specs.declared.params.WeightStart.TheVariants.{Usual, Table}
+use Rattle.header_bits.specs.Lawful.{IsLawful, IsWeightStart}
 use Rattle.predict_core.specs.Arithmetic.{floor_div}
 use Rattle.predict_core.specs.declared.predictor.Predictor.{Predictor}
 use Rattle.predict_core.specs.Predictor.{predictor_of, previous_bands, component_count}
@@ -25,7 +26,7 @@ use Rattle.predict_core.proofs.Ranges.{vector_within, sum_within, apart}
 use Rattle.predict_core.proofs.Inner.{inner_within}
 use Rattle.predict_core.proofs.Spans.{span, doubled}
 use Rattle.predict_core.proofs.Scaled.{halved_shrinks}
-use Rattle.predict_core.proofs.Starting.{usual_by_law}
+use Rattle.predict_core.proofs.Tables.{table_within}
 
 -- ---- weights
 
@@ -57,9 +58,13 @@ usual_within p z least =
     by_mode (2 ^ (p.fraction + 2)) p.reduced (eighths (pos (7 * 2 ^ (p.fraction - 3))) (previous_bands p z))
     (eighths_within (2 ^ (p.fraction + 2)) (pos (7 * 2 ^ (p.fraction - 3))) (previous_bands p z) (omega (arith, power)))
 
-start_within : (p : Params) (z : ℕ) → IsLawful here p → AllWithin (2 ^ (p.omega + 2)) (start_weights p z)
+start_within : (p : Params) (z : ℕ) → IsLawful p → AllWithin (2 ^ (p.omega + 2)) (start_weights p z)
 unfolding weights_by
-start_within p z lawful = rw (usual_by_law p lawful) (usual_within (predictor_of p) z (let h = lawful.fraction.0 in omega arith))
+start_within p z lawful = by_start p.start lawful.start
+  where
+    by_start : (s : WeightStart) → IsWeightStart p s → AllWithin (2 ^ (p.omega + 2)) (weights_by (predictor_of p) s z)
+    by_start Usual l = usual_within (predictor_of p) z (let h = lawful.fraction.0 in omega arith)
+    by_start (Table q values) l = table_within p q values z l.0.0 l.0.1 l.2
 
 -- a weight that is held between the least and the greatest
 held_small : (n : ℕ) (r : ℤ) → neg_ℤ (pos n) ≤ℤ r → r ≤ℤ (pos n -ℤ pos 1) → unsigned_abs r ≤ n
@@ -79,7 +84,7 @@ updated_within fraction exponent negative (w ∷ ws) [] = within_none (2 ^ (frac
 updated_within fraction exponent negative (w ∷ ws) (u ∷ us) =
     within_cons (2 ^ (fraction + 2)) (updated_weight fraction exponent negative w u) (updated_weights fraction exponent negative ws us) (updated_small fraction exponent negative w u) (updated_within fraction exponent negative ws us)
 
-pub weights_within : (p : Params) (c : Image) (z t : ℕ) → IsLawful here p → AllWithin (2 ^ (p.omega + 2)) (weight_vector p c z t)
+pub weights_within : (p : Params) (c : Image) (z t : ℕ) → IsLawful p → AllWithin (2 ^ (p.omega + 2)) (weight_vector p c z t)
 unfolding weight_vector next_weights
 weights_within p c z zero lawful = start_within p z lawful
 weights_within p c z (suc zero) lawful = start_within p z lawful
@@ -130,10 +135,10 @@ module _ (q : Predictor) (c : Image) (z y x : ℕ) (ws : List ℤ) (cube : IsCub
       both_small (inner_product ws (difference_vector q c z y x)) (pos (2 ^ q.fraction) *ℤ (local_sum q c z y x -ℤ pos 4 *ℤ smid c.kind)) (2 ^ (q.fraction + 2)) (limit_within q.fraction most) products_small (raised_small q.fraction (local_sum q c z y x -ℤ pos 4 *ℤ smid c.kind) most small)
 
 -- and by those of a cube
-wide_enough : (p : Params) (c : Image) → IsLawful here p → c.shape ≡ p.shape → p.column ≡ false → 2 ≤ c.shape.columns
+wide_enough : (p : Params) (c : Image) → IsLawful p → c.shape ≡ p.shape → p.column ≡ false → 2 ≤ c.shape.columns
 wide_enough p c lawful shape e = subst (λ (s : Sizes). 2 ≤ s.columns) (sym shape) (lawful.sums e)
 
-pub products_within : (p : Params) (c : Image) (z y x : ℕ) → IsLawful here p → IsCube c → c.shape ≡ p.shape → IsPlace c.shape z y x → 0 < y + x
+pub products_within : (p : Params) (c : Image) (z y x : ℕ) → IsLawful p → IsCube c → c.shape ≡ p.shape → IsPlace c.shape z y x → 0 < y + x
     → unsigned_abs (inner_product (weight_vector p c z (y * c.shape.columns + x)) (difference_vector (predictor_of p) c z y x)) ≤ 18 * (2 ^ (p.omega + 2) * 2 ^ 18)
 products_within p c z y x lawful cube shape place later =
     products_small (predictor_of p) c z y x (weight_vector p c z (y * c.shape.columns + x)) cube place later (wide_enough p c lawful shape) lawful.previous lawful.fraction.1 (weights_within p c z (y * c.shape.columns + x) lawful)

@@ -18,6 +18,7 @@ pub mod Residuals
 pub mod Scaled
 pub mod Spans
 pub mod Starting
+pub mod Tables
 pub mod Told
 pub mod Raising
 pub mod Largest

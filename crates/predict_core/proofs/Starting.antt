@@ -5,15 +5,12 @@ use Rattle.std.proofs.Math.Pow.{pow-add}
 use Rattle.std.proofs.lemmas.List.{take-replicate, take-append-drop}
 use Rattle.std.proofs.lemmas.Int.{to_z_pos, fits_signed_from_abs}
 use Rattle.header_bits.specs.declared.params.Params.{Params}
-use Rattle.header_bits.specs.declared.params.WeightStart.{WeightStart}
-use Rattle.header_bits.specs.declared.params.WeightStart.TheVariants.{Usual, Table}
-use Rattle.header_bits.specs.Reach.{here}
-use Rattle.header_bits.specs.Lawful.{IsLawful, IsWeightStart}
+use Rattle.header_bits.specs.declared.params.WeightStart.TheVariants.{Usual}
 use Rattle.cube_core.specs.Image.{Image}
 use Rattle.predict_core.specs.declared.predictor.Predictor.{Predictor}
 use Rattle.predict_core.specs.Predictor.{predictor_of, previous_bands, component_count}
 use Rattle.predict_core.specs.Arithmetic.{floor_div}
-use Rattle.predict_core.specs.Weights.{eighths, usual_weights, weights_by}
+use Rattle.predict_core.specs.Weights.{eighths, usual_weights, weights_by, start_weights}
 use Rattle.predict_core.specs.Prediction.{weight_vector}
 use Rattle.predict_core.proofs.Directions.{reduced_count, full_count, heads_taken}
 use Rattle.predict_core.proofs.Scaled.{halved_shrinks}
@@ -41,11 +38,7 @@ eighths_last w i n m ws all rest h a d =
 pub shrinks_small : (w : ℤ) → unsigned_abs w ≤ 2 ^ 20 → SFits w32 (floor_div w 8) × (unsigned_abs (floor_div w 8) ≤ 2 ^ 20)
 shrinks_small w h = (fits_signed_from_abs w32 (floor_div w 8) (omega (arith, halved_shrinks w 8)), omega (arith, halved_shrinks w 8))
 
-module _ (p : Params) (c : Image) (z : ℕ) (made : Predictor) (is : made ≡ predictor_of p) (usual : p.start ≡ Usual) (weights : List ℤ) where
-  start_of : (ws : List ℤ) → ws ≡ usual_weights made z → ws ≡ weight_vector p c z 0
-  unfolding weight_vector weights_by
-  start_of ws e = rw usual (e ∙ ap (λ q. usual_weights q z) is)
-
+module _ (made : Predictor) (z : ℕ) (weights : List ℤ) where
   reduced_usual : made.reduced ≡ true → usual_weights made z ≡ eighths (pos (7 * 2 ^ (made.fraction - 3))) (previous_bands made z)
   unfolding usual_weights
   reduced_usual h = rw h refl
@@ -55,27 +48,27 @@ module _ (p : Params) (c : Image) (z : ℕ) (made : Predictor) (is : made ≡ pr
   full_usual h = rw h refl
 
   pub reduced_start : made.reduced ≡ true → (k : ℕ) → weights ≡ replicate 0 (pos 0) ++ eighths (pos (7 * 2 ^ (made.fraction - 3))) (previous_bands made z) ++ replicate k (pos 0)
-      → take (component_count made z) weights ≡ weight_vector p c z 0
+      → take (component_count made z) weights ≡ usual_weights made z
   reduced_start h k e =
       let n = eighths_length (pos (7 * 2 ^ (made.fraction - 3))) (previous_bands made z) in
       let t : take (previous_bands made z) weights ≡ eighths (pos (7 * 2 ^ (made.fraction - 3))) (previous_bands made z) =
       rw e (heads_taken (eighths (pos (7 * 2 ^ (made.fraction - 3))) (previous_bands made z)) (replicate k (pos 0)) (previous_bands made z) n) in
-      start_of (take (component_count made z) weights) (ap (λ j. take j weights) (reduced_count made z h) ∙ t ∙ sym (reduced_usual h))
+      ap (λ j. take j weights) (reduced_count made z h) ∙ t ∙ sym (reduced_usual h)
 
   pub full_start : made.reduced ≡ false → (k : ℕ) → weights ≡ replicate 3 (pos 0) ++ eighths (pos (7 * 2 ^ (made.fraction - 3))) (previous_bands made z) ++ replicate k (pos 0)
-      → take (component_count made z) weights ≡ weight_vector p c z 0
+      → take (component_count made z) weights ≡ usual_weights made z
   full_start h k e =
       let n = eighths_length (pos (7 * 2 ^ (made.fraction - 3))) (previous_bands made z) in
       let l : length (replicate 3 (pos 0) ++ eighths (pos (7 * 2 ^ (made.fraction - 3))) (previous_bands made z)) ≡ 3 + previous_bands made z = omega (arith, n) in
       let t : take (3 + previous_bands made z) weights ≡ replicate 3 (pos 0) ++ eighths (pos (7 * 2 ^ (made.fraction - 3))) (previous_bands made z) =
       rw e (heads_taken (replicate 3 (pos 0) ++ eighths (pos (7 * 2 ^ (made.fraction - 3))) (previous_bands made z)) (replicate k (pos 0)) (3 + previous_bands made z) l) in
-      start_of (take (component_count made z) weights) (ap (λ j. take j weights) (full_count made z h) ∙ t ∙ sym (full_usual h))
+      ap (λ j. take j weights) (full_count made z h) ∙ t ∙ sym (full_usual h)
 
   pub start_is : (first k : ℕ) → first ≡ (if made.reduced then 0 else 3) → weights ≡ replicate first (pos 0) ++ eighths (pos (7 * 2 ^ (made.fraction - 3))) (previous_bands made z) ++ replicate k (pos 0)
-      → take (first + previous_bands made z) weights ≡ weight_vector p c z 0
+      → take (first + previous_bands made z) weights ≡ usual_weights made z
   start_is first k f e = by_mode made.reduced refl
     where
-      by_mode : (b : Bool) → made.reduced ≡ b → take (first + previous_bands made z) weights ≡ weight_vector p c z 0
+      by_mode : (b : Bool) → made.reduced ≡ b → take (first + previous_bands made z) weights ≡ usual_weights made z
       by_mode true h =
           let zero_first : first ≡ 0 = grind (arith, f) in
           ap (λ j. take j weights) (omega (arith, zero_first, reduced_count made z h)) ∙ reduced_start h k (rw zero_first at e)
@@ -115,10 +108,14 @@ begun_within fraction least most =
     let power : 2 ^ (fraction + 2) ≡ 2 ^ (fraction - 3) * 2 ^ 5 = ap (λ k. 2 ^ k) (sym e) ∙ pow-add 2 (fraction - 3) 5 in
     rw (first_weight (fraction - 3) (omega arith)) (omega (arith, power))
 
--- as long as no tables are taken, lawful weights start as usual
-pub usual_by_law : (p : Params) → IsLawful here p → p.start ≡ Usual
-usual_by_law p h = by_start p.start h.start
-  where
-    by_start : (s : WeightStart) → IsWeightStart here p s → s ≡ Usual
-    by_start Usual l = refl
-    by_start (Table q values) l = let n = l.0 in cc
+-- the weights that a band starts from are those at its first place
+pub start_told : (p : Params) (c : Image) (z : ℕ) (weights : List ℤ) (n : ℕ) → take n weights ≡ start_weights p z → take n weights ≡ weight_vector p c z 0
+unfolding weight_vector
+start_told p c z weights n e = e
+
+-- the usual weights are those that the parameters tell
+pub usual_told : (p : Params) (z : ℕ) → p.start ≡ Usual → (first near : ℕ) (weights : List ℤ) → first ≡ (if p.reduced then 0 else 3) → near ≡ previous_bands (predictor_of p) z
+    → weights ≡ replicate first (pos 0) ++ eighths (pos (7 * 2 ^ (p.omega - 3))) near ++ replicate (18 - first - near) (pos 0) → take (first + near) weights ≡ start_weights p z
+unfolding weights_by
+usual_told p z usual first near weights f n e =
+    rw (n, usual) (start_is (predictor_of p) z weights first (18 - first - previous_bands (predictor_of p) z) f (rw n at e))

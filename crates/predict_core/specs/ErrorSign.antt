@@ -1,7 +1,6 @@
 -- The sign of a prediction's error, told by the predicted difference alone (CCSDS 123.0-B-1, "Prediction Calculation").
 use Rattle.std.specs.Prelude.{ℕ, ◌≡◌, ◌+◌, ◌*◌, ◌^◌, ◌<◌, ◌≤◌, ℤ, pos, ◌+ℤ◌, ◌-ℤ◌, ◌*ℤ◌, int_lt, int_le, unsigned_abs}
 use Rattle.header_bits.specs.declared.params.Params.{Params}
-use Rattle.header_bits.specs.Reach.{here}
 use Rattle.header_bits.specs.Lawful.{IsLawful}
 use Rattle.cube_core.specs.Kind.{smin, smid, smax}
 use Rattle.cube_core.specs.Image.{Image, IsCube, IsPlace, sample_at}
@@ -18,7 +17,7 @@ predicted_difference p c z y x =
 
 -- lawful parameters and a cube of their shape and kind, and a place of it that is not the first of its band
 pub record IsLaterPlace (p : Params) (c : Image) (z y x : ℕ) : Type 0 where
-  pub lawful : IsLawful here p
+  pub lawful : IsLawful p
   pub cube : IsCube c
   pub shape : c.shape ≡ p.shape
   pub kind : c.kind ≡ p.kind

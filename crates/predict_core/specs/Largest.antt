@@ -1,7 +1,6 @@
 -- How large the sum can be from which a sample is predicted (CCSDS 123.0-B-1, "Prediction Calculation").
 use Rattle.std.specs.Prelude.{ℕ, ◌≡◌, ◌+◌, ◌*◌, ◌^◌, ◌<◌, ℤ, pos, ◌+ℤ◌, ◌-ℤ◌, ◌*ℤ◌, unsigned_abs}
 use Rattle.header_bits.specs.declared.params.Params.{Params}
-use Rattle.header_bits.specs.Reach.{here}
 use Rattle.header_bits.specs.Lawful.{IsLawful}
 use Rattle.cube_core.specs.Kind.{smid}
 use Rattle.cube_core.specs.Image.{Image, IsCube, IsPlace}
@@ -19,5 +18,5 @@ register_sum p c z y x =
 -- before it is wrapped to the register it is below 2^45, the sign aside
 abbrev pub RegisterBound : Type 0
 RegisterBound =
-    (p : Params) (c : Image) (z y x : ℕ) → IsLawful here p → IsCube c → c.shape ≡ p.shape → c.kind ≡ p.kind
+    (p : Params) (c : Image) (z y x : ℕ) → IsLawful p → IsCube c → c.shape ≡ p.shape → c.kind ≡ p.kind
     → IsPlace c.shape z y x → 0 < y + x → unsigned_abs (register_sum p c z y x) < 2 ^ 45

@@ -4,7 +4,6 @@ ghost use Rattle.std.specs.Prelude.{◌≡◌, ◌+◌, ◌*◌, ◌^◌, ◌<�
 ghost use Rattle.cube_core.specs.Image.{Image, IsPlace, sample_at, put};
 ghost use Rattle.cube_core.specs.Kind.{IsSample};
 ghost use Rattle.header_bits.specs.Lawful.{IsLawful};
-ghost use Rattle.header_bits.specs.Reach.{here};
 ghost use Rattle.header_bits.specs.declared.params.Params.{Params as Parameters};
 ghost use Rattle.predict_core.specs.Predictor.{component_count};
 ghost use Rattle.predict_core.specs.Prediction.{scaled_there, next_weights, first_scaled as first_prediction};
@@ -15,7 +14,7 @@ ghost use Rattle.predict_core.specs.Following.{Follows, IsMadeFor, MovesOn};
 use crate::predictor::Predictor;
 use crate::range::Range;
 use crate::settings::{Settings, first_scaled, learn, predict};
-use crate::start::usual_start;
+use crate::start::start_of;
 use cube_core::cube::Cube;
 use cube_core::fault::Fault;
 use cube_core::shape::Shape;
@@ -54,7 +53,7 @@ impl Band {
     /// `z` is below the number of bands. The room for weights is part of the band, so that no memory is
     /// asked for and nothing is refused.
     pub fn new(_alloc: Global, params: &Params, z: u32) -> Result<Band, Fault>
-        requires lawful { IsLawful here params.now }
+        requires lawful { IsLawful params.now }
         requires band { z < params.now.shape.bands }
         ensures made { IfOk result (λ b. IsMadeFor params.now b × (b.band ≡ z) × (b.place ≡ 0)) }
         ensures follows { IfOk result (λ b. (c : Image) → Follows params.now b c) }
@@ -76,7 +75,7 @@ impl Band {
             settings,
             shape: params.shape,
             next: 0,
-            weights: usual_start(params.omega, first, previous),
+            weights: start_of(params, z, first, previous),
             piece: [0; 64],
         })
     }

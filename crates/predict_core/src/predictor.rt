@@ -3,7 +3,6 @@
 ghost use Rattle.std.specs.Prelude.{◌≡◌};
 ghost use Rattle.predict_core.specs.Predictor.{predictor_of};
 ghost use Rattle.predict_core.specs.Bounds.{IsPredictor};
-ghost use Rattle.header_bits.specs.Reach.{here};
 ghost use Rattle.header_bits.specs.Lawful.{IsLawful};
 
 use header_bits::params::Params;
@@ -32,7 +31,7 @@ pub struct Predictor {
 impl Predictor {
     /// Those of an image's parameters.
     pub(crate) fn of(params: &Params) -> Predictor
-        requires { IsLawful here params.now }
+        requires { IsLawful params.now }
         ensures value { result ≡ predictor_of params.now }
         ensures lawful { IsPredictor result }
     {

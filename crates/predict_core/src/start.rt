@@ -1,8 +1,35 @@
 //! The weights that a band starts from.
 
-ghost use Rattle.std.specs.Prelude.{◌≡◌, ◌+◌, ◌-◌, ◌*◌, ◌^◌, ◌≤◌, pos, ◌++◌, replicate};
-ghost use Rattle.predict_core.specs.Weights.{eighths};
+ghost use Rattle.std.specs.Prelude.{◌≡◌, ◌+◌, ◌-◌, ◌*◌, ◌^◌, ◌<◌, ◌≤◌, pos, ◌++◌, drop, length, map, nat_le, replicate, take, unsigned_abs, if◌then◌else◌};
+ghost use Rattle.std.specs.List.{AllByRecursion};
+ghost use Rattle.cube_core.specs.Shape.{InRange};
+ghost use Rattle.header_bits.specs.Lawful.{IsLawful, IsSigned};
+ghost use Rattle.predict_core.specs.Predictor.{predictor_of, previous_bands};
+ghost use Rattle.predict_core.specs.Weights.{eighths, start_weights, table_weight as weight_from, entries_before as entries_in_front};
+ghost use Rattle.predict_core.specs.declared.predictor.Predictor.{Predictor as Settled};
 ghost use Rattle.predict_core.specs.Bounds.{AllWithin};
+
+use header_bits::params::{Params, WeightStart};
+
+/// The weights that band `z` starts from: `first` directional ones and those of `near` bands below
+/// (CCSDS 123.0-B-1, "Weight Initialization").
+pub(crate) fn start_of(params: &Params, z: u32, first: usize, near: usize) -> [i32; 18]
+    requires lawful { IsLawful params.now }
+    requires band { z < params.now.shape.bands }
+    requires directions { first ≡ (if params.now.reduced then 0 else 3) }
+    requires below { near ≡ previous_bands (predictor_of params.now) z }
+    ensures value { take (first + near) result ≡ start_weights params.now z }
+    ensures bound { AllWithin (2 ^ (params.now.omega + 2)) result }
+{
+    match &params.start {
+        WeightStart::Usual => usual_start(params.omega, first, near),
+        WeightStart::Table { q, values } => {
+            let from = entries_before(z, first, params.previous);
+            let entries = entries_from(values.as_slice(), from, first + near);
+            table_start(params.omega, *q, entries)
+        }
+    }
+}
 
 /// The usual weights of `count` bands below, from place `first` on: seven eighths for the nearest, and
 /// an eighth of the one before for each other (CCSDS 123.0-B-1, "Weight Initialization").
@@ -19,4 +46,75 @@ pub(crate) fn usual_start(fraction: u32, first: usize, count: usize) -> [i32; 18
         weight >>= 3;
     }
     weights
+}
+
+/// So many entries of a table, from the first that is wanted.
+fn entries_from(values: &[i32], from: usize, count: usize) -> &[i32]
+    requires { from + count ≤ length values.now }
+    ensures { result.now ≡ take count (drop from values.now) }
+{
+    &values[from..from + count]
+}
+
+/// How many entries of a weight table stand before those of band `z`, where each band has `first` of
+/// them and one for each band below, but for at most `previous`.
+fn entries_before(z: u32, first: usize, previous: u32) -> usize
+    requires bands { z < 65536 }
+    requires directions { first ≤ 3 }
+    requires few { previous ≤ 15 }
+    ensures { (p : Settled) → p.previous ≡ previous → first ≡ (if p.reduced then 0 else 3) → result ≡ entries_in_front p z }
+{
+    let z = z as usize;
+    let most = previous as usize;
+    let near = z.min(most);
+    z * first + near * near.saturating_sub(1) / 2 + (z - near) * most
+}
+
+/// The weights that entries of `q` bits tell: the bits of an entry are the highest of a weight, and ones stand below them.
+fn table_start(fraction: u32, q: u32, entries: &[i32]) -> [i32; 18]
+    requires fraction_in { (4 ≤ fraction) × (fraction ≤ 19) }
+    requires bits { InRange 3 (fraction + 3) q }
+    requires few { length entries.now ≤ 18 }
+    requires signed { AllByRecursion (IsSigned q) entries.now }
+    ensures value { take (length entries.now) result ≡ map (weight_from fraction q) entries.now }
+    ensures bound { AllWithin (2 ^ (fraction + 2)) result }
+{
+    let mut weights = [0i32; 18];
+    for i in 0..entries.len() {
+        weights[i] = table_weight(fraction, q, entries[i]);
+    }
+    weights
+}
+
+/// The weight that an entry of `q` bits tells.
+fn table_weight(fraction: u32, q: u32, entry: i32) -> i32
+    requires fraction_in { (4 ≤ fraction) × (fraction ≤ 19) }
+    requires bits { InRange 3 (fraction + 3) q }
+    requires signed { IsSigned q entry }
+    ensures value { result ≡ weight_from fraction q entry }
+    ensures bound { unsigned_abs result ≤ 2 ^ (fraction + 2) }
+{
+    let scale = power(fraction + 3 - q);
+    entry * scale + ones_below(fraction, q)
+}
+
+/// The bits of a weight below those of an entry, ones alone.
+fn ones_below(fraction: u32, q: u32) -> i32
+    requires fraction_in { fraction ≤ 19 }
+    requires bits { InRange 3 (fraction + 3) q }
+    ensures value { result ≡ pos (if nat_le q (fraction + 2) then 2 ^ (fraction + 2 - q) - 1 else 0) }
+{
+    if q <= fraction + 2 {
+        power(fraction + 2 - q) - 1
+    } else {
+        0
+    }
+}
+
+/// A power of two.
+fn power(exponent: u32) -> i32
+    requires { exponent ≤ 21 }
+    ensures value { result ≡ pos (2 ^ exponent) }
+{
+    1 << exponent
 }

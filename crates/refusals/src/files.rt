@@ -2,7 +2,6 @@
 
 ghost use Rattle.std.specs.Prelude.{◌≡◌, ◌^◌, ◌≤◌, IfOk, vec_len};
 ghost use Rattle.header_bits.specs.Lawful.{IsLawful};
-ghost use Rattle.header_bits.specs.Reach.{here};
 ghost use Rattle.coder_pipe.specs.Sends.{IsSeen};
 
 use crate::again::{Again, numbers};
@@ -20,6 +19,7 @@ use cube_core::order::Order;
 use cube_core::shape::Shape;
 use header_bits::bit_writer::BitWriter;
 use header_bits::params::{Coder, CountStart, Params, WeightStart};
+use header_bits::tables::{ConstantTable, WeightTable};
 use std::alloc::Global;
 use std::sync::Wait;
 use std::thread::Threads;
@@ -37,32 +37,66 @@ const BYTES: Layout = Layout {
     little: false,
 };
 
-/// A line for each coder: its file's length and checksum, whether predictors give the same, and whether it gives the cube back.
+/// The bits of an entry of the weight table.
+const RESOLUTION: u32 = 5;
+
+/// A line for each coder, and one for a file with tables: the file's length and checksum, whether predictors give the same, and
+/// whether it gives the cube back.
 pub fn lines<R: Threads + Wait + Sync>(
     rt: &R,
     alloc: Global,
     again: &mut Again,
 ) -> Result<String, Fault> {
-    let samples = Coder::Sample {
-        umax: 16,
-        gamma_star: 6,
-        gamma_zero: 1,
-        start: CountStart::Constant(3),
-    };
     let blocks = Coder::Block {
         size: 16,
         restricted: false,
         reference: 64,
     };
-    let first = line(rt, alloc, &params_of(Order::Bi(2), samples)?, again)?;
-    let second = line(rt, alloc, &params_of(Order::Bsq, blocks)?, again)?;
-    let lines = format!(in alloc; "{first}{second}")?;
+    let one = params_of(
+        Order::Bi(2),
+        WeightStart::Usual,
+        samples(CountStart::Constant(3)),
+    )?;
+    let first = line(rt, alloc, &one, again)?;
+    let other = params_of(Order::Bsq, WeightStart::Usual, blocks)?;
+    let second = line(rt, alloc, &other, again)?;
+    let tables = params_of(Order::Bi(1), weights(alloc)?, samples(constants(alloc)?))?;
+    let third = line(rt, alloc, &tables, again)?;
+    let lines = format!(in alloc; "{first}{second}{third}")?;
     Ok(lines)
 }
 
+/// The sample-adaptive coder.
+fn samples(start: CountStart) -> Coder {
+    Coder::Sample {
+        umax: 16,
+        gamma_star: 6,
+        gamma_zero: 1,
+        start,
+    }
+}
+
+/// A table of 24 weights: with three directions and up to three bands below, the bands have 3, 4, 5, 6 and 6.
+fn weights(alloc: Global) -> Result<WeightStart, Fault> {
+    let mut values = Vec::new(alloc);
+    for value in -12..12 {
+        values.push(value)?;
+    }
+    Ok(WeightStart::Table {
+        q: RESOLUTION,
+        values: WeightTable::new(values),
+    })
+}
+
+/// A constant for each band.
+fn constants(alloc: Global) -> Result<CountStart, Fault> {
+    let table = Vec::from_slice(alloc, &[3, 0, 10, 5, 1])?;
+    Ok(CountStart::Each(ConstantTable::new(table)))
+}
+
 /// Parameters of 12 bits.
-fn params_of(order: Order, coder: Coder) -> Result<Params, Fault>
-    ensures { IfOk result (λ p. IsLawful here p) }
+fn params_of(order: Order, start: WeightStart, coder: Coder) -> Result<Params, Fault>
+    ensures { IfOk result (λ p. IsLawful p) }
 {
     let params = Params {
         shape: Shape::new(23, 17, 5)?,
@@ -78,7 +112,7 @@ fn params_of(order: Order, coder: Coder) -> Result<Params, Fault>
         interval_log: 6,
         vmin: -1,
         vmax: 3,
-        start: WeightStart::Usual,
+        start,
         coder,
     };
     params.check()?;
@@ -92,7 +126,7 @@ fn line<R: Threads + Wait + Sync>(
     params: &Params,
     again: &mut Again,
 ) -> Result<String, Fault>
-    requires { IsLawful here params.now }
+    requires { IsLawful params.now }
 {
     let cube = scene(alloc, params, again)?;
     let file = encoded(alloc, &cube, params, again)?;
@@ -128,7 +162,7 @@ fn scene(alloc: Global, params: &Params, again: &mut Again) -> Result<Cube, Faul
 
 /// A plan for two predictors with eight slots each, asked for again where it was refused.
 fn plan_of(alloc: Global, params: &Params, again: &mut Again) -> Result<Plan, Fault>
-    requires { IsLawful here params.now }
+    requires { IsLawful params.now }
     ensures { IfOk result (λ plan. plan.params ≡ params.now) }
 {
     let deal = [0, 1, 1, 0, 1];
@@ -143,7 +177,7 @@ fn plan_of(alloc: Global, params: &Params, again: &mut Again) -> Result<Plan, Fa
 
 /// The file of a cube, encoded again where that was refused.
 fn encoded(alloc: Global, cube: &Cube, params: &Params, again: &mut Again) -> Result<Vec<u8>, Fault>
-    requires lawful { IsLawful here params.now }
+    requires lawful { IsLawful params.now }
     requires shape { cube.now.shape ≡ params.now.shape }
     requires kind { cube.now.kind ≡ params.now.kind }
 {

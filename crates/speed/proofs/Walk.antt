@@ -8,7 +8,6 @@ use Rattle.cube_core.specs.Image.{Image, put}
 use Rattle.cube_core.specs.Order.{IsOrder, places}
 use Rattle.cube_core.proofs.Orders.{StandsAt, length-places}
 use Rattle.header_bits.specs.declared.params.Params.{Params}
-use Rattle.header_bits.specs.Reach.{here}
 use Rattle.header_bits.specs.Lawful.{IsLawful}
 use Rattle.predict_core.specs.Following.{Learner}
 use Rattle.predict_core.specs.Residual.{mapped_residual, residuals}
@@ -60,7 +59,7 @@ below_more n (y ∷ ys) (suc i) x some all lt (suc k) h = below_more n ys i x (o
 -- ---- back: the sample of the next residual is put
 
 pub read_more : (p : Params) (c : Image) (left rest : List Place) (bands : List Learner) (q : Place) (b : Learner) (numbers : List ℕ) (i : ℕ) (v : ℤ)
-    → IsLawful here p → c.shape ≡ p.shape → IsOnWalk p c left bands → left ≡ q ∷ rest → slice_get bands q.z ≡ Some b → AreResiduals p c left i numbers → i < length numbers
+    → IsLawful p → c.shape ≡ p.shape → IsOnWalk p c left bands → left ≡ q ∷ rest → slice_get bands q.z ≡ Some b → AreResiduals p c left i numbers → i < length numbers
     → mapped_residual p (put c q.z q.y q.x v) q.z b.place ≡ get_or numbers i 0 → AreResiduals p (put c q.z q.y q.x v) rest (i + 1) numbers
 read_more p c left rest bands q b numbers i v lawful shape walk is band known lt value =
     let next = next_goes p q left rest lawful.order walk.rest is in

@@ -12,7 +12,6 @@ use Rattle.header_bits.specs.declared.params.Coder.TheVariants.{Sample}
 use Rattle.header_bits.specs.declared.params.CountStart.TheVariants.{Constant}
 use Rattle.header_bits.specs.declared.params.WeightStart.TheVariants.{Usual}
 use Rattle.header_bits.specs.Lawful.{params_fault}
-use Rattle.header_bits.specs.Reach.{here}
 
 -- the sizes of the cube that is gone through: large ones where times are told
 abbrev pub measured_shape : Bool → Sizes
@@ -52,4 +51,4 @@ coder_alone shape kind coder = record (measured shape true 0 Bsq coder) { kind =
 
 -- parameters, or the first refusal of them
 abbrev pub lawful_or_fault : Params → Result Params Fault
-lawful_or_fault p = params_fault here p >> Ok p
+lawful_or_fault p = params_fault p >> Ok p

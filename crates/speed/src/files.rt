@@ -2,7 +2,6 @@
 
 ghost use Rattle.std.specs.Prelude.{◌≡◌};
 ghost use Rattle.header_bits.specs.Lawful.{IsLawful};
-ghost use Rattle.header_bits.specs.Reach.{here};
 
 use crate::cube::sum_of_cube;
 use crate::predictor::{params_of, synthetic_cube, usual_coder};
@@ -40,7 +39,7 @@ pub fn measure(report: &Report) -> Result<()> {
 
 /// Measures both ways.
 fn there_and_back(report: &Report, coder: &str, order: &str, params: &Params) -> Result<()>
-    requires { IsLawful here params.now }
+    requires { IsLawful params.now }
 {
     let alloc = report.alloc();
     let count = params.shape.sample_count();

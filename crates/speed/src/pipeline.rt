@@ -2,7 +2,6 @@
 
 ghost use Rattle.std.specs.Prelude.{◌≤◌};
 ghost use Rattle.header_bits.specs.Lawful.{IsLawful};
-ghost use Rattle.header_bits.specs.Reach.{here};
 
 use crate::predictor::{params_of, synthetic_cube, usual_coder};
 use crate::report::Report;
@@ -43,7 +42,7 @@ fn measure_order<R: Threads + Wait + Sync>(
     order: &str,
     params: &Params,
 ) -> Result<()>
-    requires { IsLawful here params.now }
+    requires { IsLawful params.now }
 {
     let alloc = report.alloc();
     let cube = synthetic_cube(alloc, params.shape, params.kind)?;

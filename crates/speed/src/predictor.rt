@@ -6,7 +6,6 @@ ghost use Rattle.cube_core.specs.declared.fault.Fault.TheVariants.{WantOfMemory}
 ghost use Rattle.cube_core.specs.Image.{Image};
 ghost use Rattle.cube_core.specs.Shape.{sample_count};
 ghost use Rattle.header_bits.specs.Lawful.{IsLawful};
-ghost use Rattle.header_bits.specs.Reach.{here};
 ghost use Rattle.predict_core.specs.Following.{Learner};
 ghost use Rattle.predict_core.specs.Residual.{residuals as residuals_of};
 ghost use Rattle.speed.specs.Images.{synthetic_image};
@@ -66,7 +65,7 @@ pub fn params_of(
     coder: Coder,
 ) -> Result<Params, Fault>
     ensures value { result ≡ lawful_or_fault (measured shape reduced previous order coder) }
-    ensures lawful { IfOk result (λ p. IsLawful here p) }
+    ensures lawful { IfOk result (λ p. IsLawful p) }
 {
     let params = Params {
         shape,
@@ -91,7 +90,7 @@ pub fn params_of(
 
 /// Measures both ways.
 fn there_and_back(report: &Report, mode: &str, order: &str, params: &Params) -> Result<()>
-    requires { IsLawful here params.now }
+    requires { IsLawful params.now }
 {
     let shape = params.shape;
     let count = shape.sample_count();
@@ -113,7 +112,7 @@ fn there_and_back(report: &Report, mode: &str, order: &str, params: &Params) -> 
 
 /// Writes the residuals of a cube, in encoding order.
 fn forward(alloc: Global, cube: &Cube, params: &Params, residuals: &mut [u16]) -> Result<(), Fault>
-    requires lawful { IsLawful here params.now }
+    requires lawful { IsLawful params.now }
     requires shape { cube.now.shape ≡ params.now.shape }
     requires kind { cube.now.kind ≡ params.now.kind }
     requires room { length residuals.old ≡ sample_count params.now.shape }
@@ -135,7 +134,7 @@ fn forward(alloc: Global, cube: &Cube, params: &Params, residuals: &mut [u16]) -
 
 /// Writes the samples of residuals, which are in encoding order.
 fn inverse(alloc: Global, cube: &mut Cube, params: &Params, residuals: &[u16]) -> Result<(), Fault>
-    requires lawful { IsLawful here params.now }
+    requires lawful { IsLawful params.now }
     requires shape { cube.old.shape ≡ params.now.shape }
     requires kind { cube.old.kind ≡ params.now.kind }
     requires all { length residuals.now ≡ sample_count params.now.shape }
@@ -157,7 +156,7 @@ fn inverse(alloc: Global, cube: &mut Cube, params: &Params, residuals: &[u16]) -
 
 /// The predictors of all bands, each before its first place.
 fn all_bands(alloc: Global, params: &Params) -> Result<Vec<Band>, Fault>
-    requires { IsLawful here params.now }
+    requires { IsLawful params.now }
     ensures len { IfOk result (λ bands. vec_len bands ≡ params.now.shape.bands) }
     ensures along { IfOk result (λ bands. (c : Image) → AreAlong params.now c 0 bands.items) }
     ensures first { IfOk result (λ bands. (z : ℕ) (b : Learner) → slice_get bands.items z ≡ Some b → b.place ≡ 0) }

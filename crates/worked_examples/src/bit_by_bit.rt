@@ -3,7 +3,8 @@
 ghost use Rattle.std.specs.Prelude.{◌≤◌};
 
 use crate::rows::{
-    BLOCK_ROWS, CUBE_A_ROWS, REGISTER_ROWS, RUN_ROWS, SEGMENT_ROWS, SMALL_ROWS, WEIGHT_ROWS,
+    BLOCK_ROWS, CUBE_A_ROWS, REGISTER_ROWS, RESTRICTED_ROWS, RUN_ROWS, SEGMENT_ROWS, SMALL_ROWS,
+    TABLE_ROWS, WEIGHT_ROWS,
 };
 use crate::texts::{file_of, parts_of};
 use header_bits::bit_reader::BitReader;
@@ -136,6 +137,8 @@ fn worked_files_bit_by_bit(rt: HostRuntime) {
         BLOCK_ROWS,
         RUN_ROWS,
         SEGMENT_ROWS,
+        TABLE_ROWS,
+        RESTRICTED_ROWS,
     ] {
         for row in rows.split('\n') {
             let [_name, _settings, _samples, header, body] = parts_of(&rt, row);

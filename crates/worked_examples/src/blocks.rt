@@ -183,21 +183,11 @@ fn numbers_come_back(rt: HostRuntime) {
 }
 
 /// That these numbers, in blocks of 8, are written as this body.
-fn is_body(
-    rt: &impl Abort,
-    alloc: Global,
-    bits: u32,
-    reference: u32,
-    numbers: &[u16],
-    body: &[u8],
-) {
+fn is_body(rt: &impl Abort, alloc: Global, settings: Settings, numbers: &[u16], body: &[u8]) {
     assert!(rt; numbers.len() < 65_536);
     let s = Settings {
-        bits,
-        restricted: false,
-        size: 0,
-        reference,
         count: numbers.len() as u32,
+        ..settings
     };
     let params = params_of(rt, s);
     assert!(rt; numbers.len() as u64 == params.shape.sample_count());
@@ -205,7 +195,7 @@ fn is_body(
     same(rt, &found, body, "a body");
 }
 
-/// Bits of a sample, reference interval, numbers in blocks of 8, and their body.
+/// Bits of a sample, reference interval, numbers in blocks of 8, their body, and which set of options.
 const BODIES: &str = "\
 8 | 1 | 144 | a0 0f f0 00 00 00 00
 8 | 1 | 0 | 08
@@ -215,17 +205,29 @@ const BODIES: &str = "\
 8 | 4096 | 1040*0 | 00 80 41
 8 | 65 | 1040*0 | 00 84 02 10
 8 | 1 | 55 3 5 0 4 2 20 1 2 2 1 2 | 80 7e 7d d1 14 24 94 f8
-2 | 1 | 8*1 | ea aa a0";
+2 | 1 | 8*1 | ea aa a0
+2 | 1 | 0 | 20 | restricted
+2 | 1 | 2 | 47 80 | restricted
+2 | 1 | 3 | 40 f0 | restricted
+2 | 1 | 8*3 | ff ff 80 | restricted
+2 | 1 | 2 0 2 0 2 0 0 1 | c4 40 80 | restricted
+4 | 1 | 2 | 23 c0 | restricted";
 
 #[test]
 fn bodies(rt: HostRuntime) {
     for row in BODIES.split('\n') {
-        let [bits, reference, numbers, body, _] = parts_of(&rt, row);
+        let [bits, reference, numbers, body, set] = parts_of(&rt, row);
+        let settings = Settings {
+            bits: number_of(&rt, bits),
+            restricted: set == "restricted",
+            size: 0,
+            reference: number_of(&rt, reference),
+            count: 0,
+        };
         is_body(
             &rt,
             rt.alloc(),
-            number_of(&rt, bits),
-            number_of(&rt, reference),
+            settings,
             &numbers_of(&rt, rt.alloc(), numbers),
             &bytes_of(&rt, rt.alloc(), body),
         );

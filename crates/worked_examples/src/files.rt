@@ -4,7 +4,8 @@ ghost use Rattle.std.specs.Prelude.{◌≡◌};
 ghost use Rattle.cube_core.specs.Layout.{IsLayout};
 
 use crate::rows::{
-    BLOCK_ROWS, CUBE_A_ROWS, REGISTER_ROWS, RUN_ROWS, SEGMENT_ROWS, SMALL_ROWS, WEIGHT_ROWS,
+    BLOCK_ROWS, CUBE_A_ROWS, REGISTER_ROWS, RESTRICTED_ROWS, RUN_ROWS, SEGMENT_ROWS, SMALL_ROWS,
+    TABLE_ROWS, WEIGHT_ROWS,
 };
 use crate::settings::params_of;
 use crate::texts::{file_of, header_of, parts_of, same, samples_of};
@@ -46,7 +47,7 @@ pub(super) fn encoded(
 ) -> Vec<u8>
     requires { IsLayout layout }
 {
-    let params = params_of(rt, settings);
+    let params = params_of(rt, alloc, settings);
     assert!(rt; params.check().is_ok(), "{name}");
     let cube = Cube::from_raw(alloc, params.shape, params.kind, layout, raw).expect(rt, name);
     encode_one(alloc, &cube, &params).expect(rt, name)
@@ -94,6 +95,8 @@ fn worked_files_are_written_and_read(rt: HostRuntime) {
     rows_hold(&rt, rt.alloc(), BLOCK_ROWS);
     rows_hold(&rt, rt.alloc(), RUN_ROWS);
     rows_hold(&rt, rt.alloc(), SEGMENT_ROWS);
+    rows_hold(&rt, rt.alloc(), TABLE_ROWS);
+    rows_hold(&rt, rt.alloc(), RESTRICTED_ROWS);
 }
 
 /// The least sample of sixteen signed bits.

@@ -35,7 +35,7 @@ fn samples(rt: &impl Abort, alloc: Global, count: u64) -> Vec<u8> {
 
 /// That the file of samples by these settings gives them back.
 fn comes_back(rt: &impl Abort, alloc: Global, settings: &str) {
-    let params = params_of(rt, settings);
+    let params = params_of(rt, alloc, settings);
     let raw = samples(rt, alloc, params.shape.sample_count());
     let file = encoded(rt, alloc, settings, settings, BYTES, &raw);
     assert!(rt; params.check().is_ok(), "{settings}");

@@ -3,7 +3,6 @@
 ghost use Rattle.std.specs.Prelude.{◌≡◌, ◌<◌, ◌^◌};
 ghost use Rattle.cube_core.specs.Order.{IsOrder};
 ghost use Rattle.header_bits.specs.Lawful.{IsLawful};
-ghost use Rattle.header_bits.specs.Reach.{here};
 ghost use Rattle.predict_core.specs.Rows.{sizes, unsigned};
 
 use crate::texts::numbers_of;
@@ -45,7 +44,7 @@ fn kind_a(rt: &impl Abort) -> Kind
 
 /// The parameters of cube A.
 fn params_a(rt: &impl Abort) -> Params
-    ensures lawful { IsLawful here result }
+    ensures lawful { IsLawful result }
     ensures shape { result.shape ≡ sizes 3 2 2 }
     ensures kind { result.kind ≡ unsigned 8 }
 {

@@ -1,7 +1,7 @@
 //! Files that are refused, and the fault that is named.
 
 use crate::files::decoded;
-use crate::texts::{bytes_of, fault_of, file_of, header_of, parts_of};
+use crate::texts::{fault_of, file_of, header_of, number_of, parts_of};
 use cube_core::fault::{Fault, Field, Rule};
 use std::alloc::Global;
 use std::process::Abort;
@@ -74,29 +74,97 @@ fn headers(rt: HostRuntime) {
         ),
     ];
     for (header, fault) in rows {
-        refused(
-            &rt,
-            rt.alloc(),
-            &file_of(&rt, rt.alloc(), header, "90"),
-            fault,
-        );
-        // A fault of the header comes before one of the body.
-        refused(&rt, rt.alloc(), &header_of(&rt, rt.alloc(), header), fault);
+        header_refused(&rt, rt.alloc(), header, fault);
     }
 }
 
-/// The file of two equal samples.
-const TWO_EQUAL: &str = "00 00 01 00 02 00 01 11 00 00 08 00 02 a0 92 59 00 82 26 90 80";
+/// That a header is refused for this fault, with a body and without: a fault of the header comes before one of the body.
+fn header_refused(rt: &impl Abort, alloc: Global, header: &str, fault: Fault) {
+    refused(rt, alloc, &file_of(rt, alloc, header, "90"), fault);
+    refused(rt, alloc, &header_of(rt, alloc, header), fault);
+}
+
+#[test]
+fn headers_with_weights(rt: HostRuntime) {
+    let rows: [(&str, Fault); 5] = [
+        ("16:40", Fault::TableElsewhere),
+        (
+            "16:62",
+            Fault::FieldRange {
+                field: Field::Resolution,
+                value: 2,
+            },
+        ),
+        (
+            "16:71",
+            Fault::Disagree {
+                rule: Rule::ResolutionOverOmega,
+            },
+        ),
+        ("4:02 6:02 12:06 16:63 17+e1", Fault::Reserved { bit: 143 }),
+        ("4:02 6:02 12:06 16:63 17+f0", Fault::Reserved { bit: 139 }),
+    ];
+    for (header, fault) in rows {
+        header_refused(&rt, rt.alloc(), header, fault);
+    }
+}
+
+#[test]
+fn headers_with_constants(rt: HostRuntime) {
+    let rows: [(&str, Fault); 5] = [
+        (
+            "4:02 18:3f 19+70",
+            Fault::Disagree {
+                rule: Rule::AccumulatorEntry,
+            },
+        ),
+        ("4:02 18:3f 19+31", Fault::Reserved { bit: 159 }),
+        (
+            "4:02 18:37 19+30",
+            Fault::Disagree {
+                rule: Rule::ConstantWithTable,
+            },
+        ),
+        (
+            "4:02 18:3e",
+            Fault::Disagree {
+                rule: Rule::StartConstant,
+            },
+        ),
+        (
+            "10:0c 17:10 18:01",
+            Fault::Disagree {
+                rule: Rule::RestrictedOverFour,
+            },
+        ),
+    ];
+    for (header, fault) in rows {
+        header_refused(&rt, rt.alloc(), header, fault);
+    }
+}
+
+/// Headers, bodies and how long the header is: two equal samples, the same by a table of one constant, and one weight.
+const CUT_FILES: &str = "\
+4:02 | 90 80 | 19
+4:02 18:3f 19+30 | 90 80 | 20
+4:02 6:02 12:06 16:63 17+e0 | 37 2d 8c 70 | 20";
 
 #[test]
 fn files_cut_short(rt: HostRuntime) {
-    let file = bytes_of(&rt, rt.alloc(), TWO_EQUAL);
-    assert!(rt; file.len() == 21);
-    for n in 0..19 {
-        refused(&rt, rt.alloc(), &file[..n], Fault::ShortHeader);
+    for row in CUT_FILES.split('\n') {
+        let [header, body, length, _, _] = parts_of(&rt, row);
+        let file = file_of(&rt, rt.alloc(), header, body);
+        let length = number_of(&rt, length) as usize;
+        assert!(rt; file.len() <= 1000);
+        for n in 0..file.len() {
+            let fault = if n < length {
+                Fault::ShortHeader
+            } else {
+                Fault::Truncated { bit: 8 * n as u64 }
+            };
+            refused(&rt, rt.alloc(), &file[..n], fault);
+        }
     }
-    refused(&rt, rt.alloc(), &file[..19], Fault::Truncated { bit: 152 });
-    refused(&rt, rt.alloc(), &file[..20], Fault::Truncated { bit: 160 });
 }
 
 /// Headers, bodies, and the faults that are named.

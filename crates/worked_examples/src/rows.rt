@@ -56,3 +56,19 @@ a run up to the reference border | rows=48 reference=4 | 48*128 | 4:30 10:0c 17:
 pub(super) const SEGMENT_ROWS: &str = "\
 a run of 64 blocks | rows=1040 reference=4096 | 1040*128 | 3:04 4:10 10:0c 17:00 18:00 | 00 80 41
 segments from each reference border | rows=1040 reference=65 | 1040*128 | 3:04 4:10 10:0c 17:00 18:41 | 00 84 02 10";
+
+/// Tables of weights and of constants.
+pub(super) const TABLE_ROWS: &str = "\
+a table of no weights | resolution=3 | 200 | 16:63 | 90
+one weight | rows=2 bands=2 previous=1 resolution=3 weights=-1 | 100 110 50 60 | 4:02 6:02 12:06 16:63 17+e0 | 37 2d 8c 70
+a coarse weight | rows=2 bands=2 previous=1 omega=4 resolution=3 weights=-1 | 255 242 176 255 | 4:02 6:02 12:06 14:02 16:63 17+e0 | fe 6a 78 00 04 78
+a weight in its whole resolution | rows=2 bands=2 previous=1 omega=4 resolution=7 weights=-22 | 31 0 0 0 | 4:02 6:02 12:06 14:02 16:67 17+d4 | c1 01 c7 a0 06 80
+one constant | rows=2 constants=3 | 200 200 | 4:02 18:3f 19+30 | 90 80
+two constants | rows=2 bands=2 constants=3,0 | 200 200 128 128 | 4:02 6:02 18:3f 19+30 | 90 80 08";
+
+/// The restricted set of code options.
+pub(super) const RESTRICTED_ROWS: &str = "\
+four bits, restricted | bits=4 reference=1 restricted=1 | 9 | 7:09 10:0c 17:10 18:01 | 23 c0
+a zero block of two bits | bits=2 reference=1 restricted=1 | 2 | 7:05 10:0c 17:10 18:01 | 20
+a pair of 2 and 0 | bits=2 reference=1 restricted=1 | 3 | 7:05 10:0c 17:10 18:01 | 47 80
+a pair of 3 and 0 | bits=2 reference=1 restricted=1 | 0 | 7:05 10:0c 17:10 18:01 | 40 f0";

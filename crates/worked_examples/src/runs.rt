@@ -2,7 +2,6 @@
 
 ghost use Rattle.std.specs.Prelude.{◌≡◌, ◌<◌};
 ghost use Rattle.header_bits.specs.Lawful.{IsLawful};
-ghost use Rattle.header_bits.specs.Reach.{here};
 
 use cube_core::cube::Cube;
 use cube_core::kind::Kind;
@@ -76,7 +75,7 @@ fn params_of(
     column: bool,
     register: u32,
 ) -> Params
-    ensures { IsLawful here result }
+    ensures { IsLawful result }
 {
     assert!(rt; previous <= 15);
     let params = Params {
@@ -132,7 +131,7 @@ fn cube_of(rt: &impl Abort, alloc: Global, params: &Params, draw: &mut Draw) -> 
 
 /// Goes over all rows of band `z` by runs of so many places, the last of a row shorter, and by single places.
 fn are_the_same(rt: &impl Abort, alloc: Global, params: &Params, z: u32, most: u32, draw: &mut Draw)
-    requires { IsLawful here params.now }
+    requires { IsLawful params.now }
 {
     assert!(rt; z < params.shape.bands());
     assert!(rt; most <= 64);

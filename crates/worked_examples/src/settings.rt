@@ -4,14 +4,17 @@ use cube_core::kind::Kind;
 use cube_core::order::Order;
 use cube_core::shape::Shape;
 use header_bits::params::{Coder, CountStart, Params, WeightStart};
+use header_bits::tables::{ConstantTable, WeightTable};
+use std::alloc::Global;
 use std::process::Abort;
 
 /// What the worked files have where nothing else is said.
 ///
 /// A depth of 0 stands for band after band. `reduced=1` is reduced mode and column-oriented sums, else it is
-/// full mode and neighbour-oriented sums. With a reference interval the coder is the block-adaptive one.
+/// full mode and neighbour-oriented sums. With a reference interval the coder is the block-adaptive one. With a
+/// resolution there is a table of weights, such as `weights=-1,2`; `constants=3,0` is one of constants.
 const COMMON: &str = "columns=1 rows=1 bands=1 signed=0 bits=8 depth=0 word=1 previous=0 reduced=1 \
-    register=32 omega=13 interval_log=6 vmin=-1 vmax=3 umax=16 constant=3 reference=0";
+    register=32 omega=13 interval_log=6 vmin=-1 vmax=3 resolution=0 umax=16 constant=3 restricted=0 reference=0";
 
 /// The number that words give a name; nothing where they don't.
 fn given<'a>(words: &'a str, name: &str) -> &'a str {
@@ -48,25 +51,61 @@ fn order(rt: &impl Abort, words: &str) -> Order {
     }
 }
 
+/// The weights that a band starts from.
+fn start(rt: &impl Abort, alloc: Global, words: &str) -> WeightStart {
+    match number(rt, words, "resolution") {
+        0 => WeightStart::Usual,
+        q => WeightStart::Table {
+            q,
+            values: WeightTable::new(table(rt, alloc, words, "weights")),
+        },
+    }
+}
+
+/// The accumulator's constant, or those of all bands.
+fn constants(rt: &impl Abort, alloc: Global, words: &str) -> CountStart {
+    if given(words, "constants").is_empty() {
+        return CountStart::Constant(number(rt, words, "constant"));
+    }
+    let mut constants = Vec::new(alloc);
+    for constant in &table(rt, alloc, words, "constants") {
+        let constant = u8::try_from(*constant).expect(rt, "a constant");
+        constants.push(constant).expect(rt, "memory");
+    }
+    CountStart::Each(ConstantTable::new(constants))
+}
+
+/// The numbers of a table, with commas between them; none where the words don't give it.
+fn table(rt: &impl Abort, alloc: Global, words: &str, name: &str) -> Vec<i32> {
+    let mut numbers = Vec::new(alloc);
+    for number in given(words, name).split(',') {
+        if !number.is_empty() {
+            let number = number.parse::<i32>().expect(rt, name);
+            numbers.push(number).expect(rt, "memory");
+        }
+    }
+    numbers
+}
+
 /// The coder.
-fn coder(rt: &impl Abort, words: &str) -> Coder {
+fn coder(rt: &impl Abort, alloc: Global, words: &str) -> Coder {
     match number(rt, words, "reference") {
         0 => Coder::Sample {
             umax: number(rt, words, "umax"),
             gamma_star: 6,
             gamma_zero: 1,
-            start: CountStart::Constant(number(rt, words, "constant")),
+            start: constants(rt, alloc, words),
         },
         reference => Coder::Block {
             size: 8,
-            restricted: false,
+            restricted: number(rt, words, "restricted") == 1,
             reference,
         },
     }
 }
 
 /// The parameters that words such as `rows=2` change of the common ones.
-pub(crate) fn params_of(rt: &impl Abort, words: &str) -> Params {
+pub(crate) fn params_of(rt: &impl Abort, alloc: Global, words: &str) -> Params {
     let columns = number(rt, words, "columns");
     let rows = number(rt, words, "rows");
     let bands = number(rt, words, "bands");
@@ -87,7 +126,7 @@ pub(crate) fn params_of(rt: &impl Abort, words: &str) -> Params {
         interval_log: number(rt, words, "interval_log"),
         vmin: told(rt, words, "vmin"),
         vmax: told(rt, words, "vmax"),
-        start: WeightStart::Usual,
-        coder: coder(rt, words),
+        start: start(rt, alloc, words),
+        coder: coder(rt, alloc, words),
     }
 }

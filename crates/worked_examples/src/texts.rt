@@ -64,13 +64,19 @@ pub(crate) fn samples_of(rt: &impl Abort, alloc: Global, words: &str) -> Vec<u8>
     samples
 }
 
-/// The common header with other bytes at some places, as in `4:02 7:11`.
+/// The common header with other bytes at some places, as in `4:02 16:63 17+e0`; behind a `+` stands a byte that is put in.
 pub(crate) fn header_of(rt: &impl Abort, alloc: Global, changes: &str) -> Vec<u8> {
     let mut header = bytes_of(rt, alloc, HEADER);
     for change in changes.split_whitespace() {
-        let (place, byte) = change.split_once(':').expect(rt, "a place");
-        let place = number_of(rt, place) as usize;
-        *header.get_mut(place).expect(rt, change) = byte_of(rt, byte);
+        if let Some((place, byte)) = change.split_once('+') {
+            let place = number_of(rt, place) as usize;
+            assert!(rt; place <= header.len(), "{change}");
+            header.insert(place, byte_of(rt, byte)).expect(rt, "memory");
+        } else {
+            let (place, byte) = change.split_once(':').expect(rt, "a place");
+            let place = number_of(rt, place) as usize;
+            *header.get_mut(place).expect(rt, change) = byte_of(rt, byte);
+        }
     }
     header
 }

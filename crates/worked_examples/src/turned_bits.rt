@@ -5,7 +5,8 @@
 
 use crate::files::{BYTES, decoded};
 use crate::rows::{
-    BLOCK_ROWS, CUBE_A_ROWS, REGISTER_ROWS, RUN_ROWS, SEGMENT_ROWS, SMALL_ROWS, WEIGHT_ROWS,
+    BLOCK_ROWS, CUBE_A_ROWS, REGISTER_ROWS, RESTRICTED_ROWS, RUN_ROWS, SEGMENT_ROWS, SMALL_ROWS,
+    TABLE_ROWS, WEIGHT_ROWS,
 };
 use crate::texts::{file_of, parts_of};
 use cube_core::fault::Fault;
@@ -81,4 +82,14 @@ fn a_bit_of_a_file_of_runs_is_turned(rt: HostRuntime) {
 #[test]
 fn a_bit_of_a_file_of_whole_segments_is_turned(rt: HostRuntime) {
     rows_answer_alike(&rt, rt.alloc(), SEGMENT_ROWS);
+}
+
+#[test]
+fn a_bit_of_a_file_with_a_table_is_turned(rt: HostRuntime) {
+    rows_answer_alike(&rt, rt.alloc(), TABLE_ROWS);
+}
+
+#[test]
+fn a_bit_of_a_restricted_file_is_turned(rt: HostRuntime) {
+    rows_answer_alike(&rt, rt.alloc(), RESTRICTED_ROWS);
 }

@@ -37,7 +37,7 @@ pub(crate) const BY_PIXEL: [u8; 26] = [
 const ROOM: usize = 1000;
 
 /// Samples of one byte, band after band.
-const BYTES: Layout = Layout {
+pub(crate) const BYTES: Layout = Layout {
     order: RawOrder::Bsq,
     bytes: 1,
     little: false,
@@ -119,18 +119,19 @@ pub(crate) fn piped<R: Threads + Wait + Sync + Abort, G: Gate + Sync>(
     encode_predicted(rt, alloc, &cube, &plan, gate)
 }
 
-/// What the command makes of its raw bytes by two predictors, of which each has a band, past a gate.
+/// What the command makes of its raw bytes by so many predictors, past a gate.
 pub(crate) fn compressed<R: Threads + Wait + Sync + Abort, G: Gate + Sync>(
     rt: &R,
     alloc: Global,
     params: Params,
+    predictors: u32,
     slots: u32,
     gate: &G,
 ) -> Result<Vec<u8>, Fault> {
     let settings = CompressSettings {
         params,
         layout: BYTES,
-        predictors: 2,
+        predictors,
         slots,
     };
     let mut source = CutSource::new(&SAMPLES, ROOM, None);

@@ -40,16 +40,19 @@ impl Gate for StopAt {
     }
 }
 
-/// Holds the first residual of predictor 0 until the second of predictor 1 was asked for; or stops it, where that takes too long.
+/// Holds the first residual of predictor 0 until a residual of predictor 1 was asked for; or stops it, where that takes too long.
 #[derive(Drop)]
 pub(crate) struct FirstWaits {
-    second: AtomicBool,
+    nth: u64,
+    asked: AtomicBool,
 }
 
 impl FirstWaits {
-    pub(crate) fn new() -> FirstWaits {
+    /// It waits for the `nth` residual of predictor 1, counted from 0.
+    pub(crate) fn new(nth: u64) -> FirstWaits {
         FirstWaits {
-            second: AtomicBool::new(false),
+            nth,
+            asked: AtomicBool::new(false),
         }
     }
 }
@@ -58,10 +61,10 @@ impl Gate for FirstWaits {
     ghost may_stop = { λ _ q n. (q == 0) && (n == 0) };
 
     fn pass(&self, predictor: u32, nth: u64, _turn: u64) -> bool {
-        if predictor == 1 && nth == 1 {
-            self.second.store(true, Ordering::SeqCst);
+        if predictor == 1 && nth == self.nth {
+            self.asked.store(true, Ordering::SeqCst);
         }
-        predictor != 0 || nth != 0 || is_set_in_time(&self.second)
+        predictor != 0 || nth != 0 || is_set_in_time(&self.asked)
     }
 }
 

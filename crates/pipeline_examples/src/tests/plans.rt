@@ -1,6 +1,7 @@
 //! Which plans are refused.
 
-use super::cubes::{by_samples, params_of};
+use super::cubes::{by_samples, compressed, params_of};
+use coder_pipe::OpenGate;
 use coder_pipe::plan::Plan;
 use cube_core::fault::{Fault, Field};
 use cube_core::order::Order;
@@ -44,6 +45,21 @@ fn entries_are_judged_before_the_length(rt: HostRuntime) {
     assert_eq!(rt; refusal(&rt, rt.alloc(), 2, &[0, 0, 0], 1), band(2));
     assert_eq!(rt; refusal(&rt, rt.alloc(), 2, &[0, 0, 0, 2], 1), band(3));
     assert_eq!(rt; refusal(&rt, rt.alloc(), 1, &[1, 0, 0], 1), band(0));
+}
+
+/// A command that has no plan tells why.
+#[test]
+fn a_command_without_a_plan_is_refused(rt: HostRuntime) {
+    for (predictors, slots, field, value) in [
+        (0, 0, Field::Predictors, 0),
+        (65, 1, Field::Predictors, 65),
+        (2, 0, Field::Slots, 0),
+        (64, 65_537, Field::Slots, 65_537),
+    ] {
+        let params = params_of(&rt, Order::Bi(2), by_samples());
+        let answer = compressed(&rt, rt.alloc(), params, predictors, slots, &OpenGate);
+        assert_eq!(rt; answer.err(), range(field, value));
+    }
 }
 
 /// A number out of its range.

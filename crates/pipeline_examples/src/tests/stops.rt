@@ -1,6 +1,6 @@
 //! Pipelines that a gate stops.
 
-use super::cubes::{by_samples, params_of, piped};
+use super::cubes::{by_samples, compressed, params_of, piped};
 use super::gates::StopTwo;
 use cube_core::fault::Fault;
 use cube_core::order::Order;
@@ -66,4 +66,19 @@ fn the_first_of_two_is_named(rt: HostRuntime) {
         sent: 2,
     });
     assert_eq!(rt; fault(&rt, rt.alloc(), Order::Bi(2), 1, 2, 0), stopped);
+}
+
+/// A command tells the same.
+#[test]
+fn a_command_is_stopped(rt: HostRuntime) {
+    for sent in 0..NEVER {
+        let params = params_of(&rt, Order::Bi(2), by_samples());
+        let gate = StopTwo {
+            first: sent,
+            second: NEVER,
+        };
+        let answer = compressed(&rt, rt.alloc(), params, 2, 1, &gate);
+        let stopped = Some(Fault::Stopped { predictor: 0, sent });
+        assert_eq!(rt; answer.err(), stopped);
+    }
 }

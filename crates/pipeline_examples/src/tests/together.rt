@@ -5,14 +5,18 @@ use super::gates::{FirstWaits, Meeting};
 use cube_core::order::Order;
 use std::test::Fail;
 
-/// Predictor 0 may send its first residual only once predictor 1 wants to send its second.
+/// Predictor 0 may send its first residual only once predictor 1 wants to send one for which its lane has no room.
 #[test]
 fn gate_first_waits_for_second(rt: HostRuntime) -> Result<(), Fail> {
-    let params = params_of(&rt, Order::Bi(2), by_samples());
-    let made = piped(&rt, rt.alloc(), &params, 2, &[0, 1], 1, &FirstWaits::new())?;
-    assert_eq!(rt; made.file.as_slice(), BY_PIXEL.as_slice());
-    let file = compressed(&rt, rt.alloc(), params, 1, &FirstWaits::new())?;
-    assert_eq!(rt; file.as_slice(), BY_PIXEL.as_slice());
+    for slots in 1..6 {
+        let gate = FirstWaits::new(u64::from(slots));
+        let params = params_of(&rt, Order::Bi(2), by_samples());
+        let made = piped(&rt, rt.alloc(), &params, 2, &[0, 1], slots, &gate)?;
+        assert_eq!(rt; made.file.as_slice(), BY_PIXEL.as_slice());
+        let gate = FirstWaits::new(u64::from(slots));
+        let file = compressed(&rt, rt.alloc(), params, 2, slots, &gate)?;
+        assert_eq!(rt; file.as_slice(), BY_PIXEL.as_slice());
+    }
     Ok(())
 }
 
@@ -25,7 +29,7 @@ fn gates_meet(rt: HostRuntime) -> Result<(), Fail> {
     assert_eq!(rt; made.file.as_slice(), BY_PIXEL.as_slice());
     assert!(rt; meeting.took_place());
     let meeting = Meeting::new();
-    let file = compressed(&rt, rt.alloc(), params, 1, &meeting)?;
+    let file = compressed(&rt, rt.alloc(), params, 2, 1, &meeting)?;
     assert_eq!(rt; file.as_slice(), BY_PIXEL.as_slice());
     assert!(rt; meeting.took_place());
     Ok(())

@@ -92,7 +92,8 @@ compress --columns=3 --rows=2 --bands=2 --bits=8 --prev 1 a b
 compress --columns=3 --rows=2 --bands=2 --bits=8 --unknown a b
 compress --columns=3 --rows=2 --bands=2 --bits=8 -x a b
 compress --columns=3 --rows=2 --bands=2 --bits=8 --help a b
-compress --columns=3 --rows=2 --bands=2 --bits=8 --restricted a b
+compress --columns=3 --rows=2 --bands=2 --bits=4 --restricted=true a b
+compress --columns=3 --rows=2 --bands=2 --bits=4 --restricted --restricted a b
 expand
 expand a
 expand a a

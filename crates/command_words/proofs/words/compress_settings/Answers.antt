@@ -1,11 +1,10 @@
-use Rattle.std.proofs.Common.{◌≡◌, ◌∙◌, List, inl, sym, ap, subst}
-use Rattle.clap.specs.Walk.{Row, rows_of}
+use Rattle.std.proofs.Common.{◌≡◌, ◌∙◌, inl, sym, ap, subst}
+use Rattle.clap.specs.Walk.{rows_of}
 use Rattle.clap.specs.Matches.{found_of}
-use Rattle.clap.specs.Simple.{App, app_of, is_simple, matches_of}
+use Rattle.clap.specs.Simple.{App, is_simple, matches_of}
 use Rattle.clap.specs.Faults.{is_simple_and_free}
 use Rattle.command_words.specs.Options.{compress_app}
-use Rattle.command_words.specs.Reading.{AreFilesOf, IsLayoutOf}
-use Rattle.command_words.specs.Words.{texts, AreTaken, AskForNone}
+use Rattle.command_words.specs.Words.{texts, AreTaken}
 use Rattle.command_words.proofs.Asked.{compress_none, passed_for}
 use Rattle.command_words.proofs.Commands.{compress_is_free, compress_is_simple}
 use Rattle.command_words.proofs.Refused.{passed}

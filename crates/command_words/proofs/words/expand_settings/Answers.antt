@@ -1,11 +1,10 @@
-use Rattle.std.proofs.Common.{◌≡◌, ◌∙◌, List, inl, sym, ap, subst}
-use Rattle.clap.specs.Walk.{Row, rows_of}
+use Rattle.std.proofs.Common.{◌≡◌, ◌∙◌, inl, sym, ap, subst}
+use Rattle.clap.specs.Walk.{rows_of}
 use Rattle.clap.specs.Matches.{found_of}
-use Rattle.clap.specs.Simple.{App, app_of, is_simple, matches_of}
+use Rattle.clap.specs.Simple.{App, is_simple, matches_of}
 use Rattle.clap.specs.Faults.{is_simple_and_free}
 use Rattle.command_words.specs.Options.{expand_app}
-use Rattle.command_words.specs.Reading.{AreFilesOf, IsLayoutOf}
-use Rattle.command_words.specs.Words.{texts, AreTaken, AskForNone}
+use Rattle.command_words.specs.Words.{texts, AreTaken}
 use Rattle.command_words.proofs.Asked.{expand_none, passed_for}
 use Rattle.command_words.proofs.Commands.{expand_is_free, expand_is_simple}
 use Rattle.command_words.proofs.Refused.{passed}

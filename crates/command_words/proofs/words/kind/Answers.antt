@@ -1,6 +1,3 @@
-use Rattle.std.proofs.Common.{codes}
-use Rattle.clap.specs.Matches.{found_of}
-use Rattle.clap.specs.Walk.{rows_of}
 use Rattle.command_words.proofs.Refused.{passed}
 use Rattle.command_words.proofs.words.kind.Goals as goal
 

@@ -1,7 +1,5 @@
 use Rattle.std.proofs.Common.{◌≡◌, ◌⊎◌, ℕ, arith}
 use Rattle.cube_core.specs.Shape.{InRange}
-use Rattle.clap.specs.Matches.{found_of}
-use Rattle.clap.specs.Walk.{rows_of}
 use Rattle.command_words.proofs.Refused.{passed}
 use Rattle.command_words.proofs.words.layout.Goals as goal
 

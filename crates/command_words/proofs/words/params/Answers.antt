@@ -1,4 +1,4 @@
-use Rattle.std.proofs.Common.{◌≡◌, ℤ, List, codes, SFits, w32, to_z, of_z, to_z-of_z, arith, subst, sym}
+use Rattle.std.proofs.Common.{ℤ, List, codes, SFits, w32, to_z, of_z, to_z-of_z, arith, subst, sym}
 use Rattle.std.proofs.lemmas.Int.{ints}
 use Rattle.header_bits.specs.Lawful.{IsExponent}
 use Rattle.command_words.specs.Reading.{HasExponent}

@@ -4,4 +4,4 @@ use Rattle.header_bits.proofs.Headers.{header_exact}
 use Rattle.header_bits.proofs.laws.one_header.Goals as goal
 
 pub returns : goal.returns
-returns c = λ reach. one_spelling (header_at reach) (SpellsHeader reach) (header_exact reach)
+returns c = one_spelling header_at SpellsHeader header_exact

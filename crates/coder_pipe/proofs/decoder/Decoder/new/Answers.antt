@@ -1,10 +1,9 @@
-use Rattle.header_bits.specs.Reach.{here}
 use Rattle.coder_pipe.proofs.ForSamples.{for_samples}
 use Rattle.coder_pipe.proofs.Coders.{samples_none}
 use Rattle.coder_pipe.proofs.decoder.Decoder.new.Goals as goal
 
 pub new-requires : goal.new-requires
-new-requires c = for_samples here c.args.params.now c.requires (rw c.in-Sample.is tt)
+new-requires c = for_samples c.args.params.now c.requires (rw c.in-Sample.is tt)
 
 pub returns-in_ok-new-in-Sample-clause-given : goal.returns-in_ok-new-in-Sample-clause-given
 returns-in_ok-new-in-Sample-clause-given c =

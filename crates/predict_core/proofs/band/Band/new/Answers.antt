@@ -1,7 +1,7 @@
 use Rattle.std.proofs.Common.{◌∙◌, ap, sym, refl}
 use Rattle.predict_core.specs.Predictor.{predictor_of, previous_bands, component_count}
 use Rattle.predict_core.specs.declared.predictor.Predictor.{Predictor}
-use Rattle.predict_core.proofs.Starting.{start_is, count_is, usual_by_law}
+use Rattle.predict_core.proofs.Starting.{count_is, start_told}
 use Rattle.predict_core.proofs.band.Band.new.Goals as goal
 
 pub invariant_of-settings-clause-count_is : goal.invariant_of-settings-clause-count_is
@@ -19,7 +19,5 @@ returns-clause-made c = (record { predictor = c.of-predictor.ensures.value; shap
 pub returns-clause-follows : goal.returns-clause-follows
 returns-clause-follows c d = record {
   made = record { predictor = c.of-predictor.ensures.value; shape = refl; kind = c.of.ensures };
-  weights =
-      rw c.min-previous.ensures
-      (start_is c.args.params.now d c.args.z (predictor_of c.args.params.now) refl (usual_by_law c.args.params.now c.requires.lawful) c.usual_start.result c.first_spectral-first.result _ c.first_spectral-first.ensures.value (rw c.min-previous.ensures at c.usual_start.ensures.value));
+  weights = rw c.min-previous.ensures (start_told c.args.params.now d c.args.z c.start_of.result _ (rw c.min-previous.ensures at c.start_of.ensures.value));
 }
