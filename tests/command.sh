@@ -40,7 +40,7 @@ complain() {
 run() {
     local name=$1 status=$2 line=$3
     shift 3
-    "$program" "$@" > stdout 2> stderr < /dev/null
+    timeout 60 "$program" "$@" > stdout 2> stderr < /dev/null
     check "$name" "$status" "$line" $?
     if [ -s stdout ]; then
         complain "$name: it printed on standard output"
@@ -50,7 +50,7 @@ run() {
 # Holds a file to the bytes that two hexadecimal digits each spell.
 holds() {
     local name=$1 file=$2 bytes=$3
-    if [ "$(od -An -v -tx1 "$file" | tr -d ' \n')" = "$bytes" ]; then
+    if [ -e "$file" ] && [ "$(od -An -v -tx1 "$file" | tr -d ' \n')" = "$bytes" ]; then
         passed=$((passed + 1))
     else
         complain "$name: $file does not hold $bytes"
@@ -142,6 +142,8 @@ run 'neighbour sums on one column' 2 $'ccsds: 4 Disagree NeighbourOneColumn\n' \
 run 'a constant too great' 2 $'ccsds: 4 Disagree StartConstant\n' compress $two --k 7 raw out
 run 'a register too small' 2 $'ccsds: 4 Disagree RegisterTooSmall\n' \
     compress --columns 2 --rows=1 --bands 1 --bits 16 --omega 19 --register 36 raw out
+run 'a restricted set of five bits' 2 $'ccsds: 4 Disagree RestrictedOverFour\n' \
+    compress --coder block --columns 2 --rows=1 --bands 1 --bits 5 --restricted raw out
 run 'a sample out of range' 2 $'ccsds: 13 SampleRange 0\n' \
     compress --columns 1 --rows=1 --bands 1 --bits 7 --reduced --column-sums raw out
 head -c 11 coded > cut
@@ -166,6 +168,7 @@ run 'no IN to expand' 4 $'ccsds: 18 Read\n' expand missing out
 if [ -e out ]; then complain 'OUT was made though IN is missing'; fi
 run 'IN is a folder' 4 $'ccsds: 18 Read\n' compress $two / out
 holds 'IN is a folder' out ''
+run 'IN is a program that runs' 2 $'ccsds: 14 RawLength 2 3\n' compress $two "$program" out
 run 'OUT in no folder' 4 $'ccsds: 19 Write 0\n' compress $two raw none/out
 run 'OUT is a folder' 4 $'ccsds: 19 Write 0\n' expand coded .
 run 'a full device' 4 $'ccsds: 19 Write 0\n' compress $two raw /dev/full
@@ -194,6 +197,61 @@ holds 'IN that is also OUT is expanded' coded "$file"
 cp raw again
 run 'OUT has the same bytes' 0 '' compress $two raw again
 holds 'OUT has the same bytes' again "$file"
+
+# ---- OUT that is there is emptied in its place: its other names see the file, and its mode stays
+
+printf 'old contents, longer than the file that comes' > there
+chmod 640 there
+ln there other
+ln -s there leading
+run 'OUT has another name' 0 '' compress $two raw there
+holds 'OUT has another name' other "$file"
+printf 'old contents, longer than the file that comes' > there
+run 'OUT is a link' 0 '' compress $two raw leading
+holds 'OUT is a link' other "$file"
+if [ ! -L leading ]; then complain 'OUT is a link no more'; fi
+if [ "$(stat -c %a there)" != 640 ]; then complain "OUT has got another mode: $(stat -c %a there)"; fi
+rm -f new
+umask 026
+run 'OUT is new' 0 '' compress $two raw new
+umask 022
+if [ "$(stat -c %a new)" != 640 ]; then complain "a new OUT has the mode $(stat -c %a new)"; fi
+
+# ---- pipes are opened once
+
+mkfifo from to
+cat raw > from &
+run 'IN is a pipe' 0 '' compress $two from coded
+holds 'IN is a pipe' coded "$file"
+timeout 60 cat to > got &
+run 'OUT is a pipe' 0 '' compress $two raw to
+wait
+holds 'OUT is a pipe' got "$file"
+
+# ---- names beyond ASCII, long ones, and none
+
+long=$(printf 'x%.0s' $(seq 1 250))
+for name in 'zwei Wörter' -- "$long" 'ä\n*'; do
+    if [ "$name" = -- ]; then continue; fi
+    cp raw "$name"
+    run "IN is $name" 0 '' compress $two "$name" "$name.out"
+    holds "IN is $name" "$name.out" "$file"
+done
+run 'a name without letters' 4 $'ccsds: 18 Read\n' compress $two '' coded
+run 'a word without letters' 1 "$usage" compress $two '' raw coded
+run 'a word without letters, behind show' 1 "$usage" show ''
+
+# ---- an end that nobody reads, and no standard error
+
+{
+    sleep 0.3
+    exec "$program" show < small 2> stderr
+} | true
+check 'nobody reads' 4 $'ccsds: 19 Write 0\n' "${PIPESTATUS[0]}"
+"$program" expand missing out 2> /dev/full
+if [ $? -ne 4 ]; then complain 'no room for the line: another status'; fi
+"$program" expand missing out 2>&-
+if [ $? -ne 4 ]; then complain 'no standard error: another status'; fi
 
 # ---- a body that is missing, for whatever sizes: memory isn't asked for
 
@@ -271,7 +329,7 @@ with_stacks() {
     shift 4
     (
         ulimit -S -s 65536 && ulimit -v $((32768 + 65536 * stacks)) || exit 126
-        exec "$program" "$@" > stdout 2> stderr < /dev/null
+        exec timeout 60 "$program" "$@" > stdout 2> stderr < /dev/null
     )
     check "$name" "$status" "$line" $?
 }
@@ -293,16 +351,27 @@ for slots in 1 65536; do
     done
 done
 
-head -c 8192 /dev/zero > zeros
-run 'zeros are compressed' 0 '' compress --columns 64 --rows 64 --bands 1 --bits 12 zeros coded
-(
-    trap '' XFSZ
-    ulimit -f 1
-    exec "$program" expand coded out 2> stderr
-)
-check 'a file that may not grow past 1024 bytes' 4 $'ccsds: 19 Write 1024\n' $?
-head -c 1024 zeros > first
-same 'a file that may not grow past 1024 bytes' first out
+head -c 262144 /dev/zero > zeros
+run 'zeros are compressed' 0 '' compress --columns 512 --rows 256 --bands 1 --bits 12 zeros coded
+for kilobytes in 1 200; do
+    size=$((1024 * kilobytes))
+    (
+        trap '' XFSZ
+        ulimit -f $kilobytes
+        exec "$program" expand coded out 2> stderr
+    )
+    check "a file that may not grow past $size bytes" 4 "ccsds: 19 Write $size"$'\n' $?
+    head -c $size zeros > first
+    same "a file that may not grow past $size bytes" first out
+done
+run 'zeros are expanded' 0 '' expand coded out
+same 'zeros are expanded' zeros out
+printf "$(printf %s "$file" | sed 's/../\\x&/g')" > large
+truncate -s 200M large
+"$program" inspect < large > told 2> stderr
+check 'a large file' 0 '' $?
+same 'a large file' lines told
+rm large
 
 # ---- a device that fills up in mid-write
 
@@ -339,6 +408,25 @@ if unshare -rm mount -t tmpfs -o size=64k none device 2> /dev/null; then
     fills_up 'a device that fills up, expanded to' raw $?
 else
     echo 'command.sh: a device that fills up was not tried, since none can be mounted here'
+fi
+
+# ---- two files of one number, each on a device of its own, aren't one file
+
+mkdir one other_one
+if unshare -rm bash -c '
+        mount -t tmpfs none one && mount -t tmpfs none other_one && cp first one/in && echo > other_one/out || exit 9
+        [ "$(stat -c %i one/in)" = "$(stat -c %i other_one/out)" ] || exit 9' 2> /dev/null; then
+    printf '\xc8\xc8' > first
+    unshare -rm bash -c '
+        mount -t tmpfs none one && mount -t tmpfs none other_one && cp first one/in && echo > other_one/out
+        "$@" one/in other_one/out 2> stderr
+        status=$?
+        cp other_one/out left
+        exit $status' - "$program" compress $two
+    check 'files of one number' 0 '' $?
+    holds 'files of one number' left "$file"
+else
+    echo 'command.sh: files of one number were not tried, since there are none here'
 fi
 
 # ---- words that are no lawful command leave OUT as it was

@@ -1,11 +1,14 @@
-/* Loaded before a program (LD_PRELOAD), refuses one of its calls for memory: the one that REFUSE counts, from 1. A call that
-   was refused leaves the file that REFUSED names. All others go to the C library. */
+/* Loaded before a program (LD_PRELOAD), refuses one of its calls for memory: the one that REFUSE counts, from 1. So does it one of
+   its reads that REFUSE_READ counts, or one of its writes that REFUSE_WRITE counts, with the error that REFUSE_ERROR names by its
+   number; where that is 0, the call ends well and moves nothing. A call that was refused leaves the file that REFUSED names. All others go to
+   the C library; where PIECE is set, a read or a write moves at most so many bytes. */
 
 #include <errno.h>
 #include <fcntl.h>
 #include <stdatomic.h>
 #include <stddef.h>
 #include <stdlib.h>
+#include <sys/syscall.h>
 #include <unistd.h>
 
 extern void *__libc_malloc(size_t size);
@@ -13,19 +16,53 @@ extern void *__libc_calloc(size_t count, size_t size);
 extern void *__libc_realloc(void *old, size_t size);
 extern void *__libc_memalign(size_t alignment, size_t size);
 
-static atomic_long calls;
+static atomic_long calls, reads, writes;
 
-/* Whether this call is the one to refuse. */
-static int is_refused(void) {
-    const char *which = getenv("REFUSE");
-    if (!which || atomic_fetch_add(&calls, 1) + 1 != atol(which))
+/* Whether this call is the one to refuse, of those of its kind. */
+static int is_the_one(const char *kind, atomic_long *count) {
+    const char *which = getenv(kind);
+    if (!which || atomic_fetch_add(count, 1) + 1 != atol(which))
         return 0;
     const char *mark = getenv("REFUSED");
     int file = mark ? open(mark, O_CREAT | O_WRONLY, 0600) : -1;
     if (file >= 0)
         close(file);
+    return 1;
+}
+
+static int is_refused(void) {
+    if (!is_the_one("REFUSE", &calls))
+        return 0;
     errno = ENOMEM;
     return 1;
+}
+
+static long number(const char *name, long otherwise) {
+    const char *text = getenv(name);
+    return text ? atol(text) : otherwise;
+}
+
+/* What a refused read or write answers. */
+static ssize_t refusal(void) {
+    errno = number("REFUSE_ERROR", EIO);
+    return errno ? -1 : 0;
+}
+
+static size_t piece(size_t size) {
+    size_t most = number("PIECE", size);
+    return size < most ? size : most;
+}
+
+ssize_t read(int file, void *bytes, size_t size) {
+    return is_the_one("REFUSE_READ", &reads) ? refusal() : syscall(SYS_read, file, bytes, piece(size));
+}
+
+ssize_t write(int file, const void *bytes, size_t size) {
+    return is_the_one("REFUSE_WRITE", &writes) ? refusal() : syscall(SYS_write, file, bytes, piece(size));
+}
+
+ssize_t __write(int file, const void *bytes, size_t size) {
+    return write(file, bytes, size);
 }
 
 void *malloc(size_t size) {

@@ -1,16 +1,19 @@
 #!/usr/bin/env python3
-"""Refuses each call for memory of the built program in turn, and sets limits on its memory.
+"""Refuses each call for memory of the built program in turn, each read and each write, and sets limits on its memory.
 
     tests/refused.py [PROGRAM]
 
 `tests/refuse.c`, which this compiles by `cc`, is loaded before the program and refuses the first of its calls for memory, then the second, until a run
 meets none. Each such run ends with status 3, tells want of memory or a refused thread, or nothing where there was none for the line,
-and writes nothing; or it does without, and then its outputs are those of an undisturbed run. Then come files that end behind a header of any size.
+and writes nothing; or it does without, and then its outputs are those of an undisturbed run. So are the reads and the writes refused, which go in
+pieces then: a refused read ends with `Read` and nothing written, and a refused write with `Write` and the bytes that went out before it.
+Then come files that end behind a header of any size.
 
 At last the same is done to `refusals`, a program over the libraries, which makes each library call again that was refused: whichever it is, its bodies
 and files are those of an undisturbed run. `rt ci` leaves both programs where this looks for them; `make` builds the first.
 """
 
+import errno
 import os
 import random
 import resource
@@ -25,7 +28,7 @@ PROGRAM = os.path.realpath(sys.argv[1] if len(sys.argv) > 1 else os.path.join(TO
 
 CALLS = os.path.join(TOP, "crates", "refusals", "out", "refusals")
 
-DONE, INPUT, REFUSED = 0, 2, 3
+DONE, INPUT, REFUSED, DEVICE = 0, 2, 3, 4
 MEMORY, THREAD = b"ccsds: 12 WantOfMemory\n", b"ccsds: 16 SpawnRefused\n"
 
 # The answer to a file that ends behind a header of 19 bytes, in so much memory.
@@ -42,10 +45,11 @@ class Room(Workroom):
         super().__init__(folder)
         self.passed, self.failed = 0, 0
 
-    def run(self, words, refuse=None, limit=None, program=PROGRAM):
+    def run(self, words, refuse=None, limit=None, program=PROGRAM, **more):
         """The status, the line on standard error, and all that was written: standard output and `out`."""
         self.write("out", b"")
-        around = {} if refuse is None else {"LD_PRELOAD": self.path("refuse.so"), "REFUSE": str(refuse), "REFUSED": self.path("mark")}
+        asked = {name: str(value) for name, value in (more if refuse is None else {"REFUSE": refuse}).items()}
+        around = {"LD_PRELOAD": self.path("refuse.so"), "REFUSED": self.path("mark")} | asked if asked else {}
         bound = (lambda: resource.setrlimit(resource.RLIMIT_AS, (limit, limit))) if limit else None
         with open(self.path("sample.file" if words == ["inspect"] else "scene.cube"), "rb") as given:
             ran = subprocess.run(
@@ -98,19 +102,62 @@ def make(room):
 
 
 def each_growth(room, name, words, lines):
-    """Refuses the first call for memory, then the second, until a run meets none; how many there are."""
-    wanted = room.run(words)
+    """Refuses the first call for memory, then the second, until a run meets none; how many there are.
+
+    A thread is told of where threads are started, and nowhere else: want of memory comes before that and behind it."""
+    wanted, said = room.run(words), []
     room.hold(name, wanted[:2] == (DONE, b"") and wanted[2], wanted)
     for nth in range(1, MOST):
         found = room.run(words, refuse=nth)
         if not room.met():
             room.hold(f"{name}: nothing refused", found == wanted, found)
+            room.hold(f"{name}: what is told in turn", said == ([MEMORY, THREAD, MEMORY] if THREAD in lines else [MEMORY]), said)
             return nth - 1
         status, line, written = found
         told = status == REFUSED and line in (*lines, b"") and written == b""
+        if status == REFUSED and line and said[-1:] != [line]:
+            said.append(line)
         # What is only asked for to go faster can be done without.
         room.hold(f"{name}: call {nth} refused", told or found == wanted, found)
     room.hold(f"{name}: more than {MOST} growths", False, None)
+    return MOST
+
+
+# The most bytes that a read or a write moves, while one of them is refused.
+PIECE = 997
+
+# How a read or a write is refused: a broken device, a call that a signal interrupted, one that would wait, and, of writes, one that takes nothing.
+ERRORS = (errno.EIO, errno.EINTR, errno.EAGAIN, errno.ENOSPC, errno.EPIPE)
+
+
+def each_read(room, name, words):
+    """Refuses the first read, then the second, until a run meets none; how many there are."""
+    wanted, nth = room.run(words), 0
+    while nth < MOST:
+        nth += 1
+        for error in ERRORS:
+            found = room.run(words, REFUSE_READ=nth, REFUSE_ERROR=error, PIECE=PIECE)
+            if not room.met():
+                room.hold(f"{name}: no read refused", found == wanted, found)
+                return nth - 1
+            room.hold(f"{name}: read {nth} refused by {error}", found == (DEVICE, b"ccsds: 18 Read\n", b""), found)
+    room.hold(f"{name}: more than {MOST} reads", False, None)
+    return MOST
+
+
+def each_write(room, name, words):
+    """Refuses the first write, then the second, until a run meets none; how many there are."""
+    wanted, nth = room.run(words), 0
+    while nth < MOST:
+        nth += 1
+        for error in (0, *ERRORS):
+            found = room.run(words, REFUSE_WRITE=nth, REFUSE_ERROR=error, PIECE=PIECE)
+            if not room.met():
+                room.hold(f"{name}: no write refused", found == wanted, found)
+                return nth - 1
+            written = PIECE * (nth - 1)
+            room.hold(f"{name}: write {nth} refused by {error}", found == (DEVICE, b"ccsds: 19 Write %d\n" % written, wanted[2][:written]), found)
+    room.hold(f"{name}: more than {MOST} writes", False, None)
     return MOST
 
 
@@ -135,7 +182,7 @@ def each_call(room):
     """Refuses each call for memory of `refusals` in turn; in how many runs a library call was refused and made again."""
     status, _, wanted = room.run(["all"], program=CALLS)
     bodies, last = wanted.rsplit(b"made again: ", 1)
-    room.hold("calls", (status, last) == (DONE, b"0\n") and bodies.count(b"by predictors true, back true") == 2, wanted)
+    room.hold("calls", (status, last) == (DONE, b"0\n") and bodies.count(b"by predictors true, back true") == 3, wanted)
     again = 0
     for nth in range(1, MOST):
         found = room.run(["all"], refuse=nth, program=CALLS)
@@ -171,6 +218,10 @@ def main():
         make(room)
         for name, (words, lines) in COMMANDS.items():
             print(f"{name}: {each_growth(room, name, words, lines)} growths refused in turn")
+        for name, (words, _) in COMMANDS.items():
+            reads, writes = each_read(room, name, words), each_write(room, name, words)
+            room.hold(f"{name}: reads and writes", reads > 0 and writes > 0, (reads, writes))
+            print(f"{name}: {reads} reads and {writes} writes refused in turn")
         for name, (words, lines) in COMMANDS.items():
             print(f"{name}: whole under {limits(room, name, words, lines)} limits of {len(range(256, 8192, 64))}")
         announced(room)

@@ -26,6 +26,7 @@ impl<F: Drop> Ready<F> {
     pub fn new(alloc: Global, slots: u32, feed: F) -> Result<Ready<F>, Fault>
         requires { InRange 1 65536 slots }
         ensures feed { IfOk result (λ r. r.feed ≡ feed) }
+        ensures slots { IfOk result (λ r. r.sender.slots ≡ slots) }
         ensures refused { IfErr result (λ e. e ≡ WantOfMemory) }
     {
         let (sender, receiver) = lane(alloc, slots)?;

@@ -1,6 +1,6 @@
 //! Numbers that wait to be sent together.
 
-ghost use Rattle.std.specs.Prelude.{◌≡◌, ◌+◌, ◌-◌, ◌<◌, ◌≤◌, [], ◌∷◌, ◌++◌, length, drop, slice_index};
+ghost use Rattle.std.specs.Prelude.{◌≡◌, ◌+◌, ◌-◌, ◌^◌, ◌<◌, ◌≤◌, [], ◌∷◌, ◌++◌, length, drop, min, slice_index};
 
 use std::marker::Model;
 
@@ -76,7 +76,7 @@ impl Waiting {
         ensures { self.new ≡ self.old }
     {
         for turn in &mut self.turns {
-            *turn = turn.saturating_add(1);
+            *turn = one_more(*turn);
         }
     }
 
@@ -84,7 +84,7 @@ impl Waiting {
     pub(crate) fn first_comes_back(&mut self)
         ensures { self.new ≡ self.old }
     {
-        self.turns[0] = self.turns[0].saturating_add(1);
+        self.turns[0] = one_more(self.turns[0]);
     }
 
     /// The first waits no more.
@@ -104,4 +104,11 @@ impl Waiting {
     {
         self.count = 0;
     }
+}
+
+/// A count that is one more, or stays at its greatest.
+fn one_more(count: u64) -> u64
+    ensures { result ≡ min (count + 1) (2 ^ 64 - 1) }
+{
+    count.saturating_add(1)
 }

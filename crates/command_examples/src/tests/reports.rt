@@ -9,7 +9,7 @@ use header_bits::header::read_header;
 use std::test::Fail;
 
 #[test]
-fn faults_have_their_status(rt: HostRuntime) {
+fn faults_have_their_status_and_their_line(rt: HostRuntime) -> Result<(), Fail> {
     let field = Field::Umax;
     let rule = Rule::StartConstant;
     let rows = [
@@ -27,6 +27,13 @@ fn faults_have_their_status(rt: HostRuntime) {
         (Fault::WantOfMemory, 3),
         (Fault::SampleRange { index: 0 }, 2),
         (Fault::RawLength { wanted: 6, had: 0 }, 2),
+        (
+            Fault::RawLength {
+                wanted: 1 << 49,
+                had: (1 << 49) + 1,
+            },
+            2,
+        ),
         (Fault::BadDeal { band: 1 }, 2),
         (Fault::SpawnRefused, 3),
         (
@@ -38,11 +45,19 @@ fn faults_have_their_status(rt: HostRuntime) {
         ),
         (Fault::Read, 4),
         (Fault::Write { written: 5 }, 4),
+        (Fault::Write { written: u64::MAX }, 4),
         (Fault::Usage, 1),
     ];
     for (fault, status) in rows {
         assert_eq!(rt; status_of(&fault), status, "of {fault}");
+        let line = format!(in rt.alloc(); "ccsds: {fault}\n")?;
+        assert_eq!(rt;
+            fault_line(rt.alloc(), &fault)?,
+            line.into_bytes(),
+            "of {fault}"
+        );
     }
+    Ok(())
 }
 
 #[test]
