@@ -1,8 +1,9 @@
 -- What the run of a command promises, whichever it is: what its engine does.
-use Rattle.std.specs.Prelude.{◌≡◌, ◌⊎◌, false, ℕ, List, Option, Some, None, string_bytes, ⊤, Result, OnOk, IfErr}
+use Rattle.std.specs.Prelude.{◌≡◌, ◌≢◌, ◌⊎◌, false, ℕ, List, Option, Some, None, string_bytes, ⊤, Result, OnOk, IfErr}
 use Rattle.cube_core.specs.declared.fault.Fault.{Fault}
 use Rattle.cube_core.specs.Layout.{IsLayout}
 use Rattle.header_bits.specs.declared.params.Params.{Params}
+use Rattle.command_settings.specs.declared.settings.CompressSettings.{CompressSettings}
 use Rattle.command_settings.specs.declared.settings.Settings.{Settings}
 use Rattle.command_settings.specs.declared.settings.Settings.TheVariants.{Show, Compress, Expand, Inspect}
 use Rattle.command_devices.specs.Reading.{ToldAsRead, file_limit}
@@ -48,12 +49,17 @@ Does (Compress settings from to) left old new = Compresses settings left old new
 Does (Expand layout from to) left old new = Expands layout left old new
 Does Inspect left old new = Inspects left old new
 
+-- why `compress` is refused, and what was written then: on one thread where it has no predictors, else in threads that nothing stops
+abbrev pub IsFaultBy : CompressSettings → Option (List ℕ) → ℕ → ℕ → Option (List ℕ) → Option (List ℕ) → ℕ → ℕ → ℕ → ℕ → Fault → Type 0
+IsFaultBy settings left read_failures read_failures_now old new failures failures_now stalls stalls_now fault =
+    ((settings.predictors ≡ 0) × IsCompressFault settings left read_failures read_failures_now old new failures failures_now stalls stalls_now fault)
+    ⊎ ((settings.predictors ≢ 0)
+        × IsPipedFault {G = Unit {0}} (λ gate q n. false) tt settings left read_failures read_failures_now old new failures failures_now stalls stalls_now fault)
+
 -- why it is refused, and what was written then
 abbrev pub IsFaultOf : Settings → Option (List ℕ) → ℕ → ℕ → Option (List ℕ) → Option (List ℕ) → ℕ → ℕ → ℕ → ℕ → Fault → Type 0
 IsFaultOf Show = IsShowFault
-IsFaultOf (Compress settings from to) = λ left read_failures read_failures_now old new failures failures_now stalls stalls_now fault.
-    IsCompressFault settings left read_failures read_failures_now old new failures failures_now stalls stalls_now fault
-    ⊎ IsPipedFault {G = Unit {0}} (λ gate q n. false) tt settings left read_failures read_failures_now old new failures failures_now stalls stalls_now fault
+IsFaultOf (Compress settings from to) = IsFaultBy settings
 IsFaultOf (Expand layout from to) = IsExpandFault layout
 IsFaultOf Inspect = IsInspectFault
 
