@@ -72,6 +72,6 @@ read_more p c left rest bands q b numbers i v lawful shape walk is band known lt
       gone = ap (residuals_at p (put c q.z q.y q.x v)) next.gone
           ∙ residuals_push p (put c q.z q.y q.x v) (gone_by p left) q
           ∙ ap (λ (n : ℕ). residuals_at p (put c q.z q.y q.x v) (gone_by p left) ++ n ∷ []) last
-          ∙ ap (λ (ns : List ℕ). ns ++ get_or numbers i 0 ∷ []) (sym (residuals_kept here p c q v left lawful shape stands) ∙ known.gone)
+          ∙ ap (λ (ns : List ℕ). ns ++ get_or numbers i 0 ∷ []) (sym (residuals_kept p c q v left lawful shape stands) ∙ known.gone)
           ∙ sym (take_more numbers i 0 lt);
     }
