@@ -1,27 +1,36 @@
-use Rattle.std.proofs.Common.{◌⊎◌, Result, Ok, Err, IfErr, inl, inr}
+use Rattle.std.proofs.Common.{◌≡◌, ◌≢◌, ◌⊎◌, ℕ, Result, Ok, Err, IfErr, inl, inr, sym, ap, ◌∙◌}
 use Rattle.cube_core.specs.declared.fault.Fault.{Fault}
+use Rattle.command_settings.specs.declared.settings.Settings.{Settings}
+use Rattle.command_settings.specs.declared.settings.Settings.TheVariants.{Show, Compress, Expand, Inspect}
 use Rattle.ccsds_command.proofs.command.run_between.Goals as goal
 
--- a refusal of the one kind or the other
-of_one : {U : Type 0} (A B : Fault → Type 0) (r : Result U Fault) → IfErr r A → IfErr r (λ e. A e ⊎ B e)
-of_one A B (Ok u) h = h
-of_one A B (Err e) h = inl h
+-- a refusal with no predictors, and one with some
+with_none : {U : Type 0} (A B : Fault → Type 0) (n : ℕ) (r : Result U Fault) → n ≡ 0 → IfErr r A → IfErr r (λ e. ((n ≡ 0) × A e) ⊎ ((n ≢ 0) × B e))
+with_none A B n (Ok u) none h = h
+with_none A B n (Err e) none h = inl (none, h)
 
-of_other : {U : Type 0} (A B : Fault → Type 0) (r : Result U Fault) → IfErr r B → IfErr r (λ e. A e ⊎ B e)
-of_other A B (Ok u) h = h
-of_other A B (Err e) h = inr h
+with_some : {U : Type 0} (A B : Fault → Type 0) (m n : ℕ) (r : Result U Fault) → m ≡ n → m ≢ 0 → IfErr r B → IfErr r (λ e. ((n ≡ 0) × A e) ⊎ ((n ≢ 0) × B e))
+with_some A B m n (Ok u) same some h = h
+with_some A B m n (Err e) same some h = inr ((λ none. some (same ∙ none)), h)
+
+-- what two arms call predictors is one number
+abbrev predictors : Settings → ℕ
+predictors Show = 0
+predictors (Compress settings from to) = settings.predictors
+predictors (Expand layout from to) = 0
+predictors Inspect = 0
 
 pub returns-in-Compress-clause-done : goal.returns-in-Compress-clause-done
 returns-in-Compress-clause-done g c = rw c.in-Compress.is c.run_compress.ensures.compressed
 
 pub returns-in-Compress-clause-refused : goal.returns-in-Compress-clause-refused
-returns-in-Compress-clause-refused g c = rw c.in-Compress.is (of_one _ _ c.run_compress.result c.run_compress.ensures.refused)
+returns-in-Compress-clause-refused g c = rw c.in-Compress.is (with_none _ _ _ c.run_compress.result c.if-settings-eq0.true c.run_compress.ensures.refused)
 
 pub returns-in-Compress-2-clause-done : goal.returns-in-Compress-2-clause-done
 returns-in-Compress-2-clause-done g c = rw c.in-Compress-2.is c.run_piped.ensures.compressed
 
 pub returns-in-Compress-2-clause-refused : goal.returns-in-Compress-2-clause-refused
-returns-in-Compress-2-clause-refused g c = rw c.in-Compress-2.is (of_other _ _ c.run_piped.result c.run_piped.ensures.refused)
+returns-in-Compress-2-clause-refused g c = rw c.in-Compress-2.is (with_some _ _ _ _ c.run_piped.result (ap predictors (sym c.in-Compress.is ∙ c.in-Compress-2.is)) c.if-settings-eq0.false c.run_piped.ensures.refused)
 
 pub returns-in-Expand-clause-done : goal.returns-in-Expand-clause-done
 returns-in-Expand-clause-done g c = rw c.in-Expand.is c.run_expand.ensures.expanded
