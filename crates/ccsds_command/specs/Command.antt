@@ -54,7 +54,7 @@ abbrev pub IsFaultBy : CompressSettings → Option (List ℕ) → ℕ → ℕ �
 IsFaultBy settings left read_failures read_failures_now old new failures failures_now stalls stalls_now fault =
     ((settings.predictors ≡ 0) × IsCompressFault settings left read_failures read_failures_now old new failures failures_now stalls stalls_now fault)
     ⊎ ((settings.predictors ≢ 0)
-        × IsPipedFault {G = Unit {0}} (λ gate q n. false) tt settings left read_failures read_failures_now old new failures failures_now stalls stalls_now fault)
+    × IsPipedFault {G = Unit {0}} (λ gate q n. false) tt settings left read_failures read_failures_now old new failures failures_now stalls stalls_now fault)
 
 -- why it is refused, and what was written then
 abbrev pub IsFaultOf : Settings → Option (List ℕ) → ℕ → ℕ → Option (List ℕ) → Option (List ℕ) → ℕ → ℕ → ℕ → ℕ → Fault → Type 0
