@@ -94,3 +94,18 @@ total_left slots i lt = ap total (next_slot slots i lt)
 pub total_none : (slots : List Slot) (i : ℕ) → length slots ≤ i → total (drop i slots) ≡ 0
 unfolding total
 total_none slots i le = ap total (drop_all i slots le)
+
+-- no slot is wide
+pub narrow_width : (slots : List Slot) (i : ℕ) → i < length slots → AreNarrow slots → width (get_or slots i (Unused 0)) ≤ 16
+narrow_width slots i lt h = by_kind (get_or slots i (Unused 0)) (slot_narrow slots i lt h)
+  where
+    by_kind : (s : Slot) → IsNarrow s → width s ≤ 16
+    by_kind (Unused n) h = h
+    by_kind (Plain n least) h = h.0
+    by_kind (Modulo n) h = h
+
+-- nor is one of the first slots
+pub first_narrow : (slots : List Slot) (i : ℕ) → AreNarrow slots → AreNarrow (take i slots)
+first_narrow slots zero h = tt
+first_narrow [] (suc i) h = tt
+first_narrow (s ∷ slots) (suc i) h = (h.0, first_narrow slots i h.1)

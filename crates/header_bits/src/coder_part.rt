@@ -9,28 +9,12 @@ ghost use Rattle.header_bits.specs.TableParts.{has_constants};
 ghost use Rattle.header_bits.specs.Header.{constant_of, is_each, coder_part_of};
 
 use crate::bit_reader::BitReader;
+use crate::fields::{BLOCK, BlockField, SAMPLE, SampleField, coder_bits, unused_field};
 use crate::image_part::ImagePart;
-use crate::layout::{Slot, read_values};
+use crate::layout::read_values;
 use crate::params::{Coder, CountStart};
-use crate::refusal::{disagree_if, out_of_range_if, unused};
+use crate::refusal::{disagree_if, out_of_range_if};
 use cube_core::fault::{Fault, Field, Rule};
-
-/// The slots of the sample-adaptive coder's part.
-pub(crate) const SAMPLE_FIELDS: [Slot; 5] = [
-    Slot::Modulo(5), // unary length limit
-    Slot::Plain(3, 4), // rescaling counter size
-    Slot::Modulo(3), // first exponent of the counter
-    Slot::Plain(4, 0), // accumulator constant
-    Slot::Plain(1, 0), // accumulator table in the file
-];
-
-/// The slots of the block-adaptive coder's part.
-pub(crate) const BLOCK_FIELDS: [Slot; 4] = [
-    Slot::Unused(1),
-    Slot::Plain(2, 0), // block size: 8, 16, 32 or 64
-    Slot::Plain(1, 0), // restricted set of code options
-    Slot::Modulo(12), // reference sample interval
-];
 
 /// What the coder part says (CCSDS 123.0-B-1, "Entropy coder metadata").
 #[derive(Clone, Copy)]
@@ -58,20 +42,20 @@ impl CoderPart {
         image: &ImagePart,
         reader: &mut BitReader,
     ) -> Result<CoderPart, Fault>
-        requires { at < 2 ^ 32 }
+        requires { at < 2 ^ 31 }
         ensures { Reads (λ x. x) result reader.new.left (part_at (coder at image.now) reader.old.left) }
     {
-        if reader.left() < 16 {
+        if reader.left() < coder_bits() {
             return Err(Fault::ShortHeader);
         }
         if image.block {
             let mut numbers = [0; 4];
-            read_values(&BLOCK_FIELDS, reader, &mut numbers);
+            read_values(&BLOCK, reader, &mut numbers);
             test_block(at, image, &numbers)?;
             Ok(said_block(&numbers))
         } else {
             let mut numbers = [0; 5];
-            read_values(&SAMPLE_FIELDS, reader, &mut numbers);
+            read_values(&SAMPLE, reader, &mut numbers);
             test_sample(image, &numbers)?;
             Ok(said_sample(&numbers))
         }
@@ -141,13 +125,30 @@ fn test_sample(image: &ImagePart, numbers: &[u32; 5]) -> Result<(), Fault>
     requires { AreValues sample_fields numbers.now }
     ensures { result ≡ sample_tests image.now numbers.now }
 {
-    let table = numbers[4] == 1;
+    let table = numbers[SampleField::AccumulatorTable as usize] == 1;
     let most = image.kind.bits() - 2;
-    out_of_range_if(numbers[0] < 8, Field::Umax, numbers[0])?;
-    out_of_range_if(numbers[1] > 9, Field::GammaStar, numbers[1])?;
-    disagree_if(numbers[1] < numbers[2] + 1, Rule::CounterOrder)?;
-    disagree_if(!table && most < numbers[3], Rule::StartConstant)?;
-    disagree_if(table && numbers[3] < 15, Rule::ConstantWithTable)
+    out_of_range_if(
+        numbers[SampleField::Umax as usize] < 8,
+        Field::Umax,
+        numbers[SampleField::Umax as usize],
+    )?;
+    out_of_range_if(
+        numbers[SampleField::GammaStar as usize] > 9,
+        Field::GammaStar,
+        numbers[SampleField::GammaStar as usize],
+    )?;
+    disagree_if(
+        numbers[SampleField::GammaStar as usize] < numbers[SampleField::GammaZero as usize] + 1,
+        Rule::CounterOrder,
+    )?;
+    disagree_if(
+        !table && most < numbers[SampleField::Constant as usize],
+        Rule::StartConstant,
+    )?;
+    disagree_if(
+        table && numbers[SampleField::Constant as usize] < 15,
+        Rule::ConstantWithTable,
+    )
 }
 
 /// What the numbers of the sample-adaptive coder's part say.
@@ -155,21 +156,22 @@ fn said_sample(numbers: &[u32; 5]) -> CoderPart
     ensures { result ≡ sample_says numbers.now }
 {
     CoderPart::Sample {
-        umax: numbers[0],
-        gamma_star: numbers[1],
-        gamma_zero: numbers[2],
-        constant: numbers[3],
-        table: numbers[4] == 1,
+        umax: numbers[SampleField::Umax as usize],
+        gamma_star: numbers[SampleField::GammaStar as usize],
+        gamma_zero: numbers[SampleField::GammaZero as usize],
+        constant: numbers[SampleField::Constant as usize],
+        table: numbers[SampleField::AccumulatorTable as usize] == 1,
     }
 }
 
 /// Tests the numbers of the block-adaptive coder's part, in order.
+#[tactic(auto, unfolding(crate::specs::Layout::total))]
 fn test_block(at: u64, image: &ImagePart, numbers: &[u32; 4]) -> Result<(), Fault>
-    requires { at < 2 ^ 32 }
+    requires { at < 2 ^ 31 }
     ensures { result ≡ block_tests at image.now numbers.now }
 {
-    let restricted = numbers[2] == 1;
-    unused(at, 1, numbers[0])?;
+    let restricted = numbers[BlockField::Restricted as usize] == 1;
+    unused_field(at, &BLOCK, BlockField::AtFront as usize, numbers)?;
     disagree_if(
         restricted && 4 < image.kind.bits(),
         Rule::RestrictedOverFour,
@@ -182,8 +184,8 @@ fn said_block(numbers: &[u32; 4]) -> CoderPart
     ensures { result ≡ block_says numbers.now }
 {
     CoderPart::Block {
-        size: 8 << numbers[1],
-        restricted: numbers[2] == 1,
-        reference: numbers[3],
+        size: 8 << numbers[BlockField::BlockSize as usize],
+        restricted: numbers[BlockField::Restricted as usize] == 1,
+        reference: numbers[BlockField::Reference as usize],
     }
 }

@@ -13,16 +13,16 @@ ghost use Rattle.header_bits.specs.Header.{header_of, said, AreThere, coder_by_p
 use crate::bit_reader::BitReader;
 use crate::bit_writer::BitWriter;
 use crate::coder_part::{self, CoderPart};
-use crate::image_part::{self, ImagePart};
+use crate::fields::{
+    BLOCK, BlockField, IMAGE, PREDICTOR, SAMPLE, SampleField, coder_bits, predictor_end,
+};
+use crate::image_part::ImagePart;
 use crate::layout::write_values;
 use crate::params::{Coder, Params};
-use crate::predictor_part::{self, PredictorPart};
+use crate::predictor_part::PredictorPart;
 use crate::{constant_part, weight_part};
 use cube_core::fault::Fault;
 use std::alloc::Global;
-
-/// How many bits a header has without its tables.
-const PART_BITS: u64 = 152;
 
 /// The header of lawful parameters, in whole bytes (CCSDS 123.0-B-1, "Header").
 ///
@@ -54,9 +54,9 @@ pub fn put_header(params: &Params, writer: &mut BitWriter) -> Result<(), Fault>
 {
     writer.reserve(header_bits(params))?;
     let image = ImagePart::of(params).numbers();
-    write_values(&image_part::FIELDS, &image, writer).unwrap();
+    write_values(&IMAGE, &image, writer).unwrap();
     let predictor = PredictorPart::of(params).numbers();
-    write_values(&predictor_part::FIELDS, &predictor, writer).unwrap();
+    write_values(&PREDICTOR, &predictor, writer).unwrap();
     weight_part::put(params, writer);
     put_coder(CoderPart::of(&params.coder), writer).unwrap();
     constant_part::put(params, writer);
@@ -68,7 +68,8 @@ fn header_bits(params: &Params) -> u64
     requires { IsLawful params.now }
     ensures { result ≡ length (header_of params.now) }
 {
-    PART_BITS + weight_part::bits(params) + constant_part::bits(params)
+    let parts = predictor_end() + coder_bits();
+    parts + weight_part::bits(params) + constant_part::bits(params)
 }
 
 /// Reads a header from the front of at most 2^60 bytes: its parameters, and its length in bytes.
@@ -115,7 +116,7 @@ fn look_through<'a>(reader: &mut BitReader<'a>) -> Result<Parts<'a>, Fault>
     let place = weight_part::end(&image, &predictor);
     let coder = CoderPart::read(place, &image, reader)?;
     let constants = reader.fork();
-    constant_part::pass(place + 16, &image, &coder, reader)?;
+    constant_part::pass(place + coder_bits(), &image, &coder, reader)?;
     Ok(Parts {
         image,
         predictor,
@@ -213,21 +214,24 @@ fn put_coder(part: CoderPart, writer: &mut BitWriter) -> Result<(), Fault>
             constant,
             table,
         } => {
-            let numbers = [umax, gamma_star, gamma_zero, constant, u32::from(table)];
-            write_values(&coder_part::SAMPLE_FIELDS, &numbers, writer)
+            let mut numbers = [0; 5];
+            numbers[SampleField::Umax as usize] = umax;
+            numbers[SampleField::GammaStar as usize] = gamma_star;
+            numbers[SampleField::GammaZero as usize] = gamma_zero;
+            numbers[SampleField::Constant as usize] = constant;
+            numbers[SampleField::AccumulatorTable as usize] = u32::from(table);
+            write_values(&SAMPLE, &numbers, writer)
         }
         CoderPart::Block {
             size,
             restricted,
             reference,
         } => {
-            let numbers = [
-                0,
-                coder_part::size_code(size),
-                u32::from(restricted),
-                reference,
-            ];
-            write_values(&coder_part::BLOCK_FIELDS, &numbers, writer)
+            let mut numbers = [0; 4];
+            numbers[BlockField::BlockSize as usize] = coder_part::size_code(size);
+            numbers[BlockField::Restricted as usize] = u32::from(restricted);
+            numbers[BlockField::Reference as usize] = reference;
+            write_values(&BLOCK, &numbers, writer)
         }
     }
 }

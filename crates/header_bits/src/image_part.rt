@@ -8,30 +8,14 @@ ghost use Rattle.header_bits.specs.ImagePart.{image, image_fields, image_tests, 
 ghost use Rattle.header_bits.specs.Header.{image_part_of};
 
 use crate::bit_reader::BitReader;
-use crate::layout::{Slot, read_values};
+use crate::fields::{IMAGE, ImageField, image_end, unused_field};
+use crate::layout::read_values;
 use crate::params::{Coder, Params};
-use crate::refusal::{disagree_if, out_of_range_if, unused};
+use crate::refusal::{disagree_if, out_of_range_if};
 use cube_core::fault::{Fault, Field, Rule};
 use cube_core::kind::Kind;
 use cube_core::order::Order;
 use cube_core::shape::Shape;
-
-/// The slots of the image part.
-pub(crate) const FIELDS: [Slot; 13] = [
-    Slot::Plain(8, 0), // user-defined data
-    Slot::Modulo(16), // columns
-    Slot::Modulo(16), // rows
-    Slot::Modulo(16), // bands
-    Slot::Plain(1, 0), // signed samples
-    Slot::Unused(2),
-    Slot::Modulo(4), // bits of a sample
-    Slot::Plain(1, 0), // order: 1 is band sequential
-    Slot::Modulo(16), // depth of interleaving
-    Slot::Unused(2),
-    Slot::Modulo(3), // bytes of an output word
-    Slot::Plain(1, 0), // coder: 1 is block-adaptive
-    Slot::Unused(10),
-];
 
 /// What the image part says (CCSDS 123.0-B-1, "Image metadata").
 #[derive(Clone, Copy)]
@@ -50,11 +34,11 @@ impl ImagePart {
     pub(crate) fn read(reader: &mut BitReader) -> Result<ImagePart, Fault>
         ensures { Reads (λ x. x) result reader.new.left (part_at image reader.old.left) }
     {
-        if reader.left() < 96 {
+        if reader.left() < image_end() {
             return Err(Fault::ShortHeader);
         }
         let mut numbers = [0; 13];
-        read_values(&FIELDS, reader, &mut numbers);
+        read_values(&IMAGE, reader, &mut numbers);
         test(&numbers)?;
         Ok(said(&numbers))
     }
@@ -77,21 +61,18 @@ impl ImagePart {
     pub(crate) fn numbers(&self) -> [u32; 13]
         ensures { result ≡ image_numbers self.now }
     {
-        [
-            self.user,
-            self.shape.columns(),
-            self.shape.rows(),
-            self.shape.bands(),
-            u32::from(self.kind.is_signed()),
-            0,
-            self.kind.bits(),
-            order_bit(self.order),
-            depth_number(self.order),
-            0,
-            self.word,
-            u32::from(self.block),
-            0,
-        ]
+        let mut numbers = [0; 13];
+        numbers[ImageField::User as usize] = self.user;
+        numbers[ImageField::Columns as usize] = self.shape.columns();
+        numbers[ImageField::Rows as usize] = self.shape.rows();
+        numbers[ImageField::Bands as usize] = self.shape.bands();
+        numbers[ImageField::Signed as usize] = u32::from(self.kind.is_signed());
+        numbers[ImageField::DynamicRange as usize] = self.kind.bits();
+        numbers[ImageField::Order as usize] = order_bit(self.order);
+        numbers[ImageField::Depth as usize] = depth_number(self.order);
+        numbers[ImageField::WordSize as usize] = self.word;
+        numbers[ImageField::Coder as usize] = u32::from(self.block);
+        numbers
     }
 }
 
@@ -116,17 +97,23 @@ fn depth_number(order: Order) -> u32
 }
 
 /// Tests the numbers of the image part, in order.
+#[tactic(auto, unfolding(crate::specs::Layout::total))]
 fn test(numbers: &[u32; 13]) -> Result<(), Fault>
     ensures { result ≡ image_tests numbers.now }
 {
-    unused(57, 2, numbers[5])?;
-    out_of_range_if(numbers[6] == 1, Field::DynamicRange, 1)?;
+    unused_field(0, &IMAGE, ImageField::AfterSigned as usize, numbers)?;
+    out_of_range_if(
+        numbers[ImageField::DynamicRange as usize] == 1,
+        Field::DynamicRange,
+        1,
+    )?;
     disagree_if(
-        numbers[7] == 0 && numbers[3] < numbers[8],
+        numbers[ImageField::Order as usize] == 0
+            && numbers[ImageField::Bands as usize] < numbers[ImageField::Depth as usize],
         Rule::DepthOverBands,
     )?;
-    unused(80, 2, numbers[9])?;
-    unused(86, 10, numbers[12])
+    unused_field(0, &IMAGE, ImageField::AfterDepth as usize, numbers)?;
+    unused_field(0, &IMAGE, ImageField::AfterCoder as usize, numbers)
 }
 
 /// What the numbers of the image part say.
@@ -136,15 +123,24 @@ fn said(numbers: &[u32; 13]) -> ImagePart
     ensures { result ≡ image_says numbers.now }
 {
     ImagePart {
-        user: numbers[0],
-        shape: Shape::new(numbers[1], numbers[2], numbers[3]).unwrap(),
-        kind: Kind::new(numbers[4] == 1, numbers[6]).unwrap(),
-        order: if numbers[7] == 0 {
-            Order::Bi(numbers[8])
+        user: numbers[ImageField::User as usize],
+        shape: Shape::new(
+            numbers[ImageField::Columns as usize],
+            numbers[ImageField::Rows as usize],
+            numbers[ImageField::Bands as usize],
+        )
+        .unwrap(),
+        kind: Kind::new(
+            numbers[ImageField::Signed as usize] == 1,
+            numbers[ImageField::DynamicRange as usize],
+        )
+        .unwrap(),
+        order: if numbers[ImageField::Order as usize] == 0 {
+            Order::Bi(numbers[ImageField::Depth as usize])
         } else {
             Order::Bsq
         },
-        word: numbers[10],
-        block: numbers[11] == 1,
+        word: numbers[ImageField::WordSize as usize],
+        block: numbers[ImageField::Coder as usize] == 1,
     }
 }

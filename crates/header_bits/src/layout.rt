@@ -60,6 +60,20 @@ impl Slot {
     }
 }
 
+/// How many bits slots have in all.
+pub(crate) fn total_bits(slots: &[Slot]) -> u64
+    requires narrow { AreNarrow slots.now }
+    requires few { length slots.now ≤ 64 }
+    ensures total { result ≡ total slots.now }
+    ensures most { result ≤ 1024 }
+{
+    let mut bits = 0;
+    for slot in slots {
+        bits += u64::from(slot.width());
+    }
+    bits
+}
+
 /// Reads the numbers of a part that is there whole.
 pub(crate) fn read_values(slots: &[Slot], reader: &mut BitReader, out: &mut [u32])
     requires narrow { AreNarrow slots.now }

@@ -6,6 +6,7 @@ pub mod bit_writer;
 mod check;
 mod coder_part;
 mod constant_part;
+mod fields;
 pub mod header;
 mod image_part;
 pub mod laws;

@@ -1,39 +1,22 @@
 //! The predictor part of a header, five bytes.
 
-ghost use Rattle.std.specs.Prelude.{◌≡◌, ◌<◌};
+ghost use Rattle.std.specs.Prelude.{◌≡◌, ◌+◌, ◌<◌, slice_index, slice_index_or, take};
 ghost use Rattle.header_bits.specs.Reading.{Reads};
-ghost use Rattle.header_bits.specs.Layout.{AreValues};
-ghost use Rattle.header_bits.specs.Parts.{part_at};
+ghost use Rattle.header_bits.specs.declared.layout.Slot.TheVariants as slot;
+ghost use Rattle.header_bits.specs.Layout.{AreValues, total, width};
+ghost use Rattle.header_bits.specs.Parts.{part_at, unused};
 ghost use Rattle.header_bits.specs.ImagePart.{flag};
 ghost use Rattle.header_bits.specs.PredictorPart.{predictor, predictor_fields, predictor_tests, start_tests, predictor_says, exponent_of, exponent_code, predictor_numbers};
 ghost use Rattle.header_bits.specs.Lawful.{IsExponent};
 ghost use Rattle.header_bits.specs.Header.{is_custom, resolution_of, predictor_part_of};
 
 use crate::bit_reader::BitReader;
+use crate::fields::{PREDICTOR, PredictorField, image_end, predictor_bits, unused_field};
 use crate::image_part::ImagePart;
-use crate::layout::{Slot, read_values};
+use crate::layout::read_values;
 use crate::params::{Params, WeightStart};
-use crate::refusal::{disagree_if, out_of_range_if, refuse_if, unused};
+use crate::refusal::{disagree_if, out_of_range_if, refuse_if};
 use cube_core::fault::{Fault, Field, Rule};
-
-/// The slots of the predictor part.
-pub(crate) const FIELDS: [Slot; 15] = [
-    Slot::Unused(2),
-    Slot::Plain(4, 0), // previous bands
-    Slot::Plain(1, 0), // mode: 1 is reduced
-    Slot::Unused(1),
-    Slot::Plain(1, 0), // local sums: 1 is column-oriented
-    Slot::Unused(1),
-    Slot::Modulo(6), // register size
-    Slot::Plain(4, 4), // weight component resolution
-    Slot::Plain(4, 4), // logarithm of the weight update interval
-    Slot::Plain(4, 0), // least weight update exponent, as its code
-    Slot::Plain(4, 0), // greatest weight update exponent, as its code
-    Slot::Unused(1),
-    Slot::Plain(1, 0), // weight start: 1 is custom
-    Slot::Plain(1, 0), // weight table in the file
-    Slot::Plain(5, 0), // weight resolution of the table
-];
 
 /// What the predictor part says (CCSDS 123.0-B-1, "Predictor metadata").
 #[derive(Clone, Copy)]
@@ -57,11 +40,11 @@ impl PredictorPart {
     pub(crate) fn read(image: &ImagePart, reader: &mut BitReader) -> Result<PredictorPart, Fault>
         ensures { Reads (λ x. x) result reader.new.left (part_at (predictor image.now) reader.old.left) }
     {
-        if reader.left() < 40 {
+        if reader.left() < predictor_bits() {
             return Err(Fault::ShortHeader);
         }
         let mut numbers = [0; 15];
-        read_values(&FIELDS, reader, &mut numbers);
+        read_values(&PREDICTOR, reader, &mut numbers);
         test(image, &numbers)?;
         Ok(said(&numbers))
     }
@@ -90,23 +73,19 @@ impl PredictorPart {
         requires greatest { IsExponent self.now.vmax }
         ensures { result ≡ predictor_numbers self.now }
     {
-        [
-            0,
-            self.previous,
-            u32::from(self.reduced),
-            0,
-            u32::from(self.column),
-            0,
-            self.register,
-            self.omega,
-            self.interval_log,
-            exponent_code(self.vmin),
-            exponent_code(self.vmax),
-            0,
-            u32::from(self.custom),
-            u32::from(self.custom),
-            self.resolution,
-        ]
+        let mut numbers = [0; 15];
+        numbers[PredictorField::Previous as usize] = self.previous;
+        numbers[PredictorField::Mode as usize] = u32::from(self.reduced);
+        numbers[PredictorField::Sums as usize] = u32::from(self.column);
+        numbers[PredictorField::Register as usize] = self.register;
+        numbers[PredictorField::Omega as usize] = self.omega;
+        numbers[PredictorField::Interval as usize] = self.interval_log;
+        numbers[PredictorField::VMin as usize] = exponent_code(self.vmin);
+        numbers[PredictorField::VMax as usize] = exponent_code(self.vmax);
+        numbers[PredictorField::WeightStart as usize] = u32::from(self.custom);
+        numbers[PredictorField::WeightTable as usize] = u32::from(self.custom);
+        numbers[PredictorField::Resolution as usize] = self.resolution;
+        numbers
     }
 }
 
@@ -128,24 +107,46 @@ fn exponent_code(exponent: i32) -> u32
     (exponent + 6) as u32
 }
 
+/// Refuses the first bit of a reserved field that is one.
+fn refuse_unused(index: usize, numbers: &[u32; 15]) -> Result<(), Fault>
+    requires { index < 15 }
+    ensures { result ≡ unused (96 + total (take index predictor_fields)) (width (slice_index_or predictor_fields index (slot.Unused 0))) (slice_index numbers.now index) }
+{
+    unused_field(image_end(), &PREDICTOR, index, numbers)
+}
+
 /// Tests the numbers of the predictor part, in order.
+#[tactic(auto, unfolding(crate::specs::Layout::total))]
 fn test(image: &ImagePart, numbers: &[u32; 15]) -> Result<(), Fault>
     requires { AreValues predictor_fields numbers.now }
     ensures { result ≡ predictor_tests image.now numbers.now }
 {
     let one_column = image.shape.columns() == 1;
-    let register = numbers[6];
-    let least = image.kind.bits() + numbers[7] + 2;
-    unused(96, 2, numbers[0])?;
-    disagree_if(numbers[2] == 0 && one_column, Rule::FullOneColumn)?;
-    unused(103, 1, numbers[3])?;
-    disagree_if(numbers[4] == 0 && one_column, Rule::NeighbourOneColumn)?;
-    unused(105, 1, numbers[5])?;
+    let register = numbers[PredictorField::Register as usize];
+    let least = image.kind.bits() + numbers[PredictorField::Omega as usize] + 2;
+    refuse_unused(PredictorField::AtFront as usize, numbers)?;
+    disagree_if(
+        numbers[PredictorField::Mode as usize] == 0 && one_column,
+        Rule::FullOneColumn,
+    )?;
+    refuse_unused(PredictorField::AfterMode as usize, numbers)?;
+    disagree_if(
+        numbers[PredictorField::Sums as usize] == 0 && one_column,
+        Rule::NeighbourOneColumn,
+    )?;
+    refuse_unused(PredictorField::AfterSums as usize, numbers)?;
     out_of_range_if(register < 32, Field::Register, register)?;
     disagree_if(register < least, Rule::RegisterTooSmall)?;
-    out_of_range_if(numbers[8] > 11, Field::Interval, numbers[8])?;
-    disagree_if(numbers[10] < numbers[9], Rule::ExponentOrder)?;
-    unused(128, 1, numbers[11])?;
+    out_of_range_if(
+        numbers[PredictorField::Interval as usize] > 11,
+        Field::Interval,
+        numbers[PredictorField::Interval as usize],
+    )?;
+    disagree_if(
+        numbers[PredictorField::VMax as usize] < numbers[PredictorField::VMin as usize],
+        Rule::ExponentOrder,
+    )?;
+    refuse_unused(PredictorField::AfterVMax as usize, numbers)?;
     test_start(numbers)
 }
 
@@ -154,14 +155,17 @@ fn test_start(numbers: &[u32; 15]) -> Result<(), Fault>
     requires { AreValues predictor_fields numbers.now }
     ensures { result ≡ start_tests numbers.now }
 {
-    let custom = numbers[12] == 1;
-    let table = numbers[13] == 1;
-    let resolution = numbers[14];
+    let custom = numbers[PredictorField::WeightStart as usize] == 1;
+    let table = numbers[PredictorField::WeightTable as usize] == 1;
+    let resolution = numbers[PredictorField::Resolution as usize];
     disagree_if(!custom && table, Rule::DefaultWithTable)?;
     refuse_if(custom && !table, Fault::TableElsewhere)?;
     disagree_if(!custom && resolution > 0, Rule::DefaultWithResolution)?;
     out_of_range_if(custom && resolution < 3, Field::Resolution, resolution)?;
-    disagree_if(numbers[7] + 3 < resolution, Rule::ResolutionOverOmega)
+    disagree_if(
+        numbers[PredictorField::Omega as usize] + 3 < resolution,
+        Rule::ResolutionOverOmega,
+    )
 }
 
 /// What the numbers of the predictor part say.
@@ -170,16 +174,16 @@ fn said(numbers: &[u32; 15]) -> PredictorPart
     ensures { result ≡ predictor_says numbers.now }
 {
     PredictorPart {
-        previous: numbers[1],
-        reduced: numbers[2] == 1,
-        column: numbers[4] == 1,
-        register: numbers[6],
-        omega: numbers[7],
-        interval_log: numbers[8],
-        vmin: exponent_of(numbers[9]),
-        vmax: exponent_of(numbers[10]),
-        custom: numbers[12] == 1,
-        resolution: numbers[14],
+        previous: numbers[PredictorField::Previous as usize],
+        reduced: numbers[PredictorField::Mode as usize] == 1,
+        column: numbers[PredictorField::Sums as usize] == 1,
+        register: numbers[PredictorField::Register as usize],
+        omega: numbers[PredictorField::Omega as usize],
+        interval_log: numbers[PredictorField::Interval as usize],
+        vmin: exponent_of(numbers[PredictorField::VMin as usize]),
+        vmax: exponent_of(numbers[PredictorField::VMax as usize]),
+        custom: numbers[PredictorField::WeightStart as usize] == 1,
+        resolution: numbers[PredictorField::Resolution as usize],
     }
 }
 

@@ -11,6 +11,7 @@ ghost use Rattle.header_bits.specs.Header.{start_by, coder_place, weight_bits};
 
 use crate::bit_reader::BitReader;
 use crate::bit_writer::BitWriter;
+use crate::fields::predictor_end;
 use crate::image_part::ImagePart;
 use crate::params::{Params, WeightStart};
 use crate::predictor_part::PredictorPart;
@@ -18,9 +19,6 @@ use crate::table_layout::{fill_of, number_bits, pass_fill, put_fill, table_bits}
 use crate::tables::WeightTable;
 use cube_core::fault::Fault;
 use std::alloc::Global;
-
-/// Where a weight table stands in the file: behind the predictor part.
-const PLACE: u64 = 136;
 
 /// How many weights the first bands have in all: one for each previous band that there is, and three
 /// more in full mode.
@@ -57,9 +55,9 @@ pub(crate) fn end(image: &ImagePart, predictor: &PredictorPart) -> u64
     ensures most { result ≤ 2 ^ 28 }
 {
     if predictor.custom {
-        PLACE + table_bits(count_for(image, predictor), predictor.resolution)
+        predictor_end() + table_bits(count_for(image, predictor), predictor.resolution)
     } else {
-        PLACE
+        predictor_end()
     }
 }
 
@@ -83,7 +81,7 @@ pub(crate) fn pass(
     }
     let bits = number_bits(count, predictor.resolution);
     reader.skip(bits);
-    pass_fill(PLACE + bits, fill_of(bits), reader)
+    pass_fill(predictor_end() + bits, fill_of(bits), reader)
 }
 
 /// Reads the weight start, from the front of its table where there is one, which was looked through.

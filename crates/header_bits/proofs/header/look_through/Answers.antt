@@ -41,16 +41,17 @@ pub returns-in_err-pass-2-clause-reads : goal.returns-in_err-pass-2-clause-reads
 returns-in_err-pass-2-clause-reads c =
     let p = err_from_is_err_and c.from_residual-in_err-pass-2.result c.from_residual-in_err-pass-2.ensures.1 in
     let coder_read = rw c.end-place.ensures.place at c.in_ok-coder.ensures in
-    let bad = rw c.end-place.ensures.place at c.in_err-pass-2.ensures in
+    let bad = rw (c.coder_bits.ensures, c.end-place.ensures.place) at c.in_err-pass-2.ensures in
     rw (p.1, p.2) (constants_refused c.in_ok-image.image c.in_ok-predictor.predictor _ c.in_ok-coder.coder c.args.reader.now.left c.read.new.reader.left c.read-2.new.reader.left c.pass.new.reader.left c.read-3.new.reader.left c.in_err-pass-2.field-0.0 (record { image = c.in_ok-image.ensures; predictor = c.in_ok-predictor.ensures }) c.in_ok-pass.ensures coder_read bad)
 
 pub returns-clause-reads : goal.returns-clause-reads
 returns-clause-reads c =
     let coder_read = rw c.end-place.ensures.place at c.in_ok-coder.ensures in
-    let last = rw c.end-place.ensures.place at c.in_ok-pass-2.ensures in
+    let last = rw (c.coder_bits.ensures, c.end-place.ensures.place) at c.in_ok-pass-2.ensures in
     rw (c.fork-weights.ensures, c.fork-constants.ensures) (parts_found c.in_ok-image.image c.in_ok-predictor.predictor _ c.in_ok-coder.coder _ c.args.reader.now.left c.read.new.reader.left c.read-2.new.reader.left c.pass.new.reader.left c.read-3.new.reader.left c.pass-2.new.reader.left (record { image = c.in_ok-image.ensures; predictor = c.in_ok-predictor.ensures }) c.in_ok-pass.ensures coder_read last)
 
 pub returns-clause-there : goal.returns-clause-there
 returns-clause-there c =
     let facts = start_read c.in_ok-image.image c.in_ok-predictor.predictor c.args.reader.now.left c.read.new.reader.left c.read-2.new.reader.left c.in_ok-image.ensures c.in_ok-predictor.ensures in
-    rw (c.fork-weights.ensures, c.fork-constants.ensures) (are_there c.end-place.result c.in_ok-image.image c.in_ok-predictor.predictor c.in_ok-coder.coder c.read-2.new.reader.left c.pass.new.reader.left c.read-3.new.reader.left c.pass-2.new.reader.left _ _ facts c.in_ok-pass.ensures c.in_ok-pass-2.ensures)
+    let last = rw c.coder_bits.ensures at c.in_ok-pass-2.ensures in
+    rw (c.fork-weights.ensures, c.fork-constants.ensures) (are_there c.end-place.result c.in_ok-image.image c.in_ok-predictor.predictor c.in_ok-coder.coder c.read-2.new.reader.left c.pass.new.reader.left c.read-3.new.reader.left c.pass-2.new.reader.left _ _ facts c.in_ok-pass.ensures last)

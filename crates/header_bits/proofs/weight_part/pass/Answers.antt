@@ -23,6 +23,6 @@ pass_fill-requires-clause-whole c =
 pub returns : goal.returns
 returns c =
     let size = rw c.count_for-count.ensures.count at c.table_bits.ensures.total in
-    let test = rw (c.fill_of.ensures.value, c.skip.ensures.left, c.number_bits-bits.ensures.value, c.count_for-count.ensures.count) at c.pass_fill.ensures.test in
+    let test = rw (c.predictor_end.ensures, c.fill_of.ensures.value, c.skip.ensures.left, c.number_bits-bits.ensures.value, c.count_for-count.ensures.count) at c.pass_fill.ensures.test in
     let end = rw (c.fill_of.ensures.value, c.skip.ensures.left, c.number_bits-bits.ensures.value, c.count_for-count.ensures.count) at c.pass_fill.ensures.left in
     weights_passed c.args.image.now c.args.predictor.now c.pass_fill.result c.args.reader.now.left c.pass_fill.new.reader.left c.if-not-predictor.false (omega (arith, size, c.left.ensures, c.if-left-table_bits.false)) test end
