@@ -6,7 +6,20 @@ ghost use Rattle.clap.specs.Walk.{rule_of};
 ghost use Rattle.command_words.specs.Options as defined;
 
 use clap::{Arg, ArgAction, Command};
+use header_bits::ranges::Range;
 use std::alloc::{AllocError, Global};
+
+/// How many predictors may be asked for; 0 is coding on one thread.
+pub(crate) const PREDICTORS: Range = Range { least: 0, most: 64 };
+
+/// How many slots a lane may have.
+pub(crate) const SLOTS: Range = Range {
+    least: 1,
+    most: 65_536,
+};
+
+/// How many bytes a raw sample may have.
+pub(crate) const BYTES: Range = Range { least: 1, most: 2 };
 
 /// What says how large an image is, and what its samples are.
 static SIZES: [&str; 4] = ["columns", "rows", "bands", "bits"];

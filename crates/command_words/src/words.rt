@@ -21,7 +21,7 @@ ghost use Rattle.command_words.specs.Settings.{AreInRange, AreParams, IsCoderInR
 ghost use Rattle.command_words.specs.Reading.{AreFilesOf, AreParamsOf, AreSizesOf, HasExponent, HasFlag, HasNumber, HasWord, IsBlockOf, IsCoderOf, IsKindOf, IsLayoutOf, IsOrderOf, IsSampleOf, raw_order_word, rows};
 ghost use Rattle.command_words.specs.Words.{texts, AreOfOptions, AreTaken, Ask, AskForNone, BeginWith};
 
-use crate::options::{compress_command, expand_command};
+use crate::options::{BYTES, PREDICTORS, SLOTS, compress_command, expand_command};
 use clap::error::ErrorKind;
 use clap::{ArgMatches, Command, Error};
 use command_settings::settings::{CompressSettings, Settings};
@@ -31,6 +31,7 @@ use cube_core::layout::{Layout, RawOrder};
 use cube_core::order::Order;
 use cube_core::shape::Shape;
 use header_bits::params::{Coder, CountStart, Params, WeightStart};
+use header_bits::ranges::{self, LEAST_EXPONENT, Range};
 use std::alloc::Global;
 
 /// The settings that the words behind the program's name ask for. The first word names the command, and
@@ -73,8 +74,8 @@ fn compress_settings<'a>(alloc: Global, words: &'a [&'a str]) -> Result<Settings
     let matches = matches(compress_command(alloc)?, words)?;
     let params = params(&matches)?;
     let layout = layout(&matches)?;
-    let predictors = number(&matches, "predictors", 0, 64)?;
-    let slots = number(&matches, "slots", 1, 65_536)?;
+    let predictors = number(&matches, "predictors", PREDICTORS)?;
+    let slots = number(&matches, "slots", SLOTS)?;
     let (from, to) = files(alloc, &matches)?;
     let settings = CompressSettings {
         params,
@@ -117,14 +118,14 @@ fn params(matches: &ArgMatches<'_>) -> Result<Params, Fault>
         shape: shape(matches)?,
         kind: kind(matches)?,
         order: order(matches)?,
-        user: number(matches, "user", 0, 255)?,
-        word: number(matches, "word", 1, 8)?,
-        previous: number(matches, "previous", 0, 15)?,
+        user: number(matches, "user", ranges::USER)?,
+        word: number(matches, "word", ranges::WORD_SIZE)?,
+        previous: number(matches, "previous", ranges::PREVIOUS)?,
         reduced: flag(matches, "reduced"),
         column: flag(matches, "column-sums"),
-        register: number(matches, "register", 32, 64)?,
-        omega: number(matches, "omega", 4, 19)?,
-        interval_log: number(matches, "interval-log", 4, 11)?,
+        register: number(matches, "register", ranges::REGISTER)?,
+        omega: number(matches, "omega", ranges::OMEGA)?,
+        interval_log: number(matches, "interval-log", ranges::INTERVAL)?,
         vmin: exponent(matches, "vmin-code")?,
         vmax: exponent(matches, "vmax-code")?,
         start: WeightStart::Usual,
@@ -136,9 +137,9 @@ fn shape(matches: &ArgMatches<'_>) -> Result<Shape, Fault>
     ensures read { IfOk result (AreSizesOf (rows matches.now)) }
     ensures refused { IfErr result (λ e. (e ≡ Usage) × ((s : Sizes) → AreSizesOf (rows matches.now) s → ¬ (AreSizes s))) }
 {
-    let columns = number(matches, "columns", 1, 65_536)?;
-    let rows = number(matches, "rows", 1, 65_536)?;
-    let bands = number(matches, "bands", 1, 65_536)?;
+    let columns = number(matches, "columns", ranges::SIZE)?;
+    let rows = number(matches, "rows", ranges::SIZE)?;
+    let bands = number(matches, "bands", ranges::SIZE)?;
     Ok(Shape::new(columns, rows, bands).unwrap())
 }
 
@@ -146,7 +147,7 @@ fn kind(matches: &ArgMatches<'_>) -> Result<Kind, Fault>
     ensures read { IfOk result (IsKindOf (rows matches.now)) }
     ensures refused { IfErr result (λ e. (e ≡ Usage) × ((k : SampleKind) → IsKindOf (rows matches.now) k → ¬ (IsKind k))) }
 {
-    let bits = number(matches, "bits", 2, 16)?;
+    let bits = number(matches, "bits", ranges::DYNAMIC_RANGE)?;
     Ok(Kind::new(flag(matches, "signed"), bits).unwrap())
 }
 
@@ -156,7 +157,7 @@ fn order(matches: &ArgMatches<'_>) -> Result<Order, Fault>
     ensures read { IfOk result (IsOrderOf (rows matches.now)) }
     ensures refused { IfErr result (λ e. (e ≡ Usage) × ((o : Order) → IsOrderOf (rows matches.now) o → ¬ (IsDepth o))) }
 {
-    let depth = number(matches, "depth", 1, 65_536)?;
+    let depth = number(matches, "depth", ranges::DEPTH)?;
     match word(matches, "order") {
         Some("bsq") => Ok(Order::Bsq),
         Some("bi") => Ok(Order::Bi(depth)),
@@ -185,10 +186,10 @@ fn sample_coder(matches: &ArgMatches<'_>) -> Result<Coder, Fault>
     ensures refused { IfErr result (λ e. (e ≡ Usage) × ((c : Coder) → IsSampleOf (rows matches.now) c → ¬ (IsCoderInRange c))) }
 {
     Ok(Coder::Sample {
-        umax: number(matches, "umax", 8, 32)?,
-        gamma_star: number(matches, "gamma-star", 4, 9)?,
-        gamma_zero: number(matches, "gamma-zero", 1, 8)?,
-        start: CountStart::Constant(number(matches, "k", 0, 14)?),
+        umax: number(matches, "umax", ranges::UMAX)?,
+        gamma_star: number(matches, "gamma-star", ranges::GAMMA_STAR)?,
+        gamma_zero: number(matches, "gamma-zero", ranges::GAMMA_ZERO)?,
+        start: CountStart::Constant(number(matches, "k", ranges::CONSTANT)?),
     })
 }
 
@@ -197,14 +198,14 @@ fn block_coder(matches: &ArgMatches<'_>) -> Result<Coder, Fault>
     ensures read { IfOk result (IsBlockOf (rows matches.now)) }
     ensures refused { IfErr result (λ e. (e ≡ Usage) × ((c : Coder) → IsBlockOf (rows matches.now) c → ¬ (IsCoderInRange c))) }
 {
-    let size = match number(matches, "block", 8, 64)? {
+    let size = match number(matches, "block", ranges::BLOCK_SIZE)? {
         size @ (8 | 16 | 32 | 64) => size,
         _ => return Err(Fault::Usage),
     };
     Ok(Coder::Block {
         size,
         restricted: flag(matches, "restricted"),
-        reference: number(matches, "reference", 1, 4096)?,
+        reference: number(matches, "reference", ranges::REFERENCE)?,
     })
 }
 
@@ -215,7 +216,7 @@ fn layout(matches: &ArgMatches<'_>) -> Result<Layout, Fault>
 {
     Ok(Layout {
         order: raw_order(matches)?,
-        bytes: number(matches, "bytes", 1, 2)?,
+        bytes: number(matches, "bytes", BYTES)?,
         little: flag(matches, "little"),
     })
 }
@@ -255,8 +256,8 @@ fn exponent(matches: &ArgMatches<'_>, name: &str) -> Result<i32, Fault>
     ensures read { IfOk result (HasExponent (rows matches.now) name.now) }
     ensures refused { IfErr result (λ e. (e ≡ Usage) × ((v : ℤ) → HasExponent (rows matches.now) name.now v → ¬ (IsExponent v))) }
 {
-    let code = number(matches, name, 0, 15)?;
-    Ok(code as i32 - 6)
+    let code = number(matches, name, ranges::EXPONENT_CODE)?;
+    Ok(code as i32 + LEAST_EXPONENT)
 }
 
 /// Whether a flag was given.
@@ -274,7 +275,16 @@ fn word<'a>(matches: &ArgMatches<'a>, name: &str) -> Option<&'a str>
 }
 
 /// An option's number, in its range.
-fn number(matches: &ArgMatches<'_>, name: &str, least: u32, most: u32) -> Result<u32, Fault>
+fn number(matches: &ArgMatches<'_>, name: &str, range: Range) -> Result<u32, Fault>
+    ensures range { IfOk result (InRange range.least range.most) }
+    ensures read { IfOk result (HasNumber (rows matches.now) name.now) }
+    ensures refused { IfErr result (λ e. (e ≡ Usage) × ((n : ℕ) → HasNumber (rows matches.now) name.now n → ¬ (InRange range.least range.most n))) }
+{
+    between(matches, name, range.least, range.most)
+}
+
+/// An option's number, from a least to a greatest one.
+fn between(matches: &ArgMatches<'_>, name: &str, least: u32, most: u32) -> Result<u32, Fault>
     ensures range { IfOk result (InRange least most) }
     ensures read { IfOk result (HasNumber (rows matches.now) name.now) }
     ensures refused { IfErr result (λ e. (e ≡ Usage) × ((n : ℕ) → HasNumber (rows matches.now) name.now n → ¬ (InRange least most n))) }

@@ -10,6 +10,7 @@ ghost use Rattle.header_bits.specs.TableParts.{some_above};
 ghost use Rattle.header_bits.specs.Lawful.{IsLawful, in_range_or, exponent_or, order_fault, predictor_fault, start_fault, weight_fault, entries_fault, count_fault, block_size_fault, coder_fault, params_fault};
 
 use crate::params::{Coder, CountStart, Params, WeightStart};
+use crate::ranges::{self, GREATEST_EXPONENT, LEAST_EXPONENT, RESOLUTION, Range};
 use crate::refusal::{disagree_if, out_of_range_if, refuse_if};
 use crate::weight_part::{power_of_two, weight_count};
 use cube_core::fault::{Fault, Field, Rule};
@@ -36,21 +37,21 @@ fn first_fault(params: &Params) -> Result<(), Fault>
     ensures fault { result ≡ params_fault params.now }
     ensures ranges { OnOk result (AreSizes params.now.shape × IsKind params.now.kind) }
 {
-    in_range(Field::User, 0, 255, params.user)?;
+    in_range(Field::User, ranges::USER, params.user)?;
     check_order(params.shape, params.order)?;
-    in_range(Field::WordSize, 1, 8, params.word)?;
+    in_range(Field::WordSize, ranges::WORD_SIZE, params.word)?;
     check_predictor(params)?;
     check_start(params)?;
     check_coder(params)
 }
 
-/// Refuses a number that isn't from a least to a greatest one.
-fn in_range(field: Field, least: u32, most: u32, number: u32) -> Result<(), Fault>
-    ensures { result ≡ in_range_or field least most number }
+/// Refuses a number that isn't in its range.
+fn in_range(field: Field, range: Range, number: u32) -> Result<(), Fault>
+    ensures { result ≡ in_range_or field range.least range.most number }
 {
     let value = i64::from(number);
     refuse_if(
-        !(least <= number && number <= most),
+        !(range.least <= number && number <= range.most),
         Fault::FieldRange { field, value },
     )
 }
@@ -61,7 +62,7 @@ fn exponent_in_range(field: Field, exponent: i32) -> Result<(), Fault>
 {
     let value = i64::from(exponent);
     refuse_if(
-        !(-6 <= exponent && exponent <= 9),
+        !(LEAST_EXPONENT <= exponent && exponent <= GREATEST_EXPONENT),
         Fault::FieldRange { field, value },
     )
 }
@@ -92,14 +93,14 @@ fn check_predictor(params: &Params) -> Result<(), Fault>
     ensures omega { OnOk result (params.now.omega ≤ 19) }
 {
     let one_column = params.shape.columns() == 1;
-    in_range(Field::Previous, 0, 15, params.previous)?;
+    in_range(Field::Previous, ranges::PREVIOUS, params.previous)?;
     disagree_if(!params.reduced && one_column, Rule::FullOneColumn)?;
     disagree_if(!params.column && one_column, Rule::NeighbourOneColumn)?;
-    in_range(Field::Register, 32, 64, params.register)?;
-    in_range(Field::Omega, 4, 19, params.omega)?;
+    in_range(Field::Register, ranges::REGISTER, params.register)?;
+    in_range(Field::Omega, ranges::OMEGA, params.omega)?;
     let least = params.kind.bits() + params.omega + 2;
     disagree_if(params.register < least, Rule::RegisterTooSmall)?;
-    in_range(Field::Interval, 4, 11, params.interval_log)?;
+    in_range(Field::Interval, ranges::INTERVAL, params.interval_log)?;
     exponent_in_range(Field::VMin, params.vmin)?;
     exponent_in_range(Field::VMax, params.vmax)?;
     disagree_if(params.vmax < params.vmin, Rule::ExponentOrder)
@@ -117,7 +118,7 @@ fn check_start(params: &Params) -> Result<(), Fault>
     let weights = values.as_slice();
     let bands = params.shape.bands();
     let count = weight_count(params.previous, params.reduced, bands);
-    out_of_range_if(*q < 3, Field::Resolution, *q)?;
+    out_of_range_if(*q < RESOLUTION.least, Field::Resolution, *q)?;
     disagree_if(params.omega + 3 < *q, Rule::ResolutionOverOmega)?;
     disagree_if(weights.len() != count, Rule::WeightTableLength)?;
     check_weights(*q, weights)
@@ -158,9 +159,9 @@ fn check_coder(params: &Params) -> Result<(), Fault>
             gamma_zero,
             start,
         } => {
-            in_range(Field::Umax, 8, 32, *umax)?;
-            in_range(Field::GammaStar, 4, 9, *gamma_star)?;
-            in_range(Field::GammaZero, 1, 8, *gamma_zero)?;
+            in_range(Field::Umax, ranges::UMAX, *umax)?;
+            in_range(Field::GammaStar, ranges::GAMMA_STAR, *gamma_star)?;
+            in_range(Field::GammaZero, ranges::GAMMA_ZERO, *gamma_zero)?;
             disagree_if(*gamma_star < *gamma_zero + 1, Rule::CounterOrder)?;
             check_count(params, start)
         }
@@ -172,7 +173,7 @@ fn check_coder(params: &Params) -> Result<(), Fault>
             check_block_size(*size)?;
             let deep = params.kind.bits() > 4;
             disagree_if(*restricted && deep, Rule::RestrictedOverFour)?;
-            in_range(Field::Reference, 1, 4096, *reference)
+            in_range(Field::Reference, ranges::REFERENCE, *reference)
         }
     }
 }

@@ -13,6 +13,7 @@ use crate::fields::{BLOCK, BlockField, SAMPLE, SampleField, coder_bits, unused_f
 use crate::image_part::ImagePart;
 use crate::layout::read_values;
 use crate::params::{Coder, CountStart};
+use crate::ranges::{BESIDE_TABLE, GAMMA_STAR, UMAX};
 use crate::refusal::{disagree_if, out_of_range_if};
 use cube_core::fault::{Fault, Field, Rule};
 
@@ -104,7 +105,7 @@ fn constant_of(start: &CountStart) -> u32
 {
     match start {
         CountStart::Constant(constant) => *constant,
-        CountStart::Each(_) => 15,
+        CountStart::Each(_) => BESIDE_TABLE,
     }
 }
 
@@ -128,12 +129,12 @@ fn test_sample(image: &ImagePart, numbers: &[u32; 5]) -> Result<(), Fault>
     let table = numbers[SampleField::AccumulatorTable as usize] == 1;
     let most = image.kind.bits() - 2;
     out_of_range_if(
-        numbers[SampleField::Umax as usize] < 8,
+        numbers[SampleField::Umax as usize] < UMAX.least,
         Field::Umax,
         numbers[SampleField::Umax as usize],
     )?;
     out_of_range_if(
-        numbers[SampleField::GammaStar as usize] > 9,
+        numbers[SampleField::GammaStar as usize] > GAMMA_STAR.most,
         Field::GammaStar,
         numbers[SampleField::GammaStar as usize],
     )?;
@@ -146,7 +147,7 @@ fn test_sample(image: &ImagePart, numbers: &[u32; 5]) -> Result<(), Fault>
         Rule::StartConstant,
     )?;
     disagree_if(
-        table && numbers[SampleField::Constant as usize] < 15,
+        table && numbers[SampleField::Constant as usize] < BESIDE_TABLE,
         Rule::ConstantWithTable,
     )
 }

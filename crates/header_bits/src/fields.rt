@@ -6,6 +6,7 @@ ghost use Rattle.header_bits.specs.Layout.{AreNarrow, total, width};
 ghost use Rattle.header_bits.specs.Parts.{unused};
 
 use crate::layout::{Slot, total_bits};
+use crate::ranges::{GAMMA_STAR, INTERVAL, OMEGA};
 use crate::refusal::unused;
 use cube_core::fault::Fault;
 
@@ -91,8 +92,8 @@ pub(crate) const PREDICTOR: [Slot; 15] = [
     Slot::Plain(1, 0), // local sums
     Slot::Unused(1),
     Slot::Modulo(6), // register size
-    Slot::Plain(4, 4), // weight component resolution
-    Slot::Plain(4, 4), // logarithm of the weight update interval
+    Slot::Plain(4, OMEGA.least), // weight component resolution
+    Slot::Plain(4, INTERVAL.least), // logarithm of the weight update interval
     Slot::Plain(4, 0), // least weight update exponent
     Slot::Plain(4, 0), // greatest weight update exponent
     Slot::Unused(1),
@@ -119,7 +120,7 @@ pub(crate) enum SampleField {
 /// The slots of the sample-adaptive coder's part.
 pub(crate) const SAMPLE: [Slot; 5] = [
     Slot::Modulo(5), // unary length limit
-    Slot::Plain(3, 4), // rescaling counter size
+    Slot::Plain(3, GAMMA_STAR.least), // rescaling counter size
     Slot::Modulo(3), // first exponent of the counter
     Slot::Plain(4, 0), // accumulator constant
     Slot::Plain(1, 0), // accumulator table in the file

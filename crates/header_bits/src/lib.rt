@@ -13,6 +13,7 @@ pub mod laws;
 mod layout;
 pub mod params;
 mod predictor_part;
+pub mod ranges;
 mod refusal;
 mod table_layout;
 pub mod tables;

@@ -15,6 +15,7 @@ use crate::fields::{PREDICTOR, PredictorField, image_end, predictor_bits, unused
 use crate::image_part::ImagePart;
 use crate::layout::read_values;
 use crate::params::{Params, WeightStart};
+use crate::ranges::{INTERVAL, LEAST_EXPONENT, REGISTER, RESOLUTION};
 use crate::refusal::{disagree_if, out_of_range_if, refuse_if};
 use cube_core::fault::{Fault, Field, Rule};
 
@@ -104,7 +105,7 @@ fn exponent_code(exponent: i32) -> u32
     requires { IsExponent exponent }
     ensures { result ≡ exponent_code exponent }
 {
-    (exponent + 6) as u32
+    (exponent - LEAST_EXPONENT) as u32
 }
 
 /// Refuses the first bit of a reserved field that is one.
@@ -135,10 +136,10 @@ fn test(image: &ImagePart, numbers: &[u32; 15]) -> Result<(), Fault>
         Rule::NeighbourOneColumn,
     )?;
     refuse_unused(PredictorField::AfterSums as usize, numbers)?;
-    out_of_range_if(register < 32, Field::Register, register)?;
+    out_of_range_if(register < REGISTER.least, Field::Register, register)?;
     disagree_if(register < least, Rule::RegisterTooSmall)?;
     out_of_range_if(
-        numbers[PredictorField::Interval as usize] > 11,
+        numbers[PredictorField::Interval as usize] > INTERVAL.most,
         Field::Interval,
         numbers[PredictorField::Interval as usize],
     )?;
@@ -161,7 +162,11 @@ fn test_start(numbers: &[u32; 15]) -> Result<(), Fault>
     disagree_if(!custom && table, Rule::DefaultWithTable)?;
     refuse_if(custom && !table, Fault::TableElsewhere)?;
     disagree_if(!custom && resolution > 0, Rule::DefaultWithResolution)?;
-    out_of_range_if(custom && resolution < 3, Field::Resolution, resolution)?;
+    out_of_range_if(
+        custom && resolution < RESOLUTION.least,
+        Field::Resolution,
+        resolution,
+    )?;
     disagree_if(
         numbers[PredictorField::Omega as usize] + 3 < resolution,
         Rule::ResolutionOverOmega,
@@ -192,5 +197,5 @@ fn exponent_of(code: u32) -> i32
     requires { code < 16 }
     ensures { result ≡ exponent_of code }
 {
-    code as i32 - 6
+    code as i32 + LEAST_EXPONENT
 }
