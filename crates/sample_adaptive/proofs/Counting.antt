@@ -2,10 +2,9 @@
 use Rattle.std.proofs.Common.{cond, ◌≡◌, ℕ, zero, suc, ◌+◌, ◌-◌, ◌*◌, ◌/◌, ◌%◌, ◌^◌, ◌<◌, ◌≤◌, min, Bool, true, false, leb, refl, sym, ap, ◌∙◌, inl, inr, arith}
 use Rattle.std.proofs.lemmas.Bool.{cases_lt, lt-ltb, le-ltb}
 use Rattle.std.proofs.lemmas.Bool.Decides.{nat_tests}
-use Rattle.std.proofs.lemmas.Nat.{pow_pos, pow-add, mul-le, leading_top}
+use Rattle.std.proofs.lemmas.Nat.{pow_pos, pow-add, mul-le}
 use Rattle.std.proofs.Math.Nat.{pow-succ', mod-eq_of_lt, mul-lt-mul_of_pos_left}
 use Rattle.std.proofs.Math.Pow.{pow_mono}
-use lib.Count.{count_leading_zeros}
 use Rattle.sample_adaptive.specs.declared.statistics.Statistics.{Statistics}
 use Rattle.sample_adaptive.specs.Laws.{ParameterIsGreatest}
 use Rattle.sample_adaptive.specs.Statistics.{AreStatistics, start_statistics, next_statistics, greatest, level, code_parameter}
@@ -97,29 +96,24 @@ pub record IsShift (counter level shift : ℕ) : Type 0 where
   pub enough : level < 2 * (counter * 2 ^ shift)
   pub close : counter * 2 ^ shift < 2 * level
 
-pub lengths_order : (counter level : ℕ) → 1 ≤ counter → counter ≤ level → level < 2 ^ 31 → count_leading_zeros 32 level ≤ count_leading_zeros 32 counter
-lengths_order counter level pos le fits =
-    let a = leading_top 32 counter (omega arith) (omega arith) in
-    let b = leading_top 32 level (omega arith) (omega arith) in
-    elim (cases_lt b.0 a.0) [
-      | inl lt ↦ (let p : 2 ^ suc b.0 ≤ 2 ^ a.0 = pow_mono lt in absurd (omega (arith, a.2, b.3)))
-      | inr ge ↦ omega (arith, a.1, b.1)
+pub logs_order : (counter level a b : ℕ) → counter ≤ level → 2 ^ a ≤ counter → level < 2 * 2 ^ b → a ≤ b
+logs_order counter level a b le low high =
+    elim (cases_lt b a) [
+      | inl lt ↦ (let p : 2 ^ suc b ≤ 2 ^ a = pow_mono lt in let twice : 2 ^ suc b ≡ 2 * 2 ^ b = pow-succ' 2 b in absurd (omega arith))
+      | inr ge ↦ ge
     ]
 
-pub shift_is : (counter level : ℕ) → 1 ≤ counter → counter ≤ level → level < 2 ^ 31 → IsShift counter level (count_leading_zeros 32 counter - count_leading_zeros 32 level)
-shift_is counter level pos le fits =
-    let a = leading_top 32 counter (omega arith) (omega arith) in
-    let b = leading_top 32 level (omega arith) (omega arith) in
-    let order = lengths_order counter level pos le fits in
-    let shift : ℕ = count_leading_zeros 32 counter - count_leading_zeros 32 level in
-    let same : shift + a.0 ≡ b.0 = omega (arith, a.1, b.1) in
-    let product : 2 ^ b.0 ≡ 2 ^ shift * 2 ^ a.0 = ap (λ k. 2 ^ k) (sym same) ∙ pow-add 2 shift a.0 in
-    let low = mul-le (2 ^ shift) (2 ^ a.0) (2 ^ shift) counter (omega arith) a.2 in
-    let high = mul-lt-mul_of_pos_left {m = counter} {n = 2 ^ suc a.0} {k = 2 ^ shift} a.3 (pow_pos shift) in
+pub shift_is : (counter level a b : ℕ) → counter ≤ level → level < 2 ^ 31 → 2 ^ a ≤ counter → counter < 2 * 2 ^ a → 2 ^ b ≤ level → level < 2 * 2 ^ b → IsShift counter level (b - a)
+shift_is counter level a b le fits low_counter high_counter low_level high_level =
+    let order = logs_order counter level a b le low_counter high_level in
+    let shift : ℕ = b - a in
+    let same : shift + a ≡ b = omega arith in
+    let product : 2 ^ b ≡ 2 ^ shift * 2 ^ a = ap (λ k. 2 ^ k) (sym same) ∙ pow-add 2 shift a in
+    let low = mul-le (2 ^ shift) (2 ^ a) (2 ^ shift) counter (omega arith) low_counter in
+    let high = mul-lt-mul_of_pos_left {m = counter} {n = 2 * 2 ^ a} {k = 2 ^ shift} high_counter (pow_pos shift) in
     let turned : 2 ^ shift * counter ≡ counter * 2 ^ shift = grind arith in
-    let above : 2 ^ shift * 2 ^ suc a.0 ≡ 2 * (2 ^ shift * 2 ^ a.0) = rw (pow-succ' 2 a.0) (grind arith) in
-    let longer : 2 ^ suc b.0 ≡ 2 * 2 ^ b.0 = pow-succ' 2 b.0 in
-    record { whole = omega (arith, b.2); enough = omega (arith, b.3); close = omega (arith, b.2) }
+    let above : 2 ^ shift * (2 * 2 ^ a) ≡ 2 * (2 ^ shift * 2 ^ a) = grind arith in
+    record { whole = omega arith; enough = omega arith; close = omega arith }
 
 -- the code parameter, where the shifted counter is within the level, and where it is beyond
 pub parameter_within : (bits : ℕ) (s : Statistics) (shift : ℕ) → 2 * s.counter ≤ level s → IsShift s.counter (level s) shift → s.counter * 2 ^ shift % 4294967296 ≤ level s → code_parameter bits s ≡ min shift (bits - 2)

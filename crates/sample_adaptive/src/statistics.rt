@@ -12,6 +12,32 @@ pub struct Statistics {
     pub accumulator: u32,
 }
 
+/// When statistics are halved: where the counter stands at 2^γ* - 1.
+///
+/// That number is held, so that no number of a band has to find it.
+#[derive(Clone, Copy)]
+pub(crate) struct Rescaling {
+    /// γ*, the rescaling counter size: 1 to 9.
+    pub size: u32,
+    /// 2^γ* - 1, the greatest counter.
+    pub greatest: u32,
+    pub ghost size_in: { (1 ≤ size) × (size ≤ 9) },
+    pub ghost greatest_is: { greatest ≡ 2 ^ size - 1 },
+}
+
+impl Rescaling {
+    /// The rescaling by a counter size.
+    pub(crate) fn of(size: u32) -> Rescaling
+        requires { (1 ≤ size) × (size ≤ 9) }
+        ensures { result.size ≡ size }
+    {
+        Rescaling {
+            size,
+            greatest: (1 << size) - 1,
+        }
+    }
+}
+
 /// The statistics that a band starts from, by the first counter exponent and the accumulator's constant.
 pub(crate) fn first(gamma_zero: u32, constant: u32) -> Statistics
     requires exponent { gamma_zero ≤ 8 }
@@ -25,16 +51,15 @@ pub(crate) fn first(gamma_zero: u32, constant: u32) -> Statistics
     }
 }
 
-/// The statistics after one more number. Where the counter stands at 2^γ* - 1, both are halved.
+/// The statistics after one more number. Where the counter is the greatest, both are halved.
 #[tactic(auto, unfolding(crate::specs::Statistics::next_statistics))]
-pub(crate) fn next(gamma_star: u32, s: Statistics, number: u16) -> Statistics
-    requires exponent { (1 ≤ gamma_star) × (gamma_star ≤ 9) }
-    requires statistics { AreStatistics gamma_star s }
-    ensures value { result ≡ next_statistics gamma_star s number }
-    ensures statistics { AreStatistics gamma_star result }
+pub(crate) fn next(rescaling: Rescaling, s: Statistics, number: u16) -> Statistics
+    requires statistics { AreStatistics rescaling.size s }
+    ensures value { result ≡ next_statistics rescaling.size s number }
+    ensures statistics { AreStatistics rescaling.size result }
 {
     let sum = s.accumulator + u32::from(number);
-    if s.counter < (1 << gamma_star) - 1 {
+    if s.counter < rescaling.greatest {
         Statistics {
             counter: s.counter + 1,
             accumulator: sum,
@@ -62,7 +87,7 @@ pub(crate) fn parameter(bits: u32, s: Statistics) -> u32
     if level < 2 * s.counter {
         return 0;
     }
-    let shift = s.counter.leading_zeros() - level.leading_zeros();
+    let shift = level.ilog2() - s.counter.ilog2();
     let most = if s.counter << shift <= level {
         shift
     } else {

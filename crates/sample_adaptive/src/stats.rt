@@ -9,7 +9,7 @@ ghost use Rattle.sample_adaptive.specs.Words.{IsCode};
 ghost use Rattle.sample_adaptive.specs.Taken.{HasTaken, PutsNumber, GetsNumber, code_by, counted, of_band};
 
 use crate::code_word::{Code, take_word, word_of};
-use crate::statistics::{Statistics, first, next, parameter};
+use crate::statistics::{Rescaling, Statistics, first, next, parameter};
 use cube_core::fault::Fault;
 use header_bits::bit_reader::BitReader;
 use header_bits::bit_writer::BitWriter;
@@ -22,7 +22,7 @@ use std::marker::Model;
 pub struct Stats {
     bits: u32,
     umax: u32,
-    gamma_star: u32,
+    rescaling: Rescaling,
     bands: Vec<Statistics>,
     /// What a `get` was refused for; every later one is refused for the same.
     refused: Option<Fault>,
@@ -33,9 +33,9 @@ impl Model for Stats {
 
     ghost Value = { Counts };
 
-    ghost view = { λ s. record { bits = s.bits; umax = s.umax; gamma_star = s.gamma_star; bands = s.bands.items; refused = s.refused } };
+    ghost view = { λ s. record { bits = s.bits; umax = s.umax; gamma_star = s.rescaling.size; bands = s.bands.items; refused = s.refused } };
 
-    ghost invariant = { λ s. AreCounts (record { bits = s.bits; umax = s.umax; gamma_star = s.gamma_star; bands = s.bands.items; refused = s.refused }) };
+    ghost invariant = { λ s. AreCounts (record { bits = s.bits; umax = s.umax; gamma_star = s.rescaling.size; bands = s.bands.items; refused = s.refused }) };
 }
 
 impl Stats {
@@ -60,7 +60,7 @@ impl Stats {
                 Ok(Stats {
                     bits: params.kind.bits(),
                     umax: *umax,
-                    gamma_star: *gamma_star,
+                    rescaling: Rescaling::of(*gamma_star),
                     bands,
                     refused: None,
                 })
@@ -149,7 +149,7 @@ impl Stats {
     {
         if t > 0 {
             let band = self.bands[z as usize];
-            self.bands[z as usize] = next(self.gamma_star, band, number);
+            self.bands[z as usize] = next(self.rescaling, band, number);
         }
     }
 }

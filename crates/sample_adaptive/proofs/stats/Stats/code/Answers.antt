@@ -8,10 +8,10 @@ pub parameter-requires-clause-counter : goal.parameter-requires-clause-counter
 parameter-requires-clause-counter c =
     let inside : c.args.z < length c.self.inside.bands.items = rw (← c.self.view_is) at c.requires in
     let is = c.index.ensures ∙ get_or_default c.self.inside.bands.items c.args.z c.index.result.now no_statistics inside in
-    rw is (counter_range c.self.inside.gamma_star _ c.self.invariant.gamma_star.1 (c.self.invariant.bands c.args.z inside))
+    rw is (counter_range c.self.inside.rescaling.size _ c.self.invariant.gamma_star.1 (c.self.invariant.bands c.args.z inside))
 
 pub parameter-requires-clause-accumulator : goal.parameter-requires-clause-accumulator
 parameter-requires-clause-accumulator c =
     let inside : c.args.z < length c.self.inside.bands.items = rw (← c.self.view_is) at c.requires in
     let is = c.index.ensures ∙ get_or_default c.self.inside.bands.items c.args.z c.index.result.now no_statistics inside in
-    rw is (accumulator_range c.self.inside.gamma_star _ c.self.invariant.gamma_star.1 (c.self.invariant.bands c.args.z inside))
+    rw is (accumulator_range c.self.inside.rescaling.size _ c.self.invariant.gamma_star.1 (c.self.invariant.bands c.args.z inside))
