@@ -15,12 +15,12 @@ use Rattle.header_bits.specs.Lawful.{IsLawful}
 use Rattle.predict_core.specs.Prediction.{scaled_prediction}
 use Rattle.predict_core.specs.Residual.{mapped, mapped_residual, residuals}
 use Rattle.predict_core.proofs.OneSample.{one_sample_lem}
-use Rattle.coder_pipe.specs.Files.{IsCubeOf}
-use Rattle.coder_pipe.specs.Walked.{residuals_at}
-use Rattle.coder_pipe.proofs.Alike.{agree_at, mapped_at, scaled_alike, put_alike, put_same}
-use Rattle.coder_pipe.proofs.Inverse.{wide_of, residuals_kept}
-use Rattle.coder_pipe.proofs.OneCube.{scaled_inside, least_inside}
-use Rattle.coder_pipe.proofs.Walking.{next_goes, gone_by, gone_count, residuals_push, residuals_whole}
+use Rattle.file_coding.specs.Walked.{residuals_at}
+use Rattle.file_coding.proofs.Walking.{next_goes, gone_by, gone_count, residuals_push, residuals_whole}
+use Rattle.file_decoding.specs.Files.{IsCubeOf}
+use Rattle.file_decoding.proofs.Alike.{agree_at, mapped_at, scaled_alike, put_alike, put_same}
+use Rattle.file_decoding.proofs.Inverse.{wide_of, residuals_kept}
+use Rattle.file_decoding.proofs.OneCube.{scaled_inside, least_inside}
 
 -- ---- another sample
 

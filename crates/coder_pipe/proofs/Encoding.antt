@@ -13,15 +13,15 @@ use Rattle.header_bits.specs.declared.params.Params.{Params}
 use Rattle.header_bits.specs.Lawful.{IsLawful}
 use Rattle.predict_core.specs.Following.{Learner}
 use Rattle.predict_core.specs.Residual.{residuals}
-use Rattle.coder_pipe.specs.Ends.{Ending, HasCoded}
-use Rattle.coder_pipe.specs.Own.{own, own_residuals}
-use Rattle.coder_pipe.specs.Sends.{IsSeen, IsAt, AreAt, AreFresh, bands_of}
-use Rattle.coder_pipe.specs.Takings.{MayTake}
-use Rattle.coder_pipe.specs.Walked.{IsAlong, AreAlong}
-use Rattle.coder_pipe.specs.Weave.{owners_of, part}
-use Rattle.coder_pipe.proofs.OneCube.{residuals_inside}
-use Rattle.coder_pipe.proofs.Owning.{own_is_part}
-use Rattle.coder_pipe.proofs.Parts.{length-residuals}
+use Rattle.file_coding.specs.Ends.{Ending, HasCoded}
+use Rattle.file_coding.specs.Walked.{IsAlong, AreAlong}
+use Rattle.file_decoding.proofs.OneCube.{residuals_inside}
+use Rattle.cube_predictors.specs.Own.{own, own_residuals}
+use Rattle.cube_predictors.specs.Sends.{IsSeen, IsAt, AreAt, AreFresh, bands_of}
+use Rattle.cube_predictors.specs.Weave.{owners_of, part}
+use Rattle.cube_predictors.proofs.Owning.{own_is_part}
+use Rattle.cube_predictors.proofs.Parts.{length-residuals}
+use Rattle.coder_pipe.specs.Codings.{MayTake}
 
 -- ---- the bands
 

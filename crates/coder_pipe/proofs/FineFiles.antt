@@ -33,12 +33,12 @@ use Rattle.block_adaptive.specs.Reading.{block_body_at}
 use Rattle.block_adaptive.proofs.Bodies as blocks
 use Rattle.block_adaptive.proofs.Calls.{told_length}
 use Rattle.block_adaptive.proofs.Handed.{size_halved, size_least}
-use Rattle.coder_pipe.specs.Files.{IsBodyBy, IsBody, IsCubeOf, IsFile, behind_by, behind_body, fill_test, body_test, head_at, file_test}
-use Rattle.coder_pipe.specs.Least.{least_test}
-use Rattle.coder_pipe.specs.Laws.{FineIsFile}
+use Rattle.file_coding.proofs.Coders.{settings_bits}
+use Rattle.file_decoding.specs.Files.{IsBodyBy, IsBody, IsCubeOf, IsFile, behind_by, behind_body, fill_test, body_test, head_at, file_test}
+use Rattle.file_decoding.specs.Least.{least_test}
+use Rattle.file_decoding.specs.Laws.{FineIsFile}
+use Rattle.file_decoding.proofs.Fills.{passed}
 use Rattle.coder_pipe.proofs.Built.{built}
-use Rattle.coder_pipe.proofs.Coders.{settings_bits}
-use Rattle.coder_pipe.proofs.Fills.{passed}
 use Rattle.block_adaptive.proofs.InRange.{told_range}
 
 -- ---- a body that is read is a body

@@ -9,14 +9,14 @@ use Rattle.cube_core.specs.Order.{IsOrder, places}
 use Rattle.cube_core.proofs.Orders.{length-places}
 use Rattle.header_bits.specs.declared.params.Params.{Params}
 use Rattle.lane_workers.specs.Stages.{Standing}
-use Rattle.coder_pipe.specs.File.{file_of_residuals}
+use Rattle.file_coding.specs.File.{file_of_residuals}
+use Rattle.cube_predictors.specs.Plans.{Dealing, IsPlan}
+use Rattle.cube_predictors.specs.Weave.{owners, part, share, weave}
+use Rattle.cube_predictors.proofs.Weaves.{weave_is, part_share, owned, length-owners}
 use Rattle.coder_pipe.specs.Piping.{carried, AreFeeds, IsPiped, MayStop}
-use Rattle.coder_pipe.specs.Plans.{Dealing, IsPlan}
 use Rattle.coder_pipe.specs.Standings.{feeds_of, handed_of, IsWoven}
 use Rattle.coder_pipe.specs.Stops.{MayStopAt}
-use Rattle.coder_pipe.specs.Weave.{owners, part, share, weave}
 use Rattle.coder_pipe.specs.Woven.{Weaving, HasWoven}
-use Rattle.coder_pipe.proofs.Weaves.{weave_is, part_share, owned, length-owners}
 
 -- an element of a list that has one
 pub some_of : {A : Type 0} (xs : List A) (k : ℕ) → k < length xs → A

@@ -11,16 +11,16 @@ use Rattle.cube_core.proofs.Lists.{length-from, get_or-from}
 use Rattle.cube_core.proofs.Orders.{length-places}
 use Rattle.header_bits.specs.declared.params.Params.{Params}
 use Rattle.predict_core.specs.Residual.{residuals}
-use Rattle.coder_pipe.specs.File.{file_of, file_of_residuals}
-use Rattle.coder_pipe.specs.Files.{IsCubeOf, IsFile}
+use Rattle.file_coding.specs.File.{file_of, file_of_residuals}
+use Rattle.file_decoding.specs.Files.{IsCubeOf, IsFile}
+use Rattle.file_decoding.proofs.FileLaws.{inside, chosen_is_file}
+use Rattle.cube_predictors.specs.Plans.{Dealing, IsPlan}
+use Rattle.cube_predictors.specs.Sends.{Predicting, part_of}
+use Rattle.cube_predictors.specs.Weave.{owners, part, parts, weave}
+use Rattle.cube_predictors.proofs.Parts.{length-residuals}
+use Rattle.cube_predictors.proofs.Planning.{all_at}
+use Rattle.cube_predictors.proofs.Weaves.{part_share, length-owners, weave_of_parts}
 use Rattle.coder_pipe.specs.Piping.{carried, AreFeeds, IsPiped, MayStop, IsFileOf, MayStopPart}
-use Rattle.coder_pipe.specs.Plans.{Dealing, IsPlan}
-use Rattle.coder_pipe.specs.Sends.{Predicting, part_of}
-use Rattle.coder_pipe.specs.Weave.{owners, part, parts, weave}
-use Rattle.coder_pipe.proofs.FileLaws.{inside, chosen_is_file}
-use Rattle.coder_pipe.proofs.Parts.{length-residuals}
-use Rattle.coder_pipe.proofs.Planning.{all_at}
-use Rattle.coder_pipe.proofs.Weaves.{part_share, length-owners, weave_of_parts}
 
 -- the feeds of a cube
 abbrev pub feed_of : Image → Dealing → ℕ → Predicting

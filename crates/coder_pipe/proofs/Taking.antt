@@ -8,10 +8,10 @@ use Rattle.cube_core.specs.Shape.{sample_count}
 use Rattle.cube_core.specs.Order.{IsOrder}
 use Rattle.cube_core.proofs.Orders.{length-places}
 use Rattle.header_bits.specs.declared.params.Params.{Params}
+use Rattle.cube_predictors.specs.Weave.{IsDeal, owners, share, part}
+use Rattle.cube_predictors.proofs.Weaves.{part_none, part_push, part_short, owned, length-owners}
 use Rattle.coder_pipe.specs.Standings.{IsWoven}
-use Rattle.coder_pipe.specs.Weave.{IsDeal, owners, share, part}
 use Rattle.coder_pipe.specs.Woven.{Weaving, HasWoven}
-use Rattle.coder_pipe.proofs.Weaves.{part_none, part_push, part_short, owned, length-owners}
 
 pub woven_first : (p : Params) (deal : List ℕ) (w : Weaving) (handed : List (List ℕ)) → HasWoven p deal w [] → All (λ r. r ≡ []) handed → IsWoven p deal w handed 0
 woven_first p deal w handed h none = record { numbers = []; woven = h; long = refl; parts = λ q lt. none q [] lt ∙ sym (part_none q (owners deal p)) }

@@ -10,10 +10,10 @@ use Rattle.cube_core.specs.Order.{places}
 use Rattle.cube_core.proofs.Keys.{order_is_by_key}
 use Rattle.cube_core.proofs.Orders.{length-places}
 use Rattle.header_bits.specs.declared.params.Params.{Params}
-use Rattle.coder_pipe.specs.Ends.{Ending, HasCoded, MayCode}
-use Rattle.coder_pipe.specs.Weave.{owners, owners_of}
+use Rattle.file_coding.specs.Ends.{Ending, HasCoded, MayCode}
+use Rattle.file_coding.proofs.Endings.{none_first}
+use Rattle.cube_predictors.specs.Weave.{owners, owners_of}
 use Rattle.coder_pipe.specs.Woven.{Weaving, AreDealt, HasWoven}
-use Rattle.coder_pipe.proofs.Endings.{none_first}
 
 get-drop : {A : Type 0} (xs : List A) (n : ℕ) → slice_get (drop n xs) 0 ≡ slice_get xs n
 get-drop [] zero = refl

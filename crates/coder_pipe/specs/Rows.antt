@@ -9,8 +9,8 @@ use Rattle.header_bits.specs.declared.params.CountStart.TheVariants.{Constant, E
 use Rattle.header_bits.specs.Bits.{bits_of, bits_of_bytes}
 use Rattle.header_bits.specs.Rows.{common, unsigned}
 use Rattle.cube_core.specs.Steps.{Test}
-use Rattle.coder_pipe.specs.File.{packed, file_of}
-use Rattle.coder_pipe.specs.Files.{file_test}
+use Rattle.file_coding.specs.File.{packed, file_of}
+use Rattle.file_decoding.specs.Files.{file_test}
 
 -- a cube of the parameters' shape and kind
 abbrev pub cube : Params → List ℤ → Image

@@ -2,7 +2,7 @@
 use Rattle.std.specs.Prelude.{ℕ, ◌≡◌, ◌<◌, List, length, Some, slice_get}
 use Rattle.cube_core.specs.declared.order.Place.{Place}
 use Rattle.header_bits.specs.declared.params.Params.{Params}
-use Rattle.coder_pipe.specs.Ends.{Ending, HasCoded}
+use Rattle.file_coding.specs.Ends.{Ending, HasCoded}
 
 -- the coding end of the image, and the predictor of each band
 pub record Weaving : Type 0 where

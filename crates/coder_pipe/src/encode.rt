@@ -3,13 +3,14 @@
 ghost use Rattle.std.specs.Prelude.{◌≡◌, IfOk, IfErr};
 ghost use Rattle.cube_core.specs.declared.fault.Fault.TheVariants.{WantOfMemory};
 ghost use Rattle.header_bits.specs.Lawful.{IsLawful};
-ghost use Rattle.coder_pipe.specs.File.{file_of};
+ghost use Rattle.file_coding.specs.File.{file_of};
 
-use crate::bands::all_bands;
-use crate::coding_end::CodingEnd;
-use crate::walk::send_own;
+use crate::coding_taker::NoWait;
 use cube_core::cube::Cube;
 use cube_core::fault::Fault;
+use cube_predictors::walk::send_own;
+use file_coding::bands::all_bands;
+use file_coding::coding_end::CodingEnd;
 use header_bits::params::Params;
 use std::alloc::Global;
 
@@ -26,7 +27,7 @@ pub fn encode_one(alloc: Global, cube: &Cube, params: &Params) -> Result<Vec<u8>
     cube.is_cube();
     let mut bands = all_bands(alloc, params)?;
     let mut end = CodingEnd::new(alloc, params)?;
-    if !send_own(&(), cube, params, 0, &[], &mut bands, &mut end) {
+    if !send_own(&NoWait, cube, params, 0, &[], &mut bands, &mut end) {
         return Err(Fault::WantOfMemory);
     }
     end.finish()

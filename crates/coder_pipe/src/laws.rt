@@ -1,9 +1,10 @@
 //! Laws of the definitions alone.
 
-ghost use Rattle.coder_pipe.specs.Laws.{ChosenIsFile, FileIsFine, FineIsFile, NoShorterFile, OneCube, OneFile, TimeOfPlace};
-ghost use Rattle.coder_pipe.specs.Own.{OwnIsPart};
-ghost use Rattle.coder_pipe.specs.Plans.{PlanFaultIsExact};
-ghost use Rattle.coder_pipe.specs.Weave.{PartsOfWeave, WeaveOfParts, WeaveOfTaken};
+ghost use Rattle.file_coding.specs.Coding.{TimeOfPlace};
+ghost use Rattle.file_decoding.specs.Laws.{ChosenIsFile, FileIsFine, FineIsFile, NoShorterFile, OneCube, OneFile};
+ghost use Rattle.cube_predictors.specs.Own.{OwnIsPart};
+ghost use Rattle.cube_predictors.specs.Plans.{PlanFaultIsExact};
+ghost use Rattle.cube_predictors.specs.Weave.{PartsOfWeave, WeaveOfParts, WeaveOfTaken};
 
 /// The file that is written of a cube is a file of it.
 pub fn chosen_is_file()

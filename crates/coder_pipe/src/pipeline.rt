@@ -6,11 +6,11 @@ ghost use Rattle.cube_core.specs.declared.fault.Fault.TheVariants.{WantOfMemory}
 ghost use Rattle.coder_pipe.specs.Piping.{AreFeeds, IsPiped, MayStop, EndsEarly};
 ghost use Rattle.coder_pipe.specs.Woven.{HasWoven};
 
-use crate::plan::Plan;
 use crate::run::{Woven, drain, finish_all, join_all, start_all, stop_all, weave};
 use crate::weaver::Weaver;
 use band_rings::settled::SettledLane;
 use cube_core::fault::Fault;
+use cube_predictors::plan::Plan;
 use header_bits::params::Params;
 use lane_workers::feed::Feed;
 use lane_workers::gate::Gate;

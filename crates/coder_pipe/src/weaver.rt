@@ -3,14 +3,14 @@
 ghost use Rattle.std.specs.Prelude.{◌≡◌, ℕ, List, [], ◌∷◌, ◌++◌, length, slice_get, IfOk, IfErr, OnOk, OnErr};
 ghost use Rattle.cube_core.specs.declared.fault.Fault.TheVariants.{WantOfMemory};
 ghost use Rattle.header_bits.specs.declared.params.Params.{Params as Parameters};
-ghost use Rattle.coder_pipe.specs.Ends.{MayCode};
-ghost use Rattle.coder_pipe.specs.File.{file_of_residuals};
-ghost use Rattle.coder_pipe.specs.Weave.{owners};
+ghost use Rattle.file_coding.specs.Ends.{MayCode};
+ghost use Rattle.file_coding.specs.File.{file_of_residuals};
+ghost use Rattle.cube_predictors.specs.Weave.{owners};
 ghost use Rattle.coder_pipe.specs.Woven.{HasWoven};
 
-use crate::coding_end::CodingEnd;
-use crate::plan::Plan;
 use cube_core::fault::Fault;
+use cube_predictors::plan::Plan;
+use file_coding::coding_end::CodingEnd;
 use header_bits::params::Params;
 use std::alloc::Global;
 use std::marker::Model;

@@ -2,8 +2,8 @@
 #![tactic(auto, unfolding(crate::specs::Everything::everything))]
 
 ghost use Rattle.std.specs.Prelude.{◌≡◌, ◌∷◌, [], map, pos};
+ghost use Rattle.cube_predictors.specs.Weave.{parts, weave};
 ghost use Rattle.coder_pipe.specs.Rows.{cube, interleaved_a, samples_a};
-ghost use Rattle.coder_pipe.specs.Weave.{parts, weave};
 
 /// A predictor for each band.
 pub fn a_band_each()

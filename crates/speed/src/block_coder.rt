@@ -4,7 +4,7 @@ ghost use Rattle.std.specs.Prelude.{◌≡◌, ◌≤◌, IfOk, IfErr, length, f
 ghost use Rattle.cube_core.specs.declared.fault.Fault.TheVariants.{WantOfMemory};
 ghost use Rattle.cube_core.specs.Shape.{sample_count};
 ghost use Rattle.block_adaptive.specs.Settings.{AreForBlocks, IsSize};
-ghost use Rattle.coder_pipe.specs.File.{body_of, filled};
+ghost use Rattle.file_coding.specs.File.{body_of, filled};
 ghost use Rattle.header_bits.specs.Bits.{bits_of_bytes};
 ghost use Rattle.speed.specs.Bodies.{AreOfTwelveBits};
 ghost use Rattle.speed.specs.Measured.{coder_alone};

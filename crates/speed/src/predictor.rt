@@ -1,7 +1,7 @@
 //! The speed of the predictor, sample by sample, there and back.
 
 ghost use Rattle.std.specs.Prelude.{◌≡◌, ◌<◌, ◌^◌, length, slice_get, slice_index, vec_len, IfOk, IfErr, OnOk, ℕ};
-ghost use Rattle.coder_pipe.specs.Walked.{AreAlong};
+ghost use Rattle.file_coding.specs.Walked.{AreAlong};
 ghost use Rattle.cube_core.specs.declared.fault.Fault.TheVariants.{WantOfMemory};
 ghost use Rattle.cube_core.specs.Image.{Image};
 ghost use Rattle.cube_core.specs.Shape.{sample_count};

@@ -3,9 +3,9 @@ use Rattle.cube_core.specs.declared.fault.Fault.{Fault}
 use Rattle.cube_core.specs.Image.{Image}
 use Rattle.header_bits.specs.declared.params.Params.{Params}
 use Rattle.predict_core.specs.Residual.{residuals}
-use Rattle.coder_pipe.specs.Ends.{Ending, HasCoded}
-use Rattle.coder_pipe.specs.File.{file_of_residuals, file_of}
-use Rattle.coder_pipe.specs.Sends.{AreFresh}
+use Rattle.file_coding.specs.Ends.{Ending, HasCoded}
+use Rattle.file_coding.specs.File.{file_of_residuals, file_of}
+use Rattle.cube_predictors.specs.Sends.{AreFresh}
 use Rattle.coder_pipe.proofs.Encoding.{all_fresh, all_residuals, may_take, none_left}
 use Rattle.coder_pipe.proofs.encode.encode_one.Goals as goal
 use Rattle.coder_pipe.proofs.encode.encode_one.Goals.{After-send_own}

@@ -1,9 +1,9 @@
 use Rattle.std.proofs.Common.{◌≡◌, ℕ, sym, subst, IfOk, IfErr, Result, Ok, Err}
 use Rattle.cube_core.specs.declared.fault.Fault.{Fault}
 use Rattle.cube_core.specs.declared.fault.Fault.TheVariants.{ShortHeader, Reserved, FieldRange, Disagree, TableElsewhere, Truncated, BadCode, BadOption, RunPastSegment, BadFill, TooLong, WantOfMemory, SampleRange, RawLength, BadDeal, SpawnRefused, Stopped, Read, Write, Usage}
-use Rattle.coder_pipe.specs.Files.{IsCubeOf}
+use Rattle.file_decoding.specs.Files.{IsCubeOf}
+use Rattle.cube_predictors.specs.Sends.{Predicting, part_of}
 use Rattle.coder_pipe.specs.Piping.{AreFeeds, IsPiped, EndsEarly, MayStop, MayStopPart}
-use Rattle.coder_pipe.specs.Sends.{Predicting, part_of}
 use Rattle.coder_pipe.proofs.Predicted.{feeds_from, are_feeds, is_file_of, may_stop_part}
 use Rattle.coder_pipe.proofs.encode_predicted.encode_predicted.Goals as goal
 use Rattle.coder_pipe.proofs.encode_predicted.encode_predicted.Goals.{After-params}

@@ -1,4 +1,4 @@
-use Rattle.coder_pipe.proofs.FileLaws.{chosen_is_file}
+use Rattle.file_decoding.proofs.FileLaws.{chosen_is_file}
 use Rattle.coder_pipe.proofs.laws.chosen_is_file.Goals as goal
 
 pub returns : goal.returns

@@ -1,4 +1,4 @@
-use Rattle.coder_pipe.proofs.FileLaws.{file_is_fine}
+use Rattle.file_decoding.proofs.FileLaws.{file_is_fine}
 use Rattle.coder_pipe.proofs.laws.file_is_fine.Goals as goal
 
 pub returns : goal.returns

@@ -1,4 +1,4 @@
-use Rattle.coder_pipe.proofs.FileLaws.{one_file}
+use Rattle.file_decoding.proofs.FileLaws.{one_file}
 use Rattle.coder_pipe.proofs.laws.one_file.Goals as goal
 
 pub returns : goal.returns

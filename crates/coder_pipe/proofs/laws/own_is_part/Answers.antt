@@ -1,4 +1,4 @@
-use Rattle.coder_pipe.proofs.Owning.{own_is_part}
+use Rattle.cube_predictors.proofs.Owning.{own_is_part}
 use Rattle.coder_pipe.proofs.laws.own_is_part.Goals as goal
 
 pub returns : goal.returns

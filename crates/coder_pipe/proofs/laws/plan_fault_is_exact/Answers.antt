@@ -1,4 +1,4 @@
-use Rattle.coder_pipe.proofs.Planning.{plan_fault_is_exact}
+use Rattle.cube_predictors.proofs.Planning.{plan_fault_is_exact}
 use Rattle.coder_pipe.proofs.laws.plan_fault_is_exact.Goals as goal
 
 pub returns : goal.returns

@@ -1,4 +1,4 @@
-use Rattle.coder_pipe.proofs.Weaves.{weave_of_taken}
+use Rattle.cube_predictors.proofs.Weaves.{weave_of_taken}
 use Rattle.coder_pipe.proofs.laws.weave_of_taken.Goals as goal
 
 pub returns : goal.returns

@@ -1,8 +1,8 @@
 use Rattle.std.proofs.Common.{◌≡◌, ◌<◌, ◌+◌, ◌^◌, length, get_or, arith, rules, ap, ◌∙◌, Some}
 use Rattle.std.specs.List.{slice_get}
 use Rattle.std.proofs.lemmas.List.{length-map}
+use Rattle.cube_predictors.specs.Weave.{owners}
 use Rattle.coder_pipe.specs.Standings.{handed_of}
-use Rattle.coder_pipe.specs.Weave.{owners}
 use Rattle.coder_pipe.proofs.Taking.{woven_first, owner_below, owner_there, fewer_taken, woven_more}
 use Rattle.coder_pipe.proofs.run.weave.Goals as goal
 use Rattle.coder_pipe.proofs.run.weave.Goals.{In-Some}

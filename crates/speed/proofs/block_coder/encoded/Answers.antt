@@ -1,7 +1,7 @@
 use Rattle.std.proofs.Common.{arith, ◌≡◌, ◌+◌, ◌∙◌, ◌∷◌, ◌++◌, [], ℕ, List, get_or, take, subst}
 use Rattle.std.proofs.lemmas.List.{take_more, take_all}
 use Rattle.block_adaptive.specs.Taken.{HasTaken}
-use Rattle.coder_pipe.specs.File.{body_of}
+use Rattle.file_coding.specs.File.{body_of}
 use Rattle.speed.specs.Bodies.{AreOfTwelveBits}
 use Rattle.speed.proofs.Coded.{blocks_ended, whole_text, none_greater}
 use Rattle.speed.proofs.block_coder.encoded.Goals as goal

@@ -1,8 +1,8 @@
 use Rattle.std.proofs.Common.{◌≡◌, ℕ, inl, inr, arith, ◌∙◌, length}
 use Rattle.cube_core.specs.Image.{Image}
-use Rattle.coder_pipe.specs.Walked.{IsAlong}
-use Rattle.coder_pipe.proofs.Come.{come_start}
-use Rattle.coder_pipe.proofs.Walking.{get_push}
+use Rattle.file_coding.specs.Walked.{IsAlong}
+use Rattle.file_coding.proofs.Come.{come_start}
+use Rattle.file_coding.proofs.Walking.{get_push}
 use Rattle.speed.proofs.predictor.all_bands.Goals as goal
 
 pub loop-z-preserved : goal.loop-z-preserved

@@ -2,7 +2,7 @@ use Rattle.std.proofs.Common.{◌≡◌, ℕ, Some, vec_len}
 use Rattle.std.specs.List.{slice_get}
 use Rattle.predict_core.specs.Following.{Learner}
 use Rattle.cube_core.specs.Image.{Image}
-use Rattle.coder_pipe.specs.Walked.{IsAlong}
+use Rattle.file_coding.specs.Walked.{IsAlong}
 use Rattle.speed.proofs.predictor.all_bands.Given as goal
 
 abbrev pub invariant-loop-z : goal.invariant-loop-z

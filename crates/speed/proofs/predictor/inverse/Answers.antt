@@ -3,10 +3,10 @@ use Rattle.std.specs.List.{slice_get}
 use Rattle.std.proofs.lemmas.Option.{slice_get-get_or}
 use Rattle.cube_core.specs.Image.{put}
 use Rattle.predict_core.specs.Following.{Learner}
-use Rattle.coder_pipe.specs.Walked.{IsAlong}
-use Rattle.coder_pipe.proofs.Come.{time_of}
-use Rattle.coder_pipe.proofs.Inverse.{others_follow}
-use Rattle.coder_pipe.proofs.Walking.{NextGoes, next_goes, band_here, gone_by, walked_none, on_walk_first, on_walk_more}
+use Rattle.file_coding.specs.Walked.{IsAlong}
+use Rattle.file_coding.proofs.Come.{time_of}
+use Rattle.file_coding.proofs.Walking.{NextGoes, next_goes, band_here, gone_by, walked_none, on_walk_first, on_walk_more}
+use Rattle.file_decoding.proofs.Inverse.{others_follow}
 use Rattle.speed.proofs.Walk.{AreResiduals, none_yet, all_residuals, read_more}
 use Rattle.speed.proofs.predictor.inverse.Goals as goal
 use Rattle.speed.proofs.predictor.inverse.Goals.{In-Some, After-index_mut}

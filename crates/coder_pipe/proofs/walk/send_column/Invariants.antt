@@ -1,6 +1,0 @@
-use Rattle.std.proofs.Common.{true, take}
-use Rattle.coder_pipe.specs.Pieces.{held_at}
-use Rattle.coder_pipe.proofs.walk.send_column.Given as goal
-
-abbrev pub invariant-loop-k : goal.invariant-loop-k
-invariant-loop-k g l = g.T.Taker.takes l.initial.taker l.taker true (take l.k (held_at l.bands l.i))

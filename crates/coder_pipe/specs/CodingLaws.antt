@@ -1,0 +1,41 @@
+-- Coding ends take lists one behind another.
+use Rattle.std.proofs.Common.{◌≡◌, ◌^◌, ◌<◌, ℕ, Bool, true, false, List, [], ◌∷◌, ◌++◌, refl, sym, subst, append-nil, append_assoc, length-append, arith}
+use Rattle.std.specs.List.{AllByRecursion}
+use Rattle.file_coding.specs.Ends.{Ending, HasCoded}
+use Rattle.cube_predictors.specs.Takings.{AreTakings}
+use Rattle.coder_pipe.specs.Codings.{MayTake, Takes}
+
+all_first : (limit : ℕ) (xs ys : List ℕ) → AllByRecursion (λ n. n < limit) (xs ++ ys) → AllByRecursion (λ n. n < limit) xs
+all_first limit [] ys h = tt
+all_first limit (x ∷ xs) ys h = (h.0, all_first limit xs ys h.1)
+
+all_last : (limit : ℕ) (xs ys : List ℕ) → AllByRecursion (λ n. n < limit) (xs ++ ys) → AllByRecursion (λ n. n < limit) ys
+all_last limit [] ys h = h
+all_last limit (x ∷ xs) ys h = all_last limit xs ys h.1
+
+takes_less : (e : Ending) (xs ys : List ℕ) → MayTake e (xs ++ ys) → MayTake e xs
+takes_less e xs ys h =
+    record { params = h.params; numbers = h.numbers; lawful = h.lawful; coded = h.coded; more = omega (arith, h.more, length-append xs ys); range = all_first (2 ^ h.params.kind.bits) xs ys h.range }
+
+takes_more : (old new : Ending) (xs ys : List ℕ) → Takes old new true xs → MayTake old (xs ++ ys) → MayTake new ys
+takes_more old new xs ys a h =
+    record {
+      params = h.params;
+      numbers = h.numbers ++ xs;
+      lawful = h.lawful;
+      coded = a refl h.params h.numbers h.coded;
+      more = omega (arith, h.more, length-append xs ys, length-append h.numbers xs);
+      range = all_last (2 ^ h.params.kind.bits) xs ys h.range;
+    }
+
+takes_none : (e : Ending) → MayTake e [] → Takes e e true []
+takes_none e h all p numbers coded = subst (HasCoded p e) (sym (append-nil numbers)) coded
+
+takes_behind : (old mid new : Ending) (all : Bool) (xs ys : List ℕ) → Takes old mid true xs → Takes mid new all ys → Takes old new all (xs ++ ys)
+takes_behind old mid new all xs ys a b h p numbers coded = subst (HasCoded p new) (append_assoc numbers xs ys) (b h p (numbers ++ xs) (a refl p numbers coded))
+
+takes_cut : (old new : Ending) (xs ys : List ℕ) → Takes old new false xs → Takes old new false (xs ++ ys)
+takes_cut old new xs ys a h = absurd (cc)
+
+pub codings_are : AreTakings {S = Ending} (λ e list. MayTake e list) (λ old new all list. Takes old new all list)
+codings_are = record { less = takes_less; more = takes_more; none = takes_none; behind = takes_behind; cut = takes_cut }

@@ -1,0 +1,164 @@
+//! Plans: which predictor each band is dealt to, and how many residuals a lane has room for.
+
+ghost use Rattle.std.specs.Prelude.{◌≡◌, ◌⊎◌, ◌+◌, ◌<◌, ◌^◌, ◌↔◌, drop, length, slice_index, IfOk, IfErr, OnOk, OnErr};
+ghost use Rattle.cube_core.specs.declared.fault.Fault.TheVariants.{WantOfMemory};
+ghost use Rattle.header_bits.specs.Lawful.{IsLawful, in_range_or};
+ghost use Rattle.header_bits.specs.Parts.{fine};
+ghost use Rattle.cube_predictors.specs.Plans.{IsPlan, MayPlan, owner_fault, length_fault, plan_fault};
+
+use crate::copied::copied;
+use cube_core::fault::{Fault, Field};
+use header_bits::params::Params;
+use std::alloc::Global;
+use std::marker::Model;
+
+/// The greatest number of a band that is told.
+const GREATEST_TOLD: usize = 4_294_967_295;
+
+/// Which of the predictors of an image each band is dealt to, and how many residuals a predictor may be ahead of the coding end.
+#[derive(Drop)]
+pub struct Plan {
+    params: Params,
+    predictors: u32,
+    deal: Vec<u8>,
+    slots: u32,
+}
+
+impl Model for Plan {
+    ghost use Rattle.cube_predictors.specs.Plans.{Dealing, IsPlan};
+
+    ghost Value = { Dealing };
+
+    ghost view = { λ plan. record { params = plan.params; predictors = plan.predictors; deal = plan.deal.items; slots = plan.slots } };
+
+    ghost invariant = { λ plan. IsPlan (record { params = plan.params; predictors = plan.predictors; deal = plan.deal.items; slots = plan.slots }) };
+}
+
+impl Plan {
+    /// A plan for an image of lawful parameters: band z goes to predictor `deal[z]`, and each
+    /// predictor's lane has room for so many residuals.
+    ///
+    /// There are 1 to 64 predictors and 1 to 65,536 slots; else the answer is `FieldRange` of
+    /// `Predictors`, then of `Slots`. `BadDeal` names the first band that is dealt to no predictor; where
+    /// there is none and the deal has not one entry for each band, it names the first band that one of
+    /// the two lacks. `WantOfMemory` comes only behind these, where there is none for the deal or for the
+    /// tables of the parameters, which the plan holds once more.
+    pub fn new(
+        alloc: Global,
+        params: &Params,
+        predictors: u32,
+        deal: &[u8],
+        slots: u32,
+    ) -> Result<Plan, Fault>
+        requires { IsLawful params.now }
+        ensures plan { IfOk result (λ plan. plan ≡ record { params = params.now; predictors = predictors; deal = deal.now; slots = slots }) }
+        ensures may { OnOk result (MayPlan predictors slots params.now.shape.bands deal.now) }
+        ensures refused { IfErr result (λ e. ((e ≡ WantOfMemory) × MayPlan predictors slots params.now.shape.bands deal.now) ⊎ (plan_fault predictors slots params.now.shape.bands deal.now ≡ Err e)) }
+    {
+        test_plan(predictors, slots, params.shape.bands(), deal)?;
+        Plan::made(alloc, params, predictors, deal, slots)
+    }
+
+    /// A plan of which nothing is refused but memory.
+    fn made(
+        alloc: Global,
+        params: &Params,
+        predictors: u32,
+        deal: &[u8],
+        slots: u32,
+    ) -> Result<Plan, Fault>
+        requires lawful { IsLawful params.now }
+        requires may { MayPlan predictors slots params.now.shape.bands deal.now }
+        ensures plan { IfOk result (λ plan. plan ≡ record { params = params.now; predictors = predictors; deal = deal.now; slots = slots }) }
+        ensures refused { IfErr result (λ e. e ≡ WantOfMemory) }
+    {
+        Ok(Plan {
+            params: copied(alloc, params)?,
+            predictors,
+            deal: deal.to_vec(alloc)?,
+            slots,
+        })
+    }
+
+    /// That a plan has what a plan needs: a fact for proofs.
+    pub fn is_plan(&self)
+        ensures { IsPlan self.now }
+    {
+        let _ = &self.slots;
+    }
+
+    /// The parameters that the plan is for.
+    pub fn params(&self) -> &Params
+        ensures { result.now ≡ self.now.params }
+    {
+        &self.params
+    }
+
+    /// How many predictors there are.
+    pub fn predictors(&self) -> u32
+        ensures { result ≡ self.now.predictors }
+    {
+        self.predictors
+    }
+
+    /// The predictor of each band.
+    pub fn deal(&self) -> &[u8]
+        ensures { result.now ≡ self.now.deal }
+    {
+        &self.deal
+    }
+
+    /// How many residuals a lane has room for.
+    pub fn slots(&self) -> u32
+        ensures { result ≡ self.now.slots }
+    {
+        self.slots
+    }
+}
+
+/// The first refusal of a plan.
+#[tactic(auto, unfolding(crate::specs::Plans::plan_fault))]
+fn test_plan(predictors: u32, slots: u32, bands: u32, deal: &[u8]) -> Result<(), Fault>
+    ensures { result ≡ plan_fault predictors slots bands deal.now }
+{
+    in_range(Field::Predictors, 64, predictors)?;
+    in_range(Field::Slots, 65_536, slots)?;
+    test_owners(predictors, deal)?;
+    test_length(bands, deal)
+}
+
+/// Refuses a number that isn't 1 to a greatest one.
+fn in_range(field: Field, most: u32, number: u32) -> Result<(), Fault>
+    ensures { result ≡ in_range_or field 1 most number }
+{
+    let value = i64::from(number);
+    if 1 <= number && number <= most {
+        Ok(())
+    } else {
+        Err(Fault::FieldRange { field, value })
+    }
+}
+
+/// Refuses the first band that is dealt to no predictor.
+fn test_owners(predictors: u32, deal: &[u8]) -> Result<(), Fault>
+    ensures { result ≡ owner_fault predictors 0 deal.now }
+{
+    for (z, owner) in deal.iter().enumerate() {
+        if u32::from(*owner) >= predictors {
+            let band = z.min(GREATEST_TOLD) as u32;
+            return Err(Fault::BadDeal { band });
+        }
+    }
+    Ok(())
+}
+
+/// Refuses the first band that has no entry, or the first entry that has no band.
+fn test_length(bands: u32, deal: &[u8]) -> Result<(), Fault>
+    ensures { result ≡ length_fault bands deal.now }
+{
+    if deal.len() == bands as usize {
+        return Ok(());
+    }
+    let band = deal.len().min(bands as usize) as u32;
+    Err(Fault::BadDeal { band })
+}

@@ -1,0 +1,45 @@
+//! One predictor at work: it sends the residuals of its own bands along its lane.
+
+ghost use Rattle.std.specs.Prelude.{◌≡◌, []};
+ghost use Rattle.predict_core.specs.Residual.{residuals};
+ghost use Rattle.lane_workers.specs.Feeds.{Keeps};
+ghost use Rattle.cube_predictors.specs.Sends.{AreFresh, IsSeen};
+ghost use Rattle.cube_predictors.specs.Weave.{owners, part};
+
+use crate::plan::Plan;
+use crate::walk::send_own;
+use band_rings::sender::LaneSender;
+use cube_core::cube::Cube;
+use lane_workers::feed::LaneEnd;
+use lane_workers::gate::Gate;
+use lane_workers::run_sender::RunSender;
+use predict_core::band::Band;
+use std::sync::Wait;
+
+/// Sends a predictor's part of the residuals of a cube along a lane, in encoding order, and closes it.
+///
+/// The cube has the plan's shape and kind, the bands are those that the plan deals to the predictor, in order
+/// and each before its first place, and nothing was sent into the lane. What was sent begins the part, whatever the receiver does: all of it where the
+/// answer is whole; else the gate may stop the predictor there, and the part is longer. No memory is taken.
+pub fn predict_lane<R: Wait, G: Gate>(
+    rt: &R,
+    cube: &Cube,
+    plan: &Plan,
+    predictor: u32,
+    bands: Vec<Band>,
+    sender: LaneSender,
+    gate: &G,
+) -> LaneEnd
+    requires image { IsSeen plan.now.params cube.now }
+    requires bands { AreFresh plan.now.params predictor plan.now.deal cube.now bands.items }
+    requires sent { sender.sent ≡ [] }
+    ensures { Keeps (G.may_stop gate.now) predictor (part predictor (owners plan.now.deal plan.now.params) (residuals plan.now.params cube.now)) sender.lane result }
+{
+    plan.is_plan();
+    let _count = cube.shape().sample_count();
+    let mut bands = bands;
+    let mut sender = RunSender::new(predictor, sender, gate);
+    let (params, deal) = (plan.params(), plan.deal());
+    let _all = send_own(rt, cube, params, predictor, deal, &mut bands, &mut sender);
+    sender.end(rt)
+}

@@ -1,0 +1,40 @@
+//! What takes residuals, one behind another, as a lane of a predictor does.
+
+ghost use Rattle.std.specs.Prelude.{ℕ, Bool, List, [], ◌∷◌};
+ghost use Rattle.cube_predictors.specs.Takings.{AreTakings, MaySend};
+ghost use Rattle.cube_predictors.specs.TakingLaws.{sendings_are};
+ghost use Rattle.cube_predictors.specs.Sends.{Sends};
+
+use lane_workers::gate::Gate;
+use lane_workers::run_sender::RunSender;
+use std::sync::Wait;
+
+/// What takes numbers until it stops. What it waits by, if it waits, is handed to it.
+pub trait Taker<R> {
+    /// It may be given the numbers of a list, in order.
+    ghost may: { Self → List ℕ → Type 0 };
+
+    /// What has become of it: it took all of a list, or it stopped in the list.
+    ghost takes: { Self → Self → Bool → List ℕ → Type 0 };
+
+    /// Takes a number. False where it has stopped.
+    fn take(&mut self, rt: &R, number: u16) -> bool
+        requires { may self.old (number ∷ []) }
+        ensures { takes self.old self.new result (number ∷ []) };
+
+    /// Lists may be taken one behind another.
+    ghost laws: { AreTakings may takes };
+}
+
+impl<'g, R: Wait, G: Gate> Taker<R> for RunSender<'g, G> {
+    ghost may = { λ s list. MaySend s list };
+
+    ghost takes = { λ old new all list. Sends old new all list };
+
+    ghost laws = { sendings_are };
+
+    #[inline(always)]
+    fn take(&mut self, rt: &R, number: u16) -> bool {
+        self.send(rt, number)
+    }
+}

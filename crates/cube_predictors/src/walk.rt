@@ -1,0 +1,250 @@
+//! The walk over the places of some bands, in encoding order: all bands of an image, or those of one predictor.
+
+ghost use Rattle.std.specs.Prelude.{◌≡◌, ◌+◌, ◌*◌, ◌-◌, ◌^◌, ◌<◌, ◌≤◌, ◌∷◌, [], ◌++◌, length, slice_index_or, IsTrue};
+ghost use Rattle.std.specs.List.{flat_map};
+ghost use Rattle.cube_core.specs.Order.{IsOrder, from, upto, group, group_count};
+ghost use Rattle.cube_core.specs.declared.order.Order.TheVariants.{Bi};
+ghost use Rattle.header_bits.specs.Lawful.{IsLawful};
+ghost use Rattle.cube_predictors.specs.Own.{own, row_of, rows_of, line_of, own_residuals};
+ghost use Rattle.cube_predictors.specs.Sends.{IsSeen, AreAt, AreFresh, bands_of};
+ghost use Rattle.cube_predictors.specs.Pieces.{ArePast, held_at, held_of};
+
+use crate::taker::Taker;
+use cube_core::cube::Cube;
+use cube_core::order::Order;
+use header_bits::params::Params;
+use predict_core::band::Band;
+
+/// The most places of a piece of a row.
+const PIECE: u32 = 64;
+
+/// Each of some bands goes over so many places of row `y`, from column `x` on, and holds their residuals.
+fn predict_pieces(cube: &Cube, params: &Params, y: u32, x: u32, count: u32, bands: &mut [Band])
+    requires image { IsSeen params.now cube.now }
+    requires place { (y < cube.now.shape.rows) × (x < cube.now.shape.columns) }
+    requires piece { (count ≤ 64) × (x + count ≤ cube.now.shape.columns) }
+    requires at { AreAt params.now cube.now (y * cube.now.shape.columns + x) bands.old }
+    ensures past { ArePast params.now cube.now (y * cube.now.shape.columns + x) count bands.new }
+    ensures same { bands_of bands.new ≡ bands_of bands.old }
+{
+    for i in 0..bands.len() {
+        let band = &mut bands[i];
+        band.predict_piece(cube, y, x, count as usize);
+    }
+}
+
+/// Sends the residuals that some bands hold of place `i` of their pieces. False where what takes them has stopped.
+#[inline(always)]
+fn send_column<R, T: Taker<R>>(rt: &R, i: u32, bands: &[Band], taker: &mut T) -> bool
+    requires place { i < 64 }
+    requires may { T.may taker.old (held_at bands.now i) }
+    ensures sent { T.takes taker.old taker.new result (held_at bands.now i) }
+{
+    for k in 0..bands.len() {
+        let residual = bands[k].piece_residual(i as usize);
+        if !taker.take(rt, residual) {
+            return false;
+        }
+    }
+    true
+}
+
+/// Sends the residuals that some bands hold of their pieces, column after column. False where what takes them has stopped.
+fn send_pieces<R, T: Taker<R>>(rt: &R, count: u32, bands: &[Band], taker: &mut T) -> bool
+    requires piece { count ≤ 64 }
+    requires may { T.may taker.old (held_of bands.now count) }
+    ensures sent { T.takes taker.old taker.new result (held_of bands.now count) }
+{
+    for i in 0..count {
+        if !send_column(rt, i, bands, taker) {
+            return false;
+        }
+    }
+    true
+}
+
+/// Sends the residuals of some bands in row `y`, column after column. False where what takes them has stopped.
+fn send_row<R, T: Taker<R>>(
+    rt: &R,
+    cube: &Cube,
+    params: &Params,
+    y: u32,
+    bands: &mut [Band],
+    taker: &mut T,
+) -> bool
+    requires image { IsSeen params.now cube.now }
+    requires row { y < cube.now.shape.rows }
+    requires at { AreAt params.now cube.now (y * cube.now.shape.columns) bands.old }
+    requires may { T.may taker.old (row_of params.now cube.now (bands_of bands.old) y) }
+    ensures sent { T.takes taker.old taker.new result (row_of params.now cube.now (bands_of bands.old) y) }
+    ensures at { IsTrue result → AreAt params.now cube.now ((y + 1) * cube.now.shape.columns) bands.new }
+    ensures same { bands_of bands.new ≡ bands_of bands.old }
+{
+    let columns = cube.shape().columns();
+    let mut x = 0;
+    while x < columns {
+        let count = PIECE.min(columns - x);
+        predict_pieces(cube, params, y, x, count, bands);
+        if !send_pieces(rt, count, bands, taker) {
+            return false;
+        }
+        x += count;
+    }
+    true
+}
+
+/// Sends the residuals of some bands, row after row. False where what takes them has stopped.
+fn send_rows<R, T: Taker<R>>(
+    rt: &R,
+    cube: &Cube,
+    params: &Params,
+    bands: &mut [Band],
+    taker: &mut T,
+) -> bool
+    requires image { IsSeen params.now cube.now }
+    requires at { AreAt params.now cube.now 0 bands.old }
+    requires may { T.may taker.old (rows_of params.now cube.now (bands_of bands.old)) }
+    ensures sent { T.takes taker.old taker.new result (rows_of params.now cube.now (bands_of bands.old)) }
+    ensures same { bands_of bands.new ≡ bands_of bands.old }
+{
+    for y in 0..cube.shape().rows() {
+        if !send_row(rt, cube, params, y, bands, taker) {
+            return false;
+        }
+    }
+    true
+}
+
+/// Sends the residuals of some bands, band after band. False where what takes them has stopped.
+fn send_bands<R, T: Taker<R>>(
+    rt: &R,
+    cube: &Cube,
+    params: &Params,
+    bands: &mut [Band],
+    taker: &mut T,
+) -> bool
+    requires image { IsSeen params.now cube.now }
+    requires at { AreAt params.now cube.now 0 bands.old }
+    requires may { T.may taker.old (flat_map (λ z. rows_of params.now cube.now (z ∷ [])) (bands_of bands.old)) }
+    ensures sent { T.takes taker.old taker.new result (flat_map (λ z. rows_of params.now cube.now (z ∷ [])) (bands_of bands.old)) }
+{
+    for i in 0..bands.len() {
+        if !send_rows(rt, cube, params, &mut bands[i..i + 1], taker) {
+            return false;
+        }
+    }
+    true
+}
+
+/// The predictor to which a band is dealt. One beyond the deal is the first predictor's.
+fn owner(deal: &[u8], band: u32) -> u32
+    ensures { result ≡ slice_index_or deal.now band 0 }
+{
+    match deal.get(band as usize) {
+        Some(predictor) => u32::from(*predictor),
+        None => 0,
+    }
+}
+
+/// How many of the bands `first` to `end - 1` are dealt to a predictor.
+fn count_own(deal: &[u8], predictor: u32, first: u32, end: u32) -> usize
+    requires { first ≤ end }
+    ensures { result ≡ length (own predictor deal.now (from first (end - first))) }
+{
+    let mut count = 0;
+    for z in first..end {
+        let owner = owner(deal, z);
+        if owner == predictor {
+            count += 1;
+        }
+    }
+    count
+}
+
+/// Sends the residuals of a predictor's bands in row `y`, group after group of so many bands. False where what takes them has stopped.
+fn send_line<R, T: Taker<R>>(
+    rt: &R,
+    cube: &Cube,
+    params: &Params,
+    predictor: u32,
+    deal: &[u8],
+    depth: u32,
+    y: u32,
+    bands: &mut [Band],
+    taker: &mut T,
+) -> bool
+    requires image { IsSeen params.now cube.now }
+    requires depth { (1 ≤ depth) × (depth ≤ 65536) }
+    requires row { y < cube.now.shape.rows }
+    requires own { bands_of bands.old ≡ own predictor deal.now (upto cube.now.shape.bands) }
+    requires at { AreAt params.now cube.now (y * cube.now.shape.columns) bands.old }
+    requires may { T.may taker.old (line_of params.now cube.now predictor deal.now depth y) }
+    ensures sent { T.takes taker.old taker.new result (line_of params.now cube.now predictor deal.now depth y) }
+    ensures at { IsTrue result → AreAt params.now cube.now ((y + 1) * cube.now.shape.columns) bands.new }
+    ensures same { bands_of bands.new ≡ bands_of bands.old }
+{
+    let total = cube.shape().bands();
+    let groups = (total + depth - 1) / depth;
+    let mut first = 0;
+    let mut slot = 0;
+    for i in 0..groups {
+        let _group = i;
+        let end = total.min(first + depth);
+        let count = count_own(deal, predictor, first, end);
+        if !send_row(rt, cube, params, y, &mut bands[slot..slot + count], taker) {
+            return false;
+        }
+        first = end;
+        slot += count;
+    }
+    true
+}
+
+/// Sends the residuals of a predictor's bands, row after row. False where what takes them has stopped.
+fn send_lines<R, T: Taker<R>>(
+    rt: &R,
+    cube: &Cube,
+    params: &Params,
+    predictor: u32,
+    deal: &[u8],
+    depth: u32,
+    bands: &mut [Band],
+    taker: &mut T,
+) -> bool
+    requires image { IsSeen params.now cube.now }
+    requires depth { (1 ≤ depth) × (depth ≤ 65536) }
+    requires own { bands_of bands.old ≡ own predictor deal.now (upto cube.now.shape.bands) }
+    requires at { AreAt params.now cube.now 0 bands.old }
+    requires may { T.may taker.old (own_residuals params.now cube.now predictor deal.now (Bi depth)) }
+    ensures { T.takes taker.old taker.new result (own_residuals params.now cube.now predictor deal.now (Bi depth)) }
+{
+    for y in 0..cube.shape().rows() {
+        if !send_line(rt, cube, params, predictor, deal, depth, y, bands, taker) {
+            return false;
+        }
+    }
+    true
+}
+
+/// Sends the residuals of a predictor's bands, in encoding order. By a deal of no bands all are the first predictor's. False where what takes them
+/// has stopped.
+pub fn send_own<R, T: Taker<R>>(
+    rt: &R,
+    cube: &Cube,
+    params: &Params,
+    predictor: u32,
+    deal: &[u8],
+    bands: &mut [Band],
+    taker: &mut T,
+) -> bool
+    requires image { IsSeen params.now cube.now }
+    requires lawful { IsLawful params.now }
+    requires bands { AreFresh params.now predictor deal.now cube.now bands.old }
+    requires may { T.may taker.old (own_residuals params.now cube.now predictor deal.now params.now.order) }
+    ensures { T.takes taker.old taker.new result (own_residuals params.now cube.now predictor deal.now params.now.order) }
+{
+    match params.order {
+        Order::Bsq => send_bands(rt, cube, params, bands, taker),
+        Order::Bi(depth) => send_lines(rt, cube, params, predictor, deal, depth, bands, taker),
+    }
+}

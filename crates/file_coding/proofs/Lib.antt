@@ -1,0 +1,7 @@
+pub mod Coders
+pub mod Come
+pub mod Endings
+pub mod ForSamples
+pub mod Packed
+pub mod Times
+pub mod Walking

@@ -1,0 +1,12 @@
+use Rattle.std.proofs.Common.{◌≡◌, ◌+◌, ◌*◌, ◌∷◌, rules, refl}
+use Rattle.file_coding.proofs.Endings.{may_take, coded_more}
+use Rattle.file_coding.proofs.coding_end.CodingEnd.put.Goals as goal
+
+pub put-requires : goal.put-requires
+put-requires c = rw (← c.self.view_is) at (may_take c.args.self.now c.args.place c.args.delta c.requires.next c.requires.may)
+
+pub returns-clause-coded : goal.returns-clause-coded
+returns-clause-coded c =
+    let moved : c.args.self.now.left ≡ c.args.place ∷ c.next.new.self = search rules in
+    let time : c.from.result * c.self.inside.columns + c.from-2.result ≡ c.args.place.y * c.self.inside.columns + c.args.place.x = rw (c.from.ensures, c.from-2.ensures) refl in
+    rw (← c.self.view_is) (coded_more _ _ c.args.place _ c.args.delta (rw (← c.self.view_is) at moved) time refl refl c.in_ok-put.ensures.taken)

@@ -1,0 +1,38 @@
+-- The coding end of an image: what it has written once it has taken the first residuals.
+use Rattle.std.specs.Prelude.{ℕ, ◌≡◌, ◌^◌, ◌<◌, ◌≤◌, Bool, List, ◌++◌, length, drop}
+use Rattle.cube_core.specs.declared.order.Place.{Place}
+use Rattle.cube_core.specs.Shape.{sample_count}
+use Rattle.cube_core.specs.Order.{IsOrder, places}
+use Rattle.header_bits.specs.declared.params.Params.{Params}
+use Rattle.header_bits.specs.Header.{header_of}
+use Rattle.header_bits.specs.Lawful.{IsLawful}
+use Rattle.file_coding.specs.declared.encoder.Encoder.{Encoder}
+use Rattle.file_coding.specs.Coding.{HasTaken}
+
+-- the width of a row, the bytes of an output word, the places that are still to come, the entropy coder, and the bits so far
+pub record Ending : Type 0 where
+  pub columns : ℕ
+  pub word : ℕ
+  pub left : List Place
+  pub coder : Encoder
+  pub bits : List Bool
+
+-- the coding end of parameters has taken the numbers: the places behind them are still to come, and what the coder wrote stands behind the header
+pub record HasCoded (p : Params) (e : Ending) (numbers : List ℕ) : Type 0 where
+  pub columns : e.columns ≡ p.shape.columns
+  pub word : e.word ≡ p.word
+  pub order : IsOrder p.shape p.order
+  pub within : length numbers ≤ sample_count p.shape
+  pub left : e.left ≡ drop (length numbers) (places p.shape p.order)
+  pub written : List Bool
+  pub taken : HasTaken p e.coder numbers written
+  pub text : e.bits ≡ header_of p ++ written
+
+-- the coding end of some parameters has taken fewer numbers than there are samples, and this one is in range
+pub record MayCode (e : Ending) (number : ℕ) : Type 0 where
+  pub params : Params
+  pub numbers : List ℕ
+  pub lawful : IsLawful params
+  pub coded : HasCoded params e numbers
+  pub more : length numbers < sample_count params.shape
+  pub range : number < 2 ^ params.kind.bits

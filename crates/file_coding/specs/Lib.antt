@@ -1,0 +1,4 @@
+pub mod Coding
+pub mod Ends
+pub mod File
+pub mod Walked

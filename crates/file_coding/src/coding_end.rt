@@ -1,0 +1,125 @@
+//! The coding end of an image: from residuals in encoding order to the bytes of its file.
+
+ghost use Rattle.std.specs.Prelude.{◌≡◌, ℕ, List, [], ◌∷◌, ◌++◌, Some, slice_get, IfOk, IfErr, OnOk, OnErr};
+ghost use Rattle.cube_core.specs.declared.fault.Fault.TheVariants.{WantOfMemory};
+ghost use Rattle.cube_core.specs.Shape.{InRange};
+ghost use Rattle.header_bits.specs.declared.params.Params.{Params as Parameters};
+ghost use Rattle.header_bits.specs.Bits.{bits_of_bytes};
+ghost use Rattle.header_bits.specs.Lawful.{IsLawful};
+ghost use Rattle.file_coding.specs.Ends.{HasCoded, MayCode};
+ghost use Rattle.file_coding.specs.File.{filled, packed, file_of_residuals};
+
+use crate::encoder::Encoder;
+use cube_core::cursor::Places;
+use cube_core::fault::Fault;
+use cube_core::order::Place;
+use header_bits::bit_writer::BitWriter;
+use header_bits::header::put_header;
+use header_bits::params::Params;
+use std::alloc::Global;
+use std::marker::Model;
+
+/// What was written of an image's file, and the places whose residuals are still to come.
+#[derive(Drop)]
+pub struct CodingEnd {
+    writer: BitWriter,
+    encoder: Encoder,
+    places: Places,
+    columns: u64,
+    word: u32,
+}
+
+impl Model for CodingEnd {
+    ghost use Rattle.cube_core.specs.Shape.{InRange};
+    ghost use Rattle.file_coding.specs.Ends.{Ending};
+
+    ghost Value = { Ending };
+
+    ghost view = { λ e. record { columns = e.columns; word = e.word; left = e.places; coder = e.encoder; bits = e.writer.bits } };
+
+    ghost invariant = { λ e. InRange 1 8 e.word };
+}
+
+impl CodingEnd {
+    /// The coding end of an image, which has written the header and taken no residual.
+    ///
+    /// `WantOfMemory` where the header's bytes aren't had, or the room for the statistics of all bands.
+    pub fn new(alloc: Global, params: &Params) -> Result<CodingEnd, Fault>
+        requires { IsLawful params.now }
+        ensures coded { IfOk result (λ end. HasCoded params.now end []) }
+        ensures refused { IfErr result (λ e. e ≡ WantOfMemory) }
+    {
+        let mut writer = BitWriter::new(alloc);
+        put_header(params, &mut writer)?;
+        Ok(CodingEnd {
+            writer,
+            encoder: Encoder::new(alloc, params)?,
+            places: Places::new(params.shape, params.order),
+            columns: u64::from(params.shape.columns()),
+            word: params.word,
+        })
+    }
+
+    /// The place whose residual comes next, where one does.
+    pub fn place(&self) -> Option<Place>
+        ensures { result ≡ slice_get self.now.left 0 }
+    {
+        self.places.peek()
+    }
+
+    /// Takes the residual of the place that comes next.
+    ///
+    /// The residual is at most 2^D - 1. After `WantOfMemory` nothing was changed.
+    #[inline(always)]
+    pub fn put(&mut self, place: Place, delta: u16) -> Result<(), Fault>
+        requires next { slice_get self.old.left 0 ≡ Some place }
+        requires may { MayCode self.old delta }
+        ensures coded { OnOk result ((p : Parameters) (numbers : List ℕ) → HasCoded p self.old numbers → HasCoded p self.new (numbers ++ delta ∷ [])) }
+        ensures moved { OnOk result (self.old.left ≡ place ∷ self.new.left) }
+        ensures same { OnErr result (self.new ≡ self.old) }
+        ensures refused { IfErr result (λ e. e ≡ WantOfMemory) }
+    {
+        let t = u64::from(place.y) * self.columns + u64::from(place.x);
+        self.encoder.put(place.z, t, delta, &mut self.writer)?;
+        self.places.next();
+        Ok(())
+    }
+
+    /// The bytes of the file, once all residuals were taken.
+    ///
+    /// `WantOfMemory` where they aren't had.
+    pub fn finish(self) -> Result<Vec<u8>, Fault>
+        requires { self.left ≡ [] }
+        ensures file { IfOk result (λ bytes. (p : Parameters) (numbers : List ℕ) → HasCoded p self numbers → bytes.items ≡ file_of_residuals numbers p) }
+        ensures refused { IfErr result (λ e. e ≡ WantOfMemory) }
+    {
+        let CodingEnd {
+            mut writer,
+            mut encoder,
+            places: _,
+            columns: _,
+            word,
+        } = self;
+        encoder.end(&mut writer)?;
+        put_fill(word, &mut writer)?;
+        let bytes = writer.into_bytes();
+        know_packed(&bytes);
+        Ok(bytes)
+    }
+}
+
+/// Appends zeros to whole output words of so many bytes.
+fn put_fill(word: u32, writer: &mut BitWriter) -> Result<(), Fault>
+    requires { InRange 1 8 word }
+    ensures filled { OnOk result (writer.new.bits ≡ filled word writer.old.bits) }
+    ensures refused { IfErr result (λ e. e ≡ WantOfMemory) }
+{
+    let unit = 8 * word;
+    let over = (writer.bit_count() % u64::from(unit)) as u32;
+    writer.push(0, (unit - over) % unit)
+}
+
+/// Says of bytes that they are packed from their bits, which holds of numbers below 256.
+fn know_packed(bytes: &[u8])
+    ensures { bytes.now ≡ packed (bits_of_bytes bytes.now) }
+{}

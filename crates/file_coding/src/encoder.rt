@@ -1,0 +1,73 @@
+//! The coding end: one of the two entropy coders, which takes an image's residuals in encoding order.
+
+ghost use Rattle.std.specs.Prelude.{◌≡◌, [], IsOk, IfOk, IfErr, OnOk, OnErr};
+ghost use Rattle.cube_core.specs.declared.fault.Fault.TheVariants.{WantOfMemory};
+ghost use Rattle.header_bits.specs.Lawful.{IsLawful};
+ghost use Rattle.block_adaptive.specs.Settings.{IsBlock};
+ghost use Rattle.file_coding.specs.Coding.{HasTaken, MayPut, MayGrow, MayGrowAtEnd, PutsNumber, EndsBody};
+
+use block_adaptive::block_writer::BlockWriter;
+use cube_core::fault::Fault;
+use header_bits::bit_writer::BitWriter;
+use header_bits::params::{Coder, Params};
+use sample_adaptive::stats::Stats;
+use std::alloc::Global;
+
+/// The entropy coder that an image's parameters name, in the direction of writing.
+#[derive(Drop)]
+pub enum Encoder {
+    Samples(Stats),
+    Blocks(BlockWriter),
+}
+
+impl Encoder {
+    /// The coder of an image, which has taken no residual yet.
+    ///
+    /// `WantOfMemory` where there is none for the statistics of all bands; the block-adaptive coder
+    /// takes none.
+    pub fn new(alloc: Global, params: &Params) -> Result<Encoder, Fault>
+        requires { IsLawful params.now }
+        ensures taken { IfOk result (λ coder. HasTaken params.now coder [] []) }
+        ensures refused { IfErr result (λ e. e ≡ WantOfMemory) }
+        ensures blocks { IsBlock params.now.coder → IsOk result }
+    {
+        match params.coder {
+            Coder::Sample { .. } => Ok(Encoder::Samples(Stats::new(alloc, params)?)),
+            Coder::Block { .. } => Ok(Encoder::Blocks(BlockWriter::new(params))),
+        }
+    }
+
+    /// Takes the next residual, which is number `t` of band `z`, and appends what is then known of the body.
+    ///
+    /// The residual is at most 2^D - 1, and fewer were taken than there are samples. The block-adaptive
+    /// coder asks for memory only where the residual ends a block. After `WantOfMemory` nothing was
+    /// changed.
+    pub fn put(&mut self, z: u32, t: u64, delta: u16, writer: &mut BitWriter) -> Result<(), Fault>
+        requires { MayPut self.old z delta }
+        ensures taken { OnOk result (PutsNumber z t delta self.old writer.old.bits self.new writer.new.bits) }
+        ensures same { OnErr result ((self.new ≡ self.old) × (writer.new.bits ≡ writer.old.bits)) }
+        ensures refused { IfErr result (λ e. e ≡ WantOfMemory) }
+        ensures memory { IfErr result (λ _. MayGrow self.old) }
+    {
+        match self {
+            Encoder::Samples(stats) => stats.put(z, t, delta, writer),
+            Encoder::Blocks(blocks) => blocks.put(delta, writer),
+        }
+    }
+
+    /// Ends the body, once all residuals were taken: appends what is still held.
+    ///
+    /// The block-adaptive coder alone asks for memory, where the residuals end inside a block. After
+    /// `WantOfMemory` nothing was changed.
+    pub fn end(&mut self, writer: &mut BitWriter) -> Result<(), Fault>
+        ensures ended { OnOk result (EndsBody self.old writer.old.bits writer.new.bits) }
+        ensures same { OnErr result ((self.new ≡ self.old) × (writer.new.bits ≡ writer.old.bits)) }
+        ensures refused { IfErr result (λ e. e ≡ WantOfMemory) }
+        ensures memory { IfErr result (λ _. MayGrowAtEnd self.old) }
+    {
+        match self {
+            Encoder::Samples(_) => Ok(()),
+            Encoder::Blocks(blocks) => blocks.end(writer),
+        }
+    }
+}

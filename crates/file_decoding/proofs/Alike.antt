@@ -1,0 +1,138 @@
+-- Images that are one at all places up to one in the order: what is predicted there, and the residuals.
+use Rattle.std.proofs.Common.{◌≡◌, ◌≢◌, ◌+◌, ◌*◌, ◌<◌, ◌≤◌, ℕ, suc, zero, ℤ, pos, false, List, [], ◌∷◌, refl, sym, ap, ap₂, ◌∙◌, subst, inl, inr, arith}
+use Rattle.std.proofs.lemmas.List.{get_or-set_other}
+use Rattle.std.proofs.lemmas.Bool.{cases_order}
+use Rattle.std.proofs.Math.Arith.{digits_lt}
+use Rattle.cube_core.specs.declared.order.Order.{Order}
+use Rattle.cube_core.specs.declared.order.Order.TheVariants.{Bsq}
+use Rattle.cube_core.specs.declared.order.Place.{Place}
+use Rattle.cube_core.specs.Shape.{Sizes}
+use Rattle.cube_core.specs.Kind.{SampleKind}
+use Rattle.cube_core.specs.Image.{Image, sample_at, index_in, put}
+use Rattle.cube_core.specs.Order.{IsOrder, IsPlaceOf, place_key, place_index, IsBefore}
+use Rattle.cube_core.proofs.Keys.{order_is_by_key, item_of_index}
+use Rattle.cube_core.proofs.Orders.{StandsAt}
+use Rattle.cube_core.proofs.Raws.{same_place}
+use Rattle.cube_core.proofs.Walks.{sequential_index}
+use Rattle.header_bits.specs.declared.params.Params.{Params}
+use Rattle.predict_core.specs.Prediction.{weight_vector, scaled_prediction, next_weights}
+use Rattle.predict_core.specs.Predictor.{predictor_of}
+use Rattle.predict_core.specs.Precedence.{AreAlike, Agree, IsEarlier}
+use Rattle.predict_core.specs.Residual.{mapped, mapped_residual}
+use Rattle.predict_core.proofs.Following.{row_is, column_is}
+use Rattle.predict_core.proofs.Frame.{before_is, weights_same, scaled_same, place_same, scaled_there_same, exponent_same}
+use Rattle.file_coding.proofs.Come.{time_of}
+
+-- ---- earlier places
+
+before_once : (xs ys : List ℕ) → IsBefore xs ys → IsBefore ys xs → ⊥
+before_once [] ys h k = h
+before_once (x ∷ xs) [] h k = h
+before_once (x ∷ xs) (y ∷ ys) (inl h) (inl k) = absurd (omega (arith, h, k))
+before_once (x ∷ xs) (y ∷ ys) (inl h) (inr k) = absurd (omega (arith, h, k.0))
+before_once (x ∷ xs) (y ∷ ys) (inr h) (inl k) = absurd (omega (arith, h.0, k))
+before_once (x ∷ xs) (y ∷ ys) (inr h) (inr k) = before_once xs ys h.1 k.1
+
+-- what comes earlier in a band, or lies below it, comes earlier in the order
+pub earlier_index : (s : Sizes) (o : Order) (place earlier : Place) → IsOrder s o → IsPlaceOf s place → IsPlaceOf s earlier → IsEarlier place.z (time_of s place) earlier.z (time_of s earlier) → place_index s o earlier < place_index s o place
+earlier_index s o place earlier lawful a b e =
+    elim (cases_order (place_index s o earlier) (place_index s o place)) [
+      | inl same ↦ absurd (before_once (place_key o place) (place_key o place) (twice same) (twice same))
+      | inr (inl lt) ↦ lt
+      | inr (inr gt) ↦ absurd (before_once (place_key o earlier) (place_key o place) here ((order_is_by_key s o lawful).increasing (place_index s o place) (place_index s o earlier) place earlier gt (item_of_index s o place lawful a) (item_of_index s o earlier lawful b)))
+    ]
+  where
+    here : IsBefore (place_key o earlier) (place_key o place)
+    here = before_is o s.columns place earlier a.column b.column e
+
+    twice : place_index s o earlier ≡ place_index s o place → IsBefore (place_key o place) (place_key o place)
+    twice same = subst (λ (r : Place). IsBefore (place_key o r) (place_key o place)) (same_place s o earlier place lawful b a same) here
+
+-- two images that are one at each place before the i-th
+abbrev pub SameBefore : Order → Image → Image → ℕ → Type 0
+SameBefore o c d i = (r : Place) → IsPlaceOf c.shape r → place_index c.shape o r < i → sample_at c r.z r.y r.x ≡ sample_at d r.z r.y r.x
+
+pub agree_at : (o : Order) (c d : Image) (i : ℕ) (q : Place) (t : ℕ) → IsOrder c.shape o → AreAlike c d → SameBefore o c d i → IsPlaceOf c.shape q → t ≡ time_of c.shape q → place_index c.shape o q ≤ i → Agree c d q.z t
+agree_at o c d i q t lawful alike same place e le = record {
+  alike = alike;
+  samples = λ z' y' x' there earlier.
+      let r : Place = record { z = z'; y = y'; x = x' } in
+      let lt : place_index c.shape o r < place_index c.shape o q = earlier_index c.shape o q r lawful place there (subst (λ (k : ℕ). IsEarlier q.z k z' (y' * c.shape.columns + x')) e earlier) in
+      same r there (omega (arith, lt, le));
+}
+
+-- ---- residuals
+
+pub mapped_at : (p : Params) (c : Image) (q : Place) (t : ℕ) → t ≡ q.y * c.shape.columns + q.x → q.x < c.shape.columns → mapped_residual p c q.z t ≡ mapped c.kind (scaled_prediction p c q.z t) (sample_at c q.z q.y q.x)
+unfolding mapped_residual
+mapped_at p c q t e lt = rw (row_is c.shape.columns t q.y q.x e lt, column_is c.shape.columns t q.y q.x e lt) refl
+
+pub scaled_alike : (p : Params) (c d : Image) (q : Place) (t : ℕ) → (p.column ≡ false → 2 ≤ c.shape.columns) → IsPlaceOf c.shape q → t ≡ time_of c.shape q → Agree c d q.z t → scaled_prediction p c q.z t ≡ scaled_prediction p d q.z t
+scaled_alike p c d q t wide place e agree =
+    let within : q.y * c.shape.columns + q.x < c.shape.rows * c.shape.columns = digits_lt place.row place.column in
+    scaled_same p c d q.z place.band (omega (arith, place.column)) wide t (omega (arith, e, within)) agree
+
+-- the residual at a place, of images that are one there and before
+pub residual_same : (p : Params) (c d : Image) (q : Place) (t : ℕ) → (p.column ≡ false → 2 ≤ c.shape.columns) → IsPlaceOf c.shape q → t ≡ time_of c.shape q → Agree c d q.z t → sample_at c q.z q.y q.x ≡ sample_at d q.z q.y q.x
+    → mapped_residual p c q.z t ≡ mapped_residual p d q.z t
+residual_same p c d q t wide place e agree sample =
+    let columns : c.shape.columns ≡ d.shape.columns = ap (λ (s : Sizes). s.columns) agree.alike.shape in
+    let there : t ≡ q.y * d.shape.columns + q.x = e ∙ ap (λ (n : ℕ). q.y * n + q.x) columns in
+    mapped_at p c q t e place.column
+    ∙ ap (λ (k : SampleKind). mapped k (scaled_prediction p c q.z t) (sample_at c q.z q.y q.x)) agree.alike.kind
+    ∙ ap₂ (λ (scaled sample : ℤ). mapped d.kind scaled sample) (scaled_alike p c d q t wide place e agree) sample
+    ∙ sym (mapped_at p d q t there (omega (arith, columns, place.column)))
+
+-- ---- weights
+
+-- the weights behind a place, of images that are one there and before
+weights_behind : (p : Params) (c d : Image) (q : Place) (t : ℕ) → (p.column ≡ false → 2 ≤ c.shape.columns) → IsPlaceOf c.shape q → t ≡ time_of c.shape q → Agree c d q.z t → sample_at c q.z q.y q.x ≡ sample_at d q.z q.y q.x
+    → weight_vector p c q.z (suc t) ≡ weight_vector p d q.z (suc t)
+unfolding weight_vector next_weights
+weights_behind p c d q zero wide place e agree sample = refl
+weights_behind p c d q (suc t) wide place e agree sample =
+    let columns : c.shape.columns ≡ d.shape.columns = ap (λ (s : Sizes). s.columns) agree.alike.shape in
+    let some : 0 < c.shape.columns = omega (arith, place.column) in
+    let within : q.y * c.shape.columns + q.x < c.shape.rows * c.shape.columns = digits_lt place.row place.column in
+    let inside : suc t < c.shape.rows * c.shape.columns = omega (arith, e, within) in
+    let there : suc t ≡ q.y * d.shape.columns + q.x = e ∙ ap (λ (n : ℕ). q.y * n + q.x) columns in
+    let lt : q.x < d.shape.columns = omega (arith, columns, place.column) in
+    let row = row_is c.shape.columns (suc t) q.y q.x e place.column in
+    let column = column_is c.shape.columns (suc t) q.y q.x e place.column in
+    let row' = row_is d.shape.columns (suc t) q.y q.x there lt in
+    let column' = column_is d.shape.columns (suc t) q.y q.x there lt in
+    let r = rw (row, column) at (place_same (predictor_of p) c d q.z place.band some wide (suc t) (omega arith) inside agree) in
+    let w = weights_same p c d q.z place.band some wide (suc t) (omega (arith, inside)) agree in
+    let s = scaled_there_same (predictor_of p) c d q.z q.y q.x (weight_vector p c q.z (suc t)) agree.alike.kind r.1 r.0 in
+    rw (row, column, row', column', s, r.0, sample, exponent_same (predictor_of p) c d (suc t) agree.alike, w) refl
+
+-- ---- another sample at one place
+
+pub put_alike : (c : Image) (q : Place) (v : ℤ) → AreAlike c (put c q.z q.y q.x v)
+put_alike c q v = record { shape = refl; kind = refl }
+
+-- places with one index in the list of samples are one
+other_index : (s : Sizes) (q r : Place) → IsPlaceOf s q → IsPlaceOf s r → (q ≡ r → ⊥) → index_in s.columns s.rows r.z r.y r.x ≢ index_in s.columns s.rows q.z q.y q.x
+other_index s q r a b apart e = apart (same_place s Bsq q r tt a b (sequential_index s q ∙ sym e ∙ sym (sequential_index s r)))
+
+pub put_other : (c : Image) (q r : Place) (v : ℤ) → IsPlaceOf c.shape q → IsPlaceOf c.shape r → (q ≡ r → ⊥) → sample_at c r.z r.y r.x ≡ sample_at (put c q.z q.y q.x v) r.z r.y r.x
+unfolding sample_at
+put_other c q r v a b apart = sym (get_or-set_other c.samples (index_in c.shape.columns c.shape.rows q.z q.y q.x) (index_in c.shape.columns c.shape.rows r.z r.y r.x) v (pos 0) (other_index c.shape q r a b apart))
+
+-- the places before it stay
+pub put_same : (o : Order) (c : Image) (q : Place) (v : ℤ) (i : ℕ) → IsPlaceOf c.shape q → place_index c.shape o q ≡ i → SameBefore o c (put c q.z q.y q.x v) i
+put_same o c q v i place e r there lt = put_other c q r v place there (λ h. omega (arith, lt, e, ap (place_index c.shape o) h))
+
+-- residuals at earlier places stay
+pub put_residual : (p : Params) (c : Image) (q r : Place) (v : ℤ) (i : ℕ) → IsOrder c.shape p.order → (p.column ≡ false → 2 ≤ c.shape.columns) → StandsAt c.shape p.order q i → IsPlaceOf c.shape r → place_index c.shape p.order r < i
+    → mapped_residual p c r.z (time_of c.shape r) ≡ mapped_residual p (put c q.z q.y q.x v) r.z (time_of c.shape r)
+put_residual p c q r v i lawful wide stands there lt =
+    let same = put_same p.order c q v i stands.place stands.index in
+    residual_same p c (put c q.z q.y q.x v) r (time_of c.shape r) wide there refl (agree_at p.order c (put c q.z q.y q.x v) i r (time_of c.shape r) lawful (put_alike c q v) same there refl (omega (arith, lt))) (same r there lt)
+
+-- so do the weights behind them
+pub put_weights : (p : Params) (c : Image) (q r : Place) (v : ℤ) (i : ℕ) → IsOrder c.shape p.order → (p.column ≡ false → 2 ≤ c.shape.columns) → StandsAt c.shape p.order q i → IsPlaceOf c.shape r → place_index c.shape p.order r < i
+    → weight_vector p c r.z (suc (time_of c.shape r)) ≡ weight_vector p (put c q.z q.y q.x v) r.z (suc (time_of c.shape r))
+put_weights p c q r v i lawful wide stands there lt =
+    let same = put_same p.order c q v i stands.place stands.index in
+    weights_behind p c (put c q.z q.y q.x v) r (time_of c.shape r) wide there refl (agree_at p.order c (put c q.z q.y q.x v) i r (time_of c.shape r) lawful (put_alike c q v) same there refl (omega (arith, lt))) (same r there lt)

@@ -1,0 +1,238 @@
+-- What the reading end has given, number after number, and how it refuses.
+use Rattle.std.proofs.Common.{◌≡◌, ◌⊎◌, ◌+◌, ◌*◌, ◌^◌, ◌<◌, ◌≤◌, ℕ, zero, suc, Bool, true, false, cond, List, [], ◌∷◌, ◌++◌, length, take, drop, Some, Result, Ok, Err, IfOk, refl, sym, ap, ◌∙◌, subst, inl, inr, append-nil, append_assoc, length-append, arith}
+use Rattle.std.specs.List.{slice_get, AllByRecursion}
+use Rattle.std.proofs.lemmas.List.{take_at}
+use Rattle.cube_core.specs.declared.fault.Fault.{Fault}
+use Rattle.cube_core.specs.declared.fault.Fault.TheVariants.{Truncated, BadCode}
+use Rattle.cube_core.specs.declared.order.Place.{Place}
+use Rattle.cube_core.specs.Steps.{◌>>=◌}
+use Rattle.cube_core.specs.Shape.{sample_count}
+use Rattle.cube_core.specs.Order.{places}
+use Rattle.header_bits.specs.declared.params.Params.{Params}
+use Rattle.header_bits.specs.declared.params.Coder.{Coder}
+use Rattle.header_bits.specs.declared.params.Coder.TheVariants.{Sample, Block}
+use Rattle.header_bits.specs.Bits.{Unread}
+use Rattle.header_bits.specs.Lawful.{IsLawful}
+use Rattle.header_bits.specs.Reading.{number_at, zeros_at}
+use Rattle.header_bits.proofs.Fronts.{bind_err, number_fault, zeros_fault, fault_is}
+use Rattle.sample_adaptive.specs.declared.code_word.Code.{Code}
+use Rattle.sample_adaptive.specs.Statistics.{CoderSettings}
+use Rattle.sample_adaptive.specs.Settings.{settings, IsSample}
+use Rattle.sample_adaptive.specs.Body.{sample_body, words_after, band_numbers}
+use Rattle.sample_adaptive.specs.Reading.{plain_at, escape_at, word_at, words_at, sample_body_at}
+use Rattle.sample_adaptive.specs.Taken.{Counts, GetsNumber}
+use Rattle.sample_adaptive.specs.Words.{code_word, code_at}
+use Rattle.sample_adaptive.specs.Laws.{AreNumbers}
+use Rattle.sample_adaptive.proofs.Bodies.{code_bits}
+use Rattle.sample_adaptive.proofs.Refusals.{word_again, word_takes}
+use Rattle.sample_adaptive.proofs.Taking.{taken_along}
+use Rattle.block_adaptive.specs.Settings.{IsBlock, IsCutOf, cut_by, coder_cut}
+use Rattle.block_adaptive.specs.Segments.{block_count}
+use Rattle.block_adaptive.specs.Texts.{Cut, cut_of, blocks_told, values_of}
+use Rattle.block_adaptive.specs.Given.{Unpacked, given_count, GivesNext, HasGiven as HaveGiven}
+use Rattle.block_adaptive.specs.Reading.{texts_at, block_body_at}
+use Rattle.file_coding.specs.Coding.{places_of, of_band, IsNumber}
+use Rattle.file_coding.proofs.Coders.{take_next, places_long, places_whole, samples_more, settings_bits, cut_bits}
+use Rattle.file_decoding.specs.declared.decoder.Decoder.{Decoder}
+use Rattle.file_decoding.specs.declared.decoder.Decoder.TheVariants.{Samples, Blocks}
+use Rattle.file_decoding.specs.Decoding.{HasGiven, MayAsk, GivesMore, GivesNumber}
+use Rattle.file_decoding.specs.Files.{IsBody, IsBodyBy, behind_by, behind_body}
+
+-- ---- lists
+
+range_more : (limit : ℕ) (ns : List ℕ) (n : ℕ) → AllByRecursion (λ v. v < limit) ns → n < limit → AllByRecursion (λ v. v < limit) (ns ++ n ∷ [])
+range_more limit [] n h lt = (lt, tt)
+range_more limit (m ∷ ns) n h lt = (h.0, range_more limit ns n h.1 lt)
+
+some_same : (p q : Place) → Some p ≡ Some q → p ≡ q
+some_same p q k = cc
+
+split_next : (xs : List Place) (i : ℕ) (x : Place) → slice_get xs i ≡ Some x → xs ≡ take i xs ++ x ∷ drop (suc i) xs
+split_next [] i x e = absurd (cc)
+split_next (y ∷ xs) zero x e = ap (λ (z : Place). z ∷ xs) (some_same y x e)
+split_next (y ∷ xs) (suc i) x e = ap (λ (zs : List Place). y ∷ zs) (split_next xs i x e)
+
+-- ---- how a code word is refused
+
+-- the fault of a word is the same at each place, but for the place
+abbrev WordFault : ℕ → ℕ → Fault → (ℕ → Result (ℕ × List Bool) Fault) → Type 0
+WordFault count t e read = ((e ≡ Truncated count) × ((s : ℕ) → read s ≡ Err (Truncated count))) ⊎ ((e ≡ BadCode t) × ((s : ℕ) → read s ≡ Err (BadCode s)))
+
+passed_or_bad : (b : Bool) (y : ℕ × List Bool) (t : ℕ) (e : Fault) → cond b (Ok y) (Err (BadCode t)) ≡ Err e → (b ≡ false) × (BadCode t ≡ e)
+passed_or_bad true y t e h = absurd (cc)
+passed_or_bad false y t e h = (refl, fault_is (BadCode t) e h)
+
+bad_or_passed : (b : Bool) (y : ℕ × List Bool) (t : ℕ) (e : Fault) → cond b (Err (BadCode t)) (Ok y) ≡ Err e → (b ≡ true) × (BadCode t ≡ e)
+bad_or_passed true y t e h = (refl, fault_is (BadCode t) e h)
+bad_or_passed false y t e h = absurd (cc)
+
+plain_fault : (count t : ℕ) (c : Code) (quotient : ℕ) (bits : List Bool) (e : Fault) → plain_at count t c quotient bits ≡ Err e → WordFault count t e (λ s. plain_at count s c quotient bits)
+unfolding plain_at
+plain_fault count t c quotient bits e h =
+    elim (bind_err (number_at count c.low bits) _ e h) [
+      | inl k ↦ (let f = number_fault count c.low bits e k in let g : number_at count c.low bits ≡ Err (Truncated count) = k ∙ ap (λ (d : Fault). Err d) (sym f) in inl (sym f, λ s. rw g refl))
+      | inr (x, k, m) ↦ (let g = passed_or_bad _ _ t e m in inr (sym g.1, λ s. rw (k, g.0) refl))
+    ]
+
+escape_fault : (count t : ℕ) (c : Code) (bits : List Bool) (e : Fault) → escape_at count t c bits ≡ Err e → WordFault count t e (λ s. escape_at count s c bits)
+unfolding escape_at
+escape_fault count t c bits e h =
+    elim (bind_err (number_at count c.bits bits) _ e h) [
+      | inl k ↦ (let f = number_fault count c.bits bits e k in let g : number_at count c.bits bits ≡ Err (Truncated count) = k ∙ ap (λ (d : Fault). Err d) (sym f) in inl (sym f, λ s. rw g refl))
+      | inr (x, k, m) ↦ (let g = bad_or_passed _ _ t e m in inr (sym g.1, λ s. rw (k, g.0) refl))
+    ]
+
+form_fault : (b : Bool) (count t : ℕ) (c : Code) (quotient : ℕ) (bits : List Bool) (e : Fault) → cond b (plain_at count t c quotient bits) (escape_at count t c bits) ≡ Err e → WordFault count t e (λ s. cond b (plain_at count s c quotient bits) (escape_at count s c bits))
+form_fault true count t c quotient bits e h = plain_fault count t c quotient bits e h
+form_fault false count t c quotient bits e h = escape_fault count t c bits e h
+
+word_fault : (count t : ℕ) (c : Code) (bits : List Bool) (e : Fault) → word_at count t c bits ≡ Err e → WordFault count t e (λ s. word_at count s c bits)
+unfolding word_at
+word_fault count t c bits e h =
+    elim (bind_err (zeros_at count c.limit bits) _ e h) [
+      | inl k ↦ (let f = zeros_fault count c.limit bits e k in let g : zeros_at count c.limit bits ≡ Err (Truncated count) = k ∙ ap (λ (d : Fault). Err d) (sym f) in inl (sym f, λ s. rw g refl))
+      | inr (x, k, m) ↦ elim (form_fault _ count t c x.0 x.1 e m) [ inl (f, g) ↦ inl (f, λ s. rw k (g s)) | inr (f, g) ↦ inr (f, λ s. rw k (g s)) ]
+    ]
+
+-- the fault as it is told of another place
+pub placed_fault : (count t place : ℕ) (c : Code) (bits : List Bool) (e told : Fault) → ((s : ℕ) → e ≡ BadCode s → told ≡ BadCode place) → ((n : ℕ) → e ≡ Truncated n → told ≡ Truncated n) → word_at count t c bits ≡ Err e → word_at count place c bits ≡ Err told
+placed_fault count t place c bits e told bad ended h =
+    elim (word_fault count t c bits e h) [
+      | inl (f, g) ↦ g place ∙ ap (λ (d : Fault). Err d) (sym (ended count f))
+      | inr (f, g) ↦ g place ∙ ap (λ (d : Fault). Err d) (sym (bad t f))
+    ]
+
+-- words of numbers, and then none: so the body is refused
+words_refused : (count : ℕ) (c : CoderSettings) (gone : List Place) (before : List ℕ) (ps : List Place) (numbers : List ℕ) (q : Place) (more : List Place) (left : List Bool) (e : Fault) → length numbers ≡ length ps → AreNumbers c.bits numbers
+    → word_at count (length (before ++ numbers)) (code_at c q.z (band_numbers q.z (gone ++ ps) (before ++ numbers))) left ≡ Err e → words_at count c gone before (ps ++ q ∷ more) (words_after c gone before ps numbers ++ left) ≡ Err e
+unfolding words_at words_after
+words_refused count c gone before [] [] q more left e long h bad =
+    let here : word_at count (length before) (code_at c q.z (band_numbers q.z gone before)) left ≡ Err e = rw (append-nil gone, append-nil before) at bad in
+    rw here refl
+words_refused count c gone before [] (n ∷ ns) q more left e long h bad = absurd (omega arith)
+words_refused count c gone before (p ∷ ps) [] q more left e long h bad = absurd (omega arith)
+words_refused count c gone before (p ∷ ps) (n ∷ ns) q more left e long h bad =
+    let code : Code = code_at c p.z (band_numbers p.z gone before) in
+    let after : List Bool = words_after c (gone ++ p ∷ []) (before ++ n ∷ []) ps ns in
+    let fits : n < 2 ^ code.bits = rw (code_bits c p.z (band_numbers p.z gone before)) h.0 in
+    let places-are : (gone ++ p ∷ []) ++ ps ≡ gone ++ p ∷ ps = append_assoc gone (p ∷ []) ps in
+    let numbers-are : (before ++ n ∷ []) ++ ns ≡ before ++ n ∷ ns = append_assoc before (n ∷ []) ns in
+    let rest = words_refused count c (gone ++ p ∷ []) (before ++ n ∷ []) ps ns q more left e (omega arith) h.1 (rw (places-are, numbers-are) bad) in
+    rw (append_assoc (code_word code n) after left, word_again count (length before) code n (after ++ left) fits, rest) refl
+
+sample_behind : (p : Params) (count : ℕ) (bits : List Bool) → IsSample p.coder → behind_body count p bits ≡ (sample_body_at count (settings p) (places p.shape p.order) bits >>= λ read. Ok read.1)
+unfolding behind_body
+sample_behind p count bits coder = by_coder p.coder coder
+  where
+    by_coder : (coder : Coder) → IsSample coder → behind_by coder count p bits ≡ (sample_body_at count (settings p) (places p.shape p.order) bits >>= λ read. Ok read.1)
+    by_coder (Sample umax gamma_star gamma_zero start) s = refl
+    by_coder (Block size restricted reference) s = absurd s
+
+sample_refused : (p : Params) (count : ℕ) (numbers : List ℕ) (bits left : List Bool) (q : Place) (e : Fault) → IsSample p.coder → AllByRecursion (λ v. v < 2 ^ p.kind.bits) numbers → slice_get (places p.shape p.order) (length numbers) ≡ Some q
+    → bits ≡ sample_body (settings p) (places_of p numbers) numbers → word_at count (length numbers) (code_at (settings p) q.z (of_band p numbers q.z)) left ≡ Err e → behind_body count p (bits ++ left) ≡ Err e
+unfolding sample_body sample_body_at
+sample_refused p count numbers bits left q e coder range at text bad =
+    let split : places p.shape p.order ≡ places_of p numbers ++ q ∷ drop (suc (length numbers)) (places p.shape p.order) = split_next (places p.shape p.order) (length numbers) q at in
+    let long : length numbers ≡ length (places_of p numbers) = places_long p numbers (omega (arith, (take_next (places p.shape p.order) (length numbers) q at).0)) in
+    let numbers-are : AreNumbers (settings p).bits numbers = rw (settings_bits p) range in
+    let words = words_refused count (settings p) [] [] (places_of p numbers) numbers q (drop (suc (length numbers)) (places p.shape p.order)) left e long numbers-are bad in
+    let body : words_at count (settings p) [] [] (places p.shape p.order) (bits ++ left) ≡ Err e =
+    ap (λ (ps : List Place). words_at count (settings p) [] [] ps (bits ++ left)) split
+    ∙ ap (λ (bs : List Bool). words_at count (settings p) [] [] (places_of p numbers ++ q ∷ drop (suc (length numbers)) (places p.shape p.order)) (bs ++ left)) text ∙ words in
+    sample_behind p count (bits ++ left) coder ∙ rw body refl
+
+-- ---- by samples
+
+pub samples_given : (z t number : ℕ) (old new : Counts) (unread : Unread) (left : List Bool) → GetsNumber z t (Ok number) old unread new left → (length new.bands ≡ length old.bands) × (new.bits ≡ old.bits)
+    → (p : Params) (numbers : List ℕ) (bits : List Bool) → HasGiven p (Samples old) numbers bits → IsNumber p numbers z t → GivesMore p (Samples new) numbers bits unread.left left number
+samples_given z t number old new unread left gets kept p numbers bits h next =
+    let q : Place = next.0 in
+    let same : q.z ≡ z = next.2 in
+    let t-is : t ≡ length (of_band p numbers q.z) = next.3 ∙ ap (λ (b : ℕ). length (of_band p numbers b)) (sym same) in
+    let this : GetsNumber q.z t (Ok number) old unread new left = subst (λ (b : ℕ). GetsNumber b t (Ok number) old unread new left) (sym same) gets in
+    let did = this (settings p) (of_band p numbers) h.0.taken t-is in
+    let code : Code = code_at (settings p) q.z (of_band p numbers q.z) in
+    let word = word_takes unread.count t code unread.left (number, left) did.0 in
+    let below : number < 2 ^ p.kind.bits = rw (code_bits (settings p) q.z (of_band p numbers q.z), settings_bits p) at word.0 in
+    let long : length numbers ≡ length (places_of p numbers) = places_long p numbers (omega (arith, (take_next (places p.shape p.order) (length numbers) q next.1).0)) in (
+      below,
+      code_word code number,
+      word.1,
+      (
+        samples_more p old new numbers bits q number next.1 h.0 kept (taken_along (settings p) new (places_of p numbers) numbers q number long did.1),
+        range_more (2 ^ p.kind.bits) numbers number h.1 below,
+      ),
+    )
+
+pub samples_refused : (z t place : ℕ) (fault told : Fault) (old new : Counts) (unread : Unread) (left : List Bool) → GetsNumber z t (Err fault) old unread new left
+    → ((s : ℕ) → fault ≡ BadCode s → told ≡ BadCode place) → ((n : ℕ) → fault ≡ Truncated n → told ≡ Truncated n)
+    → (p : Params) (numbers : List ℕ) (bits : List Bool) → HasGiven p (Samples old) numbers bits → IsNumber p numbers z t → place ≡ length numbers → behind_body unread.count p (bits ++ unread.left) ≡ Err told
+samples_refused z t place fault told old new unread left gets bad ended p numbers bits h next at =
+    let q : Place = next.0 in
+    let same : q.z ≡ z = next.2 in
+    let t-is : t ≡ length (of_band p numbers q.z) = next.3 ∙ ap (λ (b : ℕ). length (of_band p numbers b)) (sym same) in
+    let this : GetsNumber q.z t (Err fault) old unread new left = subst (λ (b : ℕ). GetsNumber b t (Err fault) old unread new left) (sym same) gets in
+    let did = this (settings p) (of_band p numbers) h.0.taken t-is in
+    let code : Code = code_at (settings p) q.z (of_band p numbers q.z) in
+    let moved = placed_fault unread.count t place code unread.left fault told bad ended did.0 in
+    sample_refused p unread.count numbers bits unread.left q told h.0.coder h.1 next.1 h.0.text (subst (λ (k : ℕ). word_at unread.count k code unread.left ≡ Err told) at moved)
+
+-- ---- by blocks
+
+block_behind : (p : Params) (v : Cut) (count : ℕ) (bits : List Bool) → IsBlock p.coder → v ≡ cut_by p → behind_body count p bits ≡ (texts_at count v v.count 0 bits >>= λ read. Ok read.1)
+unfolding behind_body block_body_at
+block_behind p v count bits coder e = rw e (by_coder p.coder coder)
+  where
+    by_coder : (coder : Coder) → IsBlock coder → behind_by coder count p bits ≡ (texts_at count (coder_cut p.kind.bits (sample_count p.shape) coder) (coder_cut p.kind.bits (sample_count p.shape) coder).count 0 bits >>= λ read. Ok read.1)
+    by_coder (Block size restricted reference) s = refl
+    by_coder (Sample umax gamma_star gamma_zero start) s = absurd s
+
+pub blocks_given : (r : Result ℕ Fault) (z t place : ℕ) (old new : Unpacked) (unread : Unread) (left : List Bool) → GivesNext old unread r new left → new.cut ≡ old.cut
+    → IfOk r (λ _. given_count new ≡ given_count old + 1) → new.block ≤ new.cut.count → GivesNumber z t place r (Blocks old) unread (Blocks new) left
+blocks_given (Ok value) z t place old new unread left gives kept counted inside p numbers bits lawful h next at =
+    let did = gives numbers bits h.given in
+    let there : new.cut ≡ cut_by p = kept ∙ h.cut in
+    let room : IsCutOf (sample_count p.shape) new.cut = rw kept h.room in
+    let count : given_count new ≡ length (numbers ++ value ∷ []) = omega (arith, counted, h.count, length-append numbers (value ∷ [])) in (
+      rw (cut_bits p old.cut h.cut) at did.0,
+      did.1,
+      did.2,
+      record { coder = h.coder; cut = there; room = room; inside = inside; given = did.3; count = count },
+    )
+blocks_given (Err fault) z t place old new unread left gives kept counted inside p numbers bits lawful h next at =
+    block_behind p old.cut unread.count (bits ++ unread.left) h.coder h.cut ∙ rw (gives numbers bits h.given) refl
+
+-- ---- by either
+
+pub may_ask : (p : Params) (d : Decoder) (numbers : List ℕ) (bits : List Bool) (z : ℕ) → IsLawful p → HasGiven p d numbers bits → length numbers < sample_count p.shape → z < p.shape.bands → MayAsk d z
+may_ask p (Samples v) numbers bits z lawful h few band = omega (arith, h.0.bands, band)
+may_ask p (Blocks v) numbers bits z lawful h few band =
+    omega (arith, h.count, few, h.room.room)
+
+-- where all are given, the bits are a body of them
+
+whole_sample : (p : Params) (coder : Coder) (numbers : List ℕ) (bits : List Bool) → IsSample coder → bits ≡ sample_body (settings p) (places p.shape p.order) numbers → IsBodyBy coder p numbers bits
+whole_sample p (Sample umax gamma_star gamma_zero start) numbers bits s e = e
+whole_sample p (Block size restricted reference) numbers bits s e = absurd s
+
+whole_blocks : (p : Params) (coder : Coder) (v : Unpacked) (numbers : List ℕ) (bits : List Bool) → IsBlock coder → IsCutOf (sample_count p.shape) v.cut → v.cut ≡ coder_cut p.kind.bits (sample_count p.shape) coder → v.block ≤ v.cut.count
+    → length numbers ≡ sample_count p.shape → given_count v ≡ length numbers → HaveGiven v numbers bits → IsBodyBy coder p numbers bits
+whole_blocks p (Sample umax gamma_star gamma_zero start) v numbers bits s room is inside long given h = absurd s
+whole_blocks p (Block size restricted reference) v numbers bits s room is inside long given h =
+    let enough : sample_count p.shape ≤ v.block * v.cut.size = omega (arith, given, long) in
+    let last : v.block ≡ block_count v.cut.size (sample_count p.shape) = omega (arith, inside, room.least v.block enough, room.blocks) in
+    let same : v.cut ≡ cut_of (record { bits = p.kind.bits; restricted = restricted }) size reference (length numbers) = is ∙ ap (cut_of (record { bits = p.kind.bits; restricted = restricted }) size reference) (sym long) in
+    let sizes : v.cut.size ≡ size = ap (λ (c : Cut). c.size) is in
+    let ends : v.block ≡ block_count size (length numbers) = last ∙ ap (λ (k : ℕ). block_count k (sample_count p.shape)) sizes ∙ ap (block_count size) (sym long) in
+    record {
+      texts = h.texts;
+      lawful = rw (same, ends) at h.lawful;
+      text = rw same at h.text;
+      told = ap (λ (c : Cut). take (length numbers) (values_of (blocks_told c 0 h.texts))) (sym same) ∙ ap (take (length numbers)) h.told ∙ take_at numbers v.held (length numbers) refl;
+    }
+
+pub given_whole : (p : Params) (d : Decoder) (numbers : List ℕ) (bits : List Bool) → IsLawful p → HasGiven p d numbers bits → length numbers ≡ sample_count p.shape → IsBody p numbers bits
+given_whole p (Samples v) numbers bits lawful h long =
+    whole_sample p p.coder numbers bits h.0.coder (h.0.text ∙ ap (λ (ps : List Place). sample_body (settings p) ps numbers) (places_whole p numbers lawful.order long))
+given_whole p (Blocks v) numbers bits lawful h long =
+    whole_blocks p p.coder v numbers bits h.coder h.room h.cut h.inside long h.count h.given

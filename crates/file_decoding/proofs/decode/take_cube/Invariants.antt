@@ -1,0 +1,16 @@
+use Rattle.std.proofs.Common.{◌≡◌, length}
+use Rattle.file_coding.proofs.Walking.{IsOnWalk}
+use Rattle.file_decoding.proofs.Inverse.{IsDecoded}
+use Rattle.file_decoding.proofs.decode.take_cube.Given as goal
+
+abbrev pub invariant-loop-place : goal.invariant-loop-place
+invariant-loop-place l = record {
+  shape : l.cube.shape ≡ l.params.shape;
+  kind : l.cube.kind ≡ l.params.kind;
+  count : l.reader.count ≡ l.initial.reader.count;
+  walk : IsOnWalk l.params l.cube l.places l.bands.items;
+  decoded : IsDecoded l.params l.cube l.places l.decoder l.initial.reader.left l.reader.left;
+}
+
+abbrev pub decreases-loop-place : goal.decreases-loop-place
+decreases-loop-place l = length l.places

@@ -1,0 +1,74 @@
+-- The coder in the direction of reading: which residuals it has given, in encoding order.
+use Rattle.std.specs.Prelude.{ℕ, ◌≡◌, ◌^◌, ◌<◌, ◌≤◌, Bool, List, [], ◌∷◌, ◌++◌, length, Option, option_map, Result, Ok, Err, MatchResult}
+use Rattle.std.specs.List.{AllByRecursion}
+use Rattle.cube_core.specs.declared.fault.Fault.{Fault}
+use Rattle.cube_core.specs.declared.fault.Fault.TheVariants.{WantOfMemory, BadCode}
+use Rattle.cube_core.specs.Image.{Image}
+use Rattle.cube_core.specs.Shape.{sample_count}
+use Rattle.header_bits.specs.declared.params.Params.{Params}
+use Rattle.header_bits.specs.Bits.{Unread}
+use Rattle.header_bits.specs.Lawful.{IsLawful}
+use Rattle.predict_core.specs.Residual.{residuals}
+use Rattle.block_adaptive.specs.Settings.{IsBlock, IsCutOf, cut_by}
+use Rattle.block_adaptive.specs.Given.{Unpacked, given_count, HasGiven as HaveGiven}
+use Rattle.block_adaptive.specs.Texts.{capacity}
+use Rattle.file_coding.specs.Coding.{SamplesTaken, IsNumber}
+use Rattle.file_decoding.specs.declared.decoder.Decoder.{Decoder}
+use Rattle.file_decoding.specs.declared.decoder.Decoder.TheVariants.{Samples, Blocks}
+use Rattle.file_decoding.specs.Files.{IsBody, IsCubeOf, IsFile, behind_body}
+
+-- the block-adaptive coder has given the numbers, and has read the bits
+pub record BlocksGiven (p : Params) (v : Unpacked) (numbers : List ℕ) (bits : List Bool) : Type 0 where
+  pub coder : IsBlock p.coder
+  pub cut : v.cut ≡ cut_by p
+  pub room : IsCutOf (sample_count p.shape) v.cut
+  pub inside : v.block ≤ v.cut.count
+  pub given : HaveGiven v numbers bits
+  pub count : given_count v ≡ length numbers
+
+-- the coder of parameters has given the numbers, each in range, and has read the bits
+abbrev pub HasGiven : Params → Decoder → List ℕ → List Bool → Type 0
+HasGiven p (Samples v) numbers bits = SamplesTaken p v numbers bits × AllByRecursion (λ n. n < 2 ^ p.kind.bits) numbers
+HasGiven p (Blocks v) numbers bits = BlocksGiven p v numbers bits
+
+-- a bad code word is refused by its place in encoding order
+abbrev pub placed_at : ℕ → Fault → Fault
+placed_at place (BadCode t) = BadCode place
+placed_at place fault = fault
+
+-- what every call is refused for, where one was refused
+abbrev pub refusal_at : ℕ → Decoder → Option Fault
+refusal_at place (Samples v) = option_map (placed_at place) v.refused
+refusal_at place (Blocks v) = v.refused
+
+-- a number of band z may be asked for
+abbrev pub MayAsk : Decoder → ℕ → Type 0
+MayAsk (Samples v) z = z < length v.bands
+MayAsk (Blocks v) z = given_count v < capacity v.cut
+
+-- bits were read, and with them one number more is given
+abbrev pub GivesMore : Params → Decoder → List ℕ → List Bool → List Bool → List Bool → ℕ → Type 0
+GivesMore p new numbers bits unread left number =
+    (number < 2 ^ p.kind.bits) × (read : List Bool) × (unread ≡ read ++ left) × HasGiven p new (numbers ++ number ∷ []) (bits ++ read)
+
+-- whatever numbers were given before: the next one is given, or the refusal is that of the body
+abbrev pub GivesNumber : ℕ → ℕ → ℕ → Result ℕ Fault → Decoder → Unread → Decoder → List Bool → Type 0
+GivesNumber z t place result old unread new left =
+    (p : Params) (numbers : List ℕ) (bits : List Bool) → IsLawful p → HasGiven p old numbers bits → IsNumber p numbers z t → place ≡ length numbers
+    → MatchResult result (λ number. GivesMore p new numbers bits unread.left left number) (λ fault. behind_body unread.count p (bits ++ unread.left) ≡ Err fault)
+
+-- the bits begin with a body of the cube's residuals, and these are left
+pub record TakesCube (p : Params) (c : Image) (bits left : List Bool) : Type 0 where
+  pub cube : IsCubeOf p c
+  pub body : List Bool
+  pub coded : IsBody p (residuals p c) body
+  pub text : bits ≡ body ++ left
+
+-- the answer is these parameters and this cube, or memory ran out
+abbrev pub AnswersOr : Result (Params × Image) Fault → Params → Image → Type 0
+AnswersOr (Ok found) p c = (found.0 ≡ p) × (found.1 ≡ c)
+AnswersOr (Err e) p c = e ≡ WantOfMemory
+
+-- the bytes are a file of no parameters and no cube
+abbrev pub IsNoFile : List ℕ → Type 0
+IsNoFile bytes = (p : Params) (c : Image) → IsFile bytes p c → ⊥

@@ -1,0 +1,4 @@
+pub mod Decoding
+pub mod Files
+pub mod Laws
+pub mod Least

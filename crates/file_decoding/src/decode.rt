@@ -1,0 +1,114 @@
+//! Decoding: from a file's bytes to its parameters and its cube.
+
+ghost use Rattle.std.specs.Prelude.{◌≡◌, ◌⊎◌, ◌*◌, ◌^◌, ◌≤◌, Err, IfOk, IfErr, length, drop};
+ghost use Rattle.cube_core.specs.declared.fault.Fault.{Fault as Refusal};
+ghost use Rattle.cube_core.specs.declared.fault.Fault.TheVariants.{WantOfMemory};
+ghost use Rattle.cube_core.specs.Shape.{InRange};
+ghost use Rattle.cube_core.specs.Image.{Image};
+ghost use Rattle.header_bits.specs.declared.params.Params.{Params as Parameters};
+ghost use Rattle.header_bits.specs.Bits.{bits_of_bytes};
+ghost use Rattle.header_bits.specs.Lawful.{IsLawful};
+ghost use Rattle.header_bits.specs.Header.{header_at, BeginsWithTable};
+ghost use Rattle.file_decoding.specs.Files.{IsFile, behind_body, fill_test, head_at, file_test};
+ghost use Rattle.file_decoding.specs.Decoding.{TakesCube, AnswersOr, IsNoFile};
+
+use crate::decoder::Decoder;
+use crate::least::test_length;
+use cube_core::cube::Cube;
+use cube_core::cursor::Places;
+use cube_core::fault::Fault;
+use file_coding::bands::all_bands;
+use header_bits::bit_reader::BitReader;
+use header_bits::header::read_header;
+use header_bits::params::Params;
+use std::alloc::Global;
+
+/// The parameters and the cube of a file of at most 2^60 bytes.
+///
+/// The refusals come in this order: those of the header, whatever memory there is; `WantOfMemory` where
+/// the header holds tables and there is none for them; `Truncated` where fewer bits stand behind the
+/// header than the shortest body has; `WantOfMemory`; the first fault of the body in bit order, which is
+/// `Truncated`, `BadCode`, `BadOption` or `RunPastSegment`; `TooLong` where an output word's bits or more
+/// stand behind the body; `BadFill` where one of them is a one. So where the header holds no table, no
+/// memory is asked for up to the first `Truncated`. `Truncated` names the number of the file's bits.
+pub fn decode(alloc: Global, bytes: &[u8]) -> Result<(Params, Cube), Fault>
+    requires { length bytes.now ≤ 2 ^ 60 }
+    ensures lawful { IfOk result (λ found. IsLawful found.0) }
+    ensures file { IfOk result (λ found. IsFile bytes.now found.0 found.1) }
+    ensures only { (p : Parameters) (c : Image) → IsFile bytes.now p c → AnswersOr result p c }
+    ensures header { (e : Refusal) → header_at (bits_of_bytes bytes.now) ≡ Err e → result ≡ Err e }
+    ensures head { (e : Refusal) → head_at (bits_of_bytes bytes.now) ≡ Err e → (result ≡ Err e) ⊎ ((result ≡ Err WantOfMemory) × BeginsWithTable (bits_of_bytes bytes.now)) }
+    ensures fault { IfErr result (λ e. (e ≡ WantOfMemory) ⊎ (file_test (bits_of_bytes bytes.now) ≡ Err e)) }
+    ensures none { IfErr result (λ e. (e ≡ WantOfMemory) ⊎ IsNoFile bytes.now) }
+{
+    read_file(alloc, bytes)
+}
+
+/// Reads header, body and fill, one after another; memory for the cube is asked for where there can be one.
+fn read_file(alloc: Global, bytes: &[u8]) -> Result<(Params, Cube), Fault>
+    requires { length bytes.now ≤ 2 ^ 60 }
+    ensures lawful { IfOk result (λ found. IsLawful found.0) }
+    ensures file { IfOk result (λ found. IsFile bytes.now found.0 found.1) }
+    ensures head { (e : Refusal) → head_at (bits_of_bytes bytes.now) ≡ Err e → (result ≡ Err e) ⊎ ((result ≡ Err WantOfMemory) × BeginsWithTable (bits_of_bytes bytes.now)) }
+    ensures fault { IfErr result (λ e. (e ≡ WantOfMemory) ⊎ (file_test (bits_of_bytes bytes.now) ≡ Err e)) }
+{
+    let (params, size) = read_header(alloc, bytes)?;
+    let mut reader = reader_behind(bytes, size);
+    test_length(&params, &reader)?;
+    let cube = take_cube(alloc, &params, &mut reader)?;
+    test_fill(params.word, &reader)?;
+    Ok((params, cube))
+}
+
+/// A reader of all the bytes, from which so many whole bytes were taken.
+fn reader_behind(bytes: &[u8], size: usize) -> BitReader<'_>
+    requires small { length bytes.now ≤ 2 ^ 60 }
+    requires within { size ≤ length bytes.now }
+    ensures count { result.count ≡ 8 * length bytes.now }
+    ensures left { result.left ≡ drop (8 * size) (bits_of_bytes bytes.now) }
+{
+    let mut reader = BitReader::new(bytes);
+    for _ in 0..size {
+        reader.take(8).unwrap();
+    }
+    reader
+}
+
+/// The cube whose body stands next.
+fn take_cube(alloc: Global, params: &Params, reader: &mut BitReader) -> Result<Cube, Fault>
+    requires { IsLawful params.now }
+    ensures taken { IfOk result (λ cube. TakesCube params.now cube reader.old.left reader.new.left) }
+    ensures refused { IfErr result (λ e. (e ≡ WantOfMemory) ⊎ (behind_body reader.old.count params.now reader.old.left ≡ Err e)) }
+    ensures count { reader.new.count ≡ reader.old.count }
+{
+    let mut cube = Cube::new(alloc, params.shape, params.kind)?;
+    let mut bands = all_bands(alloc, params)?;
+    let mut decoder = Decoder::new(alloc, params)?;
+    let count = params.shape.sample_count();
+    let mut places = Places::new(params.shape, params.order);
+    while let Some(place) = places.next() {
+        let index = count - 1 - places.left();
+        let band = &mut bands[place.z as usize];
+        let t = band.next();
+        let delta = decoder.next(place.z, t, index, reader)?;
+        let sample = band.inverse(&cube, place.y, place.x, delta);
+        cube.set(place.z, place.y, place.x, sample);
+    }
+    cube.is_cube();
+    Ok(cube)
+}
+
+/// Tests what stands behind the body: fewer bits than an output word of so many bytes has, and zeros.
+fn test_fill(word: u32, reader: &BitReader) -> Result<(), Fault>
+    requires { InRange 1 8 word }
+    ensures { result ≡ fill_test word reader.now.left }
+{
+    let bits = reader.left();
+    if bits >= u64::from(8 * word) {
+        return Err(Fault::TooLong { bits });
+    }
+    if reader.fork().count_zeros(bits).unwrap() < bits {
+        return Err(Fault::BadFill);
+    }
+    Ok(())
+}

@@ -1,0 +1,74 @@
+//! The reading end: one of the two entropy coders, which gives an image's residuals in encoding order.
+
+ghost use Rattle.std.specs.Prelude.{◌≡◌, [], Err, Some, IsOk, IfOk, IfErr, OnErr};
+ghost use Rattle.cube_core.specs.declared.fault.Fault.{Fault as Refusal};
+ghost use Rattle.cube_core.specs.declared.fault.Fault.TheVariants.{WantOfMemory};
+ghost use Rattle.header_bits.specs.Lawful.{IsLawful};
+ghost use Rattle.block_adaptive.specs.Settings.{IsBlock};
+ghost use Rattle.file_decoding.specs.Decoding.{HasGiven, MayAsk, GivesNumber, placed_at, refusal_at};
+
+use block_adaptive::block_reader::BlockReader;
+use cube_core::fault::Fault;
+use header_bits::bit_reader::BitReader;
+use header_bits::params::{Coder, Params};
+use sample_adaptive::stats::Stats;
+use std::alloc::Global;
+
+/// The entropy coder that an image's parameters name, in the direction of reading.
+#[derive(Drop)]
+pub enum Decoder {
+    Samples(Stats),
+    Blocks(BlockReader),
+}
+
+impl Decoder {
+    /// The coder of an image, which has given no residual yet.
+    ///
+    /// `WantOfMemory` where there is none for the statistics of all bands; the block-adaptive coder
+    /// takes none.
+    pub fn new(alloc: Global, params: &Params) -> Result<Decoder, Fault>
+        requires { IsLawful params.now }
+        ensures given { IfOk result (λ coder. HasGiven params.now coder [] []) }
+        ensures refused { IfErr result (λ e. e ≡ WantOfMemory) }
+        ensures blocks { IsBlock params.now.coder → IsOk result }
+    {
+        match params.coder {
+            Coder::Sample { .. } => Ok(Decoder::Samples(Stats::new(alloc, params)?)),
+            Coder::Block { .. } => Ok(Decoder::Blocks(BlockReader::new(params))),
+        }
+    }
+
+    /// Gives the next residual of the body, which is number `t` of band `z` and stands at `place` in
+    /// encoding order.
+    ///
+    /// Fewer were given than there are samples. Where none is spelt there, the answer is the first
+    /// fault of the body: `Truncated`, `BadCode` with the place, `BadOption` or `RunPastSegment`. Then
+    /// the bits that are left are as before, and every later call answers the same, a `BadCode` with its
+    /// own place. No memory is taken.
+    pub fn next(&mut self, z: u32, t: u64, place: u64, reader: &mut BitReader) -> Result<u16, Fault>
+        requires { MayAsk self.old z }
+        ensures given { GivesNumber z t place result self.old reader.old self.new reader.new.left }
+        ensures again { (fault : Refusal) → refusal_at place self.old ≡ Some fault → result ≡ Err fault }
+        ensures kept { IfErr result (λ fault. refusal_at place self.new ≡ Some fault) }
+        ensures same { OnErr result (reader.new ≡ reader.old) }
+        ensures count { reader.new.count ≡ reader.old.count }
+    {
+        match self {
+            Decoder::Samples(stats) => match stats.get(z, t, reader) {
+                Ok(number) => Ok(number),
+                Err(fault) => Err(placed(fault, place)),
+            },
+            Decoder::Blocks(blocks) => blocks.next(reader),
+        }
+    }
+}
+
+/// A fault of a code word, at its place in encoding order.
+fn placed(fault: Fault, place: u64) -> Fault
+    ensures { result ≡ placed_at place fault }
+{
+    match fault {
+        Fault::BadCode { .. } => Fault::BadCode { place },
+        other => other,
+    }
+}

@@ -1,0 +1,41 @@
+//! The fewest bits that a body has.
+
+ghost use Rattle.std.specs.Prelude.{◌≡◌};
+ghost use Rattle.header_bits.specs.Lawful.{IsLawful};
+ghost use Rattle.file_decoding.specs.Least.{least_length as fewest_bits, least_test};
+
+use block_adaptive::segments::segment_count;
+use cube_core::fault::Fault;
+use header_bits::bit_reader::BitReader;
+use header_bits::params::{Coder, Params};
+
+/// The fewest bits that a body by lawful parameters has: one for each sample, or three for each segment
+/// of their blocks. It takes no memory.
+pub fn least_length(params: &Params) -> u64
+    requires { IsLawful params.now }
+    ensures { result ≡ fewest_bits params.now }
+{
+    let samples = params.shape.sample_count();
+    match params.coder {
+        Coder::Sample { .. } => samples,
+        Coder::Block {
+            size,
+            reference,
+            ..
+        } => 3 * segment_count(samples, size, reference),
+    }
+}
+
+/// Tests that as many bits are left as the shortest body has, whatever they are: else the file is
+/// `Truncated`.
+pub(crate) fn test_length(params: &Params, reader: &BitReader) -> Result<(), Fault>
+    requires { IsLawful params.now }
+    ensures { result ≡ least_test reader.now.count params.now reader.now.left }
+{
+    if reader.left() < least_length(params) {
+        return Err(Fault::Truncated {
+            bit: reader.count(),
+        });
+    }
+    Ok(())
+}
