@@ -1,8 +1,6 @@
 pub mod CodingLaws
 pub mod Codings
-pub mod Everything
 pub mod Piping
-pub mod Rows
 pub mod Standings
 pub mod Stops
 pub mod Woven

@@ -8,12 +8,6 @@ pub mod laws;
 pub mod pipeline;
 mod run;
 pub mod weaver;
-pub mod worked;
-pub mod worked_least;
-pub mod worked_parts;
-pub mod worked_refusals;
-pub mod worked_restricted;
-pub mod worked_tables;
 
 pub use cube_predictors::{cube_feed, plan, predict_lane};
 pub use file_coding::encoder;

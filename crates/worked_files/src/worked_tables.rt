@@ -5,7 +5,7 @@ ghost use Rattle.std.specs.Prelude.{◌≡◌, ◌++◌, ◌∷◌, [], Err, neg
 ghost use Rattle.cube_core.specs.declared.fault.Fault.TheVariants.{ShortHeader, Reserved, Disagree, TableElsewhere, Truncated};
 ghost use Rattle.cube_core.specs.declared.fault.Rule.TheVariants as rule;
 ghost use Rattle.header_bits.specs.Parts.{fine};
-ghost use Rattle.coder_pipe.specs.Rows.{bytes, file, no_weights, table_of, test, tests_of_cuts, with_constants};
+ghost use Rattle.worked_files.specs.Rows.{bytes, file, no_weights, table_of, test, tests_of_cuts, with_constants};
 
 /// Without previous bands a table has no entries, and no bytes.
 pub fn table_of_no_weights()

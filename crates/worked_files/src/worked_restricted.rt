@@ -5,7 +5,7 @@ ghost use Rattle.std.specs.Prelude.{◌≡◌, ◌∷◌, [], Err, replicate, tr
 ghost use Rattle.cube_core.specs.declared.fault.Fault.TheVariants.{Disagree};
 ghost use Rattle.cube_core.specs.declared.fault.Rule.TheVariants as rule;
 ghost use Rattle.file_coding.specs.File.{file_of_residuals};
-ghost use Rattle.coder_pipe.specs.Rows.{bytes, few_bits, file, test};
+ghost use Rattle.worked_files.specs.Rows.{bytes, few_bits, file, test};
 
 /// Two bits: the residual 0 makes a zero block.
 pub fn zero_block_of_two_bits()

@@ -7,7 +7,7 @@ ghost use Rattle.header_bits.specs.Bits.{bits_of};
 ghost use Rattle.header_bits.specs.Parts.{fine};
 ghost use Rattle.header_bits.specs.Rows.{sizes};
 ghost use Rattle.file_decoding.specs.Least.{least_test};
-ghost use Rattle.coder_pipe.specs.Rows.{block, bytes, short_limit, test, tests_of_cuts};
+ghost use Rattle.worked_files.specs.Rows.{block, bytes, short_limit, test, tests_of_cuts};
 
 /// 32 bits for 33 samples, though a bad code word stands among them.
 pub fn fewer_bits_than_samples()

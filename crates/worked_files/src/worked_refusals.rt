@@ -4,7 +4,7 @@
 ghost use Rattle.std.specs.Prelude.{◌≡◌, Err};
 ghost use Rattle.cube_core.specs.declared.fault.Fault.TheVariants.{ShortHeader, Reserved, Truncated, BadCode, BadOption, RunPastSegment, BadFill, TooLong};
 ghost use Rattle.header_bits.specs.Parts.{fine};
-ghost use Rattle.coder_pipe.specs.Rows.{test};
+ghost use Rattle.worked_files.specs.Rows.{test};
 
 /// The last bit of two equal samples' file is one.
 pub fn a_bit_behind_the_body_is_one()

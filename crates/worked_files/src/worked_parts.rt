@@ -3,7 +3,7 @@
 
 ghost use Rattle.std.specs.Prelude.{◌≡◌, ◌∷◌, [], map, pos};
 ghost use Rattle.cube_predictors.specs.Weave.{parts, weave};
-ghost use Rattle.coder_pipe.specs.Rows.{cube, interleaved_a, samples_a};
+ghost use Rattle.worked_files.specs.Rows.{cube, interleaved_a, samples_a};
 
 /// A predictor for each band.
 pub fn a_band_each()

@@ -4,7 +4,7 @@
 ghost use Rattle.std.specs.Prelude.{◌≡◌, ◌∷◌, [], replicate, pos, negsuc, true, false};
 ghost use Rattle.header_bits.specs.Rows.{common};
 ghost use Rattle.file_coding.specs.File.{file_of, file_of_residuals};
-ghost use Rattle.coder_pipe.specs.Rows.{bytes, file, cube, one_below, coarse_steps, growing_steps, signed_sixteen, short_limit, four_byte_words, register_of, two_below, table_of, coarse_table, with_constants, block, few_bits, of_cube_a, samples_a, interleaved_a, blocks_a, middles};
+ghost use Rattle.worked_files.specs.Rows.{bytes, file, cube, one_below, coarse_steps, growing_steps, signed_sixteen, short_limit, four_byte_words, register_of, two_below, table_of, coarse_table, with_constants, block, few_bits, of_cube_a, samples_a, interleaved_a, blocks_a, middles};
 
 /// One sample stands in its bits.
 pub fn one_sample()
