@@ -6,12 +6,12 @@ use crate::synthetic::{mixed, residuals, sum_of_bytes};
 use std::hint::black_box;
 use std::time::Instant;
 
-/// How numbers are cut into blocks, in the full set of options.
+/// How numbers are cut into blocks.
 #[derive(Clone, Copy)]
 pub struct Cut {
     /// D, how many bits a value has.
     bits: u32,
-    /// How many bits an identifier has.
+    /// How many bits an identifier has, which also tells how many k there are.
     width: u32,
     size: usize,
     reference: u64,
@@ -27,6 +27,12 @@ impl Cut {
             reference,
             count: numbers.div_ceil(size) as u64,
         }
+    }
+
+    /// The same cut in the restricted set of code options, for at most four bits.
+    fn restricted(self) -> Cut {
+        let width = if self.bits <= 2 { 1 } else { 2 };
+        Cut { width, ..self }
     }
 
     /// How many blocks there are from this one to its segment's end.
@@ -267,28 +273,35 @@ impl BlockReader {
     }
 }
 
-/// Measures how numbers are written and read in blocks of each size.
+/// Measures how numbers are written and read in blocks of each size, and in the restricted set of code
+/// options for numbers of four bits and of two.
 pub fn measure(report: &Report) {
+    let count = report.shape().sample_count();
+    let numbers = residuals(count);
     for size in [8, 16, 32, 64] {
-        coded(report, size);
+        let cut = Cut::new(12, size, 4096, count);
+        coded(report, &size.to_string(), cut, &numbers);
+    }
+    for bits in [4, 2] {
+        let low: Vec<u16> = numbers.iter().map(|number| number % (1 << bits)).collect();
+        let cut = Cut::new(bits, 16, 4096, count).restricted();
+        coded(report, &format!("restricted_{bits}"), cut, &low);
     }
 }
 
-fn coded(report: &Report, size: usize) {
-    let count = report.shape().sample_count();
-    let numbers = residuals(count);
+fn coded(report: &Report, name: &str, cut: Cut, numbers: &[u16]) {
+    let count = numbers.len();
     // What the settings are is known of when the program runs.
-    let (bits, size, reference) = black_box((12, size, 4096));
-    let cut = Cut::new(bits, size, reference, count);
+    let cut = black_box(cut);
     let start = Instant::now();
     let mut blocks = BlockWriter::new(cut);
     let mut writer = BitWriter::new();
-    for number in &numbers {
+    for number in numbers {
         blocks.put(*number, &mut writer);
     }
     blocks.end(&mut writer);
     let body = writer.into_bytes();
-    report.line(&format!("block_encode_{size}"), count, start, || {
+    report.line(&format!("block_encode_{name}"), count, start, || {
         sum_of_bytes(&body)
     });
     let start = Instant::now();
@@ -299,5 +312,5 @@ fn coded(report: &Report, size: usize) {
         let number = blocks.next(&mut reader).expect("the numbers again");
         sum = mixed(sum, u64::from(number));
     }
-    report.line(&format!("block_decode_{size}"), count, start, || sum);
+    report.line(&format!("block_decode_{name}"), count, start, || sum);
 }

@@ -21,17 +21,25 @@ pub enum Order {
     Bi(usize),
 }
 
-/// Measures `forward` and `inverse` in each mode and order.
+/// Makes the predictors of all bands, each before its first place.
+type Start = fn(&Params) -> Vec<Band>;
+
+/// Measures `forward` and `inverse` in each mode and order, and in full mode from a weight table.
 pub fn measure(report: &Report) {
     let shape = report.shape();
-    for (mode, reduced, previous) in [("full_3", false, 3), ("reduced_0", true, 0)] {
+    let modes: [(&str, bool, u32, Start); 3] = [
+        ("full_3", false, 3, all_bands),
+        ("reduced_0", true, 0, all_bands),
+        ("table_3", false, 3, bands_from_table),
+    ];
+    for (mode, reduced, previous, start_bands) in modes {
         let params = params_of(shape, reduced, previous);
         for (name, order) in [
             ("bsq", Order::Bsq),
             ("bil", Order::Bi(1)),
             ("bip", Order::Bi(shape.bands)),
         ] {
-            there_and_back(report, &format!("{mode}_{name}"), &params, order);
+            there_and_back(report, &format!("{mode}_{name}"), &params, order, start_bands);
         }
     }
 }
@@ -54,12 +62,18 @@ pub fn params_of(shape: Shape, reduced: bool, previous: u32) -> Params {
 }
 
 /// Measures both ways in an order.
-fn there_and_back(report: &Report, name: &str, params: &Params, order: Order) {
+fn there_and_back(
+    report: &Report,
+    name: &str,
+    params: &Params,
+    order: Order,
+    start_bands: Start,
+) {
     let shape = params.shape;
     let count = shape.sample_count();
     let cube = synthetic_cube(params);
     let mut residuals = vec![0; count];
-    let mut bands = all_bands(params);
+    let mut bands = start_bands(params);
     let mut slots = residuals.iter_mut();
     let start = Instant::now();
     walk(shape, order, |z, y, x| {
@@ -74,7 +88,7 @@ fn there_and_back(report: &Report, name: &str, params: &Params, order: Order) {
         smin: params.smin(),
         heights: vec![0; count],
     };
-    let mut bands = all_bands(params);
+    let mut bands = start_bands(params);
     let mut slots = residuals.iter();
     let start = Instant::now();
     walk(shape, order, |z, y, x| {
@@ -89,6 +103,19 @@ fn there_and_back(report: &Report, name: &str, params: &Params, order: Order) {
 pub fn all_bands(params: &Params) -> Vec<Band> {
     (0..params.shape.bands as u32)
         .map(|z| Band::new(params, z))
+        .collect()
+}
+
+/// The predictors of all bands in full mode, whose weights start from synthetic numbers of 14 bits.
+fn bands_from_table(params: &Params) -> Vec<Band> {
+    let mut generator = Generator::new();
+    (0..params.shape.bands as u32)
+        .map(|z| {
+            let entries: Vec<i32> = (0..z.min(params.previous) + 3)
+                .map(|_| i32::from(generator.number(14)) - 8192)
+                .collect();
+            Band::from_table(params, z, 14, &entries)
+        })
         .collect()
 }
 

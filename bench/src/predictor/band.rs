@@ -44,6 +44,21 @@ impl Band {
         }
     }
 
+    /// The predictor of a band whose weights start from its entries in a weight table of so many bits.
+    pub fn from_table(params: &Params, z: u32, resolution: u32, entries: &[i32]) -> Band {
+        let mut band = Band::new(params, z);
+        let shift = params.fraction + 3 - resolution;
+        let half = if shift > 0 {
+            (1 << (shift - 1)) - 1
+        } else {
+            0
+        };
+        for (weight, entry) in band.weights.iter_mut().zip(entries) {
+            *weight = (entry << shift) + half;
+        }
+        band
+    }
+
     /// The mapped residual of the sample at the next place.
     // Inlined into the loop it is slower.
     #[inline(never)]

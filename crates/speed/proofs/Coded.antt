@@ -1,5 +1,5 @@
 -- Numbers that the coders have written.
-use Rattle.std.proofs.Common.{◌≡◌, ◌<◌, ℕ, slice_index, Vec, Global, Result, Ok, Err, IfOk, zero, suc, Bool, List, [], ◌∷◌, ◌++◌, length, replicate, refl, sym, ap, ◌∙◌, subst, arith}
+use Rattle.std.proofs.Common.{◌≡◌, ◌<◌, ◌≤◌, ◌^◌, ℕ, slice_index, Vec, Global, Result, Ok, Err, IfOk, zero, suc, Bool, List, [], ◌∷◌, ◌++◌, length, replicate, refl, sym, ap, ◌∙◌, subst, arith}
 use Rattle.std.proofs.lemmas.List.{length-append, length-replicate}
 use Rattle.cube_core.specs.declared.fault.Fault.{Fault}
 use Rattle.cube_core.specs.declared.order.Place.{Place}
@@ -17,7 +17,7 @@ use Rattle.block_adaptive.specs.Taken.{Packed, EndsBody, HasTaken as HaveTaken}
 use Rattle.header_bits.specs.Bits.{bits_of_bytes}
 use Rattle.file_coding.specs.File.{body_of, filled}
 use Rattle.file_coding.proofs.Coders.{block_body_is}
-use Rattle.speed.specs.Bodies.{AreOfTwelveBits, first_place, one_band_body}
+use Rattle.speed.specs.Bodies.{AreOfBits, first_place, one_band_body}
 
 -- the numbers by band: all are of the first
 abbrev first_alone : List ℕ → ℕ → List ℕ
@@ -74,6 +74,6 @@ pub whole_text : (r : Result (Vec ℕ Global) Fault) (P : Type 0) (bits text : L
 whole_text (Ok bytes) P bits text e f = λ h. e ∙ ap (filled 1) (f h)
 whole_text (Err fault) P bits text e f = tt
 
--- numbers that are all of twelve bits hold none that is greater
-pub none_greater : (numbers : List ℕ) (i : ℕ) → AreOfTwelveBits numbers → i < length numbers → 4095 < slice_index numbers i → ⊥
-none_greater numbers i small lt more = omega (arith, small i lt, more)
+-- numbers that are all of so many bits hold none that is as great as their power
+pub none_greater : (bits : ℕ) (numbers : List ℕ) (i : ℕ) → AreOfBits bits numbers → i < length numbers → 2 ^ bits ≤ slice_index numbers i → ⊥
+none_greater bits numbers i small lt more = omega (arith, small i lt, more)

@@ -9,7 +9,7 @@ use Rattle.std.proofs.lemmas.Bool.{ne_eqb, eq-eqb}
 use Rattle.std.proofs.Math.Pow.{pow_mono}
 use Rattle.cube_core.specs.Order.{from, upto}
 use Rattle.cube_core.proofs.Lists.{length-from}
-use Rattle.speed.specs.Bodies.{AreOfTwelveBits}
+use Rattle.speed.specs.Bodies.{AreOfBits}
 use Rattle.speed.specs.Numbers.{first_state, next_state, state_behind, highest, residual_of, synthetic_residual, synthetic_residuals}
 
 from_more : (a n : ℕ) → from a (suc n) ≡ from a n ++ (a + n) ∷ []
@@ -22,7 +22,7 @@ pub upto_more : (n : ℕ) → upto (n + 1) ≡ upto n ++ n ∷ []
 upto_more n = rw add-one (from_more 0 n ∙ ap (λ (k : ℕ). upto n ++ k ∷ []) (let e : 0 + n ≡ n = omega arith in e))
 
 -- one more of the values of a function
-pub mapped_more : (f : ℕ → ℕ) (n : ℕ) → map f (upto (n + 1)) ≡ map f (upto n) ++ f n ∷ []
+pub mapped_more : {B : Type 0} (f : ℕ → B) (n : ℕ) → map f (upto (n + 1)) ≡ map f (upto n) ++ f n ∷ []
 mapped_more f n = ap (map f) (upto_more n) ∙ map-append f (upto n) (n ∷ [])
 
 pub pieces_more : (f : ℕ → List ℕ) (n : ℕ) → flat_map f (upto (n + 1)) ≡ flat_map f (upto n) ++ f n
@@ -91,7 +91,7 @@ synthetic_below i =
     let low : highest 5 (state_behind (2 * i + 2)) / 2 ^ (i / 4096 % 4 + 1) < 16 = halved few (i / 4096 % 4) drawn in
     below_twelve_bits (eqb (i / 4096 % 8) 7) (16 * leading_zeros w16 word + few / 2 ^ (i / 4096 % 4 + 1)) (omega (arith, high, low))
 
-pub residuals_below : (n : ℕ) → AreOfTwelveBits (synthetic_residuals n)
+pub residuals_below : (n : ℕ) → AreOfBits 12 (synthetic_residuals n)
 residuals_below n i lt =
     let among : i < length (upto n) = omega (arith, lt, length-map (upto n) synthetic_residual) in
     subst (λ (number : ℕ). number < 2 ^ 12) (sym (get_or-map synthetic_residual (upto n) i 0 0 among)) (synthetic_below (get_or (upto n) i 0))

@@ -1,4 +1,5 @@
 mod Coded
 mod Draws
+mod Powers
 mod Scene
 mod Walk

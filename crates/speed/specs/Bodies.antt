@@ -5,9 +5,9 @@ use Rattle.header_bits.specs.declared.params.Params.{Params}
 use Rattle.sample_adaptive.specs.Settings.{settings}
 use Rattle.sample_adaptive.specs.Body.{sample_body}
 
--- numbers of twelve bits
-abbrev pub AreOfTwelveBits : List ℕ → Type 0
-AreOfTwelveBits numbers = (i : ℕ) → i < length numbers → slice_index numbers i < 2 ^ 12
+-- numbers of so many bits
+abbrev pub AreOfBits : ℕ → List ℕ → Type 0
+AreOfBits bits numbers = (i : ℕ) → i < length numbers → slice_index numbers i < 2 ^ bits
 
 abbrev pub first_place : Place
 first_place = record { z = 0; y = 0; x = 0 }

@@ -10,8 +10,10 @@ use Rattle.header_bits.specs.declared.params.Params.{Params}
 use Rattle.header_bits.specs.declared.params.Coder.{Coder}
 use Rattle.header_bits.specs.declared.params.Coder.TheVariants.{Sample}
 use Rattle.header_bits.specs.declared.params.CountStart.TheVariants.{Constant}
-use Rattle.header_bits.specs.declared.params.WeightStart.TheVariants.{Usual}
+use Rattle.header_bits.specs.declared.params.WeightStart.TheVariants.{Usual, Table}
 use Rattle.header_bits.specs.Lawful.{params_fault}
+use Rattle.header_bits.specs.TableParts.{weight_count}
+use Rattle.speed.specs.Numbers.{synthetic_weights}
 
 -- the sizes of the cube that is gone through: large ones where times are told
 abbrev pub measured_shape : Bool → Sizes
@@ -48,6 +50,10 @@ measured shape reduced previous order coder = record {
 -- the plainest parameters of a kind, for a coder that is measured alone
 abbrev pub coder_alone : Sizes → SampleKind → Coder → Params
 coder_alone shape kind coder = record (measured shape true 0 Bsq coder) { kind = kind; column = true }
+
+-- the same parameters in full mode, whose weights start from a table
+abbrev pub from_table : Params → Params
+from_table p = record p { start = Table 14 (synthetic_weights (weight_count p.previous false p.shape.bands)) }
 
 -- parameters, or the first refusal of them
 abbrev pub lawful_or_fault : Params → Result Params Fault

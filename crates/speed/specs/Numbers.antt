@@ -1,5 +1,5 @@
 -- Synthetic numbers, and the checksum of numbers.
-use Rattle.std.specs.Prelude.{ℕ, zero, suc, ◌+◌, ◌-◌, ◌*◌, ◌/◌, ◌%◌, ◌^◌, ◌==◌, List, map, fold, if◌then◌else◌}
+use Rattle.std.specs.Prelude.{ℕ, ℤ, pos, ◌-ℤ◌, zero, suc, ◌+◌, ◌-◌, ◌*◌, ◌/◌, ◌%◌, ◌^◌, ◌==◌, List, map, fold, if◌then◌else◌}
 use Rattle.std.specs.Int.{w16, w64, rotate_left, leading_zeros}
 use Rattle.cube_core.specs.Order.{upto}
 
@@ -33,6 +33,14 @@ synthetic_residual i = residual_of i (highest 16 (state_behind (2 * i + 1))) (hi
 -- so many synthetic residuals
 abbrev pub synthetic_residuals : ℕ → List ℕ
 synthetic_residuals n = map synthetic_residual (upto n)
+
+-- the i-th of signed numbers of 14 bits
+unfoldable pub synthetic_weight : ℕ → ℤ
+synthetic_weight i = pos (highest 14 (state_behind (i + 1))) -ℤ pos 8192
+
+-- so many signed numbers of 14 bits
+abbrev pub synthetic_weights : ℕ → List ℤ
+synthetic_weights n = map synthetic_weight (upto n)
 
 -- a checksum with one more number
 abbrev pub mixed : ℕ → ℕ → ℕ

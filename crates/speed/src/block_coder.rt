@@ -1,12 +1,12 @@
 //! The speed of the block-adaptive coder.
 
-ghost use Rattle.std.specs.Prelude.{◌≡◌, ◌≤◌, IfOk, IfErr, length, false};
+ghost use Rattle.std.specs.Prelude.{◌≡◌, ◌≤◌, ◌%◌, ◌^◌, IfOk, IfErr, length, map};
 ghost use Rattle.cube_core.specs.declared.fault.Fault.TheVariants.{WantOfMemory};
 ghost use Rattle.cube_core.specs.Shape.{sample_count};
 ghost use Rattle.block_adaptive.specs.Settings.{AreForBlocks, IsSize};
 ghost use Rattle.file_coding.specs.File.{body_of, filled};
 ghost use Rattle.header_bits.specs.Bits.{bits_of_bytes};
-ghost use Rattle.speed.specs.Bodies.{AreOfTwelveBits};
+ghost use Rattle.speed.specs.Bodies.{AreOfBits};
 ghost use Rattle.speed.specs.Measured.{coder_alone};
 
 use crate::report::Report;
@@ -22,24 +22,58 @@ use cube_core::shape::Shape;
 use header_bits::bit_reader::BitReader;
 use header_bits::bit_writer::BitWriter;
 use header_bits::params::{Coder, Params, WeightStart};
-use std::alloc::Global;
+use std::alloc::{AllocError, Global};
 
-/// The greatest number of twelve bits.
-const MOST: u16 = 4095;
-
-/// Measures the writer and the reader of blocks of each size.
+/// Measures the writer and the reader of blocks of each size, and of the restricted set of code options
+/// for numbers of four bits and of two.
 pub fn measure(report: &Report) -> Result<()> {
     let shape = report.shape()?;
-    coded(report, "8", &params(shape, Kind::new(false, 12)?, 8))?;
-    coded(report, "16", &params(shape, Kind::new(false, 12)?, 16))?;
-    coded(report, "32", &params(shape, Kind::new(false, 12)?, 32))?;
-    coded(report, "64", &params(shape, Kind::new(false, 12)?, 64))
+    let numbers = residuals(report.alloc(), shape.sample_count())?;
+    let twelve_bits = Kind::new(false, 12)?;
+    coded(report, "8", &params(shape, twelve_bits, 8, false), &numbers)?;
+    coded(
+        report,
+        "16",
+        &params(shape, twelve_bits, 16, false),
+        &numbers,
+    )?;
+    coded(
+        report,
+        "32",
+        &params(shape, twelve_bits, 32, false),
+        &numbers,
+    )?;
+    coded(
+        report,
+        "64",
+        &params(shape, twelve_bits, 64, false),
+        &numbers,
+    )?;
+    for (name, bits) in [("restricted_4", 4), ("restricted_2", 2)] {
+        let kind = Kind::new(false, bits)?;
+        let low = low_bits(report.alloc(), &numbers, kind)?;
+        coded(report, name, &params(shape, kind, 16, true), &low)?;
+    }
+    Ok(())
 }
 
-/// Parameters of blocks of this size.
-fn params(shape: Shape, kind: Kind, size: u32) -> Params
+/// As many of the low bits of numbers as a sample has.
+fn low_bits(alloc: Global, numbers: &[u16], kind: Kind) -> Result<Vec<u16>, AllocError>
+    ensures { IfOk result (λ v. v.items ≡ map (λ n. n % 2 ^ kind.bits) numbers.now) }
+{
+    let bits = kind.bits();
+    let mut low = Vec::new(alloc);
+    for number in numbers {
+        let rest = u32::from(*number) % (1 << bits);
+        low.push(rest as u16)?;
+    }
+    Ok(low)
+}
+
+/// Parameters of blocks of this size, in the full or the restricted set of code options.
+fn params(shape: Shape, kind: Kind, size: u32, restricted: bool) -> Params
     requires size { IsSize size }
-    ensures value { result ≡ coder_alone shape kind (Coder.Block size false 4096) }
+    ensures value { result ≡ coder_alone shape kind (Coder.Block size restricted 4096) }
     ensures lawful { AreForBlocks result }
 {
     let _bits = kind.bits();
@@ -60,40 +94,39 @@ fn params(shape: Shape, kind: Kind, size: u32) -> Params
         start: WeightStart::Usual,
         coder: Coder::Block {
             size,
-            restricted: false,
+            restricted,
             reference: 4096,
         },
     }
 }
 
-/// Measures blocks of the parameters' size.
-fn coded(report: &Report, size: &str, params: &Params) -> Result<()>
+/// Measures how numbers are written in blocks as the parameters say, and read.
+fn coded(report: &Report, name: &str, params: &Params, numbers: &[u16]) -> Result<()>
     requires lawful { AreForBlocks params.now }
-    requires bits { params.now.kind.bits ≡ 12 }
+    requires count { length numbers.now ≡ sample_count params.now.shape }
 {
-    let numbers = residuals(report.alloc(), params.shape.sample_count())?;
     let start = report.start()?;
-    let body = encoded(report.alloc(), params, &numbers)?;
+    let body = encoded(report.alloc(), params, numbers)?;
     let time = report.since(start)?;
     let sum = sum_of_bytes(&body);
-    let name = format!(in report.alloc(); "block_encode_{size}")?;
-    report.line(name.as_str(), numbers.len() as u64, time, sum)?;
-    decode(report, size, params, &body)
+    let line = format!(in report.alloc(); "block_encode_{name}")?;
+    report.line(line.as_str(), numbers.len() as u64, time, sum)?;
+    decode(report, name, params, &body)
 }
 
-/// The body of numbers of twelve bits, in whole bytes.
+/// The body of numbers of as many bits as the samples have, in whole bytes.
 fn encoded(alloc: Global, params: &Params, numbers: &[u16]) -> Result<Vec<u8>, Fault>
     requires lawful { AreForBlocks params.now }
-    requires bits { params.now.kind.bits ≡ 12 }
     requires count { length numbers.now ≡ sample_count params.now.shape }
-    ensures body { IfOk result (λ body. AreOfTwelveBits numbers.now → bits_of_bytes body.items ≡ filled 1 (body_of params.now numbers.now)) }
+    ensures body { IfOk result (λ body. AreOfBits params.now.kind.bits numbers.now → bits_of_bytes body.items ≡ filled 1 (body_of params.now numbers.now)) }
     ensures refused { IfErr result (λ e. e ≡ WantOfMemory) }
 {
+    let bits = params.kind.bits();
     let mut blocks = BlockWriter::new(params);
     let mut writer = BitWriter::new(alloc);
     for number in numbers {
-        // None is greater, as `put` asks.
-        if *number > MOST {
+        // None is as great, as `put` asks.
+        if u32::from(*number) >= 1 << bits {
             break;
         }
         blocks.put(*number, &mut writer)?;
@@ -103,7 +136,7 @@ fn encoded(alloc: Global, params: &Params, numbers: &[u16]) -> Result<Vec<u8>, F
 }
 
 /// Measures how the numbers are read.
-fn decode(report: &Report, size: &str, params: &Params, body: &[u8]) -> Result<()>
+fn decode(report: &Report, name: &str, params: &Params, body: &[u8]) -> Result<()>
     requires { AreForBlocks params.now }
 {
     // The reader asks for so few bytes.
@@ -117,6 +150,6 @@ fn decode(report: &Report, size: &str, params: &Params, body: &[u8]) -> Result<(
         sum = mixed(sum, u64::from(blocks.next(&mut reader)?));
     }
     let time = report.since(start)?;
-    let name = format!(in report.alloc(); "block_decode_{size}")?;
-    report.line(name.as_str(), count, time, sum)
+    let line = format!(in report.alloc(); "block_decode_{name}")?;
+    report.line(line.as_str(), count, time, sum)
 }

@@ -1,16 +1,17 @@
 //! The speed of the predictor, sample by sample, there and back.
 
-ghost use Rattle.std.specs.Prelude.{◌≡◌, ◌<◌, ◌^◌, length, slice_get, slice_index, vec_len, IfOk, IfErr, OnOk, ℕ};
+ghost use Rattle.std.specs.Prelude.{◌≡◌, ◌<◌, ◌≤◌, ◌^◌, false, length, slice_get, slice_index, vec_len, IfOk, IfErr, OnOk, ℕ};
 ghost use Rattle.file_coding.specs.Walked.{AreAlong};
 ghost use Rattle.cube_core.specs.declared.fault.Fault.TheVariants.{WantOfMemory};
 ghost use Rattle.cube_core.specs.Image.{Image};
 ghost use Rattle.cube_core.specs.Shape.{sample_count};
 ghost use Rattle.header_bits.specs.Lawful.{IsLawful};
+ghost use Rattle.header_bits.specs.TableParts.{weight_count};
 ghost use Rattle.predict_core.specs.Following.{Learner};
 ghost use Rattle.predict_core.specs.Residual.{residuals as residuals_of};
 ghost use Rattle.speed.specs.Images.{synthetic_image};
-ghost use Rattle.speed.specs.Measured.{usual_coder, measured, lawful_or_fault};
-ghost use Rattle.speed.specs.Numbers.{checksum};
+ghost use Rattle.speed.specs.Measured.{usual_coder, measured, lawful_or_fault, from_table};
+ghost use Rattle.speed.specs.Numbers.{checksum, synthetic_weights};
 
 use crate::cube::sum_of_cube;
 use crate::report::Report;
@@ -23,10 +24,11 @@ use cube_core::kind::Kind;
 use cube_core::order::Order;
 use cube_core::shape::Shape;
 use header_bits::params::{Coder, CountStart, Params, WeightStart};
+use header_bits::tables::WeightTable;
 use predict_core::band::Band;
-use std::alloc::Global;
+use std::alloc::{AllocError, Global};
 
-/// Measures `forward` and `inverse` in each mode and order.
+/// Measures `forward` and `inverse` in each mode and order, and in full mode from a weight table.
 pub fn measure(report: &Report) -> Result<()> {
     let shape = report.shape()?;
     for (mode, reduced, previous) in [("full_3", false, 3), ("reduced_0", true, 0)] {
@@ -39,7 +41,55 @@ pub fn measure(report: &Report) -> Result<()> {
             there_and_back(report, mode, name, &params)?;
         }
     }
+    for (name, order) in [
+        ("bsq", Order::Bsq),
+        ("bil", Order::Bi(1)),
+        ("bip", Order::Bi(shape.bands())),
+    ] {
+        let params = params_of(shape, false, 3, order, usual_coder())?;
+        let params = with_table(report.alloc(), params)?;
+        there_and_back(report, "table_3", name, &params)?;
+    }
     Ok(())
+}
+
+/// Parameters in full mode, whose weights are to start from a table.
+fn with_table(alloc: Global, mut params: Params) -> Result<Params, Fault>
+    requires { IsLawful params }
+    ensures value { IfOk result (λ p. p ≡ from_table params) }
+    ensures lawful { IfOk result (λ p. IsLawful p) }
+{
+    let count = weight_count(params.previous, params.shape.bands());
+    let values = WeightTable::new(synthetic_weights(alloc, count)?);
+    params.start = WeightStart::Table { q: 14, values };
+    params.check()?;
+    Ok(params)
+}
+
+/// How many weights all bands have in full mode.
+#[tactic(auto, unfolding(header_bits::specs::TableParts::weight_count))]
+fn weight_count(previous: u32, bands: u32) -> usize
+    requires previous { previous ≤ 15 }
+    requires bands { bands ≤ 65536 }
+    ensures { result ≡ weight_count previous false bands }
+{
+    let mut count = 0;
+    for band in 0..bands {
+        count += (band.min(previous) + 3) as usize;
+    }
+    count
+}
+
+/// So many signed numbers of 14 bits.
+fn synthetic_weights(alloc: Global, count: usize) -> Result<Vec<i32>, AllocError>
+    ensures { IfOk result (λ v. v.items ≡ synthetic_weights count) }
+{
+    let mut generator = Generator::new();
+    let mut weights = Vec::new(alloc);
+    for _i in 0..count {
+        weights.push(i32::from(generator.number(14)) - 8192)?;
+    }
+    Ok(weights)
 }
 
 /// The sample-adaptive coder with the usual numbers.

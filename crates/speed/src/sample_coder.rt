@@ -5,7 +5,7 @@ ghost use Rattle.file_coding.specs.File.{filled};
 ghost use Rattle.cube_core.specs.declared.fault.Fault.TheVariants.{WantOfMemory};
 ghost use Rattle.header_bits.specs.Bits.{bits_of_bytes};
 ghost use Rattle.sample_adaptive.specs.Settings.{AreForSamples};
-ghost use Rattle.speed.specs.Bodies.{AreOfTwelveBits, one_band_body};
+ghost use Rattle.speed.specs.Bodies.{AreOfBits, one_band_body};
 ghost use Rattle.speed.specs.Measured.{coder_alone};
 
 use crate::report::Report;
@@ -73,7 +73,7 @@ fn encoded(alloc: Global, params: &Params, numbers: &[u16]) -> Result<Vec<u8>, F
     requires lawful { AreForSamples params.now }
     requires bits { params.now.kind.bits ≡ 12 }
     requires bands { 1 ≤ params.now.shape.bands }
-    ensures body { IfOk result (λ body. AreOfTwelveBits numbers.now → bits_of_bytes body.items ≡ filled 1 (one_band_body params.now numbers.now)) }
+    ensures body { IfOk result (λ body. AreOfBits 12 numbers.now → bits_of_bytes body.items ≡ filled 1 (one_band_body params.now numbers.now)) }
     ensures refused { IfErr result (λ e. e ≡ WantOfMemory) }
 {
     let mut stats = Stats::new(alloc, params)?;

@@ -1,7 +1,7 @@
 //! Synthetic numbers, the same as in `bench/src/synthetic.rs`.
 
 ghost use Rattle.std.specs.Prelude.{◌≡◌, ◌≤◌, ◌<◌, ◌^◌, length, IfOk};
-ghost use Rattle.speed.specs.Bodies.{AreOfTwelveBits};
+ghost use Rattle.speed.specs.Bodies.{AreOfBits};
 ghost use Rattle.speed.specs.Numbers.{first_state, next_state, highest, synthetic_residuals, mixed, checksum};
 
 use std::alloc::{AllocError, Global};
@@ -53,7 +53,7 @@ impl Generator {
 pub fn residuals(alloc: Global, count: u64) -> Result<Vec<u16>, AllocError>
     ensures value { IfOk result (λ v. v.items ≡ synthetic_residuals count) }
     ensures len { IfOk result (λ v. length v.items ≡ count) }
-    ensures few { IfOk result (λ v. AreOfTwelveBits v.items) }
+    ensures few { IfOk result (λ v. AreOfBits 12 v.items) }
 {
     let mut generator = Generator::new();
     let mut residuals = Vec::new(alloc);

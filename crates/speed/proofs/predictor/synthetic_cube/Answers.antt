@@ -1,28 +1,16 @@
-use Rattle.std.proofs.Common.{rules, SFits, w32, to_z-of_z, ◌≡◌, ◌+◌, ◌*◌, ◌%◌, ◌<◌, ◌≤◌, ◌^◌, ℕ, ap, ◌∙◌, subst, arith}
-use Rattle.std.proofs.lemmas.Nat.{pow_pos, mod_below}
-use Rattle.std.proofs.Math.Pow.{pow_mono}
+use Rattle.std.proofs.Common.{rules, SFits, w32, to_z-of_z, ◌≡◌, ◌+◌, ◌*◌, ◌%◌, ◌≤◌, ◌^◌, ℕ, ap, ◌∙◌, subst, arith}
 use Rattle.cube_core.specs.declared.order.Place.{Place}
 use Rattle.cube_core.specs.Shape.{sample_count}
 use Rattle.cube_core.specs.Kind.{sample_of}
 use Rattle.cube_core.specs.Image.{IsPlace, index_in, put}
 use Rattle.speed.specs.Numbers.{next_state, highest}
+use Rattle.speed.proofs.Powers.{power_is, rest_fits}
 use Rattle.speed.proofs.Scene.{IsBegun, begun_first, begun_more, begun_whole}
 use Rattle.speed.proofs.predictor.synthetic_cube.Goals as goal
 
-power_is : (bits : ℕ) → bits ≤ 16 → 1 * 2 ^ bits % 4294967296 ≡ 2 ^ bits
-power_is bits h =
-    let most : 2 ^ bits ≤ 2 ^ 16 = pow_mono h in
-    omega (arith, most)
-
-height_fits : (height bits : ℕ) → bits ≤ 16 → height % (1 * 2 ^ bits % 4294967296) < 65536
-height_fits height bits h =
-    let some : 0 < 2 ^ bits = pow_pos bits in
-    let most : 2 ^ bits ≤ 2 ^ 16 = pow_mono h in
-    rw (power_is bits h) (let lt : height % 2 ^ bits < 2 ^ bits = mod_below height (2 ^ bits) some in omega (arith, lt, most))
-
 pub overflow_cast-height : goal.overflow_cast-height
 overflow_cast-height c =
-    let lt = height_fits (16 * c.loop-z.z + 4 * c.loop-y.y + 2 * c.loop-x.x + c.from-noise.result) c.bits.result c.bits.ensures.range.1 in
+    let lt = rest_fits (16 * c.loop-z.z + 4 * c.loop-y.y + 2 * c.loop-x.x + c.from-noise.result) c.bits.result c.bits.ensures.range.1 in
     omega (arith, lt)
 
 pub loop-z-init : goal.loop-z-init

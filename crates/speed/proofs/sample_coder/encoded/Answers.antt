@@ -1,7 +1,7 @@
 use Rattle.std.proofs.Common.{◌≡◌, ◌+◌, ◌∷◌, ◌++◌, [], get_or, take, length, ap, ◌∙◌, arith}
 use Rattle.std.proofs.lemmas.List.{length-take, take_more, take_all}
 use Rattle.file_coding.proofs.Coders.{settings_bits}
-use Rattle.speed.specs.Bodies.{AreOfTwelveBits, one_band_body}
+use Rattle.speed.specs.Bodies.{AreOfBits, one_band_body}
 use Rattle.speed.proofs.Coded.{coded_none, coded_more, whole_text, none_greater}
 use Rattle.speed.proofs.sample_coder.encoded.Goals as goal
 use Rattle.speed.proofs.sample_coder.encoded.Goals.{After-drop-stats-inside-2, else-loop-t-test, then-loop-t-test+then-number-gt-MOST}
@@ -24,13 +24,13 @@ loop-t-preserved c =
     }
 
 -- where no number is greater all were taken
-all_taken : (c : After-drop-stats-inside-2) → AreOfTwelveBits c.args.numbers.now → take c.loop-t.t c.args.numbers.now ≡ c.args.numbers.now
+all_taken : (c : After-drop-stats-inside-2) → AreOfBits 12 c.args.numbers.now → take c.loop-t.t c.args.numbers.now ≡ c.args.numbers.now
 all_taken c small = elim c.loop-t-test.branch [
   | else-loop-t-test w ↦ take_all c.loop-t.t c.args.numbers.now w.loop-t-test.false
-  | then-loop-t-test+then-number-gt-MOST w ↦ absurd (none_greater c.args.numbers.now c.loop-t.t small w.loop-t-test.true w.if-number-gt-MOST.true)
+  | then-loop-t-test+then-number-gt-MOST w ↦ absurd (none_greater 12 c.args.numbers.now c.loop-t.t small w.loop-t-test.true (omega (arith, w.if-number-gt-MOST.true)))
 ]
 
 pub returns-clause-body : goal.returns-clause-body
 returns-clause-body c =
-    whole_text c.whole_bytes.result (AreOfTwelveBits c.args.numbers.now) c.loop-t.writer.bits (one_band_body c.args.params.now c.args.numbers.now) c.whole_bytes.ensures.filled
+    whole_text c.whole_bytes.result (AreOfBits 12 c.args.numbers.now) c.loop-t.writer.bits (one_band_body c.args.params.now c.args.numbers.now) c.whole_bytes.ensures.filled
     (λ small. c.loop-t.invariant.coded.text ∙ ap (one_band_body c.args.params.now) (all_taken c small))

@@ -1,5 +1,5 @@
 use Rattle.std.proofs.Common.{◌≡◌, ◌+◌, ◌*◌, ◌∷◌, ◌++◌, [], ℕ, List, length, arith, sym, ap, subst, ◌∙◌}
-use Rattle.speed.specs.Bodies.{AreOfTwelveBits}
+use Rattle.speed.specs.Bodies.{AreOfBits}
 use Rattle.speed.specs.Numbers.{next_state, state_behind, highest, synthetic_residual, synthetic_residuals}
 use Rattle.speed.proofs.Draws.{one_behind, none_behind, mapped_more, length-mapped, silent_residual, spoken_residual, residual_is, residuals_below}
 use Rattle.speed.proofs.synthetic.residuals.Goals as goal
@@ -39,4 +39,4 @@ returns-clause-len c =
     ap (λ (ns : List ℕ). length ns) c.loop-i.invariant.value ∙ length-mapped synthetic_residual c.loop-i.i ∙ all
 
 pub returns-clause-few : goal.returns-clause-few
-returns-clause-few c = subst AreOfTwelveBits (sym c.loop-i.invariant.value) (residuals_below c.loop-i.i)
+returns-clause-few c = subst (AreOfBits 12) (sym c.loop-i.invariant.value) (residuals_below c.loop-i.i)
