@@ -40,4 +40,14 @@ impl Band {
     {
         self.piece[i]
     }
+
+    /// The mapped residuals of the first places of the piece that was gone over last, as many as are asked for.
+    #[inline]
+    pub fn piece_residuals(&self, count: usize) -> &[u16]
+        requires { count ≤ 64 }
+        ensures value { result.now ≡ take count self.now.piece }
+        ensures long { length result.now ≡ count }
+    {
+        &self.piece[..count]
+    }
 }
