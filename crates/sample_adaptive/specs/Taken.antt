@@ -1,12 +1,15 @@
 -- What a coder of one image keeps, and which numbers it has taken.
 use Rattle.std.specs.Prelude.{ℕ, ◌≡◌, ◌<◌, ◌≤◌, ◌==◌, Bool, if◌then◌else◌, List, [], ◌∷◌, ◌++◌, length, slice_index_or, slice_set, Option, None, Result, IfOk}
+use Rattle.std.specs.List.{AllByRecursion}
 use Rattle.cube_core.specs.declared.fault.Fault.{Fault}
+use Rattle.cube_core.specs.declared.order.Place.{Place}
 use Rattle.header_bits.specs.Bits.{Unread}
 use Rattle.header_bits.specs.Reading.{Reads}
 use Rattle.sample_adaptive.specs.declared.code_word.Code.{Code}
 use Rattle.sample_adaptive.specs.declared.statistics.Statistics.{Statistics}
 use Rattle.sample_adaptive.specs.Statistics.{CoderSettings, AreStatistics, statistics, next_statistics, code_parameter}
 use Rattle.sample_adaptive.specs.Words.{code_word, code_at}
+use Rattle.sample_adaptive.specs.Body.{band_numbers, words_after}
 use Rattle.sample_adaptive.specs.Reading.{word_at}
 
 -- D, the unary length limit, the rescaling counter size, each band's statistics, and the refusal that was met
@@ -60,6 +63,14 @@ abbrev pub PutsNumber : ℕ → ℕ → ℕ → Counts → List Bool → Counts 
 PutsNumber z t number old written new written_now =
     (c : CoderSettings) (taken : ℕ → List ℕ) → HasTaken c old taken → t ≡ length (taken z)
     → (written_now ≡ written ++ code_word (code_at c z (taken z)) number) × HasTaken c new (with_number taken z number)
+
+-- numbers of one band that follow one another: whatever numbers were taken along places before, of which the band has t, their code words were appended,
+-- and they are taken
+abbrev pub PutsRun : ℕ → ℕ → List ℕ → Counts → List Bool → Counts → List Bool → Type 0
+PutsRun z t numbers old written new written_now =
+    (c : CoderSettings) (gone places : List Place) (before : List ℕ) → length before ≡ length gone → length numbers ≡ length places → AllByRecursion (λ p. p.z ≡ z) places
+    → HasTaken c old (λ b. band_numbers b gone before) → t ≡ length (band_numbers z gone before)
+    → (written_now ≡ written ++ words_after c gone before places numbers) × HasTaken c new (λ b. band_numbers b (gone ++ places) (before ++ numbers))
 
 -- whatever numbers were taken before, of which band z has t: the number whose code word stands next was taken, or the first fault is answered
 abbrev pub GetsNumber : ℕ → ℕ → Result ℕ Fault → Counts → Unread → Counts → List Bool → Type 0

@@ -1,12 +1,13 @@
 //! The coder of one image: each band's statistics, and numbers in and out.
 
-ghost use Rattle.std.specs.Prelude.{◌≡◌, ◌+◌, ◌^◌, ◌<◌, ◌≤◌, [], length, Err, Some, IsOk, IfOk, IfErr, OnOk, OnErr, ℕ};
+ghost use Rattle.std.specs.Prelude.{◌≡◌, ◌+◌, ◌*◌, ◌^◌, ◌<◌, ◌≤◌, [], length, Err, Some, IsOk, IfOk, IfErr, OnOk, OnErr, ℕ};
+ghost use Rattle.std.specs.List.{AllByRecursion};
 ghost use Rattle.cube_core.specs.declared.fault.Fault.{Fault};
 ghost use Rattle.cube_core.specs.declared.fault.Fault.TheVariants.{WantOfMemory};
 ghost use Rattle.sample_adaptive.specs.Settings.{AreForSamples, HasEntries, settings};
 ghost use Rattle.sample_adaptive.specs.Statistics.{constant_of, start_statistics};
 ghost use Rattle.sample_adaptive.specs.Words.{IsCode};
-ghost use Rattle.sample_adaptive.specs.Taken.{HasTaken, PutsNumber, GetsNumber, code_by, counted, of_band};
+ghost use Rattle.sample_adaptive.specs.Taken.{HasTaken, PutsNumber, PutsRun, GetsNumber, code_by, counted, of_band};
 
 use crate::code_word::{Code, take_word, word_of};
 use crate::statistics::{Rescaling, Statistics, first, next, parameter};
@@ -16,6 +17,9 @@ use header_bits::bit_writer::BitWriter;
 use header_bits::params::{Coder, CountStart, Params};
 use std::alloc::Global;
 use std::marker::Model;
+
+/// The most bits of a code word.
+const MOST_BITS: u64 = 48;
 
 /// The sample-adaptive coder of one image, which takes the numbers of each band in turn.
 #[derive(Drop)]
@@ -80,6 +84,7 @@ impl Stats {
         ensures taken { OnOk result (PutsNumber z t delta self.old writer.old.bits self.new writer.new.bits) }
         ensures same { OnErr result ((self.new ≡ self.old) × (writer.new.bits ≡ writer.old.bits)) }
         ensures within { 48 ≤ writer.old.room → IsOk result }
+        ensures room { OnOk result (writer.old.room ≤ writer.new.room + 48) }
         ensures refused { IfErr result (λ e. e ≡ WantOfMemory) }
         ensures bands { (length self.new.bands ≡ length self.old.bands) × (self.new.bits ≡ self.old.bits) }
     {
@@ -87,6 +92,64 @@ impl Stats {
         writer.push(word.bits, word.length)?;
         self.count(z, t, delta);
         Ok(())
+    }
+
+    /// Appends the code words of a run of band `z`: its numbers from number `t` on, one behind another. Takes them into the statistics.
+    ///
+    /// `t` counts the band's numbers from 0. The run is within a row, so it has at most 65,536 numbers, and each is at
+    /// most 2^D - 1. After `WantOfMemory` nothing was changed.
+    #[inline]
+    pub fn put_run(
+        &mut self,
+        z: u32,
+        t: u64,
+        numbers: &[u16],
+        writer: &mut BitWriter,
+    ) -> Result<(), Fault>
+        requires band { z < length self.old.bands }
+        requires numbers { AllByRecursion (λ n. n < 2 ^ self.old.bits) numbers.now }
+        requires long { (length numbers.now ≤ 2 ^ 16) × (t < 2 ^ 48) }
+        ensures taken { OnOk result (PutsRun z t numbers.now self.old writer.old.bits self.new writer.new.bits) }
+        ensures same { OnErr result ((self.new ≡ self.old) × (writer.new.bits ≡ writer.old.bits)) }
+        ensures refused { IfErr result (λ e. e ≡ WantOfMemory) }
+        ensures bands { (length self.new.bands ≡ length self.old.bands) × (self.new.bits ≡ self.old.bits) }
+    {
+        writer.reserve(MOST_BITS * numbers.len() as u64)?;
+        if t >= 1 {
+            self.put_later(z, numbers, writer);
+        } else if let Some((first, later)) = numbers.split_first() {
+            let Ok(()) = self.put(z, 0, *first, writer) else {
+                unreachable!()
+            };
+            self.put_later(z, later, writer);
+        }
+        Ok(())
+    }
+
+    /// Appends the code words of numbers of band `z` that stand behind its first, and for which there is room.
+    #[inline(always)]
+    fn put_later(&mut self, z: u32, numbers: &[u16], writer: &mut BitWriter)
+        requires band { z < length self.old.bands }
+        requires numbers { AllByRecursion (λ n. n < 2 ^ self.old.bits) numbers.now }
+        requires room { 48 * length numbers.now ≤ writer.old.room }
+        ensures taken { (t : ℕ) → 0 < t → PutsRun z t numbers.now self.old writer.old.bits self.new writer.new.bits }
+        ensures bands { (length self.new.bands ≡ length self.old.bands) × (self.new.bits ≡ self.old.bits) }
+    {
+        // They are counted aside, so that they can stay in registers.
+        let mut statistics = self.bands[z as usize];
+        for i in 0..numbers.len() {
+            let code = Code {
+                limit: self.umax,
+                low: parameter(self.bits, statistics),
+                bits: self.bits,
+            };
+            let word = word_of(code, numbers[i]);
+            let Ok(()) = writer.push(word.bits, word.length) else {
+                unreachable!()
+            };
+            statistics = next(self.rescaling, statistics, numbers[i]);
+        }
+        self.bands[z as usize] = statistics;
     }
 
     /// Takes the number `t` of band `z` whose code word stands next, and takes it into the statistics.
