@@ -23,6 +23,12 @@ pub none_first : (places : List Place) → slice_get places 0 ≡ None → place
 none_first [] e = refl
 none_first (q ∷ rest) e = absurd (cc)
 
+-- where one more may be coded, a place is to come
+pub place_comes : (e : Ending) (number : ℕ) → MayCode e number → None ≡ slice_get e.left 0 → ⊥
+place_comes e number may none =
+    let left : length (drop (length may.numbers) (places may.params.shape may.params.order)) ≡ 0 = ap (λ (x : List Place). length x) (sym may.coded.left ∙ none_first e.left (sym none)) in
+    omega (arith, left, length-drop (length may.numbers) (places may.params.shape may.params.order), length-places may.params.shape may.params.order may.coded.order, may.more)
+
 -- where the place that comes next stands
 pub record ComesNext (p : Params) (numbers : List ℕ) (place : Place) (rest : List Place) : Type 0 where
   pub more : length numbers < sample_count p.shape

@@ -5,3 +5,4 @@ pub mod ForSamples
 pub mod Packed
 pub mod Times
 pub mod Walking
+pub mod Runs

@@ -1,5 +1,6 @@
 -- The coding end: which residuals it has taken, in encoding order.
-use Rattle.std.specs.Prelude.{ℕ, ◌≡◌, ◌+◌, ◌*◌, ◌^◌, ◌<◌, Bool, List, [], ◌∷◌, ◌++◌, length, take, slice_get, Some}
+use Rattle.std.specs.Prelude.{ℕ, ◌≡◌, ◌+◌, ◌*◌, ◌^◌, ◌<◌, ◌≤◌, Bool, List, [], ◌∷◌, ◌++◌, length, take, drop, slice_get, Some}
+use Rattle.std.specs.List.{AllByRecursion}
 use Rattle.cube_core.specs.declared.order.Place.{Place}
 use Rattle.cube_core.specs.Shape.{sample_count}
 use Rattle.cube_core.specs.Order.{IsOrder, places}
@@ -67,6 +68,32 @@ abbrev pub PutsNumber : ℕ → ℕ → ℕ → Encoder → List Bool → Encode
 PutsNumber z t number old written new written_now =
     (p : Params) (numbers : List ℕ) (bits : List Bool) → HasTaken p old numbers bits → IsNumber p numbers z t
     → (more : List Bool) × (written_now ≡ written ++ more) × HasTaken p new (numbers ++ number ∷ []) (bits ++ more)
+
+-- numbers of band z from number t on may be put as one run: the coder is the sample-adaptive one
+abbrev pub MayPutRun : Encoder → ℕ → ℕ → List ℕ → Type 0
+MayPutRun (Samples v) z t run = (z < length v.bands) × AllByRecursion (λ n. n < 2 ^ v.bits) run × (length run ≤ 2 ^ 16) × (t < 2 ^ 48)
+MayPutRun (Blocks v) z t run = ⊥
+
+-- so many places behind those of the numbers
+abbrev pub places_behind : Params → List ℕ → ℕ → List Place
+places_behind p numbers count = take count (drop (length numbers) (places p.shape p.order))
+
+-- the next numbers, so many, are those of band z from number t on
+pub record IsRun (p : Params) (numbers : List ℕ) (z t count : ℕ) : Type 0 where
+  pub fits : length numbers + count ≤ length (places p.shape p.order)
+  pub band : AllByRecursion (λ q. q.z ≡ z) (places_behind p numbers count)
+  pub time : t ≡ length (of_band p numbers z)
+
+-- whatever numbers were taken before: bits were appended, and with them the numbers of a run are taken
+abbrev pub PutsRun : ℕ → ℕ → List ℕ → Encoder → List Bool → Encoder → List Bool → Type 0
+PutsRun z t run old written new written_now =
+    (p : Params) (numbers : List ℕ) (bits : List Bool) → HasTaken p old numbers bits → IsRun p numbers z t (length run)
+    → (more : List Bool) × (written_now ≡ written ++ more) × HasTaken p new (numbers ++ run) (bits ++ more)
+
+-- the coder is the sample-adaptive one
+abbrev pub IsBySamples : Encoder → Type 0
+IsBySamples (Samples v) = Unit {0}
+IsBySamples (Blocks v) = ⊥
 
 -- where a number was taken for each sample: all bits together are the body
 abbrev pub EndsBody : Encoder → List Bool → List Bool → Type 0

@@ -1,5 +1,6 @@
 -- The coding end of an image: what it has written once it has taken the first residuals.
-use Rattle.std.specs.Prelude.{ℕ, ◌≡◌, ◌^◌, ◌<◌, ◌≤◌, Bool, List, ◌++◌, length, drop}
+use Rattle.std.specs.Prelude.{ℕ, suc, ◌≡◌, ◌+◌, ◌^◌, ◌<◌, ◌≤◌, Bool, List, ◌++◌, length, drop, slice_get, Some}
+use Rattle.std.specs.List.{AllByRecursion}
 use Rattle.cube_core.specs.declared.order.Place.{Place}
 use Rattle.cube_core.specs.Shape.{sample_count}
 use Rattle.cube_core.specs.Order.{IsOrder, places}
@@ -7,7 +8,7 @@ use Rattle.header_bits.specs.declared.params.Params.{Params}
 use Rattle.header_bits.specs.Header.{header_of}
 use Rattle.header_bits.specs.Lawful.{IsLawful}
 use Rattle.file_coding.specs.declared.encoder.Encoder.{Encoder}
-use Rattle.file_coding.specs.Coding.{HasTaken}
+use Rattle.file_coding.specs.Coding.{HasTaken, IsBySamples}
 
 -- the width of a row, the bytes of an output word, the places that are still to come, the entropy coder, and the bits so far
 pub record Ending : Type 0 where
@@ -36,3 +37,28 @@ pub record MayCode (e : Ending) (number : ℕ) : Type 0 where
   pub coded : HasCoded params e numbers
   pub more : length numbers < sample_count params.shape
   pub range : number < 2 ^ params.kind.bits
+
+-- the coding end of some parameters has taken numbers, these are no more than the samples behind them, and in range
+pub record MayCodeAll (e : Ending) (list : List ℕ) : Type 0 where
+  pub params : Params
+  pub numbers : List ℕ
+  pub lawful : IsLawful params
+  pub coded : HasCoded params e numbers
+  pub more : length numbers + length list ≤ sample_count params.shape
+  pub range : AllByRecursion (λ n. n < 2 ^ params.kind.bits) list
+
+-- whatever numbers it had taken, it has taken these behind them
+abbrev pub CodesAll : Ending → Ending → List ℕ → Type 0
+CodesAll old new list = (p : Params) (numbers : List ℕ) → HasCoded p old numbers → HasCoded p new (numbers ++ list)
+
+-- each place that isn't the last of its row is followed by the next place of the row
+abbrev pub AreByRows : ℕ → List Place → Type 0
+AreByRows columns ps = (i : ℕ) (q : Place) → slice_get ps i ≡ Some q → q.x + 1 < columns → slice_get ps (suc i) ≡ Some (record { z = q.z; y = q.y; x = q.x + 1 })
+
+-- these numbers may be coded, and they are of one row, from the place that comes next
+pub record MayCodeRun (e : Ending) (place : Place) (run : List ℕ) : Type 0 where
+  pub may : MayCodeAll e run
+  pub samples : IsBySamples e.coder
+  pub rows : AreByRows e.columns e.left
+  pub next : slice_get e.left 0 ≡ Some place
+  pub row : place.x + length run ≤ e.columns

@@ -1,18 +1,20 @@
 //! The coding end of an image: from residuals in encoding order to the bytes of its file.
 
-ghost use Rattle.std.specs.Prelude.{◌≡◌, ℕ, List, [], ◌∷◌, ◌++◌, Some, slice_get, IfOk, IfErr, OnOk, OnErr};
+ghost use Rattle.std.specs.Prelude.{◌≡◌, ◌⊎◌, ◌<◌, ℕ, List, [], ◌∷◌, ◌++◌, length, take, drop, Some, slice_get, IsTrue, IfOk, IfErr, OnOk, OnErr};
 ghost use Rattle.cube_core.specs.declared.fault.Fault.TheVariants.{WantOfMemory};
 ghost use Rattle.cube_core.specs.Shape.{InRange};
 ghost use Rattle.header_bits.specs.declared.params.Params.{Params as Parameters};
 ghost use Rattle.header_bits.specs.Bits.{bits_of_bytes};
 ghost use Rattle.header_bits.specs.Lawful.{IsLawful};
-ghost use Rattle.file_coding.specs.Ends.{HasCoded, MayCode};
+ghost use Rattle.cube_core.specs.declared.order.Order.TheVariants.{Bsq, Bi};
+ghost use Rattle.file_coding.specs.Coding.{IsBySamples};
+ghost use Rattle.file_coding.specs.Ends.{HasCoded, MayCode, MayCodeAll, MayCodeRun, CodesAll, AreByRows};
 ghost use Rattle.file_coding.specs.File.{filled, packed, file_of_residuals};
 
 use crate::encoder::Encoder;
 use cube_core::cursor::Places;
 use cube_core::fault::Fault;
-use cube_core::order::Place;
+use cube_core::order::{Order, Place};
 use header_bits::bit_writer::BitWriter;
 use header_bits::header::put_header;
 use header_bits::params::Params;
@@ -26,18 +28,21 @@ pub struct CodingEnd {
     encoder: Encoder,
     places: Places,
     columns: u64,
+    /// Where it is set, each place that isn't the last of its row is followed by the next place of the row.
+    by_rows: bool,
     word: u32,
 }
 
 impl Model for CodingEnd {
     ghost use Rattle.cube_core.specs.Shape.{InRange};
-    ghost use Rattle.file_coding.specs.Ends.{Ending};
+    ghost use Rattle.std.specs.Prelude.{IsTrue};
+    ghost use Rattle.file_coding.specs.Ends.{Ending, AreByRows};
 
     ghost Value = { Ending };
 
     ghost view = { λ e. record { columns = e.columns; word = e.word; left = e.places; coder = e.encoder; bits = e.writer.bits } };
 
-    ghost invariant = { λ e. InRange 1 8 e.word };
+    ghost invariant = { λ e. (InRange 1 8 e.word) × (IsTrue e.by_rows → AreByRows e.columns e.places) };
 }
 
 impl CodingEnd {
@@ -56,6 +61,7 @@ impl CodingEnd {
             encoder: Encoder::new(alloc, params)?,
             places: Places::new(params.shape, params.order),
             columns: u64::from(params.shape.columns()),
+            by_rows: is_by_rows(params.order),
             word: params.word,
         })
     }
@@ -85,6 +91,77 @@ impl CodingEnd {
         Ok(())
     }
 
+    /// Takes the residuals of the places that come next, each of which is at most 2^D - 1.
+    ///
+    /// After `WantOfMemory` the first of them were taken, as many as there was memory for.
+    pub fn put_all(&mut self, residuals: &[u16]) -> Result<(), Fault>
+        requires { MayCodeAll self.old residuals.now }
+        ensures coded { OnOk result (CodesAll self.old self.new residuals.now) }
+        ensures some { OnErr result ((n : ℕ) × (n < length residuals.now) × CodesAll self.old self.new (take n residuals.now)) }
+        ensures refused { IfErr result (λ e. e ≡ WantOfMemory) }
+    {
+        if self.by_rows && self.encoder.is_by_samples() {
+            self.put_rows(residuals)
+        } else {
+            self.put_each(residuals)
+        }
+    }
+
+    /// Takes residuals one after another.
+    fn put_each(&mut self, residuals: &[u16]) -> Result<(), Fault>
+        requires { MayCodeAll self.old residuals.now }
+        ensures coded { OnOk result (CodesAll self.old self.new residuals.now) }
+        ensures some { OnErr result ((n : ℕ) × (n < length residuals.now) × CodesAll self.old self.new (take n residuals.now)) }
+        ensures refused { IfErr result (λ e. e ≡ WantOfMemory) }
+    {
+        for i in 0..residuals.len() {
+            let Some(place) = self.place() else {
+                unreachable!()
+            };
+            self.put(place, residuals[i])?;
+        }
+        Ok(())
+    }
+
+    /// Takes residuals of places that come row by row, by the sample-adaptive coder.
+    fn put_rows(&mut self, residuals: &[u16]) -> Result<(), Fault>
+        requires may { MayCodeAll self.old residuals.now }
+        requires rows { AreByRows self.old.columns self.old.left }
+        requires samples { IsBySamples self.old.coder }
+        ensures coded { OnOk result (CodesAll self.old self.new residuals.now) }
+        ensures some { OnErr result ((n : ℕ) × (n < length residuals.now) × CodesAll self.old self.new (take n residuals.now)) }
+        ensures refused { IfErr result (λ e. e ≡ WantOfMemory) }
+    {
+        let mut first = 0;
+        while first < residuals.len() {
+            let Some(place) = self.place() else {
+                unreachable!()
+            };
+            let row = (self.columns - u64::from(place.x)) as usize;
+            let count = row.min(residuals.len() - first);
+            self.put_run(place, &residuals[first..first + count])?;
+            first += count;
+        }
+        Ok(())
+    }
+
+    /// Takes residuals of one row, from the place that comes next on, by the sample-adaptive coder.
+    ///
+    /// After `WantOfMemory` nothing was changed.
+    #[inline(always)]
+    fn put_run(&mut self, place: Place, run: &[u16]) -> Result<(), Fault>
+        requires { MayCodeRun self.old place run.now }
+        ensures coded { OnOk result (CodesAll self.old self.new run.now) }
+        ensures rows { AreByRows self.new.columns self.new.left }
+        ensures same { OnErr result (self.new ≡ self.old) }
+        ensures refused { IfErr result (λ e. e ≡ WantOfMemory) }
+    {
+        let t = u64::from(place.y) * self.columns + u64::from(place.x);
+        self.encoder.put_run(place.z, t, run, &mut self.writer)?;
+        go_by(&mut self.places, run.len());
+        Ok(())
+    }
+
     /// The bytes of the file, once all residuals were taken.
     ///
     /// `WantOfMemory` where they aren't had.
@@ -98,6 +175,7 @@ impl CodingEnd {
             mut encoder,
             places: _,
             columns: _,
+            by_rows: _,
             word,
         } = self;
         encoder.end(&mut writer)?;
@@ -105,6 +183,26 @@ impl CodingEnd {
         let bytes = writer.into_bytes();
         know_packed(&bytes);
         Ok(bytes)
+    }
+}
+
+/// Goes by so many places.
+fn go_by(places: &mut Places, count: usize)
+    ensures { places.new ≡ drop count places.old }
+{
+    for i in 0..count {
+        let _gone = i;
+        let _place = places.next();
+    }
+}
+
+/// Whether the places of an order come row by row: band after band, or lines of one band interleaved.
+fn is_by_rows(order: Order) -> bool
+    ensures { IsTrue result → (order ≡ Bsq) ⊎ (order ≡ Bi 1) }
+{
+    match order {
+        Order::Bsq => true,
+        Order::Bi(depth) => depth == 1,
     }
 }
 

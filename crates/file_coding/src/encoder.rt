@@ -1,10 +1,10 @@
 //! The coding end: one of the two entropy coders, which takes an image's residuals in encoding order.
 
-ghost use Rattle.std.specs.Prelude.{◌≡◌, [], IsOk, IfOk, IfErr, OnOk, OnErr};
+ghost use Rattle.std.specs.Prelude.{◌≡◌, [], IsOk, IsTrue, IfOk, IfErr, OnOk, OnErr};
 ghost use Rattle.cube_core.specs.declared.fault.Fault.TheVariants.{WantOfMemory};
 ghost use Rattle.header_bits.specs.Lawful.{IsLawful};
 ghost use Rattle.block_adaptive.specs.Settings.{IsBlock};
-ghost use Rattle.file_coding.specs.Coding.{HasTaken, MayPut, MayGrow, MayGrowAtEnd, PutsNumber, EndsBody};
+ghost use Rattle.file_coding.specs.Coding.{HasTaken, MayPut, MayPutRun, MayGrow, MayGrowAtEnd, PutsNumber, PutsRun, EndsBody, IsBySamples};
 
 use block_adaptive::block_writer::BlockWriter;
 use cube_core::fault::Fault;
@@ -42,6 +42,7 @@ impl Encoder {
     /// The residual is at most 2^D - 1, and fewer were taken than there are samples. The block-adaptive
     /// coder asks for memory only where the residual ends a block. After `WantOfMemory` nothing was
     /// changed.
+    #[inline(always)]
     pub fn put(&mut self, z: u32, t: u64, delta: u16, writer: &mut BitWriter) -> Result<(), Fault>
         requires { MayPut self.old z delta }
         ensures taken { OnOk result (PutsNumber z t delta self.old writer.old.bits self.new writer.new.bits) }
@@ -52,6 +53,38 @@ impl Encoder {
         match self {
             Encoder::Samples(stats) => stats.put(z, t, delta, writer),
             Encoder::Blocks(blocks) => blocks.put(delta, writer),
+        }
+    }
+
+    /// Whether this is the sample-adaptive coder.
+    pub fn is_by_samples(&self) -> bool
+        ensures { IsTrue result → IsBySamples self.now }
+    {
+        match self {
+            Encoder::Samples(_) => true,
+            Encoder::Blocks(_) => false,
+        }
+    }
+
+    /// Takes a run of band `z` by the sample-adaptive coder: the next residuals, of which the first is number `t` of the band, and appends their code words.
+    ///
+    /// They are of one row, and each is at most 2^D - 1. After `WantOfMemory` nothing was changed.
+    #[inline(always)]
+    pub fn put_run(
+        &mut self,
+        z: u32,
+        t: u64,
+        run: &[u16],
+        writer: &mut BitWriter,
+    ) -> Result<(), Fault>
+        requires { MayPutRun self.old z t run.now }
+        ensures taken { OnOk result (PutsRun z t run.now self.old writer.old.bits self.new writer.new.bits) }
+        ensures same { OnErr result ((self.new ≡ self.old) × (writer.new.bits ≡ writer.old.bits)) }
+        ensures refused { IfErr result (λ e. e ≡ WantOfMemory) }
+    {
+        match self {
+            Encoder::Samples(stats) => stats.put_run(z, t, run, writer),
+            Encoder::Blocks(_) => unreachable!(),
         }
     }
 

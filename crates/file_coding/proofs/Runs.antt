@@ -1,0 +1,213 @@
+-- Runs: what the coding end has taken, row by row.
+use Rattle.std.proofs.Common.{◌≡◌, ◌⊎◌, ◌+◌, ◌*◌, ◌-◌, ◌/◌, ◌<◌, ◌≤◌, ◌^◌, ℕ, zero, suc, min, Bool, List, [], ◌∷◌, ◌++◌, append-nil, length, take, drop, Some, inl, inr, refl, sym, ap, subst, ◌∙◌, append_assoc, length-append, length-take, length-drop, IsTrue, get_or, arith}
+use Rattle.std.specs.List.{AllByRecursion, slice_get}
+use Rattle.std.proofs.Math.Seq.{take-add, drop-drop}
+use Rattle.std.proofs.Math.Nat.{div-one, min-eq_left}
+use Rattle.std.proofs.lemmas.Nat.{mul-le}
+use Rattle.cube_core.specs.declared.order.Order.{Order}
+use Rattle.cube_core.specs.declared.order.Order.TheVariants.{Bsq, Bi}
+use Rattle.cube_core.specs.declared.order.Place.{Place}
+use Rattle.cube_core.specs.Shape.{Sizes, sample_count}
+use Rattle.cube_core.specs.Order.{IsOrder, IsPlaceOf, place_index, places}
+use Rattle.cube_core.proofs.Orders.{item_from_index, place_index_below, length-places}
+use Rattle.cube_core.proofs.Walks.{sequential_index, index_in_group}
+use Rattle.cube_core.proofs.Keys.{order_is_by_key, index_of_item}
+use Rattle.header_bits.specs.declared.params.Params.{Params}
+use Rattle.header_bits.specs.Header.{header_of}
+use Rattle.sample_adaptive.specs.Settings.{settings, IsSample}
+use Rattle.sample_adaptive.specs.Body.{sample_body, words_after, band_numbers}
+use Rattle.sample_adaptive.specs.Taken.{Counts, HasTaken as HaveTaken, PutsRun as PutsMany}
+use Rattle.sample_adaptive.proofs.Running.{body_run}
+use Rattle.file_coding.specs.declared.encoder.Encoder.{Encoder}
+use Rattle.file_coding.specs.declared.encoder.Encoder.TheVariants.{Samples, Blocks}
+use Rattle.file_coding.specs.Coding.{places_of, of_band, places_behind, SamplesTaken, HasTaken, IsRun, IsBySamples, MayPutRun, PutsRun}
+use Rattle.file_coding.specs.Ends.{Ending, HasCoded, MayCode, MayCodeAll, CodesAll, AreByRows, MayCodeRun}
+use Rattle.file_coding.proofs.Coders.{places_long}
+use Rattle.file_coding.proofs.Endings.{comes_next, first_of}
+use Rattle.block_adaptive.specs.Settings.{IsBlock}
+use Rattle.header_bits.specs.declared.params.Coder.{Coder}
+use Rattle.header_bits.specs.declared.params.Coder.TheVariants.{Sample, Block}
+use Rattle.header_bits.specs.Lawful.{IsLawful}
+use Rattle.file_coding.proofs.Times.{time_of_place}
+
+-- ---- places
+
+pub rows_shift : (columns : ℕ) (q : Place) (rest : List Place) → AreByRows columns (q ∷ rest) → AreByRows columns rest
+rows_shift columns q rest h i p e lt = h (suc i) p e lt
+
+pub rows_drop : (columns n : ℕ) (ps : List Place) → AreByRows columns ps → AreByRows columns (drop n ps)
+rows_drop columns zero ps h = h
+rows_drop columns (suc n) [] h = h
+rows_drop columns (suc n) (q ∷ rest) h = rows_drop columns n rest (rows_shift columns q rest h)
+
+-- the places of a row are of one band
+pub row_band : (columns n : ℕ) (ps : List Place) (place : Place) → AreByRows columns ps → slice_get ps 0 ≡ Some place → place.x + n ≤ columns → AllByRecursion (λ q. q.z ≡ place.z) (take n ps)
+row_band columns zero ps place h first fits = tt
+row_band columns (suc n) [] place h first fits = tt
+row_band columns (suc zero) (q ∷ ps) place h first fits = ((let same : q ≡ place = cc in ap (λ r. r.z) same), tt)
+row_band columns (suc (suc n)) (q ∷ ps) place h first fits =
+    let same : q ≡ place = cc in
+    let next = h 0 place first (omega (arith, fits)) in
+    (ap (λ r. r.z) same, row_band columns (suc n) ps (record { z = place.z; y = place.y; x = place.x + 1 }) (rows_shift columns q ps h) next (omega (arith, fits)))
+
+one_on : (s : Sizes) (o : Order) (q : Place) → IsPlaceOf s q → (o ≡ Bsq) ⊎ (o ≡ Bi 1) → place_index s o (record { z = q.z; y = q.y; x = q.x + 1 }) ≡ place_index s o q + 1
+one_on s o q there (inl e) = rw (e, sequential_index s q, sequential_index s (record { z = q.z; y = q.y; x = q.x + 1 })) (omega arith)
+one_on s o q there (inr e) =
+    let first : q.z ≡ q.z / 1 * 1 = omega (arith, div-one q.z) in
+    let one : min 1 (s.bands - q.z) ≡ 1 = min-eq_left (omega (arith, there.band)) in
+    rw (e, index_in_group s 1 q.z q first, index_in_group s 1 q.z (record { z = q.z; y = q.y; x = q.x + 1 }) first, one) (omega arith)
+
+-- band after band, and by lines of single bands, the places come row by row
+pub rows_follow : (s : Sizes) (o : Order) → IsOrder s o → (o ≡ Bsq) ⊎ (o ≡ Bi 1) → AreByRows s.columns (places s o)
+rows_follow s o lawful which i q e lt =
+    let next : Place = record { z = q.z; y = q.y; x = q.x + 1 } in
+    let there : IsPlaceOf s q = (order_is_by_key s o lawful).only i q e in
+    let at : place_index s o q ≡ i = index_of_item s o q i lawful e in
+    let step = one_on s o q there which in
+    let place : IsPlaceOf s (record { z = q.z; y = q.y; x = q.x + 1 }) = record { band = there.band; row = there.row; column = lt } in
+    item_from_index s o (record { z = q.z; y = q.y; x = q.x + 1 }) (suc i) lawful place (step ∙ omega (arith, at)) (omega (arith, at, step, place_index_below s o (record { z = q.z; y = q.y; x = q.x + 1 }) lawful place))
+
+-- ---- by the sample-adaptive coder
+
+pub samples_run : (z t : ℕ) (run : List ℕ) (old new : Counts) (written now : List Bool) → PutsMany z t run old written new now → (length new.bands ≡ length old.bands) × (new.bits ≡ old.bits) → PutsRun z t run (Samples old) written (Samples new) now
+samples_run z t run old new written now puts kept p numbers bits h next =
+    let long : length numbers ≡ length (places_of p numbers) = places_long p numbers (omega (arith, next.fits)) in
+    let count : length run ≡ length (places_behind p numbers (length run)) = omega (arith, next.fits, length-take (length run) (drop (length numbers) (places p.shape p.order)), length-drop (length numbers) (places p.shape p.order)) in
+    let did = puts (settings p) (places_of p numbers) (places_behind p numbers (length run)) numbers long count next.band h.taken next.time in
+    let whole : places_of p numbers ++ places_behind p numbers (length run) ≡ places_of p (numbers ++ run) =
+    sym (ap (λ n. take n (places p.shape p.order)) (length-append numbers run) ∙ take-add (length numbers) (length run) (places p.shape p.order)) in
+    let more : List Bool = words_after (settings p) (places_of p numbers) numbers (places_behind p numbers (length run)) run in (
+      more,
+      did.0,
+      record {
+        coder = h.coder;
+        bands = kept.0 ∙ h.bands;
+        depth = kept.1 ∙ h.depth;
+        taken = subst (λ (qs : List Place). HaveTaken (settings p) new (λ b. band_numbers b qs (numbers ++ run))) whole did.1;
+        text =
+            ap (λ (x : List Bool). x ++ more) h.text
+            ∙ sym (body_run (settings p) (places_of p numbers) (places_behind p numbers (length run)) numbers run long)
+            ∙ ap (λ (qs : List Place). sample_body (settings p) qs (numbers ++ run)) whole;
+      },
+    )
+
+is_sample : (p : Params) (coder : Encoder) (numbers : List ℕ) (bits : List Bool) → IsBySamples coder → HasTaken p coder numbers bits → IsSample p.coder
+is_sample p (Samples v) numbers bits s h = h.coder
+is_sample p (Blocks v) numbers bits s h = absurd s
+
+not_both : (coder : Coder) → IsSample coder → IsBlock coder → ⊥
+not_both (Sample umax gamma_star gamma_zero start) s b = b
+not_both (Block size restricted reference) s b = s
+
+by_samples : (p : Params) (coder : Encoder) (numbers : List ℕ) (bits : List Bool) → IsSample p.coder → HasTaken p coder numbers bits → IsBySamples coder
+by_samples p (Samples v) numbers bits s h = tt
+by_samples p (Blocks v) numbers bits s h = absurd (not_both p.coder s h.coder)
+
+-- a run may be put
+may_by_coder : (p : Params) (coder : Encoder) (numbers run : List ℕ) (bits : List Bool) (z t : ℕ) → IsBySamples coder → HasTaken p coder numbers bits → z < p.shape.bands → AllByRecursion (λ n. n < 2 ^ p.kind.bits) run → (length run ≤ 2 ^ 16) × (t < 2 ^ 48)
+    → MayPutRun coder z t run
+may_by_coder p (Samples v) numbers run bits z t s h band range few = (omega (arith, h.bands, band), rw h.depth range, few.0, few.1)
+may_by_coder p (Blocks v) numbers run bits z t s h band range few = absurd s
+
+early : (columns y x : ℕ) → columns ≤ 65536 → y < 65536 → x < columns → y * columns + x < 2 ^ 48
+early columns y x few row column = let most : y * columns ≤ 65536 * 65536 = mul-le y columns 65536 65536 (omega (arith, row)) few in omega (arith, most, few, column)
+
+pub may_put_run : (e : Ending) (place : Place) (t : ℕ) (run : List ℕ) → MayCodeRun e place run → t ≡ place.y * e.columns + place.x → MayPutRun e.coder place.z t run
+may_put_run e place t run h time =
+    let may = h.may in
+    let next = first_of e.left place h.next in
+    let here = comes_next may.params e may.numbers place next.0 may.coded next.1 in
+    let sizes = may.lawful.sizes in
+    let columns : e.columns ≤ 65536 = omega (arith, may.coded.columns, sizes.columns.1) in
+    may_by_coder may.params e.coder may.numbers run may.coded.written place.z t h.samples may.coded.taken here.there.band may.range
+    (omega (arith, h.row, columns), rw time (early e.columns place.y place.x columns (omega (arith, here.there.row, sizes.rows.1)) (omega (arith, here.there.column, may.coded.columns))))
+
+-- ---- runs one behind another
+
+pub codes_none : (e : Ending) → CodesAll e e []
+codes_none e p numbers h = rw (append-nil numbers) h
+
+pub codes_behind : (a b d : Ending) (xs ys : List ℕ) → CodesAll a b xs → CodesAll b d ys → CodesAll a d (xs ++ ys)
+codes_behind a b d xs ys f g p numbers h = rw (append_assoc numbers xs ys) at (g p (numbers ++ xs) (f p numbers h))
+
+all_get : (limit i : ℕ) (xs : List ℕ) → AllByRecursion (λ n. n < limit) xs → i < length xs → get_or xs i 0 < limit
+all_get limit i [] h lt = absurd (omega (arith, lt))
+all_get limit zero (x ∷ xs) h lt = h.0
+all_get limit (suc i) (x ∷ xs) h lt = all_get limit i xs h.1 (omega (arith, lt))
+
+all_take : (limit i : ℕ) (xs : List ℕ) → AllByRecursion (λ n. n < limit) xs → AllByRecursion (λ n. n < limit) (take i xs)
+all_take limit zero xs h = tt
+all_take limit (suc i) [] h = tt
+all_take limit (suc i) (x ∷ xs) h = (h.0, all_take limit i xs h.1)
+
+all_drop : (limit i : ℕ) (xs : List ℕ) → AllByRecursion (λ n. n < limit) xs → AllByRecursion (λ n. n < limit) (drop i xs)
+all_drop limit zero xs h = h
+all_drop limit (suc i) [] h = h
+all_drop limit (suc i) (x ∷ xs) h = all_drop limit i xs h.1
+
+-- a part of the numbers behind those that were coded
+pub may_part : (old e : Ending) (list : List ℕ) (first count : ℕ) → MayCodeAll old list → CodesAll old e (take first list) → first + count ≤ length list → MayCodeAll e (take count (drop first list))
+may_part old e list first count may codes fits = record {
+  params = may.params;
+  numbers = may.numbers ++ take first list;
+  lawful = may.lawful;
+  coded = codes may.params may.numbers may.coded;
+  more = omega (arith, may.more, length-append may.numbers (take first list), length-take first list, length-take count (drop first list), length-drop first list);
+  range = all_take (2 ^ may.params.kind.bits) count (drop first list) (all_drop (2 ^ may.params.kind.bits) first list may.range);
+}
+
+pub may_one : (old e : Ending) (list : List ℕ) (i : ℕ) → MayCodeAll old list → CodesAll old e (take i list) → i < length list → MayCode e (get_or list i 0)
+may_one old e list i may codes lt = record {
+  params = may.params;
+  numbers = may.numbers ++ take i list;
+  lawful = may.lawful;
+  coded = codes may.params may.numbers may.coded;
+  more = omega (arith, may.more, lt, length-append may.numbers (take i list), length-take i list);
+  range = all_get (2 ^ may.params.kind.bits) i list may.range lt;
+}
+
+pub may_run : (old e : Ending) (list : List ℕ) (first count : ℕ) (place : Place) → MayCodeAll old list → IsBySamples old.coder → CodesAll old e (take first list) → AreByRows e.columns e.left → first + count ≤ length list
+    → slice_get e.left 0 ≡ Some place → place.x + count ≤ e.columns → MayCodeRun e place (take count (drop first list))
+may_run old e list first count place may samples codes rows fits next row = record {
+  may = may_part old e list first count may codes fits;
+  samples =
+      let now = codes may.params may.numbers may.coded in
+      by_samples may.params e.coder (may.numbers ++ take first list) now.written (is_sample may.params old.coder may.numbers may.coded.written samples may.coded.taken) now.taken;
+  rows = rows;
+  next = next;
+  row = omega (arith, row, length-take count (drop first list));
+}
+
+-- the next place is of a column
+pub column_within : (e : Ending) (list : List ℕ) (place : Place) → MayCodeAll e list → slice_get e.left 0 ≡ Some place → place.x < e.columns
+column_within e list place may first =
+    let next = first_of e.left place first in
+    let here = comes_next may.params e may.numbers place next.0 may.coded next.1 in
+    omega (arith, here.there.column, may.coded.columns)
+
+-- the residuals of a run were put
+pub coded_run : (old new : Ending) (place : Place) (t : ℕ) (run : List ℕ) → MayCodeRun old place run → new.left ≡ drop (length run) old.left → t ≡ place.y * old.columns + place.x → new.columns ≡ old.columns → new.word ≡ old.word
+    → PutsRun place.z t run old.coder old.bits new.coder new.bits → CodesAll old new run
+coded_run old new place t run may moved time columns word puts p numbers h =
+    let next = first_of old.left place may.next in
+    let here = comes_next p old numbers place next.0 h next.1 in
+    let rest : length old.left ≡ length (drop (length numbers) (places p.shape p.order)) = ap (λ (x : List Place). length x) h.left in
+    let known : length old.left ≡ length (drop (length may.may.numbers) (places may.may.params.shape may.may.params.order)) = ap (λ (x : List Place). length x) may.may.coded.left in
+    let enough : length run ≤ length old.left = omega (arith, known, may.may.more, length-drop (length may.may.numbers) (places may.may.params.shape may.may.params.order), length-places may.may.params.shape may.may.params.order may.may.coded.order) in
+    let fits : length numbers + length run ≤ length (places p.shape p.order) = omega (arith, enough, rest, here.more, length-drop (length numbers) (places p.shape p.order), length-places p.shape p.order h.order) in
+    let is_run : IsRun p numbers place.z t (length run) = record {
+      fits = fits;
+      band = subst (λ (ps : List Place). AllByRecursion (λ q. q.z ≡ place.z) (take (length run) ps)) h.left (row_band old.columns (length run) old.left place may.rows may.next may.row);
+      time = time ∙ ap (λ n. place.y * n + place.x) h.columns ∙ sym (time_of_place p numbers place h.order here.item);
+    } in
+    let did = puts p numbers h.written h.taken is_run in
+    record {
+      columns = columns ∙ h.columns;
+      word = word ∙ h.word;
+      order = h.order;
+      within = omega (arith, fits, length-append numbers run, length-places p.shape p.order h.order);
+      left = moved ∙ ap (drop (length run)) h.left ∙ drop-drop (length run) (length numbers) (places p.shape p.order) ∙ ap (λ n. drop n (places p.shape p.order)) (sym (length-append numbers run));
+      written = h.written ++ did.0;
+      taken = did.2;
+      text = did.1 ∙ ap (λ (x : List Bool). x ++ did.0) h.text ∙ append_assoc (header_of p) h.written did.0;
+    }
