@@ -13,7 +13,7 @@ use Rattle.header_bits.specs.declared.params.Params.{Params}
 use Rattle.header_bits.specs.Lawful.{IsLawful}
 use Rattle.predict_core.specs.Following.{Learner}
 use Rattle.predict_core.specs.Residual.{residuals}
-use Rattle.file_coding.specs.Ends.{Ending, HasCoded}
+use Rattle.file_coding.specs.Ends.{Ending, HasCoded, MayCodeAll}
 use Rattle.file_coding.specs.Walked.{IsAlong, AreAlong}
 use Rattle.file_decoding.proofs.OneCube.{residuals_inside}
 use Rattle.cube_predictors.specs.Own.{own, own_residuals}
@@ -21,7 +21,6 @@ use Rattle.cube_predictors.specs.Sends.{IsSeen, IsAt, AreAt, AreFresh, bands_of}
 use Rattle.cube_predictors.specs.Weave.{owners_of, part}
 use Rattle.cube_predictors.proofs.Owning.{own_is_part}
 use Rattle.cube_predictors.proofs.Parts.{length-residuals}
-use Rattle.coder_pipe.specs.Codings.{MayTake}
 
 -- ---- the bands
 
@@ -65,8 +64,8 @@ pub all_residuals : (p : Params) (c : Image) → IsOrder p.shape p.order → c.s
 all_residuals p c lawful shape = sym (own_is_part p c 0 [] shape) ∙ part_all (places p.shape p.order) (residuals p c) (length-all p c lawful shape ∙ sym (length-places p.shape p.order lawful))
 
 -- they may be taken by a coding end that has taken nothing
-pub may_take : (p : Params) (c : Image) (e : Ending) → IsLawful p → IsSeen p c → IsCube c → HasCoded p e [] → MayTake e (own_residuals p c 0 [] p.order)
-may_take p c e lawful seen cube coded = subst (MayTake e) (sym (all_residuals p c lawful.order seen.shape)) (record {
+pub may_take : (p : Params) (c : Image) (e : Ending) → IsLawful p → IsSeen p c → IsCube c → HasCoded p e [] → MayCodeAll e (own_residuals p c 0 [] p.order)
+may_take p c e lawful seen cube coded = subst (MayCodeAll e) (sym (all_residuals p c lawful.order seen.shape)) (record {
   params = p;
   numbers = [];
   lawful = lawful;

@@ -38,12 +38,6 @@ wants_some w place owner d dealt next is p deal numbers h =
     let at : owner ≡ get_or deal place.z 0 = is ∙ get_or_default w.deal place.z d 0 (dealt 0 place (sym next)) ∙ ap (λ ds. get_or ds place.z 0) h.dealt in
     sym (wanted p deal numbers w.end h.coded ∙ ap (option_map (λ q. get_or deal q.z 0)) (sym next) ∙ ap (λ o. Some o) (sym at))
 
--- where one more may be coded, a place is to come
-pub place_comes : (e : Ending) (number : ℕ) → MayCode e number → None ≡ slice_get e.left 0 → ⊥
-place_comes e number may none =
-    let left : length (drop (length may.numbers) (places may.params.shape may.params.order)) ≡ 0 = ap (λ (x : List Place). length x) (sym may.coded.left ∙ none_first e.left (sym none)) in
-    omega (arith, left, length-drop (length may.numbers) (places may.params.shape may.params.order), length-places may.params.shape may.params.order may.coded.order, may.more)
-
 -- all places are of bands that are dealt
 pub all_dealt : (p : Params) (e : Ending) (deal : List ℕ) → HasCoded p e [] → length deal ≡ p.shape.bands → (i : ℕ) (place : Place) → slice_get e.left i ≡ Some place → place.z < length deal
 all_dealt p e deal h whole i place at =

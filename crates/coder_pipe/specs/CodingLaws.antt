@@ -1,9 +1,9 @@
 -- Coding ends take lists one behind another.
 use Rattle.std.proofs.Common.{◌≡◌, ◌^◌, ◌<◌, ℕ, Bool, true, false, List, [], ◌∷◌, ◌++◌, refl, sym, subst, append-nil, append_assoc, length-append, arith}
 use Rattle.std.specs.List.{AllByRecursion}
-use Rattle.file_coding.specs.Ends.{Ending, HasCoded}
+use Rattle.file_coding.specs.Ends.{Ending, HasCoded, MayCodeAll}
 use Rattle.cube_predictors.specs.Takings.{AreTakings}
-use Rattle.coder_pipe.specs.Codings.{MayTake, Takes}
+use Rattle.coder_pipe.specs.Codings.{Takes}
 
 all_first : (limit : ℕ) (xs ys : List ℕ) → AllByRecursion (λ n. n < limit) (xs ++ ys) → AllByRecursion (λ n. n < limit) xs
 all_first limit [] ys h = tt
@@ -13,11 +13,11 @@ all_last : (limit : ℕ) (xs ys : List ℕ) → AllByRecursion (λ n. n < limit)
 all_last limit [] ys h = h
 all_last limit (x ∷ xs) ys h = all_last limit xs ys h.1
 
-takes_less : (e : Ending) (xs ys : List ℕ) → MayTake e (xs ++ ys) → MayTake e xs
+takes_less : (e : Ending) (xs ys : List ℕ) → MayCodeAll e (xs ++ ys) → MayCodeAll e xs
 takes_less e xs ys h =
     record { params = h.params; numbers = h.numbers; lawful = h.lawful; coded = h.coded; more = omega (arith, h.more, length-append xs ys); range = all_first (2 ^ h.params.kind.bits) xs ys h.range }
 
-takes_more : (old new : Ending) (xs ys : List ℕ) → Takes old new true xs → MayTake old (xs ++ ys) → MayTake new ys
+takes_more : (old new : Ending) (xs ys : List ℕ) → Takes old new true xs → MayCodeAll old (xs ++ ys) → MayCodeAll new ys
 takes_more old new xs ys a h =
     record {
       params = h.params;
@@ -28,7 +28,7 @@ takes_more old new xs ys a h =
       range = all_last (2 ^ h.params.kind.bits) xs ys h.range;
     }
 
-takes_none : (e : Ending) → MayTake e [] → Takes e e true []
+takes_none : (e : Ending) → MayCodeAll e [] → Takes e e true []
 takes_none e h all p numbers coded = subst (HasCoded p e) (sym (append-nil numbers)) coded
 
 takes_behind : (old mid new : Ending) (all : Bool) (xs ys : List ℕ) → Takes old mid true xs → Takes mid new all ys → Takes old new all (xs ++ ys)
@@ -37,5 +37,5 @@ takes_behind old mid new all xs ys a b h p numbers coded = subst (HasCoded p new
 takes_cut : (old new : Ending) (xs ys : List ℕ) → Takes old new false xs → Takes old new false (xs ++ ys)
 takes_cut old new xs ys a h = absurd (cc)
 
-pub codings_are : AreTakings {S = Ending} (λ e list. MayTake e list) (λ old new all list. Takes old new all list)
+pub codings_are : AreTakings {S = Ending} (λ e list. MayCodeAll e list) (λ old new all list. Takes old new all list)
 codings_are = record { less = takes_less; more = takes_more; none = takes_none; behind = takes_behind; cut = takes_cut }

@@ -1,8 +1,9 @@
 -- Pieces of a row, one behind another.
-use Rattle.std.proofs.Common.{◌≡◌, ◌+◌, ◌-◌, ◌*◌, ◌<◌, ◌≤◌, ℕ, zero, suc, List, [], ◌∷◌, ◌++◌, length, take, drop, get_or, set, refl, sym, ap, ap₂, ◌∙◌, add-one, get_or-take, arith}
+use Rattle.std.proofs.Common.{◌≡◌, ◌+◌, ◌-◌, ◌*◌, ◌<◌, ◌≤◌, ℕ, zero, suc, List, [], ◌∷◌, ◌++◌, length, take, drop, get_or, set, refl, sym, ap, ap₂, ◌∙◌, add-one, get_or-take, length-drop, arith}
 use Rattle.std.specs.List.{flat_map}
 use Rattle.std.proofs.lemmas.Grind.{flat_map-append}
-use Rattle.std.proofs.lemmas.List.{take_more, length-map, get_or-map}
+use Rattle.std.proofs.Math.Seq.{take-add, take-append_seam}
+use Rattle.std.proofs.lemmas.List.{take_more, take-map, drop-map, take-append-drop, length-take, length-take-le, length-map, get_or-map}
 use Rattle.cube_core.specs.Image.{Image}
 use Rattle.cube_core.specs.Order.{from, upto}
 use Rattle.cube_core.proofs.Lists.{get_or-from, length-from}
@@ -12,7 +13,7 @@ use Rattle.predict_core.specs.Residual.{mapped_residual, run_residuals}
 use Rattle.cube_predictors.specs.Own.{column_of, row_of}
 use Rattle.cube_predictors.specs.Sends.{IsAt, AreAt, bands_of}
 use Rattle.cube_predictors.specs.Pieces.{IsPast, ArePast, held_at, held_of}
-use Rattle.cube_predictors.proofs.Sending.{Pieces}
+use Rattle.cube_predictors.proofs.Sending.{Pieces, upto_more}
 
 -- ---- the bands
 
@@ -88,3 +89,41 @@ piece_rest f x n m le =
 pub row_piece : (p : Params) (c : Image) (zs : List ℕ) (y x n : ℕ) → x + n ≤ c.shape.columns → Pieces (row_of p c zs y) (flat_map (λ k. column_of p c zs y k) (upto x)) (flat_map (λ k. column_of p c zs y k) (from x n))
 unfolding row_of
 row_piece p c zs y x n le = piece_rest (λ k. column_of p c zs y k) x n c.shape.columns le
+
+-- ---- runs of a column, and of one band
+
+pub run_piece : (ns : List ℕ) (i n : ℕ) → Pieces ns (take i ns) (take n (drop i ns))
+run_piece ns i n = record { tail = drop (i + n) ns; whole = sym (take-append-drop (i + n) ns) ∙ ap (λ v. v ++ drop (i + n) ns) (take-add i n ns) }
+
+pub item_piece : (ns : List ℕ) (i : ℕ) → i < length ns → Pieces ns (take i ns) (get_or ns i 0 ∷ [])
+item_piece ns i lt = record { tail = drop (i + 1) ns; whole = sym (take-append-drop (i + 1) ns) ∙ ap (λ v. v ++ drop (i + 1) ns) (take_more ns i 0 lt) }
+
+held_run : (bands : List Learner) (i first n : ℕ) → held_at (take n (drop first bands)) i ≡ take n (drop first (held_at bands i))
+held_run bands i first n =
+    sym (take-map (λ b. get_or b.piece i 0) n (drop first bands)) ∙ ap (λ (ns : List ℕ). take n ns) (sym (drop-map (λ b. get_or b.piece i 0) first bands))
+
+-- what was gathered of a column stands in front of what the room held before
+pub gathered : (bands : List Learner) (i first n many : ℕ) (numbers room : List ℕ) → first + n ≤ length bands → many ≡ n → numbers ≡ held_at (take many (drop first bands)) i → take n (numbers ++ room) ≡ take n (drop first (held_at bands i))
+gathered bands i first n many numbers room le same is =
+    let run : numbers ≡ take n (drop first (held_at bands i)) = is ∙ ap (λ k. held_at (take k (drop first bands)) i) same ∙ held_run bands i first n in
+    let rest : n ≤ length (drop first (held_at bands i)) = omega (arith, le, length-drop first (held_at bands i), length-map bands (λ b. get_or b.piece i 0)) in
+    let long : length numbers ≡ n = ap (λ (ns : List ℕ). length ns) run ∙ length-take-le n (drop first (held_at bands i)) rest in
+    ap (λ k. take k (numbers ++ room)) (sym long) ∙ take-append_seam numbers room ∙ run
+
+first_items : (ns : List ℕ) (n : ℕ) → n ≤ length ns → flat_map (λ i. get_or ns i 0 ∷ []) (upto n) ≡ take n ns
+first_items ns zero le = refl
+first_items ns (suc n) le =
+    let next : suc n ≡ n + 1 = omega arith in
+    ap (λ k. flat_map (λ i. get_or ns i 0 ∷ []) (upto k)) next
+    ∙ upto_more (λ i. get_or ns i 0 ∷ []) n
+    ∙ ap (λ v. v ++ get_or ns n 0 ∷ []) (first_items ns n (omega (arith, le)))
+    ∙ sym (take_more ns n 0 (omega (arith, le)))
+    ∙ ap (λ k. take k ns) (sym next)
+
+-- one band's residuals, place after place, are those that it holds
+pub held_alone : (bands : List Learner) (b : Learner) (n : ℕ) (numbers : List ℕ) → length bands ≡ 1 → b ≡ get_or bands 0 b → numbers ≡ take n b.piece → length numbers ≡ n → numbers ≡ held_of bands n
+held_alone [] b n numbers one there is long = absurd (omega (arith, one))
+held_alone (d ∷ []) b n numbers one there is long =
+    let enough : n ≤ length b.piece = omega (arith, long, ap (λ (ns : List ℕ). length ns) is, length-take n b.piece) in
+    is ∙ sym (first_items b.piece n enough) ∙ ap (λ (r : Learner). held_of (r ∷ []) n) there
+held_alone (d ∷ e ∷ bands) b n numbers one there is long = absurd (omega (arith, one))

@@ -1,6 +1,6 @@
-//! What takes residuals, one behind another, as a lane of a predictor does.
+//! What takes residuals, run by run, as a lane of a predictor does.
 
-ghost use Rattle.std.specs.Prelude.{ℕ, Bool, List, [], ◌∷◌};
+ghost use Rattle.std.specs.Prelude.{ℕ, Bool, List};
 ghost use Rattle.cube_predictors.specs.Takings.{AreTakings, MaySend};
 ghost use Rattle.cube_predictors.specs.TakingLaws.{sendings_are};
 ghost use Rattle.cube_predictors.specs.Sends.{Sends};
@@ -17,10 +17,10 @@ pub trait Taker<R> {
     /// What has become of it: it took all of a list, or it stopped in the list.
     ghost takes: { Self → Self → Bool → List ℕ → Type 0 };
 
-    /// Takes a number. False where it has stopped.
-    fn take(&mut self, rt: &R, number: u16) -> bool
-        requires { may self.old (number ∷ []) }
-        ensures { takes self.old self.new result (number ∷ []) };
+    /// Takes some numbers, in order. False where it has stopped.
+    fn take(&mut self, rt: &R, numbers: &[u16]) -> bool
+        requires { may self.old numbers.now }
+        ensures { takes self.old self.new result numbers.now };
 
     /// Lists may be taken one behind another.
     ghost laws: { AreTakings may takes };
@@ -33,8 +33,12 @@ impl<'g, R: Wait, G: Gate> Taker<R> for RunSender<'g, G> {
 
     ghost laws = { sendings_are };
 
-    #[inline(always)]
-    fn take(&mut self, rt: &R, number: u16) -> bool {
-        self.send(rt, number)
+    fn take(&mut self, rt: &R, numbers: &[u16]) -> bool {
+        for i in 0..numbers.len() {
+            if !self.send(rt, numbers[i]) {
+                return false;
+            }
+        }
+        true
     }
 }

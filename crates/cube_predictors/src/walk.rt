@@ -18,6 +18,9 @@ use predict_core::band::Band;
 /// The most places of a piece of a row.
 const PIECE: u32 = 64;
 
+/// The most residuals of a column that are handed on at once.
+const RUN: usize = 64;
+
 /// Each of some bands goes over so many places of row `y`, from column `x` on, and holds their residuals.
 fn predict_pieces(cube: &Cube, params: &Params, y: u32, x: u32, count: u32, bands: &mut [Band])
     requires image { IsSeen params.now cube.now }
@@ -33,28 +36,49 @@ fn predict_pieces(cube: &Cube, params: &Params, y: u32, x: u32, count: u32, band
     }
 }
 
+/// Writes the residuals that some bands hold of place `i` of their pieces, band after band.
+#[inline(always)]
+fn gather(i: usize, bands: &[Band], residuals: &mut [u16])
+    requires place { i < 64 }
+    requires room { length residuals.old ≡ length bands.now }
+    ensures { residuals.new ≡ held_at bands.now i }
+{
+    for k in 0..bands.len() {
+        residuals[k] = bands[k].piece_residual(i);
+    }
+}
+
 /// Sends the residuals that some bands hold of place `i` of their pieces. False where what takes them has stopped.
 #[inline(always)]
-fn send_column<R, T: Taker<R>>(rt: &R, i: u32, bands: &[Band], taker: &mut T) -> bool
+fn send_column<R, T: Taker<R>>(rt: &R, i: usize, bands: &[Band], taker: &mut T) -> bool
     requires place { i < 64 }
     requires may { T.may taker.old (held_at bands.now i) }
     ensures sent { T.takes taker.old taker.new result (held_at bands.now i) }
 {
-    for k in 0..bands.len() {
-        let residual = bands[k].piece_residual(i as usize);
-        if !taker.take(rt, residual) {
+    let mut room = [0; RUN];
+    let mut first = 0;
+    while first < bands.len() {
+        let count = RUN.min(bands.len() - first);
+        gather(i, &bands[first..first + count], &mut room[..count]);
+        if !taker.take(rt, &room[..count]) {
             return false;
         }
+        first += count;
     }
     true
 }
 
 /// Sends the residuals that some bands hold of their pieces, column after column. False where what takes them has stopped.
-fn send_pieces<R, T: Taker<R>>(rt: &R, count: u32, bands: &[Band], taker: &mut T) -> bool
+///
+/// Those of one band are sent as it holds them.
+fn send_pieces<R, T: Taker<R>>(rt: &R, count: usize, bands: &[Band], taker: &mut T) -> bool
     requires piece { count ≤ 64 }
     requires may { T.may taker.old (held_of bands.now count) }
     ensures sent { T.takes taker.old taker.new result (held_of bands.now count) }
 {
+    if bands.len() == 1 {
+        return taker.take(rt, bands[0].piece_residuals(count));
+    }
     for i in 0..count {
         if !send_column(rt, i, bands, taker) {
             return false;
@@ -85,7 +109,7 @@ fn send_row<R, T: Taker<R>>(
     while x < columns {
         let count = PIECE.min(columns - x);
         predict_pieces(cube, params, y, x, count, bands);
-        if !send_pieces(rt, count, bands, taker) {
+        if !send_pieces(rt, count as usize, bands, taker) {
             return false;
         }
         x += count;

@@ -1,4 +1,5 @@
-use Rattle.coder_pipe.proofs.Weaving.{place_comes, dealt_more}
+use Rattle.file_coding.proofs.Endings.{place_comes}
+use Rattle.coder_pipe.proofs.Weaving.{dealt_more}
 use Rattle.coder_pipe.proofs.weaver.Weaver.take.Goals as goal
 
 pub unreachable-requires : goal.unreachable-requires
