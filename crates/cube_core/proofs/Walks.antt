@@ -1,14 +1,17 @@
 -- A walk's steps from place to place.
-use Rattle.std.proofs.Common.{◌≡◌, ◌+◌, ◌*◌, ◌/◌, ◌<◌, ◌≤◌, ◌-◌, ℕ, suc, min, [], ◌∷◌, length, refl, sym, ap, ◌∙◌, subst, arith, drop-cons, length-drop}
+use Rattle.std.proofs.Common.{◌≡◌, ◌+◌, ◌*◌, ◌/◌, ◌<◌, ◌≤◌, ◌-◌, ℕ, zero, suc, min, true, false, List, [], ◌∷◌, length, drop, refl, sym, ap, ◌∙◌, subst, arith, drop-cons, length-drop}
+use Rattle.std.proofs.lemmas.Bool.{eqb-true, true≢false}
+use Rattle.std.proofs.lemmas.List.{drop-drop}
 use Rattle.std.proofs.lemmas.Nat.{div-mul-add}
 use Rattle.std.proofs.Math.ListN.{drop_of_length-le}
-use Rattle.std.proofs.Math.Nat.{lt_of_mul-lt-mul_left, div-mul-le_self, lt-div-mul-add, zero-div}
+use Rattle.std.proofs.Math.Seq.{drop-nil}
+use Rattle.std.proofs.Math.Nat.{lt_of_mul-lt-mul_left, div-mul-le_self, lt-div-mul-add, zero-div, div-one, min-eq_left}
 use Rattle.cube_core.specs.declared.order.Order.{Order}
 use Rattle.cube_core.specs.declared.order.Order.TheVariants.{Bsq, Bi}
 use Rattle.cube_core.specs.declared.order.Place.{Place}
 use Rattle.cube_core.specs.declared.cursor.Spot.{Spot}
 use Rattle.cube_core.specs.Shape.{Sizes, sample_count}
-use Rattle.cube_core.specs.Order.{IsOrder, IsPlaceOf, place_index, places}
+use Rattle.cube_core.specs.Order.{IsOrder, IsPlaceOf, goes_along_rows, place_index, places}
 use Rattle.cube_core.specs.Cursor.{IsSpot, IsWalk, places_left}
 use Rattle.cube_core.proofs.Orders.{length-places, place_at_index}
 
@@ -18,9 +21,9 @@ pub sequential_index : (s : Sizes) (p : Place) → place_index s Bsq p ≡ (p.z 
 unfolding place_index
 sequential_index s p = refl
 
-pub next_column : (s : Sizes) (p : Place) → place_index s Bsq (record { z = p.z; y = p.y; x = p.x + 1 }) ≡ place_index s Bsq p + 1
+pub columns_on : (s : Sizes) (p : Place) (n : ℕ) → place_index s Bsq (record { z = p.z; y = p.y; x = p.x + n }) ≡ place_index s Bsq p + n
 unfolding place_index
-next_column s p = omega arith
+columns_on s p n = omega arith
 
 pub next_row : (s : Sizes) (p : Place) → p.x + 1 ≡ s.columns → place_index s Bsq (record { z = p.z; y = p.y + 1; x = 0 }) ≡ place_index s Bsq p + 1
 unfolding place_index
@@ -55,17 +58,59 @@ group_next depth first z h e =
     let group : (first + depth) / depth ≡ z / depth + 1 = subst (λ (n : ℕ). n / depth ≡ z / depth + 1) place (div-mul-add (z / depth + 1) depth 0 (omega arith)) in
     rw group (omega arith)
 
-abbrev StepsTo : Sizes → ℕ → Spot → Spot → Type 0
-StepsTo s depth p q = IsSpot s (Bi depth) q × (place_index s (Bi depth) q.place ≡ place_index s (Bi depth) p.place + 1)
+-- a spot of these bands so many places on
+abbrev StepsOn : Sizes → Order → ℕ → Spot → Spot → Type 0
+StepsOn s o n p q = IsSpot s o q × (place_index s o q.place ≡ place_index s o p.place + n)
 
--- the next band of the group
-pub next_in_group : (s : Sizes) (depth : ℕ) (p : Spot) → 1 ≤ depth → IsSpot s (Bi depth) p → p.place.z + 1 < p.end → StepsTo s depth p (record { place = record { z = p.place.z + 1; y = p.place.y; x = p.place.x }; first = p.first; end = p.end })
-next_in_group s depth p h spot more =
+abbrev StepsTo : Sizes → ℕ → Spot → Spot → Type 0
+StepsTo s depth p q = StepsOn s (Bi depth) 1 p q
+
+abbrev bands_on : Spot → ℕ → Spot
+bands_on p n = record { place = record { z = p.place.z + n; y = p.place.y; x = p.place.x }; first = p.first; end = p.end }
+
+abbrev places_on : Spot → ℕ → Spot
+places_on p n = record { place = record { z = p.place.z; y = p.place.y; x = p.place.x + n }; first = p.first; end = p.end }
+
+-- so many bands on, in the group
+pub bands_of_group : (s : Sizes) (depth : ℕ) (p : Spot) (n : ℕ) → 1 ≤ depth → IsSpot s (Bi depth) p → p.place.z + n < p.end → StepsOn s (Bi depth) n p (bands_on p n)
+bands_of_group s depth p n h spot more =
     let low : p.place.z / depth * depth ≤ p.place.z = div-mul-le_self p.place.z depth in
-    let kept : p.first ≡ (p.place.z + 1) / depth * depth = group_kept depth p.first p.place.z (p.place.z + 1) spot.1 (omega (arith, spot.1)) (omega (arith, spot.2)) in (
+    let kept : p.first ≡ (p.place.z + n) / depth * depth = group_kept depth p.first p.place.z (p.place.z + n) spot.1 (omega (arith, spot.1)) (omega (arith, spot.2)) in (
       (record { band = omega (arith, spot.2); row = spot.0.row; column = spot.0.column }, kept, spot.2),
-      index_in_group s depth p.first (record { z = p.place.z + 1; y = p.place.y; x = p.place.x }) kept ∙ sym (ap (λ n. n + 1) (index_in_group s depth p.first p.place spot.1) ∙ omega (arith, spot.1)),
+      index_in_group s depth p.first (bands_on p n).place kept ∙ sym (ap (λ i. i + n) (index_in_group s depth p.first p.place spot.1) ∙ omega (arith, spot.1)),
     )
+
+columns_of_line : (s : Sizes) (p : Place) (n : ℕ) → IsPlaceOf s p → place_index s (Bi 1) (record { z = p.z; y = p.y; x = p.x + n }) ≡ place_index s (Bi 1) p + n
+columns_of_line s p n there =
+    let first : p.z ≡ p.z / 1 * 1 = omega (arith, div-one p.z) in
+    let one : min 1 (s.bands - p.z) ≡ 1 = min-eq_left (omega (arith, there.band)) in
+    rw (index_in_group s 1 p.z p first, index_in_group s 1 p.z (record { z = p.z; y = p.y; x = p.x + n }) first, one) (omega arith)
+
+-- so many columns on, where places go along rows
+pub columns_along : (s : Sizes) (o : Order) (p : Place) (n : ℕ) → goes_along_rows o ≡ true → IsPlaceOf s p → place_index s o (record { z = p.z; y = p.y; x = p.x + n }) ≡ place_index s o p + n
+columns_along s Bsq p n along there = columns_on s p n
+columns_along s (Bi depth) p n along there = rw (eqb-true depth 1 along) (columns_of_line s p n there)
+
+pub spot_place : (s : Sizes) (o : Order) (p : Spot) → IsSpot s o p → IsPlaceOf s p.place
+spot_place s Bsq p h = h
+spot_place s (Bi depth) p h = h.0
+
+spot_along : (s : Sizes) (o : Order) (p : Spot) (n : ℕ) → IsSpot s o p → p.place.x + n < s.columns → IsSpot s o (places_on p n)
+spot_along s Bsq p n spot more = record { band = spot.band; row = spot.row; column = more }
+spot_along s (Bi depth) p n spot more = (record { band = spot.0.band; row = spot.0.row; column = more }, spot.1, spot.2)
+
+pub columns_of_row : (s : Sizes) (o : Order) (p : Spot) (n : ℕ) → goes_along_rows o ≡ true → IsSpot s o p → p.place.x + n < s.columns → StepsOn s o n p (places_on p n)
+columns_of_row s o p n along spot more = (spot_along s o p n spot more, columns_along s o p.place n along (spot_place s o p spot))
+
+-- under interleaving a spot's band is before its group's end
+pub before_end : (s : Sizes) (o : Order) (p : Spot) → IsOrder s o → goes_along_rows o ≡ false → IsSpot s o p → p.place.z < p.end
+before_end s Bsq p lawful along spot = elim (true≢false along) [ ]
+before_end s (Bi depth) p lawful along spot = omega (arith, spot.1, spot.2, spot.0.band, lt-div-mul-add {a = p.place.z} lawful.0)
+
+-- so many bands on, where places go along columns of bands
+pub bands_of_column : (s : Sizes) (o : Order) (p : Spot) (n : ℕ) → IsOrder s o → goes_along_rows o ≡ false → IsSpot s o p → p.place.z + n < p.end → StepsOn s o n p (bands_on p n)
+bands_of_column s Bsq p n lawful along spot more = elim (true≢false along) [ ]
+bands_of_column s (Bi depth) p n lawful along spot more = bands_of_group s depth p n lawful.0 spot more
 
 -- the group's first band, a column on
 pub next_in_row : (s : Sizes) (depth : ℕ) (p : Spot) → 1 ≤ depth → IsSpot s (Bi depth) p → p.end ≤ p.place.z + 1 → p.place.x + 1 < s.columns → StepsTo s depth p (record { place = record { z = p.first; y = p.place.y; x = p.place.x + 1 }; first = p.first; end = p.end })
@@ -127,9 +172,37 @@ first_left s o p left lawful place e more =
     let within : place_index s o p < length (places s o) = omega (arith, length-places s o lawful) in
     rw (here, next, drop-cons (places s o) (place_index s o p) p within, place_at_index s o p p lawful place) refl
 
-spot_place : (s : Sizes) (o : Order) (p : Spot) → IsSpot s o p → IsPlaceOf s p.place
-spot_place s Bsq p h = h
-spot_place s (Bi depth) p h = h.0
+-- behind so many of what is left, so many fewer are left
+pub left_behind : (s : Sizes) (o : Order) (left n : ℕ) → left ≤ sample_count s → n ≤ left → places_left s o (left - n) ≡ drop n (places_left s o left)
+unfolding places_left
+left_behind s o left n few h =
+    let e : sample_count s - (left - n) ≡ sample_count s - left + n = omega arith in
+    rw e (sym (drop-drop n (sample_count s - left) (places s o)))
+
+-- a walk goes on to a spot so many places on, and to the one behind it
+pub walk_on : (s : Sizes) (o : Order) (p q after : Spot) (left n : ℕ) → IsWalk s o p left → n < left → StepsOn s o n p q → (0 < left - (n + 1) → StepsOn s o 1 q after) → IsWalk s o after (left - (n + 1))
+walk_on s o p q after left n walk more on next = record {
+    lawful = walk.lawful;
+    few = omega (arith, walk.few);
+    spot = λ some. ((next some).0, omega (arith, (next some).1, on.1, (walk.spot (omega arith)).1));
+}
+
+-- what remains to be gone by after a part of it
+pub rest_behind : (s : Sizes) (o : Order) (left rest n : ℕ) → left ≤ sample_count s → rest ≤ left → n ≤ rest → drop (rest - n) (places_left s o (left - n)) ≡ drop rest (places_left s o left)
+rest_behind s o left rest n few all some =
+    let e : n + (rest - n) ≡ rest = omega arith in
+    rw (left_behind s o left n few (omega arith)) (drop-drop (rest - n) n (places_left s o left) ∙ rw e refl)
+
+drop_at_most : (n : ℕ) (ps : List Place) → drop (min n (length ps)) ps ≡ drop n ps
+drop_at_most n [] = drop-nil (min n 0) ∙ sym (drop-nil n)
+drop_at_most zero (p ∷ ps) = let e : min 0 (suc (length ps)) ≡ 0 = omega arith in rw e refl
+drop_at_most (suc n) (p ∷ ps) = let e : min (suc n) (suc (length ps)) ≡ suc (min n (length ps)) = omega arith in rw e (drop_at_most n ps)
+
+-- so many places, or all that are left
+pub at_most_left : (s : Sizes) (o : Order) (left count : ℕ) → IsOrder s o → left ≤ sample_count s → drop (min count left) (places_left s o left) ≡ drop count (places_left s o left)
+at_most_left s o left count lawful few =
+    let long : length (places_left s o left) ≡ left = length-places_left s o left lawful few in
+    ap (λ n. drop (min count n) (places_left s o left)) (sym long) ∙ drop_at_most count (places_left s o left)
 
 pub next_left : (s : Sizes) (o : Order) (p : Spot) (left : ℕ) → IsWalk s o p left → 0 < left → places_left s o left ≡ p.place ∷ places_left s o (left - 1)
 next_left s o p left h more = first_left s o p.place left h.lawful (spot_place s o p (h.spot more).0) (h.spot more).1 more

@@ -1,5 +1,5 @@
 -- The order in which the samples are encoded (CCSDS 123.0-B-1, "Encoding order").
-use Rattle.std.specs.Prelude.{◌≡◌, ◌⊎◌, ℕ, zero, suc, ◌+◌, ◌-◌, ◌*◌, ◌/◌, ◌<◌, min, List, [], ◌∷◌, map}
+use Rattle.std.specs.Prelude.{◌≡◌, ◌⊎◌, Bool, true, eqb, ℕ, zero, suc, ◌+◌, ◌-◌, ◌*◌, ◌/◌, ◌<◌, min, List, [], ◌∷◌, map}
 use Rattle.std.specs.List.{flat_map}
 use Rattle.cube_core.specs.declared.order.Order.{Order}
 use Rattle.cube_core.specs.declared.order.Order.TheVariants.{Bsq, Bi}
@@ -11,6 +11,11 @@ use Rattle.cube_core.specs.Image.{IsPlace}
 abbrev pub IsOrder : Sizes → Order → Type 0
 IsOrder s Bsq = Unit {0}
 IsOrder s (Bi depth) = InRange 1 s.bands depth
+
+-- whether each place that isn't the last of its row is followed by the next place of the row
+abbrev pub goes_along_rows : Order → Bool
+goes_along_rows Bsq = true
+goes_along_rows (Bi depth) = eqb depth 1
 
 -- n numbers from a on
 abbrev pub from : ℕ → ℕ → List ℕ

@@ -1,6 +1,6 @@
 //! A walk over the places of a cube in encoding order, which steps from place to place without a division.
 
-ghost use Rattle.std.specs.Prelude.{◌≡◌, ◌+◌, ◌<◌, length, slice_get};
+ghost use Rattle.std.specs.Prelude.{◌≡◌, ◌+◌, ◌<◌, ◌≤◌, length, drop, slice_get};
 ghost use Rattle.std.specs.Iterator.{YieldsFirst, item_count};
 ghost use Rattle.cube_core.specs.Shape.{InRange, sample_count};
 ghost use Rattle.cube_core.specs.Order.{IsOrder, IsPlaceOf, place_index, places};
@@ -70,6 +70,21 @@ impl Places {
     {
         self.left
     }
+
+    /// Goes by so many places, or by all that are still to come where these are fewer.
+    pub fn go_by(&mut self, count: u64)
+        ensures { self.new ≡ drop count self.old }
+    {
+        let mut rest = count.min(self.left);
+        while rest > 0 {
+            let (spot, on) = spot_ahead(self.shape, self.order, self.spot, rest - 1);
+            rest -= on + 1;
+            self.left -= on + 1;
+            if self.left > 0 {
+                self.spot = spot_after(self.shape, self.order, spot);
+            }
+        }
+    }
 }
 
 impl Iterator for Places {
@@ -112,6 +127,32 @@ fn first_spot(shape: Shape, order: Order) -> Spot
             first: 0,
             end: depth,
         },
+    }
+}
+
+/// A spot at most so many places on, and how many it is on: in the same row where places go along rows, else in the same column of bands.
+fn spot_ahead(shape: Shape, order: Order, spot: Spot, most: u64) -> (Spot, u64)
+    requires order { IsOrder shape order }
+    requires spot { IsSpot shape order spot }
+    ensures spot { IsSpot shape order result.0 }
+    ensures index { place_index shape order result.0.place ≡ place_index shape order spot.place + result.1 }
+    ensures most { result.1 ≤ most }
+{
+    let place = spot.place;
+    if order.goes_along_rows() {
+        let on = most.min(u64::from(shape.columns() - 1 - place.x));
+        let place = Place {
+            x: place.x + on as u32,
+            ..place
+        };
+        (Spot { place, ..spot }, on)
+    } else {
+        let on = most.min(u64::from(spot.end - 1 - place.z));
+        let place = Place {
+            z: place.z + on as u32,
+            ..place
+        };
+        (Spot { place, ..spot }, on)
     }
 }
 

@@ -2,7 +2,7 @@
 
 ghost use Rattle.std.specs.Prelude.{◌≡◌, ◌<◌, slice_get, Some};
 ghost use Rattle.cube_core.specs.Shape.{InRange, sample_count};
-ghost use Rattle.cube_core.specs.Order.{IsOrder, IsPlaceOf, place_index, places};
+ghost use Rattle.cube_core.specs.Order.{IsOrder, IsPlaceOf, goes_along_rows, place_index, places};
 
 use crate::shape::Shape;
 
@@ -13,6 +13,18 @@ pub enum Order {
     Bsq,
     /// Band interleaved, with so many bands a group: 1 is by line, all bands is by pixel.
     Bi(u32),
+}
+
+impl Order {
+    /// Whether places go along the rows of a band: band after band, or lines of one band interleaved.
+    pub fn goes_along_rows(self) -> bool
+        ensures { result ≡ goes_along_rows self }
+    {
+        match self {
+            Order::Bsq => true,
+            Order::Bi(depth) => depth == 1,
+        }
+    }
 }
 
 /// Where a sample stands: band `z`, row `y`, column `x`, each from 0.

@@ -1,12 +1,12 @@
 use Rattle.std.proofs.Common.{arith}
-use Rattle.cube_core.proofs.Walks.{next_in_group, next_in_row, next_group, next_line}
+use Rattle.cube_core.proofs.Walks.{bands_of_group, next_in_row, next_group, next_line}
 use Rattle.cube_core.proofs.cursor.interleaved_after.Goals as goal
 
 pub returns-then-z-end-clause-spot : goal.returns-then-z-end-clause-spot
-returns-then-z-end-clause-spot c = (next_in_group c.args.shape c.args.depth c.args.spot c.requires.depth.0 c.requires.spot c.if-z-end.true).0
+returns-then-z-end-clause-spot c = (bands_of_group c.args.shape c.args.depth c.args.spot 1 c.requires.depth.0 c.requires.spot c.if-z-end.true).0
 
 pub returns-then-z-end-clause-next : goal.returns-then-z-end-clause-next
-returns-then-z-end-clause-next c = (next_in_group c.args.shape c.args.depth c.args.spot c.requires.depth.0 c.requires.spot c.if-z-end.true).1
+returns-then-z-end-clause-next c = (bands_of_group c.args.shape c.args.depth c.args.spot 1 c.requires.depth.0 c.requires.spot c.if-z-end.true).1
 
 pub returns-then-x-columns-clause-spot : goal.returns-then-x-columns-clause-spot
 returns-then-x-columns-clause-spot c = (next_in_row c.args.shape c.args.depth c.args.spot c.requires.depth.0 c.requires.spot c.if-z-end.false (omega (arith, c.columns.ensures.value))).0

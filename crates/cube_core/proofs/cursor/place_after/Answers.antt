@@ -1,9 +1,9 @@
 use Rattle.std.proofs.Common.{◌≡◌, ◌+◌, arith}
-use Rattle.cube_core.proofs.Walks.{next_column, next_row, next_band, band_follows}
+use Rattle.cube_core.proofs.Walks.{columns_on, next_row, next_band, band_follows}
 use Rattle.cube_core.proofs.cursor.place_after.Goals as goal
 
 pub returns-then-x-columns-clause-next : goal.returns-then-x-columns-clause-next
-returns-then-x-columns-clause-next c = next_column c.args.shape c.args.place
+returns-then-x-columns-clause-next c = columns_on c.args.shape c.args.place 1
 
 pub returns-then-y-rows-clause-next : goal.returns-then-y-rows-clause-next
 returns-then-y-rows-clause-next c = next_row c.args.shape c.args.place (omega (arith, c.columns.ensures.value, c.requires.place.column))
