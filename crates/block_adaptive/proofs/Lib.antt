@@ -25,5 +25,6 @@ pub mod Emits
 pub mod Gathers
 pub mod Packing
 pub mod Stored
+pub mod Holds
 pub mod Segmented
 pub mod Stable

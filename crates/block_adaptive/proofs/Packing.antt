@@ -13,7 +13,7 @@ use Rattle.block_adaptive.specs.Texts.{Text, Cut, left_at, spelled, spelling, va
 use Rattle.block_adaptive.specs.Chosen.{chosen_from, chosen_texts, chosen_block_body, is_zero}
 use Rattle.block_adaptive.specs.Laws.{AreBlocks}
 use Rattle.block_adaptive.specs.Settings.{IsCut}
-use Rattle.block_adaptive.specs.Taken.{Packed, HasTaken, PutsNumber, EndsBody, rest_of, run_and_block, texts_after, zeros_after, packed, texts_packed}
+use Rattle.block_adaptive.specs.Taken.{Packed, HasTaken, PutsNumber, PutsAll, EndsBody, rest_of, run_and_block, texts_after, zeros_after, packed, texts_packed}
 use Rattle.block_adaptive.proofs.Lawful.{rest_least, zeros_of}
 use Rattle.block_adaptive.proofs.Streaming.{enough, block_next, run_next, run_to_end}
 use Rattle.block_adaptive.proofs.Handed.{zeros, values_append, rest_most, size_least}
@@ -102,13 +102,13 @@ pub blocks_push : (s : CodeSet) (size : ℕ) (bs : List (List ℕ)) (b : List �
 blocks_push s size [] b h len range = ((len, range), tt)
 blocks_push s size (x ∷ bs) b h len range = (h.0, blocks_push s size bs b h.1 len range)
 
--- ---- one value, and one block more
+-- ---- values that are held, and one block more
 
-pub value_taken : (v : Packed) (taken : List ℕ) (bits : List Bool) (x : ℕ) → HasTaken v taken bits → HasTaken (record v { held = v.held ++ x ∷ [] }) (taken ++ x ∷ []) bits
-value_taken v taken bits x h = record {
+pub values_taken : (v : Packed) (taken : List ℕ) (bits : List Bool) (xs : List ℕ) → HasTaken v taken bits → HasTaken (record v { held = v.held ++ xs }) (taken ++ xs) bits
+values_taken v taken bits xs h = record {
   blocks = h.blocks;
   whole = h.whole;
-  numbers = ap (λ (ns : List ℕ). ns ++ x ∷ []) h.numbers ∙ append_assoc (values_of h.blocks) v.held (x ∷ []);
+  numbers = ap (λ (ns : List ℕ). ns ++ xs) h.numbers ∙ append_assoc (values_of h.blocks) v.held xs;
   place = h.place;
   inside = h.inside;
   goes_on = h.goes_on;
@@ -234,11 +234,11 @@ last_block v written now cut least most more range is = λ taken bits h count.
     let blocks-are : length (h.blocks ++ b ∷ []) ≡ c.count = length-append h.blocks (b ∷ []) ∙ count-is in
     (texts_packed v b, is, all_taken (packed v b) (values_of (h.blocks ++ b ∷ [])) (bits ++ texts_packed v b) after blocks-are ∙ sym (body_of_blocks v taken (h.blocks ++ b ∷ []) count all blocks-are))
 
--- ---- one number more
+-- ---- numbers more
 
-pub number_held : (v new : Packed) (written : List Bool) (x : ℕ) → new ≡ record v { held = v.held ++ x ∷ [] } → PutsNumber x v written new written
-number_held v new written x is = λ taken bits h.
-    ([], sym (append-nil written), rw (is, append-nil bits) (value_taken v taken bits x h))
+pub values_held : (v new : Packed) (written : List Bool) (xs : List ℕ) → new ≡ record v { held = v.held ++ xs } → PutsAll xs v written new written
+values_held v new written xs is = λ taken bits h.
+    ([], sym (append-nil written), rw (is, append-nil bits) (values_taken v taken bits xs h))
 
 pub number_packed : (v new : Packed) (written now : List Bool) (x : ℕ) → IsCut v.cut → v.start + v.zeros < v.cut.count → length (v.held ++ x ∷ []) ≡ v.cut.size → AllByRecursion (λ y. y < 2 ^ v.cut.set.bits) (v.held ++ x ∷ [])
     → now ≡ written ++ texts_packed v (v.held ++ x ∷ []) → new ≡ packed v (v.held ++ x ∷ []) → PutsNumber x v written new now

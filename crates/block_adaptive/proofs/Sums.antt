@@ -67,8 +67,11 @@ sum_zeros : (n : ℕ) → sum (replicate n 0) ≡ 0
 sum_zeros zero = refl
 sum_zeros (suc n) = sum_zeros n
 
+pub sum_append : (vs ws : List ℕ) → sum (vs ++ ws) ≡ sum vs + sum ws
+sum_append vs ws = sum_by-append (λ (x : ℕ). x) vs ws
+
 pub sum_filled : (size : ℕ) (vs : List ℕ) → sum (filled size vs) ≡ sum vs
-sum_filled size vs = omega (arith, sum_by-append (λ (x : ℕ). x) vs (replicate (size - length vs) 0), sum_zeros (size - length vs))
+sum_filled size vs = omega (arith, sum_append vs (replicate (size - length vs) 0), sum_zeros (size - length vs))
 
 pub sum_push : (vs : List ℕ) (v : ℕ) → sum (vs ++ v ∷ []) ≡ sum vs + v
 sum_push vs v = sum_by_push (λ (x : ℕ). x) vs v

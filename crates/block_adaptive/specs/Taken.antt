@@ -71,6 +71,12 @@ PutsNumber number old written new written_now =
     (taken : List ℕ) (bits : List Bool) → HasTaken old taken bits
     → (more : List Bool) × (written_now ≡ written ++ more) × HasTaken new (taken ++ number ∷ []) (bits ++ more)
 
+-- whatever was taken before: bits were appended, and with them these numbers more are taken
+abbrev pub PutsAll : List ℕ → Packed → List Bool → Packed → List Bool → Type 0
+PutsAll list old written new written_now =
+    (taken : List ℕ) (bits : List Bool) → HasTaken old taken bits
+    → (more : List Bool) × (written_now ≡ written ++ more) × HasTaken new (taken ++ list) (bits ++ more)
+
 -- the next number ends a block
 abbrev pub EndsBlock : Packed → Type 0
 EndsBlock v = (taken_count v + 1) % v.cut.size ≡ 0

@@ -4,7 +4,7 @@ ghost use Rattle.std.specs.Prelude.{ℕ, ◌∷◌, ◌-◌, ◌≡◌, ◌+◌,
 ghost use Rattle.std.specs.List.{AllByRecursion};
 ghost use Rattle.cube_core.specs.declared.fault.Fault.TheVariants.{WantOfMemory};
 ghost use Rattle.block_adaptive.specs.Settings.{AreForBlocks, IsCutOf, cut_by};
-ghost use Rattle.block_adaptive.specs.Taken.{HasTaken, PutsNumber, EndsBlock, EndsInside, EndsBody, taken_count, packed, ended, texts_packed};
+ghost use Rattle.block_adaptive.specs.Taken.{HasTaken, PutsNumber, PutsAll, EndsBlock, EndsInside, EndsBody, taken_count, packed, ended, texts_packed};
 ghost use Rattle.block_adaptive.specs.Texts.{capacity};
 ghost use Rattle.cube_core.specs.Shape.{sample_count};
 
@@ -110,6 +110,49 @@ impl BlockWriter {
         self.put_last(delta, writer)
     }
 
+    /// Takes the next numbers, and appends what is then known of the body. Tells how many were taken: fewer than all only where memory was refused
+    /// for the number behind them, which ends a block.
+    ///
+    /// With them, no more numbers are taken than all blocks have, and each is at most 2^D - 1.
+    pub fn put_all(&mut self, numbers: &[u16], writer: &mut BitWriter) -> usize
+        requires numbers { AllByRecursion (λ n. n < 2 ^ self.old.cut.set.bits) numbers.now }
+        requires more { taken_count self.old + length numbers.now ≤ capacity self.old.cut }
+        ensures taken { PutsAll (take result numbers.now) self.old writer.old.bits self.new writer.new.bits }
+        ensures counted { taken_count self.new ≡ taken_count self.old + result }
+        ensures most { result ≤ length numbers.now }
+        ensures memory { result < length numbers.now → EndsBlock self.new }
+        ensures cut { self.new.cut ≡ self.old.cut }
+    {
+        let mut first = 0;
+        while first < numbers.len() {
+            let free = (self.size - 1 - self.held) as usize;
+            let end = first + free.min(numbers.len() - first);
+            self.hold(&numbers[first..end]);
+            first = end;
+            if first < numbers.len() {
+                let Ok(()) = self.put(numbers[first], writer) else {
+                    return first;
+                };
+                first += 1;
+            }
+        }
+        first
+    }
+
+    /// Takes numbers that don't end the block begun.
+    #[inline(always)]
+    fn hold(&mut self, numbers: &[u16])
+        requires numbers { AllByRecursion (λ n. n < 2 ^ self.old.cut.set.bits) numbers.now }
+        requires few { length self.old.held + length numbers.now < self.old.cut.size }
+        requires more { taken_count self.old + length numbers.now ≤ capacity self.old.cut }
+        ensures { self.new ≡ record self.old { held = self.old.held ++ numbers.now } }
+    {
+        let held = self.held as usize;
+        self.values[held..held + numbers.len()].copy_from_slice(numbers);
+        self.held += numbers.len() as u32;
+        self.total += sum_of(numbers);
+    }
+
     /// Takes the last number of a block, and appends what is then known of the body.
     #[inline(never)]
     fn put_last(&mut self, delta: u16, writer: &mut BitWriter) -> Result<(), Fault>
@@ -187,6 +230,19 @@ impl BlockWriter {
         self.total = 0;
         Ok(())
     }
+}
+
+/// What at most 64 numbers add up to.
+#[inline(always)]
+fn sum_of(numbers: &[u16]) -> u32
+    requires { length numbers.now ≤ 64 }
+    ensures { result ≡ sum numbers.now }
+{
+    let mut total = 0;
+    for i in 0..numbers.len() {
+        total += u32::from(numbers[i]);
+    }
+    total
 }
 
 /// The values with zeros behind them.

@@ -6,7 +6,7 @@ use Rattle.block_adaptive.specs.Taken.{Packed}
 use Rattle.block_adaptive.specs.contracts.block_writer.BlockWriter.{the_view}
 use Rattle.block_adaptive.proofs.Counts.{ends_block, room_left}
 use Rattle.block_adaptive.proofs.Handed.{size_most}
-use Rattle.block_adaptive.proofs.Packing.{number_held, number_packed, held_more, range_push, on_ok_both}
+use Rattle.block_adaptive.proofs.Packing.{values_held, number_packed, held_more, range_push, on_ok_both}
 use Rattle.block_adaptive.proofs.Stored.{total_few}
 use Rattle.block_adaptive.proofs.block_writer.BlockWriter.put.Goals as goal
 
@@ -16,7 +16,7 @@ overflow_add-self-then-self c = record { fits = omega (arith, total_few _ _ _ c.
 pub returns-then-self-clause-taken : goal.returns-then-self-clause-taken
 returns-then-self-clause-taken c =
     let room : c.self.inside.held < length c.self.inside.values = omega (arith, c.self.told, c.if-self.true, size_most c.self.inside.size c.self.invariant.cut.size) in
-    number_held c.args.self.now _ c.args.writer.now.bits c.args.delta
+    values_held c.args.self.now _ c.args.writer.now.bits (c.args.delta ∷ [])
     (ap (λ (held : List ℕ). record (the_view c.self.inside) { held = held }) (held_more c.self.inside.values c.self.inside.held c.args.delta room)
     ∙ ap (λ (v : Packed). record v { held = v.held ++ c.args.delta ∷ [] }) c.self.view_is)
 

@@ -1,0 +1,82 @@
+-- What a writer has taken, several numbers at a time.
+use Rattle.std.proofs.Common.{◌≡◌, ℕ, suc, ◌+◌, ◌*◌, ◌-◌, ◌^◌, ◌<◌, ◌≤◌, Bool, List, [], ◌∷◌, ◌++◌, length, take, drop, get_or, sum, refl, sym, ap, subst, ◌∙◌, inl, inr, arith, append_assoc, Fits, w16}
+use Rattle.std.specs.List.{AllByRecursion}
+use Rattle.std.specs.Prelude.{Result, Ok, Err, OnErr}
+use Rattle.std.proofs.Math.Seq.{take-add}
+use Rattle.std.proofs.lemmas.Bool.{cases_lt}
+use Rattle.std.proofs.lemmas.List.{append-nil, length-append, length-take, length-drop, take_at, take_more}
+use Rattle.cube_core.specs.declared.fault.Fault.{Fault}
+use Rattle.block_adaptive.specs.Texts.{Cut}
+use Rattle.block_adaptive.specs.Holding.{AreStored}
+use Rattle.block_adaptive.specs.Taken.{Packed, HasTaken, PutsNumber, PutsAll, taken_count}
+use Rattle.block_adaptive.proofs.Packing.{values_held}
+use Rattle.block_adaptive.proofs.Sums.{sum_append, sum_cons}
+
+-- ---- the values held
+
+-- numbers that are written behind the values held
+pub held_all : (values list behind : List ℕ) (held : ℕ) → held ≤ length values → take (held + length list) (take held values ++ (list ++ behind)) ≡ take held values ++ list
+held_all values list behind held le =
+    let long : held + length list ≡ length (take held values ++ list) = omega (arith, le, length-append (take held values) list, length-take held values) in
+    ap (λ (x : List ℕ). take (held + length list) x) (sym (append_assoc (take held values) list behind)) ∙ take_at (take held values ++ list) behind (held + length list) (sym long)
+
+range_all : (limit : ℕ) (held list : List ℕ) → AllByRecursion (λ v. v < limit) held → AllByRecursion (λ v. v < limit) list → AllByRecursion (λ v. v < limit) (held ++ list)
+range_all limit [] list h more = more
+range_all limit (v ∷ held) list h more = (h.0, range_all limit held list h.1 more)
+
+pub stored_more : (c : Cut) (i counted total : ℕ) (held list : List ℕ) → AreStored c i counted total held → AllByRecursion (λ v. v < 2 ^ c.set.bits) list → length held + length list < c.size → (1 ≤ length list → i + counted < c.count)
+    → AreStored c i counted (total + sum list) (held ++ list)
+stored_more c i counted total held list h range few more = record {
+  cut = h.cut;
+  block = h.block;
+  inside = h.inside;
+  more = λ some. elim (cases_lt 0 (length list)) [
+    | inl lt ↦ more (omega arith)
+    | inr none ↦ h.more (omega (arith, some, none, length-append held list))
+  ];
+  few = omega (arith, few, length-append held list);
+  range = range_all (2 ^ c.set.bits) held list h.range range;
+  added = omega (arith, h.added, sum_append held list);
+}
+
+-- ---- what was taken
+
+pub puts_behind : (a b : List ℕ) (old mid new : Packed) (written now later : List Bool) → PutsAll a old written mid now → PutsAll b mid now new later → PutsAll (a ++ b) old written new later
+puts_behind a b old mid new written now later first second taken bits h =
+    let one = first taken bits h in
+    let two = second (taken ++ a) (bits ++ one.0) one.2 in (
+      one.0 ++ two.0,
+      two.1 ∙ ap (λ (x : List Bool). x ++ two.0) one.1 ∙ append_assoc written one.0 two.0,
+      subst (λ (x : List ℕ). HasTaken new x (bits ++ (one.0 ++ two.0))) (append_assoc taken a b) (subst (λ (x : List Bool). HasTaken new ((taken ++ a) ++ b) x) (append_assoc bits one.0 two.0) two.2),
+    )
+
+pub puts_none : (v : Packed) (written : List Bool) → PutsAll [] v written v written
+puts_none v written taken bits h = ([], sym (append-nil written), rw (append-nil taken, append-nil bits) h)
+
+pub hold_more : (old v new : Packed) (list : List ℕ) (first count : ℕ) (written now : List Bool) → PutsAll (take first list) old written v now → new ≡ record v { held = v.held ++ take (first + count - first) (drop first list) }
+    → PutsAll (take (first + count) list) old written new now
+hold_more old v new list first count written now puts is =
+    let e : first + count - first ≡ count = omega arith in
+    let here : PutsAll (take count (drop first list)) v now new now = values_held v new now (take count (drop first list)) (is ∙ ap (λ (n : ℕ). record v { held = v.held ++ take n (drop first list) }) e) in
+    subst (λ (x : List ℕ). PutsAll x old written new now) (sym (take-add first count list)) (puts_behind (take first list) (take count (drop first list)) old v new written now now puts here)
+
+pub number_more : (old v new : Packed) (list : List ℕ) (n : ℕ) (written now later : List Bool) → PutsAll (take n list) old written v now → n < length list → PutsNumber (get_or list n 0) v now new later
+    → PutsAll (take (n + 1) list) old written new later
+number_more old v new list n written now later puts lt number =
+    subst (λ (x : List ℕ). PutsAll x old written new later) (sym (take_more list n 0 lt)) (puts_behind (take n list) (get_or list n 0 ∷ []) old v new written now later puts number)
+
+-- a refused call leaves what it left before
+pub after_refusal : (r : Result (Unit {0}) Fault) (old v new : Packed) (list : List ℕ) (written now later : List Bool) → ((x : Unit {0}) → r ≡ Ok x → ⊥) → OnErr r ((new ≡ v) × (later ≡ now)) → PutsAll list old written v now
+    → PutsAll list old written new later
+after_refusal (Ok x) old v new list written now later never same puts = absurd (never x refl)
+after_refusal (Err e) old v new list written now later never same puts = subst (λ (w : Packed). PutsAll list old written w later) (sym same.0) (subst (λ (bits : List Bool). PutsAll list old written v bits) (sym same.1) puts)
+
+pub held_counted : (v new : Packed) (list : List ℕ) (first count : ℕ) → first + count ≤ length list → new ≡ record v { held = v.held ++ take (first + count - first) (drop first list) } → taken_count new ≡ taken_count v + count
+held_counted v new list first count le is =
+    let many : List ℕ = take (first + count - first) (drop first list) in
+    ap taken_count is ∙ omega (arith, le, length-append v.held many, length-take (first + count - first) (drop first list), length-drop first list)
+
+-- numbers of 16 bits add up to few
+pub sum_small : (list : List ℕ) → ((i : ℕ) → Fits w16 (get_or list i 0)) → sum list ≤ 65536 * length list
+sum_small [] h = omega arith
+sum_small (v ∷ vs) h = omega (arith, sum_cons v vs, (h 0).fits, sum_small vs (λ i. h (suc i)))

@@ -1,0 +1,33 @@
+use Rattle.std.proofs.Common.{◌≡◌, ◌∙◌, ◌+◌, ◌≤◌, length, take, ap, arith}
+use Rattle.block_adaptive.specs.Taken.{Packed, taken_count}
+use Rattle.block_adaptive.proofs.Holds.{hold_more, number_more, held_counted, after_refusal}
+use Rattle.block_adaptive.proofs.block_writer.BlockWriter.put_all.Goals as goal
+
+pub returns-in_default-clause-taken : goal.returns-in_default-clause-taken
+returns-in_default-clause-taken c =
+    after_refusal c.put.result c.args.self.now c.hold.new.self c.put.new.self (take (c.loop-first.first + c.min.result) c.args.numbers.now) c.args.writer.now.bits c.loop-first.writer.bits c.put.new.writer.bits c.in_default.not-Ok c.put.ensures.same
+    (hold_more c.args.self.now c.loop-first.self c.hold.new.self c.args.numbers.now c.loop-first.first c.min.result c.args.writer.now.bits c.loop-first.writer.bits c.loop-first.invariant.puts c.hold.ensures)
+
+pub loop-first-preserved-then-first-numbers : goal.loop-first-preserved-then-first-numbers
+loop-first-preserved-then-first-numbers c =
+    let was = c.loop-first.invariant in
+    let held = hold_more c.args.self.now c.loop-first.self c.hold.new.self c.args.numbers.now c.loop-first.first c.min.result c.args.writer.now.bits c.loop-first.writer.bits was.puts c.hold.ensures in
+    let counted : taken_count c.hold.new.self ≡ taken_count c.loop-first.self + c.min.result = held_counted c.loop-first.self c.hold.new.self c.args.numbers.now c.loop-first.first c.min.result (omega (arith, c.min.ensures, was.within)) c.hold.ensures in
+    record {
+      puts = number_more c.args.self.now c.hold.new.self c.put.new.self c.args.numbers.now (c.loop-first.first + c.min.result) c.args.writer.now.bits c.loop-first.writer.bits c.put.new.writer.bits held c.if-first-numbers.true c.in-Ok.ensures.taken;
+      counted = omega (arith, counted, was.counted, c.in-Ok.ensures.counted);
+      cut = c.put.ensures.cut ∙ ap (λ (v : Packed). v.cut) c.hold.ensures ∙ was.cut;
+      within = omega (arith, c.if-first-numbers.true);
+    }
+
+pub loop-first-preserved : goal.loop-first-preserved
+loop-first-preserved c =
+    let was = c.loop-first.invariant in
+    let within : c.loop-first.first + c.min.result ≤ length c.args.numbers.now = omega (arith, c.min.ensures, was.within) in
+    let counted : taken_count c.hold.new.self ≡ taken_count c.loop-first.self + c.min.result = held_counted c.loop-first.self c.hold.new.self c.args.numbers.now c.loop-first.first c.min.result within c.hold.ensures in
+    record {
+      puts = hold_more c.args.self.now c.loop-first.self c.hold.new.self c.args.numbers.now c.loop-first.first c.min.result c.args.writer.now.bits c.loop-first.writer.bits was.puts c.hold.ensures;
+      counted = omega (arith, counted, was.counted);
+      cut = ap (λ (v : Packed). v.cut) c.hold.ensures ∙ was.cut;
+      within = within;
+    }
