@@ -1,7 +1,7 @@
 -- Lists of lists of numbers from a first one on.
-use Rattle.std.proofs.Common.{◌≡◌, ◌+◌, ◌*◌, ◌<◌, ◌≤◌, ℕ, suc, zero, List, length, get_or, refl, ap, ◌∙◌, arith}
+use Rattle.std.proofs.Common.{◌≡◌, ◌+◌, ◌*◌, ◌<◌, ◌≤◌, ℕ, suc, zero, List, [], ◌∷◌, length, drop, get_or, refl, ap, ◌∙◌, arith}
 use Rattle.std.proofs.lemmas.List.{get_or-append-add, get_or_append_left, length-append}
-use Rattle.std.specs.List.{flat_map}
+use Rattle.std.specs.List.{flat_map, slice_get}
 use Rattle.cube_core.specs.Order.{from}
 
 pub length-from : (a n : ℕ) → length (from a n) ≡ n
@@ -34,3 +34,10 @@ get_or-pieces f a (suc n) w (suc i) j d same lt in_piece =
     let z : suc i * w + j ≡ length (f a) + (i * w + j) = rw first (omega arith) in
     let rest = get_or-pieces f (suc a) n w i j d (λ k low high. same k (omega arith) (omega arith)) (omega arith) (rw e at in_piece) in
     rw (z, e) (get_or-append-add (f a) (flat_map f (from (suc a) n)) (i * w + j) d ∙ rest)
+
+-- what stands first behind so many
+pub get-drop : {A : Type 0} (xs : List A) (n : ℕ) → slice_get (drop n xs) 0 ≡ slice_get xs n
+get-drop [] zero = refl
+get-drop [] (suc n) = refl
+get-drop (x ∷ xs) zero = refl
+get-drop (x ∷ xs) (suc n) = get-drop xs n

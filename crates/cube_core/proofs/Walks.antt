@@ -1,5 +1,6 @@
 -- A walk's steps from place to place.
-use Rattle.std.proofs.Common.{◌≡◌, ◌+◌, ◌*◌, ◌/◌, ◌<◌, ◌≤◌, ◌-◌, ℕ, zero, suc, min, true, false, List, [], ◌∷◌, length, drop, refl, sym, ap, ◌∙◌, subst, arith, drop-cons, length-drop}
+use Rattle.std.proofs.Common.{◌≡◌, ◌+◌, ◌*◌, ◌/◌, ◌<◌, ◌≤◌, ◌-◌, ℕ, zero, suc, min, true, false, List, [], ◌∷◌, Some, length, drop, refl, sym, ap, ◌∙◌, subst, arith, drop-cons, length-drop}
+use Rattle.std.specs.List.{slice_get}
 use Rattle.std.proofs.lemmas.Bool.{eqb-true, true≢false}
 use Rattle.std.proofs.lemmas.List.{drop-drop}
 use Rattle.std.proofs.lemmas.Nat.{div-mul-add}
@@ -13,7 +14,8 @@ use Rattle.cube_core.specs.declared.cursor.Spot.{Spot}
 use Rattle.cube_core.specs.Shape.{Sizes, sample_count}
 use Rattle.cube_core.specs.Order.{IsOrder, IsPlaceOf, goes_along_rows, place_index, places}
 use Rattle.cube_core.specs.Cursor.{IsSpot, IsWalk, places_left}
-use Rattle.cube_core.proofs.Orders.{length-places, place_at_index}
+use Rattle.cube_core.proofs.Lists.{get-drop}
+use Rattle.cube_core.proofs.Orders.{length-places, place_at_index, place_index_below}
 
 -- ---- band after band
 
@@ -218,3 +220,22 @@ first_index s Bsq = omega arith
 first_index s (Bi depth) =
     let none : 0 / depth * depth ≡ 0 = rw (zero-div depth) (omega arith) in
     rw none (omega arith)
+
+-- the places of a column come one behind another
+pub column_left : (s : Sizes) (depth : ℕ) (p : Spot) (left i : ℕ) → IsWalk s (Bi depth) p left → 0 < left → p.place.z + i < p.end → slice_get (places_left s (Bi depth) left) i ≡ Some (bands_on p i).place
+column_left s depth p left i walk more inside =
+    let on = bands_of_group s depth p i walk.lawful.0 (walk.spot more).0 inside in
+    let index : place_index s (Bi depth) (bands_on p i).place < sample_count s = place_index_below s (Bi depth) (bands_on p i).place walk.lawful on.0.0 in
+    let few : i < left = omega (arith, index, on.1, (walk.spot more).1) in
+    let next = first_left s (Bi depth) (bands_on p i).place (left - i) walk.lawful on.0.0 (omega (arith, on.1, (walk.spot more).1, few)) (omega (arith, few)) in
+    sym (get-drop (places_left s (Bi depth) left) i) ∙ ap (λ (ps : List Place). slice_get ps 0) (sym (left_behind s (Bi depth) left i walk.few (omega (arith, few))) ∙ next)
+
+pub column_of : (s : Sizes) (o : Order) (depth : ℕ) (p : Spot) (left : ℕ) (ps : List Place) (i : ℕ) (q : Place) → o ≡ Bi depth → IsWalk s o p left → 0 < left → places_left s o left ≡ ps → i < p.end - p.place.z → slice_get ps 0 ≡ Some q
+    → slice_get ps i ≡ Some (record { z = q.z + i; y = q.y; x = q.x })
+column_of s o depth p left ps i q is walk more these inside first =
+    let under : IsWalk s (Bi depth) p left = subst (λ (k : Order). IsWalk s k p left) is walk in
+    let list : places_left s (Bi depth) left ≡ ps = subst (λ (k : Order). places_left s k left ≡ ps) is these in
+    let next : ps ≡ p.place ∷ places_left s (Bi depth) (left - 1) = sym list ∙ next_left s (Bi depth) p left under more in
+    let here : Some p.place ≡ Some q = sym (ap (λ (x : List Place). slice_get x 0) next) ∙ first in
+    let same : p.place ≡ q = cc in
+    ap (λ (x : List Place). slice_get x i) (sym list) ∙ column_left s depth p left i under more (omega (arith, inside)) ∙ ap (λ (r : Place). Some (record { z = r.z + i; y = r.y; x = r.x })) same

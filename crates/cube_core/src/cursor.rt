@@ -1,7 +1,8 @@
 //! A walk over the places of a cube in encoding order, which steps from place to place without a division.
 
-ghost use Rattle.std.specs.Prelude.{◌≡◌, ◌+◌, ◌<◌, ◌≤◌, length, drop, slice_get};
+ghost use Rattle.std.specs.Prelude.{◌≡◌, ◌+◌, ◌<◌, ◌≤◌, ℕ, Some, length, drop, slice_get};
 ghost use Rattle.std.specs.Iterator.{YieldsFirst, item_count};
+ghost use Rattle.cube_core.specs.declared.order.Place.{Place as APlace};
 ghost use Rattle.cube_core.specs.Shape.{InRange, sample_count};
 ghost use Rattle.cube_core.specs.Order.{IsOrder, IsPlaceOf, place_index, places};
 ghost use Rattle.cube_core.specs.Cursor.{IsSpot};
@@ -69,6 +70,21 @@ impl Places {
         ensures { result ≡ length self.now }
     {
         self.left
+    }
+
+    /// How many of the places that come next are of one row and column, band after band: at least the first of them, and under interleaving up
+    /// to the last band of its group.
+    pub fn column(&self) -> u64
+        ensures along { (i : ℕ) (p : APlace) → i < result → slice_get self.now 0 ≡ Some p → slice_get self.now i ≡ Some (record p { z = p.z + i }) }
+        ensures some { (p : APlace) → slice_get self.now 0 ≡ Some p → 1 ≤ result }
+    {
+        if self.left == 0 {
+            return 0;
+        }
+        match self.order {
+            Order::Bsq => 1,
+            Order::Bi(_) => u64::from(self.spot.end - self.spot.place.z),
+        }
     }
 
     /// Goes by so many places, or by all that are still to come where these are fewer.
