@@ -21,11 +21,11 @@ use Rattle.block_adaptive.specs.Settings.{IsBlock, IsCutOf, cut_by, coder_cut}
 use Rattle.block_adaptive.specs.Chosen.{chosen_block_body}
 use Rattle.block_adaptive.specs.Texts.{Cut}
 use Rattle.block_adaptive.specs.Segments.{block_count}
-use Rattle.block_adaptive.specs.Taken.{Packed, taken_count, PutsNumber as PutsValue, EndsBody as EndsBlocks}
+use Rattle.block_adaptive.specs.Taken.{Packed, taken_count, PutsNumber as PutsValue, PutsAll as PutsList, EndsBody as EndsBlocks}
 use Rattle.file_coding.specs.declared.encoder.Encoder.{Encoder}
 use Rattle.file_coding.specs.declared.encoder.Encoder.TheVariants.{Samples, Blocks}
 use Rattle.file_coding.specs.File.{body_of, body_by}
-use Rattle.file_coding.specs.Coding.{places_of, of_band, SamplesTaken, HasTaken, MayPut, PutsNumber, EndsBody}
+use Rattle.file_coding.specs.Coding.{places_of, of_band, SamplesTaken, HasTaken, MayPut, PutsNumber, PutsBlocks, EndsBody}
 
 -- ---- places
 
@@ -114,6 +114,13 @@ blocks_put z t number old new written now puts kept counted p numbers bits h nex
     let did = puts numbers bits h.taken in
     let room : IsCutOf (sample_count p.shape) new.cut = rw kept h.room in
     let count : taken_count new ≡ length (numbers ++ number ∷ []) = omega (arith, counted, h.count, length-append numbers (number ∷ [])) in
+    (did.0, did.1, record { coder = h.coder; cut = kept ∙ h.cut; room = room; taken = did.2; count = count })
+
+pub blocks_put_all : (list : List ℕ) (old new : Packed) (written now : List Bool) → PutsList list old written new now → new.cut ≡ old.cut → taken_count new ≡ taken_count old + length list → PutsBlocks list (Blocks old) written (Blocks new) now
+blocks_put_all list old new written now puts kept counted p numbers bits h =
+    let did = puts numbers bits h.taken in
+    let room : IsCutOf (sample_count p.shape) new.cut = rw kept h.room in
+    let count : taken_count new ≡ length (numbers ++ list) = omega (arith, counted, h.count, length-append numbers list) in
     (did.0, did.1, record { coder = h.coder; cut = kept ∙ h.cut; room = room; taken = did.2; count = count })
 
 pub block_body_is : (p : Params) (c : Cut) (numbers : List ℕ) → IsBlock p.coder → c ≡ cut_by p → chosen_block_body c.set c.size c.reference numbers ≡ body_of p numbers

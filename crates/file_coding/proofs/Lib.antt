@@ -6,3 +6,4 @@ pub mod Packed
 pub mod Times
 pub mod Walking
 pub mod Runs
+pub mod Columns

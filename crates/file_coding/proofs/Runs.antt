@@ -1,16 +1,14 @@
 -- Runs: what the coding end has taken, row by row.
-use Rattle.std.proofs.Common.{◌≡◌, ◌⊎◌, ◌+◌, ◌*◌, ◌-◌, ◌/◌, ◌<◌, ◌≤◌, ◌^◌, ℕ, zero, suc, min, Bool, List, [], ◌∷◌, ◌++◌, append-nil, length, take, drop, Some, inl, inr, refl, sym, ap, subst, ◌∙◌, append_assoc, length-append, length-take, length-drop, IsTrue, get_or, arith}
+use Rattle.std.proofs.Common.{◌≡◌, ◌+◌, ◌*◌, ◌<◌, ◌≤◌, ◌^◌, ℕ, zero, suc, Bool, true, List, [], ◌∷◌, ◌++◌, append-nil, length, take, drop, Some, sym, ap, subst, ◌∙◌, append_assoc, length-append, length-take, length-drop, get_or, arith}
 use Rattle.std.specs.List.{AllByRecursion, slice_get}
 use Rattle.std.proofs.Math.Seq.{take-add, drop-drop}
-use Rattle.std.proofs.Math.Nat.{div-one, min-eq_left}
 use Rattle.std.proofs.lemmas.Nat.{mul-le}
 use Rattle.cube_core.specs.declared.order.Order.{Order}
-use Rattle.cube_core.specs.declared.order.Order.TheVariants.{Bsq, Bi}
 use Rattle.cube_core.specs.declared.order.Place.{Place}
-use Rattle.cube_core.specs.Shape.{Sizes, sample_count}
-use Rattle.cube_core.specs.Order.{IsOrder, IsPlaceOf, place_index, places}
+use Rattle.cube_core.specs.Shape.{Sizes}
+use Rattle.cube_core.specs.Order.{IsOrder, IsPlaceOf, goes_along_rows, place_index, places}
 use Rattle.cube_core.proofs.Orders.{item_from_index, place_index_below, length-places}
-use Rattle.cube_core.proofs.Walks.{sequential_index, index_in_group}
+use Rattle.cube_core.proofs.Walks.{columns_along}
 use Rattle.cube_core.proofs.Keys.{order_is_by_key, index_of_item}
 use Rattle.header_bits.specs.declared.params.Params.{Params}
 use Rattle.header_bits.specs.Header.{header_of}
@@ -20,14 +18,13 @@ use Rattle.sample_adaptive.specs.Taken.{Counts, HasTaken as HaveTaken, PutsRun a
 use Rattle.sample_adaptive.proofs.Running.{body_run}
 use Rattle.file_coding.specs.declared.encoder.Encoder.{Encoder}
 use Rattle.file_coding.specs.declared.encoder.Encoder.TheVariants.{Samples, Blocks}
-use Rattle.file_coding.specs.Coding.{places_of, of_band, places_behind, SamplesTaken, HasTaken, IsRun, IsBySamples, MayPutRun, PutsRun}
+use Rattle.file_coding.specs.Coding.{places_of, places_behind, HasTaken, IsRun, IsBySamples, MayPutRun, PutsRun}
 use Rattle.file_coding.specs.Ends.{Ending, HasCoded, MayCode, MayCodeAll, CodesAll, AreByRows, MayCodeRun}
 use Rattle.file_coding.proofs.Coders.{places_long}
 use Rattle.file_coding.proofs.Endings.{comes_next, first_of}
 use Rattle.block_adaptive.specs.Settings.{IsBlock}
 use Rattle.header_bits.specs.declared.params.Coder.{Coder}
 use Rattle.header_bits.specs.declared.params.Coder.TheVariants.{Sample, Block}
-use Rattle.header_bits.specs.Lawful.{IsLawful}
 use Rattle.file_coding.proofs.Times.{time_of_place}
 
 -- ---- places
@@ -50,20 +47,13 @@ row_band columns (suc (suc n)) (q ∷ ps) place h first fits =
     let next = h 0 place first (omega (arith, fits)) in
     (ap (λ r. r.z) same, row_band columns (suc n) ps (record { z = place.z; y = place.y; x = place.x + 1 }) (rows_shift columns q ps h) next (omega (arith, fits)))
 
-one_on : (s : Sizes) (o : Order) (q : Place) → IsPlaceOf s q → (o ≡ Bsq) ⊎ (o ≡ Bi 1) → place_index s o (record { z = q.z; y = q.y; x = q.x + 1 }) ≡ place_index s o q + 1
-one_on s o q there (inl e) = rw (e, sequential_index s q, sequential_index s (record { z = q.z; y = q.y; x = q.x + 1 })) (omega arith)
-one_on s o q there (inr e) =
-    let first : q.z ≡ q.z / 1 * 1 = omega (arith, div-one q.z) in
-    let one : min 1 (s.bands - q.z) ≡ 1 = min-eq_left (omega (arith, there.band)) in
-    rw (e, index_in_group s 1 q.z q first, index_in_group s 1 q.z (record { z = q.z; y = q.y; x = q.x + 1 }) first, one) (omega arith)
-
--- band after band, and by lines of single bands, the places come row by row
-pub rows_follow : (s : Sizes) (o : Order) → IsOrder s o → (o ≡ Bsq) ⊎ (o ≡ Bi 1) → AreByRows s.columns (places s o)
-rows_follow s o lawful which i q e lt =
+-- where places go along rows, they come row by row
+pub rows_follow : (s : Sizes) (o : Order) → IsOrder s o → goes_along_rows o ≡ true → AreByRows s.columns (places s o)
+rows_follow s o lawful along i q e lt =
     let next : Place = record { z = q.z; y = q.y; x = q.x + 1 } in
     let there : IsPlaceOf s q = (order_is_by_key s o lawful).only i q e in
     let at : place_index s o q ≡ i = index_of_item s o q i lawful e in
-    let step = one_on s o q there which in
+    let step = columns_along s o q 1 along there in
     let place : IsPlaceOf s (record { z = q.z; y = q.y; x = q.x + 1 }) = record { band = there.band; row = there.row; column = lt } in
     item_from_index s o (record { z = q.z; y = q.y; x = q.x + 1 }) (suc i) lawful place (step ∙ omega (arith, at)) (omega (arith, at, step, place_index_below s o (record { z = q.z; y = q.y; x = q.x + 1 }) lawful place))
 
@@ -185,29 +175,39 @@ column_within e list place may first =
     let here = comes_next may.params e may.numbers place next.0 may.coded next.1 in
     omega (arith, here.there.column, may.coded.columns)
 
+-- the residuals that may be coded are no more than the places behind those that were
+pub fits_behind : (old : Ending) (list : List ℕ) → MayCodeAll old list → (p : Params) (numbers : List ℕ) → HasCoded p old numbers → length numbers + length list ≤ length (places p.shape p.order)
+fits_behind old list may p numbers h =
+    let rest : length old.left ≡ length (drop (length numbers) (places p.shape p.order)) = ap (λ (x : List Place). length x) h.left in
+    let known : length old.left ≡ length (drop (length may.numbers) (places may.params.shape may.params.order)) = ap (λ (x : List Place). length x) may.coded.left in
+    let enough : length list ≤ length old.left = omega (arith, known, may.more, length-drop (length may.numbers) (places may.params.shape may.params.order), length-places may.params.shape may.params.order may.coded.order) in
+    omega (arith, enough, rest, h.within, length-drop (length numbers) (places p.shape p.order), length-places p.shape p.order h.order)
+
+-- what the entropy coder has taken, the coding end has
+pub coded_behind : (old new : Ending) (list : List ℕ) (p : Params) (numbers : List ℕ) → HasCoded p old numbers → length numbers + length list ≤ length (places p.shape p.order) → new.left ≡ drop (length list) old.left → new.columns ≡ old.columns → new.word ≡ old.word
+    → (written more : List Bool) → old.bits ≡ header_of p ++ written → new.bits ≡ old.bits ++ more → HasTaken p new.coder (numbers ++ list) (written ++ more) → HasCoded p new (numbers ++ list)
+coded_behind old new list p numbers h fits moved columns word written more text grown taken = record {
+  columns = columns ∙ h.columns;
+  word = word ∙ h.word;
+  order = h.order;
+  within = omega (arith, fits, length-append numbers list, length-places p.shape p.order h.order);
+  left = moved ∙ ap (drop (length list)) h.left ∙ drop-drop (length list) (length numbers) (places p.shape p.order) ∙ ap (λ n. drop n (places p.shape p.order)) (sym (length-append numbers list));
+  written = written ++ more;
+  taken = taken;
+  text = grown ∙ ap (λ (x : List Bool). x ++ more) text ∙ append_assoc (header_of p) written more;
+}
+
 -- the residuals of a run were put
 pub coded_run : (old new : Ending) (place : Place) (t : ℕ) (run : List ℕ) → MayCodeRun old place run → new.left ≡ drop (length run) old.left → t ≡ place.y * old.columns + place.x → new.columns ≡ old.columns → new.word ≡ old.word
     → PutsRun place.z t run old.coder old.bits new.coder new.bits → CodesAll old new run
 coded_run old new place t run may moved time columns word puts p numbers h =
     let next = first_of old.left place may.next in
     let here = comes_next p old numbers place next.0 h next.1 in
-    let rest : length old.left ≡ length (drop (length numbers) (places p.shape p.order)) = ap (λ (x : List Place). length x) h.left in
-    let known : length old.left ≡ length (drop (length may.may.numbers) (places may.may.params.shape may.may.params.order)) = ap (λ (x : List Place). length x) may.may.coded.left in
-    let enough : length run ≤ length old.left = omega (arith, known, may.may.more, length-drop (length may.may.numbers) (places may.may.params.shape may.may.params.order), length-places may.may.params.shape may.may.params.order may.may.coded.order) in
-    let fits : length numbers + length run ≤ length (places p.shape p.order) = omega (arith, enough, rest, here.more, length-drop (length numbers) (places p.shape p.order), length-places p.shape p.order h.order) in
+    let fits = fits_behind old run may.may p numbers h in
     let is_run : IsRun p numbers place.z t (length run) = record {
       fits = fits;
       band = subst (λ (ps : List Place). AllByRecursion (λ q. q.z ≡ place.z) (take (length run) ps)) h.left (row_band old.columns (length run) old.left place may.rows may.next may.row);
       time = time ∙ ap (λ n. place.y * n + place.x) h.columns ∙ sym (time_of_place p numbers place h.order here.item);
     } in
     let did = puts p numbers h.written h.taken is_run in
-    record {
-      columns = columns ∙ h.columns;
-      word = word ∙ h.word;
-      order = h.order;
-      within = omega (arith, fits, length-append numbers run, length-places p.shape p.order h.order);
-      left = moved ∙ ap (drop (length run)) h.left ∙ drop-drop (length run) (length numbers) (places p.shape p.order) ∙ ap (λ n. drop n (places p.shape p.order)) (sym (length-append numbers run));
-      written = h.written ++ did.0;
-      taken = did.2;
-      text = did.1 ∙ ap (λ (x : List Bool). x ++ did.0) h.text ∙ append_assoc (header_of p) h.written did.0;
-    }
+    coded_behind old new run p numbers h fits moved columns word h.written did.0 h.text did.1 did.2

@@ -90,10 +90,26 @@ PutsRun z t run old written new written_now =
     (p : Params) (numbers : List ℕ) (bits : List Bool) → HasTaken p old numbers bits → IsRun p numbers z t (length run)
     → (more : List Bool) × (written_now ≡ written ++ more) × HasTaken p new (numbers ++ run) (bits ++ more)
 
+-- numbers may be put as they come: the coder is the block-adaptive one, and has blocks for them
+abbrev pub MayPutBlocks : Encoder → List ℕ → Type 0
+MayPutBlocks (Samples v) list = ⊥
+MayPutBlocks (Blocks v) list = (taken_count v + length list ≤ capacity v.cut) × AllByRecursion (λ n. n < 2 ^ v.cut.set.bits) list
+
+-- whatever numbers were taken before: bits were appended, and with them the next ones are taken
+abbrev pub PutsBlocks : List ℕ → Encoder → List Bool → Encoder → List Bool → Type 0
+PutsBlocks list old written new written_now =
+    (p : Params) (numbers : List ℕ) (bits : List Bool) → HasTaken p old numbers bits
+    → (more : List Bool) × (written_now ≡ written ++ more) × HasTaken p new (numbers ++ list) (bits ++ more)
+
 -- the coder is the sample-adaptive one
 abbrev pub IsBySamples : Encoder → Type 0
 IsBySamples (Samples v) = Unit {0}
 IsBySamples (Blocks v) = ⊥
+
+-- the coder is the block-adaptive one
+abbrev pub IsByBlocks : Encoder → Type 0
+IsByBlocks (Samples v) = ⊥
+IsByBlocks (Blocks v) = Unit {0}
 
 -- where a number was taken for each sample: all bits together are the body
 abbrev pub EndsBody : Encoder → List Bool → List Bool → Type 0

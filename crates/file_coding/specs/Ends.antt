@@ -55,6 +55,10 @@ CodesAll old new list = (p : Params) (numbers : List ℕ) → HasCoded p old num
 abbrev pub AreByRows : ℕ → List Place → Type 0
 AreByRows columns ps = (i : ℕ) (q : Place) → slice_get ps i ≡ Some q → q.x + 1 < columns → slice_get ps (suc i) ≡ Some (record { z = q.z; y = q.y; x = q.x + 1 })
 
+-- the first places, so many, are of one row and column, from the band of a place on
+abbrev pub AreOfColumn : Place → ℕ → List Place → Type 0
+AreOfColumn place count ps = (i : ℕ) → i < count → slice_get ps i ≡ Some (record { z = place.z + i; y = place.y; x = place.x })
+
 -- these numbers may be coded, and they are of one row, from the place that comes next
 pub record MayCodeRun (e : Ending) (place : Place) (run : List ℕ) : Type 0 where
   pub may : MayCodeAll e run

@@ -1,14 +1,14 @@
 //! The coding end of an image: from residuals in encoding order to the bytes of its file.
 
-ghost use Rattle.std.specs.Prelude.{◌≡◌, ◌⊎◌, ◌<◌, ℕ, List, [], ◌∷◌, ◌++◌, length, take, drop, Some, slice_get, IsTrue, IfOk, IfErr, OnOk, OnErr};
+ghost use Rattle.std.specs.Prelude.{◌≡◌, ◌<◌, ◌≤◌, ℕ, List, [], ◌∷◌, ◌++◌, length, take, drop, Some, slice_get, IsTrue, IfOk, IfErr, OnOk, OnErr};
 ghost use Rattle.cube_core.specs.declared.fault.Fault.TheVariants.{WantOfMemory};
 ghost use Rattle.cube_core.specs.Shape.{InRange};
 ghost use Rattle.header_bits.specs.declared.params.Params.{Params as Parameters};
 ghost use Rattle.header_bits.specs.Bits.{bits_of_bytes};
 ghost use Rattle.header_bits.specs.Lawful.{IsLawful};
 ghost use Rattle.cube_core.specs.declared.order.Order.TheVariants.{Bsq, Bi};
-ghost use Rattle.file_coding.specs.Coding.{IsBySamples};
-ghost use Rattle.file_coding.specs.Ends.{HasCoded, MayCode, MayCodeAll, MayCodeRun, CodesAll, AreByRows};
+ghost use Rattle.file_coding.specs.Coding.{IsBySamples, IsByBlocks};
+ghost use Rattle.file_coding.specs.Ends.{HasCoded, MayCode, MayCodeAll, MayCodeRun, CodesAll, AreByRows, AreOfColumn};
 ghost use Rattle.file_coding.specs.File.{filled, packed, file_of_residuals};
 
 use crate::encoder::Encoder;
@@ -61,7 +61,7 @@ impl CodingEnd {
             encoder: Encoder::new(alloc, params)?,
             places: Places::new(params.shape, params.order),
             columns: u64::from(params.shape.columns()),
-            by_rows: is_by_rows(params.order),
+            by_rows: params.order.goes_along_rows(),
             word: params.word,
         })
     }
@@ -100,27 +100,73 @@ impl CodingEnd {
         ensures some { OnErr result ((n : ℕ) × (n < length residuals.now) × CodesAll self.old self.new (take n residuals.now)) }
         ensures refused { IfErr result (λ e. e ≡ WantOfMemory) }
     {
-        if self.by_rows && self.encoder.is_by_samples() {
+        if !self.encoder.is_by_samples() {
+            self.put_blocks(residuals)
+        } else if self.by_rows {
             self.put_rows(residuals)
         } else {
-            self.put_each(residuals)
+            self.put_columns(residuals)
         }
     }
 
-    /// Takes residuals one after another.
-    fn put_each(&mut self, residuals: &[u16]) -> Result<(), Fault>
+    /// Takes residuals by the block-adaptive coder, which looks at no place.
+    fn put_blocks(&mut self, residuals: &[u16]) -> Result<(), Fault>
+        requires may { MayCodeAll self.old residuals.now }
+        requires blocks { IsByBlocks self.old.coder }
+        ensures coded { OnOk result (CodesAll self.old self.new residuals.now) }
+        ensures some { OnErr result ((n : ℕ) × (n < length residuals.now) × CodesAll self.old self.new (take n residuals.now)) }
+        ensures refused { IfErr result (λ e. e ≡ WantOfMemory) }
+    {
+        let taken = self.encoder.put_blocks(residuals, &mut self.writer);
+        self.places.go_by(taken as u64);
+        if taken < residuals.len() {
+            return Err(Fault::WantOfMemory);
+        }
+        Ok(())
+    }
+
+    /// Takes residuals of places that come column by column of bands, by the sample-adaptive coder.
+    fn put_columns(&mut self, residuals: &[u16]) -> Result<(), Fault>
         requires { MayCodeAll self.old residuals.now }
         ensures coded { OnOk result (CodesAll self.old self.new residuals.now) }
         ensures some { OnErr result ((n : ℕ) × (n < length residuals.now) × CodesAll self.old self.new (take n residuals.now)) }
         ensures refused { IfErr result (λ e. e ≡ WantOfMemory) }
     {
-        for i in 0..residuals.len() {
+        let mut first = 0;
+        while first < residuals.len() {
             let Some(place) = self.place() else {
                 unreachable!()
             };
-            self.put(place, residuals[i])?;
+            let column = self.places.column().min(1 << 16) as usize;
+            let end = first + column.min(residuals.len() - first);
+            let taken = self.put_column(place, &residuals[first..end]);
+            first += taken;
+            if first < end {
+                return Err(Fault::WantOfMemory);
+            }
         }
         Ok(())
+    }
+
+    /// Takes residuals of the bands of one row and column, from the place that comes next on. Tells how many were taken: fewer than all only where
+    /// memory was refused.
+    #[inline(always)]
+    fn put_column(&mut self, place: Place, column: &[u16]) -> usize
+        requires may { MayCodeAll self.old column.now }
+        requires column { AreOfColumn place (length column.now) self.old.left }
+        ensures coded { CodesAll self.old self.new (take result column.now) }
+        ensures most { result ≤ length column.now }
+    {
+        let t = u64::from(place.y) * self.columns + u64::from(place.x);
+        for i in 0..column.len() {
+            let z = place.z + i as u32;
+            let Ok(()) = self.encoder.put(z, t, column[i], &mut self.writer) else {
+                self.places.go_by(i as u64);
+                return i;
+            };
+        }
+        self.places.go_by(column.len() as u64);
+        column.len()
     }
 
     /// Takes residuals of places that come row by row, by the sample-adaptive coder.
@@ -158,7 +204,7 @@ impl CodingEnd {
     {
         let t = u64::from(place.y) * self.columns + u64::from(place.x);
         self.encoder.put_run(place.z, t, run, &mut self.writer)?;
-        go_by(&mut self.places, run.len());
+        self.places.go_by(run.len() as u64);
         Ok(())
     }
 
@@ -183,26 +229,6 @@ impl CodingEnd {
         let bytes = writer.into_bytes();
         know_packed(&bytes);
         Ok(bytes)
-    }
-}
-
-/// Goes by so many places.
-fn go_by(places: &mut Places, count: usize)
-    ensures { places.new ≡ drop count places.old }
-{
-    for i in 0..count {
-        let _gone = i;
-        let _place = places.next();
-    }
-}
-
-/// Whether the places of an order come row by row: band after band, or lines of one band interleaved.
-fn is_by_rows(order: Order) -> bool
-    ensures { IsTrue result → (order ≡ Bsq) ⊎ (order ≡ Bi 1) }
-{
-    match order {
-        Order::Bsq => true,
-        Order::Bi(depth) => depth == 1,
     }
 }
 

@@ -1,10 +1,10 @@
 //! The coding end: one of the two entropy coders, which takes an image's residuals in encoding order.
 
-ghost use Rattle.std.specs.Prelude.{◌≡◌, [], IsOk, IsTrue, IfOk, IfErr, OnOk, OnErr};
+ghost use Rattle.std.specs.Prelude.{◌≡◌, ◌<◌, ◌≤◌, [], length, take, IsOk, IsTrue, IsFalse, IfOk, IfErr, OnOk, OnErr};
 ghost use Rattle.cube_core.specs.declared.fault.Fault.TheVariants.{WantOfMemory};
 ghost use Rattle.header_bits.specs.Lawful.{IsLawful};
 ghost use Rattle.block_adaptive.specs.Settings.{IsBlock};
-ghost use Rattle.file_coding.specs.Coding.{HasTaken, MayPut, MayPutRun, MayGrow, MayGrowAtEnd, PutsNumber, PutsRun, EndsBody, IsBySamples};
+ghost use Rattle.file_coding.specs.Coding.{HasTaken, MayPut, MayPutRun, MayPutBlocks, MayGrow, MayGrowAtEnd, PutsNumber, PutsRun, PutsBlocks, EndsBody, IsBySamples, IsByBlocks};
 
 use block_adaptive::block_writer::BlockWriter;
 use cube_core::fault::Fault;
@@ -58,7 +58,8 @@ impl Encoder {
 
     /// Whether this is the sample-adaptive coder.
     pub fn is_by_samples(&self) -> bool
-        ensures { IsTrue result → IsBySamples self.now }
+        ensures samples { IsTrue result → IsBySamples self.now }
+        ensures blocks { IsFalse result → IsByBlocks self.now }
     {
         match self {
             Encoder::Samples(_) => true,
@@ -85,6 +86,23 @@ impl Encoder {
         match self {
             Encoder::Samples(stats) => stats.put_run(z, t, run, writer),
             Encoder::Blocks(_) => unreachable!(),
+        }
+    }
+
+    /// Takes the next residuals by the block-adaptive coder, and appends what is then known of the body. Tells how many were taken: fewer than all
+    /// only where memory was refused for the one behind them, which ends a block.
+    ///
+    /// Each is at most 2^D - 1, and with them no more are taken than there are samples.
+    #[inline(always)]
+    pub fn put_blocks(&mut self, residuals: &[u16], writer: &mut BitWriter) -> usize
+        requires { MayPutBlocks self.old residuals.now }
+        ensures taken { PutsBlocks (take result residuals.now) self.old writer.old.bits self.new writer.new.bits }
+        ensures most { result ≤ length residuals.now }
+        ensures memory { result < length residuals.now → MayGrow self.new }
+    {
+        match self {
+            Encoder::Samples(_) => unreachable!(),
+            Encoder::Blocks(blocks) => blocks.put_all(residuals, writer),
         }
     }
 

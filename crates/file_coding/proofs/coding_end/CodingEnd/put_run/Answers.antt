@@ -1,5 +1,4 @@
-use Rattle.std.proofs.Common.{◌≡◌, ◌+◌, ◌*◌, List, length, drop, sym, ap, subst, ◌∙◌, refl}
-use Rattle.cube_core.specs.declared.order.Place.{Place}
+use Rattle.std.proofs.Common.{◌≡◌, ◌+◌, ◌*◌, length, sym, subst, refl}
 use Rattle.file_coding.specs.Ends.{AreByRows}
 use Rattle.file_coding.proofs.Runs.{may_put_run, coded_run, rows_drop}
 use Rattle.file_coding.proofs.coding_end.CodingEnd.put_run.Goals as goal
