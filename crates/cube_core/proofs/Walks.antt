@@ -184,9 +184,9 @@ left_behind s o left n few h =
 -- a walk goes on to a spot so many places on, and to the one behind it
 pub walk_on : (s : Sizes) (o : Order) (p q after : Spot) (left n : ℕ) → IsWalk s o p left → n < left → StepsOn s o n p q → (0 < left - (n + 1) → StepsOn s o 1 q after) → IsWalk s o after (left - (n + 1))
 walk_on s o p q after left n walk more on next = record {
-    lawful = walk.lawful;
-    few = omega (arith, walk.few);
-    spot = λ some. ((next some).0, omega (arith, (next some).1, on.1, (walk.spot (omega arith)).1));
+  lawful = walk.lawful;
+  few = omega (arith, walk.few);
+  spot = λ some. ((next some).0, omega (arith, (next some).1, on.1, (walk.spot (omega arith)).1));
 }
 
 -- what remains to be gone by after a part of it

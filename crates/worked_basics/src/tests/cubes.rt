@@ -71,14 +71,56 @@ fn walk_through(rt: &impl Abort, shape: Shape, order: Order)
     assert_eq!(rt; i, shape.sample_count());
 }
 
+/// Goes by many places at once, from each place on, and finds what comes next by its item.
+fn go_by_many(rt: &impl Abort, shape: Shape, order: Order)
+    requires { IsOrder shape order }
+{
+    let count = shape.sample_count();
+    for begun in 0..count {
+        for more in 0..=count {
+            let mut walk = Places::new(shape, order);
+            walk.go_by(begun);
+            walk.go_by(more);
+            let expected = if begun + more < count {
+                Some(place_at(&shape, order, begun + more))
+            } else {
+                None
+            };
+            assert_eq!(rt; walk.peek(), expected);
+        }
+    }
+}
+
+/// Finds each place of a column of bands by its item, for the column that begins at each place.
+fn go_along_columns(rt: &impl Abort, shape: Shape, order: Order)
+    requires { IsOrder shape order }
+{
+    let count = shape.sample_count();
+    for item in 0..count {
+        let mut walk = Places::new(shape, order);
+        walk.go_by(item);
+        let first = place_at(&shape, order, item);
+        for i in 0..walk.column() {
+            assert!(rt; i < count - item);
+            let place = place_at(&shape, order, item + i);
+            assert_eq!(rt; u64::from(place.z), u64::from(first.z) + i);
+            assert_eq!(rt; (place.y, place.x), (first.y, first.x));
+        }
+    }
+}
+
 #[test]
 fn walks_through_shapes_of_one_column_row_or_band(rt: HostRuntime) {
     for (columns, rows, bands) in [(1, 3, 5), (3, 1, 5), (3, 2, 1), (2, 3, 5)] {
         let shape = shape_of(&rt, columns, rows, bands);
         walk_through(&rt, shape, Order::Bsq);
+        go_by_many(&rt, shape, Order::Bsq);
+        go_along_columns(&rt, shape, Order::Bsq);
         for depth in [1, 2, bands] {
             if 1 <= depth && depth <= bands {
                 walk_through(&rt, shape, Order::Bi(depth));
+                go_by_many(&rt, shape, Order::Bi(depth));
+                go_along_columns(&rt, shape, Order::Bi(depth));
             }
         }
     }

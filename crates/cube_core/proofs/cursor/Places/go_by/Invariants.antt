@@ -7,7 +7,7 @@ abbrev pub invariant-loop-rest : goal.invariant-loop-rest
 invariant-loop-rest l =
     let walk = l.self-inside in
     IsWalk walk.shape walk.order walk.spot walk.left × (l.rest ≤ walk.left)
-      × (drop l.rest (places_left walk.shape walk.order walk.left) ≡ drop l.fn.count l.fn.self)
+    × (drop l.rest (places_left walk.shape walk.order walk.left) ≡ drop l.fn.count l.fn.self)
 
 abbrev pub decreases-loop-rest : goal.decreases-loop-rest
 decreases-loop-rest l = l.rest
