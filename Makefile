@@ -1,7 +1,7 @@
 PREFIX ?= /usr/local
 PROGRAM = crates/ccsds/out/ccsds
 
-.PHONY: all show install test interop bench beside plain
+.PHONY: all show install test interop rows bench beside plain
 
 # Proves and builds the program and its libraries, as many side by side as there are processors.
 all:
@@ -30,6 +30,10 @@ test:
 # Sets our block-adaptive bodies beside those of libaec's program `aec`, both ways.
 interop: all plain
 	tests/interop.py
+
+# Holds the program to plain Rust that goes sample by sample, on 500 sets of parameters that a seed decides.
+rows: all plain
+	tests/rows.py
 
 # Measures the benchmark program beside plain Rust, and prints a table.
 bench: plain

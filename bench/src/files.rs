@@ -3,7 +3,7 @@
 use crate::bits::{BitReader, BitWriter, Refused};
 use crate::block_coder::{BlockReader, BlockWriter, Cut};
 use crate::predictor::cube::{Cube, Params};
-use crate::predictor::{all_bands, params_of, sum_of, synthetic_cube, walk, Order, BITS};
+use crate::predictor::{all_bands, params_of, sum_of, synthetic_cube, walk, Order};
 use crate::report::{Report, Shape};
 use crate::sample_coder::Stats;
 use crate::synthetic::sum_of_bytes;
@@ -15,7 +15,7 @@ const HEADER: u64 = 19;
 
 /// An entropy coder, with the numbers that its part of the header tells.
 #[derive(Clone, Copy)]
-enum Coder {
+pub enum Coder {
     Sample {
         umax: u32,
         gamma_star: u32,
@@ -72,14 +72,19 @@ fn there_and_back(report: &Report, name: &str, params: &Params, order: Order, co
 fn encode(cube: &Cube, params: &Params, order: Order, coder: Coder) -> Vec<u8> {
     let mut writer = BitWriter::new();
     put_header(params, order, coder, &mut writer);
+    put_body(cube, params, order, coder, &mut writer);
+    writer.into_bytes()
+}
+
+/// Appends the coded residuals of a cube.
+pub fn put_body(cube: &Cube, params: &Params, order: Order, coder: Coder, writer: &mut BitWriter) {
     let mut bands = all_bands(params);
     let mut encoder = Encoder::new(params, coder);
     walk(params.shape, order, |z, y, x| {
         let number = bands[z].forward(cube, y as u32, x as u32);
-        encoder.put(z, y == 0 && x == 0, number, &mut writer);
+        encoder.put(z, y == 0 && x == 0, number, writer);
     });
-    encoder.end(&mut writer);
-    writer.into_bytes()
+    encoder.end(writer);
 }
 
 fn decode(file: &[u8], params: &Params, order: Order, coder: Coder) -> Result<Cube, Refused> {
@@ -120,7 +125,7 @@ fn put_header(params: &Params, order: Order, coder: Coder, writer: &mut BitWrite
         writer.push(size as u64 % 65_536, 16);
     }
     writer.push(0, 3);
-    writer.push(u64::from(BITS), 4);
+    writer.push(u64::from(params.bits) % 16, 4);
     match order {
         Order::Bsq => writer.push(1 << 16, 17),
         Order::Bi(depth) => writer.push(depth as u64, 17),
@@ -213,7 +218,7 @@ impl Decoder {
 }
 
 fn cut(params: &Params, size: usize, reference: u64) -> Cut {
-    Cut::new(BITS, size, reference, params.shape.sample_count())
+    Cut::new(params.bits, size, reference, params.shape.sample_count())
 }
 
 fn all_stats(params: &Params, coder: Coder) -> Vec<Stats> {
@@ -227,6 +232,6 @@ fn all_stats(params: &Params, coder: Coder) -> Vec<Stats> {
         return Vec::new();
     };
     (0..params.shape.bands)
-        .map(|_| Stats::new(BITS, umax, gamma_star, gamma_zero, constant))
+        .map(|_| Stats::new(params.bits, umax, gamma_star, gamma_zero, constant))
         .collect()
 }

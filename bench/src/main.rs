@@ -6,9 +6,11 @@
 //!     plain raw                                      the raw bytes of the cube that is measured
 //!     plain scene SEED COLUMNS ROWS BANDS BITS       raw bytes that look like an imaging spectrometer's
 //!     plain small BITS, plain residuals BITS         a small scene, and its mapped residuals
+//!     plain body NUMBER..                            the body of an image's file
 
 mod bits;
 mod block_coder;
+mod body;
 mod cube;
 mod files;
 mod lanes;
@@ -49,6 +51,10 @@ fn main() {
         }
         Some("small") => scene::print_small(number(1) as u32),
         Some("residuals") => scene::print_residuals(number(1) as u32),
+        Some("body") => {
+            let numbers: Vec<i64> = words[1..].iter().map(|word| word.parse().expect("a number")).collect();
+            body::print_body(&numbers);
+        }
         Some(subject) => {
             for _ in 0..ROUNDS {
                 measure(subject);

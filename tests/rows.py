@@ -1,0 +1,101 @@
+#!/usr/bin/env python3
+"""Holds the built program to plain Rust that goes sample by sample, where rows, pieces of rows and columns of bands begin and end.
+
+    tests/rows.py [SEED [COUNT [PROGRAM]]]
+
+SEED alone decides COUNT sets of parameters and samples: cubes of one column or row, of 63, 64, 65 or 129 columns or of any few, up to 15 previous
+bands, both modes and sums, registers that wrap and such that don't, all orders, both coders. Of each the body of the file has to be, byte by byte, the
+one that the plain Rust side of bench/ makes, and `expand` has to give the raw bytes back. Left out, SEED is 1 and COUNT 500. `make rows` builds both
+programs first.
+"""
+
+import os
+import random
+import subprocess
+import sys
+import tempfile
+
+sys.dont_write_bytecode = True
+from options import PROGRAM, TOP, Room
+from pipelines import samples_of
+
+PLAIN = os.path.join(TOP, "bench", "target", "release", "plain")
+HEADER = 19
+"""How many bytes a header without tables has."""
+COLUMNS = (1, 2, 9, 63, 64, 65, 129)
+
+
+def image_of(chance):
+    """The shape, the samples' bits and whether they are signed, and the depth of interleaving, or 0."""
+    columns, rows, bands = chance.choice(COLUMNS), chance.choice((1, 2, 5)), chance.choice((1, 2, 5, 17, 65))
+    depth = chance.choice((0, 1, bands, chance.randint(1, bands)))
+    return [columns, rows, bands, chance.randint(2, 16), chance.randint(0, 1), depth]
+
+
+def predictor_of(chance, columns, bits):
+    """Previous bands, mode, sums, register, omega, the interval's logarithm and the exponents. One column asks for reduced mode and column-oriented sums."""
+    alone = columns == 1
+    omega = chance.randint(4, 19)
+    least = max(32, bits + omega + 2)
+    register = chance.choice((least, least, chance.randint(least, 64), 64))
+    exponents = sorted(chance.randint(-6, 9) for _ in range(2))
+    reduced, column = (1 if alone else chance.randint(0, 1) for _ in range(2))
+    return [chance.randint(0, 15), reduced, column, register, omega, chance.randint(4, 11), *exponents]
+
+
+def coder_of(chance, bits):
+    """The numbers of either entropy coder: four of the sample-adaptive one, or two of the block-adaptive one."""
+    if chance.random() < 0.5:
+        return [chance.choice((8, 16, 32, 64)), chance.choice((1, 2, 64, 4096))]
+    zero = chance.randint(1, 8)
+    return [chance.randint(8, 32), chance.randint(max(4, zero + 1), 9), zero, chance.randint(0, min(14, bits - 2))]
+
+
+def words_of(image, predictor, coder):
+    """The same as options of `compress`."""
+    columns, rows, bands, bits, signed, depth = image
+    previous, reduced, column, register, omega, interval, least, greatest = predictor
+    words = ["--columns", columns, "--rows", rows, "--bands", bands, "--bits", bits, "--previous", previous, "--register", register, "--omega", omega]
+    words += ["--interval-log", interval, "--vmin-code", least + 6, "--vmax-code", greatest + 6]
+    words += [word for word, is_set in (("--signed", signed), ("--reduced", reduced), ("--column-sums", column)) if is_set]
+    if depth:
+        words += ["--order", "bi", "--depth", depth]
+    if len(coder) == 2:
+        return words + ["--coder", "block", "--block", coder[0], "--reference", coder[1]]
+    return words + ["--umax", coder[0], "--gamma-star", coder[1], "--gamma-zero", coder[2], "--k", coder[3]]
+
+
+def plain_body(numbers, heights):
+    given = b"".join(height.to_bytes(2, "big") for height in heights)
+    return subprocess.run([PLAIN, "body", *map(str, numbers)], input=given, stdout=subprocess.PIPE, check=True).stdout
+
+
+def hold_set(room, chance, name):
+    """Draws parameters and samples, and holds the file to the plain body."""
+    image = image_of(chance)
+    columns, rows, bands, bits, signed, _ = image
+    predictor, coder = predictor_of(chance, columns, bits), coder_of(chance, bits)
+    low = -(1 << bits - 1) if signed else 0
+    samples = samples_of(chance, columns * rows * bands, low, low + (1 << bits) - 1)
+    words = words_of(image, predictor, coder)
+    name = f"{name}: {' '.join(map(str, words))}"
+    raw = b"".join(sample.to_bytes(2, "big", signed=bool(signed)) for sample in samples)
+    room.write("raw", raw)
+    room.hold(f"{name}: compressed", room.run("compress", *words, "raw", "file"), (0, b"", ""))
+    room.hold(f"{name}: the plain body", room.read("file")[HEADER:], plain_body(image + predictor + coder, [sample - low for sample in samples]))
+    room.hold(f"{name}: expanded", room.run("expand", "file", "back"), (0, b"", ""))
+    room.hold(f"{name}: expanded to its bytes", room.read("back") == raw, True)
+
+
+def main():
+    seed, count = (int(word) for word in (sys.argv[1:3] + ["1", "500"][len(sys.argv[1:3]) :]))
+    with tempfile.TemporaryDirectory() as folder:
+        room = Room(folder, sys.argv[3] if len(sys.argv) > 3 else PROGRAM)
+        for i in range(count):
+            hold_set(room, random.Random(f"{seed} {i}"), f"set {i}")
+    print(f"rows.py: {count} sets; {room.passed} passed, {room.failed} failed")
+    return 1 if room.failed else 0
+
+
+if __name__ == "__main__":
+    sys.exit(main())
