@@ -20,6 +20,7 @@ pub mod Spans
 pub mod Starting
 pub mod Tables
 pub mod Told
+pub mod Turns
 pub mod Raising
 pub mod Largest
 pub mod Floors

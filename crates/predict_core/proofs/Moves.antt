@@ -1,5 +1,5 @@
 -- The steps of the weights in words of 32 bits.
-use Rattle.std.proofs.Common.{◌≡◌, ℕ, ◌+◌, ◌-◌, ◌*◌, ◌%◌, ◌^◌, ◌≤◌, ℤ, pos, neg_ℤ, ◌+ℤ◌, ◌-ℤ◌, ◌*ℤ◌, ◌≤ℤ◌, unsigned_abs, Bool, List, refl, sym, ap, ◌∙◌, arith, w32, SFits, to_z, pow_mono, le_trans}
+use Rattle.std.proofs.Common.{◌≡◌, ℕ, ◌+◌, ◌-◌, ◌*◌, ◌%◌, ◌^◌, ◌≤◌, ℤ, pos, negsuc, neg_ℤ, ◌+ℤ◌, ◌-ℤ◌, ◌*ℤ◌, ◌≤ℤ◌, unsigned_abs, Bool, List, refl, sym, ap, ◌∙◌, arith, w32, SFits, to_z, pow_mono, le_trans, div-one}
 use Rattle.std.proofs.Math.Pow.{pow-add}
 use Rattle.std.specs.Int.{int_min, int_max}
 use Rattle.std.proofs.lemmas.Int.{ints, clamps, to_z_pos, fits_signed_from_abs, unsigned_abs-mul}
@@ -24,12 +24,36 @@ raised_within a k l h =
     let q : unsigned_abs a * 2 ^ k ≤ 2 ^ (26 - k) * 2 ^ k = mul-le (unsigned_abs a) (2 ^ k) (2 ^ (26 - k)) (2 ^ k) h (omega arith) in
     rw (unsigned_abs-mul a (pos (2 ^ k))) (omega (arith, p, q))
 
--- and one to the right, with a half added
-pub half_added : (a : ℤ) (k : ℕ) → unsigned_abs a ≤ 2 ^ 18 → k ≤ 21 → unsigned_abs (a +ℤ pos (2 ^ k)) ≤ 2 ^ 22
-half_added a k h l = let p : 2 ^ k ≤ 2 ^ 21 = pow_mono l in omega (arith, ints, p)
+-- both kinds of steps in one form: raised by some bits, and halved by others with a half added
+whole : (a : ℤ) → floor_div a 1 ≡ a
+whole (pos n) = ap pos (div-one n)
+whole (negsuc n) = ap negsuc (div-one n)
 
-pub lowered_within : (a : ℤ) (d : ℕ) → unsigned_abs a ≤ 2 ^ 22 → SFits w32 (floor_div a d) × (unsigned_abs (floor_div a d) ≤ 2 ^ 26)
-lowered_within a d h = (SFits-26 (floor_div a d) (omega (arith, halved_shrinks a d)), omega (arith, halved_shrinks a d))
+pub raising_is : (a : ℤ) (k : ℕ) → floor_div (a *ℤ pos (2 ^ k) +ℤ pos 0) (2 ^ 0) ≡ step (negsuc k) a
+unfolding step
+raising_is a k = whole (a *ℤ pos (2 ^ k) +ℤ pos 0) ∙ nothing (a *ℤ pos (2 ^ k))
+  where
+    nothing : (b : ℤ) → b +ℤ pos 0 ≡ b
+    nothing b = omega (arith, ints)
+
+pub halving_is : (a : ℤ) (k : ℕ) → floor_div (a *ℤ pos (2 ^ 0) +ℤ pos (2 ^ k)) (2 ^ (k + 1)) ≡ step (pos k) a
+unfolding step
+halving_is a k = ap (λ b. floor_div (b +ℤ pos (2 ^ k)) (2 ^ (k + 1))) (once a)
+  where
+    once : (b : ℤ) → b *ℤ pos 1 ≡ b
+    once b = omega (arith, ints)
+
+pub half_added : (a half : ℤ) (k : ℕ) → k ≤ 22 → unsigned_abs a ≤ 2 ^ (26 - k) → pos 0 ≤ℤ half → half ≤ℤ pos 2097152 → unsigned_abs (a *ℤ pos (2 ^ k) +ℤ half) ≤ 2 ^ 27
+half_added a half k l h b d = let r = raised_within a k (omega arith) h in added (a *ℤ pos (2 ^ k)) r
+  where
+    added : (v : ℤ) → unsigned_abs v ≤ 2 ^ 26 → unsigned_abs (v +ℤ half) ≤ 2 ^ 27
+    added v r = omega (arith, ints, r, b, d)
+
+pub SFits-27 : (a : ℤ) → unsigned_abs a ≤ 2 ^ 27 → SFits w32 a
+SFits-27 a h = fits_signed_from_abs w32 a (omega arith)
+
+pub stepped_within : (a : ℤ) (d : ℕ) → unsigned_abs a ≤ 2 ^ 27 → unsigned_abs (floor_div a d) ≤ 2 ^ 27
+stepped_within a d h = le_trans (halved_shrinks a d) h
 
 pub limit_within : (fraction : ℕ) → fraction ≤ 19 → 2 ^ (fraction + 2) ≤ 2 ^ 21
 limit_within fraction h = let k : fraction + 2 ≤ 21 = omega arith in pow_mono k

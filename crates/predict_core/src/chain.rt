@@ -4,7 +4,7 @@
 //! weights don't wait for the prediction and its clip. What no place can do before the one ahead of it is
 //! done is thus short; predictions and residuals are found behind it.
 
-ghost use Rattle.std.specs.Prelude.{◌≡◌, ◌+◌, ◌-◌, ◌*◌, ◌^◌, ◌<◌, ◌≤◌, ℕ, pos, ◌≤ℤ◌, ◌+ℤ◌, ◌-ℤ◌, ◌*ℤ◌, int_le, unsigned_abs, ℤ, List, length, take, ◌++◌, replicate, slice_index_or};
+ghost use Rattle.std.specs.Prelude.{◌≡◌, ◌+◌, ◌-◌, ◌*◌, ◌^◌, ◌<◌, ◌≤◌, ℕ, pos, negsuc, ◌≤ℤ◌, ◌+ℤ◌, ◌-ℤ◌, ◌*ℤ◌, int_lt, int_le, unsigned_abs, ℤ, List, length, take, ◌++◌, replicate, slice_index_or};
 ghost use Rattle.cube_core.specs.Image.{IsPlace};
 ghost use Rattle.header_bits.specs.declared.params.Params.{Params as Parameters};
 ghost use Rattle.predict_core.specs.Arithmetic.{floor_div};
@@ -19,7 +19,7 @@ ghost use Rattle.predict_core.specs.Chain.{scaled_by_difference, quad_or_zeros, 
 use crate::prediction::predicted_difference;
 use crate::room::Quad;
 use crate::settings::Settings;
-use crate::weights::update_first;
+use crate::weights::{form_of, update_by};
 use cube_core::cube::Cube;
 
 /// What the steps of the weights have in common, over places of one exponent.
@@ -45,6 +45,7 @@ fn follow<const N: usize>(
     differences: &[i32; 18],
 ) -> i32
     requires few { N ≤ 18 }
+    requires own_in { unsigned_abs own ≤ 2 ^ 18 }
     requires weights_in { AllWithin (2 ^ (steps.fraction + 2)) weights.old }
     requires differences_in { AllWithin (4 * 2 ^ steps.bits) differences.now }
     ensures value { result ≡ floor_div (inner_product (take N weights.old) (take N differences.now)) (2 ^ steps.fraction) }
@@ -53,16 +54,28 @@ fn follow<const N: usize>(
     ensures bound { AllWithin (2 ^ (steps.fraction + 2)) weights.new }
 {
     let predicted = predicted_difference::<N>(steps.fraction, weights, differences);
-    let negative = own <= predicted;
-    update_first::<N>(
+    update_by::<N>(
         weights,
         differences,
         steps.fraction,
-        steps.bits,
         steps.exponent,
-        negative,
+        form_of(steps.bits, steps.exponent),
+        turn_of_error(own, predicted),
     );
     predicted
+}
+
+/// All ones where an error is negative, which it is where the central difference is at most the predicted
+/// one; else 0.
+#[inline(always)]
+fn turn_of_error(own: i32, predicted: i32) -> i32
+    requires own_in { unsigned_abs own ≤ 2 ^ 18 }
+    requires predicted_in { unsigned_abs predicted ≤ 18 * 2 ^ 20 }
+    ensures value { int_lt result (pos 0) ≡ int_le own predicted }
+    ensures low { negsuc 0 ≤ℤ result }
+    ensures high { result ≤ℤ pos 0 }
+{
+    (own - 1 - predicted) >> 31
 }
 
 /// The components of place `i` from the first `Q` quads of a room, and zeros behind them.

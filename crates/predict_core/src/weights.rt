@@ -1,7 +1,7 @@
 //! The weights of the differences: the products with them, and their update.
 
-ghost use Rattle.std.specs.Prelude.{◌≡◌, ◌+◌, ◌-◌, ◌*◌, ◌^◌, ◌≤◌, pos, negsuc, ◌≤ℤ◌, ◌+ℤ◌, ◌-ℤ◌, unsigned_abs, ℕ, ℤ, List, length, take, ◌++◌, replicate};
-ghost use Rattle.predict_core.specs.Arithmetic.{clip};
+ghost use Rattle.std.specs.Prelude.{◌≡◌, ◌+◌, ◌-◌, ◌*◌, ◌^◌, ◌≤◌, pos, negsuc, ◌≤ℤ◌, ◌+ℤ◌, ◌-ℤ◌, ◌*ℤ◌, unsigned_abs, int_lt, ℕ, ℤ, List, length, take, ◌++◌, replicate};
+ghost use Rattle.predict_core.specs.Arithmetic.{floor_div, clip};
 ghost use Rattle.predict_core.specs.Prediction.{inner_product};
 ghost use Rattle.predict_core.specs.Weights.{step, signed_by, weight_min, weight_max, updated_weight as updated, updated_weights};
 ghost use Rattle.predict_core.specs.Bounds.{AllWithin};
@@ -72,144 +72,172 @@ pub(crate) fn update(
     if count == 0 {
         return;
     }
+    let turn = turn_of(negative);
     if count <= 8 {
-        update_first::<8>(weights, differences, fraction, bits, exponent, negative);
+        update_first::<8>(weights, differences, fraction, bits, exponent, turn);
     } else {
-        update_first::<18>(weights, differences, fraction, bits, exponent, negative);
+        update_first::<18>(weights, differences, fraction, bits, exponent, turn);
     }
 }
 
-/// The first `N` weights after an error.
+/// The first `N` weights after an error, which is negative where `turn` is all ones; else `turn` is 0.
+///
+/// A difference takes the error's sign without a branch, so that the compiler makes vectors of the weights.
 #[inline(always)]
-pub(crate) fn update_first<const N: usize>(
+fn update_first<const N: usize>(
     weights: &mut [i32; 18],
     differences: &[i32; 18],
     fraction: u32,
     bits: u32,
     exponent: i32,
-    negative: bool,
+    turn: i32,
 )
     requires few { N ≤ 18 }
+    requires turn_in { (negsuc 0 ≤ℤ turn) × (turn ≤ℤ pos 0) }
     requires fraction_in { fraction ≤ 19 }
     requires bits_in { (2 ≤ bits) × (bits ≤ 16) }
     requires exponent_least { (pos bits -ℤ pos 25) ≤ℤ exponent }
     requires exponent_most { exponent ≤ℤ pos 21 }
     requires weights_in { AllWithin (2 ^ (fraction + 2)) weights.old }
     requires differences_in { AllWithin (4 * 2 ^ bits) differences.now }
-    ensures value { take N weights.new ≡ updated_weights fraction exponent negative (take N weights.old) (take N differences.now) }
+    ensures value { take N weights.new ≡ updated_weights fraction exponent (int_lt turn (pos 0)) (take N weights.old) (take N differences.now) }
     ensures bound { AllWithin (2 ^ (fraction + 2)) weights.new }
 {
     if exponent < 0 {
-        let by = (-1 - exponent) as u32;
-        update_by_products::<N>(weights, differences, fraction, by, negative);
+        let form = raising((-1 - exponent) as u32);
+        update_by::<N>(weights, differences, fraction, exponent, form, turn);
     } else {
-        let by = exponent as u32;
-        update_by_halves::<N>(weights, differences, fraction, by, negative);
+        let form = halving(exponent as u32);
+        update_by::<N>(weights, differences, fraction, exponent, form, turn);
     }
 }
 
-/// The weights after an error whose exponent is below 0: a difference is raised by `by` bits.
+/// How a difference becomes a step: it is raised by some bits, and halved by others after a half is added.
+///
+/// At an exponent below 0 nothing is halved, else nothing is raised. So both kinds of exponents go one way,
+/// and a loop over places that finds the form before it has no branch.
+#[derive(Clone, Copy)]
+pub(crate) struct Form {
+    up: u32,
+    half: i32,
+    down: u32,
+    ghost up_in: { up ≤ 22 },
+    ghost half_in: { (pos 0 ≤ℤ half) × (half ≤ℤ pos 2097152) },
+    ghost down_in: { down ≤ 22 },
+}
+
+/// The form of the steps at an exponent, for samples of so many bits.
 #[inline(always)]
-fn update_by_products<const N: usize>(
+pub(crate) fn form_of(bits: u32, exponent: i32) -> Form
+    requires bits_in { (2 ≤ bits) × (bits ≤ 16) }
+    requires exponent_least { (pos bits -ℤ pos 25) ≤ℤ exponent }
+    requires exponent_most { exponent ≤ℤ pos 21 }
+    ensures steps { (a : ℤ) → floor_div (a *ℤ pos (2 ^ result.up) +ℤ result.half) (2 ^ result.down) ≡ step exponent a }
+    ensures room { bits + result.up ≤ 24 }
+{
+    if exponent < 0 {
+        raising((-1 - exponent) as u32)
+    } else {
+        halving(exponent as u32)
+    }
+}
+
+/// The form of the steps at an exponent of `-by - 1`.
+#[inline(always)]
+fn raising(by: u32) -> Form
+    requires { by ≤ 22 }
+    ensures steps { (a : ℤ) → floor_div (a *ℤ pos (2 ^ result.up) +ℤ result.half) (2 ^ result.down) ≡ step (negsuc by) a }
+    ensures up { result.up ≡ by }
+{
+    Form {
+        up: by,
+        half: 0,
+        down: 0,
+    }
+}
+
+/// The form of the steps at an exponent of `by`.
+#[inline(always)]
+fn halving(by: u32) -> Form
+    requires { by ≤ 21 }
+    ensures steps { (a : ℤ) → floor_div (a *ℤ pos (2 ^ result.up) +ℤ result.half) (2 ^ result.down) ≡ step (pos by) a }
+    ensures up { result.up ≡ 0 }
+{
+    Form {
+        up: 0,
+        half: 1i32 << by,
+        down: by + 1,
+    }
+}
+
+/// The first `N` weights after an error, by the form of the steps at the exponent.
+#[inline(always)]
+pub(crate) fn update_by<const N: usize>(
     weights: &mut [i32; 18],
     differences: &[i32; 18],
     fraction: u32,
-    by: u32,
-    negative: bool,
+    exponent: i32,
+    form: Form,
+    turn: i32,
 )
     requires few { N ≤ 18 }
+    requires turn_in { (negsuc 0 ≤ℤ turn) × (turn ≤ℤ pos 0) }
     requires fraction_in { fraction ≤ 19 }
-    requires by_in { by ≤ 22 }
+    requires steps { (a : ℤ) → floor_div (a *ℤ pos (2 ^ form.up) +ℤ form.half) (2 ^ form.down) ≡ step exponent a }
     requires weights_in { AllWithin (2 ^ (fraction + 2)) weights.old }
-    requires differences_in { AllWithin (2 ^ (26 - by)) differences.now }
-    ensures value { take N weights.new ≡ updated_weights fraction (negsuc by) negative (take N weights.old) (take N differences.now) }
+    requires differences_in { AllWithin (2 ^ (26 - form.up)) differences.now }
+    ensures value { take N weights.new ≡ updated_weights fraction exponent (int_lt turn (pos 0)) (take N weights.old) (take N differences.now) }
     ensures bound { AllWithin (2 ^ (fraction + 2)) weights.new }
 {
     for i in 0..N {
-        weights[i] = moved_by_product(fraction, by, negative, weights[i], differences[i]);
+        weights[i] = moved(fraction, exponent, form, turn, weights[i], differences[i]);
     }
 }
 
-/// The weights after an error whose exponent is 0 or more: a difference is halved `by + 1` times.
+/// One weight after an error.
 #[inline(always)]
-fn update_by_halves<const N: usize>(
-    weights: &mut [i32; 18],
-    differences: &[i32; 18],
-    fraction: u32,
-    by: u32,
-    negative: bool,
-)
-    requires few { N ≤ 18 }
+fn moved(fraction: u32, exponent: i32, form: Form, turn: i32, weight: i32, difference: i32) -> i32
+    requires turn_in { (negsuc 0 ≤ℤ turn) × (turn ≤ℤ pos 0) }
     requires fraction_in { fraction ≤ 19 }
-    requires by_in { by ≤ 21 }
-    requires weights_in { AllWithin (2 ^ (fraction + 2)) weights.old }
-    requires differences_in { AllWithin (2 ^ 18) differences.now }
-    ensures value { take N weights.new ≡ updated_weights fraction (pos by) negative (take N weights.old) (take N differences.now) }
-    ensures bound { AllWithin (2 ^ (fraction + 2)) weights.new }
-{
-    for i in 0..N {
-        weights[i] = moved_by_halves(fraction, by, negative, weights[i], differences[i]);
-    }
-}
-
-/// One weight after an error whose exponent is below 0.
-#[inline(always)]
-fn moved_by_product(fraction: u32, by: u32, negative: bool, weight: i32, difference: i32) -> i32
-    requires fraction_in { fraction ≤ 19 }
-    requires by_in { by ≤ 22 }
+    requires steps { (a : ℤ) → floor_div (a *ℤ pos (2 ^ form.up) +ℤ form.half) (2 ^ form.down) ≡ step exponent a }
     requires weight_in { unsigned_abs weight ≤ 2 ^ 21 }
-    requires difference_in { unsigned_abs difference ≤ 2 ^ (26 - by) }
-    ensures value { result ≡ updated fraction (negsuc by) negative weight difference }
+    requires difference_in { unsigned_abs difference ≤ 2 ^ (26 - form.up) }
+    ensures value { result ≡ updated fraction exponent (int_lt turn (pos 0)) weight difference }
     ensures bound { unsigned_abs result ≤ 2 ^ (fraction + 2) }
 {
-    let size = turned(negative, difference);
-    held(fraction, weight, raised(size, by))
+    let size = turned(turn, difference);
+    held(fraction, weight, stepped(form, size))
 }
 
-/// One weight after an error whose exponent is 0 or more.
+/// The word of a sign: all ones where an error is negative, else 0.
 #[inline(always)]
-fn moved_by_halves(fraction: u32, by: u32, negative: bool, weight: i32, difference: i32) -> i32
-    requires fraction_in { fraction ≤ 19 }
-    requires by_in { by ≤ 21 }
-    requires weight_in { unsigned_abs weight ≤ 2 ^ 21 }
-    requires difference_in { unsigned_abs difference ≤ 2 ^ 18 }
-    ensures value { result ≡ updated fraction (pos by) negative weight difference }
-    ensures bound { unsigned_abs result ≤ 2 ^ (fraction + 2) }
+fn turn_of(negative: bool) -> i32
+    ensures value { int_lt result (pos 0) ≡ negative }
+    ensures low { negsuc 0 ≤ℤ result }
+    ensures high { result ≤ℤ pos 0 }
 {
-    let size = turned(negative, difference);
-    held(fraction, weight, lowered(size, by))
+    if negative { -1 } else { 0 }
 }
 
-/// A difference with the sign of the error.
+/// A difference with the sign of the error, which is negative where `turn` is all ones.
 #[inline(always)]
-fn turned(negative: bool, difference: i32) -> i32
-    requires { unsigned_abs difference ≤ 2 ^ 26 }
-    ensures value { result ≡ signed_by negative difference }
+fn turned(turn: i32, difference: i32) -> i32
+    requires turn_in { (negsuc 0 ≤ℤ turn) × (turn ≤ℤ pos 0) }
+    requires difference_in { unsigned_abs difference ≤ 2 ^ 26 }
+    ensures value { result ≡ signed_by (int_lt turn (pos 0)) difference }
     ensures size { unsigned_abs result ≡ unsigned_abs difference }
 {
-    if negative { -difference } else { difference }
+    (difference ^ turn) - turn
 }
 
-/// A step of some size at an exponent of `-by - 1`.
+/// A step of some size.
 #[inline(always)]
-fn raised(size: i32, by: u32) -> i32
-    requires by_in { by ≤ 22 }
-    requires size_in { unsigned_abs size ≤ 2 ^ (26 - by) }
-    ensures value { result ≡ step (negsuc by) size }
-    ensures bound { unsigned_abs result ≤ 2 ^ 26 }
+fn stepped(form: Form, size: i32) -> i32
+    requires { unsigned_abs size ≤ 2 ^ (26 - form.up) }
+    ensures value { result ≡ floor_div (size *ℤ pos (2 ^ form.up) +ℤ form.half) (2 ^ form.down) }
+    ensures bound { unsigned_abs result ≤ 2 ^ 27 }
 {
-    size * (1i32 << by)
-}
-
-/// A step of some size at an exponent of `by`.
-#[inline(always)]
-fn lowered(size: i32, by: u32) -> i32
-    requires by_in { by ≤ 21 }
-    requires size_in { unsigned_abs size ≤ 2 ^ 18 }
-    ensures value { result ≡ step (pos by) size }
-    ensures bound { unsigned_abs result ≤ 2 ^ 26 }
-{
-    (size + (1i32 << by)) >> (by + 1)
+    (size * (1i32 << form.up) + form.half) >> form.down
 }
 
 /// A weight after a step, held between the least and the greatest.
@@ -217,7 +245,7 @@ fn lowered(size: i32, by: u32) -> i32
 fn held(fraction: u32, weight: i32, step: i32) -> i32
     requires fraction_in { fraction ≤ 19 }
     requires weight_in { unsigned_abs weight ≤ 2 ^ 21 }
-    requires step_in { unsigned_abs step ≤ 2 ^ 26 }
+    requires step_in { unsigned_abs step ≤ 2 ^ 27 }
     ensures value { result ≡ clip (weight +ℤ step) (weight_min fraction) (weight_max fraction) }
     ensures bound { unsigned_abs result ≤ 2 ^ (fraction + 2) }
 {

@@ -1,16 +1,24 @@
-use Rattle.std.proofs.Common.{◌≡◌, ◌≤◌, ◌-◌, ◌^◌, ◌+◌, false, ap, subst, ◌∙◌, int_le, take, SFits, w32, to_z-of_z, rules, arith}
+use Rattle.std.proofs.Common.{◌≡◌, ◌≤◌, ◌-◌, ◌^◌, ◌+◌, false, ap, subst, ◌∙◌, int_le, take, SFits, w32, to_z-of_z, rules, arith, pow_mono}
 use Rattle.predict_core.specs.Arithmetic.{floor_div}
 use Rattle.predict_core.specs.Bounds.{AllWithin}
 use Rattle.predict_core.specs.Prediction.{inner_product}
 use Rattle.predict_core.specs.Weights.{updated_weights}
 use Rattle.predict_core.proofs.Chains.{scaled_from_room, next_from_room}
-use Rattle.predict_core.proofs.Ranges.{padded_within}
+use Rattle.predict_core.proofs.Ranges.{central_within, padded_within}
 use Rattle.predict_core.proofs.chain.follow_at.Given as given
 use Rattle.predict_core.proofs.chain.follow_at.Goals as goal
 use Rattle.predict_core.proofs.chain.follow_at.Goals.{After-is_cube, After-follow}
 
 wide : (g : given.Over) (c : After-is_cube g) → c.args.settings.now.predictor.column ≡ false → 2 ≤ c.args.cube.now.shape.columns
 wide g c h = let w = c.args.settings.now.wide h in let e = c.requires.columns in omega (arith, w, e)
+
+pub follow-requires-clause-own_in : goal.follow-requires-clause-own_in
+follow-requires-clause-own_in g c =
+    let d = (goal.at.follow-requires-clause-own_in g c).After-is_cube in
+    let s = c.args.settings.now in
+    let power : 2 ^ c.args.cube.now.kind.bits ≤ 2 ^ 16 = pow_mono (c.is_cube.ensures.bits.1) in
+    let small = central_within s.predictor c.args.cube.now c.is_cube.ensures c.args.y c.args.x c.requires.later (wide g d) s.band c.requires.place in
+    rw (to_z-of_z c.ranges.own, c.requires.own_is) (omega (arith, power, small))
 
 pub follow-requires-clause-differences_in : goal.follow-requires-clause-differences_in
 follow-requires-clause-differences_in g c =
