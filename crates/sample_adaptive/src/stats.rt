@@ -88,6 +88,11 @@ impl Stats {
         ensures refused { IfErr result (λ e. e ≡ WantOfMemory) }
         ensures bands { (length self.new.bands ≡ length self.old.bands) × (self.new.bits ≡ self.old.bits) }
     {
+        // The first number stands apart, so that `t` is looked at once.
+        if t == 0 {
+            let word = word_of(self.code(z, 0), delta);
+            return writer.push(word.bits, word.length);
+        }
         let word = word_of(self.code(z, t), delta);
         writer.push(word.bits, word.length)?;
         self.count(z, t, delta);

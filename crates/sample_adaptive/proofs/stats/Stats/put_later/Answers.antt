@@ -1,9 +1,9 @@
-use Rattle.std.proofs.Common.{◌≡◌, ◌+◌, ◌-◌, ◌*◌, ◌++◌, ◌∷◌, ◌<◌, [], List, Bool, ℕ, length, take, get_or, sym, ap, subst, ◌∙◌, arith}
-use Rattle.std.proofs.lemmas.List.{take_more, take_all, length-take, get_or_default}
+use Rattle.std.proofs.Common.{◌≡◌, ◌+◌, ◌++◌, ◌∷◌, ◌<◌, [], List, Bool, ℕ, length, take, get_or, sym, ap, subst, ◌∙◌, arith}
+use Rattle.std.proofs.lemmas.List.{take_more, take_all, get_or_default}
 use Rattle.sample_adaptive.specs.declared.statistics.Statistics.{Statistics}
 use Rattle.sample_adaptive.specs.Statistics.{AreStatistics, next_statistics, code_parameter}
 use Rattle.sample_adaptive.specs.Words.{code_word}
-use Rattle.sample_adaptive.specs.Taken.{Counts, PutsNumber, PutsRun, of_band, no_statistics}
+use Rattle.sample_adaptive.specs.Taken.{Counts, PutsRun, of_band, no_statistics}
 use Rattle.sample_adaptive.proofs.Counting.{counter_range, accumulator_range}
 use Rattle.sample_adaptive.proofs.Running.{with_band, run_none, run_later, run_behind, same_band}
 use Rattle.sample_adaptive.proofs.stats.Stats.put_later.Goals as goal

@@ -1,4 +1,4 @@
-use Rattle.std.proofs.Common.{◌≡◌, ◌+◌, ◌++◌, ◌∷◌, ◌<◌, [], List, Bool, ℕ, length, refl, sym, subst, ◌∙◌, arith}
+use Rattle.std.proofs.Common.{◌≡◌, ◌∷◌, [], List, Bool, ℕ, length, refl, sym, subst, arith}
 use Rattle.sample_adaptive.specs.Taken.{Counts, PutsNumber, PutsRun}
 use Rattle.sample_adaptive.proofs.Running.{run_none, run_one, run_behind}
 use Rattle.sample_adaptive.proofs.stats.Stats.put_run.Goals as goal
