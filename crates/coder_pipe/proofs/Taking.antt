@@ -1,17 +1,19 @@
--- What the coding end has taken of all predictors, number after number.
-use Rattle.std.proofs.Common.{◌≡◌, ◌+◌, ◌<◌, ℕ, Bool, true, false, List, [], ◌∷◌, ◌++◌, length, get_or, set, Some, None, refl, sym, ap, ◌∙◌, inl, inr, append-nil, length-append, length-set, get_or-set_same, get_or-set_other, arith}
+-- What the coding end has taken of all predictors, run after run.
+use Rattle.std.proofs.Common.{◌≡◌, ◌+◌, ◌^◌, ◌<◌, ◌≤◌, ℕ, zero, suc, Bool, true, false, List, [], ◌∷◌, ◌++◌, length, drop, get_or, set, Some, None, refl, sym, ap, ◌∙◌, inl, inr, append-nil, append_assoc, length-append, length-drop, length-set, get_or-set_same, get_or-set_other, arith}
 use Rattle.std.specs.Prelude.{◌==◌, if◌then◌else◌}
-use Rattle.std.specs.List.{All, slice_get}
+use Rattle.std.specs.List.{All, AllByRecursion, slice_get}
 use Rattle.std.proofs.lemmas.Bool.{cases_eq, eq-eqb, ne_eqb}
 use Rattle.std.proofs.lemmas.Option.{slice_get_within, slice_get-get_or, get_or_from_slice_get}
 use Rattle.cube_core.specs.Shape.{sample_count}
-use Rattle.cube_core.specs.Order.{IsOrder}
+use Rattle.cube_core.specs.Order.{IsOrder, places}
 use Rattle.cube_core.proofs.Orders.{length-places}
 use Rattle.header_bits.specs.declared.params.Params.{Params}
+use Rattle.header_bits.specs.Lawful.{IsLawful}
+use Rattle.file_coding.specs.Ends.{MayCodeAll}
 use Rattle.cube_predictors.specs.Weave.{IsDeal, owners, share, part}
 use Rattle.cube_predictors.proofs.Weaves.{part_none, part_push, part_short, owned, length-owners}
 use Rattle.coder_pipe.specs.Standings.{IsWoven}
-use Rattle.coder_pipe.specs.Woven.{Weaving, HasWoven}
+use Rattle.coder_pipe.specs.Woven.{Weaving, HasWoven, WeavesAll, AreOfOne}
 
 pub woven_first : (p : Params) (deal : List ℕ) (w : Weaving) (handed : List (List ℕ)) → HasWoven p deal w [] → All (λ r. r ≡ []) handed → IsWoven p deal w handed 0
 woven_first p deal w handed h none = record { numbers = []; woven = h; long = refl; parts = λ q lt. none q [] lt ∙ sym (part_none q (owners deal p)) }
@@ -34,26 +36,83 @@ pub fewer_taken : (p : Params) (deal : List ℕ) (w : Weaving) (handed : List (L
     → length (get_or handed owner []) < share owner (owners deal p)
 fewer_taken p deal w handed count owner h e lt = rw (h.parts owner lt) (part_short owner (length h.numbers) (owners deal p) h.numbers refl (sym e))
 
-one_more : (handed : List (List ℕ)) (os ns : List ℕ) (o n k : ℕ) → o < length handed → slice_get os (length ns) ≡ Some o → get_or handed k [] ≡ part k os ns → get_or handed o [] ≡ part o os ns → get_or (set handed o (get_or handed o [] ++ n ∷ [])) k [] ≡ part k os (ns ++ n ∷ [])
-one_more handed os ns o n k lt at here own =
-    let pushed = part_push k (length ns) os ns o n refl at in
+-- ---- runs
+
+-- so many places are of one owner, so there are so many
+pub run_fits : (p : Params) (deal numbers : List ℕ) (owner count : ℕ) → IsOrder p.shape p.order → Some owner ≡ slice_get (owners deal p) (length numbers) → AreOfOne (owners deal p) (length numbers) count → length numbers + count ≤ sample_count p.shape
+run_fits p deal numbers owner zero lawful e one = omega (arith, slice_get_within (owners deal p) (length numbers) owner (sym e), length-owners deal p, length-places p.shape p.order lawful)
+run_fits p deal numbers owner (suc count) lawful e one =
+    let last : slice_get (owners deal p) (length numbers + count) ≡ Some owner = one count (omega arith) ∙ sym e in
+    omega (arith, slice_get_within (owners deal p) (length numbers + count) owner last, length-owners deal p, length-places p.shape p.order lawful)
+
+-- and fewer of them are so, too
+pub fewer_of_one : (os : List ℕ) (n count less owner : ℕ) → AreOfOne os n count → less ≤ count → Some owner ≡ slice_get os n → (i : ℕ) → i < less → slice_get os (n + i) ≡ Some owner
+fewer_of_one os n count less owner one le e i lt = one i (omega (arith, lt, le)) ∙ sym e
+
+run_behind : (b : Bool) (before run : List ℕ) (n : ℕ) → (before ++ (if b then n ∷ [] else [])) ++ (if b then run else []) ≡ before ++ (if b then n ∷ run else [])
+run_behind true before run n = append_assoc before (n ∷ []) run
+run_behind false before run n = append-nil (before ++ [])
+
+none_behind : (b : Bool) (before : List ℕ) → before ≡ before ++ (if b then [] else [])
+none_behind true before = sym (append-nil before)
+none_behind false before = sym (append-nil before)
+
+-- a run of numbers of one owner stands behind its part, and the other parts stay
+part_run : (q owner : ℕ) (os ns run : List ℕ) → ((i : ℕ) → i < length run → slice_get os (length ns + i) ≡ Some owner) → part q os (ns ++ run) ≡ part q os ns ++ (if owner == q then run else [])
+part_run q owner os ns [] at = ap (λ xs. part q os xs) (append-nil ns) ∙ none_behind (owner == q) (part q os ns)
+part_run q owner os ns (n ∷ run) at =
+    let first : slice_get os (length ns) ≡ Some owner = let here : length ns + 0 ≡ length ns = omega arith in rw here at (at 0 (omega arith)) in
+    let grown : length (ns ++ n ∷ []) ≡ length ns + 1 = length-append ns (n ∷ []) in
+    let later : (i : ℕ) → i < length run → slice_get os (length (ns ++ n ∷ []) + i) ≡ Some owner = λ i lt. (let to : length (ns ++ n ∷ []) + i ≡ length ns + suc i = omega (arith, grown) in rw to (at (suc i) (omega (arith, lt)))) in
+    ap (λ xs. part q os xs) (sym (append_assoc ns (n ∷ []) run))
+    ∙ part_run q owner os (ns ++ n ∷ []) run later
+    ∙ ap (λ xs. xs ++ (if owner == q then run else [])) (part_push q (length ns) os ns owner n refl first)
+    ∙ run_behind (owner == q) (part q os ns) run n
+
+more_run : (handed : List (List ℕ)) (os ns run : List ℕ) (o k : ℕ) → o < length handed → ((i : ℕ) → i < length run → slice_get os (length ns + i) ≡ Some o) → get_or handed k [] ≡ part k os ns → get_or handed o [] ≡ part o os ns
+    → get_or (set handed o (get_or handed o [] ++ run)) k [] ≡ part k os (ns ++ run)
+more_run handed os ns run o k lt at here own =
+    let pushed = part_run k o os ns run at in
     elim (cases_eq k o) [
       | inl same ↦ (
           let test : (o == k) ≡ true = eq-eqb o k (sym same) in
-          let to : part k os (ns ++ n ∷ []) ≡ part k os ns ++ n ∷ [] = pushed ∙ ap (λ (b : Bool). part k os ns ++ (if b then n ∷ [] else [])) test in
-          ap (λ j. get_or (set handed o (get_or handed o [] ++ n ∷ [])) j []) same ∙ get_or-set_same handed o (get_or handed o [] ++ n ∷ []) [] lt ∙ ap (λ v. v ++ n ∷ []) own ∙ ap (λ j. part j os ns ++ n ∷ []) (sym same) ∙ sym to)
+          let to : part k os (ns ++ run) ≡ part k os ns ++ run = pushed ∙ ap (λ (b : Bool). part k os ns ++ (if b then run else [])) test in
+          ap (λ j. get_or (set handed o (get_or handed o [] ++ run)) j []) same ∙ get_or-set_same handed o (get_or handed o [] ++ run) [] lt ∙ ap (λ v. v ++ run) own ∙ ap (λ j. part j os ns ++ run) (sym same) ∙ sym to)
       | inr other ↦ (
           let test : (o == k) ≡ false = ne_eqb o k (λ e. other (sym e)) in
-          let to : part k os (ns ++ n ∷ []) ≡ part k os ns = pushed ∙ ap (λ (b : Bool). part k os ns ++ (if b then n ∷ [] else [])) test ∙ append-nil (part k os ns) in
-          get_or-set_other handed o k (get_or handed o [] ++ n ∷ []) [] other ∙ here ∙ sym to)
+          let to : part k os (ns ++ run) ≡ part k os ns = pushed ∙ ap (λ (b : Bool). part k os ns ++ (if b then run else [])) test ∙ append-nil (part k os ns) in
+          get_or-set_other handed o k (get_or handed o [] ++ run) [] other ∙ here ∙ sym to)
     ]
 
--- one more was taken
-pub woven_more : (p : Params) (deal : List ℕ) (old new : Weaving) (handed now : List (List ℕ)) (count owner number : ℕ) (h : IsWoven p deal old handed count) → Some owner ≡ slice_get (owners deal p) (length h.numbers) → owner < length handed
-    → now ≡ set handed owner (get_or handed owner [] ++ number ∷ []) → ((q : Params) (ds numbers : List ℕ) → HasWoven q ds old numbers → HasWoven q ds new (numbers ++ number ∷ [])) → IsWoven p deal new now (count + 1)
-woven_more p deal old new handed now count owner number h e lt is takes = record {
-  numbers = h.numbers ++ number ∷ [];
+-- a run was taken
+pub woven_run : (p : Params) (deal : List ℕ) (old new : Weaving) (handed now : List (List ℕ)) (count owner : ℕ) (run : List ℕ) (h : IsWoven p deal old handed count) → ((i : ℕ) → i < length run → slice_get (owners deal p) (length h.numbers + i) ≡ Some owner) → owner < length handed
+    → now ≡ set handed owner (get_or handed owner [] ++ run) → WeavesAll old new run → IsWoven p deal new now (count + length run)
+woven_run p deal old new handed now count owner run h at lt is takes = record {
+  numbers = h.numbers ++ run;
   woven = takes p deal h.numbers h.woven;
-  long = length-append h.numbers (number ∷ []) ∙ ap (λ n. n + 1) h.long;
-  parts = λ q below. ap (λ rs. get_or rs q []) is ∙ one_more handed (owners deal p) h.numbers owner number q lt (sym e) (h.parts q (omega (arith, below, ap (λ (rs : List (List ℕ)). length rs) is, length-set handed owner (get_or handed owner [] ++ number ∷ [])))) (h.parts owner lt);
+  long = length-append h.numbers run ∙ ap (λ n. n + length run) h.long;
+  parts = λ q below. ap (λ rs. get_or rs q []) is ∙ more_run handed (owners deal p) h.numbers run owner q lt at (h.parts q (omega (arith, below, ap (λ (rs : List (List ℕ)). length rs) is, length-set handed owner (get_or handed owner [] ++ run)))) (h.parts owner lt);
 }
+
+-- numbers at most so great are below a limit
+below_limit : (most limit : ℕ) (ns : List ℕ) → most + 1 ≡ limit → All (λ n. n ≤ most) ns → AllByRecursion (λ n. n < limit) ns
+below_limit most limit [] e h = tt
+below_limit most limit (n ∷ ns) e h = (omega (arith, e, h 0 n (omega arith)), below_limit most limit ns e (λ i d lt. h (suc i) d (omega (arith, lt))))
+
+-- a run may be taken
+pub may_take_run : (p : Params) (deal : List ℕ) (w : Weaving) (handed : List (List ℕ)) (count owner many most : ℕ) (run : List ℕ) (h : IsWoven p deal w handed count) → IsLawful p → Some owner ≡ slice_get (owners deal p) (length h.numbers) → AreOfOne (owners deal p) (length h.numbers) many
+    → length run ≤ many → most + 1 ≡ 2 ^ p.kind.bits → All (λ n. n ≤ most) run → MayCodeAll w.end run
+may_take_run p deal w handed count owner many most run h lawful e one le is range = record {
+  params = p;
+  numbers = h.numbers;
+  lawful = lawful;
+  coded = h.woven.coded;
+  more = omega (arith, le, run_fits p deal h.numbers owner many lawful.order e one);
+  range = below_limit most (2 ^ p.kind.bits) run is range;
+}
+
+-- fewer were taken than there are places, so a place is to come
+pub place_left : (p : Params) (deal : List ℕ) (w : Weaving) (handed : List (List ℕ)) (count : ℕ) → IsOrder p.shape p.order → IsWoven p deal w handed count → count < sample_count p.shape → 0 < length w.end.left
+place_left p deal w handed count lawful h lt =
+    let left : length w.end.left ≡ length (drop (length h.numbers) (places p.shape p.order)) = ap (λ (x : List _). length x) h.woven.coded.left in
+    omega (arith, left, h.long, lt, length-drop (length h.numbers) (places p.shape p.order), length-places p.shape p.order lawful)

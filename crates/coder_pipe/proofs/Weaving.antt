@@ -1,51 +1,121 @@
--- Whose residual the coding end of predictors wants, and what it has taken.
-use Rattle.std.proofs.Common.{◌≡◌, ◌<◌, ℕ, zero, suc, List, [], ◌∷◌, length, drop, get_or, Some, None, Result, Ok, Err, OnOk, OnErr, refl, sym, ap, ◌∙◌, length-drop, arith}
+-- Whose residuals the coding end of predictors wants, and what it has taken.
+use Rattle.std.proofs.Common.{◌≡◌, ◌+◌, ◌<◌, ◌≤◌, ℕ, zero, suc, true, List, [], ◌∷◌, length, take, drop, get_or, Some, None, Result, Ok, Err, OnOk, OnErr, refl, sym, ap, subst, ◌∙◌, length-append, arith}
 use Rattle.std.specs.Prelude.{option_map}
 use Rattle.std.specs.List.{slice_get}
-use Rattle.std.proofs.lemmas.List.{get_or_default}
+use Rattle.std.proofs.lemmas.List.{get_or_default, drop-drop}
 use Rattle.std.proofs.lemmas.Option.{slice_get-map}
 use Rattle.cube_core.specs.declared.fault.Fault.{Fault}
+use Rattle.cube_core.specs.declared.order.Order.{Order}
 use Rattle.cube_core.specs.declared.order.Place.{Place}
-use Rattle.cube_core.specs.Order.{places}
-use Rattle.cube_core.proofs.Keys.{order_is_by_key}
-use Rattle.cube_core.proofs.Orders.{length-places}
+use Rattle.cube_core.specs.Shape.{Sizes}
+use Rattle.cube_core.specs.Order.{IsPlaceOf, goes_along_rows, place_index, places}
+use Rattle.cube_core.proofs.Keys.{order_is_by_key, index_of_item}
+use Rattle.cube_core.proofs.Orders.{item_from_index, place_index_below}
+use Rattle.cube_core.proofs.Walks.{columns_along}
 use Rattle.header_bits.specs.declared.params.Params.{Params}
-use Rattle.file_coding.specs.Ends.{Ending, HasCoded, MayCode}
-use Rattle.file_coding.proofs.Endings.{none_first}
+use Rattle.file_coding.specs.Ends.{Ending, HasCoded, MayCodeAll, CodesAll}
 use Rattle.cube_predictors.specs.Weave.{owners, owners_of}
-use Rattle.coder_pipe.specs.Woven.{Weaving, AreDealt, HasWoven}
+use Rattle.coder_pipe.specs.Woven.{Weaving, IsAlong, HasWoven, WeavesAll, AreOfOne}
 
-get-drop : {A : Type 0} (xs : List A) (n : ℕ) → slice_get (drop n xs) 0 ≡ slice_get xs n
-get-drop [] zero = refl
-get-drop [] (suc n) = refl
-get-drop (x ∷ xs) zero = refl
-get-drop (x ∷ xs) (suc n) = get-drop xs n
+get-drop : {A : Type 0} (xs : List A) (n i : ℕ) → slice_get (drop n xs) i ≡ slice_get xs (n + i)
+get-drop [] zero i = refl
+get-drop [] (suc n) zero = refl
+get-drop [] (suc n) (suc i) = refl
+get-drop (x ∷ xs) zero i = let e : 0 + i ≡ i = omega arith in rw e refl
+get-drop (x ∷ xs) (suc n) i = let e : suc n + i ≡ suc (n + i) = omega arith in rw e (get-drop xs n i)
 
--- the owner of the next place
-pub wanted : (p : Params) (deal numbers : List ℕ) (e : Ending) → HasCoded p e numbers → slice_get (owners deal p) (length numbers) ≡ option_map (λ q. get_or deal q.z 0) (slice_get e.left 0)
+-- the owners of the places that come next
+pub wanted : (p : Params) (deal numbers : List ℕ) (e : Ending) (i : ℕ) → HasCoded p e numbers → slice_get (owners deal p) (length numbers + i) ≡ option_map (λ q. get_or deal q.z 0) (slice_get e.left i)
 unfolding owners_of
-wanted p deal numbers e h =
-    slice_get-map (λ q. get_or deal q.z 0) (places p.shape p.order) (length numbers)
-    ∙ ap (option_map (λ q. get_or deal q.z 0)) (sym (get-drop (places p.shape p.order) (length numbers)) ∙ ap (λ left. slice_get left 0) (sym h.left))
+wanted p deal numbers e i h =
+    slice_get-map (λ q. get_or deal q.z 0) (places p.shape p.order) (length numbers + i)
+    ∙ ap (option_map (λ q. get_or deal q.z 0)) (sym (get-drop (places p.shape p.order) (length numbers) i) ∙ ap (λ left. slice_get left i) (sym h.left))
+
+wanted_first : (p : Params) (deal numbers : List ℕ) (e : Ending) → HasCoded p e numbers → slice_get (owners deal p) (length numbers) ≡ option_map (λ q. get_or deal q.z 0) (slice_get e.left 0)
+wanted_first p deal numbers e h = let at : length numbers + 0 ≡ length numbers = omega arith in rw at at (wanted p deal numbers e 0 h)
 
 -- none is wanted where no place is to come
 pub wants_none : (w : Weaving) → None ≡ slice_get w.end.left 0 → (p : Params) (deal numbers : List ℕ) → HasWoven p deal w numbers → None ≡ slice_get (owners deal p) (length numbers)
-wants_none w none p deal numbers h = sym (wanted p deal numbers w.end h.coded ∙ ap (option_map (λ q. get_or deal q.z 0)) (sym none))
+wants_none w none p deal numbers h = sym (wanted_first p deal numbers w.end h.coded ∙ ap (option_map (λ q. get_or deal q.z 0)) (sym none))
+
+-- the next place is one of the image's, of a band that is dealt
+pub place_within : (s : Sizes) (o : Order) (w : Weaving) (place : Place) → IsAlong s o w → Some place ≡ slice_get w.end.left 0 → IsPlaceOf s place × (place.z < length w.deal)
+place_within s o w place h next =
+    let there : IsPlaceOf s place = (order_is_by_key s o h.order).only (h.gone + 0) place (sym (get-drop (places s o) h.gone 0) ∙ ap (λ left. slice_get left 0) (sym h.left) ∙ sym next) in
+    (there, omega (arith, h.whole, there.band))
 
 -- and else the owner of the place that comes next
-pub wants_some : (w : Weaving) (place : Place) (owner d : ℕ) → AreDealt w → Some place ≡ slice_get w.end.left 0 → owner ≡ get_or w.deal place.z d → (p : Params) (deal numbers : List ℕ) → HasWoven p deal w numbers → Some owner ≡ slice_get (owners deal p) (length numbers)
-wants_some w place owner d dealt next is p deal numbers h =
-    let at : owner ≡ get_or deal place.z 0 = is ∙ get_or_default w.deal place.z d 0 (dealt 0 place (sym next)) ∙ ap (λ ds. get_or ds place.z 0) h.dealt in
-    sym (wanted p deal numbers w.end h.coded ∙ ap (option_map (λ q. get_or deal q.z 0)) (sym next) ∙ ap (λ o. Some o) (sym at))
+pub wants_some : (s : Sizes) (o : Order) (w : Weaving) (place : Place) (owner d : ℕ) → IsAlong s o w → Some place ≡ slice_get w.end.left 0 → owner ≡ get_or w.deal place.z d → (p : Params) (deal numbers : List ℕ) → HasWoven p deal w numbers → Some owner ≡ slice_get (owners deal p) (length numbers)
+wants_some s o w place owner d along next is p deal numbers h =
+    let at : owner ≡ get_or deal place.z 0 = is ∙ get_or_default w.deal place.z d 0 (place_within s o w place along next).1 ∙ ap (λ ds. get_or ds place.z 0) h.dealt in
+    sym (wanted_first p deal numbers w.end h.coded ∙ ap (option_map (λ q. get_or deal q.z 0)) (sym next) ∙ ap (λ o. Some o) (sym at))
 
--- all places are of bands that are dealt
-pub all_dealt : (p : Params) (e : Ending) (deal : List ℕ) → HasCoded p e [] → length deal ≡ p.shape.bands → (i : ℕ) (place : Place) → slice_get e.left i ≡ Some place → place.z < length deal
-all_dealt p e deal h whole i place at =
-    let there = (order_is_by_key p.shape p.order h.order).only i place (ap (λ left. slice_get left i) (sym h.left) ∙ at) in
-    omega (arith, whole, there.band)
+-- ---- runs
 
--- and so are those behind the next one
-pub dealt_more : (r : Result (Unit {0}) Fault) (deal : List ℕ) (old new : Ending) (next : Place) → OnOk r (old.left ≡ next ∷ new.left) → OnErr r (new ≡ old) → ((i : ℕ) (place : Place) → slice_get old.left i ≡ Some place → place.z < length deal)
-    → (i : ℕ) (place : Place) → slice_get new.left i ≡ Some place → place.z < length deal
-dealt_more (Ok u) deal old new next moved same dealt i place at = dealt (suc i) place (ap (λ left. slice_get left (suc i)) moved ∙ at)
-dealt_more (Err e) deal old new next moved same dealt i place at = dealt i place (ap (λ (w : Ending). slice_get w.left i) (sym same) ∙ at)
+-- places that come next and are of bands dealt to one predictor
+pub owned_by_one : (w : Weaving) (place : Place) (count : ℕ) → Some place ≡ slice_get w.end.left 0 → ((i : ℕ) → i < count → (q : Place) × (slice_get w.end.left i ≡ Some q) × (get_or w.deal q.z 0 ≡ get_or w.deal place.z 0))
+    → (p : Params) (deal numbers : List ℕ) → HasWoven p deal w numbers → AreOfOne (owners deal p) (length numbers) count
+owned_by_one w place count next alike p deal numbers h i lt =
+    let q = alike i lt in
+    let same : get_or deal (q.0).z 0 ≡ get_or deal place.z 0 = ap (λ ds. get_or ds (q.0).z 0) (sym h.dealt) ∙ q.2 ∙ ap (λ ds. get_or ds place.z 0) h.dealt in
+    wanted p deal numbers w.end i h.coded ∙ ap (option_map (λ r. get_or deal r.z 0)) q.1 ∙ ap (λ n. Some n) same
+    ∙ sym (wanted_first p deal numbers w.end h.coded ∙ ap (option_map (λ r. get_or deal r.z 0)) (sym next))
+
+-- where places go along rows, those of the row come next
+row_next : (s : Sizes) (o : Order) (w : Weaving) (place : Place) (i : ℕ) → IsAlong s o w → goes_along_rows o ≡ true → Some place ≡ slice_get w.end.left 0 → place.x + i < s.columns
+    → slice_get w.end.left i ≡ Some (record { z = place.z; y = place.y; x = place.x + i })
+row_next s o w place i h along next more =
+    let q : Place = record { z = place.z; y = place.y; x = place.x + i } in
+    let item : slice_get (places s o) (h.gone + 0) ≡ Some place = sym (get-drop (places s o) h.gone 0) ∙ ap (λ left. slice_get left 0) (sym h.left) ∙ sym next in
+    let there : IsPlaceOf s place = (order_is_by_key s o h.order).only (h.gone + 0) place item in
+    let at : place_index s o place ≡ h.gone + 0 = index_of_item s o place (h.gone + 0) h.order item in
+    let on = columns_along s o place i along there in
+    let behind : IsPlaceOf s (record { z = place.z; y = place.y; x = place.x + i }) = record { band = there.band; row = there.row; column = more } in
+    let below = place_index_below s o (record { z = place.z; y = place.y; x = place.x + i }) h.order behind in
+    ap (λ left. slice_get left i) h.left ∙ get-drop (places s o) h.gone i
+    ∙ item_from_index s o (record { z = place.z; y = place.y; x = place.x + i }) (h.gone + i) h.order behind (on ∙ omega (arith, at)) (omega (arith, at, on, below))
+
+pub row_owned : (s : Sizes) (o : Order) (w : Weaving) (place : Place) (count : ℕ) → IsAlong s o w → goes_along_rows o ≡ true → Some place ≡ slice_get w.end.left 0 → place.x + count ≤ s.columns
+    → (p : Params) (deal numbers : List ℕ) → HasWoven p deal w numbers → AreOfOne (owners deal p) (length numbers) count
+row_owned s o w place count h along next fits =
+    owned_by_one w place count next (λ i lt. (record { z = place.z; y = place.y; x = place.x + i }, row_next s o w place i h along next (omega (arith, lt, fits)), refl))
+
+pub none_of_one : (w : Weaving) (p : Params) (deal numbers : List ℕ) → HasWoven p deal w numbers → AreOfOne (owners deal p) (length numbers) 0
+none_of_one w p deal numbers h i lt = absurd (omega (arith, lt))
+
+pub first_of_one : (w : Weaving) (p : Params) (deal numbers : List ℕ) → HasWoven p deal w numbers → AreOfOne (owners deal p) (length numbers) 1
+first_of_one w p deal numbers h i lt = let at : length numbers + i ≡ length numbers = omega (arith, lt) in ap (λ n. slice_get (owners deal p) n) at
+
+-- ---- along the places
+
+-- it has taken nothing
+pub along_first : (p : Params) (e : Ending) (deal : List ℕ) → HasCoded p e [] → length deal ≡ p.shape.bands → IsAlong p.shape p.order (record { end = e; deal = deal })
+along_first p e deal h whole = record { order = h.order; whole = whole; gone = 0; left = h.left }
+
+-- so many places have gone by
+pub along_more : (s : Sizes) (o : Order) (deal : List ℕ) (old new : Ending) (count : ℕ) → new.left ≡ drop count old.left → IsAlong s o (record { end = old; deal = deal }) → IsAlong s o (record { end = new; deal = deal })
+along_more s o deal old new count moved h = record { order = h.order; whole = h.whole; gone = h.gone + count; left = moved ∙ ap (drop count) h.left ∙ drop-drop count h.gone (places s o) }
+
+pub along_one : (r : Result (Unit {0}) Fault) (s : Sizes) (o : Order) (deal : List ℕ) (old new : Ending) (next : Place) → OnOk r (old.left ≡ next ∷ new.left) → OnErr r (new ≡ old) → IsAlong s o (record { end = old; deal = deal }) → IsAlong s o (record { end = new; deal = deal })
+along_one (Ok u) s o deal old new next moved same h = along_more s o deal old new 1 (sym (ap (drop 1) moved)) h
+along_one (Err e) s o deal old new next moved same h = subst (λ (w : Ending). IsAlong s o (record { end = w; deal = deal })) (sym same) h
+
+-- numbers were taken
+codes_move : (old new : Ending) (list more : List ℕ) → MayCodeAll old list → CodesAll old new more → new.left ≡ drop (length more) old.left
+codes_move old new list more may codes =
+    let all : List Place = places may.params.shape may.params.order in
+    let now = codes may.params may.numbers may.coded in
+    now.left ∙ ap (λ n. drop n (places may.params.shape may.params.order)) (length-append may.numbers more) ∙ sym (drop-drop (length more) (length may.numbers) (places may.params.shape may.params.order)) ∙ ap (drop (length more)) (sym may.coded.left)
+
+weaves : (deal : List ℕ) (old new : Ending) (list : List ℕ) → CodesAll old new list → WeavesAll (record { end = old; deal = deal }) (record { end = new; deal = deal }) list
+weaves deal old new list codes p ds numbers h = record { coded = codes p numbers h.coded; dealt = h.dealt }
+
+pub weaves_some : (r : Result (Unit {0}) Fault) (deal : List ℕ) (old new : Ending) (list : List ℕ) → OnErr r ((n : ℕ) × (n < length list) × CodesAll old new (take n list))
+    → OnErr r ((n : ℕ) × (n < length list) × WeavesAll (record { end = old; deal = deal }) (record { end = new; deal = deal }) (take n list))
+weaves_some (Ok u) deal old new list some = tt
+weaves_some (Err e) deal old new list some = (some.0, some.1, weaves deal old new (take some.0 list) some.2)
+
+pub along_all : (r : Result (Unit {0}) Fault) (s : Sizes) (o : Order) (deal : List ℕ) (old new : Ending) (list : List ℕ) → MayCodeAll old list → OnOk r (CodesAll old new list) → OnErr r ((n : ℕ) × (n < length list) × CodesAll old new (take n list))
+    → IsAlong s o (record { end = old; deal = deal }) → IsAlong s o (record { end = new; deal = deal })
+along_all (Ok u) s o deal old new list may whole some h = along_more s o deal old new (length list) (codes_move old new list list may whole) h
+along_all (Err e) s o deal old new list may whole some h = along_more s o deal old new (length (take some.0 list)) (codes_move old new list (take some.0 list) may some.2) h

@@ -1,6 +1,8 @@
 -- The coding end of predictors: which numbers it has taken, and whose the next one is.
-use Rattle.std.specs.Prelude.{ℕ, ◌≡◌, ◌<◌, List, length, Some, slice_get}
-use Rattle.cube_core.specs.declared.order.Place.{Place}
+use Rattle.std.specs.Prelude.{ℕ, ◌≡◌, ◌+◌, ◌<◌, List, ◌++◌, length, drop, slice_get}
+use Rattle.cube_core.specs.declared.order.Order.{Order}
+use Rattle.cube_core.specs.Shape.{Sizes}
+use Rattle.cube_core.specs.Order.{IsOrder, places}
 use Rattle.header_bits.specs.declared.params.Params.{Params}
 use Rattle.file_coding.specs.Ends.{Ending, HasCoded}
 
@@ -9,11 +11,22 @@ pub record Weaving : Type 0 where
   pub end : Ending
   pub deal : List ℕ
 
--- each place to come is of a band that is dealt
-abbrev pub AreDealt : Weaving → Type 0
-AreDealt w = (i : ℕ) (place : Place) → slice_get w.end.left i ≡ Some place → place.z < length w.deal
+-- the places to come are the last of such an image's, and each of its bands is dealt
+pub record IsAlong (s : Sizes) (o : Order) (w : Weaving) : Type 0 where
+  pub order : IsOrder s o
+  pub whole : length w.deal ≡ s.bands
+  pub gone : ℕ
+  pub left : w.end.left ≡ drop gone (places s o)
 
 -- the weaver of parameters and a deal has taken the numbers, in encoding order
 pub record HasWoven (p : Params) (deal : List ℕ) (w : Weaving) (numbers : List ℕ) : Type 0 where
   pub coded : HasCoded p w.end numbers
   pub dealt : w.deal ≡ deal
+
+-- whatever numbers it had taken, it has taken these behind them
+abbrev pub WeavesAll : Weaving → Weaving → List ℕ → Type 0
+WeavesAll old new list = (p : Params) (deal numbers : List ℕ) → HasWoven p deal old numbers → HasWoven p deal new (numbers ++ list)
+
+-- the owners of so many places from the n-th on are one
+abbrev pub AreOfOne : List ℕ → ℕ → ℕ → Type 0
+AreOfOne owners n count = (i : ℕ) → i < count → slice_get owners (n + i) ≡ slice_get owners n

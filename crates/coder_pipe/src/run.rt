@@ -1,6 +1,6 @@
 //! All workers of a pipeline: started, woven and joined.
 
-ghost use Rattle.std.specs.Prelude.{◌≡◌, ℕ, ◌-◌, ◌<◌, ◌≤◌, ◌⊎◌, ◌^◌, [], ◌∷◌, ◌++◌, List, length, map, All, IfOk, IfErr, Some, None, IfSome, IfNone, IsTrue, vec_len, vec_capacity, slice_index_or, slice_set};
+ghost use Rattle.std.specs.Prelude.{◌≡◌, ℕ, ◌-◌, ◌<◌, ◌≤◌, ◌⊎◌, ◌^◌, [], ◌∷◌, ◌++◌, List, length, map, All, IfOk, IfErr, Some, None, IfSome, IfNone, IsTrue, take, vec_len, vec_capacity, slice_index_or, slice_set};
 ghost use Rattle.std.specs.Prelude.{◌+◌};
 ghost use Rattle.cube_core.specs.Kind.{IsKind};
 ghost use Rattle.cube_core.specs.Shape.{sample_count};
@@ -36,33 +36,53 @@ pub(crate) enum Woven {
     Memory,
 }
 
-/// Waits for the next residual of a predictor, which is at most so great; or says after how many it was stopped.
+/// How many residuals are taken at once at most.
+const MOST_RUN: usize = 64;
+
+/// Waits for the next residuals of a predictor, each of which is at most so great, and hands them on into the front of a run, at least one; or says
+/// after how many it was stopped.
 fn next_of<R: Threads + Wait, F: Feed, G: Gate>(
     rt: &R,
     stages: &mut Vec<Stage<F, G>>,
     q: usize,
     over: &AtomicBool,
     most: u16,
-) -> Result<u16, u64>
+    run: &mut [u16],
+) -> Result<usize, u64>
     requires place { q < vec_len stages.old }
+    requires room { 0 < length run.old }
     requires short { (f : _) → length (slice_index_or (handed_of stages.old.items) q []) < length (F.items (slice_index_or (feeds_of stages.old.items) q f)) }
     requires range { (f : _) → All (λ n. n ≤ most) (F.items (slice_index_or (feeds_of stages.old.items) q f)) }
     ensures feeds { feeds_of stages.new.items ≡ feeds_of stages.old.items }
     ensures gates { gates_of stages.new.items ≡ gates_of stages.old.items }
     ensures len { vec_len stages.new ≡ vec_len stages.old }
-    ensures ok { IfOk result (λ residual. handed_of stages.new.items ≡ slice_set (handed_of stages.old.items) q (slice_index_or (handed_of stages.old.items) q [] ++ residual ∷ [])) }
-    ensures most { IfOk result (λ residual. residual ≤ most) }
+    ensures within { IfOk result (λ count. (0 < count) × (count ≤ length run.old)) }
+    ensures ok { IfOk result (λ count. handed_of stages.new.items ≡ slice_set (handed_of stages.old.items) q (slice_index_or (handed_of stages.old.items) q [] ++ take count run.new)) }
+    ensures most { IfOk result (λ count. All (λ n. n ≤ most) (take count run.new)) }
     ensures err { IfErr result (λ n. (f : _) (g : _) → IsTrue (G.may_stop (slice_index_or (gates_of stages.old.items) q g) (F.predictor (slice_index_or (feeds_of stages.old.items) q f)) n) × (n < length (F.items (slice_index_or (feeds_of stages.old.items) q f)))) }
 {
     let stage = &mut stages[q];
-    let Some(residual) = stage.next(rt, over) else {
+    let count = stage.next_run(rt, over, run);
+    if count == 0 {
         return Err(stage.stopped_at());
-    };
-    if residual > most {
-        no_such_number(rt, stages, q, residual, most);
+    }
+    if greatest_of(&run[..count]) > most {
+        no_such_number(rt, stages, q, most);
         unreachable!()
     }
-    Ok(residual)
+    Ok(count)
+}
+
+/// The greatest of some numbers; 0 where there are none.
+fn greatest_of(numbers: &[u16]) -> u16
+    ensures bound { All (λ n. n ≤ result) numbers.now }
+    ensures least { (most : ℕ) → All (λ n. n ≤ most) numbers.now → result ≤ most }
+{
+    let mut greatest = 0;
+    for i in 0..numbers.len() {
+        greatest = greatest.max(numbers[i]);
+    }
+    greatest
 }
 
 /// A number greater than any of a feed is never handed on: joining the worker shows that it wasn't sent.
@@ -72,19 +92,17 @@ fn no_such_number<R: Threads, F: Feed, G: Gate>(
     rt: &R,
     stages: &mut Vec<Stage<F, G>>,
     q: usize,
-    number: u16,
     most: u16,
 )
     requires place { q < vec_len stages.old }
     requires list { (s : _) → All (λ n. n ≤ most) (F.items (slice_index_or stages.old.items q s).feed) }
-    requires last { (s : _) → (before : List ℕ) × ((slice_index_or stages.old.items q s).handed ≡ before ++ number ∷ []) }
-    requires above { most < number }
+    requires above { (s : _) → All (λ n. n ≤ most) (slice_index_or stages.old.items q s).handed → ⊥ }
     ensures { ⊥ }
 {
-    stages.swap_remove(q).never(rt, number, most);
+    stages.swap_remove(q).never(rt, most);
 }
 
-/// Takes a residual for each place, from the lane of its predictor.
+/// Takes a residual for each place, from the lane of its predictor, run after run.
 pub(crate) fn weave<R: Threads + Wait, F: Feed, G: Gate>(
     rt: &R,
     plan: &Plan,
@@ -104,17 +122,21 @@ pub(crate) fn weave<R: Threads + Wait, F: Feed, G: Gate>(
 {
     plan.is_plan();
     let most = greatest(plan.params().kind);
-    for i in 0..plan.params().shape.sample_count() {
-        let _place = i;
+    let total = plan.params().shape.sample_count();
+    let mut run = [0; MOST_RUN];
+    let mut taken = 0;
+    while taken < total {
         let Some(owner) = weaver.wants() else {
             unreachable!()
         };
         let q = owner as usize;
-        match next_of(rt, stages, q, &overs[q], most) {
-            Ok(residual) => {
-                let Ok(()) = weaver.take(residual) else {
+        let wanted = weaver.wanted_run(MOST_RUN);
+        match next_of(rt, stages, q, &overs[q], most, &mut run[..wanted]) {
+            Ok(count) => {
+                let Ok(()) = weaver.take_all(&run[..count]) else {
                     return Woven::Memory;
                 };
+                taken += count as u64;
             }
             Err(sent) => return Woven::Stopped(owner, sent),
         }

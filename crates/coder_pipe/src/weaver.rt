@@ -1,14 +1,16 @@
 //! The coding end of predictors: it weaves what they send along the encoding order, and codes it.
 
-ghost use Rattle.std.specs.Prelude.{◌≡◌, ℕ, List, [], ◌∷◌, ◌++◌, length, slice_get, IfOk, IfErr, OnOk, OnErr};
+ghost use Rattle.std.specs.Prelude.{◌≡◌, ◌<◌, ◌≤◌, ℕ, List, [], ◌∷◌, ◌++◌, length, take, slice_get, IfOk, IfErr, OnOk, OnErr};
 ghost use Rattle.cube_core.specs.declared.fault.Fault.TheVariants.{WantOfMemory};
 ghost use Rattle.header_bits.specs.declared.params.Params.{Params as Parameters};
-ghost use Rattle.file_coding.specs.Ends.{MayCode};
+ghost use Rattle.file_coding.specs.Ends.{MayCode, MayCodeAll};
 ghost use Rattle.file_coding.specs.File.{file_of_residuals};
 ghost use Rattle.cube_predictors.specs.Weave.{owners};
-ghost use Rattle.coder_pipe.specs.Woven.{HasWoven};
+ghost use Rattle.coder_pipe.specs.Woven.{AreOfOne, HasWoven, WeavesAll};
 
 use cube_core::fault::Fault;
+use cube_core::order::Order;
+use cube_core::shape::Shape;
 use cube_predictors::plan::Plan;
 use file_coding::coding_end::CodingEnd;
 use header_bits::params::Params;
@@ -22,16 +24,18 @@ use std::marker::Model;
 pub struct Weaver {
     end: CodingEnd,
     deal: Vec<u8>,
+    shape: Shape,
+    order: Order,
 }
 
 impl Model for Weaver {
-    ghost use Rattle.coder_pipe.specs.Woven.{Weaving, AreDealt};
+    ghost use Rattle.coder_pipe.specs.Woven.{Weaving, IsAlong};
 
     ghost Value = { Weaving };
 
     ghost view = { λ w. record { end = w.end; deal = w.deal.items } };
 
-    ghost invariant = { λ w. AreDealt (record { end = w.end; deal = w.deal.items }) };
+    ghost invariant = { λ w. IsAlong w.shape w.order (record { end = w.end; deal = w.deal.items }) };
 }
 
 impl Weaver {
@@ -48,6 +52,8 @@ impl Weaver {
         Ok(Weaver {
             end: CodingEnd::new(alloc, params)?,
             deal: plan.deal().to_vec(alloc)?,
+            shape: params.shape,
+            order: params.order,
         })
     }
 
@@ -57,6 +63,24 @@ impl Weaver {
     {
         let place = self.end.place()?;
         Some(u32::from(self.deal[place.z as usize]))
+    }
+
+    /// Of how many places that come next the residuals are wanted from one predictor, at most so many: where places go along rows, those of the row.
+    /// It is at least one where one is wanted.
+    pub fn wanted_run(&self, most: usize) -> usize
+        requires { 0 < most }
+        ensures most { result ≤ most }
+        ensures owned { (p : Parameters) (deal numbers : List ℕ) → HasWoven p deal self.now numbers → AreOfOne (owners deal p) (length numbers) result }
+        ensures some { 0 < length self.now.end.left → 0 < result }
+    {
+        let Some(place) = self.end.place() else {
+            return 0;
+        };
+        if self.order.goes_along_rows() {
+            most.min((self.shape.columns() - place.x) as usize)
+        } else {
+            1
+        }
     }
 
     /// Takes the next residual, which is at most 2^D - 1; fewer were taken than there are samples.
@@ -74,6 +98,18 @@ impl Weaver {
         self.end.put(place, residual)
     }
 
+    /// Takes the next residuals, each of which is at most 2^D - 1; as many at least are still to come.
+    ///
+    /// After `WantOfMemory` the first of them were taken, as many as there was memory for.
+    pub fn take_all(&mut self, residuals: &[u16]) -> Result<(), Fault>
+        requires { MayCodeAll self.old.end residuals.now }
+        ensures woven { OnOk result (WeavesAll self.old self.new residuals.now) }
+        ensures some { OnErr result ((n : ℕ) × (n < length residuals.now) × WeavesAll self.old self.new (take n residuals.now)) }
+        ensures refused { IfErr result (λ e. e ≡ WantOfMemory) }
+    {
+        self.end.put_all(residuals)
+    }
+
     /// The bytes of the file, once a residual was taken for each sample.
     ///
     /// `WantOfMemory` where they aren't had.
@@ -82,7 +118,12 @@ impl Weaver {
         ensures file { IfOk result (λ bytes. (p : Parameters) (deal numbers : List ℕ) → HasWoven p deal self numbers → bytes.items ≡ file_of_residuals numbers p) }
         ensures refused { IfErr result (λ e. e ≡ WantOfMemory) }
     {
-        let Weaver { end, deal: _ } = self;
+        let Weaver {
+            end,
+            deal: _,
+            shape: _,
+            order: _,
+        } = self;
         end.finish()
     }
 }

@@ -1,8 +1,7 @@
 -- What stands before the numbers at the end of a list.
-use Rattle.std.proofs.Common.{◌≡◌, ℕ, List, [], ◌∷◌, ◌++◌, ◌-◌, length, arith, sym, ap, subst, ◌∙◌, length-append, Option, Some, None, IfSome, IfNone}
-use Rattle.std.proofs.lemmas.List.{append_assoc, append-nil}
-use Rattle.std.proofs.Math.Seq.{take-append_seam}
-use mathlib.Core.List.{IsPrefix}
+use Rattle.std.proofs.Common.{◌≡◌, ◌≤◌, ℕ, List, ◌++◌, ◌+◌, ◌-◌, length, take, drop, arith, sym, ap, ◌∙◌, length-append}
+use Rattle.std.proofs.lemmas.List.{append_assoc, drop-drop}
+use Rattle.std.proofs.Math.Seq.{take-add, take-append_seam}
 use Rattle.lane_workers.specs.Runs.{before}
 
 pub before_append : (front last : List ℕ) → before (front ++ last) last ≡ front
@@ -10,20 +9,21 @@ before_append front last =
     let e : length (front ++ last) - length last ≡ length front = omega (arith, length-append front last) in
     rw e (take-append_seam front last)
 
--- one of the numbers at the end is handed on
-pub before_next : (all front later : List ℕ) (n : ℕ) → all ≡ front ++ n ∷ later → (before all later ≡ front ++ n ∷ []) × (all ≡ before all later ++ later)
-before_next all front later n e =
-    let parted : all ≡ (front ++ n ∷ []) ++ later = e ∙ sym (append_assoc front (n ∷ []) later) in
-    let here : before all later ≡ front ++ n ∷ [] = ap (λ ns. before ns later) parted ∙ before_append (front ++ n ∷ []) later in
+-- some of the numbers at the end are handed on
+pub before_run : (all front last run later : List ℕ) → all ≡ front ++ last → last ≡ run ++ later → (before all later ≡ front ++ run) × (all ≡ before all later ++ later)
+before_run all front last run later e parts =
+    let parted : all ≡ (front ++ run) ++ later = e ∙ ap (λ ns. front ++ ns) parts ∙ sym (append_assoc front run later) in
+    let here : before all later ≡ front ++ run = ap (λ ns. before ns later) parted ∙ before_append (front ++ run) later in
     (here, parted ∙ ap (λ ns. ns ++ later) (sym here))
 
--- numbers come behind all that were handed on, and the first of them is handed on, if there is one
-pub before_first : (all front last later known more : List ℕ) (first : Option ℕ) → all ≡ front ++ last → IsPrefix known (last ++ more) → IfSome first (λ n. last ≡ n ∷ later) → IfNone first ((last ≡ []) × (later ≡ []))
-    → (all ≡ before all later ++ later) × IfSome first (λ n. (before all later ≡ front ++ n ∷ []) × IsPrefix known (n ∷ (later ++ more))) × IfNone first (before all later ≡ front)
-before_first all front last later known more (Some n) e seen some none =
-    let both = before_next all front later n (e ∙ ap (λ ns. front ++ ns) some) in
-    (both.1, (both.0, subst (λ ns. IsPrefix known (ns ++ more)) some seen), tt)
-before_first all front last later known more None e seen some none =
-    let whole : all ≡ front = e ∙ ap (λ ns. front ++ ns) none.0 ∙ append-nil front in
-    let here : before all later ≡ front = ap (λ ns. before all ns) none.1 ∙ ap (λ ns. before ns []) (whole ∙ sym (append-nil front)) ∙ before_append front [] in
-    (whole ∙ sym here ∙ sym (append-nil (before all later)) ∙ ap (λ ns. before all later ++ ns) (sym none.1), tt, here)
+-- of the numbers from one place up to another, the first are copied to the front of a run
+pub first_of_room : (numbers copied behind : List ℕ) (first end count : ℕ) → count ≤ end - first → length copied ≡ count → copied ≡ take count (drop first numbers)
+    → take (end - first) (drop first numbers) ≡ take count (copied ++ behind) ++ take (end - (first + count)) (drop (first + count) numbers)
+first_of_room numbers copied behind first end count within long same =
+    let left : end - (first + count) ≡ end - first - count = omega arith in
+    let parts : end - first ≡ count + (end - first - count) = omega (arith, within) in
+    let front : take count (copied ++ behind) ≡ copied = ap (λ n. take n (copied ++ behind)) (sym long) ∙ take-append_seam copied behind in
+    ap (λ n. take n (drop first numbers)) parts ∙ take-add count (end - first - count) (drop first numbers)
+    ∙ ap (λ ns. take count (drop first numbers) ++ take (end - first - count) ns) (drop-drop count first numbers)
+    ∙ ap (λ ns. ns ++ take (end - first - count) (drop (first + count) numbers)) (sym same ∙ sym front)
+    ∙ ap (λ n. take count (copied ++ behind) ++ take n (drop (first + count) numbers)) (sym left)

@@ -1,6 +1,6 @@
 //! Numbers that were received and are not yet handed on.
 
-ghost use Rattle.std.specs.Prelude.{◌≡◌, [], ◌∷◌, ◌++◌, IfSome, IfNone};
+ghost use Rattle.std.specs.Prelude.{◌≡◌, ◌<◌, ◌≤◌, [], ◌++◌, length, take};
 ghost use mathlib.Core.List.{IsPrefix};
 
 use band_rings::receiver::LaneReceiver;
@@ -40,18 +40,16 @@ impl Room {
         }
     }
 
-    /// Hands on the first number.
-    #[inline(always)]
-    pub(crate) fn next(&mut self) -> Option<u16>
-        ensures handed { IfSome result (λ number. self.old ≡ number ∷ self.new) }
-        ensures none { IfNone result ((self.old ≡ []) × (self.new ≡ [])) }
+    /// Hands on the first numbers, into the front of a run, in order, and answers how many: all that wait, or as many as the run holds.
+    pub(crate) fn next_run(&mut self, run: &mut [u16]) -> usize
+        ensures within { result ≤ length run.old }
+        ensures handed { self.old ≡ take result run.new ++ self.new }
+        ensures none { result ≡ 0 → 0 < length run.old → self.old ≡ [] }
     {
-        if self.first == self.end {
-            return None;
-        }
-        let number = self.numbers[self.first];
-        self.first += 1;
-        Some(number)
+        let count = run.len().min(self.end - self.first);
+        run[..count].copy_from_slice(&self.numbers[self.first..self.first + count]);
+        self.first += count;
+        count
     }
 
     /// Receives anew what is there to see of a lane. What waited is gone.

@@ -1,6 +1,6 @@
-//! Receivers that take numbers from their lane in runs, and hand them on one by one.
+//! Receivers that take numbers from their lane in runs, and hand them on in runs.
 
-ghost use Rattle.std.specs.Prelude.{◌≡◌, [], ◌∷◌, ◌++◌, length, IfSome, IfNone};
+ghost use Rattle.std.specs.Prelude.{◌≡◌, ◌<◌, ◌≤◌, [], ◌++◌, length, take};
 ghost use mathlib.Core.List.{IsPrefix};
 ghost use Rattle.band_rings.specs.Lane.{IsLane};
 
@@ -63,28 +63,21 @@ impl RunReceiver {
         }
     }
 
-    /// Hands on the next number that is in the room.
-    #[inline(always)]
-    pub fn next_held(&mut self) -> Option<u16>
+    /// Hands on the next numbers, into the front of a run, in order, and answers how many: none where none was there to see.
+    pub fn next_run(&mut self, run: &mut [u16]) -> usize
+        requires { 0 < length run.old }
         ensures lane { self.new.lane ≡ self.old.lane }
-        ensures received { IfSome result (λ number. (self.new.received ≡ self.old.received ++ number ∷ []) × (self.old.known ≡ number ∷ self.new.known)) }
-        ensures none { IfNone result (self.new ≡ self.old) }
+        ensures within { result ≤ length run.old }
+        ensures received { self.new.received ≡ self.old.received ++ take result run.new }
+        ensures seen { IsPrefix self.old.known (take result run.new ++ self.new.known) }
+        ensures none { result ≡ 0 → self.new.known ≡ [] }
     {
-        self.room.next()
-    }
-
-    /// Hands on the next number, or none where none was there to see.
-    #[inline(always)]
-    pub fn next(&mut self) -> Option<u16>
-        ensures lane { self.new.lane ≡ self.old.lane }
-        ensures received { IfSome result (λ number. (self.new.received ≡ self.old.received ++ number ∷ []) × IsPrefix self.old.known (number ∷ self.new.known)) }
-        ensures none { IfNone result ((self.new.received ≡ self.old.received) × (self.old.known ≡ []) × (self.new.known ≡ [])) }
-    {
-        if let Some(number) = self.room.next() {
-            return Some(number);
+        let count = self.room.next_run(run);
+        if count > 0 {
+            return count;
         }
         self.room.fill(&mut self.receiver);
-        self.room.next()
+        self.room.next_run(run)
     }
 
     /// Receives what is there to see, up to a room, in place of what waits in it, which is handed on to nobody.
@@ -109,18 +102,21 @@ impl RunReceiver {
 }
 
 impl SettledRuns {
-    /// Hands on the first number of the rest. None exactly where the rest is empty.
-    #[inline(always)]
-    pub fn take_left(&mut self) -> Option<u16>
+    /// Hands on the first numbers of the rest, into the front of a run, in order, and answers how many: none exactly where the rest is empty.
+    pub fn take_run(&mut self, run: &mut [u16]) -> usize
+        requires { 0 < length run.old }
         ensures kept { self.new.sent ≡ self.old.sent }
         ensures lane { IsLane self.new }
-        ensures received { IfSome result (λ number. (self.old.rest ≡ number ∷ self.new.rest) × (self.new.received ≡ self.old.received ++ number ∷ [])) }
-        ensures none { IfNone result ((self.old.rest ≡ []) × (self.new ≡ self.old)) }
+        ensures within { result ≤ length run.old }
+        ensures received { self.new.received ≡ self.old.received ++ take result run.new }
+        ensures parted { self.old.rest ≡ take result run.new ++ self.new.rest }
+        ensures none { result ≡ 0 → self.new.rest ≡ [] }
     {
-        if let Some(number) = self.room.next() {
-            return Some(number);
+        let count = self.room.next_run(run);
+        if count > 0 {
+            return count;
         }
-        self.lane.take_left()
+        take_all_left(&mut self.lane, run)
     }
 
     /// How many numbers were sent.
@@ -138,4 +134,23 @@ impl SettledRuns {
         let SettledRuns { lane, room: _ } = self;
         lane
     }
+}
+
+/// Receives the first numbers of a settled lane's rest, as many as there are, or as a run holds.
+fn take_all_left(lane: &mut SettledLane, run: &mut [u16]) -> usize
+    requires { IsLane lane.old }
+    ensures kept { lane.new.sent ≡ lane.old.sent }
+    ensures lane { IsLane lane.new }
+    ensures within { result ≤ length run.old }
+    ensures received { lane.new.received ≡ lane.old.received ++ take result run.new }
+    ensures parted { lane.old.rest ≡ take result run.new ++ lane.new.rest }
+    ensures none { result ≡ 0 → 0 < length run.old → lane.new.rest ≡ [] }
+{
+    for i in 0..run.len() {
+        let Some(number) = lane.take_left() else {
+            return i;
+        };
+        run[i] = number;
+    }
+    run.len()
 }

@@ -1,6 +1,6 @@
 //! Workers as the thread sees them that takes their numbers.
 
-ghost use Rattle.std.specs.Prelude.{◌≡◌, ℕ, ◌<◌, ◌≤◌, List, [], ◌∷◌, ◌++◌, length, All, Some, None, IfOk, IfErr, IfSome, IfNone, IsTrue};
+ghost use Rattle.std.specs.Prelude.{◌≡◌, ◌<◌, ◌≤◌, [], ◌++◌, length, take, All, Some, None, IfOk, IfErr, IfSome, IsTrue};
 ghost use Rattle.cube_core.specs.declared.fault.Fault.TheVariants.{SpawnRefused};
 
 use crate::feed::Feed;
@@ -56,17 +56,21 @@ impl<F: Feed, G: Gate> Stage<F, G> {
         })
     }
 
-    /// Waits for the next number, and hands it on. None once the worker has ended, all that it sent was handed on, and it was joined.
-    #[inline(always)]
-    pub fn next<R: Threads + Wait>(&mut self, rt: &R, over: &AtomicBool) -> Option<u16>
+    /// Waits for the next numbers, and hands them on into the front of a run, in order: at least one, and as many as were there to see, or as the run
+    /// holds. It answers how many: none once the worker has ended, all that it sent was handed on, and it was joined.
+    pub fn next_run<R: Threads + Wait>(
+        &mut self,
+        rt: &R,
+        over: &AtomicBool,
+        run: &mut [u16],
+    ) -> usize
+        requires { 0 < length run.old }
         ensures same { (self.new.feed ≡ self.old.feed) × (self.new.gate ≡ self.old.gate) }
-        ensures handed { IfSome result (λ number. self.new.handed ≡ self.old.handed ++ number ∷ []) }
-        ensures none { IfNone result ((self.new.handed ≡ self.old.handed) × (self.new.left ≡ Some [])) }
+        ensures within { result ≤ length run.old }
+        ensures handed { self.new.handed ≡ self.old.handed ++ take result run.new }
+        ensures none { result ≡ 0 → self.new.left ≡ Some [] }
     {
-        if let Some(number) = self.state.next_held() {
-            return Some(number);
-        }
-        self.state.next(rt, over)
+        self.state.next_run(rt, over, run)
     }
 
     /// Receives what is there to see, and hands it on to nobody: for a worker that would else find no free slot.
@@ -116,10 +120,9 @@ impl<F: Feed, G: Gate> Stage<F, G> {
     }
 
     /// A number greater than any of the feed is never handed on: it is known once the worker was joined.
-    pub fn never<R: Threads>(self, rt: &R, number: u16, most: u16)
+    pub fn never<R: Threads>(self, rt: &R, most: u16)
         requires list { All (λ n. n ≤ most) (F.items self.feed) }
-        requires last { (before : List ℕ) × (self.handed ≡ before ++ number ∷ []) }
-        requires above { most < number }
+        requires above { All (λ n. n ≤ most) self.handed → ⊥ }
         ensures { ⊥ }
     {
         let Stage { state } = self;

@@ -1,6 +1,6 @@
 //! A worker that runs, or one that was joined.
 
-ghost use Rattle.std.specs.Prelude.{◌≡◌, ◌<◌, ◌≤◌, [], ◌∷◌, ◌++◌, length, Some, IfSome, IfNone, IsTrue};
+ghost use Rattle.std.specs.Prelude.{◌≡◌, ◌<◌, ◌≤◌, [], ◌++◌, length, take, Some, IfSome, IsSome, IsTrue};
 ghost use Rattle.lane_workers.specs.States.{standing_of};
 
 use crate::feed::Feed;
@@ -20,46 +20,43 @@ pub(crate) enum State<F: Feed, G: Gate> {
 }
 
 impl<F: Feed, G: Gate> State<F, G> {
-    /// Hands on a number that is in the room beside the receiver.
-    #[inline(always)]
-    pub(crate) fn next_held(&mut self) -> Option<u16>
+    /// Hands on numbers that are there to see, into the front of a run, and answers how many.
+    fn seen_run(&mut self, run: &mut [u16]) -> usize
+        requires { 0 < length run.old }
         ensures same { ((standing_of self.new).feed ≡ (standing_of self.old).feed) × ((standing_of self.new).gate ≡ (standing_of self.old).gate) }
-        ensures handed { IfSome result (λ number. (standing_of self.new).handed ≡ (standing_of self.old).handed ++ number ∷ []) }
-        ensures none { IfNone result ((standing_of self.new).handed ≡ (standing_of self.old).handed) }
+        ensures within { result ≤ length run.old }
+        ensures handed { (standing_of self.new).handed ≡ (standing_of self.old).handed ++ take result run.new }
+        ensures none { result ≡ 0 → IfSome (standing_of self.old).left (λ left. (standing_of self.new).left ≡ Some []) }
     {
         match self {
-            State::Running(worker) => worker.receiver.next_held(),
-            State::Joined(ended) => ended.lane.take_left(),
+            State::Running(worker) => worker.receiver.next_run(run),
+            State::Joined(ended) => ended.lane.take_run(run),
         }
     }
 
-    /// Hands on a number that is there to see.
-    fn next_seen(&mut self) -> Option<u16>
+    /// Waits for the next numbers, and hands them on into the front of a run, in order: at least one, and as many as were there to see, or as the run
+    /// holds. It answers how many: none once the worker has ended, all that it sent was handed on, and it was joined.
+    pub(crate) fn next_run<R: Threads + Wait>(
+        &mut self,
+        rt: &R,
+        over: &AtomicBool,
+        run: &mut [u16],
+    ) -> usize
+        requires { 0 < length run.old }
         ensures same { ((standing_of self.new).feed ≡ (standing_of self.old).feed) × ((standing_of self.new).gate ≡ (standing_of self.old).gate) }
-        ensures handed { IfSome result (λ number. (standing_of self.new).handed ≡ (standing_of self.old).handed ++ number ∷ []) }
-        ensures none { IfNone result ((standing_of self.new).handed ≡ (standing_of self.old).handed) }
-    {
-        match self {
-            State::Running(worker) => worker.receiver.next(),
-            State::Joined(ended) => ended.lane.take_left(),
-        }
-    }
-
-    /// Waits for the next number, and hands it on. None once the worker has ended, all that it sent was handed on, and it was joined.
-    // It stands apart from the way of a number that is in the room.
-    #[inline(never)]
-    pub(crate) fn next<R: Threads + Wait>(&mut self, rt: &R, over: &AtomicBool) -> Option<u16>
-        ensures same { ((standing_of self.new).feed ≡ (standing_of self.old).feed) × ((standing_of self.new).gate ≡ (standing_of self.old).gate) }
-        ensures handed { IfSome result (λ number. (standing_of self.new).handed ≡ (standing_of self.old).handed ++ number ∷ []) }
-        ensures none { IfNone result (((standing_of self.new).handed ≡ (standing_of self.old).handed) × ((standing_of self.new).left ≡ Some [])) }
+        ensures within { result ≤ length run.old }
+        ensures handed { (standing_of self.new).handed ≡ (standing_of self.old).handed ++ take result run.new }
+        ensures none { result ≡ 0 → (standing_of self.new).left ≡ Some [] }
     {
         for _ in rt.forever() {
             let is_over = over.load(Ordering::SeqCst);
-            if let Some(number) = self.next_seen() {
-                return Some(number);
+            let count = self.seen_run(run);
+            if count > 0 {
+                return count;
             }
             if is_over {
-                return replace_with(self, rt, join_and_take);
+                replace_with(self, rt, join);
+                return self.seen_run(run);
             }
             thread::yield_now();
         }
@@ -105,16 +102,11 @@ pub(crate) fn joined<R: Threads, F: Feed, G: Gate>(rt: &R, state: State<F, G>) -
     }
 }
 
-/// Joins a worker that still runs, and hands on the first number that is left.
-fn join_and_take<R: Threads, F: Feed, G: Gate>(
-    state: State<F, G>,
-    rt: &R,
-) -> (State<F, G>, Option<u16>)
+/// Joins a worker that still runs, in its place.
+fn join<R: Threads, F: Feed, G: Gate>(state: State<F, G>, rt: &R) -> (State<F, G>, ())
     ensures same { ((standing_of result.0).feed ≡ (standing_of state).feed) × ((standing_of result.0).gate ≡ (standing_of state).gate) }
-    ensures handed { IfSome result.1 (λ number. (standing_of result.0).handed ≡ (standing_of state).handed ++ number ∷ []) }
-    ensures none { IfNone result.1 (((standing_of result.0).handed ≡ (standing_of state).handed) × ((standing_of result.0).left ≡ Some [])) }
+    ensures handed { (standing_of result.0).handed ≡ (standing_of state).handed }
+    ensures joined { IsSome (standing_of result.0).left }
 {
-    let mut ended = joined(rt, state);
-    let number = ended.lane.take_left();
-    (State::Joined(ended), number)
+    (State::Joined(joined(rt, state)), ())
 }

@@ -31,7 +31,10 @@ enum Outcome {
     },
 }
 
-/// Starts a worker, and takes its numbers into a room as long as its list.
+/// How many numbers are taken at once at most.
+const LONGEST: usize = 5;
+
+/// Starts a worker, and takes its numbers into a room as long as its list, run after run.
 fn run<'s, E, R: Threads + Wait + Sync + 's, G: Gate + Sync + 's>(
     scope: &Scope<'s, E>,
     rt: &'s R,
@@ -43,16 +46,19 @@ fn run<'s, E, R: Threads + Wait + Sync + 's, G: Gate + Sync + 's>(
     requires { length room.old ≡ length ready.feed.numbers.now }
 {
     let mut stage = Stage::start(scope, rt, ready, gate, over)?;
-    for handed in 0..room.len() {
-        let Some(number) = stage.next(rt, over) else {
+    let mut handed = 0;
+    while handed < room.len() {
+        let end = room.len().min(handed + LONGEST);
+        let count = stage.next_run(rt, over, &mut room[handed..end]);
+        if count == 0 {
             let sent = stage.stopped_at();
             return Ok(Outcome::Stopped {
                 handed,
                 sent,
                 joined: stage.stop(rt),
             });
-        };
-        room[handed] = number;
+        }
+        handed += count;
     }
     let lane = stage.finish(rt);
     Ok(Outcome::Whole {
