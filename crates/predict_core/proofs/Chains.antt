@@ -1,5 +1,6 @@
 -- One place of a run's chain, in a room whose rest is 0.
-use Rattle.std.proofs.Common.{◌≡◌, ℕ, ◌+◌, ◌-◌, ◌*◌, ◌^◌, ◌<◌, ◌≤◌, ℤ, pos, int_le, false, List, length, take, ◌++◌, replicate, sym, ap, ◌∙◌, arith}
+use Rattle.std.proofs.Common.{◌≡◌, ℕ, ◌+◌, ◌-◌, ◌*◌, ◌^◌, ◌<◌, ◌≤◌, ℤ, pos, ◌-ℤ◌, ◌*ℤ◌, int_lt, int_le, false, List, length, take, ◌++◌, replicate, refl, sym, ap, ◌∙◌, arith}
+use Rattle.cube_core.specs.Kind.{IsSample}
 use Rattle.cube_core.specs.Image.{Image, IsCube, IsPlace}
 use Rattle.predict_core.specs.Arithmetic.{floor_div}
 use Rattle.predict_core.specs.Bounds.{AllWithin}
@@ -11,7 +12,7 @@ use Rattle.predict_core.specs.Differences.{central_difference, difference_vector
 use Rattle.predict_core.specs.Weights.{step_exponent, updated_weights}
 use Rattle.predict_core.specs.Prediction.{inner_product, scaled_there, next_weights}
 use Rattle.predict_core.proofs.Inner.{within_take}
-use Rattle.predict_core.proofs.Links.{scaled_without_wrap, next_by_difference}
+use Rattle.predict_core.proofs.Links.{scaled_without_wrap, sign_of_sample, next_by_difference}
 use Rattle.predict_core.proofs.Padding.{vector_length}
 use Rattle.predict_core.proofs.Prefixes.{product_in_use, update_in_use}
 
@@ -38,3 +39,13 @@ module _ (q : Predictor) (c : Image) (z y x n m : ℕ) (room differences : List 
       update_in_use q.fraction exponent (int_le own part) room (difference_vector q c z y x) new n m (18 - n) long enough (omega arith) (h ∙ ap (λ us. updated_weights q.fraction exponent (int_le own part) (take m room) (take m us)) same) in
       next_by_difference q c z y x (take n room) cube place later wide few most (within_take (2 ^ (q.fraction + 2)) n room within) register (take n new) own part a (quotient part e)
       (moved ∙ ap (λ t. updated_weights q.fraction t (int_le own part) (take n room) (difference_vector q c z y x)) b)
+
+  -- the same of a sample that is found by its residual
+  pub moved_from_room : (new : List ℤ) (sample own part exponent : ℤ) → IsSample c.kind sample → own ≡ pos 4 *ℤ sample -ℤ local_sum q c z y x → exponent ≡ step_exponent q c.shape.columns c.kind.bits (y * c.shape.columns + x)
+      → part ≡ floor_div (inner_product (take m room) (take m differences)) (2 ^ q.fraction) → take m new ≡ updated_weights q.fraction exponent (int_le own part) (take m room) (take m differences)
+      → take n new ≡ updated_weights q.fraction (step_exponent q c.shape.columns c.kind.bits (y * c.shape.columns + x)) (int_lt (pos 2 *ℤ sample -ℤ scaled_there q c z y x (take n room)) (pos 0)) (take n room) (difference_vector q c z y x)
+  moved_from_room new sample own part exponent h a b e u =
+      let sign = sign_of_sample q c z y x (take n room) cube place later wide few most (within_take (2 ^ (q.fraction + 2)) n room within) register sample part h (quotient part e) in
+      let moved : take n new ≡ updated_weights q.fraction exponent (int_le own part) (take n room) (difference_vector q c z y x) =
+      update_in_use q.fraction exponent (int_le own part) room (difference_vector q c z y x) new n m (18 - n) long enough (omega arith) (u ∙ ap (λ us. updated_weights q.fraction exponent (int_le own part) (take m room) (take m us)) same) in
+      moved ∙ rw (a, b, sign) refl

@@ -1,5 +1,5 @@
 -- The directional differences, case by case.
-use Rattle.std.proofs.Common.{◌≡◌, ◌≢◌, ◌+◌, ◌-◌, ◌<◌, ◌≤◌, ℕ, ℤ, pos, ◌+ℤ◌, ◌-ℤ◌, ◌*ℤ◌, true, false, List, [], ◌∷◌, ◌++◌, length, replicate, arith, refl, ◌∙◌, unsigned_abs, zero, suc, take, drop}
+use Rattle.std.proofs.Common.{◌≡◌, ◌≢◌, ◌+◌, ◌-◌, ◌<◌, ◌≤◌, ℕ, ℤ, pos, ◌+ℤ◌, ◌-ℤ◌, ◌*ℤ◌, true, false, List, [], ◌∷◌, ◌++◌, length, replicate, arith, refl, ◌∙◌, unsigned_abs, zero, suc, set, take, drop}
 use Rattle.std.proofs.Math.Seq.{take-append_seam, drop-append_seam}
 use Rattle.std.proofs.lemmas.List.{get_or-replicate, length-replicate}
 use Rattle.predict_core.specs.Bounds.{AllWithin}
@@ -53,11 +53,20 @@ heads_taken xs ys n e = rw (← e) (take-append_seam xs ys)
 pub heads_dropped : (xs ys : List ℤ) (n : ℕ) → length xs ≡ n → drop n (xs ++ ys) ≡ ys
 heads_dropped xs ys n e = rw (← e) (drop-append_seam xs ys)
 
-pub three_within : (n : ℕ) (a b d : ℤ) → unsigned_abs a ≤ n → unsigned_abs b ≤ n → unsigned_abs d ≤ n → AllWithin n (a ∷ b ∷ d ∷ replicate 15 (pos 0))
-three_within n a b d h k l zero m = h
-three_within n a b d h k l (suc zero) m = k
-three_within n a b d h k l (suc (suc zero)) m = l
-three_within n a b d h k l (suc (suc (suc i))) m = rw (get_or-replicate 15 i (pos 0) (pos 0) (omega (arith, m))) (omega arith)
+pub three_written : (out : List ℤ) (a b d : ℤ) → 3 ≤ length out → set (set (set out 0 a) 1 b) 2 d ≡ a ∷ b ∷ d ∷ drop 3 out
+three_written [] a b d l = absurd (omega (arith, l))
+three_written (o ∷ []) a b d l = absurd (omega (arith, l))
+three_written (o ∷ p ∷ []) a b d l = absurd (omega (arith, l))
+three_written (o ∷ p ∷ q ∷ out) a b d l = refl
+
+pub three_over : (n : ℕ) (out : List ℤ) (a b d : ℤ) → unsigned_abs a ≤ n → unsigned_abs b ≤ n → unsigned_abs d ≤ n → AllWithin n out → AllWithin n (a ∷ b ∷ d ∷ drop 3 out)
+three_over n out a b d h k l w zero m = h
+three_over n out a b d h k l w (suc zero) m = k
+three_over n out a b d h k l w (suc (suc zero)) m = l
+three_over n [] a b d h k l w (suc (suc (suc i))) m = absurd (omega (arith, m))
+three_over n (o ∷ []) a b d h k l w (suc (suc (suc i))) m = absurd (omega (arith, m))
+three_over n (o ∷ p ∷ []) a b d h k l w (suc (suc (suc i))) m = absurd (omega (arith, m))
+three_over n (o ∷ p ∷ q ∷ out) a b d h k l w (suc (suc (suc i))) m = w (suc (suc (suc i))) (omega (arith, m))
 
 pub zeros_within : (n m : ℕ) → AllWithin n (replicate m (pos 0))
 zeros_within n m i l = rw (get_or-replicate m i (pos 0) (pos 0) (let e : i < length (replicate m (pos 0)) = l in rw (length-replicate m (pos 0)) at e)) (omega arith)

@@ -23,10 +23,11 @@ module _ (c : Image) (z y x : ℕ) (v : ℤ) (place : IsPlace c.shape z y x) (wh
   sample_put =
       get_or-set_same c.samples (index_in c.shape.columns c.shape.rows z y x) v (pos 0) (rw whole (index_below c.shape.columns c.shape.rows c.shape.bands z y x place.band place.row place.column))
 
-  sample_put_other : (z' y' x' : ℕ) → IsPlace c.shape z' y' x' → IsEarlier z (y * c.shape.columns + x) z' (y' * c.shape.columns + x') → sample_at c z' y' x' ≡ sample_at (put c z y x v) z' y' x'
+  -- the samples at all other places stay
+  pub sample_put_beside : (z' y' x' : ℕ) → IsPlace c.shape z' y' x' → (z' ≡ z → y' ≡ y → x' ≡ x → ⊥) → sample_at c z' y' x' ≡ sample_at (put c z y x v) z' y' x'
   unfolding sample_at
-  sample_put_other z' y' x' q e =
-      sym (get_or-set_other c.samples (index_in c.shape.columns c.shape.rows z y x) (index_in c.shape.columns c.shape.rows z' y' x') v (pos 0) (λ same. apart e (rows_equal same) (columns_equal same)))
+  sample_put_beside z' y' x' q apart =
+      sym (get_or-set_other c.samples (index_in c.shape.columns c.shape.rows z y x) (index_in c.shape.columns c.shape.rows z' y' x') v (pos 0) (λ same. apart (rows_equal same).0 (rows_equal same).1 (equal same).1))
     where
       equal : index_in c.shape.columns c.shape.rows z' y' x' ≡ index_in c.shape.columns c.shape.rows z y x → (z' * c.shape.rows + y' ≡ z * c.shape.rows + y) × (x' ≡ x)
       equal s = same_from_place (z' * c.shape.rows + y') x' (z * c.shape.rows + y) x c.shape.columns q.column place.column s
@@ -34,12 +35,12 @@ module _ (c : Image) (z y x : ℕ) (v : ℤ) (place : IsPlace c.shape z y x) (wh
       rows_equal : index_in c.shape.columns c.shape.rows z' y' x' ≡ index_in c.shape.columns c.shape.rows z y x → (z' ≡ z) × (y' ≡ y)
       rows_equal s = same_from_place z' y' z y c.shape.rows q.row place.row (equal s).0
 
-      columns_equal : index_in c.shape.columns c.shape.rows z' y' x' ≡ index_in c.shape.columns c.shape.rows z y x → x' ≡ x
-      columns_equal s = (equal s).1
-
-      apart : IsEarlier z (y * c.shape.columns + x) z' (y' * c.shape.columns + x') → (z' ≡ z) × (y' ≡ y) → x' ≡ x → ⊥
-      apart (inl (b, l)) r g = omega arith
-      apart (inr (b, l)) r g = let f : y' * c.shape.columns ≡ y * c.shape.columns = ap (λ n. n * c.shape.columns) r.1 in omega (arith, f)
+  sample_put_other : (z' y' x' : ℕ) → IsPlace c.shape z' y' x' → IsEarlier z (y * c.shape.columns + x) z' (y' * c.shape.columns + x') → sample_at c z' y' x' ≡ sample_at (put c z y x v) z' y' x'
+  sample_put_other z' y' x' q e = sample_put_beside z' y' x' q (apart e)
+    where
+      apart : IsEarlier z (y * c.shape.columns + x) z' (y' * c.shape.columns + x') → z' ≡ z → y' ≡ y → x' ≡ x → ⊥
+      apart (inl (b, l)) r s g = omega arith
+      apart (inr (b, l)) r s g = let f : y' * c.shape.columns ≡ y * c.shape.columns = ap (λ n. n * c.shape.columns) s in omega (arith, f)
 
   pub agree_put : Agree c (put c z y x v) z (y * c.shape.columns + x)
   agree_put = record { alike = record { shape = refl; kind = refl }; samples = sample_put_other }

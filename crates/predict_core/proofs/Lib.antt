@@ -4,6 +4,7 @@ pub mod Filling
 pub mod Following
 pub mod Frame
 pub mod Inverting
+pub mod InverseRuns
 pub mod LocalSums
 pub mod Moves
 pub mod Gathered

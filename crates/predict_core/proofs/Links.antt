@@ -1,6 +1,6 @@
 -- The weights at the next place, by the predicted difference.
 use Rattle.std.proofs.Common.{◌≡◌, ℕ, ◌+◌, ◌*◌, ◌^◌, ◌<◌, ◌≤◌, ℤ, pos, ◌+ℤ◌, ◌-ℤ◌, ◌*ℤ◌, int_lt, int_le, false, List, refl, sym, ap, ◌∙◌}
-use Rattle.cube_core.specs.Kind.{smin, smid, smax}
+use Rattle.cube_core.specs.Kind.{IsSample, smin, smid, smax}
 use Rattle.cube_core.specs.Image.{Image, IsCube, IsPlace, sample_at}
 use Rattle.predict_core.specs.Arithmetic.{floor_div, clip}
 use Rattle.predict_core.specs.Bounds.{AllWithin}
@@ -21,6 +21,12 @@ module _ (q : Predictor) (c : Image) (z y x : ℕ) (ws : List ℤ) (cube : IsCub
   unfolding scaled_there
   scaled_without_wrap part e =
       rw e (unwrapped_by q c.kind (local_sum q c z y x) ws (difference_vector q c z y x) register (register_small q c z y x ws cube place later wide few most within))
+
+  pub sign_of_sample : (sample part : ℤ) → IsSample c.kind sample → part ≡ floor_div (inner_product ws (difference_vector q c z y x)) (2 ^ q.fraction)
+      → int_lt (pos 2 *ℤ sample -ℤ scaled_there q c z y x ws) (pos 0) ≡ int_le (pos 4 *ℤ sample -ℤ local_sum q c z y x) part
+  unfolding scaled_there
+  sign_of_sample sample part h e =
+      rw e (sign_by q c.kind (local_sum q c z y x) sample ws (difference_vector q c z y x) register (register_small q c z y x ws cube place later wide few most within) h)
 
   sign : int_lt (pos 2 *ℤ sample_at c z y x -ℤ scaled_there q c z y x ws) (pos 0) ≡ int_le (central_difference q c z y x) (floor_div (inner_product ws (difference_vector q c z y x)) (2 ^ q.fraction))
   unfolding scaled_there central_difference

@@ -8,7 +8,7 @@ use Rattle.header_bits.specs.declared.params.Params.{Params}
 use Rattle.predict_core.specs.Following.{Learner, MovesOn, MovesBy}
 use Rattle.predict_core.specs.Residual.{mapped_residual, run_residuals}
 
-one_more : (f : ℕ → ℕ) (a n : ℕ) → map f (from a (suc n)) ≡ map f (from a n) ++ f (a + n) ∷ []
+pub one_more : (f : ℕ → ℕ) (a n : ℕ) → map f (from a (suc n)) ≡ map f (from a n) ++ f (a + n) ∷ []
 one_more f a zero = ap (λ k. f k ∷ []) (omega arith)
 one_more f a (suc n) = ap (λ ks. f a ∷ ks) (one_more f (suc a) n ∙ ap (λ k. map f (from (suc a) n) ++ f k ∷ []) (omega arith))
 

@@ -15,6 +15,7 @@ pub mod Prediction
 pub mod Predictor
 pub mod Residual
 pub mod Rooms
+pub mod RunPlaces
 pub mod Weights
 pub mod Rows
 pub mod Everything

@@ -68,7 +68,7 @@ fn follow<const N: usize>(
 /// All ones where an error is negative, which it is where the central difference is at most the predicted
 /// one; else 0.
 #[inline(always)]
-fn turn_of_error(own: i32, predicted: i32) -> i32
+pub(crate) fn turn_of_error(own: i32, predicted: i32) -> i32
     requires own_in { unsigned_abs own ≤ 2 ^ 18 }
     requires predicted_in { unsigned_abs predicted ≤ 18 * 2 ^ 20 }
     ensures value { int_lt result (pos 0) ≡ int_le own predicted }
@@ -80,7 +80,7 @@ fn turn_of_error(own: i32, predicted: i32) -> i32
 
 /// The components of place `i` from the first `Q` quads of a room, and zeros behind them.
 #[inline(always)]
-fn differences_at<const Q: usize>(quads: &[Quad; Q], i: usize) -> [i32; 18]
+pub(crate) fn differences_at<const Q: usize>(quads: &[Quad; Q], i: usize) -> [i32; 18]
     requires few { Q ≤ 5 }
     requires place { i < 64 }
     ensures { result ≡ take 18 (components_at Q quads.now i ++ replicate 18 (pos 0)) }

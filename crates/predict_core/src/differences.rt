@@ -82,6 +82,52 @@ fn fill_directional(
     if y == 0 {
         return;
     }
+    put_neighbours(predictor, cube, z, y, x, sum, out);
+}
+
+/// Puts the directional differences in full mode at the head of a room that holds those of the bands below.
+///
+/// The place is not in the first row.
+#[inline(always)]
+pub(crate) fn put_own_directions(
+    predictor: &Predictor,
+    cube: &Cube,
+    z: u32,
+    y: u32,
+    x: u32,
+    sum: u32,
+    out: &mut [i32; 18],
+)
+    requires place { IsPlace cube.now.shape z y x }
+    requires later { 0 < y }
+    requires sum_is { local_sum predictor.now cube.now z y x ≡ pos 4 *ℤ smin cube.now.kind +ℤ pos sum }
+    requires sum_in { sum ≤ 262140 }
+    ensures reduced { predictor.now.reduced ≡ true → out.new ≡ out.old }
+    ensures full { predictor.now.reduced ≡ false → out.new ≡ directional_differences predictor.now cube.now z y x ++ drop 3 out.old }
+{
+    if !predictor.reduced {
+        put_neighbours(predictor, cube, z, y, x, sum, out);
+    }
+}
+
+/// Puts the directional differences below the first row at the head of a room.
+#[inline(always)]
+fn put_neighbours(
+    predictor: &Predictor,
+    cube: &Cube,
+    z: u32,
+    y: u32,
+    x: u32,
+    sum: u32,
+    out: &mut [i32; 18],
+)
+    requires place { IsPlace cube.now.shape z y x }
+    requires later { 0 < y }
+    requires sum_is { local_sum predictor.now cube.now z y x ≡ pos 4 *ℤ smin cube.now.kind +ℤ pos sum }
+    requires sum_in { sum ≤ 262140 }
+    ensures value { out.new ≡ directional_differences predictor.now cube.now z y x ++ drop 3 out.old }
+    ensures bound { AllWithin 262144 out.old → AllWithin 262144 out.new }
+{
     let x = x as usize;
     let above = cube.row(z, y.saturating_sub(1));
     let north = difference_of(above[x], sum);
@@ -95,15 +141,14 @@ fn fill_directional(
     put_directions(north, west, north_west, out);
 }
 
-/// Puts three differences at the head of a room of zeros.
+/// Puts three differences at the head of a room.
 #[inline(always)]
 fn put_directions(north: i32, west: i32, north_west: i32, out: &mut [i32; 18])
     requires north_in { unsigned_abs north ≤ 262144 }
     requires west_in { unsigned_abs west ≤ 262144 }
     requires north_west_in { unsigned_abs north_west ≤ 262144 }
-    requires clear { out.old ≡ replicate 18 (pos 0) }
-    ensures value { out.new ≡ north ∷ west ∷ north_west ∷ replicate 15 (pos 0) }
-    ensures bound { AllWithin 262144 out.new }
+    ensures value { out.new ≡ north ∷ west ∷ north_west ∷ drop 3 out.old }
+    ensures bound { AllWithin 262144 out.old → AllWithin 262144 out.new }
 {
     out[0] = north;
     out[1] = west;

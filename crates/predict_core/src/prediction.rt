@@ -3,6 +3,7 @@
 ghost use Rattle.std.specs.Prelude.{◌≡◌, ◌+◌, ◌*◌, ◌^◌, ◌<◌, ◌≤◌, pos, negsuc, ◌≤ℤ◌, ◌+ℤ◌, ◌-ℤ◌, ◌*ℤ◌, unsigned_abs, ◌-◌, ℤ, List, length, take, ◌++◌, replicate};
 ghost use Rattle.predict_core.specs.Arithmetic.{clip, floor_div};
 ghost use Rattle.predict_core.specs.Prediction.{inner_product, scaled_by as scaled_of};
+ghost use Rattle.predict_core.specs.Chain.{scaled_by_difference};
 ghost use Rattle.predict_core.specs.Mapping.{IsScaled};
 ghost use Rattle.cube_core.specs.Kind.{smin, smid, smax};
 ghost use Rattle.predict_core.specs.Bounds.{AllWithin, IsPredictor};
@@ -10,6 +11,7 @@ ghost use Rattle.predict_core.specs.Bounds.{AllWithin, IsPredictor};
 use crate::predictor::Predictor;
 use crate::range::Range;
 use crate::register::{halved, register_of, wrapped_value};
+use crate::residual::prediction_of;
 use crate::weights::{product_of, product_of_first};
 
 /// Twice a predicted sample, from the local sum, the weights and the differences.
@@ -38,6 +40,19 @@ pub(crate) fn scaled_by(
     );
     let upper = halved(register, predictor.fraction + 1);
     scaled_from(range.smin, range.smax, middle, upper)
+}
+
+/// Twice a predicted sample, from the predicted central difference and the local sum, where the register wraps nothing.
+#[inline(always)]
+pub(crate) fn scaled_by_part(range: &Range, part: i32, sum: i32) -> i32
+    requires part_in { unsigned_abs part ≤ 18 * 2 ^ 20 }
+    requires sum_in { (negsuc 131071 ≤ℤ sum) × (sum ≤ℤ pos 262140) }
+    ensures value { result ≡ scaled_by_difference range.now.kind part sum }
+    ensures scaled { IsScaled range.now.kind result }
+{
+    let middle = range.smid;
+    let upper = prediction_of(part + (sum - 4 * middle));
+    scaled_from(range.smin, range.smax, middle, upper as i64)
 }
 
 /// The predicted central difference: the first `N` products, without the weights' fraction, rounded down.

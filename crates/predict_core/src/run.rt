@@ -18,7 +18,7 @@ use crate::settings::Settings;
 use cube_core::cube::Cube;
 
 /// The least run that goes over rooms of 64 places. They cost a shorter one more than its places do.
-const LEAST: usize = 9;
+pub(crate) const LEAST: usize = 9;
 
 impl Band {
     /// The mapped residuals of a run, as many as there is room for, and so many places on.

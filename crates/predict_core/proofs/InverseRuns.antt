@@ -1,0 +1,131 @@
+-- A run whose samples are put into an image one behind another.
+use Rattle.std.proofs.Common.{◌≡◌, ℕ, zero, suc, ◌+◌, ◌-◌, ◌*◌, ◌<◌, ◌≤◌, ℤ, pos, false, true, Bool, List, [], ◌∷◌, ◌++◌, map, length, take, drop, replicate, get_or, append_assoc, refl, sym, ap, ap₂, ◌∙◌, subst, arith, inl, inr, if◌then◌else◌}
+use Rattle.std.proofs.Math.Arith.{digits_lt}
+use Rattle.cube_core.specs.Shape.{Sizes, sample_count}
+use Rattle.cube_core.specs.Image.{Image, IsPlace, sample_at, put}
+use Rattle.cube_core.specs.Order.{from}
+use Rattle.header_bits.specs.declared.params.Params.{Params}
+use Rattle.predict_core.specs.declared.predictor.Predictor.{Predictor}
+use Rattle.predict_core.specs.Predictor.{previous_bands}
+use Rattle.predict_core.specs.Differences.{central_difference, spectral_differences, directional_differences, difference_vector}
+use Rattle.predict_core.specs.Prediction.{scaled_prediction}
+use Rattle.predict_core.specs.Precedence.{Agree, IsEarlier}
+use Rattle.predict_core.specs.Residual.{mapped, mapped_residual, run_residuals}
+use Rattle.predict_core.specs.RunPlaces.{AreAlikeBeside}
+use Rattle.predict_core.proofs.Directions.{reduced_vector_is, full_vector_is, directional_length, heads_dropped}
+use Rattle.predict_core.proofs.Following.{row_is, column_is}
+use Rattle.predict_core.proofs.Frame.{local_sum_same, scaled_same}
+use Rattle.predict_core.proofs.Inverting.{sample_put_beside, agree_put}
+use Rattle.predict_core.proofs.RunSteps.{one_more}
+
+pub beside_none : (c : Image) (z y x : ℕ) → AreAlikeBeside c c z y x 0
+beside_none c z y x = record { alike = record { shape = refl; kind = refl }; samples = λ z' y' x' q out. refl }
+
+pub beside_next : (c d : Image) (z y x i : ℕ) (v : ℤ) → IsPlace d.shape z y (x + i) → length d.samples ≡ sample_count d.shape → AreAlikeBeside c d z y x i → AreAlikeBeside c (put d z y (x + i) v) z y x (i + 1)
+beside_next c d z y x i v place whole a = record {
+  alike = record { shape = a.alike.shape; kind = a.alike.kind };
+  samples = λ z' y' x' q out.
+      a.samples z' y' x' q (λ e f l. let o = out e f l in omega (arith, o))
+      ∙ sample_put_beside d z y (x + i) v place whole z' y' x' (subst (λ (s : Sizes). IsPlace s z' y' x') a.alike.shape q) (λ e f g. let o = out e f (omega (arith, g)) in omega (arith, o, g));
+}
+
+-- ---- residuals of the places before stay
+
+module _ (p : Params) (c : Image) (z y x : ℕ) (v : ℤ) (place : IsPlace c.shape z y x) (whole : length c.samples ≡ sample_count c.shape) (wide : p.column ≡ false → 2 ≤ c.shape.columns) where
+  agree_earlier : (t : ℕ) → t < y * c.shape.columns + x → Agree c (put c z y x v) z t
+  agree_earlier t l = record {
+    alike = record { shape = refl; kind = refl };
+    samples = λ z' y' x' q e. (agree_put c z y x v place whole).samples z' y' x' q (later (y' * c.shape.columns + x') z' e);
+  }
+    where
+      later : (t' z' : ℕ) → IsEarlier z t z' t' → IsEarlier z (y * c.shape.columns + x) z' t'
+      later t' z' (inl (b, m)) = inl (b, omega (arith, m, l))
+      later t' z' (inr (b, m)) = inr (b, omega (arith, m, l))
+
+  pub residual_kept : (k : ℕ) → k < x → mapped_residual p c z (y * c.shape.columns + k) ≡ mapped_residual p (put c z y x v) z (y * c.shape.columns + k)
+  unfolding mapped_residual
+  residual_kept k l =
+      let inside : k < c.shape.columns = omega (arith, place.column, l) in
+      let within : y * c.shape.columns + k < c.shape.rows * c.shape.columns = digits_lt place.row inside in
+      let scaled : scaled_prediction p c z (y * c.shape.columns + k) ≡ scaled_prediction p (put c z y x v) z (y * c.shape.columns + k) =
+      scaled_same p c (put c z y x v) z place.band (omega (arith, inside)) wide (y * c.shape.columns + k) within (agree_earlier (y * c.shape.columns + k) (omega (arith, l))) in
+      let sample : sample_at c z y k ≡ sample_at (put c z y x v) z y k =
+      sample_put_beside c z y x v place whole z y k (record { band = place.band; row = place.row; column = inside }) (λ e f g. omega (arith, g, l)) in
+      rw (row_is c.shape.columns (y * c.shape.columns + k) y k refl inside, column_is c.shape.columns (y * c.shape.columns + k) y k refl inside) (ap₂ (mapped c.kind) scaled sample)
+
+same_list : (f g : ℕ → ℕ) (a n : ℕ) → ((k : ℕ) → k < n → f (a + k) ≡ g (a + k)) → map f (from a n) ≡ map g (from a n)
+same_list f g a zero h = refl
+same_list f g a (suc n) h =
+    let none : a + 0 ≡ a = omega arith in
+    let head : f a ≡ g a = rw none at (h 0 (omega arith)) in
+    let rest : map f (from (suc a) n) ≡ map g (from (suc a) n) = same_list f g (suc a) n (λ k l. let e : a + suc k ≡ suc a + k = omega arith in rw e at (h (suc k) (omega (arith, l)))) in
+    ap (λ r. r ∷ map f (from (suc a) n)) head ∙ ap (λ rs. g a ∷ rs) rest
+
+taken_next : (rs : List ℕ) (i : ℕ) → i < length rs → take (i + 1) rs ≡ take i rs ++ get_or rs i 0 ∷ []
+taken_next [] i l = absurd (omega (arith, l))
+taken_next (r ∷ rs) zero l = refl
+taken_next (r ∷ rs) (suc i) l = let e : suc i + 1 ≡ suc (i + 1) = omega arith in ap (λ n. take n (r ∷ rs)) e ∙ ap (λ xs. r ∷ xs) (taken_next rs i (omega (arith, l)))
+
+pub residuals_next : (p : Params) (d : Image) (z y x i : ℕ) (v : ℤ) (deltas : List ℕ) → IsPlace d.shape z y (x + i) → length d.samples ≡ sample_count d.shape → (p.column ≡ false → 2 ≤ d.shape.columns) → i < length deltas
+    → run_residuals p d z (y * d.shape.columns + x) i ≡ take i deltas → mapped_residual p (put d z y (x + i) v) z (y * d.shape.columns + x + i) ≡ get_or deltas i 0
+    → run_residuals p (put d z y (x + i) v) z (y * d.shape.columns + x) (i + 1) ≡ take (i + 1) deltas
+residuals_next p d z y x i v deltas place whole wide l before e =
+    let more : i + 1 ≡ suc i = omega arith in
+    ap (λ n. run_residuals p (put d z y (x + i) v) z (y * d.shape.columns + x) n) more
+    ∙ one_more (mapped_residual p (put d z y (x + i) v) z) (y * d.shape.columns + x) i
+    ∙ ap₂ (λ rs r. rs ++ r ∷ []) (sym kept ∙ before) e
+    ∙ sym (taken_next deltas i l)
+  where
+    sum : (columns k : ℕ) → y * columns + (x + k) ≡ y * columns + x + k
+    sum columns k = omega arith
+
+    kept : run_residuals p d z (y * d.shape.columns + x) i ≡ run_residuals p (put d z y (x + i) v) z (y * d.shape.columns + x) i
+    kept = same_list (mapped_residual p d z) (mapped_residual p (put d z y (x + i) v) z) (y * d.shape.columns + x) i
+        (λ k m. subst (λ t. mapped_residual p d z t ≡ mapped_residual p (put d z y (x + i) v) z t) (sum d.shape.columns k) (residual_kept p d z y (x + i) v place whole wide (x + k) (omega (arith, m))))
+
+-- ---- the bands below stay
+
+module _ (q : Predictor) (c d : Image) (z y first n x : ℕ) (place : IsPlace c.shape z y x) (later : 0 < y + x) (wide : q.column ≡ false → 2 ≤ c.shape.columns) (a : AreAlikeBeside c d z y first n) where
+  under : (z' y' x' : ℕ) → z' < z → x' < c.shape.columns → y' ≤ y → sample_at c z' y' x' ≡ sample_at d z' y' x'
+  under z' y' x' b h k =
+      a.samples z' y' x' (record { band = (let r = place.band in omega arith); row = (let r = place.row in omega arith); column = h }) (λ e f l. absurd (omega (arith, e, b)))
+
+  central_below : (z' : ℕ) → z' < z → central_difference q c z' y x ≡ central_difference q d z' y x
+  unfolding central_difference
+  central_below z' b =
+      let s = under z' y x b place.column (omega arith) in
+      let m = local_sum_same q c d (ap (λ (s : Sizes). s.columns) a.alike.shape) z' y x later wide place.column (λ y' x' h l k. under z' y' x' b h k) in
+      rw (s, m) refl
+
+  spectral_below : (k : ℕ) → k ≤ z → spectral_differences q c z y x k ≡ spectral_differences q d z y x k
+  unfolding spectral_differences
+  spectral_below zero h = refl
+  spectral_below (suc k) h =
+      let s = spectral_below k (omega arith) in
+      let m = central_below (z - suc k) (omega arith) in
+      rw (s, m) refl
+
+  pub lower_kept : (room : List ℤ) (m : ℕ) → room ≡ difference_vector q c z y x ++ replicate m (pos 0)
+      → drop (if q.reduced then 0 else 3) room ≡ spectral_differences q d z y x (previous_bands q z) ++ replicate m (pos 0)
+  lower_kept room m e = by_mode q.reduced refl
+    where
+      same : spectral_differences q c z y x (previous_bands q z) ≡ spectral_differences q d z y x (previous_bands q z)
+      same = spectral_below (previous_bands q z) (omega arith)
+
+      by_mode : (b : Bool) → q.reduced ≡ b → drop (if b then 0 else 3) room ≡ spectral_differences q d z y x (previous_bands q z) ++ replicate m (pos 0)
+      by_mode true r = e ∙ ap (λ us. us ++ replicate m (pos 0)) (reduced_vector_is q c z y x r ∙ same)
+      by_mode false r =
+          ap (drop 3) (e ∙ ap (λ us. us ++ replicate m (pos 0)) (full_vector_is q c z y x r) ∙ append_assoc (directional_differences q c z y x) (spectral_differences q c z y x (previous_bands q z)) (replicate m (pos 0)))
+          ∙ heads_dropped (directional_differences q c z y x) (spectral_differences q c z y x (previous_bands q z) ++ replicate m (pos 0)) 3 (directional_length q c z y x)
+          ∙ ap (λ us. us ++ replicate m (pos 0)) same
+
+-- with the directions of the place, they are all its differences
+pub vector_filled : (q : Predictor) (c : Image) (z y x m : ℕ) (lower new : List ℤ) → drop (if q.reduced then 0 else 3) lower ≡ spectral_differences q c z y x (previous_bands q z) ++ replicate m (pos 0)
+    → (q.reduced ≡ true → new ≡ lower) → (q.reduced ≡ false → new ≡ directional_differences q c z y x ++ drop 3 lower) → new ≡ difference_vector q c z y x ++ replicate m (pos 0)
+vector_filled q c z y x m lower new e f g = by_mode q.reduced refl e
+  where
+    by_mode : (b : Bool) → q.reduced ≡ b → drop (if b then 0 else 3) lower ≡ spectral_differences q c z y x (previous_bands q z) ++ replicate m (pos 0) → new ≡ difference_vector q c z y x ++ replicate m (pos 0)
+    by_mode true r d = f r ∙ d ∙ ap (λ us. us ++ replicate m (pos 0)) (sym (reduced_vector_is q c z y x r))
+    by_mode false r d =
+        g r ∙ ap (λ us. directional_differences q c z y x ++ us) d ∙ sym (append_assoc (directional_differences q c z y x) (spectral_differences q c z y x (previous_bands q z)) (replicate m (pos 0)))
+        ∙ ap (λ us. us ++ replicate m (pos 0)) (sym (full_vector_is q c z y x r))

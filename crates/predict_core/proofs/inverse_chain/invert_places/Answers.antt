@@ -1,0 +1,87 @@
+use Rattle.std.proofs.Common.{◌≡◌, ◌+◌, ◌-◌, ◌*◌, ◌≤◌, ◌<◌, ℕ, false, refl, sym, ap, ◌∙◌, subst, take, length, get_or, SFits, w32, to_z-of_z, rules, arith, length-set}
+use Rattle.std.proofs.lemmas.List.{take_all}
+use Rattle.cube_core.specs.Shape.{Sizes}
+use Rattle.cube_core.specs.Image.{Image, IsPlace, put}
+use Rattle.header_bits.specs.declared.params.Params.{Params}
+use Rattle.predict_core.specs.declared.predictor.Predictor.{Predictor}
+use Rattle.predict_core.specs.Chain.{AreWeightsAt}
+use Rattle.predict_core.specs.Differences.{difference_vector}
+use Rattle.predict_core.specs.Prediction.{weight_vector}
+use Rattle.predict_core.specs.Residual.{mapped_residual, run_residuals}
+use Rattle.predict_core.specs.Rooms.{components_at}
+use Rattle.predict_core.specs.RunPlaces.{AreAlikeBeside}
+use Rattle.predict_core.proofs.InverseRuns.{beside_none, beside_next, residuals_next, lower_kept}
+use Rattle.predict_core.proofs.Inverting.{residual_put, weights_put}
+use Rattle.predict_core.proofs.Padding.{vector_length}
+use Rattle.predict_core.proofs.Runs.{gathered_is, later_place}
+use Rattle.predict_core.proofs.inverse_chain.invert_places.Goals as goal
+
+pub loop-i-init : goal.loop-i-init
+loop-i-init g c = record {
+  beside = beside_none c.args.cube.now c.args.settings.now.band c.args.y c.args.x;
+  residuals = λ p f. refl;
+  weights = λ p f. f.weights ∙ ap (weight_vector p c.args.cube.now c.args.settings.now.band) (omega arith);
+  bound = c.requires.weights_in;
+  whole = c.is_cube.ensures.whole;
+}
+
+pub sample_there-sample-requires-clause-lower : goal.sample_there-sample-requires-clause-lower
+sample_there-sample-requires-clause-lower g c =
+    let kept = c.loop-i.invariant in
+    let s = c.args.settings.now in
+    let column : c.args.x + c.loop-i.i < c.args.cube.now.shape.columns = omega (arith, c.requires.inside, c.loop-i-test.true) in
+    let wide : s.predictor.column ≡ false → 2 ≤ c.args.cube.now.shape.columns = λ h. let w = s.wide h in omega (arith, w, c.requires.columns) in
+    let e = rw (← c.requires.quads) at (c.requires.components c.loop-i.i c.loop-i-test.true) in
+    let gathered = gathered_is (difference_vector s.predictor c.args.cube.now s.band c.args.y (c.args.x + c.loop-i.i)) (components_at g.row.Q c.args.quads.now c.loop-i.i) c.differences_at-lower.result s.count (4 * g.row.Q - s.count) (vector_length s.predictor c.args.cube.now s.band c.args.y (c.args.x + c.loop-i.i) ∙ sym s.count_is) s.few e c.differences_at-lower.ensures in
+    lower_kept s.predictor c.args.cube.now c.loop-i.cube s.band c.args.y c.args.x c.loop-i.i (c.args.x + c.loop-i.i) (record { band = c.requires.place.band; row = c.requires.place.row; column = column }) (omega (arith, c.requires.later)) wide kept.beside c.differences_at-lower.result (18 - s.count) gathered
+
+pub loop-i-preserved : goal.loop-i-preserved
+loop-i-preserved g c =
+    let kept = c.loop-i.invariant in
+    let d : Image = c.loop-i.cube in
+    let s = c.args.settings.now in
+    let v = c.sample_there-sample.result in
+    let fits : SFits w32 c.sample_there-sample.result = search rules in
+    let is : c.set.new.self ≡ put d s.band c.args.y (c.args.x + c.loop-i.i) v = simp (to_z-of_z fits) at c.set.ensures in
+    let column : c.args.x + c.loop-i.i < c.args.cube.now.shape.columns = omega (arith, c.requires.inside, c.loop-i-test.true) in
+    let place : IsPlace d.shape s.band c.args.y (c.args.x + c.loop-i.i) = subst (λ (a : Sizes). IsPlace a s.band c.args.y (c.args.x + c.loop-i.i)) kept.beside.alike.shape (record { band = c.requires.place.band; row = c.requires.place.row; column = column }) in
+    let later : 0 < c.args.y * d.shape.columns + (c.args.x + c.loop-i.i) = later_place d.shape.columns c.args.y (c.args.x + c.loop-i.i) (omega (arith, c.requires.later)) place.column in
+    let same : c.args.cube.now.shape.columns ≡ d.shape.columns = ap (λ (a : Sizes). a.columns) kept.beside.alike.shape in
+    let wide : (p : Params) → AreWeightsAt p s.predictor c.args.cube.now s.band (c.args.y * c.args.cube.now.shape.columns + c.args.x) (take s.count c.args.weights.now) → p.column ≡ false → 2 ≤ d.shape.columns =
+    λ p f h. let w = s.wide (ap (λ (q : Predictor). q.column) f.predictor ∙ h) in omega (arith, w, c.requires.columns, same) in
+    let sum : (columns : ℕ) → columns ≡ d.shape.columns → c.args.y * columns + (c.args.x + c.loop-i.i) ≡ c.args.y * columns + c.args.x + c.loop-i.i = λ columns e. omega arith in
+    let next : (columns : ℕ) → columns ≡ d.shape.columns → c.args.y * columns + (c.args.x + c.loop-i.i) + 1 ≡ c.args.y * columns + (c.args.x + (c.loop-i.i + 1)) = λ columns e. omega arith in
+    rw is
+    (record {
+      beside = beside_next c.args.cube.now d s.band c.args.y c.args.x c.loop-i.i v place kept.whole kept.beside;
+      residuals = λ p f. residuals_next p d s.band c.args.y c.args.x c.loop-i.i v c.args.deltas.now place kept.whole (wide p f) c.loop-i-test.true (kept.residuals p f)
+          (ap (mapped_residual p (put d s.band c.args.y (c.args.x + c.loop-i.i) v) s.band) (sym (sum d.shape.columns refl))
+          ∙ residual_put p s.predictor d s.band c.args.y (c.args.x + c.loop-i.i) (c.args.y * d.shape.columns + (c.args.x + c.loop-i.i)) v (take s.count c.loop-i.held) place kept.whole (wide p f) f.predictor refl (kept.weights p f) later (get_or c.args.deltas.now c.loop-i.i 0) c.sample_there-sample.ensures.inverse);
+      weights = λ p f. weights_put p s.predictor d s.band c.args.y (c.args.x + c.loop-i.i) (c.args.y * d.shape.columns + (c.args.x + c.loop-i.i)) v (take s.count c.loop-i.held) place kept.whole (wide p f) f.predictor refl (kept.weights p f) later (take s.count c.sample_there-sample.new.weights) c.sample_there-sample.ensures.weights
+          ∙ ap (weight_vector p (put d s.band c.args.y (c.args.x + c.loop-i.i) v) s.band) (next d.shape.columns refl);
+      bound = c.sample_there-sample.ensures.bound;
+      whole = rw length-set kept.whole;
+    })
+
+pub returns-clause-beside : goal.returns-clause-beside
+returns-clause-beside g c =
+    let done : c.loop-i.i ≡ length c.args.deltas.now = omega (arith, c.loop-i-test.false, c.loop-i.auto.i-end) in
+    subst (λ n. AreAlikeBeside c.args.cube.now c.loop-i.cube c.args.settings.now.band c.args.y c.args.x n) done c.loop-i.invariant.beside
+
+pub returns-clause-residuals : goal.returns-clause-residuals
+returns-clause-residuals g c p f =
+    let kept = c.loop-i.invariant in
+    let s = c.args.settings.now in
+    let done : c.loop-i.i ≡ length c.args.deltas.now = omega (arith, c.loop-i-test.false, c.loop-i.auto.i-end) in
+    let there : c.args.y * c.args.cube.now.shape.columns + c.args.x ≡ c.args.y * c.loop-i.cube.shape.columns + c.args.x = ap (λ (a : Sizes). c.args.y * a.columns + c.args.x) kept.beside.alike.shape in
+    ap (λ t. run_residuals p c.loop-i.cube s.band t (length c.args.deltas.now)) there
+    ∙ subst (λ n. run_residuals p c.loop-i.cube s.band (c.args.y * c.loop-i.cube.shape.columns + c.args.x) n ≡ take n c.args.deltas.now) done (kept.residuals p f) ∙ take_all (length c.args.deltas.now) c.args.deltas.now (omega arith)
+
+pub returns-clause-weights : goal.returns-clause-weights
+returns-clause-weights g c p f =
+    let kept = c.loop-i.invariant in
+    let s = c.args.settings.now in
+    let done : c.loop-i.i ≡ length c.args.deltas.now = omega (arith, c.loop-i-test.false, c.loop-i.auto.i-end) in
+    let sum : (columns n : ℕ) → c.loop-i.i ≡ n → c.args.y * columns + (c.args.x + c.loop-i.i) ≡ c.args.y * columns + c.args.x + n = λ columns n e. omega (arith, e) in
+    kept.weights p f ∙ ap (λ (a : Sizes). weight_vector p c.loop-i.cube s.band (c.args.y * a.columns + (c.args.x + c.loop-i.i))) (sym kept.beside.alike.shape)
+    ∙ ap (weight_vector p c.loop-i.cube s.band) (sum c.args.cube.now.shape.columns (length c.args.deltas.now) done)

@@ -1,0 +1,18 @@
+use Rattle.std.proofs.Common.{◌≡◌, ◌+◌, ◌*◌, ◌^◌, take, length}
+use Rattle.cube_core.specs.Shape.{sample_count}
+use Rattle.header_bits.specs.declared.params.Params.{Params}
+use Rattle.predict_core.specs.Bounds.{AllWithin}
+use Rattle.predict_core.specs.Chain.{AreWeightsAt}
+use Rattle.predict_core.specs.Prediction.{weight_vector}
+use Rattle.predict_core.specs.Residual.{run_residuals}
+use Rattle.predict_core.specs.RunPlaces.{AreAlikeBeside}
+use Rattle.predict_core.proofs.inverse_chain.invert_places.Given as goal
+
+abbrev pub invariant-loop-i : goal.invariant-loop-i
+invariant-loop-i g l = record {
+  beside : AreAlikeBeside l.fn.cube l.cube l.fn.settings.band l.fn.y l.fn.x l.i;
+  residuals : (p : Params) → AreWeightsAt p l.fn.settings.predictor l.fn.cube l.fn.settings.band (l.fn.y * l.fn.cube.shape.columns + l.fn.x) (take l.fn.settings.count l.fn.weights) → run_residuals p l.cube l.fn.settings.band (l.fn.y * l.cube.shape.columns + l.fn.x) l.i ≡ take l.i l.fn.deltas;
+  weights : (p : Params) → AreWeightsAt p l.fn.settings.predictor l.fn.cube l.fn.settings.band (l.fn.y * l.fn.cube.shape.columns + l.fn.x) (take l.fn.settings.count l.fn.weights) → take l.fn.settings.count l.held ≡ weight_vector p l.cube l.fn.settings.band (l.fn.y * l.cube.shape.columns + (l.fn.x + l.i));
+  bound : AllWithin (2 ^ (l.fn.settings.predictor.fraction + 2)) l.held;
+  whole : length l.cube.samples ≡ sample_count l.cube.shape;
+}

@@ -1,0 +1,119 @@
+//! The chain of a run whose samples aren't known yet: each sample from its mapped residual, and the weights behind it.
+//!
+//! Nothing wraps in the register, so that the sign of an error is told by the differences alone.
+
+ghost use Rattle.std.specs.Prelude.{◌≡◌, ◌+◌, ◌-◌, ◌*◌, ◌^◌, ◌<◌, ◌≤◌, ℕ, pos, take, drop, length, ◌++◌, replicate, slice_index, if◌then◌else◌};
+ghost use Rattle.cube_core.specs.Kind.{IsSample};
+ghost use Rattle.cube_core.specs.Image.{IsPlace, put};
+ghost use Rattle.header_bits.specs.declared.params.Params.{Params as Parameters};
+ghost use Rattle.predict_core.specs.Bounds.{AllWithin};
+ghost use Rattle.predict_core.specs.Chain.{AreWeightsAt};
+ghost use Rattle.predict_core.specs.Predictor.{previous_bands};
+ghost use Rattle.predict_core.specs.Differences.{spectral_differences, difference_vector};
+ghost use Rattle.predict_core.specs.Prediction.{scaled_there, next_weights, weight_vector};
+ghost use Rattle.predict_core.specs.Residual.{mapped, run_residuals};
+ghost use Rattle.predict_core.specs.Rooms.{components_at, quads_of};
+ghost use Rattle.predict_core.specs.RunPlaces.{AreAlikeBeside};
+
+use crate::chain::{differences_at, turn_of_error};
+use crate::differences::{put_own_directions, sum_at};
+use crate::exponent::exponent_at;
+use crate::prediction::{predicted_difference, scaled_by_part};
+use crate::room::Quad;
+use crate::settings::Settings;
+use crate::weights::{form_of, update_by};
+use cube_core::cube::Cube;
+
+/// Writes the samples of a run below the first row, one behind another; the weights are those behind it.
+///
+/// Of the quads the differences of the bands below are looked at.
+#[inline(always)]
+pub(crate) fn invert_places<const Q: usize, const N: usize>(
+    settings: &Settings,
+    cube: &mut Cube,
+    y: u32,
+    x: u32,
+    quads: &[Quad; Q],
+    weights: &mut [i32; 18],
+    deltas: &[u16],
+)
+    requires few_weights { N ≤ 18 }
+    requires enough { settings.now.count ≤ N }
+    requires quads { Q ≡ quads_of settings.now.count }
+    requires register { 46 ≤ settings.now.predictor.register }
+    requires later { 0 < y }
+    requires place { IsPlace cube.old.shape settings.now.band y x }
+    requires columns { cube.old.shape.columns ≡ settings.now.columns }
+    requires kind { cube.old.kind ≡ settings.now.range.kind }
+    requires few { length deltas.now ≤ 64 }
+    requires inside { x + length deltas.now ≤ cube.old.shape.columns }
+    requires residuals_in { (i : ℕ) → i < length deltas.now → slice_index deltas.now i < 2 ^ cube.old.kind.bits }
+    requires components { (i : ℕ) → i < length deltas.now → components_at (quads_of settings.now.count) quads.now i ≡ difference_vector settings.now.predictor cube.old settings.now.band y (x + i) ++ replicate (4 * quads_of settings.now.count - settings.now.count) (pos 0) }
+    requires weights_in { AllWithin (2 ^ (settings.now.predictor.fraction + 2)) weights.old }
+    ensures beside { AreAlikeBeside cube.old cube.new settings.now.band y x (length deltas.now) }
+    ensures residuals { (p : Parameters) → AreWeightsAt p settings.now.predictor cube.old settings.now.band (y * cube.old.shape.columns + x) (take settings.now.count weights.old) → run_residuals p cube.new settings.now.band (y * cube.old.shape.columns + x) (length deltas.now) ≡ deltas.now }
+    ensures weights { (p : Parameters) → AreWeightsAt p settings.now.predictor cube.old settings.now.band (y * cube.old.shape.columns + x) (take settings.now.count weights.old) → take settings.now.count weights.new ≡ weight_vector p cube.new settings.now.band (y * cube.old.shape.columns + x + length deltas.now) }
+    ensures within { AllWithin (2 ^ (settings.now.predictor.fraction + 2)) weights.new }
+{
+    cube.is_cube();
+    let mut held = *weights;
+    for i in 0..deltas.len() {
+        let column = x + i as u32;
+        let lower = differences_at::<Q>(quads, i);
+        let sample = sample_there::<N>(settings, cube, y, column, &mut held, &lower, deltas[i]);
+        cube.set(settings.band, y, column, sample);
+    }
+    *weights = held;
+}
+
+/// The sample of a mapped residual at a place below the first row, and the weights after it.
+///
+/// Of `lower` the differences of the bands below are looked at.
+#[inline(always)]
+fn sample_there<const N: usize>(
+    settings: &Settings,
+    cube: &Cube,
+    y: u32,
+    x: u32,
+    weights: &mut [i32; 18],
+    lower: &[i32; 18],
+    delta: u16,
+) -> i32
+    requires few { N ≤ 18 }
+    requires enough { settings.now.count ≤ N }
+    requires register { 46 ≤ settings.now.predictor.register }
+    requires later { 0 < y }
+    requires place { IsPlace cube.now.shape settings.now.band y x }
+    requires columns { cube.now.shape.columns ≡ settings.now.columns }
+    requires kind { cube.now.kind ≡ settings.now.range.kind }
+    requires weights_in { AllWithin (2 ^ (settings.now.predictor.fraction + 2)) weights.old }
+    requires lower { drop (if settings.now.predictor.reduced then 0 else 3) lower.now ≡ spectral_differences settings.now.predictor cube.now settings.now.band y x (previous_bands settings.now.predictor settings.now.band) ++ replicate (18 - settings.now.count) (pos 0) }
+    requires residual { delta < 2 ^ cube.now.kind.bits }
+    ensures range { IsSample cube.now.kind result }
+    ensures inverse { mapped cube.now.kind (scaled_there settings.now.predictor (put cube.now settings.now.band y x result) settings.now.band y x (take settings.now.count weights.old)) result ≡ delta }
+    ensures weights { take settings.now.count weights.new ≡ next_weights settings.now.predictor (put cube.now settings.now.band y x result) settings.now.band (y * cube.now.shape.columns + x) (take settings.now.count weights.old) }
+    ensures bound { AllWithin (2 ^ (settings.now.predictor.fraction + 2)) weights.new }
+{
+    cube.is_cube();
+    let predictor = &settings.predictor;
+    let range = &settings.range;
+    let t = y as u64 * settings.columns as u64 + x as u64;
+    let sum = sum_at(predictor, cube, settings.band, y, x);
+    let mut differences = *lower;
+    put_own_directions(predictor, cube, settings.band, y, x, sum, &mut differences);
+    let whole = 4 * range.smin + sum as i32;
+    let part = predicted_difference::<N>(predictor.fraction, weights, &differences);
+    let scaled = scaled_by_part(range, part, whole);
+    let found = range.sample_of(scaled, delta);
+    let own = 4 * found - whole;
+    let exponent = exponent_at(predictor, settings.columns, range.bits, t);
+    update_by::<N>(
+        weights,
+        &differences,
+        predictor.fraction,
+        exponent,
+        form_of(range.bits, exponent),
+        turn_of_error(own, part),
+    );
+    found
+}

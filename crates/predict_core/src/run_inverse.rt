@@ -1,0 +1,157 @@
+//! A band's predictor moved on by a run whose samples aren't known yet, but their mapped residuals are.
+
+ghost use Rattle.std.specs.Prelude.{◌≡◌, ◌+◌, ◌*◌, ◌^◌, ◌<◌, ◌≤◌, ℕ, take, length, slice_index};
+ghost use Rattle.cube_core.specs.Image.{IsPlace};
+ghost use Rattle.header_bits.specs.declared.params.Params.{Params as Parameters};
+ghost use Rattle.predict_core.specs.Bounds.{AllWithin};
+ghost use Rattle.predict_core.specs.Chain.{AreWeightsAt};
+ghost use Rattle.predict_core.specs.Prediction.{weight_vector};
+ghost use Rattle.predict_core.specs.Residual.{run_residuals};
+ghost use Rattle.predict_core.specs.Rooms.{quads_of};
+ghost use Rattle.predict_core.specs.RunPlaces.{AreAlikeBeside};
+ghost use Rattle.predict_core.specs.Following.{Follows, MovesBy};
+
+use crate::band::Band;
+use crate::inverse_chain::invert_places;
+use crate::room::{Quad, fill_run};
+use crate::run::LEAST;
+use crate::settings::Settings;
+use cube_core::cube::Cube;
+
+impl Band {
+    /// Writes the samples of a run whose mapped residuals are `deltas` into the cube, and goes as many places on.
+    ///
+    /// A run has at most 64 places. It goes from the next place, which is row `y`, column `x`, along its
+    /// row, and doesn't leave it. The cube has the shape and the kind of the parameters, and each residual
+    /// is at most 2^D - 1. What stands at these places and at later ones is not read, and no other sample
+    /// is written (CCSDS 123.0-B-1, "Predictor").
+    pub fn inverse_run(&mut self, cube: &mut Cube, y: u32, x: u32, deltas: &[u16])
+        requires shape { cube.old.shape ≡ self.old.shape }
+        requires kind { cube.old.kind ≡ self.old.kind }
+        requires place { IsPlace cube.old.shape self.old.band y x }
+        requires few { length deltas.now ≤ 64 }
+        requires inside { x + length deltas.now ≤ cube.old.shape.columns }
+        requires next { self.old.place ≡ y * cube.old.shape.columns + x }
+        requires residuals_in { (i : ℕ) → i < length deltas.now → slice_index deltas.now i < 2 ^ cube.old.kind.bits }
+        ensures moved { MovesBy (length deltas.now) self.old self.new }
+        ensures beside { AreAlikeBeside cube.old cube.new self.old.band y x (length deltas.now) }
+        ensures residuals { (p : Parameters) → Follows p self.old cube.old → run_residuals p cube.new self.old.band self.old.place (length deltas.now) ≡ deltas.now }
+        ensures follows { (p : Parameters) → Follows p self.old cube.old → Follows p self.new cube.new }
+    {
+        cube.is_cube();
+        let count = deltas.len();
+        if self.settings.predictor.register < 46 || count < LEAST || y == 0 {
+            self.inverse_each(cube, y, x, deltas);
+        } else {
+            self.next += count as u64;
+            invert_run(&self.settings, cube, y, x, &mut self.weights, deltas);
+        }
+    }
+
+    /// The same, one place after another.
+    fn inverse_each(&mut self, cube: &mut Cube, y: u32, x: u32, deltas: &[u16])
+        requires shape { cube.old.shape ≡ self.old.shape }
+        requires kind { cube.old.kind ≡ self.old.kind }
+        requires place { IsPlace cube.old.shape self.old.band y x }
+        requires few { length deltas.now ≤ 64 }
+        requires inside { x + length deltas.now ≤ cube.old.shape.columns }
+        requires next { self.old.place ≡ y * cube.old.shape.columns + x }
+        requires residuals_in { (i : ℕ) → i < length deltas.now → slice_index deltas.now i < 2 ^ cube.old.kind.bits }
+        ensures moved { MovesBy (length deltas.now) self.old self.new }
+        ensures beside { AreAlikeBeside cube.old cube.new self.old.band y x (length deltas.now) }
+        ensures residuals { (p : Parameters) → Follows p self.old cube.old → run_residuals p cube.new self.old.band self.old.place (length deltas.now) ≡ deltas.now }
+        ensures follows { (p : Parameters) → Follows p self.old cube.old → Follows p self.new cube.new }
+    {
+        cube.is_cube();
+        let band = self.settings.band;
+        for i in 0..deltas.len() {
+            let column = x + i as u32;
+            let sample = self.inverse(cube, y, column, deltas[i]);
+            cube.set(band, y, column, sample);
+        }
+    }
+}
+
+/// Writes the samples of a run below the first row, in a register that nothing wraps; the weights are those behind it.
+///
+/// How many weights there are is found once, so that the compiler knows it in the loop over places.
+fn invert_run(
+    settings: &Settings,
+    cube: &mut Cube,
+    y: u32,
+    x: u32,
+    weights: &mut [i32; 18],
+    deltas: &[u16],
+)
+    requires register { 46 ≤ settings.now.predictor.register }
+    requires later { 0 < y }
+    requires place { IsPlace cube.old.shape settings.now.band y x }
+    requires columns { cube.old.shape.columns ≡ settings.now.columns }
+    requires kind { cube.old.kind ≡ settings.now.range.kind }
+    requires some { 1 ≤ length deltas.now }
+    requires few { length deltas.now ≤ 64 }
+    requires inside { x + length deltas.now ≤ cube.old.shape.columns }
+    requires residuals_in { (i : ℕ) → i < length deltas.now → slice_index deltas.now i < 2 ^ cube.old.kind.bits }
+    requires weights_in { AllWithin (2 ^ (settings.now.predictor.fraction + 2)) weights.old }
+    ensures beside { AreAlikeBeside cube.old cube.new settings.now.band y x (length deltas.now) }
+    ensures residuals { (p : Parameters) → AreWeightsAt p settings.now.predictor cube.old settings.now.band (y * cube.old.shape.columns + x) (take settings.now.count weights.old) → run_residuals p cube.new settings.now.band (y * cube.old.shape.columns + x) (length deltas.now) ≡ deltas.now }
+    ensures weights { (p : Parameters) → AreWeightsAt p settings.now.predictor cube.old settings.now.band (y * cube.old.shape.columns + x) (take settings.now.count weights.old) → take settings.now.count weights.new ≡ weight_vector p cube.new settings.now.band (y * cube.old.shape.columns + x + length deltas.now) }
+    ensures within { AllWithin (2 ^ (settings.now.predictor.fraction + 2)) weights.new }
+{
+    let count = settings.count;
+    if count == 0 {
+        invert_by::<0, 0>(settings, cube, y, x, weights, deltas);
+    } else if count <= 4 {
+        invert_by::<1, 4>(settings, cube, y, x, weights, deltas);
+    } else if count <= 8 {
+        invert_by::<2, 8>(settings, cube, y, x, weights, deltas);
+    } else if count <= 12 {
+        invert_by::<3, 12>(settings, cube, y, x, weights, deltas);
+    } else if count <= 16 {
+        invert_by::<4, 16>(settings, cube, y, x, weights, deltas);
+    } else {
+        invert_by::<5, 18>(settings, cube, y, x, weights, deltas);
+    }
+}
+
+/// The same by `N` weights, whose differences take `Q` quads.
+///
+/// What the bands below tell is found first, for all places at once. A place's own directions wait for the sample
+/// to the west.
+fn invert_by<const Q: usize, const N: usize>(
+    settings: &Settings,
+    cube: &mut Cube,
+    y: u32,
+    x: u32,
+    weights: &mut [i32; 18],
+    deltas: &[u16],
+)
+    requires few_weights { N ≤ 18 }
+    requires enough { settings.now.count ≤ N }
+    requires quads { Q ≡ quads_of settings.now.count }
+    requires register { 46 ≤ settings.now.predictor.register }
+    requires later { 0 < y }
+    requires place { IsPlace cube.old.shape settings.now.band y x }
+    requires columns { cube.old.shape.columns ≡ settings.now.columns }
+    requires kind { cube.old.kind ≡ settings.now.range.kind }
+    requires some { 1 ≤ length deltas.now }
+    requires few { length deltas.now ≤ 64 }
+    requires inside { x + length deltas.now ≤ cube.old.shape.columns }
+    requires residuals_in { (i : ℕ) → i < length deltas.now → slice_index deltas.now i < 2 ^ cube.old.kind.bits }
+    requires weights_in { AllWithin (2 ^ (settings.now.predictor.fraction + 2)) weights.old }
+    ensures beside { AreAlikeBeside cube.old cube.new settings.now.band y x (length deltas.now) }
+    ensures residuals { (p : Parameters) → AreWeightsAt p settings.now.predictor cube.old settings.now.band (y * cube.old.shape.columns + x) (take settings.now.count weights.old) → run_residuals p cube.new settings.now.band (y * cube.old.shape.columns + x) (length deltas.now) ≡ deltas.now }
+    ensures weights { (p : Parameters) → AreWeightsAt p settings.now.predictor cube.old settings.now.band (y * cube.old.shape.columns + x) (take settings.now.count weights.old) → take settings.now.count weights.new ≡ weight_vector p cube.new settings.now.band (y * cube.old.shape.columns + x + length deltas.now) }
+    ensures within { AllWithin (2 ^ (settings.now.predictor.fraction + 2)) weights.new }
+{
+    cube.is_cube();
+    let count = deltas.len();
+    let mut sums = [0i32; 64];
+    let mut own = [0i32; 64];
+    let quad = Quad {
+        places: [[0; 4]; 64],
+    };
+    let mut quads = [quad; Q];
+    fill_run::<Q>(settings, cube, y, x, count, &mut sums, &mut own, &mut quads);
+    invert_places::<Q, N>(settings, cube, y, x, &quads, weights, deltas);
+}
