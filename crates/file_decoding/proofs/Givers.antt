@@ -40,7 +40,7 @@ use Rattle.file_decoding.specs.Files.{IsBody, IsBodyBy, behind_by, behind_body}
 
 -- ---- lists
 
-range_more : (limit : ℕ) (ns : List ℕ) (n : ℕ) → AllByRecursion (λ v. v < limit) ns → n < limit → AllByRecursion (λ v. v < limit) (ns ++ n ∷ [])
+pub range_more : (limit : ℕ) (ns : List ℕ) (n : ℕ) → AllByRecursion (λ v. v < limit) ns → n < limit → AllByRecursion (λ v. v < limit) (ns ++ n ∷ [])
 range_more limit [] n h lt = (lt, tt)
 range_more limit (m ∷ ns) n h lt = (h.0, range_more limit ns n h.1 lt)
 

@@ -1,5 +1,5 @@
 -- The walk of a decoder: the image has the residuals that were given, at the places gone by.
-use Rattle.std.proofs.Common.{◌≡◌, ◌+◌, ◌*◌, ◌/◌, ◌%◌, ◌<◌, ◌≤◌, ℕ, suc, zero, ℤ, false, Bool, List, [], ◌∷◌, ◌++◌, length, map, take, Some, refl, sym, ap, ◌∙◌, subst, append_assoc, arith}
+use Rattle.std.proofs.Common.{◌≡◌, ◌+◌, ◌*◌, ◌/◌, ◌%◌, ◌<◌, ◌≤◌, ℕ, suc, zero, ℤ, false, Bool, List, [], ◌∷◌, ◌++◌, length, map, take, Some, refl, sym, ap, ◌∙◌, subst, arith}
 use Rattle.std.specs.List.{slice_get}
 use Rattle.std.proofs.lemmas.Nat.{div_below, mod_below, div-add-mod'}
 use Rattle.cube_core.specs.declared.order.Place.{Place}
@@ -14,9 +14,9 @@ use Rattle.predict_core.specs.Following.{Learner, Follows}
 use Rattle.predict_core.specs.Prediction.{weight_vector}
 use Rattle.predict_core.specs.Residual.{mapped_residual}
 use Rattle.file_coding.specs.Walked.{HasCome, IsAlong, residuals_at}
-use Rattle.file_coding.proofs.Walking.{IsOnWalk, next_goes, band_here, gone_by, gone_count, gone_all, residuals_push, residuals_whole, length-residuals_at}
+use Rattle.file_coding.proofs.Walking.{gone_by, gone_count, gone_all, residuals_whole, length-residuals_at}
 use Rattle.file_decoding.specs.declared.decoder.Decoder.{Decoder}
-use Rattle.file_decoding.specs.Decoding.{HasGiven, GivesMore, TakesCube}
+use Rattle.file_decoding.specs.Decoding.{HasGiven, TakesCube}
 use Rattle.file_decoding.specs.Files.{IsCubeOf}
 use Rattle.file_decoding.proofs.Alike.{put_residual, put_weights}
 use Rattle.file_decoding.proofs.Givers.{given_whole}
@@ -54,7 +54,7 @@ others_follow p c q v i z f lawful shape stands band along =
 
 -- ---- the residuals given stay
 
-map_take_same : (f g : Place → ℕ) (i : ℕ) (ps : List Place) → ((j : ℕ) (r : Place) → j < i → slice_get ps j ≡ Some r → f r ≡ g r) → map f (take i ps) ≡ map g (take i ps)
+pub map_take_same : (f g : Place → ℕ) (i : ℕ) (ps : List Place) → ((j : ℕ) (r : Place) → j < i → slice_get ps j ≡ Some r → f r ≡ g r) → map f (take i ps) ≡ map g (take i ps)
 map_take_same f g zero ps h = refl
 map_take_same f g (suc i) [] h = refl
 map_take_same f g (suc i) (p ∷ ps) h =
@@ -80,26 +80,6 @@ pub decoded_first : (p : Params) (c : Image) (d : Decoder) (start : List Bool) �
 decoded_first p c d start lawful given =
     let none : gone_count p (places p.shape p.order) ≡ 0 = omega (arith, length-places p.shape p.order lawful) in
     record { read = []; text = refl; given = rw none given }
-
-pub decoded_more : (p : Params) (c : Image) (left rest : List Place) (bands : List Learner) (old new : Decoder) (start now next : List Bool) (q : Place) (b : Learner) (delta : ℕ) (v : ℤ)
-    → IsLawful p → c.shape ≡ p.shape → IsOnWalk p c left bands → left ≡ q ∷ rest → slice_get bands q.z ≡ Some b → (decoded : IsDecoded p c left old start now)
-    → GivesMore p new (residuals_at p c (gone_by p left)) decoded.read now next delta → mapped_residual p (put c q.z q.y q.x v) q.z b.place ≡ delta → IsDecoded p (put c q.z q.y q.x v) rest new start next
-decoded_more p c left rest bands old new start now next q b delta v lawful shape walk is band decoded gives value =
-    let goes = next_goes p q left rest lawful.order walk.rest is in
-    let there = band_here p c (gone_by p left) bands q b lawful.order walk.known goes.stands band in
-    let place : b.place ≡ q.y * c.shape.columns + q.x = there.1 ∙ ap (λ (s : Sizes). q.y * s.columns + q.x) (sym shape) in
-    let stands : StandsAt p.shape p.order q (gone_count p left) = subst (λ (k : ℕ). StandsAt p.shape p.order q k) goes.count goes.stands in
-    let last : mapped_residual p (put c q.z q.y q.x v) q.z (q.y * c.shape.columns + q.x) ≡ delta = ap (mapped_residual p (put c q.z q.y q.x v) q.z) (sym place) ∙ value in
-    let pushed : residuals_at p (put c q.z q.y q.x v) (gone_by p rest) ≡ residuals_at p c (gone_by p left) ++ delta ∷ [] =
-    ap (residuals_at p (put c q.z q.y q.x v)) goes.gone
-    ∙ residuals_push p (put c q.z q.y q.x v) (gone_by p left) q
-    ∙ ap (λ (n : ℕ). residuals_at p (put c q.z q.y q.x v) (gone_by p left) ++ n ∷ []) last
-    ∙ ap (λ (ns : List ℕ). ns ++ delta ∷ []) (sym (residuals_kept p c q v left lawful shape stands)) in
-    record {
-      read = decoded.read ++ gives.1;
-      text = decoded.text ∙ ap (λ (x : List Bool). decoded.read ++ x) gives.2 ∙ sym (append_assoc decoded.read gives.1 next);
-      given = subst (λ (ns : List ℕ). HasGiven p new ns (decoded.read ++ gives.1)) (sym pushed) gives.3;
-    }
 
 -- all residuals were given
 pub decoded_whole : (p : Params) (c : Image) (d : Decoder) (start now : List Bool) → IsLawful p → IsCubeOf p c → IsDecoded p c [] d start now → TakesCube p c start now

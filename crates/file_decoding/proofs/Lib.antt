@@ -3,6 +3,8 @@ pub mod FileLaws
 pub mod Fills
 pub mod Found
 pub mod Givers
+pub mod Rows
+pub mod Runs
 pub mod Inverse
 pub mod Long
 pub mod OneCube

@@ -1,5 +1,5 @@
 -- The coder in the direction of reading: which residuals it has given, in encoding order.
-use Rattle.std.specs.Prelude.{ℕ, ◌≡◌, ◌^◌, ◌<◌, ◌≤◌, Bool, List, [], ◌∷◌, ◌++◌, length, Option, option_map, Result, Ok, Err, MatchResult}
+use Rattle.std.specs.Prelude.{ℕ, ◌≡◌, ◌+◌, ◌^◌, ◌<◌, ◌≤◌, Bool, List, [], ◌∷◌, ◌++◌, length, Option, option_map, Result, Ok, Err, MatchResult}
 use Rattle.std.specs.List.{AllByRecursion}
 use Rattle.cube_core.specs.declared.fault.Fault.{Fault}
 use Rattle.cube_core.specs.declared.fault.Fault.TheVariants.{WantOfMemory, BadCode}
@@ -56,6 +56,31 @@ abbrev pub GivesNumber : ℕ → ℕ → ℕ → Result ℕ Fault → Decoder �
 GivesNumber z t place result old unread new left =
     (p : Params) (numbers : List ℕ) (bits : List Bool) → IsLawful p → HasGiven p old numbers bits → IsNumber p numbers z t → place ≡ length numbers
     → MatchResult result (λ number. GivesMore p new numbers bits unread.left left number) (λ fault. behind_body unread.count p (bits ++ unread.left) ≡ Err fault)
+
+-- so many numbers behind the first n, whatever these are, are those of band z from its number t on
+abbrev pub AreNumbers : Params → ℕ → ℕ → ℕ → ℕ → Type 0
+AreNumbers p n z t count = (i : ℕ) (numbers : List ℕ) → i < count → length numbers ≡ n + i → IsNumber p numbers z (t + i)
+
+-- so many numbers of band z may be asked for, one behind another: of some parameters the first of them is its number t, and stands at the place
+pub record MayAskAll (d : Decoder) (z t place count : ℕ) : Type 0 where
+  pub params : Params
+  pub numbers : List ℕ
+  pub bits : List Bool
+  pub lawful : IsLawful params
+  pub given : HasGiven params d numbers bits
+  pub stands : place ≡ length numbers
+  pub ask : AreNumbers params (length numbers) z t count
+
+-- bits were read, and with them these numbers more are given
+abbrev pub GivesAll : Params → Decoder → List ℕ → List Bool → List Bool → List Bool → List ℕ → Type 0
+GivesAll p new numbers bits unread left list =
+    AllByRecursion (λ n. n < 2 ^ p.kind.bits) list × (read : List Bool) × (unread ≡ read ++ left) × HasGiven p new (numbers ++ list) (bits ++ read)
+
+-- whatever numbers were given before: the next ones are given, or the refusal is that of the body
+abbrev pub GivesRun : ℕ → ℕ → ℕ → Result (Unit {0}) Fault → Decoder → Unread → Decoder → List Bool → List ℕ → Type 0
+GivesRun z t place result old unread new left list =
+    (p : Params) (numbers : List ℕ) (bits : List Bool) → IsLawful p → HasGiven p old numbers bits → AreNumbers p (length numbers) z t (length list) → place ≡ length numbers
+    → MatchResult result (λ _. GivesAll p new numbers bits unread.left left list) (λ fault. behind_body unread.count p (bits ++ unread.left) ≡ Err fault)
 
 -- the bits begin with a body of the cube's residuals, and these are left
 pub record TakesCube (p : Params) (c : Image) (bits left : List Bool) : Type 0 where

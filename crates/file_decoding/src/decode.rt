@@ -1,6 +1,6 @@
 //! Decoding: from a file's bytes to its parameters and its cube.
 
-ghost use Rattle.std.specs.Prelude.{◌≡◌, ◌⊎◌, ◌*◌, ◌^◌, ◌≤◌, Err, IfOk, IfErr, length, drop};
+ghost use Rattle.std.specs.Prelude.{◌≡◌, ◌⊎◌, ◌+◌, ◌*◌, ◌^◌, ◌<◌, ◌≤◌, true, Err, IfOk, IfErr, length, drop};
 ghost use Rattle.cube_core.specs.declared.fault.Fault.{Fault as Refusal};
 ghost use Rattle.cube_core.specs.declared.fault.Fault.TheVariants.{WantOfMemory};
 ghost use Rattle.cube_core.specs.Shape.{InRange};
@@ -10,13 +10,15 @@ ghost use Rattle.header_bits.specs.Bits.{bits_of_bytes};
 ghost use Rattle.header_bits.specs.Lawful.{IsLawful};
 ghost use Rattle.header_bits.specs.Header.{header_at, BeginsWithTable};
 ghost use Rattle.file_decoding.specs.Files.{IsFile, behind_body, fill_test, head_at, file_test};
-ghost use Rattle.file_decoding.specs.Decoding.{TakesCube, AnswersOr, IsNoFile};
+ghost use Rattle.cube_core.specs.Order.{IsPlaceOf, goes_along_rows};
+ghost use Rattle.file_decoding.specs.Decoding.{TakesCube, AnswersOr, IsNoFile, MayAskAll, GivesRun};
 
 use crate::decoder::Decoder;
 use crate::least::test_length;
 use cube_core::cube::Cube;
 use cube_core::cursor::Places;
 use cube_core::fault::Fault;
+use cube_core::order::Place;
 use file_coding::bands::all_bands;
 use header_bits::bit_reader::BitReader;
 use header_bits::header::read_header;
@@ -74,6 +76,48 @@ fn reader_behind(bytes: &[u8], size: usize) -> BitReader<'_>
     reader
 }
 
+/// The most places that are decoded at once.
+const RUN: usize = 64;
+
+/// How many places are decoded at once from this one on: where places go along rows, those of its row.
+fn run_from(params: &Params, place: Place) -> usize
+    requires { IsPlaceOf params.now.shape place }
+    ensures some { 1 ≤ result }
+    ensures most { result ≤ 64 }
+    ensures inside { place.x + result ≤ params.now.shape.columns }
+    ensures along { 1 < result → goes_along_rows params.now.order ≡ true }
+{
+    if params.order.goes_along_rows() {
+        RUN.min((params.shape.columns() - place.x) as usize)
+    } else {
+        1
+    }
+}
+
+/// Reads the residuals of a run, of which the first is number `t` of band `z` and stands at `place` in encoding order. The refusals are those of `Decoder::next`.
+fn read_run(
+    decoder: &mut Decoder,
+    z: u32,
+    t: u64,
+    place: u64,
+    reader: &mut BitReader,
+    deltas: &mut [u16],
+) -> Result<(), Fault>
+    requires may { MayAskAll decoder.old z t place (length deltas.old) }
+    requires small { (length deltas.old ≤ 64) × (t < 2 ^ 48) × (place < 2 ^ 48) }
+    ensures given { GivesRun z t place result decoder.old reader.old decoder.new reader.new.left deltas.new }
+    ensures count { reader.new.count ≡ reader.old.count }
+    ensures long { length deltas.new ≡ length deltas.old }
+{
+    for i in 0..deltas.len() {
+        match decoder.next(z, t + i as u64, place + i as u64, reader) {
+            Ok(number) => deltas[i] = number,
+            Err(fault) => return Err(fault),
+        }
+    }
+    Ok(())
+}
+
 /// The cube whose body stands next.
 fn take_cube(alloc: Global, params: &Params, reader: &mut BitReader) -> Result<Cube, Fault>
     requires { IsLawful params.now }
@@ -86,13 +130,15 @@ fn take_cube(alloc: Global, params: &Params, reader: &mut BitReader) -> Result<C
     let mut decoder = Decoder::new(alloc, params)?;
     let count = params.shape.sample_count();
     let mut places = Places::new(params.shape, params.order);
-    while let Some(place) = places.next() {
-        let index = count - 1 - places.left();
+    let mut deltas = [0; RUN];
+    while let Some(place) = places.peek() {
+        let index = count - places.left();
+        let run = run_from(params, place);
         let band = &mut bands[place.z as usize];
         let t = band.next();
-        let delta = decoder.next(place.z, t, index, reader)?;
-        let sample = band.inverse(&cube, place.y, place.x, delta);
-        cube.set(place.z, place.y, place.x, sample);
+        read_run(&mut decoder, place.z, t, index, reader, &mut deltas[..run])?;
+        band.inverse_run(&mut cube, place.y, place.x, &deltas[..run]);
+        places.go_by(run as u64);
     }
     cube.is_cube();
     Ok(cube)

@@ -1,16 +1,26 @@
-use Rattle.std.proofs.Common.{rules, SFits, w32, to_z-of_z, refl, ◌≡◌, ◌∙◌, ◌-◌, [], Err, Some, inr, arith, sym, ap, length}
+use Rattle.std.proofs.Common.{refl, ◌≡◌, ◌∙◌, ◌+◌, ◌-◌, ◌*◌, ◌^◌, ◌≤◌, ◌∷◌, ℕ, suc, List, [], Err, Some, inr, arith, sym, ap, subst, length, take, drop, length-take, length-drop, length-append}
 use Rattle.std.specs.List.{slice_get}
+use Rattle.std.proofs.lemmas.List.{take_at}
+use Rattle.std.proofs.lemmas.Nat.{mul-le}
 use Rattle.std.proofs.lemmas.Result.{err_from_is_err_and}
 use Rattle.std.proofs.lemmas.Option.{slice_get-get_or}
-use Rattle.cube_core.specs.Image.{Image, put}
-use Rattle.predict_core.specs.Following.{Learner}
-use Rattle.file_coding.specs.Coding.{IsNumber}
+use Rattle.cube_core.specs.declared.order.Place.{Place}
+use Rattle.cube_core.specs.Shape.{Sizes}
+use Rattle.cube_core.specs.Image.{Image}
+use Rattle.cube_core.specs.Order.{IsOrder}
+use Rattle.cube_core.proofs.Orders.{StandsAt}
+use Rattle.predict_core.specs.Following.{Learner, MovesBy}
+use Rattle.predict_core.specs.Residual.{run_residuals}
+use Rattle.predict_core.specs.RunPlaces.{AreAlikeBeside}
 use Rattle.file_coding.specs.Walked.{IsAlong, residuals_at}
 use Rattle.file_coding.proofs.Come.{time_of}
-use Rattle.file_coding.proofs.Walking.{NextGoes, next_goes, band_here, gone_by, walked_none, on_walk_first, on_walk_more, is_number, length-residuals_at}
+use Rattle.file_coding.proofs.Endings.{first_of, none_first}
+use Rattle.file_coding.proofs.Walking.{NextGoes, next_goes, band_here, gone_by, gone_count, walked_none, on_walk_first, length-residuals_at}
+use Rattle.file_decoding.specs.Decoding.{AreNumbers}
 use Rattle.file_decoding.specs.Files.{behind_body}
-use Rattle.file_decoding.proofs.Givers.{may_ask}
-use Rattle.file_decoding.proofs.Inverse.{IsDecoded, decoded_first, decoded_more, decoded_whole, others_follow}
+use Rattle.file_decoding.proofs.Alike.{SameBefore}
+use Rattle.file_decoding.proofs.Inverse.{IsDecoded, decoded_first, decoded_whole}
+use Rattle.file_decoding.proofs.Rows.{AreOfRow, run_places, numbers_there, beside_same, walk_same, walk_run, decoded_run, each_below}
 use Rattle.file_decoding.proofs.decode.take_cube.Goals as goal
 use Rattle.file_decoding.proofs.decode.take_cube.Goals.{In-Some, After-next-t}
 
@@ -24,100 +34,160 @@ loop-place-init c =
       kind = kind;
       count = refl;
       walk = on_walk_first c.args.params.now c.in_ok-cube.cube c.in_ok-bands.bands.items c.requires.order known;
+      room = refl;
       decoded = decoded_first c.args.params.now c.in_ok-cube.cube c.in_ok-decoder.decoder c.args.reader.now.left c.requires.order c.in_ok-decoder.ensures.given;
     })
 
-goes : (c : In-Some) → NextGoes c.args.params.now c.in-Some.place c.loop-place.places c.next.new.self
-goes c = next_goes c.args.params.now c.in-Some.place c.loop-place.places c.next.new.self c.requires.order c.loop-place.invariant.walk.rest c.in-Some.ensures.steps
+-- the place that comes next, and those behind it
+first : (c : In-Some) → slice_get c.loop-place.places 0 ≡ Some c.in-Some.place
+first c = sym c.peek.ensures ∙ c.in-Some.is
 
-pub overflow_sub-index-in-Some : goal.overflow_sub-index-in-Some
-overflow_sub-index-in-Some c = let g = goes (goal.at.overflow_sub-index-in-Some c).In-Some in omega (arith, g.index, c.left.ensures, c.sample_count-count.ensures.value)
+next : (c : In-Some) → (rest : List Place) × (c.loop-place.places ≡ c.in-Some.place ∷ rest)
+next c = first_of c.loop-place.places c.in-Some.place (first c)
+
+goes : (c : In-Some) → NextGoes c.args.params.now c.in-Some.place c.loop-place.places (next c).0
+goes c = next_goes c.args.params.now c.in-Some.place c.loop-place.places (next c).0 c.requires.order c.loop-place.invariant.walk.rest (next c).1
+
+pub overflow_sub-index : goal.overflow_sub-index
+overflow_sub-index c =
+    let s = (goal.at.overflow_sub-index c).In-Some in
+    let g = goes s in
+    omega (arith, g.index, ap length (next s).1, c.left.ensures, c.sample_count-count.ensures.value)
+
+pub run_from-run-requires : goal.run_from-run-requires
+run_from-run-requires c = (goes (goal.at.run_from-run-requires c).In-Some).stands.place
 
 pub index_mut-band-requires : goal.index_mut-band-requires
 index_mut-band-requires c = let g = goes (goal.at.index_mut-band-requires c).In-Some in omega (arith, g.stands.place.band, c.loop-place.invariant.walk.known.many)
 
-pub next-requires-in-Some : goal.next-requires-in-Some
-next-requires-in-Some c =
-    let g = goes (goal.at.next-requires-in-Some c).In-Some in
-    may_ask c.args.params.now c.loop-place.decoder (residuals_at c.args.params.now c.loop-place.cube (gone_by c.args.params.now c.loop-place.places)) c.loop-place.invariant.decoded.read c.in-Some.place.z
-    c.requires c.loop-place.invariant.decoded.given (omega (arith, g.below, length-residuals_at c.args.params.now c.loop-place.cube (gone_by c.args.params.now c.loop-place.places))) g.stands.place.band
+first_at : (c : After-next-t) → slice_get c.loop-place.places 0 ≡ Some c.in-Some.place
+first_at c = sym c.peek.ensures ∙ c.in-Some.is
+
+next_at : (c : After-next-t) → (rest : List Place) × (c.loop-place.places ≡ c.in-Some.place ∷ rest)
+next_at c = first_of c.loop-place.places c.in-Some.place (first_at c)
+
+goes_at : (c : After-next-t) → NextGoes c.args.params.now c.in-Some.place c.loop-place.places (next_at c).0
+goes_at c = next_goes c.args.params.now c.in-Some.place c.loop-place.places (next_at c).0 c.requires.order c.loop-place.invariant.walk.rest (next_at c).1
 
 band_is : (c : After-next-t) → slice_get c.loop-place.bands.items c.in-Some.place.z ≡ Some c.index_mut-band.result.now
 band_is c =
-    let g = next_goes c.args.params.now c.in-Some.place c.loop-place.places c.next.new.self c.requires.order c.loop-place.invariant.walk.rest c.in-Some.ensures.steps in
-    slice_get-get_or c.loop-place.bands.items c.in-Some.place.z c.index_mut-band.result.now (omega (arith, g.stands.place.band, c.loop-place.invariant.walk.known.many)) ∙ ap (λ (b : Learner). Some b) (sym c.index_mut-band.ensures.value)
+    slice_get-get_or c.loop-place.bands.items c.in-Some.place.z c.index_mut-band.result.now (omega (arith, (goes_at c).stands.place.band, c.loop-place.invariant.walk.known.many)) ∙ ap (λ (b : Learner). Some b) (sym c.index_mut-band.ensures.value)
 
 here : (c : After-next-t) → IsAlong c.args.params.now c.loop-place.cube (length (gone_by c.args.params.now c.loop-place.places)) c.in-Some.place.z c.index_mut-band.result.now × (c.index_mut-band.result.now.place ≡ time_of c.args.params.now.shape c.in-Some.place)
-here c = band_here c.args.params.now c.loop-place.cube (gone_by c.args.params.now c.loop-place.places) c.loop-place.bands.items c.in-Some.place c.index_mut-band.result.now c.requires.order c.loop-place.invariant.walk.known (next_goes c.args.params.now c.in-Some.place c.loop-place.places c.next.new.self c.requires.order c.loop-place.invariant.walk.rest c.in-Some.ensures.steps).stands (band_is c)
+here c = band_here c.args.params.now c.loop-place.cube (gone_by c.args.params.now c.loop-place.places) c.loop-place.bands.items c.in-Some.place c.index_mut-band.result.now c.requires.order c.loop-place.invariant.walk.known (goes_at c).stands (band_is c)
 
--- the number that is asked for is the next one
-asked : (c : After-next-t) → IsNumber c.args.params.now (residuals_at c.args.params.now c.loop-place.cube (gone_by c.args.params.now c.loop-place.places)) c.in-Some.place.z c.next-t.result
-asked c =
-    let number = is_number c.args.params.now c.loop-place.cube c.loop-place.places c.next.new.self c.loop-place.bands.items (residuals_at c.args.params.now c.loop-place.cube (gone_by c.args.params.now c.loop-place.places)) c.in-Some.place c.index_mut-band.result.now c.requires.order c.loop-place.invariant.walk c.in-Some.ensures.steps (band_is c) (length-residuals_at c.args.params.now c.loop-place.cube (gone_by c.args.params.now c.loop-place.places)) in
-    rw c.next-t.ensures number
+row : (c : After-next-t) → AreOfRow c.in-Some.place c.run_from-run.result c.loop-place.places
+row c = run_places c.args.params.now c.loop-place.places c.in-Some.place c.run_from-run.result c.requires c.loop-place.invariant.walk.rest (first_at c) c.run_from-run.ensures.inside c.run_from-run.ensures.along
 
--- its place is that of the walk
-stands : (c : After-next-t) → c.sample_count-count.result - 1 - c.left.result ≡ length (residuals_at c.args.params.now c.loop-place.cube (gone_by c.args.params.now c.loop-place.places))
-stands c =
-    let g = next_goes c.args.params.now c.in-Some.place c.loop-place.places c.next.new.self c.requires.order c.loop-place.invariant.walk.rest c.in-Some.ensures.steps in
-    omega (arith, g.index, g.count, c.left.ensures, c.sample_count-count.ensures.value, length-residuals_at c.args.params.now c.loop-place.cube (gone_by c.args.params.now c.loop-place.places))
+-- so many residuals were given
+given_count : (c : After-next-t) → gone_count c.args.params.now c.loop-place.places ≡ length (residuals_at c.args.params.now c.loop-place.cube (gone_by c.args.params.now c.loop-place.places))
+given_count c = sym (length-residuals_at c.args.params.now c.loop-place.cube (gone_by c.args.params.now c.loop-place.places) ∙ (goes_at c).count)
 
-pub returns-in_err-delta-clause-refused : goal.returns-in_err-delta-clause-refused
-returns-in_err-delta-clause-refused c =
-    let d = (goal.at.returns-in_err-delta-clause-refused c).After-next-t in
+-- the numbers that are asked for are the next ones
+asked : (c : After-next-t) (n : ℕ) → n ≡ c.run_from-run.result → AreNumbers c.args.params.now (length (residuals_at c.args.params.now c.loop-place.cube (gone_by c.args.params.now c.loop-place.places))) c.in-Some.place.z c.next-t.result n
+asked c n e =
+    let time : c.next-t.result ≡ c.in-Some.place.y * c.args.params.now.shape.columns + c.in-Some.place.x = c.next-t.ensures ∙ (here c).1 in
+    let numbers = numbers_there c.args.params.now c.loop-place.places c.in-Some.place c.run_from-run.result c.next-t.result c.requires.order c.loop-place.invariant.walk.rest (row c) time in
+    subst (λ (k : ℕ). AreNumbers c.args.params.now (length (residuals_at c.args.params.now c.loop-place.cube (gone_by c.args.params.now c.loop-place.places))) c.in-Some.place.z c.next-t.result k) (sym e)
+    (subst (λ (k : ℕ). AreNumbers c.args.params.now k c.in-Some.place.z c.next-t.result c.run_from-run.result) (given_count c) numbers)
+
+-- the first one's place is that of the walk
+stands : (c : After-next-t) → c.sample_count-count.result - c.left.result ≡ length (residuals_at c.args.params.now c.loop-place.cube (gone_by c.args.params.now c.loop-place.places))
+stands c = omega (arith, (goes_at c).index, ap length (next_at c).1, c.left.ensures, c.sample_count-count.ensures.value, given_count c)
+
+room : (c : After-next-t) → length (take c.run_from-run.result c.loop-place.deltas) ≡ c.run_from-run.result
+room c = omega (arith, c.loop-place.invariant.room, c.run_from-run.ensures.most, length-take c.run_from-run.result c.loop-place.deltas)
+
+pub read_run-requires-clause-may : goal.read_run-requires-clause-may
+read_run-requires-clause-may c =
+    let d = (goal.at.read_run-requires-clause-may c).After-next-t in
+    record {
+      params = c.args.params.now;
+      numbers = residuals_at c.args.params.now c.loop-place.cube (gone_by c.args.params.now c.loop-place.places);
+      bits = c.loop-place.invariant.decoded.read;
+      lawful = c.requires;
+      given = c.loop-place.invariant.decoded.given;
+      stands = stands d;
+      ask = asked d (length (take c.run_from-run.result c.loop-place.deltas)) (room d);
+    }
+
+pub read_run-requires-clause-small : goal.read_run-requires-clause-small
+read_run-requires-clause-small c =
+    let d = (goal.at.read_run-requires-clause-small c).After-next-t in
+    let sizes = c.requires.sizes in
+    let most : c.args.params.now.shape.rows * c.args.params.now.shape.columns ≤ 65536 * 65536 = mul-le c.args.params.now.shape.rows c.args.params.now.shape.columns 65536 65536 (omega (arith, sizes.rows.1)) (omega (arith, sizes.columns.1)) in (
+      omega (arith, room d, c.run_from-run.ensures.most),
+      omega (arith, most, (here d).0.inside, c.next-t.ensures),
+      omega (arith, ap length (next_at d).1, c.left.ensures, c.sample_count-count.ensures.range),
+    )
+
+pub returns-in_err-read_run-clause-refused : goal.returns-in_err-read_run-clause-refused
+returns-in_err-read_run-clause-refused c =
+    let d = (goal.at.returns-in_err-read_run-clause-refused c).After-next-t in
     let known = c.loop-place.invariant in
-    let bad = c.in_err-delta.ensures.given c.args.params.now (residuals_at c.args.params.now c.loop-place.cube (gone_by c.args.params.now c.loop-place.places)) c.loop-place.invariant.decoded.read c.requires c.loop-place.invariant.decoded.given (asked d) (stands d) in
-    let body : behind_body c.args.reader.now.count c.args.params.now c.args.reader.now.left ≡ Err c.in_err-delta.field-0.0 = rw (known.count, ← known.decoded.text) at bad in
-    let told = err_from_is_err_and c.from_residual-in_err-delta.result c.from_residual-in_err-delta.ensures.1 in
+    let bad = c.in_err-read_run.ensures.given c.args.params.now (residuals_at c.args.params.now c.loop-place.cube (gone_by c.args.params.now c.loop-place.places)) known.decoded.read c.requires known.decoded.given (asked d (length c.read_run.new.deltas) (c.in_err-read_run.ensures.long ∙ room d)) (stands d) in
+    let body : behind_body c.args.reader.now.count c.args.params.now c.args.reader.now.left ≡ Err c.in_err-read_run.field-0.0 = rw (known.count, ← known.decoded.text) at bad in
+    let told = err_from_is_err_and c.from_residual-in_err-read_run.result c.from_residual-in_err-read_run.ensures.1 in
     rw (told.1, told.2) (inr body)
 
-pub inverse-sample-requires-clause-shape : goal.inverse-sample-requires-clause-shape
-inverse-sample-requires-clause-shape c = c.loop-place.invariant.shape ∙ sym (here (goal.at.inverse-sample-requires-clause-shape c).After-next-t).0.follows.made.shape
+pub inverse_run-requires-clause-shape : goal.inverse_run-requires-clause-shape
+inverse_run-requires-clause-shape c = c.loop-place.invariant.shape ∙ sym (here (goal.at.inverse_run-requires-clause-shape c).After-next-t).0.follows.made.shape
 
-pub inverse-sample-requires-clause-kind : goal.inverse-sample-requires-clause-kind
-inverse-sample-requires-clause-kind c = c.loop-place.invariant.kind ∙ sym (here (goal.at.inverse-sample-requires-clause-kind c).After-next-t).0.follows.made.kind
+pub inverse_run-requires-clause-kind : goal.inverse_run-requires-clause-kind
+inverse_run-requires-clause-kind c = c.loop-place.invariant.kind ∙ sym (here (goal.at.inverse_run-requires-clause-kind c).After-next-t).0.follows.made.kind
 
-pub inverse-sample-requires-clause-place : goal.inverse-sample-requires-clause-place
-inverse-sample-requires-clause-place c =
-    let h = here (goal.at.inverse-sample-requires-clause-place c).After-next-t in
-    let g = goes (goal.at.inverse-sample-requires-clause-place c).In-Some in
-    rw (c.loop-place.invariant.shape, h.0.band) g.stands.place
+pub inverse_run-requires-clause-place : goal.inverse_run-requires-clause-place
+inverse_run-requires-clause-place c =
+    let d = (goal.at.inverse_run-requires-clause-place c).After-next-t in
+    rw (c.loop-place.invariant.shape, (here d).0.band) (goes_at d).stands.place
 
-pub inverse-sample-requires-clause-next : goal.inverse-sample-requires-clause-next
-inverse-sample-requires-clause-next c = rw c.loop-place.invariant.shape (here (goal.at.inverse-sample-requires-clause-next c).After-next-t).1
+pub inverse_run-requires-clause-next : goal.inverse_run-requires-clause-next
+inverse_run-requires-clause-next c = rw c.loop-place.invariant.shape (here (goal.at.inverse_run-requires-clause-next c).After-next-t).1
 
-pub inverse-sample-requires-clause-residual : goal.inverse-sample-requires-clause-residual
-inverse-sample-requires-clause-residual c =
-    let d = (goal.at.inverse-sample-requires-clause-residual c).After-next-t in
-    let gives = c.in_ok-delta.ensures.given c.args.params.now (residuals_at c.args.params.now c.loop-place.cube (gone_by c.args.params.now c.loop-place.places)) c.loop-place.invariant.decoded.read c.requires c.loop-place.invariant.decoded.given (asked d) (stands d) in
-    rw c.loop-place.invariant.kind gives.0
-
-pub set-requires-clause-place : goal.set-requires-clause-place
-set-requires-clause-place c = let g = goes (goal.at.set-requires-clause-place c).In-Some in rw c.loop-place.invariant.shape g.stands.place
+pub inverse_run-requires-clause-residuals_in : goal.inverse_run-requires-clause-residuals_in
+inverse_run-requires-clause-residuals_in c =
+    let d = (goal.at.inverse_run-requires-clause-residuals_in c).After-next-t in
+    let known = c.loop-place.invariant in
+    let long = c.in_ok-read_run.ensures.long ∙ room d in
+    let gives = c.in_ok-read_run.ensures.given c.args.params.now (residuals_at c.args.params.now c.loop-place.cube (gone_by c.args.params.now c.loop-place.places)) known.decoded.read c.requires known.decoded.given (asked d (length c.read_run.new.deltas) long) (stands d) in
+    rw (take_at c.read_run.new.deltas (drop c.run_from-run.result c.loop-place.deltas) c.run_from-run.result long, known.kind) (each_below (2 ^ c.args.params.now.kind.bits) c.read_run.new.deltas gives.0)
 
 pub loop-place-preserved : goal.loop-place-preserved
 loop-place-preserved c =
     let d = (goal.at.loop-place-preserved c).After-next-t in
-    let g = goes (goal.at.loop-place-preserved c).In-Some in
-    let h = here d in
     let known = c.loop-place.invariant in
-    let gives = c.in_ok-delta.ensures.given c.args.params.now (residuals_at c.args.params.now c.loop-place.cube (gone_by c.args.params.now c.loop-place.places)) c.loop-place.invariant.decoded.read c.requires c.loop-place.invariant.decoded.given (asked d) (stands d) in
-    let follows = rw h.0.band at (c.inverse-sample.ensures.follows c.args.params.now h.0.follows) in
-    let residual = rw h.0.band at (c.inverse-sample.ensures.residual c.args.params.now h.0.follows) in
-    let fits : SFits w32 c.inverse-sample.result = search rules in
-    let image : c.set.new.self ≡ put c.loop-place.cube c.in-Some.place.z c.in-Some.place.y c.in-Some.place.x c.inverse-sample.result = simp (to_z-of_z fits) at c.set.ensures in
-    rw image (record {
-      shape = known.shape;
-      kind = known.kind;
-      count = c.next-in-Some.ensures.count ∙ known.count;
-      walk = on_walk_more c.args.params.now c.loop-place.cube _ c.loop-place.places c.next.new.self c.loop-place.bands.items c.in-Some.place c.index_mut-band.result.now c.inverse-sample.new.self
-          c.requires.order known.walk c.in-Some.ensures.steps (band_is d) c.inverse-sample.ensures.moved follows (λ z f lt apart along. others_follow c.args.params.now c.loop-place.cube c.in-Some.place c.inverse-sample.result _ z f c.requires known.shape g.stands lt along);
-      decoded = decoded_more c.args.params.now c.loop-place.cube c.loop-place.places c.next.new.self c.loop-place.bands.items c.loop-place.decoder c.next-in-Some.new.self c.args.reader.now.left c.loop-place.reader.left c.next-in-Some.new.reader.left c.in-Some.place c.index_mut-band.result.now c.in_ok-delta.delta c.inverse-sample.result
-          c.requires known.shape known.walk c.in-Some.ensures.steps (band_is d) known.decoded gives residual;
-    })
+    let g = goes_at d in
+    let h = here d in
+    let long : length c.read_run.new.deltas ≡ c.run_from-run.result = c.in_ok-read_run.ensures.long ∙ room d in
+    let whole = take_at c.read_run.new.deltas (drop c.run_from-run.result c.loop-place.deltas) c.run_from-run.result long in
+    let gives = c.in_ok-read_run.ensures.given c.args.params.now (residuals_at c.args.params.now c.loop-place.cube (gone_by c.args.params.now c.loop-place.places)) known.decoded.read c.requires known.decoded.given (asked d (length c.read_run.new.deltas) long) (stands d) in
+    let moved : MovesBy c.run_from-run.result c.index_mut-band.result.now c.inverse_run.new.self = rw (whole, long) at c.inverse_run.ensures.moved in
+    let beside : AreAlikeBeside c.loop-place.cube c.inverse_run.new.cube c.in-Some.place.z c.in-Some.place.y c.in-Some.place.x c.run_from-run.result = rw (whole, long, h.0.band) at c.inverse_run.ensures.beside in
+    let residual : run_residuals c.args.params.now c.inverse_run.new.cube c.in-Some.place.z c.index_mut-band.result.now.place c.run_from-run.result ≡ c.read_run.new.deltas = rw (whole, long, h.0.band) at (c.inverse_run.ensures.residuals c.args.params.now h.0.follows) in
+    let follows = c.inverse_run.ensures.follows c.args.params.now h.0.follows in
+    let order : IsOrder c.loop-place.cube.shape c.args.params.now.order = subst (λ (s : Sizes). IsOrder s c.args.params.now.order) (sym known.shape) c.requires.order in
+    let there : StandsAt c.loop-place.cube.shape c.args.params.now.order c.in-Some.place (length (gone_by c.args.params.now c.loop-place.places)) =
+    subst (λ (s : Sizes). StandsAt s c.args.params.now.order c.in-Some.place (length (gone_by c.args.params.now c.loop-place.places))) (sym known.shape) g.stands in
+    let same = beside_same c.args.params.now.order c.loop-place.cube c.inverse_run.new.cube c.in-Some.place c.run_from-run.result (length (gone_by c.args.params.now c.loop-place.places)) order there beside in
+    let shape : c.inverse_run.new.cube.shape ≡ c.args.params.now.shape = sym beside.alike.shape ∙ known.shape in
+    let one : suc (c.run_from-run.result - 1) ≡ c.run_from-run.result = omega (arith, c.run_from-run.ensures.some) in
+    let walk = walk_same c.args.params.now c.loop-place.cube c.inverse_run.new.cube c.loop-place.places c.loop-place.bands.items c.requires known.shape beside.alike same known.walk in
+    let walked = walk_run (c.run_from-run.result - 1) c.args.params.now c.inverse_run.new.cube c.loop-place.places c.loop-place.bands.items c.in-Some.place c.index_mut-band.result.now c.inverse_run.new.self c.requires.order walk (rw one (row d)) (band_is d) (rw one moved) follows in
+    let time : c.index_mut-band.result.now.place ≡ c.in-Some.place.y * c.inverse_run.new.cube.shape.columns + c.in-Some.place.x = h.1 ∙ ap (λ (s : Sizes). c.in-Some.place.y * s.columns + c.in-Some.place.x) (sym shape) in
+    let before : SameBefore c.args.params.now.order c.loop-place.cube c.inverse_run.new.cube (gone_count c.args.params.now c.loop-place.places) = subst (SameBefore c.args.params.now.order c.loop-place.cube c.inverse_run.new.cube) g.count same in
+    record {
+      shape = shape;
+      kind = sym beside.alike.kind ∙ known.kind;
+      count = c.in_ok-read_run.ensures.count ∙ known.count;
+      walk = rw c.go_by.ensures (rw one at walked);
+      room = omega (arith, length-append c.read_run.new.deltas (drop c.run_from-run.result c.loop-place.deltas), length-drop c.run_from-run.result c.loop-place.deltas, long, known.room, c.run_from-run.ensures.most);
+      decoded = rw c.go_by.ensures (decoded_run c.args.params.now c.loop-place.cube c.inverse_run.new.cube c.loop-place.places c.loop-place.decoder c.read_run.new.decoder c.args.reader.now.left c.loop-place.reader.left c.read_run.new.reader.left
+          c.in-Some.place c.run_from-run.result c.index_mut-band.result.now.place c.read_run.new.deltas c.requires known.shape beside.alike before known.walk.rest (row d) time known.decoded gives residual);
+    }
 
 pub returns-clause-taken : goal.returns-clause-taken
 returns-clause-taken c =
     let known = c.loop-place.invariant in
-    let decoded : IsDecoded c.args.params.now c.loop-place.cube [] c.loop-place.decoder c.args.reader.now.left c.loop-place.reader.left = rw c.in_default.ensures.steps.0 at c.loop-place.invariant.decoded in
+    let none : c.loop-place.places ≡ [] = none_first c.loop-place.places (sym c.peek.ensures ∙ c.in_default.is) in
+    let decoded : IsDecoded c.args.params.now c.loop-place.cube [] c.loop-place.decoder c.args.reader.now.left c.loop-place.reader.left = rw none at c.loop-place.invariant.decoded in
     decoded_whole c.args.params.now c.loop-place.cube c.loop-place.decoder c.args.reader.now.left c.loop-place.reader.left c.requires (record { cube = c.is_cube.ensures; shape = known.shape; kind = known.kind }) decoded

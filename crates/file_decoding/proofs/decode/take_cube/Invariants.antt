@@ -9,6 +9,7 @@ invariant-loop-place l = record {
   kind : l.cube.kind ≡ l.params.kind;
   count : l.reader.count ≡ l.initial.reader.count;
   walk : IsOnWalk l.params l.cube l.places l.bands.items;
+  room : length l.deltas ≡ 64;
   decoded : IsDecoded l.params l.cube l.places l.decoder l.initial.reader.left l.reader.left;
 }
 
