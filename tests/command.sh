@@ -162,20 +162,43 @@ run 'OUT is a pipe' 0 '' compress $two raw to
 wait
 holds 'OUT is a pipe' got "$file"
 
-# ---- names beyond ASCII, long ones, and none
+# All of IN is in its pipe, and its other end closed, before OUT can be opened: who opens IN again finds nothing.
+timeout 60 cp raw from &
+giver=$!
+timeout 60 "$program" compress $two from to > stdout 2> stderr < /dev/null &
+ran=$!
+wait "$giver"
+timeout 60 cp to got
+wait "$ran"
+check 'IN and OUT are pipes' 0 '' $?
+holds 'IN and OUT are pipes' got "$file"
+mkfifo slow
+{ printf '\xc8'; sleep 0.3; printf '\xc8'; } > slow &
+run 'IN comes in two pieces' 0 '' compress $two slow coded
+holds 'IN comes in two pieces' coded "$file"
+{ head -c 7 small; sleep 0.3; tail -c 1 small; } | "$program" show > shown 2> stderr
+check 'the standard input comes in two pieces' 0 '' $?
+same 'the standard input comes in two pieces' text shown
+
+# ---- names beyond ASCII, with blanks at their ends, of lines, long ones, and none
 
 long=$(printf 'x%.0s' $(seq 1 250))
-for name in 'zwei Wörter' -- "$long" 'ä\n*'; do
-    if [ "$name" = -- ]; then continue; fi
-    cp raw "$name"
-    run "IN is $name" 0 '' compress $two "$name" "$name.out"
-    holds "IN is $name" "$name.out" "$file"
+far=$(printf './%.0s' $(seq 1 1900))
+for name in 'zwei Wörter' "$long" "$far$long" 'ä\n*' ' raw' 'raw ' $'raw\n' $'zwei\nZeilen' $'\traw' - '"raw"' '$raw' '~' '%41'; do
+    told=${name:0:40}
+    cp raw "./$name"
+    rm -f coded
+    run "IN is $told" 0 '' compress $two "$name" coded
+    holds "IN is $told" coded "$file"
+    run "OUT is $told" 0 '' compress $two raw "$name"
+    holds "OUT is $told" "./$name" "$file"
+    rm "./$name"
 done
 run 'a name without letters' 4 $'ccsds: 18 Read\n' compress $two '' coded
 run 'a word without letters' 1 "$usage" compress $two '' raw coded
 run 'a word without letters, behind show' 1 "$usage" show ''
 
-# ---- an end that nobody reads, and no standard error
+# ---- an end that nobody reads, and streams that are closed
 
 {
     sleep 0.3
@@ -186,6 +209,10 @@ check 'nobody reads' 4 $'ccsds: 19 Write 0\n' "${PIPESTATUS[0]}"
 if [ $? -ne 4 ]; then complain 'no room for the line: another status'; fi
 "$program" expand missing out 2>&-
 if [ $? -ne 4 ]; then complain 'no standard error: another status'; fi
+"$program" inspect > stdout 2> stderr <&-
+check 'no standard input' 4 $'ccsds: 18 Read\n' $?
+"$program" show < small 2> stderr >&-
+check 'no standard output' 4 $'ccsds: 19 Write 0\n' $?
 
 # ---- a file far larger than its header
 
