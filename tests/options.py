@@ -30,8 +30,10 @@ class Room(Workroom):
         super().__init__(folder)
         self.program, self.passed, self.failed = os.path.realpath(program), 0, 0
 
-    def run(self, *words, given=b"", limit=None, processors=None):
-        """The status, the output and the line on standard error of a run, in so much memory, and on these processors."""
+    def run(self, *words, given=b"", read=None, limit=None, processors=None):
+        """The status, the output and the line on standard error of a run, in so much memory, and on these processors.
+
+        Its standard input is the file that `read` names, or else a pipe with the given bytes."""
 
         def bound():
             if limit:
@@ -39,7 +41,10 @@ class Room(Workroom):
             if processors:
                 os.sched_setaffinity(0, processors)
 
-        ran = subprocess.run([self.program, *map(str, words)], input=given, capture_output=True, cwd=self.folder, preexec_fn=bound, timeout=LIMIT, check=False)
+        with open(self.path(read) if read else os.devnull, "rb") as file:
+            how = {"capture_output": True, "cwd": self.folder, "preexec_fn": bound, "timeout": LIMIT, "check": False}
+            how |= {"stdin": file} if read else {"input": given}
+            ran = subprocess.run([self.program, *map(str, words)], **how)
         return ran.returncode, ran.stdout, ran.stderr.decode()
 
     def hold(self, name, found, wanted):
@@ -212,14 +217,18 @@ def great_sizes(room):
 
 def great_show(room):
     """What `show` prints of a cube with 65,536 columns is the file that `compress` writes of it by the same parameters."""
-    raw = random.Random(5).randbytes(3 << 16)
+    raw = random.Random(5).randbytes(5 << 16)
     room.write("raw", raw)
-    sizes = ["--columns", 65_536, "--rows", 3, "--bands", 1, "--bits", 8, "--bytes", 1]
+    sizes = ["--columns", 65_536, "--rows", 5, "--bands", 1, "--bits", 8, "--bytes", 1]
     common = ["--previous", 0, "--reduced", "--column-sums", "--register", 32]
     room.hold("65,536 columns as show codes them", room.run("compress", *sizes, *common, "raw", "file"), (0, b"", ""))
-    status, shown, line = room.run("show", given=bytes([0, 0, 0, 3, 0, 1]) + raw)
-    room.hold("65,536 columns are shown", (status, line), (0, ""))
-    room.hold("65,536 columns are shown: the file", shown == room.read("file").hex().encode() + b"\n", True)
+    cube = bytes([0, 0, 0, 5, 0, 1]) + raw
+    room.write("cube", cube)
+    # A pipe gives no more than 65,536 bytes at once, and a file all that it is asked for.
+    for name, how in (("a pipe", {"given": cube}), ("a file", {"read": "cube"})):
+        status, shown, line = room.run("show", **how)
+        room.hold(f"65,536 columns are shown from {name}", (status, line), (0, ""))
+        room.hold(f"65,536 columns are shown from {name}: the file", shown == room.read("file").hex().encode() + b"\n", True)
 
 
 def great_tables(room):
