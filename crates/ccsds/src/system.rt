@@ -3,6 +3,7 @@
 ghost use Rattle.std.specs.Prelude.{◌≡◌, ⊤};
 
 use ccsds_command::opener::Opener;
+use command_devices::device::{InputDevice, OutputDevice};
 use command_devices::sink::Sink;
 use command_devices::source::Source;
 use command_devices::stream::{ReaderSource, WriterSink};
@@ -24,7 +25,7 @@ pub(crate) enum Reader {
     File(File),
 }
 
-impl Read for Reader {
+impl InputDevice for Reader {
     fn read(&mut self, buffer: &mut [u8]) -> io::Result<usize> {
         match self {
             Reader::Standard(input) => input.read(buffer),
@@ -40,18 +41,11 @@ pub(crate) enum Writer<'a> {
     File(File),
 }
 
-impl Write for Writer<'_> {
+impl OutputDevice for Writer<'_> {
     fn write(&mut self, piece: &[u8]) -> io::Result<usize> {
         match self {
             Writer::Standard(output) => output.write(piece),
             Writer::File(file) => file.write(piece),
-        }
-    }
-
-    fn flush(&mut self) -> io::Result<()> {
-        match self {
-            Writer::Standard(output) => output.flush(),
-            Writer::File(file) => file.flush(),
         }
     }
 }

@@ -1,4 +1,5 @@
 pub mod Cut
 pub mod Devices
 pub mod Reading
+pub mod Streams
 pub mod Writing

@@ -2,6 +2,7 @@
 #![tactic(auto)]
 
 pub mod cut;
+pub mod device;
 pub mod reading;
 pub mod sink;
 pub mod source;

@@ -1,23 +1,32 @@
 //! Sources and sinks over the readers and writers of files and standard streams.
 
-ghost use Rattle.std.specs.Prelude.{◌≡◌};
+ghost use Rattle.std.specs.Prelude.{◌≡◌, ◌≤◌, ◌<◌, [], None, Ok, Some, length, take, IfOk, OnErr};
+ghost use Rattle.command_devices.specs.Devices.{Gave, IsEnd, Took, Rises, CountsStall};
+ghost use Rattle.command_devices.specs.Streams.{OverReader, OverWriter};
 
+use crate::device::{InputDevice, OutputDevice};
 use crate::sink::Sink;
 use crate::source::{Failed, Source};
-use std::io::{Read, Write};
+use std::marker::Model;
 
 /// A source over a reader. It tells its bytes where the reader does; files and streams don't. An
 /// interrupted call is a failure.
 #[derive(Drop)]
-pub struct ReaderSource<R: Read> {
+pub struct ReaderSource<R: InputDevice> {
     reader: R,
     failures: u64,
 }
 
-impl<R: Read> ReaderSource<R> {
+impl<R: InputDevice> Model for ReaderSource<R> {
+    ghost Value = { OverReader R };
+
+    ghost view = { λ s. record { reader = s.reader; failures = s.failures } };
+}
+
+impl<R: InputDevice> ReaderSource<R> {
     /// A source of what the reader has left.
     pub fn new(reader: R) -> ReaderSource<R>
-        ensures { (⟦<ReaderSource<R> as Source>⟧.left result ≡ R.remaining reader) × (⟦<ReaderSource<R> as Source>⟧.failures result ≡ 0) }
+        ensures { result ≡ record { reader = reader; failures = 0 } }
     {
         ReaderSource {
             reader,
@@ -27,19 +36,28 @@ impl<R: Read> ReaderSource<R> {
 
     /// The reader below.
     pub fn reader(&self) -> &R
-        ensures { R.remaining result.now ≡ ⟦<ReaderSource<R> as Source>⟧.left self.now }
+        ensures { result.now ≡ self.now.reader }
     {
         &self.reader
     }
 }
 
-impl<R: Read> Source for ReaderSource<R> {
+impl<R: InputDevice> Source for ReaderSource<R> {
     ghost left = { λ s. R.remaining s.reader };
 
     ghost failures = { λ s. s.failures };
 
     #[tactic(auto, using(crate::proofs::Streams::consumed_gave, crate::proofs::Streams::kept_gave, crate::proofs::Streams::at_end))]
-    fn read(&mut self, buffer: &mut [u8]) -> Result<usize, Failed> {
+    fn read(&mut self, buffer: &mut [u8]) -> Result<usize, Failed>
+        ensures within { IfOk result (λ n. n ≤ length buffer.old) }
+        ensures given { IfOk result (λ n. Gave (R.remaining self.old.reader) (R.remaining self.new.reader) (take n buffer.new)) }
+        ensures end { result ≡ Ok 0 → 0 < length buffer.old → IsEnd (R.remaining self.new.reader) }
+        ensures worked { IfOk result (λ _. self.new.failures ≡ self.old.failures) }
+        ensures failed { OnErr result (Rises self.old.failures self.new.failures) }
+        ensures same { OnErr result (Gave (R.remaining self.old.reader) (R.remaining self.new.reader) []) }
+        ensures asked { IfOk result (λ n. R.answers self.old.reader (length buffer.old) (Some (take n buffer.new)) self.new.reader) }
+        ensures refused { OnErr result (R.answers self.old.reader (length buffer.old) None self.new.reader) }
+    {
         match self.reader.read(buffer) {
             Ok(n) => Ok(n),
             Err(_) => {
@@ -53,16 +71,22 @@ impl<R: Read> Source for ReaderSource<R> {
 /// A sink over a writer. It tells its bytes where the writer does; files and streams don't. Each piece
 /// goes through to the writer at once.
 #[derive(Drop)]
-pub struct WriterSink<W: Write> {
+pub struct WriterSink<W: OutputDevice> {
     writer: W,
     failures: u64,
     stalls: u64,
 }
 
-impl<W: Write> WriterSink<W> {
+impl<W: OutputDevice> Model for WriterSink<W> {
+    ghost Value = { OverWriter W };
+
+    ghost view = { λ s. record { writer = s.writer; failures = s.failures; stalls = s.stalls } };
+}
+
+impl<W: OutputDevice> WriterSink<W> {
     /// A sink behind what the writer holds.
     pub fn new(writer: W) -> WriterSink<W>
-        ensures { (⟦<WriterSink<W> as Sink>⟧.taken result ≡ W.contents writer) × (⟦<WriterSink<W> as Sink>⟧.failures result ≡ 0) × (⟦<WriterSink<W> as Sink>⟧.stalls result ≡ 0) }
+        ensures { result ≡ record { writer = writer; failures = 0; stalls = 0 } }
     {
         WriterSink {
             writer,
@@ -73,13 +97,13 @@ impl<W: Write> WriterSink<W> {
 
     /// The writer, with what it took.
     pub fn into_writer(self) -> W
-        ensures { W.contents result ≡ ⟦<WriterSink<W> as Sink>⟧.taken self }
+        ensures { result ≡ self.writer }
     {
         self.writer
     }
 }
 
-impl<W: Write> Sink for WriterSink<W> {
+impl<W: OutputDevice> Sink for WriterSink<W> {
     ghost taken = { λ s. W.contents s.writer };
 
     ghost failures = { λ s. s.failures };
@@ -87,7 +111,16 @@ impl<W: Write> Sink for WriterSink<W> {
     ghost stalls = { λ s. s.stalls };
 
     #[tactic(auto, using(crate::proofs::Streams::appended_took, crate::proofs::Streams::kept_took))]
-    fn write(&mut self, piece: &[u8]) -> Result<usize, Failed> {
+    fn write(&mut self, piece: &[u8]) -> Result<usize, Failed>
+        ensures within { IfOk result (λ n. n ≤ length piece.now) }
+        ensures took { IfOk result (λ n. Took (W.contents self.old.writer) (W.contents self.new.writer) (take n piece.now)) }
+        ensures worked { IfOk result (λ _. self.new.failures ≡ self.old.failures) }
+        ensures stalled { IfOk result (λ n. CountsStall n (length piece.now) self.old.stalls self.new.stalls) }
+        ensures failed { OnErr result (Rises self.old.failures self.new.failures × (self.new.stalls ≡ self.old.stalls)) }
+        ensures same { OnErr result (Took (W.contents self.old.writer) (W.contents self.new.writer) []) }
+        ensures asked { IfOk result (λ n. W.answers self.old.writer piece.now (Some n) self.new.writer) }
+        ensures refused { OnErr result (W.answers self.old.writer piece.now None self.new.writer) }
+    {
         match self.writer.write(piece) {
             Ok(n) => {
                 if n == 0 && !piece.is_empty() {

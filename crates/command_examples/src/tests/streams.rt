@@ -2,11 +2,12 @@
 
 use ccsds_command::show::run_show;
 use command_devices::cut::{CutSink, CutSource};
+use command_devices::device::{InputDevice, OutputDevice};
 use command_devices::sink::Sink;
 use command_devices::source::{Failed, Source};
 use command_devices::stream::{ReaderSource, WriterSink};
 use cube_core::fault::Fault;
-use std::io::{self, Error, ErrorKind, Read, Write};
+use std::io::{self, Error, ErrorKind};
 use std::test::Fail;
 
 /// Two samples of 200, one row below the other, as `show` takes them.
@@ -32,7 +33,7 @@ impl OneByOne {
     }
 }
 
-impl Read for OneByOne {
+impl InputDevice for OneByOne {
     fn read(&mut self, buffer: &mut [u8]) -> io::Result<usize> {
         let call = self.calls;
         self.calls = call.saturating_add(1);
@@ -68,7 +69,7 @@ impl TwoByTwo {
     }
 }
 
-impl Write for TwoByTwo {
+impl OutputDevice for TwoByTwo {
     fn write(&mut self, piece: &[u8]) -> io::Result<usize> {
         let call = self.calls;
         self.calls = call.saturating_add(1);
@@ -81,10 +82,6 @@ impl Write for TwoByTwo {
         let taken = piece.len().min(2);
         self.taken = self.taken.saturating_add(taken as u64);
         Ok(taken)
-    }
-
-    fn flush(&mut self) -> io::Result<()> {
-        Ok(())
     }
 }
 
