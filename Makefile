@@ -16,13 +16,14 @@ install: all
 	install -D $(PROGRAM) $(DESTDIR)$(PREFIX)/bin/ccsds
 
 # Proves every crate from nothing, tries the must-fail edits, and runs the tests and the program; then tries the
-# program that was proved on files and devices, with little of what it needs, on all its options, with predictors in
+# program that was proved on files and devices, with little of what it needs, on all its options, at the greatest sizes, with predictors in
 # threads, with each of its calls for memory, reads and writes refused, and on damaged files.
 test:
 	rt ci
 	tests/command.sh
 	tests/limits.sh
 	tests/options.py
+	tests/sizes.py
 	tests/pipelines.py
 	tests/refused.py
 	tests/fuzz

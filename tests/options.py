@@ -1,5 +1,5 @@
 #!/usr/bin/env python3
-"""Holds the built program to what its options say: raw layouts, fields of the header, great sizes, and refusals.
+"""Holds the built program to what its options say: raw layouts, fields of the header, and refusals.
 
     tests/options.py [PROGRAM]
 
@@ -192,63 +192,6 @@ def predictors(room):
             room.hold(f"{name}: one file", room.read("other") == room.read("file"), True)
 
 
-# ---- great sizes
-
-# Columns, rows and bands, and the bytes of a sample.
-GREAT = [((65_536, 3, 1), 1), ((3, 65_536, 1), 1), ((3, 1, 65_536), 1), ((4_097, 4_096, 1), 1), ((4_097, 4_096, 1), 2)]
-
-
-def great_sizes(room):
-    """The greatest sizes each way, and more than 2^24 samples, by both coders, on one thread and by predictors in threads of their own."""
-    for shape, size in GREAT:
-        count = shape[0] * shape[1] * shape[2]
-        raw = random.Random(count).randbytes(count * size)
-        room.write("raw", raw)
-        sizes = ["--columns", shape[0], "--rows", shape[1], "--bands", shape[2], "--bits", 8 * size, "--bytes", size]
-        for coder in ("sample", "block"):
-            name = f"{shape} of {size} bytes by {coder}"
-            room.hold(name, room.run("compress", *sizes, "--coder", coder, "raw", "file"), (0, b"", ""))
-            room.hold(f"{name}, expanded", room.run("expand", "--bytes", size, "file", "back"), (0, b"", ""))
-            room.hold(f"{name}, expanded to its bytes", room.read("back") == raw, True)
-            words = [*sizes, "--coder", coder, "--predictors", 3, "raw", "other"]
-            room.hold(f"{name}, by 3 predictors", room.run("compress", *words), (0, b"", ""))
-            room.hold(f"{name}, by 3 predictors: one file", room.read("other") == room.read("file"), True)
-
-
-def great_show(room):
-    """What `show` prints of a cube with 65,536 columns is the file that `compress` writes of it by the same parameters."""
-    raw = random.Random(5).randbytes(5 << 16)
-    room.write("raw", raw)
-    sizes = ["--columns", 65_536, "--rows", 5, "--bands", 1, "--bits", 8, "--bytes", 1]
-    common = ["--previous", 0, "--reduced", "--column-sums", "--register", 32]
-    room.hold("65,536 columns as show codes them", room.run("compress", *sizes, *common, "raw", "file"), (0, b"", ""))
-    cube = bytes([0, 0, 0, 5, 0, 1]) + raw
-    room.write("cube", cube)
-    # A pipe gives no more than 65,536 bytes at once, and a file all that it is asked for.
-    for name, how in (("a pipe", {"given": cube}), ("a file", {"read": "cube"})):
-        status, shown, line = room.run("show", **how)
-        room.hold(f"65,536 columns are shown from {name}", (status, line), (0, ""))
-        room.hold(f"65,536 columns are shown from {name}: the file", shown == room.read("file").hex().encode() + b"\n", True)
-
-
-def great_tables(room):
-    """A file with the most bands and a table of each kind: weights of three bits and constants, all 0.
-
-    It has one pixel of 8 bits, predicted by 15 bands in reduced mode. The first sample of band 0 is predicted by 128 and each other by the band
-    below; every residual is 0, which is eight zeros."""
-    bands, near = 65_536, 15
-    weights = near * bands - near * (near + 1) // 2
-    tables = bytes(weights * 3 // 8), bytes(bands // 2)
-    front = header((3, 0x00), (4, 0x01), (5, 0x00), (6, 0x00), (12, near << 2 | 2), (16, 0x63), (17, 0x82), (18, 0x3F))
-    file = front[:17] + tables[0] + front[17:] + tables[1]
-    lines = USUAL | {"columns": 1, "rows": 1, "bands": bands, "bits": 8, "previous": near, "mode": "reduced", "sums": "column", "register": 32}
-    lines |= {"start": "table 3", "k": "table", "header": len(file)}
-    room.hold("great tables are told", room.run("inspect", given=file), (0, told(lines), ""))
-    room.write("file", file + bytes(bands))
-    room.hold("a file with great tables", room.run("expand", "--bytes", 1, "file", "back"), (0, b"", ""))
-    room.hold("a file with great tables, expanded", room.read("back") == bytes([128]) * bands, True)
-
-
 # ---- refusals
 
 HEADER = "00 0001 0002 0001 11 0000 08 00 02 a0 92 59 00 82 26"
@@ -292,7 +235,7 @@ def refusals(room):
 def main():
     with tempfile.TemporaryDirectory() as folder:
         room = Room(folder, sys.argv[1] if len(sys.argv) > 1 else PROGRAM)
-        for part in (layouts, options, predictors, great_sizes, great_show, great_tables, refusals):
+        for part in (layouts, options, predictors, refusals):
             part(room)
     print(f"options.py: {room.passed} passed, {room.failed} failed")
     return 1 if room.failed else 0

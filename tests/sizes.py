@@ -1,0 +1,138 @@
+#!/usr/bin/env python3
+"""Runs the built program at the greatest sizes, and in no more memory than a scene needs.
+
+    tests/sizes.py [PROGRAM]
+
+No contract can refuse a body that wants memory without need, or asks for far too much of it. So each size has its greatest value here, in each order
+that goes its own way through a cube, and there are scenes of more than 2^24 and 2^26 samples.
+"""
+
+import random
+import sys
+import tempfile
+
+from options import PROGRAM, USUAL, Room, header, told
+
+CODERS = ("sample", "block")
+
+# Columns, rows and bands.
+LONG = [(65_536, 3, 1), (3, 65_536, 1), (3, 1, 65_536), (65_536, 1, 2), (2, 65_536, 2), (1, 2, 65_536)]
+# The orders by the least bands that they ask for. In the last the places don't go along rows.
+ORDERS = {"by bands": (1, ["--order", "bsq"]), "by lines": (1, ["--order", "bi", "--depth", 1]), "by pairs": (2, ["--order", "bi", "--depth", 2])}
+
+
+def sizes_of(shape, size, coder):
+    """The options that tell of a scene with samples of so many bytes, and of the coder."""
+    columns, rows, bands = shape
+    one = ["--reduced", "--column-sums"] if columns == 1 else []
+    return ["--columns", columns, "--rows", rows, "--bands", bands, "--bits", 8 * size, "--bytes", size, "--coder", coder, *one]
+
+
+def there_and_back(room, name, raw, size, words, limit=None):
+    """Compresses a scene and expands it again, in so much memory."""
+    room.hold(name, room.run("compress", *words, "raw", "file", limit=limit), (0, b"", ""))
+    room.hold(f"{name}, expanded", room.run("expand", "--bytes", size, "file", "back", limit=limit), (0, b"", ""))
+    room.hold(f"{name}, expanded to its bytes", room.read("back") == raw, True)
+
+
+def by_predictors(room, name, words, count, limit=None):
+    """Compresses the scene by so many predictors, to the same file, in so much memory."""
+    found = room.run("compress", *words, "--predictors", count, "raw", "other", limit=limit)
+    room.hold(f"{name}, by {count} predictors", found, (0, b"", ""))
+    room.hold(f"{name}, by {count} predictors: one file", room.read("other") == room.read("file"), True)
+
+
+def scene(room, shape, size):
+    """A scene of any bytes, which are also its raw ones."""
+    count = shape[0] * shape[1] * shape[2]
+    raw = random.Random(count).randbytes(count * size)
+    room.write("raw", raw)
+    return raw
+
+
+def long_sides(room):
+    """65,536 columns, rows or bands, by one band and by more, in each order, by both coders, on one thread and by predictors in threads of their own."""
+    for shape in LONG:
+        raw = scene(room, shape, 1)
+        for coder in CODERS:
+            for order, asked in ((order, asked) for order, (least, asked) in ORDERS.items() if least <= shape[2]):
+                name, words = f"{shape} {order}, by {coder}", [*sizes_of(shape, 1, coder), *asked]
+                there_and_back(room, name, raw, 1, words)
+                by_predictors(room, name, words, 3)
+
+
+def enough(count, size):
+    """Memory enough for so many samples: their raw bytes, a cube of two bytes each, a file with room for as much again, and the program."""
+    return (3 * size + 2) * count + (8 << 20)
+
+
+# What threads take beside that: stacks, and memory that the C library sets aside for each.
+OF_THREADS = 512 << 20
+
+
+def many_samples(room):
+    """More than 2^24 samples, of one byte and of two, by both coders, on one thread and by predictors, in bounded memory."""
+    shape = (4_097, 4_096, 1)
+    for size in (1, 2):
+        raw, most = scene(room, shape, size), enough(shape[0] * shape[1], size)
+        for coder in CODERS:
+            name, words = f"{shape} of {size} bytes by {coder}", sizes_of(shape, size, coder)
+            there_and_back(room, name, raw, size, words, most)
+            by_predictors(room, name, words, 3, most + OF_THREADS)
+
+
+def most_samples(room):
+    """More than 2^26 samples, by two predictors, and expanded, in bounded memory. They predict little and have long lanes, so that it ends soon."""
+    shape = (4_097, 8_192, 2)
+    count = shape[0] * shape[1] * shape[2]
+    raw = (random.Random(26).randbytes(1 << 20) * 65)[:count]
+    room.write("raw", raw)
+    words = [*sizes_of(shape, 1, "sample"), "--order", "bi", "--previous", 0, "--reduced", "--column-sums", "--predictors", 2, "--slots", 65_536]
+    there_and_back(room, f"{shape} by 2 predictors", raw, 1, words, enough(count, 1) + OF_THREADS)
+
+
+def great_show(room):
+    """What `show` prints of a cube with 65,536 columns is the file that `compress` writes of it by the same parameters."""
+    raw = random.Random(5).randbytes(5 << 16)
+    room.write("raw", raw)
+    sizes = ["--columns", 65_536, "--rows", 5, "--bands", 1, "--bits", 8, "--bytes", 1]
+    common = ["--previous", 0, "--reduced", "--column-sums", "--register", 32]
+    room.hold("65,536 columns as show codes them", room.run("compress", *sizes, *common, "raw", "file"), (0, b"", ""))
+    cube = bytes([0, 0, 0, 5, 0, 1]) + raw
+    room.write("cube", cube)
+    # A pipe gives no more than 65,536 bytes at once, and a file all that it is asked for.
+    for name, how in (("a pipe", {"given": cube}), ("a file", {"read": "cube"})):
+        status, shown, line = room.run("show", **how)
+        room.hold(f"65,536 columns are shown from {name}", (status, line), (0, ""))
+        room.hold(f"65,536 columns are shown from {name}: the file", shown == room.read("file").hex().encode() + b"\n", True)
+
+
+def great_tables(room):
+    """A file with the most bands and a table of each kind: weights of three bits and constants, all 0.
+
+    It has one pixel of 8 bits, predicted by 15 bands in reduced mode. The first sample of band 0 is predicted by 128 and each other by the band
+    below; every residual is 0, which is eight zeros."""
+    bands, near = 65_536, 15
+    weights = near * bands - near * (near + 1) // 2
+    tables = bytes(weights * 3 // 8), bytes(bands // 2)
+    front = header((3, 0x00), (4, 0x01), (5, 0x00), (6, 0x00), (12, near << 2 | 2), (16, 0x63), (17, 0x82), (18, 0x3F))
+    file = front[:17] + tables[0] + front[17:] + tables[1]
+    lines = USUAL | {"columns": 1, "rows": 1, "bands": bands, "bits": 8, "previous": near, "mode": "reduced", "sums": "column", "register": 32}
+    lines |= {"start": "table 3", "k": "table", "header": len(file)}
+    room.hold("great tables are told", room.run("inspect", given=file), (0, told(lines), ""))
+    room.write("file", file + bytes(bands))
+    room.hold("a file with great tables", room.run("expand", "--bytes", 1, "file", "back"), (0, b"", ""))
+    room.hold("a file with great tables, expanded", room.read("back") == bytes([128]) * bands, True)
+
+
+def main():
+    with tempfile.TemporaryDirectory() as folder:
+        room = Room(folder, sys.argv[1] if len(sys.argv) > 1 else PROGRAM)
+        for part in (long_sides, many_samples, most_samples, great_show, great_tables):
+            part(room)
+    print(f"sizes.py: {room.passed} passed, {room.failed} failed")
+    return 1 if room.failed else 0
+
+
+if __name__ == "__main__":
+    sys.exit(main())
