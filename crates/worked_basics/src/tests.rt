@@ -4,6 +4,7 @@ mod cubes;
 mod faults;
 mod headers;
 mod kinds;
+mod places;
 mod reading;
 mod tables;
 mod writing;

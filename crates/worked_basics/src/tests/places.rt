@@ -1,0 +1,120 @@
+//! Encoding orders, and walks along them, at values from outside.
+
+ghost use Rattle.std.specs.Prelude.{◌≡◌};
+ghost use Rattle.cube_core.specs.Order.{IsOrder};
+
+use cube_core::cursor::Places;
+use cube_core::order::{Order, Place, index_of, place_at};
+use cube_core::shape::Shape;
+use std::process::Abort;
+
+/// A shape of these sizes.
+pub(super) fn shape_of(rt: &impl Abort, columns: u32, rows: u32, bands: u32) -> Shape
+    ensures columns { result.columns ≡ columns }
+    ensures rows { result.rows ≡ rows }
+    ensures bands { result.bands ≡ bands }
+{
+    let shape = Shape::new(columns, rows, bands).expect(rt, "a shape");
+    assert!(rt; shape.columns() == columns);
+    assert!(rt; shape.rows() == rows);
+    assert!(rt; shape.bands() == bands);
+    shape
+}
+
+#[test]
+fn places_of_three_bands_two_a_group(rt: HostRuntime) {
+    let shape = shape_of(&rt, 2, 2, 3);
+    let first = [
+        Place { z: 0, y: 0, x: 0 },
+        Place { z: 1, y: 0, x: 0 },
+        Place { z: 0, y: 0, x: 1 },
+        Place { z: 1, y: 0, x: 1 },
+        Place { z: 2, y: 0, x: 0 },
+        Place { z: 2, y: 0, x: 1 },
+        Place { z: 0, y: 1, x: 0 },
+    ];
+    let mut walk = Places::new(shape, Order::Bi(2));
+    for (i, place) in first.into_iter().enumerate() {
+        assert!(rt; (i as u64) < shape.sample_count());
+        assert_eq!(rt; place_at(&shape, Order::Bi(2), i as u64), place);
+        assert_eq!(rt; walk.peek(), Some(place));
+        assert_eq!(rt; walk.next(), Some(place));
+    }
+    assert_eq!(rt; walk.left(), 5);
+    assert_eq!(rt;
+        index_of(&shape, Order::Bi(2), Place { z: 2, y: 0, x: 1 }),
+        5
+    );
+}
+
+/// Goes through an order by the walk, and finds each place by its item and each item by its place.
+fn walk_through(rt: &impl Abort, shape: Shape, order: Order)
+    requires { IsOrder shape order }
+{
+    let mut i = 0;
+    for place in Places::new(shape, order) {
+        assert!(rt; i < shape.sample_count());
+        assert_eq!(rt; place_at(&shape, order, i), place);
+        assert!(rt; place.z < shape.bands());
+        assert!(rt; place.y < shape.rows());
+        assert!(rt; place.x < shape.columns());
+        assert_eq!(rt; index_of(&shape, order, place), i);
+        i += 1;
+    }
+    assert_eq!(rt; i, shape.sample_count());
+}
+
+/// Goes by many places at once, from each place on, and finds what comes next by its item.
+fn go_by_many(rt: &impl Abort, shape: Shape, order: Order)
+    requires { IsOrder shape order }
+{
+    let count = shape.sample_count();
+    for begun in 0..count {
+        for more in 0..=count {
+            let mut walk = Places::new(shape, order);
+            walk.go_by(begun);
+            walk.go_by(more);
+            let expected = if begun + more < count {
+                Some(place_at(&shape, order, begun + more))
+            } else {
+                None
+            };
+            assert_eq!(rt; walk.peek(), expected);
+        }
+    }
+}
+
+/// Finds each place of a column of bands by its item, for the column that begins at each place.
+fn go_along_columns(rt: &impl Abort, shape: Shape, order: Order)
+    requires { IsOrder shape order }
+{
+    let count = shape.sample_count();
+    for item in 0..count {
+        let mut walk = Places::new(shape, order);
+        walk.go_by(item);
+        let first = place_at(&shape, order, item);
+        for i in 0..walk.column() {
+            assert!(rt; i < count - item);
+            let place = place_at(&shape, order, item + i);
+            assert_eq!(rt; u64::from(place.z), u64::from(first.z) + i);
+            assert_eq!(rt; (place.y, place.x), (first.y, first.x));
+        }
+    }
+}
+
+#[test]
+fn walks_through_shapes_of_one_column_row_or_band(rt: HostRuntime) {
+    for (columns, rows, bands) in [(1, 3, 5), (3, 1, 5), (3, 2, 1), (2, 3, 5)] {
+        let shape = shape_of(&rt, columns, rows, bands);
+        walk_through(&rt, shape, Order::Bsq);
+        go_by_many(&rt, shape, Order::Bsq);
+        go_along_columns(&rt, shape, Order::Bsq);
+        for depth in [1, 2, bands] {
+            if 1 <= depth && depth <= bands {
+                walk_through(&rt, shape, Order::Bi(depth));
+                go_by_many(&rt, shape, Order::Bi(depth));
+                go_along_columns(&rt, shape, Order::Bi(depth));
+            }
+        }
+    }
+}
