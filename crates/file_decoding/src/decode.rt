@@ -23,6 +23,7 @@ use file_coding::bands::all_bands;
 use header_bits::bit_reader::BitReader;
 use header_bits::header::read_header;
 use header_bits::params::Params;
+use predict_core::spectral::SpectralDifferences;
 use std::alloc::Global;
 
 /// The parameters and the cube of a file of at most 2^60 bytes.
@@ -131,13 +132,14 @@ fn take_cube(alloc: Global, params: &Params, reader: &mut BitReader) -> Result<C
     let count = params.shape.sample_count();
     let mut places = Places::new(params.shape, params.order);
     let mut deltas = [0; RUN];
+    let mut below = SpectralDifferences::none();
     while let Some(place) = places.peek() {
         let index = count - places.left();
         let run = run_from(params, place);
         let band = &mut bands[place.z as usize];
         let t = band.next();
         read_run(&mut decoder, place.z, t, index, reader, &mut deltas[..run])?;
-        band.inverse_run(&mut cube, place.y, place.x, &deltas[..run]);
+        band.inverse_run(&mut cube, place.y, place.x, &deltas[..run], &mut below);
         places.go_by(run as u64);
     }
     cube.is_cube();

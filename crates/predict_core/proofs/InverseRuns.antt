@@ -97,7 +97,7 @@ module _ (q : Predictor) (c d : Image) (z y first n x : ℕ) (place : IsPlace c.
       let m = local_sum_same q c d (ap (λ (s : Sizes). s.columns) a.alike.shape) z' y x later wide place.column (λ y' x' h l k. under z' y' x' b h k) in
       rw (s, m) refl
 
-  spectral_below : (k : ℕ) → k ≤ z → spectral_differences q c z y x k ≡ spectral_differences q d z y x k
+  pub spectral_below : (k : ℕ) → k ≤ z → spectral_differences q c z y x k ≡ spectral_differences q d z y x k
   unfolding spectral_differences
   spectral_below zero h = refl
   spectral_below (suc k) h =

@@ -29,6 +29,7 @@ pub mod ErrorSigns
 pub mod Borders
 pub mod BandLines
 pub mod RunSteps
+pub mod Rising
 pub mod Places
 pub mod Quads
 pub mod Inner

@@ -157,7 +157,7 @@ fn put_directions(north: i32, west: i32, north_west: i32, out: &mut [i32; 18])
 
 /// Writes the central differences of the `count` bands below `z`, the nearest first, from place `first` on.
 #[inline(always)]
-fn fill_spectral(
+pub(crate) fn fill_spectral(
     predictor: &Predictor,
     cube: &Cube,
     z: u32,

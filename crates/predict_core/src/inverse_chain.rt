@@ -2,13 +2,14 @@
 //!
 //! Nothing wraps in the register, so that the sign of an error is told by the differences alone.
 
-ghost use Rattle.std.specs.Prelude.{◌≡◌, ◌+◌, ◌-◌, ◌*◌, ◌^◌, ◌<◌, ◌≤◌, ℕ, pos, take, drop, length, ◌++◌, replicate, slice_index, if◌then◌else◌};
-ghost use Rattle.cube_core.specs.Kind.{IsSample};
+ghost use Rattle.std.specs.Prelude.{◌≡◌, ◌+◌, ◌-◌, ◌*◌, ◌^◌, ◌<◌, ◌≤◌, ℕ, pos, ◌+ℤ◌, ◌-ℤ◌, ◌*ℤ◌, unsigned_abs, take, drop, length, ◌++◌, replicate, slice_index, if◌then◌else◌};
+ghost use Rattle.cube_core.specs.Kind.{IsSample, smin};
 ghost use Rattle.cube_core.specs.Image.{IsPlace, put};
 ghost use Rattle.header_bits.specs.declared.params.Params.{Params as Parameters};
 ghost use Rattle.predict_core.specs.Bounds.{AllWithin};
 ghost use Rattle.predict_core.specs.Chain.{AreWeightsAt};
 ghost use Rattle.predict_core.specs.Predictor.{previous_bands};
+ghost use Rattle.predict_core.specs.LocalSum.{local_sum};
 ghost use Rattle.predict_core.specs.Differences.{spectral_differences, difference_vector};
 ghost use Rattle.predict_core.specs.Prediction.{scaled_there, next_weights, weight_vector};
 ghost use Rattle.predict_core.specs.Residual.{mapped, run_residuals};
@@ -19,6 +20,7 @@ use crate::chain::{differences_at, turn_of_error};
 use crate::differences::{put_own_directions, sum_at};
 use crate::exponent::exponent_at;
 use crate::prediction::{predicted_difference, scaled_by_part};
+use crate::range::Range;
 use crate::room::Quad;
 use crate::settings::Settings;
 use crate::weights::{form_of, update_by};
@@ -59,8 +61,11 @@ pub(crate) fn invert_places<const Q: usize, const N: usize>(
     let mut held = *weights;
     for i in 0..deltas.len() {
         let column = x + i as u32;
+        let sum = sum_at(&settings.predictor, cube, settings.band, y, column);
         let lower = differences_at::<Q>(quads, i);
-        let sample = sample_there::<N>(settings, cube, y, column, &mut held, &lower, deltas[i]);
+        let sample = sample_there::<N>(
+            settings, cube, y, column, sum, &mut held, &lower, deltas[i],
+        );
         cube.set(settings.band, y, column, sample);
     }
     *weights = held;
@@ -68,13 +73,14 @@ pub(crate) fn invert_places<const Q: usize, const N: usize>(
 
 /// The sample of a mapped residual at a place below the first row, and the weights after it.
 ///
-/// Of `lower` the differences of the bands below are looked at.
+/// `sum` is the local sum of the heights there. Of `lower` the differences of the bands below are looked at.
 #[inline(always)]
-fn sample_there<const N: usize>(
+pub(crate) fn sample_there<const N: usize>(
     settings: &Settings,
     cube: &Cube,
     y: u32,
     x: u32,
+    sum: u32,
     weights: &mut [i32; 18],
     lower: &[i32; 18],
     delta: u16,
@@ -86,6 +92,8 @@ fn sample_there<const N: usize>(
     requires place { IsPlace cube.now.shape settings.now.band y x }
     requires columns { cube.now.shape.columns ≡ settings.now.columns }
     requires kind { cube.now.kind ≡ settings.now.range.kind }
+    requires sum_is { local_sum settings.now.predictor cube.now settings.now.band y x ≡ pos 4 *ℤ smin cube.now.kind +ℤ pos sum }
+    requires sum_in { sum ≤ 262140 }
     requires weights_in { AllWithin (2 ^ (settings.now.predictor.fraction + 2)) weights.old }
     requires lower { drop (if settings.now.predictor.reduced then 0 else 3) lower.now ≡ spectral_differences settings.now.predictor cube.now settings.now.band y x (previous_bands settings.now.predictor settings.now.band) ++ replicate (18 - settings.now.count) (pos 0) }
     requires residual { delta < 2 ^ cube.now.kind.bits }
@@ -98,14 +106,13 @@ fn sample_there<const N: usize>(
     let predictor = &settings.predictor;
     let range = &settings.range;
     let t = y as u64 * settings.columns as u64 + x as u64;
-    let sum = sum_at(predictor, cube, settings.band, y, x);
     let mut differences = *lower;
     put_own_directions(predictor, cube, settings.band, y, x, sum, &mut differences);
     let whole = 4 * range.smin + sum as i32;
     let part = predicted_difference::<N>(predictor.fraction, weights, &differences);
     let scaled = scaled_by_part(range, part, whole);
     let found = range.sample_of(scaled, delta);
-    let own = 4 * found - whole;
+    let own = difference_there(range, found, sum);
     let exponent = exponent_at(predictor, settings.columns, range.bits, t);
     update_by::<N>(
         weights,
@@ -116,4 +123,15 @@ fn sample_there<const N: usize>(
         turn_of_error(own, part),
     );
     found
+}
+
+/// The central difference of a sample where the local sum of the heights is `sum`.
+#[inline(always)]
+pub(crate) fn difference_there(range: &Range, sample: i32, sum: u32) -> i32
+    requires sample_in { IsSample range.now.kind sample }
+    requires sum_in { sum ≤ 262140 }
+    ensures value { result ≡ pos 4 *ℤ sample -ℤ (pos 4 *ℤ smin range.now.kind +ℤ pos sum) }
+    ensures bound { unsigned_abs result ≤ 262144 }
+{
+    4 * sample - (4 * range.smin + sum as i32)
 }

@@ -10,12 +10,14 @@ ghost use Rattle.predict_core.specs.Residual.{run_residuals};
 ghost use Rattle.predict_core.specs.Rooms.{quads_of};
 ghost use Rattle.predict_core.specs.RunPlaces.{AreAlikeBeside};
 ghost use Rattle.predict_core.specs.Following.{Follows, MovesBy};
+ghost use Rattle.predict_core.specs.Spectral.{AreOf};
 
 use crate::band::Band;
 use crate::inverse_chain::invert_places;
 use crate::room::{Quad, fill_run};
 use crate::run::LEAST;
 use crate::settings::Settings;
+use crate::spectral::SpectralDifferences;
 use cube_core::cube::Cube;
 
 impl Band {
@@ -24,8 +26,16 @@ impl Band {
     /// A run has at most 64 places. It goes from the next place, which is row `y`, column `x`, along its
     /// row, and doesn't leave it. The cube has the shape and the kind of the parameters, and each residual
     /// is at most 2^D - 1. What stands at these places and at later ones is not read, and no other sample
-    /// is written (CCSDS 123.0-B-1, "Predictor").
-    pub fn inverse_run(&mut self, cube: &mut Cube, y: u32, x: u32, deltas: &[u16])
+    /// is written. `below` are differences of that cube, and afterwards of the cube as it is then
+    /// (CCSDS 123.0-B-1, "Predictor").
+    pub fn inverse_run(
+        &mut self,
+        cube: &mut Cube,
+        y: u32,
+        x: u32,
+        deltas: &[u16],
+        below: &mut SpectralDifferences,
+    )
         requires shape { cube.old.shape ≡ self.old.shape }
         requires kind { cube.old.kind ≡ self.old.kind }
         requires place { IsPlace cube.old.shape self.old.band y x }
@@ -33,23 +43,33 @@ impl Band {
         requires inside { x + length deltas.now ≤ cube.old.shape.columns }
         requires next { self.old.place ≡ y * cube.old.shape.columns + x }
         requires residuals_in { (i : ℕ) → i < length deltas.now → slice_index deltas.now i < 2 ^ cube.old.kind.bits }
+        requires told { AreOf self.old.predictor below.old cube.old }
         ensures moved { MovesBy (length deltas.now) self.old self.new }
         ensures beside { AreAlikeBeside cube.old cube.new self.old.band y x (length deltas.now) }
         ensures residuals { (p : Parameters) → Follows p self.old cube.old → run_residuals p cube.new self.old.band self.old.place (length deltas.now) ≡ deltas.now }
         ensures follows { (p : Parameters) → Follows p self.old cube.old → Follows p self.new cube.new }
+        ensures told { AreOf self.new.predictor below.new cube.new }
     {
         cube.is_cube();
         let count = deltas.len();
         if self.settings.predictor.register < 46 || count < LEAST || y == 0 {
-            self.inverse_each(cube, y, x, deltas);
+            self.inverse_each(cube, y, x, deltas, below);
         } else {
+            below.forget();
             self.next += count as u64;
             invert_run(&self.settings, cube, y, x, &mut self.weights, deltas);
         }
     }
 
     /// The same, one place after another.
-    fn inverse_each(&mut self, cube: &mut Cube, y: u32, x: u32, deltas: &[u16])
+    fn inverse_each(
+        &mut self,
+        cube: &mut Cube,
+        y: u32,
+        x: u32,
+        deltas: &[u16],
+        below: &mut SpectralDifferences,
+    )
         requires shape { cube.old.shape ≡ self.old.shape }
         requires kind { cube.old.kind ≡ self.old.kind }
         requires place { IsPlace cube.old.shape self.old.band y x }
@@ -57,16 +77,18 @@ impl Band {
         requires inside { x + length deltas.now ≤ cube.old.shape.columns }
         requires next { self.old.place ≡ y * cube.old.shape.columns + x }
         requires residuals_in { (i : ℕ) → i < length deltas.now → slice_index deltas.now i < 2 ^ cube.old.kind.bits }
+        requires told { AreOf self.old.predictor below.old cube.old }
         ensures moved { MovesBy (length deltas.now) self.old self.new }
         ensures beside { AreAlikeBeside cube.old cube.new self.old.band y x (length deltas.now) }
         ensures residuals { (p : Parameters) → Follows p self.old cube.old → run_residuals p cube.new self.old.band self.old.place (length deltas.now) ≡ deltas.now }
         ensures follows { (p : Parameters) → Follows p self.old cube.old → Follows p self.new cube.new }
+        ensures told { AreOf self.new.predictor below.new cube.new }
     {
         cube.is_cube();
         let band = self.settings.band;
         for i in 0..deltas.len() {
             let column = x + i as u32;
-            let sample = self.inverse(cube, y, column, deltas[i]);
+            let sample = self.inverse_beside(cube, y, column, deltas[i], below);
             cube.set(band, y, column, sample);
         }
     }

@@ -10,6 +10,7 @@ use Rattle.cube_core.specs.Image.{Image}
 use Rattle.cube_core.specs.Order.{IsOrder}
 use Rattle.cube_core.proofs.Orders.{StandsAt}
 use Rattle.predict_core.specs.Following.{Learner, MovesBy}
+use Rattle.predict_core.specs.Predictor.{predictor_of}
 use Rattle.predict_core.specs.Residual.{run_residuals}
 use Rattle.predict_core.specs.RunPlaces.{AreAlikeBeside}
 use Rattle.file_coding.specs.Walked.{IsAlong, residuals_at}
@@ -35,6 +36,7 @@ loop-place-init c =
       count = refl;
       walk = on_walk_first c.args.params.now c.in_ok-cube.cube c.in_ok-bands.bands.items c.requires.order known;
       room = refl;
+      told = λ h. absurd (omega (arith, h, c.none-below.ensures));
       decoded = decoded_first c.args.params.now c.in_ok-cube.cube c.in_ok-decoder.decoder c.args.reader.now.left c.requires.order c.in_ok-decoder.ensures.given;
     })
 
@@ -144,6 +146,13 @@ inverse_run-requires-clause-place c =
 pub inverse_run-requires-clause-next : goal.inverse_run-requires-clause-next
 inverse_run-requires-clause-next c = rw c.loop-place.invariant.shape (here (goal.at.inverse_run-requires-clause-next c).After-next-t).1
 
+-- the predictor is that of every band
+made : (c : After-next-t) → c.index_mut-band.result.now.predictor ≡ predictor_of c.args.params.now
+made c = (here c).0.follows.made.predictor
+
+pub inverse_run-requires-clause-told : goal.inverse_run-requires-clause-told
+inverse_run-requires-clause-told c = rw (made (goal.at.inverse_run-requires-clause-told c).After-next-t) c.loop-place.invariant.told
+
 pub inverse_run-requires-clause-residuals_in : goal.inverse_run-requires-clause-residuals_in
 inverse_run-requires-clause-residuals_in c =
     let d = (goal.at.inverse_run-requires-clause-residuals_in c).After-next-t in
@@ -181,6 +190,7 @@ loop-place-preserved c =
       count = c.in_ok-read_run.ensures.count ∙ known.count;
       walk = rw c.go_by.ensures (rw one at walked);
       room = omega (arith, length-append c.read_run.new.deltas (drop c.run_from-run.result c.loop-place.deltas), length-drop c.run_from-run.result c.loop-place.deltas, long, known.room, c.run_from-run.ensures.most);
+      told = rw (moved.predictor, made d) at c.inverse_run.ensures.told;
       decoded = rw c.go_by.ensures (decoded_run c.args.params.now c.loop-place.cube c.inverse_run.new.cube c.loop-place.places c.loop-place.decoder c.read_run.new.decoder c.args.reader.now.left c.loop-place.reader.left c.read_run.new.reader.left
           c.in-Some.place c.run_from-run.result c.index_mut-band.result.now.place c.read_run.new.deltas c.requires known.shape beside.alike before known.walk.rest (row d) time known.decoded gives residual);
     }

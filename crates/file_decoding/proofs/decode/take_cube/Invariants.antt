@@ -1,4 +1,6 @@
 use Rattle.std.proofs.Common.{◌≡◌, length}
+use Rattle.predict_core.specs.Predictor.{predictor_of}
+use Rattle.predict_core.specs.Spectral.{AreOf}
 use Rattle.file_coding.proofs.Walking.{IsOnWalk}
 use Rattle.file_decoding.proofs.Inverse.{IsDecoded}
 use Rattle.file_decoding.proofs.decode.take_cube.Given as goal
@@ -10,6 +12,7 @@ invariant-loop-place l = record {
   count : l.reader.count ≡ l.initial.reader.count;
   walk : IsOnWalk l.params l.cube l.places l.bands.items;
   room : length l.deltas ≡ 64;
+  told : AreOf (predictor_of l.params) l.below l.cube;
   decoded : IsDecoded l.params l.cube l.places l.decoder l.initial.reader.left l.reader.left;
 }
 

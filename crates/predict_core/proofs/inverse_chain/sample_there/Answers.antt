@@ -33,39 +33,13 @@ module _ (g : given.Over) (c : After-put_own_directions g) where
       let s = c.args.settings.now in
       rw (filled, s.range.bits_is, ← c.requires.kind) (padded_within s.predictor c.args.cube.now c.is_cube.ensures c.args.y c.args.x later wide s.band c.requires.place (18 - s.count))
 
--- four times the sample, less the local sum, as the code computes it
-own_is : (found low : ℤ) (sum : ℕ) → negsuc 32767 ≤ℤ low → low ≤ℤ pos 0 → low ≤ℤ found → found ≤ℤ (low +ℤ pos 65535) → sum ≤ 262140
-    → to_z w32 (of_z w32 (pos 4 *ℤ to_z w32 (of_z w32 found))) -ℤ to_z w32 (of_z w32 (to_z w32 (of_z w32 (pos 4 *ℤ to_z w32 (of_z w32 low))) +ℤ to_z w32 sum)) ≡ pos 4 *ℤ found -ℤ (pos 4 *ℤ low +ℤ pos sum)
-own_is found low sum a b d e h = omega (arith, ints)
-
-own_small : (found low : ℤ) (sum : ℕ) → low ≤ℤ found → found ≤ℤ (low +ℤ pos 65535) → sum ≤ 262140 → unsigned_abs (pos 4 *ℤ found -ℤ (pos 4 *ℤ low +ℤ pos sum)) ≤ 262144
-own_small found low sum d e h = omega (arith, ints)
-
 module _ (g : given.Over) (c : After-sample_of-found g) where
-  least : c.args.settings.now.range.smin ≤ℤ c.sample_of-found.result
-  least = rw c.args.settings.now.range.smin_is c.sample_of-found.ensures.range.0
-
-  most : c.sample_of-found.result ≤ℤ (c.args.settings.now.range.smin +ℤ pos 65535)
-  most =
-      let r = c.args.settings.now.range in
-      let h : c.sample_of-found.result ≤ℤ r.smax = rw r.smax_is c.sample_of-found.ensures.range.1 in
-      omega (arith, ints, h, r.span)
-
-  own_value : to_z w32 (of_z w32 (pos 4 *ℤ to_z w32 (of_z w32 c.sample_of-found.result))) -ℤ to_z w32 (of_z w32 (to_z w32 (of_z w32 (pos 4 *ℤ to_z w32 (of_z w32 c.args.settings.now.range.smin))) +ℤ to_z w32 c.sum_at-sum.result)) ≡ pos 4 *ℤ c.sample_of-found.result -ℤ (pos 4 *ℤ c.args.settings.now.range.smin +ℤ pos c.sum_at-sum.result)
-  own_value = let r = c.args.settings.now.range in own_is c.sample_of-found.result r.smin c.sum_at-sum.result r.low.0 r.low.1 least most c.sum_at-sum.ensures.bound
-
-  own_bound : unsigned_abs (pos 4 *ℤ c.sample_of-found.result -ℤ (pos 4 *ℤ c.args.settings.now.range.smin +ℤ pos c.sum_at-sum.result)) ≤ 262144
-  own_bound = own_small c.sample_of-found.result c.args.settings.now.range.smin c.sum_at-sum.result least most c.sum_at-sum.ensures.bound
-
-  own_fits : SFits w32 (pos 4 *ℤ c.sample_of-found.result -ℤ (pos 4 *ℤ c.args.settings.now.range.smin +ℤ pos c.sum_at-sum.result))
-  own_fits = fits_signed_from_abs w32 _ (omega (arith, own_bound))
-
   -- the local sum, as the code computes it
-  sum_is : pos 4 *ℤ c.args.settings.now.range.smin +ℤ pos c.sum_at-sum.result ≡ local_sum c.args.settings.now.predictor c.args.cube.now c.args.settings.now.band c.args.y c.args.x
+  sum_is : pos 4 *ℤ c.args.settings.now.range.smin +ℤ pos c.args.sum ≡ local_sum c.args.settings.now.predictor c.args.cube.now c.args.settings.now.band c.args.y c.args.x
   sum_is =
       let r = c.args.settings.now.range in
       let low : smin c.args.cube.now.kind ≡ r.smin = ap smin c.requires.kind ∙ sym r.smin_is in
-      sym (rw low at c.sum_at-sum.ensures.value)
+      sym (rw low at c.requires.sum_is)
 
   after : 0 < c.args.y + c.args.x
   after = omega (arith, c.requires.later)
@@ -84,7 +58,7 @@ module _ (g : given.Over) (c : After-sample_of-found g) where
       let s = c.args.settings.now in
       let part = c.predicted_difference-part.result in
       let part_fits : SFits w32 c.predicted_difference-part.result = search rules in
-      let e = rw (whole_sum s.range.smin c.sum_at-sum.result s.range.low c.sum_at-sum.ensures.bound) at (simp (to_z-of_z part_fits) at c.scaled_by_part-scaled.ensures.value) in
+      let e = rw (whole_sum s.range.smin c.args.sum s.range.low c.requires.sum_in) at (simp (to_z-of_z part_fits) at c.scaled_by_part-scaled.ensures.value) in
       e ∙ ap₂ (λ k v. scaled_by_difference k part v) (sym c.requires.kind) sum_is
       ∙ sym (scaled_from_room s.predictor c.args.cube.now s.band c.args.y c.args.x s.count g.row.N c.args.weights.now c.put_own_directions.new.out c.is_cube.ensures c.requires.place after broad s.lawful.few s.lawful.fraction.1 c.requires.weights_in c.requires.register s.count_is c.requires.enough c.requires.few vector_is part c.predicted_difference-part.ensures.value)
 
@@ -94,12 +68,6 @@ predicted_difference-part-requires-clause-differences_in g c =
     let d = (goal.at.predicted_difference-part-requires-clause-differences_in g c).After-put_own_directions in
     let bits : s.range.bits ≤ 16 = rw s.range.bits_is s.range.lawful.1 in
     within_most s.range.bits c.put_own_directions.new.out bits (small g d)
-
-pub overflow_sub-own : goal.overflow_sub-own
-overflow_sub-own g c = let d = (goal.at.overflow_sub-own g c).After-sample_of-found in rw (own_value g d) (own_fits g d)
-
-pub turn_of_error-requires-clause-own_in : goal.turn_of_error-requires-clause-own_in
-turn_of_error-requires-clause-own_in g c = let d = (goal.at.turn_of_error-requires-clause-own_in g c).After-sample_of-found in rw (own_value g d, to_z-of_z (own_fits g d)) (own_bound g d)
 
 pub update_by-requires-clause-differences_in : goal.update_by-requires-clause-differences_in
 update_by-requires-clause-differences_in g c =
@@ -129,12 +97,14 @@ returns-clause-weights g c =
     let exponent_fits : SFits w32 c.exponent_at-exponent.result = search rules in
     let turn_fits : SFits w32 c.turn_of_error.result = search rules in
     let bits : s.range.bits ≡ c.args.cube.now.kind.bits = s.range.bits_is ∙ ap (λ (k : SampleKind). k.bits) (sym c.requires.kind) in
-    let turn = simp (own_value g d, to_z-of_z (own_fits g d), to_z-of_z part_fits) at c.turn_of_error.ensures.value in
+    let own_fits : SFits w32 c.difference_there-own.result = search rules in
+    let own = rw (← s.range.smin_is) at (simp (to_z-of_z fits) at c.difference_there-own.ensures.value) in
+    let turn = simp (to_z-of_z own_fits, to_z-of_z part_fits) at c.turn_of_error.ensures.value in
     let moved = rw turn at (simp (to_z-of_z exponent_fits, to_z-of_z turn_fits) at c.update_by.ensures.value) in
     let exponent = rw (bits, ← c.requires.columns) at c.exponent_at-exponent.ensures.value in
     let range = rw (← c.requires.kind) at c.sample_of-found.ensures.range in
     let m = moved_from_room s.predictor c.args.cube.now s.band c.args.y c.args.x s.count g.row.N c.args.weights.now c.put_own_directions.new.out c.is_cube.ensures c.requires.place (after g d) (broad g d) s.lawful.few s.lawful.fraction.1 c.requires.weights_in c.requires.register s.count_is c.requires.enough c.requires.few (vector_is g d)
-    c.update_by.new.weights found (pos 4 *ℤ found -ℤ (pos 4 *ℤ s.range.smin +ℤ pos c.sum_at-sum.result)) c.predicted_difference-part.result c.exponent_at-exponent.result range (ap (λ v. pos 4 *ℤ found -ℤ v) (sum_is g d)) exponent c.predicted_difference-part.ensures.value moved in
+    c.update_by.new.weights found c.difference_there-own.result c.predicted_difference-part.result c.exponent_at-exponent.result range (own ∙ ap (λ v. pos 4 *ℤ found -ℤ v) (sum_is g d)) exponent c.predicted_difference-part.ensures.value moved in
     rw (to_z-of_z fits)
     (moved_put c.args.cube.now s.band c.args.y c.args.x found c.requires.place c.is_cube.ensures.whole s.predictor (broad g d) (c.args.y * c.args.cube.now.shape.columns + c.args.x) (take s.count c.args.weights.now) (take s.count c.update_by.new.weights)
     (scaled_there s.predictor c.args.cube.now s.band c.args.y c.args.x (take s.count c.args.weights.now)) (after g d) refl refl m)

@@ -17,6 +17,7 @@ loop-i-init c = record {
   beside = beside_none c.args.cube.now c.args.self.now.band c.args.y c.args.x;
   residuals = λ p f. refl;
   follows = λ p f. f;
+  told = c.requires.told;
   whole = c.is_cube.ensures.whole;
 }
 
@@ -25,8 +26,8 @@ loop-i-preserved c =
     let kept = c.loop-i.invariant in
     let d : Image = c.loop-i.cube in
     let s = c.self.inside.settings in
-    let v = c.inverse-sample.result in
-    let fits : SFits w32 c.inverse-sample.result = search rules in
+    let v = c.inverse_beside-sample.result in
+    let fits : SFits w32 c.inverse_beside-sample.result = search rules in
     let band : c.self.inside.settings.band ≡ c.args.self.now.band = ap (λ (b : Learner). b.band) c.self.view_is in
     let is : c.set.new.self ≡ put d c.args.self.now.band c.args.y (c.args.x + c.loop-i.i) v = (simp (to_z-of_z fits) at c.set.ensures) ∙ ap (λ b. put d b c.args.y (c.args.x + c.loop-i.i) v) band in
     let column : c.args.x + c.loop-i.i < c.args.cube.now.shape.columns = omega (arith, c.requires.inside, c.loop-i-test.true) in
@@ -38,10 +39,11 @@ loop-i-preserved c =
     λ p f h. let g = rw (← c.self.view_is) at f in let w = s.wide (ap (λ (q : Predictor). q.column) g.made.predictor ∙ h) in rw (← kept.beside.alike.shape, shape) (omega (arith, w, columns)) in
     rw is
     (record {
-      moved = moved_next c.loop-i.i c.args.self.now c.loop-i.self c.inverse-sample.new.self kept.moved c.inverse-sample.ensures.moved;
+      moved = moved_next c.loop-i.i c.args.self.now c.loop-i.self c.inverse_beside-sample.new.self kept.moved c.inverse_beside-sample.ensures.moved;
       beside = beside_next c.args.cube.now d c.args.self.now.band c.args.y c.args.x c.loop-i.i v place kept.whole kept.beside;
-      residuals = λ p f. residuals_next p d c.args.self.now.band c.args.y c.args.x c.loop-i.i v c.args.deltas.now place kept.whole (wide p f) c.loop-i-test.true (kept.residuals p f) (rw (kept.moved.band, there) at (c.inverse-sample.ensures.residual p (kept.follows p f)));
-      follows = λ p f. rw kept.moved.band at (c.inverse-sample.ensures.follows p (kept.follows p f));
+      residuals = λ p f. residuals_next p d c.args.self.now.band c.args.y c.args.x c.loop-i.i v c.args.deltas.now place kept.whole (wide p f) c.loop-i-test.true (kept.residuals p f) (rw (kept.moved.band, there) at (c.inverse_beside-sample.ensures.residual p (kept.follows p f)));
+      follows = λ p f. rw kept.moved.band at (c.inverse_beside-sample.ensures.follows p (kept.follows p f));
+      told = rw kept.moved.band at c.inverse_beside-sample.ensures.told;
       whole = rw length-set kept.whole;
     })
 

@@ -1,0 +1,35 @@
+use Rattle.std.proofs.Common.{◌≡◌, ◌+◌, ◌-◌, ◌<◌, ◌≤◌, ℤ, pos, ◌+ℤ◌, ◌*ℤ◌, ◌-ℤ◌, false, length, take, ◌++◌, replicate, if◌then◌else◌, SFits, w32, to_z-of_z, rules, arith, refl, sym, ap, ◌∙◌}
+use Rattle.cube_core.specs.Kind.{smin}
+use Rattle.cube_core.specs.Image.{put}
+use Rattle.predict_core.specs.Predictor.{previous_bands}
+use Rattle.predict_core.specs.Differences.{central_difference, spectral_differences}
+use Rattle.predict_core.proofs.Filling.{spectral_length}
+use Rattle.predict_core.proofs.Rising.{behind_directions, own_put, raised_put}
+use Rattle.predict_core.proofs.inverse_place.sample_above.Goals as goal
+
+pub sample_by-sample-requires-clause-lower : goal.sample_by-sample-requires-clause-lower
+sample_by-sample-requires-clause-lower c =
+    let s = c.args.settings.now in
+    let p = s.predictor in
+    let us = spectral_differences p c.args.cube.now s.band c.args.y c.args.x (previous_bands p s.band) in
+    let kept : c.args.below.now.differences ≡ us ++ replicate (18 - previous_bands p s.band) (pos 0) = (rw (c.requires.band, c.requires.row, c.requires.column) at c.requires.told) c.requires.later in
+    c.behind_directions-lower.ensures ∙ ap (take (if p.reduced then 18 else 15)) kept
+    ∙ behind_directions p us s.band s.count s.lawful.few (spectral_length p c.args.cube.now s.band c.args.y c.args.x (previous_bands p s.band)) s.count_is
+
+pub returns-clause-told : goal.returns-clause-told
+returns-clause-told c h =
+    let s = c.args.settings.now in
+    let p = s.predictor in
+    let v = c.sample_by-sample.result in
+    let fits : SFits w32 c.sample_by-sample.result = search rules in
+    let own_fits : SFits w32 c.difference_there-own.result = search rules in
+    let later : 0 < c.args.y + c.args.x = omega (arith, c.requires.later) in
+    let wide : p.column ≡ false → 2 ≤ c.args.cube.now.shape.columns = λ f. let w = s.wide f in let e = c.requires.columns in omega (arith, w, e) in
+    let us = spectral_differences p c.args.cube.now s.band c.args.y c.args.x (previous_bands p s.band) in
+    let kept : c.args.below.now.differences ≡ us ++ replicate (18 - previous_bands p s.band) (pos 0) = (rw (c.requires.band, c.requires.row, c.requires.column) at c.requires.told) c.requires.later in
+    let value = rw (← c.requires.kind) at (simp (to_z-of_z fits) at c.difference_there-own.ensures.value) in
+    let own : c.difference_there-own.result ≡ central_difference p (put c.args.cube.now s.band c.args.y c.args.x v) s.band c.args.y c.args.x =
+    value ∙ own_put c.args.cube.now s.band c.args.y c.args.x v c.requires.place c.is_cube.ensures.whole p later wide (pos 4 *ℤ smin c.args.cube.now.kind +ℤ pos c.sum_at-sum.result) c.sum_at-sum.ensures.value in
+    let moved = simp (to_z-of_z own_fits) at c.go_up.ensures.differences in
+    rw (to_z-of_z fits, c.go_up.ensures.band, c.go_up.ensures.row, c.go_up.ensures.column, c.requires.band, c.requires.row, c.requires.column)
+    (moved ∙ raised_put c.args.cube.now s.band c.args.y c.args.x v c.requires.place c.is_cube.ensures.whole p later wide s.lawful.few c.difference_there-own.result c.args.below.now.differences own kept)

@@ -1,0 +1,137 @@
+//! A sample from its mapped residual where the bands of a place are decoded one behind another.
+
+ghost use Rattle.std.specs.Prelude.{◌≡◌, ◌+◌, ◌-◌, ◌*◌, ◌^◌, ◌<◌, ◌≤◌, pos, ◌+ℤ◌, ◌*ℤ◌, take, drop, ◌++◌, replicate, if◌then◌else◌};
+ghost use Rattle.cube_core.specs.Image.{IsPlace, put};
+ghost use Rattle.cube_core.specs.Kind.{IsSample, smin};
+ghost use Rattle.header_bits.specs.declared.params.Params.{Params as Parameters};
+ghost use Rattle.predict_core.specs.Bounds.{AllWithin};
+ghost use Rattle.predict_core.specs.Predictor.{previous_bands};
+ghost use Rattle.predict_core.specs.LocalSum.{local_sum};
+ghost use Rattle.predict_core.specs.Differences.{spectral_differences};
+ghost use Rattle.predict_core.specs.Prediction.{scaled_there, next_weights};
+ghost use Rattle.predict_core.specs.Residual.{mapped, mapped_residual};
+ghost use Rattle.predict_core.specs.Following.{Follows, MovesOn};
+ghost use Rattle.predict_core.specs.Spectral.{AreOf};
+
+use crate::band::Band;
+use crate::differences::sum_at;
+use crate::inverse_chain::{difference_there, sample_there};
+use crate::settings::Settings;
+use crate::spectral::SpectralDifferences;
+use cube_core::cube::Cube;
+
+impl Band {
+    /// The sample of a mapped residual at the next place, as `inverse` finds it.
+    ///
+    /// `below` are differences of the cube, and afterwards of the cube with that sample.
+    #[inline(always)]
+    pub(crate) fn inverse_beside(
+        &mut self,
+        cube: &Cube,
+        y: u32,
+        x: u32,
+        delta: u16,
+        below: &mut SpectralDifferences,
+    ) -> i32
+        requires shape { cube.now.shape ≡ self.old.shape }
+        requires kind { cube.now.kind ≡ self.old.kind }
+        requires place { IsPlace cube.now.shape self.old.band y x }
+        requires next { self.old.place ≡ y * cube.now.shape.columns + x }
+        requires residual { delta < 2 ^ cube.now.kind.bits }
+        requires told { AreOf self.old.predictor below.old cube.now }
+        ensures moved { MovesOn self.old self.new }
+        ensures range { IsSample cube.now.kind result }
+        ensures residual { (p : Parameters) → Follows p self.old cube.now → mapped_residual p (put cube.now self.old.band y x result) self.old.band self.old.place ≡ delta }
+        ensures follows { (p : Parameters) → Follows p self.old cube.now → Follows p self.new (put cube.now self.old.band y x result) }
+        ensures told { AreOf self.new.predictor below.new (put cube.now self.old.band y x result) }
+    {
+        if self.settings.predictor.register < 46 || y == 0 {
+            below.forget();
+            return self.inverse(cube, y, x, delta);
+        }
+        cube.is_cube();
+        self.next += 1;
+        below.reach(&self.settings, cube, y, x);
+        sample_above(&self.settings, cube, y, x, &mut self.weights, below, delta)
+    }
+}
+
+/// The sample of a mapped residual below the first row, the weights after it, and what its place tells the
+/// band above.
+#[inline(always)]
+fn sample_above(
+    settings: &Settings,
+    cube: &Cube,
+    y: u32,
+    x: u32,
+    weights: &mut [i32; 18],
+    below: &mut SpectralDifferences,
+    delta: u16,
+) -> i32
+    requires register { 46 ≤ settings.now.predictor.register }
+    requires later { 0 < y }
+    requires place { IsPlace cube.now.shape settings.now.band y x }
+    requires columns { cube.now.shape.columns ≡ settings.now.columns }
+    requires kind { cube.now.kind ≡ settings.now.range.kind }
+    requires weights_in { AllWithin (2 ^ (settings.now.predictor.fraction + 2)) weights.old }
+    requires residual { delta < 2 ^ cube.now.kind.bits }
+    requires band { below.old.band ≡ settings.now.band }
+    requires row { below.old.row ≡ y }
+    requires column { below.old.column ≡ x }
+    requires told { AreOf settings.now.predictor below.old cube.now }
+    ensures range { IsSample cube.now.kind result }
+    ensures inverse { mapped cube.now.kind (scaled_there settings.now.predictor (put cube.now settings.now.band y x result) settings.now.band y x (take settings.now.count weights.old)) result ≡ delta }
+    ensures weights { take settings.now.count weights.new ≡ next_weights settings.now.predictor (put cube.now settings.now.band y x result) settings.now.band (y * cube.now.shape.columns + x) (take settings.now.count weights.old) }
+    ensures bound { AllWithin (2 ^ (settings.now.predictor.fraction + 2)) weights.new }
+    ensures told { AreOf settings.now.predictor below.new (put cube.now settings.now.band y x result) }
+{
+    cube.is_cube();
+    let predictor = &settings.predictor;
+    let sum = sum_at(predictor, cube, settings.band, y, x);
+    let lower = below.behind_directions(predictor.reduced);
+    let sample = sample_by(settings, cube, y, x, sum, weights, &lower, delta);
+    let own = difference_there(&settings.range, sample, sum);
+    below.go_up(own, predictor.previous);
+    sample
+}
+
+/// The same by the differences of the bands below, in a room that leaves the first places to the directions.
+///
+/// How many weights there are is found here, so that the compiler knows it.
+#[inline(always)]
+fn sample_by(
+    settings: &Settings,
+    cube: &Cube,
+    y: u32,
+    x: u32,
+    sum: u32,
+    weights: &mut [i32; 18],
+    lower: &[i32; 18],
+    delta: u16,
+) -> i32
+    requires register { 46 ≤ settings.now.predictor.register }
+    requires later { 0 < y }
+    requires place { IsPlace cube.now.shape settings.now.band y x }
+    requires columns { cube.now.shape.columns ≡ settings.now.columns }
+    requires kind { cube.now.kind ≡ settings.now.range.kind }
+    requires sum_is { local_sum settings.now.predictor cube.now settings.now.band y x ≡ pos 4 *ℤ smin cube.now.kind +ℤ pos sum }
+    requires sum_in { sum ≤ 262140 }
+    requires weights_in { AllWithin (2 ^ (settings.now.predictor.fraction + 2)) weights.old }
+    requires lower { drop (if settings.now.predictor.reduced then 0 else 3) lower.now ≡ spectral_differences settings.now.predictor cube.now settings.now.band y x (previous_bands settings.now.predictor settings.now.band) ++ replicate (18 - settings.now.count) (pos 0) }
+    requires residual { delta < 2 ^ cube.now.kind.bits }
+    ensures range { IsSample cube.now.kind result }
+    ensures inverse { mapped cube.now.kind (scaled_there settings.now.predictor (put cube.now settings.now.band y x result) settings.now.band y x (take settings.now.count weights.old)) result ≡ delta }
+    ensures weights { take settings.now.count weights.new ≡ next_weights settings.now.predictor (put cube.now settings.now.band y x result) settings.now.band (y * cube.now.shape.columns + x) (take settings.now.count weights.old) }
+    ensures bound { AllWithin (2 ^ (settings.now.predictor.fraction + 2)) weights.new }
+{
+    let count = settings.count;
+    if count == 0 {
+        sample_there::<0>(settings, cube, y, x, sum, weights, lower, delta)
+    } else if count <= 4 {
+        sample_there::<4>(settings, cube, y, x, sum, weights, lower, delta)
+    } else if count <= 8 {
+        sample_there::<8>(settings, cube, y, x, sum, weights, lower, delta)
+    } else {
+        sample_there::<18>(settings, cube, y, x, sum, weights, lower, delta)
+    }
+}
