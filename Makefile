@@ -1,7 +1,9 @@
 PREFIX ?= /usr/local
 PROGRAM = crates/ccsds/out/ccsds
 
-.PHONY: all show install test interop rows bench beside plain
+SCRIPTS = $(addprefix tests/, command.sh limits.sh options.py sizes.py pipelines.py refused.py fuzz)
+
+.PHONY: all show install test interop rows bench beside plain $(SCRIPTS)
 
 # Proves and builds the program and its libraries, as many side by side as there are processors.
 all:
@@ -16,17 +18,15 @@ install: all
 	install -D $(PROGRAM) $(DESTDIR)$(PREFIX)/bin/ccsds
 
 # Proves every crate from nothing, tries the must-fail edits, and runs the tests and the program; then tries the
-# program that was proved on files and devices, with little of what it needs, on all its options, at the greatest sizes, with predictors in
-# threads, with each of its calls for memory, reads and writes refused, and on damaged files.
+# program that was proved on files and devices, with little of what it needs, on all its options, at the greatest
+# sizes, with predictors in threads, with each of its calls for memory, reads and writes refused, and on damaged files.
+# These scripts run side by side, and each tells what it has to tell when it ends.
 test:
 	rt ci
-	tests/command.sh
-	tests/limits.sh
-	tests/options.py
-	tests/sizes.py
-	tests/pipelines.py
-	tests/refused.py
-	tests/fuzz
+	@$(MAKE) --no-print-directory --jobs="$$(nproc)" --output-sync $(SCRIPTS)
+
+$(SCRIPTS):
+	$@
 
 # Sets our block-adaptive bodies beside those of libaec's program `aec`, both ways.
 interop: all plain
