@@ -62,6 +62,8 @@ impl Band {
     }
 
     /// The same, one place after another.
+    // Apart from the way by rows it leaves that one its registers.
+    #[inline(never)]
     fn inverse_each(
         &mut self,
         cube: &mut Cube,
