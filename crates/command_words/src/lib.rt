@@ -2,6 +2,7 @@
 #![tactic(auto)]
 
 pub mod command_line;
+mod found;
 mod options;
 pub mod words;
 pub mod worked;

@@ -6,7 +6,8 @@ ghost use Rattle.clap.specs.Walk.{rule_of};
 ghost use Rattle.command_words.specs.Options as defined;
 
 use clap::{Arg, ArgAction, Command};
-use header_bits::ranges::Range;
+use header_bits::field::Range;
+use header_bits::fields;
 use std::alloc::{AllocError, Global};
 
 /// How many predictors may be asked for; 0 is coding on one thread.
@@ -22,31 +23,44 @@ pub(crate) const SLOTS: Range = Range {
 pub(crate) const BYTES: Range = Range { least: 1, most: 2 };
 
 /// What says how large an image is, and what its samples are.
-static SIZES: [&str; 4] = ["columns", "rows", "bands", "bits"];
+macro_rules! sizes {
+    () => {
+        [
+            fields::COLUMNS.name,
+            fields::ROWS.name,
+            fields::BANDS.name,
+            fields::DYNAMIC_RANGE.name,
+        ]
+    };
+}
 
 /// The options of `compress`, each with its value where it is left out: the encoding order and what goes
 /// into the header's first part, how samples are predicted, how residuals are coded, and by how many threads.
-static OPTIONS: [(&str, &str); 19] = [
-    ("order", "bsq"),
-    ("depth", "1"),
-    ("user", "0"),
-    ("word", "1"),
-    ("previous", "3"),
-    ("register", "64"),
-    ("omega", "13"),
-    ("interval-log", "6"),
-    ("vmin-code", "5"),
-    ("vmax-code", "9"),
-    ("coder", "sample"),
-    ("umax", "16"),
-    ("gamma-star", "6"),
-    ("gamma-zero", "1"),
-    ("k", "3"),
-    ("block", "8"),
-    ("reference", "64"),
-    ("predictors", "0"),
-    ("slots", "1024"),
-];
+macro_rules! options {
+    () => {
+        [
+            (fields::ORDER.name, "bsq"),
+            (fields::DEPTH.name, "1"),
+            (fields::USER.name, "0"),
+            (fields::WORD_SIZE.name, "1"),
+            (fields::PREVIOUS.name, "3"),
+            (fields::REGISTER.name, "64"),
+            (fields::OMEGA.name, "13"),
+            ("interval-log", "6"),
+            ("vmin-code", "5"),
+            ("vmax-code", "9"),
+            (fields::CODER.name, "sample"),
+            (fields::UMAX.name, "16"),
+            (fields::GAMMA_STAR.name, "6"),
+            (fields::GAMMA_ZERO.name, "1"),
+            (fields::CONSTANT.name, "3"),
+            (fields::BLOCK_SIZE.name, "8"),
+            (fields::REFERENCE.name, "64"),
+            ("predictors", "0"),
+            ("slots", "1024"),
+        ]
+    };
+}
 
 /// The flags of `compress`.
 static FLAGS: [&str; 4] = ["signed", "reduced", "column-sums", "restricted"];
@@ -71,10 +85,10 @@ fn image_options<'a>(alloc: Global, command: Command<'a>) -> Result<Command<'a>,
     ensures { IfOk result (λ c. app_of c ≡ defined.with_rules (app_of command.entry) defined.image_rules) }
 {
     let mut command = command;
-    for name in SIZES.iter() {
+    for name in sizes!().iter() {
         command = command.arg(required(alloc, *name))?;
     }
-    for (name, default) in OPTIONS.iter() {
+    for (name, default) in options!().iter() {
         command = command.arg(option(alloc, *name, *default))?;
     }
     for name in FLAGS.iter() {

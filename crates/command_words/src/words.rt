@@ -21,6 +21,7 @@ ghost use Rattle.command_words.specs.Settings.{AreInRange, AreParams, IsCoderInR
 ghost use Rattle.command_words.specs.Reading.{AreFilesOf, AreParamsOf, AreSizesOf, HasExponent, HasFlag, HasNumber, HasWord, IsBlockOf, IsCoderOf, IsKindOf, IsLayoutOf, IsOrderOf, IsSampleOf, raw_order_word, rows};
 ghost use Rattle.command_words.specs.Words.{texts, AreOfOptions, AreTaken, Ask, AskForNone, BeginWith};
 
+use crate::found::{exponent, flag, number, number_in, word};
 use crate::options::{BYTES, PREDICTORS, SLOTS, compress_command, expand_command};
 use clap::error::ErrorKind;
 use clap::{ArgMatches, Command, Error};
@@ -30,8 +31,8 @@ use cube_core::kind::Kind;
 use cube_core::layout::{Layout, RawOrder};
 use cube_core::order::Order;
 use cube_core::shape::Shape;
+use header_bits::fields::{self, is_block_size};
 use header_bits::params::{Coder, CountStart, Params, WeightStart};
-use header_bits::ranges::{self, LEAST_EXPONENT, Range};
 use std::alloc::Global;
 
 /// The settings that the words behind the program's name ask for. The first word names the command, and
@@ -74,8 +75,8 @@ fn compress_settings<'a>(alloc: Global, words: &'a [&'a str]) -> Result<Settings
     let matches = matches(compress_command(alloc)?, words)?;
     let params = params(&matches)?;
     let layout = layout(&matches)?;
-    let predictors = number(&matches, "predictors", PREDICTORS)?;
-    let slots = number(&matches, "slots", SLOTS)?;
+    let predictors = number_in(&matches, "predictors", PREDICTORS)?;
+    let slots = number_in(&matches, "slots", SLOTS)?;
     let (from, to) = files(alloc, &matches)?;
     let settings = CompressSettings {
         params,
@@ -118,16 +119,16 @@ fn params(matches: &ArgMatches<'_>) -> Result<Params, Fault>
         shape: shape(matches)?,
         kind: kind(matches)?,
         order: order(matches)?,
-        user: number(matches, "user", ranges::USER)?,
-        word: number(matches, "word", ranges::WORD_SIZE)?,
-        previous: number(matches, "previous", ranges::PREVIOUS)?,
+        user: number(matches, fields::USER)?,
+        word: number(matches, fields::WORD_SIZE)?,
+        previous: number(matches, fields::PREVIOUS)?,
         reduced: flag(matches, "reduced"),
         column: flag(matches, "column-sums"),
-        register: number(matches, "register", ranges::REGISTER)?,
-        omega: number(matches, "omega", ranges::OMEGA)?,
-        interval_log: number(matches, "interval-log", ranges::INTERVAL)?,
-        vmin: exponent(matches, "vmin-code")?,
-        vmax: exponent(matches, "vmax-code")?,
+        register: number(matches, fields::REGISTER)?,
+        omega: number(matches, fields::OMEGA)?,
+        interval_log: number_in(matches, "interval-log", fields::INTERVAL.range)?,
+        vmin: exponent(matches, "vmin-code", fields::VMIN.range)?,
+        vmax: exponent(matches, "vmax-code", fields::VMAX.range)?,
         start: WeightStart::Usual,
         coder: coder(matches)?,
     })
@@ -137,9 +138,9 @@ fn shape(matches: &ArgMatches<'_>) -> Result<Shape, Fault>
     ensures read { IfOk result (AreSizesOf (rows matches.now)) }
     ensures refused { IfErr result (λ e. (e ≡ Usage) × ((s : Sizes) → AreSizesOf (rows matches.now) s → ¬ (AreSizes s))) }
 {
-    let columns = number(matches, "columns", ranges::SIZE)?;
-    let rows = number(matches, "rows", ranges::SIZE)?;
-    let bands = number(matches, "bands", ranges::SIZE)?;
+    let columns = number(matches, fields::COLUMNS)?;
+    let rows = number(matches, fields::ROWS)?;
+    let bands = number(matches, fields::BANDS)?;
     Ok(Shape::new(columns, rows, bands).unwrap())
 }
 
@@ -147,7 +148,7 @@ fn kind(matches: &ArgMatches<'_>) -> Result<Kind, Fault>
     ensures read { IfOk result (IsKindOf (rows matches.now)) }
     ensures refused { IfErr result (λ e. (e ≡ Usage) × ((k : SampleKind) → IsKindOf (rows matches.now) k → ¬ (IsKind k))) }
 {
-    let bits = number(matches, "bits", ranges::DYNAMIC_RANGE)?;
+    let bits = number(matches, fields::DYNAMIC_RANGE)?;
     Ok(Kind::new(flag(matches, "signed"), bits).unwrap())
 }
 
@@ -157,7 +158,7 @@ fn order(matches: &ArgMatches<'_>) -> Result<Order, Fault>
     ensures read { IfOk result (IsOrderOf (rows matches.now)) }
     ensures refused { IfErr result (λ e. (e ≡ Usage) × ((o : Order) → IsOrderOf (rows matches.now) o → ¬ (IsDepth o))) }
 {
-    let depth = number(matches, "depth", ranges::DEPTH)?;
+    let depth = number(matches, fields::DEPTH)?;
     match word(matches, "order") {
         Some("bsq") => Ok(Order::Bsq),
         Some("bi") => Ok(Order::Bi(depth)),
@@ -186,10 +187,10 @@ fn sample_coder(matches: &ArgMatches<'_>) -> Result<Coder, Fault>
     ensures refused { IfErr result (λ e. (e ≡ Usage) × ((c : Coder) → IsSampleOf (rows matches.now) c → ¬ (IsCoderInRange c))) }
 {
     Ok(Coder::Sample {
-        umax: number(matches, "umax", ranges::UMAX)?,
-        gamma_star: number(matches, "gamma-star", ranges::GAMMA_STAR)?,
-        gamma_zero: number(matches, "gamma-zero", ranges::GAMMA_ZERO)?,
-        start: CountStart::Constant(number(matches, "k", ranges::CONSTANT)?),
+        umax: number(matches, fields::UMAX)?,
+        gamma_star: number(matches, fields::GAMMA_STAR)?,
+        gamma_zero: number(matches, fields::GAMMA_ZERO)?,
+        start: CountStart::Constant(number(matches, fields::CONSTANT)?),
     })
 }
 
@@ -198,14 +199,14 @@ fn block_coder(matches: &ArgMatches<'_>) -> Result<Coder, Fault>
     ensures read { IfOk result (IsBlockOf (rows matches.now)) }
     ensures refused { IfErr result (λ e. (e ≡ Usage) × ((c : Coder) → IsBlockOf (rows matches.now) c → ¬ (IsCoderInRange c))) }
 {
-    let size = match number(matches, "block", ranges::BLOCK_SIZE)? {
-        size @ (8 | 16 | 32 | 64) => size,
-        _ => return Err(Fault::Usage),
-    };
+    let size = number(matches, fields::BLOCK_SIZE)?;
+    if !is_block_size(size) {
+        return Err(Fault::Usage);
+    }
     Ok(Coder::Block {
         size,
         restricted: flag(matches, "restricted"),
-        reference: number(matches, "reference", ranges::REFERENCE)?,
+        reference: number(matches, fields::REFERENCE)?,
     })
 }
 
@@ -216,7 +217,7 @@ fn layout(matches: &ArgMatches<'_>) -> Result<Layout, Fault>
 {
     Ok(Layout {
         order: raw_order(matches)?,
-        bytes: number(matches, "bytes", BYTES)?,
+        bytes: number_in(matches, "bytes", BYTES)?,
         little: flag(matches, "little"),
     })
 }
@@ -248,49 +249,4 @@ fn files(alloc: Global, matches: &ArgMatches<'_>) -> Result<(String, String), Fa
     let from = String::from_str(alloc, from)?;
     let to = String::from_str(alloc, to)?;
     Ok((from, to))
-}
-
-/// A weight update scaling exponent, which is told as a number from 0.
-fn exponent(matches: &ArgMatches<'_>, name: &str) -> Result<i32, Fault>
-    ensures range { IfOk result IsExponent }
-    ensures read { IfOk result (HasExponent (rows matches.now) name.now) }
-    ensures refused { IfErr result (λ e. (e ≡ Usage) × ((v : ℤ) → HasExponent (rows matches.now) name.now v → ¬ (IsExponent v))) }
-{
-    let code = number(matches, name, ranges::EXPONENT_CODE)?;
-    Ok(code as i32 + LEAST_EXPONENT)
-}
-
-/// Whether a flag was given.
-fn flag(matches: &ArgMatches<'_>, name: &str) -> bool
-    ensures { HasFlag (rows matches.now) name.now result }
-{
-    matches.get_flag(name)
-}
-
-/// An option's word.
-fn word<'a>(matches: &ArgMatches<'a>, name: &str) -> Option<&'a str>
-    ensures { option_map (λ w. w.now) result ≡ first_of name.now (rows matches.now) }
-{
-    matches.get_str(name)
-}
-
-/// An option's number, in its range.
-fn number(matches: &ArgMatches<'_>, name: &str, range: Range) -> Result<u32, Fault>
-    ensures range { IfOk result (InRange range.least range.most) }
-    ensures read { IfOk result (HasNumber (rows matches.now) name.now) }
-    ensures refused { IfErr result (λ e. (e ≡ Usage) × ((n : ℕ) → HasNumber (rows matches.now) name.now n → ¬ (InRange range.least range.most n))) }
-{
-    between(matches, name, range.least, range.most)
-}
-
-/// An option's number, from a least to a greatest one.
-fn between(matches: &ArgMatches<'_>, name: &str, least: u32, most: u32) -> Result<u32, Fault>
-    ensures range { IfOk result (InRange least most) }
-    ensures read { IfOk result (HasNumber (rows matches.now) name.now) }
-    ensures refused { IfErr result (λ e. (e ≡ Usage) × ((n : ℕ) → HasNumber (rows matches.now) name.now n → ¬ (InRange least most n))) }
-{
-    match matches.get_one::<u32>(name) {
-        Some(number) if least <= number && number <= most => Ok(number),
-        _ => Err(Fault::Usage),
-    }
 }

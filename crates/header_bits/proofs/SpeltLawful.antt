@@ -41,10 +41,10 @@ held_at (s ∷ ss) (v ∷ vs) (suc i) h lt = held_at ss vs i h.1 (omega arith)
 
 -- ---- the image part
 
-record IsImage (i : ImagePart) : Type 0 where
+pub record IsImage (i : ImagePart) : Type 0 where
   user : i.user ≤ 255
   sizes : AreSizes i.shape
-  kind : IsKind i.kind
+  pub kind : IsKind i.kind
   order : IsOrder i.shape i.order
   word : InRange 1 8 i.word
 
@@ -52,7 +52,7 @@ order_said : (b : Bool) (s : Sizes) (depth : ℕ) → 1 ≤ depth → (b && ltb 
 order_said true s depth le e = (le, ltb-false s.bands depth e)
 order_said false s depth le e = tt
 
-image_said : (v : List ℕ) → AreValues image_fields v → image_tests v ≡ fine → IsImage (image_says v)
+pub image_said : (v : List ℕ) → AreValues image_fields v → image_tests v ≡ fine → IsImage (image_says v)
 image_said v h e =
     let a = then_ok (unused 57 2 (get_or v 5 0)) _ e in
     let b = then_ok (refuse_if (eqb (get_or v 6 0) 1) (FieldRange field.DynamicRange (pos 1))) _ a.1 in

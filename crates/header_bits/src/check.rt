@@ -9,8 +9,9 @@ ghost use Rattle.cube_core.specs.Kind.{IsKind};
 ghost use Rattle.header_bits.specs.TableParts.{some_above};
 ghost use Rattle.header_bits.specs.Lawful.{IsLawful, in_range_or, exponent_or, order_fault, predictor_fault, start_fault, weight_fault, entries_fault, count_fault, block_size_fault, coder_fault, params_fault};
 
+use crate::field::Range;
+use crate::fields::{self, GREATEST_EXPONENT, LEAST_EXPONENT, is_block_size};
 use crate::params::{Coder, CountStart, Params, WeightStart};
-use crate::ranges::{self, GREATEST_EXPONENT, LEAST_EXPONENT, RESOLUTION, Range};
 use crate::refusal::{disagree_if, out_of_range_if, refuse_if};
 use crate::weight_part::{power_of_two, weight_count};
 use cube_core::fault::{Fault, Field, Rule};
@@ -37,9 +38,9 @@ fn first_fault(params: &Params) -> Result<(), Fault>
     ensures fault { result ≡ params_fault params.now }
     ensures ranges { OnOk result (AreSizes params.now.shape × IsKind params.now.kind) }
 {
-    in_range(Field::User, ranges::USER, params.user)?;
+    in_range(Field::User, fields::USER.range, params.user)?;
     check_order(params.shape, params.order)?;
-    in_range(Field::WordSize, ranges::WORD_SIZE, params.word)?;
+    in_range(Field::WordSize, fields::WORD_SIZE.range, params.word)?;
     check_predictor(params)?;
     check_start(params)?;
     check_coder(params)
@@ -93,14 +94,14 @@ fn check_predictor(params: &Params) -> Result<(), Fault>
     ensures omega { OnOk result (params.now.omega ≤ 19) }
 {
     let one_column = params.shape.columns() == 1;
-    in_range(Field::Previous, ranges::PREVIOUS, params.previous)?;
+    in_range(Field::Previous, fields::PREVIOUS.range, params.previous)?;
     disagree_if(!params.reduced && one_column, Rule::FullOneColumn)?;
     disagree_if(!params.column && one_column, Rule::NeighbourOneColumn)?;
-    in_range(Field::Register, ranges::REGISTER, params.register)?;
-    in_range(Field::Omega, ranges::OMEGA, params.omega)?;
+    in_range(Field::Register, fields::REGISTER.range, params.register)?;
+    in_range(Field::Omega, fields::OMEGA.range, params.omega)?;
     let least = params.kind.bits() + params.omega + 2;
     disagree_if(params.register < least, Rule::RegisterTooSmall)?;
-    in_range(Field::Interval, ranges::INTERVAL, params.interval_log)?;
+    in_range(Field::Interval, fields::INTERVAL.range, params.interval_log)?;
     exponent_in_range(Field::VMin, params.vmin)?;
     exponent_in_range(Field::VMax, params.vmax)?;
     disagree_if(params.vmax < params.vmin, Rule::ExponentOrder)
@@ -118,7 +119,7 @@ fn check_start(params: &Params) -> Result<(), Fault>
     let weights = values.as_slice();
     let bands = params.shape.bands();
     let count = weight_count(params.previous, params.reduced, bands);
-    out_of_range_if(*q < RESOLUTION.least, Field::Resolution, *q)?;
+    out_of_range_if(*q < fields::RESOLUTION.range.least, Field::Resolution, *q)?;
     disagree_if(params.omega + 3 < *q, Rule::ResolutionOverOmega)?;
     disagree_if(weights.len() != count, Rule::WeightTableLength)?;
     check_weights(*q, weights)
@@ -159,9 +160,9 @@ fn check_coder(params: &Params) -> Result<(), Fault>
             gamma_zero,
             start,
         } => {
-            in_range(Field::Umax, ranges::UMAX, *umax)?;
-            in_range(Field::GammaStar, ranges::GAMMA_STAR, *gamma_star)?;
-            in_range(Field::GammaZero, ranges::GAMMA_ZERO, *gamma_zero)?;
+            in_range(Field::Umax, fields::UMAX.range, *umax)?;
+            in_range(Field::GammaStar, fields::GAMMA_STAR.range, *gamma_star)?;
+            in_range(Field::GammaZero, fields::GAMMA_ZERO.range, *gamma_zero)?;
             disagree_if(*gamma_star < *gamma_zero + 1, Rule::CounterOrder)?;
             check_count(params, start)
         }
@@ -173,7 +174,7 @@ fn check_coder(params: &Params) -> Result<(), Fault>
             check_block_size(*size)?;
             let deep = params.kind.bits() > 4;
             disagree_if(*restricted && deep, Rule::RestrictedOverFour)?;
-            in_range(Field::Reference, ranges::REFERENCE, *reference)
+            in_range(Field::Reference, fields::REFERENCE.range, *reference)
         }
     }
 }
@@ -207,12 +208,11 @@ fn check_constants(most: u32, constants: &[u8]) -> Result<(), Fault>
     Ok(())
 }
 
-/// Refuses a block size that isn't 8, 16, 32 or 64.
+/// Refuses a size that blocks may not have.
 fn check_block_size(size: u32) -> Result<(), Fault>
     ensures { result ≡ block_size_fault size }
 {
     let value = i64::from(size);
-    let other = size != 8 && size != 16 && size != 32 && size != 64;
     let field = Field::BlockSize;
-    refuse_if(other, Fault::FieldRange { field, value })
+    refuse_if(!is_block_size(size), Fault::FieldRange { field, value })
 }

@@ -9,11 +9,13 @@ ghost use Rattle.header_bits.specs.TableParts.{has_constants};
 ghost use Rattle.header_bits.specs.Header.{constant_of, is_each, coder_part_of};
 
 use crate::bit_reader::BitReader;
-use crate::fields::{BLOCK, BlockField, SAMPLE, SampleField, coder_bits, unused_field};
+use crate::fields::{
+    self, BESIDE_TABLE, BLOCK_FIELDS, BLOCK_SIZES, SAMPLE_FIELDS, block_row, coder_bits,
+    sample_row, unused_field,
+};
 use crate::image_part::ImagePart;
 use crate::layout::read_values;
 use crate::params::{Coder, CountStart};
-use crate::ranges::{BESIDE_TABLE, GAMMA_STAR, UMAX};
 use crate::refusal::{disagree_if, out_of_range_if};
 use cube_core::fault::{Fault, Field, Rule};
 
@@ -43,20 +45,20 @@ impl CoderPart {
         image: &ImagePart,
         reader: &mut BitReader,
     ) -> Result<CoderPart, Fault>
-        requires { at < 2 ^ 31 }
+        requires { at < 2 ^ 32 }
         ensures { Reads (λ x. x) result reader.new.left (part_at (coder at image.now) reader.old.left) }
     {
         if reader.left() < coder_bits() {
             return Err(Fault::ShortHeader);
         }
         if image.block {
-            let mut numbers = [0; 4];
-            read_values(&BLOCK, reader, &mut numbers);
+            let mut numbers = [0; BLOCK_FIELDS];
+            read_values(&block_row!(), reader, &mut numbers);
             test_block(at, image, &numbers)?;
             Ok(said_block(&numbers))
         } else {
-            let mut numbers = [0; 5];
-            read_values(&SAMPLE, reader, &mut numbers);
+            let mut numbers = [0; SAMPLE_FIELDS];
+            read_values(&sample_row!(), reader, &mut numbers);
             test_sample(image, &numbers)?;
             Ok(said_sample(&numbers))
         }
@@ -113,66 +115,66 @@ fn constant_of(start: &CountStart) -> u32
 pub(crate) fn size_code(size: u32) -> u32
     ensures { result ≡ size_code size }
 {
-    match size {
-        8 => 0,
-        16 => 1,
-        32 => 2,
-        _ => 3,
+    for code in 0..3 {
+        if BLOCK_SIZES[code as usize] == size {
+            return code;
+        }
     }
+    3
 }
 
 /// Tests the numbers of the sample-adaptive coder's part, in order.
-fn test_sample(image: &ImagePart, numbers: &[u32; 5]) -> Result<(), Fault>
+fn test_sample(image: &ImagePart, numbers: &[u32; SAMPLE_FIELDS]) -> Result<(), Fault>
     requires { AreValues sample_fields numbers.now }
     ensures { result ≡ sample_tests image.now numbers.now }
 {
-    let table = numbers[SampleField::AccumulatorTable as usize] == 1;
+    let table = numbers[fields::ACCUMULATOR_TABLE.index] == 1;
     let most = image.kind.bits() - 2;
     out_of_range_if(
-        numbers[SampleField::Umax as usize] < UMAX.least,
+        numbers[fields::UMAX.index] < fields::UMAX.range.least,
         Field::Umax,
-        numbers[SampleField::Umax as usize],
+        numbers[fields::UMAX.index],
     )?;
     out_of_range_if(
-        numbers[SampleField::GammaStar as usize] > GAMMA_STAR.most,
+        numbers[fields::GAMMA_STAR.index] > fields::GAMMA_STAR.range.most,
         Field::GammaStar,
-        numbers[SampleField::GammaStar as usize],
+        numbers[fields::GAMMA_STAR.index],
     )?;
     disagree_if(
-        numbers[SampleField::GammaStar as usize] < numbers[SampleField::GammaZero as usize] + 1,
+        numbers[fields::GAMMA_STAR.index] < numbers[fields::GAMMA_ZERO.index] + 1,
         Rule::CounterOrder,
     )?;
     disagree_if(
-        !table && most < numbers[SampleField::Constant as usize],
+        !table && most < numbers[fields::CONSTANT.index],
         Rule::StartConstant,
     )?;
     disagree_if(
-        table && numbers[SampleField::Constant as usize] < BESIDE_TABLE,
+        table && numbers[fields::CONSTANT.index] < BESIDE_TABLE,
         Rule::ConstantWithTable,
     )
 }
 
 /// What the numbers of the sample-adaptive coder's part say.
-fn said_sample(numbers: &[u32; 5]) -> CoderPart
+fn said_sample(numbers: &[u32; SAMPLE_FIELDS]) -> CoderPart
     ensures { result ≡ sample_says numbers.now }
 {
     CoderPart::Sample {
-        umax: numbers[SampleField::Umax as usize],
-        gamma_star: numbers[SampleField::GammaStar as usize],
-        gamma_zero: numbers[SampleField::GammaZero as usize],
-        constant: numbers[SampleField::Constant as usize],
-        table: numbers[SampleField::AccumulatorTable as usize] == 1,
+        umax: numbers[fields::UMAX.index],
+        gamma_star: numbers[fields::GAMMA_STAR.index],
+        gamma_zero: numbers[fields::GAMMA_ZERO.index],
+        constant: numbers[fields::CONSTANT.index],
+        table: numbers[fields::ACCUMULATOR_TABLE.index] == 1,
     }
 }
 
 /// Tests the numbers of the block-adaptive coder's part, in order.
 #[tactic(auto, unfolding(crate::specs::Layout::total))]
-fn test_block(at: u64, image: &ImagePart, numbers: &[u32; 4]) -> Result<(), Fault>
-    requires { at < 2 ^ 31 }
+fn test_block(at: u64, image: &ImagePart, numbers: &[u32; BLOCK_FIELDS]) -> Result<(), Fault>
+    requires { at < 2 ^ 32 }
     ensures { result ≡ block_tests at image.now numbers.now }
 {
-    let restricted = numbers[BlockField::Restricted as usize] == 1;
-    unused_field(at, &BLOCK, BlockField::AtFront as usize, numbers)?;
+    let restricted = numbers[fields::RESTRICTED.index] == 1;
+    unused_field(at, &block_row!(), fields::BEFORE_BLOCK_SIZE.index, numbers)?;
     disagree_if(
         restricted && 4 < image.kind.bits(),
         Rule::RestrictedOverFour,
@@ -180,13 +182,13 @@ fn test_block(at: u64, image: &ImagePart, numbers: &[u32; 4]) -> Result<(), Faul
 }
 
 /// What the numbers of the block-adaptive coder's part say.
-fn said_block(numbers: &[u32; 4]) -> CoderPart
+fn said_block(numbers: &[u32; BLOCK_FIELDS]) -> CoderPart
     requires { AreValues block_fields numbers.now }
     ensures { result ≡ block_says numbers.now }
 {
     CoderPart::Block {
-        size: 8 << numbers[BlockField::BlockSize as usize],
-        restricted: numbers[BlockField::Restricted as usize] == 1,
-        reference: numbers[BlockField::Reference as usize],
+        size: BLOCK_SIZES[numbers[fields::BLOCK_SIZE.index] as usize],
+        restricted: numbers[fields::RESTRICTED.index] == 1,
+        reference: numbers[fields::REFERENCE.index],
     }
 }

@@ -1,157 +1,229 @@
-//! The fields of a header: of each part their names, in order, and their slots.
+//! The fields of a header, each described once (CCSDS 123.0-B-1, "Header").
+//!
+//! A field stands behind another of its part, which its description names. A part's row has the slots
+//! of its fields in that order, so that where reserved bits stand is counted from the row.
 
-ghost use Rattle.std.specs.Prelude.{◌≡◌, ◌+◌, ◌^◌, ◌<◌, ◌≤◌, length, slice_index, slice_index_or, take};
+ghost use Rattle.std.specs.Prelude.{◌≡◌, ◌+◌, ◌^◌, ◌<◌, ◌≤◌, ◌↔◌, true, length, slice_index, slice_index_or, take};
 ghost use Rattle.header_bits.specs.declared.layout.Slot.TheVariants as slot;
 ghost use Rattle.header_bits.specs.Layout.{AreNarrow, total, width};
 ghost use Rattle.header_bits.specs.Parts.{unused};
+ghost use Rattle.header_bits.specs.Lawful.{IsBlockSize};
 
+use crate::field::{
+    FlagField, NumberField, Range, ReservedField, counted, flag, index, modulo, number, plain,
+    reserved, row,
+};
 use crate::layout::{Slot, total_bits};
-use crate::ranges::{GAMMA_STAR, INTERVAL, OMEGA};
 use crate::refusal::unused;
 use cube_core::fault::Fault;
 
-/// The fields of the image part, in their order. A reserved one is named for what it stands behind.
-#[derive(Clone, Copy)]
-pub(crate) enum ImageField {
-    /// User-defined data.
-    User,
-    Columns,
-    Rows,
-    Bands,
-    /// 1 for signed samples.
-    Signed,
-    AfterSigned,
-    /// Bits of a sample.
-    DynamicRange,
-    /// 1 is band sequential.
-    Order,
-    /// Depth of interleaving.
-    Depth,
-    AfterDepth,
-    /// Bytes of an output word.
-    WordSize,
-    /// 1 is block-adaptive.
-    Coder,
-    AfterCoder,
-}
+// ---- the image part
+
+/// User-defined data.
+pub const USER: NumberField = plain!(first, 8, "user", 0, 255);
+
+pub const COLUMNS: NumberField = modulo!(USER, 16, "columns", 1, 65_536);
+
+pub const ROWS: NumberField = modulo!(COLUMNS, 16, "rows", 1, 65_536);
+
+pub const BANDS: NumberField = modulo!(ROWS, 16, "bands", 1, 65_536);
+
+pub const SIGNED: FlagField = flag!(BANDS, "sample", "unsigned", "signed");
+
+pub(crate) const AFTER_SIGNED: ReservedField = reserved!(SIGNED, 2);
+
+/// D, the bits of a sample.
+pub const DYNAMIC_RANGE: NumberField = modulo!(AFTER_SIGNED, 4, "bits", 2, 16);
+
+pub const ORDER: FlagField = flag!(DYNAMIC_RANGE, "order", "bi", "bsq");
+
+/// The depth of interleaving; it is also at most the number of bands.
+pub const DEPTH: NumberField = modulo!(ORDER, 16, "depth", 1, 65_536);
+
+pub(crate) const AFTER_DEPTH: ReservedField = reserved!(DEPTH, 2);
+
+/// B, the bytes of an output word.
+pub const WORD_SIZE: NumberField = modulo!(AFTER_DEPTH, 3, "word", 1, 8);
+
+pub const CODER: FlagField = flag!(WORD_SIZE, "coder", "sample", "block");
+
+pub(crate) const AFTER_CODER: ReservedField = reserved!(CODER, 10);
+
+pub(crate) const IMAGE_FIELDS: usize = AFTER_CODER.index + 1;
 
 /// The slots of the image part.
-pub(crate) const IMAGE: [Slot; 13] = [
-    Slot::Plain(8, 0), // user-defined data
-    Slot::Modulo(16), // columns
-    Slot::Modulo(16), // rows
-    Slot::Modulo(16), // bands
-    Slot::Plain(1, 0), // signed samples
-    Slot::Unused(2),
-    Slot::Modulo(4), // bits of a sample
-    Slot::Plain(1, 0), // order
-    Slot::Modulo(16), // depth of interleaving
-    Slot::Unused(2),
-    Slot::Modulo(3), // bytes of an output word
-    Slot::Plain(1, 0), // coder
-    Slot::Unused(10),
-];
-
-/// The fields of the predictor part, in their order.
-#[derive(Clone, Copy)]
-pub(crate) enum PredictorField {
-    AtFront,
-    /// Previous bands.
-    Previous,
-    /// 1 is reduced mode.
-    Mode,
-    AfterMode,
-    /// 1 is column-oriented local sums.
-    Sums,
-    AfterSums,
-    /// Register size.
-    Register,
-    /// Weight component resolution.
-    Omega,
-    /// Logarithm of the weight update interval.
-    Interval,
-    /// Least weight update exponent, as its code.
-    VMin,
-    /// Greatest weight update exponent, as its code.
-    VMax,
-    AfterVMax,
-    /// 1 is a custom weight start.
-    WeightStart,
-    /// 1 where the weight table is in the file.
-    WeightTable,
-    /// Weight resolution of the table.
-    Resolution,
+macro_rules! image_row {
+    () => {
+        $crate::field::row![
+            USER,
+            COLUMNS,
+            ROWS,
+            BANDS,
+            SIGNED,
+            AFTER_SIGNED,
+            DYNAMIC_RANGE,
+            ORDER,
+            DEPTH,
+            AFTER_DEPTH,
+            WORD_SIZE,
+            CODER,
+            AFTER_CODER
+        ]
+    };
 }
+
+pub(crate) use image_row;
+
+// ---- the predictor part
+
+pub(crate) const BEFORE_PREVIOUS: ReservedField = reserved!(first, 2);
+
+/// P, how many previous bands are used for prediction.
+pub const PREVIOUS: NumberField = plain!(BEFORE_PREVIOUS, 4, "previous", 0, 15);
+
+pub const MODE: FlagField = flag!(PREVIOUS, "mode", "full", "reduced");
+
+pub(crate) const AFTER_MODE: ReservedField = reserved!(MODE, 1);
+
+/// Local sums.
+pub const SUMS: FlagField = flag!(AFTER_MODE, "sums", "neighbour", "column");
+
+pub(crate) const AFTER_SUMS: ReservedField = reserved!(SUMS, 1);
+
+/// R, the register size.
+pub const REGISTER: NumberField = modulo!(AFTER_SUMS, 6, "register", 32, 64);
+
+/// Ω, the weight component resolution.
+pub const OMEGA: NumberField = counted!(REGISTER, 4, "omega", 4, 19);
+
+/// The logarithm of the weight update scaling exponent change interval.
+pub const INTERVAL: NumberField = counted!(OMEGA, 4, "interval", 4, 11);
+
+/// The least weight update scaling exponent, as its code.
+pub const VMIN: NumberField = plain!(INTERVAL, 4, "vmin", 0, 15);
+
+/// The greatest weight update scaling exponent, as its code.
+pub const VMAX: NumberField = plain!(VMIN, 4, "vmax", 0, 15);
+
+pub(crate) const AFTER_VMAX: ReservedField = reserved!(VMAX, 1);
+
+pub const WEIGHT_START: FlagField = flag!(AFTER_VMAX, "start", "usual", "table");
+
+/// Whether the weight table is in the file.
+pub(crate) const WEIGHT_TABLE: FlagField = flag!(WEIGHT_START, "table", "elsewhere", "here");
+
+/// The resolution of a weight table; it is also at most Ω + 3.
+pub const RESOLUTION: NumberField = plain!(WEIGHT_TABLE, 5, "resolution", 3, OMEGA.range.most + 3);
+
+pub(crate) const PREDICTOR_FIELDS: usize = RESOLUTION.index + 1;
 
 /// The slots of the predictor part.
-pub(crate) const PREDICTOR: [Slot; 15] = [
-    Slot::Unused(2),
-    Slot::Plain(4, 0), // previous bands
-    Slot::Plain(1, 0), // mode
-    Slot::Unused(1),
-    Slot::Plain(1, 0), // local sums
-    Slot::Unused(1),
-    Slot::Modulo(6), // register size
-    Slot::Plain(4, OMEGA.least), // weight component resolution
-    Slot::Plain(4, INTERVAL.least), // logarithm of the weight update interval
-    Slot::Plain(4, 0), // least weight update exponent
-    Slot::Plain(4, 0), // greatest weight update exponent
-    Slot::Unused(1),
-    Slot::Plain(1, 0), // weight start
-    Slot::Plain(1, 0), // weight table in the file
-    Slot::Plain(5, 0), // weight resolution
-];
-
-/// The fields of the sample-adaptive coder's part, in their order.
-#[derive(Clone, Copy)]
-pub(crate) enum SampleField {
-    /// Unary length limit.
-    Umax,
-    /// Rescaling counter size.
-    GammaStar,
-    /// First exponent of the counter.
-    GammaZero,
-    /// Accumulator constant.
-    Constant,
-    /// 1 where an accumulator table is in the file.
-    AccumulatorTable,
+macro_rules! predictor_row {
+    () => {
+        $crate::field::row![
+            BEFORE_PREVIOUS,
+            PREVIOUS,
+            MODE,
+            AFTER_MODE,
+            SUMS,
+            AFTER_SUMS,
+            REGISTER,
+            OMEGA,
+            INTERVAL,
+            VMIN,
+            VMAX,
+            AFTER_VMAX,
+            WEIGHT_START,
+            WEIGHT_TABLE,
+            RESOLUTION
+        ]
+    };
 }
+
+pub(crate) use predictor_row;
+
+/// The weight update scaling exponent whose code is 0.
+pub const LEAST_EXPONENT: i32 = -6;
+
+/// The greatest weight update scaling exponent.
+pub const GREATEST_EXPONENT: i32 = LEAST_EXPONENT + VMAX.range.most as i32;
+
+// ---- the sample-adaptive coder's part
+
+/// The unary length limit.
+pub const UMAX: NumberField = modulo!(first, 5, "umax", 8, 32);
+
+/// The rescaling counter size.
+pub const GAMMA_STAR: NumberField = counted!(UMAX, 3, "gamma-star", 4, 9);
+
+/// The first exponent of the counter.
+pub const GAMMA_ZERO: NumberField = modulo!(GAMMA_STAR, 3, "gamma-zero", 1, 8);
+
+/// K, the accumulator's constant; it is also at most D - 2.
+pub const CONSTANT: NumberField = plain!(GAMMA_ZERO, 4, "k", 0, DYNAMIC_RANGE.range.most - 2);
+
+/// Whether an accumulator table is in the file.
+pub(crate) const ACCUMULATOR_TABLE: FlagField = flag!(CONSTANT, "constants", "one", "table");
+
+/// What stands in the constant's place beside an accumulator table.
+pub(crate) const BESIDE_TABLE: u32 = CONSTANT.range.most + 1;
+
+pub(crate) const SAMPLE_FIELDS: usize = ACCUMULATOR_TABLE.index + 1;
 
 /// The slots of the sample-adaptive coder's part.
-pub(crate) const SAMPLE: [Slot; 5] = [
-    Slot::Modulo(5), // unary length limit
-    Slot::Plain(3, GAMMA_STAR.least), // rescaling counter size
-    Slot::Modulo(3), // first exponent of the counter
-    Slot::Plain(4, 0), // accumulator constant
-    Slot::Plain(1, 0), // accumulator table in the file
-];
-
-/// The fields of the block-adaptive coder's part, in their order.
-#[derive(Clone, Copy)]
-pub(crate) enum BlockField {
-    AtFront,
-    /// Block size: 8, 16, 32 or 64, as the codes 0 to 3.
-    BlockSize,
-    /// 1 is the restricted set of code options.
-    Restricted,
-    /// Reference sample interval.
-    Reference,
+macro_rules! sample_row {
+    () => {
+        $crate::field::row![UMAX, GAMMA_STAR, GAMMA_ZERO, CONSTANT, ACCUMULATOR_TABLE]
+    };
 }
 
+pub(crate) use sample_row;
+
+// ---- the block-adaptive coder's part
+
+pub(crate) const BEFORE_BLOCK_SIZE: ReservedField = reserved!(first, 1);
+
+/// J, the samples in a block, which are told by a code.
+pub const BLOCK_SIZE: NumberField = plain!(
+    BEFORE_BLOCK_SIZE,
+    2,
+    "block",
+    BLOCK_SIZES[0],
+    BLOCK_SIZES[3]
+);
+
+/// The sizes that blocks may have, by their codes.
+pub const BLOCK_SIZES: [u32; 4] = [8, 16, 32, 64];
+
+pub const RESTRICTED: FlagField = flag!(BLOCK_SIZE, "restricted", "no", "yes");
+
+/// r, the reference sample interval.
+pub const REFERENCE: NumberField = modulo!(RESTRICTED, 12, "reference", 1, 4096);
+
+pub(crate) const BLOCK_FIELDS: usize = REFERENCE.index + 1;
+
 /// The slots of the block-adaptive coder's part.
-pub(crate) const BLOCK: [Slot; 4] = [
-    Slot::Unused(1),
-    Slot::Plain(2, 0), // block size
-    Slot::Plain(1, 0), // restricted set of code options
-    Slot::Modulo(12), // reference sample interval
-];
+macro_rules! block_row {
+    () => {
+        $crate::field::row![BEFORE_BLOCK_SIZE, BLOCK_SIZE, RESTRICTED, REFERENCE]
+    };
+}
+
+pub(crate) use block_row;
+
+/// Whether a block may have so many samples.
+pub fn is_block_size(size: u32) -> bool
+    ensures { (result ≡ true) ↔ IsBlockSize size }
+{
+    BLOCK_SIZES.contains(&size)
+}
 
 /// The place of the first bit behind the image part.
 #[tactic(auto, unfolding(crate::specs::Layout::total))]
 pub(crate) fn image_end() -> u64
     ensures { result ≡ 96 }
 {
-    total_bits(&IMAGE)
+    total_bits(&image_row!())
 }
 
 /// How many bits the predictor part has.
@@ -159,7 +231,7 @@ pub(crate) fn image_end() -> u64
 pub(crate) fn predictor_bits() -> u64
     ensures { result ≡ 40 }
 {
-    total_bits(&PREDICTOR)
+    total_bits(&predictor_row!())
 }
 
 /// The place of the first bit behind the predictor part.
@@ -174,7 +246,7 @@ pub(crate) fn predictor_end() -> u64
 pub(crate) fn coder_bits() -> u64
     ensures { result ≡ 16 }
 {
-    total_bits(&SAMPLE)
+    total_bits(&sample_row!())
 }
 
 /// Refuses the first bit of a reserved field that is one. The field stands behind those before it in
@@ -189,7 +261,7 @@ pub(crate) fn unused_field(
     requires few { length slots.now ≤ 64 }
     requires there { index < length slots.now }
     requires same { length numbers.now ≡ length slots.now }
-    requires early { first < 2 ^ 31 }
+    requires early { first < 2 ^ 32 }
     ensures { result ≡ unused (first + total (take index slots.now)) (width (slice_index_or slots.now index (slot.Unused 0))) (slice_index numbers.now index) }
 {
     let place = first + total_bits(&slots[..index]);

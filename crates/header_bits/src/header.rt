@@ -14,7 +14,8 @@ use crate::bit_reader::BitReader;
 use crate::bit_writer::BitWriter;
 use crate::coder_part::{self, CoderPart};
 use crate::fields::{
-    BLOCK, BlockField, IMAGE, PREDICTOR, SAMPLE, SampleField, coder_bits, predictor_end,
+    self, BLOCK_FIELDS, SAMPLE_FIELDS, block_row, coder_bits, image_row, predictor_end,
+    predictor_row, sample_row,
 };
 use crate::image_part::ImagePart;
 use crate::layout::write_values;
@@ -54,9 +55,9 @@ pub fn put_header(params: &Params, writer: &mut BitWriter) -> Result<(), Fault>
 {
     writer.reserve(header_bits(params))?;
     let image = ImagePart::of(params).numbers();
-    write_values(&IMAGE, &image, writer).unwrap();
+    write_values(&image_row!(), &image, writer).unwrap();
     let predictor = PredictorPart::of(params).numbers();
-    write_values(&PREDICTOR, &predictor, writer).unwrap();
+    write_values(&predictor_row!(), &predictor, writer).unwrap();
     weight_part::put(params, writer);
     put_coder(CoderPart::of(&params.coder), writer).unwrap();
     constant_part::put(params, writer);
@@ -214,24 +215,24 @@ fn put_coder(part: CoderPart, writer: &mut BitWriter) -> Result<(), Fault>
             constant,
             table,
         } => {
-            let mut numbers = [0; 5];
-            numbers[SampleField::Umax as usize] = umax;
-            numbers[SampleField::GammaStar as usize] = gamma_star;
-            numbers[SampleField::GammaZero as usize] = gamma_zero;
-            numbers[SampleField::Constant as usize] = constant;
-            numbers[SampleField::AccumulatorTable as usize] = u32::from(table);
-            write_values(&SAMPLE, &numbers, writer)
+            let mut numbers = [0; SAMPLE_FIELDS];
+            numbers[fields::UMAX.index] = umax;
+            numbers[fields::GAMMA_STAR.index] = gamma_star;
+            numbers[fields::GAMMA_ZERO.index] = gamma_zero;
+            numbers[fields::CONSTANT.index] = constant;
+            numbers[fields::ACCUMULATOR_TABLE.index] = u32::from(table);
+            write_values(&sample_row!(), &numbers, writer)
         }
         CoderPart::Block {
             size,
             restricted,
             reference,
         } => {
-            let mut numbers = [0; 4];
-            numbers[BlockField::BlockSize as usize] = coder_part::size_code(size);
-            numbers[BlockField::Restricted as usize] = u32::from(restricted);
-            numbers[BlockField::Reference as usize] = reference;
-            write_values(&BLOCK, &numbers, writer)
+            let mut numbers = [0; BLOCK_FIELDS];
+            numbers[fields::BLOCK_SIZE.index] = coder_part::size_code(size);
+            numbers[fields::RESTRICTED.index] = u32::from(restricted);
+            numbers[fields::REFERENCE.index] = reference;
+            write_values(&block_row!(), &numbers, writer)
         }
     }
 }

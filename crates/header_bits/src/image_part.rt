@@ -8,7 +8,7 @@ ghost use Rattle.header_bits.specs.ImagePart.{image, image_fields, image_tests, 
 ghost use Rattle.header_bits.specs.Header.{image_part_of};
 
 use crate::bit_reader::BitReader;
-use crate::fields::{IMAGE, ImageField, image_end, unused_field};
+use crate::fields::{self, IMAGE_FIELDS, image_end, image_row, unused_field};
 use crate::layout::read_values;
 use crate::params::{Coder, Params};
 use crate::refusal::{disagree_if, out_of_range_if};
@@ -37,8 +37,8 @@ impl ImagePart {
         if reader.left() < image_end() {
             return Err(Fault::ShortHeader);
         }
-        let mut numbers = [0; 13];
-        read_values(&IMAGE, reader, &mut numbers);
+        let mut numbers = [0; IMAGE_FIELDS];
+        read_values(&image_row!(), reader, &mut numbers);
         test(&numbers)?;
         Ok(said(&numbers))
     }
@@ -58,20 +58,20 @@ impl ImagePart {
     }
 
     /// The numbers for the slots.
-    pub(crate) fn numbers(&self) -> [u32; 13]
+    pub(crate) fn numbers(&self) -> [u32; IMAGE_FIELDS]
         ensures { result ≡ image_numbers self.now }
     {
-        let mut numbers = [0; 13];
-        numbers[ImageField::User as usize] = self.user;
-        numbers[ImageField::Columns as usize] = self.shape.columns();
-        numbers[ImageField::Rows as usize] = self.shape.rows();
-        numbers[ImageField::Bands as usize] = self.shape.bands();
-        numbers[ImageField::Signed as usize] = u32::from(self.kind.is_signed());
-        numbers[ImageField::DynamicRange as usize] = self.kind.bits();
-        numbers[ImageField::Order as usize] = order_bit(self.order);
-        numbers[ImageField::Depth as usize] = depth_number(self.order);
-        numbers[ImageField::WordSize as usize] = self.word;
-        numbers[ImageField::Coder as usize] = u32::from(self.block);
+        let mut numbers = [0; IMAGE_FIELDS];
+        numbers[fields::USER.index] = self.user;
+        numbers[fields::COLUMNS.index] = self.shape.columns();
+        numbers[fields::ROWS.index] = self.shape.rows();
+        numbers[fields::BANDS.index] = self.shape.bands();
+        numbers[fields::SIGNED.index] = u32::from(self.kind.is_signed());
+        numbers[fields::DYNAMIC_RANGE.index] = self.kind.bits();
+        numbers[fields::ORDER.index] = order_bit(self.order);
+        numbers[fields::DEPTH.index] = depth_number(self.order);
+        numbers[fields::WORD_SIZE.index] = self.word;
+        numbers[fields::CODER.index] = u32::from(self.block);
         numbers
     }
 }
@@ -98,49 +98,49 @@ fn depth_number(order: Order) -> u32
 
 /// Tests the numbers of the image part, in order.
 #[tactic(auto, unfolding(crate::specs::Layout::total))]
-fn test(numbers: &[u32; 13]) -> Result<(), Fault>
+fn test(numbers: &[u32; IMAGE_FIELDS]) -> Result<(), Fault>
     ensures { result ≡ image_tests numbers.now }
 {
-    unused_field(0, &IMAGE, ImageField::AfterSigned as usize, numbers)?;
+    unused_field(0, &image_row!(), fields::AFTER_SIGNED.index, numbers)?;
     out_of_range_if(
-        numbers[ImageField::DynamicRange as usize] == 1,
+        numbers[fields::DYNAMIC_RANGE.index] == 1,
         Field::DynamicRange,
         1,
     )?;
     disagree_if(
-        numbers[ImageField::Order as usize] == 0
-            && numbers[ImageField::Bands as usize] < numbers[ImageField::Depth as usize],
+        numbers[fields::ORDER.index] == 0
+            && numbers[fields::BANDS.index] < numbers[fields::DEPTH.index],
         Rule::DepthOverBands,
     )?;
-    unused_field(0, &IMAGE, ImageField::AfterDepth as usize, numbers)?;
-    unused_field(0, &IMAGE, ImageField::AfterCoder as usize, numbers)
+    unused_field(0, &image_row!(), fields::AFTER_DEPTH.index, numbers)?;
+    unused_field(0, &image_row!(), fields::AFTER_CODER.index, numbers)
 }
 
 /// What the numbers of the image part say.
-fn said(numbers: &[u32; 13]) -> ImagePart
+fn said(numbers: &[u32; IMAGE_FIELDS]) -> ImagePart
     requires held { AreValues image_fields numbers.now }
     requires passed { image_tests numbers.now ≡ fine }
     ensures { result ≡ image_says numbers.now }
 {
     ImagePart {
-        user: numbers[ImageField::User as usize],
+        user: numbers[fields::USER.index],
         shape: Shape::new(
-            numbers[ImageField::Columns as usize],
-            numbers[ImageField::Rows as usize],
-            numbers[ImageField::Bands as usize],
+            numbers[fields::COLUMNS.index],
+            numbers[fields::ROWS.index],
+            numbers[fields::BANDS.index],
         )
         .unwrap(),
         kind: Kind::new(
-            numbers[ImageField::Signed as usize] == 1,
-            numbers[ImageField::DynamicRange as usize],
+            numbers[fields::SIGNED.index] == 1,
+            numbers[fields::DYNAMIC_RANGE.index],
         )
         .unwrap(),
-        order: if numbers[ImageField::Order as usize] == 0 {
-            Order::Bi(numbers[ImageField::Depth as usize])
+        order: if numbers[fields::ORDER.index] == 0 {
+            Order::Bi(numbers[fields::DEPTH.index])
         } else {
             Order::Bsq
         },
-        word: numbers[ImageField::WordSize as usize],
-        block: numbers[ImageField::Coder as usize] == 1,
+        word: numbers[fields::WORD_SIZE.index],
+        block: numbers[fields::CODER.index] == 1,
     }
 }

@@ -11,11 +11,12 @@ ghost use Rattle.header_bits.specs.Lawful.{IsExponent};
 ghost use Rattle.header_bits.specs.Header.{is_custom, resolution_of, predictor_part_of};
 
 use crate::bit_reader::BitReader;
-use crate::fields::{PREDICTOR, PredictorField, image_end, predictor_bits, unused_field};
+use crate::fields::{
+    self, LEAST_EXPONENT, PREDICTOR_FIELDS, image_end, predictor_bits, predictor_row, unused_field,
+};
 use crate::image_part::ImagePart;
 use crate::layout::read_values;
 use crate::params::{Params, WeightStart};
-use crate::ranges::{INTERVAL, LEAST_EXPONENT, REGISTER, RESOLUTION};
 use crate::refusal::{disagree_if, out_of_range_if, refuse_if};
 use cube_core::fault::{Fault, Field, Rule};
 
@@ -44,8 +45,8 @@ impl PredictorPart {
         if reader.left() < predictor_bits() {
             return Err(Fault::ShortHeader);
         }
-        let mut numbers = [0; 15];
-        read_values(&PREDICTOR, reader, &mut numbers);
+        let mut numbers = [0; PREDICTOR_FIELDS];
+        read_values(&predictor_row!(), reader, &mut numbers);
         test(image, &numbers)?;
         Ok(said(&numbers))
     }
@@ -69,23 +70,23 @@ impl PredictorPart {
     }
 
     /// The numbers for the slots.
-    pub(crate) fn numbers(&self) -> [u32; 15]
+    pub(crate) fn numbers(&self) -> [u32; PREDICTOR_FIELDS]
         requires least { IsExponent self.now.vmin }
         requires greatest { IsExponent self.now.vmax }
         ensures { result ≡ predictor_numbers self.now }
     {
-        let mut numbers = [0; 15];
-        numbers[PredictorField::Previous as usize] = self.previous;
-        numbers[PredictorField::Mode as usize] = u32::from(self.reduced);
-        numbers[PredictorField::Sums as usize] = u32::from(self.column);
-        numbers[PredictorField::Register as usize] = self.register;
-        numbers[PredictorField::Omega as usize] = self.omega;
-        numbers[PredictorField::Interval as usize] = self.interval_log;
-        numbers[PredictorField::VMin as usize] = exponent_code(self.vmin);
-        numbers[PredictorField::VMax as usize] = exponent_code(self.vmax);
-        numbers[PredictorField::WeightStart as usize] = u32::from(self.custom);
-        numbers[PredictorField::WeightTable as usize] = u32::from(self.custom);
-        numbers[PredictorField::Resolution as usize] = self.resolution;
+        let mut numbers = [0; PREDICTOR_FIELDS];
+        numbers[fields::PREVIOUS.index] = self.previous;
+        numbers[fields::MODE.index] = u32::from(self.reduced);
+        numbers[fields::SUMS.index] = u32::from(self.column);
+        numbers[fields::REGISTER.index] = self.register;
+        numbers[fields::OMEGA.index] = self.omega;
+        numbers[fields::INTERVAL.index] = self.interval_log;
+        numbers[fields::VMIN.index] = exponent_code(self.vmin);
+        numbers[fields::VMAX.index] = exponent_code(self.vmax);
+        numbers[fields::WEIGHT_START.index] = u32::from(self.custom);
+        numbers[fields::WEIGHT_TABLE.index] = u32::from(self.custom);
+        numbers[fields::RESOLUTION.index] = self.resolution;
         numbers
     }
 }
@@ -109,86 +110,90 @@ fn exponent_code(exponent: i32) -> u32
 }
 
 /// Refuses the first bit of a reserved field that is one.
-fn refuse_unused(index: usize, numbers: &[u32; 15]) -> Result<(), Fault>
+fn refuse_unused(index: usize, numbers: &[u32; PREDICTOR_FIELDS]) -> Result<(), Fault>
     requires { index < 15 }
     ensures { result ≡ unused (96 + total (take index predictor_fields)) (width (slice_index_or predictor_fields index (slot.Unused 0))) (slice_index numbers.now index) }
 {
-    unused_field(image_end(), &PREDICTOR, index, numbers)
+    unused_field(image_end(), &predictor_row!(), index, numbers)
 }
 
 /// Tests the numbers of the predictor part, in order.
 #[tactic(auto, unfolding(crate::specs::Layout::total))]
-fn test(image: &ImagePart, numbers: &[u32; 15]) -> Result<(), Fault>
+fn test(image: &ImagePart, numbers: &[u32; PREDICTOR_FIELDS]) -> Result<(), Fault>
     requires { AreValues predictor_fields numbers.now }
     ensures { result ≡ predictor_tests image.now numbers.now }
 {
     let one_column = image.shape.columns() == 1;
-    let register = numbers[PredictorField::Register as usize];
-    let least = image.kind.bits() + numbers[PredictorField::Omega as usize] + 2;
-    refuse_unused(PredictorField::AtFront as usize, numbers)?;
+    let register = numbers[fields::REGISTER.index];
+    let least = image.kind.bits() + numbers[fields::OMEGA.index] + 2;
+    refuse_unused(fields::BEFORE_PREVIOUS.index, numbers)?;
     disagree_if(
-        numbers[PredictorField::Mode as usize] == 0 && one_column,
+        numbers[fields::MODE.index] == 0 && one_column,
         Rule::FullOneColumn,
     )?;
-    refuse_unused(PredictorField::AfterMode as usize, numbers)?;
+    refuse_unused(fields::AFTER_MODE.index, numbers)?;
     disagree_if(
-        numbers[PredictorField::Sums as usize] == 0 && one_column,
+        numbers[fields::SUMS.index] == 0 && one_column,
         Rule::NeighbourOneColumn,
     )?;
-    refuse_unused(PredictorField::AfterSums as usize, numbers)?;
-    out_of_range_if(register < REGISTER.least, Field::Register, register)?;
+    refuse_unused(fields::AFTER_SUMS.index, numbers)?;
+    out_of_range_if(
+        register < fields::REGISTER.range.least,
+        Field::Register,
+        register,
+    )?;
     disagree_if(register < least, Rule::RegisterTooSmall)?;
     out_of_range_if(
-        numbers[PredictorField::Interval as usize] > INTERVAL.most,
+        numbers[fields::INTERVAL.index] > fields::INTERVAL.range.most,
         Field::Interval,
-        numbers[PredictorField::Interval as usize],
+        numbers[fields::INTERVAL.index],
     )?;
     disagree_if(
-        numbers[PredictorField::VMax as usize] < numbers[PredictorField::VMin as usize],
+        numbers[fields::VMAX.index] < numbers[fields::VMIN.index],
         Rule::ExponentOrder,
     )?;
-    refuse_unused(PredictorField::AfterVMax as usize, numbers)?;
+    refuse_unused(fields::AFTER_VMAX.index, numbers)?;
     test_start(numbers)
 }
 
 /// Tests the numbers that tell the weight start, in order.
-fn test_start(numbers: &[u32; 15]) -> Result<(), Fault>
+fn test_start(numbers: &[u32; PREDICTOR_FIELDS]) -> Result<(), Fault>
     requires { AreValues predictor_fields numbers.now }
     ensures { result ≡ start_tests numbers.now }
 {
-    let custom = numbers[PredictorField::WeightStart as usize] == 1;
-    let table = numbers[PredictorField::WeightTable as usize] == 1;
-    let resolution = numbers[PredictorField::Resolution as usize];
+    let custom = numbers[fields::WEIGHT_START.index] == 1;
+    let table = numbers[fields::WEIGHT_TABLE.index] == 1;
+    let resolution = numbers[fields::RESOLUTION.index];
     disagree_if(!custom && table, Rule::DefaultWithTable)?;
     refuse_if(custom && !table, Fault::TableElsewhere)?;
     disagree_if(!custom && resolution > 0, Rule::DefaultWithResolution)?;
     out_of_range_if(
-        custom && resolution < RESOLUTION.least,
+        custom && resolution < fields::RESOLUTION.range.least,
         Field::Resolution,
         resolution,
     )?;
     disagree_if(
-        numbers[PredictorField::Omega as usize] + 3 < resolution,
+        numbers[fields::OMEGA.index] + 3 < resolution,
         Rule::ResolutionOverOmega,
     )
 }
 
 /// What the numbers of the predictor part say.
-fn said(numbers: &[u32; 15]) -> PredictorPart
+fn said(numbers: &[u32; PREDICTOR_FIELDS]) -> PredictorPart
     requires { AreValues predictor_fields numbers.now }
     ensures { result ≡ predictor_says numbers.now }
 {
     PredictorPart {
-        previous: numbers[PredictorField::Previous as usize],
-        reduced: numbers[PredictorField::Mode as usize] == 1,
-        column: numbers[PredictorField::Sums as usize] == 1,
-        register: numbers[PredictorField::Register as usize],
-        omega: numbers[PredictorField::Omega as usize],
-        interval_log: numbers[PredictorField::Interval as usize],
-        vmin: exponent_of(numbers[PredictorField::VMin as usize]),
-        vmax: exponent_of(numbers[PredictorField::VMax as usize]),
-        custom: numbers[PredictorField::WeightStart as usize] == 1,
-        resolution: numbers[PredictorField::Resolution as usize],
+        previous: numbers[fields::PREVIOUS.index],
+        reduced: numbers[fields::MODE.index] == 1,
+        column: numbers[fields::SUMS.index] == 1,
+        register: numbers[fields::REGISTER.index],
+        omega: numbers[fields::OMEGA.index],
+        interval_log: numbers[fields::INTERVAL.index],
+        vmin: exponent_of(numbers[fields::VMIN.index]),
+        vmax: exponent_of(numbers[fields::VMAX.index]),
+        custom: numbers[fields::WEIGHT_START.index] == 1,
+        resolution: numbers[fields::RESOLUTION.index],
     }
 }
 

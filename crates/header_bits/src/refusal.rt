@@ -32,7 +32,7 @@ pub(crate) fn out_of_range_if(condition: bool, field: Field, number: u32) -> Res
 /// Refuses the first of `n` reserved bits that is one; `at` is the place of the first of them.
 pub(crate) fn unused(at: u64, n: u32, value: u32) -> Result<(), Fault>
     requires few { n ≤ 16 }
-    requires early { at < 2 ^ 32 }
+    requires early { at < 2 ^ 33 }
     ensures { result ≡ unused at n value }
 {
     for i in 0..n {

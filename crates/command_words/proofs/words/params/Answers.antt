@@ -31,8 +31,8 @@ returns-in_err-number-4-clause-refused c = passed _ _ _ c.from_residual-in_err-n
 pub returns-in_err-number-5-clause-refused : goal.returns-in_err-number-5-clause-refused
 returns-in_err-number-5-clause-refused c = passed _ _ _ c.from_residual-in_err-number-5.ensures.1 (c.in_err-number-5.ensures.refused.0, λ p of ranges. c.in_err-number-5.ensures.refused.1 p.omega of.omega ranges.omega)
 
-pub returns-in_err-number-6-clause-refused : goal.returns-in_err-number-6-clause-refused
-returns-in_err-number-6-clause-refused c = passed _ _ _ c.from_residual-in_err-number-6.ensures.1 (c.in_err-number-6.ensures.refused.0, λ p of ranges. c.in_err-number-6.ensures.refused.1 p.interval_log of.interval ranges.interval)
+pub returns-in_err-number_in-clause-refused : goal.returns-in_err-number_in-clause-refused
+returns-in_err-number_in-clause-refused c = passed _ _ _ c.from_residual-in_err-number_in.ensures.1 (c.in_err-number_in.ensures.refused.0, λ p of ranges. c.in_err-number_in.ensures.refused.1 p.interval_log of.interval ranges.interval)
 
 pub returns-in_err-exponent-clause-refused : goal.returns-in_err-exponent-clause-refused
 returns-in_err-exponent-clause-refused c = passed _ _ _ c.from_residual-in_err-exponent.ensures.1 (c.in_err-exponent.ensures.refused.0, λ p of ranges. c.in_err-exponent.ensures.refused.1 p.vmin of.vmin ranges.vmin)
@@ -61,7 +61,7 @@ returns-clause-read c = record {
   column = c.flag-2.ensures;
   register = c.in_ok-number-4.ensures.read;
   omega = c.in_ok-number-5.ensures.read;
-  interval = c.in_ok-number-6.ensures.read;
+  interval = c.in_ok-number_in.ensures.read;
   vmin = as_word (rows_of (found_of c.args.matches.now)) (codes "vmin-code") c.in_ok-exponent.field-0 c.in_ok-exponent.ensures.range c.in_ok-exponent.ensures.read;
   vmax = as_word (rows_of (found_of c.args.matches.now)) (codes "vmax-code") c.in_ok-exponent-2.field-0 c.in_ok-exponent-2.ensures.range c.in_ok-exponent-2.ensures.read;
   coder = c.in_ok-coder.ensures.read;

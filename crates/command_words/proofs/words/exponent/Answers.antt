@@ -1,7 +1,0 @@
-use Rattle.clap.specs.Matches.{found_of}
-use Rattle.clap.specs.Walk.{rows_of}
-use Rattle.command_words.proofs.Refused.{passed, no_exponent}
-use Rattle.command_words.proofs.words.exponent.Goals as goal
-
-pub returns-in_err-code-clause-refused : goal.returns-in_err-code-clause-refused
-returns-in_err-code-clause-refused c = passed _ _ _ c.from_residual.ensures.1 (c.in_err-code.ensures.refused.0, no_exponent (rows_of (found_of c.args.matches.now)) c.args.name.now c.in_err-code.ensures.refused.1)

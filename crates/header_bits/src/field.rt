@@ -1,0 +1,133 @@
+//! What describes a field of a header.
+
+use crate::layout::Slot;
+
+/// The numbers from a least to a greatest one.
+#[derive(Clone, Copy)]
+pub struct Range {
+    pub least: u32,
+    pub most: u32,
+}
+
+/// A number.
+#[derive(Clone, Copy)]
+pub struct NumberField {
+    /// What `inspect` calls it.
+    pub name: &'static str,
+    pub range: Range,
+    pub(crate) slot: Slot,
+    /// How many fields of its part stand before it.
+    pub(crate) index: usize,
+}
+
+/// One bit.
+#[derive(Clone, Copy)]
+pub struct FlagField {
+    /// What `inspect` calls it.
+    pub name: &'static str,
+    /// What 0 is called.
+    pub zero: &'static str,
+    /// What 1 is called.
+    pub one: &'static str,
+    pub(crate) slot: Slot,
+    pub(crate) index: usize,
+}
+
+/// Bits that are zero.
+#[derive(Clone, Copy)]
+pub(crate) struct ReservedField {
+    pub slot: Slot,
+    pub index: usize,
+}
+
+/// The place of a field behind another, or of the first.
+macro_rules! index {
+    (first) => {
+        0
+    };
+    ($before:ident) => {
+        $before.index + 1
+    };
+}
+
+pub(crate) use index;
+
+/// A number behind another field: its name, its slot, and its least and greatest.
+macro_rules! number {
+    ($before:ident, $name:literal, $slot:expr, $least:expr, $most:expr) => {
+        NumberField {
+            name: $name,
+            range: Range {
+                least: $least,
+                most: $most,
+            },
+            slot: $slot,
+            index: index!($before),
+        }
+    };
+}
+
+pub(crate) use number;
+
+/// A number of so many bits: its name, and its least and greatest.
+macro_rules! plain {
+    ($before:ident, $bits:literal, $name:literal, $least:expr, $most:expr) => {
+        number!($before, $name, Slot::Plain($bits, 0), $least, $most)
+    };
+}
+
+pub(crate) use plain;
+
+/// A number that so many bits count from its least.
+macro_rules! counted {
+    ($before:ident, $bits:literal, $name:literal, $least:literal, $most:expr) => {
+        number!($before, $name, Slot::Plain($bits, $least), $least, $most)
+    };
+}
+
+pub(crate) use counted;
+
+/// A number of so many bits, which are zero where it is the power of two behind the others.
+macro_rules! modulo {
+    ($before:ident, $bits:literal, $name:literal, $least:expr, $most:expr) => {
+        number!($before, $name, Slot::Modulo($bits), $least, $most)
+    };
+}
+
+pub(crate) use modulo;
+
+/// One bit: its name, and what 0 and 1 are called.
+macro_rules! flag {
+    ($before:ident, $name:literal, $zero:literal, $one:literal) => {
+        FlagField {
+            name: $name,
+            zero: $zero,
+            one: $one,
+            slot: Slot::Plain(1, 0),
+            index: index!($before),
+        }
+    };
+}
+
+pub(crate) use flag;
+
+/// So many reserved bits.
+macro_rules! reserved {
+    ($before:ident, $bits:literal) => {
+        ReservedField {
+            slot: Slot::Unused($bits),
+            index: index!($before),
+        }
+    };
+}
+
+pub(crate) use reserved;
+
+/// The slots of fields.
+macro_rules! row {
+    ($($field:ident),+) => {
+        [$($crate::fields::$field.slot),+]
+    };
+}
+
+pub(crate) use row;
