@@ -1,6 +1,6 @@
 //! The fields of a header as lines of text.
 
-ghost use Rattle.std.specs.Prelude.{◌≡◌, ◌++◌, ◌≤◌, ◌^◌, ℕ, List, Some, IfOk, IfErr, OnOk, string_bytes};
+ghost use Rattle.std.specs.Prelude.{◌≡◌, ◌++◌, ◌≤◌, ◌^◌, ℕ, List, Some, IfOk, IfErr, OnOk, string_bytes, decimal};
 ghost use Rattle.std.specs.Fmt.{signed_decimal};
 ghost use Rattle.cube_core.specs.declared.fault.Fault.TheVariants.{WantOfMemory};
 ghost use Rattle.header_bits.specs.Lawful.{IsLawful};
@@ -8,6 +8,8 @@ ghost use Rattle.command_reports.specs.Lines.{line, choice, coder_text, order_te
 
 use cube_core::fault::Fault;
 use cube_core::order::Order;
+use header_bits::field::{FlagField, NumberField};
+use header_bits::fields;
 use header_bits::params::{Coder, CountStart, Params, WeightStart};
 use std::alloc::Global;
 use std::fmt::Display;
@@ -31,16 +33,20 @@ fn put_image(alloc: Global, text: &mut String, params: &Params) -> Result<(), Fa
     ensures lines { OnOk result (string_bytes text.new ≡ string_bytes text.old ++ image_lines params.now) }
     ensures refused { IfErr result (λ e. e ≡ WantOfMemory) }
 {
-    let sample = choice(params.kind.is_signed(), "signed", "unsigned");
-    put_line(alloc, text, "user", params.user)?;
-    put_line(alloc, text, "columns", params.shape.columns())?;
-    put_line(alloc, text, "rows", params.shape.rows())?;
-    put_line(alloc, text, "bands", params.shape.bands())?;
-    put_line(alloc, text, "sample", sample)?;
-    put_line(alloc, text, "bits", params.kind.bits())?;
-    put_line(alloc, text, "order", order_text(alloc, params.order)?)?;
-    put_line(alloc, text, "word", params.word)?;
-    put_line(alloc, text, "coder", coder_text(&params.coder))?;
+    put_number(alloc, text, fields::USER, params.user)?;
+    put_number(alloc, text, fields::COLUMNS, params.shape.columns())?;
+    put_number(alloc, text, fields::ROWS, params.shape.rows())?;
+    put_number(alloc, text, fields::BANDS, params.shape.bands())?;
+    put_flag(alloc, text, fields::SIGNED, params.kind.is_signed())?;
+    put_number(alloc, text, fields::DYNAMIC_RANGE, params.kind.bits())?;
+    put_line(
+        alloc,
+        text,
+        fields::ORDER.name,
+        order_text(alloc, params.order)?,
+    )?;
+    put_number(alloc, text, fields::WORD_SIZE, params.word)?;
+    put_line(alloc, text, fields::CODER.name, coder_text(&params.coder))?;
     Ok(())
 }
 
@@ -50,17 +56,26 @@ fn put_predictor(alloc: Global, text: &mut String, params: &Params) -> Result<()
     ensures lines { OnOk result (string_bytes text.new ≡ string_bytes text.old ++ predictor_lines params.now) }
     ensures refused { IfErr result (λ e. e ≡ WantOfMemory) }
 {
-    let mode = choice(params.reduced, "reduced", "full");
-    let sums = choice(params.column, "column", "neighbour");
-    put_line(alloc, text, "previous", params.previous)?;
-    put_line(alloc, text, "mode", mode)?;
-    put_line(alloc, text, "sums", sums)?;
-    put_line(alloc, text, "register", params.register)?;
-    put_line(alloc, text, "omega", params.omega)?;
-    put_line(alloc, text, "interval", interval(params.interval_log))?;
-    put_line(alloc, text, "vmin", signed_text(alloc, params.vmin)?)?;
-    put_line(alloc, text, "vmax", signed_text(alloc, params.vmax)?)?;
-    put_line(alloc, text, "start", start_text(alloc, &params.start)?)?;
+    let start = start_text(alloc, &params.start)?;
+    put_number(alloc, text, fields::PREVIOUS, params.previous)?;
+    put_flag(alloc, text, fields::MODE, params.reduced)?;
+    put_flag(alloc, text, fields::SUMS, params.column)?;
+    put_number(alloc, text, fields::REGISTER, params.register)?;
+    put_number(alloc, text, fields::OMEGA, params.omega)?;
+    put_number(alloc, text, fields::INTERVAL, interval(params.interval_log))?;
+    put_line(
+        alloc,
+        text,
+        fields::VMIN.name,
+        signed_text(alloc, params.vmin)?,
+    )?;
+    put_line(
+        alloc,
+        text,
+        fields::VMAX.name,
+        signed_text(alloc, params.vmax)?,
+    )?;
+    put_line(alloc, text, fields::WEIGHT_START.name, start)?;
     Ok(())
 }
 
@@ -76,37 +91,65 @@ fn put_coder(alloc: Global, text: &mut String, coder: &Coder) -> Result<(), Faul
             gamma_zero,
             start,
         } => {
-            put_line(alloc, text, "umax", *umax)?;
-            put_line(alloc, text, "gamma-star", *gamma_star)?;
-            put_line(alloc, text, "gamma-zero", *gamma_zero)?;
-            put_line(alloc, text, "k", constant_text(alloc, start)?)?;
+            put_number(alloc, text, fields::UMAX, *umax)?;
+            put_number(alloc, text, fields::GAMMA_STAR, *gamma_star)?;
+            put_number(alloc, text, fields::GAMMA_ZERO, *gamma_zero)?;
+            put_line(
+                alloc,
+                text,
+                fields::CONSTANT.name,
+                constant_text(alloc, start)?,
+            )?;
         }
         Coder::Block {
             size,
             restricted,
             reference,
         } => {
-            put_line(alloc, text, "block", *size)?;
-            put_line(alloc, text, "restricted", choice(*restricted, "yes", "no"))?;
-            put_line(alloc, text, "reference", *reference)?;
+            put_number(alloc, text, fields::BLOCK_SIZE, *size)?;
+            put_flag(alloc, text, fields::RESTRICTED, *restricted)?;
+            put_number(alloc, text, fields::REFERENCE, *reference)?;
         }
     }
     Ok(())
 }
 
-/// One text where it holds, and else another.
-fn choice(holds: bool, one: &'static str, other: &'static str) -> &'static str
-    ensures { result.now ≡ choice holds one.now other.now }
+/// Appends the line of a number.
+fn put_number(
+    alloc: Global,
+    text: &mut String,
+    field: NumberField,
+    number: u32,
+) -> Result<(), Fault>
+    ensures line { OnOk result (string_bytes text.new ≡ string_bytes text.old ++ line field.name.now (decimal number)) }
+    ensures refused { IfErr result (λ e. e ≡ WantOfMemory) }
 {
-    if holds { one } else { other }
+    put_line(alloc, text, field.name, number)?;
+    Ok(())
+}
+
+/// Appends the line of a flag.
+fn put_flag(alloc: Global, text: &mut String, field: FlagField, set: bool) -> Result<(), Fault>
+    ensures line { OnOk result (string_bytes text.new ≡ string_bytes text.old ++ line field.name.now (choice set field.one.now field.zero.now)) }
+    ensures refused { IfErr result (λ e. e ≡ WantOfMemory) }
+{
+    put_line(alloc, text, field.name, word_of(field, set))?;
+    Ok(())
+}
+
+/// What a flag's bit is called.
+fn word_of(field: FlagField, set: bool) -> &'static str
+    ensures { result.now ≡ choice set field.one.now field.zero.now }
+{
+    if set { field.one } else { field.zero }
 }
 
 fn coder_text(coder: &Coder) -> &'static str
     ensures { result.now ≡ coder_text coder.now }
 {
     match coder {
-        Coder::Sample { .. } => "sample",
-        Coder::Block { .. } => "block",
+        Coder::Sample { .. } => fields::CODER.zero,
+        Coder::Block { .. } => fields::CODER.one,
     }
 }
 
@@ -115,9 +158,10 @@ fn order_text(alloc: Global, order: Order) -> Result<String, Fault>
     ensures text { IfOk result (λ text. string_bytes text ≡ order_text order) }
     ensures refused { IfErr result (λ e. e ≡ WantOfMemory) }
 {
+    let FlagField { zero, one, .. } = fields::ORDER;
     match order {
-        Order::Bsq => Ok(String::from_str(alloc, "bsq")?),
-        Order::Bi(depth) => Ok(format!(in alloc; "bi {depth}")?),
+        Order::Bsq => Ok(String::from_str(alloc, one)?),
+        Order::Bi(depth) => Ok(format!(in alloc; "{zero} {depth}")?),
     }
 }
 
@@ -141,9 +185,10 @@ fn start_text(alloc: Global, start: &WeightStart) -> Result<String, Fault>
     ensures text { IfOk result (λ text. string_bytes text ≡ start_text start.now) }
     ensures refused { IfErr result (λ e. e ≡ WantOfMemory) }
 {
+    let FlagField { zero, one, .. } = fields::WEIGHT_START;
     match start {
-        WeightStart::Usual => Ok(String::from_str(alloc, "usual")?),
-        WeightStart::Table { q, .. } => Ok(format!(in alloc; "table {q}")?),
+        WeightStart::Usual => Ok(String::from_str(alloc, zero)?),
+        WeightStart::Table { q, .. } => Ok(format!(in alloc; "{one} {q}")?),
     }
 }
 
@@ -154,7 +199,7 @@ fn constant_text(alloc: Global, start: &CountStart) -> Result<String, Fault>
 {
     match start {
         CountStart::Constant(k) => Ok(format!(in alloc; "{k}")?),
-        CountStart::Each(_) => Ok(String::from_str(alloc, "table")?),
+        CountStart::Each(_) => Ok(String::from_str(alloc, fields::ACCUMULATOR_TABLE.one)?),
     }
 }
 

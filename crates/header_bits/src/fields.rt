@@ -163,7 +163,7 @@ pub const GAMMA_ZERO: NumberField = modulo!(GAMMA_STAR, 3, "gamma-zero", 1, 8);
 pub const CONSTANT: NumberField = plain!(GAMMA_ZERO, 4, "k", 0, DYNAMIC_RANGE.range.most - 2);
 
 /// Whether an accumulator table is in the file.
-pub(crate) const ACCUMULATOR_TABLE: FlagField = flag!(CONSTANT, "constants", "one", "table");
+pub const ACCUMULATOR_TABLE: FlagField = flag!(CONSTANT, "constants", "one", "table");
 
 /// What stands in the constant's place beside an accumulator table.
 pub(crate) const BESIDE_TABLE: u32 = CONSTANT.range.most + 1;
