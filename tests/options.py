@@ -1,5 +1,5 @@
 #!/usr/bin/env python3
-"""Holds the built program to what its options say: raw layouts, fields of the header, and refusals.
+"""Holds the built program to what its options say: raw layouts, fields of the header, and refusals; and COMMAND.md to the options.
 
     tests/options.py [PROGRAM]
 
@@ -10,6 +10,7 @@ program where this looks for it; so does `make`.
 import itertools
 import os
 import random
+import re
 import resource
 import subprocess
 import sys
@@ -18,6 +19,10 @@ import tempfile
 from workroom import Workroom
 
 TOP = os.path.dirname(os.path.dirname(os.path.abspath(__file__)))
+sys.path.append(os.path.join(TOP, "tools"))
+
+import option_rows  # noqa: E402
+
 PROGRAM = os.path.join(TOP, "crates", "ccsds", "out", "ccsds")
 LIMIT = 120
 """The most seconds that a run may take."""
@@ -175,6 +180,24 @@ def compared(room, words, fields):
     room.hold(f"{name}, expanded to its bytes", room.read("back"), bytes(48))
 
 
+def documented(room):
+    """The tables of COMMAND.md have the row of each option, as the sources have it; and the program keeps to their ranges and defaults."""
+    room.hold("tables of COMMAND.md", option_rows.differences(), [])
+    room.write("raw", bytes(48))
+    given = dict(zip(SIZES[::2], SIZES[1::2])) | {"--bits": 12}
+    for name, row in option_rows.rows().items():
+        _, option, _, span, default, _ = row.split("|")
+        ends = re.fullmatch(r" (\d+) to (\d+) ", span)
+        if ends:
+            for value in (int(ends[1]) - 1, int(ends[2]) + 1):
+                words = itertools.chain(*(given | {f"--{name}": value}).items())
+                room.hold(f"--{name} {value}", room.run("compress", *words, "raw", "file"), (1, b"", "ccsds: 20 Usage\n"))
+        if default.strip(" `").isalnum() and default != " required " and span != " flag ":
+            words = itertools.chain(*given.items(), (f"--{name}", default.strip(" `")))
+            room.hold(f"--{name} as it is", room.run("compress", *words, "raw", "file"), (0, b"", ""))
+            room.hold(f"--{name} as it is: the usual header", room.run("inspect", given=room.read("file")), (0, told(USUAL), ""))
+
+
 # ---- predictors in threads
 
 SHARED = [[], ["--order", "bi"], ["--order", "bi", "--depth", 7], ["--coder", "block", "--order", "bi", "--depth", 9], ["--coder", "block"]]
@@ -235,7 +258,7 @@ def refusals(room):
 def main():
     with tempfile.TemporaryDirectory() as folder:
         room = Room(folder, sys.argv[1] if len(sys.argv) > 1 else PROGRAM)
-        for part in (layouts, options, predictors, refusals):
+        for part in (layouts, options, documented, predictors, refusals):
             part(room)
     print(f"options.py: {room.passed} passed, {room.failed} failed")
     return 1 if room.failed else 0

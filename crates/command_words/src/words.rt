@@ -1,24 +1,22 @@
 //! From the words of a command line to its settings.
 
-ghost use Rattle.std.specs.Prelude.{◌≡◌, ◌≢◌, ◌⊎◌, ◌≤◌, ◌<◌, ◌^◌, ℕ, ℤ, IfOk, IfErr, true, option_map, codes, string_bytes, String};
+ghost use Rattle.std.specs.Prelude.{◌≡◌, ◌≢◌, ◌⊎◌, IfOk, IfErr, true, codes, string_bytes, String};
 ghost use Rattle.cube_core.specs.declared.fault.Fault.TheVariants.{Usage, WantOfMemory};
 ghost use Rattle.cube_core.specs.declared.layout.Layout.{Layout};
 ghost use Rattle.cube_core.specs.declared.layout.RawOrder.{RawOrder};
-ghost use Rattle.cube_core.specs.Shape.{AreSizes, InRange, Sizes};
+ghost use Rattle.cube_core.specs.Shape.{AreSizes, Sizes};
 ghost use Rattle.cube_core.specs.Kind.{IsKind, SampleKind};
 ghost use Rattle.cube_core.specs.declared.order.Order.{Order};
 ghost use Rattle.cube_core.specs.Layout.{IsLayout};
 ghost use Rattle.header_bits.specs.declared.params.Params.{Params};
 ghost use Rattle.header_bits.specs.declared.params.Coder.{Coder};
-ghost use Rattle.header_bits.specs.Lawful.{IsExponent};
 ghost use Rattle.std.specs.declared.alloc.Global.{Global};
 ghost use Rattle.clap.specs.Values.{kind_of};
-ghost use Rattle.clap.specs.Walk.{first_of};
 ghost use Rattle.clap.specs.Simple.{app_of, is_simple, matches_of};
 ghost use Rattle.clap.specs.Faults.{is_simple_and_free};
 ghost use Rattle.clap.specs.declared.error.ErrorKind.TheVariants.{OutOfMemory};
 ghost use Rattle.command_words.specs.Settings.{AreInRange, AreParams, IsCoderInRange, IsDepth};
-ghost use Rattle.command_words.specs.Reading.{AreFilesOf, AreParamsOf, AreSizesOf, HasExponent, HasFlag, HasNumber, HasWord, IsBlockOf, IsCoderOf, IsKindOf, IsLayoutOf, IsOrderOf, IsSampleOf, raw_order_word, rows};
+ghost use Rattle.command_words.specs.Reading.{AreFilesOf, AreParamsOf, AreSizesOf, HasWord, IsBlockOf, IsCoderOf, IsKindOf, IsLayoutOf, IsOrderOf, IsSampleOf, raw_order_word, rows};
 ghost use Rattle.command_words.specs.Words.{texts, AreOfOptions, AreTaken, Ask, AskForNone, BeginWith};
 
 use crate::found::{exponent, flag, number, number_in, word};
