@@ -33,8 +33,9 @@ class Fields:
         for constant, kind, arguments in FIELD.findall(text):
             self.name[constant] = TEXT.search(arguments)[1]
             if kind != "flag":
-                *_, least, most = arguments.rstrip(", \n").split(",")
-                self.least[constant], self.most[constant] = self.number(least), self.number(most)
+                _, bits, _, least, *most = arguments.rstrip(", \n").split(",")
+                self.least[constant] = self.number(least)
+                self.most[constant] = self.number(most[0]) if most else 1 << int(bits)
 
     def number(self, text):
         """The value of a number, of another field's greatest, or of a block size, and what is added to it or taken off."""

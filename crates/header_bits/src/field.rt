@@ -69,7 +69,7 @@ macro_rules! number {
 
 pub(crate) use number;
 
-/// A number of so many bits: its name, and its least and greatest.
+/// A number that so many bits are: its name, and its least and greatest.
 macro_rules! plain {
     ($before:ident, $bits:literal, $name:literal, $least:expr, $most:expr) => {
         number!($before, $name, Slot::Plain($bits, 0), $least, $most)
@@ -78,7 +78,7 @@ macro_rules! plain {
 
 pub(crate) use plain;
 
-/// A number that so many bits count from its least.
+/// A number that so many bits count from its least: its name, and its least and greatest.
 macro_rules! counted {
     ($before:ident, $bits:literal, $name:literal, $least:literal, $most:expr) => {
         number!($before, $name, Slot::Plain($bits, $least), $least, $most)
@@ -87,10 +87,11 @@ macro_rules! counted {
 
 pub(crate) use counted;
 
-/// A number of so many bits, which are zero where it is the power of two behind the others.
+/// A number of so many bits, which are all zero where it is the power of two that they can't tell: its
+/// name, and its least. That power is its greatest.
 macro_rules! modulo {
-    ($before:ident, $bits:literal, $name:literal, $least:expr, $most:expr) => {
-        number!($before, $name, Slot::Modulo($bits), $least, $most)
+    ($before:ident, $bits:literal, $name:literal, $least:literal) => {
+        number!($before, $name, Slot::Modulo($bits), $least, 1 << $bits)
     };
 }
 

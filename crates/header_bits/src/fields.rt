@@ -22,28 +22,28 @@ use cube_core::fault::Fault;
 /// User-defined data.
 pub const USER: NumberField = plain!(first, 8, "user", 0, 255);
 
-pub const COLUMNS: NumberField = modulo!(USER, 16, "columns", 1, 65_536);
+pub const COLUMNS: NumberField = modulo!(USER, 16, "columns", 1);
 
-pub const ROWS: NumberField = modulo!(COLUMNS, 16, "rows", 1, 65_536);
+pub const ROWS: NumberField = modulo!(COLUMNS, 16, "rows", 1);
 
-pub const BANDS: NumberField = modulo!(ROWS, 16, "bands", 1, 65_536);
+pub const BANDS: NumberField = modulo!(ROWS, 16, "bands", 1);
 
 pub const SIGNED: FlagField = flag!(BANDS, "sample", "unsigned", "signed");
 
 pub(crate) const AFTER_SIGNED: ReservedField = reserved!(SIGNED, 2);
 
 /// D, the bits of a sample.
-pub const DYNAMIC_RANGE: NumberField = modulo!(AFTER_SIGNED, 4, "bits", 2, 16);
+pub const DYNAMIC_RANGE: NumberField = modulo!(AFTER_SIGNED, 4, "bits", 2);
 
 pub const ORDER: FlagField = flag!(DYNAMIC_RANGE, "order", "bi", "bsq");
 
 /// The depth of interleaving; it is also at most the number of bands.
-pub const DEPTH: NumberField = modulo!(ORDER, 16, "depth", 1, 65_536);
+pub const DEPTH: NumberField = modulo!(ORDER, 16, "depth", 1);
 
 pub(crate) const AFTER_DEPTH: ReservedField = reserved!(DEPTH, 2);
 
 /// B, the bytes of an output word.
-pub const WORD_SIZE: NumberField = modulo!(AFTER_DEPTH, 3, "word", 1, 8);
+pub const WORD_SIZE: NumberField = modulo!(AFTER_DEPTH, 3, "word", 1);
 
 pub const CODER: FlagField = flag!(WORD_SIZE, "coder", "sample", "block");
 
@@ -91,7 +91,7 @@ pub const SUMS: FlagField = flag!(AFTER_MODE, "sums", "neighbour", "column");
 pub(crate) const AFTER_SUMS: ReservedField = reserved!(SUMS, 1);
 
 /// R, the register size.
-pub const REGISTER: NumberField = modulo!(AFTER_SUMS, 6, "register", 32, 64);
+pub const REGISTER: NumberField = modulo!(AFTER_SUMS, 6, "register", 32);
 
 /// Ω, the weight component resolution.
 pub const OMEGA: NumberField = counted!(REGISTER, 4, "omega", 4, 19);
@@ -151,13 +151,13 @@ pub const GREATEST_EXPONENT: i32 = LEAST_EXPONENT + VMAX.range.most as i32;
 // ---- the sample-adaptive coder's part
 
 /// The unary length limit.
-pub const UMAX: NumberField = modulo!(first, 5, "umax", 8, 32);
+pub const UMAX: NumberField = modulo!(first, 5, "umax", 8);
 
 /// The rescaling counter size.
 pub const GAMMA_STAR: NumberField = counted!(UMAX, 3, "gamma-star", 4, 9);
 
 /// The first exponent of the counter.
-pub const GAMMA_ZERO: NumberField = modulo!(GAMMA_STAR, 3, "gamma-zero", 1, 8);
+pub const GAMMA_ZERO: NumberField = modulo!(GAMMA_STAR, 3, "gamma-zero", 1);
 
 /// K, the accumulator's constant; it is also at most D - 2.
 pub const CONSTANT: NumberField = plain!(GAMMA_ZERO, 4, "k", 0, DYNAMIC_RANGE.range.most - 2);
@@ -198,7 +198,7 @@ pub const BLOCK_SIZES: [u32; 4] = [8, 16, 32, 64];
 pub const RESTRICTED: FlagField = flag!(BLOCK_SIZE, "restricted", "no", "yes");
 
 /// r, the reference sample interval.
-pub const REFERENCE: NumberField = modulo!(RESTRICTED, 12, "reference", 1, 4096);
+pub const REFERENCE: NumberField = modulo!(RESTRICTED, 12, "reference", 1);
 
 pub(crate) const BLOCK_FIELDS: usize = REFERENCE.index + 1;
 
