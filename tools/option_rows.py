@@ -16,6 +16,7 @@ TOP = Path(__file__).resolve().parent.parent
 COMMAND = TOP / "docs" / "COMMAND.md"
 FIELD = re.compile(r"const (\w+): (?:Number|Flag)Field\s*=\s*(\w+)!\(([^)]*)\)")
 TEXT = re.compile(r'"([^"]*)"')
+OPTION = re.compile(r'\s+(?:\(?fields::\w+\.name,|\(?"[a-z-]+",|\.arg\((?:option|flag)\(alloc, ")')
 ROW = re.compile(r"^\| `--([a-z-]+)` \|(?:[^|\n]*\|){3}$", re.M)
 
 
@@ -73,13 +74,13 @@ def ranges(fields):
 
 
 def listed(fields):
-    """The options and flags: name, default or none, and meaning."""
+    """The options and flags: name, default or none, and meaning, which is empty where none is told."""
     meaning = []
     for line in source("command_words", "options.rt").splitlines():
         comment = re.fullmatch(r"\s*// (.*)", line)
         if comment:
             meaning.append(comment[1])
-        elif meaning:
+        elif OPTION.match(line):
             line = re.sub(r"fields::(\w+)\.name", lambda field: f'"{fields.name[field[1]]}"', line)
             name, *default = TEXT.findall(line)
             yield name, default, " ".join(meaning)
@@ -89,8 +90,12 @@ def listed(fields):
 def rows():
     """The row of each option, by its name."""
     fields = Fields()
-    known, required, found = ranges(fields), {fields.name[size] for size in ("COLUMNS", "ROWS", "BANDS", "DYNAMIC_RANGE")}, {}
+    sizes = re.search(r"macro_rules! sizes \{(.*?)\n\}", source("command_words", "options.rt"), re.S)[1]
+    required = {fields.name[constant] for constant in re.findall(r"fields::(\w+)\.name", sizes)}
+    known, found = ranges(fields), {}
     for name, default, meaning in listed(fields):
+        if not meaning:
+            sys.exit(f"option_rows.py: no meaning stands before --{name}")
         if name in required:
             cells = meaning, known[name], "required"
         elif default:
