@@ -6,7 +6,8 @@
 `tests/refuse.c`, which this compiles by `cc`, is loaded before the program and refuses the first of its calls for memory, then the second, until a run
 meets none. Each such run ends with status 3, tells want of memory or a refused thread, or nothing where there was none for the line,
 and writes nothing; or it does without, and then its outputs are those of an undisturbed run. So are the reads and the writes refused, which go in
-pieces then: a refused read ends with `Read` and nothing written, and a refused write with `Write` and the bytes that went out before it.
+pieces then: a refused read ends with `Read` and nothing written, and a refused write with `Write` and the bytes that went out before it. Pieces as small as
+a byte change nothing.
 Then come files that end behind a header of any size.
 
 At last the same is done to `refusals`, a program over the libraries, which makes each library call again that was refused: whichever it is, its bodies
@@ -94,7 +95,7 @@ def make(room):
     chance = random.Random(1)
     heights = [2000 + 5 * (i % 40) + chance.randrange(64) for i in range(40 * 9 * 6)]
     room.write("scene.raw", b"".join(height.to_bytes(2, "big") for height in heights))
-    room.write("scene.cube", bytes([0, 2, 0, 1, 0, 1, 200, 190]))
+    room.write("scene.cube", bytes([0, 40, 0, 9, 0, 6]) + bytes(height % 256 for height in heights))
     subprocess.run(["cc", "-O1", "-shared", "-fPIC", "-o", room.path("refuse.so"), os.path.join(TOP, "tests", "refuse.c")], check=True)
     for name, words in (("sample.file", []), ("block.file", BLOCKS)):
         status, line, _ = room.run(["compress", *SIZES, *words, "scene.raw", name])
@@ -161,6 +162,18 @@ def each_write(room, name, words):
     return MOST
 
 
+# The most bytes that a read or a write moves, while none is refused: so each rest of an input is asked for, and each rest of an output is offered.
+SMALL_PIECES = (1, 2, 3, 7)
+
+
+def small_pieces(room, name, words):
+    """Reads and writes move few bytes each, and change nothing."""
+    wanted = room.run(words)
+    for piece in SMALL_PIECES:
+        found = room.run(words, PIECE=piece)
+        room.hold(f"{name}: in pieces of {piece}", found == wanted, found)
+
+
 def limits(room, name, words, lines):
     """Bounds the program's memory more and less: it is whole, or it is refused, and then nothing is written."""
     wanted, whole = room.run(words), 0
@@ -222,6 +235,7 @@ def main():
             reads, writes = each_read(room, name, words), each_write(room, name, words)
             room.hold(f"{name}: reads and writes", reads > 0 and writes > 0, (reads, writes))
             print(f"{name}: {reads} reads and {writes} writes refused in turn")
+            small_pieces(room, name, words)
         for name, (words, lines) in COMMANDS.items():
             print(f"{name}: whole under {limits(room, name, words, lines)} limits of {len(range(256, 8192, 64))}")
         announced(room)
