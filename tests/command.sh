@@ -241,6 +241,7 @@ run 'a flag twice' 1 "$usage" compress $two --reduced raw out
 run 'an unknown option' 1 "$usage" compress $two --fast raw out
 run 'no OUT' 1 "$usage" compress $two raw
 run 'three files' 1 "$usage" compress $two raw out more
+run 'a thousand words' 1 "$usage" compress $(seq 999)
 run 'one name for both files' 1 "$usage" compress $two out out
 run 'words that are no text' 1 "$usage" expand $'\xff' out
 same 'OUT after no lawful command' before out

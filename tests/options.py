@@ -153,6 +153,14 @@ BLOCKS = [
     (["--reference", 4096], {"reference": 4096}),
     (["--bits", 4, "--restricted"], {"bits": 4, "restricted": "yes"}),
     (["--bits", 2, "--restricted"], {"bits": 2, "restricted": "yes"}),
+    # As many words as a command takes.
+    (
+        ["--bits", 4, "--order", "bi", "--depth", 3, "--user", 7, "--word", 2, "--previous", 1, "--register", 40, "--omega", 9, "--interval-log", 5]
+        + ["--vmin-code", 4, "--vmax-code", 8, "--umax", 9, "--gamma-star", 7, "--gamma-zero", 2, "--k", 2, "--block", 16, "--reference", 9]
+        + ["--restricted", "--predictors", 2, "--slots", 3, "--signed", "--reduced", "--column-sums", "--layout", "bip", "--bytes", 2, "--little"],
+        {"bits": 4, "order": "bi 3", "user": 7, "word": 2, "previous": 1, "register": 40, "omega": 9, "interval": 32, "vmin": -2, "vmax": 2}
+        | {"block": 16, "reference": 9, "restricted": "yes", "sample": "signed", "mode": "reduced", "sums": "column"},
+    ),
 ]
 
 
