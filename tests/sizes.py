@@ -92,19 +92,20 @@ def most_samples(room):
 
 
 def great_show(room):
-    """What `show` prints of a cube with 65,536 columns is the file that `compress` writes of it by the same parameters."""
-    raw = random.Random(5).randbytes(5 << 16)
-    room.write("raw", raw)
-    sizes = ["--columns", 65_536, "--rows", 5, "--bands", 1, "--bits", 8, "--bytes", 1]
-    common = ["--previous", 0, "--reduced", "--column-sums", "--register", 32]
-    room.hold("65,536 columns as show codes them", room.run("compress", *sizes, *common, "raw", "file"), (0, b"", ""))
-    cube = bytes([0, 0, 0, 5, 0, 1]) + raw
-    room.write("cube", cube)
+    """What `show` prints of a cube with 65,536 columns is the file that `compress` writes of it by the same parameters, also of more than 2^24 samples."""
     # A pipe gives no more than 65,536 bytes at once, and a file all that it is asked for.
-    for name, how in (("a pipe", {"given": cube}), ("a file", {"read": "cube"})):
-        status, shown, line = room.run("show", **how)
-        room.hold(f"65,536 columns are shown from {name}", (status, line), (0, ""))
-        room.hold(f"65,536 columns are shown from {name}: the file", shown == room.read("file").hex().encode() + b"\n", True)
+    for rows, from_file in ((5, False), (5, True), (257, True)):
+        name = f"65,536 columns and {rows} rows from a {'file' if from_file else 'pipe'}"
+        raw = random.Random(5).randbytes(rows << 16)
+        room.write("raw", raw)
+        sizes = ["--columns", 65_536, "--rows", rows, "--bands", 1, "--bits", 8, "--bytes", 1]
+        common = ["--previous", 0, "--reduced", "--column-sums", "--register", 32]
+        room.hold(f"{name} as show codes them", room.run("compress", *sizes, *common, "raw", "file"), (0, b"", ""))
+        cube = bytes([0, 0, *rows.to_bytes(2, "big"), 0, 1]) + raw
+        room.write("cube", cube)
+        status, shown, line = room.run("show", **({"read": "cube"} if from_file else {"given": cube}))
+        room.hold(f"{name} are shown", (status, line), (0, ""))
+        room.hold(f"{name} are shown: the file", shown == room.read("file").hex().encode() + b"\n", True)
 
 
 def great_tables(room):
