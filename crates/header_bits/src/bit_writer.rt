@@ -1,11 +1,11 @@
 //! Bits at the end of a growing row of bytes.
 
-ghost use Rattle.std.specs.Prelude.{◌≡◌, ◌+◌, ◌-◌, ◌*◌, ◌/◌, ◌%◌, ◌^◌, ◌<◌, ◌≤◌, ◌++◌, [], length, vec_len, vec_capacity, IsOk, IsTrue, IfErr, OnOk, OnErr};
+ghost use Rattle.std.specs.Prelude.{◌≡◌, ◌+◌, ◌-◌, ◌*◌, ◌/◌, ◌%◌, ◌^◌, ◌<◌, ◌≤◌, ◌++◌, [], length, max, vec_len, vec_capacity, IsOk, IsTrue, IfErr, OnOk, OnErr};
 ghost use Rattle.cube_core.specs.declared.fault.Fault.TheVariants.{WantOfMemory};
 ghost use Rattle.header_bits.specs.Bits.{bits_of, bits_of_bytes};
 
 use cube_core::fault::Fault;
-use std::alloc::Global;
+use std::alloc::{AllocError, Global};
 use std::marker::Model;
 
 /// The most bits that a writer holds.
@@ -62,12 +62,14 @@ impl BitWriter {
 
     /// Makes room, so that pushes of so many bits in all succeed. The bits stay, whatever the answer.
     ///
-    /// `WantOfMemory` where the memory isn't had, or where the bits would be more than 2^63.
+    /// Where there is less, the room grows to these bits in whole bytes, or to as many as there are bits, and no further. `WantOfMemory` where
+    /// the memory isn't had, or where the bits would be more than 2^63.
     #[inline(never)]
     pub fn reserve(&mut self, bits: u64) -> Result<(), Fault>
         ensures same { self.new.bits ≡ self.old.bits }
         ensures kept { self.old.room ≤ self.new.room }
         ensures room { OnOk result (bits ≤ self.new.room) }
+        ensures bounded { self.new.room ≤ max self.old.room (max (bits + 7) (length self.old.bits)) }
         ensures within { bits ≤ self.old.room → IsOk result }
         ensures refused { IfErr result (λ e. e ≡ WantOfMemory) }
     {
@@ -75,7 +77,7 @@ impl BitWriter {
             return Err(Fault::WantOfMemory);
         }
         let more = (u64::from(self.held) + bits + 7) / 8;
-        self.bytes.reserve(more as usize)?;
+        grow(&mut self.bytes, more as usize)?;
         self.ready = ready_behind(&self.bytes);
         Ok(())
     }
@@ -102,23 +104,24 @@ impl BitWriter {
             self.held += n;
             return Ok(());
         }
-        if self.ready < 64 && !self.has_reserved(u64::from(n)) {
+        if self.ready < 64 && !self.has_reserved(n) {
             return Err(Fault::WantOfMemory);
         }
         self.place(bits, n);
         Ok(())
     }
 
-    /// Makes room as `reserve` does, and tells whether it is there: an answer that needs no memory in the
+    /// Makes room for so many bits as `reserve` does, and tells whether it is there: an answer that needs no memory in the
     /// loops that push.
     #[inline(never)]
-    fn has_reserved(&mut self, bits: u64) -> bool
+    fn has_reserved(&mut self, bits: u32) -> bool
         ensures same { self.new.bits ≡ self.old.bits }
         ensures kept { self.old.room ≤ self.new.room }
         ensures room { IsTrue result → bits ≤ self.new.room }
+        ensures bounded { self.new.room ≤ max self.old.room (max (bits + 7) (length self.old.bits)) }
         ensures within { bits ≤ self.old.room → IsTrue result }
     {
-        self.reserve(bits).is_ok()
+        self.reserve(u64::from(bits)).is_ok()
     }
 
     /// Appends the `n` bits of a number, for which there is room.
@@ -158,6 +161,23 @@ impl BitWriter {
         append_part(&mut bytes, part, held);
         bytes
     }
+}
+
+/// Makes room for so many bytes more: where there is less, for as many again as there are at least, so that a row that grows bit by bit is
+/// seldom moved.
+fn grow(bytes: &mut Vec<u8>, more: usize) -> Result<(), AllocError>
+    ensures items { bytes.new.items ≡ bytes.old.items }
+    ensures len { vec_len bytes.new ≡ vec_len bytes.old }
+    ensures kept { vec_capacity bytes.old ≤ vec_capacity bytes.new }
+    ensures room { OnOk result (vec_len bytes.new + more ≤ vec_capacity bytes.new) }
+    ensures bounded { vec_capacity bytes.new ≤ max (vec_capacity bytes.old) (vec_len bytes.old + max more (vec_len bytes.old)) }
+    ensures within { vec_len bytes.old + more ≤ vec_capacity bytes.old → IsOk result }
+{
+    let len = bytes.len();
+    if more <= bytes.capacity() - len {
+        return Ok(());
+    }
+    bytes.reserve_exact(more.max(len))
 }
 
 /// 64 where there is memory for two words behind these bytes, and 0 where there may be less.

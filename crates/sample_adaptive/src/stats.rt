@@ -1,6 +1,6 @@
 //! The coder of one image: each band's statistics, and numbers in and out.
 
-ghost use Rattle.std.specs.Prelude.{◌≡◌, ◌+◌, ◌*◌, ◌^◌, ◌<◌, ◌≤◌, [], length, Err, Some, IsOk, IfOk, IfErr, OnOk, OnErr, ℕ};
+ghost use Rattle.std.specs.Prelude.{◌≡◌, ◌+◌, ◌*◌, ◌^◌, ◌<◌, ◌≤◌, [], length, max, Err, Some, IsOk, IfOk, IfErr, OnOk, OnErr, ℕ};
 ghost use Rattle.std.specs.List.{AllByRecursion};
 ghost use Rattle.cube_core.specs.declared.fault.Fault.{Fault};
 ghost use Rattle.cube_core.specs.declared.fault.Fault.TheVariants.{WantOfMemory};
@@ -119,7 +119,7 @@ impl Stats {
         ensures refused { IfErr result (λ e. e ≡ WantOfMemory) }
         ensures bands { (length self.new.bands ≡ length self.old.bands) × (self.new.bits ≡ self.old.bits) }
     {
-        writer.reserve(MOST_BITS * numbers.len() as u64)?;
+        make_room(numbers.len(), writer)?;
         if t >= 1 {
             self.put_later(z, numbers, writer);
         } else if let Some((first, later)) = numbers.split_first() {
@@ -220,6 +220,17 @@ impl Stats {
             self.bands[z as usize] = next(self.rescaling, band, number);
         }
     }
+}
+
+/// Makes room for so many code words, and asks for no more than that, or than for as many bits again as there are.
+fn make_room(words: usize, writer: &mut BitWriter) -> Result<(), Fault>
+    requires few { words ≤ 2 ^ 16 }
+    ensures same { writer.new.bits ≡ writer.old.bits }
+    ensures room { OnOk result (48 * words ≤ writer.new.room) }
+    ensures bounded { writer.new.room ≤ max writer.old.room (max (48 * words + 7) (length writer.old.bits)) }
+    ensures refused { IfErr result (λ e. e ≡ WantOfMemory) }
+{
+    writer.reserve(MOST_BITS * words as u64)
 }
 
 /// The statistics from which so many bands start.

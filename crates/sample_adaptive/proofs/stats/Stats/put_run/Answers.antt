@@ -16,12 +16,12 @@ with_first z t first later numbers old mid new written written_mid written_now n
 
 pub returns-then-t-ge1-clause-taken : goal.returns-then-t-ge1-clause-taken
 returns-then-t-ge1-clause-taken c =
-    from_before c.args.z c.args.t c.args.numbers.now c.args.self.now c.put_later.new.self c.args.writer.now.bits c.reserve.new.self.bits c.put_later.new.writer.bits c.in_ok-reserve.ensures.same (c.put_later.ensures.taken c.args.t c.if-t-ge1.true)
+    from_before c.args.z c.args.t c.args.numbers.now c.args.self.now c.put_later.new.self c.args.writer.now.bits c.make_room.new.writer.bits c.put_later.new.writer.bits c.in_ok-make_room.ensures.same (c.put_later.ensures.taken c.args.t c.if-t-ge1.true)
 
 pub returns-in-Ok-clause-taken : goal.returns-in-Ok-clause-taken
 returns-in-Ok-clause-taken c =
-    from_before c.args.z c.args.t c.args.numbers.now c.args.self.now c.put_later-in-Some.new.self c.args.writer.now.bits c.reserve.new.self.bits c.put_later-in-Some.new.writer.bits c.in_ok-reserve.ensures.same
-    (with_first c.args.z c.args.t c.in-Some.first.now c.in-Some.later.now c.args.numbers.now c.args.self.now c.put.new.self c.put_later-in-Some.new.self c.reserve.new.self.bits c.put.new.writer.bits c.put_later-in-Some.new.writer.bits (omega (arith, c.if-t-ge1.false)) c.in-Some.ensures.cases.0
+    from_before c.args.z c.args.t c.args.numbers.now c.args.self.now c.put_later-in-Some.new.self c.args.writer.now.bits c.make_room.new.writer.bits c.put_later-in-Some.new.writer.bits c.in_ok-make_room.ensures.same
+    (with_first c.args.z c.args.t c.in-Some.first.now c.in-Some.later.now c.args.numbers.now c.args.self.now c.put.new.self c.put_later-in-Some.new.self c.make_room.new.writer.bits c.put.new.writer.bits c.put_later-in-Some.new.writer.bits (omega (arith, c.if-t-ge1.false)) c.in-Some.ensures.cases.0
     c.in-Ok.ensures.taken (c.put_later-in-Some.ensures.taken 1 (omega arith)))
 
 empty_is : (numbers : List ℕ) → length numbers ≡ 0 → numbers ≡ []
@@ -30,5 +30,5 @@ empty_is (n ∷ ns) e = absurd (omega (arith, e))
 
 pub returns-in_default-clause-taken : goal.returns-in_default-clause-taken
 returns-in_default-clause-taken c =
-    from_before c.args.z c.args.t c.args.numbers.now c.args.self.now c.args.self.now c.args.writer.now.bits c.reserve.new.self.bits c.reserve.new.self.bits c.in_ok-reserve.ensures.same
-    (subst (λ (ns : List ℕ). PutsRun c.args.z c.args.t ns c.args.self.now c.reserve.new.self.bits c.args.self.now c.reserve.new.self.bits) (sym (empty_is c.args.numbers.now (omega (arith, c.in_default.ensures.cases)))) (run_none c.args.z c.args.t c.args.self.now c.reserve.new.self.bits))
+    from_before c.args.z c.args.t c.args.numbers.now c.args.self.now c.args.self.now c.args.writer.now.bits c.make_room.new.writer.bits c.make_room.new.writer.bits c.in_ok-make_room.ensures.same
+    (subst (λ (ns : List ℕ). PutsRun c.args.z c.args.t ns c.args.self.now c.make_room.new.writer.bits c.args.self.now c.make_room.new.writer.bits) (sym (empty_is c.args.numbers.now (omega (arith, c.in_default.ensures.cases)))) (run_none c.args.z c.args.t c.args.self.now c.make_room.new.writer.bits))
