@@ -1,6 +1,6 @@
 //! Readers and writers whose answers are known call by call.
 
-ghost use Rattle.std.specs.Prelude.{◌≡◌, ℕ, List, Option, None, Some, ⊤, length, take, IfOk, OnErr};
+ghost use Rattle.std.specs.Prelude.{◌≡◌, ◌⊎◌, ℕ, List, Option, None, Some, ⊤, length, take, IfOk, OnErr};
 ghost use Rattle.std.specs.Io.{ReadsAtMost, WritesAtMost};
 ghost use Rattle.std.specs.Io.KnownBytes.{ReadConsumes, WriteAppends};
 
@@ -43,6 +43,9 @@ pub trait OutputDevice {
 impl InputDevice for &[u8] {
     ghost remaining = { λ s. Some s.now };
 
+    // It gives as many bytes as it is asked for, while it has them, and never fails.
+    ghost answers = { λ old size given _. given ≡ Some (take size old.now) };
+
     fn read(&mut self, buffer: &mut [u8]) -> io::Result<usize> {
         Read::read(self, buffer)
     }
@@ -50,6 +53,9 @@ impl InputDevice for &[u8] {
 
 impl OutputDevice for Vec<u8> {
     ghost contents = { λ v. Some v.items };
+
+    // It takes a piece whole, unless memory is refused.
+    ghost answers = { λ _ piece taken _. (taken ≡ Some (length piece)) ⊎ (taken ≡ None) };
 
     fn write(&mut self, piece: &[u8]) -> io::Result<usize> {
         Write::write(self, piece)
