@@ -1,13 +1,13 @@
 //! The program `ccsds`: the commands over files and the standard streams.
 #![tactic(auto)]
 
-ghost use Rattle.std.specs.Prelude.{◌≡◌, ◌⊎◌, IfOk, map, string_bytes};
-ghost use Rattle.cube_core.specs.declared.fault.Fault.TheVariants.{WantOfMemory};
+ghost use Rattle.std.specs.Prelude.{◌≡◌, ◌⊎◌, IfOk, IfErr, OnOk, map, string_bytes};
+ghost use Rattle.cube_core.specs.declared.fault.Fault.TheVariants.{Usage, WantOfMemory};
 ghost use Rattle.std.specs.Process.{exit_status};
-ghost use Rattle.ccsds_command.specs.Command.{Ran, name_in, name_out};
+ghost use Rattle.ccsds_command.specs.Command.{HasNoEnd, Ran, name_in, name_out};
 ghost use Rattle.command_reports.specs.Status.{status};
 ghost use Rattle.command_settings.specs.declared.settings.Settings.{Settings as Asked};
-ghost use Rattle.command_words.specs.Words.{Ask};
+ghost use Rattle.command_words.specs.Words.{Ask, AskForNone};
 
 mod system;
 
@@ -37,6 +37,9 @@ fn run<R: Threads + Wait + Sync>(rt: &HostRuntime, threads: &R) -> Result<(), Fa
 }
 
 /// Runs the command that words ask for, between the ends that they name.
+///
+/// `Usage` where they ask for none; `WantOfMemory`; and where an end isn't had, the refusal of `run_command`. What the command itself answers
+/// stands with its ends.
 fn run_words<R: Threads + Wait + Sync, O: Opener>(
     rt: &R,
     alloc: Global,
@@ -44,6 +47,7 @@ fn run_words<R: Threads + Wait + Sync, O: Opener>(
     words: &[String],
 ) -> Result<Ended<O::Input, O::Output>, Fault>
     ensures ran { IfOk result (λ ended. (settings : Asked) × Ask (map string_bytes words.now) settings × (s : O.Input) × (k : O.Output) × O.opens opener.now (name_in settings) s × O.makes opener.now (name_out settings) k × Ran settings (O.Input.left s) (O.Input.failures s) (O.Input.failures ended.input) (O.Output.taken k) (O.Output.taken ended.output) (O.Output.failures k) (O.Output.failures ended.output) (O.Output.stalls k) (O.Output.stalls ended.output) ended.answer) }
+    ensures refused { IfErr result (λ e. ((e ≡ Usage) × AskForNone (map string_bytes words.now)) ⊎ ((e ≡ WantOfMemory) ⊎ ((settings : Asked) × Ask (map string_bytes words.now) settings × HasNoEnd (O.has_none opener.now) (O.makes_none opener.now) settings e))) }
 {
     let settings = settings_of(alloc, words)?;
     run_command(rt, alloc, opener, &settings)
@@ -63,12 +67,21 @@ fn words(rt: &HostRuntime) -> Result<Vec<String>, Fault> {
 fn report(rt: &HostRuntime, fault: &Fault) -> ExitCode
     ensures { (exit_status result ≡ status fault.now) ⊎ (exit_status result ≡ status WantOfMemory) }
 {
-    match fault_line(rt.alloc(), fault) {
-        Ok(line) => {
-            // Nobody is left to tell that standard error failed.
-            let _ = rt.stderr().write_all(&line);
-            ExitCode::from(status_of(fault))
-        }
-        Err(out_of_memory) => ExitCode::from(status_of(&out_of_memory)),
+    let line = fault_line(rt.alloc(), fault);
+    if let Ok(text) = &line {
+        // Nobody is left to tell that standard error failed.
+        let _ = rt.stderr().write_all(text);
+    }
+    exit_code(fault, &line)
+}
+
+/// The exit status after a refusal: its own where it has its line, and else that of why there is none.
+fn exit_code(fault: &Fault, line: &Result<Vec<u8>, Fault>) -> ExitCode
+    ensures told { OnOk line.now (exit_status result ≡ status fault.now) }
+    ensures untold { IfErr line.now (λ e. exit_status result ≡ status e) }
+{
+    match line {
+        Ok(_) => ExitCode::from(status_of(fault)),
+        Err(refusal) => ExitCode::from(status_of(refusal)),
     }
 }

@@ -1,6 +1,7 @@
 -- What the run of a command promises, whichever it is: what its engine does.
 use Rattle.std.specs.Prelude.{◌≡◌, ◌≢◌, ◌⊎◌, false, ℕ, List, Option, Some, None, string_bytes, ⊤, Result, OnOk, IfErr}
 use Rattle.cube_core.specs.declared.fault.Fault.{Fault}
+use Rattle.cube_core.specs.declared.fault.Fault.TheVariants.{Read, Write}
 use Rattle.cube_core.specs.Layout.{IsLayout}
 use Rattle.header_bits.specs.declared.params.Params.{Params}
 use Rattle.command_settings.specs.declared.settings.CompressSettings.{CompressSettings}
@@ -27,6 +28,12 @@ name_out Show = None
 name_out (Compress settings from to) = Some (string_bytes to)
 name_out (Expand layout from to) = Some (string_bytes to)
 name_out Inspect = None
+
+-- why a command's ends aren't had: its input can't be opened, or its output can't be made
+abbrev pub HasNoEnd : (List ℕ → Type 0) → (List ℕ → Type 0) → Settings → Fault → Type 0
+HasNoEnd has_none makes_none settings fault =
+    ((name : List ℕ) × (name_in settings ≡ Some name) × (fault ≡ Read) × has_none name)
+    ⊎ ((name : List ℕ) × (name_out settings ≡ Some name) × (fault ≡ Write 0) × makes_none name)
 
 -- the parameters that are judged before anything is read
 abbrev pub judged : Settings → Option Params
