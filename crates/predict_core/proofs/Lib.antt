@@ -31,6 +31,7 @@ pub mod BandLines
 pub mod RunSteps
 pub mod Rising
 pub mod Places
+pub mod Predicted
 pub mod Quads
 pub mod Inner
 pub mod Links

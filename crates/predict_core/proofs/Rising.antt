@@ -1,10 +1,10 @@
 -- The differences of the bands below a place, seen from one band higher.
-use Rattle.std.proofs.Common.{◌≡◌, ◌⊎◌, ℕ, zero, suc, ◌+◌, ◌-◌, ◌<◌, ◌≤◌, ℤ, pos, ◌-ℤ◌, ◌*ℤ◌, Bool, true, false, List, [], ◌∷◌, ◌++◌, length, take, drop, set, replicate, min, if◌then◌else◌, arith, refl, sym, ap, ap₂, ◌∙◌, subst, inl, inr, append_assoc, length-append}
-use Rattle.std.proofs.Math.Seq.{take-append-add, set-append_seam}
+use Rattle.std.proofs.Common.{◌≡◌, ◌⊎◌, ℕ, zero, suc, ◌+◌, ◌-◌, ◌<◌, ◌≤◌, ℤ, pos, ◌-ℤ◌, ◌*ℤ◌, Bool, true, false, List, [], ◌∷◌, ◌++◌, length, take, set, replicate, if◌then◌else◌, arith, refl, sym, ap, ◌∙◌, inl, inr, append_assoc}
+use Rattle.std.proofs.Math.Seq.{take-append-add}
 use Rattle.std.proofs.lemmas.List.{take-replicate, set-append_right}
 use Rattle.std.proofs.lemmas.Bool.{cases_lt}
-use Rattle.cube_core.specs.Shape.{Sizes, sample_count}
-use Rattle.cube_core.specs.Image.{Image, IsPlace, sample_at, put}
+use Rattle.cube_core.specs.Shape.{sample_count}
+use Rattle.cube_core.specs.Image.{Image, IsPlace, put}
 use Rattle.predict_core.specs.declared.predictor.Predictor.{Predictor}
 use Rattle.predict_core.specs.Predictor.{previous_bands, component_count}
 use Rattle.predict_core.specs.LocalSum.{local_sum}

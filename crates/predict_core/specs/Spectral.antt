@@ -1,5 +1,5 @@
 -- The central differences of the bands below a band, kept from band to band of one place.
-use Rattle.std.specs.Prelude.{ℕ, ◌≡◌, ◌-◌, ◌<◌, pos, ◌++◌, replicate}
+use Rattle.std.specs.Prelude.{◌≡◌, ◌-◌, ◌<◌, pos, ◌++◌, replicate}
 use Rattle.cube_core.specs.Image.{Image}
 use Rattle.predict_core.specs.declared.predictor.Predictor.{Predictor}
 use Rattle.predict_core.specs.declared.spectral.SpectralDifferences.{SpectralDifferences}

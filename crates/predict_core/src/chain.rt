@@ -1,16 +1,16 @@
-//! From the weights at one place to those at the next, in a register that nothing wraps.
+//! From the weights at one place to those at the next.
 //!
-//! There an error is negative exactly where the central difference is at most the predicted one, so that the
-//! weights don't wait for the prediction and its clip. What no place can do before the one ahead of it is
-//! done is thus short; predictions and residuals are found behind it.
+//! An error is negative exactly where the central difference is at most the predicted one. So where nothing wraps in
+//! the register, the weights don't wait for the prediction and its clip. What no place can do before the one ahead
+//! of it is done is thus short; predictions and residuals are found behind it.
 
-ghost use Rattle.std.specs.Prelude.{◌≡◌, ◌+◌, ◌-◌, ◌*◌, ◌^◌, ◌<◌, ◌≤◌, ℕ, pos, negsuc, ◌≤ℤ◌, ◌+ℤ◌, ◌-ℤ◌, ◌*ℤ◌, int_lt, int_le, unsigned_abs, ℤ, List, length, take, ◌++◌, replicate, slice_index_or};
+ghost use Rattle.std.specs.Prelude.{◌≡◌, ◌+◌, ◌-◌, ◌*◌, ◌^◌, ◌<◌, ◌≤◌, false, ℕ, pos, negsuc, ◌≤ℤ◌, ◌+ℤ◌, ◌-ℤ◌, ◌*ℤ◌, int_lt, int_le, unsigned_abs, ℤ, List, length, take, ◌++◌, replicate, slice_index_or};
 ghost use Rattle.cube_core.specs.Image.{IsPlace};
+ghost use Rattle.cube_core.specs.Kind.{smin};
 ghost use Rattle.header_bits.specs.declared.params.Params.{Params as Parameters};
-ghost use Rattle.predict_core.specs.Arithmetic.{floor_div};
 ghost use Rattle.predict_core.specs.LocalSum.{local_sum};
 ghost use Rattle.predict_core.specs.Differences.{central_difference, difference_vector};
-ghost use Rattle.predict_core.specs.Prediction.{inner_product, scaled_there, next_weights, weight_vector, scaled_prediction};
+ghost use Rattle.predict_core.specs.Prediction.{scaled_there, next_weights, weight_vector, scaled_prediction};
 ghost use Rattle.predict_core.specs.Weights.{step_exponent, updated_weights};
 ghost use Rattle.predict_core.specs.Bounds.{AllWithin};
 ghost use Rattle.predict_core.specs.Rooms.{components_at, quads_of};
@@ -34,26 +34,25 @@ pub(crate) struct Steps {
     pub ghost most: { exponent ≤ℤ pos 21 },
 }
 
-/// The predicted central difference of a place, and the first `N` weights behind it.
+/// The first `N` weights behind a place where the predicted difference is `predicted`.
 ///
 /// `own` is the central difference there (CCSDS 123.0-B-1, "Weight Update").
 #[inline(always)]
 fn follow<const N: usize>(
     steps: Steps,
     own: i32,
+    predicted: i32,
     weights: &mut [i32; 18],
     differences: &[i32; 18],
-) -> i32
+)
     requires few { N ≤ 18 }
     requires own_in { unsigned_abs own ≤ 2 ^ 18 }
+    requires predicted_in { unsigned_abs predicted ≤ 18 * 2 ^ 20 }
     requires weights_in { AllWithin (2 ^ (steps.fraction + 2)) weights.old }
     requires differences_in { AllWithin (4 * 2 ^ steps.bits) differences.now }
-    ensures value { result ≡ floor_div (inner_product (take N weights.old) (take N differences.now)) (2 ^ steps.fraction) }
-    ensures small { unsigned_abs result ≤ 18 * 2 ^ 20 }
-    ensures weights { take N weights.new ≡ updated_weights steps.fraction steps.exponent (int_le own result) (take N weights.old) (take N differences.now) }
+    ensures weights { take N weights.new ≡ updated_weights steps.fraction steps.exponent (int_le own predicted) (take N weights.old) (take N differences.now) }
     ensures bound { AllWithin (2 ^ (steps.fraction + 2)) weights.new }
 {
-    let predicted = predicted_difference::<N>(steps.fraction, weights, differences);
     update_by::<N>(
         weights,
         differences,
@@ -62,7 +61,6 @@ fn follow<const N: usize>(
         form_of(steps.bits, steps.exponent),
         turn_of_error(own, predicted),
     );
-    predicted
 }
 
 /// All ones where an error is negative, which it is where the central difference is at most the predicted
@@ -122,22 +120,23 @@ fn four_of(components: &[i32; 4]) -> [i32; 4]
 
 /// The predicted central difference at row `y`, column `x` of a cube, and the weights at the next place.
 ///
-/// The scaled prediction is found from the difference and the local sum alone. The place is not the first
-/// of its band.
+/// The scaled prediction is found from the difference and the local sum alone, which is that of the heights and `sum`.
+/// The place is not the first of its band.
 #[inline(always)]
-fn follow_at<const N: usize>(
+fn follow_at<const N: usize, const WRAPS: bool>(
     settings: &Settings,
     cube: &Cube,
     y: u32,
     x: u32,
     steps: Steps,
+    sum: i32,
     own: i32,
     weights: &mut [i32; 18],
     differences: &[i32; 18],
 ) -> i32
     requires few { N ≤ 18 }
     requires enough { settings.now.count ≤ N }
-    requires register { 46 ≤ settings.now.predictor.register }
+    requires register { WRAPS ≡ false → 46 ≤ settings.now.predictor.register }
     requires place { IsPlace cube.now.shape settings.now.band y x }
     requires columns { cube.now.shape.columns ≡ settings.now.columns }
     requires kind { cube.now.kind ≡ settings.now.range.kind }
@@ -145,6 +144,8 @@ fn follow_at<const N: usize>(
     requires fraction { steps.fraction ≡ settings.now.predictor.fraction }
     requires bits { steps.bits ≡ settings.now.range.bits }
     requires exponent { steps.exponent ≡ step_exponent settings.now.predictor cube.now.shape.columns cube.now.kind.bits (y * cube.now.shape.columns + x) }
+    requires sum_is { pos 4 *ℤ smin cube.now.kind +ℤ sum ≡ local_sum settings.now.predictor cube.now settings.now.band y x }
+    requires sum_in { (pos 0 ≤ℤ sum) × (sum ≤ℤ pos 262140) }
     requires own_is { own ≡ central_difference settings.now.predictor cube.now settings.now.band y x }
     requires weights_in { AllWithin (2 ^ (steps.fraction + 2)) weights.old }
     requires differences_are { differences.now ≡ difference_vector settings.now.predictor cube.now settings.now.band y x ++ replicate (18 - settings.now.count) (pos 0) }
@@ -154,14 +155,22 @@ fn follow_at<const N: usize>(
     ensures bound { AllWithin (2 ^ (steps.fraction + 2)) weights.new }
 {
     cube.is_cube();
-    follow::<N>(steps, own, weights, differences)
+    let predicted = predicted_difference::<N, WRAPS>(
+        &settings.predictor,
+        &settings.range,
+        4 * settings.range.smin + sum,
+        weights,
+        differences,
+    );
+    follow::<N>(steps, own, predicted, weights, differences);
+    predicted
 }
 
 /// The predicted central differences of the places `first..last` of a run, and the weights behind them.
 ///
 /// The weights stand in a copy of their own, so that the compiler can keep them in registers.
 #[inline(always)]
-pub(crate) fn follow_places<const Q: usize, const N: usize>(
+pub(crate) fn follow_places<const Q: usize, const N: usize, const WRAPS: bool>(
     settings: &Settings,
     cube: &Cube,
     y: u32,
@@ -169,6 +178,7 @@ pub(crate) fn follow_places<const Q: usize, const N: usize>(
     first: usize,
     last: usize,
     steps: Steps,
+    sums: &[i32; 64],
     own: &[i32; 64],
     quads: &[Quad; Q],
     parts: &mut [i32; 64],
@@ -177,7 +187,7 @@ pub(crate) fn follow_places<const Q: usize, const N: usize>(
     requires few { N ≤ 18 }
     requires enough { settings.now.count ≤ N }
     requires quads { Q ≡ quads_of settings.now.count }
-    requires register { 46 ≤ settings.now.predictor.register }
+    requires register { WRAPS ≡ false → 46 ≤ settings.now.predictor.register }
     requires place { IsPlace cube.now.shape settings.now.band y x }
     requires columns { cube.now.shape.columns ≡ settings.now.columns }
     requires kind { cube.now.kind ≡ settings.now.range.kind }
@@ -188,6 +198,9 @@ pub(crate) fn follow_places<const Q: usize, const N: usize>(
     requires fraction { steps.fraction ≡ settings.now.predictor.fraction }
     requires bits { steps.bits ≡ settings.now.range.bits }
     requires exponent { (i : ℕ) → first ≤ i → i < last → steps.exponent ≡ step_exponent settings.now.predictor cube.now.shape.columns cube.now.kind.bits (y * cube.now.shape.columns + (x + i)) }
+    requires sums_are { (i : ℕ) → first ≤ i → i < last → pos 4 *ℤ smin cube.now.kind +ℤ slice_index_or sums.now i (pos 0) ≡ local_sum settings.now.predictor cube.now settings.now.band y (x + i) }
+    requires sum_least { (i : ℕ) → first ≤ i → i < last → pos 0 ≤ℤ slice_index_or sums.now i (pos 0) }
+    requires sum_most { (i : ℕ) → first ≤ i → i < last → slice_index_or sums.now i (pos 0) ≤ℤ pos 262140 }
     requires own_is { (i : ℕ) → first ≤ i → i < last → slice_index_or own.now i (pos 0) ≡ central_difference settings.now.predictor cube.now settings.now.band y (x + i) }
     requires components { (i : ℕ) → first ≤ i → i < last → components_at (quads_of settings.now.count) quads.now i ≡ difference_vector settings.now.predictor cube.now settings.now.band y (x + i) ++ replicate (4 * quads_of settings.now.count - settings.now.count) (pos 0) }
     requires weights_in { AllWithin (2 ^ (steps.fraction + 2)) weights.old }
@@ -201,12 +214,13 @@ pub(crate) fn follow_places<const Q: usize, const N: usize>(
     let mut held = *weights;
     for i in first..last {
         let differences = differences_at::<Q>(quads, i);
-        parts[i] = follow_at::<N>(
+        parts[i] = follow_at::<N, WRAPS>(
             settings,
             cube,
             y,
             x + i as u32,
             steps,
+            sums[i],
             own[i],
             &mut held,
             &differences,

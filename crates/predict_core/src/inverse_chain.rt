@@ -1,8 +1,8 @@
 //! The chain of a run whose samples aren't known yet: each sample from its mapped residual, and the weights behind it.
 //!
-//! Nothing wraps in the register, so that the sign of an error is told by the differences alone.
+//! The sign of an error is told by the differences alone.
 
-ghost use Rattle.std.specs.Prelude.{◌≡◌, ◌+◌, ◌-◌, ◌*◌, ◌^◌, ◌<◌, ◌≤◌, ℕ, pos, ◌+ℤ◌, ◌-ℤ◌, ◌*ℤ◌, unsigned_abs, take, drop, length, ◌++◌, replicate, slice_index, if◌then◌else◌};
+ghost use Rattle.std.specs.Prelude.{◌≡◌, ◌+◌, ◌-◌, ◌*◌, ◌^◌, ◌<◌, ◌≤◌, false, ℕ, pos, ◌+ℤ◌, ◌-ℤ◌, ◌*ℤ◌, unsigned_abs, take, drop, length, ◌++◌, replicate, slice_index, if◌then◌else◌};
 ghost use Rattle.cube_core.specs.Kind.{IsSample, smin};
 ghost use Rattle.cube_core.specs.Image.{IsPlace, put};
 ghost use Rattle.header_bits.specs.declared.params.Params.{Params as Parameters};
@@ -30,7 +30,7 @@ use cube_core::cube::Cube;
 ///
 /// Of the quads the differences of the bands below are looked at.
 #[inline(always)]
-pub(crate) fn invert_places<const Q: usize, const N: usize>(
+pub(crate) fn invert_places<const Q: usize, const N: usize, const WRAPS: bool>(
     settings: &Settings,
     cube: &mut Cube,
     y: u32,
@@ -42,7 +42,7 @@ pub(crate) fn invert_places<const Q: usize, const N: usize>(
     requires few_weights { N ≤ 18 }
     requires enough { settings.now.count ≤ N }
     requires quads { Q ≡ quads_of settings.now.count }
-    requires register { 46 ≤ settings.now.predictor.register }
+    requires register { WRAPS ≡ false → 46 ≤ settings.now.predictor.register }
     requires later { 0 < y }
     requires place { IsPlace cube.old.shape settings.now.band y x }
     requires columns { cube.old.shape.columns ≡ settings.now.columns }
@@ -63,7 +63,7 @@ pub(crate) fn invert_places<const Q: usize, const N: usize>(
         let column = x + i as u32;
         let sum = sum_at(&settings.predictor, cube, settings.band, y, column);
         let lower = differences_at::<Q>(quads, i);
-        let sample = sample_there::<N>(
+        let sample = sample_there::<N, WRAPS>(
             settings, cube, y, column, sum, &mut held, &lower, deltas[i],
         );
         cube.set(settings.band, y, column, sample);
@@ -75,7 +75,7 @@ pub(crate) fn invert_places<const Q: usize, const N: usize>(
 ///
 /// `sum` is the local sum of the heights there. Of `lower` the differences of the bands below are looked at.
 #[inline(always)]
-pub(crate) fn sample_there<const N: usize>(
+pub(crate) fn sample_there<const N: usize, const WRAPS: bool>(
     settings: &Settings,
     cube: &Cube,
     y: u32,
@@ -87,7 +87,7 @@ pub(crate) fn sample_there<const N: usize>(
 ) -> i32
     requires few { N ≤ 18 }
     requires enough { settings.now.count ≤ N }
-    requires register { 46 ≤ settings.now.predictor.register }
+    requires register { WRAPS ≡ false → 46 ≤ settings.now.predictor.register }
     requires later { 0 < y }
     requires place { IsPlace cube.now.shape settings.now.band y x }
     requires columns { cube.now.shape.columns ≡ settings.now.columns }
@@ -109,7 +109,7 @@ pub(crate) fn sample_there<const N: usize>(
     let mut differences = *lower;
     put_own_directions(predictor, cube, settings.band, y, x, sum, &mut differences);
     let whole = 4 * range.smin + sum as i32;
-    let part = predicted_difference::<N>(predictor.fraction, weights, &differences);
+    let part = predicted_difference::<N, WRAPS>(predictor, range, whole, weights, &differences);
     let scaled = scaled_by_part(range, part, whole);
     let found = range.sample_of(scaled, delta);
     let own = difference_there(range, found, sum);

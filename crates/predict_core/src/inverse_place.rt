@@ -1,6 +1,6 @@
 //! A sample from its mapped residual where the bands of a place are decoded one behind another.
 
-ghost use Rattle.std.specs.Prelude.{◌≡◌, ◌+◌, ◌-◌, ◌*◌, ◌^◌, ◌<◌, ◌≤◌, pos, ◌+ℤ◌, ◌*ℤ◌, take, drop, ◌++◌, replicate, if◌then◌else◌};
+ghost use Rattle.std.specs.Prelude.{◌≡◌, ◌+◌, ◌-◌, ◌*◌, ◌^◌, ◌<◌, ◌≤◌, false, pos, ◌+ℤ◌, ◌*ℤ◌, take, drop, ◌++◌, replicate, if◌then◌else◌};
 ghost use Rattle.cube_core.specs.Image.{IsPlace, put};
 ghost use Rattle.cube_core.specs.Kind.{IsSample, smin};
 ghost use Rattle.header_bits.specs.declared.params.Params.{Params as Parameters};
@@ -45,7 +45,7 @@ impl Band {
         ensures follows { (p : Parameters) → Follows p self.old cube.now → Follows p self.new (put cube.now self.old.band y x result) }
         ensures told { AreOf self.new.predictor below.new (put cube.now self.old.band y x result) }
     {
-        if self.settings.predictor.register < 46 || y == 0 {
+        if y == 0 {
             below.forget();
             return self.inverse(cube, y, x, delta);
         }
@@ -68,7 +68,6 @@ fn sample_above(
     below: &mut SpectralDifferences,
     delta: u16,
 ) -> i32
-    requires register { 46 ≤ settings.now.predictor.register }
     requires later { 0 < y }
     requires place { IsPlace cube.now.shape settings.now.band y x }
     requires columns { cube.now.shape.columns ≡ settings.now.columns }
@@ -96,8 +95,6 @@ fn sample_above(
 }
 
 /// The same by the differences of the bands below, in a room that leaves the first places to the directions.
-///
-/// How many weights there are is found here, so that the compiler knows it.
 #[inline(always)]
 fn sample_by(
     settings: &Settings,
@@ -109,7 +106,42 @@ fn sample_by(
     lower: &[i32; 18],
     delta: u16,
 ) -> i32
-    requires register { 46 ≤ settings.now.predictor.register }
+    requires later { 0 < y }
+    requires place { IsPlace cube.now.shape settings.now.band y x }
+    requires columns { cube.now.shape.columns ≡ settings.now.columns }
+    requires kind { cube.now.kind ≡ settings.now.range.kind }
+    requires sum_is { local_sum settings.now.predictor cube.now settings.now.band y x ≡ pos 4 *ℤ smin cube.now.kind +ℤ pos sum }
+    requires sum_in { sum ≤ 262140 }
+    requires weights_in { AllWithin (2 ^ (settings.now.predictor.fraction + 2)) weights.old }
+    requires lower { drop (if settings.now.predictor.reduced then 0 else 3) lower.now ≡ spectral_differences settings.now.predictor cube.now settings.now.band y x (previous_bands settings.now.predictor settings.now.band) ++ replicate (18 - settings.now.count) (pos 0) }
+    requires residual { delta < 2 ^ cube.now.kind.bits }
+    ensures range { IsSample cube.now.kind result }
+    ensures inverse { mapped cube.now.kind (scaled_there settings.now.predictor (put cube.now settings.now.band y x result) settings.now.band y x (take settings.now.count weights.old)) result ≡ delta }
+    ensures weights { take settings.now.count weights.new ≡ next_weights settings.now.predictor (put cube.now settings.now.band y x result) settings.now.band (y * cube.now.shape.columns + x) (take settings.now.count weights.old) }
+    ensures bound { AllWithin (2 ^ (settings.now.predictor.fraction + 2)) weights.new }
+{
+    if settings.predictor.register < 46 {
+        sample_in::<true>(settings, cube, y, x, sum, weights, lower, delta)
+    } else {
+        sample_in::<false>(settings, cube, y, x, sum, weights, lower, delta)
+    }
+}
+
+/// The same in a register that nothing wraps, or in any.
+///
+/// How many weights there are is found here, so that the compiler knows it.
+#[inline(always)]
+fn sample_in<const WRAPS: bool>(
+    settings: &Settings,
+    cube: &Cube,
+    y: u32,
+    x: u32,
+    sum: u32,
+    weights: &mut [i32; 18],
+    lower: &[i32; 18],
+    delta: u16,
+) -> i32
+    requires register { WRAPS ≡ false → 46 ≤ settings.now.predictor.register }
     requires later { 0 < y }
     requires place { IsPlace cube.now.shape settings.now.band y x }
     requires columns { cube.now.shape.columns ≡ settings.now.columns }
@@ -126,12 +158,12 @@ fn sample_by(
 {
     let count = settings.count;
     if count == 0 {
-        sample_there::<0>(settings, cube, y, x, sum, weights, lower, delta)
+        sample_there::<0, WRAPS>(settings, cube, y, x, sum, weights, lower, delta)
     } else if count <= 4 {
-        sample_there::<4>(settings, cube, y, x, sum, weights, lower, delta)
+        sample_there::<4, WRAPS>(settings, cube, y, x, sum, weights, lower, delta)
     } else if count <= 8 {
-        sample_there::<8>(settings, cube, y, x, sum, weights, lower, delta)
+        sample_there::<8, WRAPS>(settings, cube, y, x, sum, weights, lower, delta)
     } else {
-        sample_there::<18>(settings, cube, y, x, sum, weights, lower, delta)
+        sample_there::<18, WRAPS>(settings, cube, y, x, sum, weights, lower, delta)
     }
 }

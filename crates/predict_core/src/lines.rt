@@ -103,9 +103,23 @@ fn fill_line(row: &[u16], x: usize, count: usize, before: u16, after: u16, line:
     requires inside { x + count ≤ length row.now }
     ensures { (k : ℕ) → k < count + 2 → slice_index line.new k ≡ slice_index (bordered before row.now after) (x + k) }
 {
-    copy_places(row, x, count, line);
-    line[0] = height_at(row, x, before, after);
-    line[count + 1] = height_at(row, x + count + 1, before, after);
+    if 1 <= x && x + 65 <= row.len() {
+        copy_line(row, x, line);
+    } else {
+        copy_places(row, x, count, line);
+        line[0] = height_at(row, x, before, after);
+        line[count + 1] = height_at(row, x + count + 1, before, after);
+    }
+}
+
+/// Writes a whole line of a row where the row goes on at both sides of it: so most are, and this takes no loop.
+#[inline(always)]
+fn copy_line(row: &[u16], x: usize, line: &mut [u16; 66])
+    requires begun { 1 ≤ x }
+    requires inside { x + 65 ≤ length row.now }
+    ensures { (k : ℕ) → k < 66 → slice_index line.new k ≡ slice_index row.now (x + k - 1) }
+{
+    line.copy_from_slice(&row[x - 1..x + 65]);
 }
 
 /// Writes `count` heights of a row from column `x` on behind the first place of a line.

@@ -1,6 +1,7 @@
 //! The chain of a run, cut where the exponent of the steps changes.
 
-ghost use Rattle.std.specs.Prelude.{◌≡◌, ◌+◌, ◌-◌, ◌*◌, ◌++◌, replicate, ◌^◌, ◌<◌, ◌≤◌, ℕ, pos, take, unsigned_abs, slice_index_or};
+ghost use Rattle.std.specs.Prelude.{◌≡◌, ◌+◌, ◌-◌, ◌*◌, ◌++◌, replicate, ◌^◌, ◌<◌, ◌≤◌, false, ℕ, pos, ◌≤ℤ◌, ◌+ℤ◌, ◌*ℤ◌, take, unsigned_abs, slice_index_or};
+ghost use Rattle.cube_core.specs.Kind.{smin};
 ghost use Rattle.cube_core.specs.Image.{IsPlace};
 ghost use Rattle.header_bits.specs.declared.params.Params.{Params as Parameters};
 ghost use Rattle.predict_core.specs.LocalSum.{local_sum};
@@ -21,13 +22,14 @@ use cube_core::cube::Cube;
 /// The place `first` is not the first of its band. `Q` quads tell the differences, and `N` weights are
 /// reckoned with (CCSDS 123.0-B-1, "Weight Update").
 #[inline(always)]
-pub(crate) fn follow_run<const Q: usize, const N: usize>(
+pub(crate) fn follow_run<const Q: usize, const N: usize, const WRAPS: bool>(
     settings: &Settings,
     cube: &Cube,
     y: u32,
     x: u32,
     first: usize,
     last: usize,
+    sums: &[i32; 64],
     own: &[i32; 64],
     quads: &[Quad; Q],
     parts: &mut [i32; 64],
@@ -36,7 +38,7 @@ pub(crate) fn follow_run<const Q: usize, const N: usize>(
     requires few { N ≤ 18 }
     requires enough { settings.now.count ≤ N }
     requires quads { Q ≡ quads_of settings.now.count }
-    requires register { 46 ≤ settings.now.predictor.register }
+    requires register { WRAPS ≡ false → 46 ≤ settings.now.predictor.register }
     requires place { IsPlace cube.now.shape settings.now.band y x }
     requires columns { cube.now.shape.columns ≡ settings.now.columns }
     requires kind { cube.now.kind ≡ settings.now.range.kind }
@@ -44,6 +46,9 @@ pub(crate) fn follow_run<const Q: usize, const N: usize>(
     requires order { first ≤ last }
     requires inside { x + last ≤ cube.now.shape.columns }
     requires later { 0 < y + (x + first) }
+    requires sums_are { (i : ℕ) → first ≤ i → i < last → pos 4 *ℤ smin cube.now.kind +ℤ slice_index_or sums.now i (pos 0) ≡ local_sum settings.now.predictor cube.now settings.now.band y (x + i) }
+    requires sum_least { (i : ℕ) → first ≤ i → i < last → pos 0 ≤ℤ slice_index_or sums.now i (pos 0) }
+    requires sum_most { (i : ℕ) → first ≤ i → i < last → slice_index_or sums.now i (pos 0) ≤ℤ pos 262140 }
     requires own_is { (i : ℕ) → first ≤ i → i < last → slice_index_or own.now i (pos 0) ≡ central_difference settings.now.predictor cube.now settings.now.band y (x + i) }
     requires components { (i : ℕ) → first ≤ i → i < last → components_at (quads_of settings.now.count) quads.now i ≡ difference_vector settings.now.predictor cube.now settings.now.band y (x + i) ++ replicate (4 * quads_of settings.now.count - settings.now.count) (pos 0) }
     requires weights_in { AllWithin (2 ^ (settings.now.predictor.fraction + 2)) weights.old }
@@ -64,8 +69,8 @@ pub(crate) fn follow_run<const Q: usize, const N: usize>(
             bits: settings.range.bits,
             exponent: exponent_at(predictor, settings.columns, settings.range.bits, t),
         };
-        follow_places::<Q, N>(
-            settings, cube, y, x, at, next, steps, own, quads, parts, weights,
+        follow_places::<Q, N, WRAPS>(
+            settings, cube, y, x, at, next, steps, sums, own, quads, parts, weights,
         );
         at = next;
     }

@@ -1,7 +1,7 @@
 //! The scaled prediction at a place that is not the first of its band.
 
-ghost use Rattle.std.specs.Prelude.{◌≡◌, ◌+◌, ◌*◌, ◌^◌, ◌<◌, ◌≤◌, pos, negsuc, ◌≤ℤ◌, ◌+ℤ◌, ◌-ℤ◌, ◌*ℤ◌, unsigned_abs, ◌-◌, ℤ, List, length, take, ◌++◌, replicate};
-ghost use Rattle.predict_core.specs.Arithmetic.{clip, floor_div};
+ghost use Rattle.std.specs.Prelude.{◌≡◌, ◌+◌, ◌*◌, ◌^◌, ◌<◌, ◌≤◌, false, pos, negsuc, ◌≤ℤ◌, ◌+ℤ◌, ◌-ℤ◌, ◌*ℤ◌, unsigned_abs, ◌-◌, ℤ, List, length, take, ◌++◌, replicate};
+ghost use Rattle.predict_core.specs.Arithmetic.{clip, floor_div, wrapped};
 ghost use Rattle.predict_core.specs.Prediction.{inner_product, scaled_by as scaled_of};
 ghost use Rattle.predict_core.specs.Chain.{scaled_by_difference};
 ghost use Rattle.predict_core.specs.Mapping.{IsScaled};
@@ -33,6 +33,18 @@ pub(crate) fn scaled_by(
     ensures scaled { IsScaled range.now.kind result }
 {
     let product = product_of(count, weights, differences);
+    scaled_by_product(predictor, range, sum, product)
+}
+
+/// The same from the sum of the products of weights and differences.
+#[inline(always)]
+fn scaled_by_product(predictor: &Predictor, range: &Range, sum: i32, product: i64) -> i32
+    requires lawful { IsPredictor predictor.now }
+    requires product_in { unsigned_abs product ≤ 2 ^ 44 }
+    requires sum_in { (negsuc 131071 ≤ℤ sum) × (sum ≤ℤ pos 262140) }
+    ensures value { (ws us : List ℤ) → product ≡ inner_product ws us → result ≡ scaled_of predictor.now range.now.kind sum ws us }
+    ensures scaled { IsScaled range.now.kind result }
+{
     let middle = range.smid;
     let register = wrapped_value(
         predictor.register,
@@ -55,21 +67,87 @@ pub(crate) fn scaled_by_part(range: &Range, part: i32, sum: i32) -> i32
     scaled_from(range.smin, range.smax, middle, upper as i64)
 }
 
-/// The predicted central difference: the first `N` products, without the weights' fraction, rounded down.
+/// The predicted central difference at a place, by the first `N` weights, from which the scaled prediction follows.
+///
+/// Where nothing wraps in the register, it is the sum of the products, without the weights' fraction and rounded down. Where
+/// something does, it is the difference that leads to the same scaled prediction.
 #[inline(always)]
-pub(crate) fn predicted_difference<const N: usize>(
-    fraction: u32,
+pub(crate) fn predicted_difference<const N: usize, const WRAPS: bool>(
+    predictor: &Predictor,
+    range: &Range,
+    sum: i32,
     weights: &[i32; 18],
     differences: &[i32; 18],
 ) -> i32
     requires few { N ≤ 18 }
-    requires fraction_in { fraction ≤ 19 }
-    requires weights_in { AllWithin (2 ^ (fraction + 2)) weights.now }
+    requires lawful { IsPredictor predictor.now }
+    requires register { WRAPS ≡ false → 46 ≤ predictor.now.register }
+    requires weights_in { AllWithin (2 ^ (predictor.now.fraction + 2)) weights.now }
     requires differences_in { AllWithin (2 ^ 18) differences.now }
-    ensures value { result ≡ floor_div (inner_product (take N weights.now) (take N differences.now)) (2 ^ fraction) }
+    requires sum_in { (negsuc 131071 ≤ℤ sum) × (sum ≤ℤ pos 262140) }
+    ensures scaled { scaled_of predictor.now range.now.kind sum (take N weights.now) (take N differences.now) ≡ scaled_by_difference range.now.kind result sum }
     ensures bound { unsigned_abs result ≤ 18 * 2 ^ 20 }
 {
-    halved(product_of_first::<N>(weights, differences), fraction) as i32
+    let product = product_of_first::<N>(weights, differences);
+    if is_wrapped::<WRAPS>(predictor, range, sum, product) {
+        wrapped_difference(predictor, range, sum, product)
+    } else {
+        whole_product(predictor.fraction, product)
+    }
+}
+
+/// Whether the register wraps what it takes, at the sum of products `product` and the local sum `sum`.
+///
+/// It seldom does, so the weights needn't wait for the answer.
+#[inline(always)]
+fn is_wrapped<const WRAPS: bool>(
+    predictor: &Predictor,
+    range: &Range,
+    sum: i32,
+    product: i64,
+) -> bool
+    requires lawful { IsPredictor predictor.now }
+    requires register { WRAPS ≡ false → 46 ≤ predictor.now.register }
+    requires product_in { unsigned_abs product ≤ 2 ^ 44 }
+    requires sum_in { (negsuc 131071 ≤ℤ sum) × (sum ≤ℤ pos 262140) }
+    ensures kept { result ≡ false → wrapped predictor.now.register (product +ℤ pos (2 ^ predictor.now.fraction) *ℤ (sum -ℤ pos 4 *ℤ smid range.now.kind)) ≡ product +ℤ pos (2 ^ predictor.now.fraction) *ℤ (sum -ℤ pos 4 *ℤ smid range.now.kind) }
+{
+    let register = register_of(predictor.fraction, product, sum, range.smid);
+    WRAPS && wrapped_value(predictor.register, register) != register
+}
+
+/// The predicted central difference where the register wraps, from the sum of the products.
+#[inline(never)]
+fn wrapped_difference(predictor: &Predictor, range: &Range, sum: i32, product: i64) -> i32
+    requires lawful { IsPredictor predictor.now }
+    requires product_in { unsigned_abs product ≤ 2 ^ 44 }
+    requires sum_in { (negsuc 131071 ≤ℤ sum) × (sum ≤ℤ pos 262140) }
+    ensures scaled { (ws us : List ℤ) → product ≡ inner_product ws us → scaled_of predictor.now range.now.kind sum ws us ≡ scaled_by_difference range.now.kind result sum }
+    ensures bound { unsigned_abs result ≤ 18 * 2 ^ 20 }
+{
+    difference_of(scaled_by_product(predictor, range, sum, product), sum)
+}
+
+/// The sum of the products, without the weights' fraction, rounded down.
+#[inline(always)]
+fn whole_product(fraction: u32, product: i64) -> i32
+    requires fraction_in { fraction ≤ 19 }
+    requires product_in { unsigned_abs product ≤ 18 * (2 ^ (fraction + 2) * 2 ^ 18) }
+    ensures value { result ≡ floor_div product (2 ^ fraction) }
+    ensures bound { unsigned_abs result ≤ 18 * 2 ^ 20 }
+{
+    halved(product, fraction) as i32
+}
+
+/// The predicted central difference that leads to a scaled prediction, where the local sum is `sum`.
+#[inline(always)]
+fn difference_of(scaled: i32, sum: i32) -> i32
+    requires scaled_in { (negsuc 65535 ≤ℤ scaled) × (scaled ≤ℤ pos 131071) }
+    requires sum_in { (negsuc 131071 ≤ℤ sum) × (sum ≤ℤ pos 262140) }
+    ensures value { result ≡ pos 2 *ℤ scaled -ℤ pos 2 -ℤ sum }
+    ensures bound { unsigned_abs result ≤ 18 * 2 ^ 20 }
+{
+    2 * scaled - 2 - sum
 }
 
 /// The middle of the prediction's range, moved by the upper part of the register.

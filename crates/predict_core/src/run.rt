@@ -1,6 +1,6 @@
 //! A band's predictor moved on by a run: places of one row, one behind another.
 
-ghost use Rattle.std.specs.Prelude.{◌≡◌, ◌+◌, ◌*◌, ◌^◌, ◌<◌, ◌≤◌, ℕ, ◌==◌, if◌then◌else◌, take, length, slice_index};
+ghost use Rattle.std.specs.Prelude.{◌≡◌, ◌+◌, ◌*◌, ◌^◌, ◌<◌, ◌≤◌, false, ℕ, ◌==◌, if◌then◌else◌, take, length, slice_index};
 ghost use Rattle.cube_core.specs.Image.{IsPlace};
 ghost use Rattle.header_bits.specs.declared.params.Params.{Params as Parameters};
 ghost use Rattle.predict_core.specs.Bounds.{AllWithin};
@@ -40,11 +40,15 @@ impl Band {
     {
         cube.is_cube();
         let count = residuals.len();
-        if self.settings.predictor.register < 46 || count < LEAST {
+        if count < LEAST {
             self.forward_each(cube, y, x, residuals);
+            return;
+        }
+        self.next += count as u64;
+        if self.settings.predictor.register < 46 {
+            predict_run::<true>(&self.settings, cube, y, x, &mut self.weights, residuals);
         } else {
-            self.next += count as u64;
-            predict_run(&self.settings, cube, y, x, &mut self.weights, residuals);
+            predict_run::<false>(&self.settings, cube, y, x, &mut self.weights, residuals);
         }
     }
 
@@ -68,10 +72,10 @@ impl Band {
     }
 }
 
-/// The mapped residuals of a run in a register that nothing wraps, and the weights behind it.
+/// The mapped residuals of a run, in a register that nothing wraps or in any, and the weights behind it.
 ///
 /// How many weights there are is found once, so that the compiler knows it in the loops over places.
-fn predict_run(
+fn predict_run<const WRAPS: bool>(
     settings: &Settings,
     cube: &Cube,
     y: u32,
@@ -79,7 +83,7 @@ fn predict_run(
     weights: &mut [i32; 18],
     residuals: &mut [u16],
 )
-    requires register { 46 ≤ settings.now.predictor.register }
+    requires register { WRAPS ≡ false → 46 ≤ settings.now.predictor.register }
     requires place { IsPlace cube.now.shape settings.now.band y x }
     requires columns { cube.now.shape.columns ≡ settings.now.columns }
     requires kind { cube.now.kind ≡ settings.now.range.kind }
@@ -94,17 +98,17 @@ fn predict_run(
 {
     let count = settings.count;
     if count == 0 {
-        predict_by::<0, 0>(settings, cube, y, x, weights, residuals);
+        predict_by::<0, 0, WRAPS>(settings, cube, y, x, weights, residuals);
     } else if count <= 4 {
-        predict_by::<1, 4>(settings, cube, y, x, weights, residuals);
+        predict_by::<1, 4, WRAPS>(settings, cube, y, x, weights, residuals);
     } else if count <= 8 {
-        predict_by::<2, 8>(settings, cube, y, x, weights, residuals);
+        predict_by::<2, 8, WRAPS>(settings, cube, y, x, weights, residuals);
     } else if count <= 12 {
-        predict_by::<3, 12>(settings, cube, y, x, weights, residuals);
+        predict_by::<3, 12, WRAPS>(settings, cube, y, x, weights, residuals);
     } else if count <= 16 {
-        predict_by::<4, 16>(settings, cube, y, x, weights, residuals);
+        predict_by::<4, 16, WRAPS>(settings, cube, y, x, weights, residuals);
     } else {
-        predict_by::<5, 18>(settings, cube, y, x, weights, residuals);
+        predict_by::<5, 18, WRAPS>(settings, cube, y, x, weights, residuals);
     }
 }
 
@@ -112,7 +116,7 @@ fn predict_run(
 ///
 /// What the samples tell is found first, for all places at once, then the predicted differences one after
 /// another, and all residuals at once behind them.
-fn predict_by<const Q: usize, const N: usize>(
+fn predict_by<const Q: usize, const N: usize, const WRAPS: bool>(
     settings: &Settings,
     cube: &Cube,
     y: u32,
@@ -123,7 +127,7 @@ fn predict_by<const Q: usize, const N: usize>(
     requires few_weights { N ≤ 18 }
     requires enough { settings.now.count ≤ N }
     requires quads { Q ≡ quads_of settings.now.count }
-    requires register { 46 ≤ settings.now.predictor.register }
+    requires register { WRAPS ≡ false → 46 ≤ settings.now.predictor.register }
     requires place { IsPlace cube.now.shape settings.now.band y x }
     requires columns { cube.now.shape.columns ≡ settings.now.columns }
     requires kind { cube.now.kind ≡ settings.now.range.kind }
@@ -146,8 +150,8 @@ fn predict_by<const Q: usize, const N: usize>(
     let mut quads = [quad; Q];
     fill_run::<Q>(settings, cube, y, x, count, &mut sums, &mut own, &mut quads);
     let first = first_later(y, x);
-    follow_run::<Q, N>(
-        settings, cube, y, x, first, count, &own, &quads, &mut parts, weights,
+    follow_run::<Q, N, WRAPS>(
+        settings, cube, y, x, first, count, &sums, &own, &quads, &mut parts, weights,
     );
     map_run(settings, cube, y, x, &parts, &sums, residuals);
     if first == 1 {

@@ -1,6 +1,6 @@
 //! A band's predictor moved on by a run whose samples aren't known yet, but their mapped residuals are.
 
-ghost use Rattle.std.specs.Prelude.{◌≡◌, ◌+◌, ◌*◌, ◌^◌, ◌<◌, ◌≤◌, ℕ, take, length, slice_index};
+ghost use Rattle.std.specs.Prelude.{◌≡◌, ◌+◌, ◌*◌, ◌^◌, ◌<◌, ◌≤◌, false, ℕ, take, length, slice_index};
 ghost use Rattle.cube_core.specs.Image.{IsPlace};
 ghost use Rattle.header_bits.specs.declared.params.Params.{Params as Parameters};
 ghost use Rattle.predict_core.specs.Bounds.{AllWithin};
@@ -52,12 +52,16 @@ impl Band {
     {
         cube.is_cube();
         let count = deltas.len();
-        if self.settings.predictor.register < 46 || count < LEAST || y == 0 {
+        if count < LEAST || y == 0 {
             self.inverse_each(cube, y, x, deltas, below);
+            return;
+        }
+        below.forget();
+        self.next += count as u64;
+        if self.settings.predictor.register < 46 {
+            invert_run::<true>(&self.settings, cube, y, x, &mut self.weights, deltas);
         } else {
-            below.forget();
-            self.next += count as u64;
-            invert_run(&self.settings, cube, y, x, &mut self.weights, deltas);
+            invert_run::<false>(&self.settings, cube, y, x, &mut self.weights, deltas);
         }
     }
 
@@ -96,10 +100,10 @@ impl Band {
     }
 }
 
-/// Writes the samples of a run below the first row, in a register that nothing wraps; the weights are those behind it.
+/// Writes the samples of a run below the first row, in a register that nothing wraps or in any; the weights are those behind it.
 ///
 /// How many weights there are is found once, so that the compiler knows it in the loop over places.
-fn invert_run(
+fn invert_run<const WRAPS: bool>(
     settings: &Settings,
     cube: &mut Cube,
     y: u32,
@@ -107,7 +111,7 @@ fn invert_run(
     weights: &mut [i32; 18],
     deltas: &[u16],
 )
-    requires register { 46 ≤ settings.now.predictor.register }
+    requires register { WRAPS ≡ false → 46 ≤ settings.now.predictor.register }
     requires later { 0 < y }
     requires place { IsPlace cube.old.shape settings.now.band y x }
     requires columns { cube.old.shape.columns ≡ settings.now.columns }
@@ -124,17 +128,17 @@ fn invert_run(
 {
     let count = settings.count;
     if count == 0 {
-        invert_by::<0, 0>(settings, cube, y, x, weights, deltas);
+        invert_by::<0, 0, WRAPS>(settings, cube, y, x, weights, deltas);
     } else if count <= 4 {
-        invert_by::<1, 4>(settings, cube, y, x, weights, deltas);
+        invert_by::<1, 4, WRAPS>(settings, cube, y, x, weights, deltas);
     } else if count <= 8 {
-        invert_by::<2, 8>(settings, cube, y, x, weights, deltas);
+        invert_by::<2, 8, WRAPS>(settings, cube, y, x, weights, deltas);
     } else if count <= 12 {
-        invert_by::<3, 12>(settings, cube, y, x, weights, deltas);
+        invert_by::<3, 12, WRAPS>(settings, cube, y, x, weights, deltas);
     } else if count <= 16 {
-        invert_by::<4, 16>(settings, cube, y, x, weights, deltas);
+        invert_by::<4, 16, WRAPS>(settings, cube, y, x, weights, deltas);
     } else {
-        invert_by::<5, 18>(settings, cube, y, x, weights, deltas);
+        invert_by::<5, 18, WRAPS>(settings, cube, y, x, weights, deltas);
     }
 }
 
@@ -142,7 +146,7 @@ fn invert_run(
 ///
 /// What the bands below tell is found first, for all places at once. A place's own directions wait for the sample
 /// to the west.
-fn invert_by<const Q: usize, const N: usize>(
+fn invert_by<const Q: usize, const N: usize, const WRAPS: bool>(
     settings: &Settings,
     cube: &mut Cube,
     y: u32,
@@ -153,7 +157,7 @@ fn invert_by<const Q: usize, const N: usize>(
     requires few_weights { N ≤ 18 }
     requires enough { settings.now.count ≤ N }
     requires quads { Q ≡ quads_of settings.now.count }
-    requires register { 46 ≤ settings.now.predictor.register }
+    requires register { WRAPS ≡ false → 46 ≤ settings.now.predictor.register }
     requires later { 0 < y }
     requires place { IsPlace cube.old.shape settings.now.band y x }
     requires columns { cube.old.shape.columns ≡ settings.now.columns }
@@ -177,5 +181,5 @@ fn invert_by<const Q: usize, const N: usize>(
     };
     let mut quads = [quad; Q];
     fill_run::<Q>(settings, cube, y, x, count, &mut sums, &mut own, &mut quads);
-    invert_places::<Q, N>(settings, cube, y, x, &quads, weights, deltas);
+    invert_places::<Q, N, WRAPS>(settings, cube, y, x, &quads, weights, deltas);
 }

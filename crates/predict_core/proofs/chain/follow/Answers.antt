@@ -1,8 +1,5 @@
-use Rattle.predict_core.proofs.Moves.{within_most, within_room}
+use Rattle.predict_core.proofs.Moves.{within_room}
 use Rattle.predict_core.proofs.chain.follow.Goals as goal
-
-pub predicted_difference-predicted-requires-clause-differences_in : goal.predicted_difference-predicted-requires-clause-differences_in
-predicted_difference-predicted-requires-clause-differences_in g c = within_most c.args.steps.bits c.args.differences.now c.args.steps.bits_in.1 c.requires.differences_in
 
 pub update_by-requires-clause-differences_in : goal.update_by-requires-clause-differences_in
 update_by-requires-clause-differences_in g c = within_room c.args.steps.bits c.form_of.result.up c.args.differences.now c.form_of.ensures.room c.requires.differences_in

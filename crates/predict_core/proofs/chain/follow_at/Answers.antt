@@ -1,16 +1,40 @@
-use Rattle.std.proofs.Common.{◌≡◌, ◌≤◌, ◌-◌, ◌^◌, ◌+◌, false, ap, subst, ◌∙◌, int_le, take, SFits, w32, to_z-of_z, rules, arith, pow_mono}
-use Rattle.predict_core.specs.Arithmetic.{floor_div}
-use Rattle.predict_core.specs.Bounds.{AllWithin}
-use Rattle.predict_core.specs.Prediction.{inner_product}
+use Rattle.std.proofs.Common.{◌≡◌, ◌≤◌, ◌-◌, ◌^◌, ℤ, pos, negsuc, ◌≤ℤ◌, ◌+ℤ◌, ◌*ℤ◌, List, false, ap, sym, ◌∙◌, int_le, take, SFits, w32, to_z, of_z, to_z-of_z, rules, arith, pow_mono}
+use Rattle.std.proofs.lemmas.Int.{ints}
+use Rattle.cube_core.specs.Kind.{SampleKind, smin}
+use Rattle.predict_core.specs.declared.predictor.Predictor.{Predictor}
+use Rattle.predict_core.specs.Chain.{scaled_by_difference}
+use Rattle.predict_core.specs.LocalSum.{local_sum}
+use Rattle.predict_core.specs.Prediction.{scaled_by}
 use Rattle.predict_core.specs.Weights.{updated_weights}
 use Rattle.predict_core.proofs.Chains.{scaled_from_room, next_from_room}
+use Rattle.predict_core.proofs.Moves.{within_most}
 use Rattle.predict_core.proofs.Ranges.{central_within, padded_within}
 use Rattle.predict_core.proofs.chain.follow_at.Given as given
 use Rattle.predict_core.proofs.chain.follow_at.Goals as goal
-use Rattle.predict_core.proofs.chain.follow_at.Goals.{After-is_cube, After-follow}
+use Rattle.predict_core.proofs.chain.follow_at.Goals.{After-is_cube, After-predicted_difference-predicted}
+
+-- the local sum, as the code computes it
+reckoned : (low sum : ℤ) → (negsuc 32767 ≤ℤ low) × (low ≤ℤ pos 0) → (pos 0 ≤ℤ sum) × (sum ≤ℤ pos 262140)
+    → to_z w32 (of_z w32 (to_z w32 (of_z w32 (pos 4 *ℤ to_z w32 (of_z w32 low))) +ℤ to_z w32 (of_z w32 sum))) ≡ pos 4 *ℤ low +ℤ sum
+reckoned low sum h k = let a = h.0 in let b = h.1 in let d = k.0 in let e = k.1 in omega (arith, ints, a, b, d, e)
+
+-- a scaled prediction that is found by the range, and by a band's local sum
+found : (p : Predictor) (made k : SampleKind) (low sum whole v : ℤ) (ws us : List ℤ) → k ≡ made → low ≡ smin made → pos 4 *ℤ smin k +ℤ sum ≡ whole
+    → scaled_by p made (pos 4 *ℤ low +ℤ sum) ws us ≡ scaled_by_difference made v (pos 4 *ℤ low +ℤ sum) → scaled_by p k whole ws us ≡ scaled_by_difference k v whole
+found p made k low sum whole v ws us a b e h =
+    let same : pos 4 *ℤ low +ℤ sum ≡ whole = ap (λ l. pos 4 *ℤ l +ℤ sum) (b ∙ ap smin (sym a)) ∙ e in
+    rw (a, ← same) h
 
 wide : (g : given.Over) (c : After-is_cube g) → c.args.settings.now.predictor.column ≡ false → 2 ≤ c.args.cube.now.shape.columns
 wide g c h = let w = c.args.settings.now.wide h in let e = c.requires.columns in omega (arith, w, e)
+
+pub predicted_difference-predicted-requires-clause-differences_in : goal.predicted_difference-predicted-requires-clause-differences_in
+predicted_difference-predicted-requires-clause-differences_in g c =
+    let d = (goal.at.predicted_difference-predicted-requires-clause-differences_in g c).After-is_cube in
+    let s = c.args.settings.now in
+    let bits : c.args.cube.now.kind.bits ≤ 16 = c.is_cube.ensures.bits.1 in
+    within_most c.args.cube.now.kind.bits c.args.differences.now bits
+    (rw c.requires.differences_are (padded_within s.predictor c.args.cube.now c.is_cube.ensures c.args.y c.args.x c.requires.later (wide g d) s.band c.requires.place (18 - s.count)))
 
 pub follow-requires-clause-own_in : goal.follow-requires-clause-own_in
 follow-requires-clause-own_in g c =
@@ -27,21 +51,29 @@ follow-requires-clause-differences_in g c =
     rw (c.requires.differences_are, c.requires.bits, s.range.bits_is, ← c.requires.kind)
     (padded_within s.predictor c.args.cube.now c.is_cube.ensures c.args.y c.args.x c.requires.later (wide g d) s.band c.requires.place (18 - s.count))
 
+-- the scaled prediction comes from the predicted difference
+module _ (g : given.Over) (c : After-predicted_difference-predicted g) where
+  from_difference : scaled_by c.args.settings.now.predictor c.args.cube.now.kind (local_sum c.args.settings.now.predictor c.args.cube.now c.args.settings.now.band c.args.y c.args.x) (take g.row.N c.args.weights.now) (take g.row.N c.args.differences.now)
+      ≡ scaled_by_difference c.args.cube.now.kind c.predicted_difference-predicted.result (local_sum c.args.settings.now.predictor c.args.cube.now c.args.settings.now.band c.args.y c.args.x)
+  from_difference =
+      let s = c.args.settings.now in
+      let r = s.range in
+      let fits : SFits w32 c.predicted_difference-predicted.result = search rules in
+      found s.predictor r.kind c.args.cube.now.kind r.smin c.args.sum (local_sum s.predictor c.args.cube.now s.band c.args.y c.args.x) c.predicted_difference-predicted.result (take g.row.N c.args.weights.now) (take g.row.N c.args.differences.now) c.requires.kind r.smin_is c.requires.sum_is
+      (rw (reckoned r.smin c.args.sum r.low c.requires.sum_in) at c.predicted_difference-predicted.ensures.scaled)
+
 pub returns-clause-scaled : goal.returns-clause-scaled
 returns-clause-scaled g c =
-    let d = (goal.at.returns-clause-scaled g c).After-is_cube in
+    let d = (goal.at.returns-clause-scaled g c).After-predicted_difference-predicted in
     let s = c.args.settings.now in
-    let fits : SFits w32 c.follow.result = search rules in
-    let within = subst (λ f. AllWithin (2 ^ (f + 2)) c.args.weights.now) c.requires.fraction c.requires.weights_in in
-    let value = c.follow.ensures.value ∙ ap (λ f. floor_div (inner_product (take g.row.N c.args.weights.now) (take g.row.N c.args.differences.now)) (2 ^ f)) c.requires.fraction in
+    let fits : SFits w32 c.predicted_difference-predicted.result = search rules in
     rw (to_z-of_z fits)
-    (scaled_from_room s.predictor c.args.cube.now s.band c.args.y c.args.x s.count g.row.N c.args.weights.now c.args.differences.now c.is_cube.ensures c.requires.place c.requires.later (wide g d) s.lawful.few s.lawful.fraction.1 within c.requires.register s.count_is c.requires.enough c.requires.few c.requires.differences_are c.follow.result value)
+    (scaled_from_room s.predictor c.args.cube.now s.band c.args.y c.args.x s.count g.row.N c.args.weights.now c.args.differences.now c.is_cube.ensures c.requires.place s.count_is c.requires.enough c.requires.few c.requires.differences_are c.predicted_difference-predicted.result (from_difference g d))
 
 pub returns-clause-weights : goal.returns-clause-weights
 returns-clause-weights g c =
-    let d = (goal.at.returns-clause-weights g c).After-is_cube in
+    let d = (goal.at.returns-clause-weights g c).After-predicted_difference-predicted in
     let s = c.args.settings.now in
-    let within = subst (λ f. AllWithin (2 ^ (f + 2)) c.args.weights.now) c.requires.fraction c.requires.weights_in in
-    let value = c.follow.ensures.value ∙ ap (λ f. floor_div (inner_product (take g.row.N c.args.weights.now) (take g.row.N c.args.differences.now)) (2 ^ f)) c.requires.fraction in
-    let moved = (simp (to_z-of_z c.ranges.own) at c.follow.ensures.weights) ∙ ap (λ f. updated_weights f c.args.steps.exponent (int_le c.args.own c.follow.result) (take g.row.N c.args.weights.now) (take g.row.N c.args.differences.now)) c.requires.fraction in
-    next_from_room s.predictor c.args.cube.now s.band c.args.y c.args.x s.count g.row.N c.args.weights.now c.args.differences.now c.is_cube.ensures c.requires.place c.requires.later (wide g d) s.lawful.few s.lawful.fraction.1 within c.requires.register s.count_is c.requires.enough c.requires.few c.requires.differences_are c.follow.new.weights c.args.own c.follow.result c.args.steps.exponent c.requires.own_is c.requires.exponent value moved
+    let fits : SFits w32 c.predicted_difference-predicted.result = search rules in
+    let moved = (simp (to_z-of_z c.ranges.own, to_z-of_z fits) at c.follow.ensures.weights) ∙ ap (λ f. updated_weights f c.args.steps.exponent (int_le c.args.own c.predicted_difference-predicted.result) (take g.row.N c.args.weights.now) (take g.row.N c.args.differences.now)) c.requires.fraction in
+    next_from_room s.predictor c.args.cube.now s.band c.args.y c.args.x s.count g.row.N c.args.weights.now c.args.differences.now c.is_cube.ensures c.requires.place s.count_is c.requires.enough c.requires.few c.requires.differences_are c.predicted_difference-predicted.result (from_difference g d) c.follow.new.weights c.args.own c.args.steps.exponent c.requires.own_is c.requires.exponent moved

@@ -1,4 +1,5 @@
-use Rattle.std.proofs.Common.{◌≡◌, unsigned_abs, ◌≤◌, ◌<◌, ◌+◌, ◌-◌, ◌*◌, length, take, SFits, w32, to_z-of_z, rules, arith, sym, ◌∙◌, length-set}
+use Rattle.std.proofs.Common.{◌≡◌, ℤ, pos, ◌≤ℤ◌, slice_index_or, of_z, to_z, unsigned_abs, ◌≤◌, ◌<◌, ◌+◌, ◌-◌, ◌*◌, length, take, SFits, w32, to_z-of_z, rules, arith, sym, ◌∙◌, length-set}
+use Rattle.std.proofs.lemmas.Int.{ints}
 use Rattle.header_bits.specs.declared.params.Params.{Params}
 use Rattle.predict_core.specs.Chain.{AreWeightsAt, scaled_by_difference}
 use Rattle.predict_core.specs.Differences.{difference_vector}
@@ -14,6 +15,15 @@ follow_at-requires-clause-differences_are g c =
     let s = c.args.settings.now in
     let e = rw (← c.requires.quads) at (c.requires.components c.loop-i.i (omega arith) (omega arith)) in
     gathered_is (difference_vector s.predictor c.args.cube.now s.band c.args.y (c.args.x + c.loop-i.i)) (components_at g.row.Q c.args.quads.now c.loop-i.i) c.differences_at-differences.result s.count (4 * g.row.Q - s.count) (vector_length s.predictor c.args.cube.now s.band c.args.y (c.args.x + c.loop-i.i) ∙ sym s.count_is) s.few e c.differences_at-differences.ensures
+
+pub follow_at-requires-clause-sum_in : goal.follow_at-requires-clause-sum_in
+follow_at-requires-clause-sum_in g c =
+    let least = c.requires.sum_least c.loop-i.i (omega arith) (omega arith) in
+    let most = c.requires.sum_most c.loop-i.i (omega arith) (omega arith) in
+    inside (slice_index_or c.args.sums.now c.loop-i.i (pos 0)) least most
+  where
+    inside : (v : ℤ) → pos 0 ≤ℤ v → v ≤ℤ pos 262140 → (pos 0 ≤ℤ to_z w32 (of_z w32 v)) × (to_z w32 (of_z w32 v) ≤ℤ pos 262140)
+    inside v h k = (omega (arith, ints, h, k), omega (arith, ints, h, k))
 
 pub loop-i-preserved : goal.loop-i-preserved
 loop-i-preserved g c =

@@ -1,11 +1,11 @@
-use Rattle.std.proofs.Common.{◌≡◌, ℕ, ◌≤◌, ◌<◌, ◌-◌, ◌*◌, ◌^◌, ◌+◌, ℤ, pos, negsuc, ◌+ℤ◌, ◌-ℤ◌, ◌*ℤ◌, ◌≤ℤ◌, unsigned_abs, false, refl, sym, ap, ap₂, ◌∙◌, take, ◌++◌, replicate, SFits, w32, to_z, of_z, to_z-of_z, rules, arith}
-use Rattle.std.proofs.lemmas.Int.{ints, fits_signed_from_abs}
+use Rattle.std.proofs.Common.{◌≡◌, ◌≤◌, ◌<◌, ◌-◌, ◌*◌, ◌^◌, ◌+◌, ℤ, pos, ◌+ℤ◌, ◌-ℤ◌, ◌*ℤ◌, List, false, refl, sym, ap, ap₂, ◌∙◌, take, ◌++◌, replicate, SFits, w32, to_z-of_z, rules, arith}
 use Rattle.cube_core.specs.Kind.{SampleKind, smin}
+use Rattle.predict_core.specs.declared.predictor.Predictor.{Predictor}
 use Rattle.predict_core.specs.Bounds.{AllWithin}
 use Rattle.predict_core.specs.Chain.{scaled_by_difference}
 use Rattle.predict_core.specs.Differences.{difference_vector}
 use Rattle.predict_core.specs.LocalSum.{local_sum}
-use Rattle.predict_core.specs.Prediction.{scaled_there}
+use Rattle.predict_core.specs.Prediction.{scaled_by, scaled_there}
 use Rattle.predict_core.proofs.Chains.{scaled_from_room, moved_from_room}
 use Rattle.predict_core.proofs.InverseRuns.{vector_filled}
 use Rattle.predict_core.proofs.Inverting.{scaled_put, moved_put}
@@ -15,6 +15,10 @@ use Rattle.predict_core.proofs.Ranges.{padded_within}
 use Rattle.predict_core.proofs.inverse_chain.sample_there.Given as given
 use Rattle.predict_core.proofs.inverse_chain.sample_there.Goals as goal
 use Rattle.predict_core.proofs.inverse_chain.sample_there.Goals.{After-put_own_directions, After-sample_of-found, After-update_by}
+
+-- a scaled prediction that is found by the range, and by a local sum
+found_by : (p : Predictor) (made k : SampleKind) (sum whole v : ℤ) (ws us : List ℤ) → k ≡ made → sum ≡ whole → scaled_by p made sum ws us ≡ scaled_by_difference made v sum → scaled_by p k whole ws us ≡ scaled_by_difference k v whole
+found_by p made k sum whole v ws us a e h = rw (a, ← e) h
 
 module _ (g : given.Over) (c : After-put_own_directions g) where
   later : 0 < c.args.y + c.args.x
@@ -52,6 +56,14 @@ module _ (g : given.Over) (c : After-sample_of-found g) where
       let s = c.args.settings.now in
       vector_filled s.predictor c.args.cube.now s.band c.args.y c.args.x (18 - s.count) c.args.lower.now c.put_own_directions.new.out c.requires.lower c.put_own_directions.ensures.reduced c.put_own_directions.ensures.full
 
+  -- the scaled prediction comes from the predicted difference
+  from_difference : scaled_by c.args.settings.now.predictor c.args.cube.now.kind (local_sum c.args.settings.now.predictor c.args.cube.now c.args.settings.now.band c.args.y c.args.x) (take g.row.N c.args.weights.now) (take g.row.N c.put_own_directions.new.out)
+      ≡ scaled_by_difference c.args.cube.now.kind c.predicted_difference-part.result (local_sum c.args.settings.now.predictor c.args.cube.now c.args.settings.now.band c.args.y c.args.x)
+  from_difference =
+      let s = c.args.settings.now in
+      let e = rw (whole_sum s.range.smin c.args.sum s.range.low c.requires.sum_in) at c.predicted_difference-part.ensures.scaled in
+      found_by s.predictor s.range.kind c.args.cube.now.kind (pos 4 *ℤ s.range.smin +ℤ pos c.args.sum) (local_sum s.predictor c.args.cube.now s.band c.args.y c.args.x) c.predicted_difference-part.result (take g.row.N c.args.weights.now) (take g.row.N c.put_own_directions.new.out) c.requires.kind sum_is e
+
   -- the scaled prediction is that of the weights and differences there
   scaled_is : c.scaled_by_part-scaled.result ≡ scaled_there c.args.settings.now.predictor c.args.cube.now c.args.settings.now.band c.args.y c.args.x (take c.args.settings.now.count c.args.weights.now)
   scaled_is =
@@ -60,7 +72,7 @@ module _ (g : given.Over) (c : After-sample_of-found g) where
       let part_fits : SFits w32 c.predicted_difference-part.result = search rules in
       let e = rw (whole_sum s.range.smin c.args.sum s.range.low c.requires.sum_in) at (simp (to_z-of_z part_fits) at c.scaled_by_part-scaled.ensures.value) in
       e ∙ ap₂ (λ k v. scaled_by_difference k part v) (sym c.requires.kind) sum_is
-      ∙ sym (scaled_from_room s.predictor c.args.cube.now s.band c.args.y c.args.x s.count g.row.N c.args.weights.now c.put_own_directions.new.out c.is_cube.ensures c.requires.place after broad s.lawful.few s.lawful.fraction.1 c.requires.weights_in c.requires.register s.count_is c.requires.enough c.requires.few vector_is part c.predicted_difference-part.ensures.value)
+      ∙ sym (scaled_from_room s.predictor c.args.cube.now s.band c.args.y c.args.x s.count g.row.N c.args.weights.now c.put_own_directions.new.out c.is_cube.ensures c.requires.place s.count_is c.requires.enough c.requires.few vector_is part from_difference)
 
 pub predicted_difference-part-requires-clause-differences_in : goal.predicted_difference-part-requires-clause-differences_in
 predicted_difference-part-requires-clause-differences_in g c =
@@ -103,8 +115,8 @@ returns-clause-weights g c =
     let moved = rw turn at (simp (to_z-of_z exponent_fits, to_z-of_z turn_fits) at c.update_by.ensures.value) in
     let exponent = rw (bits, ← c.requires.columns) at c.exponent_at-exponent.ensures.value in
     let range = rw (← c.requires.kind) at c.sample_of-found.ensures.range in
-    let m = moved_from_room s.predictor c.args.cube.now s.band c.args.y c.args.x s.count g.row.N c.args.weights.now c.put_own_directions.new.out c.is_cube.ensures c.requires.place (after g d) (broad g d) s.lawful.few s.lawful.fraction.1 c.requires.weights_in c.requires.register s.count_is c.requires.enough c.requires.few (vector_is g d)
-    c.update_by.new.weights found c.difference_there-own.result c.predicted_difference-part.result c.exponent_at-exponent.result range (own ∙ ap (λ v. pos 4 *ℤ found -ℤ v) (sum_is g d)) exponent c.predicted_difference-part.ensures.value moved in
+    let m = moved_from_room s.predictor c.args.cube.now s.band c.args.y c.args.x s.count g.row.N c.args.weights.now c.put_own_directions.new.out c.is_cube.ensures c.requires.place s.count_is c.requires.enough c.requires.few (vector_is g d) c.predicted_difference-part.result (from_difference g d)
+    c.update_by.new.weights found c.difference_there-own.result c.exponent_at-exponent.result range (own ∙ ap (λ v. pos 4 *ℤ found -ℤ v) (sum_is g d)) exponent moved in
     rw (to_z-of_z fits)
     (moved_put c.args.cube.now s.band c.args.y c.args.x found c.requires.place c.is_cube.ensures.whole s.predictor (broad g d) (c.args.y * c.args.cube.now.shape.columns + c.args.x) (take s.count c.args.weights.now) (take s.count c.update_by.new.weights)
     (scaled_there s.predictor c.args.cube.now s.band c.args.y c.args.x (take s.count c.args.weights.now)) (after g d) refl refl m)

@@ -1,4 +1,4 @@
-use Rattle.std.proofs.Common.{◌≡◌, ◌+◌, ◌-◌, ◌<◌, ◌≤◌, ℤ, pos, ◌+ℤ◌, ◌*ℤ◌, ◌-ℤ◌, false, length, take, ◌++◌, replicate, if◌then◌else◌, SFits, w32, to_z-of_z, rules, arith, refl, sym, ap, ◌∙◌}
+use Rattle.std.proofs.Common.{◌≡◌, ◌+◌, ◌-◌, ◌<◌, ◌≤◌, pos, ◌+ℤ◌, ◌*ℤ◌, false, take, ◌++◌, replicate, if◌then◌else◌, SFits, w32, to_z-of_z, rules, arith, ap, ◌∙◌}
 use Rattle.cube_core.specs.Kind.{smin}
 use Rattle.cube_core.specs.Image.{put}
 use Rattle.predict_core.specs.Predictor.{previous_bands}

@@ -2,7 +2,7 @@ use Rattle.std.proofs.Common.{arith}
 use Rattle.predict_core.proofs.Borders.{ends_written}
 use Rattle.predict_core.proofs.lines.fill_line.Goals as goal
 
-pub returns : goal.returns
-returns c =
+pub returns-else-x-ge1 : goal.returns-else-x-ge1
+returns-else-x-ge1 c =
     let long = c.copy_places.auto.line in
-    ends_written c.copy_places.new.line c.args.row.now c.args.x c.args.count c.args.before c.args.after c.height_at.result c.height_at-2.result (omega arith) c.requires.inside c.copy_places.ensures c.height_at.ensures c.height_at-2.ensures
+    ends_written c.copy_places.new.line c.args.row.now c.args.x c.args.count c.args.before c.args.after c.height_at.result c.height_at-else-x-ge1.result (omega arith) c.requires.inside c.copy_places.ensures c.height_at.ensures c.height_at-else-x-ge1.ensures

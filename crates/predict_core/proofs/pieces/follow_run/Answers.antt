@@ -14,7 +14,7 @@ follow_places-requires g c =
     let few = c.places_alike.ensures.few in
     let some = c.loop-at-test.true in
     let quads : g.row.Q ≤ 5 = omega (arith, c.requires.quads, s.few) in
-    (omega (arith, quads), (c.requires.few, (c.requires.enough, (c.requires.quads, (c.requires.register, (c.requires.place, (c.requires.columns, (c.requires.kind, (omega (arith, few, some, c.requires.run), (omega arith, (omega (arith, few, some, c.requires.inside), (omega (arith, c.requires.later, kept.begun), (refl, (refl, (same_exponent, ((λ i l m. c.requires.own_is i (omega (arith, l, kept.begun)) (omega (arith, m, few, some))), ((λ i l m. c.requires.components i (omega (arith, l, kept.begun)) (omega (arith, m, few, some))), kept.bound)))))))))))))))))
+    (omega (arith, quads), (c.requires.few, (c.requires.enough, (c.requires.quads, (c.requires.register, (c.requires.place, (c.requires.columns, (c.requires.kind, (omega (arith, few, some, c.requires.run), (omega arith, (omega (arith, few, some, c.requires.inside), (omega (arith, c.requires.later, kept.begun), (refl, (refl, (same_exponent, ((λ i l m. c.requires.sums_are i (omega (arith, l, kept.begun)) (omega (arith, m, few, some))), ((λ i l m. c.requires.sum_least i (omega (arith, l, kept.begun)) (omega (arith, m, few, some))), ((λ i l m. c.requires.sum_most i (omega (arith, l, kept.begun)) (omega (arith, m, few, some))), ((λ i l m. c.requires.own_is i (omega (arith, l, kept.begun)) (omega (arith, m, few, some))), ((λ i l m. c.requires.components i (omega (arith, l, kept.begun)) (omega (arith, m, few, some))), kept.bound))))))))))))))))))))
   where
     same_exponent : (i : ℕ) → c.loop-at.at ≤ i → i < c.loop-at.at + c.places_alike.result → to_z w32 (of_z w32 c.exponent_at.result) ≡ step_exponent c.args.settings.now.predictor c.args.cube.now.shape.columns c.args.cube.now.kind.bits (c.args.y * c.args.cube.now.shape.columns + (c.args.x + i))
     same_exponent i l m =
