@@ -112,14 +112,18 @@ fn fill_line(row: &[u16], x: usize, count: usize, before: u16, after: u16, line:
     }
 }
 
-/// Writes a whole line of a row where the row goes on at both sides of it: so most are, and this takes no loop.
+/// Writes a whole line of a row where the row goes on at both sides of it, as it mostly does.
+///
+/// In parts of this length a copy is a few moves of vectors in place of a call.
 #[inline(always)]
 fn copy_line(row: &[u16], x: usize, line: &mut [u16; 66])
     requires begun { 1 ≤ x }
     requires inside { x + 65 ≤ length row.now }
     ensures { (k : ℕ) → k < 66 → slice_index line.new k ≡ slice_index row.now (x + k - 1) }
 {
-    line.copy_from_slice(&row[x - 1..x + 65]);
+    line[..64].copy_from_slice(&row[x - 1..x + 63]);
+    line[64] = row[x + 63];
+    line[65] = row[x + 64];
 }
 
 /// Writes `count` heights of a row from column `x` on behind the first place of a line.

@@ -60,7 +60,12 @@ fn copy_heights(row: &[u16], x: usize, count: usize, heights: &mut [u16; 64])
     ensures written { (k : ℕ) → k < count → slice_index heights.new k ≡ slice_index row.now (x + k) }
     ensures rest { (k : ℕ) → count ≤ k → slice_index heights.new k ≡ 0 }
 {
-    heights[..count].copy_from_slice(&row[x..x + count]);
+    if count == 64 {
+        // So many are a few moves of vectors in place of a call.
+        heights.copy_from_slice(&row[x..x + 64]);
+    } else {
+        heights[..count].copy_from_slice(&row[x..x + count]);
+    }
 }
 
 /// Writes the number of each place's height.

@@ -117,7 +117,7 @@ fn is_wrapped<const WRAPS: bool>(
 }
 
 /// The predicted central difference where the register wraps, from the sum of the products.
-#[inline(never)]
+#[cold]
 fn wrapped_difference(predictor: &Predictor, range: &Range, sum: i32, product: i64) -> i32
     requires lawful { IsPredictor predictor.now }
     requires product_in { unsigned_abs product ≤ 2 ^ 44 }

@@ -9,7 +9,7 @@ behind xs ys n k e h f =
     let place : k ≡ length xs + (k - n) = omega (arith, e, h) in
     ap (λ j. get_or (xs ++ drop n ys) j 0) place ∙ get_or-append-add xs (drop n ys) (k - n) 0 ∙ get_or-drop n ys (k - n) 0 ∙ rw f (zero_at 64 (n + (k - n)))
 
-pub returns-clause-rest : goal.returns-clause-rest
-returns-clause-rest c k l =
-    let long : length c.copy_from_slice.new.self ≡ c.args.count = c.copy_from_slice.ensures.len ∙ length-take-le c.args.count c.args.heights.now (omega (arith, c.told-heights)) in
-    behind c.copy_from_slice.new.self c.args.heights.now c.args.count k long l c.requires.clear
+pub returns-else-count-eq64-clause-rest : goal.returns-else-count-eq64-clause-rest
+returns-else-count-eq64-clause-rest c k l =
+    let long : length c.copy_from_slice-else-count-eq64.new.self ≡ c.args.count = c.copy_from_slice-else-count-eq64.ensures.len ∙ length-take-le c.args.count c.args.heights.now (omega (arith, c.told-heights)) in
+    behind c.copy_from_slice-else-count-eq64.new.self c.args.heights.now c.args.count k long l c.requires.clear
