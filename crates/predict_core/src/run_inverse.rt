@@ -146,6 +146,8 @@ fn invert_run<const WRAPS: bool>(
 ///
 /// What the bands below tell is found first, for all places at once. A place's own directions wait for the sample
 /// to the west.
+// One for each number of weights, so that each keeps its registers.
+#[inline(never)]
 fn invert_by<const Q: usize, const N: usize, const WRAPS: bool>(
     settings: &Settings,
     cube: &mut Cube,
