@@ -1,7 +1,7 @@
 PREFIX ?= /usr/local
 PROGRAM = crates/ccsds/out/ccsds
 
-SCRIPTS = $(addprefix tests/, command.sh limits.sh options.py sizes.py pipelines.py refused.py fuzz)
+SCRIPTS = $(addprefix tests/, command.sh limits.sh options.py sizes.py pipelines.py refused.py guards.py fuzz)
 
 .PHONY: all show install test interop rows bench beside plain $(SCRIPTS)
 
@@ -19,8 +19,8 @@ install: all
 
 # Proves every crate from nothing, tries the must-fail edits, and runs the tests and the program; then tries the
 # program that was proved on files and devices, with little of what it needs, on all its options, at the greatest
-# sizes, with predictors in threads, with each of its calls for memory, reads and writes refused, and on damaged files.
-# These scripts run side by side, and each tells what it has to tell when it ends.
+# sizes, with predictors in threads, with each of its calls for memory, reads and writes refused, and on damaged files;
+# and looks whether each promise has its edits. These scripts run side by side, and each tells what it has to tell when it ends.
 test:
 	rt ci
 	@$(MAKE) --no-print-directory --jobs="$$(nproc)" --output-sync $(SCRIPTS)

@@ -1,43 +1,179 @@
 #!/usr/bin/env python3
-"""Prints the must-fail edits of crates as a table: the edit, its file, and the lines that it turns into others.
+"""Prints docs/GUARDS.md: by crate and promise, the must-fail edits that guard it, and which line each turns into what.
 
-    tools/edits.py [CRATE ...]
+    tools/edits.py [CRATE ...]    prints the page, or what it has of these crates
+    tools/edits.py --write        writes the page anew
 
-Without a crate it prints those of all.
+A promise is a row of docs/PROMISES.md, and its name stands there in bold. The first line of an edit names what it guards:
+`guards: NAME`, with `; ` between several names, and `CRATE/NAME` for a promise of another crate. An edit without a promise is an
+error, and so is a promise that is proved and has no edit, unless its row says `no edit` and why.
 """
 
+import os.path
+import re
 import sys
 from pathlib import Path
+from typing import NamedTuple
 
-CRATES = Path(__file__).resolve().parent.parent / "crates"
+TOP = Path(__file__).resolve().parent.parent
+CRATES = TOP / "crates"
+PROMISES = TOP / "docs" / "PROMISES.md"
+GUARDS = TOP / "docs" / "GUARDS.md"
+HEADING = re.compile(r"## `(\w+)`")
+ROW = re.compile(r"\| \*\*([^*/;]+)\*\* \|(?:[^|]*\|){2} ([^|]*) \|")
+WIDTH = 160
+"""The most characters of a line of the page."""
+KEPT = 24
+"""How much of what two lines of code have in common is kept on each side where they are shortened."""
 
+HEAD = """# Guards
 
-def parts(edit):
-    """The file and the pairs of lines, old and new, of an edit."""
-    file, old, pairs = "", "", []
-    for line in edit.read_text(encoding="utf-8").splitlines():
-        name, _, text = line.partition(":")
-        if name == "file":
-            file = text.strip()
-        elif name == "old":
-            old = text.strip()
-        elif name == "new":
-            pairs.append((old, text.strip()))
-    return file, pairs
-
-
-def cell(text):
-    """A line of code as a cell of a table, and what stands for no line."""
-    return "`" + text.replace("|", "\\|") + "`" if text else "–"
+What guards the promises of [PROMISES.md](PROMISES.md): must-fail edits, each a file `crates/CRATE/must-fail/EDIT.edit` that turns lines of a
+source into wrong ones, which the prover has to refuse. The gate tries them all. `tools/edits.py --write` writes this page from the edits. In it …
+stands for code that both lines have, or for the rest of a long one, and *nothing* for a line that is left out.
+"""
 
 
-def main(names):
-    print("| crate | edit | file | old → new |\n|---|---|---|---|")
-    for name in names or sorted(crate.name for crate in CRATES.iterdir()):
-        for edit in sorted((CRATES / name / "must-fail").glob("*.edit")):
-            file, pairs = parts(edit)
-            turned = "; ".join(f"{cell(old)} → {cell(new)}" for old, new in pairs)
-            print(f"| `{name}` | *{edit.stem}* | {file} | {turned} |")
+class Promise(NamedTuple):
+    """A row of PROMISES.md: its crate, its name, and how it is held."""
+
+    crate: str
+    name: str
+    held: str
+
+    def needs_edits(self):
+        return self.held.startswith("proved") and "no edit" not in self.held
+
+
+class Edit(NamedTuple):
+    """A must-fail edit: the promises that it guards, by crate and name, and its lines by file, old and new."""
+
+    crate: str
+    name: str
+    guards: list
+    lines: list
+
+    def __str__(self):
+        return f"crates/{self.crate}/must-fail/{self.name}.edit"
+
+
+def promises():
+    """The promises of PROMISES.md in their order, and what is wrong with rows there."""
+    crate, found, wrong = "", [], []
+    for line in PROMISES.read_text(encoding="utf-8").splitlines():
+        heading, row = HEADING.fullmatch(line), ROW.fullmatch(line)
+        if heading:
+            crate = heading[1]
+        elif row:
+            promise = Promise(crate, row[1], row[2])
+            if any(promise[:2] == other[:2] for other in found):
+                wrong.append(f"PROMISES.md has two promises of {crate} called '{promise.name}'")
+            if not promise.held.startswith(("proved", "law", "test")):
+                wrong.append(f"'{promise.name}' of {crate} is neither proved, a law, nor tested: {promise.held}")
+            found.append(promise)
+        elif line.startswith("|") and not line.startswith(("| promise |", "|---")):
+            wrong.append(f"PROMISES.md has a row without a name in bold, or without four cells: {line[:60]}")
+    return found, wrong
+
+
+def read(path):
+    """The edit in a file."""
+    crate, file, old, guards, lines = path.parent.parent.name, "", "", [], []
+    for line in path.read_text(encoding="utf-8").splitlines():
+        key, _, text = line.partition(":")
+        text = text.strip()
+        if key == "guards":
+            guards = [tuple(name.split("/", 1)) if "/" in name else (crate, name) for name in text.split("; ")]
+        elif key == "file":
+            file = text
+        elif key == "old":
+            old = text
+        elif key == "new":
+            lines.append((file, old, text))
+    return Edit(crate, path.stem, guards, lines)
+
+
+def edits():
+    """The edits of all crates."""
+    return [read(path) for path in sorted(CRATES.glob("*/must-fail/*.edit"))]
+
+
+def faults():
+    """What is wrong between edits and promises, a line each."""
+    found, wrong = promises()
+    names = {promise[:2] for promise in found}
+    guarded = set()
+    for edit in edits():
+        guarded.update(edit.guards)
+        if not edit.guards:
+            wrong.append(f"{edit} names no promise: its first line has to be `guards: NAME`")
+        for crate, name in edit.guards:
+            if (crate, name) not in names:
+                wrong.append(f"{edit} guards '{name}', and PROMISES.md has no such promise of {crate}")
+    for promise in found:
+        if promise.needs_edits() and promise[:2] not in guarded:
+            wrong.append(f"no edit guards the promise '{promise.name}' of {promise.crate}, and its row doesn't say `no edit`")
+    return wrong
+
+
+def shortened(old, new):
+    """Two lines of code, without most of what they begin and end with alike where they don't fit into one line of the page."""
+    if len(old) + len(new) <= WIDTH - 12:
+        return old, new
+    front = len(os.path.commonprefix([old, new]))
+    back = len(os.path.commonprefix([old[front:][::-1], new[front:][::-1]]))
+    first = old.rfind(" ", 0, max(front - KEPT, 0)) + 1
+    last = old.find(" ", len(old) - max(back - KEPT, 0))
+    past = len(old) - last if last >= 0 else 0
+    return tuple(("… " if first else "") + code[first : len(code) - past] + (" …" if past else "") for code in (old, new))
+
+
+def cell(code):
+    """A line of code as Markdown has it, cut where it is too long, and what stands for no line."""
+    if len(code) > WIDTH - 12:
+        code = code[: code.rfind(" ", 0, WIDTH - 12)] + " …"
+    return f"`{code}`" if code else "*nothing*"
+
+
+def turned(edit):
+    """What an edit turns into what: a line for each pair, or two where they are long."""
+    found = []
+    for _, old, new in edit.lines:
+        old, new = map(cell, shortened(old, new))
+        found.append(old + (" → " if len(old) + len(new) < WIDTH - 6 else " →\n  ") + new)
+    return ";\n  ".join(found)
+
+
+def entry(edit, crate):
+    """An edit as an item of the list under a promise of a crate."""
+    files = dict.fromkeys(file if edit.crate == crate else f"{edit.crate}/{file}" for file, _, _ in edit.lines)
+    head, lines = f"* *{edit.name}*, {', '.join(files)}:", turned(edit)
+    apart = "\n  " if "\n" in lines or len(head) + len(lines) > WIDTH - 1 else " "
+    return head + apart + lines + "\n"
+
+
+def page(crates=()):
+    """The page, or what it has of some crates."""
+    found, parts, crate = edits(), [] if crates else [HEAD], ""
+    for promise in promises()[0]:
+        guards = [edit for edit in found if promise[:2] in edit.guards]
+        if guards and (not crates or promise.crate in crates):
+            if promise.crate != crate:
+                crate = promise.crate
+                parts.append(f"## `{crate}`\n")
+            parts.append(f"### {promise.name}\n")
+            parts.append("".join(entry(edit, crate) for edit in guards))
+    return "\n".join(parts)
+
+
+def main(words):
+    wrong = faults()
+    if wrong:
+        sys.exit("\n".join(f"edits.py: {line}" for line in wrong))
+    if words == ["--write"]:
+        GUARDS.write_text(page(), encoding="utf-8")
+    else:
+        print(page(words), end="")
 
 
 if __name__ == "__main__":

@@ -1,0 +1,30 @@
+#!/usr/bin/env python3
+"""Holds the must-fail edits to the promises of docs/PROMISES.md, and docs/GUARDS.md to both.
+
+    tests/guards.py
+
+Each edit names promises that are there, each promise that is proved has an edit or says why not, and GUARDS.md is what `tools/edits.py` prints.
+"""
+
+import os
+import sys
+
+TOP = os.path.dirname(os.path.dirname(os.path.abspath(__file__)))
+sys.path.append(os.path.join(TOP, "tools"))
+
+import edits  # noqa: E402
+
+
+def main():
+    failures = edits.faults()
+    if not failures and edits.GUARDS.read_text(encoding="utf-8") != edits.page():
+        failures.append("GUARDS.md is not what tools/edits.py prints: tools/edits.py --write writes it anew")
+    for failure in failures:
+        print(f"FAILED: {failure}")
+    tried = len(edits.edits()) + len(edits.promises()[0]) + 1
+    print(f"guards.py: {tried - len(failures)} passed, {len(failures)} failed")
+    return 1 if failures else 0
+
+
+if __name__ == "__main__":
+    sys.exit(main())
