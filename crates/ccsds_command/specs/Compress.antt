@@ -30,7 +30,7 @@ abbrev pub HasFile : CompressSettings → Option (List ℕ) → List ℕ → Typ
 HasFile s left file = (c : Image) × HasCube s left c × (file ≡ file_of c s.params)
 
 -- the parameters are lawful, and the sink gained the file of the source's cube
-abbrev pub Compresses : CompressSettings → Option (List ℕ) → Option (List ℕ) → Option (List ℕ) → Type 0
+unfoldable pub Compresses : CompressSettings → Option (List ℕ) → Option (List ℕ) → Option (List ℕ) → Type 0
 Compresses s left old new = IsLawful s.params × (file : List ℕ) × HasFile s left file × Took old new file
 
 -- bytes are no cube's: their number is wrong, or one of their samples isn't of the kind
@@ -45,7 +45,7 @@ IsCubeRefusal s left failures failures_now fault =
     ((fault ≡ Read) × Rose failures failures_now) ⊎ ((fault ≡ WantOfMemory) ⊎ ((bytes : List ℕ) × IsFront (raw_limit s) left bytes × (length bytes ≤ raw_limit s) × IsBadRaw s bytes fault))
 
 -- why a run is refused: the parameters aren't lawful, or the source has no cube, and nothing was written; or the sink cut the file short
-abbrev pub IsCompressFault : CompressSettings → Option (List ℕ) → ℕ → ℕ → Option (List ℕ) → Option (List ℕ) → ℕ → ℕ → ℕ → ℕ → Fault → Type 0
+unfoldable pub IsCompressFault : CompressSettings → Option (List ℕ) → ℕ → ℕ → Option (List ℕ) → Option (List ℕ) → ℕ → ℕ → ℕ → ℕ → Fault → Type 0
 IsCompressFault s left read_failures read_failures_now old new failures failures_now stalls stalls_now fault =
     ((params_fault s.params ≡ Err fault) × (new ≡ old))
     ⊎ ((IsLawful s.params × IsCubeRefusal s left read_failures read_failures_now fault × (new ≡ old))

@@ -22,7 +22,7 @@ abbrev pub HasRaw : Layout → Option (List ℕ) → List ℕ → Type 0
 HasRaw l left raw = (c : Image) × HasFileOf left c × HaveBytes c l (sample_count c.shape) × (raw ≡ raw_bytes c l)
 
 -- the sink gained the raw bytes of the cube whose file the source has
-abbrev pub Expands : Layout → Option (List ℕ) → Option (List ℕ) → Option (List ℕ) → Type 0
+unfoldable pub Expands : Layout → Option (List ℕ) → Option (List ℕ) → Option (List ℕ) → Type 0
 Expands l left old new = (raw : List ℕ) × HasRaw l left raw × Took old new raw
 
 -- the source has bytes, at most 2^40, that are no file, and this is their first fault
@@ -39,7 +39,7 @@ IsExpandRefusal l left failures failures_now fault =
     IsReadRefusal left failures failures_now fault ⊎ (HasNoFile left fault ⊎ HasUnfit l left fault)
 
 -- why a run is refused: there are no raw bytes, and nothing was written; or the sink cut them short
-abbrev pub IsExpandFault : Layout → Option (List ℕ) → ℕ → ℕ → Option (List ℕ) → Option (List ℕ) → ℕ → ℕ → ℕ → ℕ → Fault → Type 0
+unfoldable pub IsExpandFault : Layout → Option (List ℕ) → ℕ → ℕ → Option (List ℕ) → Option (List ℕ) → ℕ → ℕ → ℕ → ℕ → Fault → Type 0
 IsExpandFault l left read_failures read_failures_now old new failures failures_now stalls stalls_now fault =
     (IsExpandRefusal l left read_failures read_failures_now fault × (new ≡ old))
     ⊎ ((raw : List ℕ) × HasRaw l left raw × IsCutShort old new failures failures_now stalls stalls_now raw fault)

@@ -18,7 +18,7 @@ abbrev pub HasLines : Option (List ℕ) → List ℕ → Type 0
 HasLines left text = (p : Params) × (size : ℕ) × HasHeader left p size × (text ≡ header_lines p size)
 
 -- the sink gained the lines of the source's header
-abbrev pub Inspects : Option (List ℕ) → Option (List ℕ) → Option (List ℕ) → Type 0
+unfoldable pub Inspects : Option (List ℕ) → Option (List ℕ) → Option (List ℕ) → Type 0
 Inspects left old new = (text : List ℕ) × HasLines left text × Took old new text
 
 -- the source has bytes, at most 2^40, that begin with no header, and this is the first refusal
@@ -30,7 +30,7 @@ abbrev pub IsInspectRefusal : Option (List ℕ) → ℕ → ℕ → Fault → Ty
 IsInspectRefusal left failures failures_now fault = IsReadRefusal left failures failures_now fault ⊎ HasNoHeader left fault
 
 -- why a run is refused: there are no lines, and nothing was written; or the sink cut them short
-abbrev pub IsInspectFault : Option (List ℕ) → ℕ → ℕ → Option (List ℕ) → Option (List ℕ) → ℕ → ℕ → ℕ → ℕ → Fault → Type 0
+unfoldable pub IsInspectFault : Option (List ℕ) → ℕ → ℕ → Option (List ℕ) → Option (List ℕ) → ℕ → ℕ → ℕ → ℕ → Fault → Type 0
 IsInspectFault left read_failures read_failures_now old new failures failures_now stalls stalls_now fault =
     (IsInspectRefusal left read_failures read_failures_now fault × (new ≡ old))
     ⊎ ((text : List ℕ) × HasLines left text × IsCutShort old new failures failures_now stalls stalls_now text fault)

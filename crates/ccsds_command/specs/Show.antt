@@ -79,7 +79,7 @@ pub record IsShown (left : Option (List ℕ)) (text : List ℕ) : Type 0 where
   pub some : IsTextOf some_input text
 
 -- the sink gained the text of the source's bytes
-abbrev pub Shows : Option (List ℕ) → Option (List ℕ) → Option (List ℕ) → Type 0
+unfoldable pub Shows : Option (List ℕ) → Option (List ℕ) → Option (List ℕ) → Type 0
 Shows left old new = (text : List ℕ) × IsShown left text × Took old new text
 
 -- an input's length is wrong: that of the sizes, or then that of the samples, of which at most one too many is read
@@ -101,6 +101,6 @@ IsShowRefusal left failures failures_now fault =
     ((fault ≡ Read) × Rose failures failures_now) ⊎ ((fault ≡ WantOfMemory) ⊎ (((read : List ℕ) × (length_fault read ≡ Some fault)) × ((input : List ℕ) → left ≡ Some input → length_fault input ≡ Some fault)))
 
 -- why a run is refused: nothing is shown, and nothing was written; or the sink cut the text short
-abbrev pub IsShowFault : Option (List ℕ) → ℕ → ℕ → Option (List ℕ) → Option (List ℕ) → ℕ → ℕ → ℕ → ℕ → Fault → Type 0
+unfoldable pub IsShowFault : Option (List ℕ) → ℕ → ℕ → Option (List ℕ) → Option (List ℕ) → ℕ → ℕ → ℕ → ℕ → Fault → Type 0
 IsShowFault left read_failures read_failures_now old new failures failures_now stalls stalls_now fault =
     (IsShowRefusal left read_failures read_failures_now fault × (new ≡ old)) ⊎ ((text : List ℕ) × IsShown left text × IsCutShort old new failures failures_now stalls stalls_now text fault)

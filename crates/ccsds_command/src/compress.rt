@@ -26,6 +26,7 @@ use std::alloc::Global;
 /// the source failed; `RawLength` where the bytes are too few or too many; `SampleRange` with the
 /// first sample that isn't of the parameters' kind; `WantOfMemory`; and `Write`, with the bytes that
 /// went out, where the sink failed or took nothing. After any other refusal nothing was written.
+#[tactic(auto, unfolding(crate::specs::Compress::Compresses, crate::specs::Compress::IsCompressFault))]
 pub fn run_compress<S: Source, K: Sink>(
     alloc: Global,
     source: &mut S,

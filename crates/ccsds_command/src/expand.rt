@@ -23,6 +23,7 @@ use std::alloc::Global;
 /// bytes; the refusals of `decode`; `SampleRange` with the first sample that doesn't fit its byte;
 /// `WantOfMemory`; and `Write`, with the bytes that went out, where the sink failed or took nothing.
 /// After any other refusal nothing was written.
+#[tactic(auto, unfolding(crate::specs::Expand::Expands, crate::specs::Expand::IsExpandFault))]
 pub fn run_expand<S: Source, K: Sink>(
     alloc: Global,
     source: &mut S,

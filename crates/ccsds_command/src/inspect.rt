@@ -22,6 +22,7 @@ use std::alloc::Global;
 /// The whole file is read, and only its header is looked at. `Read` where the source failed, or gave
 /// more than 2^40 bytes; the refusals of `read_header`; `WantOfMemory`; and `Write`, with the bytes
 /// that went out, where the sink failed or took nothing. After any other refusal nothing was written.
+#[tactic(auto, unfolding(crate::specs::Inspect::Inspects, crate::specs::Inspect::IsInspectFault))]
 pub fn run_inspect<S: Source, K: Sink>(
     alloc: Global,
     source: &mut S,

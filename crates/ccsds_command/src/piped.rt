@@ -29,6 +29,7 @@ use std::thread::Threads;
 /// Parameters that aren't lawful are refused before anything is read (`FieldRange`, `Disagree`), and then numbers of
 /// predictors and slots that no plan may have. Band z goes to predictor z mod their number. The other refusals are those of `run_compress`, and
 /// `SpawnRefused` where a thread wasn't started, and `Stopped` where the gate stopped a predictor. After any refusal but `Write` nothing was written.
+#[tactic(auto, unfolding(crate::specs::Compress::Compresses, crate::specs::Piped::IsPipedFault))]
 pub fn run_piped<R: Threads + Wait + Sync, S: Source, K: Sink, G: Gate + Sync>(
     rt: &R,
     alloc: Global,

@@ -43,6 +43,7 @@ const LAYOUT: Layout = Layout {
 /// have too few or too many bytes (after the sizes it counts the samples' bytes alone);
 /// `WantOfMemory`; and `Write`, with the bytes that went out, where the sink failed or took nothing.
 /// After any other refusal nothing was written.
+#[tactic(auto, unfolding(crate::specs::Show::Shows, crate::specs::Show::IsShowFault))]
 pub fn run_show<S: Source, K: Sink>(
     alloc: Global,
     source: &mut S,

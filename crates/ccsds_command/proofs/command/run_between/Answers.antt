@@ -2,6 +2,7 @@ use Rattle.std.proofs.Common.{◌≡◌, ◌≢◌, ◌⊎◌, ℕ, Result, Ok, 
 use Rattle.cube_core.specs.declared.fault.Fault.{Fault}
 use Rattle.command_settings.specs.declared.settings.Settings.{Settings}
 use Rattle.command_settings.specs.declared.settings.Settings.TheVariants.{Show, Compress, Expand, Inspect}
+use Rattle.ccsds_command.specs.Piped.{IsPipedFault}
 use Rattle.ccsds_command.proofs.command.run_between.Goals as goal
 
 -- a refusal with no predictors, and one with some
@@ -30,6 +31,7 @@ pub returns-in-Compress-2-clause-done : goal.returns-in-Compress-2-clause-done
 returns-in-Compress-2-clause-done g c = rw c.in-Compress-2.is c.run_piped.ensures.compressed
 
 pub returns-in-Compress-2-clause-refused : goal.returns-in-Compress-2-clause-refused
+unfolding IsPipedFault
 returns-in-Compress-2-clause-refused g c = rw c.in-Compress-2.is (with_some _ _ _ _ c.run_piped.result (ap predictors (sym c.in-Compress.is ∙ c.in-Compress-2.is)) c.if-settings-eq0.false c.run_piped.ensures.refused)
 
 pub returns-in-Expand-clause-done : goal.returns-in-Expand-clause-done

@@ -1,16 +1,18 @@
 use Rattle.std.proofs.Common.{inl, refl}
 use Rattle.std.proofs.lemmas.Result.{err_from_is_err_and}
 use Rattle.command_devices.specs.Writing.{IsCutShort}
-use Rattle.ccsds_command.specs.Show.{IsShown}
+use Rattle.ccsds_command.specs.Show.{IsShown, IsShowFault}
 use Rattle.ccsds_command.proofs.Runs.{cut_short}
 use Rattle.ccsds_command.proofs.show.run_show.Goals as goal
 
 pub returns-in_err-text-clause-refused : goal.returns-in_err-text-clause-refused
+unfolding IsShowFault
 returns-in_err-text-clause-refused g c =
     let p = err_from_is_err_and c.from_residual.result c.from_residual.ensures.1 in
     rw (p.1, p.2) (inl (c.in_err-text.ensures.refused, refl))
 
 pub returns-clause-refused : goal.returns-clause-refused
+unfolding IsShowFault
 returns-clause-refused g c =
     cut_short c.write_all.result _ (IsShown (g.S.Source.left c.args.source.now))
     (IsCutShort (g.K.Sink.taken c.args.sink.now) (g.K.Sink.taken c.write_all.new.sink) (g.K.Sink.failures c.args.sink.now) (g.K.Sink.failures c.write_all.new.sink) (g.K.Sink.stalls c.args.sink.now) (g.K.Sink.stalls c.write_all.new.sink))
