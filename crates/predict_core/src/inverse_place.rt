@@ -11,6 +11,7 @@ ghost use Rattle.predict_core.specs.Differences.{spectral_differences};
 ghost use Rattle.predict_core.specs.Prediction.{scaled_there, next_weights};
 ghost use Rattle.predict_core.specs.Residual.{mapped, mapped_residual};
 ghost use Rattle.predict_core.specs.Following.{Follows, MovesOn};
+ghost use Rattle.predict_core.specs.RunPlaces.{AreAlikeBeside};
 ghost use Rattle.predict_core.specs.Spectral.{AreOf};
 
 use crate::band::Band;
@@ -21,6 +22,39 @@ use crate::spectral::SpectralDifferences;
 use cube_core::cube::Cube;
 
 impl Band {
+    /// Writes the sample at the next place whose mapped residual is `delta` into the cube, and goes one place on.
+    ///
+    /// The cube has the shape and the kind of the parameters, and the next place is row `y`, column `x`.
+    /// `delta` is at most 2^D - 1. What stands at this place and at later ones is not read, and no other
+    /// sample is written. `below` are differences of that cube, and afterwards of the cube as it is then: they are
+    /// kept from band to band, so places are best taken band after band.
+    #[inline(never)]
+    pub fn inverse_place(
+        &mut self,
+        cube: &mut Cube,
+        y: u32,
+        x: u32,
+        delta: u16,
+        below: &mut SpectralDifferences,
+    )
+        requires shape { cube.old.shape ≡ self.old.shape }
+        requires kind { cube.old.kind ≡ self.old.kind }
+        requires place { IsPlace cube.old.shape self.old.band y x }
+        requires next { self.old.place ≡ y * cube.old.shape.columns + x }
+        requires residual { delta < 2 ^ cube.old.kind.bits }
+        requires told { AreOf self.old.predictor below.old cube.old }
+        ensures moved { MovesOn self.old self.new }
+        ensures beside { AreAlikeBeside cube.old cube.new self.old.band y x 1 }
+        ensures residual { (p : Parameters) → Follows p self.old cube.old → mapped_residual p cube.new self.old.band self.old.place ≡ delta }
+        ensures follows { (p : Parameters) → Follows p self.old cube.old → Follows p self.new cube.new }
+        ensures told { AreOf self.new.predictor below.new cube.new }
+    {
+        cube.is_cube();
+        let band = self.settings.band;
+        let sample = self.inverse_beside(cube, y, x, delta, below);
+        cube.set(band, y, x, sample);
+    }
+
     /// The sample of a mapped residual at the next place, as `inverse` finds it.
     ///
     /// `below` are differences of the cube, and afterwards of the cube with that sample.
