@@ -15,6 +15,8 @@ ghost use Rattle.predict_core.specs.Prediction.{scaled_there, next_weights, weig
 ghost use Rattle.predict_core.specs.Residual.{mapped, run_residuals};
 ghost use Rattle.predict_core.specs.Rooms.{components_at, quads_of};
 ghost use Rattle.predict_core.specs.RunPlaces.{AreAlikeBeside};
+ghost use Rattle.predict_core.specs.Spectral.{AreSteps};
+ghost use Rattle.predict_core.specs.Weights.{step_exponent};
 
 use crate::chain::{differences_at, turn_of_error};
 use crate::differences::{put_own_directions, sum_at};
@@ -22,8 +24,8 @@ use crate::exponent::exponent_at;
 use crate::prediction::{predicted_difference, scaled_by_part};
 use crate::range::Range;
 use crate::room::Quad;
-use crate::settings::Settings;
-use crate::weights::{form_of, update_by};
+use crate::settings::{Settings, form_at};
+use crate::weights::{Form, update_by};
 use cube_core::cube::Cube;
 
 /// Writes the samples of a run below the first row, one behind another; the weights are those behind it.
@@ -63,8 +65,9 @@ pub(crate) fn invert_places<const Q: usize, const N: usize, const WRAPS: bool>(
         let column = x + i as u32;
         let sum = sum_at(&settings.predictor, cube, settings.band, y, column);
         let lower = differences_at::<Q>(quads, i);
+        let form = form_at(settings, y, column);
         let sample = sample_there::<N, WRAPS>(
-            settings, cube, y, column, sum, &mut held, &lower, deltas[i],
+            settings, cube, y, column, sum, form, &mut held, &lower, deltas[i],
         );
         cube.set(settings.band, y, column, sample);
     }
@@ -73,7 +76,7 @@ pub(crate) fn invert_places<const Q: usize, const N: usize, const WRAPS: bool>(
 
 /// The sample of a mapped residual at a place below the first row, and the weights after it.
 ///
-/// `sum` is the local sum of the heights there. Of `lower` the differences of the bands below are looked at.
+/// `sum` is the local sum of the heights there, and `form` that of the steps. Of `lower` the differences of the bands below are looked at.
 #[inline(always)]
 pub(crate) fn sample_there<const N: usize, const WRAPS: bool>(
     settings: &Settings,
@@ -81,6 +84,7 @@ pub(crate) fn sample_there<const N: usize, const WRAPS: bool>(
     y: u32,
     x: u32,
     sum: u32,
+    form: Form,
     weights: &mut [i32; 18],
     lower: &[i32; 18],
     delta: u16,
@@ -97,6 +101,7 @@ pub(crate) fn sample_there<const N: usize, const WRAPS: bool>(
     requires weights_in { AllWithin (2 ^ (settings.now.predictor.fraction + 2)) weights.old }
     requires lower { drop (if settings.now.predictor.reduced then 0 else 3) lower.now ≡ spectral_differences settings.now.predictor cube.now settings.now.band y x (previous_bands settings.now.predictor settings.now.band) ++ replicate (18 - settings.now.count) (pos 0) }
     requires residual { delta < 2 ^ cube.now.kind.bits }
+    requires steps { AreSteps form cube.now.kind.bits (step_exponent settings.now.predictor cube.now.shape.columns cube.now.kind.bits (y * cube.now.shape.columns + x)) }
     ensures range { IsSample cube.now.kind result }
     ensures inverse { mapped cube.now.kind (scaled_there settings.now.predictor (put cube.now settings.now.band y x result) settings.now.band y x (take settings.now.count weights.old)) result ≡ delta }
     ensures weights { take settings.now.count weights.new ≡ next_weights settings.now.predictor (put cube.now settings.now.band y x result) settings.now.band (y * cube.now.shape.columns + x) (take settings.now.count weights.old) }
@@ -113,13 +118,14 @@ pub(crate) fn sample_there<const N: usize, const WRAPS: bool>(
     let scaled = scaled_by_part(range, part, whole);
     let found = range.sample_of(scaled, delta);
     let own = difference_there(range, found, sum);
+    // The exponent is for proofs: the form tells all of it.
     let exponent = exponent_at(predictor, settings.columns, range.bits, t);
     update_by::<N>(
         weights,
         &differences,
         predictor.fraction,
         exponent,
-        form_of(range.bits, exponent),
+        form,
         turn_of_error(own, part),
     );
     found

@@ -12,13 +12,15 @@ ghost use Rattle.predict_core.specs.Prediction.{scaled_there, next_weights};
 ghost use Rattle.predict_core.specs.Residual.{mapped, mapped_residual};
 ghost use Rattle.predict_core.specs.Following.{Follows, MovesOn};
 ghost use Rattle.predict_core.specs.RunPlaces.{AreAlikeBeside};
-ghost use Rattle.predict_core.specs.Spectral.{AreOf};
+ghost use Rattle.predict_core.specs.Spectral.{AreOf, AreSteps};
+ghost use Rattle.predict_core.specs.Weights.{step_exponent};
 
 use crate::band::Band;
 use crate::differences::sum_at;
 use crate::inverse_chain::{difference_there, sample_there};
 use crate::settings::Settings;
 use crate::spectral::SpectralDifferences;
+use crate::weights::Form;
 use cube_core::cube::Cube;
 
 impl Band {
@@ -122,7 +124,9 @@ fn sample_above(
     let predictor = &settings.predictor;
     let sum = sum_at(predictor, cube, settings.band, y, x);
     let lower = below.behind_directions(predictor.reduced);
-    let sample = sample_by(settings, cube, y, x, sum, weights, &lower, delta);
+    let sample = sample_by(
+        settings, cube, y, x, sum, below.form, weights, &lower, delta,
+    );
     let own = difference_there(&settings.range, sample, sum);
     below.go_up(own, predictor.previous);
     sample
@@ -136,6 +140,7 @@ fn sample_by(
     y: u32,
     x: u32,
     sum: u32,
+    form: Form,
     weights: &mut [i32; 18],
     lower: &[i32; 18],
     delta: u16,
@@ -149,15 +154,16 @@ fn sample_by(
     requires weights_in { AllWithin (2 ^ (settings.now.predictor.fraction + 2)) weights.old }
     requires lower { drop (if settings.now.predictor.reduced then 0 else 3) lower.now ≡ spectral_differences settings.now.predictor cube.now settings.now.band y x (previous_bands settings.now.predictor settings.now.band) ++ replicate (18 - settings.now.count) (pos 0) }
     requires residual { delta < 2 ^ cube.now.kind.bits }
+    requires steps { AreSteps form cube.now.kind.bits (step_exponent settings.now.predictor cube.now.shape.columns cube.now.kind.bits (y * cube.now.shape.columns + x)) }
     ensures range { IsSample cube.now.kind result }
     ensures inverse { mapped cube.now.kind (scaled_there settings.now.predictor (put cube.now settings.now.band y x result) settings.now.band y x (take settings.now.count weights.old)) result ≡ delta }
     ensures weights { take settings.now.count weights.new ≡ next_weights settings.now.predictor (put cube.now settings.now.band y x result) settings.now.band (y * cube.now.shape.columns + x) (take settings.now.count weights.old) }
     ensures bound { AllWithin (2 ^ (settings.now.predictor.fraction + 2)) weights.new }
 {
     if settings.predictor.register < 46 {
-        sample_in::<true>(settings, cube, y, x, sum, weights, lower, delta)
+        sample_in::<true>(settings, cube, y, x, sum, form, weights, lower, delta)
     } else {
-        sample_in::<false>(settings, cube, y, x, sum, weights, lower, delta)
+        sample_in::<false>(settings, cube, y, x, sum, form, weights, lower, delta)
     }
 }
 
@@ -171,6 +177,7 @@ fn sample_in<const WRAPS: bool>(
     y: u32,
     x: u32,
     sum: u32,
+    form: Form,
     weights: &mut [i32; 18],
     lower: &[i32; 18],
     delta: u16,
@@ -185,6 +192,7 @@ fn sample_in<const WRAPS: bool>(
     requires weights_in { AllWithin (2 ^ (settings.now.predictor.fraction + 2)) weights.old }
     requires lower { drop (if settings.now.predictor.reduced then 0 else 3) lower.now ≡ spectral_differences settings.now.predictor cube.now settings.now.band y x (previous_bands settings.now.predictor settings.now.band) ++ replicate (18 - settings.now.count) (pos 0) }
     requires residual { delta < 2 ^ cube.now.kind.bits }
+    requires steps { AreSteps form cube.now.kind.bits (step_exponent settings.now.predictor cube.now.shape.columns cube.now.kind.bits (y * cube.now.shape.columns + x)) }
     ensures range { IsSample cube.now.kind result }
     ensures inverse { mapped cube.now.kind (scaled_there settings.now.predictor (put cube.now settings.now.band y x result) settings.now.band y x (take settings.now.count weights.old)) result ≡ delta }
     ensures weights { take settings.now.count weights.new ≡ next_weights settings.now.predictor (put cube.now settings.now.band y x result) settings.now.band (y * cube.now.shape.columns + x) (take settings.now.count weights.old) }
@@ -192,12 +200,12 @@ fn sample_in<const WRAPS: bool>(
 {
     let count = settings.count;
     if count == 0 {
-        sample_there::<0, WRAPS>(settings, cube, y, x, sum, weights, lower, delta)
+        sample_there::<0, WRAPS>(settings, cube, y, x, sum, form, weights, lower, delta)
     } else if count <= 4 {
-        sample_there::<4, WRAPS>(settings, cube, y, x, sum, weights, lower, delta)
+        sample_there::<4, WRAPS>(settings, cube, y, x, sum, form, weights, lower, delta)
     } else if count <= 8 {
-        sample_there::<8, WRAPS>(settings, cube, y, x, sum, weights, lower, delta)
+        sample_there::<8, WRAPS>(settings, cube, y, x, sum, form, weights, lower, delta)
     } else {
-        sample_there::<18, WRAPS>(settings, cube, y, x, sum, weights, lower, delta)
+        sample_there::<18, WRAPS>(settings, cube, y, x, sum, form, weights, lower, delta)
     }
 }
