@@ -20,7 +20,7 @@ ghost use Rattle.predict_core.specs.Weights.{step_exponent};
 
 use crate::chain::{differences_at, turn_of_error};
 use crate::differences::{put_own_directions, sum_at};
-use crate::exponent::exponent_at;
+use crate::exponent::{exponent_at, places_alike};
 use crate::prediction::{predicted_difference, scaled_by_part};
 use crate::range::Range;
 use crate::room::Quad;
@@ -60,18 +60,82 @@ pub(crate) fn invert_places<const Q: usize, const N: usize, const WRAPS: bool>(
     ensures within { AllWithin (2 ^ (settings.now.predictor.fraction + 2)) weights.new }
 {
     cube.is_cube();
+    // Kept aside, as the weights are, so that they stay in registers while samples are written.
+    let kept = *settings;
+    let settings = &kept;
     let mut held = *weights;
+    let mut stretch = Stretch {
+        form: Form::none(),
+        end: 0,
+    };
     for i in 0..deltas.len() {
         let column = x + i as u32;
+        stretch = stretch_at(settings, y, x, i, deltas.len(), stretch);
         let sum = sum_at(&settings.predictor, cube, settings.band, y, column);
         let lower = differences_at::<Q>(quads, i);
-        let form = form_at(settings, y, column);
         let sample = sample_there::<N, WRAPS>(
-            settings, cube, y, column, sum, form, &mut held, &lower, deltas[i],
+            settings,
+            cube,
+            y,
+            column,
+            sum,
+            stretch.form,
+            &mut held,
+            &lower,
+            deltas[i],
         );
         cube.set(settings.band, y, column, sample);
     }
     *weights = held;
+}
+
+/// The form of the steps at places of a run, up to its place `end`.
+#[derive(Clone, Copy)]
+struct Stretch {
+    form: Form,
+    end: usize,
+}
+
+/// The form of the steps at place `i` of a run of so many places, and up to where it stays: the one before, as far as it goes.
+#[inline(always)]
+fn stretch_at(
+    settings: &Settings,
+    y: u32,
+    x: u32,
+    i: usize,
+    count: usize,
+    before: Stretch,
+) -> Stretch
+    requires row { y < 65536 }
+    requires here { i < count }
+    requires inside { x + count ≤ settings.now.columns }
+    requires before { (k : ℕ) → i ≤ k → k < before.end → AreSteps before.form settings.now.range.bits (step_exponent settings.now.predictor settings.now.columns settings.now.range.bits (y * settings.now.columns + (x + k))) }
+    ensures some { i < result.end }
+    ensures steps { (k : ℕ) → i ≤ k → k < result.end → AreSteps result.form settings.now.range.bits (step_exponent settings.now.predictor settings.now.columns settings.now.range.bits (y * settings.now.columns + (x + k))) }
+{
+    if i < before.end {
+        before
+    } else {
+        next_stretch(settings, y, x, i, count)
+    }
+}
+
+/// The form of the steps at place `i` of a run of so many places, and up to where it stays.
+#[cold]
+fn next_stretch(settings: &Settings, y: u32, x: u32, i: usize, count: usize) -> Stretch
+    requires row { y < 65536 }
+    requires here { i < count }
+    requires inside { x + count ≤ settings.now.columns }
+    ensures some { i < result.end }
+    ensures steps { (k : ℕ) → i ≤ k → k < result.end → AreSteps result.form settings.now.range.bits (step_exponent settings.now.predictor settings.now.columns settings.now.range.bits (y * settings.now.columns + (x + k))) }
+{
+    let column = x + i as u32;
+    let t = y as u64 * settings.columns as u64 + column as u64;
+    let alike = places_alike(&settings.predictor, settings.columns, t, count - i);
+    Stretch {
+        form: form_at(settings, y, column),
+        end: i + alike,
+    }
 }
 
 /// The sample of a mapped residual at a place below the first row, and the weights after it.

@@ -23,6 +23,7 @@ loop-i-init g c = record {
   residuals = λ p f. refl;
   weights = λ p f. f.weights ∙ ap (weight_vector p c.args.cube.now c.args.settings.now.band) (omega arith);
   bound = c.requires.weights_in;
+  steps = λ k le lt. absurd (omega (arith, lt));
   whole = c.is_cube.ensures.whole;
 }
 
@@ -42,7 +43,7 @@ sample_there-sample-requires-clause-steps g c =
     let s = c.args.settings.now in
     let columns : s.columns ≡ c.loop-i.cube.shape.columns = sym c.requires.columns ∙ ap (λ (a : Sizes). a.columns) kept.beside.alike.shape in
     let bits : s.range.bits ≡ c.loop-i.cube.kind.bits = s.range.bits_is ∙ ap (λ (k : SampleKind). k.bits) (sym c.requires.kind ∙ kept.beside.alike.kind) in
-    rw (columns, bits) at c.form_at-form.ensures
+    rw (columns, bits) at (c.stretch_at-stretch.ensures.steps c.loop-i.i (omega arith) c.stretch_at-stretch.ensures.some)
 
 pub loop-i-preserved : goal.loop-i-preserved
 loop-i-preserved g c =
@@ -69,6 +70,7 @@ loop-i-preserved g c =
       weights = λ p f. weights_put p s.predictor d s.band c.args.y (c.args.x + c.loop-i.i) (c.args.y * d.shape.columns + (c.args.x + c.loop-i.i)) v (take s.count c.loop-i.held) place kept.whole (wide p f) f.predictor refl (kept.weights p f) later (take s.count c.sample_there-sample.new.weights) c.sample_there-sample.ensures.weights
           ∙ ap (weight_vector p (put d s.band c.args.y (c.args.x + c.loop-i.i) v) s.band) (next d.shape.columns refl);
       bound = c.sample_there-sample.ensures.bound;
+      steps = λ k le lt. c.stretch_at-stretch.ensures.steps k (omega (arith, le)) lt;
       whole = rw length-set kept.whole;
     })
 
