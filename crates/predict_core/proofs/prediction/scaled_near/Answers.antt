@@ -1,4 +1,4 @@
-use Rattle.std.proofs.Common.{◌≡◌, ◌≤◌, ◌^◌, ◌≤ℤ◌, ◌+ℤ◌, ◌*ℤ◌, pos, SFits, w32, to_z-of_z, arith, rules}
+use Rattle.std.proofs.Common.{◌+ℤ◌, ◌*ℤ◌, pos, SFits, w32, to_z-of_z, arith, rules}
 use Rattle.std.proofs.lemmas.Int.{ints, fits_signed_from_abs}
 use Rattle.predict_core.proofs.prediction.scaled_near.Goals as goal
 
