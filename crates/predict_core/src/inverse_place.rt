@@ -30,7 +30,7 @@ impl Band {
     /// `delta` is at most 2^D - 1. What stands at this place and at later ones is not read, and no other
     /// sample is written. `below` are differences of that cube, and afterwards of the cube as it is then: they are
     /// kept from band to band, so places are best taken band after band.
-    #[inline(never)]
+    #[inline(always)]
     pub fn inverse_place(
         &mut self,
         cube: &mut Cube,
@@ -60,7 +60,8 @@ impl Band {
     /// The sample of a mapped residual at the next place, as `inverse` finds it.
     ///
     /// `below` are differences of the cube, and afterwards of the cube with that sample.
-    #[inline(always)]
+    // Inlined at each of its calls it is found by a call deeper down, which takes a copy of the differences.
+    #[inline(never)]
     pub(crate) fn inverse_beside(
         &mut self,
         cube: &Cube,
