@@ -5,6 +5,7 @@ pub mod Found
 pub mod Givers
 pub mod Rows
 pub mod Runs
+pub mod Columns
 pub mod Inverse
 pub mod Long
 pub mod OneCube

@@ -80,19 +80,14 @@ fn reader_behind(bytes: &[u8], size: usize) -> BitReader<'_>
 /// The most places that are decoded at once.
 const RUN: usize = 64;
 
-/// How many places are decoded at once from this one on: where places go along rows, those of its row.
+/// How many places are decoded at once from this one on: those of its row, but no more than a run has.
 fn run_from(params: &Params, place: Place) -> usize
     requires { IsPlaceOf params.now.shape place }
     ensures some { 1 ≤ result }
     ensures most { result ≤ 64 }
     ensures inside { place.x + result ≤ params.now.shape.columns }
-    ensures along { 1 < result → goes_along_rows params.now.order ≡ true }
 {
-    if params.order.goes_along_rows() {
-        RUN.min((params.shape.columns() - place.x) as usize)
-    } else {
-        1
-    }
+    RUN.min((params.shape.columns() - place.x) as usize)
 }
 
 /// Reads the residuals of a run, of which the first is number `t` of band `z` and stands at `place` in encoding order. The refusals are those of `Decoder::next`.
@@ -135,12 +130,24 @@ fn take_cube(alloc: Global, params: &Params, reader: &mut BitReader) -> Result<C
     let mut below = SpectralDifferences::none();
     while let Some(place) = places.peek() {
         let index = count - places.left();
-        let run = run_from(params, place);
-        let band = &mut bands[place.z as usize];
-        let t = band.next();
-        read_run(&mut decoder, place.z, t, index, reader, &mut deltas[..run])?;
-        band.inverse_run(&mut cube, place.y, place.x, &deltas[..run], &mut below);
-        places.go_by(run as u64);
+        if params.order.goes_along_rows() {
+            let run = run_from(params, place);
+            let band = &mut bands[place.z as usize];
+            let t = band.next();
+            read_run(&mut decoder, place.z, t, index, reader, &mut deltas[..run])?;
+            band.inverse_run(&mut cube, place.y, place.x, &deltas[..run], &mut below);
+            places.go_by(run as u64);
+        } else {
+            let column = places.column();
+            for i in 0..column {
+                let z = place.z + i as u32;
+                let above = &mut bands[z as usize];
+                let number = above.next();
+                let delta = decoder.next(z, number, index + i, reader)?;
+                above.inverse_place(&mut cube, place.y, place.x, delta, &mut below);
+            }
+            places.go_by(column);
+        }
     }
     cube.is_cube();
     Ok(cube)

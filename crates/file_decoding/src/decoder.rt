@@ -45,6 +45,7 @@ impl Decoder {
     /// fault of the body: `Truncated`, `BadCode` with the place, `BadOption` or `RunPastSegment`. Then
     /// the bits that are left are as before, and every later call answers the same, a `BadCode` with its
     /// own place. No memory is taken.
+    #[inline(always)]
     pub fn next(&mut self, z: u32, t: u64, place: u64, reader: &mut BitReader) -> Result<u16, Fault>
         requires { MayAsk self.old z }
         ensures given { GivesNumber z t place result self.old reader.old self.new reader.new.left }

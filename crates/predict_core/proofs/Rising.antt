@@ -108,7 +108,7 @@ module _ (p : Predictor) (c : Image) (z y x : ℕ) (few : p.previous ≤ 15) whe
 -- ---- with the sample of the place in the image, its own difference joins
 
 module _ (c : Image) (z y x : ℕ) (v : ℤ) (place : IsPlace c.shape z y x) (whole : length c.samples ≡ sample_count c.shape) where
-  beside_put : AreAlikeBeside c (put c z y x v) z y x 1
+  pub beside_put : AreAlikeBeside c (put c z y x v) z y x 1
   beside_put = record {
     alike = record { shape = refl; kind = refl };
     samples = λ z' y' x' q out. sample_put_beside c z y x v place whole z' y' x' q (λ e f g. let o = out e f (omega (arith, g)) in omega (arith, o, g));

@@ -15,15 +15,17 @@ ghost use Rattle.predict_core.specs.Prediction.{scaled_there, next_weights, weig
 ghost use Rattle.predict_core.specs.Residual.{mapped, run_residuals};
 ghost use Rattle.predict_core.specs.Rooms.{components_at, quads_of};
 ghost use Rattle.predict_core.specs.RunPlaces.{AreAlikeBeside};
+ghost use Rattle.predict_core.specs.Spectral.{AreSteps};
+ghost use Rattle.predict_core.specs.Weights.{step_exponent};
 
 use crate::chain::{differences_at, turn_of_error};
 use crate::differences::{put_own_directions, sum_at};
-use crate::exponent::exponent_at;
+use crate::exponent::{exponent_at, places_alike};
 use crate::prediction::{predicted_difference, scaled_by_part};
 use crate::range::Range;
 use crate::room::Quad;
-use crate::settings::Settings;
-use crate::weights::{form_of, update_by};
+use crate::settings::{Settings, form_at};
+use crate::weights::{Form, update_by};
 use cube_core::cube::Cube;
 
 /// Writes the samples of a run below the first row, one behind another; the weights are those behind it.
@@ -58,22 +60,87 @@ pub(crate) fn invert_places<const Q: usize, const N: usize, const WRAPS: bool>(
     ensures within { AllWithin (2 ^ (settings.now.predictor.fraction + 2)) weights.new }
 {
     cube.is_cube();
+    // Kept aside, as the weights are, so that they stay in registers while samples are written.
+    let kept = *settings;
+    let settings = &kept;
     let mut held = *weights;
+    let mut stretch = Stretch {
+        form: Form::none(),
+        end: 0,
+    };
     for i in 0..deltas.len() {
         let column = x + i as u32;
+        stretch = stretch_at(settings, y, x, i, deltas.len(), stretch);
         let sum = sum_at(&settings.predictor, cube, settings.band, y, column);
         let lower = differences_at::<Q>(quads, i);
         let sample = sample_there::<N, WRAPS>(
-            settings, cube, y, column, sum, &mut held, &lower, deltas[i],
+            settings,
+            cube,
+            y,
+            column,
+            sum,
+            stretch.form,
+            &mut held,
+            &lower,
+            deltas[i],
         );
         cube.set(settings.band, y, column, sample);
     }
     *weights = held;
 }
 
+/// The form of the steps at places of a run, up to its place `end`.
+#[derive(Clone, Copy)]
+struct Stretch {
+    form: Form,
+    end: usize,
+}
+
+/// The form of the steps at place `i` of a run of so many places, and up to where it stays: the one before, as far as it goes.
+#[inline(always)]
+fn stretch_at(
+    settings: &Settings,
+    y: u32,
+    x: u32,
+    i: usize,
+    count: usize,
+    before: Stretch,
+) -> Stretch
+    requires row { y < 65536 }
+    requires here { i < count }
+    requires inside { x + count ≤ settings.now.columns }
+    requires before { (k : ℕ) → i ≤ k → k < before.end → AreSteps before.form settings.now.range.bits (step_exponent settings.now.predictor settings.now.columns settings.now.range.bits (y * settings.now.columns + (x + k))) }
+    ensures some { i < result.end }
+    ensures steps { (k : ℕ) → i ≤ k → k < result.end → AreSteps result.form settings.now.range.bits (step_exponent settings.now.predictor settings.now.columns settings.now.range.bits (y * settings.now.columns + (x + k))) }
+{
+    if i < before.end {
+        before
+    } else {
+        next_stretch(settings, y, x, i, count)
+    }
+}
+
+/// The form of the steps at place `i` of a run of so many places, and up to where it stays.
+#[cold]
+fn next_stretch(settings: &Settings, y: u32, x: u32, i: usize, count: usize) -> Stretch
+    requires row { y < 65536 }
+    requires here { i < count }
+    requires inside { x + count ≤ settings.now.columns }
+    ensures some { i < result.end }
+    ensures steps { (k : ℕ) → i ≤ k → k < result.end → AreSteps result.form settings.now.range.bits (step_exponent settings.now.predictor settings.now.columns settings.now.range.bits (y * settings.now.columns + (x + k))) }
+{
+    let column = x + i as u32;
+    let t = y as u64 * settings.columns as u64 + column as u64;
+    let alike = places_alike(&settings.predictor, settings.columns, t, count - i);
+    Stretch {
+        form: form_at(settings, y, column),
+        end: i + alike,
+    }
+}
+
 /// The sample of a mapped residual at a place below the first row, and the weights after it.
 ///
-/// `sum` is the local sum of the heights there. Of `lower` the differences of the bands below are looked at.
+/// `sum` is the local sum of the heights there, and `form` that of the steps. Of `lower` the differences of the bands below are looked at.
 #[inline(always)]
 pub(crate) fn sample_there<const N: usize, const WRAPS: bool>(
     settings: &Settings,
@@ -81,6 +148,7 @@ pub(crate) fn sample_there<const N: usize, const WRAPS: bool>(
     y: u32,
     x: u32,
     sum: u32,
+    form: Form,
     weights: &mut [i32; 18],
     lower: &[i32; 18],
     delta: u16,
@@ -97,6 +165,7 @@ pub(crate) fn sample_there<const N: usize, const WRAPS: bool>(
     requires weights_in { AllWithin (2 ^ (settings.now.predictor.fraction + 2)) weights.old }
     requires lower { drop (if settings.now.predictor.reduced then 0 else 3) lower.now ≡ spectral_differences settings.now.predictor cube.now settings.now.band y x (previous_bands settings.now.predictor settings.now.band) ++ replicate (18 - settings.now.count) (pos 0) }
     requires residual { delta < 2 ^ cube.now.kind.bits }
+    requires steps { AreSteps form cube.now.kind.bits (step_exponent settings.now.predictor cube.now.shape.columns cube.now.kind.bits (y * cube.now.shape.columns + x)) }
     ensures range { IsSample cube.now.kind result }
     ensures inverse { mapped cube.now.kind (scaled_there settings.now.predictor (put cube.now settings.now.band y x result) settings.now.band y x (take settings.now.count weights.old)) result ≡ delta }
     ensures weights { take settings.now.count weights.new ≡ next_weights settings.now.predictor (put cube.now settings.now.band y x result) settings.now.band (y * cube.now.shape.columns + x) (take settings.now.count weights.old) }
@@ -113,13 +182,14 @@ pub(crate) fn sample_there<const N: usize, const WRAPS: bool>(
     let scaled = scaled_by_part(range, part, whole);
     let found = range.sample_of(scaled, delta);
     let own = difference_there(range, found, sum);
+    // The exponent is for proofs: the form tells all of it.
     let exponent = exponent_at(predictor, settings.columns, range.bits, t);
     update_by::<N>(
         weights,
         &differences,
         predictor.fraction,
         exponent,
-        form_of(range.bits, exponent),
+        form,
         turn_of_error(own, part),
     );
     found

@@ -11,20 +11,57 @@ ghost use Rattle.predict_core.specs.Differences.{spectral_differences};
 ghost use Rattle.predict_core.specs.Prediction.{scaled_there, next_weights};
 ghost use Rattle.predict_core.specs.Residual.{mapped, mapped_residual};
 ghost use Rattle.predict_core.specs.Following.{Follows, MovesOn};
-ghost use Rattle.predict_core.specs.Spectral.{AreOf};
+ghost use Rattle.predict_core.specs.RunPlaces.{AreAlikeBeside};
+ghost use Rattle.predict_core.specs.Spectral.{AreOf, AreSteps};
+ghost use Rattle.predict_core.specs.Weights.{step_exponent};
 
 use crate::band::Band;
 use crate::differences::sum_at;
 use crate::inverse_chain::{difference_there, sample_there};
 use crate::settings::Settings;
 use crate::spectral::SpectralDifferences;
+use crate::weights::Form;
 use cube_core::cube::Cube;
 
 impl Band {
+    /// Writes the sample at the next place whose mapped residual is `delta` into the cube, and goes one place on.
+    ///
+    /// The cube has the shape and the kind of the parameters, and the next place is row `y`, column `x`.
+    /// `delta` is at most 2^D - 1. What stands at this place and at later ones is not read, and no other
+    /// sample is written. `below` are differences of that cube, and afterwards of the cube as it is then: they are
+    /// kept from band to band, so places are best taken band after band.
+    #[inline(always)]
+    pub fn inverse_place(
+        &mut self,
+        cube: &mut Cube,
+        y: u32,
+        x: u32,
+        delta: u16,
+        below: &mut SpectralDifferences,
+    )
+        requires shape { cube.old.shape ≡ self.old.shape }
+        requires kind { cube.old.kind ≡ self.old.kind }
+        requires place { IsPlace cube.old.shape self.old.band y x }
+        requires next { self.old.place ≡ y * cube.old.shape.columns + x }
+        requires residual { delta < 2 ^ cube.old.kind.bits }
+        requires told { AreOf self.old.predictor below.old cube.old }
+        ensures moved { MovesOn self.old self.new }
+        ensures beside { AreAlikeBeside cube.old cube.new self.old.band y x 1 }
+        ensures residual { (p : Parameters) → Follows p self.old cube.old → mapped_residual p cube.new self.old.band self.old.place ≡ delta }
+        ensures follows { (p : Parameters) → Follows p self.old cube.old → Follows p self.new cube.new }
+        ensures told { AreOf self.new.predictor below.new cube.new }
+    {
+        cube.is_cube();
+        let band = self.settings.band;
+        let sample = self.inverse_beside(cube, y, x, delta, below);
+        cube.set(band, y, x, sample);
+    }
+
     /// The sample of a mapped residual at the next place, as `inverse` finds it.
     ///
     /// `below` are differences of the cube, and afterwards of the cube with that sample.
-    #[inline(always)]
+    // Inlined at each of its calls it is found by a call deeper down, which takes a copy of the differences.
+    #[inline(never)]
     pub(crate) fn inverse_beside(
         &mut self,
         cube: &Cube,
@@ -88,7 +125,9 @@ fn sample_above(
     let predictor = &settings.predictor;
     let sum = sum_at(predictor, cube, settings.band, y, x);
     let lower = below.behind_directions(predictor.reduced);
-    let sample = sample_by(settings, cube, y, x, sum, weights, &lower, delta);
+    let sample = sample_by(
+        settings, cube, y, x, sum, below.form, weights, &lower, delta,
+    );
     let own = difference_there(&settings.range, sample, sum);
     below.go_up(own, predictor.previous);
     sample
@@ -102,6 +141,7 @@ fn sample_by(
     y: u32,
     x: u32,
     sum: u32,
+    form: Form,
     weights: &mut [i32; 18],
     lower: &[i32; 18],
     delta: u16,
@@ -115,15 +155,16 @@ fn sample_by(
     requires weights_in { AllWithin (2 ^ (settings.now.predictor.fraction + 2)) weights.old }
     requires lower { drop (if settings.now.predictor.reduced then 0 else 3) lower.now ≡ spectral_differences settings.now.predictor cube.now settings.now.band y x (previous_bands settings.now.predictor settings.now.band) ++ replicate (18 - settings.now.count) (pos 0) }
     requires residual { delta < 2 ^ cube.now.kind.bits }
+    requires steps { AreSteps form cube.now.kind.bits (step_exponent settings.now.predictor cube.now.shape.columns cube.now.kind.bits (y * cube.now.shape.columns + x)) }
     ensures range { IsSample cube.now.kind result }
     ensures inverse { mapped cube.now.kind (scaled_there settings.now.predictor (put cube.now settings.now.band y x result) settings.now.band y x (take settings.now.count weights.old)) result ≡ delta }
     ensures weights { take settings.now.count weights.new ≡ next_weights settings.now.predictor (put cube.now settings.now.band y x result) settings.now.band (y * cube.now.shape.columns + x) (take settings.now.count weights.old) }
     ensures bound { AllWithin (2 ^ (settings.now.predictor.fraction + 2)) weights.new }
 {
     if settings.predictor.register < 46 {
-        sample_in::<true>(settings, cube, y, x, sum, weights, lower, delta)
+        sample_in::<true>(settings, cube, y, x, sum, form, weights, lower, delta)
     } else {
-        sample_in::<false>(settings, cube, y, x, sum, weights, lower, delta)
+        sample_in::<false>(settings, cube, y, x, sum, form, weights, lower, delta)
     }
 }
 
@@ -137,6 +178,7 @@ fn sample_in<const WRAPS: bool>(
     y: u32,
     x: u32,
     sum: u32,
+    form: Form,
     weights: &mut [i32; 18],
     lower: &[i32; 18],
     delta: u16,
@@ -151,6 +193,7 @@ fn sample_in<const WRAPS: bool>(
     requires weights_in { AllWithin (2 ^ (settings.now.predictor.fraction + 2)) weights.old }
     requires lower { drop (if settings.now.predictor.reduced then 0 else 3) lower.now ≡ spectral_differences settings.now.predictor cube.now settings.now.band y x (previous_bands settings.now.predictor settings.now.band) ++ replicate (18 - settings.now.count) (pos 0) }
     requires residual { delta < 2 ^ cube.now.kind.bits }
+    requires steps { AreSteps form cube.now.kind.bits (step_exponent settings.now.predictor cube.now.shape.columns cube.now.kind.bits (y * cube.now.shape.columns + x)) }
     ensures range { IsSample cube.now.kind result }
     ensures inverse { mapped cube.now.kind (scaled_there settings.now.predictor (put cube.now settings.now.band y x result) settings.now.band y x (take settings.now.count weights.old)) result ≡ delta }
     ensures weights { take settings.now.count weights.new ≡ next_weights settings.now.predictor (put cube.now settings.now.band y x result) settings.now.band (y * cube.now.shape.columns + x) (take settings.now.count weights.old) }
@@ -158,12 +201,12 @@ fn sample_in<const WRAPS: bool>(
 {
     let count = settings.count;
     if count == 0 {
-        sample_there::<0, WRAPS>(settings, cube, y, x, sum, weights, lower, delta)
+        sample_there::<0, WRAPS>(settings, cube, y, x, sum, form, weights, lower, delta)
     } else if count <= 4 {
-        sample_there::<4, WRAPS>(settings, cube, y, x, sum, weights, lower, delta)
+        sample_there::<4, WRAPS>(settings, cube, y, x, sum, form, weights, lower, delta)
     } else if count <= 8 {
-        sample_there::<8, WRAPS>(settings, cube, y, x, sum, weights, lower, delta)
+        sample_there::<8, WRAPS>(settings, cube, y, x, sum, form, weights, lower, delta)
     } else {
-        sample_there::<18, WRAPS>(settings, cube, y, x, sum, weights, lower, delta)
+        sample_there::<18, WRAPS>(settings, cube, y, x, sum, form, weights, lower, delta)
     }
 }

@@ -9,13 +9,14 @@ ghost use Rattle.predict_core.specs.Weights.{step_exponent, updated_weights};
 ghost use Rattle.predict_core.specs.Prediction.{scaled_there, first_scaled as first_prediction};
 ghost use Rattle.predict_core.specs.Mapping.{IsScaled};
 ghost use Rattle.predict_core.specs.Bounds.{AllWithin, IsPredictor};
+ghost use Rattle.predict_core.specs.Spectral.{AreSteps};
 
 use crate::differences::{fill_differences, sum_at};
 use crate::exponent::exponent_at;
 use crate::prediction::scaled_by;
 use crate::predictor::Predictor;
 use crate::range::Range;
-use crate::weights::update;
+use crate::weights::{Form, form_of, update};
 use cube_core::cube::Cube;
 
 /// The parameters of a band's predictor, and what follows from them for all its samples.
@@ -142,4 +143,19 @@ pub(crate) fn learn(
         exponent,
         negative,
     );
+}
+
+/// The form of the steps after row `y`, column `x`, a place that is not the first of its band.
+#[inline(always)]
+pub(crate) fn form_at(settings: &Settings, y: u32, x: u32) -> Form
+    requires row { y < 65536 }
+    requires column { x < settings.now.columns }
+    ensures { AreSteps result settings.now.range.bits (step_exponent settings.now.predictor settings.now.columns settings.now.range.bits (y * settings.now.columns + x)) }
+{
+    let bits = settings.range.bits;
+    let t = u64::from(y) * u64::from(settings.columns) + u64::from(x);
+    form_of(
+        bits,
+        exponent_at(&settings.predictor, settings.columns, bits, t),
+    )
 }

@@ -8,11 +8,12 @@ ghost use Rattle.predict_core.specs.Differences.{central_difference, spectral_di
 ghost use Rattle.predict_core.specs.Spectral.{AreOf};
 
 use crate::differences::fill_spectral;
-use crate::settings::Settings;
+use crate::settings::{Settings, form_at};
+use crate::weights::Form;
 use cube_core::cube::Cube;
 
 /// The central differences at row `row`, column `column` of the bands below band `band`, the nearest first,
-/// and zeros behind them. In the first row they tell nothing.
+/// and zeros behind them, and the form of the steps there. In the first row they tell nothing.
 ///
 /// Where the bands of a place are decoded one behind another, each needs those of the band before it and the
 /// difference of that band: so none is found twice (CCSDS 123.0-B-1, "Local Differences").
@@ -22,6 +23,7 @@ pub struct SpectralDifferences {
     pub row: u32,
     pub column: u32,
     pub differences: [i32; 18],
+    pub(crate) form: Form,
 }
 
 impl SpectralDifferences {
@@ -34,6 +36,7 @@ impl SpectralDifferences {
             row: 0,
             column: 0,
             differences: [0; 18],
+            form: Form::none(),
         }
     }
 
@@ -50,6 +53,7 @@ impl SpectralDifferences {
     pub(crate) fn reach(&mut self, settings: &Settings, cube: &Cube, y: u32, x: u32)
         requires place { IsPlace cube.now.shape settings.now.band y x }
         requires columns { cube.now.shape.columns ≡ settings.now.columns }
+        requires kind { cube.now.kind ≡ settings.now.range.kind }
         requires later { 0 < y }
         requires told { AreOf settings.now.predictor self.old cube.now }
         ensures band { self.new.band ≡ settings.now.band }
@@ -66,12 +70,14 @@ impl SpectralDifferences {
     fn find(&mut self, settings: &Settings, cube: &Cube, y: u32, x: u32)
         requires place { IsPlace cube.now.shape settings.now.band y x }
         requires columns { cube.now.shape.columns ≡ settings.now.columns }
+        requires kind { cube.now.kind ≡ settings.now.range.kind }
         requires later { 0 < y }
         ensures band { self.new.band ≡ settings.now.band }
         ensures row { self.new.row ≡ y }
         ensures column { self.new.column ≡ x }
         ensures told { AreOf settings.now.predictor self.new cube.now }
     {
+        cube.is_cube();
         let mut differences = [0i32; 18];
         fill_spectral(
             &settings.predictor,
@@ -88,6 +94,7 @@ impl SpectralDifferences {
             row: y,
             column: x,
             differences,
+            form: form_at(settings, y, x),
         };
     }
 
@@ -113,12 +120,14 @@ impl SpectralDifferences {
         ensures band { self.new.band ≡ self.old.band + 1 }
         ensures row { self.new.row ≡ self.old.row }
         ensures column { self.new.column ≡ self.old.column }
+        ensures form { self.new.form ≡ self.old.form }
         ensures differences { self.new.differences ≡ slice_set (own ∷ take 17 self.old.differences) previous (pos 0) }
     {
-        let mut differences = [own; 18];
-        differences[1..].copy_from_slice(&self.differences[..17]);
+        let kept = self.differences;
+        let differences = &mut self.differences;
+        differences[1..].copy_from_slice(&kept[..17]);
+        differences[0] = own;
         differences[previous as usize] = 0;
-        self.differences = differences;
         self.band += 1;
     }
 }

@@ -126,6 +126,13 @@ pub(crate) struct Form {
     ghost down_in: { down ≤ 22 },
 }
 
+impl Form {
+    /// That of no place.
+    pub(crate) fn none() -> Form {
+        raising(0)
+    }
+}
+
 /// The form of the steps at an exponent, for samples of so many bits.
 #[inline(always)]
 pub(crate) fn form_of(bits: u32, exponent: i32) -> Form

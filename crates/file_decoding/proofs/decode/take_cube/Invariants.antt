@@ -1,4 +1,4 @@
-use Rattle.std.proofs.Common.{◌≡◌, length}
+use Rattle.std.proofs.Common.{◌≡◌, length, drop}
 use Rattle.predict_core.specs.Predictor.{predictor_of}
 use Rattle.predict_core.specs.Spectral.{AreOf}
 use Rattle.file_coding.proofs.Walking.{IsOnWalk}
@@ -18,3 +18,13 @@ invariant-loop-place l = record {
 
 abbrev pub decreases-loop-place : goal.decreases-loop-place
 decreases-loop-place l = length l.places
+
+abbrev pub invariant-loop-i : goal.invariant-loop-i
+invariant-loop-i l = record {
+  shape : l.cube.shape ≡ l.params.shape;
+  kind : l.cube.kind ≡ l.params.kind;
+  count : l.reader.count ≡ l.fn.reader.count;
+  walk : IsOnWalk l.params l.cube (drop l.i l.places) l.bands.items;
+  told : AreOf (predictor_of l.params) l.below l.cube;
+  decoded : IsDecoded l.params l.cube (drop l.i l.places) l.decoder l.fn.reader.left l.reader.left;
+}

@@ -1,6 +1,7 @@
 use Rattle.std.proofs.Common.{◌≡◌, ◌+◌, ◌-◌, ◌*◌, ◌≤◌, ◌<◌, ℕ, false, refl, sym, ap, ◌∙◌, subst, take, length, get_or, SFits, w32, to_z-of_z, rules, arith, length-set}
 use Rattle.std.proofs.lemmas.List.{take_all}
 use Rattle.cube_core.specs.Shape.{Sizes}
+use Rattle.cube_core.specs.Kind.{SampleKind}
 use Rattle.cube_core.specs.Image.{Image, IsPlace, put}
 use Rattle.header_bits.specs.declared.params.Params.{Params}
 use Rattle.predict_core.specs.declared.predictor.Predictor.{Predictor}
@@ -22,6 +23,7 @@ loop-i-init g c = record {
   residuals = λ p f. refl;
   weights = λ p f. f.weights ∙ ap (weight_vector p c.args.cube.now c.args.settings.now.band) (omega arith);
   bound = c.requires.weights_in;
+  steps = λ k le lt. absurd (omega (arith, lt));
   whole = c.is_cube.ensures.whole;
 }
 
@@ -34,6 +36,14 @@ sample_there-sample-requires-clause-lower g c =
     let e = rw (← c.requires.quads) at (c.requires.components c.loop-i.i c.loop-i-test.true) in
     let gathered = gathered_is (difference_vector s.predictor c.args.cube.now s.band c.args.y (c.args.x + c.loop-i.i)) (components_at g.row.Q c.args.quads.now c.loop-i.i) c.differences_at-lower.result s.count (4 * g.row.Q - s.count) (vector_length s.predictor c.args.cube.now s.band c.args.y (c.args.x + c.loop-i.i) ∙ sym s.count_is) s.few e c.differences_at-lower.ensures in
     lower_kept s.predictor c.args.cube.now c.loop-i.cube s.band c.args.y c.args.x c.loop-i.i (c.args.x + c.loop-i.i) (record { band = c.requires.place.band; row = c.requires.place.row; column = column }) (omega (arith, c.requires.later)) wide kept.beside c.differences_at-lower.result (18 - s.count) gathered
+
+pub sample_there-sample-requires-clause-steps : goal.sample_there-sample-requires-clause-steps
+sample_there-sample-requires-clause-steps g c =
+    let kept = c.loop-i.invariant in
+    let s = c.args.settings.now in
+    let columns : s.columns ≡ c.loop-i.cube.shape.columns = sym c.requires.columns ∙ ap (λ (a : Sizes). a.columns) kept.beside.alike.shape in
+    let bits : s.range.bits ≡ c.loop-i.cube.kind.bits = s.range.bits_is ∙ ap (λ (k : SampleKind). k.bits) (sym c.requires.kind ∙ kept.beside.alike.kind) in
+    rw (columns, bits) at (c.stretch_at-stretch.ensures.steps c.loop-i.i (omega arith) c.stretch_at-stretch.ensures.some)
 
 pub loop-i-preserved : goal.loop-i-preserved
 loop-i-preserved g c =
@@ -60,6 +70,7 @@ loop-i-preserved g c =
       weights = λ p f. weights_put p s.predictor d s.band c.args.y (c.args.x + c.loop-i.i) (c.args.y * d.shape.columns + (c.args.x + c.loop-i.i)) v (take s.count c.loop-i.held) place kept.whole (wide p f) f.predictor refl (kept.weights p f) later (take s.count c.sample_there-sample.new.weights) c.sample_there-sample.ensures.weights
           ∙ ap (weight_vector p (put d s.band c.args.y (c.args.x + c.loop-i.i) v) s.band) (next d.shape.columns refl);
       bound = c.sample_there-sample.ensures.bound;
+      steps = λ k le lt. c.stretch_at-stretch.ensures.steps k (omega (arith, le)) lt;
       whole = rw length-set kept.whole;
     })
 

@@ -6,6 +6,7 @@ use Rattle.predict_core.specs.Chain.{scaled_by_difference}
 use Rattle.predict_core.specs.Differences.{difference_vector}
 use Rattle.predict_core.specs.LocalSum.{local_sum}
 use Rattle.predict_core.specs.Prediction.{scaled_by, scaled_there}
+use Rattle.predict_core.specs.Weights.{step}
 use Rattle.predict_core.proofs.Chains.{scaled_from_room, moved_from_room}
 use Rattle.predict_core.proofs.InverseRuns.{vector_filled}
 use Rattle.predict_core.proofs.Inverting.{scaled_put, moved_put}
@@ -83,8 +84,18 @@ predicted_difference-part-requires-clause-differences_in g c =
 
 pub update_by-requires-clause-differences_in : goal.update_by-requires-clause-differences_in
 update_by-requires-clause-differences_in g c =
+    let s = c.args.settings.now in
     let d = (goal.at.update_by-requires-clause-differences_in g c).After-put_own_directions in
-    within_room c.args.settings.now.range.bits c.form_of.result.up c.put_own_directions.new.out c.form_of.ensures.room (small g d)
+    let bits : s.range.bits ≡ c.args.cube.now.kind.bits = s.range.bits_is ∙ ap (λ (k : SampleKind). k.bits) (sym c.requires.kind) in
+    within_room s.range.bits c.args.form.up c.put_own_directions.new.out (rw bits c.requires.steps.room) (small g d)
+
+pub update_by-requires-clause-steps : goal.update_by-requires-clause-steps
+update_by-requires-clause-steps g c a =
+    let s = c.args.settings.now in
+    let bits : s.range.bits ≡ c.args.cube.now.kind.bits = s.range.bits_is ∙ ap (λ (k : SampleKind). k.bits) (sym c.requires.kind) in
+    let exponent = rw (bits, ← c.requires.columns) at c.exponent_at-exponent.ensures.value in
+    let exponent_fits : SFits w32 c.exponent_at-exponent.result = search rules in
+    rw (to_z-of_z exponent_fits) (c.requires.steps.steps a ∙ ap (λ e. step e a) (sym exponent))
 
 pub returns-clause-inverse : goal.returns-clause-inverse
 returns-clause-inverse g c =

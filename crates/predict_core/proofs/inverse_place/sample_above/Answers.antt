@@ -12,9 +12,12 @@ sample_by-sample-requires-clause-lower c =
     let s = c.args.settings.now in
     let p = s.predictor in
     let us = spectral_differences p c.args.cube.now s.band c.args.y c.args.x (previous_bands p s.band) in
-    let kept : c.args.below.now.differences ≡ us ++ replicate (18 - previous_bands p s.band) (pos 0) = (rw (c.requires.band, c.requires.row, c.requires.column) at c.requires.told) c.requires.later in
+    let kept : c.args.below.now.differences ≡ us ++ replicate (18 - previous_bands p s.band) (pos 0) = ((rw (c.requires.band, c.requires.row, c.requires.column) at c.requires.told) c.requires.later).differences in
     c.behind_directions-lower.ensures ∙ ap (take (if p.reduced then 18 else 15)) kept
     ∙ behind_directions p us s.band s.count s.lawful.few (spectral_length p c.args.cube.now s.band c.args.y c.args.x (previous_bands p s.band)) s.count_is
+
+pub sample_by-sample-requires-clause-steps : goal.sample_by-sample-requires-clause-steps
+sample_by-sample-requires-clause-steps c = ((rw (c.requires.band, c.requires.row, c.requires.column) at c.requires.told) c.requires.later).steps
 
 pub returns-clause-told : goal.returns-clause-told
 returns-clause-told c h =
@@ -26,10 +29,13 @@ returns-clause-told c h =
     let later : 0 < c.args.y + c.args.x = omega (arith, c.requires.later) in
     let wide : p.column ≡ false → 2 ≤ c.args.cube.now.shape.columns = λ f. let w = s.wide f in let e = c.requires.columns in omega (arith, w, e) in
     let us = spectral_differences p c.args.cube.now s.band c.args.y c.args.x (previous_bands p s.band) in
-    let kept : c.args.below.now.differences ≡ us ++ replicate (18 - previous_bands p s.band) (pos 0) = (rw (c.requires.band, c.requires.row, c.requires.column) at c.requires.told) c.requires.later in
+    let kept : c.args.below.now.differences ≡ us ++ replicate (18 - previous_bands p s.band) (pos 0) = ((rw (c.requires.band, c.requires.row, c.requires.column) at c.requires.told) c.requires.later).differences in
     let value = rw (← c.requires.kind) at (simp (to_z-of_z fits) at c.difference_there-own.ensures.value) in
     let own : c.difference_there-own.result ≡ central_difference p (put c.args.cube.now s.band c.args.y c.args.x v) s.band c.args.y c.args.x =
     value ∙ own_put c.args.cube.now s.band c.args.y c.args.x v c.requires.place c.is_cube.ensures.whole p later wide (pos 4 *ℤ smin c.args.cube.now.kind +ℤ pos c.sum_at-sum.result) c.sum_at-sum.ensures.value in
     let moved = simp (to_z-of_z own_fits) at c.go_up.ensures.differences in
-    rw (to_z-of_z fits, c.go_up.ensures.band, c.go_up.ensures.row, c.go_up.ensures.column, c.requires.band, c.requires.row, c.requires.column)
-    (moved ∙ raised_put c.args.cube.now s.band c.args.y c.args.x v c.requires.place c.is_cube.ensures.whole p later wide s.lawful.few c.difference_there-own.result c.args.below.now.differences own kept)
+    record {
+      differences = rw (to_z-of_z fits, c.go_up.ensures.band, c.go_up.ensures.row, c.go_up.ensures.column, c.requires.band, c.requires.row, c.requires.column)
+          (moved ∙ raised_put c.args.cube.now s.band c.args.y c.args.x v c.requires.place c.is_cube.ensures.whole p later wide s.lawful.few c.difference_there-own.result c.args.below.now.differences own kept);
+      steps = rw (c.go_up.ensures.form, c.go_up.ensures.row, c.go_up.ensures.column) (c.requires.told (rw c.requires.row c.requires.later)).steps;
+    }
