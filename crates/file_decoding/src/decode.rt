@@ -71,9 +71,7 @@ fn reader_behind(bytes: &[u8], size: usize) -> BitReader<'_>
     ensures left { result.left ≡ drop (8 * size) (bits_of_bytes bytes.now) }
 {
     let mut reader = BitReader::new(bytes);
-    for _ in 0..size {
-        reader.take(8).unwrap();
-    }
+    reader.skip(8 * size as u64);
     reader
 }
 
