@@ -103,25 +103,26 @@ def make(room):
 
 
 def each_growth(room, name, words, lines):
-    """Refuses the first call for memory, then the second, until a run meets none; how many there are.
+    """Refuses the first call for memory, then the second, until a run meets none; how many there are, and of how many a thread is told.
 
     A thread is told of where threads are started, and nowhere else: want of memory comes before that and behind it."""
-    wanted, said = room.run(words), []
+    wanted, said, threads = room.run(words), [], 0
     room.hold(name, wanted[:2] == (DONE, b"") and wanted[2], wanted)
     for nth in range(1, MOST):
         found = room.run(words, refuse=nth)
         if not room.met():
             room.hold(f"{name}: nothing refused", found == wanted, found)
             room.hold(f"{name}: what is told in turn", said == ([MEMORY, THREAD, MEMORY] if THREAD in lines else [MEMORY]), said)
-            return nth - 1
+            return nth - 1, threads
         status, line, written = found
+        threads += line == THREAD
         told = status == REFUSED and line in (*lines, b"") and written == b""
         if status == REFUSED and line and said[-1:] != [line]:
             said.append(line)
         # What is only asked for to go faster can be done without.
         room.hold(f"{name}: call {nth} refused", told or found == wanted, found)
     room.hold(f"{name}: more than {MOST} growths", False, None)
-    return MOST
+    return MOST, threads
 
 
 # The most bytes that a read or a write moves, while one of them is refused.
@@ -229,8 +230,13 @@ def main():
     with tempfile.TemporaryDirectory() as folder:
         room = Room(folder)
         make(room)
+        of_threads = {}
         for name, (words, lines) in COMMANDS.items():
-            print(f"{name}: {each_growth(room, name, words, lines)} growths refused in turn")
+            growths, of_threads[name] = each_growth(room, name, words, lines)
+            print(f"{name}: {growths} growths refused in turn, {of_threads[name]} of them told as a thread's")
+        # A call that is refused elsewhere, and told as a thread's, would come once however many threads there are.
+        one, three = of_threads["compress, one predictor"], of_threads["compress, three predictors"]
+        room.hold("each thread has as many calls for memory that are told as its own", three == 3 * one, (one, three))
         for name, (words, _) in COMMANDS.items():
             reads, writes = each_read(room, name, words), each_write(room, name, words)
             room.hold(f"{name}: reads and writes", reads > 0 and writes > 0, (reads, writes))

@@ -2,6 +2,7 @@
 
 mod cubes;
 mod faults;
+mod great_header;
 mod headers;
 mod kinds;
 mod places;

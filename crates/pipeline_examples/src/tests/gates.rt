@@ -40,11 +40,11 @@ impl Gate for StopAt {
     }
 }
 
-/// Holds the first residual of predictor 0 until a residual of predictor 1 was asked for; or stops it, where that takes too long.
+/// Holds the first residual of predictor 0 until a residual of predictor 1 has come back; or stops it, where that takes too long.
 #[derive(Drop)]
 pub(crate) struct FirstWaits {
     nth: u64,
-    asked: AtomicBool,
+    back: AtomicBool,
 }
 
 impl FirstWaits {
@@ -52,7 +52,7 @@ impl FirstWaits {
     pub(crate) fn new(nth: u64) -> FirstWaits {
         FirstWaits {
             nth,
-            asked: AtomicBool::new(false),
+            back: AtomicBool::new(false),
         }
     }
 }
@@ -60,11 +60,11 @@ impl FirstWaits {
 impl Gate for FirstWaits {
     ghost may_stop = { λ _ q n. (q == 0) && (n == 0) };
 
-    fn pass(&self, predictor: u32, nth: u64, _turn: u64) -> bool {
-        if predictor == 1 && nth == self.nth {
-            self.asked.store(true, Ordering::SeqCst);
+    fn pass(&self, predictor: u32, nth: u64, turn: u64) -> bool {
+        if predictor == 1 && nth == self.nth && turn > 0 {
+            self.back.store(true, Ordering::SeqCst);
         }
-        predictor != 0 || nth != 0 || is_set_in_time(&self.asked)
+        predictor != 0 || nth != 0 || is_set_in_time(&self.back)
     }
 }
 

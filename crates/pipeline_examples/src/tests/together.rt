@@ -5,7 +5,7 @@ use super::gates::{FirstWaits, Meeting};
 use cube_core::order::Order;
 use std::test::Fail;
 
-/// Predictor 0 may send its first residual only once predictor 1 wants to send one for which its lane has no room.
+/// Predictor 0 may send its first residual only once the one of predictor 1 has come back for which its lane has no room, and no sooner one.
 #[test]
 fn gate_first_waits_for_second(rt: HostRuntime) -> Result<(), Fail> {
     for slots in 1..6 {
