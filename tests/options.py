@@ -177,6 +177,8 @@ def options(room):
     for words, changed in BLOCKS:
         rest = {"block": 8, "restricted": "no", "reference": 64, "header": 19} | changed
         compared(room, ["--coder", "block", *words], front | {"coder": "block"} | rest)
+    most = ["compress", *SIZES, "--coder", "block", *BLOCKS[-1][0], "raw", "file"]
+    room.hold("a word more than a command takes", room.run(*most, "more"), (1, b"", "ccsds: 20 Usage\n"))
 
 
 def compared(room, words, fields):
