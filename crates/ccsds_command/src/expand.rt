@@ -3,8 +3,9 @@
 ghost use Rattle.std.specs.Prelude.{◌≡◌, ◌⊎◌, IfOk, IfErr, OnOk};
 ghost use Rattle.cube_core.specs.Layout.{IsLayout};
 ghost use Rattle.ccsds_command.specs.Expand.{Expands, HasFileOf, HasNoFile, HasRaw, IsExpandFault, IsExpandRefusal};
+ghost use Rattle.cube_core.specs.declared.fault.Fault.TheVariants.{WantOfMemory};
 ghost use Rattle.command_devices.specs.Reading.{IsReadRefusal, ToldAsRead, file_limit};
-ghost use Rattle.command_devices.specs.Devices.{GaveWithin};
+ghost use Rattle.command_devices.specs.Devices.{GaveBelow, GaveWithin};
 ghost use Rattle.command_devices.specs.Writing.{IsWrite};
 
 use coder_pipe::decode::decode;
@@ -37,6 +38,7 @@ pub fn run_expand<S: Source, K: Sink>(
     ensures told { IfErr result (ToldAsRead (S.failures source.old) (S.failures source.new)) }
     ensures unwritten { IfErr result (λ e. IsWrite e ⊎ (sink.new ≡ sink.old)) }
     ensures bounded { GaveWithin (λ _. file_limit) (S.left source.old) (S.left source.new) }
+    ensures unfilled { IfErr result (λ e. e ≡ WantOfMemory → GaveBelow file_limit (S.left source.old) (S.left source.new)) }
 {
     let raw = raw_of_source(alloc, source, *layout)?;
     write_all(sink, &raw)
@@ -50,6 +52,7 @@ fn raw_of_source<S: Source>(alloc: Global, source: &mut S, layout: Layout) -> Re
     ensures worked { OnOk result (S.failures source.new ≡ S.failures source.old) }
     ensures told { IfErr result (ToldAsRead (S.failures source.old) (S.failures source.new)) }
     ensures bounded { GaveWithin (λ _. file_limit) (S.left source.old) (S.left source.new) }
+    ensures unfilled { IfErr result (λ e. e ≡ WantOfMemory → GaveBelow file_limit (S.left source.old) (S.left source.new)) }
 {
     let cube = decoded(alloc, source)?;
     cube.to_raw(alloc, layout)
@@ -62,6 +65,8 @@ fn decoded<S: Source>(alloc: Global, source: &mut S) -> Result<Cube, Fault>
     ensures worked { OnOk result (S.failures source.new ≡ S.failures source.old) }
     ensures told { IfErr result (ToldAsRead (S.failures source.old) (S.failures source.new)) }
     ensures bounded { GaveWithin (λ _. file_limit) (S.left source.old) (S.left source.new) }
+    ensures short { OnOk result (GaveBelow file_limit (S.left source.old) (S.left source.new)) }
+    ensures unfilled { IfErr result (λ e. e ≡ WantOfMemory → GaveBelow file_limit (S.left source.old) (S.left source.new)) }
 {
     let bytes = read_file(alloc, source)?;
     let (_params, cube) = decode(alloc, &bytes)?;

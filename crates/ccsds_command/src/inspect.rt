@@ -2,10 +2,11 @@
 
 ghost use Rattle.std.specs.Prelude.{◌≡◌, ◌⊎◌, IfOk, IfErr, OnOk};
 ghost use Rattle.header_bits.specs.Lawful.{IsLawful};
+ghost use Rattle.cube_core.specs.declared.fault.Fault.TheVariants.{WantOfMemory};
 ghost use Rattle.command_devices.specs.Reading.{ToldAsRead, file_limit};
 ghost use Rattle.command_devices.specs.Writing.{IsWrite};
 ghost use Rattle.ccsds_command.specs.Inspect.{HasHeader, HasLines, Inspects, IsInspectFault, IsInspectRefusal};
-ghost use Rattle.command_devices.specs.Devices.{GaveWithin};
+ghost use Rattle.command_devices.specs.Devices.{GaveBelow, GaveWithin};
 
 use command_devices::reading::read_file;
 use command_devices::sink::Sink;
@@ -34,6 +35,7 @@ pub fn run_inspect<S: Source, K: Sink>(
     ensures told { IfErr result (ToldAsRead (S.failures source.old) (S.failures source.new)) }
     ensures unwritten { IfErr result (λ e. IsWrite e ⊎ (sink.new ≡ sink.old)) }
     ensures bounded { GaveWithin (λ _. file_limit) (S.left source.old) (S.left source.new) }
+    ensures unfilled { IfErr result (λ e. e ≡ WantOfMemory → GaveBelow file_limit (S.left source.old) (S.left source.new)) }
 {
     let text = lines_of_source(alloc, source)?;
     write_all(sink, &text)
@@ -46,6 +48,7 @@ fn lines_of_source<S: Source>(alloc: Global, source: &mut S) -> Result<Vec<u8>, 
     ensures worked { OnOk result (S.failures source.new ≡ S.failures source.old) }
     ensures told { IfErr result (ToldAsRead (S.failures source.old) (S.failures source.new)) }
     ensures bounded { GaveWithin (λ _. file_limit) (S.left source.old) (S.left source.new) }
+    ensures unfilled { IfErr result (λ e. e ≡ WantOfMemory → GaveBelow file_limit (S.left source.old) (S.left source.new)) }
 {
     let (params, size) = header_of_source(alloc, source)?;
     header_lines(alloc, &params, size)
@@ -59,6 +62,8 @@ fn header_of_source<S: Source>(alloc: Global, source: &mut S) -> Result<(Params,
     ensures worked { OnOk result (S.failures source.new ≡ S.failures source.old) }
     ensures told { IfErr result (ToldAsRead (S.failures source.old) (S.failures source.new)) }
     ensures bounded { GaveWithin (λ _. file_limit) (S.left source.old) (S.left source.new) }
+    ensures short { OnOk result (GaveBelow file_limit (S.left source.old) (S.left source.new)) }
+    ensures unfilled { IfErr result (λ e. e ≡ WantOfMemory → GaveBelow file_limit (S.left source.old) (S.left source.new)) }
 {
     let bytes = read_file(alloc, source)?;
     read_header(alloc, &bytes)

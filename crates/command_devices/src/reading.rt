@@ -2,7 +2,7 @@
 
 ghost use Rattle.std.specs.Prelude.{◌≡◌, ◌⊎◌, ◌+◌, ◌<◌, ◌≤◌, ◌^◌, max, Ok, [], length, take, drop, IfOk, IfErr, OnOk, OnErr};
 ghost use Rattle.cube_core.specs.declared.fault.Fault.TheVariants.{Read, WantOfMemory};
-ghost use Rattle.command_devices.specs.Devices.{Gave, GaveWithin, IsFront, IsAll, IsEnd, Rises, Rose};
+ghost use Rattle.command_devices.specs.Devices.{Gave, GaveBelow, GaveWithin, IsFront, IsAll, IsEnd, Rises, Rose};
 ghost use Rattle.command_devices.specs.Reading.{IsReadRefusal, ToldAsRead, file_limit};
 
 use crate::source::{Failed, Source};
@@ -25,6 +25,8 @@ pub fn read_file<S: Source>(alloc: Global, source: &mut S) -> Result<Vec<u8>, Fa
     ensures refused { IfErr result (IsReadRefusal (S.left source.old) (S.failures source.old) (S.failures source.new)) }
     ensures told { IfErr result (ToldAsRead (S.failures source.old) (S.failures source.new)) }
     ensures bounded { GaveWithin (λ _. file_limit) (S.left source.old) (S.left source.new) }
+    ensures short { OnOk result (GaveBelow file_limit (S.left source.old) (S.left source.new)) }
+    ensures unfilled { IfErr result (λ e. e ≡ WantOfMemory → GaveBelow file_limit (S.left source.old) (S.left source.new)) }
 {
     let bytes = read_up_to(alloc, source, FILE_LIMIT + 1)?;
     if bytes.len() as u64 > FILE_LIMIT {
@@ -44,6 +46,7 @@ pub fn read_up_to<S: Source>(alloc: Global, source: &mut S, limit: u64) -> Resul
     ensures bounded { GaveWithin (λ _. limit) (S.left source.old) (S.left source.new) }
     ensures whole { IfOk result (λ bytes. (length bytes.items ≡ limit) ⊎ IsEnd (S.left source.new)) }
     ensures worked { IfOk result (λ _. S.failures source.new ≡ S.failures source.old) }
+    ensures unfilled { IfErr result (λ e. e ≡ WantOfMemory → GaveBelow limit (S.left source.old) (S.left source.new)) }
     ensures refused { IfErr result (λ e. ((e ≡ WantOfMemory) × (S.failures source.new ≡ S.failures source.old)) ⊎ ((e ≡ Read) × Rose (S.failures source.old) (S.failures source.new))) }
     ensures told { IfErr result (ToldAsRead (S.failures source.old) (S.failures source.new)) }
 {
