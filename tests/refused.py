@@ -175,6 +175,13 @@ def small_pieces(room, name, words):
         room.hold(f"{name}: in pieces of {piece}", found == wanted, found)
 
 
+def line_in_pieces(room):
+    """Standard error takes few bytes at once, and has the whole line."""
+    for piece in SMALL_PIECES:
+        found = room.run(["expand", "none", "out"], PIECE=piece)
+        room.hold(f"the line in pieces of {piece}", found == (DEVICE, b"ccsds: 18 Read\n", b""), found)
+
+
 def limits(room, name, words, lines):
     """Bounds the program's memory more and less: it is whole, or it is refused, and then nothing is written."""
     wanted, whole = room.run(words), 0
@@ -242,6 +249,7 @@ def main():
             room.hold(f"{name}: reads and writes", reads > 0 and writes > 0, (reads, writes))
             print(f"{name}: {reads} reads and {writes} writes refused in turn")
             small_pieces(room, name, words)
+        line_in_pieces(room)
         for name, (words, lines) in COMMANDS.items():
             print(f"{name}: whole under {limits(room, name, words, lines)} limits of {len(range(256, 8192, 64))}")
         announced(room)
