@@ -1,12 +1,13 @@
 -- What the run of a command promises, whichever it is: what its engine does.
 use Rattle.std.specs.Prelude.{◌≡◌, ◌≢◌, ◌⊎◌, false, ℕ, List, Option, Some, None, string_bytes, ⊤, Result, OnOk, IfErr}
 use Rattle.cube_core.specs.declared.fault.Fault.{Fault}
-use Rattle.cube_core.specs.declared.fault.Fault.TheVariants.{Read, Write}
+use Rattle.cube_core.specs.declared.fault.Fault.TheVariants.{Read, WantOfMemory, Write}
 use Rattle.cube_core.specs.Layout.{IsLayout}
 use Rattle.header_bits.specs.declared.params.Params.{Params}
 use Rattle.command_settings.specs.declared.settings.CompressSettings.{CompressSettings}
 use Rattle.command_settings.specs.declared.settings.Settings.{Settings}
 use Rattle.command_settings.specs.declared.settings.Settings.TheVariants.{Show, Compress, Expand, Inspect}
+use Rattle.command_devices.specs.Devices.{GaveBelow}
 use Rattle.command_devices.specs.Reading.{ToldAsRead, file_limit}
 use Rattle.command_devices.specs.Writing.{ToldAsWrite}
 use Rattle.ccsds_command.specs.Compress.{Compresses, IsCompressFault, raw_limit}
@@ -76,6 +77,17 @@ limit_of Show = show_limit
 limit_of (Compress settings from to) = λ _. raw_limit settings
 limit_of (Expand layout from to) = λ _. file_limit
 limit_of Inspect = λ _. file_limit
+
+-- the command reads a coded file
+abbrev pub ReadsFile : Settings → Type 0
+ReadsFile Show = ⊥
+ReadsFile (Compress settings from to) = ⊥
+ReadsFile (Expand layout from to) = ⊤
+ReadsFile Inspect = ⊤
+
+-- a file that is too long is never told as want of memory: where memory was refused, fewer bytes came
+abbrev pub IsUnfilled : Settings → Option (List ℕ) → Option (List ℕ) → Fault → Type 0
+IsUnfilled settings left left_now fault = ReadsFile settings → fault ≡ WantOfMemory → GaveBelow file_limit left left_now
 
 -- between a source and a sink a command did what it is to do, and neither failed; or it was refused for a reason of its own, which tells what failed
 abbrev pub Ran : {U : Type 0} → Settings → Option (List ℕ) → ℕ → ℕ → Option (List ℕ) → Option (List ℕ) → ℕ → ℕ → ℕ → ℕ → Result U Fault → Type 0
