@@ -1,6 +1,6 @@
 //! The coding end: one of the two entropy coders, which takes an image's residuals in encoding order.
 
-ghost use Rattle.std.specs.Prelude.{◌≡◌, ◌<◌, ◌≤◌, [], length, take, IsOk, IsTrue, IsFalse, IfOk, IfErr, OnOk, OnErr};
+ghost use Rattle.std.specs.Prelude.{◌≡◌, ◌*◌, ◌<◌, ◌≤◌, [], length, take, IsOk, IsTrue, IsFalse, IfOk, IfErr, OnOk, OnErr};
 ghost use Rattle.cube_core.specs.declared.fault.Fault.TheVariants.{WantOfMemory};
 ghost use Rattle.header_bits.specs.Lawful.{IsLawful};
 ghost use Rattle.block_adaptive.specs.Settings.{IsBlock};
@@ -69,7 +69,8 @@ impl Encoder {
 
     /// Takes a run of band `z` by the sample-adaptive coder: the next residuals, of which the first is number `t` of the band, and appends their code words.
     ///
-    /// They are of one row, and each is at most 2^D - 1. After `WantOfMemory` nothing was changed.
+    /// They are of one row, and each is at most 2^D - 1. Where the writer has room for 48 bits a residual it succeeds. After
+    /// `WantOfMemory` nothing was changed.
     #[inline(always)]
     pub fn put_run(
         &mut self,
@@ -81,6 +82,7 @@ impl Encoder {
         requires { MayPutRun self.old z t run.now }
         ensures taken { OnOk result (PutsRun z t run.now self.old writer.old.bits self.new writer.new.bits) }
         ensures same { OnErr result ((self.new ≡ self.old) × (writer.new.bits ≡ writer.old.bits)) }
+        ensures within { 48 * length run.now ≤ writer.old.room → IsOk result }
         ensures refused { IfErr result (λ e. e ≡ WantOfMemory) }
     {
         match self {

@@ -102,7 +102,7 @@ impl Stats {
     /// Appends the code words of a run of band `z`: its numbers from number `t` on, one behind another. Takes them into the statistics.
     ///
     /// `t` counts the band's numbers from 0. The run is within a row, so it has at most 65,536 numbers, and each is at
-    /// most 2^D - 1. After `WantOfMemory` nothing was changed.
+    /// most 2^D - 1. Where the writer has room for 48 bits a number it succeeds. After `WantOfMemory` nothing was changed.
     #[inline]
     pub fn put_run(
         &mut self,
@@ -116,6 +116,7 @@ impl Stats {
         requires long { (length numbers.now ≤ 2 ^ 16) × (t < 2 ^ 48) }
         ensures taken { OnOk result (PutsRun z t numbers.now self.old writer.old.bits self.new writer.new.bits) }
         ensures same { OnErr result ((self.new ≡ self.old) × (writer.new.bits ≡ writer.old.bits)) }
+        ensures within { 48 * length numbers.now ≤ writer.old.room → IsOk result }
         ensures refused { IfErr result (λ e. e ≡ WantOfMemory) }
         ensures bands { (length self.new.bands ≡ length self.old.bands) × (self.new.bits ≡ self.old.bits) }
     {
@@ -228,6 +229,7 @@ fn make_room(words: usize, writer: &mut BitWriter) -> Result<(), Fault>
     ensures same { writer.new.bits ≡ writer.old.bits }
     ensures room { OnOk result (48 * words ≤ writer.new.room) }
     ensures bounded { writer.new.room ≤ max writer.old.room (max (48 * words + 7) (length writer.old.bits)) }
+    ensures within { 48 * words ≤ writer.old.room → IsOk result }
     ensures refused { IfErr result (λ e. e ≡ WantOfMemory) }
 {
     writer.reserve(MOST_BITS * words as u64)

@@ -12,6 +12,8 @@ mod cubes;
 #[cfg(test)]
 mod files;
 #[cfg(test)]
+mod long_runs;
+#[cfg(test)]
 mod pieces;
 #[cfg(test)]
 mod predictor;

@@ -17,16 +17,16 @@ use std::process::Abort;
 
 /// What a test tells the coder.
 #[derive(Clone, Copy)]
-struct Settings {
-    bits: u32,
-    umax: u32,
-    gamma_star: u32,
-    gamma_zero: u32,
-    constant: u32,
+pub(crate) struct Settings {
+    pub(crate) bits: u32,
+    pub(crate) umax: u32,
+    pub(crate) gamma_star: u32,
+    pub(crate) gamma_zero: u32,
+    pub(crate) constant: u32,
 }
 
 /// Parameters of one band, whose settings are lawful.
-fn params_of(rt: &impl Abort, s: Settings) -> Params
+pub(crate) fn params_of(rt: &impl Abort, s: Settings) -> Params
     ensures lawful { AreForSamples result }
     ensures bands { 1 ≤ result.shape.bands }
     ensures bits { result.kind.bits ≡ s.bits }

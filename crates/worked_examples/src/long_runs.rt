@@ -1,0 +1,122 @@
+//! Runs of as many residuals as the longest row has, each taken whole by one call that finds no room reserved.
+
+ghost use Rattle.std.specs.Prelude.{◌≡◌, ◌<◌, ◌^◌, length};
+ghost use Rattle.std.specs.List.{AllByRecursion};
+ghost use Rattle.cube_core.specs.Shape.{sample_count};
+ghost use Rattle.header_bits.specs.Lawful.{IsLawful};
+
+use crate::sample_words::{self, Settings};
+use cube_core::kind::Kind;
+use cube_core::order::Order;
+use cube_core::shape::Shape;
+use file_coding::coding_end::CodingEnd;
+use header_bits::bit_writer::BitWriter;
+use header_bits::params::{Coder, CountStart, Params, WeightStart};
+use sample_adaptive::stats::Stats;
+use std::alloc::Global;
+use std::process::Abort;
+
+/// How many columns the longest row has.
+const LONGEST: usize = 65_536;
+
+/// So many zeros.
+fn zeros(rt: &impl Abort, alloc: Global, count: usize) -> Vec<u16>
+    ensures many { length result.items ≡ count }
+    ensures range { AllByRecursion (λ n. n < 2 ^ 8) result.items }
+{
+    vec![in alloc; 0u16; count].expect(rt, "memory")
+}
+
+/// Parameters of one row of as many samples, each of eight bits, in so many bands.
+fn params_of(rt: &impl Abort, columns: u32, bands: u32, order: Order, coder: Coder) -> Params
+    ensures lawful { IsLawful result }
+    ensures bits { result.kind.bits ≡ 8 }
+    ensures count { sample_count result.shape ≡ 65536 }
+{
+    let shape = Shape::new(columns, 1, bands).expect(rt, "a shape");
+    let kind = Kind::new(false, 8).expect(rt, "a kind");
+    assert!(rt; shape.sample_count() == LONGEST as u64);
+    let params = Params {
+        shape,
+        kind,
+        order,
+        user: 0,
+        word: 1,
+        previous: 0,
+        reduced: true,
+        column: true,
+        register: 32,
+        omega: 13,
+        interval_log: 6,
+        vmin: -1,
+        vmax: 3,
+        start: WeightStart::Usual,
+        coder,
+    };
+    assert!(rt; params.check().is_ok());
+    params
+}
+
+/// The sample-adaptive coder.
+fn by_samples() -> Coder {
+    Coder::Sample {
+        umax: 16,
+        gamma_star: 6,
+        gamma_zero: 1,
+        start: CountStart::Constant(0),
+    }
+}
+
+/// The block-adaptive coder, by blocks of 64.
+fn by_blocks() -> Coder {
+    Coder::Block {
+        size: 64,
+        restricted: false,
+        reference: 4096,
+    }
+}
+
+/// That a coding end takes as many zeros as there are samples by one call, and then wants no more.
+fn takes_all(rt: &impl Abort, alloc: Global, params: &Params)
+    requires lawful { IsLawful params.now }
+    requires bits { params.now.kind.bits ≡ 8 }
+    requires count { sample_count params.now.shape ≡ 65536 }
+{
+    let zeros = zeros(rt, alloc, LONGEST);
+    let mut end = CodingEnd::new(alloc, params).expect(rt, "memory");
+    end.put_all(&zeros).expect(rt, "memory");
+    assert!(rt; end.place().is_none());
+}
+
+/// A coding end takes a whole row, the columns of two bands, and blocks.
+#[test]
+fn long_runs_are_taken(rt: HostRuntime) {
+    let alloc = rt.alloc();
+    let row = params_of(&rt, 65_536, 1, Order::Bsq, by_samples());
+    takes_all(&rt, alloc, &row);
+    let pairs = params_of(&rt, 32_768, 2, Order::Bi(2), by_samples());
+    takes_all(&rt, alloc, &pairs);
+    let blocks = params_of(&rt, 65_536, 1, Order::Bsq, by_blocks());
+    takes_all(&rt, alloc, &blocks);
+}
+
+/// The sample-adaptive coder takes a whole row.
+#[test]
+fn a_long_run_is_put(rt: HostRuntime) {
+    let settings = Settings {
+        bits: 8,
+        umax: 16,
+        gamma_star: 6,
+        gamma_zero: 1,
+        constant: 0,
+    };
+    let params = sample_words::params_of(&rt, settings);
+    let zeros = zeros(&rt, rt.alloc(), LONGEST);
+    let mut stats = Stats::new(rt.alloc(), &params).expect(&rt, "memory");
+    let mut writer = BitWriter::new(rt.alloc());
+    stats
+        .put_run(0, 0, &zeros, &mut writer)
+        .expect(&rt, "memory");
+    // The first is written in eight bits, and each other in one.
+    assert_eq!(rt; writer.bit_count(), 8 + 65_535);
+}
