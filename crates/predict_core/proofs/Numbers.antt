@@ -48,7 +48,7 @@ same_half : (a b : ℤ) → floor_div (a +ℤ pos 2 *ℤ b) 2 ≡ floor_div a 2 
 same_half a b = floor_of_sum a b 2 (omega arith)
 
 -- the number of a sample is that of its height
-shifted : (low high t h : ℤ) → mapped_between low high (t +ℤ pos 2 *ℤ low) (low +ℤ h) ≡ mapped_between (pos 0) (high -ℤ low) t h
+pub shifted : (low high t h : ℤ) → mapped_between low high (t +ℤ pos 2 *ℤ low) (low +ℤ h) ≡ mapped_between (pos 0) (high -ℤ low) t h
 unfolding mapped_between
 shifted low high t h =
     let p : ℤ = floor_div t 2 in
@@ -58,7 +58,7 @@ shifted low high t h =
     let near : reach low high (p +ℤ low) ≡ reach (pos 0) (high -ℤ low) p = ap₂ min (ap unsigned_abs under) (ap unsigned_abs over) in
     rw (same_half t low, e, near, same_parity t low) refl
 
-scaled_up : (low middle high part sum : ℤ)
+pub scaled_up : (low middle high part sum : ℤ)
     → clip (floor_div (part +ℤ ((pos 4 *ℤ low +ℤ sum) -ℤ pos 4 *ℤ middle)) 2 +ℤ pos 2 *ℤ middle +ℤ pos 1) (pos 2 *ℤ low) (pos 2 *ℤ high +ℤ pos 1)
     ≡ clip (floor_div (part +ℤ sum) 2 +ℤ pos 1) (pos 0) (pos 2 *ℤ (high -ℤ low) +ℤ pos 1) +ℤ pos 2 *ℤ low
 scaled_up low middle high part sum =

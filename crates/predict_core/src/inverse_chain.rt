@@ -7,7 +7,7 @@ ghost use Rattle.cube_core.specs.Kind.{IsSample, smin};
 ghost use Rattle.cube_core.specs.Image.{IsPlace, put};
 ghost use Rattle.header_bits.specs.declared.params.Params.{Params as Parameters};
 ghost use Rattle.predict_core.specs.Bounds.{AllWithin};
-ghost use Rattle.predict_core.specs.Chain.{AreWeightsAt};
+ghost use Rattle.predict_core.specs.Chain.{AreWeightsAt, scaled_by_difference};
 ghost use Rattle.predict_core.specs.Predictor.{previous_bands};
 ghost use Rattle.predict_core.specs.LocalSum.{local_sum};
 ghost use Rattle.predict_core.specs.Differences.{spectral_differences, difference_vector};
@@ -21,8 +21,10 @@ ghost use Rattle.predict_core.specs.Weights.{step_exponent};
 use crate::chain::{differences_at, turn_of_error};
 use crate::differences::{put_own_directions, sum_at};
 use crate::exponent::{exponent_at, places_alike};
-use crate::prediction::{predicted_difference, scaled_by_part};
+use crate::mapping::scaled_height;
+use crate::prediction::predicted_difference;
 use crate::range::Range;
+use crate::residual::unmap_between;
 use crate::room::Quad;
 use crate::settings::{Settings, form_at};
 use crate::weights::{Form, update_by};
@@ -179,8 +181,7 @@ pub(crate) fn sample_there<const N: usize, const WRAPS: bool>(
     put_own_directions(predictor, cube, settings.band, y, x, sum, &mut differences);
     let whole = 4 * range.smin + sum as i32;
     let part = predicted_difference::<N, WRAPS>(predictor, range, whole, weights, &differences);
-    let scaled = scaled_by_part(range, part, whole);
-    let found = range.sample_of(scaled, delta);
+    let found = sample_by_part(range, part, sum, delta);
     let own = difference_there(range, found, sum);
     // The exponent is for proofs: the form tells all of it.
     let exponent = exponent_at(predictor, settings.columns, range.bits, t);
@@ -193,6 +194,22 @@ pub(crate) fn sample_there<const N: usize, const WRAPS: bool>(
         turn_of_error(own, part),
     );
     found
+}
+
+/// The sample of a mapped residual, from the predicted central difference and the local sum of the heights.
+///
+/// It is found as a height, whose least is 0: so the ends of the range cost nothing.
+#[inline(always)]
+fn sample_by_part(range: &Range, part: i32, sum: u32, delta: u16) -> i32
+    requires part_in { unsigned_abs part ≤ 18 * 2 ^ 20 }
+    requires sum_in { sum ≤ 262140 }
+    requires residual { delta < 2 ^ range.now.kind.bits }
+    ensures range { IsSample range.now.kind result }
+    ensures inverse { mapped range.now.kind (scaled_by_difference range.now.kind part (pos 4 *ℤ smin range.now.kind +ℤ pos sum)) result ≡ delta }
+{
+    let greatest = range.smax - range.smin;
+    let scaled = scaled_height(greatest, part, sum as i32);
+    range.smin + unmap_between(0, greatest, scaled, delta)
 }
 
 /// The central difference of a sample where the local sum of the heights is `sum`.

@@ -20,7 +20,6 @@ use crate::differences::sum_at;
 use crate::inverse_chain::{difference_there, sample_there};
 use crate::settings::Settings;
 use crate::spectral::SpectralDifferences;
-use crate::weights::Form;
 use cube_core::cube::Cube;
 
 impl Band {
@@ -52,17 +51,44 @@ impl Band {
         ensures told { AreOf self.new.predictor below.new cube.new }
     {
         cube.is_cube();
+        self.inverse_into(cube, y, x, delta, below);
+    }
+
+    /// Writes the sample at the next place, as `inverse_place` does, and tells it.
+    // A call of its own: a caller's loop leaves it the registers, and the row's address is found once.
+    #[inline(never)]
+    pub(crate) fn inverse_into(
+        &mut self,
+        cube: &mut Cube,
+        y: u32,
+        x: u32,
+        delta: u16,
+        below: &mut SpectralDifferences,
+    ) -> i32
+        requires shape { cube.old.shape ≡ self.old.shape }
+        requires kind { cube.old.kind ≡ self.old.kind }
+        requires place { IsPlace cube.old.shape self.old.band y x }
+        requires next { self.old.place ≡ y * cube.old.shape.columns + x }
+        requires residual { delta < 2 ^ cube.old.kind.bits }
+        requires told { AreOf self.old.predictor below.old cube.old }
+        ensures moved { MovesOn self.old self.new }
+        ensures written { cube.new ≡ put cube.old self.old.band y x result }
+        ensures residual { (p : Parameters) → Follows p self.old cube.old → mapped_residual p cube.new self.old.band self.old.place ≡ delta }
+        ensures follows { (p : Parameters) → Follows p self.old cube.old → Follows p self.new cube.new }
+        ensures told { AreOf self.new.predictor below.new cube.new }
+    {
         let band = self.settings.band;
         let sample = self.inverse_beside(cube, y, x, delta, below);
         cube.set(band, y, x, sample);
+        sample
     }
 
     /// The sample of a mapped residual at the next place, as `inverse` finds it.
     ///
     /// `below` are differences of the cube, and afterwards of the cube with that sample.
-    // Inlined at each of its calls it is found by a call deeper down, which takes a copy of the differences.
-    #[inline(never)]
-    pub(crate) fn inverse_beside(
+    // Called at one place alone: where there are two, what it calls isn't inlined and takes a copy of the differences.
+    #[inline(always)]
+    fn inverse_beside(
         &mut self,
         cube: &Cube,
         y: u32,
@@ -124,16 +150,13 @@ fn sample_above(
     cube.is_cube();
     let predictor = &settings.predictor;
     let sum = sum_at(predictor, cube, settings.band, y, x);
-    let lower = below.behind_directions(predictor.reduced);
-    let sample = sample_by(
-        settings, cube, y, x, sum, below.form, weights, &lower, delta,
-    );
+    let sample = sample_by(settings, cube, y, x, sum, weights, below, delta);
     let own = difference_there(&settings.range, sample, sum);
     below.go_up(own, predictor.previous);
     sample
 }
 
-/// The same by the differences of the bands below, in a room that leaves the first places to the directions.
+/// The sample alone, and the weights after it.
 #[inline(always)]
 fn sample_by(
     settings: &Settings,
@@ -141,9 +164,8 @@ fn sample_by(
     y: u32,
     x: u32,
     sum: u32,
-    form: Form,
     weights: &mut [i32; 18],
-    lower: &[i32; 18],
+    below: &SpectralDifferences,
     delta: u16,
 ) -> i32
     requires later { 0 < y }
@@ -153,18 +175,20 @@ fn sample_by(
     requires sum_is { local_sum settings.now.predictor cube.now settings.now.band y x ≡ pos 4 *ℤ smin cube.now.kind +ℤ pos sum }
     requires sum_in { sum ≤ 262140 }
     requires weights_in { AllWithin (2 ^ (settings.now.predictor.fraction + 2)) weights.old }
-    requires lower { drop (if settings.now.predictor.reduced then 0 else 3) lower.now ≡ spectral_differences settings.now.predictor cube.now settings.now.band y x (previous_bands settings.now.predictor settings.now.band) ++ replicate (18 - settings.now.count) (pos 0) }
     requires residual { delta < 2 ^ cube.now.kind.bits }
-    requires steps { AreSteps form cube.now.kind.bits (step_exponent settings.now.predictor cube.now.shape.columns cube.now.kind.bits (y * cube.now.shape.columns + x)) }
+    requires band { below.now.band ≡ settings.now.band }
+    requires row { below.now.row ≡ y }
+    requires column { below.now.column ≡ x }
+    requires told { AreOf settings.now.predictor below.now cube.now }
     ensures range { IsSample cube.now.kind result }
     ensures inverse { mapped cube.now.kind (scaled_there settings.now.predictor (put cube.now settings.now.band y x result) settings.now.band y x (take settings.now.count weights.old)) result ≡ delta }
     ensures weights { take settings.now.count weights.new ≡ next_weights settings.now.predictor (put cube.now settings.now.band y x result) settings.now.band (y * cube.now.shape.columns + x) (take settings.now.count weights.old) }
     ensures bound { AllWithin (2 ^ (settings.now.predictor.fraction + 2)) weights.new }
 {
     if settings.predictor.register < 46 {
-        sample_in::<true>(settings, cube, y, x, sum, form, weights, lower, delta)
+        sample_in::<true>(settings, cube, y, x, sum, weights, below, delta)
     } else {
-        sample_in::<false>(settings, cube, y, x, sum, form, weights, lower, delta)
+        sample_in::<false>(settings, cube, y, x, sum, weights, below, delta)
     }
 }
 
@@ -178,9 +202,8 @@ fn sample_in<const WRAPS: bool>(
     y: u32,
     x: u32,
     sum: u32,
-    form: Form,
     weights: &mut [i32; 18],
-    lower: &[i32; 18],
+    below: &SpectralDifferences,
     delta: u16,
 ) -> i32
     requires register { WRAPS ≡ false → 46 ≤ settings.now.predictor.register }
@@ -191,9 +214,11 @@ fn sample_in<const WRAPS: bool>(
     requires sum_is { local_sum settings.now.predictor cube.now settings.now.band y x ≡ pos 4 *ℤ smin cube.now.kind +ℤ pos sum }
     requires sum_in { sum ≤ 262140 }
     requires weights_in { AllWithin (2 ^ (settings.now.predictor.fraction + 2)) weights.old }
-    requires lower { drop (if settings.now.predictor.reduced then 0 else 3) lower.now ≡ spectral_differences settings.now.predictor cube.now settings.now.band y x (previous_bands settings.now.predictor settings.now.band) ++ replicate (18 - settings.now.count) (pos 0) }
     requires residual { delta < 2 ^ cube.now.kind.bits }
-    requires steps { AreSteps form cube.now.kind.bits (step_exponent settings.now.predictor cube.now.shape.columns cube.now.kind.bits (y * cube.now.shape.columns + x)) }
+    requires band { below.now.band ≡ settings.now.band }
+    requires row { below.now.row ≡ y }
+    requires column { below.now.column ≡ x }
+    requires told { AreOf settings.now.predictor below.now cube.now }
     ensures range { IsSample cube.now.kind result }
     ensures inverse { mapped cube.now.kind (scaled_there settings.now.predictor (put cube.now settings.now.band y x result) settings.now.band y x (take settings.now.count weights.old)) result ≡ delta }
     ensures weights { take settings.now.count weights.new ≡ next_weights settings.now.predictor (put cube.now settings.now.band y x result) settings.now.band (y * cube.now.shape.columns + x) (take settings.now.count weights.old) }
@@ -201,12 +226,52 @@ fn sample_in<const WRAPS: bool>(
 {
     let count = settings.count;
     if count == 0 {
-        sample_there::<0, WRAPS>(settings, cube, y, x, sum, form, weights, lower, delta)
+        sample_behind::<0, WRAPS>(settings, cube, y, x, sum, weights, below, delta)
     } else if count <= 4 {
-        sample_there::<4, WRAPS>(settings, cube, y, x, sum, form, weights, lower, delta)
+        sample_behind::<4, WRAPS>(settings, cube, y, x, sum, weights, below, delta)
     } else if count <= 8 {
-        sample_there::<8, WRAPS>(settings, cube, y, x, sum, form, weights, lower, delta)
+        sample_behind::<8, WRAPS>(settings, cube, y, x, sum, weights, below, delta)
     } else {
-        sample_there::<18, WRAPS>(settings, cube, y, x, sum, form, weights, lower, delta)
+        sample_behind::<18, WRAPS>(settings, cube, y, x, sum, weights, below, delta)
     }
+}
+
+/// The same by the first `N` weights.
+///
+/// Of the differences of the bands below only as many are read.
+#[inline(always)]
+fn sample_behind<const N: usize, const WRAPS: bool>(
+    settings: &Settings,
+    cube: &Cube,
+    y: u32,
+    x: u32,
+    sum: u32,
+    weights: &mut [i32; 18],
+    below: &SpectralDifferences,
+    delta: u16,
+) -> i32
+    requires few { N ≤ 18 }
+    requires enough { settings.now.count ≤ N }
+    requires register { WRAPS ≡ false → 46 ≤ settings.now.predictor.register }
+    requires later { 0 < y }
+    requires place { IsPlace cube.now.shape settings.now.band y x }
+    requires columns { cube.now.shape.columns ≡ settings.now.columns }
+    requires kind { cube.now.kind ≡ settings.now.range.kind }
+    requires sum_is { local_sum settings.now.predictor cube.now settings.now.band y x ≡ pos 4 *ℤ smin cube.now.kind +ℤ pos sum }
+    requires sum_in { sum ≤ 262140 }
+    requires weights_in { AllWithin (2 ^ (settings.now.predictor.fraction + 2)) weights.old }
+    requires residual { delta < 2 ^ cube.now.kind.bits }
+    requires band { below.now.band ≡ settings.now.band }
+    requires row { below.now.row ≡ y }
+    requires column { below.now.column ≡ x }
+    requires told { AreOf settings.now.predictor below.now cube.now }
+    ensures range { IsSample cube.now.kind result }
+    ensures inverse { mapped cube.now.kind (scaled_there settings.now.predictor (put cube.now settings.now.band y x result) settings.now.band y x (take settings.now.count weights.old)) result ≡ delta }
+    ensures weights { take settings.now.count weights.new ≡ next_weights settings.now.predictor (put cube.now settings.now.band y x result) settings.now.band (y * cube.now.shape.columns + x) (take settings.now.count weights.old) }
+    ensures bound { AllWithin (2 ^ (settings.now.predictor.fraction + 2)) weights.new }
+{
+    let lower = below.behind_directions(settings.predictor.reduced);
+    sample_there::<N, WRAPS>(
+        settings, cube, y, x, sum, below.form, weights, &lower, delta,
+    )
 }

@@ -101,7 +101,7 @@ fn number_of_height(greatest: i32, part: i32, sum: i32, height: u16) -> u16
 ///
 /// Behind the last place of a run the numbers may be any, and their sum may wrap.
 #[inline(always)]
-fn scaled_height(greatest: i32, part: i32, sum: i32) -> i32
+pub(crate) fn scaled_height(greatest: i32, part: i32, sum: i32) -> i32
     requires greatest_in { (pos 1 ≤ℤ greatest) × (greatest ≤ℤ pos 65535) }
     ensures bounds { (pos 0 ≤ℤ result) × (result ≤ℤ (pos 2 *ℤ greatest +ℤ pos 1)) }
     ensures value { unsigned_abs part ≤ 18 * 2 ^ 20 → pos 0 ≤ℤ sum → sum ≤ℤ pos 262140 → result ≡ clip (floor_div (part +ℤ sum) 2 +ℤ pos 1) (pos 0) (pos 2 *ℤ greatest +ℤ pos 1) }

@@ -11,7 +11,6 @@ ghost use Rattle.predict_core.specs.Bounds.{AllWithin, IsPredictor};
 use crate::predictor::Predictor;
 use crate::range::Range;
 use crate::register::{halved, register_of, wrapped_value};
-use crate::residual::prediction_of;
 use crate::weights::{product_of, product_of_first};
 
 /// Twice a predicted sample, from the local sum, the weights and the differences.
@@ -52,19 +51,6 @@ fn scaled_by_product(predictor: &Predictor, range: &Range, sum: i32, product: i6
     );
     let upper = halved(register, predictor.fraction + 1);
     scaled_from(range.smin, range.smax, middle, upper)
-}
-
-/// Twice a predicted sample, from the predicted central difference and the local sum, where the register wraps nothing.
-#[inline(always)]
-pub(crate) fn scaled_by_part(range: &Range, part: i32, sum: i32) -> i32
-    requires part_in { unsigned_abs part ≤ 18 * 2 ^ 20 }
-    requires sum_in { (negsuc 131071 ≤ℤ sum) × (sum ≤ℤ pos 262140) }
-    ensures value { result ≡ scaled_by_difference range.now.kind part sum }
-    ensures scaled { IsScaled range.now.kind result }
-{
-    let middle = range.smid;
-    let upper = prediction_of(part + (sum - 4 * middle));
-    scaled_near(range.smin, range.smax, middle, upper)
 }
 
 /// The predicted central difference at a place, by the first `N` weights, from which the scaled prediction follows.
@@ -173,19 +159,4 @@ fn scaled_from(low: i32, high: i32, middle: i32, upper: i64) -> i32
 {
     let center = center_of(upper, middle);
     center.clamp((2 * low) as i64, (2 * high + 1) as i64) as i32
-}
-
-/// The same where the upper part fits a word of 32 bits, as it does where the register wraps nothing.
-#[inline(always)]
-fn scaled_near(low: i32, high: i32, middle: i32, upper: i32) -> i32
-    requires upper_in { unsigned_abs upper ≤ 2 ^ 26 }
-    requires low_in { (negsuc 32767 ≤ℤ low) × (low ≤ℤ pos 0) }
-    requires high_in { (pos 1 ≤ℤ high) × (high ≤ℤ pos 65535) }
-    requires middle_in { (pos 0 ≤ℤ middle) × (middle ≤ℤ pos 32768) }
-    ensures value { result ≡ clip (upper +ℤ pos 2 *ℤ middle +ℤ pos 1) (pos 2 *ℤ low) (pos 2 *ℤ high +ℤ pos 1) }
-    ensures low_end { (pos 2 *ℤ low) ≤ℤ result }
-    ensures high_end { result ≤ℤ (pos 2 *ℤ high +ℤ pos 1) }
-{
-    let center = upper + 2 * middle + 1;
-    center.clamp(2 * low, 2 * high + 1)
 }

@@ -91,11 +91,11 @@ impl Band {
         ensures told { AreOf self.new.predictor below.new cube.new }
     {
         cube.is_cube();
-        let band = self.settings.band;
+        // That its columns are the cube's is a fact for proofs.
+        let _columns = self.settings.columns;
         for i in 0..deltas.len() {
             let column = x + i as u32;
-            let sample = self.inverse_beside(cube, y, column, deltas[i], below);
-            cube.set(band, y, column, sample);
+            self.inverse_into(cube, y, column, deltas[i], below);
         }
     }
 }

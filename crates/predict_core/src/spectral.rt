@@ -67,6 +67,7 @@ impl SpectralDifferences {
     }
 
     /// Finds those of the bands below a band at row `y`, column `x`.
+    #[cold]
     fn find(&mut self, settings: &Settings, cube: &Cube, y: u32, x: u32)
         requires place { IsPlace cube.now.shape settings.now.band y x }
         requires columns { cube.now.shape.columns ≡ settings.now.columns }

@@ -1,4 +1,4 @@
-use Rattle.std.proofs.Common.{◌≡◌, ◌≤◌, ◌<◌, ◌-◌, ◌*◌, ◌^◌, ◌+◌, ℤ, pos, ◌+ℤ◌, ◌-ℤ◌, ◌*ℤ◌, List, false, refl, sym, ap, ap₂, ◌∙◌, take, ◌++◌, replicate, SFits, w32, to_z-of_z, rules, arith}
+use Rattle.std.proofs.Common.{◌≡◌, ◌≤◌, ◌<◌, ◌-◌, ◌*◌, ◌^◌, ◌+◌, ℤ, pos, ◌+ℤ◌, ◌-ℤ◌, ◌*ℤ◌, List, false, refl, sym, ap, ◌∙◌, take, ◌++◌, replicate, SFits, w32, to_z-of_z, rules, arith}
 use Rattle.cube_core.specs.Kind.{SampleKind, smin}
 use Rattle.predict_core.specs.declared.predictor.Predictor.{Predictor}
 use Rattle.predict_core.specs.Bounds.{AllWithin}
@@ -15,7 +15,7 @@ use Rattle.predict_core.proofs.Padding.{whole_sum}
 use Rattle.predict_core.proofs.Ranges.{padded_within}
 use Rattle.predict_core.proofs.inverse_chain.sample_there.Given as given
 use Rattle.predict_core.proofs.inverse_chain.sample_there.Goals as goal
-use Rattle.predict_core.proofs.inverse_chain.sample_there.Goals.{After-put_own_directions, After-sample_of-found, After-update_by}
+use Rattle.predict_core.proofs.inverse_chain.sample_there.Goals.{After-put_own_directions, After-sample_by_part-found, After-update_by}
 
 -- a scaled prediction that is found by the range, and by a local sum
 found_by : (p : Predictor) (made k : SampleKind) (sum whole v : ℤ) (ws us : List ℤ) → k ≡ made → sum ≡ whole → scaled_by p made sum ws us ≡ scaled_by_difference made v sum → scaled_by p k whole ws us ≡ scaled_by_difference k v whole
@@ -38,7 +38,7 @@ module _ (g : given.Over) (c : After-put_own_directions g) where
       let s = c.args.settings.now in
       rw (filled, s.range.bits_is, ← c.requires.kind) (padded_within s.predictor c.args.cube.now c.is_cube.ensures c.args.y c.args.x later wide s.band c.requires.place (18 - s.count))
 
-module _ (g : given.Over) (c : After-sample_of-found g) where
+module _ (g : given.Over) (c : After-sample_by_part-found g) where
   -- the local sum, as the code computes it
   sum_is : pos 4 *ℤ c.args.settings.now.range.smin +ℤ pos c.args.sum ≡ local_sum c.args.settings.now.predictor c.args.cube.now c.args.settings.now.band c.args.y c.args.x
   sum_is =
@@ -66,14 +66,10 @@ module _ (g : given.Over) (c : After-sample_of-found g) where
       found_by s.predictor s.range.kind c.args.cube.now.kind (pos 4 *ℤ s.range.smin +ℤ pos c.args.sum) (local_sum s.predictor c.args.cube.now s.band c.args.y c.args.x) c.predicted_difference-part.result (take g.row.N c.args.weights.now) (take g.row.N c.put_own_directions.new.out) c.requires.kind sum_is e
 
   -- the scaled prediction is that of the weights and differences there
-  scaled_is : c.scaled_by_part-scaled.result ≡ scaled_there c.args.settings.now.predictor c.args.cube.now c.args.settings.now.band c.args.y c.args.x (take c.args.settings.now.count c.args.weights.now)
+  scaled_is : scaled_by_difference c.args.cube.now.kind c.predicted_difference-part.result (local_sum c.args.settings.now.predictor c.args.cube.now c.args.settings.now.band c.args.y c.args.x) ≡ scaled_there c.args.settings.now.predictor c.args.cube.now c.args.settings.now.band c.args.y c.args.x (take c.args.settings.now.count c.args.weights.now)
   scaled_is =
       let s = c.args.settings.now in
-      let part = c.predicted_difference-part.result in
-      let part_fits : SFits w32 c.predicted_difference-part.result = search rules in
-      let e = rw (whole_sum s.range.smin c.args.sum s.range.low c.requires.sum_in) at (simp (to_z-of_z part_fits) at c.scaled_by_part-scaled.ensures.value) in
-      e ∙ ap₂ (λ k v. scaled_by_difference k part v) (sym c.requires.kind) sum_is
-      ∙ sym (scaled_from_room s.predictor c.args.cube.now s.band c.args.y c.args.x s.count g.row.N c.args.weights.now c.put_own_directions.new.out c.is_cube.ensures c.requires.place s.count_is c.requires.enough c.requires.few vector_is part from_difference)
+      sym (scaled_from_room s.predictor c.args.cube.now s.band c.args.y c.args.x s.count g.row.N c.args.weights.now c.put_own_directions.new.out c.is_cube.ensures c.requires.place s.count_is c.requires.enough c.requires.few vector_is c.predicted_difference-part.result from_difference)
 
 pub predicted_difference-part-requires-clause-differences_in : goal.predicted_difference-part-requires-clause-differences_in
 predicted_difference-part-requires-clause-differences_in g c =
@@ -99,23 +95,23 @@ update_by-requires-clause-steps g c a =
 
 pub returns-clause-inverse : goal.returns-clause-inverse
 returns-clause-inverse g c =
-    let d = (goal.at.returns-clause-inverse g c).After-sample_of-found in
+    let d = (goal.at.returns-clause-inverse g c).After-sample_by_part-found in
     let s = c.args.settings.now in
-    let fits : SFits w32 c.sample_of-found.result = search rules in
-    let scaled_fits : SFits w32 c.scaled_by_part-scaled.result = search rules in
-    let e = rw (← c.requires.kind, scaled_is g d) at (simp (to_z-of_z scaled_fits) at c.sample_of-found.ensures.inverse) in
+    let fits : SFits w32 c.sample_by_part-found.result = search rules in
+    let part_fits : SFits w32 c.predicted_difference-part.result = search rules in
+    let e = rw (← c.requires.kind, ← c.requires.sum_is, scaled_is g d) at (simp (to_z-of_z part_fits) at c.sample_by_part-found.ensures.inverse) in
     rw (
       to_z-of_z fits,
-      ← scaled_put c.args.cube.now s.band c.args.y c.args.x c.sample_of-found.result c.requires.place c.is_cube.ensures.whole s.predictor (broad g d) (after g d) (take s.count c.args.weights.now),
+      ← scaled_put c.args.cube.now s.band c.args.y c.args.x c.sample_by_part-found.result c.requires.place c.is_cube.ensures.whole s.predictor (broad g d) (after g d) (take s.count c.args.weights.now),
     )
     e
 
 pub returns-clause-weights : goal.returns-clause-weights
 returns-clause-weights g c =
-    let d = (goal.at.returns-clause-weights g c).After-sample_of-found in
+    let d = (goal.at.returns-clause-weights g c).After-sample_by_part-found in
     let s = c.args.settings.now in
-    let found = c.sample_of-found.result in
-    let fits : SFits w32 c.sample_of-found.result = search rules in
+    let found = c.sample_by_part-found.result in
+    let fits : SFits w32 c.sample_by_part-found.result = search rules in
     let part_fits : SFits w32 c.predicted_difference-part.result = search rules in
     let exponent_fits : SFits w32 c.exponent_at-exponent.result = search rules in
     let turn_fits : SFits w32 c.turn_of_error.result = search rules in
@@ -125,7 +121,7 @@ returns-clause-weights g c =
     let turn = simp (to_z-of_z own_fits, to_z-of_z part_fits) at c.turn_of_error.ensures.value in
     let moved = rw turn at (simp (to_z-of_z exponent_fits, to_z-of_z turn_fits) at c.update_by.ensures.value) in
     let exponent = rw (bits, ← c.requires.columns) at c.exponent_at-exponent.ensures.value in
-    let range = rw (← c.requires.kind) at c.sample_of-found.ensures.range in
+    let range = rw (← c.requires.kind) at c.sample_by_part-found.ensures.range in
     let m = moved_from_room s.predictor c.args.cube.now s.band c.args.y c.args.x s.count g.row.N c.args.weights.now c.put_own_directions.new.out c.is_cube.ensures c.requires.place s.count_is c.requires.enough c.requires.few (vector_is g d) c.predicted_difference-part.result (from_difference g d)
     c.update_by.new.weights found c.difference_there-own.result c.exponent_at-exponent.result range (own ∙ ap (λ v. pos 4 *ℤ found -ℤ v) (sum_is g d)) exponent moved in
     rw (to_z-of_z fits)

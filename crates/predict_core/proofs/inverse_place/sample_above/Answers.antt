@@ -1,23 +1,10 @@
-use Rattle.std.proofs.Common.{◌≡◌, ◌+◌, ◌-◌, ◌<◌, ◌≤◌, pos, ◌+ℤ◌, ◌*ℤ◌, false, take, ◌++◌, replicate, if◌then◌else◌, SFits, w32, to_z-of_z, rules, arith, ap, ◌∙◌}
+use Rattle.std.proofs.Common.{◌≡◌, ◌+◌, ◌-◌, ◌<◌, ◌≤◌, pos, ◌+ℤ◌, ◌*ℤ◌, false, ◌++◌, replicate, SFits, w32, to_z-of_z, rules, arith, ◌∙◌}
 use Rattle.cube_core.specs.Kind.{smin}
 use Rattle.cube_core.specs.Image.{put}
 use Rattle.predict_core.specs.Predictor.{previous_bands}
 use Rattle.predict_core.specs.Differences.{central_difference, spectral_differences}
-use Rattle.predict_core.proofs.Filling.{spectral_length}
-use Rattle.predict_core.proofs.Rising.{behind_directions, own_put, raised_put}
+use Rattle.predict_core.proofs.Rising.{own_put, raised_put}
 use Rattle.predict_core.proofs.inverse_place.sample_above.Goals as goal
-
-pub sample_by-sample-requires-clause-lower : goal.sample_by-sample-requires-clause-lower
-sample_by-sample-requires-clause-lower c =
-    let s = c.args.settings.now in
-    let p = s.predictor in
-    let us = spectral_differences p c.args.cube.now s.band c.args.y c.args.x (previous_bands p s.band) in
-    let kept : c.args.below.now.differences ≡ us ++ replicate (18 - previous_bands p s.band) (pos 0) = ((rw (c.requires.band, c.requires.row, c.requires.column) at c.requires.told) c.requires.later).differences in
-    c.behind_directions-lower.ensures ∙ ap (take (if p.reduced then 18 else 15)) kept
-    ∙ behind_directions p us s.band s.count s.lawful.few (spectral_length p c.args.cube.now s.band c.args.y c.args.x (previous_bands p s.band)) s.count_is
-
-pub sample_by-sample-requires-clause-steps : goal.sample_by-sample-requires-clause-steps
-sample_by-sample-requires-clause-steps c = ((rw (c.requires.band, c.requires.row, c.requires.column) at c.requires.told) c.requires.later).steps
 
 pub returns-clause-told : goal.returns-clause-told
 returns-clause-told c h =

@@ -1,33 +1,6 @@
-use Rattle.std.proofs.Common.{◌≡◌, SFits, w32, to_z-of_z, rules, ap, ◌∙◌}
-use Rattle.cube_core.specs.Image.{put}
-use Rattle.predict_core.specs.Following.{Learner}
 use Rattle.predict_core.proofs.Rising.{beside_put}
 use Rattle.predict_core.proofs.band.Band.inverse_place.Goals as goal
-use Rattle.predict_core.proofs.band.Band.inverse_place.Goals.{After-set}
-
--- the cube with the sample
-is : (c : After-set) → c.set.new.self ≡ put c.args.cube.now c.args.self.now.band c.args.y c.args.x c.inverse_beside-sample.result
-is c =
-    let fits : SFits w32 c.inverse_beside-sample.result = search rules in
-    let band : c.self.inside.settings.band ≡ c.args.self.now.band = ap (λ (b : Learner). b.band) c.self.view_is in
-    simp (to_z-of_z fits) at c.set.ensures ∙ ap (λ b. put c.args.cube.now b c.args.y c.args.x c.inverse_beside-sample.result) band
 
 pub returns-clause-beside : goal.returns-clause-beside
 returns-clause-beside c =
-    let s = (goal.at.returns-clause-beside c).After-set in
-    rw (is s) (beside_put c.args.cube.now c.args.self.now.band c.args.y c.args.x c.inverse_beside-sample.result c.requires.place c.is_cube.ensures.whole)
-
-pub returns-clause-residual : goal.returns-clause-residual
-returns-clause-residual c p f =
-    let s = (goal.at.returns-clause-residual c).After-set in
-    rw (is s) (c.inverse_beside-sample.ensures.residual p f)
-
-pub returns-clause-follows : goal.returns-clause-follows
-returns-clause-follows c p f =
-    let s = (goal.at.returns-clause-follows c).After-set in
-    rw (is s) (c.inverse_beside-sample.ensures.follows p f)
-
-pub returns-clause-told : goal.returns-clause-told
-returns-clause-told c =
-    let s = (goal.at.returns-clause-told c).After-set in
-    rw (is s) c.inverse_beside-sample.ensures.told
+    rw c.inverse_into.ensures.written (beside_put c.args.cube.now c.args.self.now.band c.args.y c.args.x c.inverse_into.result c.requires.place c.is_cube.ensures.whole)
