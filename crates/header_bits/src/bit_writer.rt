@@ -107,7 +107,7 @@ impl BitWriter {
         if self.ready < 64 && !self.has_reserved(n) {
             return Err(Fault::WantOfMemory);
         }
-        self.place(bits, n);
+        self.push_reserved(bits, n);
         Ok(())
     }
 
@@ -124,9 +124,11 @@ impl BitWriter {
         self.reserve(u64::from(bits)).is_ok()
     }
 
-    /// Appends the `n` bits of a number, for which there is room.
+    /// Appends the `n` bits of a number, for which there is room: a push that can't be refused.
+    ///
+    /// `n` is at most 64, and the number below 2^n.
     #[inline(always)]
-    fn place(&mut self, bits: u64, n: u32)
+    pub fn push_reserved(&mut self, bits: u64, n: u32)
         requires few { n ≤ 64 }
         requires below { bits < 2 ^ n }
         requires room { n ≤ self.old.room }
@@ -208,13 +210,18 @@ fn filled(part: u64, held: u32, bits: u64) -> u64
 }
 
 /// Appends a word, for which there is room.
+#[inline(always)]
 fn append_word(bytes: &mut Vec<u8>, word: u64)
     requires room { vec_len bytes.old + 8 ≤ vec_capacity bytes.old }
     ensures bits { bits_of_bytes bytes.new.items ≡ bits_of_bytes bytes.old.items ++ bits_of 64 word }
     ensures len { vec_len bytes.new ≡ vec_len bytes.old + 8 }
     ensures capacity { vec_capacity bytes.old ≤ vec_capacity bytes.new }
 {
-    bytes.extend_from_slice(&word.to_be_bytes()).unwrap();
+    // Byte by byte, since no call that may grow it then keeps the writer from staying in registers.
+    let eight = word.to_be_bytes();
+    for i in 0..eight.len() {
+        bytes.push_reserved(eight[i]);
+    }
 }
 
 /// Appends the `held` lowest bits of a part, which are whole bytes and for which there is room.

@@ -9,7 +9,7 @@ use Rattle.sample_adaptive.specs.declared.statistics.Statistics.{Statistics}
 use Rattle.sample_adaptive.specs.Statistics.{CoderSettings, next_statistics, code_parameter}
 use Rattle.sample_adaptive.specs.Words.{code_word, code_at}
 use Rattle.sample_adaptive.specs.Body.{band_numbers, words_after, sample_body}
-use Rattle.sample_adaptive.specs.Taken.{Counts, HasTaken, PutsNumber, PutsRun, code_by, counted, of_band, no_statistics, with_number}
+use Rattle.sample_adaptive.specs.Taken.{Counts, HasTaken, PutsNumber, PutsRun, code_by, counted, of_band, no_statistics, with_band, with_number}
 use Rattle.sample_adaptive.proofs.Taking.{taken_along, code_is, taken_more}
 
 -- ---- how many numbers its band has
@@ -96,10 +96,6 @@ run_behind z t xs ys old mid new written written_mid written_now first second c 
     (rw cut at text, rw (gone-are, before-are) at b.1)
 
 -- ---- a number behind the first of its band
-
--- the statistics of a band are others
-abbrev pub with_band : Counts → ℕ → Statistics → Counts
-with_band v z s = record v { bands = set v.bands z s }
 
 pub run_later : (z t number : ℕ) (v : Counts) (s : Statistics) (written written_now : List Bool) → z < length v.bands → 0 < t → written_now ≡ written ++ code_word (record { limit = v.umax; low = code_parameter v.bits s; bits = v.bits }) number
     → PutsRun z t (number ∷ []) (with_band v z s) written (with_band v z (next_statistics v.gamma_star s number)) written_now

@@ -35,6 +35,16 @@ pub record AreCounts (v : Counts) : Type 0 where
   pub gamma_star : (1 ≤ v.gamma_star) × (v.gamma_star ≤ 9)
   pub bands : (z : ℕ) → z < length v.bands → AreStatistics v.gamma_star (of_band v.bands z)
 
+-- D, the unary length limit and the rescaling counter size are these
+pub record HasSettings (v : Counts) (bits umax gamma_star : ℕ) : Type 0 where
+  pub bits_are : v.bits ≡ bits
+  pub umax_is : v.umax ≡ umax
+  pub size_is : v.gamma_star ≡ gamma_star
+
+-- the statistics of a band are others
+abbrev pub with_band : Counts → ℕ → Statistics → Counts
+with_band v z s = record v { bands = slice_set v.bands z s }
+
 -- how number t of band z is written
 abbrev pub code_by : Counts → ℕ → ℕ → Code
 code_by v z t =

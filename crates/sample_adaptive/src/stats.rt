@@ -5,12 +5,13 @@ ghost use Rattle.std.specs.List.{AllByRecursion};
 ghost use Rattle.cube_core.specs.declared.fault.Fault.{Fault};
 ghost use Rattle.cube_core.specs.declared.fault.Fault.TheVariants.{WantOfMemory};
 ghost use Rattle.sample_adaptive.specs.Settings.{AreForSamples, HasEntries, settings};
-ghost use Rattle.sample_adaptive.specs.Statistics.{constant_of, start_statistics};
+ghost use Rattle.sample_adaptive.specs.Statistics.{AreStatistics, constant_of, start_statistics};
 ghost use Rattle.sample_adaptive.specs.Words.{IsCode};
-ghost use Rattle.sample_adaptive.specs.Taken.{HasTaken, PutsNumber, PutsRun, GetsNumber, code_by, counted, of_band};
+ghost use Rattle.sample_adaptive.specs.Taken.{Counts, HasTaken, HasSettings, PutsNumber, PutsRun, GetsNumber, code_by, counted, of_band, with_band};
 
 use crate::code_word::{Code, take_word, word_of};
 use crate::statistics::{Rescaling, Statistics, first, next, parameter};
+use core::mem::replace_with;
 use cube_core::fault::Fault;
 use header_bits::bit_reader::BitReader;
 use header_bits::bit_writer::BitWriter;
@@ -141,21 +142,14 @@ impl Stats {
         ensures taken { (t : ℕ) → 0 < t → PutsRun z t numbers.now self.old writer.old.bits self.new writer.new.bits }
         ensures bands { (length self.new.bands ≡ length self.old.bands) × (self.new.bits ≡ self.old.bits) }
     {
-        // They are counted aside, so that they can stay in registers.
-        let mut statistics = self.bands[z as usize];
-        for i in 0..numbers.len() {
-            let code = Code {
-                limit: self.umax,
-                low: parameter(self.bits, statistics),
-                bits: self.bits,
-            };
-            let word = word_of(code, numbers[i]);
-            let Ok(()) = writer.push(word.bits, word.length) else {
-                unreachable!()
-            };
-            statistics = next(self.rescaling, statistics, numbers[i]);
-        }
-        self.bands[z as usize] = statistics;
+        let run = LaterRun {
+            limit: self.umax,
+            bits: self.bits,
+            rescaling: self.rescaling,
+            statistics: self.bands[z as usize],
+            numbers,
+        };
+        self.bands[z as usize] = replace_with(writer, run, put_words);
     }
 
     /// Takes the number `t` of band `z` whose code word stands next, and takes it into the statistics.
@@ -221,6 +215,44 @@ impl Stats {
             self.bands[z as usize] = next(self.rescaling, band, number);
         }
     }
+}
+
+/// Numbers of one band behind its first, and what their code words depend on.
+#[derive(Clone, Copy)]
+struct LaterRun<'a> {
+    limit: u32,
+    bits: u32,
+    rescaling: Rescaling,
+    statistics: Statistics,
+    numbers: &'a [u16],
+}
+
+/// Appends the code words of a run, for which there is room, and gives the statistics behind it.
+///
+/// The writer and the statistics come and go by value, so that both can stay in registers.
+#[inline(always)]
+fn put_words(writer: BitWriter, run: LaterRun) -> (BitWriter, Statistics)
+    requires bits { (2 ≤ run.bits) × (run.bits ≤ 16) }
+    requires limit { run.limit ≤ 32 }
+    requires statistics { AreStatistics run.rescaling.size run.statistics }
+    requires numbers { AllByRecursion (λ n. n < 2 ^ run.bits) run.numbers.now }
+    requires room { 48 * length run.numbers.now ≤ writer.room }
+    ensures taken { (v : Counts) (z t : ℕ) → z < length v.bands → HasSettings v run.entry.bits run.entry.limit run.entry.rescaling.size → of_band v.bands z ≡ run.entry.statistics → 0 < t → PutsRun z t run.entry.numbers.now v writer.bits (with_band v z result.1) result.0.bits }
+    ensures statistics { AreStatistics run.entry.rescaling.size result.1 }
+{
+    let mut writer = writer;
+    let mut statistics = run.statistics;
+    for i in 0..run.numbers.len() {
+        let code = Code {
+            limit: run.limit,
+            low: parameter(run.bits, statistics),
+            bits: run.bits,
+        };
+        let word = word_of(code, run.numbers[i]);
+        writer.push_reserved(word.bits, word.length);
+        statistics = next(run.rescaling, statistics, run.numbers[i]);
+    }
+    (writer, statistics)
 }
 
 /// Makes room for so many code words, and asks for no more than that, or than for as many bits again as there are.

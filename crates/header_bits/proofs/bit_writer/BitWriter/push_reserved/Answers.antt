@@ -1,7 +1,7 @@
 use Rattle.std.proofs.Common.{arith, ap, ◌≡◌, ◌+◌, ◌-◌, ◌^◌, ◌<◌, ℕ, subst}
 use Rattle.std.proofs.lemmas.Nat.{shr_below}
 use Rattle.header_bits.proofs.Pushes.{word_pushed, part_pushed}
-use Rattle.header_bits.proofs.bit_writer.BitWriter.place.Goals as goal
+use Rattle.header_bits.proofs.bit_writer.BitWriter.push_reserved.Goals as goal
 
 pub filled-word-requires-clause-below : goal.filled-word-requires-clause-below
 filled-word-requires-clause-below c =
