@@ -12,8 +12,8 @@ use Rattle.header_bits.specs.Lawful.{IsLawful}
 use Rattle.file_coding.specs.Ends.{MayCodeAll}
 use Rattle.cube_predictors.specs.Weave.{IsDeal, owners, share, part}
 use Rattle.cube_predictors.proofs.Weaves.{part_none, part_push, part_short, owned, length-owners}
-use Rattle.coder_pipe.specs.Standings.{IsWoven}
-use Rattle.coder_pipe.specs.Woven.{Weaving, HasWoven, WeavesAll, AreOfOne}
+use Rattle.coder_pipe.specs.Standings.{IsAhead, IsWoven}
+use Rattle.coder_pipe.specs.Woven.{Weaving, HasWoven, WeavesAll, AreOfOne, AreOwnersFrom}
 
 pub woven_first : (p : Params) (deal : List ℕ) (w : Weaving) (handed : List (List ℕ)) → HasWoven p deal w [] → All (λ r. r ≡ []) handed → IsWoven p deal w handed 0
 woven_first p deal w handed h none = record { numbers = []; woven = h; long = refl; parts = λ q lt. none q [] lt ∙ sym (part_none q (owners deal p)) }
@@ -35,6 +35,11 @@ owner_there p deal numbers lawful lt e =
 pub fewer_taken : (p : Params) (deal : List ℕ) (w : Weaving) (handed : List (List ℕ)) (count owner : ℕ) (h : IsWoven p deal w handed count) → Some owner ≡ slice_get (owners deal p) (length h.numbers) → owner < length handed
     → length (get_or handed owner []) < share owner (owners deal p)
 fewer_taken p deal w handed count owner h e lt = rw (h.parts owner lt) (part_short owner (length h.numbers) (owners deal p) h.numbers refl (sym e))
+
+-- nor were more handed on ahead
+pub fewer_ahead : (p : Params) (deal : List ℕ) (w : Weaving) (handed : List (List ℕ)) (count owner : ℕ) (ahead : List ℕ) (h : IsAhead p deal w handed count ahead) → Some owner ≡ slice_get (owners deal p) (length (h.numbers ++ ahead)) → owner < length handed
+    → length (get_or handed owner []) < share owner (owners deal p)
+fewer_ahead p deal w handed count owner ahead h e lt = rw (h.parts owner lt) (part_short owner (length (h.numbers ++ ahead)) (owners deal p) (h.numbers ++ ahead) refl (sym e))
 
 -- ---- runs
 
@@ -84,32 +89,59 @@ more_run handed os ns run o k lt at here own =
           get_or-set_other handed o k (get_or handed o [] ++ run) [] other ∙ here ∙ sym to)
     ]
 
--- a run was taken
-pub woven_run : (p : Params) (deal : List ℕ) (old new : Weaving) (handed now : List (List ℕ)) (count owner : ℕ) (run : List ℕ) (h : IsWoven p deal old handed count) → ((i : ℕ) → i < length run → slice_get (owners deal p) (length h.numbers + i) ≡ Some owner) → owner < length handed
-    → now ≡ set handed owner (get_or handed owner [] ++ run) → WeavesAll old new run → IsWoven p deal new now (count + length run)
-woven_run p deal old new handed now count owner run h at lt is takes = record {
-  numbers = h.numbers ++ run;
-  woven = takes p deal h.numbers h.woven;
-  long = length-append h.numbers run ∙ ap (λ n. n + length run) h.long;
-  parts = λ q below. ap (λ rs. get_or rs q []) is ∙ more_run handed (owners deal p) h.numbers run owner q lt at (h.parts q (omega (arith, below, ap (λ (rs : List (List ℕ)). length rs) is, length-set handed owner (get_or handed owner [] ++ run)))) (h.parts owner lt);
+-- nothing was handed on ahead
+abbrev pub ahead_none : (p : Params) (deal : List ℕ) (w : Weaving) (handed : List (List ℕ)) (count : ℕ) → IsWoven p deal w handed count → IsAhead p deal w handed count []
+ahead_none p deal w handed count h = record { numbers = h.numbers; woven = h.woven; long = h.long; parts = λ q lt. rw (append-nil h.numbers) (h.parts q lt) }
+
+-- a run more was handed on ahead
+pub ahead_more : (p : Params) (deal : List ℕ) (w : Weaving) (handed now : List (List ℕ)) (count owner : ℕ) (ahead run : List ℕ) (h : IsAhead p deal w handed count ahead) → ((i : ℕ) → i < length run → slice_get (owners deal p) (length h.numbers + length ahead + i) ≡ Some owner)
+    → owner < length handed → now ≡ set handed owner (get_or handed owner [] ++ run) → IsAhead p deal w now count (ahead ++ run)
+ahead_more p deal w handed now count owner ahead run h at lt is = record {
+  numbers = h.numbers;
+  woven = h.woven;
+  long = h.long;
+  parts = λ q below.
+      let behind : (i : ℕ) → i < length run → slice_get (owners deal p) (length (h.numbers ++ ahead) + i) ≡ Some owner = λ i few. rw (length-append h.numbers ahead) (at i few) in
+      let more = more_run handed (owners deal p) (h.numbers ++ ahead) run owner q lt behind (h.parts q (omega (arith, below, ap (λ (rs : List (List ℕ)). length rs) is, length-set handed owner (get_or handed owner [] ++ run)))) (h.parts owner lt) in
+      ap (λ rs. get_or rs q []) is ∙ more ∙ ap (λ ns. part q (owners deal p) ns) (append_assoc h.numbers ahead run);
 }
+
+-- what was handed on ahead was taken
+pub woven_ahead : (p : Params) (deal : List ℕ) (old new : Weaving) (handed : List (List ℕ)) (count : ℕ) (ahead : List ℕ) → IsAhead p deal old handed count ahead → WeavesAll old new ahead → IsWoven p deal new handed (count + length ahead)
+woven_ahead p deal old new handed count ahead h takes = record {
+  numbers = h.numbers ++ ahead;
+  woven = takes p deal h.numbers h.woven;
+  long = length-append h.numbers ahead ∙ ap (λ n. n + length ahead) h.long;
+  parts = h.parts;
+}
+
+pub all_one : (P : ℕ → Type 0) (n : ℕ) → P n → All P (n ∷ [])
+all_one P n h zero d lt = h
+all_one P n h (suc k) d lt = absurd (omega (arith, lt))
 
 -- numbers at most so great are below a limit
 below_limit : (most limit : ℕ) (ns : List ℕ) → most + 1 ≡ limit → All (λ n. n ≤ most) ns → AllByRecursion (λ n. n < limit) ns
 below_limit most limit [] e h = tt
 below_limit most limit (n ∷ ns) e h = (omega (arith, e, h 0 n (omega arith)), below_limit most limit ns e (λ i d lt. h (suc i) d (omega (arith, lt))))
 
--- a run may be taken
-pub may_take_run : (p : Params) (deal : List ℕ) (w : Weaving) (handed : List (List ℕ)) (count owner many most : ℕ) (run : List ℕ) (h : IsWoven p deal w handed count) → IsLawful p → Some owner ≡ slice_get (owners deal p) (length h.numbers) → AreOfOne (owners deal p) (length h.numbers) many
-    → length run ≤ many → most + 1 ≡ 2 ^ p.kind.bits → All (λ n. n ≤ most) run → MayCodeAll w.end run
-may_take_run p deal w handed count owner many most run h lawful e one le is range = record {
+-- numbers that were handed on may be taken
+pub may_take : (p : Params) (deal : List ℕ) (w : Weaving) (numbers list : List ℕ) (most : ℕ) → HasWoven p deal w numbers → IsLawful p → length numbers + length list ≤ sample_count p.shape → most + 1 ≡ 2 ^ p.kind.bits → All (λ n. n ≤ most) list
+    → MayCodeAll w.end list
+may_take p deal w numbers list most h lawful few is range = record {
   params = p;
-  numbers = h.numbers;
+  numbers = numbers;
   lawful = lawful;
-  coded = h.woven.coded;
-  more = omega (arith, le, run_fits p deal h.numbers owner many lawful.order e one);
-  range = below_limit most (2 ^ p.kind.bits) run is range;
+  coded = h.coded;
+  more = few;
+  range = below_limit most (2 ^ p.kind.bits) list is range;
 }
+
+-- there are as many places as owners behind those taken
+pub owners_fit : (p : Params) (deal numbers some : List ℕ) → IsOrder p.shape p.order → length numbers ≤ sample_count p.shape → AreOwnersFrom (owners deal p) (length numbers) some → length numbers + length some ≤ sample_count p.shape
+owners_fit p deal numbers [] lawful few from = omega (arith, few)
+owners_fit p deal numbers (o ∷ os) lawful few from =
+    let last : slice_get (owners deal p) (length numbers + length os) ≡ Some (get_or (o ∷ os) (length os) 0) = from (length os) (omega arith) ∙ slice_get-get_or (o ∷ os) (length os) 0 (omega arith) in
+    omega (arith, slice_get_within (owners deal p) (length numbers + length os) (get_or (o ∷ os) (length os) 0) last, length-owners deal p, length-places p.shape p.order lawful)
 
 -- fewer were taken than there are places, so a place is to come
 pub place_left : (p : Params) (deal : List ℕ) (w : Weaving) (handed : List (List ℕ)) (count : ℕ) → IsOrder p.shape p.order → IsWoven p deal w handed count → count < sample_count p.shape → 0 < length w.end.left

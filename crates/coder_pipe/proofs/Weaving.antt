@@ -1,9 +1,9 @@
 -- Whose residuals the coding end of predictors wants, and what it has taken.
-use Rattle.std.proofs.Common.{◌≡◌, ◌+◌, ◌<◌, ◌≤◌, ℕ, zero, suc, true, List, [], ◌∷◌, length, take, drop, get_or, Some, None, Result, Ok, Err, OnOk, OnErr, refl, sym, ap, subst, ◌∙◌, length-append, arith}
+use Rattle.std.proofs.Common.{◌≡◌, ◌+◌, ◌<◌, ◌≤◌, ℕ, zero, suc, true, List, [], ◌∷◌, length, take, drop, get_or, Some, None, Result, Ok, Err, OnOk, OnErr, refl, sym, ap, subst, ◌∙◌, length-append, length-take, arith}
 use Rattle.std.specs.Prelude.{option_map}
 use Rattle.std.specs.List.{slice_get}
-use Rattle.std.proofs.lemmas.List.{get_or_default, drop-drop}
-use Rattle.std.proofs.lemmas.Option.{slice_get-map}
+use Rattle.std.proofs.lemmas.List.{get_or_default, get_or-take, get_or-drop, drop-drop}
+use Rattle.std.proofs.lemmas.Option.{slice_get-map, slice_get-get_or}
 use Rattle.cube_core.specs.declared.fault.Fault.{Fault}
 use Rattle.cube_core.specs.declared.order.Order.{Order}
 use Rattle.cube_core.specs.declared.order.Place.{Place}
@@ -15,7 +15,7 @@ use Rattle.cube_core.proofs.Walks.{columns_along}
 use Rattle.header_bits.specs.declared.params.Params.{Params}
 use Rattle.file_coding.specs.Ends.{Ending, HasCoded, MayCodeAll, CodesAll}
 use Rattle.cube_predictors.specs.Weave.{owners, owners_of}
-use Rattle.coder_pipe.specs.Woven.{Weaving, IsAlong, HasWoven, WeavesAll, AreOfOne}
+use Rattle.coder_pipe.specs.Woven.{Weaving, IsAlong, HasWoven, WeavesAll, AreOfOne, AreOwnersFrom}
 
 get-drop : {A : Type 0} (xs : List A) (n i : ℕ) → slice_get (drop n xs) i ≡ slice_get xs (n + i)
 get-drop [] zero i = refl
@@ -85,6 +85,22 @@ none_of_one w p deal numbers h i lt = absurd (omega (arith, lt))
 
 pub first_of_one : (w : Weaving) (p : Params) (deal numbers : List ℕ) → HasWoven p deal w numbers → AreOfOne (owners deal p) (length numbers) 1
 first_of_one w p deal numbers h i lt = let at : length numbers + i ≡ length numbers = omega (arith, lt) in ap (λ n. slice_get (owners deal p) n) at
+
+-- places that come next in a column are of bands that are dealt
+pub column_fits : (s : Sizes) (o : Order) (w : Weaving) (place : Place) (count : ℕ) → IsAlong s o w → Some place ≡ slice_get w.end.left 0 → ((i : ℕ) → i < count → slice_get w.end.left i ≡ Some (record { z = place.z + i; y = place.y; x = place.x })) → place.z + count ≤ length w.deal
+column_fits s o w place zero h next column = omega (arith, (place_within s o w place h next).1)
+column_fits s o w place (suc count) h next column =
+    let last : Place = record { z = place.z + count; y = place.y; x = place.x } in
+    let item : slice_get (places s o) (h.gone + count) ≡ Some (record { z = place.z + count; y = place.y; x = place.x }) = sym (get-drop (places s o) h.gone count) ∙ ap (λ left. slice_get left count) (sym h.left) ∙ column count (omega arith) in
+    let there : IsPlaceOf s (record { z = place.z + count; y = place.y; x = place.x }) = (order_is_by_key s o h.order).only (h.gone + count) (record { z = place.z + count; y = place.y; x = place.x }) item in
+    omega (arith, h.whole, there.band)
+
+pub column_owned : (w : Weaving) (place : Place) (count : ℕ) → ((i : ℕ) → i < count → slice_get w.end.left i ≡ Some (record { z = place.z + i; y = place.y; x = place.x })) → place.z + count ≤ length w.deal
+    → (p : Params) (deal numbers : List ℕ) → HasWoven p deal w numbers → AreOwnersFrom (owners deal p) (length numbers) (take count (drop place.z w.deal))
+column_owned w place count column fits p deal numbers h i lt =
+    let few : i < count = omega (arith, lt, length-take count (drop place.z w.deal)) in
+    let own : get_or (take count (drop place.z w.deal)) i 0 ≡ get_or deal (place.z + i) 0 = get_or-take count (drop place.z w.deal) i 0 few ∙ get_or-drop place.z w.deal i 0 ∙ ap (λ ds. get_or ds (place.z + i) 0) h.dealt in
+    wanted p deal numbers w.end i h.coded ∙ ap (option_map (λ q. get_or deal q.z 0)) (column i few) ∙ ap (λ n. Some n) (sym own) ∙ sym (slice_get-get_or (take count (drop place.z w.deal)) i 0 lt)
 
 -- ---- along the places
 

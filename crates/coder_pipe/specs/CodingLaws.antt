@@ -1,5 +1,5 @@
 -- Coding ends take lists one behind another.
-use Rattle.std.proofs.Common.{◌≡◌, ◌^◌, ◌<◌, ℕ, Bool, true, false, List, [], ◌∷◌, ◌++◌, refl, sym, subst, append-nil, append_assoc, length-append, arith}
+use Rattle.std.proofs.Common.{◌^◌, ◌<◌, ℕ, Bool, true, false, List, [], ◌∷◌, ◌++◌, refl, sym, subst, append-nil, append_assoc, length-append, arith}
 use Rattle.std.specs.List.{AllByRecursion}
 use Rattle.file_coding.specs.Ends.{Ending, HasCoded, MayCodeAll}
 use Rattle.cube_predictors.specs.Takings.{AreTakings}

@@ -1,5 +1,5 @@
 -- What the coding end knows of all workers, and what it has taken of them.
-use Rattle.std.specs.Prelude.{◌≡◌, ℕ, ◌<◌, List, [], map, length, slice_index_or}
+use Rattle.std.specs.Prelude.{◌≡◌, ℕ, ◌<◌, List, [], ◌++◌, map, length, slice_index_or}
 use Rattle.header_bits.specs.declared.params.Params.{Params}
 use Rattle.lane_workers.specs.Stages.{Standing}
 use Rattle.cube_predictors.specs.Weave.{owners, part}
@@ -21,3 +21,10 @@ pub record IsWoven (p : Params) (deal : List ℕ) (w : Weaving) (handed : List (
   pub woven : HasWoven p deal w numbers
   pub long : length numbers ≡ count
   pub parts : (q : ℕ) → q < length handed → slice_index_or handed q [] ≡ part q (owners deal p) numbers
+
+-- so many numbers were taken, and those ahead were handed on behind them, each by the predictor of its place
+pub record IsAhead (p : Params) (deal : List ℕ) (w : Weaving) (handed : List (List ℕ)) (count : ℕ) (ahead : List ℕ) : Type 0 where
+  pub numbers : List ℕ
+  pub woven : HasWoven p deal w numbers
+  pub long : length numbers ≡ count
+  pub parts : (q : ℕ) → q < length handed → slice_index_or handed q [] ≡ part q (owners deal p) (numbers ++ ahead)

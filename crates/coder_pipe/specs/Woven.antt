@@ -30,3 +30,7 @@ WeavesAll old new list = (p : Params) (deal numbers : List ℕ) → HasWoven p d
 -- the owners of so many places from the n-th on are one
 abbrev pub AreOfOne : List ℕ → ℕ → ℕ → Type 0
 AreOfOne owners n count = (i : ℕ) → i < count → slice_get owners (n + i) ≡ slice_get owners n
+
+-- the owners of the places from the n-th on begin so
+abbrev pub AreOwnersFrom : List ℕ → ℕ → List ℕ → Type 0
+AreOwnersFrom owners n some = (i : ℕ) → i < length some → slice_get owners (n + i) ≡ slice_get some i

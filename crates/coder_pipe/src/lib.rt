@@ -4,6 +4,7 @@
 mod coding_taker;
 pub mod encode;
 pub mod encode_predicted;
+mod gather;
 pub mod laws;
 pub mod pipeline;
 mod run;

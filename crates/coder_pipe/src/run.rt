@@ -1,21 +1,15 @@
 //! All workers of a pipeline: started, woven and joined.
 
-ghost use Rattle.std.specs.Prelude.{◌≡◌, ℕ, ◌-◌, ◌<◌, ◌≤◌, ◌⊎◌, ◌^◌, [], ◌∷◌, ◌++◌, List, length, map, All, IfOk, IfErr, Some, None, IfSome, IfNone, IsTrue, take, vec_len, vec_capacity, slice_index_or, slice_set};
-ghost use Rattle.std.specs.Prelude.{◌+◌};
-ghost use Rattle.cube_core.specs.Kind.{IsKind};
+ghost use Rattle.std.specs.Prelude.{◌≡◌, ℕ, ◌-◌, ◌<◌, ◌≤◌, ◌⊎◌, [], length, map, All, Some, None, IfSome, IsTrue, vec_len, vec_capacity, slice_index_or};
 ghost use Rattle.cube_core.specs.Shape.{sample_count};
-ghost use Rattle.header_bits.specs.declared.params.Params.{Params as Parameters};
-ghost use Rattle.lane_workers.specs.Stages.{Standing};
-ghost use Rattle.cube_predictors.specs.Weave.{owners};
-ghost use Rattle.coder_pipe.specs.Piping.{AreFeeds, IsPiped, MayStop, EndsEarly, carried};
+ghost use Rattle.coder_pipe.specs.Piping.{AreFeeds, MayStop, carried};
 ghost use Rattle.coder_pipe.specs.Standings.{feeds_of, gates_of, handed_of, IsWoven};
 ghost use Rattle.coder_pipe.specs.Stops.{MayStopAt, IfWhole, IfStopped};
 ghost use Rattle.coder_pipe.specs.Woven.{HasWoven};
 
+use crate::gather::{next_of_column, next_of_row};
 use crate::weaver::Weaver;
 use band_rings::settled::SettledLane;
-use cube_core::fault::Fault;
-use cube_core::kind::Kind;
 use cube_predictors::plan::Plan;
 use lane_workers::feed::Feed;
 use lane_workers::gate::Gate;
@@ -39,69 +33,6 @@ pub(crate) enum Woven {
 /// How many residuals are taken at once at most.
 const MOST_RUN: usize = 64;
 
-/// Waits for the next residuals of a predictor, each of which is at most so great, and hands them on into the front of a run, at least one; or says
-/// after how many it was stopped.
-fn next_of<R: Threads + Wait, F: Feed, G: Gate>(
-    rt: &R,
-    stages: &mut Vec<Stage<F, G>>,
-    q: usize,
-    over: &AtomicBool,
-    most: u16,
-    run: &mut [u16],
-) -> Result<usize, u64>
-    requires place { q < vec_len stages.old }
-    requires room { 0 < length run.old }
-    requires short { (f : _) → length (slice_index_or (handed_of stages.old.items) q []) < length (F.items (slice_index_or (feeds_of stages.old.items) q f)) }
-    requires range { (f : _) → All (λ n. n ≤ most) (F.items (slice_index_or (feeds_of stages.old.items) q f)) }
-    ensures feeds { feeds_of stages.new.items ≡ feeds_of stages.old.items }
-    ensures gates { gates_of stages.new.items ≡ gates_of stages.old.items }
-    ensures len { vec_len stages.new ≡ vec_len stages.old }
-    ensures within { IfOk result (λ count. (0 < count) × (count ≤ length run.old)) }
-    ensures ok { IfOk result (λ count. handed_of stages.new.items ≡ slice_set (handed_of stages.old.items) q (slice_index_or (handed_of stages.old.items) q [] ++ take count run.new)) }
-    ensures most { IfOk result (λ count. All (λ n. n ≤ most) (take count run.new)) }
-    ensures err { IfErr result (λ n. (f : _) (g : _) → IsTrue (G.may_stop (slice_index_or (gates_of stages.old.items) q g) (F.predictor (slice_index_or (feeds_of stages.old.items) q f)) n) × (n < length (F.items (slice_index_or (feeds_of stages.old.items) q f)))) }
-{
-    let stage = &mut stages[q];
-    let count = stage.next_run(rt, over, run);
-    if count == 0 {
-        return Err(stage.stopped_at());
-    }
-    if greatest_of(&run[..count]) > most {
-        no_such_number(rt, stages, q, most);
-        unreachable!()
-    }
-    Ok(count)
-}
-
-/// The greatest of some numbers; 0 where there are none.
-fn greatest_of(numbers: &[u16]) -> u16
-    ensures bound { All (λ n. n ≤ result) numbers.now }
-    ensures least { (most : ℕ) → All (λ n. n ≤ most) numbers.now → result ≤ most }
-{
-    let mut greatest = 0;
-    for i in 0..numbers.len() {
-        greatest = greatest.max(numbers[i]);
-    }
-    greatest
-}
-
-/// A number greater than any of a feed is never handed on: joining the worker shows that it wasn't sent.
-// It stands apart so that the way of all other numbers has no room for a worker to make.
-#[inline(never)]
-fn no_such_number<R: Threads, F: Feed, G: Gate>(
-    rt: &R,
-    stages: &mut Vec<Stage<F, G>>,
-    q: usize,
-    most: u16,
-)
-    requires place { q < vec_len stages.old }
-    requires list { (s : _) → All (λ n. n ≤ most) (F.items (slice_index_or stages.old.items q s).feed) }
-    requires above { (s : _) → All (λ n. n ≤ most) (slice_index_or stages.old.items q s).handed → ⊥ }
-    ensures { ⊥ }
-{
-    stages.swap_remove(q).never(rt, most);
-}
-
 /// Takes a residual for each place, from the lane of its predictor, run after run.
 pub(crate) fn weave<R: Threads + Wait, F: Feed, G: Gate>(
     rt: &R,
@@ -121,35 +52,27 @@ pub(crate) fn weave<R: Threads + Wait, F: Feed, G: Gate>(
     ensures stopped { IfStopped result (λ q n. MayStopAt G.may_stop F.items (feeds_of stages.old.items) (gates_of stages.old.items) q n) }
 {
     plan.is_plan();
-    let most = greatest(plan.params().kind);
     let total = plan.params().shape.sample_count();
+    let along_rows = plan.params().order.goes_along_rows();
     let mut run = [0; MOST_RUN];
     let mut taken = 0;
     while taken < total {
-        let Some(owner) = weaver.wants() else {
-            unreachable!()
+        let gathered = if along_rows {
+            next_of_row(rt, plan, stages, overs, weaver, taken, &mut run)
+        } else {
+            next_of_column(rt, plan, stages, overs, weaver, taken, &mut run)
         };
-        let q = owner as usize;
-        let wanted = weaver.wanted_run(MOST_RUN);
-        match next_of(rt, stages, q, &overs[q], most, &mut run[..wanted]) {
+        match gathered {
             Ok(count) => {
                 let Ok(()) = weaver.take_all(&run[..count]) else {
                     return Woven::Memory;
                 };
                 taken += count as u64;
             }
-            Err(sent) => return Woven::Stopped(owner, sent),
+            Err((owner, sent)) => return Woven::Stopped(owner, sent),
         }
     }
     Woven::Whole
-}
-
-/// The greatest residual of a kind.
-fn greatest(kind: Kind) -> u16
-    requires { IsKind kind }
-    ensures { result + 1 ≡ 2 ^ kind.bits }
-{
-    ((1u32 << kind.bits()) - 1) as u16
 }
 
 /// Receives what there is to see of a worker, and drops it.

@@ -6,7 +6,7 @@ ghost use Rattle.header_bits.specs.declared.params.Params.{Params as Parameters}
 ghost use Rattle.file_coding.specs.Ends.{MayCode, MayCodeAll};
 ghost use Rattle.file_coding.specs.File.{file_of_residuals};
 ghost use Rattle.cube_predictors.specs.Weave.{owners};
-ghost use Rattle.coder_pipe.specs.Woven.{AreOfOne, HasWoven, WeavesAll};
+ghost use Rattle.coder_pipe.specs.Woven.{AreOfOne, AreOwnersFrom, HasWoven, WeavesAll};
 
 use cube_core::fault::Fault;
 use cube_core::order::Order;
@@ -81,6 +81,22 @@ impl Weaver {
         } else {
             1
         }
+    }
+
+    /// The predictors whose residuals come next, in order: those of the bands that come next at one row and column, at most so many. There is at least
+    /// one where one is wanted.
+    pub fn wanted_column(&self, most: usize) -> &[u8]
+        requires { 0 < most }
+        ensures most { length result.now ≤ most }
+        ensures owned { (p : Parameters) (deal numbers : List ℕ) → HasWoven p deal self.now numbers → AreOwnersFrom (owners deal p) (length numbers) result.now }
+        ensures some { 0 < length self.now.end.left → 0 < length result.now }
+    {
+        let Some(place) = self.end.place() else {
+            return &self.deal[..0];
+        };
+        let first = place.z as usize;
+        let count = most.min(self.end.column() as usize);
+        &self.deal[first..first + count]
     }
 
     /// Takes the next residual, which is at most 2^D - 1; fewer were taken than there are samples.

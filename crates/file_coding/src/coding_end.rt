@@ -1,8 +1,9 @@
 //! The coding end of an image: from residuals in encoding order to the bytes of its file.
 
-ghost use Rattle.std.specs.Prelude.{◌≡◌, ◌<◌, ◌≤◌, ℕ, List, [], ◌∷◌, ◌++◌, length, take, drop, Some, slice_get, IsTrue, IfOk, IfErr, OnOk, OnErr};
+ghost use Rattle.std.specs.Prelude.{◌≡◌, ◌+◌, ◌<◌, ◌≤◌, ℕ, List, [], ◌∷◌, ◌++◌, length, take, drop, Some, slice_get, IsTrue, IfOk, IfErr, OnOk, OnErr};
 ghost use Rattle.cube_core.specs.declared.fault.Fault.TheVariants.{WantOfMemory};
 ghost use Rattle.cube_core.specs.Shape.{InRange};
+ghost use Rattle.cube_core.specs.declared.order.Place.{Place as APlace};
 ghost use Rattle.header_bits.specs.declared.params.Params.{Params as Parameters};
 ghost use Rattle.header_bits.specs.Bits.{bits_of_bytes};
 ghost use Rattle.header_bits.specs.Lawful.{IsLawful};
@@ -71,6 +72,14 @@ impl CodingEnd {
         ensures { result ≡ slice_get self.now.left 0 }
     {
         self.places.peek()
+    }
+
+    /// How many of the places that come next are of one row and column, band after band: at least the first of them.
+    pub fn column(&self) -> u64
+        ensures along { (i : ℕ) (p : APlace) → i < result → slice_get self.now.left 0 ≡ Some p → slice_get self.now.left i ≡ Some (record p { z = p.z + i }) }
+        ensures some { (p : APlace) → slice_get self.now.left 0 ≡ Some p → 1 ≤ result }
+    {
+        self.places.column()
     }
 
     /// Takes the residual of the place that comes next.

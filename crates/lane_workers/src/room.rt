@@ -1,6 +1,6 @@
 //! Numbers that were received and are not yet handed on.
 
-ghost use Rattle.std.specs.Prelude.{◌≡◌, ◌<◌, ◌≤◌, [], ◌++◌, length, take};
+ghost use Rattle.std.specs.Prelude.{◌≡◌, ◌<◌, ◌≤◌, [], ◌∷◌, ◌++◌, length, take, IfSome, IfNone};
 ghost use mathlib.Core.List.{IsPrefix};
 
 use band_rings::receiver::LaneReceiver;
@@ -50,6 +50,20 @@ impl Room {
         run[..count].copy_from_slice(&self.numbers[self.first..self.first + count]);
         self.first += count;
         count
+    }
+
+    /// Hands on the first number, or none where nothing waits.
+    #[inline(always)]
+    pub(crate) fn next(&mut self) -> Option<u16>
+        ensures handed { IfSome result (λ number. self.old ≡ number ∷ self.new) }
+        ensures none { IfNone result ((self.new ≡ self.old) × (self.old ≡ [])) }
+    {
+        if self.first == self.end {
+            return None;
+        }
+        let number = self.numbers[self.first];
+        self.first += 1;
+        Some(number)
     }
 
     /// Receives anew what is there to see of a lane. What waited is gone.

@@ -1,6 +1,6 @@
 //! Receivers that take numbers from their lane in runs, and hand them on in runs.
 
-ghost use Rattle.std.specs.Prelude.{◌≡◌, ◌<◌, ◌≤◌, [], ◌++◌, length, take};
+ghost use Rattle.std.specs.Prelude.{◌≡◌, ◌<◌, ◌≤◌, [], ◌∷◌, ◌++◌, length, take, IfSome, IfNone};
 ghost use mathlib.Core.List.{IsPrefix};
 ghost use Rattle.band_rings.specs.Lane.{IsLane};
 
@@ -78,6 +78,16 @@ impl RunReceiver {
         }
         self.room.fill(&mut self.receiver);
         self.room.next_run(run)
+    }
+
+    /// Hands on the next number of those that were received, or none where all of them were handed on. It looks at no lane.
+    #[inline(always)]
+    pub fn next_received(&mut self) -> Option<u16>
+        ensures lane { self.new.lane ≡ self.old.lane }
+        ensures received { IfSome result (λ number. (self.new.received ≡ self.old.received ++ number ∷ []) × (self.old.known ≡ number ∷ self.new.known)) }
+        ensures none { IfNone result (self.new ≡ self.old) }
+    {
+        self.room.next()
     }
 
     /// Receives what is there to see, up to a room, in place of what waits in it, which is handed on to nobody.

@@ -1,6 +1,6 @@
 //! Workers as the thread sees them that takes their numbers.
 
-ghost use Rattle.std.specs.Prelude.{◌≡◌, ◌<◌, ◌≤◌, [], ◌++◌, length, take, All, Some, None, IfOk, IfErr, IfSome, IsTrue};
+ghost use Rattle.std.specs.Prelude.{◌≡◌, ◌<◌, ◌≤◌, [], ◌∷◌, ◌++◌, length, take, All, Some, None, IfOk, IfErr, IfSome, IfNone, IsTrue};
 ghost use Rattle.cube_core.specs.declared.fault.Fault.TheVariants.{SpawnRefused};
 
 use crate::feed::Feed;
@@ -71,6 +71,16 @@ impl<F: Feed, G: Gate> Stage<F, G> {
         ensures none { result ≡ 0 → self.new.left ≡ Some [] }
     {
         self.state.next_run(rt, over, run)
+    }
+
+    /// Waits for the next number, and hands it on. None once the worker has ended, all that it sent was handed on, and it was joined.
+    #[inline(always)]
+    pub fn next_one<R: Threads + Wait>(&mut self, rt: &R, over: &AtomicBool) -> Option<u16>
+        ensures same { (self.new.feed ≡ self.old.feed) × (self.new.gate ≡ self.old.gate) }
+        ensures handed { IfSome result (λ number. self.new.handed ≡ self.old.handed ++ number ∷ []) }
+        ensures none { IfNone result ((self.new.left ≡ Some []) × (self.new.handed ≡ self.old.handed)) }
+    {
+        self.state.next_one(rt, over)
     }
 
     /// Receives what is there to see, and hands it on to nobody: for a worker that would else find no free slot.

@@ -1,6 +1,6 @@
 //! A worker that runs, or one that was joined.
 
-ghost use Rattle.std.specs.Prelude.{◌≡◌, ◌<◌, ◌≤◌, [], ◌++◌, length, take, Some, IfSome, IsSome, IsTrue};
+ghost use Rattle.std.specs.Prelude.{◌≡◌, ◌<◌, ◌≤◌, [], ◌∷◌, ◌++◌, length, take, Some, IfSome, IfNone, IsSome, IsTrue};
 ghost use Rattle.lane_workers.specs.States.{standing_of};
 
 use crate::feed::Feed;
@@ -61,6 +61,36 @@ impl<F: Feed, G: Gate> State<F, G> {
             thread::yield_now();
         }
         unreachable!()
+    }
+
+    /// Hands on the next number of those that were received of a worker that runs, or none where all of them were handed on.
+    #[inline(always)]
+    fn next_received(&mut self) -> Option<u16>
+        ensures same { ((standing_of self.new).feed ≡ (standing_of self.old).feed) × ((standing_of self.new).gate ≡ (standing_of self.old).gate) }
+        ensures handed { IfSome result (λ number. (standing_of self.new).handed ≡ (standing_of self.old).handed ++ number ∷ []) }
+        ensures none { IfNone result ((standing_of self.new).handed ≡ (standing_of self.old).handed) }
+    {
+        match self {
+            State::Running(worker) => worker.receiver.next_received(),
+            State::Joined(_) => None,
+        }
+    }
+
+    /// Waits for the next number, and hands it on. None once the worker has ended, all that it sent was handed on, and it was joined.
+    #[inline(always)]
+    pub(crate) fn next_one<R: Threads + Wait>(&mut self, rt: &R, over: &AtomicBool) -> Option<u16>
+        ensures same { ((standing_of self.new).feed ≡ (standing_of self.old).feed) × ((standing_of self.new).gate ≡ (standing_of self.old).gate) }
+        ensures handed { IfSome result (λ number. (standing_of self.new).handed ≡ (standing_of self.old).handed ++ number ∷ []) }
+        ensures none { IfNone result (((standing_of self.new).left ≡ Some []) × ((standing_of self.new).handed ≡ (standing_of self.old).handed)) }
+    {
+        if let Some(number) = self.next_received() {
+            return Some(number);
+        }
+        let mut run = [0];
+        if self.next_run(rt, over, &mut run) == 0 {
+            return None;
+        }
+        Some(run[0])
     }
 
     /// Receives what is there to see, and hands it on to nobody.

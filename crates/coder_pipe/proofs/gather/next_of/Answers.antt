@@ -3,7 +3,7 @@ use Rattle.std.specs.List.{All}
 use Rattle.coder_pipe.specs.Standings.{feeds_of, handed_of}
 use Rattle.std.proofs.lemmas.List.{append-nil, map-set}
 use Rattle.coder_pipe.proofs.Standings.{all_behind, at_of, same_feeds, same_gates}
-use Rattle.coder_pipe.proofs.run.next_of.Goals as goal
+use Rattle.coder_pipe.proofs.gather.next_of.Goals as goal
 
 pub stopped_at-requires-clause-short : goal.stopped_at-requires-clause-short
 stopped_at-requires-clause-short g c =

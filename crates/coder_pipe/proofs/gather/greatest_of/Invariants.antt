@@ -1,6 +1,6 @@
 use Rattle.std.proofs.Common.{ℕ, ◌≤◌, ◌<◌, get_or}
 use Rattle.std.specs.List.{All}
-use Rattle.coder_pipe.proofs.run.greatest_of.Given as goal
+use Rattle.coder_pipe.proofs.gather.greatest_of.Given as goal
 
 abbrev pub invariant-loop-i : goal.invariant-loop-i
 invariant-loop-i l = record {

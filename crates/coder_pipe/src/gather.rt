@@ -1,0 +1,201 @@
+//! What workers hand on for the places that come next.
+
+ghost use Rattle.std.specs.Prelude.{◌≡◌, ℕ, ◌+◌, ◌<◌, ◌≤◌, ◌^◌, [], ◌∷◌, ◌++◌, length, All, IfOk, IfErr, IsTrue, take, vec_len, slice_index_or, slice_set};
+ghost use Rattle.cube_core.specs.Kind.{IsKind};
+ghost use Rattle.cube_core.specs.Shape.{sample_count};
+ghost use Rattle.file_coding.specs.Ends.{MayCodeAll};
+ghost use Rattle.coder_pipe.specs.Piping.{AreFeeds};
+ghost use Rattle.coder_pipe.specs.Standings.{feeds_of, gates_of, handed_of, IsAhead, IsWoven};
+ghost use Rattle.coder_pipe.specs.Stops.{MayStopAt};
+
+use crate::weaver::Weaver;
+use cube_core::kind::Kind;
+use cube_predictors::plan::Plan;
+use lane_workers::feed::Feed;
+use lane_workers::gate::Gate;
+use lane_workers::stage::Stage;
+use std::sync::Wait;
+use std::sync::atomic::AtomicBool;
+use std::thread::Threads;
+
+/// Waits for the next residuals of a predictor, each of which is at most so great, and hands them on into the front of a run, at least one; or says
+/// after how many it was stopped.
+fn next_of<R: Threads + Wait, F: Feed, G: Gate>(
+    rt: &R,
+    stages: &mut Vec<Stage<F, G>>,
+    q: usize,
+    over: &AtomicBool,
+    most: u16,
+    run: &mut [u16],
+) -> Result<usize, u64>
+    requires place { q < vec_len stages.old }
+    requires room { 0 < length run.old }
+    requires short { (f : _) → length (slice_index_or (handed_of stages.old.items) q []) < length (F.items (slice_index_or (feeds_of stages.old.items) q f)) }
+    requires range { (f : _) → All (λ n. n ≤ most) (F.items (slice_index_or (feeds_of stages.old.items) q f)) }
+    ensures feeds { feeds_of stages.new.items ≡ feeds_of stages.old.items }
+    ensures gates { gates_of stages.new.items ≡ gates_of stages.old.items }
+    ensures len { vec_len stages.new ≡ vec_len stages.old }
+    ensures within { IfOk result (λ count. (0 < count) × (count ≤ length run.old)) }
+    ensures ok { IfOk result (λ count. handed_of stages.new.items ≡ slice_set (handed_of stages.old.items) q (slice_index_or (handed_of stages.old.items) q [] ++ take count run.new)) }
+    ensures most { IfOk result (λ count. All (λ n. n ≤ most) (take count run.new)) }
+    ensures err { IfErr result (λ n. (f : _) (g : _) → IsTrue (G.may_stop (slice_index_or (gates_of stages.old.items) q g) (F.predictor (slice_index_or (feeds_of stages.old.items) q f)) n) × (n < length (F.items (slice_index_or (feeds_of stages.old.items) q f)))) }
+{
+    let stage = &mut stages[q];
+    let count = stage.next_run(rt, over, run);
+    if count == 0 {
+        return Err(stage.stopped_at());
+    }
+    if greatest_of(&run[..count]) > most {
+        no_such_number(rt, stages, q, most);
+        unreachable!()
+    }
+    Ok(count)
+}
+
+/// The greatest of some numbers; 0 where there are none.
+fn greatest_of(numbers: &[u16]) -> u16
+    ensures bound { All (λ n. n ≤ result) numbers.now }
+    ensures least { (most : ℕ) → All (λ n. n ≤ most) numbers.now → result ≤ most }
+{
+    let mut greatest = 0;
+    for i in 0..numbers.len() {
+        greatest = greatest.max(numbers[i]);
+    }
+    greatest
+}
+
+/// A number greater than any of a feed is never handed on: joining the worker shows that it wasn't sent.
+// It stands apart so that the way of all other numbers has no room for a worker to make.
+#[inline(never)]
+fn no_such_number<R: Threads, F: Feed, G: Gate>(
+    rt: &R,
+    stages: &mut Vec<Stage<F, G>>,
+    q: usize,
+    most: u16,
+)
+    requires place { q < vec_len stages.old }
+    requires list { (s : _) → All (λ n. n ≤ most) (F.items (slice_index_or stages.old.items q s).feed) }
+    requires above { (s : _) → All (λ n. n ≤ most) (slice_index_or stages.old.items q s).handed → ⊥ }
+    ensures { ⊥ }
+{
+    stages.swap_remove(q).never(rt, most);
+}
+
+/// Waits for the next residual of a predictor, which is at most so great, and hands it on; or says after how many the predictor was stopped.
+#[inline(always)]
+fn next_one_of<R: Threads + Wait, F: Feed, G: Gate>(
+    rt: &R,
+    stages: &mut Vec<Stage<F, G>>,
+    q: usize,
+    over: &AtomicBool,
+    most: u16,
+) -> Result<u16, u64>
+    requires place { q < vec_len stages.old }
+    requires short { (f : _) → length (slice_index_or (handed_of stages.old.items) q []) < length (F.items (slice_index_or (feeds_of stages.old.items) q f)) }
+    requires range { (f : _) → All (λ n. n ≤ most) (F.items (slice_index_or (feeds_of stages.old.items) q f)) }
+    ensures feeds { feeds_of stages.new.items ≡ feeds_of stages.old.items }
+    ensures gates { gates_of stages.new.items ≡ gates_of stages.old.items }
+    ensures len { vec_len stages.new ≡ vec_len stages.old }
+    ensures ok { IfOk result (λ number. handed_of stages.new.items ≡ slice_set (handed_of stages.old.items) q (slice_index_or (handed_of stages.old.items) q [] ++ number ∷ [])) }
+    ensures most { IfOk result (λ number. number ≤ most) }
+    ensures err { IfErr result (λ n. (f : _) (g : _) → IsTrue (G.may_stop (slice_index_or (gates_of stages.old.items) q g) (F.predictor (slice_index_or (feeds_of stages.old.items) q f)) n) × (n < length (F.items (slice_index_or (feeds_of stages.old.items) q f)))) }
+{
+    let stage = &mut stages[q];
+    let Some(number) = stage.next_one(rt, over) else {
+        return Err(stage.stopped_at());
+    };
+    if number > most {
+        no_such_number(rt, stages, q, most);
+        unreachable!()
+    }
+    Ok(number)
+}
+
+/// Waits for residuals of the places that come next, which are one predictor's, and hands them on into the front of a run: as many as were there to
+/// see. It answers how many, at least one; or who was stopped, and after how many.
+///
+/// So many were taken of all, and there are more.
+pub(crate) fn next_of_row<R: Threads + Wait, F: Feed, G: Gate>(
+    rt: &R,
+    plan: &Plan,
+    stages: &mut Vec<Stage<F, G>>,
+    overs: &[AtomicBool],
+    weaver: &Weaver,
+    taken: u64,
+    run: &mut [u16],
+) -> Result<usize, (u32, u64)>
+    requires many { vec_len stages.old ≡ plan.now.predictors }
+    requires overs { vec_len stages.old ≤ length overs.now }
+    requires room { 0 < length run.old }
+    requires woven { IsWoven plan.now.params plan.now.deal weaver.now (handed_of stages.old.items) taken }
+    requires more { taken < sample_count plan.now.params.shape }
+    requires lists { AreFeeds F.predictor F.items plan.now (feeds_of stages.old.items) }
+    ensures feeds { feeds_of stages.new.items ≡ feeds_of stages.old.items }
+    ensures gates { gates_of stages.new.items ≡ gates_of stages.old.items }
+    ensures len { vec_len stages.new ≡ vec_len stages.old }
+    ensures within { IfOk result (λ count. (0 < count) × (count ≤ length run.old)) }
+    ensures ahead { IfOk result (λ count. IsAhead plan.now.params plan.now.deal weaver.now (handed_of stages.new.items) taken (take count run.new)) }
+    ensures may { IfOk result (λ count. MayCodeAll weaver.now.end (take count run.new)) }
+    ensures stopped { IfErr result (λ at. MayStopAt G.may_stop F.items (feeds_of stages.old.items) (gates_of stages.old.items) at.0 at.1) }
+{
+    plan.is_plan();
+    let most = greatest(plan.params().kind);
+    let Some(owner) = weaver.wants() else {
+        unreachable!()
+    };
+    let q = owner as usize;
+    let wanted = weaver.wanted_run(run.len());
+    match next_of(rt, stages, q, &overs[q], most, &mut run[..wanted]) {
+        Ok(count) => Ok(count),
+        Err(sent) => Err((owner, sent)),
+    }
+}
+
+/// Waits for a residual of each of the places that come next in a column of bands, and hands them on into the front of a run, each from its own predictor's
+/// lane. It answers how many, at least one; or who was stopped, and after how many.
+///
+/// So many were taken of all, and there are more.
+pub(crate) fn next_of_column<R: Threads + Wait, F: Feed, G: Gate>(
+    rt: &R,
+    plan: &Plan,
+    stages: &mut Vec<Stage<F, G>>,
+    overs: &[AtomicBool],
+    weaver: &Weaver,
+    taken: u64,
+    run: &mut [u16],
+) -> Result<usize, (u32, u64)>
+    requires many { vec_len stages.old ≡ plan.now.predictors }
+    requires overs { vec_len stages.old ≤ length overs.now }
+    requires room { 0 < length run.old }
+    requires woven { IsWoven plan.now.params plan.now.deal weaver.now (handed_of stages.old.items) taken }
+    requires more { taken < sample_count plan.now.params.shape }
+    requires lists { AreFeeds F.predictor F.items plan.now (feeds_of stages.old.items) }
+    ensures feeds { feeds_of stages.new.items ≡ feeds_of stages.old.items }
+    ensures gates { gates_of stages.new.items ≡ gates_of stages.old.items }
+    ensures len { vec_len stages.new ≡ vec_len stages.old }
+    ensures within { IfOk result (λ count. (0 < count) × (count ≤ length run.old)) }
+    ensures ahead { IfOk result (λ count. IsAhead plan.now.params plan.now.deal weaver.now (handed_of stages.new.items) taken (take count run.new)) }
+    ensures may { IfOk result (λ count. MayCodeAll weaver.now.end (take count run.new)) }
+    ensures stopped { IfErr result (λ at. MayStopAt G.may_stop F.items (feeds_of stages.old.items) (gates_of stages.old.items) at.0 at.1) }
+{
+    plan.is_plan();
+    let most = greatest(plan.params().kind);
+    let owners = weaver.wanted_column(run.len());
+    for i in 0..owners.len() {
+        let owner = u32::from(owners[i]);
+        let q = owner as usize;
+        match next_one_of(rt, stages, q, &overs[q], most) {
+            Ok(number) => run[i] = number,
+            Err(sent) => return Err((owner, sent)),
+        }
+    }
+    Ok(owners.len())
+}
+
+/// The greatest residual of a kind.
+fn greatest(kind: Kind) -> u16
+    requires { IsKind kind }
+    ensures { result + 1 ≡ 2 ^ kind.bits }
+{
+    ((1u32 << kind.bits()) - 1) as u16
+}
