@@ -62,7 +62,7 @@ loop-i-preserved g c =
     let room : c.loop-i.i < length c.loop-i.run = omega (arith, c.loop-i-test.true, was.long, c.wanted_column-owners.ensures.most) in
     let cut = take_more_set c.loop-i.run c.loop-i.i c.in-Ok.number room in
     let at : (j : ℕ) → j < 1 → slice_get (owners c.args.plan.now.deal c.args.plan.now.params) (length was.ahead.numbers + length (take c.loop-i.i c.loop-i.run) + j) ≡ Some c.from-owner.result = λ j lt.
-        (let here : length was.ahead.numbers + length (take c.loop-i.i c.loop-i.run) + j ≡ length (was.ahead.numbers ++ take c.loop-i.i c.loop-i.run) = omega (arith, lt, length-append was.ahead.numbers (take c.loop-i.i c.loop-i.run)) in rw here (sym (next g d))) in
+    (let here : length was.ahead.numbers + length (take c.loop-i.i c.loop-i.run) + j ≡ length (was.ahead.numbers ++ take c.loop-i.i c.loop-i.run) = omega (arith, lt, length-append was.ahead.numbers (take c.loop-i.i c.loop-i.run)) in rw here (sym (next g d))) in
     let ahead = ahead_more c.args.plan.now.params c.args.plan.now.deal c.args.weaver.now (handed_of c.loop-i.stages.items) (handed_of c.next_one_of.new.stages.items) c.args.taken c.from-owner.result (take c.loop-i.i c.loop-i.run) (c.in-Ok.number ∷ []) was.ahead at (handed_within g d) c.in-Ok.ensures.ok in
     let range = All-append (λ n. n ≤ c.greatest-most.result) (take c.loop-i.i c.loop-i.run) (c.in-Ok.number ∷ []) was.range (all_one (λ n. n ≤ c.greatest-most.result) c.in-Ok.number c.in-Ok.ensures.most) in
     record {
