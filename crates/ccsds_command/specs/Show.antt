@@ -14,6 +14,7 @@ use Rattle.header_bits.specs.declared.params.Params.{Params}
 use Rattle.header_bits.specs.declared.params.WeightStart.TheVariants.{Usual}
 use Rattle.header_bits.specs.declared.params.Coder.TheVariants.{Sample}
 use Rattle.header_bits.specs.declared.params.CountStart.TheVariants.{Constant}
+use Rattle.header_bits.specs.Plain.{plain}
 use Rattle.coder_pipe.specs.File.{file_of}
 use Rattle.command_devices.specs.Devices.{Took, Rose}
 use Rattle.command_devices.specs.Writing.{IsCutShort}
@@ -21,26 +22,6 @@ use Rattle.command_devices.specs.Writing.{IsCutShort}
 -- unsigned samples of 8 bits
 abbrev pub shown_kind : SampleKind
 shown_kind = record { signed = false; bits = 8 }
-
--- the parameters that every cube is shown with
-abbrev pub common : Sizes → SampleKind → Params
-common s k = record {
-  shape = s;
-  kind = k;
-  order = Bsq;
-  user = 0;
-  word = 1;
-  previous = 0;
-  reduced = true;
-  column = true;
-  register = 32;
-  omega = 13;
-  interval_log = 6;
-  vmin = negsuc 0;
-  vmax = pos 3;
-  start = Usual;
-  coder = Sample 16 6 1 (Constant 3);
-}
 
 -- the size that two bytes spell, the high one first; 0 stands for 65,536
 abbrev pub size_of : ℕ → ℕ → ℕ
@@ -57,9 +38,9 @@ sizes_of bytes = record {
 abbrev pub shown_layout : Layout
 shown_layout = record { order = raw.Bsq; bytes = 1; little = false }
 
--- the text of a cube: its file by the common parameters, in lower-case hexadecimal, and a newline
+-- the text of a cube: its file by the plainest parameters, in lower-case hexadecimal, and a newline
 abbrev pub shown_text : Image → List ℕ
-shown_text c = encode_lower (file_of c (common c.shape shown_kind)) ++ 10 ∷ []
+shown_text c = encode_lower (file_of c (plain c.shape shown_kind)) ++ 10 ∷ []
 
 -- an input is three sizes and the samples of a cube of that shape, whose text this is
 pub record IsTextOf (input text : List ℕ) : Type 0 where

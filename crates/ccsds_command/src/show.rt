@@ -3,7 +3,7 @@
 ghost use Rattle.std.specs.Prelude.{◌≡◌, ◌≢◌, ◌⊎◌, ◌≤◌, ◌++◌, length, slice_index, IfOk, IfErr, OnOk};
 ghost use Rattle.cube_core.specs.declared.fault.Fault.TheVariants.{WantOfMemory, RawLength};
 ghost use Rattle.cube_core.specs.Shape.{sample_count};
-ghost use Rattle.ccsds_command.specs.Show.{Shows, IsShown, IsTextOf, IsShowFault, IsShowRefusal, common, size_of, sizes_of, show_limit};
+ghost use Rattle.ccsds_command.specs.Show.{Shows, IsShown, IsTextOf, IsShowFault, IsShowRefusal, size_of, sizes_of, show_limit};
 ghost use Rattle.command_devices.specs.Devices.{GaveWithin};
 ghost use Rattle.command_devices.specs.Reading.{ToldAsRead};
 ghost use Rattle.command_devices.specs.Writing.{IsWrite};
@@ -19,9 +19,8 @@ use cube_core::cube::Cube;
 use cube_core::fault::Fault;
 use cube_core::kind::Kind;
 use cube_core::layout::{Layout, RawOrder};
-use cube_core::order::Order;
 use cube_core::shape::Shape;
-use header_bits::params::{Coder, CountStart, Params, WeightStart};
+use header_bits::params::Params;
 use std::alloc::Global;
 
 /// How many bytes the three sizes have.
@@ -34,7 +33,7 @@ const LAYOUT: Layout = Layout {
     little: false,
 };
 
-/// Reads a cube of 8-bit samples, codes it with the common parameters, and writes the file in
+/// Reads a cube of 8-bit samples, codes it with the plainest parameters, and writes the file in
 /// hexadecimal with a newline.
 ///
 /// The input is three sizes of two bytes each, the high one first (columns, rows, bands; 0 stands for
@@ -99,7 +98,7 @@ fn text_of(alloc: Global, sizes: &[u8], shape: Shape, raw: &[u8]) -> Result<Vec<
         Ok(cube) => cube,
         Err(fault) => return Err(fault),
     };
-    let file = encode_one(alloc, &cube, &common_params(shape, kind))?;
+    let file = encode_one(alloc, &cube, &Params::plain(shape, kind))?;
     hexadecimal(alloc, &file)
 }
 
@@ -123,33 +122,5 @@ fn size_at(bytes: &[u8]) -> u32
     match BigEndian::read_u16(bytes) {
         0 => 65_536,
         size => u32::from(size),
-    }
-}
-
-/// The parameters that every cube is shown with.
-fn common_params(shape: Shape, kind: Kind) -> Params
-    ensures { result ≡ common shape kind }
-{
-    Params {
-        shape,
-        kind,
-        order: Order::Bsq,
-        user: 0,
-        word: 1,
-        previous: 0,
-        reduced: true,
-        column: true,
-        register: 32,
-        omega: 13,
-        interval_log: 6,
-        vmin: -1,
-        vmax: 3,
-        start: WeightStart::Usual,
-        coder: Coder::Sample {
-            umax: 16,
-            gamma_star: 6,
-            gamma_zero: 1,
-            start: CountStart::Constant(3),
-        },
     }
 }

@@ -7,6 +7,7 @@ pub mod Lawful
 pub mod Laws
 pub mod Layout
 pub mod Parts
+pub mod Plain
 pub mod PredictorPart
 pub mod Reading
 pub mod Rows

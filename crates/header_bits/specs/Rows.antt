@@ -10,6 +10,7 @@ use Rattle.header_bits.specs.declared.params.Coder.{Coder}
 use Rattle.header_bits.specs.declared.params.Coder.TheVariants.{Sample, Block}
 use Rattle.header_bits.specs.declared.params.CountStart.TheVariants.{Constant, Each}
 use Rattle.header_bits.specs.Bits.{bits_of}
+use Rattle.header_bits.specs.Plain.{plain}
 
 abbrev pub sizes : ℕ → ℕ → ℕ → Sizes
 sizes nx ny nz = record { columns = nx; rows = ny; bands = nz }
@@ -17,28 +18,9 @@ sizes nx ny nz = record { columns = nx; rows = ny; bands = nz }
 abbrev pub unsigned : ℕ → SampleKind
 unsigned depth = record { signed = false; bits = depth }
 
-abbrev pub usual_coder : Coder
-usual_coder = Sample 16 6 1 (Constant 3)
-
 -- the parameters that all examples share but where they say otherwise
 abbrev pub common : ℕ → ℕ → ℕ → Params
-common nx ny nz = record {
-  shape = sizes nx ny nz;
-  kind = unsigned 8;
-  order = Bsq;
-  user = 0;
-  word = 1;
-  previous = 0;
-  reduced = true;
-  column = true;
-  register = 32;
-  omega = 13;
-  interval_log = 6;
-  vmin = negsuc 0;
-  vmax = pos 3;
-  start = Usual;
-  coder = usual_coder;
-}
+common nx ny nz = plain (sizes nx ny nz) (unsigned 8)
 
 -- full mode and neighbour-oriented sums
 abbrev pub cube_a : Order → Params

@@ -1,5 +1,8 @@
 //! The parameters of a coded image, all of which its header spells.
 
+ghost use Rattle.std.specs.Prelude.{◌≡◌};
+ghost use Rattle.header_bits.specs.Plain.{plain, plain_coder};
+
 use crate::tables::{ConstantTable, WeightTable};
 use cube_core::kind::Kind;
 use cube_core::order::Order;
@@ -37,6 +40,48 @@ pub struct Params {
     pub vmax: i32,
     pub start: WeightStart,
     pub coder: Coder,
+}
+
+impl Params {
+    /// The plainest parameters of an image: band-sequential order, reduced mode with column-oriented local sums, no previous band, default weights,
+    /// and the sample-adaptive coder of `Coder::plain`. Others are made of them by naming what differs.
+    ///
+    /// They are lawful for samples of five bits or more.
+    pub fn plain(shape: Shape, kind: Kind) -> Params
+        ensures { result ≡ plain shape kind }
+    {
+        Params {
+            shape,
+            kind,
+            order: Order::Bsq,
+            user: 0,
+            word: 1,
+            previous: 0,
+            reduced: true,
+            column: true,
+            register: 32,
+            omega: 13,
+            interval_log: 6,
+            vmin: -1,
+            vmax: 3,
+            start: WeightStart::Usual,
+            coder: Coder::plain(),
+        }
+    }
+}
+
+impl Coder {
+    /// The sample-adaptive coder with a unary length limit of 16, a rescaling counter size of 6, counters that start at 2, and the accumulator's constant 3.
+    pub fn plain() -> Coder
+        ensures { result ≡ plain_coder }
+    {
+        Coder::Sample {
+            umax: 16,
+            gamma_star: 6,
+            gamma_zero: 1,
+            start: CountStart::Constant(3),
+        }
+    }
 }
 
 /// The weights that a band starts from.

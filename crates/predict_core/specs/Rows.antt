@@ -1,6 +1,7 @@
 -- Parameters and cubes of the worked examples.
 use Rattle.std.specs.Prelude.{ℕ, List, [], ◌∷◌, map, ℤ, pos, negsuc, true, false}
 use Rattle.header_bits.specs.declared.params.Params.{Params}
+use Rattle.header_bits.specs.Plain.{plain}
 use Rattle.header_bits.specs.declared.params.WeightStart.TheVariants.{Usual, Table}
 use Rattle.header_bits.specs.declared.params.Coder.TheVariants.{Sample}
 use Rattle.header_bits.specs.declared.params.CountStart.TheVariants.{Constant}
@@ -26,23 +27,7 @@ cube columns rows bands samples = record { shape = sizes columns rows bands; kin
 
 -- the parameters that all examples share but for what is named
 abbrev pub common : Params
-common = record {
-  shape = sizes 1 1 1;
-  kind = unsigned 8;
-  order = Bsq;
-  user = 0;
-  word = 1;
-  previous = 0;
-  reduced = true;
-  column = true;
-  register = 32;
-  omega = 13;
-  interval_log = 6;
-  vmin = negsuc 0;
-  vmax = pos 3;
-  start = Usual;
-  coder = Sample 16 6 1 (Constant 3);
-}
+common = plain (sizes 1 1 1) (unsigned 8)
 
 abbrev pub one_below : Params
 one_below = record common { previous = 1 }

@@ -10,10 +10,9 @@ use crate::again::{Again, numbers};
 use block_adaptive::block_writer::BlockWriter;
 use cube_core::fault::Fault;
 use cube_core::kind::Kind;
-use cube_core::order::Order;
 use cube_core::shape::Shape;
 use header_bits::bit_writer::BitWriter;
-use header_bits::params::{Coder, Params, WeightStart};
+use header_bits::params::{Coder, Params};
 use std::alloc::Global;
 
 /// How many numbers are written. They end inside a block.
@@ -37,25 +36,12 @@ fn params(shape: Shape, kind: Kind) -> Params
 {
     let _bits = kind.bits();
     Params {
-        shape,
-        kind,
-        order: Order::Bsq,
-        user: 0,
-        word: 1,
-        previous: 0,
-        reduced: true,
-        column: true,
-        register: 32,
-        omega: 13,
-        interval_log: 6,
-        vmin: -1,
-        vmax: 3,
-        start: WeightStart::Usual,
         coder: Coder::Block {
             size: 8,
             restricted: false,
             reference: 64,
         },
+        ..Params::plain(shape, kind)
     }
 }
 

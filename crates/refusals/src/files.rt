@@ -99,21 +99,13 @@ fn params_of(order: Order, start: WeightStart, coder: Coder) -> Result<Params, F
     ensures { IfOk result (λ p. IsLawful p) }
 {
     let params = Params {
-        shape: Shape::new(23, 17, 5)?,
-        kind: Kind::new(false, 12)?,
         order,
-        user: 0,
-        word: 1,
         previous: 3,
         reduced: false,
         column: false,
-        register: 32,
-        omega: 13,
-        interval_log: 6,
-        vmin: -1,
-        vmax: 3,
         start,
         coder,
+        ..Params::plain(Shape::new(23, 17, 5)?, Kind::new(false, 12)?)
     };
     params.check()?;
     Ok(params)

@@ -6,10 +6,9 @@ ghost use Rattle.sample_adaptive.specs.Settings.{AreForSamples};
 use crate::again::{Again, numbers};
 use cube_core::fault::Fault;
 use cube_core::kind::Kind;
-use cube_core::order::Order;
 use cube_core::shape::Shape;
 use header_bits::bit_writer::BitWriter;
-use header_bits::params::{Coder, CountStart, Params, WeightStart};
+use header_bits::params::{Coder, CountStart, Params};
 use sample_adaptive::stats::Stats;
 use std::alloc::Global;
 
@@ -36,26 +35,13 @@ fn params(shape: Shape, kind: Kind) -> Params
 {
     let _bands = shape.bands();
     Params {
-        shape,
-        kind,
-        order: Order::Bsq,
-        user: 0,
-        word: 1,
-        previous: 0,
-        reduced: true,
-        column: true,
-        register: 32,
-        omega: 13,
-        interval_log: 6,
-        vmin: -1,
-        vmax: 3,
-        start: WeightStart::Usual,
         coder: Coder::Sample {
             umax: 18,
             gamma_star: 6,
             gamma_zero: 1,
             start: CountStart::Constant(5),
         },
+        ..Params::plain(shape, kind)
     }
 }
 

@@ -12,6 +12,7 @@ use Rattle.header_bits.specs.declared.params.Coder.TheVariants.{Sample}
 use Rattle.header_bits.specs.declared.params.CountStart.TheVariants.{Constant}
 use Rattle.header_bits.specs.declared.params.WeightStart.TheVariants.{Usual, Table}
 use Rattle.header_bits.specs.Lawful.{params_fault}
+use Rattle.header_bits.specs.Plain.{plain}
 use Rattle.header_bits.specs.TableParts.{weight_count}
 use Rattle.speed.specs.Numbers.{synthetic_weights}
 
@@ -23,29 +24,10 @@ measured_shape timed = if timed then record { columns = 512; rows = 512; bands =
 abbrev pub measured_numbers : Bool → ℕ
 measured_numbers timed = if timed then 1000000 else 5000
 
--- the sample-adaptive coder with the usual numbers
-abbrev pub usual_coder : Coder
-usual_coder = Sample 16 6 1 (Constant 3)
-
 -- parameters of 12 bits, neighbour sums, and the usual numbers
 abbrev pub measured : Sizes → Bool → ℕ → Order → Coder → Params
-measured shape reduced previous order coder = record {
-  shape = shape;
-  kind = record { signed = false; bits = 12 };
-  order = order;
-  user = 0;
-  word = 1;
-  previous = previous;
-  reduced = reduced;
-  column = false;
-  register = 32;
-  omega = 13;
-  interval_log = 6;
-  vmin = negsuc 0;
-  vmax = pos 3;
-  start = Usual;
-  coder = coder;
-}
+measured shape reduced previous order coder =
+    record (plain shape (record { signed = false; bits = 12 })) { order = order; previous = previous; reduced = reduced; column = false; coder = coder }
 
 -- the plainest parameters of a kind, for a coder that is measured alone
 abbrev pub coder_alone : Sizes → SampleKind → Coder → Params

@@ -17,11 +17,10 @@ use block_adaptive::block_reader::BlockReader;
 use block_adaptive::block_writer::BlockWriter;
 use cube_core::fault::Fault;
 use cube_core::kind::Kind;
-use cube_core::order::Order;
 use cube_core::shape::Shape;
 use header_bits::bit_reader::BitReader;
 use header_bits::bit_writer::BitWriter;
-use header_bits::params::{Coder, Params, WeightStart};
+use header_bits::params::{Coder, Params};
 use std::alloc::{AllocError, Global};
 
 /// Measures the writer and the reader of blocks of each size, and of the restricted set of code options
@@ -78,25 +77,12 @@ fn params(shape: Shape, kind: Kind, size: u32, restricted: bool) -> Params
 {
     let _bits = kind.bits();
     Params {
-        shape,
-        kind,
-        order: Order::Bsq,
-        user: 0,
-        word: 1,
-        previous: 0,
-        reduced: true,
-        column: true,
-        register: 32,
-        omega: 13,
-        interval_log: 6,
-        vmin: -1,
-        vmax: 3,
-        start: WeightStart::Usual,
         coder: Coder::Block {
             size,
             restricted,
             reference: 4096,
         },
+        ..Params::plain(shape, kind)
     }
 }
 

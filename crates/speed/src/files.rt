@@ -4,7 +4,7 @@ ghost use Rattle.std.specs.Prelude.{◌≡◌};
 ghost use Rattle.header_bits.specs.Lawful.{IsLawful};
 
 use crate::cube::sum_of_cube;
-use crate::predictor::{params_of, synthetic_cube, usual_coder};
+use crate::predictor::{params_of, synthetic_cube};
 use crate::report::Report;
 use crate::synthetic::sum_of_bytes;
 use anyhow::Result;
@@ -24,7 +24,7 @@ pub fn measure(report: &Report) -> Result<()> {
         ("bil", Order::Bi(1)),
         ("bip", Order::Bi(shape.bands())),
     ] {
-        let params = params_of(shape, false, 3, order, usual_coder())?;
+        let params = params_of(shape, false, 3, order, Coder::plain())?;
         there_and_back(report, "sample", name, &params)?;
         let blocks = Coder::Block {
             size: 16,

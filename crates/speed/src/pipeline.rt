@@ -3,7 +3,7 @@
 ghost use Rattle.std.specs.Prelude.{◌≤◌};
 ghost use Rattle.header_bits.specs.Lawful.{IsLawful};
 
-use crate::predictor::{params_of, synthetic_cube, usual_coder};
+use crate::predictor::{params_of, synthetic_cube};
 use crate::report::Report;
 use crate::synthetic::sum_of_bytes;
 use anyhow::Result;
@@ -13,7 +13,7 @@ use coder_pipe::encode_predicted::encode_predicted;
 use coder_pipe::plan::Plan;
 use cube_core::cube::Cube;
 use cube_core::order::Order;
-use header_bits::params::Params;
+use header_bits::params::{Coder, Params};
 use std::alloc::Global;
 use std::sync::Wait;
 use std::thread::Threads;
@@ -29,7 +29,7 @@ pub fn measure<R: Threads + Wait + Sync>(rt: &R, report: &Report) -> Result<()> 
         ("bil", Order::Bi(1)),
         ("bip", Order::Bi(shape.bands())),
     ] {
-        let params = params_of(shape, false, 3, order, usual_coder())?;
+        let params = params_of(shape, false, 3, order, Coder::plain())?;
         measure_order(rt, report, name, &params)?;
     }
     Ok(())

@@ -1,16 +1,13 @@
 //! The speed of the predictor, sample by sample, there and back.
 
-ghost use Rattle.std.specs.Prelude.{◌≡◌, ◌<◌, ◌≤◌, ◌^◌, false, length, slice_get, slice_index, vec_len, IfOk, IfErr, OnOk, ℕ};
-ghost use Rattle.file_coding.specs.Walked.{AreAlong};
+ghost use Rattle.std.specs.Prelude.{◌≡◌, ◌<◌, ◌≤◌, ◌^◌, false, length, slice_index, IfOk, IfErr, OnOk, ℕ};
 ghost use Rattle.cube_core.specs.declared.fault.Fault.TheVariants.{WantOfMemory};
-ghost use Rattle.cube_core.specs.Image.{Image};
 ghost use Rattle.cube_core.specs.Shape.{sample_count};
 ghost use Rattle.header_bits.specs.Lawful.{IsLawful};
 ghost use Rattle.header_bits.specs.TableParts.{weight_count};
-ghost use Rattle.predict_core.specs.Following.{Learner};
 ghost use Rattle.predict_core.specs.Residual.{residuals as residuals_of};
 ghost use Rattle.speed.specs.Images.{synthetic_image};
-ghost use Rattle.speed.specs.Measured.{usual_coder, measured, lawful_or_fault, from_table};
+ghost use Rattle.speed.specs.Measured.{measured, lawful_or_fault, from_table};
 ghost use Rattle.speed.specs.Numbers.{checksum, synthetic_weights};
 
 use crate::cube::sum_of_cube;
@@ -23,9 +20,9 @@ use cube_core::fault::Fault;
 use cube_core::kind::Kind;
 use cube_core::order::Order;
 use cube_core::shape::Shape;
-use header_bits::params::{Coder, CountStart, Params, WeightStart};
+use file_coding::bands::all_bands;
+use header_bits::params::{Coder, Params, WeightStart};
 use header_bits::tables::WeightTable;
-use predict_core::band::Band;
 use std::alloc::{AllocError, Global};
 
 /// Measures `forward` and `inverse` in each mode and order, and in full mode from a weight table.
@@ -37,7 +34,7 @@ pub fn measure(report: &Report) -> Result<()> {
             ("bil", Order::Bi(1)),
             ("bip", Order::Bi(shape.bands())),
         ] {
-            let params = params_of(shape, reduced, previous, order, usual_coder())?;
+            let params = params_of(shape, reduced, previous, order, Coder::plain())?;
             there_and_back(report, mode, name, &params)?;
         }
     }
@@ -46,7 +43,7 @@ pub fn measure(report: &Report) -> Result<()> {
         ("bil", Order::Bi(1)),
         ("bip", Order::Bi(shape.bands())),
     ] {
-        let params = params_of(shape, false, 3, order, usual_coder())?;
+        let params = params_of(shape, false, 3, order, Coder::plain())?;
         let params = with_table(report.alloc(), params)?;
         there_and_back(report, "table_3", name, &params)?;
     }
@@ -92,18 +89,6 @@ fn synthetic_weights(alloc: Global, count: usize) -> Result<Vec<i32>, AllocError
     Ok(weights)
 }
 
-/// The sample-adaptive coder with the usual numbers.
-pub fn usual_coder() -> Coder
-    ensures { result ≡ usual_coder }
-{
-    Coder::Sample {
-        umax: 16,
-        gamma_star: 6,
-        gamma_zero: 1,
-        start: CountStart::Constant(3),
-    }
-}
-
 /// The parameters of a measurement: 12 bits, neighbour sums, and the usual numbers.
 ///
 /// Where they aren't lawful the answer is their first refusal.
@@ -118,21 +103,12 @@ pub fn params_of(
     ensures lawful { IfOk result (λ p. IsLawful p) }
 {
     let params = Params {
-        shape,
-        kind: Kind::new(false, 12)?,
         order,
-        user: 0,
-        word: 1,
         previous,
         reduced,
         column: false,
-        register: 32,
-        omega: 13,
-        interval_log: 6,
-        vmin: -1,
-        vmax: 3,
-        start: WeightStart::Usual,
         coder,
+        ..Params::plain(shape, Kind::new(false, 12)?)
     };
     params.check()?;
     Ok(params)
@@ -202,21 +178,6 @@ fn inverse(alloc: Global, cube: &mut Cube, params: &Params, residuals: &[u16]) -
         i += 1;
     }
     Ok(())
-}
-
-/// The predictors of all bands, each before its first place.
-fn all_bands(alloc: Global, params: &Params) -> Result<Vec<Band>, Fault>
-    requires { IsLawful params.now }
-    ensures len { IfOk result (λ bands. vec_len bands ≡ params.now.shape.bands) }
-    ensures along { IfOk result (λ bands. (c : Image) → AreAlong params.now c 0 bands.items) }
-    ensures first { IfOk result (λ bands. (z : ℕ) (b : Learner) → slice_get bands.items z ≡ Some b → b.place ≡ 0) }
-    ensures refused { IfErr result (λ e. e ≡ WantOfMemory) }
-{
-    let mut bands = Vec::new(alloc);
-    for z in 0..params.shape.bands() {
-        bands.push(Band::new(alloc, params, z)?)?;
-    }
-    Ok(bands)
 }
 
 /// A cube that changes slowly, with some noise.

@@ -9,11 +9,10 @@ use block_adaptive::block_reader::BlockReader;
 use block_adaptive::block_writer::BlockWriter;
 use cube_core::fault::Fault;
 use cube_core::kind::Kind;
-use cube_core::order::Order;
 use cube_core::shape::Shape;
 use header_bits::bit_reader::BitReader;
 use header_bits::bit_writer::BitWriter;
-use header_bits::params::{Coder, Params, WeightStart};
+use header_bits::params::{Coder, Params};
 use std::alloc::Global;
 use std::process::Abort;
 
@@ -51,25 +50,12 @@ pub(crate) fn params_of(rt: &impl Abort, s: Settings) -> Params
     let kind = Kind::new(false, s.bits).expect(rt, "a kind");
     assert!(rt; kind.bits() == s.bits);
     Params {
-        shape,
-        kind,
-        order: Order::Bsq,
-        user: 0,
-        word: 1,
-        previous: 0,
-        reduced: true,
-        column: true,
-        register: 32,
-        omega: 13,
-        interval_log: 6,
-        vmin: -1,
-        vmax: 3,
-        start: WeightStart::Usual,
         coder: Coder::Block {
             size: size_of(s.size),
             restricted: s.restricted,
             reference: s.reference,
         },
+        ..Params::plain(shape, kind)
     }
 }
 

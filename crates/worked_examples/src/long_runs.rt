@@ -11,7 +11,7 @@ use cube_core::order::Order;
 use cube_core::shape::Shape;
 use file_coding::coding_end::CodingEnd;
 use header_bits::bit_writer::BitWriter;
-use header_bits::params::{Coder, CountStart, Params, WeightStart};
+use header_bits::params::{Coder, CountStart, Params};
 use sample_adaptive::stats::Stats;
 use std::alloc::Global;
 use std::process::Abort;
@@ -37,21 +37,9 @@ fn params_of(rt: &impl Abort, columns: u32, bands: u32, order: Order, coder: Cod
     let kind = Kind::new(false, 8).expect(rt, "a kind");
     assert!(rt; shape.sample_count() == LONGEST as u64);
     let params = Params {
-        shape,
-        kind,
         order,
-        user: 0,
-        word: 1,
-        previous: 0,
-        reduced: true,
-        column: true,
-        register: 32,
-        omega: 13,
-        interval_log: 6,
-        vmin: -1,
-        vmax: 3,
-        start: WeightStart::Usual,
         coder,
+        ..Params::plain(shape, kind)
     };
     assert!(rt; params.check().is_ok());
     params

@@ -12,7 +12,7 @@ use cube_core::kind::Kind;
 use cube_core::layout::{Layout, RawOrder};
 use cube_core::order::{Order, Place};
 use cube_core::shape::Shape;
-use header_bits::params::{Coder, CountStart, Params, WeightStart};
+use header_bits::params::Params;
 use predict_core::band::Band;
 use predict_core::residual::{map_residual, unmap_residual};
 use std::alloc::Global;
@@ -49,26 +49,10 @@ fn params_a(rt: &impl Abort) -> Params
     ensures kind { result.kind ≡ unsigned 8 }
 {
     Params {
-        shape: shape_a(rt),
-        kind: kind_a(rt),
-        order: Order::Bsq,
-        user: 0,
-        word: 1,
         previous: 1,
         reduced: false,
         column: false,
-        register: 32,
-        omega: 13,
-        interval_log: 6,
-        vmin: -1,
-        vmax: 3,
-        start: WeightStart::Usual,
-        coder: Coder::Sample {
-            umax: 16,
-            gamma_star: 6,
-            gamma_zero: 1,
-            start: CountStart::Constant(3),
-        },
+        ..Params::plain(shape_a(rt), kind_a(rt))
     }
 }
 

@@ -6,9 +6,8 @@ ghost use Rattle.header_bits.specs.Lawful.{IsLawful};
 use cube_core::cube::Cube;
 use cube_core::kind::Kind;
 use cube_core::layout::{Layout, RawOrder};
-use cube_core::order::Order;
 use cube_core::shape::Shape;
-use header_bits::params::{Coder, CountStart, Params, WeightStart};
+use header_bits::params::Params;
 use predict_core::band::Band;
 use std::alloc::Global;
 use std::process::Abort;
@@ -79,26 +78,15 @@ fn params_of(
 {
     assert!(rt; previous <= 15);
     let params = Params {
-        shape: Shape::new(columns, 5, previous + 1).expect(rt, "a shape"),
-        kind: Kind::new(false, 12).expect(rt, "a kind"),
-        order: Order::Bsq,
-        user: 0,
-        word: 1,
         previous,
         reduced,
         column,
         register,
-        omega: 13,
         interval_log: 4,
-        vmin: -1,
-        vmax: 3,
-        start: WeightStart::Usual,
-        coder: Coder::Sample {
-            umax: 16,
-            gamma_star: 6,
-            gamma_zero: 1,
-            start: CountStart::Constant(3),
-        },
+        ..Params::plain(
+            Shape::new(columns, 5, previous + 1).expect(rt, "a shape"),
+            Kind::new(false, 12).expect(rt, "a kind"),
+        )
     };
     assert!(rt; params.check().is_ok());
     params

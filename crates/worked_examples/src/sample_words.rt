@@ -6,11 +6,10 @@ ghost use Rattle.sample_adaptive.specs.Settings.{AreForSamples};
 use crate::texts::{bytes_of, fault_of, number_of, numbers_of, parts_of, same, same_fault};
 use cube_core::fault::Fault;
 use cube_core::kind::Kind;
-use cube_core::order::Order;
 use cube_core::shape::Shape;
 use header_bits::bit_reader::BitReader;
 use header_bits::bit_writer::BitWriter;
-use header_bits::params::{Coder, CountStart, Params, WeightStart};
+use header_bits::params::{Coder, CountStart, Params};
 use sample_adaptive::stats::Stats;
 use std::alloc::Global;
 use std::process::Abort;
@@ -45,26 +44,13 @@ pub(crate) fn params_of(rt: &impl Abort, s: Settings) -> Params
     let _bands = shape.bands();
     assert!(rt; kind.bits() == s.bits);
     Params {
-        shape,
-        kind,
-        order: Order::Bsq,
-        user: 0,
-        word: 1,
-        previous: 0,
-        reduced: true,
-        column: true,
-        register: 32,
-        omega: 13,
-        interval_log: 6,
-        vmin: -1,
-        vmax: 3,
-        start: WeightStart::Usual,
         coder: Coder::Sample {
             umax: s.umax,
             gamma_star: s.gamma_star,
             gamma_zero: s.gamma_zero,
             start: CountStart::Constant(s.constant),
         },
+        ..Params::plain(shape, kind)
     }
 }
 

@@ -113,10 +113,7 @@ pub(crate) fn params_of(rt: &impl Abort, alloc: Global, words: &str) -> Params {
     let bits = number(rt, words, "bits");
     let reduced = number(rt, words, "reduced") == 1;
     Params {
-        shape: Shape::new(columns, rows, bands).expect(rt, "a shape"),
-        kind: Kind::new(signed, bits).expect(rt, "a kind"),
         order: order(rt, words),
-        user: 0,
         word: number(rt, words, "word"),
         previous: number(rt, words, "previous"),
         reduced,
@@ -128,5 +125,9 @@ pub(crate) fn params_of(rt: &impl Abort, alloc: Global, words: &str) -> Params {
         vmax: told(rt, words, "vmax"),
         start: start(rt, alloc, words),
         coder: coder(rt, alloc, words),
+        ..Params::plain(
+            Shape::new(columns, rows, bands).expect(rt, "a shape"),
+            Kind::new(signed, bits).expect(rt, "a kind"),
+        )
     }
 }

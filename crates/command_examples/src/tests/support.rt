@@ -11,9 +11,8 @@ use command_settings::settings::CompressSettings;
 use cube_core::fault::Fault;
 use cube_core::kind::Kind;
 use cube_core::layout::{Layout, RawOrder};
-use cube_core::order::Order;
 use cube_core::shape::Shape;
-use header_bits::params::{Coder, CountStart, Params, WeightStart};
+use header_bits::params::Params;
 
 /// The room of a sink, and the pieces in which a run goes.
 const ROOM: usize = 1000;
@@ -52,28 +51,7 @@ pub(crate) fn two_equal() -> Result<CompressSettings, Fault>
 
 /// The parameters of one unsigned band, in reduced mode with column-oriented sums.
 pub(crate) fn band(columns: u32, rows: u32, bits: u32) -> Result<Params, Fault> {
-    Ok(Params {
-        shape: Shape::new(columns, rows, 1)?,
-        kind: Kind::new(false, bits)?,
-        order: Order::Bsq,
-        user: 0,
-        word: 1,
-        previous: 0,
-        reduced: true,
-        column: true,
-        register: 32,
-        omega: 13,
-        interval_log: 6,
-        vmin: -1,
-        vmax: 3,
-        start: WeightStart::Usual,
-        coder: Coder::Sample {
-            umax: 16,
-            gamma_star: 6,
-            gamma_zero: 1,
-            start: CountStart::Constant(3),
-        },
-    })
+    Ok(Params::plain(Shape::new(columns, rows, 1)?, Kind::new(false, bits)?))
 }
 
 /// The file that raw bytes are compressed to, in whole pieces.

@@ -17,7 +17,7 @@ use cube_core::kind::Kind;
 use cube_core::layout::{Layout, RawOrder};
 use cube_core::order::Order;
 use cube_core::shape::Shape;
-use header_bits::params::{Coder, CountStart, Params, WeightStart};
+use header_bits::params::{Coder, Params};
 use std::alloc::Global;
 use std::process::Abort;
 use std::sync::Wait;
@@ -50,31 +50,15 @@ pub(crate) fn params_of(rt: &impl Abort, order: Order, coder: Coder) -> Params
     ensures order { result.order ≡ order }
 {
     Params {
-        shape: Shape::new(3, 2, 2).expect(rt, "a shape"),
-        kind: Kind::new(false, 8).expect(rt, "a kind"),
         order,
-        user: 0,
-        word: 1,
         previous: 1,
         reduced: false,
         column: false,
-        register: 32,
-        omega: 13,
-        interval_log: 6,
-        vmin: -1,
-        vmax: 3,
-        start: WeightStart::Usual,
         coder,
-    }
-}
-
-/// The sample-adaptive coder of the worked files.
-pub(crate) fn by_samples() -> Coder {
-    Coder::Sample {
-        umax: 16,
-        gamma_star: 6,
-        gamma_zero: 1,
-        start: CountStart::Constant(3),
+        ..Params::plain(
+            Shape::new(3, 2, 2).expect(rt, "a shape"),
+            Kind::new(false, 8).expect(rt, "a kind"),
+        )
     }
 }
 

@@ -4,7 +4,7 @@ ghost use Rattle.std.specs.Prelude.{◌≡◌, [], ◌∷◌, IfOk, OnOk};
 ghost use Rattle.cube_core.specs.Image.{Image};
 ghost use Rattle.coder_pipe.specs.Sends.{AreFresh, IsSeen};
 
-use super::cubes::{by_samples, params_of, plan_and_cube};
+use super::cubes::{params_of, plan_and_cube};
 use super::gates::StopAt;
 use band_rings::lane::lane;
 use band_rings::receiver::LaneReceiver;
@@ -16,6 +16,7 @@ use coder_pipe::predict_lane::predict_lane;
 use cube_core::cube::Cube;
 use cube_core::fault::Fault;
 use cube_core::order::Order;
+use header_bits::params::Coder;
 use predict_core::band::Band;
 use std::alloc::Global;
 use std::sync::Wait;
@@ -88,7 +89,7 @@ fn receive(receiver: LaneReceiver, room: &mut [u16]) -> LaneReceiver
 
 #[test]
 fn stopped_where_nothing_is_received(rt: HostRuntime) -> Result<(), Fail> {
-    let params = params_of(&rt, Order::Bi(2), by_samples());
+    let params = params_of(&rt, Order::Bi(2), Coder::plain());
     let (plan, cube) = plan_and_cube(&rt, rt.alloc(), &params, 2, &[0, 1], 1)?;
     for (slots, gate, sent) in [
         (2, THIRD, [55, 3].as_slice()),
@@ -112,7 +113,7 @@ fn stopped_where_nothing_is_received(rt: HostRuntime) -> Result<(), Fail> {
 
 #[test]
 fn stopped_where_nobody_receives(rt: HostRuntime) -> Result<(), Fail> {
-    let params = params_of(&rt, Order::Bi(2), by_samples());
+    let params = params_of(&rt, Order::Bi(2), Coder::plain());
     let (plan, cube) = plan_and_cube(&rt, rt.alloc(), &params, 2, &[0, 1], 1)?;
     for (slots, gate, sent) in [(2, THIRD, 2), (1, SECOND_AT_LAST, 1)] {
         let bands = first_band(rt.alloc(), &plan)?;
@@ -127,7 +128,7 @@ fn stopped_where_nobody_receives(rt: HostRuntime) -> Result<(), Fail> {
 
 #[test]
 fn stopped_while_another_thread_receives(rt: HostRuntime) -> Result<(), Fail> {
-    let params = params_of(&rt, Order::Bi(2), by_samples());
+    let params = params_of(&rt, Order::Bi(2), Coder::plain());
     let (plan, cube) = plan_and_cube(&rt, rt.alloc(), &params, 2, &[0, 1], 1)?;
     let (cube, plan) = (&cube, &plan);
     let bands = first_band(rt.alloc(), plan)?;

@@ -1,8 +1,9 @@
 //! What predictors in threads make of cube A.
 
-use super::cubes::{BY_PIXEL, by_blocks, by_one, by_samples, params_of, piped};
+use super::cubes::{BY_PIXEL, by_blocks, by_one, params_of, piped};
 use coder_pipe::OpenGate;
 use cube_core::order::Order;
+use header_bits::params::Coder;
 use std::process::Abort;
 use std::sync::Wait;
 use std::test::Fail;
@@ -11,7 +12,7 @@ use std::thread::Threads;
 /// A predictor for each band, by one slot and by many.
 #[test]
 fn a_band_each(rt: HostRuntime) -> Result<(), Fail> {
-    let params = params_of(&rt, Order::Bi(2), by_samples());
+    let params = params_of(&rt, Order::Bi(2), Coder::plain());
     for slots in [1, 2, 8, 1024] {
         let made = piped(&rt, rt.alloc(), &params, 2, &[0, 1], slots, &OpenGate)?;
         assert_eq!(rt; made.file.as_slice(), BY_PIXEL.as_slice());
@@ -27,7 +28,7 @@ fn a_band_each(rt: HostRuntime) -> Result<(), Fail> {
 /// All bands to one predictor of two.
 #[test]
 fn all_bands_to_one(rt: HostRuntime) -> Result<(), Fail> {
-    let params = params_of(&rt, Order::Bi(2), by_samples());
+    let params = params_of(&rt, Order::Bi(2), Coder::plain());
     let made = piped(&rt, rt.alloc(), &params, 2, &[0, 0], 1, &OpenGate)?;
     assert_eq!(rt; made.file.as_slice(), BY_PIXEL.as_slice());
     assert_eq!(rt; made.lanes.len(), 2);
@@ -39,7 +40,7 @@ fn all_bands_to_one(rt: HostRuntime) -> Result<(), Fail> {
 /// 64 predictors by one slot, of which one has all bands.
 #[test]
 fn all_bands_to_the_last_of_64(rt: HostRuntime) -> Result<(), Fail> {
-    let params = params_of(&rt, Order::Bi(2), by_samples());
+    let params = params_of(&rt, Order::Bi(2), Coder::plain());
     let made = piped(&rt, rt.alloc(), &params, 64, &[63, 63], 1, &OpenGate)?;
     assert_eq!(rt; made.file.as_slice(), BY_PIXEL.as_slice());
     assert_eq!(rt; made.lanes.len(), 64);
@@ -53,7 +54,7 @@ fn all_bands_to_the_last_of_64(rt: HostRuntime) -> Result<(), Fail> {
 #[test]
 fn as_one_thread(rt: HostRuntime) -> Result<(), Fail> {
     for order in [Order::Bsq, Order::Bi(1), Order::Bi(2)] {
-        for coder in [by_samples(), by_blocks()] {
+        for coder in [Coder::plain(), by_blocks()] {
             let params = params_of(&rt, order, coder);
             let wanted = by_one(&rt, rt.alloc(), &params)?;
             for deal in [[0, 1], [1, 0], [1, 1]] {

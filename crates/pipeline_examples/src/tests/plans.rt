@@ -1,10 +1,11 @@
 //! Which plans are refused.
 
-use super::cubes::{by_samples, compressed, params_of};
+use super::cubes::{compressed, params_of};
 use coder_pipe::OpenGate;
 use coder_pipe::plan::Plan;
 use cube_core::fault::{Fault, Field};
 use cube_core::order::Order;
+use header_bits::params::Coder;
 use std::alloc::Global;
 use std::process::Abort;
 
@@ -16,7 +17,7 @@ fn refusal(
     deal: &[u8],
     slots: u32,
 ) -> Option<Fault> {
-    let params = params_of(rt, Order::Bi(2), by_samples());
+    let params = params_of(rt, Order::Bi(2), Coder::plain());
     assert!(rt; params.check().is_ok());
     Plan::new(alloc, &params, predictors, deal, slots).err()
 }
@@ -56,7 +57,7 @@ fn a_command_without_a_plan_is_refused(rt: HostRuntime) {
         (2, 0, Field::Slots, 0),
         (64, 65_537, Field::Slots, 65_537),
     ] {
-        let params = params_of(&rt, Order::Bi(2), by_samples());
+        let params = params_of(&rt, Order::Bi(2), Coder::plain());
         let answer = compressed(&rt, rt.alloc(), params, predictors, slots, &OpenGate);
         assert_eq!(rt; answer.err(), range(field, value));
     }

@@ -1,9 +1,10 @@
 //! Pipelines that a gate stops.
 
-use super::cubes::{by_samples, compressed, params_of, piped};
+use super::cubes::{compressed, params_of, piped};
 use super::gates::StopTwo;
 use cube_core::fault::Fault;
 use cube_core::order::Order;
+use header_bits::params::Coder;
 use std::alloc::Global;
 use std::process::Abort;
 use std::sync::Wait;
@@ -21,7 +22,7 @@ fn fault<R: Threads + Wait + Sync + Abort>(
     first: u64,
     second: u64,
 ) -> Option<Fault> {
-    let params = params_of(rt, order, by_samples());
+    let params = params_of(rt, order, Coder::plain());
     let gate = StopTwo { first, second };
     piped(rt, alloc, &params, 2, &[0, 1], slots, &gate).err()
 }
@@ -72,7 +73,7 @@ fn the_first_of_two_is_named(rt: HostRuntime) {
 #[test]
 fn a_command_is_stopped(rt: HostRuntime) {
     for sent in 0..NEVER {
-        let params = params_of(&rt, Order::Bi(2), by_samples());
+        let params = params_of(&rt, Order::Bi(2), Coder::plain());
         let gate = StopTwo {
             first: sent,
             second: NEVER,

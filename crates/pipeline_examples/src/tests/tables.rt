@@ -6,7 +6,6 @@ use coder_pipe::encode_predicted::encode_predicted;
 use coder_pipe::plan::Plan;
 use cube_core::cube::Cube;
 use cube_core::kind::Kind;
-use cube_core::order::Order;
 use cube_core::shape::Shape;
 use header_bits::params::{Coder, CountStart, Params, WeightStart};
 use header_bits::tables::{ConstantTable, WeightTable};
@@ -25,21 +24,13 @@ fn params_of(
     coder: Coder,
 ) -> Params {
     Params {
-        shape: Shape::new(1, 2, 2).expect(rt, "a shape"),
-        kind: Kind::new(false, bits).expect(rt, "a kind"),
-        order: Order::Bsq,
-        user: 0,
-        word: 1,
         previous,
-        reduced: true,
-        column: true,
-        register: 32,
-        omega: 13,
-        interval_log: 6,
-        vmin: -1,
-        vmax: 3,
         start,
         coder,
+        ..Params::plain(
+            Shape::new(1, 2, 2).expect(rt, "a shape"),
+            Kind::new(false, bits).expect(rt, "a kind"),
+        )
     }
 }
 

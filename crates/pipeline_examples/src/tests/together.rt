@@ -1,8 +1,9 @@
 //! That predictors run beside each other: gates at which one of them waits for what another does.
 
-use super::cubes::{BY_PIXEL, by_samples, compressed, params_of, piped};
+use super::cubes::{BY_PIXEL, compressed, params_of, piped};
 use super::gates::{FirstWaits, Meeting};
 use cube_core::order::Order;
+use header_bits::params::Coder;
 use std::test::Fail;
 
 /// Predictor 0 may send its first residual only once the one of predictor 1 has come back for which its lane has no room, and no sooner one.
@@ -10,7 +11,7 @@ use std::test::Fail;
 fn gate_first_waits_for_second(rt: HostRuntime) -> Result<(), Fail> {
     for slots in 1..6 {
         let gate = FirstWaits::new(u64::from(slots));
-        let params = params_of(&rt, Order::Bi(2), by_samples());
+        let params = params_of(&rt, Order::Bi(2), Coder::plain());
         let made = piped(&rt, rt.alloc(), &params, 2, &[0, 1], slots, &gate)?;
         assert_eq!(rt; made.file.as_slice(), BY_PIXEL.as_slice());
         let gate = FirstWaits::new(u64::from(slots));
@@ -23,7 +24,7 @@ fn gate_first_waits_for_second(rt: HostRuntime) -> Result<(), Fail> {
 /// Each of two predictors may send its second residual only once the other wants to send its own.
 #[test]
 fn gates_meet(rt: HostRuntime) -> Result<(), Fail> {
-    let params = params_of(&rt, Order::Bi(2), by_samples());
+    let params = params_of(&rt, Order::Bi(2), Coder::plain());
     let meeting = Meeting::new();
     let made = piped(&rt, rt.alloc(), &params, 2, &[0, 1], 1, &meeting)?;
     assert_eq!(rt; made.file.as_slice(), BY_PIXEL.as_slice());

@@ -4,13 +4,14 @@ ghost use Rattle.std.specs.Prelude.{◌≡◌, [], ◌∷◌, IfOk};
 ghost use Rattle.cube_core.specs.declared.order.Order.TheVariants.{Bi};
 ghost use Rattle.coder_pipe.specs.Piping.{AreFeeds};
 
-use super::cubes::{by_samples, params_of, plan_and_cube};
+use super::cubes::{params_of, plan_and_cube};
 use super::weaving::weave_all;
 use coder_pipe::OpenGate;
 use coder_pipe::pipeline::encode_piped;
 use coder_pipe::plan::Plan;
 use cube_core::fault::Fault;
 use cube_core::order::Order;
+use header_bits::params::Coder;
 use lane_workers::list_feed::ListFeed;
 use std::alloc::Global;
 use std::test::Fail;
@@ -26,7 +27,7 @@ const ZEROS: [u8; 26] = [
 #[test]
 fn predictors_are_wanted_by_turns(rt: HostRuntime) -> Result<(), Fail> {
     let alloc = rt.alloc();
-    let params = params_of(&rt, Order::Bi(2), by_samples());
+    let params = params_of(&rt, Order::Bi(2), Coder::plain());
     let (plan, _cube) = plan_and_cube(&rt, alloc, &params, 2, &[0, 1], 1)?;
     let lists = [
         Vec::from_slice(alloc, &[0; 6])?,
@@ -63,7 +64,7 @@ fn feeds<'a>(alloc: Global, plan: &Plan, zeros: &'a [u16]) -> Result<Vec<ListFee
 /// They are woven to the same file.
 #[test]
 fn feeds_of_zeros_are_woven(rt: HostRuntime) -> Result<(), Fail> {
-    let params = params_of(&rt, Order::Bi(2), by_samples());
+    let params = params_of(&rt, Order::Bi(2), Coder::plain());
     let (plan, _cube) = plan_and_cube(&rt, rt.alloc(), &params, 2, &[0, 1], 1)?;
     let zeros = [0; 6];
     let feeds = feeds(rt.alloc(), &plan, &zeros)?;

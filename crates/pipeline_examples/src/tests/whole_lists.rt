@@ -3,7 +3,7 @@
 ghost use Rattle.std.specs.Prelude.{◌≡◌, ◌<◌};
 ghost use Rattle.coder_pipe.specs.Sends.{IsSeen};
 
-use super::cubes::{by_blocks, by_samples, params_of, plan_and_cube};
+use super::cubes::{by_blocks, params_of, plan_and_cube};
 use super::weaving::weave_all;
 use coder_pipe::OpenGate;
 use coder_pipe::encode_predicted::encode_predicted;
@@ -12,6 +12,7 @@ use cube_core::cube::Cube;
 use cube_core::cursor::Places;
 use cube_core::fault::Fault;
 use cube_core::order::{Order, Place};
+use header_bits::params::Coder;
 use predict_core::band::Band;
 use std::alloc::Global;
 use std::process::Abort;
@@ -120,7 +121,7 @@ fn by_whole_lists<R: Threads + Sync + Abort>(
 #[test]
 fn as_whole_lists(rt: HostRuntime) -> Result<(), Fail> {
     for order in [Order::Bsq, Order::Bi(1), Order::Bi(2)] {
-        for coder in [by_samples(), by_blocks()] {
+        for coder in [Coder::plain(), by_blocks()] {
             let params = params_of(&rt, order, coder);
             for (predictors, deal) in [(2, [0, 1]), (2, [0, 0]), (64, [63, 63]), (64, [40, 7])] {
                 let (plan, cube) = plan_and_cube(&rt, rt.alloc(), &params, predictors, &deal, 1)?;

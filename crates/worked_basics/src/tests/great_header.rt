@@ -2,7 +2,6 @@
 
 use cube_core::fault::Fault;
 use cube_core::kind::Kind;
-use cube_core::order::Order;
 use cube_core::shape::Shape;
 use header_bits::header::{read_header, write_header};
 use header_bits::params::{Coder, CountStart, Params, WeightStart};
@@ -42,19 +41,11 @@ fn constants(alloc: Global) -> Result<Vec<u8>, Fault> {
 
 fn params(alloc: Global) -> Result<Params, Fault> {
     Ok(Params {
-        shape: Shape::new(2, 1, BANDS)?,
-        kind: Kind::new(false, 8)?,
-        order: Order::Bsq,
-        user: 0,
-        word: 1,
         previous: 15,
         reduced: false,
         column: false,
         register: 64,
         omega: 19,
-        interval_log: 6,
-        vmin: -1,
-        vmax: 3,
         start: WeightStart::Table {
             q: 22,
             values: WeightTable::new(weights(alloc)?),
@@ -65,6 +56,7 @@ fn params(alloc: Global) -> Result<Params, Fault> {
             gamma_zero: 1,
             start: CountStart::Each(ConstantTable::new(constants(alloc)?)),
         },
+        ..Params::plain(Shape::new(2, 1, BANDS)?, Kind::new(false, 8)?)
     })
 }
 

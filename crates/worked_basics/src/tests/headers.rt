@@ -2,11 +2,10 @@
 
 use cube_core::fault::{Fault, Field, Rule};
 use cube_core::kind::Kind;
-use cube_core::order::Order;
 use cube_core::shape::Shape;
 use header_bits::bit_writer::BitWriter;
 use header_bits::header::{put_header, read_header, write_header};
-use header_bits::params::{Coder, CountStart, Params, WeightStart};
+use header_bits::params::Params;
 use std::test::Fail;
 
 /// The header of a lone sample of eight bits.
@@ -24,28 +23,7 @@ const ONE_SAMPLE: [u8; 19] = [
 ];
 
 fn one_sample() -> Result<Params, Fault> {
-    Ok(Params {
-        shape: Shape::new(1, 1, 1)?,
-        kind: Kind::new(false, 8)?,
-        order: Order::Bsq,
-        user: 0,
-        word: 1,
-        previous: 0,
-        reduced: true,
-        column: true,
-        register: 32,
-        omega: 13,
-        interval_log: 6,
-        vmin: -1,
-        vmax: 3,
-        start: WeightStart::Usual,
-        coder: Coder::Sample {
-            umax: 16,
-            gamma_star: 6,
-            gamma_zero: 1,
-            start: CountStart::Constant(3),
-        },
-    })
+    Ok(Params::plain(Shape::new(1, 1, 1)?, Kind::new(false, 8)?))
 }
 
 #[test]
