@@ -18,7 +18,7 @@ use Rattle.sample_adaptive.specs.Taken.{Counts, HasTaken as HaveTaken, PutsRun a
 use Rattle.sample_adaptive.proofs.Running.{body_run}
 use Rattle.file_coding.specs.declared.encoder.Encoder.{Encoder}
 use Rattle.file_coding.specs.declared.encoder.Encoder.TheVariants.{Samples, Blocks}
-use Rattle.file_coding.specs.Coding.{places_of, places_behind, HasTaken, IsRun, IsBySamples, MayPutRun, PutsRun}
+use Rattle.file_coding.specs.Coding.{places_of, places_behind, SamplesTaken, HasTaken, IsRun, IsBySamples, MayPutRun, PutsRun}
 use Rattle.file_coding.specs.Ends.{Ending, HasCoded, MayCode, MayCodeAll, CodesAll, AreByRows, MayCodeRun}
 use Rattle.file_coding.proofs.Coders.{places_long}
 use Rattle.file_coding.proofs.Endings.{comes_next, first_of}
@@ -59,27 +59,34 @@ rows_follow s o lawful along i q e lt =
 
 -- ---- by the sample-adaptive coder
 
+-- the numbers of a run more
+pub samples_more_run : (p : Params) (old new : Counts) (numbers run : List ℕ) (bits : List Bool) → length numbers + length run ≤ length (places p.shape p.order) → SamplesTaken p old numbers bits → (length new.bands ≡ length old.bands) × (new.bits ≡ old.bits)
+    → HaveTaken (settings p) new (λ b. band_numbers b (places_of p numbers ++ places_behind p numbers (length run)) (numbers ++ run))
+    → SamplesTaken p new (numbers ++ run) (bits ++ words_after (settings p) (places_of p numbers) numbers (places_behind p numbers (length run)) run)
+samples_more_run p old new numbers run bits fits h kept taken =
+    let long : length numbers ≡ length (places_of p numbers) = places_long p numbers (omega (arith, fits)) in
+    let whole : places_of p numbers ++ places_behind p numbers (length run) ≡ places_of p (numbers ++ run) =
+    sym (ap (λ n. take n (places p.shape p.order)) (length-append numbers run) ∙ take-add (length numbers) (length run) (places p.shape p.order)) in
+    record {
+      coder = h.coder;
+      bands = kept.0 ∙ h.bands;
+      depth = kept.1 ∙ h.depth;
+      taken = subst (λ (qs : List Place). HaveTaken (settings p) new (λ b. band_numbers b qs (numbers ++ run))) whole taken;
+      text =
+          ap (λ (x : List Bool). x ++ words_after (settings p) (places_of p numbers) numbers (places_behind p numbers (length run)) run) h.text
+          ∙ sym (body_run (settings p) (places_of p numbers) (places_behind p numbers (length run)) numbers run long)
+          ∙ ap (λ (qs : List Place). sample_body (settings p) qs (numbers ++ run)) whole;
+    }
+
+-- as many places stand behind those of the numbers
+pub run_count : (p : Params) (numbers : List ℕ) (count : ℕ) → length numbers + count ≤ length (places p.shape p.order) → count ≡ length (places_behind p numbers count)
+run_count p numbers count fits = omega (arith, fits, length-take count (drop (length numbers) (places p.shape p.order)), length-drop (length numbers) (places p.shape p.order))
+
 pub samples_run : (z t : ℕ) (run : List ℕ) (old new : Counts) (written now : List Bool) → PutsMany z t run old written new now → (length new.bands ≡ length old.bands) × (new.bits ≡ old.bits) → PutsRun z t run (Samples old) written (Samples new) now
 samples_run z t run old new written now puts kept p numbers bits h next =
     let long : length numbers ≡ length (places_of p numbers) = places_long p numbers (omega (arith, next.fits)) in
-    let count : length run ≡ length (places_behind p numbers (length run)) = omega (arith, next.fits, length-take (length run) (drop (length numbers) (places p.shape p.order)), length-drop (length numbers) (places p.shape p.order)) in
-    let did = puts (settings p) (places_of p numbers) (places_behind p numbers (length run)) numbers long count next.band h.taken next.time in
-    let whole : places_of p numbers ++ places_behind p numbers (length run) ≡ places_of p (numbers ++ run) =
-    sym (ap (λ n. take n (places p.shape p.order)) (length-append numbers run) ∙ take-add (length numbers) (length run) (places p.shape p.order)) in
-    let more : List Bool = words_after (settings p) (places_of p numbers) numbers (places_behind p numbers (length run)) run in (
-      more,
-      did.0,
-      record {
-        coder = h.coder;
-        bands = kept.0 ∙ h.bands;
-        depth = kept.1 ∙ h.depth;
-        taken = subst (λ (qs : List Place). HaveTaken (settings p) new (λ b. band_numbers b qs (numbers ++ run))) whole did.1;
-        text =
-            ap (λ (x : List Bool). x ++ more) h.text
-            ∙ sym (body_run (settings p) (places_of p numbers) (places_behind p numbers (length run)) numbers run long)
-            ∙ ap (λ (qs : List Place). sample_body (settings p) qs (numbers ++ run)) whole;
-      },
-    )
+    let did = puts (settings p) (places_of p numbers) (places_behind p numbers (length run)) numbers long (run_count p numbers (length run) next.fits) next.band h.taken next.time in
+    (words_after (settings p) (places_of p numbers) numbers (places_behind p numbers (length run)) run, did.0, samples_more_run p old new numbers run bits next.fits h kept did.1)
 
 is_sample : (p : Params) (coder : Encoder) (numbers : List ℕ) (bits : List Bool) → IsBySamples coder → HasTaken p coder numbers bits → IsSample p.coder
 is_sample p (Samples v) numbers bits s h = h.coder

@@ -1,5 +1,5 @@
 -- What the reading end has given, number after number, and how it refuses.
-use Rattle.std.proofs.Common.{◌≡◌, ◌⊎◌, ◌+◌, ◌*◌, ◌^◌, ◌<◌, ◌≤◌, ℕ, zero, suc, Bool, true, false, cond, List, [], ◌∷◌, ◌++◌, length, take, drop, Some, Result, Ok, Err, IfOk, refl, sym, ap, ◌∙◌, subst, inl, inr, append-nil, append_assoc, length-append, arith}
+use Rattle.std.proofs.Common.{◌≡◌, ◌⊎◌, ◌+◌, ◌*◌, ◌^◌, ◌<◌, ◌≤◌, ℕ, zero, suc, Bool, true, false, cond, List, [], ◌∷◌, ◌++◌, length, take, drop, Some, Result, Ok, Err, IfOk, refl, sym, ap, ◌∙◌, subst, inl, inr, length-append, take-append-drop, arith}
 use Rattle.std.specs.List.{slice_get, AllByRecursion}
 use Rattle.std.proofs.lemmas.List.{take_at}
 use Rattle.cube_core.specs.declared.fault.Fault.{Fault}
@@ -24,7 +24,8 @@ use Rattle.sample_adaptive.specs.Taken.{Counts, GetsNumber}
 use Rattle.sample_adaptive.specs.Words.{code_word, code_at}
 use Rattle.sample_adaptive.specs.Laws.{AreNumbers}
 use Rattle.sample_adaptive.proofs.Bodies.{code_bits}
-use Rattle.sample_adaptive.proofs.Refusals.{word_again, word_takes}
+use Rattle.sample_adaptive.proofs.RunsRead.{words_behind}
+use Rattle.sample_adaptive.proofs.Refusals.{word_takes}
 use Rattle.sample_adaptive.proofs.Taking.{taken_along}
 use Rattle.block_adaptive.specs.Settings.{IsBlock, IsCutOf, cut_by, coder_cut}
 use Rattle.block_adaptive.specs.Segments.{block_count}
@@ -47,10 +48,10 @@ range_more limit (m ∷ ns) n h lt = (h.0, range_more limit ns n h.1 lt)
 some_same : (p q : Place) → Some p ≡ Some q → p ≡ q
 some_same p q k = cc
 
-split_next : (xs : List Place) (i : ℕ) (x : Place) → slice_get xs i ≡ Some x → xs ≡ take i xs ++ x ∷ drop (suc i) xs
-split_next [] i x e = absurd (cc)
-split_next (y ∷ xs) zero x e = ap (λ (z : Place). z ∷ xs) (some_same y x e)
-split_next (y ∷ xs) (suc i) x e = ap (λ (zs : List Place). y ∷ zs) (split_next xs i x e)
+next_is : (xs : List Place) (i : ℕ) (x : Place) → slice_get xs i ≡ Some x → drop i xs ≡ x ∷ drop (suc i) xs
+next_is [] i x e = absurd (cc)
+next_is (y ∷ xs) zero x e = ap (λ (z : Place). z ∷ xs) (some_same y x e)
+next_is (y ∷ xs) (suc i) x e = next_is xs i x e
 
 -- ---- how a code word is refused
 
@@ -102,24 +103,6 @@ placed_fault count t place c bits e told bad ended h =
       | inr (f, g) ↦ g place ∙ ap (λ (d : Fault). Err d) (sym (bad t f))
     ]
 
--- words of numbers, and then none: so the body is refused
-words_refused : (count : ℕ) (c : CoderSettings) (gone : List Place) (before : List ℕ) (ps : List Place) (numbers : List ℕ) (q : Place) (more : List Place) (left : List Bool) (e : Fault) → length numbers ≡ length ps → AreNumbers c.bits numbers
-    → word_at count (length (before ++ numbers)) (code_at c q.z (band_numbers q.z (gone ++ ps) (before ++ numbers))) left ≡ Err e → words_at count c gone before (ps ++ q ∷ more) (words_after c gone before ps numbers ++ left) ≡ Err e
-unfolding words_at words_after
-words_refused count c gone before [] [] q more left e long h bad =
-    let here : word_at count (length before) (code_at c q.z (band_numbers q.z gone before)) left ≡ Err e = rw (append-nil gone, append-nil before) at bad in
-    rw here refl
-words_refused count c gone before [] (n ∷ ns) q more left e long h bad = absurd (omega arith)
-words_refused count c gone before (p ∷ ps) [] q more left e long h bad = absurd (omega arith)
-words_refused count c gone before (p ∷ ps) (n ∷ ns) q more left e long h bad =
-    let code : Code = code_at c p.z (band_numbers p.z gone before) in
-    let after : List Bool = words_after c (gone ++ p ∷ []) (before ++ n ∷ []) ps ns in
-    let fits : n < 2 ^ code.bits = rw (code_bits c p.z (band_numbers p.z gone before)) h.0 in
-    let places-are : (gone ++ p ∷ []) ++ ps ≡ gone ++ p ∷ ps = append_assoc gone (p ∷ []) ps in
-    let numbers-are : (before ++ n ∷ []) ++ ns ≡ before ++ n ∷ ns = append_assoc before (n ∷ []) ns in
-    let rest = words_refused count c (gone ++ p ∷ []) (before ++ n ∷ []) ps ns q more left e (omega arith) h.1 (rw (places-are, numbers-are) bad) in
-    rw (append_assoc (code_word code n) after left, word_again count (length before) code n (after ++ left) fits, rest) refl
-
 sample_behind : (p : Params) (count : ℕ) (bits : List Bool) → IsSample p.coder → behind_body count p bits ≡ (sample_body_at count (settings p) (places p.shape p.order) bits >>= λ read. Ok read.1)
 unfolding behind_body
 sample_behind p count bits coder = by_coder p.coder coder
@@ -128,18 +111,25 @@ sample_behind p count bits coder = by_coder p.coder coder
     by_coder (Sample umax gamma_star gamma_zero start) s = refl
     by_coder (Block size restricted reference) s = absurd s
 
+-- words of numbers, and then none: so the body is refused
+pub rest_refused : (p : Params) (count : ℕ) (numbers : List ℕ) (bits left : List Bool) (e : Fault) → IsSample p.coder → AllByRecursion (λ v. v < 2 ^ p.kind.bits) numbers → length numbers ≤ length (places p.shape p.order)
+    → bits ≡ sample_body (settings p) (places_of p numbers) numbers → words_at count (settings p) (places_of p numbers) numbers (drop (length numbers) (places p.shape p.order)) left ≡ Err e → behind_body count p (bits ++ left) ≡ Err e
+unfolding sample_body sample_body_at
+rest_refused p count numbers bits left e coder range fits text bad =
+    let numbers-are : AreNumbers (settings p).bits numbers = rw (settings_bits p) range in
+    let words = words_behind count (settings p) [] [] (places_of p numbers) numbers (drop (length numbers) (places p.shape p.order)) left e (places_long p numbers fits) numbers-are bad in
+    let body : words_at count (settings p) [] [] (places p.shape p.order) (bits ++ left) ≡ Err e =
+    ap (λ (ps : List Place). words_at count (settings p) [] [] ps (bits ++ left)) (sym (take-append-drop (length numbers) (places p.shape p.order)))
+    ∙ ap (λ (bs : List Bool). words_at count (settings p) [] [] (places_of p numbers ++ drop (length numbers) (places p.shape p.order)) (bs ++ left)) text ∙ words in
+    sample_behind p count (bits ++ left) coder ∙ rw body refl
+
 sample_refused : (p : Params) (count : ℕ) (numbers : List ℕ) (bits left : List Bool) (q : Place) (e : Fault) → IsSample p.coder → AllByRecursion (λ v. v < 2 ^ p.kind.bits) numbers → slice_get (places p.shape p.order) (length numbers) ≡ Some q
     → bits ≡ sample_body (settings p) (places_of p numbers) numbers → word_at count (length numbers) (code_at (settings p) q.z (of_band p numbers q.z)) left ≡ Err e → behind_body count p (bits ++ left) ≡ Err e
-unfolding sample_body sample_body_at
+unfolding words_at
 sample_refused p count numbers bits left q e coder range at text bad =
-    let split : places p.shape p.order ≡ places_of p numbers ++ q ∷ drop (suc (length numbers)) (places p.shape p.order) = split_next (places p.shape p.order) (length numbers) q at in
-    let long : length numbers ≡ length (places_of p numbers) = places_long p numbers (omega (arith, (take_next (places p.shape p.order) (length numbers) q at).0)) in
-    let numbers-are : AreNumbers (settings p).bits numbers = rw (settings_bits p) range in
-    let words = words_refused count (settings p) [] [] (places_of p numbers) numbers q (drop (suc (length numbers)) (places p.shape p.order)) left e long numbers-are bad in
-    let body : words_at count (settings p) [] [] (places p.shape p.order) (bits ++ left) ≡ Err e =
-    ap (λ (ps : List Place). words_at count (settings p) [] [] ps (bits ++ left)) split
-    ∙ ap (λ (bs : List Bool). words_at count (settings p) [] [] (places_of p numbers ++ q ∷ drop (suc (length numbers)) (places p.shape p.order)) (bs ++ left)) text ∙ words in
-    sample_behind p count (bits ++ left) coder ∙ rw body refl
+    let one : words_at count (settings p) (places_of p numbers) numbers (q ∷ drop (suc (length numbers)) (places p.shape p.order)) left ≡ Err e = rw bad refl in
+    let all = ap (λ (ps : List Place). words_at count (settings p) (places_of p numbers) numbers ps left) (next_is (places p.shape p.order) (length numbers) q at) ∙ one in
+    rest_refused p count numbers bits left e coder range (omega (arith, (take_next (places p.shape p.order) (length numbers) q at).0)) text all
 
 -- ---- by samples
 

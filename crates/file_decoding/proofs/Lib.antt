@@ -9,3 +9,4 @@ pub mod Columns
 pub mod Inverse
 pub mod Long
 pub mod OneCube
+pub mod RunsGiven

@@ -125,7 +125,7 @@ next_row : (q : Place) (n : ℕ) (left rest : List Place) → AreOfRow q (suc n)
 next_row q n left rest row is i lt =
     sym (ap (λ (ps : List Place). slice_get ps (suc i)) is) ∙ row (suc i) (omega (arith, lt)) ∙ ap (λ (x : ℕ). Some (record { z = q.z; y = q.y; x = x })) (let e : q.x + suc i ≡ q.x + 1 + i = omega arith in e)
 
-get_drop : (xs : List Place) (n i : ℕ) → slice_get (drop n xs) i ≡ slice_get xs (n + i)
+pub get_drop : (xs : List Place) (n i : ℕ) → slice_get (drop n xs) i ≡ slice_get xs (n + i)
 get_drop [] zero i = refl
 get_drop [] (suc n) zero = refl
 get_drop [] (suc n) (suc i) = refl

@@ -11,7 +11,7 @@ ghost use Rattle.header_bits.specs.Lawful.{IsLawful};
 ghost use Rattle.header_bits.specs.Header.{header_at, BeginsWithTable};
 ghost use Rattle.file_decoding.specs.Files.{IsFile, behind_body, fill_test, head_at, file_test};
 ghost use Rattle.cube_core.specs.Order.{IsPlaceOf, goes_along_rows};
-ghost use Rattle.file_decoding.specs.Decoding.{TakesCube, AnswersOr, IsNoFile, MayAskAll, GivesRun};
+ghost use Rattle.file_decoding.specs.Decoding.{TakesCube, AnswersOr, IsNoFile};
 
 use crate::decoder::Decoder;
 use crate::least::test_length;
@@ -88,30 +88,6 @@ fn run_from(params: &Params, place: Place) -> usize
     RUN.min((params.shape.columns() - place.x) as usize)
 }
 
-/// Reads the residuals of a run, of which the first is number `t` of band `z` and stands at `place` in encoding order. The refusals are those of `Decoder::next`.
-fn read_run(
-    decoder: &mut Decoder,
-    z: u32,
-    t: u64,
-    place: u64,
-    reader: &mut BitReader,
-    deltas: &mut [u16],
-) -> Result<(), Fault>
-    requires may { MayAskAll decoder.old z t place (length deltas.old) }
-    requires small { (length deltas.old ≤ 64) × (t < 2 ^ 48) × (place < 2 ^ 48) }
-    ensures given { GivesRun z t place result decoder.old reader.old decoder.new reader.new.left deltas.new }
-    ensures count { reader.new.count ≡ reader.old.count }
-    ensures long { length deltas.new ≡ length deltas.old }
-{
-    for i in 0..deltas.len() {
-        match decoder.next(z, t + i as u64, place + i as u64, reader) {
-            Ok(number) => deltas[i] = number,
-            Err(fault) => return Err(fault),
-        }
-    }
-    Ok(())
-}
-
 /// The cube whose body stands next.
 fn take_cube(alloc: Global, params: &Params, reader: &mut BitReader) -> Result<Cube, Fault>
     requires { IsLawful params.now }
@@ -132,7 +108,7 @@ fn take_cube(alloc: Global, params: &Params, reader: &mut BitReader) -> Result<C
             let run = run_from(params, place);
             let band = &mut bands[place.z as usize];
             let t = band.next();
-            read_run(&mut decoder, place.z, t, index, reader, &mut deltas[..run])?;
+            decoder.next_run(place.z, t, index, reader, &mut deltas[..run])?;
             band.inverse_run(&mut cube, place.y, place.x, &deltas[..run], &mut below);
             places.go_by(run as u64);
         } else {

@@ -1,11 +1,14 @@
 //! The reading end: one of the two entropy coders, which gives an image's residuals in encoding order.
 
-ghost use Rattle.std.specs.Prelude.{◌≡◌, [], Err, Some, IsOk, IfOk, IfErr, OnErr};
+ghost use Rattle.std.specs.Prelude.{◌≡◌, ◌+◌, ◌^◌, ◌<◌, ◌≤◌, ℕ, [], length, Err, Some, IsOk, IfOk, IfErr, OnErr};
 ghost use Rattle.cube_core.specs.declared.fault.Fault.{Fault as Refusal};
 ghost use Rattle.cube_core.specs.declared.fault.Fault.TheVariants.{WantOfMemory};
 ghost use Rattle.header_bits.specs.Lawful.{IsLawful};
 ghost use Rattle.block_adaptive.specs.Settings.{IsBlock};
-ghost use Rattle.file_decoding.specs.Decoding.{HasGiven, MayAsk, GivesNumber, placed_at, refusal_at};
+ghost use Rattle.block_adaptive.specs.Given.{given_count};
+ghost use Rattle.block_adaptive.specs.Texts.{capacity};
+ghost use Rattle.file_decoding.specs.declared.decoder.Decoder.TheVariants.{Blocks};
+ghost use Rattle.file_decoding.specs.Decoding.{HasGiven, MayAsk, MayAskAll, GivesNumber, GivesRun, placed_at, refusal_at};
 
 use block_adaptive::block_reader::BlockReader;
 use cube_core::fault::Fault;
@@ -62,6 +65,52 @@ impl Decoder {
             Decoder::Blocks(blocks) => blocks.next(reader),
         }
     }
+
+    /// Gives the next residuals of the body, which are those of band `z` from number `t` on; the first stands at `place` in encoding
+    /// order.
+    ///
+    /// They are of one row, 64 at most and at least one. Where one is spelt by none the answer is the first fault of the body, as
+    /// `next` tells it, and what is in `deltas` means nothing. No memory is taken.
+    #[inline]
+    pub fn next_run(
+        &mut self,
+        z: u32,
+        t: u64,
+        place: u64,
+        reader: &mut BitReader,
+        deltas: &mut [u16],
+    ) -> Result<(), Fault>
+        requires may { MayAskAll self.old z t place (length deltas.old) }
+        requires small { (1 ≤ length deltas.old) × (length deltas.old ≤ 64) × (place < 2 ^ 48) }
+        ensures given { GivesRun z t place result self.old reader.old self.new reader.new.left deltas.new }
+        ensures count { reader.new.count ≡ reader.old.count }
+        ensures long { length deltas.new ≡ length deltas.old }
+    {
+        match self {
+            Decoder::Samples(stats) => stats.get_run(z, t, place, reader, deltas),
+            Decoder::Blocks(blocks) => next_of_blocks(blocks, reader, deltas),
+        }
+    }
+}
+
+/// The next residuals of a body of blocks.
+fn next_of_blocks(
+    blocks: &mut BlockReader,
+    reader: &mut BitReader,
+    deltas: &mut [u16],
+) -> Result<(), Fault>
+    requires may { given_count blocks.old + length deltas.old ≤ capacity blocks.old.cut }
+    ensures given { (z t place : ℕ) → GivesRun z t place result (Blocks blocks.old) reader.old (Blocks blocks.new) reader.new.left deltas.new }
+    ensures count { reader.new.count ≡ reader.old.count }
+    ensures long { length deltas.new ≡ length deltas.old }
+{
+    for i in 0..deltas.len() {
+        match blocks.next(reader) {
+            Ok(number) => deltas[i] = number,
+            Err(fault) => return Err(fault),
+        }
+    }
+    Ok(())
 }
 
 /// A fault of a code word, at its place in encoding order.

@@ -14,7 +14,7 @@ use Rattle.sample_adaptive.proofs.Taking.{taken_along, code_is, taken_more}
 
 -- ---- how many numbers its band has
 
-band_long : (z : ℕ) (gone places : List Place) (before numbers : List ℕ) → length before ≡ length gone → length numbers ≡ length places → AllByRecursion (λ p. p.z ≡ z) places
+pub band_long : (z : ℕ) (gone places : List Place) (before numbers : List ℕ) → length before ≡ length gone → length numbers ≡ length places → AllByRecursion (λ p. p.z ≡ z) places
     → length (band_numbers z (gone ++ places) (before ++ numbers)) ≡ length (band_numbers z gone before) + length numbers
 unfolding band_numbers
 band_long z [] [] [] [] e f h = refl
@@ -52,12 +52,12 @@ body_run c gone ps before ms e = words_append c [] [] gone ps before ms e
 
 -- ---- runs one behind another
 
-all_take : {A : Type 0} (P : A → Type 0) (n : ℕ) (xs : List A) → AllByRecursion P xs → AllByRecursion P (take n xs)
+pub all_take : {A : Type 0} (P : A → Type 0) (n : ℕ) (xs : List A) → AllByRecursion P xs → AllByRecursion P (take n xs)
 all_take P zero xs h = tt
 all_take P (suc n) [] h = tt
 all_take P (suc n) (x ∷ xs) h = (h.0, all_take P n xs h.1)
 
-all_drop : {A : Type 0} (P : A → Type 0) (n : ℕ) (xs : List A) → AllByRecursion P xs → AllByRecursion P (drop n xs)
+pub all_drop : {A : Type 0} (P : A → Type 0) (n : ℕ) (xs : List A) → AllByRecursion P xs → AllByRecursion P (drop n xs)
 all_drop P zero xs h = h
 all_drop P (suc n) [] h = h
 all_drop P (suc n) (x ∷ xs) h = all_drop P n xs h.1

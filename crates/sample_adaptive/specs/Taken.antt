@@ -10,7 +10,7 @@ use Rattle.sample_adaptive.specs.declared.statistics.Statistics.{Statistics}
 use Rattle.sample_adaptive.specs.Statistics.{CoderSettings, AreStatistics, statistics, next_statistics, code_parameter}
 use Rattle.sample_adaptive.specs.Words.{code_word, code_at}
 use Rattle.sample_adaptive.specs.Body.{band_numbers, words_after}
-use Rattle.sample_adaptive.specs.Reading.{word_at}
+use Rattle.sample_adaptive.specs.Reading.{word_at, words_at}
 
 -- D, the unary length limit, the rescaling counter size, each band's statistics, and the refusal that was met
 pub record Counts : Type 0 where
@@ -88,3 +88,12 @@ GetsNumber z t result old unread new left =
     (c : CoderSettings) (taken : ℕ → List ℕ) → HasTaken c old taken → t ≡ length (taken z)
     → Reads (λ number. number) result left (word_at unread.count t (code_at c z (taken z)) unread.left)
     × IfOk result (λ number. HasTaken c new (with_number taken z number))
+
+-- numbers of one band that follow one another: whatever numbers were taken along places before, of which the band has t, those whose code words stand next
+-- were given and taken; or the answer is the first fault of so many places
+abbrev pub GetsRun : ℕ → ℕ → ℕ → Result (Unit {0}) Fault → Counts → Unread → Counts → List Bool → List ℕ → Type 0
+GetsRun z t place result old unread new left numbers =
+    (c : CoderSettings) (gone places : List Place) (before : List ℕ) → length before ≡ length gone → length numbers ≡ length places → AllByRecursion (λ p. p.z ≡ z) places
+    → HasTaken c old (λ b. band_numbers b gone before) → t ≡ length (band_numbers z gone before) → place ≡ length before
+    → Reads (λ _. numbers) result left (words_at unread.count c gone before places unread.left)
+    × IfOk result (λ _. HasTaken c new (λ b. band_numbers b (gone ++ places) (before ++ numbers)))

@@ -3,6 +3,7 @@
 
 pub mod code_word;
 pub mod laws;
+pub mod run_words;
 pub mod statistics;
 pub mod stats;
 pub mod worked;

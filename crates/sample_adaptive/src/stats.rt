@@ -7,9 +7,10 @@ ghost use Rattle.cube_core.specs.declared.fault.Fault.TheVariants.{WantOfMemory}
 ghost use Rattle.sample_adaptive.specs.Settings.{AreForSamples, HasEntries, settings};
 ghost use Rattle.sample_adaptive.specs.Statistics.{AreStatistics, constant_of, start_statistics};
 ghost use Rattle.sample_adaptive.specs.Words.{IsCode};
-ghost use Rattle.sample_adaptive.specs.Taken.{Counts, HasTaken, HasSettings, PutsNumber, PutsRun, GetsNumber, code_by, counted, of_band, with_band};
+ghost use Rattle.sample_adaptive.specs.Taken.{Counts, HasTaken, HasSettings, PutsNumber, PutsRun, GetsNumber, GetsRun, code_by, counted, of_band};
 
 use crate::code_word::{Code, take_word, word_of};
+use crate::run_words::{LaterRun, RunCodes, make_room, put_words, take_words};
 use crate::statistics::{Rescaling, Statistics, first, next, parameter};
 use core::mem::replace_with;
 use cube_core::fault::Fault;
@@ -18,9 +19,6 @@ use header_bits::bit_writer::BitWriter;
 use header_bits::params::{Coder, CountStart, Params};
 use std::alloc::Global;
 use std::marker::Model;
-
-/// The most bits of a code word.
-const MOST_BITS: u64 = 48;
 
 /// The sample-adaptive coder of one image, which takes the numbers of each band in turn.
 #[derive(Drop)]
@@ -184,6 +182,55 @@ impl Stats {
         }
     }
 
+    /// Takes a run of band `z` whose code words stand next: its numbers from number `t` on, one behind another. Takes them into the statistics.
+    ///
+    /// `t` counts the band's numbers from 0, and `place` is the first one's in encoding order. The run is within a row, so it has at most
+    /// 65,536 numbers. Where a number is refused the answer is its fault as `get` tells it, but `BadCode` has its place in encoding
+    /// order. Then the reader stands where it stood, every later call answers the same, nothing else was changed, and what is in
+    /// `numbers` means nothing.
+    #[inline]
+    pub fn get_run(
+        &mut self,
+        z: u32,
+        t: u64,
+        place: u64,
+        reader: &mut BitReader,
+        numbers: &mut [u16],
+    ) -> Result<(), Fault>
+        requires band { z < length self.old.bands }
+        requires long { (length numbers.old ≤ 2 ^ 16) × (place < 2 ^ 48) }
+        ensures taken { GetsRun z t place result self.old reader.old self.new reader.new.left numbers.new }
+        ensures again { (fault : Fault) → self.old.refused ≡ Some fault → result ≡ Err fault }
+        ensures kept { IfErr result (λ fault. self.new ≡ record self.old { refused = Some fault }) }
+        ensures same { OnErr result (reader.new ≡ reader.old) }
+        ensures count { reader.new.count ≡ reader.old.count }
+        ensures long { length numbers.new ≡ length numbers.old }
+        ensures bands { (length self.new.bands ≡ length self.old.bands) × (self.new.bits ≡ self.old.bits) }
+    {
+        if let Some(fault) = self.refused {
+            return Err(fault);
+        }
+        let run = RunCodes {
+            limit: self.umax,
+            bits: self.bits,
+            rescaling: self.rescaling,
+        };
+        // Copies go ahead: they stay in registers, and a refusal leaves what they were made of.
+        let mut statistics = self.bands[z as usize];
+        let mut ahead = reader.fork();
+        match take_words(run, t, place, &mut statistics, &mut ahead, numbers) {
+            Ok(()) => {
+                self.bands[z as usize] = statistics;
+                *reader = ahead;
+                Ok(())
+            }
+            Err(refusal) => {
+                self.refused = Some(refusal);
+                Err(refusal)
+            }
+        }
+    }
+
     /// How number `t` of band `z` is written.
     fn code(&self, z: u32, t: u64) -> Code
         requires { z < length self.now.bands }
@@ -215,56 +262,6 @@ impl Stats {
             self.bands[z as usize] = next(self.rescaling, band, number);
         }
     }
-}
-
-/// Numbers of one band behind its first, and what their code words depend on.
-#[derive(Clone, Copy)]
-struct LaterRun<'a> {
-    limit: u32,
-    bits: u32,
-    rescaling: Rescaling,
-    statistics: Statistics,
-    numbers: &'a [u16],
-}
-
-/// Appends the code words of a run, for which there is room, and gives the statistics behind it.
-///
-/// The writer and the statistics come and go by value, so that both can stay in registers.
-#[inline(always)]
-fn put_words(writer: BitWriter, run: LaterRun) -> (BitWriter, Statistics)
-    requires bits { (2 ≤ run.bits) × (run.bits ≤ 16) }
-    requires limit { run.limit ≤ 32 }
-    requires statistics { AreStatistics run.rescaling.size run.statistics }
-    requires numbers { AllByRecursion (λ n. n < 2 ^ run.bits) run.numbers.now }
-    requires room { 48 * length run.numbers.now ≤ writer.room }
-    ensures taken { (v : Counts) (z t : ℕ) → z < length v.bands → HasSettings v run.entry.bits run.entry.limit run.entry.rescaling.size → of_band v.bands z ≡ run.entry.statistics → 0 < t → PutsRun z t run.entry.numbers.now v writer.bits (with_band v z result.1) result.0.bits }
-    ensures statistics { AreStatistics run.entry.rescaling.size result.1 }
-{
-    let mut writer = writer;
-    let mut statistics = run.statistics;
-    for i in 0..run.numbers.len() {
-        let code = Code {
-            limit: run.limit,
-            low: parameter(run.bits, statistics),
-            bits: run.bits,
-        };
-        let word = word_of(code, run.numbers[i]);
-        writer.push_reserved(word.bits, word.length);
-        statistics = next(run.rescaling, statistics, run.numbers[i]);
-    }
-    (writer, statistics)
-}
-
-/// Makes room for so many code words, and asks for no more than that, or than for as many bits again as there are.
-fn make_room(words: usize, writer: &mut BitWriter) -> Result<(), Fault>
-    requires few { words ≤ 2 ^ 16 }
-    ensures same { writer.new.bits ≡ writer.old.bits }
-    ensures room { OnOk result (48 * words ≤ writer.new.room) }
-    ensures bounded { writer.new.room ≤ max writer.old.room (max (48 * words + 7) (length writer.old.bits)) }
-    ensures within { 48 * words ≤ writer.old.room → IsOk result }
-    ensures refused { IfErr result (λ e. e ≡ WantOfMemory) }
-{
-    writer.reserve(MOST_BITS * words as u64)
 }
 
 /// The statistics from which so many bands start.

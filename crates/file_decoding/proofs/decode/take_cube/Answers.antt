@@ -103,9 +103,9 @@ stands c = omega (arith, (goes_at c).index, ap length (next_at c).1, c.left.ensu
 room : (c : After-next-t) → length (take c.run_from-run.result c.loop-place.deltas) ≡ c.run_from-run.result
 room c = omega (arith, c.loop-place.invariant.room, c.run_from-run.ensures.most, length-take c.run_from-run.result c.loop-place.deltas)
 
-pub read_run-requires-clause-may : goal.read_run-requires-clause-may
-read_run-requires-clause-may c =
-    let d = (goal.at.read_run-requires-clause-may c).After-next-t in
+pub next_run-requires-clause-may : goal.next_run-requires-clause-may
+next_run-requires-clause-may c =
+    let d = (goal.at.next_run-requires-clause-may c).After-next-t in
     record {
       params = c.args.params.now;
       numbers = residuals_at c.args.params.now c.loop-place.cube (gone_by c.args.params.now c.loop-place.places);
@@ -116,23 +116,21 @@ read_run-requires-clause-may c =
       ask = asked d (length (take c.run_from-run.result c.loop-place.deltas)) (room d);
     }
 
-pub read_run-requires-clause-small : goal.read_run-requires-clause-small
-read_run-requires-clause-small c =
-    let d = (goal.at.read_run-requires-clause-small c).After-next-t in
-    let sizes = c.requires.sizes in
-    let most : c.args.params.now.shape.rows * c.args.params.now.shape.columns ≤ 65536 * 65536 = mul-le c.args.params.now.shape.rows c.args.params.now.shape.columns 65536 65536 (omega (arith, sizes.rows.1)) (omega (arith, sizes.columns.1)) in (
+pub next_run-requires-clause-small : goal.next_run-requires-clause-small
+next_run-requires-clause-small c =
+    let d = (goal.at.next_run-requires-clause-small c).After-next-t in (
+      omega (arith, room d, c.run_from-run.ensures.some),
       omega (arith, room d, c.run_from-run.ensures.most),
-      omega (arith, most, (here d).0.inside, c.next-t.ensures),
       omega (arith, ap length (next_at d).1, c.left.ensures, c.sample_count-count.ensures.range),
     )
 
-pub returns-in_err-read_run-clause-refused : goal.returns-in_err-read_run-clause-refused
-returns-in_err-read_run-clause-refused c =
-    let d = (goal.at.returns-in_err-read_run-clause-refused c).After-next-t in
+pub returns-in_err-next_run-clause-refused : goal.returns-in_err-next_run-clause-refused
+returns-in_err-next_run-clause-refused c =
+    let d = (goal.at.returns-in_err-next_run-clause-refused c).After-next-t in
     let known = c.loop-place.invariant in
-    let bad = c.in_err-read_run.ensures.given c.args.params.now (residuals_at c.args.params.now c.loop-place.cube (gone_by c.args.params.now c.loop-place.places)) known.decoded.read c.requires known.decoded.given (asked d (length c.read_run.new.deltas) (c.in_err-read_run.ensures.long ∙ room d)) (stands d) in
-    let body : behind_body c.args.reader.now.count c.args.params.now c.args.reader.now.left ≡ Err c.in_err-read_run.field-0.0 = rw (known.count, ← known.decoded.text) at bad in
-    let told = err_from_is_err_and c.from_residual-in_err-read_run.result c.from_residual-in_err-read_run.ensures.1 in
+    let bad = c.in_err-next_run.ensures.given c.args.params.now (residuals_at c.args.params.now c.loop-place.cube (gone_by c.args.params.now c.loop-place.places)) known.decoded.read c.requires known.decoded.given (asked d (length c.next_run.new.deltas) (c.in_err-next_run.ensures.long ∙ room d)) (stands d) in
+    let body : behind_body c.args.reader.now.count c.args.params.now c.args.reader.now.left ≡ Err c.in_err-next_run.field-0.0 = rw (known.count, ← known.decoded.text) at bad in
+    let told = err_from_is_err_and c.from_residual-in_err-next_run.result c.from_residual-in_err-next_run.ensures.1 in
     rw (told.1, told.2) (inr body)
 
 pub inverse_run-requires-clause-shape : goal.inverse_run-requires-clause-shape
@@ -160,9 +158,9 @@ pub inverse_run-requires-clause-residuals_in : goal.inverse_run-requires-clause-
 inverse_run-requires-clause-residuals_in c =
     let d = (goal.at.inverse_run-requires-clause-residuals_in c).After-next-t in
     let known = c.loop-place.invariant in
-    let long = c.in_ok-read_run.ensures.long ∙ room d in
-    let gives = c.in_ok-read_run.ensures.given c.args.params.now (residuals_at c.args.params.now c.loop-place.cube (gone_by c.args.params.now c.loop-place.places)) known.decoded.read c.requires known.decoded.given (asked d (length c.read_run.new.deltas) long) (stands d) in
-    rw (take_at c.read_run.new.deltas (drop c.run_from-run.result c.loop-place.deltas) c.run_from-run.result long, known.kind) (each_below (2 ^ c.args.params.now.kind.bits) c.read_run.new.deltas gives.0)
+    let long = c.in_ok-next_run.ensures.long ∙ room d in
+    let gives = c.in_ok-next_run.ensures.given c.args.params.now (residuals_at c.args.params.now c.loop-place.cube (gone_by c.args.params.now c.loop-place.places)) known.decoded.read c.requires known.decoded.given (asked d (length c.next_run.new.deltas) long) (stands d) in
+    rw (take_at c.next_run.new.deltas (drop c.run_from-run.result c.loop-place.deltas) c.run_from-run.result long, known.kind) (each_below (2 ^ c.args.params.now.kind.bits) c.next_run.new.deltas gives.0)
 
 pub loop-place-preserved-then-goes_along_rows : goal.loop-place-preserved-then-goes_along_rows
 loop-place-preserved-then-goes_along_rows c =
@@ -170,12 +168,12 @@ loop-place-preserved-then-goes_along_rows c =
     let known = c.loop-place.invariant in
     let g = goes_at d in
     let h = here d in
-    let long : length c.read_run.new.deltas ≡ c.run_from-run.result = c.in_ok-read_run.ensures.long ∙ room d in
-    let whole = take_at c.read_run.new.deltas (drop c.run_from-run.result c.loop-place.deltas) c.run_from-run.result long in
-    let gives = c.in_ok-read_run.ensures.given c.args.params.now (residuals_at c.args.params.now c.loop-place.cube (gone_by c.args.params.now c.loop-place.places)) known.decoded.read c.requires known.decoded.given (asked d (length c.read_run.new.deltas) long) (stands d) in
+    let long : length c.next_run.new.deltas ≡ c.run_from-run.result = c.in_ok-next_run.ensures.long ∙ room d in
+    let whole = take_at c.next_run.new.deltas (drop c.run_from-run.result c.loop-place.deltas) c.run_from-run.result long in
+    let gives = c.in_ok-next_run.ensures.given c.args.params.now (residuals_at c.args.params.now c.loop-place.cube (gone_by c.args.params.now c.loop-place.places)) known.decoded.read c.requires known.decoded.given (asked d (length c.next_run.new.deltas) long) (stands d) in
     let moved : MovesBy c.run_from-run.result c.index_mut-band.result.now c.inverse_run.new.self = rw (whole, long) at c.inverse_run.ensures.moved in
     let beside : AreAlikeBeside c.loop-place.cube c.inverse_run.new.cube c.in-Some.place.z c.in-Some.place.y c.in-Some.place.x c.run_from-run.result = rw (whole, long, h.0.band) at c.inverse_run.ensures.beside in
-    let residual : run_residuals c.args.params.now c.inverse_run.new.cube c.in-Some.place.z c.index_mut-band.result.now.place c.run_from-run.result ≡ c.read_run.new.deltas = rw (whole, long, h.0.band) at (c.inverse_run.ensures.residuals c.args.params.now h.0.follows) in
+    let residual : run_residuals c.args.params.now c.inverse_run.new.cube c.in-Some.place.z c.index_mut-band.result.now.place c.run_from-run.result ≡ c.next_run.new.deltas = rw (whole, long, h.0.band) at (c.inverse_run.ensures.residuals c.args.params.now h.0.follows) in
     let follows = c.inverse_run.ensures.follows c.args.params.now h.0.follows in
     let order : IsOrder c.loop-place.cube.shape c.args.params.now.order = subst (λ (s : Sizes). IsOrder s c.args.params.now.order) (sym known.shape) c.requires.order in
     let there : StandsAt c.loop-place.cube.shape c.args.params.now.order c.in-Some.place (length (gone_by c.args.params.now c.loop-place.places)) =
@@ -190,12 +188,12 @@ loop-place-preserved-then-goes_along_rows c =
     record {
       shape = shape;
       kind = sym beside.alike.kind ∙ known.kind;
-      count = c.in_ok-read_run.ensures.count ∙ known.count;
+      count = c.in_ok-next_run.ensures.count ∙ known.count;
       walk = rw c.go_by.ensures (rw one at walked);
-      room = omega (arith, length-append c.read_run.new.deltas (drop c.run_from-run.result c.loop-place.deltas), length-drop c.run_from-run.result c.loop-place.deltas, long, known.room, c.run_from-run.ensures.most);
+      room = omega (arith, length-append c.next_run.new.deltas (drop c.run_from-run.result c.loop-place.deltas), length-drop c.run_from-run.result c.loop-place.deltas, long, known.room, c.run_from-run.ensures.most);
       told = rw (moved.predictor, made d) at c.inverse_run.ensures.told;
-      decoded = rw c.go_by.ensures (decoded_run c.args.params.now c.loop-place.cube c.inverse_run.new.cube c.loop-place.places c.loop-place.decoder c.read_run.new.decoder c.args.reader.now.left c.loop-place.reader.left c.read_run.new.reader.left
-          c.in-Some.place c.run_from-run.result c.index_mut-band.result.now.place c.read_run.new.deltas c.requires known.shape beside.alike before known.walk.rest (row d) time known.decoded gives residual);
+      decoded = rw c.go_by.ensures (decoded_run c.args.params.now c.loop-place.cube c.inverse_run.new.cube c.loop-place.places c.loop-place.decoder c.next_run.new.self c.args.reader.now.left c.loop-place.reader.left c.next_run.new.reader.left
+          c.in-Some.place c.run_from-run.result c.index_mut-band.result.now.place c.next_run.new.deltas c.requires known.shape beside.alike before known.walk.rest (row d) time known.decoded gives residual);
     }
 
 -- ---- a column of bands, band after band

@@ -6,7 +6,7 @@ use Rattle.sample_adaptive.specs.Words.{code_word}
 use Rattle.sample_adaptive.specs.Taken.{Counts, PutsRun, with_band}
 use Rattle.sample_adaptive.proofs.Counting.{counter_range, accumulator_range}
 use Rattle.sample_adaptive.proofs.Running.{run_none, run_later, run_behind, same_band}
-use Rattle.sample_adaptive.proofs.stats.put_words.Goals as goal
+use Rattle.sample_adaptive.proofs.run_words.put_words.Goals as goal
 
 pub loop-i-init : goal.loop-i-init
 loop-i-init c =

@@ -1,0 +1,147 @@
+//! Runs of one band's code words: written, and read back.
+
+ghost use Rattle.std.specs.Prelude.{◌≡◌, ◌+◌, ◌*◌, ◌^◌, ◌<◌, ◌≤◌, length, max, IsOk, IfErr, OnOk, ℕ};
+ghost use Rattle.std.specs.List.{AllByRecursion};
+ghost use Rattle.cube_core.specs.declared.fault.Fault.TheVariants.{WantOfMemory};
+ghost use Rattle.sample_adaptive.specs.Statistics.{AreStatistics};
+ghost use Rattle.sample_adaptive.specs.Taken.{Counts, HasSettings, PutsRun, GetsRun, of_band, with_band};
+
+use crate::code_word::{Code, take_word, word_of};
+use crate::statistics::{Rescaling, Statistics, next, parameter};
+use cube_core::fault::Fault;
+use header_bits::bit_reader::BitReader;
+use header_bits::bit_writer::BitWriter;
+
+/// The most bits of a code word.
+const MOST_BITS: u64 = 48;
+
+/// Numbers of one band behind its first, and what their code words depend on.
+#[derive(Clone, Copy)]
+pub(crate) struct LaterRun<'a> {
+    pub limit: u32,
+    pub bits: u32,
+    pub rescaling: Rescaling,
+    pub statistics: Statistics,
+    pub numbers: &'a [u16],
+}
+
+/// Appends the code words of a run, for which there is room, and gives the statistics behind it.
+///
+/// The writer and the statistics come and go by value, so that both can stay in registers.
+#[inline(always)]
+pub(crate) fn put_words(writer: BitWriter, run: LaterRun) -> (BitWriter, Statistics)
+    requires bits { (2 ≤ run.bits) × (run.bits ≤ 16) }
+    requires limit { run.limit ≤ 32 }
+    requires statistics { AreStatistics run.rescaling.size run.statistics }
+    requires numbers { AllByRecursion (λ n. n < 2 ^ run.bits) run.numbers.now }
+    requires room { 48 * length run.numbers.now ≤ writer.room }
+    ensures taken { (v : Counts) (z t : ℕ) → z < length v.bands → HasSettings v run.entry.bits run.entry.limit run.entry.rescaling.size → of_band v.bands z ≡ run.entry.statistics → 0 < t → PutsRun z t run.entry.numbers.now v writer.bits (with_band v z result.1) result.0.bits }
+    ensures statistics { AreStatistics run.entry.rescaling.size result.1 }
+{
+    let mut writer = writer;
+    let mut statistics = run.statistics;
+    for i in 0..run.numbers.len() {
+        let code = Code {
+            limit: run.limit,
+            low: parameter(run.bits, statistics),
+            bits: run.bits,
+        };
+        let word = word_of(code, run.numbers[i]);
+        writer.push_reserved(word.bits, word.length);
+        statistics = next(run.rescaling, statistics, run.numbers[i]);
+    }
+    (writer, statistics)
+}
+
+/// Makes room for so many code words, and asks for no more than that, or than for as many bits again as there are.
+pub(crate) fn make_room(words: usize, writer: &mut BitWriter) -> Result<(), Fault>
+    requires few { words ≤ 2 ^ 16 }
+    ensures same { writer.new.bits ≡ writer.old.bits }
+    ensures room { OnOk result (48 * words ≤ writer.new.room) }
+    ensures bounded { writer.new.room ≤ max writer.old.room (max (48 * words + 7) (length writer.old.bits)) }
+    ensures within { 48 * words ≤ writer.old.room → IsOk result }
+    ensures refused { IfErr result (λ e. e ≡ WantOfMemory) }
+{
+    writer.reserve(MOST_BITS * words as u64)
+}
+
+/// What the code words of a run depend on, beside the statistics.
+#[derive(Clone, Copy)]
+pub(crate) struct RunCodes {
+    pub limit: u32,
+    pub bits: u32,
+    pub rescaling: Rescaling,
+}
+
+/// Takes a run from number `t` on, whose code words stand next, and moves the statistics on.
+///
+/// After a refusal the reader and the statistics are left anywhere.
+#[inline(always)]
+pub(crate) fn take_words(
+    run: RunCodes,
+    t: u64,
+    place: u64,
+    statistics: &mut Statistics,
+    reader: &mut BitReader,
+    numbers: &mut [u16],
+) -> Result<(), Fault>
+    requires bits { (2 ≤ run.bits) × (run.bits ≤ 16) }
+    requires limit { run.limit ≤ 32 }
+    requires statistics { AreStatistics run.rescaling.size statistics.old }
+    requires long { (length numbers.old ≤ 2 ^ 16) × (place < 2 ^ 48) }
+    ensures taken { (v : Counts) (z : ℕ) → z < length v.bands → HasSettings v run.bits run.limit run.rescaling.size → of_band v.bands z ≡ statistics.old → GetsRun z t place result v reader.old (with_band v z statistics.new) reader.new.left numbers.new }
+    ensures statistics { AreStatistics run.rescaling.size statistics.new }
+    ensures count { reader.new.count ≡ reader.old.count }
+    ensures long { length numbers.new ≡ length numbers.old }
+{
+    if t >= 1 {
+        return take_later(run, place, statistics, reader, numbers);
+    }
+    match numbers.split_first_mut() {
+        Some((first, later)) => {
+            let code = Code {
+                limit: 0,
+                low: 0,
+                bits: run.bits,
+            };
+            *first = take_word(code, place, reader)?;
+            take_later(run, place + 1, statistics, reader, later)
+        }
+        None => Ok(()),
+    }
+}
+
+/// The same of numbers behind the band's first.
+#[inline(always)]
+fn take_later(
+    run: RunCodes,
+    place: u64,
+    statistics: &mut Statistics,
+    reader: &mut BitReader,
+    numbers: &mut [u16],
+) -> Result<(), Fault>
+    requires bits { (2 ≤ run.bits) × (run.bits ≤ 16) }
+    requires limit { run.limit ≤ 32 }
+    requires statistics { AreStatistics run.rescaling.size statistics.old }
+    requires long { (length numbers.old ≤ 2 ^ 16) × (place ≤ 2 ^ 48) }
+    ensures taken { (v : Counts) (z t : ℕ) → z < length v.bands → HasSettings v run.bits run.limit run.rescaling.size → of_band v.bands z ≡ statistics.old → 0 < t → GetsRun z t place result v reader.old (with_band v z statistics.new) reader.new.left numbers.new }
+    ensures statistics { AreStatistics run.rescaling.size statistics.new }
+    ensures count { reader.new.count ≡ reader.old.count }
+    ensures long { length numbers.new ≡ length numbers.old }
+{
+    for i in 0..numbers.len() {
+        let code = Code {
+            limit: run.limit,
+            low: parameter(run.bits, *statistics),
+            bits: run.bits,
+        };
+        match take_word(code, place + i as u64, reader) {
+            Ok(number) => {
+                numbers[i] = number;
+                *statistics = next(run.rescaling, *statistics, number);
+            }
+            Err(fault) => return Err(fault),
+        }
+    }
+    Ok(())
+}
