@@ -81,6 +81,37 @@ def many_samples(room):
             by_predictors(room, name, words, 3, most + OF_THREADS)
 
 
+def great_refusals(room):
+    """More than 2^24 samples that are refused, each for what it is and not for want of memory: raw bytes too few or too many, a last sample that isn't of
+    the kind or doesn't fit its byte, and a file that is cut or has a byte too many. Of the file itself the header is told."""
+    columns, rows = 4_097, 4_096
+    count, last = columns * rows, columns * rows - 1
+    words = ["--columns", columns, "--rows", rows, "--bands", 1, "--bits", 9]
+    # Samples of little, but for the last, which is the first that one byte can't spell.
+    raw = bytes(last << 1) + (256).to_bytes(2, "big")
+    for name, given, line in (
+        ("a byte too few", raw[:-1], f"14 RawLength {2 * count} {2 * count - 1}"),
+        ("a byte too many", raw + b"\0", f"14 RawLength {2 * count} {2 * count + 1}"),
+        ("a last sample of ten bits", raw[:-2] + (512).to_bytes(2, "big"), f"13 SampleRange {last}"),
+    ):
+        room.write("raw", given)
+        room.hold(f"{count} samples, {name}", room.run("compress", *words, "raw", "none"), (2, b"", f"ccsds: {line}\n"))
+    room.write("raw", raw)
+    for coder in CODERS:
+        name = f"{count} samples by {coder}"
+        room.hold(name, room.run("compress", *words, "--coder", coder, "raw", "file"), (0, b"", ""))
+        told_of = room.run("inspect", read="file")
+        room.hold(f"{name}, inspected", (told_of[0], b"\nheader 19\n" in told_of[1], told_of[2]), (0, True, ""))
+        room.hold(f"{name}, a last sample of nine bits", room.run("expand", "--bytes", 1, "file", "none"), (2, b"", f"ccsds: 13 SampleRange {last}\n"))
+        file = room.read("file")
+        room.write("file", file[:-2])
+        room.hold(f"{name}, cut", room.run("expand", "file", "none"), (2, b"", f"ccsds: 6 Truncated {8 * len(file) - 16}\n"))
+        room.write("file", file + b"\0")
+        found = room.run("expand", "file", "none")
+        lines = [f"ccsds: 11 TooLong {bits}\n" for bits in range(8, 16)]
+        room.hold(f"{name}, a byte too many", (*found[:2], found[2] in lines), (2, b"", True))
+
+
 def most_samples(room):
     """More than 2^26 samples, by two predictors, and expanded, in bounded memory. They predict little and have long lanes, so that it ends soon."""
     shape = (4_097, 8_192, 2)
@@ -129,7 +160,7 @@ def great_tables(room):
 def main():
     with tempfile.TemporaryDirectory() as folder:
         room = Room(folder, sys.argv[1] if len(sys.argv) > 1 else PROGRAM)
-        for part in (long_sides, many_samples, most_samples, great_show, great_tables):
+        for part in (long_sides, many_samples, great_refusals, most_samples, great_show, great_tables):
             part(room)
     print(f"sizes.py: {room.passed} passed, {room.failed} failed")
     return 1 if room.failed else 0

@@ -61,6 +61,110 @@ fn faults_have_their_status_and_their_line(rt: HostRuntime) -> Result<(), Fail> 
 }
 
 #[test]
+fn fields_and_rules_are_named(rt: HostRuntime) -> Result<(), Fail> {
+    let fields = [
+        (Field::Columns, "Columns"),
+        (Field::Rows, "Rows"),
+        (Field::Bands, "Bands"),
+        (Field::DynamicRange, "DynamicRange"),
+        (Field::User, "User"),
+        (Field::Depth, "Depth"),
+        (Field::WordSize, "WordSize"),
+        (Field::Previous, "Previous"),
+        (Field::Register, "Register"),
+        (Field::Omega, "Omega"),
+        (Field::Interval, "Interval"),
+        (Field::VMin, "VMin"),
+        (Field::VMax, "VMax"),
+        (Field::WeightStart, "WeightStart"),
+        (Field::Resolution, "Resolution"),
+        (Field::WeightEntry, "WeightEntry"),
+        (Field::Umax, "Umax"),
+        (Field::GammaStar, "GammaStar"),
+        (Field::GammaZero, "GammaZero"),
+        (Field::AccumulatorTable, "AccumulatorTable"),
+        (Field::BlockSize, "BlockSize"),
+        (Field::Restricted, "Restricted"),
+        (Field::Reference, "Reference"),
+        (Field::Predictors, "Predictors"),
+        (Field::Slots, "Slots"),
+    ];
+    for (field, name) in fields {
+        let line = format!(in rt.alloc(); "ccsds: 3 FieldRange {name} -7\n")?;
+        let fault = Fault::FieldRange { field, value: -7 };
+        assert_eq!(rt;
+            fault_line(rt.alloc(), &fault)?,
+            line.into_bytes(),
+            "of {name}"
+        );
+    }
+    let rules = [
+        (Rule::DepthOverBands, "DepthOverBands"),
+        (Rule::FullOneColumn, "FullOneColumn"),
+        (Rule::NeighbourOneColumn, "NeighbourOneColumn"),
+        (Rule::RegisterTooSmall, "RegisterTooSmall"),
+        (Rule::ExponentOrder, "ExponentOrder"),
+        (Rule::DefaultWithTable, "DefaultWithTable"),
+        (Rule::DefaultWithResolution, "DefaultWithResolution"),
+        (Rule::ResolutionOverOmega, "ResolutionOverOmega"),
+        (Rule::WeightTableLength, "WeightTableLength"),
+        (Rule::CounterOrder, "CounterOrder"),
+        (Rule::StartConstant, "StartConstant"),
+        (Rule::ConstantWithTable, "ConstantWithTable"),
+        (Rule::AccumulatorTableLength, "AccumulatorTableLength"),
+        (Rule::AccumulatorEntry, "AccumulatorEntry"),
+        (Rule::RestrictedOverFour, "RestrictedOverFour"),
+    ];
+    for (rule, name) in rules {
+        let line = format!(in rt.alloc(); "ccsds: 4 Disagree {name}\n")?;
+        let fault = Fault::Disagree { rule };
+        assert_eq!(rt;
+            fault_line(rt.alloc(), &fault)?,
+            line.into_bytes(),
+            "of {name}"
+        );
+    }
+    Ok(())
+}
+
+#[test]
+fn great_numbers_are_told(rt: HostRuntime) -> Result<(), Fail> {
+    let most = u64::MAX;
+    let rows = [
+        (Fault::Reserved { bit: most }, "2 Reserved"),
+        (Fault::Truncated { bit: most }, "6 Truncated"),
+        (Fault::BadCode { place: most }, "7 BadCode"),
+        (Fault::BadOption { block: most }, "8 BadOption"),
+        (Fault::RunPastSegment { block: most }, "9 RunPastSegment"),
+        (Fault::TooLong { bits: most }, "11 TooLong"),
+        (Fault::SampleRange { index: most }, "13 SampleRange"),
+        (
+            Fault::RawLength {
+                wanted: 0,
+                had: most,
+            },
+            "14 RawLength 0",
+        ),
+        (
+            Fault::Stopped {
+                predictor: 63,
+                sent: most,
+            },
+            "17 Stopped 63",
+        ),
+    ];
+    for (fault, name) in rows {
+        let line = format!(in rt.alloc(); "ccsds: {name} {most}\n")?;
+        assert_eq!(rt;
+            fault_line(rt.alloc(), &fault)?,
+            line.into_bytes(),
+            "of {name}"
+        );
+    }
+    Ok(())
+}
+
+#[test]
 fn a_fault_is_a_line(rt: HostRuntime) -> Result<(), Fail> {
     let fault = Fault::RawLength { wanted: 6, had: 0 };
     let line = fault_line(rt.alloc(), &fault)?;
