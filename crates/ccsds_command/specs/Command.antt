@@ -13,7 +13,7 @@ use Rattle.command_devices.specs.Writing.{ToldAsWrite}
 use Rattle.ccsds_command.specs.Compress.{Compresses, IsCompressFault, raw_limit}
 use Rattle.ccsds_command.specs.Expand.{Expands, IsExpandFault}
 use Rattle.ccsds_command.specs.Inspect.{Inspects, IsInspectFault}
-use Rattle.ccsds_command.specs.Piped.{IsPipedFault}
+use Rattle.ccsds_command.specs.Piped.{IsPipedFault, MayBePlanned}
 use Rattle.ccsds_command.specs.Show.{Shows, IsShowFault, show_limit}
 
 -- the file that a command reads; with no name it is the standard input
@@ -49,6 +49,13 @@ HasLayout Show = ⊤
 HasLayout (Compress settings from to) = IsLayout settings.layout
 HasLayout (Expand layout from to) = IsLayout layout
 HasLayout Inspect = ⊤
+
+-- where `compress` has predictors, there may be as many, and as many slots
+abbrev pub IsPlanned : Settings → Type 0
+IsPlanned Show = ⊤
+IsPlanned (Compress settings from to) = settings.predictors ≢ 0 → MayBePlanned settings
+IsPlanned (Expand layout from to) = ⊤
+IsPlanned Inspect = ⊤
 
 -- what the sink gained of the source's bytes
 abbrev pub Does : Settings → Option (List ℕ) → Option (List ℕ) → Option (List ℕ) → Type 0

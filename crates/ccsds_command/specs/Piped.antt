@@ -3,6 +3,7 @@ use Rattle.std.specs.Prelude.{◌≡◌, ◌⊎◌, ℕ, ◌%◌, ◌≤◌, ◌
 use Rattle.cube_core.specs.declared.fault.Fault.{Fault}
 use Rattle.cube_core.specs.Image.{Image}
 use Rattle.cube_core.specs.Order.{upto}
+use Rattle.cube_core.specs.Shape.{InRange}
 use Rattle.header_bits.specs.Lawful.{IsLawful, params_fault}
 use Rattle.coder_pipe.specs.Piping.{EndsEarly, MayStopPart}
 use Rattle.coder_pipe.specs.Plans.{Dealing, plan_fault}
@@ -13,6 +14,10 @@ use Rattle.ccsds_command.specs.Compress.{HasCube, HasFile, IsCubeRefusal}
 -- the numbers of predictors and of slots are in their ranges
 abbrev pub are_in_range : CompressSettings → Bool
 are_in_range s = (nat_le 1 s.predictors && nat_le s.predictors 64) && (nat_le 1 s.slots && nat_le s.slots 65536)
+
+-- there may be as many predictors and slots
+abbrev pub MayBePlanned : CompressSettings → Type 0
+MayBePlanned s = InRange 1 64 s.predictors × InRange 1 65536 s.slots
 
 -- band z goes to predictor z mod their number
 abbrev pub deal_of : CompressSettings → List ℕ

@@ -8,7 +8,7 @@ ghost use Rattle.header_bits.specs.Lawful.{params_fault};
 ghost use Rattle.command_devices.specs.Devices.{GaveWithin};
 ghost use Rattle.command_devices.specs.Reading.{ToldAsRead};
 ghost use Rattle.command_devices.specs.Writing.{IsWrite};
-ghost use Rattle.ccsds_command.specs.Command.{Does, HasLayout, HasNoEnd, IsFaultOf, IsUnfilled, Ran, judged, limit_of, name_in, name_out};
+ghost use Rattle.ccsds_command.specs.Command.{Does, HasLayout, HasNoEnd, IsFaultOf, IsPlanned, IsUnfilled, Ran, judged, limit_of, name_in, name_out};
 
 use crate::compress::run_compress;
 use crate::expand::run_expand;
@@ -38,6 +38,7 @@ pub fn run_command<R: Threads + Wait + Sync, O: Opener>(
     requires { HasLayout settings.now }
     ensures ran { IfOk result (λ ended. (s : O.Input) × (k : O.Output) × O.opens opener.now (name_in settings.now) s × O.makes opener.now (name_out settings.now) k × Ran settings.now (O.Input.left s) (O.Input.failures s) (O.Input.failures ended.input) (O.Output.taken k) (O.Output.taken ended.output) (O.Output.failures k) (O.Output.failures ended.output) (O.Output.stalls k) (O.Output.stalls ended.output) ended.answer) }
     ensures unfilled { IfOk result (λ ended. (s : O.Input) × O.opens opener.now (name_in settings.now) s × IfErr ended.answer (IsUnfilled settings.now (O.Input.left s) (O.Input.left ended.input))) }
+    ensures planned { IfOk result (λ ended. OnOk ended.answer (IsPlanned settings.now)) }
     ensures refused { IfErr result (HasNoEnd (O.has_none opener.now) (O.makes_none opener.now) settings.now) }
 {
     let mut input = input_of(opener, settings)?;
@@ -91,6 +92,7 @@ pub fn run_between<R: Threads + Wait + Sync, S: Source, K: Sink>(
     requires { HasLayout settings.now }
     ensures checked { (p : Parameters) (fault : Refusal) → judged settings.now ≡ Some p → params_fault p ≡ Err fault → (result ≡ Err fault) × (source.new ≡ source.old) × (sink.new ≡ sink.old) }
     ensures done { OnOk result (Does settings.now (S.left source.old) (K.taken sink.old) (K.taken sink.new)) }
+    ensures planned { OnOk result (IsPlanned settings.now) }
     ensures refused { IfErr result (IsFaultOf settings.now (S.left source.old) (S.failures source.old) (S.failures source.new) (K.taken sink.old) (K.taken sink.new) (K.failures sink.old) (K.failures sink.new) (K.stalls sink.old) (K.stalls sink.new)) }
     ensures worked { OnOk result ((S.failures source.new ≡ S.failures source.old) × (K.failures sink.new ≡ K.failures sink.old) × (K.stalls sink.new ≡ K.stalls sink.old)) }
     ensures told { IfErr result (ToldAsRead (S.failures source.old) (S.failures source.new)) }

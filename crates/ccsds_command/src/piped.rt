@@ -6,7 +6,7 @@ ghost use Rattle.cube_core.specs.declared.fault.Fault.TheVariants.{WantOfMemory}
 ghost use Rattle.cube_core.specs.Layout.{IsLayout};
 ghost use Rattle.header_bits.specs.Lawful.{IsLawful, params_fault};
 ghost use Rattle.ccsds_command.specs.Compress.{Compresses, IsCubeRefusal, HasFile, raw_limit};
-ghost use Rattle.ccsds_command.specs.Piped.{EndedEarly, HasNoPlan, IsPipedFault, are_in_range, deal_of, plan_of as planned};
+ghost use Rattle.ccsds_command.specs.Piped.{EndedEarly, HasNoPlan, IsPipedFault, MayBePlanned, are_in_range, deal_of, plan_of as planned};
 ghost use Rattle.command_devices.specs.Devices.{GaveWithin};
 ghost use Rattle.command_devices.specs.Reading.{ToldAsRead};
 ghost use Rattle.command_devices.specs.Writing.{IsWrite};
@@ -41,6 +41,7 @@ pub fn run_piped<R: Threads + Wait + Sync, S: Source, K: Sink, G: Gate + Sync>(
     requires { IsLayout settings.now.layout }
     ensures checked { (fault : Refusal) → params_fault settings.now.params ≡ Err fault → (result ≡ Err fault) × (source.new ≡ source.old) × (sink.new ≡ sink.old) }
     ensures compressed { OnOk result (Compresses settings.now (S.left source.old) (K.taken sink.old) (K.taken sink.new)) }
+    ensures may { OnOk result (MayBePlanned settings.now) }
     ensures refused { IfErr result (IsPipedFault G.may_stop gate.now settings.now (S.left source.old) (S.failures source.old) (S.failures source.new) (K.taken sink.old) (K.taken sink.new) (K.failures sink.old) (K.failures sink.new) (K.stalls sink.old) (K.stalls sink.new)) }
     ensures worked { OnOk result ((S.failures source.new ≡ S.failures source.old) × (K.failures sink.new ≡ K.failures sink.old) × (K.stalls sink.new ≡ K.stalls sink.old)) }
     ensures told { IfErr result (ToldAsRead (S.failures source.old) (S.failures source.new)) }
@@ -57,6 +58,7 @@ pub fn run_piped<R: Threads + Wait + Sync, S: Source, K: Sink, G: Gate + Sync>(
 fn plan_of(alloc: Global, settings: &CompressSettings) -> Result<Plan, Fault>
     requires { IsLawful settings.now.params }
     ensures plan { IfOk result (λ plan. plan ≡ planned settings.now) }
+    ensures may { OnOk result (MayBePlanned settings.now) }
     ensures refused { IfErr result (λ e. (e ≡ WantOfMemory) ⊎ HasNoPlan settings.now e) }
 {
     let deal = dealt(alloc, settings)?;

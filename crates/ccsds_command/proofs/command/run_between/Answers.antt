@@ -1,4 +1,4 @@
-use Rattle.std.proofs.Common.{◌≡◌, ◌≢◌, ◌⊎◌, ℕ, Result, Ok, Err, IfErr, inl, inr, sym, ap, ◌∙◌}
+use Rattle.std.proofs.Common.{◌≡◌, ◌≢◌, ◌⊎◌, ℕ, Result, Ok, Err, IfErr, OnOk, inl, inr, sym, ap, ◌∙◌}
 use Rattle.cube_core.specs.declared.fault.Fault.{Fault}
 use Rattle.command_settings.specs.declared.settings.Settings.{Settings}
 use Rattle.command_settings.specs.declared.settings.Settings.TheVariants.{Show, Compress, Expand, Inspect}
@@ -36,3 +36,20 @@ returns-in-Compress-2-clause-refused g c = rw c.in-Compress-2.is (with_some _ _ 
 
 pub returns-in-Expand-clause-done : goal.returns-in-Expand-clause-done
 returns-in-Expand-clause-done g c = rw c.in-Expand.is c.run_expand.ensures.expanded
+
+-- what holds whatever the answer
+in_any : {U : Type 0} {P : Type 0} (r : Result U Fault) → P → OnOk r P
+in_any (Ok u) p = p
+in_any (Err e) p = tt
+
+pub returns-in-Show-clause-planned : goal.returns-in-Show-clause-planned
+returns-in-Show-clause-planned g c = rw c.in-Show.is (in_any c.run_show.result tt)
+
+pub returns-in-Compress-clause-planned : goal.returns-in-Compress-clause-planned
+returns-in-Compress-clause-planned g c = rw c.in-Compress.is (in_any c.run_compress.result (λ some. absurd (some c.if-settings-eq0.true)))
+
+pub returns-in-Expand-clause-planned : goal.returns-in-Expand-clause-planned
+returns-in-Expand-clause-planned g c = rw c.in-Expand.is (in_any c.run_expand.result tt)
+
+pub returns-in-Inspect-clause-planned : goal.returns-in-Inspect-clause-planned
+returns-in-Inspect-clause-planned g c = rw c.in-Inspect.is (in_any c.run_inspect.result tt)
