@@ -1,4 +1,4 @@
--- What is spelled by a lawful text is read as that text, whatever follows it.
+-- What is spelled by a lawful data set is read as that data set, whatever follows it.
 use Rattle.std.proofs.Common.{◌≡◌, ℕ, suc, ◌+◌, ◌-◌, ◌*◌, ◌/◌, ◌^◌, ◌<◌, ◌≤◌, max, Bool, true, false, cond, eqb, leb, ltb, ◌&&◌, List, ◌∷◌, ◌++◌, Ok, refl, sym, ap, subst, ◌∙◌, inl, inr, append_assoc, arith, eq-eqb}
 use Rattle.std.proofs.lemmas.Bool.{le-ltb, cases_lt}
 use Rattle.std.proofs.lemmas.Bool.Decides.{nat_tests}
@@ -8,8 +8,8 @@ use Rattle.block_adaptive.specs.declared.options.CodeSet.{CodeSet}
 use Rattle.block_adaptive.specs.declared.options.Choice.{Choice}
 use Rattle.block_adaptive.specs.declared.options.Choice.TheVariants.{Uncoded, Second, Split}
 use Rattle.block_adaptive.specs.Options.{width, greatest_value, zero_identifier, identifier, coded, option_text, quotient_codes, low_groups, pair_codes}
-use Rattle.block_adaptive.specs.Texts.{Text, Block, Run, Rest, run_code, rest_code, spelled, IsText, IsBlock}
-use Rattle.block_adaptive.specs.Reading.{Site, run_at, text_at, pairs_at, words_at, split_at}
+use Rattle.block_adaptive.specs.DataSets.{CodedDataSet, Block, Run, RestOfSegment, run_code, rest_code, spelled, IsCodedDataSet, IsBlock}
+use Rattle.block_adaptive.specs.Reading.{Site, run_at, data_set_at, pairs_at, words_at, split_at}
 use Rattle.header_bits.proofs.Reading.{ok_is}
 use Rattle.header_bits.proofs.Reading.{number_again}
 use Rattle.header_bits.proofs.Fronts.{zeros_again, zeros_front, ones_front, bit_front}
@@ -46,14 +46,14 @@ run_again site left n rest least most =
           rw (a, zeros_again site.count (n - 1) (suc (max 4 left)) rest (omega arith), b, c, d, f, e) refl)
     ]
 
-pub rest_again : (site : Site) (left : ℕ) (rest : List Bool) → run_at site left (rest_code ++ rest) ≡ Ok (Rest, rest)
+pub rest_again : (site : Site) (left : ℕ) (rest : List Bool) → run_at site left (rest_code ++ rest) ≡ Ok (RestOfSegment, rest)
 unfolding run_at rest_code
 rest_again site left rest =
     let b : ltb (max 4 left) 4 ≡ false = le-ltb _ _ (omega arith) in
     rw (zeros_again site.count 4 (suc (max 4 left)) rest (omega arith), b) refl
 
-run_text_read : (site : Site) (s : CodeSet) (size left : ℕ) (code rest : List Bool) (t : Text) → run_at site left (code ++ rest) ≡ Ok (t, rest) → text_at site s size left ((zero_identifier s ++ code) ++ rest) ≡ Ok (t, rest)
-unfolding text_at zero_identifier
+run_text_read : (site : Site) (s : CodeSet) (size left : ℕ) (code rest : List Bool) (t : CodedDataSet) → run_at site left (code ++ rest) ≡ Ok (t, rest) → data_set_at site s size left ((zero_identifier s ++ code) ++ rest) ≡ Ok (t, rest)
+unfolding data_set_at zero_identifier
 run_text_read site s size left code rest t e =
     rw (append_assoc, append_assoc, zeros_front site.count (width s) (false ∷ (code ++ rest)), bit_front site.count false (code ++ rest)) e
 
@@ -71,8 +71,8 @@ two_below n h =
     let p : 2 ^ 1 ≤ 2 ^ n = pow_mono h in
     p
 
-pub block_again : (site : Site) (s : CodeSet) (half left : ℕ) (o : Choice) (vs : List ℕ) (rest : List Bool) → IsBlock s (2 * half) o vs → text_at site s (2 * half) left (option_text s o vs ++ rest) ≡ Ok (Block o vs, rest)
-unfolding text_at option_text identifier coded
+pub block_again : (site : Site) (s : CodeSet) (half left : ℕ) (o : Choice) (vs : List ℕ) (rest : List Bool) → IsBlock s (2 * half) o vs → data_set_at site s (2 * half) left (option_text s o vs ++ rest) ≡ Ok (Block o vs, rest)
+unfolding data_set_at option_text identifier coded
 block_again site s half left Uncoded vs rest h =
     let two : 2 ≤ 2 ^ width s = two_below (width s) (width_least s) in
     let words : words_at site.count s.bits (2 * half) (low_groups s.bits vs ++ rest) ≡ Ok (vs, rest) = subst (λ (k : ℕ). words_at site.count s.bits k (low_groups s.bits vs ++ rest) ≡ Ok (vs, rest)) h.whole (words_again site s.bits vs rest h.range) in
@@ -92,18 +92,18 @@ block_again site s half left (Split k) vs rest h =
     rw (append_assoc, number_again site.count (width s) (k + 1) ((quotient_codes k vs ++ low_groups k vs) ++ rest) below, a, b, c, values) refl
 
 -- a block has a size that is even
-pub text_again : (site : Site) (s : CodeSet) (half left : ℕ) (t : Text) (rest : List Bool) → IsText s (2 * half) left t → text_at site s (2 * half) left (spelled s t ++ rest) ≡ Ok (t, rest)
+pub data_set_again : (site : Site) (s : CodeSet) (half left : ℕ) (t : CodedDataSet) (rest : List Bool) → IsCodedDataSet s (2 * half) left t → data_set_at site s (2 * half) left (spelled s t ++ rest) ≡ Ok (t, rest)
 unfolding spelled
-text_again site s half left (Run n) rest h = run_text_read site s (2 * half) left (run_code n) rest (Run n) (run_again site left n rest h.0 h.1)
-text_again site s half left Rest rest h = run_text_read site s (2 * half) left rest_code rest Rest (rest_again site left rest)
-text_again site s half left (Block o vs) rest h = block_again site s half left o vs rest h
+data_set_again site s half left (Run n) rest h = run_text_read site s (2 * half) left (run_code n) rest (Run n) (run_again site left n rest h.0 h.1)
+data_set_again site s half left RestOfSegment rest h = run_text_read site s (2 * half) left rest_code rest RestOfSegment (rest_again site left rest)
+data_set_again site s half left (Block o vs) rest h = block_again site s half left o vs rest h
 
--- two lawful texts of which one begins the other are one
+-- two lawful data sets of which one begins the other are one
 -- any site will do
 abbrev nowhere : Site
 nowhere = record { count = 0; block = 0 }
 
 pub one_text : OneText
 one_text s half left t u x y ht hu e =
-    let same = ok_is (t, x) (u, y) (sym (text_again nowhere s half left t x ht) ∙ ap (λ (bits : List Bool). text_at nowhere s (2 * half) left bits) e ∙ text_again nowhere s half left u y hu) in
-    (ap (λ (p : Text × List Bool). p.0) same, ap (λ (p : Text × List Bool). p.1) same)
+    let same = ok_is (t, x) (u, y) (sym (data_set_again nowhere s half left t x ht) ∙ ap (λ (bits : List Bool). data_set_at nowhere s (2 * half) left bits) e ∙ data_set_again nowhere s half left u y hu) in
+    (ap (λ (p : CodedDataSet × List Bool). p.0) same, ap (λ (p : CodedDataSet × List Bool). p.1) same)

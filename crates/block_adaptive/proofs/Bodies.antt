@@ -1,4 +1,4 @@
--- Bodies, text after text.
+-- Bodies, data set after data set.
 use Rattle.std.proofs.Common.{◌≡◌, ℕ, zero, suc, ◌+◌, ◌-◌, ◌*◌, ◌/◌, ◌^◌, ◌<◌, ◌≤◌, Bool, true, false, leb, List, [], ◌∷◌, ◌++◌, length, take, drop, replicate, inl, inr, Ok, refl, sym, ap, subst, ◌∙◌, arith, append_assoc}
 use Rattle.std.specs.List.{AllByRecursion}
 use Rattle.std.proofs.lemmas.Bool.Decides.{nat_tests}
@@ -10,15 +10,15 @@ use Rattle.block_adaptive.proofs.Packing.{range_filled}
 use Rattle.cube_core.specs.Steps.{◌>>=◌}
 use Rattle.header_bits.proofs.Reading.{ok_is}
 use Rattle.header_bits.proofs.Fronts.{bind_ok}
-use Rattle.block_adaptive.proofs.Taken.{text_is_taken}
+use Rattle.block_adaptive.proofs.Taken.{data_set_is_taken}
 use Rattle.block_adaptive.proofs.Handed.{rest_most}
 use Rattle.block_adaptive.specs.declared.options.CodeSet.{CodeSet}
 use Rattle.block_adaptive.specs.Segments.{filled, first_blocks, blocks, block_count}
-use Rattle.block_adaptive.specs.Texts.{Text, Block, Run, Rest, Cut, cut_of, left_at, IsText, AreTexts, blocks_in, blocks_told, values_of, spelled, spelling}
-use Rattle.block_adaptive.specs.Chosen.{chosen_from, chosen_texts, chosen_block_body}
-use Rattle.block_adaptive.specs.Reading.{Site, text_at, texts_at, block_body_at}
+use Rattle.block_adaptive.specs.DataSets.{CodedDataSet, Block, Run, RestOfSegment, Cut, cut_of, left_at, IsCodedDataSet, AreCodedDataSets, blocks_in, blocks_told, values_of, spelled, spelling}
+use Rattle.block_adaptive.specs.Chosen.{chosen_from, chosen_data_sets, chosen_block_body}
+use Rattle.block_adaptive.specs.Reading.{Site, data_set_at, data_sets_at, block_body_at}
 use Rattle.block_adaptive.specs.Laws.{OneBody, ChosenIsBody, BodyIsRead, AreBlocks}
-use Rattle.block_adaptive.proofs.Again.{text_again}
+use Rattle.block_adaptive.proofs.Again.{data_set_again}
 use Rattle.block_adaptive.proofs.Lawful.{chosen_is_lawful, rest_least}
 
 le-leb : (a b : ℕ) → a ≤ b → leb a b ≡ true
@@ -27,50 +27,50 @@ le-leb a b h = grind (arith, nat_tests)
 lt-leb : (a b : ℕ) → b < a → leb a b ≡ false
 lt-leb a b h = grind (arith, nat_tests)
 
--- a lawful text stands for a block or more
-pub text_some : (s : CodeSet) (size left : ℕ) (t : Text) → IsText s size left t → 1 ≤ blocks_in left t
-text_some s size left (Block o vs) h = omega arith
-text_some s size left (Run n) h = h.0
-text_some s size left Rest h = h
+-- a lawful data set stands for a block or more
+pub data_set_some : (s : CodeSet) (size left : ℕ) (t : CodedDataSet) → IsCodedDataSet s size left t → 1 ≤ blocks_in left t
+data_set_some s size left (Block o vs) h = omega arith
+data_set_some s size left (Run n) h = h.0
+data_set_some s size left RestOfSegment h = h
 
--- no more texts than blocks
-pub texts_few : (c : Cut) (i j : ℕ) (texts : List Text) → AreTexts c i texts j → i + length texts ≤ j
-unfolding AreTexts
-texts_few c i j [] h = omega (arith, h)
-texts_few c i j (t ∷ texts) h =
-    omega (arith, text_some c.set c.size (left_at c i) t h.0, texts_few c (i + blocks_in (left_at c i) t) j texts h.1)
+-- no more data sets than blocks
+pub data_sets_few : (c : Cut) (i j : ℕ) (data_sets : List CodedDataSet) → AreCodedDataSets c i data_sets j → i + length data_sets ≤ j
+unfolding AreCodedDataSets
+data_sets_few c i j [] h = omega (arith, h)
+data_sets_few c i j (t ∷ data_sets) h =
+    omega (arith, data_set_some c.set c.size (left_at c i) t h.0, data_sets_few c (i + blocks_in (left_at c i) t) j data_sets h.1)
 
--- lawful texts are read as they are, whatever follows
-pub texts_again : (count half n i : ℕ) (c : Cut) (texts : List Text) (rest : List Bool) → c.size ≡ 2 * half → length texts ≤ n → AreTexts c i texts c.count → texts_at count c n i (spelling c.set texts ++ rest) ≡ Ok (texts, rest)
-unfolding texts_at AreTexts
-texts_again count half zero i c [] rest even few h = refl
-texts_again count half zero i c (t ∷ texts) rest even few h = absurd (omega arith)
-texts_again count half (suc n) i c [] rest even few h =
+-- lawful data sets are read as they are, whatever follows
+pub data_sets_again : (count half n i : ℕ) (c : Cut) (data_sets : List CodedDataSet) (rest : List Bool) → c.size ≡ 2 * half → length data_sets ≤ n → AreCodedDataSets c i data_sets c.count → data_sets_at count c n i (spelling c.set data_sets ++ rest) ≡ Ok (data_sets, rest)
+unfolding data_sets_at AreCodedDataSets
+data_sets_again count half zero i c [] rest even few h = refl
+data_sets_again count half zero i c (t ∷ data_sets) rest even few h = absurd (omega arith)
+data_sets_again count half (suc n) i c [] rest even few h =
     let done : leb c.count i ≡ true = le-leb _ _ (omega (arith, h)) in
     rw done refl
-texts_again count half (suc n) i c (t ∷ texts) rest even few h =
-    let more : leb c.count i ≡ false = lt-leb _ _ (omega (arith, text_some c.set c.size (left_at c i) t h.0, texts_few c (i + blocks_in (left_at c i) t) c.count texts h.1)) in
+data_sets_again count half (suc n) i c (t ∷ data_sets) rest even few h =
+    let more : leb c.count i ≡ false = lt-leb _ _ (omega (arith, data_set_some c.set c.size (left_at c i) t h.0, data_sets_few c (i + blocks_in (left_at c i) t) c.count data_sets h.1)) in
     let site : Site = record { count = count; block = i } in
-    let after : List Bool = spelling c.set texts ++ rest in
-    let one : text_at site c.set c.size (left_at c i) (spelled c.set t ++ after) ≡ Ok (t, after) =
-    rw even (text_again site c.set half (left_at c i) t after (subst (λ (k : ℕ). IsText c.set k (left_at c i) t) even h.0)) in
-    rw (more, append_assoc (spelled c.set t) (spelling c.set texts) rest, one, texts_again count half n (i + blocks_in (left_at c i) t) c texts rest even (omega arith) h.1) refl
+    let after : List Bool = spelling c.set data_sets ++ rest in
+    let one : data_set_at site c.set c.size (left_at c i) (spelled c.set t ++ after) ≡ Ok (t, after) =
+    rw even (data_set_again site c.set half (left_at c i) t after (subst (λ (k : ℕ). IsCodedDataSet c.set k (left_at c i) t) even h.0)) in
+    rw (more, append_assoc (spelled c.set t) (spelling c.set data_sets) rest, one, data_sets_again count half n (i + blocks_in (left_at c i) t) c data_sets rest even (omega arith) h.1) refl
 
 pub one_body : OneBody
 one_body s half reference ms ns a b x y pos len p q e =
     let c : Cut = cut_of s (2 * half) reference (length ms) in
     let d : Cut = cut_of s (2 * half) reference (length ns) in
     let same-cut : d ≡ c = ap (cut_of s (2 * half) reference) (sym len) in
-    let q-lawful : AreTexts c 0 q.texts c.count = subst (λ (k : Cut). AreTexts k 0 q.texts k.count) same-cut q.lawful in
-    let few = texts_few c 0 c.count p.texts p.lawful in
-    let few-too = texts_few c 0 c.count q.texts q-lawful in
-    let first = texts_again 0 half c.count 0 c p.texts x refl (omega arith) p.lawful in
-    let second = texts_again 0 half c.count 0 c q.texts y refl (omega arith) q-lawful in
-    let bits : spelling s p.texts ++ x ≡ spelling s q.texts ++ y = ap (λ (bs : List Bool). bs ++ x) (sym p.text) ∙ e ∙ ap (λ (bs : List Bool). bs ++ y) q.text in
-    let same = ok_is (p.texts, x) (q.texts, y) (sym first ∙ ap (λ (bs : List Bool). texts_at 0 c c.count 0 bs) bits ∙ second) in
-    let texts : p.texts ≡ q.texts = ap (λ (r : List Text × List Bool). r.0) same in
-    let numbers : take (length ms) (values_of (blocks_told c 0 p.texts)) ≡ take (length ns) (values_of (blocks_told d 0 q.texts)) = rw (texts, len) refl in
-    (sym p.told ∙ numbers ∙ q.told, ap (λ (r : List Text × List Bool). r.1) same)
+    let q-lawful : AreCodedDataSets c 0 q.data_sets c.count = subst (λ (k : Cut). AreCodedDataSets k 0 q.data_sets k.count) same-cut q.lawful in
+    let few = data_sets_few c 0 c.count p.data_sets p.lawful in
+    let few-too = data_sets_few c 0 c.count q.data_sets q-lawful in
+    let first = data_sets_again 0 half c.count 0 c p.data_sets x refl (omega arith) p.lawful in
+    let second = data_sets_again 0 half c.count 0 c q.data_sets y refl (omega arith) q-lawful in
+    let bits : spelling s p.data_sets ++ x ≡ spelling s q.data_sets ++ y = ap (λ (bs : List Bool). bs ++ x) (sym p.text) ∙ e ∙ ap (λ (bs : List Bool). bs ++ y) q.text in
+    let same = ok_is (p.data_sets, x) (q.data_sets, y) (sym first ∙ ap (λ (bs : List Bool). data_sets_at 0 c c.count 0 bs) bits ∙ second) in
+    let data_sets : p.data_sets ≡ q.data_sets = ap (λ (r : List CodedDataSet × List Bool). r.0) same in
+    let numbers : take (length ms) (values_of (blocks_told c 0 p.data_sets)) ≡ take (length ns) (values_of (blocks_told d 0 q.data_sets)) = rw (data_sets, len) refl in
+    (sym p.told ∙ numbers ∙ q.told, ap (λ (r : List CodedDataSet × List Bool). r.1) same)
 
 -- ---- the chosen body
 
@@ -134,14 +134,14 @@ blocks_enough size n pos =
     omega arith
 
 pub chosen_is_body : ChosenIsBody
-unfolding chosen_block_body chosen_texts blocks
+unfolding chosen_block_body chosen_data_sets blocks
 chosen_is_body s size reference numbers pos least range =
     let c : Cut = cut_of s size reference (length numbers) in
     let bs : List (List ℕ) = first_blocks size (block_count size (length numbers)) numbers in
     let len : length bs ≡ c.count = length-first_blocks size (block_count size (length numbers)) numbers in
     let lawful = chosen_is_lawful c bs len least (first_are_blocks s size (block_count size (length numbers)) numbers range) in
     record {
-      texts = chosen_from c c.count 0 bs;
+      data_sets = chosen_from c c.count 0 bs;
       lawful = lawful.0;
       text = ap (λ (n : ℕ). spelling s (chosen_from c n 0 bs)) len;
       told = ap (λ (ts : List (List ℕ)). take (length numbers) (values_of ts)) lawful.1 ∙ first_values size (block_count size (length numbers)) numbers (blocks_enough size (length numbers) pos);
@@ -149,31 +149,31 @@ chosen_is_body s size reference numbers pos least range =
 
 -- ---- what is read is lawful
 
-pub text_most : (s : CodeSet) (size left : ℕ) (t : Text) → 1 ≤ left → IsText s size left t → blocks_in left t ≤ left
-text_most s size left (Block o vs) pos h = pos
-text_most s size left (Run n) pos h = h.1
-text_most s size left Rest pos h = omega arith
+pub data_set_most : (s : CodeSet) (size left : ℕ) (t : CodedDataSet) → 1 ≤ left → IsCodedDataSet s size left t → blocks_in left t ≤ left
+data_set_most s size left (Block o vs) pos h = pos
+data_set_most s size left (Run n) pos h = h.1
+data_set_most s size left RestOfSegment pos h = omega arith
 
-abbrev AreTaken : Cut → ℕ → List Bool → List Text × List Bool → Type 0
-AreTaken c i bits x = AreTexts c i x.0 c.count × (bits ≡ spelling c.set x.0 ++ x.1)
+abbrev AreTaken : Cut → ℕ → List Bool → List CodedDataSet × List Bool → Type 0
+AreTaken c i bits x = AreCodedDataSets c i x.0 c.count × (bits ≡ spelling c.set x.0 ++ x.1)
 
-pub texts_taken : (count half n i : ℕ) (c : Cut) (bits : List Bool) (x : List Text × List Bool) → c.size ≡ 2 * half → 1 ≤ c.reference → i ≤ c.count → c.count ≤ n + i → texts_at count c n i bits ≡ Ok x → AreTaken c i bits x
-unfolding texts_at AreTexts
-texts_taken count half zero i c bits x even pos le fuel e = subst (AreTaken c i bits) (ok_is ([], bits) x e) (omega arith, refl)
-texts_taken count half (suc n) i c bits x even pos le fuel e =
+pub data_sets_taken : (count half n i : ℕ) (c : Cut) (bits : List Bool) (x : List CodedDataSet × List Bool) → c.size ≡ 2 * half → 1 ≤ c.reference → i ≤ c.count → c.count ≤ n + i → data_sets_at count c n i bits ≡ Ok x → AreTaken c i bits x
+unfolding data_sets_at AreCodedDataSets
+data_sets_taken count half zero i c bits x even pos le fuel e = subst (AreTaken c i bits) (ok_is ([], bits) x e) (omega arith, refl)
+data_sets_taken count half (suc n) i c bits x even pos le fuel e =
     elim (cases_lt i c.count) [
       | inl more ↦
           (let test : leb c.count i ≡ false = lt-leb _ _ more in
           let site : Site = record { count = count; block = i } in
           let left : ℕ = left_at c i in
-          let a = bind_ok (text_at site c.set c.size left bits) (λ t. texts_at count c n (i + blocks_in left t.0) t.1 >>= λ ts. Ok (t.0 ∷ ts.0, ts.1)) x (rw test at e) in
-          let b = bind_ok (texts_at count c n (i + blocks_in left a.0.0) a.0.1) (λ ts. Ok (a.0.0 ∷ ts.0, ts.1)) x a.2 in
+          let a = bind_ok (data_set_at site c.set c.size left bits) (λ t. data_sets_at count c n (i + blocks_in left t.0) t.1 >>= λ ts. Ok (t.0 ∷ ts.0, ts.1)) x (rw test at e) in
+          let b = bind_ok (data_sets_at count c n (i + blocks_in left a.0.0) a.0.1) (λ ts. Ok (a.0.0 ∷ ts.0, ts.1)) x a.2 in
           let some = rest_least c.reference c.count i pos more in
-          let first = text_is_taken site c.set half left a.0.0 bits a.0.1 some (subst (λ (k : ℕ). text_at site c.set k left bits ≡ Ok (a.0.0, a.0.1)) even a.1) in
-          let lawful : IsText c.set c.size left a.0.0 = subst (λ (k : ℕ). IsText c.set k left a.0.0) (sym even) first.1 in
-          let least = text_some c.set c.size left a.0.0 lawful in
-          let most = text_most c.set c.size left a.0.0 some lawful in
-          let others = texts_taken count half n (i + blocks_in left a.0.0) c a.0.1 b.0 even pos (omega (arith, rest_most c i, most)) (omega (arith, least)) b.1 in
+          let first = data_set_is_taken site c.set half left a.0.0 bits a.0.1 some (subst (λ (k : ℕ). data_set_at site c.set k left bits ≡ Ok (a.0.0, a.0.1)) even a.1) in
+          let lawful : IsCodedDataSet c.set c.size left a.0.0 = subst (λ (k : ℕ). IsCodedDataSet c.set k left a.0.0) (sym even) first.1 in
+          let least = data_set_some c.set c.size left a.0.0 lawful in
+          let most = data_set_most c.set c.size left a.0.0 some lawful in
+          let others = data_sets_taken count half n (i + blocks_in left a.0.0) c a.0.1 b.0 even pos (omega (arith, rest_most c i, most)) (omega (arith, least)) b.1 in
           subst (AreTaken c i bits) (ok_is (a.0.0 ∷ b.0.0, b.0.1) x b.2)
           ((lawful, others.0), first.0 ∙ ap (λ (bs : List Bool). spelled c.set a.0.0 ++ bs) others.1 ∙ sym (append_assoc (spelled c.set a.0.0) (spelling c.set b.0.0) b.0.1)))
       | inr done ↦
@@ -183,8 +183,8 @@ texts_taken count half (suc n) i c bits x even pos le fuel e =
 
 pub body_is_read : BodyIsRead
 unfolding block_body_at
-body_is_read count s half reference n texts bits rest pos =
+body_is_read count s half reference n data_sets bits rest pos =
     let c : Cut = cut_of s (2 * half) reference n in (
-      λ lawful text. rw text (texts_again count half c.count 0 c texts rest refl (omega (arith, texts_few c 0 c.count texts lawful)) lawful),
-      λ e. texts_taken count half c.count 0 c bits (texts, rest) refl pos (omega arith) (omega arith) e,
+      λ lawful text. rw text (data_sets_again count half c.count 0 c data_sets rest refl (omega (arith, data_sets_few c 0 c.count data_sets lawful)) lawful),
+      λ e. data_sets_taken count half c.count 0 c bits (data_sets, rest) refl pos (omega arith) (omega arith) e,
     )

@@ -1,4 +1,4 @@
--- The lengths of texts.
+-- The lengths of data sets.
 use Rattle.std.proofs.Common.{◌≡◌, ℕ, zero, suc, ◌+◌, ◌*◌, ◌/◌, ◌^◌, ◌<◌, ◌≤◌, true, false, List, [], ◌∷◌, ◌++◌, length, drop, replicate, get_or, refl, ◌∙◌, arith, add-one, drop-cons}
 use Rattle.std.proofs.lemmas.List.{length-append, length-replicate}
 use Rattle.block_adaptive.specs.declared.options.CodeSet.{CodeSet}

@@ -9,7 +9,7 @@ use Rattle.header_bits.specs.declared.params.Params.{Params}
 use Rattle.header_bits.specs.declared.params.Coder.{Coder}
 use Rattle.header_bits.specs.declared.params.Coder.TheVariants as coder
 use Rattle.block_adaptive.specs.Segments.{block_count}
-use Rattle.block_adaptive.specs.Texts.{Cut, left_at, capacity}
+use Rattle.block_adaptive.specs.DataSets.{Cut, left_at, capacity}
 use Rattle.block_adaptive.specs.Settings.{IsCut, IsCutOf, AreForBlocks, cut_by, coder_cut}
 use Rattle.block_adaptive.specs.Given.{Unpacked, given_count}
 use Rattle.block_adaptive.specs.Taken.{Packed, EndsBlock, EndsInside, taken_count, packed, zeros_after}
@@ -52,8 +52,8 @@ ends_inside v (Err e) some few = rw (mod-mul-add (v.start + v.zeros) v.cut.size 
 
 -- ---- a reader
 
-pub text_left : (v : Unpacked) → given_count v < capacity v.cut → v.held ≡ [] → v.block < v.cut.count
-text_left v few none = block_left v.cut.size v.cut.count v.block 0 (omega (arith, few, ap length none))
+pub data_set_left : (v : Unpacked) → given_count v < capacity v.cut → v.held ≡ [] → v.block < v.cut.count
+data_set_left v few none = block_left v.cut.size v.cut.count v.block 0 (omega (arith, few, ap length none))
 
 -- ---- a cut by parameters
 

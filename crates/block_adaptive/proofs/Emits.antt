@@ -8,7 +8,7 @@ use Rattle.header_bits.proofs.Fronts.{bits_of_ones}
 use Rattle.block_adaptive.specs.declared.options.CodeSet.{CodeSet}
 use Rattle.block_adaptive.specs.declared.options.Choice.TheVariants.{Uncoded, Second, Split}
 use Rattle.block_adaptive.specs.Options.{width, zero_identifier, identifier, quotient_codes, low_groups, pair_codes, pair_number}
-use Rattle.block_adaptive.specs.Texts.{run_text}
+use Rattle.block_adaptive.specs.DataSets.{run_text}
 use Rattle.block_adaptive.specs.Taken.{Writes}
 use Rattle.block_adaptive.proofs.Costs.{length-fundamental}
 

@@ -9,19 +9,19 @@ use Rattle.block_adaptive.specs.declared.options.CodeSet.{CodeSet}
 use Rattle.block_adaptive.specs.Segments.{segment_rest}
 use Rattle.block_adaptive.specs.Settings.{IsSize, IsCut}
 use Rattle.block_adaptive.specs.Holding.{AreParts}
-use Rattle.block_adaptive.specs.Reading.{site_of, text_at}
+use Rattle.block_adaptive.specs.Reading.{site_of, data_set_at}
 use Rattle.block_adaptive.proofs.Lawful.{rest_least}
-use Rattle.block_adaptive.proofs.Taken.{text_is_taken}
-use Rattle.block_adaptive.specs.Texts.{Text, Run, Rest, Cut, IsText, AreTexts, left_at, blocks_in, blocks_of, blocks_told, values_of, spelled, spelling}
-use Rattle.block_adaptive.specs.Given.{Unpacked, HasGiven, GivesFirst, holding, next_text}
+use Rattle.block_adaptive.proofs.Taken.{data_set_is_taken}
+use Rattle.block_adaptive.specs.DataSets.{CodedDataSet, Run, RestOfSegment, Cut, IsCodedDataSet, AreCodedDataSets, left_at, blocks_in, blocks_of, blocks_told, values_of, spelled, spelling}
+use Rattle.block_adaptive.specs.Given.{Unpacked, HasGiven, GivesFirst, holding, next_data_set}
 
 -- of the values up to the size nothing stands behind them
 pub nothing_behind : (size : ℕ) (values : List ℕ) → drop size (take size values) ≡ []
 nothing_behind size values = drop_all size (take size values) (omega (arith, length-take size values))
 
 pub nothing_held : (v : Unpacked) → v.block ≡ 0 → v.held ≡ [] → v.refused ≡ None → HasGiven v [] []
-unfolding AreTexts blocks_told
-nothing_held v at_start none working = record { texts = []; lawful = sym at_start; text = refl; told = sym none; working = working }
+unfolding AreCodedDataSets blocks_told
+nothing_held v at_start none working = record { data_sets = []; lawful = sym at_start; text = refl; told = sym none; working = working }
 
 abbrev pub zeros : ℕ → List ℕ
 zeros n = replicate n 0
@@ -94,58 +94,58 @@ run_parts c i given counted n h le most = record {
   behind = omega arith;
 }
 
--- ---- texts in hand
+-- ---- data sets in hand
 
-pub run_held : (v : Unpacked) (reader : Unread) (n : ℕ) (values : List ℕ) (left : List Bool) → text_at (site_of reader v.block) v.cut.set v.cut.size (left_at v.cut v.block) reader.left ≡ Ok (Run n, left)
-    → next_text v reader ≡ Ok (record v { block = v.block + n; held = drop v.cut.size (take v.cut.size values) ++ zeros (n * v.cut.size) }, left)
+pub run_held : (v : Unpacked) (reader : Unread) (n : ℕ) (values : List ℕ) (left : List Bool) → data_set_at (site_of reader v.block) v.cut.set v.cut.size (left_at v.cut v.block) reader.left ≡ Ok (Run n, left)
+    → next_data_set v reader ≡ Ok (record v { block = v.block + n; held = drop v.cut.size (take v.cut.size values) ++ zeros (n * v.cut.size) }, left)
 run_held v reader n values left e = rw e (ap (λ (held : List ℕ). Ok (record v { block = v.block + n; held = held }, left)) (run_in_hand n v.cut.size values))
 
-pub rest_held : (v : Unpacked) (reader : Unread) (values : List ℕ) (left : List Bool) → text_at (site_of reader v.block) v.cut.set v.cut.size (left_at v.cut v.block) reader.left ≡ Ok (Rest, left)
-    → next_text v reader ≡ Ok (record v { block = v.block + left_at v.cut v.block; held = drop v.cut.size (take v.cut.size values) ++ zeros (left_at v.cut v.block * v.cut.size) }, left)
+pub rest_held : (v : Unpacked) (reader : Unread) (values : List ℕ) (left : List Bool) → data_set_at (site_of reader v.block) v.cut.set v.cut.size (left_at v.cut v.block) reader.left ≡ Ok (RestOfSegment, left)
+    → next_data_set v reader ≡ Ok (record v { block = v.block + left_at v.cut v.block; held = drop v.cut.size (take v.cut.size values) ++ zeros (left_at v.cut v.block * v.cut.size) }, left)
 rest_held v reader values left e = rw e (ap (λ (held : List ℕ). Ok (record v { block = v.block + left_at v.cut v.block; held = held }, left)) (run_in_hand (left_at v.cut v.block) v.cut.size values))
 
--- ---- one text more
+-- ---- one data set more
 
-pub texts_push : (c : Cut) (i j : ℕ) (texts : List Text) (t : Text) → AreTexts c i texts j → IsText c.set c.size (left_at c j) t → AreTexts c i (texts ++ t ∷ []) (j + blocks_in (left_at c j) t)
-unfolding AreTexts
-texts_push c i j [] t h lawful = rw h (lawful, refl)
-texts_push c i j (u ∷ texts) t h lawful = (h.0, texts_push c (i + blocks_in (left_at c i) u) j texts t h.1 lawful)
+pub data_sets_push : (c : Cut) (i j : ℕ) (data_sets : List CodedDataSet) (t : CodedDataSet) → AreCodedDataSets c i data_sets j → IsCodedDataSet c.set c.size (left_at c j) t → AreCodedDataSets c i (data_sets ++ t ∷ []) (j + blocks_in (left_at c j) t)
+unfolding AreCodedDataSets
+data_sets_push c i j [] t h lawful = rw h (lawful, refl)
+data_sets_push c i j (u ∷ data_sets) t h lawful = (h.0, data_sets_push c (i + blocks_in (left_at c i) u) j data_sets t h.1 lawful)
 
-pub told_push : (c : Cut) (i j : ℕ) (texts : List Text) (t : Text) → AreTexts c i texts j → blocks_told c i (texts ++ t ∷ []) ≡ blocks_told c i texts ++ blocks_of c.size (left_at c j) t
-unfolding AreTexts blocks_told
+pub told_push : (c : Cut) (i j : ℕ) (data_sets : List CodedDataSet) (t : CodedDataSet) → AreCodedDataSets c i data_sets j → blocks_told c i (data_sets ++ t ∷ []) ≡ blocks_told c i data_sets ++ blocks_of c.size (left_at c j) t
+unfolding AreCodedDataSets blocks_told
 told_push c i j [] t h = rw h (append-nil (blocks_of c.size (left_at c j) t))
-told_push c i j (u ∷ texts) t h =
-    ap (λ (bs : List (List ℕ)). blocks_of c.size (left_at c i) u ++ bs) (told_push c (i + blocks_in (left_at c i) u) j texts t h.1)
-    ∙ sym (append_assoc (blocks_of c.size (left_at c i) u) (blocks_told c (i + blocks_in (left_at c i) u) texts) (blocks_of c.size (left_at c j) t))
+told_push c i j (u ∷ data_sets) t h =
+    ap (λ (bs : List (List ℕ)). blocks_of c.size (left_at c i) u ++ bs) (told_push c (i + blocks_in (left_at c i) u) j data_sets t h.1)
+    ∙ sym (append_assoc (blocks_of c.size (left_at c i) u) (blocks_told c (i + blocks_in (left_at c i) u) data_sets) (blocks_of c.size (left_at c j) t))
 
 pub values_append : (a b : List (List ℕ)) → values_of (a ++ b) ≡ values_of a ++ values_of b
 values_append [] b = refl
 values_append (x ∷ a) b = ap (λ (vs : List ℕ). x ++ vs) (values_append a b) ∙ sym (append_assoc x (values_of a) (values_of b))
 
-pub spelling_push : (s : CodeSet) (texts : List Text) (t : Text) → spelling s (texts ++ t ∷ []) ≡ spelling s texts ++ spelled s t
+pub spelling_push : (s : CodeSet) (data_sets : List CodedDataSet) (t : CodedDataSet) → spelling s (data_sets ++ t ∷ []) ≡ spelling s data_sets ++ spelled s t
 spelling_push s [] t = append-nil (spelled s t)
-spelling_push s (u ∷ texts) t = ap (λ (bs : List Bool). spelled s u ++ bs) (spelling_push s texts t) ∙ sym (append_assoc (spelled s u) (spelling s texts) (spelled s t))
+spelling_push s (u ∷ data_sets) t = ap (λ (bs : List Bool). spelled s u ++ bs) (spelling_push s data_sets t) ∙ sym (append_assoc (spelled s u) (spelling s data_sets) (spelled s t))
 
 -- ---- what was given
 
 pub value_given : (v new : Unpacked) (given : List ℕ) (bits : List Bool) (value : ℕ) → HasGiven v given bits → GivesFirst v value new → HasGiven new (given ++ value ∷ []) bits
 value_given v new given bits value h first =
     let is : given ++ v.held ≡ (given ++ value ∷ []) ++ new.held = ap (λ (held : List ℕ). given ++ held) first.0 ∙ sym (append_assoc given (value ∷ []) new.held) in
-    rw first.1 (record { texts = h.texts; lawful = h.lawful; text = h.text; told = h.told ∙ is; working = h.working })
+    rw first.1 (record { data_sets = h.data_sets; lawful = h.lawful; text = h.text; told = h.told ∙ is; working = h.working })
 
-pub text_given : (v : Unpacked) (reader : Unread) (given : List ℕ) (bits left : List Bool) (t : Text) → IsCut v.cut → v.block < v.cut.count → v.held ≡ [] → HasGiven v given bits
-    → text_at (site_of reader v.block) v.cut.set v.cut.size (left_at v.cut v.block) reader.left ≡ Ok (t, left) → (reader.left ≡ spelled v.cut.set t ++ left) × HasGiven (holding v t) given (bits ++ spelled v.cut.set t)
-text_given v reader given bits left t cut more none h e =
+pub data_set_given : (v : Unpacked) (reader : Unread) (given : List ℕ) (bits left : List Bool) (t : CodedDataSet) → IsCut v.cut → v.block < v.cut.count → v.held ≡ [] → HasGiven v given bits
+    → data_set_at (site_of reader v.block) v.cut.set v.cut.size (left_at v.cut v.block) reader.left ≡ Ok (t, left) → (reader.left ≡ spelled v.cut.set t ++ left) × HasGiven (holding v t) given (bits ++ spelled v.cut.set t)
+data_set_given v reader given bits left t cut more none h e =
     let half = size_halved v.cut.size cut.size in
     let pos = rest_least v.cut.reference v.cut.count v.block cut.reference.0 more in
-    let found = text_is_taken (site_of reader v.block) v.cut.set (v.cut.size / 2) (left_at v.cut v.block) t reader.left left pos (rw half e) in
-    let lawful : IsText v.cut.set v.cut.size (left_at v.cut v.block) t = rw half at found.1 in (
+    let found = data_set_is_taken (site_of reader v.block) v.cut.set (v.cut.size / 2) (left_at v.cut v.block) t reader.left left pos (rw half e) in
+    let lawful : IsCodedDataSet v.cut.set v.cut.size (left_at v.cut v.block) t = rw half at found.1 in (
       found.0,
       record {
-        texts = h.texts ++ t ∷ [];
-        lawful = texts_push v.cut 0 v.block h.texts t h.lawful lawful;
-        text = ap (λ (bs : List Bool). bs ++ spelled v.cut.set t) h.text ∙ sym (spelling_push v.cut.set h.texts t);
-        told = ap values_of (told_push v.cut 0 v.block h.texts t h.lawful) ∙ values_append (blocks_told v.cut 0 h.texts) (blocks_of v.cut.size (left_at v.cut v.block) t)
+        data_sets = h.data_sets ++ t ∷ [];
+        lawful = data_sets_push v.cut 0 v.block h.data_sets t h.lawful lawful;
+        text = ap (λ (bs : List Bool). bs ++ spelled v.cut.set t) h.text ∙ sym (spelling_push v.cut.set h.data_sets t);
+        told = ap values_of (told_push v.cut 0 v.block h.data_sets t h.lawful) ∙ values_append (blocks_told v.cut 0 h.data_sets) (blocks_of v.cut.size (left_at v.cut v.block) t)
             ∙ ap (λ (vs : List ℕ). vs ++ values_of (blocks_of v.cut.size (left_at v.cut v.block) t)) (h.told ∙ ap (λ (held : List ℕ). given ++ held) none ∙ append-nil given);
         working = h.working;
       },
@@ -156,16 +156,16 @@ abbrev pub Gives : Unpacked → Unread → ℕ → Unpacked → List Bool → Ty
 Gives old reader value new left =
     (new.cut ≡ old.cut) × ((given : List ℕ) (bits : List Bool) → HasGiven old given bits → (read : List Bool) × (reader.left ≡ read ++ left) × HasGiven new (given ++ value ∷ []) (bits ++ read))
 
--- the next number, where a text was taken
-pub next_given : (v held new : Unpacked) (reader : Unread) (left : List Bool) (value : ℕ) → IsCut v.cut → v.block < v.cut.count → v.held ≡ [] → next_text v reader ≡ Ok (held, left) → GivesFirst held value new → Gives v reader value new left
+-- the next number, where a data set was taken
+pub next_given : (v held new : Unpacked) (reader : Unread) (left : List Bool) (value : ℕ) → IsCut v.cut → v.block < v.cut.count → v.held ≡ [] → next_data_set v reader ≡ Ok (held, left) → GivesFirst held value new → Gives v reader value new left
 next_given v held new reader left value cut more none e first =
-    let a = bind_ok (text_at (site_of reader v.block) v.cut.set v.cut.size (left_at v.cut v.block) reader.left) (λ t. Ok (holding v t.0, t.1)) (held, left) e in
+    let a = bind_ok (data_set_at (site_of reader v.block) v.cut.set v.cut.size (left_at v.cut v.block) reader.left) (λ t. Ok (holding v t.0, t.1)) (held, left) e in
     let same = ok_is (holding v a.0.0, a.0.1) (held, left) a.2 in
     let is : holding v a.0.0 ≡ held = ap (λ (x : Unpacked × List Bool). x.0) same in
     let rest : a.0.1 ≡ left = ap (λ (x : Unpacked × List Bool). x.1) same in (
       ap (λ (u : Unpacked). u.cut) first.1 ∙ sym (ap (λ (u : Unpacked). u.cut) is),
       λ given bits h.
-          let taken = text_given v reader given bits a.0.1 a.0.0 cut more none h a.1 in
+          let taken = data_set_given v reader given bits a.0.1 a.0.0 cut more none h a.1 in
           (spelled v.cut.set a.0.0, taken.0 ∙ ap (λ (bs : List Bool). spelled v.cut.set a.0.0 ++ bs) rest, value_given held new given (bits ++ spelled v.cut.set a.0.0) value (rw is at taken.1) first),
     )
 

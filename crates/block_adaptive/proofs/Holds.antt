@@ -6,7 +6,7 @@ use Rattle.std.proofs.Math.Seq.{take-add}
 use Rattle.std.proofs.lemmas.Bool.{cases_lt}
 use Rattle.std.proofs.lemmas.List.{append-nil, length-append, length-take, length-drop, take_at, take_more}
 use Rattle.cube_core.specs.declared.fault.Fault.{Fault}
-use Rattle.block_adaptive.specs.Texts.{Cut}
+use Rattle.block_adaptive.specs.DataSets.{Cut}
 use Rattle.block_adaptive.specs.Holding.{AreStored}
 use Rattle.block_adaptive.specs.Taken.{Packed, HasTaken, PutsNumber, PutsAll, taken_count}
 use Rattle.block_adaptive.proofs.Packing.{values_held}

@@ -1,4 +1,4 @@
--- The chosen texts are lawful, and stand for the blocks.
+-- The chosen data sets are lawful, and stand for the blocks.
 use Rattle.std.proofs.Common.{◌≡◌, ℕ, zero, suc, ◌+◌, ◌%◌, ◌<◌, ◌≤◌, Bool, true, false, cond, eqb, leb, ◌&&◌, List, [], ◌∷◌, length, take, drop, replicate, refl, sym, ◌∙◌, arith, lit<}
 use Rattle.std.proofs.lemmas.Bool.{eqb-true, eqb-false}
 use Rattle.std.proofs.lemmas.List.{take-append-drop, length-drop}
@@ -6,8 +6,8 @@ use Rattle.std.proofs.Math.Nat.{mod-lt}
 use Rattle.std.proofs.lemmas.Nat.{mod_below}
 use Rattle.block_adaptive.specs.declared.options.CodeSet.{CodeSet}
 use Rattle.block_adaptive.specs.Segments.{segment_rest}
-use Rattle.block_adaptive.specs.Texts.{Text, Block, Run, Rest, Cut, IsText, blocks_in, blocks_of, AreTexts, blocks_told}
-use Rattle.block_adaptive.specs.Chosen.{chosen_option, is_zero, zero_blocks, text_of, chosen_from}
+use Rattle.block_adaptive.specs.DataSets.{CodedDataSet, Block, Run, RestOfSegment, Cut, IsCodedDataSet, blocks_in, blocks_of, AreCodedDataSets, blocks_told}
+use Rattle.block_adaptive.specs.Chosen.{chosen_option, is_zero, zero_blocks, data_set_of, chosen_from}
 use Rattle.block_adaptive.specs.Laws.{AreBlocks, ChosenIsLawful}
 use Rattle.block_adaptive.proofs.Least.{option_is_least}
 
@@ -44,16 +44,16 @@ run_is_zeros s size (suc n) (b ∷ bs) h = go (is_zero b) refl (run_is_zeros s s
     go true e others = rw (zeros_of b size h.0.0 e, others) refl
     go false e others = refl
 
--- ---- one text
+-- ---- one data set
 
-record Fine (s : CodeSet) (size left : ℕ) (bs : List (List ℕ)) (t : Text) : Type 0 where
-  lawful : IsText s size left t
+record Fine (s : CodeSet) (size left : ℕ) (bs : List (List ℕ)) (t : CodedDataSet) : Type 0 where
+  lawful : IsCodedDataSet s size left t
   least : 1 ≤ blocks_in left t
   most : blocks_in left t ≤ length bs
   told : blocks_of size left t ≡ take (blocks_in left t) bs
 
 pick : (s : CodeSet) (size left : ℕ) (b : List ℕ) (bs : List (List ℕ)) → 1 ≤ left → AreBlocks s size (b ∷ bs) → (k : ℕ) → k ≡ zero_blocks left (b ∷ bs) → (e f : Bool) → eqb k 0 ≡ e → (eqb k left && leb 5 k) ≡ f
-    → Fine s size left (b ∷ bs) (cond e (Block (chosen_option s b) b) (cond f Rest (Run k)))
+    → Fine s size left (b ∷ bs) (cond e (Block (chosen_option s b) b) (cond f RestOfSegment (Run k)))
 pick s size left b bs pos h k is true f none test =
     record { lawful = record { option = (option_is_least s b).0; whole = h.0.0; range = h.0.1 }; least = omega arith; most = omega arith; told = refl }
 pick s size left b bs pos h k is false true none test =
@@ -65,10 +65,10 @@ pick s size left b bs pos h k is false false none test =
     let most = run_at_most left (b ∷ bs) in
     record { lawful = (omega arith, omega (arith, most.0)); least = omega arith; most = omega (arith, most.1); told = rw is (sym (run_is_zeros s size left (b ∷ bs) h)) }
 
-text_is_fine : (s : CodeSet) (size left : ℕ) (b : List ℕ) (bs : List (List ℕ)) → 1 ≤ left → AreBlocks s size (b ∷ bs) → Fine s size left (b ∷ bs) (text_of s left b bs)
-text_is_fine s size left b bs pos h = pick s size left b bs pos h (zero_blocks left (b ∷ bs)) refl _ _ refl refl
+data_set_is_fine : (s : CodeSet) (size left : ℕ) (b : List ℕ) (bs : List (List ℕ)) → 1 ≤ left → AreBlocks s size (b ∷ bs) → Fine s size left (b ∷ bs) (data_set_of s left b bs)
+data_set_is_fine s size left b bs pos h = pick s size left b bs pos h (zero_blocks left (b ∷ bs)) refl _ _ refl refl
 
--- ---- all texts
+-- ---- all data sets
 
 pub rest_least : (r n i : ℕ) → 1 ≤ r → i < n → 1 ≤ segment_rest r n i
 unfolding segment_rest
@@ -80,16 +80,16 @@ blocks_drop s size (suc k) [] h = h
 blocks_drop s size (suc k) (b ∷ bs) h = blocks_drop s size k bs h.1
 
 from_lawful : (c : Cut) (n i : ℕ) (bs : List (List ℕ)) → length bs ≤ n → i + length bs ≡ c.count → 1 ≤ c.reference → AreBlocks c.set c.size bs
-    → AreTexts c i (chosen_from c n i bs) c.count × (blocks_told c i (chosen_from c n i bs) ≡ bs)
-unfolding AreTexts chosen_from blocks_told
+    → AreCodedDataSets c i (chosen_from c n i bs) c.count × (blocks_told c i (chosen_from c n i bs) ≡ bs)
+unfolding AreCodedDataSets chosen_from blocks_told
 from_lawful c zero i [] few all pos h = (omega arith, refl)
 from_lawful c zero i (b ∷ bs) few all pos h = absurd (omega arith)
 from_lawful c (suc n) i [] few all pos h = (omega arith, refl)
 from_lawful c (suc n) i (b ∷ bs) few all pos h =
     let left : ℕ = segment_rest c.reference c.count i in
-    let t : Text = text_of c.set left b bs in
+    let t : CodedDataSet = data_set_of c.set left b bs in
     let k : ℕ = blocks_in left t in
-    let fine = text_is_fine c.set c.size left b bs (rest_least c.reference c.count i pos (omega arith)) h in
+    let fine = data_set_is_fine c.set c.size left b bs (rest_least c.reference c.count i pos (omega arith)) h in
     let len = length-drop k (b ∷ bs) in
     let others = from_lawful c n (i + k) (drop k (b ∷ bs)) (omega (arith, fine.least, fine.most)) (omega (arith, fine.least, fine.most)) pos (blocks_drop c.set c.size k (b ∷ bs) h) in
     ((fine.lawful, others.0), rw (others.1, fine.told) (take-append-drop k (b ∷ bs)))

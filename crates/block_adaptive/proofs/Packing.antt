@@ -9,11 +9,11 @@ use Rattle.std.proofs.Math.Seq.{take-suc-set}
 use Rattle.std.proofs.lemmas.Nat.{div-mul-add}
 use Rattle.block_adaptive.specs.declared.options.CodeSet.{CodeSet}
 use Rattle.block_adaptive.specs.Segments.{filled, first_blocks, blocks, block_count}
-use Rattle.block_adaptive.specs.Texts.{Text, Cut, left_at, spelled, spelling, values_of}
-use Rattle.block_adaptive.specs.Chosen.{chosen_from, chosen_texts, chosen_block_body, is_zero}
+use Rattle.block_adaptive.specs.DataSets.{CodedDataSet, Cut, left_at, spelled, spelling, values_of}
+use Rattle.block_adaptive.specs.Chosen.{chosen_from, chosen_data_sets, chosen_block_body, is_zero}
 use Rattle.block_adaptive.specs.Laws.{AreBlocks}
 use Rattle.block_adaptive.specs.Settings.{IsCut}
-use Rattle.block_adaptive.specs.Taken.{Packed, HasTaken, PutsNumber, PutsAll, EndsBody, rest_of, run_and_block, texts_after, zeros_after, packed, texts_packed}
+use Rattle.block_adaptive.specs.Taken.{Packed, HasTaken, PutsNumber, PutsAll, EndsBody, rest_of, run_and_block, data_sets_after, zeros_after, packed, data_sets_packed}
 use Rattle.block_adaptive.proofs.Lawful.{rest_least, zeros_of}
 use Rattle.block_adaptive.proofs.Streaming.{enough, block_next, run_next, run_to_end}
 use Rattle.block_adaptive.proofs.Handed.{zeros, values_append, rest_most, size_least}
@@ -21,7 +21,7 @@ use Rattle.block_adaptive.proofs.Handed.{zeros, values_append, rest_most, size_l
 ne-eqb : (a b : ℕ) → (a ≡ b → ⊥) → eqb a b ≡ false
 ne-eqb a b h = grind (arith, nat_tests)
 
--- ---- one block more, in the chosen texts
+-- ---- one block more, in the chosen data sets
 
 one_more : (n : ℕ) (z : List ℕ) (bs : List (List ℕ)) → replicate n z ++ z ∷ bs ≡ replicate (n + 1) z ++ bs
 one_more zero z bs = refl
@@ -30,11 +30,11 @@ one_more (suc n) z bs = (let e : suc n + 1 ≡ suc (n + 1) = omega arith in rw (
 held_length : (n size : ℕ) (b : List ℕ) (bs : List (List ℕ)) → length (replicate n (zeros size) ++ b ∷ bs) ≡ n + 1 + length bs
 held_length n size b bs = omega (arith, length-append (replicate n (zeros size)) (b ∷ bs), length-replicate n (zeros size))
 
--- what the texts from a block on are, once another block is there
+-- what the data sets from a block on are, once another block is there
 abbrev Step : Cut → ℕ → ℕ → List ℕ → List (List ℕ) → ℕ → Type 0
 Step c start held b future after =
     chosen_from c c.count start (replicate held (zeros c.size) ++ b ∷ future)
-    ≡ texts_after c.set (left_at c start) held b ++ chosen_from c c.count (start + (held + 1 - after)) (replicate after (zeros c.size) ++ future)
+    ≡ data_sets_after c.set (left_at c start) held b ++ chosen_from c c.count (start + (held + 1 - after)) (replicate after (zeros c.size) ++ future)
 
 zero_step : (c : Cut) (start held : ℕ) (b : List ℕ) (future : List (List ℕ)) (end : Bool) → length b ≡ c.size → start + held + 1 + length future ≡ c.count → is_zero b ≡ true → eqb (held + 1) (left_at c start) ≡ end
     → chosen_from c c.count start (replicate held (zeros c.size) ++ b ∷ future)
@@ -85,7 +85,7 @@ after_in_range left held b lt = go (is_zero b) (eqb (held + 1) left) refl
     go true false h = (omega arith, λ p. (let other : held + 1 ≡ left → ⊥ = eqb-false _ _ h in omega arith))
     go false e h = (omega arith, λ p. absurd (omega arith))
 
--- where some are held, no text ended the run
+-- where some are held, no data set ended the run
 pub after_start : (c : Cut) (start held : ℕ) (b : List ℕ) → 1 ≤ zeros_after (left_at c start) held b → start + (held + 1 - zeros_after (left_at c start) held b) ≡ start
 after_start c start held b = go (is_zero b) (eqb (held + 1) (left_at c start))
   where
@@ -94,7 +94,7 @@ after_start c start held b = go (is_zero b) (eqb (held + 1) (left_at c start))
     go true false p = omega arith
     go false e p = absurd (omega arith)
 
-pub spelling_append : (s : CodeSet) (a b : List Text) → spelling s (a ++ b) ≡ spelling s a ++ spelling s b
+pub spelling_append : (s : CodeSet) (a b : List CodedDataSet) → spelling s (a ++ b) ≡ spelling s a ++ spelling s b
 spelling_append s [] b = refl
 spelling_append s (t ∷ a) b = ap (λ (bs : List Bool). spelled s t ++ bs) (spelling_append s a b) ∙ sym (append_assoc (spelled s t) (spelling s a) (spelling s b))
 
@@ -115,7 +115,7 @@ values_taken v taken bits xs h = record {
 }
 
 unfoldable pub block_taken : (v : Packed) (taken told : List ℕ) (bits : List Bool) (b : List ℕ) → IsCut v.cut → v.start + v.zeros < v.cut.count → length b ≡ v.cut.size → AllByRecursion (λ x. x < 2 ^ v.cut.set.bits) b
-    → (h : HasTaken v taken bits) → told ≡ values_of (h.blocks ++ b ∷ []) → HasTaken (packed v b) told (bits ++ texts_packed v b)
+    → (h : HasTaken v taken bits) → told ≡ values_of (h.blocks ++ b ∷ []) → HasTaken (packed v b) told (bits ++ data_sets_packed v b)
 block_taken v taken told bits b cut more len range h is =
     let c : Cut = v.cut in
     let left : ℕ = left_at c v.start in
@@ -134,11 +134,11 @@ block_taken v taken told bits b cut more len range h is =
           let rest : v.start + v.zeros + 1 + length future ≡ c.count = omega (arith, h.place) in
           let told-so = h.goes_on (b ∷ future) (omega arith) in
           let next = step c v.start v.zeros b future len cut.reference.0 rest h.inside in
-          let behind : List Text = chosen_from c c.count (v.start + (v.zeros + 1 - after)) (replicate after (zeros c.size) ++ future) in
+          let behind : List CodedDataSet = chosen_from c c.count (v.start + (v.zeros + 1 - after)) (replicate after (zeros c.size) ++ future) in
           ap (λ (bs : List (List ℕ)). spelling c.set (chosen_from c c.count 0 bs)) (append_assoc h.blocks (b ∷ []) future) ∙ told-so
-          ∙ ap (λ (ts : List Text). bits ++ spelling c.set ts) next
-          ∙ ap (λ (bs : List Bool). bits ++ bs) (spelling_append c.set (texts_after c.set left v.zeros b) behind)
-          ∙ sym (append_assoc bits (texts_packed v b) (spelling c.set behind));
+          ∙ ap (λ (ts : List CodedDataSet). bits ++ spelling c.set ts) next
+          ∙ ap (λ (bs : List Bool). bits ++ bs) (spelling_append c.set (data_sets_after c.set left v.zeros b) behind)
+          ∙ sym (append_assoc bits (data_sets_packed v b) (spelling c.set behind));
     }
 
 -- ---- all blocks
@@ -208,7 +208,7 @@ blocks_odd s size bs held least most h =
 -- the chosen body of numbers whose blocks are known
 body_of_blocks : (v : Packed) (taken : List ℕ) (bs : List (List ℕ)) → block_count v.cut.size (length taken) ≡ v.cut.count → blocks v.cut.size taken ≡ bs → length bs ≡ v.cut.count
     → chosen_block_body v.cut.set v.cut.size v.cut.reference taken ≡ spelling v.cut.set (chosen_from v.cut v.cut.count 0 bs)
-unfolding chosen_block_body chosen_texts
+unfolding chosen_block_body chosen_data_sets
 body_of_blocks v taken bs count is len = rw (is, count, len) refl
 
 pub nothing_left : (v : Packed) (written : List Bool) → IsCut v.cut → v.held ≡ [] → EndsBody v written written
@@ -221,7 +221,7 @@ nothing_left v written cut none = λ taken bits h count.
     ([], sym (append-nil written), append-nil bits ∙ all_taken v taken bits h len ∙ sym (body_of_blocks v taken h.blocks count all len))
 
 pub last_block : (v : Packed) (written now : List Bool) → IsCut v.cut → 1 ≤ length v.held → length v.held ≤ v.cut.size → v.start + v.zeros < v.cut.count → AllByRecursion (λ x. x < 2 ^ v.cut.set.bits) (filled v.cut.size v.held)
-    → now ≡ written ++ texts_packed v (filled v.cut.size v.held) → EndsBody v written now
+    → now ≡ written ++ data_sets_packed v (filled v.cut.size v.held) → EndsBody v written now
 unfolding block_taken
 last_block v written now cut least most more range is = λ taken bits h count.
     let c : Cut = v.cut in
@@ -232,7 +232,7 @@ last_block v written now cut least most more range is = λ taken bits h count.
     let size : length taken ≡ length h.blocks * c.size + length v.held = ap length h.numbers ∙ omega (arith, length-append (values_of h.blocks) v.held, values_length c.set c.size h.blocks h.whole) in
     let count-is : length h.blocks + 1 ≡ c.count = sym (count_odd c.size (length h.blocks) (length v.held) least most) ∙ ap (block_count c.size) (sym size) ∙ count in
     let blocks-are : length (h.blocks ++ b ∷ []) ≡ c.count = length-append h.blocks (b ∷ []) ∙ count-is in
-    (texts_packed v b, is, all_taken (packed v b) (values_of (h.blocks ++ b ∷ [])) (bits ++ texts_packed v b) after blocks-are ∙ sym (body_of_blocks v taken (h.blocks ++ b ∷ []) count all blocks-are))
+    (data_sets_packed v b, is, all_taken (packed v b) (values_of (h.blocks ++ b ∷ [])) (bits ++ data_sets_packed v b) after blocks-are ∙ sym (body_of_blocks v taken (h.blocks ++ b ∷ []) count all blocks-are))
 
 -- ---- numbers more
 
@@ -241,12 +241,12 @@ values_held v new written xs is = λ taken bits h.
     ([], sym (append-nil written), rw (is, append-nil bits) (values_taken v taken bits xs h))
 
 pub number_packed : (v new : Packed) (written now : List Bool) (x : ℕ) → IsCut v.cut → v.start + v.zeros < v.cut.count → length (v.held ++ x ∷ []) ≡ v.cut.size → AllByRecursion (λ y. y < 2 ^ v.cut.set.bits) (v.held ++ x ∷ [])
-    → now ≡ written ++ texts_packed v (v.held ++ x ∷ []) → new ≡ packed v (v.held ++ x ∷ []) → PutsNumber x v written new now
-number_packed v new written now x cut more len range texts is = λ taken bits h.
+    → now ≡ written ++ data_sets_packed v (v.held ++ x ∷ []) → new ≡ packed v (v.held ++ x ∷ []) → PutsNumber x v written new now
+number_packed v new written now x cut more len range data_sets is = λ taken bits h.
     let told : taken ++ x ∷ [] ≡ values_of (h.blocks ++ (v.held ++ x ∷ []) ∷ []) =
     ap (λ (ns : List ℕ). ns ++ x ∷ []) h.numbers ∙ append_assoc (values_of h.blocks) v.held (x ∷ [])
     ∙ ap (λ (ns : List ℕ). values_of h.blocks ++ ns) (sym (append-nil (v.held ++ x ∷ []))) ∙ sym (values_append h.blocks ((v.held ++ x ∷ []) ∷ [])) in
-    (texts_packed v (v.held ++ x ∷ []), texts, rw is (block_taken v taken (taken ++ x ∷ []) bits (v.held ++ x ∷ []) cut more len range h told))
+    (data_sets_packed v (v.held ++ x ∷ []), data_sets, rw is (block_taken v taken (taken ++ x ∷ []) bits (v.held ++ x ∷ []) cut more len range h told))
 
 -- ---- the values held
 

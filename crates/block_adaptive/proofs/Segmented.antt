@@ -1,4 +1,4 @@
--- Segments are as many as are counted, and each has a text of three bits at least.
+-- Segments are as many as are counted, and each has a data set of three bits at least.
 use Rattle.std.proofs.Common.{◌≡◌, ℕ, min, cond, add-zero, zero, suc, ◌+◌, ◌-◌, ◌*◌, ◌/◌, ◌%◌, ◌<◌, ◌≤◌, true, false, leb, List, [], ◌∷◌, ◌++◌, length, replicate, sum, refl, sym, ap, subst, ◌∙◌, inl, inr, arith}
 use Rattle.std.proofs.lemmas.Bool.{cases_lt}
 use Rattle.std.proofs.lemmas.Bool.Decides.{nat_tests}
@@ -9,9 +9,9 @@ use Rattle.block_adaptive.specs.declared.options.CodeSet.{CodeSet}
 use Rattle.block_adaptive.specs.declared.options.Choice.TheVariants.{Uncoded, Second, Split}
 use Rattle.block_adaptive.specs.Options.{width, splits, pair_codes, pair_number, zero_identifier}
 use Rattle.block_adaptive.specs.Segments.{block_count, segment_rest, segments_from, segments}
-use Rattle.block_adaptive.specs.Texts.{Text, Block, Run, Rest, Cut, cut_of, left_at, IsText, AreTexts, blocks_in, spelled, spelling, run_code, rest_code}
+use Rattle.block_adaptive.specs.DataSets.{CodedDataSet, Block, Run, RestOfSegment, Cut, cut_of, left_at, IsCodedDataSet, AreCodedDataSets, blocks_in, spelled, spelling, run_code, rest_code}
 use Rattle.block_adaptive.specs.Laws.{SegmentsAreCounted, NoShorterBody}
-use Rattle.block_adaptive.proofs.Bodies.{text_most, texts_few, text_some}
+use Rattle.block_adaptive.proofs.Bodies.{data_set_most, data_sets_few, data_set_some}
 use Rattle.block_adaptive.proofs.Costs.{uncoded_cost, second_cost, split_cost, quotients_least, pairs_more, length-fundamental}
 use Rattle.block_adaptive.proofs.Again.{width_least}
 use Rattle.block_adaptive.proofs.Bounded.{no_splits}
@@ -140,20 +140,20 @@ segments_are_counted n size reference pos =
     let walk = counted reference all all 0 pos (omega arith) (omega arith) (λ some. zero_place) in
     (omega (arith, walk.0, begun_none reference pos), omega (arith, walk.1))
 
--- ---- each segment has a text
+-- ---- each segment has a data set
 
-texts_many : (c : Cut) (i j : ℕ) (texts : List Text) → 1 ≤ c.reference → j ≤ c.count → AreTexts c i texts j → begun c.reference j ≤ begun c.reference i + length texts
-unfolding AreTexts
-texts_many c i j [] pos le h = subst (λ (k : ℕ). begun c.reference k ≤ begun c.reference i + 0) h (omega arith)
-texts_many c i j (t ∷ texts) pos le h =
+data_sets_many : (c : Cut) (i j : ℕ) (data_sets : List CodedDataSet) → 1 ≤ c.reference → j ≤ c.count → AreCodedDataSets c i data_sets j → begun c.reference j ≤ begun c.reference i + length data_sets
+unfolding AreCodedDataSets
+data_sets_many c i j [] pos le h = subst (λ (k : ℕ). begun c.reference k ≤ begun c.reference i + 0) h (omega arith)
+data_sets_many c i j (t ∷ data_sets) pos le h =
     let k : ℕ = blocks_in (left_at c i) t in
-    let some = text_some c.set c.size (left_at c i) t h.0 in
-    let few = texts_few c (i + k) j texts h.1 in
+    let some = data_set_some c.set c.size (left_at c i) t h.0 in
+    let few = data_sets_few c (i + k) j data_sets h.1 in
     let left = rest_least c.reference c.count i pos (omega arith) in
-    let one = begun_few c.reference c.count i k pos (text_most c.set c.size (left_at c i) t left h.0) in
-    omega (arith, one, texts_many c (i + k) j texts pos le h.1)
+    let one = begun_few c.reference c.count i k pos (data_set_most c.set c.size (left_at c i) t left h.0) in
+    omega (arith, one, data_sets_many c (i + k) j data_sets pos le h.1)
 
--- ---- and a text three bits
+-- ---- and a data set three bits
 
 pairs_some : (v : ℕ) (vs : List ℕ) → 1 ≤ length (pair_codes (v ∷ vs))
 unfolding pair_codes
@@ -177,25 +177,25 @@ unfolding zero_identifier
 run_bits s m =
     omega (arith, length-append (replicate (width s) false ++ false ∷ []) (fundamental m), length-append (replicate (width s) false) (false ∷ []), length-replicate (width s) false, length-fundamental m, width_least s)
 
-text_bits : (s : CodeSet) (size left : ℕ) (t : Text) → 1 ≤ s.bits → 2 ≤ size → IsText s size left t → 3 ≤ length (spelled s t)
+data_set_bits : (s : CodeSet) (size left : ℕ) (t : CodedDataSet) → 1 ≤ s.bits → 2 ≤ size → IsCodedDataSet s size left t → 3 ≤ length (spelled s t)
 unfolding spelled run_code rest_code
-text_bits s size left (Block Uncoded vs) deep two h =
+data_set_bits s size left (Block Uncoded vs) deep two h =
     let many : 1 * 2 ≤ s.bits * length vs = mul-le 1 2 s.bits (length vs) deep (omega (arith, h.whole)) in
     omega (arith, uncoded_cost s vs, width_least s, many)
-text_bits s size left (Block Second vs) deep two h = omega (arith, second_cost s vs, width_least s, pairs_least vs (omega (arith, h.whole)))
-text_bits s size left (Block (Split k) vs) deep two h = omega (arith, split_cost s k vs, two_wide s k h.option, quotients_least k vs, h.whole)
-text_bits s size left (Run n) deep two h = elim (leb n 4) as (λ b. 3 ≤ length (zero_identifier s ++ cond b (fundamental (n - 1)) (fundamental n))) [ true ↦ run_bits s (n - 1) | false ↦ run_bits s n ]
-text_bits s size left Rest deep two h = run_bits s 4
+data_set_bits s size left (Block Second vs) deep two h = omega (arith, second_cost s vs, width_least s, pairs_least vs (omega (arith, h.whole)))
+data_set_bits s size left (Block (Split k) vs) deep two h = omega (arith, split_cost s k vs, two_wide s k h.option, quotients_least k vs, h.whole)
+data_set_bits s size left (Run n) deep two h = elim (leb n 4) as (λ b. 3 ≤ length (zero_identifier s ++ cond b (fundamental (n - 1)) (fundamental n))) [ true ↦ run_bits s (n - 1) | false ↦ run_bits s n ]
+data_set_bits s size left RestOfSegment deep two h = run_bits s 4
 
-texts_bits : (c : Cut) (i j : ℕ) (texts : List Text) → 1 ≤ c.set.bits → 2 ≤ c.size → AreTexts c i texts j → 3 * length texts ≤ length (spelling c.set texts)
-unfolding AreTexts
-texts_bits c i j [] deep two h = omega arith
-texts_bits c i j (t ∷ texts) deep two h =
-    omega (arith, text_bits c.set c.size (left_at c i) t deep two h.0, texts_bits c (i + blocks_in (left_at c i) t) j texts deep two h.1, length-append (spelled c.set t) (spelling c.set texts))
+data_sets_bits : (c : Cut) (i j : ℕ) (data_sets : List CodedDataSet) → 1 ≤ c.set.bits → 2 ≤ c.size → AreCodedDataSets c i data_sets j → 3 * length data_sets ≤ length (spelling c.set data_sets)
+unfolding AreCodedDataSets
+data_sets_bits c i j [] deep two h = omega arith
+data_sets_bits c i j (t ∷ data_sets) deep two h =
+    omega (arith, data_set_bits c.set c.size (left_at c i) t deep two h.0, data_sets_bits c (i + blocks_in (left_at c i) t) j data_sets deep two h.1, length-append (spelled c.set t) (spelling c.set data_sets))
 
 pub no_shorter_body : NoShorterBody
 no_shorter_body s size reference numbers bits deep two pos h =
     let c : Cut = cut_of s size reference (length numbers) in
-    let many = texts_many c 0 c.count h.texts pos (omega arith) h.lawful in
-    let least = texts_bits c 0 c.count h.texts deep two h.lawful in
+    let many = data_sets_many c 0 c.count h.data_sets pos (omega arith) h.lawful in
+    let least = data_sets_bits c 0 c.count h.data_sets deep two h.lawful in
     omega (arith, many, least, begun_none reference pos, ap length h.text)

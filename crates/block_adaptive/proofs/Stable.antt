@@ -1,4 +1,4 @@
--- Bits behind those that were read change nothing, but for a text that they end too early.
+-- Bits behind those that were read change nothing, but for a data set that they end too early.
 use Rattle.std.proofs.Common.{◌≡◌, ◌⊎◌, ◌+◌, ◌-◌, ◌*◌, ◌/◌, ◌^◌, ◌≤◌, ℕ, zero, suc, max, Bool, true, false, cond, eqb, leb, ltb, List, [], ◌∷◌, ◌++◌, length, take, drop, Result, Ok, Err, refl, ap, ◌∙◌, inl, inr, arith}
 use Rattle.std.proofs.lemmas.Bool.{ltb-false, le-ltb}
 use Rattle.std.proofs.lemmas.List.{take-append-le, drop-append-le, length-append}
@@ -11,10 +11,10 @@ use Rattle.block_adaptive.specs.declared.options.CodeSet.{CodeSet}
 use Rattle.block_adaptive.specs.declared.options.Choice.{Choice}
 use Rattle.block_adaptive.specs.declared.options.Choice.TheVariants.{Uncoded, Second, Split}
 use Rattle.block_adaptive.specs.Options.{width, greatest_value}
-use Rattle.block_adaptive.specs.Texts.{Text, Block, Run, Rest, IsText, spelled}
-use Rattle.block_adaptive.specs.Reading.{Site, fundamental_at, quotients_at, low_at, lows_at, split_at, words_at, pair_sum, pair_of, pairs_at, run_at, block_read, text_at}
-use Rattle.block_adaptive.specs.Laws.{FaultIsNoText}
-use Rattle.block_adaptive.proofs.Again.{text_again}
+use Rattle.block_adaptive.specs.DataSets.{CodedDataSet, Block, Run, RestOfSegment, IsCodedDataSet, spelled}
+use Rattle.block_adaptive.specs.Reading.{Site, fundamental_at, quotients_at, low_at, lows_at, split_at, words_at, pair_sum, pair_of, pairs_at, run_at, block_read, data_set_at}
+use Rattle.block_adaptive.specs.Laws.{FaultIsNoDataSet}
+use Rattle.block_adaptive.proofs.Again.{data_set_again}
 
 -- what was read is read again where more bits follow, and what was refused is refused for the same, unless the bits ended too early
 abbrev Goes : {X : Type 0} → ℕ → List Bool → Result (X × List Bool) Fault → Result (X × List Bool) Fault → Type 0
@@ -49,7 +49,7 @@ zeros_goes count (suc limit) more [] = inl refl
 zeros_goes count (suc limit) more (true ∷ bits) = refl
 zeros_goes count (suc limit) more (false ∷ bits) = goes_then count more (zeros_at count limit bits) (zeros_at count limit (bits ++ more)) (λ z. Ok (suc z.0, z.1)) (zeros_goes count limit more bits) (λ z rest. refl)
 
--- ---- parts of a text
+-- ---- parts of a data set
 
 fundamental_goes : (s : Site) (most : ℕ) (more bits : List Bool) → Goes s.count more (fundamental_at s most bits) (fundamental_at s most (bits ++ more))
 unfolding fundamental_at
@@ -105,26 +105,26 @@ pairs_goes s most (suc n) more bits =
     (λ m rest. goes_then s.count more (pair_of s most m rest) (pair_of s most m (rest ++ more)) (λ p. pairs_at s most n p.1 >>= λ vs. Ok (p.0.0 ∷ p.0.1 ∷ vs.0, vs.1)) (pair_goes s most m more rest)
     (λ p later. goes_then s.count more (pairs_at s most n later) (pairs_at s most n (later ++ more)) (λ vs. Ok (p.0 ∷ p.1 ∷ vs.0, vs.1)) (pairs_goes s most n more later) (λ vs last. refl)))
 
--- ---- a text
+-- ---- a data set
 
 run_goes : (s : Site) (left : ℕ) (more bits : List Bool) → Goes s.count more (run_at s left bits) (run_at s left (bits ++ more))
 unfolding run_at
 run_goes s left more bits =
     goes_then s.count more (zeros_at s.count (suc (max 4 left)) bits) (zeros_at s.count (suc (max 4 left)) (bits ++ more))
-    (λ z. cond (ltb (max 4 left) z.0) (Err (RunPastSegment s.block)) (cond (eqb z.0 4) (Ok (Rest, z.1)) (cond (ltb left (cond (leb z.0 3) (z.0 + 1) z.0)) (Err (RunPastSegment s.block)) (Ok (Run (cond (leb z.0 3) (z.0 + 1) z.0), z.1)))))
+    (λ z. cond (ltb (max 4 left) z.0) (Err (RunPastSegment s.block)) (cond (eqb z.0 4) (Ok (RestOfSegment, z.1)) (cond (ltb left (cond (leb z.0 3) (z.0 + 1) z.0)) (Err (RunPastSegment s.block)) (Ok (Run (cond (leb z.0 3) (z.0 + 1) z.0), z.1)))))
     (zeros_goes s.count (suc (max 4 left)) more bits)
     (λ z rest.
     let n : ℕ = cond (leb z 3) (z + 1) z in
-    goes_if s.count more (ltb (max 4 left) z) (Err (RunPastSegment s.block)) (Err (RunPastSegment s.block)) (cond (eqb z 4) (Ok (Rest, rest)) (cond (ltb left n) (Err (RunPastSegment s.block)) (Ok (Run n, rest)))) (cond (eqb z 4) (Ok (Rest, rest ++ more)) (cond (ltb left n) (Err (RunPastSegment s.block)) (Ok (Run n, rest ++ more)))) (inr refl)
-    (goes_if s.count more (eqb z 4) (Ok (Rest, rest)) (Ok (Rest, rest ++ more)) (cond (ltb left n) (Err (RunPastSegment s.block)) (Ok (Run n, rest))) (cond (ltb left n) (Err (RunPastSegment s.block)) (Ok (Run n, rest ++ more))) refl
+    goes_if s.count more (ltb (max 4 left) z) (Err (RunPastSegment s.block)) (Err (RunPastSegment s.block)) (cond (eqb z 4) (Ok (RestOfSegment, rest)) (cond (ltb left n) (Err (RunPastSegment s.block)) (Ok (Run n, rest)))) (cond (eqb z 4) (Ok (RestOfSegment, rest ++ more)) (cond (ltb left n) (Err (RunPastSegment s.block)) (Ok (Run n, rest ++ more)))) (inr refl)
+    (goes_if s.count more (eqb z 4) (Ok (RestOfSegment, rest)) (Ok (RestOfSegment, rest ++ more)) (cond (ltb left n) (Err (RunPastSegment s.block)) (Ok (Run n, rest))) (cond (ltb left n) (Err (RunPastSegment s.block)) (Ok (Run n, rest ++ more))) refl
     (goes_if s.count more (ltb left n) (Err (RunPastSegment s.block)) (Err (RunPastSegment s.block)) (Ok (Run n, rest)) (Ok (Run n, rest ++ more)) (inr refl) refl)))
 
 block_goes : (count : ℕ) (o : Choice) (more : List Bool) (r s : Result (List ℕ × List Bool) Fault) → Goes count more r s → Goes count more (block_read o r) (block_read o s)
 block_goes count o more r s h = goes_then count more r s (λ vs. Ok (Block o vs.0, vs.1)) h (λ vs rest. refl)
 
-text_goes : (site : Site) (set : CodeSet) (size left : ℕ) (more bits : List Bool) → Goes site.count more (text_at site set size left bits) (text_at site set size left (bits ++ more))
-unfolding text_at
-text_goes site set size left more bits =
+data_set_goes : (site : Site) (set : CodeSet) (size left : ℕ) (more bits : List Bool) → Goes site.count more (data_set_at site set size left bits) (data_set_at site set size left (bits ++ more))
+unfolding data_set_at
+data_set_goes site set size left more bits =
     let m : ℕ = greatest_value set in
     goes_then site.count more (number_at site.count (width set) bits) (number_at site.count (width set) (bits ++ more))
     (λ n. cond (eqb n.0 0) (number_at site.count 1 n.1 >>= λ k. cond (eqb k.0 0) (run_at site left k.1) (block_read Second (pairs_at site (greatest_value set) (size / 2) k.1)))
@@ -135,17 +135,17 @@ text_goes site set size left more bits =
     (λ k later. goes_if site.count more (eqb k 0) _ _ _ _ (run_goes site left more later) (block_goes site.count Second more _ _ (pairs_goes site (greatest_value set) (size / 2) more later))))
     (goes_if site.count more (eqb n (2 ^ width set - 1)) _ _ _ _ (block_goes site.count Uncoded more _ _ (words_goes site.count set.bits size more rest)) (block_goes site.count (Split (n - 1)) more _ _ (split_goes site (n - 1) (greatest_value set) size more rest))))
 
--- ---- what is refused is no text
+-- ---- what is refused is no data set
 
-no_text : {X : Type 0} (e : Fault) (x : X × List Bool) (r : Result (X × List Bool) Fault) → r ≡ Err e → r ≡ Ok x → ⊥
-no_text e x r a b = absurd (cc)
+no_data_set : {X : Type 0} (e : Fault) (x : X × List Bool) (r : Result (X × List Bool) Fault) → r ≡ Err e → r ≡ Ok x → ⊥
+no_data_set e x r a b = absurd (cc)
 
-pub fault_is_no_text : FaultIsNoText
-fault_is_no_text site s half left e bits bad = (
-  λ ended t rest lawful begins. no_text e (t, rest) (text_at site s (2 * half) left bits) bad (ap (text_at site s (2 * half) left) begins ∙ text_again site s half left t rest lawful),
-  λ other more t rest lawful begins. by_later more other (rw bad at (text_goes site s (2 * half) left more bits)) t rest lawful begins,
+pub fault_is_no_data_set : FaultIsNoDataSet
+fault_is_no_data_set site s half left e bits bad = (
+  λ ended t rest lawful begins. no_data_set e (t, rest) (data_set_at site s (2 * half) left bits) bad (ap (data_set_at site s (2 * half) left) begins ∙ data_set_again site s half left t rest lawful),
+  λ other more t rest lawful begins. by_later more other (rw bad at (data_set_goes site s (2 * half) left more bits)) t rest lawful begins,
 )
   where
-    by_later : (more : List Bool) → (e ≡ Truncated site.count → ⊥) → (e ≡ Truncated site.count) ⊎ (text_at site s (2 * half) left (bits ++ more) ≡ Err e) → (t : Text) (rest : List Bool) → IsText s (2 * half) left t → bits ++ more ≡ spelled s t ++ rest → ⊥
+    by_later : (more : List Bool) → (e ≡ Truncated site.count → ⊥) → (e ≡ Truncated site.count) ⊎ (data_set_at site s (2 * half) left (bits ++ more) ≡ Err e) → (t : CodedDataSet) (rest : List Bool) → IsCodedDataSet s (2 * half) left t → bits ++ more ≡ spelled s t ++ rest → ⊥
     by_later more other (inl h) t rest lawful begins = other h
-    by_later more other (inr h) t rest lawful begins = no_text e (t, rest) (text_at site s (2 * half) left (bits ++ more)) h (ap (text_at site s (2 * half) left) begins ∙ text_again site s half left t rest lawful)
+    by_later more other (inr h) t rest lawful begins = no_data_set e (t, rest) (data_set_at site s (2 * half) left (bits ++ more)) h (ap (data_set_at site s (2 * half) left) begins ∙ data_set_again site s half left t rest lawful)

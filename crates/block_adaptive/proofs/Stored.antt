@@ -4,7 +4,7 @@ use Rattle.std.proofs.lemmas.Bool.{cases_lt}
 use Rattle.std.proofs.lemmas.Nat.{mul-le}
 use Rattle.std.proofs.Math.Nat.{pow-le-pow_right}
 use Rattle.block_adaptive.specs.Segments.{segment_rest}
-use Rattle.block_adaptive.specs.Texts.{Cut, left_at}
+use Rattle.block_adaptive.specs.DataSets.{Cut, left_at}
 use Rattle.block_adaptive.specs.Holding.{AreStored}
 use Rattle.block_adaptive.specs.Taken.{zeros_after}
 use Rattle.block_adaptive.proofs.Lawful.{rest_least}

@@ -1,27 +1,27 @@
--- The chosen texts, block after block, as a writer sees them.
+-- The chosen data sets, block after block, as a writer sees them.
 use Rattle.std.proofs.Common.{◌≡◌, ℕ, zero, suc, ◌+◌, ◌<◌, ◌≤◌, Bool, true, false, cond, eqb, leb, ◌&&◌, List, [], ◌∷◌, ◌++◌, length, drop, replicate, refl, ap, arith, eq-eqb}
 use Rattle.std.proofs.lemmas.Bool.{eqb-true, eqb-false}
 use Rattle.std.proofs.lemmas.Bool.Decides.{nat_tests}
 use Rattle.std.proofs.lemmas.List.{length-drop, length-replicate, drop_at}
 use Rattle.block_adaptive.specs.declared.options.CodeSet.{CodeSet}
 use Rattle.block_adaptive.specs.Segments.{segment_rest}
-use Rattle.block_adaptive.specs.Texts.{Text, Block, Run, Rest, Cut, blocks_in}
-use Rattle.block_adaptive.specs.Chosen.{chosen_option, is_zero, zero_blocks, text_of, chosen_from}
+use Rattle.block_adaptive.specs.DataSets.{CodedDataSet, Block, Run, RestOfSegment, Cut, blocks_in}
+use Rattle.block_adaptive.specs.Chosen.{chosen_option, is_zero, zero_blocks, data_set_of, chosen_from}
 
 ne-eqb : (a b : ℕ) → (a ≡ b → ⊥) → eqb a b ≡ false
 ne-eqb a b h = grind (arith, nat_tests)
 
--- a text stands for a block or more
-text_least : (s : CodeSet) (left : ℕ) (b : List ℕ) (bs : List (List ℕ)) → 1 ≤ blocks_in left (text_of s left b bs)
-text_least s left b bs = go (zero_blocks left (b ∷ bs)) (eqb (zero_blocks left (b ∷ bs)) 0) (eqb (zero_blocks left (b ∷ bs)) left) (leb 5 (zero_blocks left (b ∷ bs))) refl refl
+-- a data set stands for a block or more
+data_set_least : (s : CodeSet) (left : ℕ) (b : List ℕ) (bs : List (List ℕ)) → 1 ≤ blocks_in left (data_set_of s left b bs)
+data_set_least s left b bs = go (zero_blocks left (b ∷ bs)) (eqb (zero_blocks left (b ∷ bs)) 0) (eqb (zero_blocks left (b ∷ bs)) left) (leb 5 (zero_blocks left (b ∷ bs))) refl refl
   where
-    go : (k : ℕ) (d e f : Bool) → eqb k 0 ≡ d → eqb k left ≡ e → 1 ≤ blocks_in left (cond d (Block (chosen_option s b) b) (cond (e && f) Rest (Run k)))
+    go : (k : ℕ) (d e f : Bool) → eqb k 0 ≡ d → eqb k left ≡ e → 1 ≤ blocks_in left (cond d (Block (chosen_option s b) b) (cond (e && f) RestOfSegment (Run k)))
     go k true e f p q = omega arith
     go k false true true p q = (let h : k ≡ 0 → ⊥ = eqb-false k 0 p in let g : k ≡ left = eqb-true k left q in omega arith)
     go k false true false p q = (let h : k ≡ 0 → ⊥ = eqb-false k 0 p in omega arith)
     go k false false f p q = (let h : k ≡ 0 → ⊥ = eqb-false k 0 p in omega arith)
 
--- the number of texts that may come doesn't matter, once it is enough
+-- the number of data sets that may come doesn't matter, once it is enough
 pub enough : (c : Cut) (n m i : ℕ) (bs : List (List ℕ)) → length bs ≤ n → length bs ≤ m → chosen_from c n i bs ≡ chosen_from c m i bs
 unfolding chosen_from
 enough c zero zero i bs h k = refl
@@ -32,10 +32,10 @@ enough c (suc n) zero i (b ∷ bs) h k = absurd (omega arith)
 enough c (suc n) (suc m) i [] h k = refl
 enough c (suc n) (suc m) i (b ∷ bs) h k =
     let left : ℕ = segment_rest c.reference c.count i in
-    let t : Text = text_of c.set left b bs in
-    let some = text_least c.set left b bs in
+    let t : CodedDataSet = data_set_of c.set left b bs in
+    let some = data_set_least c.set left b bs in
     let len = length-drop (blocks_in left t) (b ∷ bs) in
-    ap (λ (ts : List Text). t ∷ ts) (enough c n m (i + blocks_in left t) (drop (blocks_in left t) (b ∷ bs)) (omega arith) (omega arith))
+    ap (λ (ts : List CodedDataSet). t ∷ ts) (enough c n m (i + blocks_in left t) (drop (blocks_in left t) (b ∷ bs)) (omega arith) (omega arith))
 
 pub zero_is : (size : ℕ) → is_zero (replicate size 0) ≡ true
 zero_is zero = refl
@@ -72,7 +72,7 @@ run_next c n i z x bs lt h =
 
 -- zeros up to the segment's end are a run
 pub run_to_end : (c : Cut) (n i z : ℕ) (bs : List (List ℕ)) → segment_rest c.reference c.count i ≡ suc z
-    → chosen_from c (suc n) i (replicate (suc z) (replicate c.size 0) ++ bs) ≡ cond (leb 5 (suc z)) Rest (Run (suc z)) ∷ chosen_from c n (i + suc z) bs
+    → chosen_from c (suc n) i (replicate (suc z) (replicate c.size 0) ++ bs) ≡ cond (leb 5 (suc z)) RestOfSegment (Run (suc z)) ∷ chosen_from c n (i + suc z) bs
 unfolding chosen_from
 run_to_end c n i z bs is =
     let k = run_whole c.size (suc z) bs in
@@ -80,6 +80,6 @@ run_to_end c n i z bs is =
     let b : eqb (suc z) (suc z) ≡ true = eq-eqb (suc z) (suc z) refl in
     rw (is, k, a, b) (go (leb 5 (suc z)))
   where
-    go : (f : Bool) → cond f Rest (Run (suc z)) ∷ chosen_from c n (i + blocks_in (suc z) (cond f Rest (Run (suc z)))) (drop (blocks_in (suc z) (cond f Rest (Run (suc z)))) (replicate (suc z) (replicate c.size 0) ++ bs)) ≡ cond f Rest (Run (suc z)) ∷ chosen_from c n (i + suc z) bs
+    go : (f : Bool) → cond f RestOfSegment (Run (suc z)) ∷ chosen_from c n (i + blocks_in (suc z) (cond f RestOfSegment (Run (suc z)))) (drop (blocks_in (suc z) (cond f RestOfSegment (Run (suc z)))) (replicate (suc z) (replicate c.size 0) ++ bs)) ≡ cond f RestOfSegment (Run (suc z)) ∷ chosen_from c n (i + suc z) bs
     go true = rw (drop_at (replicate z (replicate c.size 0)) bs z (length-replicate z (replicate c.size 0))) refl
     go false = rw (drop_at (replicate z (replicate c.size 0)) bs z (length-replicate z (replicate c.size 0))) refl

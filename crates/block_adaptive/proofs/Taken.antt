@@ -1,4 +1,4 @@
--- A text that is read is lawful, and the bits begin with its spelling.
+-- A data set that is read is lawful, and the bits begin with its spelling.
 use Rattle.std.proofs.Common.{◌≡◌, ℕ, zero, suc, ◌+◌, ◌-◌, ◌*◌, ◌/◌, ◌^◌, ◌<◌, ◌≤◌, ◌⊎◌, max, Bool, true, false, cond, eqb, leb, ltb, List, [], ◌∷◌, ◌++◌, replicate, Result, Ok, Err, refl, sym, ap, subst, ◌∙◌, inl, inr, append_assoc, arith}
 use Rattle.std.proofs.lemmas.Bool.{ltb-false, cases_lt, eqb-true, eqb-false}
 use Rattle.std.proofs.lemmas.Bool.Decides.{nat_tests}
@@ -10,11 +10,11 @@ use Rattle.block_adaptive.specs.declared.options.Choice.{Choice}
 use Rattle.block_adaptive.specs.declared.options.Choice.TheVariants.{Uncoded, Second, Split}
 use Rattle.header_bits.specs.Bits.{bits_of, fundamental}
 use Rattle.block_adaptive.specs.Options.{width, greatest_value, IsOption, zero_identifier, identifier, coded, option_text, quotient_codes, low_groups, pair_codes, pair_number}
-use Rattle.block_adaptive.specs.Texts.{Text, Block, Run, Rest, run_code, rest_code, spelled, IsText}
+use Rattle.block_adaptive.specs.DataSets.{CodedDataSet, Block, Run, RestOfSegment, run_code, rest_code, spelled, IsCodedDataSet}
 use Rattle.cube_core.specs.Steps.{◌>>=◌}
 use Rattle.header_bits.specs.Reading.{number_at, zeros_at}
-use Rattle.block_adaptive.specs.Reading.{Site, fundamental_at, greatest, pair_sum, pair_of, pairs_at, split_at, words_at, run_at, text_at, block_read}
-use Rattle.block_adaptive.specs.Laws.{TextIsTaken}
+use Rattle.block_adaptive.specs.Reading.{Site, fundamental_at, greatest, pair_sum, pair_of, pairs_at, split_at, words_at, run_at, data_set_at, block_read}
+use Rattle.block_adaptive.specs.Laws.{DataSetIsTaken}
 use Rattle.header_bits.proofs.Reading.{ok_is}
 use Rattle.header_bits.proofs.Fronts.{bind_ok, guard_ok}
 use Rattle.header_bits.proofs.Numbers.{bits_of_zero}
@@ -38,15 +38,15 @@ lt-leb a b h = grind (arith, nat_tests)
 
 -- ---- runs
 
-abbrev TakesRun : ℕ → List Bool → Text × List Bool → Type 0
-TakesRun left bits x = ((n : ℕ) × (x.0 ≡ Run n) × (bits ≡ run_code n ++ x.1) × (1 ≤ n) × (n ≤ left)) ⊎ ((x.0 ≡ Rest) × (bits ≡ rest_code ++ x.1))
+abbrev TakesRun : ℕ → List Bool → CodedDataSet × List Bool → Type 0
+TakesRun left bits x = ((n : ℕ) × (x.0 ≡ Run n) × (bits ≡ run_code n ++ x.1) × (1 ≤ n) × (n ≤ left)) ⊎ ((x.0 ≡ RestOfSegment) × (bits ≡ rest_code ++ x.1))
 
-run_case : (site : Site) (left : ℕ) (bits : List Bool) (z : ℕ × List Bool) (x : Text × List Bool) (b c : Bool) → bits ≡ fundamental z.0 ++ z.1 → eqb z.0 4 ≡ b → leb z.0 3 ≡ c
-    → cond b (Ok (Rest, z.1)) (cond (ltb left (cond c (z.0 + 1) z.0)) (Err (RunPastSegment site.block)) (Ok (Run (cond c (z.0 + 1) z.0), z.1))) ≡ Ok x → TakesRun left bits x
+run_case : (site : Site) (left : ℕ) (bits : List Bool) (z : ℕ × List Bool) (x : CodedDataSet × List Bool) (b c : Bool) → bits ≡ fundamental z.0 ++ z.1 → eqb z.0 4 ≡ b → leb z.0 3 ≡ c
+    → cond b (Ok (RestOfSegment, z.1)) (cond (ltb left (cond c (z.0 + 1) z.0)) (Err (RunPastSegment site.block)) (Ok (Run (cond c (z.0 + 1) z.0), z.1))) ≡ Ok x → TakesRun left bits x
 unfolding run_code rest_code
 run_case site left bits z x true c parts four three e =
     let is : z.0 ≡ 4 = eqb-true z.0 4 four in
-    subst (TakesRun left bits) (ok_is (Rest, z.1) x e) (inr (refl, rw is at parts))
+    subst (TakesRun left bits) (ok_is (RestOfSegment, z.1) x e) (inr (refl, rw is at parts))
 run_case site left bits z x false true parts four three e =
     let g = guard_ok (ltb left (z.0 + 1)) (RunPastSegment site.block) (Ok (Run (z.0 + 1), z.1)) x e in
     let few : z.0 ≤ 3 = leb-true _ _ three in
@@ -60,12 +60,12 @@ run_case site left bits z x false false parts four three e =
     let large : leb z.0 4 ≡ false = lt-leb _ _ (omega arith) in
     subst (TakesRun left bits) (ok_is (Run z.0, z.1) x g.1) (inl (z.0, refl, rw large parts, omega arith, ltb-false _ _ g.0))
 
-run_takes : (site : Site) (left : ℕ) (bits : List Bool) (x : Text × List Bool) → run_at site left bits ≡ Ok x → TakesRun left bits x
+run_takes : (site : Site) (left : ℕ) (bits : List Bool) (x : CodedDataSet × List Bool) → run_at site left bits ≡ Ok x → TakesRun left bits x
 unfolding run_at
 run_takes site left bits x e =
-    let a = bind_ok (zeros_at site.count (suc (max 4 left)) bits) (λ z. cond (ltb (max 4 left) z.0) (Err (RunPastSegment site.block)) (cond (eqb z.0 4) (Ok (Rest, z.1)) (cond (ltb left (cond (leb z.0 3) (z.0 + 1) z.0)) (Err (RunPastSegment site.block)) (Ok (Run (cond (leb z.0 3) (z.0 + 1) z.0), z.1))))) x e in
+    let a = bind_ok (zeros_at site.count (suc (max 4 left)) bits) (λ z. cond (ltb (max 4 left) z.0) (Err (RunPastSegment site.block)) (cond (eqb z.0 4) (Ok (RestOfSegment, z.1)) (cond (ltb left (cond (leb z.0 3) (z.0 + 1) z.0)) (Err (RunPastSegment site.block)) (Ok (Run (cond (leb z.0 3) (z.0 + 1) z.0), z.1))))) x e in
     let z = a.0 in
-    let g = guard_ok (ltb (max 4 left) z.0) (RunPastSegment site.block) (cond (eqb z.0 4) (Ok (Rest, z.1)) (cond (ltb left (cond (leb z.0 3) (z.0 + 1) z.0)) (Err (RunPastSegment site.block)) (Ok (Run (cond (leb z.0 3) (z.0 + 1) z.0), z.1)))) x a.2 in
+    let g = guard_ok (ltb (max 4 left) z.0) (RunPastSegment site.block) (cond (eqb z.0 4) (Ok (RestOfSegment, z.1)) (cond (ltb left (cond (leb z.0 3) (z.0 + 1) z.0)) (Err (RunPastSegment site.block)) (Ok (Run (cond (leb z.0 3) (z.0 + 1) z.0), z.1)))) x a.2 in
     let few : z.0 ≤ max 4 left = ltb-false _ _ g.0 in
     let parts : bits ≡ fundamental z.0 ++ z.1 = elim (zeros_takes site.count (suc (max 4 left)) bits z a.1) [ inl h ↦ h.1 | inr h ↦ absurd (omega (arith, h.0)) ] in
     run_case site left bits z x (eqb z.0 4) (leb z.0 3) parts refl refl g.1
@@ -115,13 +115,13 @@ pairs_takes site most (suc n) bits x e =
       all = (pair.1, (pair.2, others.all));
     })
 
--- ---- texts
+-- ---- data sets
 
-abbrev Taken : CodeSet → ℕ → ℕ → List Bool → Text × List Bool → Type 0
-Taken s size left bits x = (bits ≡ spelled s x.0 ++ x.1) × IsText s size left x.0
+abbrev Taken : CodeSet → ℕ → ℕ → List Bool → CodedDataSet × List Bool → Type 0
+Taken s size left bits x = (bits ≡ spelled s x.0 ++ x.1) × IsCodedDataSet s size left x.0
 
 -- a block behind its identifier
-block_takes : (site : Site) (s : CodeSet) (size left : ℕ) (o : Choice) (bits after : List Bool) (read : Result (List ℕ × List Bool) Fault) (x : Text × List Bool) → IsOption s o → bits ≡ identifier s o ++ after
+block_takes : (site : Site) (s : CodeSet) (size left : ℕ) (o : Choice) (bits after : List Bool) (read : Result (List ℕ × List Bool) Fault) (x : CodedDataSet × List Bool) → IsOption s o → bits ≡ identifier s o ++ after
     → ((y : List ℕ × List Bool) → read ≡ Ok y → TakesList (coded s o) size (λ v. v < 2 ^ s.bits) after y) → block_read o read ≡ Ok x → Taken s size left bits x
 unfolding spelled option_text
 block_takes site s size left o bits after read x option front takes e =
@@ -134,14 +134,14 @@ block_takes site s size left o bits after read x option front takes e =
 in_range : (s : CodeSet) (spelling : List ℕ → List Bool) (n : ℕ) (bits : List Bool) (y : List ℕ × List Bool) → TakesList spelling n (λ v. v ≤ greatest_value s) bits y → TakesList spelling n (λ v. v < 2 ^ s.bits) bits y
 in_range s spelling n bits y h = record { parts = h.parts; len = h.len; all = weaker (λ v. v ≤ greatest_value s) (λ v. v < 2 ^ s.bits) (λ v le. omega (arith, pow_pos s.bits)) y.0 h.all }
 
-run_text_takes : (s : CodeSet) (size left : ℕ) (bits after : List Bool) (x : Text × List Bool) → 1 ≤ left → bits ≡ zero_identifier s ++ after → TakesRun left after x → Taken s size left bits x
+run_text_takes : (s : CodeSet) (size left : ℕ) (bits after : List Bool) (x : CodedDataSet × List Bool) → 1 ≤ left → bits ≡ zero_identifier s ++ after → TakesRun left after x → Taken s size left bits x
 unfolding spelled
 run_text_takes s size left bits after x pos front (inl h) =
     rw h.1 (front ∙ ap (λ (bs : List Bool). zero_identifier s ++ bs) h.2 ∙ sym (append_assoc (zero_identifier s) (run_code h.0) x.1), (h.3, h.4))
 run_text_takes s size left bits after x pos front (inr h) =
     rw h.0 (front ∙ ap (λ (bs : List Bool). zero_identifier s ++ bs) h.1 ∙ sym (append_assoc (zero_identifier s) rest_code x.1), pos)
 
-zero_case : (site : Site) (s : CodeSet) (half left : ℕ) (bits after : List Bool) (more : ℕ × List Bool) (x : Text × List Bool) (b : Bool) → 1 ≤ left → bits ≡ replicate (width s) false ++ after → after ≡ bits_of 1 more.0 ++ more.1 → more.0 < 2 → eqb more.0 0 ≡ b
+zero_case : (site : Site) (s : CodeSet) (half left : ℕ) (bits after : List Bool) (more : ℕ × List Bool) (x : CodedDataSet × List Bool) (b : Bool) → 1 ≤ left → bits ≡ replicate (width s) false ++ after → after ≡ bits_of 1 more.0 ++ more.1 → more.0 < 2 → eqb more.0 0 ≡ b
     → cond b (run_at site left more.1) (block_read Second (pairs_at site (greatest_value s) (2 * half / 2) more.1)) ≡ Ok x → Taken s (2 * half) left bits x
 unfolding bits_of zero_identifier identifier coded
 zero_case site s half left bits after more x true pos front one small test e =
@@ -156,20 +156,20 @@ zero_case site s half left bits after more x false pos front one small test e =
     block_takes site s (2 * half) left Second bits more.1 (pairs_at site (greatest_value s) (2 * half / 2) more.1) x tt (front ∙ rw next (sym (append_assoc (replicate (width s) false) (true ∷ []) more.1)))
     (λ y h. in_range s pair_codes (2 * half) more.1 y (pairs_takes site (greatest_value s) half more.1 y (rw half-is at h))) e
 
-text_case : (site : Site) (s : CodeSet) (half left : ℕ) (bits : List Bool) (n : ℕ × List Bool) (x : Text × List Bool) (b c : Bool) → 1 ≤ left → bits ≡ bits_of (width s) n.0 ++ n.1 → n.0 < 2 ^ width s → eqb n.0 0 ≡ b → eqb n.0 (2 ^ width s - 1) ≡ c
+data_set_case : (site : Site) (s : CodeSet) (half left : ℕ) (bits : List Bool) (n : ℕ × List Bool) (x : CodedDataSet × List Bool) (b c : Bool) → 1 ≤ left → bits ≡ bits_of (width s) n.0 ++ n.1 → n.0 < 2 ^ width s → eqb n.0 0 ≡ b → eqb n.0 (2 ^ width s - 1) ≡ c
     → cond b (number_at site.count 1 n.1 >>= λ more. cond (eqb more.0 0) (run_at site left more.1) (block_read Second (pairs_at site (greatest_value s) (2 * half / 2) more.1))) (cond c (block_read Uncoded (words_at site.count s.bits (2 * half) n.1)) (block_read (Split (n.0 - 1)) (split_at site (n.0 - 1) (greatest_value s) (2 * half) n.1))) ≡ Ok x
     → Taken s (2 * half) left bits x
 unfolding identifier coded
-text_case site s half left bits n x true c pos front small zero_test ones_test e =
+data_set_case site s half left bits n x true c pos front small zero_test ones_test e =
     let is : n.0 ≡ 0 = eqb-true n.0 0 zero_test in
     let a = bind_ok (number_at site.count 1 n.1) (λ more. cond (eqb more.0 0) (run_at site left more.1) (block_read Second (pairs_at site (greatest_value s) (2 * half / 2) more.1))) x e in
     let one = number_takes site.count 1 n.1 a.0 a.1 in
     zero_case site s half left bits n.1 a.0 x (eqb a.0.0 0) pos (front ∙ ap (λ (m : ℕ). bits_of (width s) m ++ n.1) is ∙ ap (λ (bs : List Bool). bs ++ n.1) (bits_of_zero (width s))) one.0 one.1 refl a.2
-text_case site s half left bits n x false true pos front small zero_test ones_test e =
+data_set_case site s half left bits n x false true pos front small zero_test ones_test e =
     let is : n.0 ≡ 2 ^ width s - 1 = eqb-true n.0 (2 ^ width s - 1) ones_test in
     block_takes site s (2 * half) left Uncoded bits n.1 (words_at site.count s.bits (2 * half) n.1) x tt (front ∙ ap (λ (m : ℕ). bits_of (width s) m ++ n.1) is ∙ ap (λ (bs : List Bool). bs ++ n.1) (bits_of_ones (width s)))
     (λ y h. words_takes site s.bits (2 * half) n.1 y h) e
-text_case site s half left bits n x false false pos front small zero_test ones_test e =
+data_set_case site s half left bits n x false false pos front small zero_test ones_test e =
     let some : n.0 ≡ 0 → ⊥ = eqb-false n.0 0 zero_test in
     let other : n.0 ≡ 2 ^ width s - 1 → ⊥ = eqb-false n.0 (2 ^ width s - 1) ones_test in
     let k : ℕ = n.0 - 1 in
@@ -177,9 +177,9 @@ text_case site s half left bits n x false false pos front small zero_test ones_t
     block_takes site s (2 * half) left (Split k) bits n.1 (split_at site k (greatest_value s) (2 * half) n.1) x (omega arith) (front ∙ ap (λ (m : ℕ). bits_of (width s) m ++ n.1) is)
     (λ y h. in_range s (λ vs. quotient_codes k vs ++ low_groups k vs) (2 * half) n.1 y (split_takes site k (greatest_value s) (2 * half) n.1 y h)) e
 
-pub text_is_taken : TextIsTaken
-unfolding text_at
-text_is_taken site s half left t bits rest pos e =
+pub data_set_is_taken : DataSetIsTaken
+unfolding data_set_at
+data_set_is_taken site s half left t bits rest pos e =
     let a = bind_ok (number_at site.count (width s) bits) (λ n. cond (eqb n.0 0) (number_at site.count 1 n.1 >>= λ more. cond (eqb more.0 0) (run_at site left more.1) (block_read Second (pairs_at site (greatest_value s) (2 * half / 2) more.1))) (cond (eqb n.0 (2 ^ width s - 1)) (block_read Uncoded (words_at site.count s.bits (2 * half) n.1)) (block_read (Split (n.0 - 1)) (split_at site (n.0 - 1) (greatest_value s) (2 * half) n.1)))) (t, rest) e in
     let front = number_takes site.count (width s) bits a.0 a.1 in
-    text_case site s half left bits a.0 (t, rest) (eqb a.0.0 0) (eqb a.0.0 (2 ^ width s - 1)) pos front.0 front.1 refl refl a.2
+    data_set_case site s half left bits a.0 (t, rest) (eqb a.0.0 0) (eqb a.0.0 (2 ^ width s - 1)) pos front.0 front.1 refl refl a.2

@@ -5,7 +5,7 @@ use Rattle.block_adaptive.specs.declared.options.Choice.{Choice}
 use Rattle.block_adaptive.specs.declared.options.Choice.TheVariants.{Uncoded, Second, Split}
 use Rattle.block_adaptive.specs.Options.{splits, cost, IsOption}
 use Rattle.block_adaptive.specs.Segments.{blocks}
-use Rattle.block_adaptive.specs.Texts.{Text, Block, Run, Rest, Cut, cut_of, left_at, blocks_in, spelling}
+use Rattle.block_adaptive.specs.DataSets.{CodedDataSet, Block, Run, RestOfSegment, Cut, cut_of, left_at, blocks_in, spelling}
 
 -- the first of two options, unless the second is shorter
 abbrev pub shorter : CodeSet → List ℕ → Choice → Choice → Choice
@@ -39,26 +39,26 @@ zero_blocks zero bs = 0
 zero_blocks (suc n) [] = 0
 zero_blocks (suc n) (b ∷ bs) = if is_zero b then suc (zero_blocks n bs) else 0
 
--- the text of the blocks ahead, the first of which is b: zero blocks in the longest run, by the rest code where they are the rest and at least 5
-abbrev pub text_of : CodeSet → ℕ → List ℕ → List (List ℕ) → Text
-text_of s left b bs =
+-- the data set of the blocks ahead, the first of which is b: zero blocks in the longest run, by the rest code where they are the rest and at least 5
+abbrev pub data_set_of : CodeSet → ℕ → List ℕ → List (List ℕ) → CodedDataSet
+data_set_of s left b bs =
     let n = zero_blocks left (b ∷ bs) in
     if n == 0 then Block (chosen_option s b) b
-    else if n == left && nat_le 5 n then Rest
+    else if n == left && nat_le 5 n then RestOfSegment
     else Run n
 
--- the texts of the blocks from block i on, n texts at most
-unfoldable pub chosen_from : Cut → ℕ → ℕ → List (List ℕ) → List Text
+-- the data sets of the blocks from block i on, n data sets at most
+unfoldable pub chosen_from : Cut → ℕ → ℕ → List (List ℕ) → List CodedDataSet
 chosen_from c zero i bs = []
 chosen_from c (suc n) i [] = []
 chosen_from c (suc n) i (b ∷ bs) =
-    let t = text_of c.set (left_at c i) b bs in
+    let t = data_set_of c.set (left_at c i) b bs in
     t ∷ chosen_from c n (i + blocks_in (left_at c i) t) (drop (blocks_in (left_at c i) t) (b ∷ bs))
 
-unfoldable pub chosen_texts : CodeSet → ℕ → ℕ → List ℕ → List Text
-chosen_texts s size reference numbers =
+unfoldable pub chosen_data_sets : CodeSet → ℕ → ℕ → List ℕ → List CodedDataSet
+chosen_data_sets s size reference numbers =
     chosen_from (cut_of s size reference (length numbers)) (length (blocks size numbers)) 0 (blocks size numbers)
 
 -- the body of numbers
 unfoldable pub chosen_block_body : CodeSet → ℕ → ℕ → List ℕ → List Bool
-chosen_block_body s size reference numbers = spelling s (chosen_texts s size reference numbers)
+chosen_block_body s size reference numbers = spelling s (chosen_data_sets s size reference numbers)

@@ -3,36 +3,36 @@ use Rattle.std.specs.Prelude.{ℕ, ◌≡◌, ◌+◌, ◌-◌, ◌*◌, ◌^◌
 use Rattle.cube_core.specs.declared.fault.Fault.{Fault}
 use Rattle.cube_core.specs.Steps.{◌>>=◌}
 use Rattle.header_bits.specs.Bits.{Unread}
-use Rattle.block_adaptive.specs.Texts.{Text, Cut, AreTexts, left_at, blocks_in, blocks_of, blocks_told, spelling, values_of}
-use Rattle.block_adaptive.specs.Reading.{site_of, text_at, texts_at}
+use Rattle.block_adaptive.specs.DataSets.{CodedDataSet, Cut, AreCodedDataSets, left_at, blocks_in, blocks_of, blocks_told, spelling, values_of}
+use Rattle.block_adaptive.specs.Reading.{site_of, data_set_at, data_sets_at}
 
--- how the numbers are cut, the block of the next text, the values in hand, and the refusal that was met
+-- how the numbers are cut, the block of the next data set, the values in hand, and the refusal that was met
 pub record Unpacked : Type 0 where
   pub cut : Cut
   pub block : ℕ
   pub held : List ℕ
   pub refused : Option Fault
 
--- with a text's values in hand
-abbrev pub holding : Unpacked → Text → Unpacked
+-- with a data set's values in hand
+abbrev pub holding : Unpacked → CodedDataSet → Unpacked
 holding v t = record v { block = v.block + blocks_in (left_at v.cut v.block) t; held = values_of (blocks_of v.cut.size (left_at v.cut v.block) t) }
 
--- the text that stands next, taken in hand
-abbrev pub next_text : Unpacked → Unread → Result (Unpacked × List Bool) Fault
-next_text v reader =
-    text_at (site_of reader v.block) v.cut.set v.cut.size (left_at v.cut v.block) reader.left >>= λ t. Ok (holding v t.0, t.1)
+-- the data set that stands next, taken in hand
+abbrev pub next_data_set : Unpacked → Unread → Result (Unpacked × List Bool) Fault
+next_data_set v reader =
+    data_set_at (site_of reader v.block) v.cut.set v.cut.size (left_at v.cut v.block) reader.left >>= λ t. Ok (holding v t.0, t.1)
 
--- what is in hand, or the text that stands next where nothing is
+-- what is in hand, or the data set that stands next where nothing is
 abbrev pub in_hand : Unpacked → Unread → List ℕ → Result (Unpacked × List Bool) Fault
-in_hand v reader [] = next_text v reader
+in_hand v reader [] = next_data_set v reader
 in_hand v reader (value ∷ held) = Ok (v, reader.left)
 
--- the numbers given so far: whole lawful texts were read, and their values are those given and those in hand
+-- the numbers given so far: whole lawful data sets were read, and their values are those given and those in hand
 pub record HasGiven (v : Unpacked) (given : List ℕ) (bits : List Bool) : Type 0 where
-  pub texts : List Text
-  pub lawful : AreTexts v.cut 0 texts v.block
-  pub text : bits ≡ spelling v.cut.set texts
-  pub told : values_of (blocks_told v.cut 0 texts) ≡ given ++ v.held
+  pub data_sets : List CodedDataSet
+  pub lawful : AreCodedDataSets v.cut 0 data_sets v.block
+  pub text : bits ≡ spelling v.cut.set data_sets
+  pub told : values_of (blocks_told v.cut 0 data_sets) ≡ given ++ v.held
   pub working : v.refused ≡ None
 
 -- how many numbers were given
@@ -48,4 +48,4 @@ abbrev pub GivesNext : Unpacked → Unread → Result ℕ Fault → Unpacked →
 GivesNext old reader result new left =
     (given : List ℕ) (bits : List Bool) → HasGiven old given bits
     → MatchResult result (λ value. (value < 2 ^ old.cut.set.bits) × (read : List Bool) × (reader.left ≡ read ++ left) × HasGiven new (given ++ value ∷ []) (bits ++ read))
-    (λ fault. texts_at reader.count old.cut old.cut.count 0 (bits ++ reader.left) ≡ Err fault)
+    (λ fault. data_sets_at reader.count old.cut old.cut.count 0 (bits ++ reader.left) ≡ Err fault)

@@ -1,7 +1,7 @@
 -- What the parts of a reader and of a writer of blocks keep.
 use Rattle.std.specs.Prelude.{ℕ, ◌≡◌, ◌⊎◌, ◌+◌, ◌-◌, ◌*◌, ◌^◌, ◌<◌, ◌≤◌, List, length, sum}
 use Rattle.std.specs.List.{AllByRecursion}
-use Rattle.block_adaptive.specs.Texts.{Cut, left_at}
+use Rattle.block_adaptive.specs.DataSets.{Cut, left_at}
 use Rattle.block_adaptive.specs.Settings.{IsCut}
 
 -- a reader's parts: next comes block i; of the block in the array so many values were given; so many zeros are counted. What is in hand lies in the array or is counted, not both, and is of the blocks before i

@@ -6,14 +6,14 @@ use Rattle.cube_core.specs.declared.fault.Fault.TheVariants.{Truncated}
 use Rattle.block_adaptive.specs.declared.options.CodeSet.{CodeSet}
 use Rattle.block_adaptive.specs.Options.{pair_number}
 use Rattle.block_adaptive.specs.Segments.{block_count, segments, segment_count}
-use Rattle.block_adaptive.specs.Texts.{Text, spelled, spelling, IsText, Cut, cut_of, AreTexts, blocks_told, IsBlockBody}
-use Rattle.block_adaptive.specs.Reading.{Site, text_at, block_body_at}
+use Rattle.block_adaptive.specs.DataSets.{CodedDataSet, spelled, spelling, IsCodedDataSet, Cut, cut_of, AreCodedDataSets, blocks_told, IsBlockBody}
+use Rattle.block_adaptive.specs.Reading.{Site, data_set_at, block_body_at}
 use Rattle.block_adaptive.specs.Chosen.{IsChosen, chosen_option, chosen_from, chosen_block_body}
 
--- two lawful texts of which one begins the other are one text; a block's size is even
+-- two lawful data sets of which one begins the other are one data set; a block's size is even
 abbrev pub OneText : Type 0
 OneText =
-    (s : CodeSet) (half left : ℕ) (t u : Text) (x y : List Bool) → IsText s (2 * half) left t → IsText s (2 * half) left u
+    (s : CodeSet) (half left : ℕ) (t u : CodedDataSet) (x y : List Bool) → IsCodedDataSet s (2 * half) left t → IsCodedDataSet s (2 * half) left u
     → spelled s t ++ x ≡ spelled s u ++ y → (t ≡ u) × (x ≡ y)
 
 -- no body of one list of numbers begins a body of another, as long
@@ -30,11 +30,11 @@ OptionIsLeast = (s : CodeSet) (values : List ℕ) → IsChosen s values (chosen_
 abbrev pub AreBlocks : CodeSet → ℕ → List (List ℕ) → Type 0
 AreBlocks s size bs = AllByRecursion (λ b. (length b ≡ size) × AllByRecursion (λ v. v < 2 ^ s.bits) b) bs
 
--- the chosen texts of blocks are lawful, and stand for these blocks
+-- the chosen data sets of blocks are lawful, and stand for these blocks
 abbrev pub ChosenIsLawful : Type 0
 ChosenIsLawful =
     (c : Cut) (bs : List (List ℕ)) → length bs ≡ c.count → 1 ≤ c.reference → AreBlocks c.set c.size bs
-    → AreTexts c 0 (chosen_from c c.count 0 bs) c.count × (blocks_told c 0 (chosen_from c c.count 0 bs) ≡ bs)
+    → AreCodedDataSets c 0 (chosen_from c c.count 0 bs) c.count × (blocks_told c 0 (chosen_from c c.count 0 bs) ≡ bs)
 
 -- the chosen body of numbers is a body of them
 abbrev pub ChosenIsBody : Type 0
@@ -42,18 +42,18 @@ ChosenIsBody =
     (s : CodeSet) (size reference : ℕ) (numbers : List ℕ) → 1 ≤ size → 1 ≤ reference → AllByRecursion (λ v. v < 2 ^ s.bits) numbers
     → IsBlockBody s size reference numbers (chosen_block_body s size reference numbers)
 
--- what is read as a text is lawful, and the bits begin with its spelling
-abbrev pub TextIsTaken : Type 0
-TextIsTaken =
-    (site : Site) (s : CodeSet) (half left : ℕ) (t : Text) (bits rest : List Bool) → 1 ≤ left → text_at site s (2 * half) left bits ≡ Ok (t, rest)
-    → (bits ≡ spelled s t ++ rest) × IsText s (2 * half) left t
+-- what is read as a data set is lawful, and the bits begin with its spelling
+abbrev pub DataSetIsTaken : Type 0
+DataSetIsTaken =
+    (site : Site) (s : CodeSet) (half left : ℕ) (t : CodedDataSet) (bits rest : List Bool) → 1 ≤ left → data_set_at site s (2 * half) left bits ≡ Ok (t, rest)
+    → (bits ≡ spelled s t ++ rest) × IsCodedDataSet s (2 * half) left t
 
--- the texts of a body of n numbers are read exactly where lawful texts for all blocks stand
+-- the data sets of a body of n numbers are read exactly where lawful data sets for all blocks stand
 abbrev pub BodyIsRead : Type 0
 BodyIsRead =
-    (count : ℕ) (s : CodeSet) (half reference n : ℕ) (texts : List Text) (bits rest : List Bool) → 1 ≤ reference
-    → (AreTexts (cut_of s (2 * half) reference n) 0 texts (block_count (2 * half) n) → bits ≡ spelling s texts ++ rest → block_body_at count s (2 * half) reference n bits ≡ Ok (texts, rest))
-    × (block_body_at count s (2 * half) reference n bits ≡ Ok (texts, rest) → AreTexts (cut_of s (2 * half) reference n) 0 texts (block_count (2 * half) n) × (bits ≡ spelling s texts ++ rest))
+    (count : ℕ) (s : CodeSet) (half reference n : ℕ) (data_sets : List CodedDataSet) (bits rest : List Bool) → 1 ≤ reference
+    → (AreCodedDataSets (cut_of s (2 * half) reference n) 0 data_sets (block_count (2 * half) n) → bits ≡ spelling s data_sets ++ rest → block_body_at count s (2 * half) reference n bits ≡ Ok (data_sets, rest))
+    × (block_body_at count s (2 * half) reference n bits ≡ Ok (data_sets, rest) → AreCodedDataSets (cut_of s (2 * half) reference n) 0 data_sets (block_count (2 * half) n) × (bits ≡ spelling s data_sets ++ rest))
 
 -- no pair of values up to m has a number above 2·m·(m + 1)
 abbrev pub PairBound : Type 0
@@ -71,9 +71,9 @@ NoShorterBody =
     (s : CodeSet) (size reference : ℕ) (numbers : List ℕ) (bits : List Bool) → 1 ≤ s.bits → 2 ≤ size → 1 ≤ reference
     → IsBlockBody s size reference numbers bits → 3 * segment_count (length numbers) size reference ≤ length bits
 
--- where a text is refused none begins the bits; and none does whatever bits follow, unless they were said to end too early
-abbrev pub FaultIsNoText : Type 0
-FaultIsNoText =
-    (site : Site) (s : CodeSet) (half left : ℕ) (e : Fault) (bits : List Bool) → text_at site s (2 * half) left bits ≡ Err e
-    → (e ≡ Truncated site.count → (t : Text) (rest : List Bool) → IsText s (2 * half) left t → bits ≡ spelled s t ++ rest → ⊥)
-    × ((e ≡ Truncated site.count → ⊥) → (more : List Bool) (t : Text) (rest : List Bool) → IsText s (2 * half) left t → bits ++ more ≡ spelled s t ++ rest → ⊥)
+-- where a data set is refused none begins the bits; and none does whatever bits follow, unless they were said to end too early
+abbrev pub FaultIsNoDataSet : Type 0
+FaultIsNoDataSet =
+    (site : Site) (s : CodeSet) (half left : ℕ) (e : Fault) (bits : List Bool) → data_set_at site s (2 * half) left bits ≡ Err e
+    → (e ≡ Truncated site.count → (t : CodedDataSet) (rest : List Bool) → IsCodedDataSet s (2 * half) left t → bits ≡ spelled s t ++ rest → ⊥)
+    × ((e ≡ Truncated site.count → ⊥) → (more : List Bool) (t : CodedDataSet) (rest : List Bool) → IsCodedDataSet s (2 * half) left t → bits ++ more ≡ spelled s t ++ rest → ⊥)

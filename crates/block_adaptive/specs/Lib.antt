@@ -11,6 +11,6 @@ pub mod Reading
 pub mod Rows
 pub mod Segments
 pub mod Taken
-pub mod Texts
+pub mod DataSets
 pub mod Settings
 pub mod Told

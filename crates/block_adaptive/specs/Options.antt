@@ -56,7 +56,7 @@ coded s Uncoded values = low_groups s.bits values
 coded s Second values = pair_codes values
 coded s (Split k) values = quotient_codes k values ++ low_groups k values
 
--- the text of a block under an option
+-- the data set of a block under an option
 unfoldable pub option_text : CodeSet → Choice → List ℕ → List Bool
 option_text s o values = identifier s o ++ coded s o values
 

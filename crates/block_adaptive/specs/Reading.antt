@@ -1,4 +1,4 @@
--- Reading texts from the front of the bits, with the first fault that is met.
+-- Reading data sets from the front of the bits, with the first fault that is met.
 use Rattle.std.specs.Prelude.{ℕ, zero, suc, ◌+◌, ◌-◌, ◌*◌, ◌/◌, ◌^◌, ◌==◌, nat_le, nat_lt, max, Bool, List, [], ◌∷◌, Result, Ok, Err, Option, Some, None, if◌then◌else◌}
 use Rattle.cube_core.specs.declared.fault.Fault.{Fault}
 use Rattle.cube_core.specs.declared.fault.Fault.TheVariants.{BadOption, RunPastSegment}
@@ -9,9 +9,9 @@ use Rattle.block_adaptive.specs.declared.options.CodeSet.{CodeSet}
 use Rattle.block_adaptive.specs.declared.options.Choice.{Choice}
 use Rattle.block_adaptive.specs.declared.options.Choice.TheVariants.{Uncoded, Second, Split}
 use Rattle.block_adaptive.specs.Options.{width, greatest_value}
-use Rattle.block_adaptive.specs.Texts.{Text, Block, Run, Rest, Cut, cut_of, left_at, blocks_in}
+use Rattle.block_adaptive.specs.DataSets.{CodedDataSet, Block, Run, RestOfSegment, Cut, cut_of, left_at, blocks_in}
 
--- what refusals name: how many bits the file has, and the block at which a text begins
+-- what refusals name: how many bits the file has, and the block at which a data set begins
 pub record Site : Type 0 where
   pub count : ℕ
   pub block : ℕ
@@ -88,42 +88,42 @@ pairs_at s most (suc n) bits = do
   Ok (p.0.0 ∷ p.0.1 ∷ vs.0, vs.1)
 
 -- a run code where so many blocks are left
-unfoldable pub run_at : Site → ℕ → Reading Text
+unfoldable pub run_at : Site → ℕ → Reading CodedDataSet
 run_at s left bits = do
   z ← zeros_at s.count (suc (max 4 left)) bits
   if nat_lt (max 4 left) z.0 then Err (RunPastSegment s.block)
-      else if z.0 == 4 then Ok (Rest, z.1)
+      else if z.0 == 4 then Ok (RestOfSegment, z.1)
       else (let n = if nat_le z.0 3 then z.0 + 1 else z.0 in if nat_lt left n then Err (RunPastSegment s.block) else Ok (Run n, z.1))
 
-abbrev pub block_read : Choice → Result (List ℕ × List Bool) Fault → Result (Text × List Bool) Fault
+abbrev pub block_read : Choice → Result (List ℕ × List Bool) Fault → Result (CodedDataSet × List Bool) Fault
 block_read o read = read >>= λ vs. Ok (Block o vs.0, vs.1)
 
--- one text
-unfoldable pub text_at : Site → CodeSet → ℕ → ℕ → Reading Text
-text_at s set size left bits = do
+-- one data set
+unfoldable pub data_set_at : Site → CodeSet → ℕ → ℕ → Reading CodedDataSet
+data_set_at s set size left bits = do
   n ← number_at s.count (width set) bits
   if n.0 == 0 then (number_at s.count 1 n.1 >>= λ more. if more.0 == 0 then run_at s left more.1 else block_read Second (pairs_at s (greatest_value set) (size / 2) more.1))
       else if n.0 == 2 ^ width set - 1 then block_read Uncoded (words_at s.count set.bits size n.1)
       else block_read (Split (n.0 - 1)) (split_at s (n.0 - 1) (greatest_value set) size n.1)
 
--- the texts from block i to the last, n texts at most
-unfoldable pub texts_at : ℕ → Cut → ℕ → ℕ → Reading (List Text)
-texts_at count c zero i bits = Ok ([], bits)
-texts_at count c (suc n) i bits =
+-- the data sets from block i to the last, n data sets at most
+unfoldable pub data_sets_at : ℕ → Cut → ℕ → ℕ → Reading (List CodedDataSet)
+data_sets_at count c zero i bits = Ok ([], bits)
+data_sets_at count c (suc n) i bits =
     if nat_le c.count i then Ok ([], bits)
-    else (text_at (record { count = count; block = i }) c.set c.size (left_at c i) bits >>= λ t.
-    texts_at count c n (i + blocks_in (left_at c i) t.0) t.1 >>= λ ts. Ok (t.0 ∷ ts.0, ts.1))
+    else (data_set_at (record { count = count; block = i }) c.set c.size (left_at c i) bits >>= λ t.
+    data_sets_at count c n (i + blocks_in (left_at c i) t.0) t.1 >>= λ ts. Ok (t.0 ∷ ts.0, ts.1))
 
--- the texts of a body of n numbers
-unfoldable pub block_body_at : ℕ → CodeSet → ℕ → ℕ → ℕ → Reading (List Text)
+-- the data sets of a body of n numbers
+unfoldable pub block_body_at : ℕ → CodeSet → ℕ → ℕ → ℕ → Reading (List CodedDataSet)
 block_body_at count s size reference n bits =
-    texts_at count (cut_of s size reference n) (cut_of s size reference n).count 0 bits
+    data_sets_at count (cut_of s size reference n) (cut_of s size reference n).count 0 bits
 
 -- the refusal, where there is one
 abbrev pub fault_of : {X : Type 0} → Result X Fault → Option Fault
 fault_of (Ok x) = None
 fault_of (Err fault) = Some fault
 
--- the first fault of a body of n numbers: lawful texts from the front, and then the first part of a text that isn't lawful
+-- the first fault of a body of n numbers: lawful data sets from the front, and then the first part of a data set that isn't lawful
 abbrev pub block_body_fault : ℕ → CodeSet → ℕ → ℕ → ℕ → List Bool → Option Fault
 block_body_fault count s size reference n bits = fault_of (block_body_at count s size reference n bits)

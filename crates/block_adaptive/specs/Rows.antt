@@ -2,7 +2,7 @@
 use Rattle.std.specs.Prelude.{ℕ, ◌-◌, ◌%◌, Bool, true, false, List, ◌++◌, length, take, replicate, Result, Ok, Err, Option, Some, None}
 use Rattle.cube_core.specs.declared.fault.Fault.{Fault}
 use Rattle.block_adaptive.specs.declared.options.CodeSet.{CodeSet}
-use Rattle.block_adaptive.specs.Texts.{Text, cut_of, blocks_told, values_of}
+use Rattle.block_adaptive.specs.DataSets.{CodedDataSet, cut_of, blocks_told, values_of}
 use Rattle.block_adaptive.specs.Reading.{block_body_at}
 
 abbrev pub plain : ℕ → CodeSet
@@ -18,8 +18,8 @@ zeros n = replicate n 0
 abbrev pub filled_up : List Bool → List Bool
 filled_up bits = bits ++ replicate ((8 - length bits % 8) % 8) false
 
--- n numbers, out of the texts that were read
-abbrev pub numbers_of : CodeSet → ℕ → ℕ → ℕ → Result (List Text × List Bool) Fault → Option (List ℕ)
+-- n numbers, out of the data sets that were read
+abbrev pub numbers_of : CodeSet → ℕ → ℕ → ℕ → Result (List CodedDataSet × List Bool) Fault → Option (List ℕ)
 numbers_of s size reference n (Ok read) = Some (take n (values_of (blocks_told (cut_of s size reference n) 0 read.0)))
 numbers_of s size reference n (Err fault) = None
 

@@ -5,7 +5,7 @@ use Rattle.header_bits.specs.declared.params.Params.{Params}
 use Rattle.header_bits.specs.declared.params.Coder.{Coder}
 use Rattle.header_bits.specs.declared.params.Coder.TheVariants.{Sample, Block}
 use Rattle.block_adaptive.specs.Segments.{block_count}
-use Rattle.block_adaptive.specs.Texts.{Cut, cut_of, capacity}
+use Rattle.block_adaptive.specs.DataSets.{Cut, cut_of, capacity}
 
 -- the cut of n numbers of so many bits
 abbrev pub coder_cut : ℕ → ℕ → Coder → Cut

@@ -3,7 +3,7 @@ use Rattle.std.specs.Prelude.{ℕ, ◌≡◌, ◌+◌, ◌-◌, ◌*◌, ◌%◌
 use Rattle.header_bits.specs.Bits.{Written}
 use Rattle.block_adaptive.specs.declared.options.CodeSet.{CodeSet}
 use Rattle.block_adaptive.specs.Segments.{block_count, filled}
-use Rattle.block_adaptive.specs.Texts.{Text, Block, Run, Rest, Cut, left_at, spelling, values_of}
+use Rattle.block_adaptive.specs.DataSets.{CodedDataSet, Block, Run, RestOfSegment, Cut, left_at, spelling, values_of}
 use Rattle.block_adaptive.specs.Chosen.{chosen_option, chosen_from, chosen_block_body, is_zero}
 use Rattle.block_adaptive.specs.Laws.{AreBlocks}
 
@@ -23,17 +23,17 @@ pub record Packed : Type 0 where
 abbrev pub taken_count : Packed → ℕ
 taken_count v = (v.start + v.zeros) * v.cut.size + length v.held
 
--- the text of all blocks that are left in a segment, where they are zeros
-abbrev pub rest_of : ℕ → Text
-rest_of left = if nat_le 5 left then Rest else Run left
+-- the data set of all blocks that are left in a segment, where they are zeros
+abbrev pub rest_of : ℕ → CodedDataSet
+rest_of left = if nat_le 5 left then RestOfSegment else Run left
 
--- the texts of a block that isn't zeros, behind so many that are
-abbrev pub run_and_block : CodeSet → ℕ → List ℕ → List Text
+-- the data sets of a block that isn't zeros, behind so many that are
+abbrev pub run_and_block : CodeSet → ℕ → List ℕ → List CodedDataSet
 run_and_block s zeros b = if zeros == 0 then Block (chosen_option s b) b ∷ [] else Run zeros ∷ Block (chosen_option s b) b ∷ []
 
--- the texts that a whole block makes, behind blocks of zeros that are held
-abbrev pub texts_after : CodeSet → ℕ → ℕ → List ℕ → List Text
-texts_after s left zeros b =
+-- the data sets that a whole block makes, behind blocks of zeros that are held
+abbrev pub data_sets_after : CodeSet → ℕ → ℕ → List ℕ → List CodedDataSet
+data_sets_after s left zeros b =
     if is_zero b then (if zeros + 1 == left then rest_of left ∷ [] else [])
     else run_and_block s zeros b
 
@@ -51,8 +51,8 @@ packed v b =
 abbrev pub ended : Packed → Packed
 ended v = if length v.held == 0 then v else packed v (filled v.cut.size v.held)
 
-abbrev pub texts_packed : Packed → List ℕ → List Bool
-texts_packed v b = spelling v.cut.set (texts_after v.cut.set (left_at v.cut v.start) v.zeros b)
+abbrev pub data_sets_packed : Packed → List ℕ → List Bool
+data_sets_packed v b = spelling v.cut.set (data_sets_after v.cut.set (left_at v.cut v.start) v.zeros b)
 
 -- the numbers taken: whole blocks and the values held; and the bits appended, with whatever the blocks held and those to come spell, are the chosen body
 pub record HasTaken (v : Packed) (taken : List ℕ) (bits : List Bool) : Type 0 where

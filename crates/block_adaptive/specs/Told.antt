@@ -2,9 +2,9 @@
 use Rattle.std.specs.Prelude.{ℕ, List}
 use Rattle.block_adaptive.specs.declared.found.Found.{Found}
 use Rattle.block_adaptive.specs.declared.found.Found.TheVariants as found
-use Rattle.block_adaptive.specs.Texts.{Text, Block, Run, Rest}
+use Rattle.block_adaptive.specs.DataSets.{CodedDataSet, Block, Run, RestOfSegment}
 
-abbrev pub told : List ℕ → Found → Text
+abbrev pub told : List ℕ → Found → CodedDataSet
 told values (found.Block o) = Block o values
 told values (found.Run n) = Run n
-told values found.Rest = Rest
+told values found.RestOfSegment = RestOfSegment

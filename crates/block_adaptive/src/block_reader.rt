@@ -3,23 +3,23 @@
 ghost use Rattle.std.specs.Prelude.{◌≡◌, ◌+◌, ◌%◌, ◌<◌, ◌≤◌, [], ◌∷◌, Ok, Err, Some, None, IfOk, IfErr, OnErr, MatchResult, length};
 ghost use Rattle.cube_core.specs.declared.fault.Fault.{Fault};
 ghost use Rattle.header_bits.specs.Reading.{Reads};
-ghost use Rattle.block_adaptive.specs.Texts.{Cut, left_at, capacity};
+ghost use Rattle.block_adaptive.specs.DataSets.{Cut, left_at, capacity};
 ghost use Rattle.cube_core.specs.Shape.{sample_count};
 ghost use Rattle.block_adaptive.specs.Settings.{AreForBlocks, IsCutOf, cut_by};
-ghost use Rattle.block_adaptive.specs.Given.{Unpacked, given_count, GivesFirst, GivesNext, HasGiven, next_text, in_hand};
+ghost use Rattle.block_adaptive.specs.Given.{Unpacked, given_count, GivesFirst, GivesNext, HasGiven, next_data_set, in_hand};
 
+use crate::data_sets::read_data_set;
 use crate::found::Found;
 use crate::options::CodeSet;
 use crate::segments::{Place, blocks_left};
-use crate::texts::read_text;
 use cube_core::fault::Fault;
 use header_bits::bit_reader::BitReader;
 use header_bits::params::{Coder, Params};
 use std::marker::Model;
 
-/// Reads the numbers of a body, whose texts it takes one at a time.
+/// Reads the numbers of a body, whose data sets it takes one at a time.
 ///
-/// It holds the values of the text that it took last, in an array or, of zero blocks, as a count.
+/// It holds the values of the data set that it took last, in an array or, of zero blocks, as a count.
 #[derive(Drop)]
 pub struct BlockReader {
     set: CodeSet,
@@ -28,7 +28,7 @@ pub struct BlockReader {
     reference: u32,
     /// How many blocks there are.
     count: u64,
-    /// The block at which the next text begins.
+    /// The block at which the next data set begins.
     block: u64,
     values: [u16; 64],
     /// How many of the block's values were given.
@@ -88,7 +88,7 @@ impl BlockReader {
     /// Gives the next number of the body.
     ///
     /// Fewer numbers were given than all blocks have. The number is the first in hand; where none is, the
-    /// text that stands next is taken whole, and its values are in hand. Where no lawful text stands
+    /// data set that stands next is taken whole, and its values are in hand. Where no lawful data set stands
     /// there the answer is the refusal of its first part that isn't lawful: `Truncated` where the bits
     /// end inside it, `RunPastSegment` for a run code, and `BadOption` for any other. Then the reader
     /// stands where it stood, every later call answers the same, and nothing else was changed. No memory
@@ -96,7 +96,7 @@ impl BlockReader {
     #[inline]
     pub fn next(&mut self, reader: &mut BitReader) -> Result<u16, Fault>
         requires { given_count self.old < capacity self.old.cut }
-        ensures first { self.old.refused ≡ None → MatchResult result (λ value. (new : Unpacked) × (in_hand self.old reader.old self.old.held ≡ Ok (new, reader.new.left)) × GivesFirst new value self.new) (λ fault. (self.old.held ≡ []) × (next_text self.old reader.old ≡ Err fault)) }
+        ensures first { self.old.refused ≡ None → MatchResult result (λ value. (new : Unpacked) × (in_hand self.old reader.old self.old.held ≡ Ok (new, reader.new.left)) × GivesFirst new value self.new) (λ fault. (self.old.held ≡ []) × (next_data_set self.old reader.old ≡ Err fault)) }
         ensures given { GivesNext self.old reader.old result self.new reader.new.left }
         ensures again { (fault : Fault) → self.old.refused ≡ Some fault → result ≡ Err fault }
         ensures kept { IfErr result (λ fault. self.new ≡ record self.old { refused = Some fault }) }
@@ -110,17 +110,17 @@ impl BlockReader {
             return Err(fault);
         }
         if self.at == self.size && self.zeros == 0 {
-            self.take_text(reader)?;
+            self.take_data_set(reader)?;
         }
         Ok(self.give())
     }
 
-    /// Takes in hand the values of the text that stands next.
+    /// Takes in hand the values of the data set that stands next.
     #[inline(never)]
-    fn take_text(&mut self, reader: &mut BitReader) -> Result<(), Fault>
+    fn take_data_set(&mut self, reader: &mut BitReader) -> Result<(), Fault>
         requires empty { self.old.held ≡ [] }
         requires more { self.old.block < self.old.cut.count }
-        ensures read { Reads (λ _. self.new) result reader.new.left (next_text self.old reader.old) }
+        ensures read { Reads (λ _. self.new) result reader.new.left (next_data_set self.old reader.old) }
         ensures some { IfOk result (λ _. 0 < length self.new.held) }
         ensures counted { IfOk result (λ _. given_count self.new ≡ given_count self.old) }
         ensures refused { IfErr result (λ fault. self.new ≡ record self.old { refused = Some fault }) }
@@ -134,7 +134,7 @@ impl BlockReader {
         });
         let set = self.set;
         let mut ahead = reader.fork();
-        match read_text(
+        match read_data_set(
             &mut ahead,
             self.block,
             &set,
@@ -155,7 +155,7 @@ impl BlockReader {
                 self.block += u64::from(blocks);
                 Ok(())
             }
-            Ok(Found::Rest) => {
+            Ok(Found::RestOfSegment) => {
                 *reader = ahead;
                 self.at = self.size;
                 self.zeros = left * self.size;

@@ -1,16 +1,16 @@
-//! A writer of blocks: it takes numbers one after another, and writes the texts that stand for them.
+//! A writer of blocks: it takes numbers one after another, and writes the data sets that stand for them.
 
 ghost use Rattle.std.specs.Prelude.{ℕ, ◌∷◌, ◌-◌, ◌≡◌, ◌+◌, ◌%◌, ◌^◌, ◌<◌, ◌≤◌, ◌++◌, [], length, sum, take, replicate, OnOk, OnErr, IfErr};
 ghost use Rattle.std.specs.List.{AllByRecursion};
 ghost use Rattle.cube_core.specs.declared.fault.Fault.TheVariants.{WantOfMemory};
 ghost use Rattle.block_adaptive.specs.Settings.{AreForBlocks, IsCutOf, cut_by};
-ghost use Rattle.block_adaptive.specs.Taken.{HasTaken, PutsNumber, PutsAll, EndsBlock, EndsInside, EndsBody, taken_count, packed, ended, texts_packed};
-ghost use Rattle.block_adaptive.specs.Texts.{capacity};
+ghost use Rattle.block_adaptive.specs.Taken.{HasTaken, PutsNumber, PutsAll, EndsBlock, EndsInside, EndsBody, taken_count, packed, ended, data_sets_packed};
+ghost use Rattle.block_adaptive.specs.DataSets.{capacity};
 ghost use Rattle.cube_core.specs.Shape.{sample_count};
 
 use crate::options::CodeSet;
 use crate::segments::Place;
-use crate::writing::write_texts;
+use crate::writing::write_data_sets;
 use cube_core::fault::Fault;
 use header_bits::bit_writer::BitWriter;
 use header_bits::params::{Coder, Params};
@@ -158,7 +158,7 @@ impl BlockWriter {
     fn put_last(&mut self, delta: u16, writer: &mut BitWriter) -> Result<(), Fault>
         requires last { length self.old.held + 1 ≡ self.old.cut.size }
         requires more { self.old.start + self.old.zeros < self.old.cut.count }
-        ensures appended { OnOk result (writer.new.bits ≡ writer.old.bits ++ texts_packed self.old (self.old.held ++ delta ∷ [])) }
+        ensures appended { OnOk result (writer.new.bits ≡ writer.old.bits ++ data_sets_packed self.old (self.old.held ++ delta ∷ [])) }
         ensures packed { OnOk result (self.new ≡ packed self.old (self.old.held ++ delta ∷ [])) }
         ensures same { OnErr result ((self.new ≡ self.old) × (writer.new.bits ≡ writer.old.bits)) }
         ensures refused { IfErr result (λ e. e ≡ WantOfMemory) }
@@ -171,7 +171,7 @@ impl BlockWriter {
             count: self.count,
             block: self.start,
         };
-        let zeros = write_texts(
+        let zeros = write_data_sets(
             writer,
             &self.set,
             &place,
@@ -213,7 +213,7 @@ impl BlockWriter {
         requires total { total ≡ sum block.now }
         requires range { AllByRecursion (λ v. v < 2 ^ self.old.cut.set.bits) block.now }
         requires more { self.old.start + self.old.zeros < self.old.cut.count }
-        ensures appended { OnOk result (writer.new.bits ≡ writer.old.bits ++ texts_packed self.old block.now) }
+        ensures appended { OnOk result (writer.new.bits ≡ writer.old.bits ++ data_sets_packed self.old block.now) }
         ensures packed { OnOk result (self.new ≡ packed self.old block.now) }
         ensures same { OnErr result ((self.new ≡ self.old) × (writer.new.bits ≡ writer.old.bits)) }
         ensures refused { IfErr result (λ e. e ≡ WantOfMemory) }
@@ -223,7 +223,7 @@ impl BlockWriter {
             count: self.count,
             block: self.start,
         };
-        let zeros = write_texts(writer, &self.set, &place, self.zeros, block, total)?;
+        let zeros = write_data_sets(writer, &self.set, &place, self.zeros, block, total)?;
         self.start += u64::from(self.zeros + 1 - zeros);
         self.zeros = zeros;
         self.held = 0;

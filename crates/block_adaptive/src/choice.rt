@@ -65,7 +65,7 @@ fn pairs_cost(block: &[u16]) -> u64
     total
 }
 
-/// How many bits a block's text has under an option, with its identifier.
+/// How many bits a block's data set has under an option, with its identifier.
 ///
 /// The block has at most 64 values, and the option is one of the set.
 pub fn option_cost(set: &CodeSet, block: &[u16], choice: Choice) -> u64
@@ -84,7 +84,7 @@ pub fn option_cost(set: &CodeSet, block: &[u16], choice: Choice) -> u64
     }
 }
 
-/// The first k that may have the shortest text, by the sum of the values: up to it each k is shorter
+/// The first k that may have the shortest data set, by the sum of the values: up to it each k is shorter
 /// than the one before, and from two behind it on none is.
 fn first_split(splits: u32, sum: u64, len: u64) -> u32
     requires splits { splits ≤ 14 }
@@ -124,7 +124,7 @@ fn quotient_sums(k: u32, block: &[u16]) -> [u32; 3]
     [first, second, third]
 }
 
-/// How many bits a block's text has under split-sample, by the sum of its quotients.
+/// How many bits a block's data set has under split-sample, by the sum of its quotients.
 fn split_cost(width: u32, k: u32, quotients: u32, len: u64) -> u64
     requires width { width ≤ 4 }
     requires k { k ≤ 15 }
@@ -134,7 +134,7 @@ fn split_cost(width: u32, k: u32, quotients: u32, len: u64) -> u64
     u64::from(width) + u64::from(quotients) + len + u64::from(k) * len
 }
 
-/// The option with the shortest text, and how many bits that has: of several uncoded first, then the
+/// The option with the shortest data set, and how many bits that has: of several uncoded first, then the
 /// second extension, then the smallest k.
 ///
 /// The sum of the values tells of most options that they are no shorter, without going over the block.

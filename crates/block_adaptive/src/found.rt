@@ -1,8 +1,8 @@
-//! What one text stands for.
+//! What one data set stands for.
 
 use crate::options::Choice;
 
-/// What was read as one text.
+/// What was read as one data set.
 #[derive(Clone, Copy, Debug, PartialEq, Eq, Drop)]
 pub(crate) enum Found {
     /// A block under an option; its values stand elsewhere.
@@ -10,5 +10,5 @@ pub(crate) enum Found {
     /// So many blocks of zeros.
     Run(u32),
     /// Blocks of zeros up to the segment's end.
-    Rest,
+    RestOfSegment,
 }

@@ -1,9 +1,9 @@
 //! Laws of the coder's definitions.
 
-ghost use Rattle.block_adaptive.specs.Laws.{OneText, OneBody, OptionIsLeast, ChosenIsLawful, ChosenIsBody, TextIsTaken, BodyIsRead, PairBound, SegmentsAreCounted, NoShorterBody, FaultIsNoText};
+ghost use Rattle.block_adaptive.specs.Laws.{OneText, OneBody, OptionIsLeast, ChosenIsLawful, ChosenIsBody, DataSetIsTaken, BodyIsRead, PairBound, SegmentsAreCounted, NoShorterBody, FaultIsNoDataSet};
 ghost use Rattle.block_adaptive.specs.Prefixes.{TakenIsPrefix};
 
-/// Two lawful texts of which one begins the other are one text.
+/// Two lawful data sets of which one begins the other are one data set.
 pub fn one_text()
     ensures { OneText }
 {}
@@ -13,14 +13,14 @@ pub fn option_is_least()
     ensures { OptionIsLeast }
 {}
 
-/// The chosen texts of blocks are lawful, and stand for the blocks.
+/// The chosen data sets of blocks are lawful, and stand for the blocks.
 pub fn chosen_is_lawful()
     ensures { ChosenIsLawful }
 {}
 
-/// What is read as a text is lawful, and the bits begin with its spelling.
-pub fn text_is_taken()
-    ensures { TextIsTaken }
+/// What is read as a data set is lawful, and the bits begin with its spelling.
+pub fn data_set_is_taken()
+    ensures { DataSetIsTaken }
 {}
 
 /// No body of one list of numbers begins a body of another.
@@ -38,7 +38,7 @@ pub fn taken_is_prefix()
     ensures { TakenIsPrefix }
 {}
 
-/// The texts of a body are read exactly where lawful texts for all blocks stand.
+/// The data sets of a body are read exactly where lawful data sets for all blocks stand.
 pub fn body_is_read()
     ensures { BodyIsRead }
 {}
@@ -58,8 +58,8 @@ pub fn no_shorter_body()
     ensures { NoShorterBody }
 {}
 
-/// Where a text is refused no lawful text begins the bits. Unless they ended too early, none does whatever
+/// Where a data set is refused no lawful data set begins the bits. Unless they ended too early, none does whatever
 /// bits follow.
-pub fn fault_is_no_text()
-    ensures { FaultIsNoText }
+pub fn fault_is_no_data_set()
+    ensures { FaultIsNoDataSet }
 {}

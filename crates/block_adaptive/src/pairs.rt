@@ -4,7 +4,7 @@ ghost use Rattle.std.specs.Prelude.{◌≡◌, ◌≤◌, ◌<◌, ◌^◌, ◌-
 ghost use Rattle.header_bits.specs.Reading.{Reads};
 ghost use Rattle.block_adaptive.specs.Reading.{Site, site_of, pair_sum, pair_of, pairs_at};
 
-use crate::texts::fundamental;
+use crate::data_sets::fundamental;
 use cube_core::fault::Fault;
 use header_bits::bit_reader::BitReader;
 
@@ -18,7 +18,7 @@ fn sum_of(most: u16, number: u64) -> u64
     ((8 * number + 1).isqrt() - 1) / 2
 }
 
-/// The pair with a number, which belongs to a text of the block.
+/// The pair with a number, which belongs to a data set of the block.
 #[tactic(auto, unfolding(crate::specs::Reading::pair_of))]
 fn pair(block: u64, most: u16, number: u64) -> Result<(u16, u16), Fault>
     requires { number ≤ 2 * most * (most + 1) }

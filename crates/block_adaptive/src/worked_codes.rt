@@ -3,7 +3,7 @@
 ghost use Rattle.std.specs.Prelude.{◌≡◌, ◌∷◌, [], false, true};
 ghost use Rattle.block_adaptive.specs.declared.options.Choice.TheVariants.{Uncoded, Second, Split};
 ghost use Rattle.block_adaptive.specs.Options.{identifier, zero_identifier, splits};
-ghost use Rattle.block_adaptive.specs.Texts.{run_code, rest_code};
+ghost use Rattle.block_adaptive.specs.DataSets.{run_code, rest_code};
 ghost use Rattle.block_adaptive.specs.Segments.{segment_count};
 ghost use Rattle.block_adaptive.specs.Rows.{plain, restricted};
 

@@ -1,13 +1,13 @@
-//! Writing texts into room that was reserved for them.
+//! Writing data sets into room that was reserved for them.
 
 ghost use Rattle.std.specs.Prelude.{◌≡◌, ◌+◌, ◌%◌, ◌^◌, ◌<◌, ◌≤◌, ◌++◌, length, sum, OnOk, OnErr, IfErr, IfOk};
 ghost use Rattle.std.specs.List.{AllByRecursion};
 ghost use Rattle.cube_core.specs.declared.fault.Fault.TheVariants.{WantOfMemory};
 ghost use Rattle.header_bits.specs.Bits.{bits_of, fundamental};
 ghost use Rattle.block_adaptive.specs.Options.{IsOption, zero_identifier, identifier, quotient_codes, low_groups, pair_codes, option_text, cost};
-ghost use Rattle.block_adaptive.specs.Texts.{run_text, run_code, spelled, spelling};
+ghost use Rattle.block_adaptive.specs.DataSets.{run_text, run_code, spelled, spelling};
 ghost use Rattle.block_adaptive.specs.Places.{IsPlace, blocks_from};
-ghost use Rattle.block_adaptive.specs.Taken.{Writes, rest_of, run_and_block, texts_after, zeros_after};
+ghost use Rattle.block_adaptive.specs.Taken.{Writes, rest_of, run_and_block, data_sets_after, zeros_after};
 
 use crate::choice::{choose, identifier_width};
 use crate::options::{Choice, CodeSet};
@@ -111,7 +111,7 @@ fn write_pairs(writer: &mut BitWriter, block: &[u16])
     }
 }
 
-/// Writes the text of a block under an option.
+/// Writes the data set of a block under an option.
 fn write_option(writer: &mut BitWriter, set: &CodeSet, choice: Choice, block: &[u16])
     requires bits { set.now.bits ≤ 16 }
     requires option { IsOption set.now choice }
@@ -137,7 +137,7 @@ fn write_option(writer: &mut BitWriter, set: &CodeSet, choice: Choice, block: &[
     }
 }
 
-/// Writes the text of a run, whose code has so many zeros.
+/// Writes the data set of a run, whose code has so many zeros.
 fn write_run(writer: &mut BitWriter, set: &CodeSet, zeros: u32)
     requires room { length (run_text set.now (fundamental zeros)) ≤ writer.old.room }
     ensures { Writes writer.old writer.new (run_text set.now (fundamental zeros)) }
@@ -147,7 +147,7 @@ fn write_run(writer: &mut BitWriter, set: &CodeSet, zeros: u32)
 }
 
 /// How many zeros the code of a run has.
-#[tactic(auto, unfolding(crate::specs::Texts::run_code))]
+#[tactic(auto, unfolding(crate::specs::DataSets::run_code))]
 fn zeros_of_run(blocks: u32) -> u32
     ensures code { fundamental result ≡ run_code blocks }
     ensures most { result ≤ blocks }
@@ -159,7 +159,7 @@ fn zeros_of_run(blocks: u32) -> u32
     }
 }
 
-/// How many bits the text of a run has, whose code has so many zeros.
+/// How many bits the data set of a run has, whose code has so many zeros.
 fn run_cost(set: &CodeSet, zeros: u32) -> u64
     requires { zeros ≤ 64 }
     ensures value { result ≡ length (run_text set.now (fundamental zeros)) }
@@ -169,7 +169,7 @@ fn run_cost(set: &CodeSet, zeros: u32) -> u64
 }
 
 /// Writes the run of all blocks that are left in a segment.
-#[tactic(auto, unfolding(crate::specs::Texts::spelled, crate::specs::Texts::rest_code))]
+#[tactic(auto, unfolding(crate::specs::DataSets::spelled, crate::specs::DataSets::rest_code))]
 fn write_rest(writer: &mut BitWriter, set: &CodeSet, left: u32) -> Result<(), Fault>
     requires { (1 ≤ left) × (left ≤ 64) }
     ensures appended { OnOk result (writer.new.bits ≡ writer.old.bits ++ spelled set.now (rest_of left)) }
@@ -183,7 +183,7 @@ fn write_rest(writer: &mut BitWriter, set: &CodeSet, left: u32) -> Result<(), Fa
 }
 
 /// Writes a block that isn't zeros, whose values have this sum, behind a run of so many that are.
-#[tactic(auto, unfolding(crate::specs::Texts::spelled))]
+#[tactic(auto, unfolding(crate::specs::DataSets::spelled))]
 fn write_block(
     writer: &mut BitWriter,
     set: &CodeSet,
@@ -212,12 +212,12 @@ fn write_block(
     Ok(())
 }
 
-/// Writes the texts that a whole block makes, whose values have this sum, behind so many blocks of zeros
+/// Writes the data sets that a whole block makes, whose values have this sum, behind so many blocks of zeros
 /// that are held; answers how many are held then.
 ///
 /// The first one held stands at the place. The memory is asked for first.
 #[tactic(auto, unfolding(crate::specs::Segments::segment_rest))]
-pub(crate) fn write_texts(
+pub(crate) fn write_data_sets(
     writer: &mut BitWriter,
     set: &CodeSet,
     place: &Place,
@@ -231,7 +231,7 @@ pub(crate) fn write_texts(
     requires few { length block.now ≤ 64 }
     requires total { total ≡ sum block.now }
     requires even { length block.now % 2 ≡ 0 }
-    ensures appended { OnOk result (writer.new.bits ≡ writer.old.bits ++ spelling set.now (texts_after set.now (blocks_from place.now) zeros block.now)) }
+    ensures appended { OnOk result (writer.new.bits ≡ writer.old.bits ++ spelling set.now (data_sets_after set.now (blocks_from place.now) zeros block.now)) }
     ensures held { IfOk result (λ n. n ≡ zeros_after (blocks_from place.now) zeros block.now) }
     ensures same { OnErr result (writer.new.bits ≡ writer.old.bits) }
     ensures refused { IfErr result (λ e. e ≡ WantOfMemory) }

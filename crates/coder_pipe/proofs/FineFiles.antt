@@ -28,7 +28,7 @@ use Rattle.sample_adaptive.proofs.Bodies as samples
 use Rattle.block_adaptive.specs.declared.options.CodeSet.{CodeSet}
 use Rattle.block_adaptive.specs.Segments.{block_count}
 use Rattle.block_adaptive.specs.Settings.{IsSize}
-use Rattle.block_adaptive.specs.Texts.{Text, Cut, cut_of, AreTexts, blocks_told, values_of, spelling, IsBlockBody}
+use Rattle.block_adaptive.specs.DataSets.{CodedDataSet, Cut, cut_of, AreCodedDataSets, blocks_told, values_of, spelling, IsBlockBody}
 use Rattle.block_adaptive.specs.Reading.{block_body_at}
 use Rattle.block_adaptive.proofs.Bodies as blocks
 use Rattle.block_adaptive.proofs.Calls.{told_length}
@@ -73,13 +73,13 @@ range_take limit (suc n) [] h = tt
 range_take limit (suc n) (v ∷ vs) h = (h.0, range_take limit n vs h.1)
 
 -- texts that were read for n numbers are a body of the first n values that they tell
-texts_body : (s : CodeSet) (size reference n : ℕ) (texts : List Text) (numbers : List ℕ) → length numbers ≡ n → take n (values_of (blocks_told (cut_of s size reference n) 0 texts)) ≡ numbers → AreTexts (cut_of s size reference n) 0 texts (block_count size n)
-    → IsBlockBody s size reference numbers (spelling s texts)
-texts_body s size reference n texts numbers long told lawful = record {
-  texts = texts;
-  lawful = subst (λ (k : ℕ). AreTexts (cut_of s size reference k) 0 texts (block_count size k)) (sym long) lawful;
+data_sets_body : (s : CodeSet) (size reference n : ℕ) (data_sets : List CodedDataSet) (numbers : List ℕ) → length numbers ≡ n → take n (values_of (blocks_told (cut_of s size reference n) 0 data_sets)) ≡ numbers → AreCodedDataSets (cut_of s size reference n) 0 data_sets (block_count size n)
+    → IsBlockBody s size reference numbers (spelling s data_sets)
+data_sets_body s size reference n data_sets numbers long told lawful = record {
+  data_sets = data_sets;
+  lawful = subst (λ (k : ℕ). AreCodedDataSets (cut_of s size reference k) 0 data_sets (block_count size k)) (sym long) lawful;
   text = refl;
-  told = ap (λ (k : ℕ). take k (values_of (blocks_told (cut_of s size reference k) 0 texts))) long ∙ told;
+  told = ap (λ (k : ℕ). take k (values_of (blocks_told (cut_of s size reference k) 0 data_sets))) long ∙ told;
 }
 
 even_read : (p : Params) (count half reference : ℕ) (restricted : Bool) (bits left : List Bool) → 1 ≤ half → 1 ≤ reference
@@ -97,7 +97,7 @@ even_read p count half reference restricted bits left some least e =
     record {
       numbers = take (sample_count p.shape) (values_of (blocks_told (cut_of (record { bits = p.kind.bits; restricted = restricted }) (2 * half) reference (sample_count p.shape)) 0 a.0.0));
       body = spelling (record { bits = p.kind.bits; restricted = restricted }) a.0.0;
-      coded = texts_body (record { bits = p.kind.bits; restricted = restricted }) (2 * half) reference (sample_count p.shape) a.0.0 _ long refl read.0;
+      coded = data_sets_body (record { bits = p.kind.bits; restricted = restricted }) (2 * half) reference (sample_count p.shape) a.0.0 _ long refl read.0;
       text = read.1 ∙ ap (λ (x : List Bool). spelling (record { bits = p.kind.bits; restricted = restricted }) a.0.0 ++ x) (ok_is a.0.1 left a.2);
       long = long;
       range = range_take (2 ^ p.kind.bits) (sample_count p.shape) values (told_range (cut_of (record { bits = p.kind.bits; restricted = restricted }) (2 * half) reference (sample_count p.shape)) 0 c.count a.0.0 read.0);

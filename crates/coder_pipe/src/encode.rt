@@ -24,7 +24,7 @@ pub fn encode_one(alloc: Global, cube: &Cube, params: &Params) -> Result<Vec<u8>
     ensures file { IfOk result (λ bytes. bytes.items ≡ file_of cube.now params.now) }
     ensures refused { IfErr result (λ e. e ≡ WantOfMemory) }
 {
-    cube.is_cube();
+    cube.prove_is_cube();
     let mut bands = all_bands(alloc, params)?;
     let mut end = CodingEnd::new(alloc, params)?;
     if !send_own(&NoWait, cube, params, 0, &[], &mut bands, &mut end) {

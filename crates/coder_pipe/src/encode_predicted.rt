@@ -30,8 +30,8 @@ pub fn encode_predicted<R: Threads + Wait + Sync, G: Gate + Sync>(
     ensures file { IfOk result (λ p. IsFileOf plan.now cube.now p.file.items p.lanes.items) }
     ensures early { IfErr result (λ e. EndsEarly e (λ q n. MayStopPart G.may_stop gate.now plan.now cube.now q n)) }
 {
-    plan.is_plan();
-    cube.is_cube();
+    plan.prove_is_plan();
+    cube.prove_is_cube();
     let feeds = cube_feeds(alloc, cube, plan)?;
     encode_piped(rt, alloc, plan.params(), plan, feeds, gate)
 }

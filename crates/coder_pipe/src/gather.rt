@@ -138,7 +138,7 @@ pub(crate) fn next_of_row<R: Threads + Wait, F: Feed, G: Gate>(
     ensures may { IfOk result (λ count. MayCodeAll weaver.now.end (take count run.new)) }
     ensures stopped { IfErr result (λ at. MayStopAt G.may_stop F.items (feeds_of stages.old.items) (gates_of stages.old.items) at.0 at.1) }
 {
-    plan.is_plan();
+    plan.prove_is_plan();
     let most = greatest(plan.params().kind);
     let Some(owner) = weaver.wants() else {
         unreachable!()
@@ -178,7 +178,7 @@ pub(crate) fn next_of_column<R: Threads + Wait, F: Feed, G: Gate>(
     ensures may { IfOk result (λ count. MayCodeAll weaver.now.end (take count run.new)) }
     ensures stopped { IfErr result (λ at. MayStopAt G.may_stop F.items (feeds_of stages.old.items) (gates_of stages.old.items) at.0 at.1) }
 {
-    plan.is_plan();
+    plan.prove_is_plan();
     let most = greatest(plan.params().kind);
     let owners = weaver.wanted_column(run.len());
     for i in 0..owners.len() {

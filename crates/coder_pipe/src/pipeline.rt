@@ -48,7 +48,7 @@ pub fn encode_piped<R: Threads + Wait + Sync, F: Feed + Send, G: Gate + Sync>(
     ensures piped { IfOk result (λ p. IsPiped F.items plan.now feeds.items p.file.items p.lanes.items) }
     ensures early { IfErr result (λ e. EndsEarly e (λ q n. MayStop G.may_stop gate.now F.items feeds.items q n)) }
 {
-    plan.is_plan();
+    plan.prove_is_plan();
     let count = feeds.len();
     let overs = flags(alloc, count)?;
     let room = room_for(alloc, params, plan, count)?;
@@ -158,7 +158,7 @@ fn run_in<'s, E, R: Threads + Wait + Sync + 's, F: Feed + Send + 's, G: Gate + S
     ensures piped { IfOk result (λ p. IsPiped F.items plan.now (map (λ r. r.feed) readies.items) p.file.items p.lanes.items) }
     ensures early { IfErr result (λ e. EndsEarly e (λ q n. MayStop G.may_stop gate.now F.items (map (λ r. r.feed) readies.items) q n)) }
 {
-    plan.is_plan();
+    plan.prove_is_plan();
     let Room {
         stages,
         lanes,

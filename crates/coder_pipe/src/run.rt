@@ -51,7 +51,7 @@ pub(crate) fn weave<R: Threads + Wait, F: Feed, G: Gate>(
     ensures whole { IfWhole result (IsWoven plan.now.params plan.now.deal weaver.new (handed_of stages.new.items) (sample_count plan.now.params.shape)) }
     ensures stopped { IfStopped result (λ q n. MayStopAt G.may_stop F.items (feeds_of stages.old.items) (gates_of stages.old.items) q n) }
 {
-    plan.is_plan();
+    plan.prove_is_plan();
     let total = plan.params().shape.sample_count();
     let along_rows = plan.params().order.goes_along_rows();
     let mut run = [0; MOST_RUN];

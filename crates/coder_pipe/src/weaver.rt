@@ -48,7 +48,7 @@ impl Weaver {
         ensures woven { IfOk result (λ w. HasWoven params.now plan.now.deal w []) }
         ensures refused { IfErr result (λ e. e ≡ WantOfMemory) }
     {
-        plan.is_plan();
+        plan.prove_is_plan();
         Ok(Weaver {
             end: CodingEnd::new(alloc, params)?,
             deal: plan.deal().to_vec(alloc)?,

@@ -5,9 +5,9 @@ use Rattle.std.proofs.lemmas.Int.{ints}
 use Rattle.cube_core.specs.declared.layout.Layout.{Layout}
 use Rattle.cube_core.specs.Shape.{Sizes, sample_count}
 use Rattle.cube_core.specs.Kind.{SampleKind, IsSample}
-use Rattle.cube_core.specs.Heights.{samples_of}
+use Rattle.cube_core.specs.Offsets.{samples_of}
 use Rattle.cube_core.specs.Layout.{IsLayout, order_of, twos_complement, raw_value, bytes_at, HasBytes, HaveBytes}
-use Rattle.cube_core.specs.Raw.{AreHeightsOf}
+use Rattle.cube_core.specs.Raw.{AreOffsetsOf}
 use Rattle.cube_core.proofs.Poured.{sample_there}
 use Rattle.cube_core.proofs.RawBytes.{AreBytes, bytes_at_small, sample_spelled}
 use Rattle.cube_core.proofs.Raws.{place_of, lawful_order}
@@ -35,9 +35,9 @@ has_bytes : (l : Layout) (k : SampleKind) (bytes : List ℕ) → IsLayout l → 
 has_bytes l k bytes (inl e) small = rw e (one_spelled k.signed (leb 128 (get_or bytes 0 0)) (get_or bytes 0 0) refl (small 0))
 has_bytes l k bytes (inr e) small = both_spelled l.little l k bytes small refl e
 
-pub have_bytes_again : (s : Sizes) (k : SampleKind) (l : Layout) (bytes heights : List ℕ) → IsLayout l → 0 < sample_count s → AreBytes bytes → length heights ≡ sample_count s → AreHeightsOf s k l bytes heights → HaveBytes (record { shape = s; kind = k; samples = samples_of k heights }) l (sample_count s)
-have_bytes_again s k l bytes heights layout some small full here j lt =
+pub have_bytes_again : (s : Sizes) (k : SampleKind) (l : Layout) (bytes offsets : List ℕ) → IsLayout l → 0 < sample_count s → AreBytes bytes → length offsets ≡ sample_count s → AreOffsetsOf s k l bytes offsets → HaveBytes (record { shape = s; kind = k; samples = samples_of k offsets }) l (sample_count s)
+have_bytes_again s k l bytes offsets layout some small full here j lt =
     let lawful = lawful_order l.order s some in
     let there = place_of s (order_of l.order s) j lawful lt in
-    rw (sample_there (record { shape = s; kind = k; samples = samples_of k heights }) l there.0 j lawful lt there.1, sample_spelled s k l bytes heights there.0 j full here there.1)
+    rw (sample_there (record { shape = s; kind = k; samples = samples_of k offsets }) l there.0 j lawful lt there.1, sample_spelled s k l bytes offsets there.0 j full here there.1)
     (has_bytes l k (bytes_at l bytes j) layout (bytes_at_small l bytes j small))

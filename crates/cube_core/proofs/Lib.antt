@@ -1,6 +1,6 @@
 pub mod Bounds
 pub mod Fitting
-pub mod Heights
+pub mod Offsets
 pub mod Keys
 pub mod Lists
 pub mod Orders

@@ -16,33 +16,33 @@ use Rattle.cube_core.specs.Image.{index_in}
 use Rattle.cube_core.specs.Order.{IsOrder, IsPlaceOf, place_index}
 use Rattle.cube_core.specs.Layout.{IsLayout, HasBytes, order_of, bytes_at}
 use Rattle.cube_core.specs.Pieces.{LieEvenly, IsPoured, ArePoured, CanBePoured}
-use Rattle.cube_core.specs.Heights.{AreHeights}
-use Rattle.cube_core.specs.Raw.{IsHeightOf, AreHeightsOf, AreSamples}
-use Rattle.cube_core.specs.Scale.{StandsFor, SpellHeight}
+use Rattle.cube_core.specs.Offsets.{AreOffsets}
+use Rattle.cube_core.specs.Raw.{IsOffsetOf, AreOffsetsOf, AreSamples}
+use Rattle.cube_core.specs.Scale.{StandsFor, SpellOffset}
 use Rattle.cube_core.proofs.Bounds.{index_below}
 use Rattle.cube_core.proofs.Orders.{place_index_below}
 use Rattle.cube_core.proofs.Raws.{same_place, place_of, bytes_there}
 use Rattle.cube_core.proofs.Walks.{sequential_index, index_in_group}
 
 -- one more item of a piece that begins at a place of a list
-pub item_more : (P : ℕ → ℕ → Type 0) (hs : List ℕ) (at x height : ℕ) → at + x < length hs → P x height → ((j : ℕ) → j < x → P j (get_or hs (at + j) 0)) → (j : ℕ) → j < x + 1 → P j (get_or (set hs (at + x) height) (at + j) 0)
-item_more P hs at x height within here before j lt =
+pub item_more : (P : ℕ → ℕ → Type 0) (hs : List ℕ) (at x offset : ℕ) → at + x < length hs → P x offset → ((j : ℕ) → j < x → P j (get_or hs (at + j) 0)) → (j : ℕ) → j < x + 1 → P j (get_or (set hs (at + x) offset) (at + j) 0)
+item_more P hs at x offset within here before j lt =
     elim (cases_eq j x) [
-      | inl e ↦ rw (e, get_or-set_same hs (at + x) height 0 within) here
-      | inr other ↦ let apart : at + j ≢ at + x = omega arith in rw (get_or-set_other hs (at + x) (at + j) height 0 apart) (before j (omega arith))
+      | inl e ↦ rw (e, get_or-set_same hs (at + x) offset 0 within) here
+      | inr other ↦ let apart : at + j ≢ at + x = omega arith in rw (get_or-set_other hs (at + x) (at + j) offset 0 apart) (before j (omega arith))
     ]
 
 -- what stands outside the piece stays
-pub others_stay : (hs first : List ℕ) (at x height : ℕ) → ((j : ℕ) → (j < at) ⊎ (at + x ≤ j) → get_or hs j 0 ≡ get_or first j 0) → (j : ℕ) → (j < at) ⊎ (at + (x + 1) ≤ j) → get_or (set hs (at + x) height) j 0 ≡ get_or first j 0
-others_stay hs first at x height before j (inl low) = let apart : j ≢ at + x = omega arith in rw (get_or-set_other hs (at + x) j height 0 apart) (before j (inl low))
-others_stay hs first at x height before j (inr high) = let apart : j ≢ at + x = omega arith in rw (get_or-set_other hs (at + x) j height 0 apart) (before j (inr (omega arith)))
+pub others_stay : (hs first : List ℕ) (at x offset : ℕ) → ((j : ℕ) → (j < at) ⊎ (at + x ≤ j) → get_or hs j 0 ≡ get_or first j 0) → (j : ℕ) → (j < at) ⊎ (at + (x + 1) ≤ j) → get_or (set hs (at + x) offset) j 0 ≡ get_or first j 0
+others_stay hs first at x offset before j (inl low) = let apart : j ≢ at + x = omega arith in rw (get_or-set_other hs (at + x) j offset 0 apart) (before j (inl low))
+others_stay hs first at x offset before j (inr high) = let apart : j ≢ at + x = omega arith in rw (get_or-set_other hs (at + x) j offset 0 apart) (before j (inr (omega arith)))
 
 -- the items of the longer piece are those of the shorter one and the last
-pub all_but_last : (hs : List ℕ) (at x height limit : ℕ) → at + x < length hs → ((j : ℕ) → j < x + 1 → get_or (set hs (at + x) height) (at + j) 0 < limit) → (height < limit) × ((j : ℕ) → j < x → get_or hs (at + j) 0 < limit)
-all_but_last hs at x height limit within all = (rw (get_or-set_same hs (at + x) height 0 within) at (all x (omega arith)), earlier)
+pub all_but_last : (hs : List ℕ) (at x offset limit : ℕ) → at + x < length hs → ((j : ℕ) → j < x + 1 → get_or (set hs (at + x) offset) (at + j) 0 < limit) → (offset < limit) × ((j : ℕ) → j < x → get_or hs (at + j) 0 < limit)
+all_but_last hs at x offset limit within all = (rw (get_or-set_same hs (at + x) offset 0 within) at (all x (omega arith)), earlier)
   where
     earlier : (j : ℕ) → j < x → get_or hs (at + j) 0 < limit
-    earlier j lt = let apart : at + j ≢ at + x = omega arith in rw (get_or-set_other hs (at + x) (at + j) height 0 apart) at (all j (omega arith))
+    earlier j lt = let apart : at + j ≢ at + x = omega arith in rw (get_or-set_other hs (at + x) (at + j) offset 0 apart) at (all j (omega arith))
 
 -- ---- where the samples of a piece stand in a layout's order
 
@@ -63,7 +63,7 @@ items_of_pixels s z y x j lt =
     let all : min s.bands (s.bands - 0) ≡ s.bands = omega arith in
     index_in_group s s.bands 0 (record { z = z; y = y; x = x + j }) first ∙ rw all (omega arith)
 
--- ---- the heights of a piece
+-- ---- the offsets of a piece
 
 -- a place is among those of a piece
 pub record IsIn (p : Place) (z y x count : ℕ) : Type 0 where
@@ -83,15 +83,15 @@ pub record IsTaken (s : Sizes) (k : SampleKind) (l : Layout) (bytes old new : Li
   pub good : (j : ℕ) → j < count → get_or new (at + j) 0 < 2 ^ k.bits
   pub others : (i : ℕ) → (i < at) ⊎ (at + count ≤ i) → get_or new i 0 ≡ get_or old i 0
 
--- the height at a place of the piece is that of its sample, and elsewhere heights stay
-pub height_there : (s : Sizes) (k : SampleKind) (l : Layout) (bytes old new : List ℕ) (z y x at count first step : ℕ) (p : Place) → IsTaken s k l bytes old new z y x at count first step → IsPlaceOf s p → IsHeightOf s k l bytes old p ⊎ IsIn p z y x count → IsHeightOf s k l bytes new p
-height_there s k l bytes old new z y x at count first step p h place known =
+-- the offset at a place of the piece is that of its sample, and elsewhere offsets stay
+pub offset_there : (s : Sizes) (k : SampleKind) (l : Layout) (bytes old new : List ℕ) (z y x at count first step : ℕ) (p : Place) → IsTaken s k l bytes old new z y x at count first step → IsPlaceOf s p → IsOffsetOf s k l bytes old p ⊎ IsIn p z y x count → IsOffsetOf s k l bytes new p
+offset_there s k l bytes old new z y x at count first step p h place known =
     elim (cases_lt i at) [ inl low ↦ kept (inl low) known | inr above ↦ elim (cases_lt i (at + count)) [ inl high ↦ fresh above high | inr past ↦ kept (inr past) known ] ]
   where
     i : ℕ
     i = index_in s.columns s.rows p.z p.y p.x
 
-    kept : (i < at) ⊎ (at + count ≤ i) → IsHeightOf s k l bytes old p ⊎ IsIn p z y x count → IsHeightOf s k l bytes new p
+    kept : (i < at) ⊎ (at + count ≤ i) → IsOffsetOf s k l bytes old p ⊎ IsIn p z y x count → IsOffsetOf s k l bytes new p
     kept out (inl was) = let same = h.others i out in record { below = rw same was.below; value = rw same was.value }
     kept out (inr inside) = absurd (apart out)
       where
@@ -99,7 +99,7 @@ height_there s k l bytes old new z y x at count first step p h place known =
         apart (inl low) = omega (arith, inside.low, inside.high, rw (inside.band, inside.row) at low, h.at_is)
         apart (inr past) = omega (arith, inside.low, inside.high, rw (inside.band, inside.row) at past, h.at_is)
 
-    fresh : at ≤ i → i < at + count → IsHeightOf s k l bytes new p
+    fresh : at ≤ i → i < at + count → IsOffsetOf s k l bytes new p
     fresh low high =
         let j : ℕ = i - at in
         let lt : i - at < count = omega arith in
@@ -161,12 +161,12 @@ piece_there s l z y x count first step length_is layout lawful band row columns 
     let below : first + j * step < sample_count s = rw (← items j lt) (place_index_below s (order_of l.order s) (record { z = z; y = y; x = x + j }) lawful place) in
     (below, rw whole (omega (arith, bytes_there l (first + j * step) (sample_count s) layout below)))
 
--- where all samples are of the kind, so are the heights of a piece
+-- where all samples are of the kind, so are the offsets of a piece
 pub piece_good : (k : SampleKind) (l : Layout) (bytes new : List ℕ) (at count first step n : ℕ) → ((j : ℕ) → j < count → first + j * step < n) → ((j : ℕ) → j < count → StandsFor k l bytes (first + j * step) (get_or new (at + j) 0)) → AreSamples k l bytes n → (j : ℕ) → j < count → get_or new (at + j) 0 < 2 ^ k.bits
 piece_good k l bytes new at count first step n within taken all j lt = (taken j lt).range (all (first + j * step) (within j lt))
 
--- the heights of all samples, where they follow one another as in the cube
-pub all_there : (s : Sizes) (k : SampleKind) (l : Layout) (bytes new : List ℕ) (count : ℕ) → l.order ≡ raw.Bsq → count ≡ sample_count s → ((j : ℕ) → j < count → StandsFor k l bytes (0 + j * 1) (get_or new (0 + j) 0)) → ((j : ℕ) → j < count → get_or new (0 + j) 0 < 2 ^ k.bits) → AreHeightsOf s k l bytes new
+-- the offsets of all samples, where they follow one another as in the cube
+pub all_there : (s : Sizes) (k : SampleKind) (l : Layout) (bytes new : List ℕ) (count : ℕ) → l.order ≡ raw.Bsq → count ≡ sample_count s → ((j : ℕ) → j < count → StandsFor k l bytes (0 + j * 1) (get_or new (0 + j) 0)) → ((j : ℕ) → j < count → get_or new (0 + j) 0 < 2 ^ k.bits) → AreOffsetsOf s k l bytes new
 all_there s k l bytes new count e n taken good p place =
     let i : ℕ = index_in s.columns s.rows p.z p.y p.x in
     let lt : index_in s.columns s.rows p.z p.y p.x < count = rw n (index_below s.columns s.rows s.bands p.z p.y p.x place.band place.row place.column) in
@@ -210,8 +210,8 @@ apart_by_step first step x y some other e =
     ]
 
 -- one more number of a piece is put down
-pub given_more : (k : SampleKind) (l : Layout) (hs old new : List ℕ) (at first step x : ℕ) → 1 ≤ step → SpellHeight k l (get_or hs (at + x) 0) (bytes_at l new (first + x * step)) → ((i : ℕ) → i ≢ first + x * step → bytes_at l new i ≡ bytes_at l old i)
-    → ((j : ℕ) → j < x → SpellHeight k l (get_or hs (at + j) 0) (bytes_at l old (first + j * step))) → (j : ℕ) → j < x + 1 → SpellHeight k l (get_or hs (at + j) 0) (bytes_at l new (first + j * step))
+pub given_more : (k : SampleKind) (l : Layout) (hs old new : List ℕ) (at first step x : ℕ) → 1 ≤ step → SpellOffset k l (get_or hs (at + x) 0) (bytes_at l new (first + x * step)) → ((i : ℕ) → i ≢ first + x * step → bytes_at l new i ≡ bytes_at l old i)
+    → ((j : ℕ) → j < x → SpellOffset k l (get_or hs (at + j) 0) (bytes_at l old (first + j * step))) → (j : ℕ) → j < x + 1 → SpellOffset k l (get_or hs (at + j) 0) (bytes_at l new (first + j * step))
 given_more k l hs old new at first step x some here others before j lt =
     elim (cases_eq j x) [ inl e ↦ rw e here | inr other ↦ λ fits. others (first + j * step) (apart_by_step first step j x some other) ∙ before j (omega arith) fits ]
 
@@ -228,15 +228,15 @@ pub no_more : (xs : List ℕ) (a : ℕ) → a + 2 ≤ length xs → drop 2 (take
 no_more xs a h = drop_all 2 (take (a + 2 - a) (drop a xs)) (omega (arith, length-take (a + 2 - a) (drop a xs)))
 
 -- what was given of a piece
-pub record IsGiven (s : Sizes) (k : SampleKind) (l : Layout) (heights old new : List ℕ) (z y x at count first step : ℕ) : Type 0 where
+pub record IsGiven (s : Sizes) (k : SampleKind) (l : Layout) (offsets old new : List ℕ) (z y x at count first step : ℕ) : Type 0 where
   pub band : z < s.bands
   pub row : y < s.rows
   pub columns : x + count ≤ s.columns
   pub at_is : at ≡ index_in s.columns s.rows z y x
   pub items : LieEvenly s (order_of l.order s) z y x count first step
-  pub given : (j : ℕ) → j < count → SpellHeight k l (get_or heights (at + j) 0) (bytes_at l new (first + j * step))
+  pub given : (j : ℕ) → j < count → SpellOffset k l (get_or offsets (at + j) 0) (bytes_at l new (first + j * step))
   pub others : (i : ℕ) → ((j : ℕ) → j < count → i ≢ first + j * step) → bytes_at l new i ≡ bytes_at l old i
-  pub good : (j : ℕ) → j < count → HasBytes k l (sample_of k (get_or heights (at + j) 0))
+  pub good : (j : ℕ) → j < count → HasBytes k l (sample_of k (get_or offsets (at + j) 0))
 
 -- a place is that of some sample of the piece, or of none
 in_or_out : (p : Place) (z y x count : ℕ) → IsIn p z y x count ⊎ (IsIn p z y x count → ⊥)
@@ -253,19 +253,19 @@ in_or_out p z y x count =
     ]
 
 -- the bytes of a sample of the piece are there, and elsewhere bytes stay
-pub poured_there : (s : Sizes) (k : SampleKind) (l : Layout) (heights old new : List ℕ) (z y x at count first step : ℕ) (p : Place) → IsOrder s (order_of l.order s) → IsGiven s k l heights old new z y x at count first step → IsPlaceOf s p → IsPoured s k l heights old p ⊎ IsIn p z y x count → IsPoured s k l heights new p
-poured_there s k l heights old new z y x at count first step p lawful h place known = elim (in_or_out p z y x count) [ inl inside ↦ fresh inside | inr out ↦ kept out known ]
+pub poured_there : (s : Sizes) (k : SampleKind) (l : Layout) (offsets old new : List ℕ) (z y x at count first step : ℕ) (p : Place) → IsOrder s (order_of l.order s) → IsGiven s k l offsets old new z y x at count first step → IsPlaceOf s p → IsPoured s k l offsets old p ⊎ IsIn p z y x count → IsPoured s k l offsets new p
+poured_there s k l offsets old new z y x at count first step p lawful h place known = elim (in_or_out p z y x count) [ inl inside ↦ fresh inside | inr out ↦ kept out known ]
   where
-    fresh : IsIn p z y x count → IsPoured s k l heights new p
+    fresh : IsIn p z y x count → IsPoured s k l offsets new p
     fresh inside =
         let lt : p.x - x < count = omega (arith, inside.low, inside.high) in
         let column : x + (p.x - x) ≡ p.x = omega (arith, inside.low) in
         let item : place_index s (order_of l.order s) p ≡ first + (p.x - x) * step = rw (← inside.band, ← inside.row, column) at (h.items (p.x - x) lt) in
-        let height : index_in s.columns s.rows p.z p.y p.x ≡ at + (p.x - x) = rw (inside.band, inside.row) (omega (arith, h.at_is, inside.low)) in
+        let offset : index_in s.columns s.rows p.z p.y p.x ≡ at + (p.x - x) = rw (inside.band, inside.row) (omega (arith, h.at_is, inside.low)) in
         let fits = h.good (p.x - x) lt in
-        record { fits = rw height fits; there = rw (item, height) (h.given (p.x - x) lt fits) }
+        record { fits = rw offset fits; there = rw (item, offset) (h.given (p.x - x) lt fits) }
 
-    kept : (IsIn p z y x count → ⊥) → IsPoured s k l heights old p ⊎ IsIn p z y x count → IsPoured s k l heights new p
+    kept : (IsIn p z y x count → ⊥) → IsPoured s k l offsets old p ⊎ IsIn p z y x count → IsPoured s k l offsets new p
     kept out (inr inside) = absurd (out inside)
     kept out (inl was) = record { fits = was.fits; there = h.others (place_index s (order_of l.order s) p) apart ∙ was.there }
       where
@@ -276,20 +276,20 @@ poured_there s k l heights old new z y x at count first step p lawful h place kn
             out (record { band = ap (λ (q : Place). q.z) same; row = ap (λ (q : Place). q.y) same; low = omega (arith, ap (λ (q : Place). q.x) same); high = omega (arith, ap (λ (q : Place). q.x) same) })
 
 -- where all samples have their bytes, so have those of a piece
-pub piece_fits : (s : Sizes) (k : SampleKind) (l : Layout) (heights : List ℕ) (z y x at count : ℕ) → z < s.bands → y < s.rows → x + count ≤ s.columns → at ≡ index_in s.columns s.rows z y x → CanBePoured s k l heights → (j : ℕ) → j < count → HasBytes k l (sample_of k (get_or heights (at + j) 0))
-piece_fits s k l heights z y x at count band row columns at_is all j lt =
+pub piece_fits : (s : Sizes) (k : SampleKind) (l : Layout) (offsets : List ℕ) (z y x at count : ℕ) → z < s.bands → y < s.rows → x + count ≤ s.columns → at ≡ index_in s.columns s.rows z y x → CanBePoured s k l offsets → (j : ℕ) → j < count → HasBytes k l (sample_of k (get_or offsets (at + j) 0))
+piece_fits s k l offsets z y x at count band row columns at_is all j lt =
     let there : index_in s.columns s.rows z y (x + j) ≡ at + j = omega (arith, at_is) in
     rw there at (all (record { z = z; y = y; x = x + j }) (record { band = band; row = row; column = omega arith }))
 
--- the heights of a piece are there, and in range
-pub piece_heights : (s : Sizes) (k : SampleKind) (heights : List ℕ) (z y x at count : ℕ) → z < s.bands → y < s.rows → x + count ≤ s.columns → at ≡ index_in s.columns s.rows z y x → AreHeights s k heights → (j : ℕ) → j < count → (at + j < length heights) × (get_or heights (at + j) 0 < 2 ^ k.bits)
-piece_heights s k heights z y x at count band row columns at_is h j lt =
-    let below : at + j < length heights = omega (arith, at_is, h.whole, index_below s.columns s.rows s.bands z y (x + j) band row (omega arith)) in
+-- the offsets of a piece are there, and in range
+pub piece_offsets : (s : Sizes) (k : SampleKind) (offsets : List ℕ) (z y x at count : ℕ) → z < s.bands → y < s.rows → x + count ≤ s.columns → at ≡ index_in s.columns s.rows z y x → AreOffsets s k offsets → (j : ℕ) → j < count → (at + j < length offsets) × (get_or offsets (at + j) 0 < 2 ^ k.bits)
+piece_offsets s k offsets z y x at count band row columns at_is h j lt =
+    let below : at + j < length offsets = omega (arith, at_is, h.whole, index_below s.columns s.rows s.bands z y (x + j) band row (omega arith)) in
     (below, h.range (at + j) below)
 
 -- the bytes of all samples, where they follow one another as in the cube
-pub all_given : (s : Sizes) (k : SampleKind) (l : Layout) (heights new : List ℕ) (count : ℕ) → l.order ≡ raw.Bsq → count ≡ sample_count s → ((j : ℕ) → j < count → SpellHeight k l (get_or heights (0 + j) 0) (bytes_at l new (0 + j * 1))) → ((j : ℕ) → j < count → HasBytes k l (sample_of k (get_or heights (0 + j) 0))) → ArePoured s k l heights new
-all_given s k l heights new count e n given good p place =
+pub all_given : (s : Sizes) (k : SampleKind) (l : Layout) (offsets new : List ℕ) (count : ℕ) → l.order ≡ raw.Bsq → count ≡ sample_count s → ((j : ℕ) → j < count → SpellOffset k l (get_or offsets (0 + j) 0) (bytes_at l new (0 + j * 1))) → ((j : ℕ) → j < count → HasBytes k l (sample_of k (get_or offsets (0 + j) 0))) → ArePoured s k l offsets new
+all_given s k l offsets new count e n given good p place =
     let lt : index_in s.columns s.rows p.z p.y p.x < count = rw n (index_below s.columns s.rows s.bands p.z p.y p.x place.band place.row place.column) in
     let item : place_index s (order_of l.order s) p ≡ 0 + index_in s.columns s.rows p.z p.y p.x * 1 = rw e (sequential_index s p ∙ omega arith) in
     let here : 0 + index_in s.columns s.rows p.z p.y p.x ≡ index_in s.columns s.rows p.z p.y p.x = omega arith in
@@ -297,8 +297,8 @@ all_given s k l heights new count e n given good p place =
     record { fits = rw here at fits; there = rw item (rw here at (given (index_in s.columns s.rows p.z p.y p.x) lt fits)) }
 
 -- where all samples have their bytes, each of the first ones has
-pub all_fit : (s : Sizes) (k : SampleKind) (l : Layout) (heights : List ℕ) (count : ℕ) → count ≡ sample_count s → CanBePoured s k l heights → (j : ℕ) → j < count → HasBytes k l (sample_of k (get_or heights (0 + j) 0))
-all_fit s k l heights count n all j lt =
+pub all_fit : (s : Sizes) (k : SampleKind) (l : Layout) (offsets : List ℕ) (count : ℕ) → count ≡ sample_count s → CanBePoured s k l offsets → (j : ℕ) → j < count → HasBytes k l (sample_of k (get_or offsets (0 + j) 0))
+all_fit s k l offsets count n all j lt =
     let there = place_of s Bsq j tt (omega arith) in
     let here : index_in s.columns s.rows there.0.z there.0.y there.0.x ≡ 0 + j = sym (sequential_index s there.0) ∙ there.1.index ∙ omega arith in
     rw here at (all there.0 there.1.place)

@@ -12,12 +12,12 @@ use Rattle.cube_core.specs.declared.layout.Layout.{Layout}
 use Rattle.cube_core.specs.Shape.{Sizes, AreSizes, sample_count}
 use Rattle.cube_core.specs.Kind.{SampleKind, IsKind, sample_of}
 use Rattle.cube_core.specs.Image.{Image, IsCube, index_in, sample_at}
-use Rattle.cube_core.specs.Heights.{samples_of, AreHeights}
+use Rattle.cube_core.specs.Offsets.{samples_of, AreOffsets}
 use Rattle.cube_core.specs.Order.{places}
 use Rattle.cube_core.specs.Layout.{IsLayout, order_of, raw_code, twos_complement, raw_value, bytes_at, sample_bytes, raw_bytes}
-use Rattle.cube_core.specs.Raw.{AreHeightsOf}
+use Rattle.cube_core.specs.Raw.{AreOffsetsOf}
 use Rattle.cube_core.proofs.Bounds.{index_below}
-use Rattle.cube_core.proofs.Heights.{sample_at_height, sample_read, height_is_sample}
+use Rattle.cube_core.proofs.Offsets.{sample_at_offset, sample_read, offset_is_sample}
 use Rattle.cube_core.proofs.Orders.{StandsAt, place_at_index, length-places}
 use Rattle.cube_core.proofs.Raws.{place_of, lawful_order, bytes_there}
 
@@ -76,60 +76,60 @@ sample_bytes_again l k bytes (inr e) h n = two_again l.little l k bytes h refl e
 -- ---- all samples
 
 abbrev image : Sizes → SampleKind → List ℕ → Image
-image s k heights = record { shape = s; kind = k; samples = samples_of k heights }
+image s k offsets = record { shape = s; kind = k; samples = samples_of k offsets }
 
 -- the bytes of a sample are bytes
 pub bytes_at_small : (l : Layout) (bytes : List ℕ) (i : ℕ) → AreBytes bytes → AreBytes (bytes_at l bytes i)
 bytes_at_small l bytes i small j = elim (cases_lt j l.bytes) [ inl lt ↦ rw (get_or-take l.bytes (drop (i * l.bytes) bytes) j 0 lt, get_or-drop (i * l.bytes) bytes j 0) (small (i * l.bytes + j)) | inr past ↦ rw (get_or_past (bytes_at l bytes i) j 0 (omega (arith, length-take l.bytes (drop (i * l.bytes) bytes)))) (omega arith) ]
 
 -- the sample that stands at i is the one that its bytes spell
-pub sample_spelled : (s : Sizes) (k : SampleKind) (l : Layout) (bytes heights : List ℕ) (p : Place) (i : ℕ) → length heights ≡ sample_count s → AreHeightsOf s k l bytes heights → StandsAt s (order_of l.order s) p i → sample_at (image s k heights) p.z p.y p.x ≡ raw_value l k (bytes_at l bytes i)
-sample_spelled s k l bytes heights p i full here stands =
-    let at : index_in s.columns s.rows p.z p.y p.x < length heights = rw full (index_below s.columns s.rows s.bands p.z p.y p.x stands.place.band stands.place.row stands.place.column) in
-    let read = sample_at_height (image s k heights) s k heights p.z p.y p.x (index_in s.columns s.rows p.z p.y p.x) refl refl at in
+pub sample_spelled : (s : Sizes) (k : SampleKind) (l : Layout) (bytes offsets : List ℕ) (p : Place) (i : ℕ) → length offsets ≡ sample_count s → AreOffsetsOf s k l bytes offsets → StandsAt s (order_of l.order s) p i → sample_at (image s k offsets) p.z p.y p.x ≡ raw_value l k (bytes_at l bytes i)
+sample_spelled s k l bytes offsets p i full here stands =
+    let at : index_in s.columns s.rows p.z p.y p.x < length offsets = rw full (index_below s.columns s.rows s.bands p.z p.y p.x stands.place.band stands.place.row stands.place.column) in
+    let read = sample_at_offset (image s k offsets) s k offsets p.z p.y p.x (index_in s.columns s.rows p.z p.y p.x) refl refl at in
     read ∙ (here p stands.place).value ∙ ap (λ (n : ℕ). raw_value l k (bytes_at l bytes n)) stands.index
 
-each_sample : (s : Sizes) (k : SampleKind) (l : Layout) (bytes heights : List ℕ) (i : ℕ) (d : Place) → IsLayout l → 0 < sample_count s → length bytes ≡ sample_count s * l.bytes → AreBytes bytes → length heights ≡ sample_count s → AreHeightsOf s k l bytes heights → i < sample_count s
-    → sample_bytes l (sample_at (image s k heights) (get_or (places s (order_of l.order s)) i d).z (get_or (places s (order_of l.order s)) i d).y (get_or (places s (order_of l.order s)) i d).x) ≡ bytes_at l bytes i
-each_sample s k l bytes heights i d layout some long small full here lt =
+each_sample : (s : Sizes) (k : SampleKind) (l : Layout) (bytes offsets : List ℕ) (i : ℕ) (d : Place) → IsLayout l → 0 < sample_count s → length bytes ≡ sample_count s * l.bytes → AreBytes bytes → length offsets ≡ sample_count s → AreOffsetsOf s k l bytes offsets → i < sample_count s
+    → sample_bytes l (sample_at (image s k offsets) (get_or (places s (order_of l.order s)) i d).z (get_or (places s (order_of l.order s)) i d).y (get_or (places s (order_of l.order s)) i d).x) ≡ bytes_at l bytes i
+each_sample s k l bytes offsets i d layout some long small full here lt =
     let lawful = lawful_order l.order s some in
     let there = place_of s (order_of l.order s) i lawful lt in
     let p : Place = there.0 in
     let item : get_or (places s (order_of l.order s)) i d ≡ p = subst (λ (n : ℕ). get_or (places s (order_of l.order s)) n d ≡ p) there.1.index (place_at_index s (order_of l.order s) p d lawful there.1.place) in
     let fits : i * l.bytes + l.bytes ≤ length bytes = rw long (bytes_there l i (sample_count s) layout lt) in
     let whole : length (bytes_at l bytes i) ≡ l.bytes = omega (arith, length-take l.bytes (drop (i * l.bytes) bytes), length-drop (i * l.bytes) bytes) in
-    rw (item, sample_spelled s k l bytes heights p i full here there.1) (sample_bytes_again l k (bytes_at l bytes i) layout (bytes_at_small l bytes i small) whole)
+    rw (item, sample_spelled s k l bytes offsets p i full here there.1) (sample_bytes_again l k (bytes_at l bytes i) layout (bytes_at_small l bytes i small) whole)
 
-pub raw_bytes_again : (s : Sizes) (k : SampleKind) (l : Layout) (bytes heights : List ℕ) → IsLayout l → 0 < sample_count s → length bytes ≡ sample_count s * l.bytes → AreBytes bytes → length heights ≡ sample_count s → AreHeightsOf s k l bytes heights
-    → raw_bytes (record { shape = s; kind = k; samples = samples_of k heights }) l ≡ bytes
+pub raw_bytes_again : (s : Sizes) (k : SampleKind) (l : Layout) (bytes offsets : List ℕ) → IsLayout l → 0 < sample_count s → length bytes ≡ sample_count s * l.bytes → AreBytes bytes → length offsets ≡ sample_count s → AreOffsetsOf s k l bytes offsets
+    → raw_bytes (record { shape = s; kind = k; samples = samples_of k offsets }) l ≡ bytes
 unfolding raw_bytes
-raw_bytes_again s k l bytes heights layout some long small full here =
-    pieces_whole (λ (p : Place). sample_bytes l (sample_at (image s k heights) p.z p.y p.x)) (places s (order_of l.order s)) l.bytes bytes (rw (length-places s (order_of l.order s) (lawful_order l.order s some)) long)
-    (λ i d lt. each_sample s k l bytes heights i d layout some long small full here (omega (arith, lt, length-places s (order_of l.order s) (lawful_order l.order s some))))
+raw_bytes_again s k l bytes offsets layout some long small full here =
+    pieces_whole (λ (p : Place). sample_bytes l (sample_at (image s k offsets) p.z p.y p.x)) (places s (order_of l.order s)) l.bytes bytes (rw (length-places s (order_of l.order s) (lawful_order l.order s some)) long)
+    (λ i d lt. each_sample s k l bytes offsets i d layout some long small full here (omega (arith, lt, length-places s (order_of l.order s) (lawful_order l.order s some))))
 
--- ---- heights
+-- ---- offsets
 
--- each height is within the kind's bits
-pub are_heights : (s : Sizes) (k : SampleKind) (l : Layout) (bytes heights : List ℕ) → 0 < sample_count s → length heights ≡ sample_count s → AreHeightsOf s k l bytes heights → AreHeights s k heights
-are_heights s k l bytes heights some full here =
+-- each offset is within the kind's bits
+pub are_offsets : (s : Sizes) (k : SampleKind) (l : Layout) (bytes offsets : List ℕ) → 0 < sample_count s → length offsets ≡ sample_count s → AreOffsetsOf s k l bytes offsets → AreOffsets s k offsets
+are_offsets s k l bytes offsets some full here =
     record {
       whole = full;
-      range = λ i lt. let there = place_of s Bsq i tt (omega arith) in subst (λ (n : ℕ). get_or heights n 0 < 2 ^ k.bits) (sym (sequential_index s there.0) ∙ there.1.index) (here there.0 there.1.place).below;
+      range = λ i lt. let there = place_of s Bsq i tt (omega arith) in subst (λ (n : ℕ). get_or offsets n 0 < 2 ^ k.bits) (sym (sequential_index s there.0) ∙ there.1.index) (here there.0 there.1.place).below;
     }
 
-pub zeros_are_samples : (k : SampleKind) (n height : ℕ) → sample_of k height ≡ pos 0 → samples_of k (replicate n height) ≡ replicate n (pos 0)
+pub zeros_are_samples : (k : SampleKind) (n offset : ℕ) → sample_of k offset ≡ pos 0 → samples_of k (replicate n offset) ≡ replicate n (pos 0)
 unfolding samples_of
-zeros_are_samples k zero height e = refl
-zeros_are_samples k (suc n) height e = rw (e, zeros_are_samples k n height e) refl
+zeros_are_samples k zero offset e = refl
+zeros_are_samples k (suc n) offset e = rw (e, zeros_are_samples k n offset e) refl
 
--- what is kept as heights is a cube
-pub is_cube : (s : Sizes) (k : SampleKind) (heights : List ℕ) → AreSizes s → IsKind k → AreHeights s k heights → IsCube (record { shape = s; kind = k; samples = samples_of k heights })
+-- what is kept as offsets is a cube
+pub is_cube : (s : Sizes) (k : SampleKind) (offsets : List ℕ) → AreSizes s → IsKind k → AreOffsets s k offsets → IsCube (record { shape = s; kind = k; samples = samples_of k offsets })
 unfolding samples_of
-is_cube s k heights sizes bits here =
-    let long : length (samples_of k heights) ≡ length heights = length-map heights (sample_of k) in
+is_cube s k offsets sizes bits here =
+    let long : length (samples_of k offsets) ≡ length offsets = length-map offsets (sample_of k) in
     record {
       sizes = sizes;
       bits = bits;
       whole = long ∙ here.whole;
-      range = λ i lt. let within : i < length heights = rw long at lt in rw (sample_read k heights i within) (height_is_sample k (get_or heights i 0) bits (here.range i within));
+      range = λ i lt. let within : i < length offsets = rw long at lt in rw (sample_read k offsets i within) (offset_is_sample k (get_or offsets i 0) bits (here.range i within));
     }

@@ -1,22 +1,22 @@
--- The height of a number, found modulo 2^16.
+-- The offset of a number, found modulo 2^16.
 use Rattle.std.proofs.Common.{◌≡◌, ◌⊎◌, ◌+◌, ◌*◌, ◌%◌, ◌<◌, ◌≤◌, ◌-◌, ◌^◌, ℕ, Bool, true, false, ℤ, pos, ◌-ℤ◌, arith, inl, inr}
 use Rattle.std.proofs.lemmas.Int.{ints}
 use Rattle.std.proofs.lemmas.Bool.Decides.{nat_tests}
 use Rattle.cube_core.specs.Kind.{SampleKind, IsKind, IsSample, sample_of}
 use Rattle.cube_core.specs.Layout.{twos_complement}
-use Rattle.cube_core.specs.Scale.{half_of, zero_height}
+use Rattle.cube_core.specs.Scale.{half_of, zero_offset}
 use Rattle.cube_core.proofs.Bounds.{power_grows}
-use Rattle.cube_core.proofs.Heights.{doubled}
+use Rattle.cube_core.proofs.Offsets.{doubled}
 
 -- a number turned by half of all numbers is half above what it stands for
-turned_one : (number : ℕ) → number < 256 → twos_complement true 1 number ≡ pos ((number + 128) % 256) -ℤ pos 128
-turned_one number h = grind (arith, ints, nat_tests)
+rebased_one : (number : ℕ) → number < 256 → twos_complement true 1 number ≡ pos ((number + 128) % 256) -ℤ pos 128
+rebased_one number h = grind (arith, ints, nat_tests)
 
-turned_two : (number : ℕ) → number < 65536 → twos_complement true 2 number ≡ pos ((number + 32768) % 65536) -ℤ pos 32768
-turned_two number h = grind (arith, ints, nat_tests)
+rebased_two : (number : ℕ) → number < 65536 → twos_complement true 2 number ≡ pos ((number + 32768) % 65536) -ℤ pos 32768
+rebased_two number h = grind (arith, ints, nat_tests)
 
 abbrev Stands : SampleKind → ℕ → ℤ → Type 0
-Stands k height v = (height < 2 ^ k.bits → sample_of k height ≡ v) × (IsSample k v → height < 2 ^ k.bits)
+Stands k offset v = (offset < 2 ^ k.bits → sample_of k offset ≡ v) × (IsSample k v → offset < 2 ^ k.bits)
 
 lifted : (bits half lift t : ℕ) → 2 ≤ bits → bits ≤ 16 → half ≤ 32768 → t < 2 * half → lift < 65536 → (lift + half) % 65536 ≡ 2 ^ (bits - 1) → Stands (record { signed = true; bits = bits }) ((t + lift) % 65536) (pos t -ℤ pos half)
 lifted bits half lift t a b c d e f =
@@ -29,33 +29,33 @@ plain bits lift t a b c =
     let none : lift ≡ 0 = omega arith in
     (λ lt. omega (arith, ints), λ s. omega (arith, ints, s.0, s.1))
 
-stands_by : (signed : Bool) (bits bytes number half lift turned : ℕ) → 2 ≤ bits → bits ≤ 16 → (bytes ≡ 1) ⊎ (bytes ≡ 2) → number < 2 ^ (8 * bytes) → half ≡ half_of signed bytes → lift < 65536 → (lift + half) % 65536 ≡ zero_height (record { signed = signed; bits = bits }) → turned ≡ (number + half) % 2 ^ (8 * bytes)
-    → Stands (record { signed = signed; bits = bits }) ((turned + lift) % 65536) (twos_complement signed bytes number)
-stands_by true bits bytes number half lift turned a b (inl e) n h l z t =
+stands_by : (signed : Bool) (bits bytes number half lift rebased : ℕ) → 2 ≤ bits → bits ≤ 16 → (bytes ≡ 1) ⊎ (bytes ≡ 2) → number < 2 ^ (8 * bytes) → half ≡ half_of signed bytes → lift < 65536 → (lift + half) % 65536 ≡ zero_offset (record { signed = signed; bits = bits }) → rebased ≡ (number + half) % 2 ^ (8 * bytes)
+    → Stands (record { signed = signed; bits = bits }) ((rebased + lift) % 65536) (twos_complement signed bytes number)
+stands_by true bits bytes number half lift rebased a b (inl e) n h l z t =
     let small : number < 256 = rw e at n in
     let half_is : half ≡ 128 = rw e at h in
-    let turned_is : turned ≡ (number + 128) % 256 = rw (e, half_is) at t in
-    let below : turned < 2 * half = omega arith in
-    let v : twos_complement true bytes number ≡ pos turned -ℤ pos half = rw (e, turned_is, half_is) (turned_one number small) in
-    rw v (lifted bits half lift turned a b (omega arith) below l z)
-stands_by true bits bytes number half lift turned a b (inr e) n h l z t =
+    let rebased_is : rebased ≡ (number + 128) % 256 = rw (e, half_is) at t in
+    let below : rebased < 2 * half = omega arith in
+    let v : twos_complement true bytes number ≡ pos rebased -ℤ pos half = rw (e, rebased_is, half_is) (rebased_one number small) in
+    rw v (lifted bits half lift rebased a b (omega arith) below l z)
+stands_by true bits bytes number half lift rebased a b (inr e) n h l z t =
     let small : number < 65536 = rw e at n in
     let half_is : half ≡ 32768 = rw e at h in
-    let turned_is : turned ≡ (number + 32768) % 65536 = rw (e, half_is) at t in
-    let below : turned < 2 * half = omega arith in
-    let v : twos_complement true bytes number ≡ pos turned -ℤ pos half = rw (e, turned_is, half_is) (turned_two number small) in
-    rw v (lifted bits half lift turned a b (omega arith) below l z)
-stands_by false bits bytes number half lift turned a b (inl e) n h l z t =
+    let rebased_is : rebased ≡ (number + 32768) % 65536 = rw (e, half_is) at t in
+    let below : rebased < 2 * half = omega arith in
+    let v : twos_complement true bytes number ≡ pos rebased -ℤ pos half = rw (e, rebased_is, half_is) (rebased_two number small) in
+    rw v (lifted bits half lift rebased a b (omega arith) below l z)
+stands_by false bits bytes number half lift rebased a b (inl e) n h l z t =
     let small : number < 256 = rw e at n in
-    let turned_is : turned ≡ (number + 0) % 256 = rw (e, h) at t in
-    let same : turned ≡ number = omega arith in
+    let rebased_is : rebased ≡ (number + 0) % 256 = rw (e, h) at t in
+    let same : rebased ≡ number = omega arith in
     rw same (plain bits lift number (omega arith) l (rw h at z))
-stands_by false bits bytes number half lift turned a b (inr e) n h l z t =
+stands_by false bits bytes number half lift rebased a b (inr e) n h l z t =
     let small : number < 65536 = rw e at n in
-    let turned_is : turned ≡ (number + 0) % 65536 = rw (e, h) at t in
-    let same : turned ≡ number = omega arith in
+    let rebased_is : rebased ≡ (number + 0) % 65536 = rw (e, h) at t in
+    let same : rebased ≡ number = omega arith in
     rw same (plain bits lift number (omega arith) l (rw h at z))
 
-pub stands : (k : SampleKind) (bytes number half lift turned : ℕ) → IsKind k → (bytes ≡ 1) ⊎ (bytes ≡ 2) → number < 2 ^ (8 * bytes) → half ≡ half_of k.signed bytes → lift < 65536 → (lift + half) % 65536 ≡ zero_height k → turned ≡ (number + half) % 2 ^ (8 * bytes)
-    → Stands k ((turned + lift) % 65536) (twos_complement k.signed bytes number)
-stands k bytes number half lift turned a = stands_by k.signed k.bits bytes number half lift turned a.0 a.1
+pub stands : (k : SampleKind) (bytes number half lift rebased : ℕ) → IsKind k → (bytes ≡ 1) ⊎ (bytes ≡ 2) → number < 2 ^ (8 * bytes) → half ≡ half_of k.signed bytes → lift < 65536 → (lift + half) % 65536 ≡ zero_offset k → rebased ≡ (number + half) % 2 ^ (8 * bytes)
+    → Stands k ((rebased + lift) % 65536) (twos_complement k.signed bytes number)
+stands k bytes number half lift rebased a = stands_by k.signed k.bits bytes number half lift rebased a.0 a.1

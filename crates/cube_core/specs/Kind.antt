@@ -36,4 +36,4 @@ IsSample k v = (smin k ≤ℤ v) × (v ≤ℤ smax k)
 
 -- the sample that stands so far above the least one
 abbrev pub sample_of : SampleKind → ℕ → ℤ
-sample_of k height = smin k +ℤ pos height
+sample_of k offset = smin k +ℤ pos offset

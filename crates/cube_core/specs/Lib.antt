@@ -1,6 +1,6 @@
 pub mod Cursor
 pub mod Everything
-pub mod Heights
+pub mod Offsets
 pub mod Image
 pub mod Kind
 pub mod Laws

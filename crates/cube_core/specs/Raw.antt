@@ -10,14 +10,14 @@ use Rattle.cube_core.specs.Image.{Image, index_in}
 use Rattle.cube_core.specs.Order.{IsPlaceOf, place_index}
 use Rattle.cube_core.specs.Layout.{order_of, raw_value, bytes_at, IsFirstBad, IsFirstUnfit}
 
--- the height at a place is that of the sample that its bytes spell
-pub record IsHeightOf (s : Sizes) (k : SampleKind) (l : Layout) (bytes heights : List ℕ) (p : Place) : Type 0 where
-  pub below : slice_index heights (index_in s.columns s.rows p.z p.y p.x) < 2 ^ k.bits
-  pub value : sample_of k (slice_index heights (index_in s.columns s.rows p.z p.y p.x)) ≡ raw_value l k (bytes_at l bytes (place_index s (order_of l.order s) p))
+-- the offset at a place is that of the sample that its bytes spell
+pub record IsOffsetOf (s : Sizes) (k : SampleKind) (l : Layout) (bytes offsets : List ℕ) (p : Place) : Type 0 where
+  pub below : slice_index offsets (index_in s.columns s.rows p.z p.y p.x) < 2 ^ k.bits
+  pub value : sample_of k (slice_index offsets (index_in s.columns s.rows p.z p.y p.x)) ≡ raw_value l k (bytes_at l bytes (place_index s (order_of l.order s) p))
 
 -- so it is at every place
-abbrev pub AreHeightsOf : Sizes → SampleKind → Layout → List ℕ → List ℕ → Type 0
-AreHeightsOf s k l bytes heights = (p : Place) → IsPlaceOf s p → IsHeightOf s k l bytes heights p
+abbrev pub AreOffsetsOf : Sizes → SampleKind → Layout → List ℕ → List ℕ → Type 0
+AreOffsetsOf s k l bytes offsets = (p : Place) → IsPlaceOf s p → IsOffsetOf s k l bytes offsets p
 
 -- the first samples are of the kind
 abbrev pub AreSamples : SampleKind → Layout → List ℕ → ℕ → Type 0

@@ -7,7 +7,7 @@ ghost use Rattle.cube_core.specs.Layout.{IsLayout, raw_bytes, HaveBytes, IsFirst
 ghost use Rattle.cube_core.specs.Raw.{IsRawFault, IsUnfit};
 ghost use Rattle.cube_core.specs.declared.fault.Fault.TheVariants.{RawLength, WantOfMemory};
 ghost use Rattle.cube_core.specs.Kind.{IsSample};
-ghost use Rattle.cube_core.specs.Heights.{AreRowHeights};
+ghost use Rattle.cube_core.specs.Offsets.{AreRowOffsets};
 
 use crate::cursor::Places;
 use crate::fault::Fault;
@@ -26,18 +26,18 @@ use std::marker::Model;
 pub struct Cube {
     shape: Shape,
     kind: Kind,
-    heights: Vec<u16>,
+    offsets: Vec<u16>,
 }
 
 impl Model for Cube {
     ghost use Rattle.cube_core.specs.Image.{Image};
-    ghost use Rattle.cube_core.specs.Heights.{samples_of, AreHeights};
+    ghost use Rattle.cube_core.specs.Offsets.{samples_of, AreOffsets};
 
     ghost Value = { Image };
 
-    ghost view = { λ c. record { shape = c.shape; kind = c.kind; samples = samples_of c.kind c.heights.items } };
+    ghost view = { λ c. record { shape = c.shape; kind = c.kind; samples = samples_of c.kind c.offsets.items } };
 
-    ghost invariant = { λ c. AreHeights c.shape c.kind c.heights.items };
+    ghost invariant = { λ c. AreOffsets c.shape c.kind c.offsets.items };
 }
 
 impl Cube {
@@ -48,11 +48,11 @@ impl Cube {
         ensures zeros { IfOk result (λ c. c ≡ record { shape = shape; kind = kind; samples = replicate (sample_count shape) (pos 0) }) }
         ensures memory { IfErr result (λ fault. fault ≡ WantOfMemory) }
     {
-        let heights = vec![in alloc; kind.height_of(0); shape.sample_count() as usize]?;
+        let offsets = vec![in alloc; kind.offset_of(0); shape.sample_count() as usize]?;
         Ok(Cube {
             shape,
             kind,
-            heights,
+            offsets,
         })
     }
 
@@ -81,12 +81,12 @@ impl Cube {
         if had != wanted {
             return Err(Fault::RawLength { wanted, had });
         }
-        let mut heights = vec![in alloc; 0u16; shape.sample_count() as usize]?;
-        fill(shape, kind, layout, bytes, &mut heights)?;
+        let mut offsets = vec![in alloc; 0u16; shape.sample_count() as usize]?;
+        fill(shape, kind, layout, bytes, &mut offsets)?;
         Ok(Cube {
             shape,
             kind,
-            heights,
+            offsets,
         })
     }
 
@@ -104,7 +104,7 @@ impl Cube {
         // At most 2^48 samples, so no length overflows.
         let _count = shape.sample_count();
         let mut bytes = vec![in alloc; 0u8; layout.length(shape) as usize]?;
-        if pour(shape, self.kind, layout, &self.heights, &mut bytes) {
+        if pour(shape, self.kind, layout, &self.offsets, &mut bytes) {
             Ok(bytes)
         } else {
             Err(Fault::SampleRange {
@@ -158,7 +158,7 @@ impl Cube {
         ensures bounds { (negsuc 32767 ≤ℤ result) × (result ≤ℤ pos 65535) }
     {
         let at = index_at(self.shape, z, y, x);
-        self.kind.sample_of(self.heights[at])
+        self.kind.sample_of(self.offsets[at])
     }
 
     /// Puts a sample at band `z`, row `y`, column `x`, and changes no other.
@@ -168,11 +168,11 @@ impl Cube {
         ensures { self.new ≡ put self.old z y x sample }
     {
         let at = index_at(self.shape, z, y, x);
-        self.heights[at] = self.kind.height_of(sample);
+        self.offsets[at] = self.kind.offset_of(sample);
     }
 
     /// That sizes and kind are in range, and a sample of the kind is at each place: a fact for proofs.
-    pub fn is_cube(&self)
+    pub fn prove_is_cube(&self)
         ensures { IsCube self.now }
     {
         let _columns = self.shape.columns();
@@ -181,13 +181,13 @@ impl Cube {
         let _bits = self.kind.bits();
     }
 
-    /// One row of a band, each sample as its height above the least sample of the kind.
+    /// One row of a band, each sample as its offset from the least sample of the kind.
     pub fn row(&self, z: u32, y: u32) -> &[u16]
         requires { IsPlace self.now.shape z y 0 }
         ensures len { length result.now ≡ self.now.shape.columns }
-        ensures samples { AreRowHeights self.now z y result.now }
+        ensures samples { AreRowOffsets self.now z y result.now }
     {
         let from = index_at(self.shape, z, y, 0);
-        &self.heights[from..from + self.shape.columns() as usize]
+        &self.offsets[from..from + self.shape.columns() as usize]
     }
 }

@@ -116,17 +116,17 @@ impl Kind {
     }
 
     /// The sample that stands so far above the least one.
-    pub fn sample_of(self, height: u16) -> i32
-        requires { height < 2 ^ self.bits }
-        ensures value { result ≡ sample_of self height }
+    pub fn sample_of(self, offset: u16) -> i32
+        requires { offset < 2 ^ self.bits }
+        ensures value { result ≡ sample_of self offset }
         ensures range { IsSample self result }
         ensures bounds { (negsuc 32767 ≤ℤ result) × (result ≤ℤ pos 65535) }
     {
-        self.smin() + i32::from(height)
+        self.smin() + i32::from(offset)
     }
 
     /// How far a sample stands above the least one.
-    pub fn height_of(self, sample: i32) -> u16
+    pub fn offset_of(self, sample: i32) -> u16
         requires { IsSample self sample }
         ensures value { sample_of self result ≡ sample }
         ensures below { result < 2 ^ self.bits }

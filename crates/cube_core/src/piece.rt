@@ -5,7 +5,7 @@ ghost use Rattle.cube_core.specs.Image.{IsPlace, index_in};
 ghost use Rattle.cube_core.specs.Kind.{sample_of};
 ghost use Rattle.cube_core.specs.Layout.{IsLayout, HasBytes, order_of, raw_number, raw_code, bytes_at, sample_bytes};
 ghost use Rattle.cube_core.specs.Pieces.{LieEvenly};
-ghost use Rattle.cube_core.specs.Scale.{StandsFor, SpellHeight};
+ghost use Rattle.cube_core.specs.Scale.{StandsFor, SpellOffset};
 
 use crate::layout::{Layout, RawOrder};
 use crate::scale::Scale;
@@ -65,29 +65,29 @@ impl Piece {
     }
 }
 
-/// Writes the heights of a piece's samples, and says whether all of them are of the kind.
+/// Writes the offsets of a piece's samples, and says whether all of them are of the kind.
 pub(crate) fn take_piece(
     layout: Layout,
     scale: &Scale,
     piece: Piece,
     bytes: &[u8],
-    heights: &mut [u16],
+    offsets: &mut [u16],
 ) -> bool
     requires layout { IsLayout layout }
     requires scale { scale.now.bytes ≡ layout.bytes }
     requires small { length bytes.now ≤ 2 ^ 49 }
     requires there { (x : ℕ) → x < piece.count → (piece.first + x * piece.step + 1) * layout.bytes ≤ length bytes.now }
-    requires room { piece.at + piece.count ≤ length heights.old }
-    ensures taken { (x : ℕ) → x < piece.count → StandsFor scale.now.kind layout bytes.now (piece.first + x * piece.step) (slice_index heights.new (piece.at + x)) }
-    ensures others { (j : ℕ) → (j < piece.at) ⊎ (piece.at + piece.count ≤ j) → slice_index heights.new j ≡ slice_index heights.old j }
-    ensures good { IsTrue result ↔ ((x : ℕ) → x < piece.count → slice_index heights.new (piece.at + x) < 2 ^ scale.now.kind.bits) }
+    requires room { piece.at + piece.count ≤ length offsets.old }
+    ensures taken { (x : ℕ) → x < piece.count → StandsFor scale.now.kind layout bytes.now (piece.first + x * piece.step) (slice_index offsets.new (piece.at + x)) }
+    ensures others { (j : ℕ) → (j < piece.at) ⊎ (piece.at + piece.count ≤ j) → slice_index offsets.new j ≡ slice_index offsets.old j }
+    ensures good { IsTrue result ↔ ((x : ℕ) → x < piece.count → slice_index offsets.new (piece.at + x) < 2 ^ scale.now.kind.bits) }
 {
     if layout.bytes == 1 {
-        take_numbers::<1, false>(layout, scale, piece, bytes, heights)
+        take_numbers::<1, false>(layout, scale, piece, bytes, offsets)
     } else if layout.little {
-        take_numbers::<2, true>(layout, scale, piece, bytes, heights)
+        take_numbers::<2, true>(layout, scale, piece, bytes, offsets)
     } else {
-        take_numbers::<2, false>(layout, scale, piece, bytes, heights)
+        take_numbers::<2, false>(layout, scale, piece, bytes, offsets)
     }
 }
 
@@ -97,7 +97,7 @@ fn take_numbers<const BYTES: u32, const LITTLE: bool>(
     scale: &Scale,
     piece: Piece,
     bytes: &[u8],
-    heights: &mut [u16],
+    offsets: &mut [u16],
 ) -> bool
     requires width { (BYTES ≡ 1) ⊎ (BYTES ≡ 2) }
     requires form { layout.bytes ≡ BYTES }
@@ -105,17 +105,17 @@ fn take_numbers<const BYTES: u32, const LITTLE: bool>(
     requires scale { scale.now.bytes ≡ BYTES }
     requires small { length bytes.now ≤ 2 ^ 49 }
     requires there { (x : ℕ) → x < piece.count → (piece.first + x * piece.step + 1) * BYTES ≤ length bytes.now }
-    requires room { piece.at + piece.count ≤ length heights.old }
-    ensures taken { (x : ℕ) → x < piece.count → StandsFor scale.now.kind layout bytes.now (piece.first + x * piece.step) (slice_index heights.new (piece.at + x)) }
-    ensures others { (j : ℕ) → (j < piece.at) ⊎ (piece.at + piece.count ≤ j) → slice_index heights.new j ≡ slice_index heights.old j }
-    ensures good { IsTrue result ↔ ((x : ℕ) → x < piece.count → slice_index heights.new (piece.at + x) < 2 ^ scale.now.kind.bits) }
+    requires room { piece.at + piece.count ≤ length offsets.old }
+    ensures taken { (x : ℕ) → x < piece.count → StandsFor scale.now.kind layout bytes.now (piece.first + x * piece.step) (slice_index offsets.new (piece.at + x)) }
+    ensures others { (j : ℕ) → (j < piece.at) ⊎ (piece.at + piece.count ≤ j) → slice_index offsets.new j ≡ slice_index offsets.old j }
+    ensures good { IsTrue result ↔ ((x : ℕ) → x < piece.count → slice_index offsets.new (piece.at + x) < 2 ^ scale.now.kind.bits) }
 {
     let mut greatest = 0;
     for x in 0..piece.count {
         let number = number_at::<BYTES, LITTLE>(layout, bytes, piece.first + x * piece.step);
-        let height = scale.height::<BYTES>(number);
-        heights[piece.at + x] = height;
-        greatest = height.max(greatest);
+        let offset = scale.offset::<BYTES>(number);
+        offsets[piece.at + x] = offset;
+        greatest = offset.max(greatest);
     }
     scale.has(greatest)
 }
@@ -144,7 +144,7 @@ pub(crate) fn give_piece(
     layout: Layout,
     scale: &Scale,
     piece: Piece,
-    heights: &[u16],
+    offsets: &[u16],
     bytes: &mut [u8],
 ) -> bool
     requires layout { IsLayout layout }
@@ -152,18 +152,18 @@ pub(crate) fn give_piece(
     requires apart { 1 ≤ piece.step }
     requires small { length bytes.old ≤ 2 ^ 49 }
     requires there { (x : ℕ) → x < piece.count → (piece.first + x * piece.step + 1) * layout.bytes ≤ length bytes.old }
-    requires room { piece.at + piece.count ≤ length heights.now }
-    requires range { (x : ℕ) → x < piece.count → slice_index heights.now (piece.at + x) < 2 ^ scale.now.kind.bits }
-    ensures given { (x : ℕ) → x < piece.count → SpellHeight scale.now.kind layout (slice_index heights.now (piece.at + x)) (bytes_at layout bytes.new (piece.first + x * piece.step)) }
+    requires room { piece.at + piece.count ≤ length offsets.now }
+    requires range { (x : ℕ) → x < piece.count → slice_index offsets.now (piece.at + x) < 2 ^ scale.now.kind.bits }
+    ensures given { (x : ℕ) → x < piece.count → SpellOffset scale.now.kind layout (slice_index offsets.now (piece.at + x)) (bytes_at layout bytes.new (piece.first + x * piece.step)) }
     ensures others { (i : ℕ) → ((x : ℕ) → x < piece.count → i ≢ piece.first + x * piece.step) → bytes_at layout bytes.new i ≡ bytes_at layout bytes.old i }
-    ensures good { IsTrue result ↔ ((x : ℕ) → x < piece.count → HasBytes scale.now.kind layout (sample_of scale.now.kind (slice_index heights.now (piece.at + x)))) }
+    ensures good { IsTrue result ↔ ((x : ℕ) → x < piece.count → HasBytes scale.now.kind layout (sample_of scale.now.kind (slice_index offsets.now (piece.at + x)))) }
 {
     if layout.bytes == 1 {
-        give_numbers::<1, false>(layout, scale, piece, heights, bytes)
+        give_numbers::<1, false>(layout, scale, piece, offsets, bytes)
     } else if layout.little {
-        give_numbers::<2, true>(layout, scale, piece, heights, bytes)
+        give_numbers::<2, true>(layout, scale, piece, offsets, bytes)
     } else {
-        give_numbers::<2, false>(layout, scale, piece, heights, bytes)
+        give_numbers::<2, false>(layout, scale, piece, offsets, bytes)
     }
 }
 
@@ -172,7 +172,7 @@ fn give_numbers<const BYTES: u32, const LITTLE: bool>(
     layout: Layout,
     scale: &Scale,
     piece: Piece,
-    heights: &[u16],
+    offsets: &[u16],
     bytes: &mut [u8],
 ) -> bool
     requires width { (BYTES ≡ 1) ⊎ (BYTES ≡ 2) }
@@ -182,17 +182,17 @@ fn give_numbers<const BYTES: u32, const LITTLE: bool>(
     requires apart { 1 ≤ piece.step }
     requires small { length bytes.old ≤ 2 ^ 49 }
     requires there { (x : ℕ) → x < piece.count → (piece.first + x * piece.step + 1) * BYTES ≤ length bytes.old }
-    requires room { piece.at + piece.count ≤ length heights.now }
-    requires range { (x : ℕ) → x < piece.count → slice_index heights.now (piece.at + x) < 2 ^ scale.now.kind.bits }
-    ensures given { (x : ℕ) → x < piece.count → SpellHeight scale.now.kind layout (slice_index heights.now (piece.at + x)) (bytes_at layout bytes.new (piece.first + x * piece.step)) }
+    requires room { piece.at + piece.count ≤ length offsets.now }
+    requires range { (x : ℕ) → x < piece.count → slice_index offsets.now (piece.at + x) < 2 ^ scale.now.kind.bits }
+    ensures given { (x : ℕ) → x < piece.count → SpellOffset scale.now.kind layout (slice_index offsets.now (piece.at + x)) (bytes_at layout bytes.new (piece.first + x * piece.step)) }
     ensures others { (i : ℕ) → ((x : ℕ) → x < piece.count → i ≢ piece.first + x * piece.step) → bytes_at layout bytes.new i ≡ bytes_at layout bytes.old i }
-    ensures good { IsTrue result ↔ ((x : ℕ) → x < piece.count → HasBytes scale.now.kind layout (sample_of scale.now.kind (slice_index heights.now (piece.at + x)))) }
+    ensures good { IsTrue result ↔ ((x : ℕ) → x < piece.count → HasBytes scale.now.kind layout (sample_of scale.now.kind (slice_index offsets.now (piece.at + x)))) }
 {
     let mut greatest = 0;
     for x in 0..piece.count {
-        let turned = scale.turned(heights[piece.at + x]);
-        greatest = turned.max(greatest);
-        let number = scale.number::<BYTES>(turned);
+        let rebased = scale.rebased(offsets[piece.at + x]);
+        greatest = rebased.max(greatest);
+        let number = scale.number::<BYTES>(rebased);
         put_number::<BYTES, LITTLE>(layout, bytes, piece.first + x * piece.step, number);
     }
     scale.spells::<BYTES>(greatest)

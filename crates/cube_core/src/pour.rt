@@ -3,7 +3,7 @@
 ghost use Rattle.std.specs.Prelude.{◌≡◌, ◌*◌, ◌≤◌, IsTrue, length};
 ghost use Rattle.cube_core.specs.declared.layout.RawOrder.TheVariants.{Bsq};
 ghost use Rattle.cube_core.specs.Shape.{sample_count};
-ghost use Rattle.cube_core.specs.Heights.{AreHeights};
+ghost use Rattle.cube_core.specs.Offsets.{AreOffsets};
 ghost use Rattle.cube_core.specs.Layout.{IsLayout};
 ghost use Rattle.cube_core.specs.Pieces.{ArePoured, CanBePoured};
 
@@ -18,30 +18,30 @@ pub(crate) fn pour(
     shape: Shape,
     kind: Kind,
     layout: Layout,
-    heights: &[u16],
+    offsets: &[u16],
     bytes: &mut [u8],
 ) -> bool
     requires layout { IsLayout layout }
-    requires heights { AreHeights shape kind heights.now }
+    requires offsets { AreOffsets shape kind offsets.now }
     requires whole { length bytes.old ≡ sample_count shape * layout.bytes }
-    ensures poured { IsTrue result → ArePoured shape kind layout heights.now bytes.new }
-    ensures good { CanBePoured shape kind layout heights.now → IsTrue result }
+    ensures poured { IsTrue result → ArePoured shape kind layout offsets.now bytes.new }
+    ensures good { CanBePoured shape kind layout offsets.now → IsTrue result }
 {
     match layout.order {
-        RawOrder::Bsq => pour_bands(shape, kind, layout, heights, bytes),
-        RawOrder::Bil => pour_lines(shape, kind, layout, shape.columns(), heights, bytes),
-        RawOrder::Bip => pour_lines(shape, kind, layout, BLOCK, heights, bytes),
+        RawOrder::Bsq => pour_bands(shape, kind, layout, offsets, bytes),
+        RawOrder::Bil => pour_lines(shape, kind, layout, shape.columns(), offsets, bytes),
+        RawOrder::Bip => pour_lines(shape, kind, layout, BLOCK, offsets, bytes),
     }
 }
 
 /// Writes the bytes of samples that follow one another as in the cube.
-fn pour_bands(shape: Shape, kind: Kind, layout: Layout, heights: &[u16], bytes: &mut [u8]) -> bool
+fn pour_bands(shape: Shape, kind: Kind, layout: Layout, offsets: &[u16], bytes: &mut [u8]) -> bool
     requires layout { IsLayout layout }
     requires order { layout.order ≡ Bsq }
-    requires heights { AreHeights shape kind heights.now }
+    requires offsets { AreOffsets shape kind offsets.now }
     requires whole { length bytes.old ≡ sample_count shape * layout.bytes }
-    ensures poured { IsTrue result → ArePoured shape kind layout heights.now bytes.new }
-    ensures good { CanBePoured shape kind layout heights.now → IsTrue result }
+    ensures poured { IsTrue result → ArePoured shape kind layout offsets.now bytes.new }
+    ensures good { CanBePoured shape kind layout offsets.now → IsTrue result }
 {
     let whole = Piece {
         at: 0,
@@ -53,7 +53,7 @@ fn pour_bands(shape: Shape, kind: Kind, layout: Layout, heights: &[u16], bytes: 
         layout,
         &Scale::new(kind, layout.bytes),
         whole,
-        heights,
+        offsets,
         bytes,
     )
 }
@@ -64,15 +64,15 @@ fn pour_lines(
     kind: Kind,
     layout: Layout,
     block: u32,
-    heights: &[u16],
+    offsets: &[u16],
     bytes: &mut [u8],
 ) -> bool
     requires layout { IsLayout layout }
     requires block { 1 ≤ block }
-    requires heights { AreHeights shape kind heights.now }
+    requires offsets { AreOffsets shape kind offsets.now }
     requires whole { length bytes.old ≡ sample_count shape * layout.bytes }
-    ensures poured { IsTrue result → ArePoured shape kind layout heights.now bytes.new }
-    ensures good { CanBePoured shape kind layout heights.now → IsTrue result }
+    ensures poured { IsTrue result → ArePoured shape kind layout offsets.now bytes.new }
+    ensures good { CanBePoured shape kind layout offsets.now → IsTrue result }
 {
     let _count = shape.sample_count();
     let scale = Scale::new(kind, layout.bytes);
@@ -83,7 +83,7 @@ fn pour_lines(
             let count = block.min(columns - x);
             for z in 0..shape.bands() {
                 let piece = Piece::new(shape, layout.order, z, y, x, count);
-                if !give_piece(layout, &scale, piece, heights, bytes) {
+                if !give_piece(layout, &scale, piece, offsets, bytes) {
                     return false;
                 }
             }

@@ -4,7 +4,7 @@ ghost use Rattle.std.specs.Prelude.{◌≡◌, ◌≢◌, ◌*◌, ◌≤◌, �
 ghost use Rattle.cube_core.specs.declared.layout.RawOrder.TheVariants.{Bsq};
 ghost use Rattle.cube_core.specs.Shape.{sample_count};
 ghost use Rattle.cube_core.specs.Layout.{IsLayout, IsFirstBad};
-ghost use Rattle.cube_core.specs.Raw.{AreHeightsOf, AreSamples, IsBadSample};
+ghost use Rattle.cube_core.specs.Raw.{AreOffsetsOf, AreSamples, IsBadSample};
 
 use crate::fault::Fault;
 use crate::kind::Kind;
@@ -13,25 +13,25 @@ use crate::piece::{BLOCK, Piece, take_piece};
 use crate::scale::Scale;
 use crate::shape::Shape;
 
-/// Writes the height of each sample, or names the first that isn't of the kind.
+/// Writes the offset of each sample, or names the first that isn't of the kind.
 pub(crate) fn fill(
     shape: Shape,
     kind: Kind,
     layout: Layout,
     bytes: &[u8],
-    heights: &mut [u16],
+    offsets: &mut [u16],
 ) -> Result<(), Fault>
     requires layout { IsLayout layout }
     requires whole { length bytes.now ≡ sample_count shape * layout.bytes }
-    requires room { length heights.old ≡ sample_count shape }
-    ensures filled { OnOk result (AreHeightsOf shape kind layout bytes.now heights.new) }
+    requires room { length offsets.old ≡ sample_count shape }
+    ensures filled { OnOk result (AreOffsetsOf shape kind layout bytes.now offsets.new) }
     ensures bad { IfErr result (IsBadSample kind layout bytes.now) }
 {
     let count = shape.sample_count();
     let good = match layout.order {
-        RawOrder::Bsq => fill_bands(shape, kind, layout, bytes, heights),
-        RawOrder::Bil => fill_lines(shape, kind, layout, shape.columns(), bytes, heights),
-        RawOrder::Bip => fill_lines(shape, kind, layout, BLOCK, bytes, heights),
+        RawOrder::Bsq => fill_bands(shape, kind, layout, bytes, offsets),
+        RawOrder::Bil => fill_lines(shape, kind, layout, shape.columns(), bytes, offsets),
+        RawOrder::Bip => fill_lines(shape, kind, layout, BLOCK, bytes, offsets),
     };
     if good {
         Ok(())
@@ -42,13 +42,13 @@ pub(crate) fn fill(
     }
 }
 
-/// Writes the heights of samples that follow one another as in the cube, and says whether all are of the kind.
-fn fill_bands(shape: Shape, kind: Kind, layout: Layout, bytes: &[u8], heights: &mut [u16]) -> bool
+/// Writes the offsets of samples that follow one another as in the cube, and says whether all are of the kind.
+fn fill_bands(shape: Shape, kind: Kind, layout: Layout, bytes: &[u8], offsets: &mut [u16]) -> bool
     requires layout { IsLayout layout }
     requires order { layout.order ≡ Bsq }
     requires whole { length bytes.now ≡ sample_count shape * layout.bytes }
-    requires room { length heights.old ≡ sample_count shape }
-    ensures filled { IsTrue result → AreHeightsOf shape kind layout bytes.now heights.new }
+    requires room { length offsets.old ≡ sample_count shape }
+    ensures filled { IsTrue result → AreOffsetsOf shape kind layout bytes.now offsets.new }
     ensures good { AreSamples kind layout bytes.now (sample_count shape) → IsTrue result }
 {
     let whole = Piece {
@@ -62,11 +62,11 @@ fn fill_bands(shape: Shape, kind: Kind, layout: Layout, bytes: &[u8], heights: &
         &Scale::new(kind, layout.bytes),
         whole,
         bytes,
-        heights,
+        offsets,
     )
 }
 
-/// Writes the heights of samples row after row, so many columns of all bands at once, and says whether
+/// Writes the offsets of samples row after row, so many columns of all bands at once, and says whether
 /// all are of the kind.
 fn fill_lines(
     shape: Shape,
@@ -74,13 +74,13 @@ fn fill_lines(
     layout: Layout,
     block: u32,
     bytes: &[u8],
-    heights: &mut [u16],
+    offsets: &mut [u16],
 ) -> bool
     requires layout { IsLayout layout }
     requires block { 1 ≤ block }
     requires whole { length bytes.now ≡ sample_count shape * layout.bytes }
-    requires room { length heights.old ≡ sample_count shape }
-    ensures filled { IsTrue result → AreHeightsOf shape kind layout bytes.now heights.new }
+    requires room { length offsets.old ≡ sample_count shape }
+    ensures filled { IsTrue result → AreOffsetsOf shape kind layout bytes.now offsets.new }
     ensures good { AreSamples kind layout bytes.now (sample_count shape) → IsTrue result }
 {
     let _count = shape.sample_count();
@@ -92,7 +92,7 @@ fn fill_lines(
             let count = block.min(columns - x);
             for z in 0..shape.bands() {
                 let piece = Piece::new(shape, layout.order, z, y, x, count);
-                if !take_piece(layout, &scale, piece, bytes, heights) {
+                if !take_piece(layout, &scale, piece, bytes, offsets) {
                     return false;
                 }
             }

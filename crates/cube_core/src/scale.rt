@@ -1,13 +1,13 @@
-//! Numbers of raw bytes as heights above the least sample of a kind.
+//! Numbers of raw bytes as offsets from the least sample of a kind.
 
 ghost use Rattle.std.specs.Prelude.{◌≡◌, ◌⊎◌, ◌↔◌, ◌*◌, ◌+◌, ◌%◌, ◌<◌, ◌≤◌, ◌^◌, IsTrue};
 ghost use Rattle.cube_core.specs.Kind.{IsKind, IsSample, sample_of};
 ghost use Rattle.cube_core.specs.Layout.{twos_complement, raw_code};
-ghost use Rattle.cube_core.specs.Scale.{half_of, zero_height, number_turned};
+ghost use Rattle.cube_core.specs.Scale.{half_of, zero_offset, number_of_rebased};
 
 use crate::kind::Kind;
 
-/// What turns the numbers of one or two bytes into heights and back, with no branch on the sign.
+/// What turns the numbers of one or two bytes into offsets and back, with no branch on the sign.
 #[derive(Clone, Copy)]
 pub(crate) struct Scale {
     kind: Kind,
@@ -16,11 +16,11 @@ pub(crate) struct Scale {
     half: u16,
     /// How far the number that stands for the least of them lies above the least sample, modulo 2^16.
     lift: u16,
-    /// The greatest height of a sample.
+    /// The greatest offset of a sample.
     most: u16,
     ghost kind_is: { IsKind kind },
     ghost half_is: { half ≡ half_of kind.signed bytes },
-    ghost lift_is: { (lift + half) % 65536 ≡ zero_height kind },
+    ghost lift_is: { (lift + half) % 65536 ≡ zero_offset kind },
     ghost most_is: { most + 1 ≡ 2 ^ kind.bits },
 }
 
@@ -42,53 +42,53 @@ impl Scale {
             kind,
             bytes,
             half,
-            lift: kind.height_of(0).wrapping_sub(half),
-            most: kind.height_of(kind.smax()),
+            lift: kind.offset_of(0).wrapping_sub(half),
+            most: kind.offset_of(kind.smax()),
         }
     }
 
-    /// The height of a number, or one above the greatest where the number is no sample.
-    pub(crate) fn height<const BYTES: u32>(&self, number: u16) -> u16
+    /// The offset of a number, or one above the greatest where the number is no sample.
+    pub(crate) fn offset<const BYTES: u32>(&self, number: u16) -> u16
         requires bytes { self.now.bytes ≡ BYTES }
         requires width { (BYTES ≡ 1) ⊎ (BYTES ≡ 2) }
         requires number { number < 2 ^ (8 * BYTES) }
         ensures value { result < 2 ^ self.now.kind.bits → sample_of self.now.kind result ≡ twos_complement self.now.kind.signed BYTES number }
         ensures range { IsSample self.now.kind (twos_complement self.now.kind.signed BYTES number) → result < 2 ^ self.now.kind.bits }
     {
-        let turned = number.wrapping_add(self.half);
-        let turned = if BYTES == 1 { turned % 256 } else { turned };
-        turned.wrapping_add(self.lift)
+        let rebased = number.wrapping_add(self.half);
+        let rebased = if BYTES == 1 { rebased % 256 } else { rebased };
+        rebased.wrapping_add(self.lift)
     }
 
-    /// Whether the greatest of some heights, and so each of them, is that of a sample.
+    /// Whether the greatest of some offsets, and so each of them, is that of a sample.
     pub(crate) fn has(&self, greatest: u16) -> bool
         ensures { IsTrue result ↔ (greatest < 2 ^ self.now.kind.bits) }
     {
         greatest <= self.most
     }
 
-    /// A height turned towards its number: below 256 or 65,536 exactly where so many bytes spell its sample.
-    pub(crate) fn turned(&self, height: u16) -> u16
+    /// An offset turned towards its number: below 256 or 65,536 exactly where so many bytes spell its sample.
+    pub(crate) fn rebased(&self, offset: u16) -> u16
         requires width { (self.now.bytes ≡ 1) ⊎ (self.now.bytes ≡ 2) }
-        requires height { height < 2 ^ self.now.kind.bits }
-        ensures fits { (result < 2 ^ (8 * self.now.bytes)) ↔ IsSample (record { signed = self.now.kind.signed; bits = 8 * self.now.bytes }) (sample_of self.now.kind height) }
-        ensures code { result < 2 ^ (8 * self.now.bytes) → raw_code self.now.bytes (sample_of self.now.kind height) ≡ number_turned self.now.kind.signed self.now.bytes result }
+        requires offset { offset < 2 ^ self.now.kind.bits }
+        ensures fits { (result < 2 ^ (8 * self.now.bytes)) ↔ IsSample (record { signed = self.now.kind.signed; bits = 8 * self.now.bytes }) (sample_of self.now.kind offset) }
+        ensures code { result < 2 ^ (8 * self.now.bytes) → raw_code self.now.bytes (sample_of self.now.kind offset) ≡ number_of_rebased self.now.kind.signed self.now.bytes result }
     {
-        height.wrapping_sub(self.lift)
+        offset.wrapping_sub(self.lift)
     }
 
-    /// The number of a height that was turned towards it.
-    pub(crate) fn number<const BYTES: u32>(&self, turned: u16) -> u16
+    /// The number of an offset that was turned towards it.
+    pub(crate) fn number<const BYTES: u32>(&self, rebased: u16) -> u16
         requires bytes { self.now.bytes ≡ BYTES }
         requires width { (BYTES ≡ 1) ⊎ (BYTES ≡ 2) }
-        ensures value { result ≡ number_turned self.now.kind.signed BYTES turned }
+        ensures value { result ≡ number_of_rebased self.now.kind.signed BYTES rebased }
         ensures below { result < 2 ^ (8 * BYTES) }
     {
-        let number = turned.wrapping_sub(self.half);
+        let number = rebased.wrapping_sub(self.half);
         if BYTES == 1 { number % 256 } else { number }
     }
 
-    /// Whether the greatest of some turned heights, and so each of them, has its bytes.
+    /// Whether the greatest of some turned offsets, and so each of them, has its bytes.
     pub(crate) fn spells<const BYTES: u32>(&self, greatest: u16) -> bool
         requires width { (BYTES ≡ 1) ⊎ (BYTES ≡ 2) }
         ensures { IsTrue result ↔ (greatest < 2 ^ (8 * BYTES)) }

@@ -83,7 +83,7 @@ fn own_bands(alloc: Global, plan: &Plan, predictor: u32) -> Result<Vec<Band>, Fa
     ensures fresh { IfOk result (λ bands. (c : Image) → AreFresh plan.now.params predictor plan.now.deal c bands.items) }
     ensures refused { IfErr result (λ e. e ≡ WantOfMemory) }
 {
-    plan.is_plan();
+    plan.prove_is_plan();
     let mut bands = Vec::new(alloc);
     for z in 0..plan.params().shape.bands() {
         if u32::from(plan.deal()[z as usize]) == predictor {

@@ -81,7 +81,7 @@ impl Plan {
     }
 
     /// That a plan has what a plan needs: a fact for proofs.
-    pub fn is_plan(&self)
+    pub fn prove_is_plan(&self)
         ensures { IsPlan self.now }
     {
         let _ = &self.slots;

@@ -35,7 +35,7 @@ pub fn predict_lane<R: Wait, G: Gate>(
     requires sent { sender.sent ≡ [] }
     ensures { Keeps (G.may_stop gate.now) predictor (part predictor (owners plan.now.deal plan.now.params) (residuals plan.now.params cube.now)) sender.lane result }
 {
-    plan.is_plan();
+    plan.prove_is_plan();
     let _count = cube.shape().sample_count();
     let mut bands = bands;
     let mut sender = RunSender::new(predictor, sender, gate);

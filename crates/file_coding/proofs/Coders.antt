@@ -19,7 +19,7 @@ use Rattle.sample_adaptive.proofs.Bodies.{body_push}
 use Rattle.sample_adaptive.proofs.Taking.{taken_along}
 use Rattle.block_adaptive.specs.Settings.{IsBlock, IsCutOf, cut_by, coder_cut}
 use Rattle.block_adaptive.specs.Chosen.{chosen_block_body}
-use Rattle.block_adaptive.specs.Texts.{Cut}
+use Rattle.block_adaptive.specs.DataSets.{Cut}
 use Rattle.block_adaptive.specs.Segments.{block_count}
 use Rattle.block_adaptive.specs.Taken.{Packed, taken_count, PutsNumber as PutsValue, PutsAll as PutsList, EndsBody as EndsBlocks}
 use Rattle.file_coding.specs.declared.encoder.Encoder.{Encoder}

@@ -10,7 +10,7 @@ use Rattle.sample_adaptive.specs.Body.{band_numbers, sample_body}
 use Rattle.sample_adaptive.specs.Taken.{Counts, HasTaken as HaveTaken}
 use Rattle.block_adaptive.specs.Settings.{IsBlock, IsCutOf, cut_by}
 use Rattle.block_adaptive.specs.Taken.{Packed, EndsBlock, EndsInside, taken_count, HasTaken as HasPacked}
-use Rattle.block_adaptive.specs.Texts.{capacity}
+use Rattle.block_adaptive.specs.DataSets.{capacity}
 use Rattle.file_coding.specs.declared.encoder.Encoder.{Encoder}
 use Rattle.file_coding.specs.declared.encoder.Encoder.TheVariants.{Samples, Blocks}
 use Rattle.file_coding.specs.File.{body_of}

@@ -236,7 +236,7 @@ impl CodingEnd {
         encoder.end(&mut writer)?;
         put_fill(word, &mut writer)?;
         let bytes = writer.into_bytes();
-        know_packed(&bytes);
+        prove_packed(&bytes);
         Ok(bytes)
     }
 }
@@ -253,6 +253,6 @@ fn put_fill(word: u32, writer: &mut BitWriter) -> Result<(), Fault>
 }
 
 /// Says of bytes that they are packed from their bits, which holds of numbers below 256.
-fn know_packed(bytes: &[u8])
+fn prove_packed(bytes: &[u8])
     ensures { bytes.now ≡ packed (bits_of_bytes bytes.now) }
 {}

@@ -26,7 +26,7 @@ use Rattle.predict_core.specs.Residual.{residuals}
 use Rattle.sample_adaptive.specs.Settings.{settings}
 use Rattle.sample_adaptive.specs.Laws.{AreNumbers}
 use Rattle.sample_adaptive.proofs.Bodies as samples
-use Rattle.block_adaptive.specs.Texts.{IsBlockBody, AreTexts, cut_of}
+use Rattle.block_adaptive.specs.DataSets.{IsBlockBody, AreCodedDataSets, cut_of}
 use Rattle.block_adaptive.specs.Reading.{block_body_at}
 use Rattle.block_adaptive.proofs.Bodies as blocks
 use Rattle.block_adaptive.proofs.Handed.{size_halved, size_least}
@@ -100,8 +100,8 @@ chosen_is_file p c lawful cube =
 even_again : (count : ℕ) (s : CodeSet) (half reference n : ℕ) (numbers : List ℕ) (body rest : List Bool) → 1 ≤ reference → length numbers ≡ n → IsBlockBody s (2 * half) reference numbers body
     → (block_body_at count s (2 * half) reference n (body ++ rest) >>= λ read. Ok read.1) ≡ Ok rest
 even_again count s half reference n numbers body rest least long coded =
-    let lawful : AreTexts (cut_of s (2 * half) reference n) 0 coded.texts (block_count (2 * half) n) = subst (λ (k : ℕ). AreTexts (cut_of s (2 * half) reference k) 0 coded.texts (block_count (2 * half) k)) long coded.lawful in
-    let read = (blocks.body_is_read count s half reference n coded.texts (body ++ rest) rest least).0 lawful (ap (λ (x : List Bool). x ++ rest) coded.text) in
+    let lawful : AreCodedDataSets (cut_of s (2 * half) reference n) 0 coded.data_sets (block_count (2 * half) n) = subst (λ (k : ℕ). AreCodedDataSets (cut_of s (2 * half) reference k) 0 coded.data_sets (block_count (2 * half) k)) long coded.lawful in
+    let read = (blocks.body_is_read count s half reference n coded.data_sets (body ++ rest) rest least).0 lawful (ap (λ (x : List Bool). x ++ rest) coded.text) in
     rw read refl
 
 block_again : (count : ℕ) (s : CodeSet) (size reference n : ℕ) (numbers : List ℕ) (body rest : List Bool) → IsSize size → 1 ≤ reference → length numbers ≡ n → IsBlockBody s size reference numbers body

@@ -29,9 +29,9 @@ use Rattle.sample_adaptive.proofs.Refusals.{word_takes}
 use Rattle.sample_adaptive.proofs.Taking.{taken_along}
 use Rattle.block_adaptive.specs.Settings.{IsBlock, IsCutOf, cut_by, coder_cut}
 use Rattle.block_adaptive.specs.Segments.{block_count}
-use Rattle.block_adaptive.specs.Texts.{Cut, cut_of, blocks_told, values_of}
+use Rattle.block_adaptive.specs.DataSets.{Cut, cut_of, blocks_told, values_of}
 use Rattle.block_adaptive.specs.Given.{Unpacked, given_count, GivesNext, HasGiven as HaveGiven}
-use Rattle.block_adaptive.specs.Reading.{texts_at, block_body_at}
+use Rattle.block_adaptive.specs.Reading.{data_sets_at, block_body_at}
 use Rattle.file_coding.specs.Coding.{places_of, of_band, IsNumber}
 use Rattle.file_coding.proofs.Coders.{take_next, places_long, places_whole, samples_more, settings_bits, cut_bits}
 use Rattle.file_decoding.specs.declared.decoder.Decoder.{Decoder}
@@ -169,11 +169,11 @@ samples_refused z t place fault told old new unread left gets bad ended p number
 
 -- ---- by blocks
 
-block_behind : (p : Params) (v : Cut) (count : ℕ) (bits : List Bool) → IsBlock p.coder → v ≡ cut_by p → behind_body count p bits ≡ (texts_at count v v.count 0 bits >>= λ read. Ok read.1)
+block_behind : (p : Params) (v : Cut) (count : ℕ) (bits : List Bool) → IsBlock p.coder → v ≡ cut_by p → behind_body count p bits ≡ (data_sets_at count v v.count 0 bits >>= λ read. Ok read.1)
 unfolding behind_body block_body_at
 block_behind p v count bits coder e = rw e (by_coder p.coder coder)
   where
-    by_coder : (coder : Coder) → IsBlock coder → behind_by coder count p bits ≡ (texts_at count (coder_cut p.kind.bits (sample_count p.shape) coder) (coder_cut p.kind.bits (sample_count p.shape) coder).count 0 bits >>= λ read. Ok read.1)
+    by_coder : (coder : Coder) → IsBlock coder → behind_by coder count p bits ≡ (data_sets_at count (coder_cut p.kind.bits (sample_count p.shape) coder) (coder_cut p.kind.bits (sample_count p.shape) coder).count 0 bits >>= λ read. Ok read.1)
     by_coder (Block size restricted reference) s = refl
     by_coder (Sample umax gamma_star gamma_zero start) s = absurd s
 
@@ -215,10 +215,10 @@ whole_blocks p (Block size restricted reference) v numbers bits s room is inside
     let sizes : v.cut.size ≡ size = ap (λ (c : Cut). c.size) is in
     let ends : v.block ≡ block_count size (length numbers) = last ∙ ap (λ (k : ℕ). block_count k (sample_count p.shape)) sizes ∙ ap (block_count size) (sym long) in
     record {
-      texts = h.texts;
+      data_sets = h.data_sets;
       lawful = rw (same, ends) at h.lawful;
       text = rw same at h.text;
-      told = ap (λ (c : Cut). take (length numbers) (values_of (blocks_told c 0 h.texts))) (sym same) ∙ ap (take (length numbers)) h.told ∙ take_at numbers v.held (length numbers) refl;
+      told = ap (λ (c : Cut). take (length numbers) (values_of (blocks_told c 0 h.data_sets))) (sym same) ∙ ap (take (length numbers)) h.told ∙ take_at numbers v.held (length numbers) refl;
     }
 
 pub given_whole : (p : Params) (d : Decoder) (numbers : List ℕ) (bits : List Bool) → IsLawful p → HasGiven p d numbers bits → length numbers ≡ sample_count p.shape → IsBody p numbers bits

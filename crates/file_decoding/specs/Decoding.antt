@@ -11,7 +11,7 @@ use Rattle.header_bits.specs.Lawful.{IsLawful}
 use Rattle.predict_core.specs.Residual.{residuals}
 use Rattle.block_adaptive.specs.Settings.{IsBlock, IsCutOf, cut_by}
 use Rattle.block_adaptive.specs.Given.{Unpacked, given_count, HasGiven as HaveGiven}
-use Rattle.block_adaptive.specs.Texts.{capacity}
+use Rattle.block_adaptive.specs.DataSets.{capacity}
 use Rattle.file_coding.specs.Coding.{SamplesTaken, IsNumber}
 use Rattle.file_decoding.specs.declared.decoder.Decoder.{Decoder}
 use Rattle.file_decoding.specs.declared.decoder.Decoder.TheVariants.{Samples, Blocks}

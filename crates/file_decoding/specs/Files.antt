@@ -16,7 +16,7 @@ use Rattle.predict_core.specs.Residual.{residuals}
 use Rattle.sample_adaptive.specs.Settings.{settings}
 use Rattle.sample_adaptive.specs.Body.{sample_body}
 use Rattle.sample_adaptive.specs.Reading.{sample_body_at}
-use Rattle.block_adaptive.specs.Texts.{IsBlockBody}
+use Rattle.block_adaptive.specs.DataSets.{IsBlockBody}
 use Rattle.block_adaptive.specs.Reading.{block_body_at}
 use Rattle.file_decoding.specs.Least.{least_test}
 

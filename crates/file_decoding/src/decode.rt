@@ -123,7 +123,7 @@ fn take_cube(alloc: Global, params: &Params, reader: &mut BitReader) -> Result<C
             places.go_by(column);
         }
     }
-    cube.is_cube();
+    cube.prove_is_cube();
     Ok(cube)
 }
 

@@ -6,7 +6,7 @@ ghost use Rattle.cube_core.specs.declared.fault.Fault.TheVariants.{WantOfMemory}
 ghost use Rattle.header_bits.specs.Lawful.{IsLawful};
 ghost use Rattle.block_adaptive.specs.Settings.{IsBlock};
 ghost use Rattle.block_adaptive.specs.Given.{given_count};
-ghost use Rattle.block_adaptive.specs.Texts.{capacity};
+ghost use Rattle.block_adaptive.specs.DataSets.{capacity};
 ghost use Rattle.file_decoding.specs.declared.decoder.Decoder.TheVariants.{Blocks};
 ghost use Rattle.file_decoding.specs.Decoding.{HasGiven, MayAsk, MayAskAll, GivesNumber, GivesRun, placed_at, refusal_at};
 

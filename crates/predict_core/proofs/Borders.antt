@@ -1,12 +1,12 @@
--- Lines of heights, and the sums that they tell.
+-- Lines of offsets, and the sums that they tell.
 use Rattle.std.proofs.Common.{◌≡◌, ◌≢◌, ℕ, zero, suc, ◌+◌, ◌-◌, ◌<◌, ◌≤◌, false, ◌||◌, ◌==◌, List, [], ◌∷◌, length, get_or, set, arith, refl, sym, ap, ◌∙◌, inl, inr, get_or-set_same, get_or-set_other, length-set}
 use Rattle.std.proofs.lemmas.Bool.{cases_eq}
 use Rattle.std.proofs.lemmas.Bool.Decides.{nat_tests}
 use Rattle.std.proofs.lemmas.List.{get_or-append-add}
 use lib.ListN.{get_or-append}
-use Rattle.predict_core.specs.HeightSum.{height_sum}
+use Rattle.predict_core.specs.OffsetSum.{offset_sum}
 use Rattle.predict_core.specs.Lines.{bordered, line_sum, AreLines}
-use Rattle.predict_core.proofs.LocalSums.{heights_at_left, heights_at_right, heights_inside}
+use Rattle.predict_core.proofs.LocalSums.{offsets_at_left, offsets_at_right, offsets_inside}
 
 -- ---- a row with a border
 
@@ -42,53 +42,53 @@ ends_written line row x count before after v w long inside middle a b k l =
 -- ---- sums of four neighbours
 
 -- two lines of a row below the first one, for sums of four
-module _ (y : ℕ) (row above : List ℕ) (x count after : ℕ) (here over : List ℕ) (later : y ≢ 0) (inside : x + count ≤ length row) (same : length above ≡ length row) (wide : 2 ≤ length row)
-    (near : (k : ℕ) → k < count + 2 → get_or here k 0 ≡ get_or (bordered (get_or above 0 0) row after) (x + k) 0)
-    (far : (k : ℕ) → k < count + 2 → get_or over k 0 ≡ get_or (bordered (get_or above 1 0) above (get_or above (length above - 1) 0)) (x + k) 0) where
-  near_own : (i : ℕ) → i < count → get_or here (i + 1) 0 ≡ get_or row (x + i) 0
+module _ (y : ℕ) (row above : List ℕ) (x count after : ℕ) (current upper : List ℕ) (later : y ≢ 0) (inside : x + count ≤ length row) (same : length above ≡ length row) (wide : 2 ≤ length row)
+    (near : (k : ℕ) → k < count + 2 → get_or current k 0 ≡ get_or (bordered (get_or above 0 0) row after) (x + k) 0)
+    (far : (k : ℕ) → k < count + 2 → get_or upper k 0 ≡ get_or (bordered (get_or above 1 0) above (get_or above (length above - 1) 0)) (x + k) 0) where
+  near_own : (i : ℕ) → i < count → get_or current (i + 1) 0 ≡ get_or row (x + i) 0
   near_own i l = near (i + 1) (omega arith) ∙ border_inside (get_or above 0 0) row after (x + (i + 1)) (omega arith) (omega arith) ∙ ap (λ n. get_or row n 0) (omega arith)
 
-  near_west : (i : ℕ) → i < count → 0 < x + i → get_or here i 0 ≡ get_or row (x + i - 1) 0
+  near_west : (i : ℕ) → i < count → 0 < x + i → get_or current i 0 ≡ get_or row (x + i - 1) 0
   near_west i l h = near i (omega arith) ∙ border_inside (get_or above 0 0) row after (x + i) h (omega arith)
 
-  near_first : x ≡ 0 → get_or here 0 0 ≡ get_or above 0 0
+  near_first : x ≡ 0 → get_or current 0 0 ≡ get_or above 0 0
   near_first e = near 0 (omega arith) ∙ border_before (get_or above 0 0) row after (x + 0) (omega arith)
 
-  far_north : (i : ℕ) → i < count → get_or over (i + 1) 0 ≡ get_or above (x + i) 0
+  far_north : (i : ℕ) → i < count → get_or upper (i + 1) 0 ≡ get_or above (x + i) 0
   far_north i l =
       far (i + 1) (omega arith) ∙ border_inside (get_or above 1 0) above (get_or above (length above - 1) 0) (x + (i + 1)) (omega arith) (omega arith) ∙ ap (λ n. get_or above n 0) (omega arith)
 
-  far_west : (i : ℕ) → i < count → 0 < x + i → get_or over i 0 ≡ get_or above (x + i - 1) 0
+  far_west : (i : ℕ) → i < count → 0 < x + i → get_or upper i 0 ≡ get_or above (x + i - 1) 0
   far_west i l h = far i (omega arith) ∙ border_inside (get_or above 1 0) above (get_or above (length above - 1) 0) (x + i) h (omega arith)
 
-  far_first : x ≡ 0 → get_or over 0 0 ≡ get_or above 1 0
+  far_first : x ≡ 0 → get_or upper 0 0 ≡ get_or above 1 0
   far_first e = far 0 (omega arith) ∙ border_before (get_or above 1 0) above (get_or above (length above - 1) 0) (x + 0) (omega arith)
 
-  far_east : (i : ℕ) → i < count → x + i + 1 < length row → get_or over (i + 2) 0 ≡ get_or above (x + i + 1) 0
+  far_east : (i : ℕ) → i < count → x + i + 1 < length row → get_or upper (i + 2) 0 ≡ get_or above (x + i + 1) 0
   far_east i l h =
       far (i + 2) (omega arith) ∙ border_inside (get_or above 1 0) above (get_or above (length above - 1) 0) (x + (i + 2)) (omega arith) (omega arith) ∙ ap (λ n. get_or above n 0) (omega arith)
 
-  far_last : (i : ℕ) → i < count → x + i + 1 ≡ length row → get_or over (i + 2) 0 ≡ get_or above (x + i) 0
+  far_last : (i : ℕ) → i < count → x + i + 1 ≡ length row → get_or upper (i + 2) 0 ≡ get_or above (x + i) 0
   far_last i l e =
       far (i + 2) (omega arith) ∙ border_after (get_or above 1 0) above (get_or above (length above - 1) 0) (x + (i + 2)) (omega arith) ∙ ap (λ n. get_or above n 0) (omega arith)
 
-  four : (i : ℕ) → i < count → line_sum false here over i ≡ height_sum false y row above (x + i)
+  four : (i : ℕ) → i < count → line_sum false current upper i ≡ offset_sum false y row above (x + i)
   four i l =
       elim (cases_eq (x + i) 0) [
         | inl e ↦ (let n : i ≡ 0 = omega arith in let m : x ≡ 0 = omega arith in
-            let a : get_or here i 0 ≡ get_or above (x + i) 0 = rw n (near_first m ∙ ap (λ k. get_or above k 0) (omega arith)) in
-            let b : get_or over i 0 ≡ get_or above (x + i + 1) 0 = rw n (far_first m ∙ ap (λ k. get_or above k 0) (omega arith)) in
+            let a : get_or current i 0 ≡ get_or above (x + i) 0 = rw n (near_first m ∙ ap (λ k. get_or above k 0) (omega arith)) in
+            let b : get_or upper i 0 ≡ get_or above (x + i + 1) 0 = rw n (far_first m ∙ ap (λ k. get_or above k 0) (omega arith)) in
             let d = far_north i l in
             let f = far_east i l (omega arith) in
-            let s = heights_at_left false y row above (x + i) later refl e in omega (arith, a, b, d, f, s))
+            let s = offsets_at_left false y row above (x + i) later refl e in omega (arith, a, b, d, f, s))
         | inr n ↦ (let a = near_west i l (omega arith) in let b = far_west i l (omega arith) in let d = far_north i l in
             elim (cases_eq (x + i + 1) (length row)) [
-              | inl e ↦ (let f = far_last i l e in let s = heights_at_right false y row above (x + i) later refl n e in omega (arith, a, b, d, f, s))
-              | inr m ↦ (let f = far_east i l (omega arith) in let s = heights_inside false y row above (x + i) later refl n m in omega (arith, a, b, d, f, s))
+              | inl e ↦ (let f = far_last i l e in let s = offsets_at_right false y row above (x + i) later refl n e in omega (arith, a, b, d, f, s))
+              | inr m ↦ (let f = far_east i l (omega arith) in let s = offsets_inside false y row above (x + i) later refl n m in omega (arith, a, b, d, f, s))
             ])
       ]
 
-  pub four_lines : AreLines false y row above x count here over
+  pub four_lines : AreLines false y row above x count current upper
   four_lines = record {
     own = near_own;
     west = near_west;
@@ -98,5 +98,5 @@ module _ (y : ℕ) (row above : List ℕ) (x count after : ℕ) (here over : Lis
     sum = λ i l h. by_row i l;
   }
     where
-      by_row : (i : ℕ) → i < count → line_sum (false || y == 0) here over i ≡ height_sum false y row above (x + i)
-      by_row i l = let e : (false || y == 0) ≡ false = grind (arith, nat_tests) in ap (λ b. line_sum b here over i) e ∙ four i l
+      by_row : (i : ℕ) → i < count → line_sum (false || y == 0) current upper i ≡ offset_sum false y row above (x + i)
+      by_row i l = let e : (false || y == 0) ≡ false = grind (arith, nat_tests) in ap (λ b. line_sum b current upper i) e ∙ four i l

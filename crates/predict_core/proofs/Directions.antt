@@ -8,7 +8,7 @@ use Rattle.std.proofs.lemmas.Bool.Decides.{nat_tests}
 use Rattle.cube_core.specs.Image.{Image, sample_at}
 use Rattle.predict_core.specs.declared.predictor.Predictor.{Predictor}
 use Rattle.predict_core.specs.Differences.{directional_differences, spectral_differences, difference_vector, difference_from}
-use Rattle.predict_core.specs.HeightSum.{height_difference}
+use Rattle.predict_core.specs.OffsetSum.{offset_difference}
 use Rattle.predict_core.specs.Predictor.{previous_bands, component_count}
 
 pub directional_first : (p : Predictor) (c : Image) (z y x : ℕ) → y ≡ 0 → directional_differences p c z y x ≡ pos 0 ∷ pos 0 ∷ pos 0 ∷ []
@@ -29,9 +29,9 @@ pub directional_length : (p : Predictor) (c : Image) (z y x : ℕ) → length (d
 unfolding directional_differences
 directional_length p c z y x = grind (arith, nat_tests)
 
--- a difference from heights
-pub difference_is : (low sample s d : ℤ) (height sum : ℕ) → sample ≡ low +ℤ pos height → s ≡ pos 4 *ℤ low +ℤ pos sum → d ≡ height_difference height sum → pos 4 *ℤ sample -ℤ s ≡ d
-difference_is low sample s d height sum e f g = omega (arith, ints)
+-- a difference from offsets
+pub difference_is : (low sample s d : ℤ) (offset sum : ℕ) → sample ≡ low +ℤ pos offset → s ≡ pos 4 *ℤ low +ℤ pos sum → d ≡ offset_difference offset sum → pos 4 *ℤ sample -ℤ s ≡ d
+difference_is low sample s d offset sum e f g = omega (arith, ints)
 
 pub reduced_vector_is : (p : Predictor) (c : Image) (z y x : ℕ) → p.reduced ≡ true → difference_vector p c z y x ≡ spectral_differences p c z y x (previous_bands p z)
 unfolding difference_vector

@@ -15,7 +15,7 @@ use Rattle.predict_core.specs.declared.predictor.Predictor.{Predictor}
 use Rattle.predict_core.specs.Predictor.{predictor_of, previous_bands, component_count}
 use Rattle.predict_core.specs.LocalSum.{local_sum}
 use Rattle.predict_core.specs.Differences.{difference_vector}
-use Rattle.predict_core.specs.Weights.{weight_min, weight_max, eighths, usual_weights, weights_by, start_weights, updated_weight, updated_weights}
+use Rattle.predict_core.specs.Weights.{weight_min, weight_max, eighths, default_weights, weights_by, start_weights, updated_weight, updated_weights}
 use Rattle.predict_core.specs.Prediction.{inner_product, next_weights, weight_vector}
 use Rattle.predict_core.specs.Mapping.{Between}
 use Rattle.predict_core.specs.Bounds.{AllWithin}
@@ -50,9 +50,9 @@ by_mode : (n : ℕ) (b : Bool) (xs : List ℤ) → AllWithin n xs → AllWithin 
 by_mode n true xs h = h
 by_mode n false xs h = behind_three n xs h
 
-usual_within : (p : Predictor) (z : ℕ) → 3 ≤ p.fraction → AllWithin (2 ^ (p.fraction + 2)) (usual_weights p z)
-unfolding usual_weights
-usual_within p z least =
+default_within : (p : Predictor) (z : ℕ) → 3 ≤ p.fraction → AllWithin (2 ^ (p.fraction + 2)) (default_weights p z)
+unfolding default_weights
+default_within p z least =
     let e : (p.fraction - 3) + 5 ≡ p.fraction + 2 = omega arith in
     let power : 2 ^ (p.fraction + 2) ≡ 2 ^ (p.fraction - 3) * 2 ^ 5 = ap (λ k. 2 ^ k) (sym e) ∙ pow-add 2 (p.fraction - 3) 5 in
     by_mode (2 ^ (p.fraction + 2)) p.reduced (eighths (pos (7 * 2 ^ (p.fraction - 3))) (previous_bands p z))
@@ -63,7 +63,7 @@ unfolding weights_by
 start_within p z lawful = by_start p.start lawful.start
   where
     by_start : (s : WeightStart) → IsWeightStart p s → AllWithin (2 ^ (p.omega + 2)) (weights_by (predictor_of p) s z)
-    by_start Usual l = usual_within (predictor_of p) z (let h = lawful.fraction.0 in omega arith)
+    by_start Usual l = default_within (predictor_of p) z (let h = lawful.fraction.0 in omega arith)
     by_start (Table q values) l = table_within p q values z l.0.0 l.0.1 l.2
 
 -- a weight that is held between the least and the greatest

@@ -7,14 +7,14 @@ use Rattle.predict_core.proofs.Residuals.{within}
 use Rattle.predict_core.proofs.Spans.{span}
 use Rattle.cube_core.specs.Kind.{smin, smax}
 use Rattle.predict_core.specs.Arithmetic.{floor_div}
-use Rattle.predict_core.specs.Residual.{mapped_between, mapped, reach, agrees, number_of}
+use Rattle.predict_core.specs.Residual.{mapped_between, mapped, theta_between, agrees, number_of}
 use Rattle.predict_core.specs.Mapping.{unmapped_between, error_of, Between, OneSample}
 
 -- what each definition says, by its cases
-pub number_cases : (near size n : ℕ) (sign : Bool) → n ≡ number_of near size sign
-    → ((near < size) × (n ≡ size + near)) ⊎ (((size ≤ near) × (sign ≡ true) × (n ≡ 2 * size)) ⊎ ((size ≤ near) × (sign ≡ false) × (n ≡ 2 * size - 1)))
-number_cases near size n true e = grind (arith, nat_tests)
-number_cases near size n false e = grind (arith, nat_tests)
+pub number_cases : (theta size n : ℕ) (sign : Bool) → n ≡ number_of theta size sign
+    → ((theta < size) × (n ≡ size + theta)) ⊎ (((size ≤ theta) × (sign ≡ true) × (n ≡ 2 * size)) ⊎ ((size ≤ theta) × (sign ≡ false) × (n ≡ 2 * size - 1)))
+number_cases theta size n true e = grind (arith, nat_tests)
+number_cases theta size n false e = grind (arith, nat_tests)
 
 -- the sign of an error, by the parity of the scaled prediction
 abbrev pub signed_by : ℕ → ℤ → Bool → Type 0
@@ -37,39 +37,39 @@ agrees_cases scaled e sign h = by_parity (cases_lt 0 (unsigned_abs scaled % 2))
         by_sign true s = inl (s, omega arith, grind (arith, ints, nat_tests))
         by_sign false s = inr (inl (s, omega arith, grind (arith, ints, nat_tests)))
 
-error_cases : (near below parity n : ℕ) (e : ℤ) → e ≡ error_of near below parity n
-    → ((2 * near < n) × (near < below) × (e ≡ neg_ℤ (pos (n - near)))) ⊎ (((2 * near < n) × (below ≤ near) × (e ≡ pos (n - near)))
-    ⊎ (((n ≤ 2 * near) × ((n + parity) % 2 ≡ 0) × (e ≡ pos ((n + 1) / 2))) ⊎ ((n ≤ 2 * near) × ((n + parity) % 2 ≡ 1) × (e ≡ neg_ℤ (pos ((n + 1) / 2))))))
-error_cases near below parity n e h = grind (arith, nat_tests)
+error_cases : (theta below parity n : ℕ) (e : ℤ) → e ≡ error_of theta below parity n
+    → ((2 * theta < n) × (theta < below) × (e ≡ neg_ℤ (pos (n - theta)))) ⊎ (((2 * theta < n) × (below ≤ theta) × (e ≡ pos (n - theta)))
+    ⊎ (((n ≤ 2 * theta) × ((n + parity) % 2 ≡ 0) × (e ≡ pos ((n + 1) / 2))) ⊎ ((n ≤ 2 * theta) × ((n + parity) % 2 ≡ 1) × (e ≡ neg_ℤ (pos ((n + 1) / 2))))))
+error_cases theta below parity n e h = grind (arith, nat_tests)
 
 abbrev pub NumberBy : ℕ → ℕ → Bool → ℕ → Type 0
-NumberBy near size sign n = ((near < size) × (n ≡ size + near)) ⊎ (((size ≤ near) × (sign ≡ true) × (n ≡ 2 * size)) ⊎ ((size ≤ near) × (sign ≡ false) × (n ≡ 2 * size - 1)))
+NumberBy theta size sign n = ((theta < size) × (n ≡ size + theta)) ⊎ (((size ≤ theta) × (sign ≡ true) × (n ≡ 2 * size)) ⊎ ((size ≤ theta) × (sign ≡ false) × (n ≡ 2 * size - 1)))
 
 abbrev ErrorBy : ℕ → ℕ → ℕ → ℕ → ℤ → Type 0
-ErrorBy near below parity n e =
-    ((2 * near < n) × (near < below) × (e ≡ neg_ℤ (pos (n - near)))) ⊎ (((2 * near < n) × (below ≤ near) × (e ≡ pos (n - near)))
-    ⊎ (((n ≤ 2 * near) × ((n + parity) % 2 ≡ 0) × (e ≡ pos ((n + 1) / 2))) ⊎ ((n ≤ 2 * near) × ((n + parity) % 2 ≡ 1) × (e ≡ neg_ℤ (pos ((n + 1) / 2))))))
+ErrorBy theta below parity n e =
+    ((2 * theta < n) × (theta < below) × (e ≡ neg_ℤ (pos (n - theta)))) ⊎ (((2 * theta < n) × (below ≤ theta) × (e ≡ pos (n - theta)))
+    ⊎ (((n ≤ 2 * theta) × ((n + parity) % 2 ≡ 0) × (e ≡ pos ((n + 1) / 2))) ⊎ ((n ≤ 2 * theta) × ((n + parity) % 2 ≡ 1) × (e ≡ neg_ℤ (pos ((n + 1) / 2))))))
 
 -- a sign that is both is none
 pub not_both : (s : Bool) → s ≡ true → s ≡ false → ⊥
 not_both s a b = cc
 
-same_error : (near a b parity n : ℕ) (e r : ℤ) (sign : Bool) → near ≡ min a b → neg_ℤ (pos a) ≤ℤ e → e ≤ℤ pos b → signed_by parity e sign → NumberBy near (unsigned_abs e) sign n → ErrorBy near a parity n r → r ≡ e
-same_error near a b parity n e r sign m low high s c d = grind (arith, ints)
+same_error : (theta a b parity n : ℕ) (e r : ℤ) (sign : Bool) → theta ≡ min a b → neg_ℤ (pos a) ≤ℤ e → e ≤ℤ pos b → signed_by parity e sign → NumberBy theta (unsigned_abs e) sign n → ErrorBy theta a parity n r → r ≡ e
+same_error theta a b parity n e r sign m low high s c d = grind (arith, ints)
 
 -- the number of an error gives the error back
 pub error_back : (a b parity n : ℕ) (e : ℤ) (sign : Bool) → neg_ℤ (pos a) ≤ℤ e → e ≤ℤ pos b → signed_by parity e sign → n ≡ number_of (min a b) (unsigned_abs e) sign → error_of (min a b) a parity n ≡ e
 error_back a b parity n e sign low high s h =
     same_error (min a b) a b parity n e (error_of (min a b) a parity n) sign refl low high s (number_cases (min a b) (unsigned_abs e) n sign h) (error_cases (min a b) a parity n _ refl)
 
-small_number : (near a b parity n : ℕ) (e : ℤ) (sign : Bool) → near ≡ min a b → neg_ℤ (pos a) ≤ℤ e → e ≤ℤ pos b → NumberBy near (unsigned_abs e) sign n → n ≤ a + b
-small_number near a b parity n e sign m low high c = grind (arith, ints)
+small_number : (theta a b parity n : ℕ) (e : ℤ) (sign : Bool) → theta ≡ min a b → neg_ℤ (pos a) ≤ℤ e → e ≤ℤ pos b → NumberBy theta (unsigned_abs e) sign n → n ≤ a + b
+small_number theta a b parity n e sign m low high c = grind (arith, ints)
 
-small_error : (near a b parity n : ℕ) (e : ℤ) → near ≡ min a b → n ≤ a + b → ErrorBy near a parity n e → (neg_ℤ (pos a) ≤ℤ e) × (e ≤ℤ pos b)
-small_error near a b parity n e m h d = (grind (arith, ints), grind (arith, ints))
+small_error : (theta a b parity n : ℕ) (e : ℤ) → theta ≡ min a b → n ≤ a + b → ErrorBy theta a parity n e → (neg_ℤ (pos a) ≤ℤ e) × (e ≤ℤ pos b)
+small_error theta a b parity n e m h d = (grind (arith, ints), grind (arith, ints))
 
-same_number : (near a b parity n k : ℕ) (e : ℤ) (sign : Bool) → near ≡ min a b → n ≤ a + b → ErrorBy near a parity n e → signed_by parity e sign → NumberBy near (unsigned_abs e) sign k → k ≡ n
-same_number near a b parity n k e sign m h d s c = grind (arith, ints)
+same_number : (theta a b parity n k : ℕ) (e : ℤ) (sign : Bool) → theta ≡ min a b → n ≤ a + b → ErrorBy theta a parity n e → signed_by parity e sign → NumberBy theta (unsigned_abs e) sign k → k ≡ n
+same_number theta a b parity n k e sign m h d s c = grind (arith, ints)
 
 pub half_low : (z : ℤ) → (pos 2 *ℤ floor_div z 2) ≤ℤ z
 half_low (pos a) = omega (arith, ints)
@@ -99,7 +99,7 @@ module _ (low high scaled : ℤ) (least : (pos 2 *ℤ low) ≤ℤ scaled) (most 
       let w = whole in
       let small : mapped_between low high scaled v ≤ unsigned_abs (p -ℤ low) + unsigned_abs (high -ℤ p) =
       small_number _ (unsigned_abs (p -ℤ low)) (unsigned_abs (high -ℤ p)) 0 (mapped_between low high scaled v) (v -ℤ p) _ refl (error_bounds v h).0 (error_bounds v h).1
-      (number_cases (reach low high p) (unsigned_abs (v -ℤ p)) (mapped_between low high scaled v) (agrees scaled (v -ℤ p)) refl) in
+      (number_cases (theta_between low high p) (unsigned_abs (v -ℤ p)) (mapped_between low high scaled v) (agrees scaled (v -ℤ p)) refl) in
       omega (arith, ints)
 
   pub sample_back : (w : ℤ) → Between low high w → unmapped_between low high scaled (mapped_between low high scaled w) ≡ w
@@ -115,7 +115,7 @@ module _ (low high scaled : ℤ) (least : (pos 2 *ℤ low) ≤ℤ scaled) (most 
       let p : ℤ = floor_div scaled 2 in
       let w = whole in
       let i = inside in
-      let s = small_error (reach low high p) (unsigned_abs (p -ℤ low)) (unsigned_abs (high -ℤ p)) (unsigned_abs scaled) n _ refl (omega (arith, ints)) (error_cases (reach low high p) (unsigned_abs (p -ℤ low)) (unsigned_abs scaled) n _ refl) in
+      let s = small_error (theta_between low high p) (unsigned_abs (p -ℤ low)) (unsigned_abs (high -ℤ p)) (unsigned_abs scaled) n _ refl (omega (arith, ints)) (error_cases (theta_between low high p) (unsigned_abs (p -ℤ low)) (unsigned_abs scaled) n _ refl) in
       (omega (arith, ints), omega (arith, ints))
 
   pub number_back : (n : ℕ) → pos n ≤ℤ (high -ℤ low) → mapped_between low high scaled (unmapped_between low high scaled n) ≡ n
@@ -123,12 +123,12 @@ module _ (low high scaled : ℤ) (least : (pos 2 *ℤ low) ≤ℤ scaled) (most 
   number_back n h =
       let p : ℤ = floor_div scaled 2 in
       let w = whole in
-      let e : ℤ = error_of (reach low high p) (unsigned_abs (p -ℤ low)) (unsigned_abs scaled) n in
+      let e : ℤ = error_of (theta_between low high p) (unsigned_abs (p -ℤ low)) (unsigned_abs scaled) n in
       let same : (p +ℤ e) -ℤ p ≡ e = back p e in
       rw same
-      (same_number (reach low high p) (unsigned_abs (p -ℤ low)) (unsigned_abs (high -ℤ p)) (unsigned_abs scaled) n _ e (agrees scaled e) refl (omega (arith, ints))
-      (error_cases (reach low high p) (unsigned_abs (p -ℤ low)) (unsigned_abs scaled) n e refl) (agrees_cases scaled e _ refl)
-      (number_cases (reach low high p) (unsigned_abs e) _ (agrees scaled e) refl))
+      (same_number (theta_between low high p) (unsigned_abs (p -ℤ low)) (unsigned_abs (high -ℤ p)) (unsigned_abs scaled) n _ e (agrees scaled e) refl (omega (arith, ints))
+      (error_cases (theta_between low high p) (unsigned_abs (p -ℤ low)) (unsigned_abs scaled) n e refl) (agrees_cases scaled e _ refl)
+      (number_cases (theta_between low high p) (unsigned_abs e) _ (agrees scaled e) refl))
 
 -- a number within the span has as many bits
 pub below : (low high : ℤ) (n power : ℕ) → high -ℤ low ≡ pos power -ℤ pos 1 → pos n ≤ℤ (high -ℤ low) → n < power
@@ -147,7 +147,7 @@ one_sample_lem k scaled h s =
       ),
     )
 
-pub unmapped_is : (low high scaled p e : ℤ) (near below parity n : ℕ) → p ≡ floor_div scaled 2 → near ≡ reach low high p → below ≡ unsigned_abs (p -ℤ low) → parity ≡ unsigned_abs scaled
-    → e ≡ error_of near below parity n → p +ℤ e ≡ unmapped_between low high scaled n
+pub unmapped_is : (low high scaled p e : ℤ) (theta below parity n : ℕ) → p ≡ floor_div scaled 2 → theta ≡ theta_between low high p → below ≡ unsigned_abs (p -ℤ low) → parity ≡ unsigned_abs scaled
+    → e ≡ error_of theta below parity n → p +ℤ e ≡ unmapped_between low high scaled n
 unfolding unmapped_between
-unmapped_is low high scaled p e near below parity n a b c d f = rw (f, b, c, d, a) refl
+unmapped_is low high scaled p e theta below parity n a b c d f = rw (f, b, c, d, a) refl

@@ -64,7 +64,7 @@ pub first_from_below : (p : Predictor) (c : Image) (z : ℕ) → p.previous ≢ 
 unfolding first_scaled
 first_from_below p c z h k = grind (arith, nat_tests)
 
--- a local sum of samples, as the code computes it from that of heights
+-- a local sum of samples, as the code computes it from that of offsets
 pub whole_sum : (low : ℤ) (sum : ℕ) → (negsuc 32767 ≤ℤ low) × (low ≤ℤ pos 0) → sum ≤ 262140
     → to_z w32 (of_z w32 (to_z w32 (of_z w32 (pos 4 *ℤ to_z w32 (of_z w32 low))) +ℤ to_z w32 sum)) ≡ pos 4 *ℤ low +ℤ pos sum
 whole_sum low sum h k = omega (arith, ints, h.0, h.1)

@@ -115,9 +115,9 @@ zero_at n i =
     ]
 
 -- the difference of empty lines
-pub empty_difference : (column : Bool) (here over : List ℕ) (i : ℕ) → here ≡ replicate 66 0 → over ≡ replicate 66 0 → line_difference column here over i ≡ pos 0
-empty_difference true here over i a b = rw (a, b, zero_at 66 (i + 1)) refl
-empty_difference false here over i a b = rw (a, b, zero_at 66 i, zero_at 66 (i + 1), zero_at 66 (i + 2)) refl
+pub empty_difference : (column : Bool) (current upper : List ℕ) (i : ℕ) → current ≡ replicate 66 0 → upper ≡ replicate 66 0 → line_difference column current upper i ≡ pos 0
+empty_difference true current upper i a b = rw (a, b, zero_at 66 (i + 1)) refl
+empty_difference false current upper i a b = rw (a, b, zero_at 66 i, zero_at 66 (i + 1), zero_at 66 (i + 2)) refl
 
 -- a quad behind those that stand
 pub quads_next : (p : Predictor) (c : Image) (z y x first nearest q i : ℕ) (heads : List ℤ) (quads : List Quad) (v : Quad) → first ≤ q → q < length quads

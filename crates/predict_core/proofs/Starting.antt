@@ -10,7 +10,7 @@ use Rattle.cube_core.specs.Image.{Image}
 use Rattle.predict_core.specs.declared.predictor.Predictor.{Predictor}
 use Rattle.predict_core.specs.Predictor.{predictor_of, previous_bands, component_count}
 use Rattle.predict_core.specs.Arithmetic.{floor_div}
-use Rattle.predict_core.specs.Weights.{eighths, usual_weights, weights_by, start_weights}
+use Rattle.predict_core.specs.Weights.{eighths, default_weights, weights_by, start_weights}
 use Rattle.predict_core.specs.Prediction.{weight_vector}
 use Rattle.predict_core.proofs.Directions.{reduced_count, full_count, heads_taken}
 use Rattle.predict_core.proofs.Scaled.{halved_shrinks}
@@ -39,16 +39,16 @@ pub shrinks_small : (w : ℤ) → unsigned_abs w ≤ 2 ^ 20 → SFits w32 (floor
 shrinks_small w h = (fits_signed_from_abs w32 (floor_div w 8) (omega (arith, halved_shrinks w 8)), omega (arith, halved_shrinks w 8))
 
 module _ (made : Predictor) (z : ℕ) (weights : List ℤ) where
-  reduced_usual : made.reduced ≡ true → usual_weights made z ≡ eighths (pos (7 * 2 ^ (made.fraction - 3))) (previous_bands made z)
-  unfolding usual_weights
+  reduced_usual : made.reduced ≡ true → default_weights made z ≡ eighths (pos (7 * 2 ^ (made.fraction - 3))) (previous_bands made z)
+  unfolding default_weights
   reduced_usual h = rw h refl
 
-  full_usual : made.reduced ≡ false → usual_weights made z ≡ replicate 3 (pos 0) ++ eighths (pos (7 * 2 ^ (made.fraction - 3))) (previous_bands made z)
-  unfolding usual_weights
+  full_usual : made.reduced ≡ false → default_weights made z ≡ replicate 3 (pos 0) ++ eighths (pos (7 * 2 ^ (made.fraction - 3))) (previous_bands made z)
+  unfolding default_weights
   full_usual h = rw h refl
 
   pub reduced_start : made.reduced ≡ true → (k : ℕ) → weights ≡ replicate 0 (pos 0) ++ eighths (pos (7 * 2 ^ (made.fraction - 3))) (previous_bands made z) ++ replicate k (pos 0)
-      → take (component_count made z) weights ≡ usual_weights made z
+      → take (component_count made z) weights ≡ default_weights made z
   reduced_start h k e =
       let n = eighths_length (pos (7 * 2 ^ (made.fraction - 3))) (previous_bands made z) in
       let t : take (previous_bands made z) weights ≡ eighths (pos (7 * 2 ^ (made.fraction - 3))) (previous_bands made z) =
@@ -56,7 +56,7 @@ module _ (made : Predictor) (z : ℕ) (weights : List ℤ) where
       ap (λ j. take j weights) (reduced_count made z h) ∙ t ∙ sym (reduced_usual h)
 
   pub full_start : made.reduced ≡ false → (k : ℕ) → weights ≡ replicate 3 (pos 0) ++ eighths (pos (7 * 2 ^ (made.fraction - 3))) (previous_bands made z) ++ replicate k (pos 0)
-      → take (component_count made z) weights ≡ usual_weights made z
+      → take (component_count made z) weights ≡ default_weights made z
   full_start h k e =
       let n = eighths_length (pos (7 * 2 ^ (made.fraction - 3))) (previous_bands made z) in
       let l : length (replicate 3 (pos 0) ++ eighths (pos (7 * 2 ^ (made.fraction - 3))) (previous_bands made z)) ≡ 3 + previous_bands made z = omega (arith, n) in
@@ -65,10 +65,10 @@ module _ (made : Predictor) (z : ℕ) (weights : List ℤ) where
       ap (λ j. take j weights) (full_count made z h) ∙ t ∙ sym (full_usual h)
 
   pub start_is : (first k : ℕ) → first ≡ (if made.reduced then 0 else 3) → weights ≡ replicate first (pos 0) ++ eighths (pos (7 * 2 ^ (made.fraction - 3))) (previous_bands made z) ++ replicate k (pos 0)
-      → take (first + previous_bands made z) weights ≡ usual_weights made z
+      → take (first + previous_bands made z) weights ≡ default_weights made z
   start_is first k f e = by_mode made.reduced refl
     where
-      by_mode : (b : Bool) → made.reduced ≡ b → take (first + previous_bands made z) weights ≡ usual_weights made z
+      by_mode : (b : Bool) → made.reduced ≡ b → take (first + previous_bands made z) weights ≡ default_weights made z
       by_mode true h =
           let zero_first : first ≡ 0 = grind (arith, f) in
           ap (λ j. take j weights) (omega (arith, zero_first, reduced_count made z h)) ∙ reduced_start h k (rw zero_first at e)
@@ -114,8 +114,8 @@ unfolding weight_vector
 start_told p c z weights n e = e
 
 -- the usual weights are those that the parameters tell
-pub usual_told : (p : Params) (z : ℕ) → p.start ≡ Usual → (first near : ℕ) (weights : List ℤ) → first ≡ (if p.reduced then 0 else 3) → near ≡ previous_bands (predictor_of p) z
+pub default_told : (p : Params) (z : ℕ) → p.start ≡ Usual → (first near : ℕ) (weights : List ℤ) → first ≡ (if p.reduced then 0 else 3) → near ≡ previous_bands (predictor_of p) z
     → weights ≡ replicate first (pos 0) ++ eighths (pos (7 * 2 ^ (p.omega - 3))) near ++ replicate (18 - first - near) (pos 0) → take (first + near) weights ≡ start_weights p z
 unfolding weights_by
-usual_told p z usual first near weights f n e =
+default_told p z usual first near weights f n e =
     rw (n, usual) (start_is (predictor_of p) z weights first (18 - first - previous_bands (predictor_of p) z) f (rw n at e))

@@ -3,7 +3,7 @@ pub mod Bounds
 pub mod Chain
 pub mod Differences
 pub mod Following
-pub mod HeightSum
+pub mod OffsetSum
 pub mod Largest
 pub mod ErrorSign
 pub mod Learner

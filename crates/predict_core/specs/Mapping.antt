@@ -2,7 +2,7 @@
 use Rattle.std.specs.Prelude.{ℕ, ◌≡◌, ◌+◌, ◌-◌, ◌*◌, ◌/◌, ◌%◌, ◌^◌, ◌<◌, ◌==◌, nat_lt, ℤ, pos, neg_ℤ, ◌+ℤ◌, ◌-ℤ◌, ◌*ℤ◌, ◌≤ℤ◌, unsigned_abs, if◌then◌else◌}
 use Rattle.cube_core.specs.Kind.{SampleKind, IsKind, IsSample, smin, smax}
 use Rattle.predict_core.specs.Arithmetic.{floor_div}
-use Rattle.predict_core.specs.Residual.{reach, mapped}
+use Rattle.predict_core.specs.Residual.{theta_between, mapped}
 
 -- a number between two bounds
 abbrev pub Between : ℤ → ℤ → ℤ → Type 0
@@ -14,8 +14,8 @@ IsScaled k scaled = Between (pos 2 *ℤ smin k) (pos 2 *ℤ smax k +ℤ pos 1) s
 
 -- the error that a number tells, where the nearer and the lower end of the range are so far from the prediction
 abbrev pub error_of : ℕ → ℕ → ℕ → ℕ → ℤ
-error_of near below parity n =
-    if nat_lt (2 * near) n then (if nat_lt near below then neg_ℤ (pos (n - near)) else pos (n - near))
+error_of theta below parity n =
+    if nat_lt (2 * theta) n then (if nat_lt theta below then neg_ℤ (pos (n - theta)) else pos (n - theta))
     else if (n + parity) % 2 == 0 then pos ((n + 1) / 2)
     else neg_ℤ (pos ((n + 1) / 2))
 
@@ -23,7 +23,7 @@ error_of near below parity n =
 unfoldable pub unmapped_between : ℤ → ℤ → ℤ → ℕ → ℤ
 unmapped_between low high scaled n =
     let predicted = floor_div scaled 2 in
-    predicted +ℤ error_of (reach low high predicted) (unsigned_abs (predicted -ℤ low)) (unsigned_abs scaled) n
+    predicted +ℤ error_of (theta_between low high predicted) (unsigned_abs (predicted -ℤ low)) (unsigned_abs scaled) n
 
 -- By each scaled prediction a sample has a number of as many bits, and each such number is that of exactly one sample.
 abbrev pub OneSample : Type 0

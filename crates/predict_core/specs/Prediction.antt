@@ -20,8 +20,8 @@ inner_product (w ∷ ws) (u ∷ us) = w *ℤ u +ℤ inner_product ws us
 -- twice a predicted sample, from a local sum, weights and differences
 unfoldable pub scaled_by : Predictor → SampleKind → ℤ → List ℤ → List ℤ → ℤ
 scaled_by p k sum ws us =
-    let held = wrapped p.register (inner_product ws us +ℤ pos (2 ^ p.fraction) *ℤ (sum -ℤ pos 4 *ℤ smid k)) in
-    clip (floor_div held (2 ^ (p.fraction + 1)) +ℤ pos 2 *ℤ smid k +ℤ pos 1) (pos 2 *ℤ smin k) (pos 2 *ℤ smax k +ℤ pos 1)
+    let register = wrapped p.register (inner_product ws us +ℤ pos (2 ^ p.fraction) *ℤ (sum -ℤ pos 4 *ℤ smid k)) in
+    clip (floor_div register (2 ^ (p.fraction + 1)) +ℤ pos 2 *ℤ smid k +ℤ pos 1) (pos 2 *ℤ smin k) (pos 2 *ℤ smax k +ℤ pos 1)
 
 -- the same at a place that is not the first of its band
 unfoldable pub scaled_there : Predictor → Image → ℕ → ℕ → ℕ → List ℤ → ℤ

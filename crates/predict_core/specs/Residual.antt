@@ -8,8 +8,8 @@ use Rattle.predict_core.specs.Arithmetic.{floor_div}
 use Rattle.predict_core.specs.Prediction.{scaled_prediction}
 
 -- how far a predicted sample is from the nearer end of the range
-abbrev pub reach : ℤ → ℤ → ℤ → ℕ
-reach low high predicted = min (unsigned_abs (predicted -ℤ low)) (unsigned_abs (high -ℤ predicted))
+abbrev pub theta_between : ℤ → ℤ → ℤ → ℕ
+theta_between low high predicted = min (unsigned_abs (predicted -ℤ low)) (unsigned_abs (high -ℤ predicted))
 
 -- whether an error is 0 or has the sign of (-1) ^ scaled
 abbrev pub agrees : ℤ → ℤ → Bool
@@ -17,14 +17,14 @@ agrees scaled error = if unsigned_abs scaled % 2 == 0 then int_le (pos 0) error 
 
 -- the number of an error of some size: beyond the nearer end every size has one, below it both signs take turns
 abbrev pub number_of : ℕ → ℕ → Bool → ℕ
-number_of near size agreeing = if nat_lt near size then size + near else if agreeing then 2 * size else 2 * size - 1
+number_of theta size agreeing = if nat_lt theta size then size + theta else if agreeing then 2 * size else 2 * size - 1
 
 -- the number of a sample between low and high, by its scaled prediction
 unfoldable pub mapped_between : ℤ → ℤ → ℤ → ℤ → ℕ
 mapped_between low high scaled sample =
     let predicted = floor_div scaled 2 in
     let error = sample -ℤ predicted in
-    number_of (reach low high predicted) (unsigned_abs error) (agrees scaled error)
+    number_of (theta_between low high predicted) (unsigned_abs error) (agrees scaled error)
 
 -- the number of a sample of a kind
 abbrev pub mapped : SampleKind → ℤ → ℤ → ℕ

@@ -39,7 +39,7 @@ pub record IsRoom (p : Predictor) (c : Image) (z y x count components : ℕ) (su
   pub central_in : (i : ℕ) → i < count → 0 < y + (x + i) → unsigned_abs (slice_index_or own i (pos 0)) ≤ 4 * 2 ^ c.kind.bits
   pub vector_in : (i : ℕ) → i < count → 0 < y + (x + i) → AllWithin (4 * 2 ^ c.kind.bits) (components_at (quads_of components) quads i)
 
--- the number of a height above the least sample, by a predicted difference and a local sum of heights
-unfoldable pub height_number : ℤ → ℤ → ℤ → ℕ → ℕ
-height_number greatest part sum height =
-    mapped_between (pos 0) greatest (clip (floor_div (part +ℤ sum) 2 +ℤ pos 1) (pos 0) (pos 2 *ℤ greatest +ℤ pos 1)) (pos height)
+-- the number of an offset from the least sample, by a predicted difference and a local sum of offsets
+unfoldable pub offset_number : ℤ → ℤ → ℤ → ℕ → ℕ
+offset_number greatest part sum offset =
+    mapped_between (pos 0) greatest (clip (floor_div (part +ℤ sum) 2 +ℤ pos 1) (pos 0) (pos 2 *ℤ greatest +ℤ pos 1)) (pos offset)

@@ -20,8 +20,8 @@ eighths w zero = []
 eighths w (suc n) = w ∷ eighths (floor_div w 8) n
 
 -- the usual start: seven eighths for the nearest band below, and nothing for the directions
-unfoldable pub usual_weights : Predictor → ℕ → List ℤ
-usual_weights p z =
+unfoldable pub default_weights : Predictor → ℕ → List ℤ
+default_weights p z =
     let spectral = eighths (pos (7 * 2 ^ (p.fraction - 3))) (previous_bands p z) in
     if p.reduced then spectral else pos 0 ∷ pos 0 ∷ pos 0 ∷ spectral
 
@@ -41,7 +41,7 @@ table_weights p q entries z =
     map (table_weight p.fraction q) (take (component_count p z) (drop (entries_before p z) entries))
 
 unfoldable pub weights_by : Predictor → WeightStart → ℕ → List ℤ
-weights_by p Usual z = usual_weights p z
+weights_by p Usual z = default_weights p z
 weights_by p (Table q entries) z = table_weights p q entries z
 
 -- the weights that band z starts from

@@ -129,7 +129,7 @@ impl Band {
         ensures residual { (p : Parameters) → Follows p self.old cube.now → mapped_residual p (put cube.now self.old.band y x result) self.old.band self.old.place ≡ delta }
         ensures follows { (p : Parameters) → Follows p self.old cube.now → Follows p self.new (put cube.now self.old.band y x result) }
     {
-        cube.is_cube();
+        cube.prove_is_cube();
         let t = self.next;
         self.next = t + 1;
         if t == 0 {
@@ -200,7 +200,7 @@ fn first_sample(settings: &Settings, cube: &Cube, y: u32, x: u32, delta: u16) ->
     ensures range { IsSample cube.now.kind result }
     ensures inverse { mapped cube.now.kind (first_prediction settings.now.predictor (put cube.now settings.now.band y x result) settings.now.band) result ≡ delta }
 {
-    cube.is_cube();
+    cube.prove_is_cube();
     let scaled = first_scaled(settings, cube);
     settings.range.sample_of(scaled, delta)
 }
@@ -229,7 +229,7 @@ fn next_sample(
     ensures weights { take (component_count settings.now.predictor settings.now.band) weights.new ≡ next_weights settings.now.predictor (put cube.now settings.now.band y x result) settings.now.band t (take (component_count settings.now.predictor settings.now.band) weights.old) }
     ensures bound { AllWithin (2 ^ (settings.now.predictor.fraction + 2)) weights.new }
 {
-    cube.is_cube();
+    cube.prove_is_cube();
     let prediction = predict(settings, cube, y, x, weights);
     let found = settings.range.sample_of(prediction.scaled, delta);
     learn(settings, t, weights, &prediction, found);

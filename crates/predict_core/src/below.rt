@@ -141,9 +141,9 @@ pub(crate) fn fill_below(
     requires few { count ≤ 64 }
     requires inside { x + count ≤ cube.now.shape.columns }
     requires below_in { 1 ≤ below }
-    requires here { lines.old.here ≡ replicate 66 0 }
-    requires over { lines.old.over ≡ replicate 66 0 }
-    ensures { (i : ℕ) → i < count → 0 < y + (x + i) → line_difference (settings.now.predictor.column || y == 0) lines.new.here lines.new.over i ≡ lower_difference settings.now.predictor cube.now settings.now.band y (x + i) below }
+    requires current { lines.old.current ≡ replicate 66 0 }
+    requires above { lines.old.above ≡ replicate 66 0 }
+    ensures { (i : ℕ) → i < count → 0 < y + (x + i) → line_difference (settings.now.predictor.column || y == 0) lines.new.current lines.new.above i ≡ lower_difference settings.now.predictor cube.now settings.now.band y (x + i) below }
 {
     if below <= settings.near {
         let z = settings.band - below as u32;

@@ -120,7 +120,7 @@ fn four_of(components: &[i32; 4]) -> [i32; 4]
 
 /// The predicted central difference at row `y`, column `x` of a cube, and the weights at the next place.
 ///
-/// The scaled prediction is found from the difference and the local sum alone, which is that of the heights and `sum`.
+/// The scaled prediction is found from the difference and the local sum alone, which is that of the offsets and `sum`.
 /// The place is not the first of its band.
 #[inline(always)]
 fn follow_at<const N: usize, const WRAPS: bool>(
@@ -154,7 +154,7 @@ fn follow_at<const N: usize, const WRAPS: bool>(
     ensures weights { take settings.now.count weights.new ≡ next_weights settings.now.predictor cube.now settings.now.band (y * cube.now.shape.columns + x) (take settings.now.count weights.old) }
     ensures bound { AllWithin (2 ^ (steps.fraction + 2)) weights.new }
 {
-    cube.is_cube();
+    cube.prove_is_cube();
     let predicted = predicted_difference::<N, WRAPS>(
         &settings.predictor,
         &settings.range,
@@ -210,8 +210,8 @@ pub(crate) fn follow_places<const Q: usize, const N: usize, const WRAPS: bool>(
     ensures small { (i : ℕ) → first ≤ i → i < last → unsigned_abs (slice_index_or parts.new i (pos 0)) ≤ 18 * 2 ^ 20 }
     ensures bound { AllWithin (2 ^ (steps.fraction + 2)) weights.new }
 {
-    cube.is_cube();
-    let mut held = *weights;
+    cube.prove_is_cube();
+    let mut working = *weights;
     for i in first..last {
         let differences = differences_at::<Q>(quads, i);
         parts[i] = follow_at::<N, WRAPS>(
@@ -222,9 +222,9 @@ pub(crate) fn follow_places<const Q: usize, const N: usize, const WRAPS: bool>(
             steps,
             sums[i],
             own[i],
-            &mut held,
+            &mut working,
             &differences,
         );
     }
-    *weights = held;
+    *weights = working;
 }

@@ -15,7 +15,7 @@ use cube_core::cube::Cube;
 /// Writes all differences at a place that is not the first of its band into a room of zeros, in full
 /// mode the directional ones first.
 ///
-/// `sum` is the local sum of the heights there, and `near` the number of bands below that are looked at
+/// `sum` is the local sum of the offsets there, and `near` the number of bands below that are looked at
 /// (CCSDS 123.0-B-1, "Local Differences").
 #[inline(always)]
 pub(crate) fn fill_differences(
@@ -47,7 +47,7 @@ pub(crate) fn fill_differences(
     }
 }
 
-/// The local sum of the heights at a place that is not the first of its band.
+/// The local sum of the offsets at a place that is not the first of its band.
 #[inline(always)]
 pub(crate) fn sum_at(predictor: &Predictor, cube: &Cube, z: u32, y: u32, x: u32) -> u32
     requires place { IsPlace cube.now.shape z y x }

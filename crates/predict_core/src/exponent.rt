@@ -6,7 +6,7 @@ ghost use Rattle.predict_core.specs.Weights.{growth, step_exponent};
 ghost use Rattle.predict_core.specs.Bounds.{IsPredictor};
 
 use crate::predictor::Predictor;
-use crate::register::halved;
+use crate::register::floor_shift;
 
 /// The exponent of the steps after place `t`, in rows of so many columns, for samples of so many bits.
 #[inline(always)]
@@ -47,7 +47,7 @@ fn intervals_at(interval_log: u32, columns: u32, t: u64) -> i64
     ensures value { result ≡ floor_div (pos t -ℤ pos columns) (2 ^ interval_log) }
     ensures bound { unsigned_abs result ≤ 2 ^ 33 }
 {
-    halved(t as i64 - columns as i64, interval_log)
+    floor_shift(t as i64 - columns as i64, interval_log)
 }
 
 /// How many places from place `t` on, of `most`, have the exponent of that place for certain: one at least.

@@ -9,15 +9,15 @@ ghost use Rattle.predict_core.specs.Lines.{line_sum, line_difference, line_direc
 use crate::lines::{Lines, sum_of_lines};
 use crate::neighbourhood::difference_of;
 
-/// Writes the local sum of heights and the central difference of each place.
+/// Writes the local sum of offsets and the central difference of each place.
 pub(crate) fn fill_own(column: bool, lines: &Lines, sums: &mut [i32; 64], own: &mut [i32; 64])
-    ensures sums { (i : ℕ) → i < 64 → slice_index_or sums.new i (pos 0) ≡ pos (line_sum column lines.now.here lines.now.over i) }
-    ensures own { (i : ℕ) → i < 64 → slice_index_or own.new i (pos 0) ≡ line_difference column lines.now.here lines.now.over i }
+    ensures sums { (i : ℕ) → i < 64 → slice_index_or sums.new i (pos 0) ≡ pos (line_sum column lines.now.current lines.now.above i) }
+    ensures own { (i : ℕ) → i < 64 → slice_index_or own.new i (pos 0) ≡ line_difference column lines.now.current lines.now.above i }
 {
     for i in 0..64usize {
-        let sum = sum_of_lines(column, &lines.here, &lines.over, i);
+        let sum = sum_of_lines(column, &lines.current, &lines.above, i);
         sums[i] = sum as i32;
-        own[i] = difference_of(lines.here[i + 1], sum);
+        own[i] = difference_of(lines.current[i + 1], sum);
     }
 }
 
@@ -30,7 +30,7 @@ pub(crate) fn fill_four(
     fourth: &Lines,
     out: &mut [[i32; 4]; 64],
 )
-    ensures { (i : ℕ) → i < 64 → slice_index_or out.new i [] ≡ line_difference column first.now.here first.now.over i ∷ line_difference column second.now.here second.now.over i ∷ line_difference column third.now.here third.now.over i ∷ line_difference column fourth.now.here fourth.now.over i ∷ [] }
+    ensures { (i : ℕ) → i < 64 → slice_index_or out.new i [] ≡ line_difference column first.now.current first.now.above i ∷ line_difference column second.now.current second.now.above i ∷ line_difference column third.now.current third.now.above i ∷ line_difference column fourth.now.current fourth.now.above i ∷ [] }
 {
     for i in 0..64usize {
         out[i] = [
@@ -44,7 +44,7 @@ pub(crate) fn fill_four(
 
 /// Writes the central differences of two bands at each place, and zeros behind them.
 pub(crate) fn fill_two(column: bool, first: &Lines, second: &Lines, out: &mut [[i32; 4]; 64])
-    ensures { (i : ℕ) → i < 64 → slice_index_or out.new i [] ≡ line_difference column first.now.here first.now.over i ∷ line_difference column second.now.here second.now.over i ∷ pos 0 ∷ pos 0 ∷ [] }
+    ensures { (i : ℕ) → i < 64 → slice_index_or out.new i [] ≡ line_difference column first.now.current first.now.above i ∷ line_difference column second.now.current second.now.above i ∷ pos 0 ∷ pos 0 ∷ [] }
 {
     for i in 0..64usize {
         out[i] = [
@@ -56,7 +56,7 @@ pub(crate) fn fill_two(column: bool, first: &Lines, second: &Lines, out: &mut [[
     }
 }
 
-/// Writes the local sum of heights, the central and the directional differences of each place, and the
+/// Writes the local sum of offsets, the central and the directional differences of each place, and the
 /// central difference of another band: in a quad stand north, west, north-west, and that band's.
 pub(crate) fn fill_directions(
     column: bool,
@@ -66,17 +66,17 @@ pub(crate) fn fill_directions(
     own: &mut [i32; 64],
     out: &mut [[i32; 4]; 64],
 )
-    ensures sums { (i : ℕ) → i < 64 → slice_index_or sums.new i (pos 0) ≡ pos (line_sum column lines.now.here lines.now.over i) }
-    ensures own { (i : ℕ) → i < 64 → slice_index_or own.new i (pos 0) ≡ line_difference column lines.now.here lines.now.over i }
-    ensures quads { (i : ℕ) → i < 64 → slice_index_or out.new i [] ≡ line_directions column lines.now.here lines.now.over i ++ line_difference column below.now.here below.now.over i ∷ [] }
+    ensures sums { (i : ℕ) → i < 64 → slice_index_or sums.new i (pos 0) ≡ pos (line_sum column lines.now.current lines.now.above i) }
+    ensures own { (i : ℕ) → i < 64 → slice_index_or own.new i (pos 0) ≡ line_difference column lines.now.current lines.now.above i }
+    ensures quads { (i : ℕ) → i < 64 → slice_index_or out.new i [] ≡ line_directions column lines.now.current lines.now.above i ++ line_difference column below.now.current below.now.above i ∷ [] }
 {
     for i in 0..64usize {
-        let sum = sum_of_lines(column, &lines.here, &lines.over, i);
+        let sum = sum_of_lines(column, &lines.current, &lines.above, i);
         sums[i] = sum as i32;
-        own[i] = difference_of(lines.here[i + 1], sum);
-        let north = difference_of(lines.over[i + 1], sum);
-        let west = difference_of(lines.here[i], sum);
-        let north_west = difference_of(lines.over[i], sum);
+        own[i] = difference_of(lines.current[i + 1], sum);
+        let north = difference_of(lines.above[i + 1], sum);
+        let west = difference_of(lines.current[i], sum);
+        let north_west = difference_of(lines.above[i], sum);
         out[i] = [north, west, north_west, central_at(column, below, i)];
     }
 }
@@ -85,9 +85,9 @@ pub(crate) fn fill_directions(
 #[inline(always)]
 fn central_at(column: bool, lines: &Lines, i: usize) -> i32
     requires { i < 64 }
-    ensures value { result ≡ line_difference column lines.now.here lines.now.over i }
+    ensures value { result ≡ line_difference column lines.now.current lines.now.above i }
     ensures bound { unsigned_abs result ≤ 262144 }
 {
-    let sum = sum_of_lines(column, &lines.here, &lines.over, i);
-    difference_of(lines.here[i + 1], sum)
+    let sum = sum_of_lines(column, &lines.current, &lines.above, i);
+    difference_of(lines.current[i + 1], sum)
 }

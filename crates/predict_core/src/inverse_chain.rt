@@ -21,7 +21,7 @@ ghost use Rattle.predict_core.specs.Weights.{step_exponent};
 use crate::chain::{differences_at, turn_of_error};
 use crate::differences::{put_own_directions, sum_at};
 use crate::exponent::{exponent_at, places_alike};
-use crate::mapping::scaled_height;
+use crate::mapping::scaled_offset;
 use crate::prediction::predicted_difference;
 use crate::range::Range;
 use crate::residual::unmap_between;
@@ -61,11 +61,11 @@ pub(crate) fn invert_places<const Q: usize, const N: usize, const WRAPS: bool>(
     ensures weights { (p : Parameters) → AreWeightsAt p settings.now.predictor cube.old settings.now.band (y * cube.old.shape.columns + x) (take settings.now.count weights.old) → take settings.now.count weights.new ≡ weight_vector p cube.new settings.now.band (y * cube.old.shape.columns + x + length deltas.now) }
     ensures within { AllWithin (2 ^ (settings.now.predictor.fraction + 2)) weights.new }
 {
-    cube.is_cube();
+    cube.prove_is_cube();
     // Kept aside, as the weights are, so that they stay in registers while samples are written.
     let kept = *settings;
     let settings = &kept;
-    let mut held = *weights;
+    let mut working = *weights;
     let mut stretch = Stretch {
         form: Form::none(),
         end: 0,
@@ -82,13 +82,13 @@ pub(crate) fn invert_places<const Q: usize, const N: usize, const WRAPS: bool>(
             column,
             sum,
             stretch.form,
-            &mut held,
+            &mut working,
             &lower,
             deltas[i],
         );
         cube.set(settings.band, y, column, sample);
     }
-    *weights = held;
+    *weights = working;
 }
 
 /// The form of the steps at places of a run, up to its place `end`.
@@ -142,7 +142,7 @@ fn next_stretch(settings: &Settings, y: u32, x: u32, i: usize, count: usize) -> 
 
 /// The sample of a mapped residual at a place below the first row, and the weights after it.
 ///
-/// `sum` is the local sum of the heights there, and `form` that of the steps. Of `lower` the differences of the bands below are looked at.
+/// `sum` is the local sum of the offsets there, and `form` that of the steps. Of `lower` the differences of the bands below are looked at.
 #[inline(always)]
 pub(crate) fn sample_there<const N: usize, const WRAPS: bool>(
     settings: &Settings,
@@ -173,7 +173,7 @@ pub(crate) fn sample_there<const N: usize, const WRAPS: bool>(
     ensures weights { take settings.now.count weights.new ≡ next_weights settings.now.predictor (put cube.now settings.now.band y x result) settings.now.band (y * cube.now.shape.columns + x) (take settings.now.count weights.old) }
     ensures bound { AllWithin (2 ^ (settings.now.predictor.fraction + 2)) weights.new }
 {
-    cube.is_cube();
+    cube.prove_is_cube();
     let predictor = &settings.predictor;
     let range = &settings.range;
     let t = y as u64 * settings.columns as u64 + x as u64;
@@ -196,9 +196,9 @@ pub(crate) fn sample_there<const N: usize, const WRAPS: bool>(
     found
 }
 
-/// The sample of a mapped residual, from the predicted central difference and the local sum of the heights.
+/// The sample of a mapped residual, from the predicted central difference and the local sum of the offsets.
 ///
-/// It is found as a height, whose least is 0: so the ends of the range cost nothing.
+/// It is found as an offset, whose least is 0: so the ends of the range cost nothing.
 #[inline(always)]
 fn sample_by_part(range: &Range, part: i32, sum: u32, delta: u16) -> i32
     requires part_in { unsigned_abs part ≤ 18 * 2 ^ 20 }
@@ -208,11 +208,11 @@ fn sample_by_part(range: &Range, part: i32, sum: u32, delta: u16) -> i32
     ensures inverse { mapped range.now.kind (scaled_by_difference range.now.kind part (pos 4 *ℤ smin range.now.kind +ℤ pos sum)) result ≡ delta }
 {
     let greatest = range.smax - range.smin;
-    let scaled = scaled_height(greatest, part, sum as i32);
+    let scaled = scaled_offset(greatest, part, sum as i32);
     range.smin + unmap_between(0, greatest, scaled, delta)
 }
 
-/// The central difference of a sample where the local sum of the heights is `sum`.
+/// The central difference of a sample where the local sum of the offsets is `sum`.
 #[inline(always)]
 pub(crate) fn difference_there(range: &Range, sample: i32, sum: u32) -> i32
     requires sample_in { IsSample range.now.kind sample }

@@ -50,7 +50,7 @@ impl Band {
         ensures follows { (p : Parameters) → Follows p self.old cube.old → Follows p self.new cube.new }
         ensures told { AreOf self.new.predictor below.new cube.new }
     {
-        cube.is_cube();
+        cube.prove_is_cube();
         self.inverse_into(cube, y, x, delta, below);
     }
 
@@ -112,7 +112,7 @@ impl Band {
             below.forget();
             return self.inverse(cube, y, x, delta);
         }
-        cube.is_cube();
+        cube.prove_is_cube();
         self.next += 1;
         below.reach(&self.settings, cube, y, x);
         sample_above(&self.settings, cube, y, x, &mut self.weights, below, delta)
@@ -147,7 +147,7 @@ fn sample_above(
     ensures bound { AllWithin (2 ^ (settings.now.predictor.fraction + 2)) weights.new }
     ensures told { AreOf settings.now.predictor below.new (put cube.now settings.now.band y x result) }
 {
-    cube.is_cube();
+    cube.prove_is_cube();
     let predictor = &settings.predictor;
     let sum = sum_at(predictor, cube, settings.band, y, x);
     let sample = sample_by(settings, cube, y, x, sum, weights, below, delta);

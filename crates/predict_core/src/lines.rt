@@ -1,4 +1,4 @@
-//! The heights of a run of places and of their neighbours, in lines of fixed length.
+//! The offsets of a run of places and of their neighbours, in lines of fixed length.
 //!
 //! A run is at most 64 places of one row. Its lines have one place more on each side, so that every place has
 //! its neighbours at the same distances, and a loop over all 64 needs no test.
@@ -13,19 +13,19 @@ use cube_core::cube::Cube;
 /// A run's own row and the row above, each behind one place more and before another.
 #[derive(Clone, Copy)]
 pub(crate) struct Lines {
-    pub here: [u16; 66],
-    pub over: [u16; 66],
+    pub current: [u16; 66],
+    pub above: [u16; 66],
 }
 
 impl Lines {
     /// Lines of zeros, whose differences are 0.
     pub(crate) fn empty() -> Lines
-        ensures here { result.here ≡ replicate 66 0 }
-        ensures over { result.over ≡ replicate 66 0 }
+        ensures current { result.current ≡ replicate 66 0 }
+        ensures above { result.above ≡ replicate 66 0 }
     {
         Lines {
-            here: [0; 66],
-            over: [0; 66],
+            current: [0; 66],
+            above: [0; 66],
         }
     }
 }
@@ -45,7 +45,7 @@ pub(crate) fn fill_band_lines(
     requires few { count ≤ 64 }
     requires inside { x + count ≤ cube.now.shape.columns }
     requires wide { predictor.now.column ≡ false → 2 ≤ cube.now.shape.columns }
-    ensures { AreBandLines predictor.now cube.now z y x count lines.new.here lines.new.over }
+    ensures { AreBandLines predictor.now cube.now z y x count lines.new.current lines.new.above }
 {
     let row = cube.row(z, y);
     let above = cube.row(z, y.saturating_sub(1));
@@ -56,13 +56,13 @@ pub(crate) fn fill_band_lines(
         above,
         x as usize,
         count,
-        &mut lines.here,
-        &mut lines.over,
+        &mut lines.current,
+        &mut lines.above,
     );
 }
 
-/// Writes the neighbours of `count` places of a row from column `x` on: `here` those in the row itself, and
-/// `over` those in the row above.
+/// Writes the neighbours of `count` places of a row from column `x` on: `current` those in the row itself, and
+/// `upper` those in the row above.
 ///
 /// Where a place has no neighbour, what stands in for it makes the sum of all four right. In the first row,
 /// where the sum is of the western neighbours alone, they stand above their places
@@ -74,28 +74,28 @@ fn fill_lines(
     above: &[u16],
     x: usize,
     count: usize,
-    here: &mut [u16; 66],
-    over: &mut [u16; 66],
+    current: &mut [u16; 66],
+    upper: &mut [u16; 66],
 )
     requires some { 1 ≤ count }
     requires few { count ≤ 64 }
     requires inside { x + count ≤ length row.now }
     requires same { length above.now ≡ length row.now }
     requires wide { column ≡ false → 2 ≤ length row.now }
-    ensures { AreLines column y row.now above.now x count here.new over.new }
+    ensures { AreLines column y row.now above.now x count current.new upper.new }
 {
     let north = above[0];
-    fill_line(row, x, count, north, north, here);
+    fill_line(row, x, count, north, north, current);
     if y == 0 {
-        over[1..count + 1].copy_from_slice(&here[..count]);
+        upper[1..count + 1].copy_from_slice(&current[..count]);
     } else if column {
-        fill_line(above, x, count, north, north, over);
+        fill_line(above, x, count, north, north, upper);
     } else {
-        fill_line(above, x, count, above[1], above[above.len() - 1], over);
+        fill_line(above, x, count, above[1], above[above.len() - 1], upper);
     }
 }
 
-/// Writes `count` heights of a row from column `x` on, and one more on each side.
+/// Writes `count` offsets of a row from column `x` on, and one more on each side.
 ///
 /// `before` and `after` stand in where the row ends.
 fn fill_line(row: &[u16], x: usize, count: usize, before: u16, after: u16, line: &mut [u16; 66])
@@ -107,8 +107,8 @@ fn fill_line(row: &[u16], x: usize, count: usize, before: u16, after: u16, line:
         copy_line(row, x, line);
     } else {
         copy_places(row, x, count, line);
-        line[0] = height_at(row, x, before, after);
-        line[count + 1] = height_at(row, x + count + 1, before, after);
+        line[0] = offset_at(row, x, before, after);
+        line[count + 1] = offset_at(row, x + count + 1, before, after);
     }
 }
 
@@ -126,7 +126,7 @@ fn copy_line(row: &[u16], x: usize, line: &mut [u16; 66])
     line[65] = row[x + 64];
 }
 
-/// Writes `count` heights of a row from column `x` on behind the first place of a line.
+/// Writes `count` offsets of a row from column `x` on behind the first place of a line.
 fn copy_places(row: &[u16], x: usize, count: usize, line: &mut [u16; 66])
     requires few { count ≤ 64 }
     requires inside { x + count ≤ length row.now }
@@ -135,8 +135,8 @@ fn copy_places(row: &[u16], x: usize, count: usize, line: &mut [u16; 66])
     line[1..count + 1].copy_from_slice(&row[x..x + count]);
 }
 
-/// The height before column `k` of a row, with one more at each end.
-fn height_at(row: &[u16], k: usize, before: u16, after: u16) -> u16
+/// The offset before column `k` of a row, with one more at each end.
+fn offset_at(row: &[u16], k: usize, before: u16, after: u16) -> u16
     requires { k ≤ length row.now + 1 }
     ensures { result ≡ slice_index (bordered before row.now after) k }
 {
@@ -158,14 +158,14 @@ pub(crate) fn is_column(column: bool, y: u32) -> bool
 
 /// Four times an average of the neighbours of place `i`.
 #[inline(always)]
-pub(crate) fn sum_of_lines(column: bool, here: &[u16; 66], over: &[u16; 66], i: usize) -> u32
+pub(crate) fn sum_of_lines(column: bool, current: &[u16; 66], upper: &[u16; 66], i: usize) -> u32
     requires { i < 64 }
-    ensures value { result ≡ line_sum column here.now over.now i }
+    ensures value { result ≡ line_sum column current.now upper.now i }
     ensures bound { result ≤ 262140 }
 {
     if column {
-        4 * over[i + 1] as u32
+        4 * upper[i + 1] as u32
     } else {
-        here[i] as u32 + over[i] as u32 + over[i + 1] as u32 + over[i + 2] as u32
+        current[i] as u32 + upper[i] as u32 + upper[i + 1] as u32 + upper[i + 2] as u32
     }
 }

@@ -1,7 +1,7 @@
 //! The mapped residuals of a run, once its differences are predicted.
 //!
 //! Nothing here waits for another place, and no step has a branch, so that the compiler makes vectors of the
-//! loop. It reckons with heights above the least sample, in which the middle of the range falls out, and the
+//! loop. It reckons with offsets from the least sample, in which the middle of the range falls out, and the
 //! number of an error is the lesser of two: the one that both signs take turns for, and the one beyond the
 //! nearer end.
 
@@ -10,8 +10,8 @@ ghost use Rattle.cube_core.specs.Kind.{smin, smid, smax};
 ghost use Rattle.cube_core.specs.Image.{IsPlace, sample_at};
 ghost use Rattle.predict_core.specs.Arithmetic.{floor_div, clip};
 ghost use Rattle.predict_core.specs.LocalSum.{local_sum};
-ghost use Rattle.predict_core.specs.Residual.{reach, mapped, mapped_between};
-ghost use Rattle.predict_core.specs.Rooms.{height_number};
+ghost use Rattle.predict_core.specs.Residual.{theta_between, mapped, mapped_between};
+ghost use Rattle.predict_core.specs.Rooms.{offset_number};
 
 use crate::residual::prediction_of;
 use crate::settings::Settings;
@@ -19,7 +19,7 @@ use cube_core::cube::Cube;
 
 /// Writes the mapped residuals of a run of places from row `y`, column `x` on, as many as there is room for.
 ///
-/// `parts` are the predicted differences, and `sums` the local sums of heights. What is written for the first
+/// `parts` are the predicted differences, and `sums` the local sums of offsets. What is written for the first
 /// place of a band is not its residual (CCSDS 123.0-B-1, "Mapped Prediction Residual").
 pub(crate) fn map_run(
     settings: &Settings,
@@ -41,67 +41,67 @@ pub(crate) fn map_run(
     ensures bound { (i : ℕ) → i < length residuals.new → slice_index residuals.new i < 2 ^ cube.now.kind.bits }
     ensures values { (i : ℕ) → i < length residuals.new → 0 < y + (x + i) → slice_index residuals.new i ≡ mapped cube.now.kind (clip (floor_div (slice_index_or parts.now i (pos 0) +ℤ (local_sum settings.now.predictor cube.now settings.now.band y (x + i) -ℤ pos 4 *ℤ smid cube.now.kind)) 2 +ℤ pos 2 *ℤ smid cube.now.kind +ℤ pos 1) (pos 2 *ℤ smin cube.now.kind) (pos 2 *ℤ smax cube.now.kind +ℤ pos 1)) (sample_at cube.now settings.now.band y (x + i)) }
 {
-    cube.is_cube();
+    cube.prove_is_cube();
     let count = residuals.len();
     let row = cube.row(settings.band, y);
-    let mut heights = [0u16; 64];
-    copy_heights(row, x as usize, count, &mut heights);
+    let mut offsets = [0u16; 64];
+    copy_offsets(row, x as usize, count, &mut offsets);
     let mut numbers = [0u16; 64];
     let greatest = settings.range.smax - settings.range.smin;
-    map_places(greatest, parts, sums, &heights, &mut numbers);
+    map_places(greatest, parts, sums, &offsets, &mut numbers);
     residuals.copy_from_slice(&numbers[..count]);
 }
 
-/// Writes `count` heights of a row from column `x` on into a room of zeros.
-fn copy_heights(row: &[u16], x: usize, count: usize, heights: &mut [u16; 64])
+/// Writes `count` offsets of a row from column `x` on into a room of zeros.
+fn copy_offsets(row: &[u16], x: usize, count: usize, offsets: &mut [u16; 64])
     requires few { count ≤ 64 }
     requires inside { x + count ≤ length row.now }
-    requires clear { heights.old ≡ replicate 64 0 }
-    ensures written { (k : ℕ) → k < count → slice_index heights.new k ≡ slice_index row.now (x + k) }
-    ensures rest { (k : ℕ) → count ≤ k → slice_index heights.new k ≡ 0 }
+    requires clear { offsets.old ≡ replicate 64 0 }
+    ensures written { (k : ℕ) → k < count → slice_index offsets.new k ≡ slice_index row.now (x + k) }
+    ensures rest { (k : ℕ) → count ≤ k → slice_index offsets.new k ≡ 0 }
 {
     if count == 64 {
         // So many are a few moves of vectors in place of a call.
-        heights.copy_from_slice(&row[x..x + 64]);
+        offsets.copy_from_slice(&row[x..x + 64]);
     } else {
-        heights[..count].copy_from_slice(&row[x..x + count]);
+        offsets[..count].copy_from_slice(&row[x..x + count]);
     }
 }
 
-/// Writes the number of each place's height.
+/// Writes the number of each place's offset.
 fn map_places(
     greatest: i32,
     parts: &[i32; 64],
     sums: &[i32; 64],
-    heights: &[u16; 64],
+    offsets: &[u16; 64],
     out: &mut [u16; 64],
 )
     requires greatest_in { (pos 1 ≤ℤ greatest) × (greatest ≤ℤ pos 65535) }
-    requires heights_in { (i : ℕ) → i < 64 → pos (slice_index heights.now i) ≤ℤ greatest }
+    requires offsets_in { (i : ℕ) → i < 64 → pos (slice_index offsets.now i) ≤ℤ greatest }
     ensures bound { (i : ℕ) → i < 64 → pos (slice_index out.new i) ≤ℤ greatest }
-    ensures values { (i : ℕ) → i < 64 → unsigned_abs (slice_index_or parts.now i (pos 0)) ≤ 18 * 2 ^ 20 → pos 0 ≤ℤ slice_index_or sums.now i (pos 0) → slice_index_or sums.now i (pos 0) ≤ℤ pos 262140 → slice_index out.new i ≡ height_number greatest (slice_index_or parts.now i (pos 0)) (slice_index_or sums.now i (pos 0)) (slice_index heights.now i) }
+    ensures values { (i : ℕ) → i < 64 → unsigned_abs (slice_index_or parts.now i (pos 0)) ≤ 18 * 2 ^ 20 → pos 0 ≤ℤ slice_index_or sums.now i (pos 0) → slice_index_or sums.now i (pos 0) ≤ℤ pos 262140 → slice_index out.new i ≡ offset_number greatest (slice_index_or parts.now i (pos 0)) (slice_index_or sums.now i (pos 0)) (slice_index offsets.now i) }
 {
     for i in 0..64usize {
-        out[i] = number_of_height(greatest, parts[i], sums[i], heights[i]);
+        out[i] = number_of_offset(greatest, parts[i], sums[i], offsets[i]);
     }
 }
 
-/// The number of a height, from the predicted difference and the local sum of heights.
+/// The number of an offset, from the predicted difference and the local sum of offsets.
 #[inline(always)]
-fn number_of_height(greatest: i32, part: i32, sum: i32, height: u16) -> u16
+fn number_of_offset(greatest: i32, part: i32, sum: i32, offset: u16) -> u16
     requires greatest_in { (pos 1 ≤ℤ greatest) × (greatest ≤ℤ pos 65535) }
-    requires height_in { pos height ≤ℤ greatest }
+    requires offset_in { pos offset ≤ℤ greatest }
     ensures bound { pos result ≤ℤ greatest }
-    ensures value { unsigned_abs part ≤ 18 * 2 ^ 20 → pos 0 ≤ℤ sum → sum ≤ℤ pos 262140 → result ≡ height_number greatest part sum height }
+    ensures value { unsigned_abs part ≤ 18 * 2 ^ 20 → pos 0 ≤ℤ sum → sum ≤ℤ pos 262140 → result ≡ offset_number greatest part sum offset }
 {
-    number_at(greatest, scaled_height(greatest, part, sum), height as i32) as u16
+    number_at(greatest, scaled_offset(greatest, part, sum), offset as i32) as u16
 }
 
-/// The scaled prediction of a height.
+/// The scaled prediction of an offset.
 ///
 /// Behind the last place of a run the numbers may be any, and their sum may wrap.
 #[inline(always)]
-pub(crate) fn scaled_height(greatest: i32, part: i32, sum: i32) -> i32
+pub(crate) fn scaled_offset(greatest: i32, part: i32, sum: i32) -> i32
     requires greatest_in { (pos 1 ≤ℤ greatest) × (greatest ≤ℤ pos 65535) }
     ensures bounds { (pos 0 ≤ℤ result) × (result ≤ℤ (pos 2 *ℤ greatest +ℤ pos 1)) }
     ensures value { unsigned_abs part ≤ 18 * 2 ^ 20 → pos 0 ≤ℤ sum → sum ≤ℤ pos 262140 → result ≡ clip (floor_div (part +ℤ sum) 2 +ℤ pos 1) (pos 0) (pos 2 *ℤ greatest +ℤ pos 1) }
@@ -110,37 +110,37 @@ pub(crate) fn scaled_height(greatest: i32, part: i32, sum: i32) -> i32
     upper.min(2 * greatest + 1).max(0)
 }
 
-/// The number of a height by its scaled prediction.
+/// The number of an offset by its scaled prediction.
 #[inline(always)]
-fn number_at(greatest: i32, twice: i32, height: i32) -> i32
+fn number_at(greatest: i32, twice: i32, offset: i32) -> i32
     requires greatest_in { (pos 1 ≤ℤ greatest) × (greatest ≤ℤ pos 65535) }
     requires twice_in { (pos 0 ≤ℤ twice) × (twice ≤ℤ (pos 2 *ℤ greatest +ℤ pos 1)) }
-    requires height_in { (pos 0 ≤ℤ height) × (height ≤ℤ greatest) }
-    ensures value { result ≡ pos (mapped_between (pos 0) greatest twice height) }
+    requires offset_in { (pos 0 ≤ℤ offset) × (offset ≤ℤ greatest) }
+    ensures value { result ≡ pos (mapped_between (pos 0) greatest twice offset) }
     ensures bounds { (pos 0 ≤ℤ result) × (result ≤ℤ greatest) }
 {
     let value = prediction_of(twice);
-    let beyond = apart(height, value) + nearer(greatest, value);
-    by_turns(2 * height - twice).min(beyond)
+    let beyond = apart(offset, value) + nearer(greatest, value);
+    by_turns(2 * offset - twice).min(beyond)
 }
 
-/// How far two heights are apart.
+/// How far two offsets are apart.
 #[inline(always)]
-fn apart(height: i32, value: i32) -> i32
-    requires height_in { unsigned_abs height ≤ 65535 }
+fn apart(offset: i32, value: i32) -> i32
+    requires offset_in { unsigned_abs offset ≤ 65535 }
     requires value_in { unsigned_abs value ≤ 65535 }
-    ensures value { result ≡ pos (unsigned_abs (height -ℤ value)) }
+    ensures value { result ≡ pos (unsigned_abs (offset -ℤ value)) }
     ensures bound { unsigned_abs result ≤ 131070 }
 {
-    (height - value).abs()
+    (offset - value).abs()
 }
 
-/// How far a height is from the nearer end of the range.
+/// How far an offset is from the nearer end of the range.
 #[inline(always)]
 fn nearer(greatest: i32, value: i32) -> i32
     requires greatest_in { greatest ≤ℤ pos 65535 }
     requires value_in { (pos 0 ≤ℤ value) × (value ≤ℤ greatest) }
-    ensures value { result ≡ pos (reach (pos 0) greatest value) }
+    ensures value { result ≡ pos (theta_between (pos 0) greatest value) }
     ensures bound { unsigned_abs result ≤ 65535 }
 {
     value.min(greatest - value)

@@ -1,10 +1,10 @@
-//! Local sums and differences of samples that are kept as heights above the least one.
+//! Local sums and differences of samples that are kept as offsets from the least one.
 //!
-//! A difference is the same for heights as for samples, and a local sum of heights is less than one of
+//! A difference is the same for offsets as for samples, and a local sum of offsets is less than one of
 //! samples by four times the least sample.
 
 ghost use Rattle.std.specs.Prelude.{◌≡◌, ◌+◌, ◌*◌, ◌<◌, ◌≤◌, length, false, unsigned_abs, slice_index, IsTrue, ◌↔◌};
-ghost use Rattle.predict_core.specs.HeightSum.{height_sum, height_difference};
+ghost use Rattle.predict_core.specs.OffsetSum.{offset_sum, offset_difference};
 
 /// Four times an average of the neighbours of a place: `row` is its own row, and `above` the one above it.
 ///
@@ -16,7 +16,7 @@ pub(crate) fn sum_of(column: bool, y: u32, row: &[u16], above: &[u16], x: usize)
     requires same { length above.now ≡ length row.now }
     requires later { 0 < y + x }
     requires wide { column ≡ false → 2 ≤ length row.now }
-    ensures value { result ≡ height_sum column y row.now above.now x }
+    ensures value { result ≡ offset_sum column y row.now above.now x }
     ensures bound { result ≤ 262140 }
 {
     if y == 0 {
@@ -34,12 +34,12 @@ pub(crate) fn sum_of(column: bool, y: u32, row: &[u16], above: &[u16], x: usize)
 
 /// Four times a sample, less a local sum.
 #[inline(always)]
-pub(crate) fn difference_of(height: u16, sum: u32) -> i32
+pub(crate) fn difference_of(offset: u16, sum: u32) -> i32
     requires { sum ≤ 262140 }
-    ensures value { result ≡ height_difference height sum }
+    ensures value { result ≡ offset_difference offset sum }
     ensures bound { unsigned_abs result ≤ 262144 }
 {
-    4 * height as i32 - sum as i32
+    4 * offset as i32 - sum as i32
 }
 
 /// The central difference at a place.
@@ -49,7 +49,7 @@ pub(crate) fn central_of(column: bool, y: u32, row: &[u16], above: &[u16], x: us
     requires same { length above.now ≡ length row.now }
     requires later { 0 < y + x }
     requires wide { column ≡ false → 2 ≤ length row.now }
-    ensures value { result ≡ height_difference (slice_index row.now x) (height_sum column y row.now above.now x) }
+    ensures value { result ≡ offset_difference (slice_index row.now x) (offset_sum column y row.now above.now x) }
     ensures bound { unsigned_abs result ≤ 262144 }
 {
     let sum = if is_inside(column, y, x, row.len()) {

@@ -57,7 +57,7 @@ pub(crate) fn follow_run<const Q: usize, const N: usize, const WRAPS: bool>(
     ensures small { (i : ℕ) → first ≤ i → i < last → unsigned_abs (slice_index_or parts.new i (pos 0)) ≤ 18 * 2 ^ 20 }
     ensures bound { AllWithin (2 ^ (settings.now.predictor.fraction + 2)) weights.new }
 {
-    cube.is_cube();
+    cube.prove_is_cube();
     let predictor = &settings.predictor;
     let start = y as u64 * settings.columns as u64 + x as u64;
     let mut at = first;

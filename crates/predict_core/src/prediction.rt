@@ -10,7 +10,7 @@ ghost use Rattle.predict_core.specs.Bounds.{AllWithin, IsPredictor};
 
 use crate::predictor::Predictor;
 use crate::range::Range;
-use crate::register::{halved, register_of, wrapped_value};
+use crate::register::{floor_shift, register_of, wrapped_value};
 use crate::weights::{product_of, product_of_first};
 
 /// Twice a predicted sample, from the local sum, the weights and the differences.
@@ -49,7 +49,7 @@ fn scaled_by_product(predictor: &Predictor, range: &Range, sum: i32, product: i6
         predictor.register,
         register_of(predictor.fraction, product, sum, middle),
     );
-    let upper = halved(register, predictor.fraction + 1);
+    let upper = floor_shift(register, predictor.fraction + 1);
     scaled_from(range.smin, range.smax, middle, upper)
 }
 
@@ -122,7 +122,7 @@ fn whole_product(fraction: u32, product: i64) -> i32
     ensures value { result ≡ floor_div product (2 ^ fraction) }
     ensures bound { unsigned_abs result ≤ 18 * 2 ^ 20 }
 {
-    halved(product, fraction) as i32
+    floor_shift(product, fraction) as i32
 }
 
 /// The predicted central difference that leads to a scaled prediction, where the local sum is `sum`.

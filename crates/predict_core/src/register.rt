@@ -16,7 +16,7 @@ pub(crate) fn wrapped_value(register: u32, value: i64) -> i64
 }
 
 /// A number over a power of two, rounded down.
-pub(crate) fn halved(value: i64, by: u32) -> i64
+pub(crate) fn floor_shift(value: i64, by: u32) -> i64
     requires { by < 64 }
     ensures value { result ≡ floor_div value (2 ^ by) }
     ensures bound { 1 ≤ by → unsigned_abs result ≤ 2 ^ 62 }

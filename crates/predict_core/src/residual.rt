@@ -3,7 +3,7 @@
 ghost use Rattle.std.specs.Prelude.{◌≡◌, ◌+◌, ◌*◌, ◌^◌, ◌<◌, ◌≤◌, pos, negsuc, ◌≤ℤ◌, ◌+ℤ◌, ◌-ℤ◌, ◌*ℤ◌, min, IsTrue, unsigned_abs};
 ghost use Rattle.cube_core.specs.Kind.{IsSample};
 ghost use Rattle.predict_core.specs.Arithmetic.{floor_div};
-ghost use Rattle.predict_core.specs.Residual.{reach, agrees, number_of, mapped_between, mapped};
+ghost use Rattle.predict_core.specs.Residual.{theta_between, agrees, number_of, mapped_between, mapped};
 ghost use Rattle.predict_core.specs.Mapping.{error_of, unmapped_between, Between, IsScaled};
 
 use cube_core::kind::Kind;
@@ -47,11 +47,11 @@ pub(crate) fn map_between(low: i32, high: i32, scaled: i32, v: i32) -> u16
     ensures { result ≡ mapped_between low high scaled v }
 {
     let predicted = prediction_of(scaled);
-    let near = reach_of(low, high, predicted);
+    let theta = theta_of(low, high, predicted);
     let error = v - predicted;
     let size = error.unsigned_abs();
     let sign = has_sign(scaled, error);
-    number_by(near, size, sign) as u16
+    map_error(theta, size, sign) as u16
 }
 
 /// The sample between `low` and `high` whose number is `delta`.
@@ -68,9 +68,9 @@ pub(crate) fn unmap_between(low: i32, high: i32, scaled: i32, delta: u16) -> i32
     ensures inverse { mapped_between low high scaled result ≡ delta }
 {
     let predicted = prediction_of(scaled);
-    let near = reach_of(low, high, predicted);
+    let theta = theta_of(low, high, predicted);
     let below = span_of(low, predicted);
-    predicted + error_by(near, below, scaled.unsigned_abs(), delta as u32)
+    predicted + unmap_error(theta, below, scaled.unsigned_abs(), delta as u32)
 }
 
 /// Half of a scaled prediction, rounded down.
@@ -85,12 +85,12 @@ pub(crate) fn prediction_of(scaled: i32) -> i32
 
 /// How far the prediction is from the nearer end of the range.
 #[inline(always)]
-fn reach_of(low: i32, high: i32, predicted: i32) -> u32
+fn theta_of(low: i32, high: i32, predicted: i32) -> u32
     requires low_in { negsuc 32767 ≤ℤ low }
     requires high_in { high ≤ℤ (low +ℤ pos 65535) }
     requires at_least { low ≤ℤ predicted }
     requires at_most { predicted ≤ℤ high }
-    ensures value { result ≡ reach low high predicted }
+    ensures value { result ≡ theta_between low high predicted }
     ensures low_end { pos result ≤ℤ (predicted -ℤ low) }
     ensures high_end { pos result ≤ℤ (high -ℤ predicted) }
 {
@@ -121,14 +121,14 @@ fn has_sign(scaled: i32, error: i32) -> bool
 
 /// The number of an error, by its size and its sign.
 #[inline(always)]
-fn number_by(near: u32, size: u32, sign: bool) -> u32
-    requires fits { size + min size near ≤ 65535 }
+fn map_error(theta: u32, size: u32, sign: bool) -> u32
+    requires fits { size + min size theta ≤ 65535 }
     requires zero { size ≡ 0 → IsTrue sign }
-    ensures value { result ≡ number_of near size sign }
+    ensures value { result ≡ number_of theta size sign }
     ensures bound { result ≤ 65535 }
 {
-    if size > near {
-        size + near
+    if size > theta {
+        size + theta
     } else if sign {
         2 * size
     } else {
@@ -138,15 +138,15 @@ fn number_by(near: u32, size: u32, sign: bool) -> u32
 
 /// The error of a number.
 #[inline(always)]
-fn error_by(near: u32, below: u32, parity: u32, number: u32) -> i32
-    requires near_in { near ≤ 65535 }
+fn unmap_error(theta: u32, below: u32, parity: u32, number: u32) -> i32
+    requires theta_in { theta ≤ 65535 }
     requires number_in { number ≤ 65535 }
     requires parity_in { parity ≤ 131072 }
-    ensures { result ≡ error_of near below parity number }
+    ensures { result ≡ error_of theta below parity number }
 {
-    if 2 * near < number {
-        let size = (number - near) as i32;
-        if near < below { -size } else { size }
+    if 2 * theta < number {
+        let size = (number - theta) as i32;
+        if theta < below { -size } else { size }
     } else {
         let size = ((number + 1) / 2) as i32;
         if (number + parity) % 2 == 0 {

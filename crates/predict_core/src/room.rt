@@ -20,7 +20,7 @@ pub(crate) struct Quad {
     pub places: [[i32; 4]; 64],
 }
 
-/// Writes the local sums of heights, the central differences and the components of `count` places from row
+/// Writes the local sums of offsets, the central differences and the components of `count` places from row
 /// `y`, column `x` on.
 ///
 /// Component k of a place stands in quad k / 4, in lane k % 4; there are as many quads as are needed, or more.
@@ -43,7 +43,7 @@ pub(crate) fn fill_run<const Q: usize>(
     requires enough { quads_of settings.now.count ≤ Q }
     ensures { IsRoom settings.now.predictor cube.now settings.now.band y x count settings.now.count sums.new own.new quads.new }
 {
-    cube.is_cube();
+    cube.prove_is_cube();
     let mut lines = Lines::empty();
     fill_band_lines(
         &settings.predictor,
@@ -83,9 +83,9 @@ fn fill_first(
     requires some { 1 ≤ count }
     requires few { count ≤ 64 }
     requires inside { x + count ≤ cube.now.shape.columns }
-    requires lines { AreBandLines settings.now.predictor cube.now settings.now.band y x count lines.now.here lines.now.over }
-    ensures sums { (i : ℕ) → i < 64 → slice_index_or sums.new i (pos 0) ≡ pos (line_sum (settings.now.predictor.column || y == 0) lines.now.here lines.now.over i) }
-    ensures own { (i : ℕ) → i < 64 → slice_index_or own.new i (pos 0) ≡ line_difference (settings.now.predictor.column || y == 0) lines.now.here lines.now.over i }
+    requires lines { AreBandLines settings.now.predictor cube.now settings.now.band y x count lines.now.current lines.now.above }
+    ensures sums { (i : ℕ) → i < 64 → slice_index_or sums.new i (pos 0) ≡ pos (line_sum (settings.now.predictor.column || y == 0) lines.now.current lines.now.above i) }
+    ensures own { (i : ℕ) → i < 64 → slice_index_or own.new i (pos 0) ≡ line_difference (settings.now.predictor.column || y == 0) lines.now.current lines.now.above i }
     ensures quad { (i : ℕ) → i < count → 0 < y + (x + i) → slice_index_or quad.new.places i [] ≡ directional_differences settings.now.predictor cube.now settings.now.band y (x + i) ++ lower_differences settings.now.predictor cube.now settings.now.band y (x + i) 1 1 }
 {
     let mut below = Lines::empty();

@@ -38,7 +38,7 @@ impl Band {
         ensures residuals { (p : Parameters) → Follows p self.old cube.now → residuals.new ≡ run_residuals p cube.now self.old.band self.old.place (length residuals.old) }
         ensures follows { (p : Parameters) → Follows p self.old cube.now → Follows p self.new cube.now }
     {
-        cube.is_cube();
+        cube.prove_is_cube();
         let count = residuals.len();
         if count < LEAST {
             self.forward_each(cube, y, x, residuals);
@@ -65,7 +65,7 @@ impl Band {
         ensures residuals { (p : Parameters) → Follows p self.old cube.now → residuals.new ≡ run_residuals p cube.now self.old.band self.old.place (length residuals.old) }
         ensures follows { (p : Parameters) → Follows p self.old cube.now → Follows p self.new cube.now }
     {
-        cube.is_cube();
+        cube.prove_is_cube();
         for i in 0..residuals.len() {
             residuals[i] = self.forward(cube, y, x + i as u32);
         }

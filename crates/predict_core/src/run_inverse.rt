@@ -50,7 +50,7 @@ impl Band {
         ensures follows { (p : Parameters) → Follows p self.old cube.old → Follows p self.new cube.new }
         ensures told { AreOf self.new.predictor below.new cube.new }
     {
-        cube.is_cube();
+        cube.prove_is_cube();
         let count = deltas.len();
         if count < LEAST || y == 0 {
             self.inverse_each(cube, y, x, deltas, below);
@@ -90,7 +90,7 @@ impl Band {
         ensures follows { (p : Parameters) → Follows p self.old cube.old → Follows p self.new cube.new }
         ensures told { AreOf self.new.predictor below.new cube.new }
     {
-        cube.is_cube();
+        cube.prove_is_cube();
         // That its columns are the cube's is a fact for proofs.
         let _columns = self.settings.columns;
         for i in 0..deltas.len() {
@@ -174,7 +174,7 @@ fn invert_by<const Q: usize, const N: usize, const WRAPS: bool>(
     ensures weights { (p : Parameters) → AreWeightsAt p settings.now.predictor cube.old settings.now.band (y * cube.old.shape.columns + x) (take settings.now.count weights.old) → take settings.now.count weights.new ≡ weight_vector p cube.new settings.now.band (y * cube.old.shape.columns + x + length deltas.now) }
     ensures within { AllWithin (2 ^ (settings.now.predictor.fraction + 2)) weights.new }
 {
-    cube.is_cube();
+    cube.prove_is_cube();
     let count = deltas.len();
     let mut sums = [0i32; 64];
     let mut own = [0i32; 64];

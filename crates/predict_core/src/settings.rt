@@ -80,7 +80,7 @@ pub(crate) fn predict(
     ensures value { result.scaled ≡ scaled_there settings.now.predictor cube.now settings.now.band y x (take (component_count settings.now.predictor settings.now.band) weights.now) }
     ensures scaled { IsScaled cube.now.kind result.scaled }
 {
-    cube.is_cube();
+    cube.prove_is_cube();
     let predictor = &settings.predictor;
     let range = &settings.range;
     let sum = sum_at(predictor, cube, settings.band, y, x);

@@ -78,7 +78,7 @@ impl SpectralDifferences {
         ensures column { self.new.column ≡ x }
         ensures told { AreOf settings.now.predictor self.new cube.now }
     {
-        cube.is_cube();
+        cube.prove_is_cube();
         let mut differences = [0i32; 18];
         fill_spectral(
             &settings.predictor,

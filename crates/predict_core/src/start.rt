@@ -22,7 +22,7 @@ pub(crate) fn start_of(params: &Params, z: u32, first: usize, near: usize) -> [i
     ensures bound { AllWithin (2 ^ (params.now.omega + 2)) result }
 {
     match &params.start {
-        WeightStart::Usual => usual_start(params.omega, first, near),
+        WeightStart::Usual => default_weights(params.omega, first, near),
         WeightStart::Table { q, values } => {
             let from = entries_before(z, first, params.previous);
             let entries = entries_from(values.as_slice(), from, first + near);
@@ -33,7 +33,7 @@ pub(crate) fn start_of(params: &Params, z: u32, first: usize, near: usize) -> [i
 
 /// The usual weights of `count` bands below, from place `first` on: seven eighths for the nearest, and
 /// an eighth of the one before for each other (CCSDS 123.0-B-1, "Weight Initialization").
-pub(crate) fn usual_start(fraction: u32, first: usize, count: usize) -> [i32; 18]
+pub(crate) fn default_weights(fraction: u32, first: usize, count: usize) -> [i32; 18]
     requires fraction_in { (4 ≤ fraction) × (fraction ≤ 19) }
     requires room { first + count ≤ 18 }
     ensures value { result ≡ replicate first (pos 0) ++ eighths (pos (7 * 2 ^ (fraction - 3))) count ++ replicate (18 - first - count) (pos 0) }

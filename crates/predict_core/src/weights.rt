@@ -212,8 +212,8 @@ fn moved(fraction: u32, exponent: i32, form: Form, turn: i32, weight: i32, diffe
     ensures value { result ≡ updated fraction exponent (int_lt turn (pos 0)) weight difference }
     ensures bound { unsigned_abs result ≤ 2 ^ (fraction + 2) }
 {
-    let size = turned(turn, difference);
-    held(fraction, weight, stepped(form, size))
+    let size = apply_sign(turn, difference);
+    clip_weight(fraction, weight, stepped(form, size))
 }
 
 /// The word of a sign: all ones where an error is negative, else 0.
@@ -228,7 +228,7 @@ fn turn_of(negative: bool) -> i32
 
 /// A difference with the sign of the error, which is negative where `turn` is all ones.
 #[inline(always)]
-fn turned(turn: i32, difference: i32) -> i32
+fn apply_sign(turn: i32, difference: i32) -> i32
     requires turn_in { (negsuc 0 ≤ℤ turn) × (turn ≤ℤ pos 0) }
     requires difference_in { unsigned_abs difference ≤ 2 ^ 26 }
     ensures value { result ≡ signed_by (int_lt turn (pos 0)) difference }
@@ -249,7 +249,7 @@ fn stepped(form: Form, size: i32) -> i32
 
 /// A weight after a step, held between the least and the greatest.
 #[inline(always)]
-fn held(fraction: u32, weight: i32, step: i32) -> i32
+fn clip_weight(fraction: u32, weight: i32, step: i32) -> i32
     requires fraction_in { fraction ≤ 19 }
     requires weight_in { unsigned_abs weight ≤ 2 ^ 21 }
     requires step_in { unsigned_abs step ≤ 2 ^ 27 }

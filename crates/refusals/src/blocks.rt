@@ -4,7 +4,7 @@ ghost use Rattle.std.specs.Prelude.{◌≡◌, ◌+◌, ◌^◌, ◌<◌, ◌≤
 ghost use Rattle.cube_core.specs.Shape.{sample_count};
 ghost use Rattle.block_adaptive.specs.Settings.{AreForBlocks};
 ghost use Rattle.block_adaptive.specs.Taken.{taken_count};
-ghost use Rattle.block_adaptive.specs.Texts.{capacity};
+ghost use Rattle.block_adaptive.specs.DataSets.{capacity};
 
 use crate::again::{Again, numbers};
 use block_adaptive::block_writer::BlockWriter;

@@ -10,11 +10,11 @@ use Rattle.cube_core.specs.declared.order.Order.TheVariants.{Bsq}
 use Rattle.cube_core.specs.Shape.{Sizes, sample_count}
 use Rattle.cube_core.specs.Kind.{SampleKind, smin, sample_of}
 use Rattle.cube_core.specs.Image.{Image, IsCube, IsPlace, index_in, sample_at, put}
-use Rattle.cube_core.specs.Heights.{AreRowHeights}
+use Rattle.cube_core.specs.Offsets.{AreRowOffsets}
 use Rattle.cube_core.specs.Order.{IsPlaceOf, place_index, places}
 use Rattle.cube_core.proofs.Orders.{length-places, place_at_index}
 use Rattle.cube_core.proofs.Walks.{sequential_index}
-use Rattle.speed.specs.Images.{synthetic_height, synthetic_samples, synthetic_image, heights_of}
+use Rattle.speed.specs.Images.{synthetic_offset, synthetic_samples, synthetic_image, offsets_of}
 use Rattle.speed.specs.Numbers.{first_state, next_state, state_behind, highest, mixed, checksum}
 use Rattle.speed.proofs.Draws.{none_behind, one_behind}
 
@@ -27,14 +27,14 @@ length-synthetic : (s : Sizes) (k : SampleKind) → length (synthetic_samples s 
 unfolding synthetic_samples
 length-synthetic s k = length-map (places s Bsq) _ ∙ length-places s Bsq tt
 
-sample_there : (s : Sizes) (k : SampleKind) (p : Place) (d : ℤ) → IsPlaceOf s p → get_or (synthetic_samples s k) (index_in s.columns s.rows p.z p.y p.x) d ≡ sample_of k (synthetic_height s k p)
+sample_there : (s : Sizes) (k : SampleKind) (p : Place) (d : ℤ) → IsPlaceOf s p → get_or (synthetic_samples s k) (index_in s.columns s.rows p.z p.y p.x) d ≡ sample_of k (synthetic_offset s k p)
 unfolding synthetic_samples
 sample_there s k p d place =
     let index = sequential_index s p in
     let lt : place_index s Bsq p < length (places s Bsq) = omega (arith, index, inside s p.z p.y p.x place, length-places s Bsq tt) in
-    ap (λ (i : ℕ). get_or (map (λ q. sample_of k (synthetic_height s k q)) (places s Bsq)) i d) (sym index)
-    ∙ get_or-map (λ q. sample_of k (synthetic_height s k q)) (places s Bsq) (place_index s Bsq p) p d lt
-    ∙ ap (λ (q : Place). sample_of k (synthetic_height s k q)) (place_at_index s Bsq p p tt place)
+    ap (λ (i : ℕ). get_or (map (λ q. sample_of k (synthetic_offset s k q)) (places s Bsq)) i d) (sym index)
+    ∙ get_or-map (λ q. sample_of k (synthetic_offset s k q)) (places s Bsq) (place_index s Bsq p) p d lt
+    ∙ ap (λ (q : Place). sample_of k (synthetic_offset s k q)) (place_at_index s Bsq p p tt place)
 
 -- the first n samples are put, with one number drawn for each
 pub record IsBegun (s : Sizes) (k : SampleKind) (n : ℕ) (c : Image) (state : ℕ) : Type 0 where
@@ -89,43 +89,43 @@ begun_whole s k n c state most known =
 
 -- ---- a cube that is read
 
-above_least : (low : ℤ) (height : ℕ) → unsigned_abs ((low +ℤ pos height) -ℤ low) ≡ height
-above_least low height = ap (λ (v : ℤ). unsigned_abs (v -ℤ low)) (+ℤ_comm low (pos height)) ∙ ap unsigned_abs (+ℤ-neg_ℤ_cancel (pos height) low)
+above_least : (low : ℤ) (offset : ℕ) → unsigned_abs ((low +ℤ pos offset) -ℤ low) ≡ offset
+above_least low offset = ap (λ (v : ℤ). unsigned_abs (v -ℤ low)) (+ℤ_comm low (pos offset)) ∙ ap unsigned_abs (+ℤ-neg_ℤ_cancel (pos offset) low)
 
-pub length-heights : (c : Image) → IsCube c → length (heights_of c) ≡ sample_count c.shape
-length-heights c cube = length-map c.samples _ ∙ cube.whole
+pub length-offsets : (c : Image) → IsCube c → length (offsets_of c) ≡ sample_count c.shape
+length-offsets c cube = length-map c.samples _ ∙ cube.whole
 
-height_there : (c : Image) (z y x : ℕ) (row : List ℕ) → IsCube c → IsPlace c.shape z y x → AreRowHeights c z y row → get_or (heights_of c) (index_in c.shape.columns c.shape.rows z y x) 0 ≡ get_or row x 0
+offset_there : (c : Image) (z y x : ℕ) (row : List ℕ) → IsCube c → IsPlace c.shape z y x → AreRowOffsets c z y row → get_or (offsets_of c) (index_in c.shape.columns c.shape.rows z y x) 0 ≡ get_or row x 0
 unfolding sample_at
-height_there c z y x row cube place heights =
+offset_there c z y x row cube place offsets =
     get_or-map (λ v. unsigned_abs (v -ℤ smin c.kind)) c.samples (index_in c.shape.columns c.shape.rows z y x) (pos 0) 0 (omega (arith, inside c.shape z y x place, cube.whole))
-    ∙ ap (λ (v : ℤ). unsigned_abs (v -ℤ smin c.kind)) (heights x place.column).1
+    ∙ ap (λ (v : ℤ). unsigned_abs (v -ℤ smin c.kind)) (offsets x place.column).1
     ∙ above_least (smin c.kind) (get_or row x 0)
 
 -- the checksum of the samples before a place
 abbrev pub checksum_before : Image → ℕ → ℕ → ℕ → ℕ
-checksum_before c z y x = checksum (take (index_in c.shape.columns c.shape.rows z y x) (heights_of c))
+checksum_before c z y x = checksum (take (index_in c.shape.columns c.shape.rows z y x) (offsets_of c))
 
-pub checksum_more : (c : Image) (z y x : ℕ) (row : List ℕ) → IsCube c → IsPlace c.shape z y x → AreRowHeights c z y row → mixed (checksum_before c z y x) (get_or row x 0) ≡ checksum_before c z y (x + 1)
-checksum_more c z y x row cube place heights =
-    let lt : index_in c.shape.columns c.shape.rows z y x < length (heights_of c) = omega (arith, inside c.shape z y x place, length-heights c cube) in
+pub checksum_more : (c : Image) (z y x : ℕ) (row : List ℕ) → IsCube c → IsPlace c.shape z y x → AreRowOffsets c z y row → mixed (checksum_before c z y x) (get_or row x 0) ≡ checksum_before c z y (x + 1)
+checksum_more c z y x row cube place offsets =
+    let lt : index_in c.shape.columns c.shape.rows z y x < length (offsets_of c) = omega (arith, inside c.shape z y x place, length-offsets c cube) in
     let next : index_in c.shape.columns c.shape.rows z y x + 1 ≡ index_in c.shape.columns c.shape.rows z y (x + 1) = omega arith in
-    ap (mixed (checksum_before c z y x)) (sym (height_there c z y x row cube place heights))
-    ∙ sym (fold_more mixed 0 (heights_of c) (index_in c.shape.columns c.shape.rows z y x) 0 lt)
-    ∙ ap (λ (n : ℕ). checksum (take n (heights_of c))) next
+    ap (mixed (checksum_before c z y x)) (sym (offset_there c z y x row cube place offsets))
+    ∙ sym (fold_more mixed 0 (offsets_of c) (index_in c.shape.columns c.shape.rows z y x) 0 lt)
+    ∙ ap (λ (n : ℕ). checksum (take n (offsets_of c))) next
 
 -- a row is behind, and so is a band
 pub row_behind : (c : Image) (z y : ℕ) → checksum_before c z y c.shape.columns ≡ checksum_before c z (y + 1) 0
 row_behind c z y =
     let next : index_in c.shape.columns c.shape.rows z y c.shape.columns ≡ index_in c.shape.columns c.shape.rows z (y + 1) 0 = omega arith in
-    ap (λ (n : ℕ). checksum (take n (heights_of c))) next
+    ap (λ (n : ℕ). checksum (take n (offsets_of c))) next
 
 pub band_behind : (c : Image) (z : ℕ) → checksum_before c z c.shape.rows 0 ≡ checksum_before c (z + 1) 0 0
 band_behind c z =
     let next : index_in c.shape.columns c.shape.rows z c.shape.rows 0 ≡ index_in c.shape.columns c.shape.rows (z + 1) 0 0 = omega arith in
-    ap (λ (n : ℕ). checksum (take n (heights_of c))) next
+    ap (λ (n : ℕ). checksum (take n (offsets_of c))) next
 
-pub checksum_whole : (c : Image) → IsCube c → checksum_before c c.shape.bands 0 0 ≡ checksum (heights_of c)
+pub checksum_whole : (c : Image) → IsCube c → checksum_before c c.shape.bands 0 0 ≡ checksum (offsets_of c)
 checksum_whole c cube =
-    let most : length (heights_of c) ≤ index_in c.shape.columns c.shape.rows c.shape.bands 0 0 = omega (arith, length-heights c cube) in
-    ap checksum (take_all (index_in c.shape.columns c.shape.rows c.shape.bands 0 0) (heights_of c) most)
+    let most : length (offsets_of c) ≤ index_in c.shape.columns c.shape.rows c.shape.bands 0 0 = omega (arith, length-offsets c cube) in
+    ap checksum (take_all (index_in c.shape.columns c.shape.rows c.shape.bands 0 0) (offsets_of c) most)

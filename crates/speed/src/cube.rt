@@ -4,7 +4,7 @@ ghost use Rattle.std.specs.Prelude.{◌≡◌, ◌≤◌, IfOk};
 ghost use Rattle.cube_core.specs.Layout.{IsLayout};
 ghost use Rattle.cube_core.specs.Order.{IsOrder};
 ghost use Rattle.speed.specs.Formats.{format_name, format_bits, layout_of, synthetic_bytes};
-ghost use Rattle.speed.specs.Images.{heights_of};
+ghost use Rattle.speed.specs.Images.{offsets_of};
 ghost use Rattle.speed.specs.Numbers.{checksum};
 
 use crate::report::Report;
@@ -144,17 +144,17 @@ fn raw_bytes(alloc: Global, format: Format, count: u64) -> Result<Vec<u8>, Alloc
     Ok(bytes)
 }
 
-/// The checksum of the heights of a cube's samples above the least one.
+/// The checksum of the offsets of a cube's samples from the least one.
 pub fn sum_of_cube(cube: &Cube) -> u64
-    ensures { result ≡ checksum (heights_of cube.now) }
+    ensures { result ≡ checksum (offsets_of cube.now) }
 {
-    cube.is_cube();
+    cube.prove_is_cube();
     let shape = cube.shape();
     let mut sum = 0;
     for z in 0..shape.bands() {
         for y in 0..shape.rows() {
-            for height in cube.row(z, y) {
-                sum = mixed(sum, u64::from(*height));
+            for offset in cube.row(z, y) {
+                sum = mixed(sum, u64::from(*offset));
             }
         }
     }

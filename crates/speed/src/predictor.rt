@@ -192,8 +192,8 @@ pub fn synthetic_cube(alloc: Global, shape: Shape, kind: Kind) -> Result<Cube, F
             for x in 0..shape.columns() {
                 let slow = 16 * z + 4 * y + 2 * x;
                 let noise = u32::from(generator.number(6));
-                let height = (slow + noise) % (1 << kind.bits());
-                cube.set(z, y, x, kind.sample_of(height as u16));
+                let offset = (slow + noise) % (1 << kind.bits());
+                cube.set(z, y, x, kind.sample_of(offset as u16));
             }
         }
     }

@@ -11,7 +11,7 @@ use std::process::Abort;
 fn sample_count_of(cube: &Cube) -> u64
     ensures { result ≡ length cube.now.samples }
 {
-    cube.is_cube();
+    cube.prove_is_cube();
     cube.shape().sample_count()
 }
 

@@ -101,13 +101,13 @@ fn cube_of(rt: &impl Abort, alloc: Global, params: &Params, draw: &mut Draw) -> 
     let shape = params.shape;
     for place in 0..shape.sample_count() {
         let drawn = draw.next();
-        let height = match drawn % 16 {
+        let offset = match drawn % 16 {
             0 => 0,
             1 => 4095,
             _ => (drawn >> 8) % 512 + place % 97 * 16,
         };
-        bytes.push((height % 256) as u8).expect(rt, "memory");
-        bytes.push((height / 256) as u8).expect(rt, "memory");
+        bytes.push((offset % 256) as u8).expect(rt, "memory");
+        bytes.push((offset / 256) as u8).expect(rt, "memory");
     }
     let layout = Layout {
         order: RawOrder::Bsq,

@@ -55,12 +55,12 @@ pub fn last_reserved_bit_of_the_image_part()
 {}
 
 /// A table beside the usual weight start.
-pub fn usual_start_with_table()
+pub fn default_start_with_table()
     ensures { header_at (header 0x00000100010001110000080002A09259208226) ≡ Err (Disagree rule.DefaultWithTable) }
 {}
 
 /// A resolution beside the usual weight start.
-pub fn usual_start_with_resolution()
+pub fn default_start_with_resolution()
     ensures { header_at (header 0x00000100010001110000080002A09259018226) ≡ Err (Disagree rule.DefaultWithResolution) }
 {}
 

@@ -62,7 +62,7 @@ fn first_band(alloc: Global, plan: &Plan) -> Result<Vec<Band>, Fault>
     requires { (plan.now.deal ≡ 0 ∷ 1 ∷ []) × (plan.now.params.shape.bands ≡ 2) }
     ensures { IfOk result (λ bands. (c : Image) → AreFresh plan.now.params 0 plan.now.deal c bands.items) }
 {
-    plan.is_plan();
+    plan.prove_is_plan();
     let mut bands = Vec::new(alloc);
     bands.push(Band::new(alloc, plan.params(), 0)?)?;
     Ok(bands)

@@ -25,7 +25,7 @@ pub(crate) fn weave_all(
 ) -> Result<Woven, Fault>
     requires { plan.now.params.kind.bits ≡ 8 }
 {
-    plan.is_plan();
+    plan.prove_is_plan();
     let mut weaver = Weaver::new(alloc, plan.params(), plan)?;
     let mut wanted = Vec::new(alloc);
     for place in 0..plan.params().shape.sample_count() {

@@ -39,7 +39,7 @@ fn jobs<'a>(alloc: Global, cube: &'a Cube, plan: &'a Plan) -> Result<Vec<Job<'a>
     requires seen { IsSeen plan.now.params cube.now }
     requires bands { plan.now.params.shape.bands ≡ 2 }
 {
-    plan.is_plan();
+    plan.prove_is_plan();
     let params = plan.params();
     let mut jobs = Vec::new(alloc);
     for predictor in 0..plan.predictors() {
@@ -68,7 +68,7 @@ fn filled<R: Abort>(rt: &R, job: Job<'_>) -> Vec<u16> {
         mut second,
         mut list,
     } = job;
-    plan.is_plan();
+    plan.prove_is_plan();
     for place in Places::new(plan.params().shape, plan.params().order) {
         let residual = if place.z == 0 {
             residual_at(rt, cube, &mut first, place)

@@ -4,7 +4,7 @@
 ghost use Rattle.std.specs.Prelude.{◌≡◌, ◌∷◌, [], pos, negsuc, neg_ℤ};
 ghost use Rattle.predict_core.specs.Predictor.{predictor_of};
 ghost use Rattle.predict_core.specs.Differences.{directional_differences};
-ghost use Rattle.predict_core.specs.Weights.{table_weights, usual_weights, step};
+ghost use Rattle.predict_core.specs.Weights.{table_weights, default_weights, step};
 ghost use Rattle.predict_core.specs.Prediction.{weight_vector};
 ghost use Rattle.predict_core.specs.Residual.{residuals};
 ghost use Rattle.predict_core.specs.Rows.{cube, cube_a, one_below, coarse_steps, coarse_table, coarse, growing_steps, full};
@@ -66,8 +66,8 @@ pub fn table_in_full_mode()
 {}
 
 /// The usual weights: seven eighths, and an eighth of the one before.
-pub fn usual_weights_of_three_bands()
-    ensures { usual_weights (predictor_of (record full { previous = 3 })) 5 ≡ pos 0 ∷ pos 0 ∷ pos 0 ∷ pos 7168 ∷ pos 896 ∷ pos 112 ∷ [] }
+pub fn default_weights_of_three_bands()
+    ensures { default_weights (predictor_of (record full { previous = 3 })) 5 ≡ pos 0 ∷ pos 0 ∷ pos 0 ∷ pos 7168 ∷ pos 896 ∷ pos 112 ∷ [] }
 {}
 
 /// The directional differences stand in the order north, west, north-west; in the first column the north one stands for all.

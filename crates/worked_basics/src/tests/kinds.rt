@@ -1,4 +1,4 @@
-//! Kinds of samples: their ranges, and the heights of samples above the least one.
+//! Kinds of samples: their ranges, and the offsets of samples from the least one.
 
 use cube_core::kind::Kind;
 use std::test::Fail;
@@ -24,13 +24,13 @@ fn ranges_of_kinds(rt: HostRuntime) -> Result<(), Fail> {
 }
 
 #[test]
-fn heights_of_samples(rt: HostRuntime) -> Result<(), Fail> {
+fn offsets_of_samples(rt: HostRuntime) -> Result<(), Fail> {
     let kind = Kind::new(true, 16)?;
-    for (sample, height) in [(-32_768, 0), (-1, 32_767), (0, 32_768), (32_767, 65_535)] {
+    for (sample, offset) in [(-32_768, 0), (-1, 32_767), (0, 32_768), (32_767, 65_535)] {
         assert!(rt; kind.has(sample));
-        assert_eq!(rt; kind.height_of(sample), height);
+        assert_eq!(rt; kind.offset_of(sample), offset);
         assert!(rt; kind.bits() == 16);
-        assert_eq!(rt; kind.sample_of(height), sample);
+        assert_eq!(rt; kind.sample_of(offset), sample);
     }
     Ok(())
 }

@@ -16,7 +16,7 @@ send_own-requires-clause-bands c =
     subst (AreFresh c.args.params.now 0 [] c.args.cube.now) (sym c.deref_mut.ensures.value) fresh
 
 pub send_own-requires-clause-may : goal.send_own-requires-clause-may
-send_own-requires-clause-may c = may_take c.args.params.now c.args.cube.now c.in_ok-end.end c.requires.lawful (record { shape = c.requires.shape; kind = c.requires.kind }) c.is_cube.ensures c.in_ok-end.ensures.coded
+send_own-requires-clause-may c = may_take c.args.params.now c.args.cube.now c.in_ok-end.end c.requires.lawful (record { shape = c.requires.shape; kind = c.requires.kind }) c.prove_is_cube.ensures c.in_ok-end.ensures.coded
 
 module _ (c : After-send_own) where
   coded : c.send_own.result ≡ true → HasCoded c.args.params.now c.send_own.new.taker (residuals c.args.params.now c.args.cube.now)

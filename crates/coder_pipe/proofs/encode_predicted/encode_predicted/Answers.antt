@@ -41,13 +41,13 @@ early Usage P Q f h = absurd h
 
 module _ (g : Over) (c : After-params g) where
   cube_of : IsCubeOf c.args.plan.now.params c.args.cube.now
-  cube_of = record { cube = c.is_cube.ensures; shape = c.requires.shape; kind = c.requires.kind }
+  cube_of = record { cube = c.prove_is_cube.ensures; shape = c.requires.shape; kind = c.requires.kind }
 
   feeds_are : c.in_ok-feeds.feeds.items ≡ feeds_from c.args.cube.now c.args.plan.now
   feeds_are = c.in_ok-feeds.ensures.feeds
 
   lists : AreFeeds (λ (f : Predicting). f.predictor) part_of c.args.plan.now c.in_ok-feeds.feeds.items
-  lists = subst (AreFeeds (λ (f : Predicting). f.predictor) part_of c.args.plan.now) (sym feeds_are) (are_feeds c.args.plan.now c.args.cube.now c.is_plan.ensures cube_of)
+  lists = subst (AreFeeds (λ (f : Predicting). f.predictor) part_of c.args.plan.now) (sym feeds_are) (are_feeds c.args.plan.now c.args.cube.now c.prove_is_plan.ensures cube_of)
 
 pub encode_piped-requires-clause-feeds : goal.encode_piped-requires-clause-feeds
 encode_piped-requires-clause-feeds g c = λ κs h. lists g c
@@ -55,10 +55,10 @@ encode_piped-requires-clause-feeds g c = λ κs h. lists g c
 pub returns-clause-file : goal.returns-clause-file
 returns-clause-file g c =
     let d = (goal.at.returns-clause-file g c).After-params in
-    on_ok c.encode_piped.result _ _ c.encode_piped.ensures.piped (λ p h. is_file_of c.args.plan.now c.args.cube.now c.is_plan.ensures (cube_of g d) p.file.items p.lanes.items (subst (λ fs. IsPiped part_of c.args.plan.now fs p.file.items p.lanes.items) (feeds_are g d) h))
+    on_ok c.encode_piped.result _ _ c.encode_piped.ensures.piped (λ p h. is_file_of c.args.plan.now c.args.cube.now c.prove_is_plan.ensures (cube_of g d) p.file.items p.lanes.items (subst (λ fs. IsPiped part_of c.args.plan.now fs p.file.items p.lanes.items) (feeds_are g d) h))
 
 pub returns-clause-early : goal.returns-clause-early
 returns-clause-early g c =
     let d = (goal.at.returns-clause-early g c).After-params in
     on_err c.encode_piped.result _ _ c.encode_piped.ensures.early (λ e h. early e _ (λ q n. MayStopPart g.G.Gate.may_stop c.args.gate.now c.args.plan.now c.args.cube.now q n)
-    (λ q n k. may_stop_part c.args.plan.now c.args.cube.now c.is_plan.ensures (cube_of g d) g.G.Gate.may_stop c.args.gate.now q n (subst (λ fs. MayStop g.G.Gate.may_stop c.args.gate.now part_of fs q n) (feeds_are g d) k)) h)
+    (λ q n k. may_stop_part c.args.plan.now c.args.cube.now c.prove_is_plan.ensures (cube_of g d) g.G.Gate.may_stop c.args.gate.now q n (subst (λ fs. MayStop g.G.Gate.may_stop c.args.gate.now part_of fs q n) (feeds_are g d) k)) h)

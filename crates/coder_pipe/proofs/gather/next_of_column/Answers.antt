@@ -20,7 +20,7 @@ module _ (g : Over) (c : After-from-owner g) where
       rw reached (ap (λ n. Some n) c.from-owner.ensures ∙ sym (slice_get-get_or c.wanted_column-owners.result.now c.loop-i.i 0 c.loop-i-test.true) ∙ sym own)
 
   below : c.from-owner.result < c.args.plan.now.predictors
-  below = owner_below c.args.plan.now.params c.args.plan.now.deal (c.loop-i.invariant.ahead.numbers ++ take c.loop-i.i c.loop-i.run) c.args.plan.now.predictors c.from-owner.result c.is_plan.ensures.lawful.order c.is_plan.ensures.may.dealt next
+  below = owner_below c.args.plan.now.params c.args.plan.now.deal (c.loop-i.invariant.ahead.numbers ++ take c.loop-i.i c.loop-i.run) c.args.plan.now.predictors c.from-owner.result c.prove_is_plan.ensures.lawful.order c.prove_is_plan.ensures.may.dealt next
 
   within : c.from-owner.result < length c.loop-i.stages.items
   within = omega (arith, below, c.loop-i.stages.ok.0, c.loop-i.invariant.many, c.requires.many)
@@ -76,7 +76,7 @@ loop-i-preserved g c =
 
 pub returns-clause-within : goal.returns-clause-within
 returns-clause-within g c =
-    let left = place_left c.args.plan.now.params c.args.plan.now.deal c.args.weaver.now (handed_of c.args.stages.now.items) c.args.taken c.is_plan.ensures.lawful.order c.requires.woven c.requires.more in
+    let left = place_left c.args.plan.now.params c.args.plan.now.deal c.args.weaver.now (handed_of c.args.stages.now.items) c.args.taken c.prove_is_plan.ensures.lawful.order c.requires.woven c.requires.more in
     (c.wanted_column-owners.ensures.some left, c.wanted_column-owners.ensures.most)
 
 pub returns-clause-may : goal.returns-clause-may
@@ -85,6 +85,6 @@ returns-clause-may g c =
     let all : c.loop-i.i ≡ length c.wanted_column-owners.result.now = omega (arith, c.loop-i-test.false, c.loop-i.auto.i-end) in
     let most : c.greatest-most.result + 1 ≡ 2 ^ c.args.plan.now.params.kind.bits = c.greatest-most.ensures ∙ ap (λ p. 2 ^ p.kind.bits) c.params.ensures in
     let from = c.wanted_column-owners.ensures.owned c.args.plan.now.params c.args.plan.now.deal was.ahead.numbers was.ahead.woven in
-    let few = owners_fit c.args.plan.now.params c.args.plan.now.deal was.ahead.numbers c.wanted_column-owners.result.now c.is_plan.ensures.lawful.order (omega (arith, was.ahead.long, c.requires.more)) from in
-    may_take c.args.plan.now.params c.args.plan.now.deal c.args.weaver.now was.ahead.numbers (take (length c.wanted_column-owners.result.now) c.loop-i.run) c.greatest-most.result was.ahead.woven c.is_plan.ensures.lawful
+    let few = owners_fit c.args.plan.now.params c.args.plan.now.deal was.ahead.numbers c.wanted_column-owners.result.now c.prove_is_plan.ensures.lawful.order (omega (arith, was.ahead.long, c.requires.more)) from in
+    may_take c.args.plan.now.params c.args.plan.now.deal c.args.weaver.now was.ahead.numbers (take (length c.wanted_column-owners.result.now) c.loop-i.run) c.greatest-most.result was.ahead.woven c.prove_is_plan.ensures.lawful
     (omega (arith, few, length-take (length c.wanted_column-owners.result.now) c.loop-i.run)) most (rw all at was.range)

@@ -12,14 +12,14 @@ use Rattle.coder_pipe.proofs.gather.next_of_row.Given.{Over}
 pub unreachable-requires : goal.unreachable-requires
 unreachable-requires g c =
     let w = c.requires.woven in
-    owner_there c.args.plan.now.params c.args.plan.now.deal w.numbers c.is_plan.ensures.lawful.order (omega (arith, w.long, c.requires.more)) (c.in_default.ensures c.args.plan.now.params c.args.plan.now.deal w.numbers w.woven)
+    owner_there c.args.plan.now.params c.args.plan.now.deal w.numbers c.prove_is_plan.ensures.lawful.order (omega (arith, w.long, c.requires.more)) (c.in_default.ensures c.args.plan.now.params c.args.plan.now.deal w.numbers w.woven)
 
 module _ (g : Over) (c : In-Some g) where
   next : Some c.in-Some.owner ≡ slice_get (owners c.args.plan.now.deal c.args.plan.now.params) (length c.requires.woven.numbers)
   next = c.in-Some.ensures c.args.plan.now.params c.args.plan.now.deal c.requires.woven.numbers c.requires.woven.woven
 
   below : c.in-Some.owner < c.args.plan.now.predictors
-  below = owner_below c.args.plan.now.params c.args.plan.now.deal c.requires.woven.numbers c.args.plan.now.predictors c.in-Some.owner c.is_plan.ensures.lawful.order c.is_plan.ensures.may.dealt next
+  below = owner_below c.args.plan.now.params c.args.plan.now.deal c.requires.woven.numbers c.args.plan.now.predictors c.in-Some.owner c.prove_is_plan.ensures.lawful.order c.prove_is_plan.ensures.may.dealt next
 
   within : c.in-Some.owner < length c.args.stages.now.items
   within = omega (arith, below, c.args.stages.now.ok.0, c.requires.many)
@@ -35,7 +35,7 @@ next_of-requires-clause-place g c = let d = (goal.at.next_of-requires-clause-pla
 
 pub next_of-requires-clause-room : goal.next_of-requires-clause-room
 next_of-requires-clause-room g c =
-    let left = place_left c.args.plan.now.params c.args.plan.now.deal c.args.weaver.now (handed_of c.args.stages.now.items) c.args.taken c.is_plan.ensures.lawful.order c.requires.woven c.requires.more in
+    let left = place_left c.args.plan.now.params c.args.plan.now.deal c.args.weaver.now (handed_of c.args.stages.now.items) c.args.taken c.prove_is_plan.ensures.lawful.order c.requires.woven c.requires.more in
     omega (arith, c.wanted_run-wanted.ensures.some left, c.wanted_run-wanted.ensures.most, length-take c.wanted_run-wanted.result c.args.run.now)
 
 pub next_of-requires-clause-short : goal.next_of-requires-clause-short
@@ -75,9 +75,9 @@ returns-in-Ok-clause-may g c =
     let few : length (take count run) ≤ c.wanted_run-wanted.result = omega (arith, c.in-Ok.ensures.within.1, length-take count run, length-take c.wanted_run-wanted.result c.args.run.now) in
     let most : c.greatest-most.result + 1 ≡ 2 ^ c.args.plan.now.params.kind.bits = c.greatest-most.ensures ∙ ap (λ p. 2 ^ p.kind.bits) c.params.ensures in
     let one = c.wanted_run-wanted.ensures.owned c.args.plan.now.params c.args.plan.now.deal was.numbers was.woven in
-    let fits = run_fits c.args.plan.now.params c.args.plan.now.deal was.numbers c.in-Some.owner c.wanted_run-wanted.result c.is_plan.ensures.lawful.order (next g d) one in
+    let fits = run_fits c.args.plan.now.params c.args.plan.now.deal was.numbers c.in-Some.owner c.wanted_run-wanted.result c.prove_is_plan.ensures.lawful.order (next g d) one in
     subst (MayCodeAll c.args.weaver.now.end) (sym (take-append-le count run (drop c.wanted_run-wanted.result c.args.run.now) within))
-    (may_take c.args.plan.now.params c.args.plan.now.deal c.args.weaver.now was.numbers (take count run) c.greatest-most.result was.woven c.is_plan.ensures.lawful (omega (arith, few, fits)) most c.in-Ok.ensures.most)
+    (may_take c.args.plan.now.params c.args.plan.now.deal c.args.weaver.now was.numbers (take count run) c.greatest-most.result was.woven c.prove_is_plan.ensures.lawful (omega (arith, few, fits)) most c.in-Ok.ensures.most)
 
 pub returns-in-Err-clause-stopped : goal.returns-in-Err-clause-stopped
 returns-in-Err-clause-stopped g c =

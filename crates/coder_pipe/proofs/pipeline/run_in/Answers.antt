@@ -8,10 +8,10 @@ use Rattle.coder_pipe.proofs.pipeline.run_in.Goals as goal
 pub finish_all-lanes-requires-clause-whole : goal.finish_all-lanes-requires-clause-whole
 finish_all-lanes-requires-clause-whole g c =
     let same : feeds_of c.weave.new.stages.items ≡ map (λ r. r.feed) c.args.readies.items = c.in-Whole.ensures.feeds ∙ c.start_all-stages.ensures.feeds c.if-not-all.false in
-    handed_whole g.F.Feed.predictor g.F.Feed.items c.args.plan.now c.weave.new.weaver c.weave.new.stages.items (map (λ r. r.feed) c.args.readies.items) c.is_plan.ensures c.requires.lists same c.in-Whole.ensures.whole
+    handed_whole g.F.Feed.predictor g.F.Feed.items c.args.plan.now c.weave.new.weaver c.weave.new.stages.items (map (λ r. r.feed) c.args.readies.items) c.prove_is_plan.ensures c.requires.lists same c.in-Whole.ensures.whole
 
 pub finish-requires : goal.finish-requires
-finish-requires g c = nothing_left c.args.plan.now.params c.args.plan.now.deal c.weave.new.weaver (handed_of c.weave.new.stages.items) c.is_plan.ensures.lawful.order c.in-Whole.ensures.whole
+finish-requires g c = nothing_left c.args.plan.now.params c.args.plan.now.deal c.weave.new.weaver (handed_of c.weave.new.stages.items) c.prove_is_plan.ensures.lawful.order c.in-Whole.ensures.whole
 
 pub stop_all-requires-clause-named : goal.stop_all-requires-clause-named
 stop_all-requires-clause-named g c = λ k f h.
@@ -22,7 +22,7 @@ stop_all-requires-clause-named g c = λ k f h.
 pub returns-in-Whole-clause-piped : goal.returns-in-Whole-clause-piped
 returns-in-Whole-clause-piped g c =
     let same : feeds_of c.weave.new.stages.items ≡ map (λ r. r.feed) c.args.readies.items = c.in-Whole.ensures.feeds ∙ c.start_all-stages.ensures.feeds c.if-not-all.false in
-    piped g.F.Feed.predictor g.F.Feed.items c.args.plan.now c.weave.new.weaver (map (λ r. r.feed) c.args.readies.items) (handed_of c.weave.new.stages.items) c.in_ok-file-in-Whole.file.items c.finish_all-lanes.result.items c.is_plan.ensures c.requires.lists c.in-Whole.ensures.whole
+    piped g.F.Feed.predictor g.F.Feed.items c.args.plan.now c.weave.new.weaver (map (λ r. r.feed) c.args.readies.items) (handed_of c.weave.new.stages.items) c.in_ok-file-in-Whole.file.items c.finish_all-lanes.result.items c.prove_is_plan.ensures c.requires.lists c.in-Whole.ensures.whole
     (rw same at c.finish_all-lanes.ensures.handed) (rw same at c.finish_all-lanes.ensures.lanes) c.in_ok-file-in-Whole.ensures.file
 
 pub returns-in-Some-clause-early : goal.returns-in-Some-clause-early

@@ -2,28 +2,28 @@ use Rattle.std.proofs.Common.{ℕ, ◌≡◌, ◌↔◌, ◌*◌, ◌+◌, ◌<�
 use Rattle.cube_core.specs.declared.layout.Layout.{Layout}
 use Rattle.cube_core.specs.Kind.{SampleKind, IsSample, sample_of}
 use Rattle.cube_core.specs.Layout.{HasBytes, bytes_at, raw_code}
-use Rattle.cube_core.specs.Scale.{SpellHeight, number_turned}
+use Rattle.cube_core.specs.Scale.{SpellOffset, number_of_rebased}
 use Rattle.cube_core.proofs.Pieces.{given_more, others_more, each_more}
 use Rattle.cube_core.proofs.piece.give_numbers.Goals as goal
 
--- what was found of one height
-record Found (k : SampleKind) (l : Layout) (width height turned number : ℕ) : Type 0 where
-  fits : (turned < 2 ^ (8 * width)) ↔ HasBytes k l (sample_of k height)
-  code : turned < 2 ^ (8 * width) → raw_code l.bytes (sample_of k height) ≡ number
+-- what was found of one offset
+record Found (k : SampleKind) (l : Layout) (width offset rebased number : ℕ) : Type 0 where
+  fits : (rebased < 2 ^ (8 * width)) ↔ HasBytes k l (sample_of k offset)
+  code : rebased < 2 ^ (8 * width) → raw_code l.bytes (sample_of k offset) ≡ number
 
-found : (k : SampleKind) (l : Layout) (bytes width height turned number : ℕ) → bytes ≡ width → l.bytes ≡ width → (turned < 2 ^ (8 * bytes)) ↔ IsSample (record { signed = k.signed; bits = 8 * bytes }) (sample_of k height)
-    → (turned < 2 ^ (8 * bytes) → raw_code bytes (sample_of k height) ≡ number_turned k.signed bytes turned) → number ≡ number_turned k.signed width turned → Found k l width height turned number
-found k l bytes width height turned number e f fits code n = record { fits = rw f (rw e at fits); code = λ lt. rw (f, n) (rw e at code lt) }
+found : (k : SampleKind) (l : Layout) (bytes width offset rebased number : ℕ) → bytes ≡ width → l.bytes ≡ width → (rebased < 2 ^ (8 * bytes)) ↔ IsSample (record { signed = k.signed; bits = 8 * bytes }) (sample_of k offset)
+    → (rebased < 2 ^ (8 * bytes) → raw_code bytes (sample_of k offset) ≡ number_of_rebased k.signed bytes rebased) → number ≡ number_of_rebased k.signed width rebased → Found k l width offset rebased number
+found k l bytes width offset rebased number e f fits code n = record { fits = rw f (rw e at fits); code = λ lt. rw (f, n) (rw e at code lt) }
 
 pub loop-x-preserved : goal.loop-x-preserved
 loop-x-preserved g c =
     let k = c.args.scale.now.kind in
     let l = c.args.layout in
-    let hs = c.args.heights.now in
+    let hs = c.args.offsets.now in
     let p = c.args.piece in
     let x = c.loop-x.x in
-    let f = found k l c.args.scale.now.bytes g.row.BYTES (get_or hs (p.at + x) 0) c.turned-turned.result c.number-number.result c.requires.scale c.requires.form c.turned-turned.ensures.fits c.turned-turned.ensures.code c.number-number.ensures.value in
-    let here : SpellHeight c.args.scale.now.kind c.args.layout (get_or c.args.heights.now (c.args.piece.at + c.loop-x.x) 0) (bytes_at c.args.layout c.put_number.new.bytes (c.args.piece.first + c.loop-x.x * c.args.piece.step)) = λ h. c.put_number.ensures.there _ (f.code (f.fits.1 h)) in
+    let f = found k l c.args.scale.now.bytes g.row.BYTES (get_or hs (p.at + x) 0) c.rebased-rebased.result c.number-number.result c.requires.scale c.requires.form c.rebased-rebased.ensures.fits c.rebased-rebased.ensures.code c.number-number.ensures.value in
+    let here : SpellOffset c.args.scale.now.kind c.args.layout (get_or c.args.offsets.now (c.args.piece.at + c.loop-x.x) 0) (bytes_at c.args.layout c.put_number.new.bytes (c.args.piece.first + c.loop-x.x * c.args.piece.step)) = λ h. c.put_number.ensures.there _ (f.code (f.fits.1 h)) in
     record {
       given = given_more k l hs c.loop-x.bytes c.put_number.new.bytes p.at p.first p.step x c.requires.apart here c.put_number.ensures.others c.loop-x.invariant.given;
       others = others_more l c.args.bytes.now c.loop-x.bytes c.put_number.new.bytes p.first p.step x c.put_number.ensures.others c.loop-x.invariant.others;

@@ -1,8 +1,8 @@
 use Rattle.std.proofs.Common.{◌≡◌, ◌+◌, ◌*◌, ◌<◌, ◌≤◌, ℕ, length, arith, IsTrue, true, rules, sym}
 use Rattle.cube_core.specs.declared.order.Place.{Place}
 use Rattle.cube_core.specs.Shape.{sample_count}
-use Rattle.cube_core.specs.Raw.{IsHeightOf}
-use Rattle.cube_core.proofs.Pieces.{IsTaken, height_there, band_more, piece_there, piece_good}
+use Rattle.cube_core.specs.Raw.{IsOffsetOf}
+use Rattle.cube_core.proofs.Pieces.{IsTaken, offset_there, band_more, piece_there, piece_good}
 use Rattle.cube_core.proofs.Raws.{lawful_order}
 use Rattle.cube_core.proofs.raw.fill_lines.Goals as goal
 use Rattle.cube_core.proofs.raw.fill_lines.Goals.{After-new-piece}
@@ -16,7 +16,7 @@ take_piece-requires-clause-there c = λ j lt. (there (goal.at.take_piece-require
 pub returns-then-not-take_piece-clause-good : goal.returns-then-not-take_piece-clause-good
 returns-then-not-take_piece-clause-good c = λ all.
     let p = c.new-piece.result in
-    let good = piece_good c.args.kind c.args.layout c.args.bytes.now c.take_piece.new.heights p.at p.count p.first p.step (sample_count c.args.shape) (λ j lt. (there (goal.at.returns-then-not-take_piece-clause-good c).After-new-piece j lt).0) (rw c.new-scale.ensures.0 at c.take_piece.ensures.taken) all in
+    let good = piece_good c.args.kind c.args.layout c.args.bytes.now c.take_piece.new.offsets p.at p.count p.first p.step (sample_count c.args.shape) (λ j lt. (there (goal.at.returns-then-not-take_piece-clause-good c).After-new-piece j lt).0) (rw c.new-scale.ensures.0 at c.take_piece.ensures.taken) all in
     c.if-not-take_piece.ensures.good.1 (rw c.new-scale.ensures.0 good)
 
 pub loop-z-preserved : goal.loop-z-preserved
@@ -25,7 +25,7 @@ loop-z-preserved c =
     let s = c.args.shape in
     let counted : c.min-count.result ≡ c.new-piece.result.count = sym c.new-piece.ensures.count in
     let t : IsTrue true = search rules in
-    let taken : IsTaken c.args.shape c.args.kind c.args.layout c.args.bytes.now c.loop-z.heights c.take_piece.new.heights c.loop-z.z c.loop-y.y c.loop-x.x p.at c.min-count.result p.first p.step = record {
+    let taken : IsTaken c.args.shape c.args.kind c.args.layout c.args.bytes.now c.loop-z.offsets c.take_piece.new.offsets c.loop-z.z c.loop-y.y c.loop-x.x p.at c.min-count.result p.first p.step = record {
       band = omega (arith, c.bands-z-end.ensures.value);
       row = omega (arith, c.rows-y-end.ensures.value);
       columns = omega (arith, c.columns-columns.ensures.value);
@@ -35,5 +35,5 @@ loop-z-preserved c =
       good = rw (counted, ← c.new-scale.ensures.0) (c.if-not-take_piece.ensures.good.0 t);
       others = rw counted c.take_piece.ensures.others;
     } in
-    band_more s (IsHeightOf s c.args.kind c.args.layout c.args.bytes.now c.loop-z.heights) (IsHeightOf s c.args.kind c.args.layout c.args.bytes.now c.take_piece.new.heights) c.loop-y.y c.loop-x.x c.min-count.result c.loop-z.z
-    (λ (q : Place) place known. height_there s c.args.kind c.args.layout c.args.bytes.now c.loop-z.heights c.take_piece.new.heights c.loop-z.z c.loop-y.y c.loop-x.x p.at c.min-count.result p.first p.step q taken place known) c.loop-z.invariant
+    band_more s (IsOffsetOf s c.args.kind c.args.layout c.args.bytes.now c.loop-z.offsets) (IsOffsetOf s c.args.kind c.args.layout c.args.bytes.now c.take_piece.new.offsets) c.loop-y.y c.loop-x.x c.min-count.result c.loop-z.z
+    (λ (q : Place) place known. offset_there s c.args.kind c.args.layout c.args.bytes.now c.loop-z.offsets c.take_piece.new.offsets c.loop-z.z c.loop-y.y c.loop-x.x p.at c.min-count.result p.first p.step q taken place known) c.loop-z.invariant

@@ -16,7 +16,7 @@ module _ (g : Over) (c : After-deal-deal g) where
   same = ap₂ (λ p deal. own_residuals p c.args.cube.now c.args.predictor deal p.order) c.params-params.ensures c.deal-deal.ensures
 
   few : length (own_residuals c.args.plan.now.params c.args.cube.now c.args.predictor c.args.plan.now.deal c.args.plan.now.params.order) ≤ 2 ^ 48
-  few = own_few c.args.plan.now.params c.args.cube.now c.args.predictor c.args.plan.now.deal (2 ^ 48) c.requires.image c.is_plan.ensures.lawful.order (rw (c.sample_count-count.ensures.value, c.shape.ensures) at c.sample_count-count.ensures.range.1)
+  few = own_few c.args.plan.now.params c.args.cube.now c.args.predictor c.args.plan.now.deal (2 ^ 48) c.requires.image c.prove_is_plan.ensures.lawful.order (rw (c.sample_count-count.ensures.value, c.shape.ensures) at c.sample_count-count.ensures.range.1)
 
 pub send_own-all-requires-clause-may : goal.send_own-all-requires-clause-may
 send_own-all-requires-clause-may g c =

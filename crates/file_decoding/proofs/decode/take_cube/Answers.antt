@@ -356,4 +356,4 @@ returns-clause-taken c =
     let known = c.loop-place.invariant in
     let none : c.loop-place.places ≡ [] = none_first c.loop-place.places (sym c.peek.ensures ∙ c.in_default.is) in
     let decoded : IsDecoded c.args.params.now c.loop-place.cube [] c.loop-place.decoder c.args.reader.now.left c.loop-place.reader.left = rw none at c.loop-place.invariant.decoded in
-    decoded_whole c.args.params.now c.loop-place.cube c.loop-place.decoder c.args.reader.now.left c.loop-place.reader.left c.requires (record { cube = c.is_cube.ensures; shape = known.shape; kind = known.kind }) decoded
+    decoded_whole c.args.params.now c.loop-place.cube c.loop-place.decoder c.args.reader.now.left c.loop-place.reader.left c.requires (record { cube = c.prove_is_cube.ensures; shape = known.shape; kind = known.kind }) decoded

@@ -3,7 +3,7 @@ use Rattle.std.proofs.lemmas.List.{take_all, length-set}
 use Rattle.std.proofs.Math.Seq.{take-suc-set}
 use Rattle.cube_core.specs.declared.fault.Fault.{Fault}
 use Rattle.block_adaptive.specs.Given.{Unpacked, given_count}
-use Rattle.block_adaptive.specs.Texts.{Cut, capacity}
+use Rattle.block_adaptive.specs.DataSets.{Cut, capacity}
 use Rattle.file_decoding.specs.declared.decoder.Decoder.TheVariants.{Blocks}
 use Rattle.file_decoding.specs.Decoding.{AreNumbers, GivesAll, GivesNumber}
 use Rattle.file_decoding.proofs.Givers.{blocks_given}

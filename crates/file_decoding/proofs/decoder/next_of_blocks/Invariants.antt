@@ -2,7 +2,7 @@ use Rattle.std.proofs.Common.{◌≡◌, ◌+◌, ◌≤◌, ℕ, List, Bool, le
 use Rattle.header_bits.specs.declared.params.Params.{Params}
 use Rattle.header_bits.specs.Lawful.{IsLawful}
 use Rattle.block_adaptive.specs.Given.{given_count}
-use Rattle.block_adaptive.specs.Texts.{capacity}
+use Rattle.block_adaptive.specs.DataSets.{capacity}
 use Rattle.file_decoding.specs.declared.decoder.Decoder.TheVariants.{Blocks}
 use Rattle.file_decoding.specs.Decoding.{HasGiven, AreNumbers, GivesAll}
 use Rattle.file_decoding.proofs.decoder.next_of_blocks.Given as goal

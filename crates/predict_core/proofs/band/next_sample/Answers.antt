@@ -23,7 +23,7 @@ returns-clause-inverse c =
     let e = rw (← c.requires.kind) at (simp (to_z-of_z scaled_fits) at c.sample_of-found.ensures.inverse) in
     rw (
       to_z-of_z fits,
-      ← scaled_put c.args.cube.now s.band c.args.y c.args.x c.sample_of-found.result c.requires.place c.is_cube.ensures.whole s.predictor (wide at) (later at) (take (component_count s.predictor s.band) c.args.weights.now),
+      ← scaled_put c.args.cube.now s.band c.args.y c.args.x c.sample_of-found.result c.requires.place c.prove_is_cube.ensures.whole s.predictor (wide at) (later at) (take (component_count s.predictor s.band) c.args.weights.now),
       ← c.predict-prediction.ensures.value,
     )
     e
@@ -39,4 +39,4 @@ returns-clause-weights c =
     let padded = rw (← s.count_is) at c.predict-prediction.ensures.differences in
     let e = rw (s.count_is, bits, ← c.requires.columns) at (simp (to_z-of_z fits) at c.learn.ensures.value us long padded) in
     rw (to_z-of_z fits)
-    (moved_put c.args.cube.now s.band c.args.y c.args.x c.sample_of-found.result c.requires.place c.is_cube.ensures.whole s.predictor (wide at) c.args.t _ _ c.predict-prediction.result.scaled (later at) c.requires.t_is c.predict-prediction.ensures.value e)
+    (moved_put c.args.cube.now s.band c.args.y c.args.x c.sample_of-found.result c.requires.place c.prove_is_cube.ensures.whole s.predictor (wide at) c.args.t _ _ c.predict-prediction.result.scaled (later at) c.requires.t_is c.predict-prediction.ensures.value e)

@@ -12,5 +12,5 @@ returns-then-below-settings c = λ i l h.
 pub returns-else-below-settings : goal.returns-else-below-settings
 returns-else-below-settings c = λ i l h.
     let s = c.args.settings.now in
-    empty_difference _ c.args.lines.now.here c.args.lines.now.over i c.requires.here c.requires.over
+    empty_difference _ c.args.lines.now.current c.args.lines.now.above i c.requires.current c.requires.above
     ∙ sym (lower_none s.predictor c.args.cube.now s.band c.args.y (c.args.x + i) c.args.below (let n = s.near_is in omega (arith, n)))

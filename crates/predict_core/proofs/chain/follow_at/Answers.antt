@@ -11,7 +11,7 @@ use Rattle.predict_core.proofs.Moves.{within_most}
 use Rattle.predict_core.proofs.Ranges.{central_within, padded_within}
 use Rattle.predict_core.proofs.chain.follow_at.Given as given
 use Rattle.predict_core.proofs.chain.follow_at.Goals as goal
-use Rattle.predict_core.proofs.chain.follow_at.Goals.{After-is_cube, After-predicted_difference-predicted}
+use Rattle.predict_core.proofs.chain.follow_at.Goals.{After-prove_is_cube, After-predicted_difference-predicted}
 
 -- the local sum, as the code computes it
 reckoned : (low sum : ℤ) → (negsuc 32767 ≤ℤ low) × (low ≤ℤ pos 0) → (pos 0 ≤ℤ sum) × (sum ≤ℤ pos 262140)
@@ -25,31 +25,31 @@ found p made k low sum whole v ws us a b e h =
     let same : pos 4 *ℤ low +ℤ sum ≡ whole = ap (λ l. pos 4 *ℤ l +ℤ sum) (b ∙ ap smin (sym a)) ∙ e in
     rw (a, ← same) h
 
-wide : (g : given.Over) (c : After-is_cube g) → c.args.settings.now.predictor.column ≡ false → 2 ≤ c.args.cube.now.shape.columns
+wide : (g : given.Over) (c : After-prove_is_cube g) → c.args.settings.now.predictor.column ≡ false → 2 ≤ c.args.cube.now.shape.columns
 wide g c h = let w = c.args.settings.now.wide h in let e = c.requires.columns in omega (arith, w, e)
 
 pub predicted_difference-predicted-requires-clause-differences_in : goal.predicted_difference-predicted-requires-clause-differences_in
 predicted_difference-predicted-requires-clause-differences_in g c =
-    let d = (goal.at.predicted_difference-predicted-requires-clause-differences_in g c).After-is_cube in
+    let d = (goal.at.predicted_difference-predicted-requires-clause-differences_in g c).After-prove_is_cube in
     let s = c.args.settings.now in
-    let bits : c.args.cube.now.kind.bits ≤ 16 = c.is_cube.ensures.bits.1 in
+    let bits : c.args.cube.now.kind.bits ≤ 16 = c.prove_is_cube.ensures.bits.1 in
     within_most c.args.cube.now.kind.bits c.args.differences.now bits
-    (rw c.requires.differences_are (padded_within s.predictor c.args.cube.now c.is_cube.ensures c.args.y c.args.x c.requires.later (wide g d) s.band c.requires.place (18 - s.count)))
+    (rw c.requires.differences_are (padded_within s.predictor c.args.cube.now c.prove_is_cube.ensures c.args.y c.args.x c.requires.later (wide g d) s.band c.requires.place (18 - s.count)))
 
 pub follow-requires-clause-own_in : goal.follow-requires-clause-own_in
 follow-requires-clause-own_in g c =
-    let d = (goal.at.follow-requires-clause-own_in g c).After-is_cube in
+    let d = (goal.at.follow-requires-clause-own_in g c).After-prove_is_cube in
     let s = c.args.settings.now in
-    let power : 2 ^ c.args.cube.now.kind.bits ≤ 2 ^ 16 = pow_mono (c.is_cube.ensures.bits.1) in
-    let small = central_within s.predictor c.args.cube.now c.is_cube.ensures c.args.y c.args.x c.requires.later (wide g d) s.band c.requires.place in
+    let power : 2 ^ c.args.cube.now.kind.bits ≤ 2 ^ 16 = pow_mono (c.prove_is_cube.ensures.bits.1) in
+    let small = central_within s.predictor c.args.cube.now c.prove_is_cube.ensures c.args.y c.args.x c.requires.later (wide g d) s.band c.requires.place in
     rw (to_z-of_z c.ranges.own, c.requires.own_is) (omega (arith, power, small))
 
 pub follow-requires-clause-differences_in : goal.follow-requires-clause-differences_in
 follow-requires-clause-differences_in g c =
-    let d = (goal.at.follow-requires-clause-differences_in g c).After-is_cube in
+    let d = (goal.at.follow-requires-clause-differences_in g c).After-prove_is_cube in
     let s = c.args.settings.now in
     rw (c.requires.differences_are, c.requires.bits, s.range.bits_is, ← c.requires.kind)
-    (padded_within s.predictor c.args.cube.now c.is_cube.ensures c.args.y c.args.x c.requires.later (wide g d) s.band c.requires.place (18 - s.count))
+    (padded_within s.predictor c.args.cube.now c.prove_is_cube.ensures c.args.y c.args.x c.requires.later (wide g d) s.band c.requires.place (18 - s.count))
 
 -- the scaled prediction comes from the predicted difference
 module _ (g : given.Over) (c : After-predicted_difference-predicted g) where
@@ -68,7 +68,7 @@ returns-clause-scaled g c =
     let s = c.args.settings.now in
     let fits : SFits w32 c.predicted_difference-predicted.result = search rules in
     rw (to_z-of_z fits)
-    (scaled_from_room s.predictor c.args.cube.now s.band c.args.y c.args.x s.count g.row.N c.args.weights.now c.args.differences.now c.is_cube.ensures c.requires.place s.count_is c.requires.enough c.requires.few c.requires.differences_are c.predicted_difference-predicted.result (from_difference g d))
+    (scaled_from_room s.predictor c.args.cube.now s.band c.args.y c.args.x s.count g.row.N c.args.weights.now c.args.differences.now c.prove_is_cube.ensures c.requires.place s.count_is c.requires.enough c.requires.few c.requires.differences_are c.predicted_difference-predicted.result (from_difference g d))
 
 pub returns-clause-weights : goal.returns-clause-weights
 returns-clause-weights g c =
@@ -76,4 +76,4 @@ returns-clause-weights g c =
     let s = c.args.settings.now in
     let fits : SFits w32 c.predicted_difference-predicted.result = search rules in
     let moved = (simp (to_z-of_z c.ranges.own, to_z-of_z fits) at c.follow.ensures.weights) ∙ ap (λ f. updated_weights f c.args.steps.exponent (int_le c.args.own c.predicted_difference-predicted.result) (take g.row.N c.args.weights.now) (take g.row.N c.args.differences.now)) c.requires.fraction in
-    next_from_room s.predictor c.args.cube.now s.band c.args.y c.args.x s.count g.row.N c.args.weights.now c.args.differences.now c.is_cube.ensures c.requires.place s.count_is c.requires.enough c.requires.few c.requires.differences_are c.predicted_difference-predicted.result (from_difference g d) c.follow.new.weights c.args.own c.args.steps.exponent c.requires.own_is c.requires.exponent moved
+    next_from_room s.predictor c.args.cube.now s.band c.args.y c.args.x s.count g.row.N c.args.weights.now c.args.differences.now c.prove_is_cube.ensures c.requires.place s.count_is c.requires.enough c.requires.few c.requires.differences_are c.predicted_difference-predicted.result (from_difference g d) c.follow.new.weights c.args.own c.args.steps.exponent c.requires.own_is c.requires.exponent moved

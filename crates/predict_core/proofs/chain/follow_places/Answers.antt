@@ -34,13 +34,13 @@ loop-i-preserved g c =
     let inside : c.loop-i.i < length c.loop-i.parts = omega (arith, kept.long) in
     let later : 0 < c.args.y + (c.args.x + c.loop-i.i) = omega (arith, c.requires.later) in
     let column : c.args.x + c.loop-i.i < c.args.cube.now.shape.columns = omega (arith, c.requires.inside) in
-    let there : (p : Params) → AreWeightsAt p s.predictor c.args.cube.now s.band (c.args.y * c.args.cube.now.shape.columns + (c.args.x + c.args.first)) (take s.count c.args.weights.now) → AreWeightsAt p s.predictor c.args.cube.now s.band (c.args.y * c.args.cube.now.shape.columns + (c.args.x + c.loop-i.i)) (take s.count c.loop-i.held) =
+    let there : (p : Params) → AreWeightsAt p s.predictor c.args.cube.now s.band (c.args.y * c.args.cube.now.shape.columns + (c.args.x + c.args.first)) (take s.count c.args.weights.now) → AreWeightsAt p s.predictor c.args.cube.now s.band (c.args.y * c.args.cube.now.shape.columns + (c.args.x + c.loop-i.i)) (take s.count c.loop-i.working) =
     λ p f. record { predictor = f.predictor; weights = kept.weights p f } in
     rw (to_z-of_z fits)
     (record {
-      weights = λ p f. weights_next p s.predictor c.args.cube.now s.band c.args.y c.args.x c.loop-i.i (take s.count c.loop-i.held) later column (there p f) (take s.count c.follow_at.new.weights) c.follow_at.ensures.weights;
+      weights = λ p f. weights_next p s.predictor c.args.cube.now s.band c.args.y c.args.x c.loop-i.i (take s.count c.loop-i.working) later column (there p f) (take s.count c.follow_at.new.weights) c.follow_at.ensures.weights;
       parts = λ p f. written_place (λ k v. scaled_prediction p c.args.cube.now s.band (c.args.y * c.args.cube.now.shape.columns + (c.args.x + k)) ≡ scaled_by_difference c.args.cube.now.kind v (local_sum s.predictor c.args.cube.now s.band c.args.y (c.args.x + k))) c.args.first c.loop-i.i c.loop-i.parts c.follow_at.result inside
-          (part_is p s.predictor c.args.cube.now s.band c.args.y c.args.x c.loop-i.i (take s.count c.loop-i.held) later column (there p f) c.follow_at.result c.follow_at.ensures.scaled) (kept.parts p f);
+          (part_is p s.predictor c.args.cube.now s.band c.args.y c.args.x c.loop-i.i (take s.count c.loop-i.working) later column (there p f) c.follow_at.result c.follow_at.ensures.scaled) (kept.parts p f);
       kept = kept_place c.args.first c.loop-i.i c.args.parts.now c.loop-i.parts c.follow_at.result begun kept.kept;
       small = written_place (λ k v. unsigned_abs v ≤ 18874368) c.args.first c.loop-i.i c.loop-i.parts c.follow_at.result inside c.follow_at.ensures.small kept.small;
       bound = c.follow_at.ensures.bound;

@@ -1,5 +1,5 @@
 use Rattle.std.proofs.Common.{SFits, to_z-of_z, w32, rules, ◌∙◌, sym}
-use Rattle.predict_core.proofs.LocalSums.{central_of_heights}
+use Rattle.predict_core.proofs.LocalSums.{central_of_offsets}
 use Rattle.predict_core.proofs.differences.central.Goals as goal
 
 pub returns-clause-value : goal.returns-clause-value
@@ -7,4 +7,4 @@ returns-clause-value c =
     let fits : SFits w32 c.central_of.result = search rules in
     let upper = rw c.saturating_sub.ensures at c.row-above.ensures.samples in
     rw (to_z-of_z fits)
-    (c.central_of.ensures.value ∙ sym (central_of_heights c.args.predictor.now c.args.cube.now c.args.z c.args.y c.args.x c.row-row.result.now c.row-above.result.now c.requires.place.column c.row-row.ensures.len c.row-row.ensures.samples upper c.requires.later c.requires.wide))
+    (c.central_of.ensures.value ∙ sym (central_of_offsets c.args.predictor.now c.args.cube.now c.args.z c.args.y c.args.x c.row-row.result.now c.row-above.result.now c.requires.place.column c.row-row.ensures.len c.row-row.ensures.samples upper c.requires.later c.requires.wide))

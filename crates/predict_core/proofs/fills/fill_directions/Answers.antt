@@ -12,7 +12,7 @@ loop-i-preserved c =
     let west_fits : SFits w32 c.difference_of-west.result = search rules in
     let north_west_fits : SFits w32 c.difference_of-north_west.result = search rules in
     let below_fits : SFits w32 c.central_at.result = search rules in
-    let sum : to_z w32 c.sum_of_lines-sum.result ≡ pos (line_sum c.args.column c.args.lines.now.here c.args.lines.now.over c.loop-i.i) =
+    let sum : to_z w32 c.sum_of_lines-sum.result ≡ pos (line_sum c.args.column c.args.lines.now.current c.args.lines.now.above c.loop-i.i) =
     to_z_pos w32 c.sum_of_lines-sum.result (omega (arith, c.sum_of_lines-sum.ensures.bound)) ∙ ap pos c.sum_of_lines-sum.ensures.value in
     let own = to_z-of_z own_fits ∙ (rw c.sum_of_lines-sum.ensures.value at c.difference_of.ensures.value) in
     let north = to_z-of_z north_fits ∙ (rw c.sum_of_lines-sum.ensures.value at c.difference_of-north.ensures.value) in
@@ -23,9 +23,9 @@ loop-i-preserved c =
     let own_inside : c.loop-i.i < length c.loop-i.own = omega (arith, kept.own_long, c.loop-i-test.true) in
     let inside : c.loop-i.i < length c.loop-i.out = omega (arith, kept.long, c.loop-i-test.true) in
     record {
-      sums = written_next (pos 0) (λ k. pos (line_sum c.args.column c.args.lines.now.here c.args.lines.now.over k)) c.loop-i.sums c.loop-i.i _ sums_inside sum kept.sums;
-      own = written_next (pos 0) (line_difference c.args.column c.args.lines.now.here c.args.lines.now.over) c.loop-i.own c.loop-i.i _ own_inside own kept.own;
-      done = written_next [] (λ k. line_directions c.args.column c.args.lines.now.here c.args.lines.now.over k ++ line_difference c.args.column c.args.below.now.here c.args.below.now.over k ∷ []) c.loop-i.out c.loop-i.i _ inside (rw (north, west, north_west, below) refl) kept.done;
+      sums = written_next (pos 0) (λ k. pos (line_sum c.args.column c.args.lines.now.current c.args.lines.now.above k)) c.loop-i.sums c.loop-i.i _ sums_inside sum kept.sums;
+      own = written_next (pos 0) (line_difference c.args.column c.args.lines.now.current c.args.lines.now.above) c.loop-i.own c.loop-i.i _ own_inside own kept.own;
+      done = written_next [] (λ k. line_directions c.args.column c.args.lines.now.current c.args.lines.now.above k ++ line_difference c.args.column c.args.below.now.current c.args.below.now.above k ∷ []) c.loop-i.out c.loop-i.i _ inside (rw (north, west, north_west, below) refl) kept.done;
       sums_long = rw length-set kept.sums_long;
       own_long = rw length-set kept.own_long;
       long = rw length-set kept.long;

@@ -8,14 +8,14 @@ pub loop-i-preserved : goal.loop-i-preserved
 loop-i-preserved c =
     let kept = c.loop-i.invariant in
     let fits : SFits w32 c.difference_of.result = search rules in
-    let sum : to_z w32 c.sum_of_lines-sum.result ≡ pos (line_sum c.args.column c.args.lines.now.here c.args.lines.now.over c.loop-i.i) =
+    let sum : to_z w32 c.sum_of_lines-sum.result ≡ pos (line_sum c.args.column c.args.lines.now.current c.args.lines.now.above c.loop-i.i) =
     to_z_pos w32 c.sum_of_lines-sum.result (omega (arith, c.sum_of_lines-sum.ensures.bound)) ∙ ap pos c.sum_of_lines-sum.ensures.value in
     let own = to_z-of_z fits ∙ (rw c.sum_of_lines-sum.ensures.value at c.difference_of.ensures.value) in
     let sums_inside : c.loop-i.i < length c.loop-i.sums = omega (arith, kept.sums_long, c.loop-i-test.true) in
     let own_inside : c.loop-i.i < length c.loop-i.own = omega (arith, kept.own_long, c.loop-i-test.true) in
     record {
-      sums = written_next (pos 0) (λ k. pos (line_sum c.args.column c.args.lines.now.here c.args.lines.now.over k)) c.loop-i.sums c.loop-i.i _ sums_inside sum kept.sums;
-      own = written_next (pos 0) (line_difference c.args.column c.args.lines.now.here c.args.lines.now.over) c.loop-i.own c.loop-i.i _ own_inside own kept.own;
+      sums = written_next (pos 0) (λ k. pos (line_sum c.args.column c.args.lines.now.current c.args.lines.now.above k)) c.loop-i.sums c.loop-i.i _ sums_inside sum kept.sums;
+      own = written_next (pos 0) (line_difference c.args.column c.args.lines.now.current c.args.lines.now.above) c.loop-i.own c.loop-i.i _ own_inside own kept.own;
       sums_long = rw length-set kept.sums_long;
       own_long = rw length-set kept.own_long;
     }

@@ -24,7 +24,7 @@ loop-i-init g c = record {
   weights = λ p f. f.weights ∙ ap (weight_vector p c.args.cube.now c.args.settings.now.band) (omega arith);
   bound = c.requires.weights_in;
   steps = λ k le lt. absurd (omega (arith, lt));
-  whole = c.is_cube.ensures.whole;
+  whole = c.prove_is_cube.ensures.whole;
 }
 
 pub sample_there-sample-requires-clause-lower : goal.sample_there-sample-requires-clause-lower
@@ -66,8 +66,8 @@ loop-i-preserved g c =
       beside = beside_next c.args.cube.now d s.band c.args.y c.args.x c.loop-i.i v place kept.whole kept.beside;
       residuals = λ p f. residuals_next p d s.band c.args.y c.args.x c.loop-i.i v c.args.deltas.now place kept.whole (wide p f) c.loop-i-test.true (kept.residuals p f)
           (ap (mapped_residual p (put d s.band c.args.y (c.args.x + c.loop-i.i) v) s.band) (sym (sum d.shape.columns refl))
-          ∙ residual_put p s.predictor d s.band c.args.y (c.args.x + c.loop-i.i) (c.args.y * d.shape.columns + (c.args.x + c.loop-i.i)) v (take s.count c.loop-i.held) place kept.whole (wide p f) f.predictor refl (kept.weights p f) later (get_or c.args.deltas.now c.loop-i.i 0) c.sample_there-sample.ensures.inverse);
-      weights = λ p f. weights_put p s.predictor d s.band c.args.y (c.args.x + c.loop-i.i) (c.args.y * d.shape.columns + (c.args.x + c.loop-i.i)) v (take s.count c.loop-i.held) place kept.whole (wide p f) f.predictor refl (kept.weights p f) later (take s.count c.sample_there-sample.new.weights) c.sample_there-sample.ensures.weights
+          ∙ residual_put p s.predictor d s.band c.args.y (c.args.x + c.loop-i.i) (c.args.y * d.shape.columns + (c.args.x + c.loop-i.i)) v (take s.count c.loop-i.working) place kept.whole (wide p f) f.predictor refl (kept.weights p f) later (get_or c.args.deltas.now c.loop-i.i 0) c.sample_there-sample.ensures.inverse);
+      weights = λ p f. weights_put p s.predictor d s.band c.args.y (c.args.x + c.loop-i.i) (c.args.y * d.shape.columns + (c.args.x + c.loop-i.i)) v (take s.count c.loop-i.working) place kept.whole (wide p f) f.predictor refl (kept.weights p f) later (take s.count c.sample_there-sample.new.weights) c.sample_there-sample.ensures.weights
           ∙ ap (weight_vector p (put d s.band c.args.y (c.args.x + c.loop-i.i) v) s.band) (next d.shape.columns refl);
       bound = c.sample_there-sample.ensures.bound;
       steps = λ k le lt. c.stretch_at-stretch.ensures.steps k (omega (arith, le)) lt;

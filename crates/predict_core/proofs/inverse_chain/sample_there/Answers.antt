@@ -36,7 +36,7 @@ module _ (g : given.Over) (c : After-put_own_directions g) where
   small : AllWithin (4 * 2 ^ c.args.settings.now.range.bits) c.put_own_directions.new.out
   small =
       let s = c.args.settings.now in
-      rw (filled, s.range.bits_is, ← c.requires.kind) (padded_within s.predictor c.args.cube.now c.is_cube.ensures c.args.y c.args.x later wide s.band c.requires.place (18 - s.count))
+      rw (filled, s.range.bits_is, ← c.requires.kind) (padded_within s.predictor c.args.cube.now c.prove_is_cube.ensures c.args.y c.args.x later wide s.band c.requires.place (18 - s.count))
 
 module _ (g : given.Over) (c : After-sample_by_part-found g) where
   -- the local sum, as the code computes it
@@ -69,7 +69,7 @@ module _ (g : given.Over) (c : After-sample_by_part-found g) where
   scaled_is : scaled_by_difference c.args.cube.now.kind c.predicted_difference-part.result (local_sum c.args.settings.now.predictor c.args.cube.now c.args.settings.now.band c.args.y c.args.x) ≡ scaled_there c.args.settings.now.predictor c.args.cube.now c.args.settings.now.band c.args.y c.args.x (take c.args.settings.now.count c.args.weights.now)
   scaled_is =
       let s = c.args.settings.now in
-      sym (scaled_from_room s.predictor c.args.cube.now s.band c.args.y c.args.x s.count g.row.N c.args.weights.now c.put_own_directions.new.out c.is_cube.ensures c.requires.place s.count_is c.requires.enough c.requires.few vector_is c.predicted_difference-part.result from_difference)
+      sym (scaled_from_room s.predictor c.args.cube.now s.band c.args.y c.args.x s.count g.row.N c.args.weights.now c.put_own_directions.new.out c.prove_is_cube.ensures c.requires.place s.count_is c.requires.enough c.requires.few vector_is c.predicted_difference-part.result from_difference)
 
 pub predicted_difference-part-requires-clause-differences_in : goal.predicted_difference-part-requires-clause-differences_in
 predicted_difference-part-requires-clause-differences_in g c =
@@ -102,7 +102,7 @@ returns-clause-inverse g c =
     let e = rw (← c.requires.kind, ← c.requires.sum_is, scaled_is g d) at (simp (to_z-of_z part_fits) at c.sample_by_part-found.ensures.inverse) in
     rw (
       to_z-of_z fits,
-      ← scaled_put c.args.cube.now s.band c.args.y c.args.x c.sample_by_part-found.result c.requires.place c.is_cube.ensures.whole s.predictor (broad g d) (after g d) (take s.count c.args.weights.now),
+      ← scaled_put c.args.cube.now s.band c.args.y c.args.x c.sample_by_part-found.result c.requires.place c.prove_is_cube.ensures.whole s.predictor (broad g d) (after g d) (take s.count c.args.weights.now),
     )
     e
 
@@ -122,8 +122,8 @@ returns-clause-weights g c =
     let moved = rw turn at (simp (to_z-of_z exponent_fits, to_z-of_z turn_fits) at c.update_by.ensures.value) in
     let exponent = rw (bits, ← c.requires.columns) at c.exponent_at-exponent.ensures.value in
     let range = rw (← c.requires.kind) at c.sample_by_part-found.ensures.range in
-    let m = moved_from_room s.predictor c.args.cube.now s.band c.args.y c.args.x s.count g.row.N c.args.weights.now c.put_own_directions.new.out c.is_cube.ensures c.requires.place s.count_is c.requires.enough c.requires.few (vector_is g d) c.predicted_difference-part.result (from_difference g d)
+    let m = moved_from_room s.predictor c.args.cube.now s.band c.args.y c.args.x s.count g.row.N c.args.weights.now c.put_own_directions.new.out c.prove_is_cube.ensures c.requires.place s.count_is c.requires.enough c.requires.few (vector_is g d) c.predicted_difference-part.result (from_difference g d)
     c.update_by.new.weights found c.difference_there-own.result c.exponent_at-exponent.result range (own ∙ ap (λ v. pos 4 *ℤ found -ℤ v) (sum_is g d)) exponent moved in
     rw (to_z-of_z fits)
-    (moved_put c.args.cube.now s.band c.args.y c.args.x found c.requires.place c.is_cube.ensures.whole s.predictor (broad g d) (c.args.y * c.args.cube.now.shape.columns + c.args.x) (take s.count c.args.weights.now) (take s.count c.update_by.new.weights)
+    (moved_put c.args.cube.now s.band c.args.y c.args.x found c.requires.place c.prove_is_cube.ensures.whole s.predictor (broad g d) (c.args.y * c.args.cube.now.shape.columns + c.args.x) (take s.count c.args.weights.now) (take s.count c.update_by.new.weights)
     (scaled_there s.predictor c.args.cube.now s.band c.args.y c.args.x (take s.count c.args.weights.now)) (after g d) refl refl m)

@@ -19,10 +19,10 @@ returns-clause-told c h =
     let kept : c.args.below.now.differences ≡ us ++ replicate (18 - previous_bands p s.band) (pos 0) = ((rw (c.requires.band, c.requires.row, c.requires.column) at c.requires.told) c.requires.later).differences in
     let value = rw (← c.requires.kind) at (simp (to_z-of_z fits) at c.difference_there-own.ensures.value) in
     let own : c.difference_there-own.result ≡ central_difference p (put c.args.cube.now s.band c.args.y c.args.x v) s.band c.args.y c.args.x =
-    value ∙ own_put c.args.cube.now s.band c.args.y c.args.x v c.requires.place c.is_cube.ensures.whole p later wide (pos 4 *ℤ smin c.args.cube.now.kind +ℤ pos c.sum_at-sum.result) c.sum_at-sum.ensures.value in
+    value ∙ own_put c.args.cube.now s.band c.args.y c.args.x v c.requires.place c.prove_is_cube.ensures.whole p later wide (pos 4 *ℤ smin c.args.cube.now.kind +ℤ pos c.sum_at-sum.result) c.sum_at-sum.ensures.value in
     let moved = simp (to_z-of_z own_fits) at c.go_up.ensures.differences in
     record {
       differences = rw (to_z-of_z fits, c.go_up.ensures.band, c.go_up.ensures.row, c.go_up.ensures.column, c.requires.band, c.requires.row, c.requires.column)
-          (moved ∙ raised_put c.args.cube.now s.band c.args.y c.args.x v c.requires.place c.is_cube.ensures.whole p later wide s.lawful.few c.difference_there-own.result c.args.below.now.differences own kept);
+          (moved ∙ raised_put c.args.cube.now s.band c.args.y c.args.x v c.requires.place c.prove_is_cube.ensures.whole p later wide s.lawful.few c.difference_there-own.result c.args.below.now.differences own kept);
       steps = rw (c.go_up.ensures.form, c.go_up.ensures.row, c.go_up.ensures.column) (c.requires.told (rw c.requires.row c.requires.later)).steps;
     }

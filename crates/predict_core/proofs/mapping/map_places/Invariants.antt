@@ -1,10 +1,10 @@
 use Rattle.std.proofs.Common.{◌≡◌, ℕ, ◌*◌, ◌^◌, ◌<◌, ◌≤◌, pos, ◌≤ℤ◌, unsigned_abs, length, slice_index, slice_index_or}
-use Rattle.predict_core.specs.Rooms.{height_number}
+use Rattle.predict_core.specs.Rooms.{offset_number}
 use Rattle.predict_core.proofs.mapping.map_places.Given as goal
 
 abbrev pub invariant-loop-i : goal.invariant-loop-i
 invariant-loop-i l = record {
   long : length l.out ≡ 64;
   bound : (k : ℕ) → k < l.i → pos (slice_index l.out k) ≤ℤ l.greatest;
-  values : (k : ℕ) → k < l.i → unsigned_abs (slice_index_or l.parts k (pos 0)) ≤ 18 * 2 ^ 20 → pos 0 ≤ℤ slice_index_or l.sums k (pos 0) → slice_index_or l.sums k (pos 0) ≤ℤ pos 262140 → slice_index l.out k ≡ height_number l.greatest (slice_index_or l.parts k (pos 0)) (slice_index_or l.sums k (pos 0)) (slice_index l.heights k);
+  values : (k : ℕ) → k < l.i → unsigned_abs (slice_index_or l.parts k (pos 0)) ≤ 18 * 2 ^ 20 → pos 0 ≤ℤ slice_index_or l.sums k (pos 0) → slice_index_or l.sums k (pos 0) ≤ℤ pos 262140 → slice_index l.out k ≡ offset_number l.greatest (slice_index_or l.parts k (pos 0)) (slice_index_or l.sums k (pos 0)) (slice_index l.offsets k);
 }

@@ -5,11 +5,11 @@ use Rattle.std.proofs.lemmas.List.{get_or-take}
 use Rattle.cube_core.specs.Kind.{SampleKind, smin, smid, smax}
 use Rattle.predict_core.specs.LocalSum.{local_sum}
 use Rattle.predict_core.specs.Residual.{mapped_between}
-use Rattle.predict_core.specs.Rooms.{height_number}
-use Rattle.predict_core.proofs.Numbers.{height_mapped}
+use Rattle.predict_core.specs.Rooms.{offset_number}
+use Rattle.predict_core.proofs.Numbers.{offset_mapped}
 use Rattle.predict_core.proofs.Spans.{span}
 use Rattle.predict_core.proofs.mapping.map_run.Goals as goal
-use Rattle.predict_core.proofs.mapping.map_run.Goals.{After-copy_heights, After-copy_from_slice}
+use Rattle.predict_core.proofs.mapping.map_run.Goals.{After-copy_offsets, After-copy_from_slice}
 
 below_span : (width : ℤ) (h power : ℕ) → width ≡ pos power -ℤ pos 1 → h < power → pos h ≤ℤ width
 below_span width h power e l = omega (arith, ints, e, l)
@@ -17,8 +17,8 @@ below_span width h power e l = omega (arith, ints, e, l)
 in_power : (width : ℤ) (h power : ℕ) → width ≡ pos power -ℤ pos 1 → pos h ≤ℤ width → h < power
 in_power width h power e l = omega (arith, ints, e, l)
 
--- from the least height to the greatest
-module _ (c : After-copy_heights) where
+-- from the least offset to the greatest
+module _ (c : After-copy_offsets) where
   width : to_z w32 (of_z w32 (to_z w32 (of_z w32 c.args.settings.now.range.smax) -ℤ to_z w32 (of_z w32 c.args.settings.now.range.smin))) ≡ smax c.args.cube.now.kind -ℤ smin c.args.cube.now.kind
   width =
       let r = c.args.settings.now.range in
@@ -29,14 +29,14 @@ module _ (c : After-copy_heights) where
       rw (← least, ← most) (omega (arith, ints, low.0, low.1, high.0, high.1))
 
   powers : smax c.args.cube.now.kind -ℤ smin c.args.cube.now.kind ≡ pos (2 ^ c.args.cube.now.kind.bits) -ℤ pos 1
-  powers = span c.args.cube.now.kind c.is_cube.ensures.bits
+  powers = span c.args.cube.now.kind c.prove_is_cube.ensures.bits
 
-pub map_places-requires-clause-heights_in : goal.map_places-requires-clause-heights_in
-map_places-requires-clause-heights_in c i l =
-    let d = (goal.at.map_places-requires-clause-heights_in c).After-copy_heights in
+pub map_places-requires-clause-offsets_in : goal.map_places-requires-clause-offsets_in
+map_places-requires-clause-offsets_in c i l =
+    let d = (goal.at.map_places-requires-clause-offsets_in c).After-copy_offsets in
     rw (width d) (elim (cases_lt i (length c.args.residuals.now)) [
-      | inl h ↦ rw (c.copy_heights.ensures.written i h) (below_span _ _ _ (powers d) (c.row-row.ensures.samples (c.args.x + i) (omega (arith, h, c.requires.inside))).0)
-      | inr h ↦ rw (c.copy_heights.ensures.rest i h) (below_span _ 0 _ (powers d) (pow_pos c.args.cube.now.kind.bits))
+      | inl h ↦ rw (c.copy_offsets.ensures.written i h) (below_span _ _ _ (powers d) (c.row-row.ensures.samples (c.args.x + i) (omega (arith, h, c.requires.inside))).0)
+      | inr h ↦ rw (c.copy_offsets.ensures.rest i h) (below_span _ 0 _ (powers d) (pow_pos c.args.cube.now.kind.bits))
     ])
 
 module _ (c : After-copy_from_slice) (i : ℕ) (l : i < length c.copy_from_slice.new.self) where
@@ -48,16 +48,16 @@ module _ (c : After-copy_from_slice) (i : ℕ) (l : i < length c.copy_from_slice
 
 pub returns-clause-bound : goal.returns-clause-bound
 returns-clause-bound c i l =
-    let d = (goal.at.returns-clause-bound c).After-copy_heights in
+    let d = (goal.at.returns-clause-bound c).After-copy_offsets in
     let e = (goal.at.returns-clause-bound c).After-copy_from_slice in
     let within = within e i l in
     let few = c.requires.few in
     rw (written e i l) (in_power _ _ _ (powers d) (rw (width d) at c.map_places.ensures.bound i (omega arith)))
 
 pub returns-clause-values : goal.returns-clause-values
-unfolding height_number
+unfolding offset_number
 returns-clause-values c i l h =
-    let d = (goal.at.returns-clause-values c).After-copy_heights in
+    let d = (goal.at.returns-clause-values c).After-copy_offsets in
     let e = (goal.at.returns-clause-values c).After-copy_from_slice in
     let s = c.args.settings.now in
     let k : SampleKind = c.args.cube.now.kind in
@@ -67,6 +67,6 @@ returns-clause-values c i l h =
     let sum : ℤ = get_or c.args.sums.now i (pos 0) in
     let number = rw (width d) at (c.map_places.ensures.values i (omega arith) (c.requires.parts_in i within h) (c.requires.sum_least i within h) (c.requires.sum_most i within h)) in
     let sample = (c.row-row.ensures.samples (c.args.x + i) (omega (arith, within, c.requires.inside))).1 in
-    written e i l ∙ rw (c.copy_heights.ensures.written i within) at number
-    ∙ height_mapped (smin k) (smid k) (smax k) part sum (local_sum s.predictor c.args.cube.now s.band c.args.y (c.args.x + i)) (get_or c.row-row.result.now (c.args.x + i) 0) (c.requires.sum i within h)
+    written e i l ∙ rw (c.copy_offsets.ensures.written i within) at number
+    ∙ offset_mapped (smin k) (smid k) (smax k) part sum (local_sum s.predictor c.args.cube.now s.band c.args.y (c.args.x + i)) (get_or c.row-row.result.now (c.args.x + i) 0) (c.requires.sum i within h)
     ∙ ap (mapped_between (smin k) (smax k) _) (sym sample)

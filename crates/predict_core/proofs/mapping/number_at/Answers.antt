@@ -13,31 +13,31 @@ far_is g t h a b d e f = omega (arith, ints)
 beyond_is : (a b : ℤ) → unsigned_abs a ≤ 131070 → unsigned_abs b ≤ 65535 → to_z w32 (of_z w32 (to_z w32 (of_z w32 a) +ℤ to_z w32 (of_z w32 b))) ≡ a +ℤ b
 beyond_is a b h k = omega (arith, ints)
 
-pub overflow_sub-height : goal.overflow_sub-height
-overflow_sub-height c =
+pub overflow_sub-offset : goal.overflow_sub-offset
+overflow_sub-offset c =
     let t = c.requires.twice_in in
-    let h = c.requires.height_in in
+    let h = c.requires.offset_in in
     let g = c.requires.greatest_in in
-    fits_signed_from_abs w32 (to_z w32 (of_z w32 (pos 2 *ℤ to_z w32 (of_z w32 c.args.height))) -ℤ to_z w32 (of_z w32 c.args.twice)) (omega (arith, ints, t.0, t.1, h.0, h.1, g.0, g.1))
+    fits_signed_from_abs w32 (to_z w32 (of_z w32 (pos 2 *ℤ to_z w32 (of_z w32 c.args.offset))) -ℤ to_z w32 (of_z w32 c.args.twice)) (omega (arith, ints, t.0, t.1, h.0, h.1, g.0, g.1))
 
 pub by_turns-requires : goal.by_turns-requires
-by_turns-requires c = let t = c.requires.twice_in in let h = c.requires.height_in in let g = c.requires.greatest_in in omega (arith, ints, t.0, t.1, h.0, h.1, g.0, g.1)
+by_turns-requires c = let t = c.requires.twice_in in let h = c.requires.offset_in in let g = c.requires.greatest_in in omega (arith, ints, t.0, t.1, h.0, h.1, g.0, g.1)
 
-value : (c : After-min) → to_z w32 (of_z w32 c.min.result) ≡ pos (mapped_between (pos 0) c.args.greatest c.args.twice c.args.height)
+value : (c : After-min) → to_z w32 (of_z w32 c.min.result) ≡ pos (mapped_between (pos 0) c.args.greatest c.args.twice c.args.offset)
 value c =
     let g = c.requires.greatest_in in
     let t = c.requires.twice_in in
-    let h = c.requires.height_in in
+    let h = c.requires.offset_in in
     let half_fits : SFits w32 c.prediction_of-value.result = search rules in
     let turned_fits : SFits w32 c.by_turns.result = search rules in
     let min_fits : SFits w32 c.min.result = search rules in
     let half = simp (to_z-of_z c.ranges.twice) at c.prediction_of-value.ensures.value in
-    let far = far_is c.args.greatest c.args.twice c.args.height t.0 t.1 g.1 h.0 h.1 in
+    let far = far_is c.args.greatest c.args.twice c.args.offset t.0 t.1 g.1 h.0 h.1 in
     let beyond = beyond_is c.apart.result c.nearer.result c.apart.ensures.bound c.nearer.ensures.bound in
-    let size = rw half at (simp (to_z-of_z c.ranges.height, to_z-of_z half_fits) at c.apart.ensures.value) in
+    let size = rw half at (simp (to_z-of_z c.ranges.offset, to_z-of_z half_fits) at c.apart.ensures.value) in
     let near = rw half at (simp (to_z-of_z c.ranges.greatest, to_z-of_z half_fits) at c.nearer.ensures.value) in
     let least = rw (to_z-of_z turned_fits, beyond, size, near) at c.min.ensures.value in
-    to_z-of_z min_fits ∙ least ∙ number_is c.args.greatest c.args.twice c.args.height c.by_turns.result t.0 (rw far at c.by_turns.ensures.above) (rw far at c.by_turns.ensures.below)
+    to_z-of_z min_fits ∙ least ∙ number_is c.args.greatest c.args.twice c.args.offset c.by_turns.result t.0 (rw far at c.by_turns.ensures.above) (rw far at c.by_turns.ensures.below)
 
 pub returns-clause-value : goal.returns-clause-value
 returns-clause-value c = value (goal.at.returns-clause-value c).After-min
@@ -46,7 +46,7 @@ pub returns-clause-bounds : goal.returns-clause-bounds
 returns-clause-bounds c =
     let e = value (goal.at.returns-clause-bounds c).After-min in
     let t = c.requires.twice_in in
-    let h = c.requires.height_in in
+    let h = c.requires.offset_in in
     let g = c.requires.greatest_in in
-    let most = number_in (pos 0) c.args.greatest c.args.twice (omega (arith, ints, t.0)) t.1 c.args.height h in
+    let most = number_in (pos 0) c.args.greatest c.args.twice (omega (arith, ints, t.0)) t.1 c.args.offset h in
     rw e (omega (arith, ints), omega (arith, ints, most))

@@ -19,10 +19,10 @@ returns-clause-value c ws us same =
     let result_fits : SFits w32 c.scaled_from.result = search rules in
     let held_fits : SFits w64 c.register_of.result = search rules in
     let register_fits : SFits w64 c.wrapped_value-register.result = search rules in
-    let upper_fits : SFits w64 c.halved-upper.result = search rules in
+    let upper_fits : SFits w64 c.floor_shift-upper.result = search rules in
     let a = simp (to_z-of_z c.ranges.product, to_z-of_z c.ranges.sum, to_z-of_z (middle_fits at)) at c.register_of.ensures.value in
     let b = rw a at (simp (to_z-of_z held_fits) at c.wrapped_value-register.ensures) in
-    let d = simp (to_z-of_z register_fits) at c.halved-upper.ensures.value in
+    let d = simp (to_z-of_z register_fits) at c.floor_shift-upper.ensures.value in
     let e = simp (to_z-of_z (low_fits at), to_z-of_z (high_fits at), to_z-of_z (middle_fits at), to_z-of_z upper_fits) at c.scaled_from.ensures.value in
     rw (to_z-of_z result_fits)
     (scaled_is c.args.predictor.now c.args.range.now.kind c.args.sum ws us _ _ _ _ _ _ _ same c.args.range.now.smid_is b d c.args.range.now.smin_is c.args.range.now.smax_is e)

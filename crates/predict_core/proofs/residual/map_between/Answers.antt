@@ -1,6 +1,6 @@
 use Rattle.std.proofs.Common.{◌-ℤ◌, ◌≤ℤ◌, ◌≡◌, unsigned_abs, SFits, to_z-of_z, w32, arith, sym, ◌∙◌, rules, IsTrue, subst}
 use Rattle.std.proofs.lemmas.Int.{ints}
-use Rattle.predict_core.specs.Residual.{reach, agrees}
+use Rattle.predict_core.specs.Residual.{theta_between, agrees}
 use Rattle.predict_core.proofs.Residuals.{SFits-near, size_fits, zero_agrees, mapped_is, within}
 use Rattle.predict_core.proofs.residual.map_between.Goals as goal
 use Rattle.predict_core.proofs.residual.map_between.Goals.{After-has_sign-sign}
@@ -22,22 +22,22 @@ error_fits c =
 size_is : (c : After-has_sign-sign) → c.unsigned_abs-size.result ≡ unsigned_abs (c.args.v -ℤ c.prediction_of-predicted.result)
 size_is c = simp (to_z-of_z c.ranges.v, to_z-of_z (predicted_fits c), to_z-of_z (error_fits c)) at c.unsigned_abs-size.ensures.value
 
-reach_is : (c : After-has_sign-sign) → c.reach_of-near.result ≡ reach c.args.low c.args.high c.prediction_of-predicted.result
-reach_is c = simp (to_z-of_z c.ranges.low, to_z-of_z c.ranges.high, to_z-of_z (predicted_fits c)) at c.reach_of-near.ensures.value
+theta_is : (c : After-has_sign-sign) → c.theta_of-theta.result ≡ theta_between c.args.low c.args.high c.prediction_of-predicted.result
+theta_is c = simp (to_z-of_z c.ranges.low, to_z-of_z c.ranges.high, to_z-of_z (predicted_fits c)) at c.theta_of-theta.ensures.value
 
 sign_is : (c : After-has_sign-sign) → c.has_sign-sign.result ≡ agrees c.args.scaled (c.args.v -ℤ c.prediction_of-predicted.result)
 sign_is c = simp (to_z-of_z c.ranges.v, to_z-of_z c.ranges.scaled, to_z-of_z (predicted_fits c), to_z-of_z (error_fits c)) at c.has_sign-sign.ensures
 
-pub number_by-requires-clause-fits : goal.number_by-requires-clause-fits
-number_by-requires-clause-fits c =
-    size_fits c.args.low c.args.high c.prediction_of-predicted.result c.args.v _ _ c.requires.high_in (inside c).0 (inside c).1 c.requires.v_low c.requires.v_high (reach_is c) (size_is c)
+pub map_error-requires-clause-fits : goal.map_error-requires-clause-fits
+map_error-requires-clause-fits c =
+    size_fits c.args.low c.args.high c.prediction_of-predicted.result c.args.v _ _ c.requires.high_in (inside c).0 (inside c).1 c.requires.v_low c.requires.v_high (theta_is c) (size_is c)
 
-pub number_by-requires-clause-zero : goal.number_by-requires-clause-zero
-number_by-requires-clause-zero c h = subst IsTrue (sym (sign_is c)) (zero_agrees c.args.scaled (c.args.v -ℤ c.prediction_of-predicted.result) (sym (size_is c) ∙ h))
+pub map_error-requires-clause-zero : goal.map_error-requires-clause-zero
+map_error-requires-clause-zero c h = subst IsTrue (sym (sign_is c)) (zero_agrees c.args.scaled (c.args.v -ℤ c.prediction_of-predicted.result) (sym (size_is c) ∙ h))
 
 pub returns : goal.returns
 returns c =
     let d = (goal.at.returns c).After-has_sign-sign in
     mapped_is c.args.low c.args.high c.args.scaled c.args.v c.prediction_of-predicted.result _ _ _ _
     (simp (to_z-of_z c.ranges.scaled) at c.prediction_of-predicted.ensures.value)
-    (reach_is d) (size_is d) (sign_is d) c.number_by.ensures.value
+    (theta_is d) (size_is d) (sign_is d) c.map_error.ensures.value

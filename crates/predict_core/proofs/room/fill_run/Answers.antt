@@ -15,7 +15,7 @@ returns-then-settings g c =
     let vectors : (i : ℕ) → i < c.args.count → 0 < c.args.y + (c.args.x + i) → components_at (quads_of s.count) c.fill_spectral.new.quads i ≡ difference_vector s.predictor c.args.cube.now s.band c.args.y (c.args.x + i) ++ replicate (4 * quads_of s.count - s.count) (pos 0) =
     λ i l h. reduced_components s.predictor c.args.cube.now s.band c.args.y (c.args.x + i) s.count _ c.if-settings.true s.count_is
     (c.fill_spectral.ensures i l h ∙ ap (λ us. us ++ lower_differences s.predictor c.args.cube.now s.band c.args.y (c.args.x + i) 1 (4 * (quads_of s.count - 0))) (components_none c.args.quads.now i)) in
-    room_told s.predictor c.args.cube.now s.band c.args.y c.args.x c.args.count s.count c.fill_band_lines.new.lines.here c.fill_band_lines.new.lines.over c.fill_own.new.sums c.fill_own.new.own c.fill_spectral.new.quads c.is_cube.ensures c.requires.place c.requires.inside wide c.requires.few c.fill_band_lines.ensures sums own vectors
+    room_told s.predictor c.args.cube.now s.band c.args.y c.args.x c.args.count s.count c.fill_band_lines.new.lines.current c.fill_band_lines.new.lines.above c.fill_own.new.sums c.fill_own.new.own c.fill_spectral.new.quads c.prove_is_cube.ensures c.requires.place c.requires.inside wide c.requires.few c.fill_band_lines.ensures sums own vectors
 
 pub returns-else-settings : goal.returns-else-settings
 returns-else-settings g c =
@@ -28,4 +28,4 @@ returns-else-settings g c =
     let vectors : (i : ℕ) → i < c.args.count → 0 < c.args.y + (c.args.x + i) → components_at (quads_of s.count) c.fill_spectral-else-settings.new.quads i ≡ difference_vector s.predictor c.args.cube.now s.band c.args.y (c.args.x + i) ++ replicate (4 * quads_of s.count - s.count) (pos 0) =
     λ i l h. full_components s.predictor c.args.cube.now s.band c.args.y (c.args.x + i) s.count _ c.if-settings.false s.count_is
     (c.fill_spectral-else-settings.ensures i l h ∙ ap (λ us. us ++ lower_differences s.predictor c.args.cube.now s.band c.args.y (c.args.x + i) 2 (4 * (quads_of s.count - 1))) (head i l h)) in
-    room_told s.predictor c.args.cube.now s.band c.args.y c.args.x c.args.count s.count c.fill_band_lines.new.lines.here c.fill_band_lines.new.lines.over c.fill_first.new.sums c.fill_first.new.own c.fill_spectral-else-settings.new.quads c.is_cube.ensures c.requires.place c.requires.inside wide c.requires.few c.fill_band_lines.ensures c.fill_first.ensures.sums c.fill_first.ensures.own vectors
+    room_told s.predictor c.args.cube.now s.band c.args.y c.args.x c.args.count s.count c.fill_band_lines.new.lines.current c.fill_band_lines.new.lines.above c.fill_first.new.sums c.fill_first.new.own c.fill_spectral-else-settings.new.quads c.prove_is_cube.ensures c.requires.place c.requires.inside wide c.requires.few c.fill_band_lines.ensures c.fill_first.ensures.sums c.fill_first.ensures.own vectors

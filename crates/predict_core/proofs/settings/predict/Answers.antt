@@ -26,4 +26,4 @@ returns-clause-bound c =
     let wide : s.predictor.column ≡ false → 2 ≤ c.args.cube.now.shape.columns = λ h. let w = s.wide h in omega arith in
     rw bits
     (subst (AllWithin (4 * 2 ^ c.args.cube.now.kind.bits)) (sym c.fill_differences.ensures.value)
-    (padded_within s.predictor c.args.cube.now c.is_cube.ensures c.args.y c.args.x c.requires.later wide s.band c.requires.place _))
+    (padded_within s.predictor c.args.cube.now c.prove_is_cube.ensures c.args.y c.args.x c.requires.later wide s.band c.requires.place _))

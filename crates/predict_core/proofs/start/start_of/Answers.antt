@@ -1,6 +1,6 @@
 use Rattle.std.proofs.Common.{◌≡◌, ◌+◌, refl, arith}
 use Rattle.predict_core.specs.Predictor.{predictor_of, component_count}
-use Rattle.predict_core.proofs.Starting.{count_is, usual_told}
+use Rattle.predict_core.proofs.Starting.{count_is, default_told}
 use Rattle.predict_core.proofs.Tables.{table_long, table_told}
 use Rattle.predict_core.proofs.start.start_of.Goals as goal
 
@@ -15,7 +15,7 @@ entries_from-entries-requires c =
 
 pub returns-in-Usual-clause-value : goal.returns-in-Usual-clause-value
 returns-in-Usual-clause-value c =
-    usual_told c.args.params.now c.args.z c.in-Usual.is c.args.first c.args.near c.usual_start.result c.requires.directions c.requires.below c.usual_start.ensures.value
+    default_told c.args.params.now c.args.z c.in-Usual.is c.args.first c.args.near c.default_weights.result c.requires.directions c.requires.below c.default_weights.ensures.value
 
 pub returns-in-Table-clause-value : goal.returns-in-Table-clause-value
 returns-in-Table-clause-value c =

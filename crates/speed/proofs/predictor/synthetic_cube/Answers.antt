@@ -8,8 +8,8 @@ use Rattle.speed.proofs.Powers.{power_is, rest_fits}
 use Rattle.speed.proofs.Scene.{IsBegun, begun_first, begun_more, begun_whole}
 use Rattle.speed.proofs.predictor.synthetic_cube.Goals as goal
 
-pub overflow_cast-height : goal.overflow_cast-height
-overflow_cast-height c =
+pub overflow_cast-offset : goal.overflow_cast-offset
+overflow_cast-offset c =
     let lt = rest_fits (16 * c.loop-z.z + 4 * c.loop-y.y + 2 * c.loop-x.x + c.from-noise.result) c.bits.result c.bits.ensures.range.1 in
     omega (arith, lt)
 

@@ -2,8 +2,8 @@ use Rattle.std.proofs.Common.{◌+◌, ◌<◌, arith}
 use Rattle.block_adaptive.proofs.Stored.{held_inside, held_few, stored_after}
 use Rattle.block_adaptive.proofs.block_writer.BlockWriter.pack.Goals as goal
 
-pub write_texts-requires-clause-left : goal.write_texts-requires-clause-left
-write_texts-requires-clause-left c =
+pub write_data_sets-requires-clause-left : goal.write_data_sets-requires-clause-left
+write_data_sets-requires-clause-left c =
     let more : c.self.inside.start + c.self.inside.zeros < c.self.inside.count = rw (← c.self.view_is) at c.requires.more in
     held_inside _ c.self.inside.start c.self.inside.zeros c.self.inside.total _ c.self.invariant more
 

@@ -5,8 +5,8 @@ use Rattle.block_adaptive.proofs.block_writer.BlockWriter.put_last.Goals as goal
 pub overflow_add-total : goal.overflow_add-total
 overflow_add-total c = record { fits = omega (arith, total_few _ _ _ c.self.inside.total _ c.self.invariant, c.from.ensures, c.ranges.delta.fits) }
 
-pub write_texts-requires-clause-left : goal.write_texts-requires-clause-left
-write_texts-requires-clause-left c =
+pub write_data_sets-requires-clause-left : goal.write_data_sets-requires-clause-left
+write_data_sets-requires-clause-left c =
     let more : c.self.inside.start + c.self.inside.zeros < c.self.inside.count = rw (← c.self.view_is) at c.requires.more in
     held_inside _ c.self.inside.start c.self.inside.zeros c.self.inside.total _ c.self.invariant more
 

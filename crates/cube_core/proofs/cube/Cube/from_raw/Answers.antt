@@ -3,28 +3,28 @@ use Rattle.std.proofs.lemmas.List.{with_items_is}
 use Rattle.std.specs.Vec.{with_items}
 use Rattle.cube_core.specs.Shape.{sample_count}
 use Rattle.cube_core.proofs.Fitting.{have_bytes_again}
-use Rattle.cube_core.proofs.RawBytes.{raw_bytes_again, are_heights, is_cube}
+use Rattle.cube_core.proofs.RawBytes.{raw_bytes_again, are_offsets, is_cube}
 use Rattle.cube_core.proofs.cube.Cube.from_raw.Goals as goal
 use Rattle.cube_core.proofs.cube.Cube.from_raw.Goals.{In_ok-fill}
 
-full : (c : In_ok-fill) → length c.fill.new.heights ≡ sample_count c.args.shape
-full c = omega (arith, c.fill.auto.heights, c.deref_mut.ensures.len, c.in_ok-heights.ensures.len, c.sample_count.ensures.value)
+full : (c : In_ok-fill) → length c.fill.new.offsets ≡ sample_count c.args.shape
+full c = omega (arith, c.fill.auto.offsets, c.deref_mut.ensures.len, c.in_ok-offsets.ensures.len, c.sample_count.ensures.value)
 
-items : (c : In_ok-fill) → (with_items c.in_ok-heights.heights c.fill.new.heights).items ≡ c.fill.new.heights
-items c = with_items_is c.in_ok-heights.heights c.fill.new.heights (omega (arith, c.fill.auto.heights, c.deref_mut.ensures.len))
+items : (c : In_ok-fill) → (with_items c.in_ok-offsets.offsets c.fill.new.offsets).items ≡ c.fill.new.offsets
+items c = with_items_is c.in_ok-offsets.offsets c.fill.new.offsets (omega (arith, c.fill.auto.offsets, c.deref_mut.ensures.len))
 
 pub invariant_of-result : goal.invariant_of-result
 invariant_of-result c =
-    rw (items c) (are_heights c.args.shape c.args.kind c.args.layout c.args.bytes.now c.fill.new.heights (omega (arith, c.sample_count.ensures.value, c.sample_count.ensures.range)) (full c) c.in_ok-fill.ensures.filled)
+    rw (items c) (are_offsets c.args.shape c.args.kind c.args.layout c.args.bytes.now c.fill.new.offsets (omega (arith, c.sample_count.ensures.value, c.sample_count.ensures.range)) (full c) c.in_ok-fill.ensures.filled)
 
 pub returns-clause-cube : goal.returns-clause-cube
 returns-clause-cube c =
-    (refl, refl, rw (items c) (raw_bytes_again c.args.shape c.args.kind c.args.layout c.args.bytes.now c.fill.new.heights c.requires (omega (arith, c.sample_count.ensures.value, c.sample_count.ensures.range)) (omega (arith, c.if-had-wanted.false, c.length-wanted.ensures)) (λ i. omega (arith, c.type_inv.bytes i)) (full c) c.in_ok-fill.ensures.filled))
+    (refl, refl, rw (items c) (raw_bytes_again c.args.shape c.args.kind c.args.layout c.args.bytes.now c.fill.new.offsets c.requires (omega (arith, c.sample_count.ensures.value, c.sample_count.ensures.range)) (omega (arith, c.if-had-wanted.false, c.length-wanted.ensures)) (λ i. omega (arith, c.type_inv.bytes i)) (full c) c.in_ok-fill.ensures.filled))
 
 pub returns-clause-whole : goal.returns-clause-whole
 returns-clause-whole c =
-    rw (items c) (is_cube c.args.shape c.args.kind c.fill.new.heights c.sample_count.ensures.sizes (rw c.bits-bits.ensures.value at c.bits-bits.ensures.range) (are_heights c.args.shape c.args.kind c.args.layout c.args.bytes.now c.fill.new.heights (omega (arith, c.sample_count.ensures.value, c.sample_count.ensures.range)) (full c) c.in_ok-fill.ensures.filled))
+    rw (items c) (is_cube c.args.shape c.args.kind c.fill.new.offsets c.sample_count.ensures.sizes (rw c.bits-bits.ensures.value at c.bits-bits.ensures.range) (are_offsets c.args.shape c.args.kind c.args.layout c.args.bytes.now c.fill.new.offsets (omega (arith, c.sample_count.ensures.value, c.sample_count.ensures.range)) (full c) c.in_ok-fill.ensures.filled))
 
 pub returns-clause-fits : goal.returns-clause-fits
 returns-clause-fits c =
-    rw (items c) (have_bytes_again c.args.shape c.args.kind c.args.layout c.args.bytes.now c.fill.new.heights c.requires (omega (arith, c.sample_count.ensures.value, c.sample_count.ensures.range)) (λ i. omega (arith, c.type_inv.bytes i)) (full c) c.in_ok-fill.ensures.filled)
+    rw (items c) (have_bytes_again c.args.shape c.args.kind c.args.layout c.args.bytes.now c.fill.new.offsets c.requires (omega (arith, c.sample_count.ensures.value, c.sample_count.ensures.range)) (λ i. omega (arith, c.type_inv.bytes i)) (full c) c.in_ok-fill.ensures.filled)

@@ -15,4 +15,4 @@ pub finish-requires : goal.finish-requires
 finish-requires g c =
     let was = c.loop-place.invariant in
     let p = c.args.plan.now.params in
-    was.1.coded.left ∙ drop_of_length-le (places p.shape p.order) (omega (arith, was.2, length-places p.shape p.order c.is_plan.ensures.lawful.order, c.loop-place-test.false, c.sample_count-place-end.ensures.value, ap (λ q. sample_count q.shape) c.params-2.ensures))
+    was.1.coded.left ∙ drop_of_length-le (places p.shape p.order) (omega (arith, was.2, length-places p.shape p.order c.prove_is_plan.ensures.lawful.order, c.loop-place-test.false, c.sample_count-place-end.ensures.value, ap (λ q. sample_count q.shape) c.params-2.ensures))

@@ -14,7 +14,7 @@ returns-then-t-eq0-clause-residual c p f =
     let columns = c.self.invariant.columns in
     let wide : p.column ≡ false → 2 ≤ c.args.cube.now.shape.columns = λ h. let w = s.wide (ap (λ (q : Predictor). q.column) g.made.predictor ∙ h) in rw shape (omega arith) in
     rw (← c.self.view_is, c.if-t-eq0.true, to_z-of_z fits)
-    (first_residual_put p s.predictor c.args.cube.now s.band c.args.y c.args.x c.self.inside.next c.first_sample.result _ place c.is_cube.ensures.whole wide g.made.predictor next g.weights c.if-t-eq0.true c.args.delta c.first_sample.ensures.inverse)
+    (first_residual_put p s.predictor c.args.cube.now s.band c.args.y c.args.x c.self.inside.next c.first_sample.result _ place c.prove_is_cube.ensures.whole wide g.made.predictor next g.weights c.if-t-eq0.true c.args.delta c.first_sample.ensures.inverse)
 
 pub returns-then-t-eq0-clause-follows : goal.returns-then-t-eq0-clause-follows
 returns-then-t-eq0-clause-follows c p f =
@@ -29,7 +29,7 @@ returns-then-t-eq0-clause-follows c p f =
     rw (← c.self.view_is, c.if-t-eq0.true, to_z-of_z fits)
     (record {
       made = record { predictor = g.made.predictor; shape = g.made.shape; kind = g.made.kind };
-      weights = first_weights_put p s.predictor c.args.cube.now s.band c.args.y c.args.x c.self.inside.next c.first_sample.result _ place c.is_cube.ensures.whole wide g.made.predictor next g.weights c.if-t-eq0.true;
+      weights = first_weights_put p s.predictor c.args.cube.now s.band c.args.y c.args.x c.self.inside.next c.first_sample.result _ place c.prove_is_cube.ensures.whole wide g.made.predictor next g.weights c.if-t-eq0.true;
     })
 
 pub returns-else-t-eq0-clause-residual : goal.returns-else-t-eq0-clause-residual
@@ -44,7 +44,7 @@ returns-else-t-eq0-clause-residual c p f =
     let w = rw c.self.inside.settings.count_is at g.weights in
     let wide : p.column ≡ false → 2 ≤ c.args.cube.now.shape.columns = λ h. let w = s.wide (ap (λ (q : Predictor). q.column) g.made.predictor ∙ h) in rw shape (omega arith) in
     rw (← c.self.view_is, to_z-of_z fits)
-    (residual_put p s.predictor c.args.cube.now s.band c.args.y c.args.x c.self.inside.next c.next_sample.result _ place c.is_cube.ensures.whole wide g.made.predictor next w (omega arith) c.args.delta c.next_sample.ensures.inverse)
+    (residual_put p s.predictor c.args.cube.now s.band c.args.y c.args.x c.self.inside.next c.next_sample.result _ place c.prove_is_cube.ensures.whole wide g.made.predictor next w (omega arith) c.args.delta c.next_sample.ensures.inverse)
 
 pub returns-else-t-eq0-clause-follows : goal.returns-else-t-eq0-clause-follows
 returns-else-t-eq0-clause-follows c p f =
@@ -57,6 +57,6 @@ returns-else-t-eq0-clause-follows c p f =
     let columns = c.self.invariant.columns in
     let w = rw c.self.inside.settings.count_is at g.weights in
     let wide : p.column ≡ false → 2 ≤ c.args.cube.now.shape.columns = λ h. let w = s.wide (ap (λ (q : Predictor). q.column) g.made.predictor ∙ h) in rw shape (omega arith) in
-    let moved = weights_put p s.predictor c.args.cube.now s.band c.args.y c.args.x c.self.inside.next c.next_sample.result _ place c.is_cube.ensures.whole wide g.made.predictor next w (omega arith) _ c.next_sample.ensures.weights in
+    let moved = weights_put p s.predictor c.args.cube.now s.band c.args.y c.args.x c.self.inside.next c.next_sample.result _ place c.prove_is_cube.ensures.whole wide g.made.predictor next w (omega arith) _ c.next_sample.ensures.weights in
     rw (← c.self.view_is, to_z-of_z fits)
     (record { made = record { predictor = g.made.predictor; shape = g.made.shape; kind = g.made.kind }; weights = rw c.self.inside.settings.count_is moved })

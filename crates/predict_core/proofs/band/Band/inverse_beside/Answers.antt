@@ -17,7 +17,7 @@ returns-clause-residual c p f =
     let wide : p.column ≡ false → 2 ≤ c.args.cube.now.shape.columns = λ h. let w = s.wide (ap (λ (q : Predictor). q.column) g.made.predictor ∙ h) in rw shape (omega arith) in
     let later : 0 < c.args.y * c.args.cube.now.shape.columns + c.args.x = later_place c.args.cube.now.shape.columns c.args.y c.args.x (omega arith) place.column in
     rw (← c.self.view_is, next, to_z-of_z fits)
-    (residual_put p s.predictor c.args.cube.now s.band c.args.y c.args.x (c.args.y * c.args.cube.now.shape.columns + c.args.x) c.sample_above.result _ place c.is_cube.ensures.whole wide g.made.predictor refl w later c.args.delta c.sample_above.ensures.inverse)
+    (residual_put p s.predictor c.args.cube.now s.band c.args.y c.args.x (c.args.y * c.args.cube.now.shape.columns + c.args.x) c.sample_above.result _ place c.prove_is_cube.ensures.whole wide g.made.predictor refl w later c.args.delta c.sample_above.ensures.inverse)
 
 pub returns-clause-follows : goal.returns-clause-follows
 returns-clause-follows c p f =
@@ -31,7 +31,7 @@ returns-clause-follows c p f =
     let w = rw next at g.weights in
     let wide : p.column ≡ false → 2 ≤ c.args.cube.now.shape.columns = λ h. let w = s.wide (ap (λ (q : Predictor). q.column) g.made.predictor ∙ h) in rw shape (omega arith) in
     let later : 0 < c.args.y * c.args.cube.now.shape.columns + c.args.x = later_place c.args.cube.now.shape.columns c.args.y c.args.x (omega arith) place.column in
-    let moved = weights_put p s.predictor c.args.cube.now s.band c.args.y c.args.x (c.args.y * c.args.cube.now.shape.columns + c.args.x) c.sample_above.result _ place c.is_cube.ensures.whole wide g.made.predictor refl w later _ c.sample_above.ensures.weights in
+    let moved = weights_put p s.predictor c.args.cube.now s.band c.args.y c.args.x (c.args.y * c.args.cube.now.shape.columns + c.args.x) c.sample_above.result _ place c.prove_is_cube.ensures.whole wide g.made.predictor refl w later _ c.sample_above.ensures.weights in
     rw (← c.self.view_is, next, to_z-of_z fits)
     (record { made = record { predictor = g.made.predictor; shape = g.made.shape; kind = g.made.kind }; weights = moved })
 

@@ -18,7 +18,7 @@ loop-i-init c = record {
   residuals = λ p f. refl;
   follows = λ p f. f;
   told = c.requires.told;
-  whole = c.is_cube.ensures.whole;
+  whole = c.prove_is_cube.ensures.whole;
 }
 
 pub loop-i-preserved : goal.loop-i-preserved

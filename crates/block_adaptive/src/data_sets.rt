@@ -1,0 +1,212 @@
+//! Reading one data set: a block under its option, or a run of zero blocks.
+
+ghost use Rattle.std.specs.Prelude.{◌≡◌, ◌≤◌, ◌<◌, ◌^◌, ◌-◌, ℕ, List, length, IfErr, IfOk, Ok, Err, ◌%◌, ◌++◌, Bool};
+ghost use Rattle.header_bits.specs.Reading.{Reads};
+ghost use Rattle.block_adaptive.specs.Options.{width, greatest_value};
+ghost use Rattle.block_adaptive.specs.Reading.{site_of, fundamental_at, quotients_at, low_at, lows_at, split_at, words_at, run_at, data_set_at};
+ghost use Rattle.block_adaptive.specs.DataSets.{CodedDataSet, spelled, IsCodedDataSet};
+ghost use Rattle.block_adaptive.specs.Told.{told};
+
+use crate::ahead::{code_ahead, look_ahead, take_used, whole_ahead};
+use crate::choice::identifier_width;
+use crate::found::Found;
+use crate::options::{Choice, CodeSet};
+use crate::pairs::pairs;
+use cube_core::fault::Fault;
+use header_bits::bit_reader::BitReader;
+
+/// The zeros of a fundamental sequence, of which there may be so many.
+#[inline(always)]
+#[tactic(auto, unfolding(crate::specs::Reading::fundamental_at))]
+pub(crate) fn fundamental(reader: &mut BitReader, block: u64, most: u64) -> Result<u64, Fault>
+    requires { most < 2 ^ 63 }
+    ensures read { Reads (λ x. x) result reader.new.left (fundamental_at (site_of reader.old block) most reader.old.left) }
+    ensures bound { IfOk result (λ m. m ≤ most) }
+    ensures count { reader.new.count ≡ reader.old.count }
+{
+    let zeros = reader.count_zeros(most + 1)?;
+    if zeros > most {
+        return Err(Fault::BadOption { block });
+    }
+    Ok(zeros)
+}
+
+/// Reads fundamental sequences, one for each place.
+fn quotients(reader: &mut BitReader, block: u64, most: u16, values: &mut [u16]) -> Result<(), Fault>
+    ensures read { Reads (λ _. values.new) result reader.new.left (quotients_at (site_of reader.old block) most (length values.old) reader.old.left) }
+    ensures count { reader.new.count ≡ reader.old.count }
+{
+    let mut ahead = look_ahead(reader);
+    for value in values.iter_mut() {
+        if let Some((quotient, next)) = code_ahead(ahead, most) {
+            *value = quotient;
+            ahead = next;
+        } else {
+            take_used(reader, ahead);
+            *value = fundamental(reader, block, u64::from(most))? as u16;
+            ahead = look_ahead(reader);
+        }
+    }
+    take_used(reader, ahead);
+    Ok(())
+}
+
+/// The value of a quotient and the low bits that come next.
+#[inline(always)]
+#[tactic(auto, unfolding(crate::specs::Reading::low_at))]
+fn whole(reader: &mut BitReader, block: u64, k: u32, most: u16, quotient: u16) -> Result<u16, Fault>
+    requires { k ≤ 15 }
+    ensures read { Reads (λ x. x) result reader.new.left (low_at (site_of reader.old block) k most quotient reader.old.left) }
+    ensures count { reader.new.count ≡ reader.old.count }
+{
+    let low = reader.take(k)? as u32;
+    let value = (u32::from(quotient) << k) + low;
+    if value > u32::from(most) {
+        return Err(Fault::BadOption { block });
+    }
+    Ok(value as u16)
+}
+
+/// Reads the low bits behind each quotient.
+fn lows(
+    reader: &mut BitReader,
+    block: u64,
+    k: u32,
+    most: u16,
+    values: &mut [u16],
+) -> Result<(), Fault>
+    requires { k ≤ 15 }
+    ensures read { Reads (λ _. values.new) result reader.new.left (lows_at (site_of reader.old block) k most values.old reader.old.left) }
+    ensures count { reader.new.count ≡ reader.old.count }
+{
+    let mut ahead = look_ahead(reader);
+    for value in values.iter_mut() {
+        if let Some((known, next)) = whole_ahead(ahead, k, most, *value) {
+            *value = known;
+            ahead = next;
+        } else {
+            take_used(reader, ahead);
+            *value = whole(reader, block, k, most, *value)?;
+            ahead = look_ahead(reader);
+        }
+    }
+    take_used(reader, ahead);
+    Ok(())
+}
+
+/// Reads a block under a split-sample option.
+#[tactic(auto, unfolding(crate::specs::Reading::split_at))]
+fn split(
+    reader: &mut BitReader,
+    block: u64,
+    k: u32,
+    most: u16,
+    values: &mut [u16],
+) -> Result<(), Fault>
+    requires { k ≤ 15 }
+    ensures read { Reads (λ _. values.new) result reader.new.left (split_at (site_of reader.old block) k most (length values.old) reader.old.left) }
+    ensures count { reader.new.count ≡ reader.old.count }
+{
+    quotients(reader, block, most >> k, values)?;
+    lows(reader, block, k, most, values)
+}
+
+/// The run of zero blocks that a run code names.
+#[tactic(auto, unfolding(crate::specs::Reading::run_at))]
+fn run(reader: &mut BitReader, block: u64, left: u32) -> Result<Found, Fault>
+    requires { left ≤ 64 }
+    ensures found { IfOk result (λ found. (vs : List ℕ) → run_at (site_of reader.old block) left reader.old.left ≡ Ok (told vs found, reader.new.left)) }
+    ensures fault { IfErr result (λ fault. run_at (site_of reader.old block) left reader.old.left ≡ Err fault) }
+    ensures count { reader.new.count ≡ reader.old.count }
+{
+    let limit = u64::from(left.max(4));
+    let zeros = reader.count_zeros(limit + 1)?;
+    if zeros > limit {
+        return Err(Fault::RunPastSegment { block });
+    }
+    if zeros == 4 {
+        return Ok(Found::RestOfSegment);
+    }
+    let named = if zeros <= 3 { zeros + 1 } else { zeros };
+    if named > u64::from(left) {
+        return Err(Fault::RunPastSegment { block });
+    }
+    Ok(Found::Run(named as u32))
+}
+
+/// The greatest value, 2^D - 1.
+fn largest(set: &CodeSet) -> u16
+    requires { set.now.bits ≤ 16 }
+    ensures { result ≡ greatest_value set.now }
+{
+    ((1u32 << set.bits) - 1) as u16
+}
+
+/// Reads numbers of so many bits, one for each place.
+fn words(reader: &mut BitReader, depth: u32, values: &mut [u16]) -> Result<(), Fault>
+    requires { depth ≤ 16 }
+    ensures read { Reads (λ _. values.new) result reader.new.left (words_at reader.old.count depth (length values.old) reader.old.left) }
+    ensures count { reader.new.count ≡ reader.old.count }
+{
+    for value in values.iter_mut() {
+        *value = reader.take(depth)? as u16;
+    }
+    Ok(())
+}
+
+/// Reads one data set, where so many blocks are left in the segment. The values of a block are written.
+#[tactic(auto, unfolding(crate::specs::Reading::data_set_at))]
+pub(crate) fn data_set(
+    reader: &mut BitReader,
+    block: u64,
+    set: &CodeSet,
+    left: u32,
+    values: &mut [u16],
+) -> Result<Found, Fault>
+    requires bits { set.now.bits ≤ 16 }
+    requires left { left ≤ 64 }
+    requires even { length values.old % 2 ≡ 0 }
+    ensures read { Reads (told values.new) result reader.new.left (data_set_at (site_of reader.old block) set.now (length values.old) left reader.old.left) }
+    ensures count { reader.new.count ≡ reader.old.count }
+{
+    let most = largest(set);
+    let width = identifier_width(set);
+    let number = reader.take(width)?;
+    if number == 0 {
+        let more = reader.take(1)?;
+        if more == 0 {
+            let found = run(reader, block, left)?;
+            return Ok(found);
+        }
+        pairs(reader, block, most, values)?;
+        Ok(Found::Block(Choice::Second))
+    } else if number == (1u64 << width) - 1 {
+        words(reader, set.bits, values)?;
+        Ok(Found::Block(Choice::Uncoded))
+    } else {
+        let k = number as u32 - 1;
+        split(reader, block, k, most, values)?;
+        Ok(Found::Block(Choice::Split(k)))
+    }
+}
+
+/// Reads one lawful data set, where so many blocks are left in the segment. The values of a block are written.
+///
+/// The refusal is that of the first part of the data set that isn't lawful, and names the block.
+pub(crate) fn read_data_set(
+    reader: &mut BitReader,
+    block: u64,
+    set: &CodeSet,
+    left: u32,
+    values: &mut [u16],
+) -> Result<Found, Fault>
+    requires bits { set.now.bits ≤ 16 }
+    requires left { (1 ≤ left) × (left ≤ 64) }
+    requires even { length values.old % 2 ≡ 0 }
+    ensures read { Reads (told values.new) result reader.new.left (data_set_at (site_of reader.old block) set.now (length values.old) left reader.old.left) }
+    ensures found { IfOk result (λ found. (reader.old.left ≡ spelled set.now (told values.new found) ++ reader.new.left) × IsCodedDataSet set.now (length values.old) left (told values.new found)) }
+    ensures none { IfErr result (λ _. (t : CodedDataSet) (rest : List Bool) → IsCodedDataSet set.now (length values.old) left t → reader.old.left ≡ spelled set.now t ++ rest → ⊥) }
+    ensures count { reader.new.count ≡ reader.old.count }
+{
+    data_set(reader, block, set, left, values)
+}

@@ -1,0 +1,15 @@
+-- The local sum of samples that are kept as offsets from the least one.
+use Rattle.std.specs.Prelude.{ℕ, ◌+◌, ◌-◌, ◌*◌, ◌==◌, ℤ, pos, ◌-ℤ◌, List, length, slice_index, Bool, if◌then◌else◌}
+
+-- from the offsets of the place's own row and of the one above it
+abbrev pub offset_sum : Bool → ℕ → List ℕ → List ℕ → ℕ → ℕ
+offset_sum column y row above x =
+    if y == 0 then 4 * slice_index row (x - 1)
+    else if column then 4 * slice_index above x
+    else if x == 0 then 2 * (slice_index above x + slice_index above (x + 1))
+    else if x + 1 == length row then slice_index row (x - 1) + slice_index above (x - 1) + 2 * slice_index above x
+    else slice_index row (x - 1) + slice_index above (x - 1) + slice_index above x + slice_index above (x + 1)
+
+-- four times an offset, less a sum of offsets
+abbrev pub offset_difference : ℕ → ℕ → ℤ
+offset_difference offset sum = pos (4 * offset) -ℤ pos sum
