@@ -1,4 +1,4 @@
--- The data sets that a body is made of, and the bodies that are lawful (CCSDS 121.0-B, "Coded data set").
+-- The coded data sets that a body is made of, and the bodies that are lawful (CCSDS 121.0-B, "Coded data set").
 use Rattle.std.specs.Prelude.{ℕ, ◌+◌, ◌-◌, ◌^◌, ◌<◌, ◌≤◌, ◌≡◌, ◌*◌, nat_le, Bool, List, [], ◌∷◌, ◌++◌, length, take, replicate, if◌then◌else◌}
 use Rattle.std.specs.List.{flat_map, AllByRecursion}
 use Rattle.header_bits.specs.Bits.{fundamental}

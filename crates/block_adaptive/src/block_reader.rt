@@ -17,9 +17,9 @@ use header_bits::bit_reader::BitReader;
 use header_bits::params::{Coder, Params};
 use std::marker::Model;
 
-/// Reads the numbers of a body, whose data sets it takes one at a time.
+/// Reads the numbers of a body, one coded data set at a time.
 ///
-/// It holds the values of the data set that it took last, in an array or, of zero blocks, as a count.
+/// It holds the values of the data set that it read last, in an array or, of zero blocks, as a count.
 #[derive(Drop)]
 pub struct BlockReader {
     set: CodeSet,
@@ -115,7 +115,7 @@ impl BlockReader {
         Ok(self.give())
     }
 
-    /// Takes in hand the values of the data set that stands next.
+    /// Reads the next coded data set, and keeps its values.
     #[inline(never)]
     fn take_data_set(&mut self, reader: &mut BitReader) -> Result<(), Fault>
         requires empty { self.old.held ≡ [] }

@@ -1,4 +1,4 @@
-//! A writer of blocks: it takes numbers one after another, and writes the data sets that stand for them.
+//! A writer of blocks: it takes numbers one after another, and writes the coded data sets that stand for them.
 
 ghost use Rattle.std.specs.Prelude.{ℕ, ◌∷◌, ◌-◌, ◌≡◌, ◌+◌, ◌%◌, ◌^◌, ◌<◌, ◌≤◌, ◌++◌, [], length, sum, take, replicate, OnOk, OnErr, IfErr};
 ghost use Rattle.std.specs.List.{AllByRecursion};

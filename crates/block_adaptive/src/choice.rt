@@ -95,7 +95,7 @@ fn first_split(splits: u32, sum: u64, len: u64) -> u32
     ensures falls { 0 < result → len * 2 ^ (result + 1) < sum }
     ensures rises { result + 1 < splits → sum ≤ len * 2 ^ (result + 2) }
 {
-    // From so near that about as many steps are left for each block: a processor foresees them.
+    // Starting this close leaves about as many steps for each block, which keeps the loop's branch predictable.
     let mut first = if sum > 0 && len > 0 && splits > 0 {
         sum.ilog2().saturating_sub(len.ilog2() + 2).min(splits - 1)
     } else {

@@ -1,4 +1,4 @@
-//! Reading one data set: a block under its option, or a run of zero blocks.
+//! Reading one coded data set: a block under its option, or a run of zero blocks (CCSDS 121.0-B, "Coded data set").
 
 ghost use Rattle.std.specs.Prelude.{◌≡◌, ◌≤◌, ◌<◌, ◌^◌, ◌-◌, ℕ, List, length, IfErr, IfOk, Ok, Err, ◌%◌, ◌++◌, Bool};
 ghost use Rattle.header_bits.specs.Reading.{Reads};
@@ -154,7 +154,7 @@ fn words(reader: &mut BitReader, depth: u32, values: &mut [u16]) -> Result<(), F
     Ok(())
 }
 
-/// Reads one data set, where so many blocks are left in the segment. The values of a block are written.
+/// Reads one coded data set, where so many blocks are left in the segment. The values of a block are written.
 #[tactic(auto, unfolding(crate::specs::Reading::data_set_at))]
 pub(crate) fn data_set(
     reader: &mut BitReader,
@@ -190,7 +190,7 @@ pub(crate) fn data_set(
     }
 }
 
-/// Reads one lawful data set, where so many blocks are left in the segment. The values of a block are written.
+/// Reads one lawful coded data set, where so many blocks are left in the segment. The values of a block are written.
 ///
 /// The refusal is that of the first part of the data set that isn't lawful, and names the block.
 pub(crate) fn read_data_set(

@@ -1,8 +1,8 @@
-//! What one data set stands for.
+//! What one coded data set stands for.
 
 use crate::options::Choice;
 
-/// What was read as one data set.
+/// What was read as one coded data set.
 #[derive(Clone, Copy, Debug, PartialEq, Eq, Drop)]
 pub(crate) enum Found {
     /// A block under an option; its values stand elsewhere.

@@ -1,4 +1,4 @@
-//! Writing data sets into room that was reserved for them.
+//! Writing coded data sets into room that was reserved for them.
 
 ghost use Rattle.std.specs.Prelude.{◌≡◌, ◌+◌, ◌%◌, ◌^◌, ◌<◌, ◌≤◌, ◌++◌, length, sum, OnOk, OnErr, IfErr, IfOk};
 ghost use Rattle.std.specs.List.{AllByRecursion};
@@ -111,7 +111,7 @@ fn write_pairs(writer: &mut BitWriter, block: &[u16])
     }
 }
 
-/// Writes the data set of a block under an option.
+/// Writes the coded data set of a block under an option.
 fn write_option(writer: &mut BitWriter, set: &CodeSet, choice: Choice, block: &[u16])
     requires bits { set.now.bits ≤ 16 }
     requires option { IsOption set.now choice }
@@ -137,7 +137,7 @@ fn write_option(writer: &mut BitWriter, set: &CodeSet, choice: Choice, block: &[
     }
 }
 
-/// Writes the data set of a run, whose code has so many zeros.
+/// Writes the coded data set of a run, whose code has so many zeros.
 fn write_run(writer: &mut BitWriter, set: &CodeSet, zeros: u32)
     requires room { length (run_text set.now (fundamental zeros)) ≤ writer.old.room }
     ensures { Writes writer.old writer.new (run_text set.now (fundamental zeros)) }

@@ -16,7 +16,7 @@ use std::alloc::Global;
 
 /// The file of a cube, by lawful parameters of its shape and kind, and by the coder that they name.
 ///
-/// `WantOfMemory` where the bytes aren't had, or the room for what the bands learn.
+/// `WantOfMemory` if the output or the predictors' state can't be allocated.
 pub fn encode_one(alloc: Global, cube: &Cube, params: &Params) -> Result<Vec<u8>, Fault>
     requires lawful { IsLawful params.now }
     requires shape { cube.now.shape ≡ params.now.shape }

@@ -41,8 +41,7 @@ impl Model for Weaver {
 impl Weaver {
     /// The coding end of an image by a plan for its parameters. It has taken nothing.
     ///
-    /// `WantOfMemory` where the header's bytes aren't had, the room for the statistics of all bands, or
-    /// that for the deal.
+    /// `WantOfMemory` if the header, the statistics of all bands, or the copy of the deal can't be allocated.
     pub fn new(alloc: Global, params: &Params, plan: &Plan) -> Result<Weaver, Fault>
         requires { plan.now.params ≡ params.now }
         ensures woven { IfOk result (λ w. HasWoven params.now plan.now.deal w []) }
@@ -128,7 +127,7 @@ impl Weaver {
 
     /// The bytes of the file, once a residual was taken for each sample.
     ///
-    /// `WantOfMemory` where they aren't had.
+    /// `WantOfMemory` if they can't be allocated.
     pub fn finish(self) -> Result<Vec<u8>, Fault>
         requires { self.end.left ≡ [] }
         ensures file { IfOk result (λ bytes. (p : Parameters) (deal numbers : List ℕ) → HasWoven p deal self numbers → bytes.items ≡ file_of_residuals numbers p) }

@@ -150,7 +150,7 @@ fn kind(matches: &ArgMatches<'_>) -> Result<Kind, Fault>
     Ok(Kind::new(flag(matches, "signed"), bits).unwrap())
 }
 
-/// The encoding order. The depth is judged in either order, and told in one.
+/// The encoding order. The depth is always checked for its range, and used only with `bi`.
 fn order(matches: &ArgMatches<'_>) -> Result<Order, Fault>
     ensures depth { IfOk result IsDepth }
     ensures read { IfOk result (IsOrderOf (rows matches.now)) }

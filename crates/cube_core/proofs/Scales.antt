@@ -8,7 +8,7 @@ use Rattle.cube_core.specs.Scale.{half_of, zero_offset}
 use Rattle.cube_core.proofs.Bounds.{power_grows}
 use Rattle.cube_core.proofs.Offsets.{doubled}
 
--- a number turned by half of all numbers is half above what it stands for
+-- a number rebased by half of all numbers is half above what it stands for
 rebased_one : (number : ℕ) → number < 256 → twos_complement true 1 number ≡ pos ((number + 128) % 256) -ℤ pos 128
 rebased_one number h = grind (arith, ints, nat_tests)
 

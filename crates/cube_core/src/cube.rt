@@ -171,7 +171,7 @@ impl Cube {
         self.offsets[at] = self.kind.offset_of(sample);
     }
 
-    /// That sizes and kind are in range, and a sample of the kind is at each place: a fact for proofs.
+    /// Proves that sizes and kind are in range, and that each sample is one of the kind. It does nothing when it runs.
     pub fn prove_is_cube(&self)
         ensures { IsCube self.now }
     {

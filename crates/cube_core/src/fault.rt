@@ -109,7 +109,7 @@ pub enum Fault {
     /// A whole output word or more follows the last code word; `bits` is how many bits do.
     #[error("11 TooLong {bits}")]
     TooLong { bits: u64 },
-    /// A growth of memory was refused.
+    /// An allocation failed.
     #[error("12 WantOfMemory")]
     WantOfMemory,
     /// A raw sample out of range; `index` counts in the layout's order.

@@ -7,7 +7,7 @@ ghost use Rattle.cube_core.specs.Scale.{half_of, zero_offset, number_of_rebased}
 
 use crate::kind::Kind;
 
-/// What turns the numbers of one or two bytes into offsets and back, with no branch on the sign.
+/// Turns the numbers of one or two bytes into offsets and back, with no branch on the sign.
 #[derive(Clone, Copy)]
 pub(crate) struct Scale {
     kind: Kind,
@@ -67,7 +67,8 @@ impl Scale {
         greatest <= self.most
     }
 
-    /// An offset turned towards its number: below 256 or 65,536 exactly where so many bytes spell its sample.
+    /// An offset, counted from the least number that so many bytes spell in place of the least sample: below 256 or
+    /// 65,536 exactly where they spell its sample.
     pub(crate) fn rebased(&self, offset: u16) -> u16
         requires width { (self.now.bytes ≡ 1) ⊎ (self.now.bytes ≡ 2) }
         requires offset { offset < 2 ^ self.now.kind.bits }
@@ -77,7 +78,7 @@ impl Scale {
         offset.wrapping_sub(self.lift)
     }
 
-    /// The number of an offset that was turned towards it.
+    /// The number that the bytes spell, from the rebased offset of its sample.
     pub(crate) fn number<const BYTES: u32>(&self, rebased: u16) -> u16
         requires bytes { self.now.bytes ≡ BYTES }
         requires width { (BYTES ≡ 1) ⊎ (BYTES ≡ 2) }
@@ -88,7 +89,7 @@ impl Scale {
         if BYTES == 1 { number % 256 } else { number }
     }
 
-    /// Whether the greatest of some turned offsets, and so each of them, has its bytes.
+    /// Whether so many bytes spell the greatest of some rebased offsets, and so each of them.
     pub(crate) fn spells<const BYTES: u32>(&self, greatest: u16) -> bool
         requires width { (BYTES ≡ 1) ⊎ (BYTES ≡ 2) }
         ensures { IsTrue result ↔ (greatest < 2 ^ (8 * BYTES)) }

@@ -80,7 +80,7 @@ impl Plan {
         })
     }
 
-    /// That a plan has what a plan needs: a fact for proofs.
+    /// Proves what holds of every plan. It does nothing when it runs.
     pub fn prove_is_plan(&self)
         ensures { IsPlan self.now }
     {

@@ -49,7 +49,7 @@ impl Model for CodingEnd {
 impl CodingEnd {
     /// The coding end of an image, which has written the header and taken no residual.
     ///
-    /// `WantOfMemory` where the header's bytes aren't had, or the room for the statistics of all bands.
+    /// `WantOfMemory` if the header or the statistics of all bands can't be allocated.
     pub fn new(alloc: Global, params: &Params) -> Result<CodingEnd, Fault>
         requires { IsLawful params.now }
         ensures coded { IfOk result (λ end. HasCoded params.now end []) }
@@ -219,7 +219,7 @@ impl CodingEnd {
 
     /// The bytes of the file, once all residuals were taken.
     ///
-    /// `WantOfMemory` where they aren't had.
+    /// `WantOfMemory` if they can't be allocated.
     pub fn finish(self) -> Result<Vec<u8>, Fault>
         requires { self.left ≡ [] }
         ensures file { IfOk result (λ bytes. (p : Parameters) (numbers : List ℕ) → HasCoded p self numbers → bytes.items ≡ file_of_residuals numbers p) }
@@ -252,7 +252,7 @@ fn put_fill(word: u32, writer: &mut BitWriter) -> Result<(), Fault>
     writer.push(0, (unit - over) % unit)
 }
 
-/// Says of bytes that they are packed from their bits, which holds of numbers below 256.
+/// Proves that bytes are the packing of their bits. It does nothing when it runs.
 fn prove_packed(bytes: &[u8])
     ensures { bytes.now ≡ packed (bits_of_bytes bytes.now) }
 {}

@@ -127,7 +127,7 @@ fn take_cube(alloc: Global, params: &Params, reader: &mut BitReader) -> Result<C
     Ok(cube)
 }
 
-/// Tests what stands behind the body: fewer bits than an output word of so many bytes has, and zeros.
+/// Checks the fill bits after the body: they are fewer than an output word of so many bytes has, and zeros.
 fn test_fill(word: u32, reader: &BitReader) -> Result<(), Fault>
     requires { InRange 1 8 word }
     ensures { result ≡ fill_test word reader.now.left }

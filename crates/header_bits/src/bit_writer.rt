@@ -11,7 +11,7 @@ use std::marker::Model;
 /// The most bits that a writer holds.
 const MOST_BITS: u64 = 1 << 63;
 
-/// A number of bytes behind which two words are still within the most bits.
+/// A number of bytes that leaves two words below `MOST_BITS`.
 const ROOMY: usize = 1 << 59;
 
 /// Bits that were pushed one number after another, the most significant bit of each first.
@@ -60,10 +60,10 @@ impl BitWriter {
         self.bytes.len() as u64 * 8 + u64::from(self.held)
     }
 
-    /// Makes room, so that pushes of so many bits in all succeed. The bits stay, whatever the answer.
+    /// Reserves capacity for `bits` more bits, so that pushes of them succeed. What was written stays, whatever the answer.
     ///
     /// Where there is less, the room grows to these bits in whole bytes, or to as many as there are bits, and no further. `WantOfMemory` where
-    /// the memory isn't had, or where the bits would be more than 2^63.
+    /// the allocation fails, or where the bits would be more than 2^63.
     #[inline(never)]
     pub fn reserve(&mut self, bits: u64) -> Result<(), Fault>
         ensures same { self.new.bits ≡ self.old.bits }

@@ -27,8 +27,8 @@ use std::alloc::Global;
 
 /// The header of lawful parameters, in whole bytes (CCSDS 123.0-B-1, "Header").
 ///
-/// Under band sequential order zeros stand in the place of the depth. `WantOfMemory` where the
-/// bytes aren't had.
+/// Under band sequential order zeros stand in the place of the depth. `WantOfMemory` if the bytes
+/// can't be allocated.
 pub fn write_header(alloc: Global, params: &Params) -> Result<Vec<u8>, Fault>
     requires { IsLawful params.now }
     ensures header { IfOk result (λ bytes. bits_of_bytes bytes.items ≡ header_of params.now) }

@@ -31,7 +31,7 @@ pub(crate) struct PredictorPart {
     pub interval_log: u32,
     pub vmin: i32,
     pub vmax: i32,
-    /// A weight table in the file, not the usual weight start.
+    /// A weight table in the file, not the default weights.
     pub custom: bool,
     /// How many bits each number of the table has; 0 where there is none.
     pub resolution: u32,

@@ -12,7 +12,7 @@ Between low high v = (low ≤ℤ v) × (v ≤ℤ high)
 abbrev pub IsScaled : SampleKind → ℤ → Type 0
 IsScaled k scaled = Between (pos 2 *ℤ smin k) (pos 2 *ℤ smax k +ℤ pos 1) scaled
 
--- the error that a number tells, where the nearer and the lower end of the range are so far from the prediction
+-- the error that is mapped to a number, where the nearer and the lower limit of the range are so far from the prediction
 abbrev pub error_of : ℕ → ℕ → ℕ → ℕ → ℤ
 error_of theta below parity n =
     if nat_lt (2 * theta) n then (if nat_lt theta below then neg_ℤ (pos (n - theta)) else pos (n - theta))

@@ -7,7 +7,7 @@ use Rattle.cube_core.specs.Order.{places, from}
 use Rattle.predict_core.specs.Arithmetic.{floor_div}
 use Rattle.predict_core.specs.Prediction.{scaled_prediction}
 
--- how far a predicted sample is from the nearer end of the range
+-- θ: the distance from a predicted sample to the nearer limit of the range
 abbrev pub theta_between : ℤ → ℤ → ℤ → ℕ
 theta_between low high predicted = min (unsigned_abs (predicted -ℤ low)) (unsigned_abs (high -ℤ predicted))
 
@@ -15,7 +15,7 @@ theta_between low high predicted = min (unsigned_abs (predicted -ℤ low)) (unsi
 abbrev pub agrees : ℤ → ℤ → Bool
 agrees scaled error = if unsigned_abs scaled % 2 == 0 then int_le (pos 0) error else int_le error (pos 0)
 
--- the number of an error of some size: beyond the nearer end every size has one, below it both signs take turns
+-- the number that an error is mapped to: up to θ both signs take turns, and beyond it each size has one
 abbrev pub number_of : ℕ → ℕ → Bool → ℕ
 number_of theta size agreeing = if nat_lt theta size then size + theta else if agreeing then 2 * size else 2 * size - 1
 

@@ -19,7 +19,7 @@ unfoldable pub eighths : ℤ → ℕ → List ℤ
 eighths w zero = []
 eighths w (suc n) = w ∷ eighths (floor_div w 8) n
 
--- the usual start: seven eighths for the nearest band below, and nothing for the directions
+-- the default weights: seven eighths for the nearest band below, and nothing for the directions
 unfoldable pub default_weights : Predictor → ℕ → List ℤ
 default_weights p z =
     let spectral = eighths (pos (7 * 2 ^ (p.fraction - 3))) (previous_bands p z) in

@@ -80,7 +80,7 @@ impl Band {
         })
     }
 
-    /// The place that comes next, counted in the band row after row from 0.
+    /// t, the raster index of the next sample: samples of the band count row after row from 0.
     pub fn next(&self) -> u64
         ensures { result ≡ self.now.place }
     {

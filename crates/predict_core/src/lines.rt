@@ -10,7 +10,7 @@ ghost use Rattle.cube_core.specs.Image.{IsPlace};
 use crate::predictor::Predictor;
 use cube_core::cube::Cube;
 
-/// A run's own row and the row above, each behind one place more and before another.
+/// The offsets of a run in its own row, `current`, and in the row `above` it, each with one place more on each side.
 #[derive(Clone, Copy)]
 pub(crate) struct Lines {
     pub current: [u16; 66],

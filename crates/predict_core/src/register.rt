@@ -15,7 +15,7 @@ pub(crate) fn wrapped_value(register: u32, value: i64) -> i64
     (value << unused) >> unused
 }
 
-/// A number over a power of two, rounded down.
+/// `value` divided by 2^`by`, rounded down.
 pub(crate) fn floor_shift(value: i64, by: u32) -> i64
     requires { by < 64 }
     ensures value { result ≡ floor_div value (2 ^ by) }

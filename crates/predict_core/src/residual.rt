@@ -34,7 +34,7 @@ pub fn unmap_residual(kind: Kind, stilde: i32, delta: u16) -> i32
     unmap_between(kind.smin(), kind.smax(), stilde, delta)
 }
 
-/// The number of a sample between `low` and `high`.
+/// The mapped residual of `v`, a sample between `low` and `high`.
 #[inline(always)]
 pub(crate) fn map_between(low: i32, high: i32, scaled: i32, v: i32) -> u16
     requires low_in { negsuc 32767 ≤ℤ low }
@@ -54,7 +54,7 @@ pub(crate) fn map_between(low: i32, high: i32, scaled: i32, v: i32) -> u16
     map_error(theta, size, sign) as u16
 }
 
-/// The sample between `low` and `high` whose number is `delta`.
+/// The sample between `low` and `high` whose mapped residual is `delta`.
 #[inline(always)]
 pub(crate) fn unmap_between(low: i32, high: i32, scaled: i32, delta: u16) -> i32
     requires low_in { negsuc 32767 ≤ℤ low }
@@ -83,7 +83,7 @@ pub(crate) fn prediction_of(scaled: i32) -> i32
     scaled >> 1
 }
 
-/// How far the prediction is from the nearer end of the range.
+/// θ: the distance from the predicted sample to the nearer limit of the range.
 #[inline(always)]
 fn theta_of(low: i32, high: i32, predicted: i32) -> u32
     requires low_in { negsuc 32767 ≤ℤ low }
@@ -119,7 +119,9 @@ fn has_sign(scaled: i32, error: i32) -> bool
     }
 }
 
-/// The number of an error, by its size and its sign.
+/// Maps a prediction residual to a number: up to θ both signs take turns, and beyond it each size has one number.
+///
+/// `size` is its absolute value, and `sign` whether it has the sign that the scaled prediction's parity asks for.
 #[inline(always)]
 fn map_error(theta: u32, size: u32, sign: bool) -> u32
     requires fits { size + min size theta ≤ 65535 }
@@ -136,7 +138,9 @@ fn map_error(theta: u32, size: u32, sign: bool) -> u32
     }
 }
 
-/// The error of a number.
+/// The prediction residual that is mapped to `number`: the inverse of [`map_error`].
+///
+/// `below` is the distance from the predicted sample to the lower limit, and `parity` has the scaled prediction's parity.
 #[inline(always)]
 fn unmap_error(theta: u32, below: u32, parity: u32, number: u32) -> i32
     requires theta_in { theta ≤ 65535 }

@@ -31,8 +31,8 @@ pub(crate) fn start_of(params: &Params, z: u32, first: usize, near: usize) -> [i
     }
 }
 
-/// The usual weights of `count` bands below, from place `first` on: seven eighths for the nearest, and
-/// an eighth of the one before for each other (CCSDS 123.0-B-1, "Weight Initialization").
+/// The default weights: 0 for the `first` directional components; for the `count` bands below seven eighths for the
+/// nearest, and an eighth of the weight before for each other (CCSDS 123.0-B-1, "Weight Initialization").
 pub(crate) fn default_weights(fraction: u32, first: usize, count: usize) -> [i32; 18]
     requires fraction_in { (4 ≤ fraction) × (fraction ≤ 19) }
     requires room { first + count ≤ 18 }

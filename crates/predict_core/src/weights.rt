@@ -8,7 +8,7 @@ ghost use Rattle.predict_core.specs.Bounds.{AllWithin};
 
 /// The sum of the products of the weights in use with their differences.
 ///
-/// It goes over the first 8 of the room, or over all 18, so that the compiler knows how many.
+/// It loops over 8 or 18 components, a count known at compile time.
 #[inline(always)]
 pub(crate) fn product_of(count: usize, weights: &[i32; 18], differences: &[i32; 18]) -> i64
     requires count_in { count ≤ 18 }
@@ -45,10 +45,10 @@ pub(crate) fn product_of_first<const N: usize>(weights: &[i32; 18], differences:
     sum
 }
 
-/// The weights after an error: each moves by a step of its difference, with the error's sign
+/// Updates each weight by its scaled difference, with the sign of the error
 /// (CCSDS 123.0-B-1, "Weight Update").
 ///
-/// The step is found for all weights of the room in one of two ways, both in words of 32 bits.
+/// The differences are scaled up or down, all in the same way, in words of 32 bits.
 #[inline(always)]
 pub(crate) fn update(
     count: usize,
@@ -80,7 +80,7 @@ pub(crate) fn update(
     }
 }
 
-/// The first `N` weights after an error, which is negative where `turn` is all ones; else `turn` is 0.
+/// Updates the first `N` weights. `turn` is all ones where the error is negative, and 0 elsewhere.
 ///
 /// A difference takes the error's sign without a branch, so that the compiler makes vectors of the weights.
 #[inline(always)]
@@ -226,7 +226,7 @@ fn turn_of(negative: bool) -> i32
     if negative { -1 } else { 0 }
 }
 
-/// A difference with the sign of the error, which is negative where `turn` is all ones.
+/// The difference with the sign of the error: negated where `turn` is all ones, and unchanged where it is 0.
 #[inline(always)]
 fn apply_sign(turn: i32, difference: i32) -> i32
     requires turn_in { (negsuc 0 ≤ℤ turn) × (turn ≤ℤ pos 0) }
@@ -247,7 +247,7 @@ fn stepped(form: Form, size: i32) -> i32
     (size * (1i32 << form.up) + form.half) >> form.down
 }
 
-/// A weight after a step, held between the least and the greatest.
+/// The weight moved by a step, and clipped to the range of weights.
 #[inline(always)]
 fn clip_weight(fraction: u32, weight: i32, step: i32) -> i32
     requires fraction_in { fraction ≤ 19 }

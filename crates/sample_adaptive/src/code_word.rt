@@ -71,7 +71,7 @@ pub(crate) fn take_word(code: Code, place: u64, reader: &mut BitReader) -> Resul
     match reader.peek() {
         Some(word) => take_from(code, place, word, reader),
         None => {
-            // A copy goes ahead, and the code in parts, so that both can stay in registers elsewhere.
+            // Takes a copy of the reader and separate fields of the code, so that both stay in registers.
             let mut ahead = reader.fork();
             let number = take_last(code.limit, code.low, code.bits, place, &mut ahead)?;
             *reader = ahead;
@@ -105,7 +105,7 @@ fn take_from(code: Code, place: u64, word: u64, reader: &mut BitReader) -> Resul
 
 /// Takes the number whose code word stands next, part by part, since fewer than 57 bits may be left.
 ///
-/// After a refusal the reader is left anywhere.
+/// After a refusal the reader's position is unspecified.
 #[inline(never)]
 #[tactic(auto, unfolding(crate::specs::Reading::word_at, crate::specs::Reading::plain_at, crate::specs::Reading::escape_at))]
 fn take_last(

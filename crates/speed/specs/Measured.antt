@@ -24,7 +24,7 @@ measured_shape timed = if timed then record { columns = 512; rows = 512; bands =
 abbrev pub measured_numbers : Bool → ℕ
 measured_numbers timed = if timed then 1000000 else 5000
 
--- parameters of 12 bits, neighbour sums, and the usual numbers
+-- parameters of 12 bits, neighbour sums, and the plain numbers
 abbrev pub measured : Sizes → Bool → ℕ → Order → Coder → Params
 measured shape reduced previous order coder =
     record (plain shape (record { signed = false; bits = 12 })) { order = order; previous = previous; reduced = reduced; column = false; coder = coder }

@@ -89,7 +89,7 @@ fn synthetic_weights(alloc: Global, count: usize) -> Result<Vec<i32>, AllocError
     Ok(weights)
 }
 
-/// The parameters of a measurement: 12 bits, neighbour sums, and the usual numbers.
+/// The parameters of a measurement: 12 bits, neighbour sums, and the plain numbers.
 ///
 /// Where they aren't lawful the answer is their first refusal.
 pub fn params_of(

@@ -54,12 +54,12 @@ pub fn last_reserved_bit_of_the_image_part()
     ensures { header_at (header 0x00000100010001110000080102A09259008226) ≡ Err (Reserved 95) }
 {}
 
-/// A table beside the usual weight start.
+/// A table beside the default weight initialization.
 pub fn default_start_with_table()
     ensures { header_at (header 0x00000100010001110000080002A09259208226) ≡ Err (Disagree rule.DefaultWithTable) }
 {}
 
-/// A resolution beside the usual weight start.
+/// A resolution beside the default weight initialization.
 pub fn default_start_with_resolution()
     ensures { header_at (header 0x00000100010001110000080002A09259018226) ≡ Err (Disagree rule.DefaultWithResolution) }
 {}

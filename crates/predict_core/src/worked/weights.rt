@@ -65,7 +65,7 @@ pub fn table_in_full_mode()
     ensures { table_weights (predictor_of full) 16 (pos 1 ∷ pos 2 ∷ pos 3 ∷ pos 4 ∷ pos 5 ∷ pos 6 ∷ pos 7 ∷ []) 1 ≡ pos 4 ∷ pos 5 ∷ pos 6 ∷ pos 7 ∷ [] }
 {}
 
-/// The usual weights: seven eighths, and an eighth of the one before.
+/// The default weights: seven eighths, and an eighth of the one before.
 pub fn default_weights_of_three_bands()
     ensures { default_weights (predictor_of (record full { previous = 3 })) 5 ≡ pos 0 ∷ pos 0 ∷ pos 0 ∷ pos 7168 ∷ pos 896 ∷ pos 112 ∷ [] }
 {}
