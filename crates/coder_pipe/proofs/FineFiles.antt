@@ -72,7 +72,7 @@ range_take limit zero vs h = tt
 range_take limit (suc n) [] h = tt
 range_take limit (suc n) (v ∷ vs) h = (h.0, range_take limit n vs h.1)
 
--- texts that were read for n numbers are a body of the first n values that they tell
+-- data sets that were read for n numbers are a body of the first n values that they tell
 data_sets_body : (s : CodeSet) (size reference n : ℕ) (data_sets : List CodedDataSet) (numbers : List ℕ) → length numbers ≡ n → take n (values_of (blocks_told (cut_of s size reference n) 0 data_sets)) ≡ numbers → AreCodedDataSets (cut_of s size reference n) 0 data_sets (block_count size n)
     → IsBlockBody s size reference numbers (spelling s data_sets)
 data_sets_body s size reference n data_sets numbers long told lawful = record {

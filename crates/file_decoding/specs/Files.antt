@@ -20,7 +20,7 @@ use Rattle.block_adaptive.specs.DataSets.{IsBlockBody}
 use Rattle.block_adaptive.specs.Reading.{block_body_at}
 use Rattle.file_decoding.specs.Least.{least_test}
 
--- the bits are the residuals' code words; or lawful texts of their blocks
+-- the bits are the residuals' code words; or lawful data sets of their blocks
 abbrev pub IsBodyBy : Coder → Params → List ℕ → List Bool → Type 0
 IsBodyBy (Sample umax gamma_star gamma_zero start) p numbers bits = bits ≡ sample_body (settings p) (places p.shape p.order) numbers
 IsBodyBy (Block size restricted reference) p numbers bits = IsBlockBody (record { bits = p.kind.bits; restricted = restricted }) size reference numbers bits
