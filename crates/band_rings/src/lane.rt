@@ -24,7 +24,8 @@ pub fn lane(alloc: Global, slots: u32) -> Result<(LaneSender, LaneReceiver), Fau
     ensures sender { IfOk result (λ ends. (ends.0.sent ≡ []) × (ends.0.free ≡ slots) × (ends.0.slots ≡ slots)) }
     ensures receiver { IfOk result (λ ends. (ends.1.received ≡ []) × (ends.1.known ≡ [])) }
     ensures range { IsOk result → InRange 1 65536 slots }
-    ensures refused { IfErr result (λ e. (((slots ≡ 0) ⊎ (65536 < slots)) × (e ≡ FieldRange Slots (pos slots))) ⊎ (InRange 1 65536 slots × (e ≡ WantOfMemory))) }
+    ensures refused { IfErr result (λ e. (((slots ≡ 0) ⊎ (65536 < slots)) × (e ≡ FieldRange Slots (pos slots)))
+        ⊎ (InRange 1 65536 slots × (e ≡ WantOfMemory))) }
 {
     if slots == 0 || slots > MOST_SLOTS {
         return Err(Fault::FieldRange {

@@ -37,7 +37,8 @@ impl LaneReceiver {
     /// Receives the next number, or none where none was there to see. A number that is known to be there is received.
     pub fn try_recv(&mut self) -> Option<u16>
         ensures lane { self.new.lane ≡ self.old.lane }
-        ensures received { IfSome result (λ number. (self.new.received ≡ self.old.received ++ number ∷ []) × IsPrefix self.old.known (number ∷ self.new.known)) }
+        ensures received { IfSome result (λ number. (self.new.received ≡ self.old.received ++ number ∷ [])
+            × IsPrefix self.old.known (number ∷ self.new.known)) }
         ensures none { IfNone result ((self.new.received ≡ self.old.received) × (self.new.known ≡ [])) }
         ensures known { 0 < length self.old.known → IsSome result }
     {

@@ -27,7 +27,12 @@ impl Model for LaneSender {
 
     ghost Value = { Sending };
 
-    ghost view = { λ s. record { lane = name_of_producer s.producer; sent = sent s.producer; free = known_free s.producer; slots = producer_capacity s.producer } };
+    ghost view = { λ s. record {
+      lane = name_of_producer s.producer;
+      sent = sent s.producer;
+      free = known_free s.producer;
+      slots = producer_capacity s.producer;
+    } };
 
     ghost invariant = { λ s. (s.count ≡ length (sent s.producer)) × InRange 1 65536 (producer_capacity s.producer) };
 }
@@ -37,7 +42,8 @@ impl LaneSender {
     pub(crate) fn new(producer: Producer<u16>) -> LaneSender
         requires fresh { sent producer ≡ [] }
         requires range { InRange 1 65536 (producer_capacity producer) }
-        ensures { (result.lane ≡ name_of_producer producer) × (result.sent ≡ []) × (result.free ≡ known_free producer) × (result.slots ≡ producer_capacity producer) }
+        ensures { (result.lane ≡ name_of_producer producer) × (result.sent ≡ []) × (result.free ≡ known_free producer)
+            × (result.slots ≡ producer_capacity producer) }
     {
         LaneSender { producer, count: 0 }
     }

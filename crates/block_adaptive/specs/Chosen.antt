@@ -27,7 +27,8 @@ turn (Split k) = k + 2
 
 -- no option is shorter, and none that is as short comes first
 abbrev pub IsChosen : CodeSet → List ℕ → Choice → Type 0
-IsChosen s values o = IsOption s o × ((p : Choice) → IsOption s p → (cost s o values < cost s p values) ⊎ ((cost s o values ≡ cost s p values) × (turn o ≤ turn p)))
+IsChosen s values o = IsOption s o × ((p : Choice) → IsOption s p → (cost s o values < cost s p values) ⊎ ((cost s o values ≡ cost s p values)
+    × (turn o ≤ turn p)))
 
 abbrev pub is_zero : List ℕ → Bool
 is_zero [] = true

@@ -47,5 +47,6 @@ GivesFirst v value new = (v.held ≡ value ∷ new.held) × (new ≡ record v { 
 abbrev pub GivesNext : Unpacked → Unread → Result ℕ Fault → Unpacked → List Bool → Type 0
 GivesNext old reader result new left =
     (given : List ℕ) (bits : List Bool) → HasGiven old given bits
-    → MatchResult result (λ value. (value < 2 ^ old.cut.set.bits) × (read : List Bool) × (reader.left ≡ read ++ left) × HasGiven new (given ++ value ∷ []) (bits ++ read))
+    → MatchResult result (λ value. (value < 2 ^ old.cut.set.bits) × (read : List Bool) × (reader.left ≡ read ++ left)
+    × HasGiven new (given ++ value ∷ []) (bits ++ read))
     (λ fault. data_sets_at reader.count old.cut old.cut.count 0 (bits ++ reader.left) ≡ Err fault)

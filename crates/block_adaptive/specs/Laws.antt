@@ -52,8 +52,10 @@ DataSetIsTaken =
 abbrev pub BodyIsRead : Type 0
 BodyIsRead =
     (count : ℕ) (s : CodeSet) (half reference n : ℕ) (data_sets : List CodedDataSet) (bits rest : List Bool) → 1 ≤ reference
-    → (AreCodedDataSets (cut_of s (2 * half) reference n) 0 data_sets (block_count (2 * half) n) → bits ≡ spelling s data_sets ++ rest → block_body_at count s (2 * half) reference n bits ≡ Ok (data_sets, rest))
-    × (block_body_at count s (2 * half) reference n bits ≡ Ok (data_sets, rest) → AreCodedDataSets (cut_of s (2 * half) reference n) 0 data_sets (block_count (2 * half) n) × (bits ≡ spelling s data_sets ++ rest))
+    → (AreCodedDataSets (cut_of s (2 * half) reference n) 0 data_sets (block_count (2 * half) n) → bits ≡ spelling s data_sets ++ rest
+    → block_body_at count s (2 * half) reference n bits ≡ Ok (data_sets, rest))
+    × (block_body_at count s (2 * half) reference n bits ≡ Ok (data_sets, rest)
+    → AreCodedDataSets (cut_of s (2 * half) reference n) 0 data_sets (block_count (2 * half) n) × (bits ≡ spelling s data_sets ++ rest))
 
 -- no pair of values up to m has a number above 2·m·(m + 1)
 abbrev pub PairBound : Type 0
@@ -76,4 +78,5 @@ abbrev pub FaultIsNoDataSet : Type 0
 FaultIsNoDataSet =
     (site : Site) (s : CodeSet) (half left : ℕ) (e : Fault) (bits : List Bool) → data_set_at site s (2 * half) left bits ≡ Err e
     → (e ≡ Truncated site.count → (t : CodedDataSet) (rest : List Bool) → IsCodedDataSet s (2 * half) left t → bits ≡ spelled s t ++ rest → ⊥)
-    × ((e ≡ Truncated site.count → ⊥) → (more : List Bool) (t : CodedDataSet) (rest : List Bool) → IsCodedDataSet s (2 * half) left t → bits ++ more ≡ spelled s t ++ rest → ⊥)
+    × ((e ≡ Truncated site.count → ⊥) → (more : List Bool) (t : CodedDataSet) (rest : List Bool) → IsCodedDataSet s (2 * half) left t
+    → bits ++ more ≡ spelled s t ++ rest → ⊥)

@@ -8,5 +8,6 @@ use Rattle.block_adaptive.specs.Taken.{Packed, HasTaken}
 -- the bits appended so far begin the chosen body, whatever numbers are still to come
 abbrev pub TakenIsPrefix : Type 0
 TakenIsPrefix =
-    (v : Packed) (taken future : List ℕ) (bits : List Bool) → IsCut v.cut → block_count v.cut.size (length (taken ++ future)) ≡ v.cut.count → HasTaken v taken bits
+    (v : Packed) (taken future : List ℕ) (bits : List Bool) → IsCut v.cut → block_count v.cut.size (length (taken ++ future)) ≡ v.cut.count
+    → HasTaken v taken bits
     → (rest : List Bool) × (chosen_block_body v.cut.set v.cut.size v.cut.reference (taken ++ future) ≡ bits ++ rest)

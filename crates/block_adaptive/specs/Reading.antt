@@ -1,5 +1,6 @@
 -- Reading data sets from the front of the bits, with the first fault that is met.
-use Rattle.std.specs.Prelude.{ℕ, zero, suc, ◌+◌, ◌-◌, ◌*◌, ◌/◌, ◌^◌, ◌==◌, nat_le, nat_lt, max, Bool, List, [], ◌∷◌, Result, Ok, Err, Option, Some, None, if◌then◌else◌}
+use Rattle.std.specs.Prelude.{ℕ, zero, suc, ◌+◌, ◌-◌, ◌*◌, ◌/◌, ◌^◌, ◌==◌, nat_le, nat_lt, max, Bool, List, [], ◌∷◌, Result, Ok, Err, Option, Some, None}
+use Rattle.std.specs.Prelude.{if◌then◌else◌}
 use Rattle.cube_core.specs.declared.fault.Fault.{Fault}
 use Rattle.cube_core.specs.declared.fault.Fault.TheVariants.{BadOption, RunPastSegment}
 use Rattle.cube_core.specs.Steps.{◌>>=◌}
@@ -102,7 +103,8 @@ block_read o read = read >>= λ vs. Ok (Block o vs.0, vs.1)
 unfoldable pub data_set_at : Site → CodeSet → ℕ → ℕ → Reading CodedDataSet
 data_set_at s set size left bits = do
   n ← number_at s.count (width set) bits
-  if n.0 == 0 then (number_at s.count 1 n.1 >>= λ more. if more.0 == 0 then run_at s left more.1 else block_read Second (pairs_at s (greatest_value set) (size / 2) more.1))
+  if n.0 == 0 then (number_at s.count 1 n.1 >>= λ more. if more.0 == 0 then run_at s left more.1 else block_read Second (pairs_at s (greatest_value set)
+      (size / 2) more.1))
       else if n.0 == 2 ^ width set - 1 then block_read Uncoded (words_at s.count set.bits size n.1)
       else block_read (Split (n.0 - 1)) (split_at s (n.0 - 1) (greatest_value set) size n.1)
 

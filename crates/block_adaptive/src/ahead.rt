@@ -75,7 +75,8 @@ pub(crate) fn code_ahead(ahead: Ahead, most: u16) -> Option<(u16, Ahead)>
 pub(crate) fn whole_ahead(ahead: Ahead, k: u32, most: u16, quotient: u16) -> Option<(u16, Ahead)>
     requires depth { k ≤ 15 }
     requires word { IsWord ahead }
-    ensures { IfSome result (λ p. (p.0 ≤ most) × ((left : List Bool) → IsAhead ahead left → (low : ℕ) × (low < 2 ^ k) × (p.0 ≡ quotient * 2 ^ k + low) × Uses ahead p.1 (bits_of k low) left)) }
+    ensures { IfSome result (λ p. (p.0 ≤ most) × ((left : List Bool) → IsAhead ahead left → (low : ℕ) × (low < 2 ^ k) × (p.0 ≡ quotient * 2 ^ k + low)
+        × Uses ahead p.1 (bits_of k low) left)) }
 {
     if ahead.known < k {
         return None;

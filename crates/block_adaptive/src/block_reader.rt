@@ -46,7 +46,12 @@ impl Model for BlockReader {
 
     ghost Value = { Unpacked };
 
-    ghost view = { λ a. record { cut = record { set = a.set; size = a.size; reference = a.reference; count = a.count }; block = a.block; held = drop a.at (take a.size a.values) ++ replicate a.zeros 0; refused = a.refused } };
+    ghost view = { λ a. record {
+      cut = record { set = a.set; size = a.size; reference = a.reference; count = a.count };
+      block = a.block;
+      held = drop a.at (take a.size a.values) ++ replicate a.zeros 0;
+      refused = a.refused;
+    } };
 
     ghost invariant = { λ a. AreParts (record { set = a.set; size = a.size; reference = a.reference; count = a.count }) a.block a.at a.zeros };
 }
@@ -96,7 +101,10 @@ impl BlockReader {
     #[inline]
     pub fn next(&mut self, reader: &mut BitReader) -> Result<u16, Fault>
         requires { given_count self.old < capacity self.old.cut }
-        ensures first { self.old.refused ≡ None → MatchResult result (λ value. (new : Unpacked) × (in_hand self.old reader.old self.old.held ≡ Ok (new, reader.new.left)) × GivesFirst new value self.new) (λ fault. (self.old.held ≡ []) × (next_data_set self.old reader.old ≡ Err fault)) }
+        ensures first { self.old.refused ≡ None → MatchResult result (λ value. (new : Unpacked) × (in_hand self.old reader.old self.old.held ≡ Ok (
+          new,
+          reader.new.left,
+        )) × GivesFirst new value self.new) (λ fault. (self.old.held ≡ []) × (next_data_set self.old reader.old ≡ Err fault)) }
         ensures given { GivesNext self.old reader.old result self.new reader.new.left }
         ensures again { (fault : Fault) → self.old.refused ≡ Some fault → result ≡ Err fault }
         ensures kept { IfErr result (λ fault. self.new ≡ record self.old { refused = Some fault }) }

@@ -46,9 +46,15 @@ impl Model for BlockWriter {
 
     ghost Value = { Packed };
 
-    ghost view = { λ a. record { cut = record { set = a.set; size = a.size; reference = a.reference; count = a.count }; start = a.start; zeros = a.zeros; held = take a.held a.values } };
+    ghost view = { λ a. record {
+      cut = record { set = a.set; size = a.size; reference = a.reference; count = a.count };
+      start = a.start;
+      zeros = a.zeros;
+      held = take a.held a.values;
+    } };
 
-    ghost invariant = { λ a. AreStored (record { set = a.set; size = a.size; reference = a.reference; count = a.count }) a.start a.zeros a.total (take a.held a.values) };
+    ghost invariant = { λ a. AreStored (record { set = a.set; size = a.size; reference = a.reference; count = a.count }) a.start a.zeros a.total
+        (take a.held a.values) };
 }
 
 impl BlockWriter {

@@ -204,8 +204,10 @@ pub(crate) fn read_data_set(
     requires left { (1 ≤ left) × (left ≤ 64) }
     requires even { length values.old % 2 ≡ 0 }
     ensures read { Reads (told values.new) result reader.new.left (data_set_at (site_of reader.old block) set.now (length values.old) left reader.old.left) }
-    ensures found { IfOk result (λ found. (reader.old.left ≡ spelled set.now (told values.new found) ++ reader.new.left) × IsCodedDataSet set.now (length values.old) left (told values.new found)) }
-    ensures none { IfErr result (λ _. (t : CodedDataSet) (rest : List Bool) → IsCodedDataSet set.now (length values.old) left t → reader.old.left ≡ spelled set.now t ++ rest → ⊥) }
+    ensures found { IfOk result (λ found. (reader.old.left ≡ spelled set.now (told values.new found) ++ reader.new.left)
+        × IsCodedDataSet set.now (length values.old) left (told values.new found)) }
+    ensures none { IfErr result (λ _. (t : CodedDataSet) (rest : List Bool) → IsCodedDataSet set.now (length values.old) left t
+        → reader.old.left ≡ spelled set.now t ++ rest → ⊥) }
     ensures count { reader.new.count ≡ reader.old.count }
 {
     data_set(reader, block, set, left, values)

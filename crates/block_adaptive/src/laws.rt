@@ -1,6 +1,7 @@
 //! Laws of the coder's definitions.
 
-ghost use Rattle.block_adaptive.specs.Laws.{OneText, OneBody, OptionIsLeast, ChosenIsLawful, ChosenIsBody, DataSetIsTaken, BodyIsRead, PairBound, SegmentsAreCounted, NoShorterBody, FaultIsNoDataSet};
+ghost use Rattle.block_adaptive.specs.Laws.{OneText, OneBody, OptionIsLeast, ChosenIsLawful, ChosenIsBody, DataSetIsTaken, BodyIsRead, PairBound};
+ghost use Rattle.block_adaptive.specs.Laws.{SegmentsAreCounted, NoShorterBody, FaultIsNoDataSet};
 ghost use Rattle.block_adaptive.specs.Prefixes.{TakenIsPrefix};
 
 /// Two lawful data sets of which one begins the other are one data set.

@@ -46,7 +46,8 @@ pub fn sixty_four_from_each_reference_block()
 
 /// k = 3, and then k = 0.
 pub fn cube_a()
-    ensures { filled_up (chosen_block_body (plain 8) 8 1 (55 ∷ 3 ∷ 5 ∷ 0 ∷ 4 ∷ 2 ∷ 20 ∷ 1 ∷ 2 ∷ 2 ∷ 1 ∷ 2 ∷ [])) ≡ bits_of_bytes (0x80 ∷ 0x7E ∷ 0x7D ∷ 0xD1 ∷ 0x14 ∷ 0x24 ∷ 0x94 ∷ 0xF8 ∷ []) }
+    ensures { filled_up (chosen_block_body (plain 8) 8 1 (55 ∷ 3 ∷ 5 ∷ 0 ∷ 4 ∷ 2 ∷ 20 ∷ 1 ∷ 2 ∷ 2 ∷ 1 ∷ 2 ∷ []))
+        ≡ bits_of_bytes (0x80 ∷ 0x7E ∷ 0x7D ∷ 0xD1 ∷ 0x14 ∷ 0x24 ∷ 0x94 ∷ 0xF8 ∷ []) }
 {}
 
 /// The second extension and k = 0 are as short.

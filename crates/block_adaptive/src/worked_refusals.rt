@@ -38,7 +38,8 @@ pub fn run_past_reference_border()
 
 /// A run of 65 blocks.
 pub fn run_past_sixty_four_blocks()
-    ensures { block_body_fault 88 (plain 8) 8 4096 1040 (bits_of_bytes (0x00 ∷ 0x00 ∷ 0x00 ∷ 0x00 ∷ 0x00 ∷ 0x00 ∷ 0x00 ∷ 0x00 ∷ 0x04 ∷ 0x02 ∷ 0x01 ∷ [])) ≡ Some (RunPastSegment 0) }
+    ensures { block_body_fault 88 (plain 8) 8 4096 1040 (bits_of_bytes (0x00 ∷ 0x00 ∷ 0x00 ∷ 0x00 ∷ 0x00 ∷ 0x00 ∷ 0x00 ∷ 0x00 ∷ 0x04 ∷ 0x02 ∷ 0x01 ∷ []))
+        ≡ Some (RunPastSegment 0) }
 {}
 
 /// Four zeros may stand where one block is left, the fifth may not.

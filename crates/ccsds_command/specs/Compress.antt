@@ -42,7 +42,8 @@ IsBadRaw s bytes fault =
 -- why the source has no cube: it failed, or memory did, or its bytes are no cube's, of which at most one too many is read
 abbrev pub IsCubeRefusal : CompressSettings → Option (List ℕ) → ℕ → ℕ → Fault → Type 0
 IsCubeRefusal s left failures failures_now fault =
-    ((fault ≡ Read) × Rose failures failures_now) ⊎ ((fault ≡ WantOfMemory) ⊎ ((bytes : List ℕ) × IsFront (raw_limit s) left bytes × (length bytes ≤ raw_limit s) × IsBadRaw s bytes fault))
+    ((fault ≡ Read) × Rose failures failures_now) ⊎ ((fault ≡ WantOfMemory) ⊎ ((bytes : List ℕ) × IsFront (raw_limit s) left bytes
+    × (length bytes ≤ raw_limit s) × IsBadRaw s bytes fault))
 
 -- why a run is refused: the parameters aren't lawful, or the source has no cube, and nothing was written; or the sink cut the file short
 unfoldable pub IsCompressFault : CompressSettings → Option (List ℕ) → ℕ → ℕ → Option (List ℕ) → Option (List ℕ) → ℕ → ℕ → ℕ → ℕ → Fault → Type 0

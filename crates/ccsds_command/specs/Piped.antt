@@ -36,7 +36,8 @@ EndedEarly may_stop gate s left fault = (c : Image) × HasCube s left c × EndsE
 
 -- why a run is refused: the parameters aren't lawful, there can be no plan, the source has no cube, or the pipeline ended early, and nothing was written;
 -- or the sink cut the file short
-unfoldable pub IsPipedFault : {G : Type 0} → (G → ℕ → ℕ → Bool) → G → CompressSettings → Option (List ℕ) → ℕ → ℕ → Option (List ℕ) → Option (List ℕ) → ℕ → ℕ → ℕ → ℕ → Fault → Type 0
+unfoldable pub IsPipedFault : {G : Type 0} → (G → ℕ → ℕ → Bool) → G → CompressSettings → Option (List ℕ) → ℕ → ℕ → Option (List ℕ) → Option (List ℕ) → ℕ → ℕ
+    → ℕ → ℕ → Fault → Type 0
 IsPipedFault may_stop gate s left read_failures read_failures_now old new failures failures_now stalls stalls_now fault =
     ((params_fault s.params ≡ Err fault) × (new ≡ old))
     ⊎ ((IsLawful s.params × HasNoPlan s fault × (new ≡ old))

@@ -1,5 +1,6 @@
 -- What is shown of a small cube.
-use Rattle.std.specs.Prelude.{◌≡◌, ◌⊎◌, ℕ, ◌+◌, ◌-◌, ◌*◌, ◌==◌, nat_lt, min, if◌then◌else◌, true, false, List, [], ◌∷◌, ◌++◌, length, slice_index, Option, Some, None, pos, negsuc}
+use Rattle.std.specs.Prelude.{◌≡◌, ◌⊎◌, ℕ, ◌+◌, ◌-◌, ◌*◌, ◌==◌, nat_lt, min, if◌then◌else◌, true, false, List, [], ◌∷◌, ◌++◌, length, slice_index, Option}
+use Rattle.std.specs.Prelude.{Some, None, pos, negsuc}
 use Rattle.hex.specs.Hex.{encode_lower}
 use Rattle.cube_core.specs.declared.fault.Fault.{Fault}
 use Rattle.cube_core.specs.declared.fault.Fault.TheVariants.{WantOfMemory, RawLength, Read}
@@ -79,9 +80,11 @@ show_limit input = 7 + sample_count (sizes_of input)
 -- why nothing is shown: the source failed, the length of what was read of the input, or want of memory
 abbrev pub IsShowRefusal : Option (List ℕ) → ℕ → ℕ → Fault → Type 0
 IsShowRefusal left failures failures_now fault =
-    ((fault ≡ Read) × Rose failures failures_now) ⊎ ((fault ≡ WantOfMemory) ⊎ (((read : List ℕ) × (length_fault read ≡ Some fault)) × ((input : List ℕ) → left ≡ Some input → length_fault input ≡ Some fault)))
+    ((fault ≡ Read) × Rose failures failures_now) ⊎ ((fault ≡ WantOfMemory) ⊎ (((read : List ℕ) × (length_fault read ≡ Some fault)) × ((input : List ℕ)
+    → left ≡ Some input → length_fault input ≡ Some fault)))
 
 -- why a run is refused: nothing is shown, and nothing was written; or the sink cut the text short
 unfoldable pub IsShowFault : Option (List ℕ) → ℕ → ℕ → Option (List ℕ) → Option (List ℕ) → ℕ → ℕ → ℕ → ℕ → Fault → Type 0
 IsShowFault left read_failures read_failures_now old new failures failures_now stalls stalls_now fault =
-    (IsShowRefusal left read_failures read_failures_now fault × (new ≡ old)) ⊎ ((text : List ℕ) × IsShown left text × IsCutShort old new failures failures_now stalls stalls_now text fault)
+    (IsShowRefusal left read_failures read_failures_now fault × (new ≡ old)) ⊎ ((text : List ℕ) × IsShown left text
+    × IsCutShort old new failures failures_now stalls stalls_now text fault)

@@ -36,8 +36,12 @@ pub fn run_command<R: Threads + Wait + Sync, O: Opener>(
     settings: &Settings,
 ) -> Result<Ended<O::Input, O::Output>, Fault>
     requires { HasLayout settings.now }
-    ensures ran { IfOk result (λ ended. (s : O.Input) × (k : O.Output) × O.opens opener.now (name_in settings.now) s × O.makes opener.now (name_out settings.now) k × Ran settings.now (O.Input.left s) (O.Input.failures s) (O.Input.failures ended.input) (O.Output.taken k) (O.Output.taken ended.output) (O.Output.failures k) (O.Output.failures ended.output) (O.Output.stalls k) (O.Output.stalls ended.output) ended.answer) }
-    ensures unfilled { IfOk result (λ ended. (s : O.Input) × O.opens opener.now (name_in settings.now) s × IfErr ended.answer (IsUnfilled settings.now (O.Input.left s) (O.Input.left ended.input))) }
+    ensures ran { IfOk result (λ ended. (s : O.Input) × (k : O.Output) × O.opens opener.now (name_in settings.now) s
+        × O.makes opener.now (name_out settings.now) k × Ran settings.now (O.Input.left s) (O.Input.failures s) (O.Input.failures ended.input)
+        (O.Output.taken k) (O.Output.taken ended.output) (O.Output.failures k) (O.Output.failures ended.output) (O.Output.stalls k)
+        (O.Output.stalls ended.output) ended.answer) }
+    ensures unfilled { IfOk result (λ ended. (s : O.Input) × O.opens opener.now (name_in settings.now) s
+        × IfErr ended.answer (IsUnfilled settings.now (O.Input.left s) (O.Input.left ended.input))) }
     ensures planned { IfOk result (λ ended. OnOk ended.answer (IsPlanned settings.now)) }
     ensures refused { IfErr result (HasNoEnd (O.has_none opener.now) (O.makes_none opener.now) settings.now) }
 {
@@ -90,11 +94,14 @@ pub fn run_between<R: Threads + Wait + Sync, S: Source, K: Sink>(
     sink: &mut K,
 ) -> Result<(), Fault>
     requires { HasLayout settings.now }
-    ensures checked { (p : Parameters) (fault : Refusal) → judged settings.now ≡ Some p → params_fault p ≡ Err fault → (result ≡ Err fault) × (source.new ≡ source.old) × (sink.new ≡ sink.old) }
+    ensures checked { (p : Parameters) (fault : Refusal) → judged settings.now ≡ Some p → params_fault p ≡ Err fault
+        → (result ≡ Err fault) × (source.new ≡ source.old) × (sink.new ≡ sink.old) }
     ensures done { OnOk result (Does settings.now (S.left source.old) (K.taken sink.old) (K.taken sink.new)) }
     ensures planned { OnOk result (IsPlanned settings.now) }
-    ensures refused { IfErr result (IsFaultOf settings.now (S.left source.old) (S.failures source.old) (S.failures source.new) (K.taken sink.old) (K.taken sink.new) (K.failures sink.old) (K.failures sink.new) (K.stalls sink.old) (K.stalls sink.new)) }
-    ensures worked { OnOk result ((S.failures source.new ≡ S.failures source.old) × (K.failures sink.new ≡ K.failures sink.old) × (K.stalls sink.new ≡ K.stalls sink.old)) }
+    ensures refused { IfErr result (IsFaultOf settings.now (S.left source.old) (S.failures source.old) (S.failures source.new) (K.taken sink.old)
+        (K.taken sink.new) (K.failures sink.old) (K.failures sink.new) (K.stalls sink.old) (K.stalls sink.new)) }
+    ensures worked { OnOk result ((S.failures source.new ≡ S.failures source.old) × (K.failures sink.new ≡ K.failures sink.old)
+        × (K.stalls sink.new ≡ K.stalls sink.old)) }
     ensures told { IfErr result (ToldAsRead (S.failures source.old) (S.failures source.new)) }
     ensures unwritten { IfErr result (λ e. IsWrite e ⊎ (sink.new ≡ sink.old)) }
     ensures bounded { GaveWithin (limit_of settings.now) (S.left source.old) (S.left source.new) }

@@ -33,8 +33,10 @@ pub fn run_expand<S: Source, K: Sink>(
 ) -> Result<(), Fault>
     requires { IsLayout layout.now }
     ensures expanded { OnOk result (Expands layout.now (S.left source.old) (K.taken sink.old) (K.taken sink.new)) }
-    ensures refused { IfErr result (IsExpandFault layout.now (S.left source.old) (S.failures source.old) (S.failures source.new) (K.taken sink.old) (K.taken sink.new) (K.failures sink.old) (K.failures sink.new) (K.stalls sink.old) (K.stalls sink.new)) }
-    ensures worked { OnOk result ((S.failures source.new ≡ S.failures source.old) × (K.failures sink.new ≡ K.failures sink.old) × (K.stalls sink.new ≡ K.stalls sink.old)) }
+    ensures refused { IfErr result (IsExpandFault layout.now (S.left source.old) (S.failures source.old) (S.failures source.new) (K.taken sink.old)
+        (K.taken sink.new) (K.failures sink.old) (K.failures sink.new) (K.stalls sink.old) (K.stalls sink.new)) }
+    ensures worked { OnOk result ((S.failures source.new ≡ S.failures source.old) × (K.failures sink.new ≡ K.failures sink.old)
+        × (K.stalls sink.new ≡ K.stalls sink.old)) }
     ensures told { IfErr result (ToldAsRead (S.failures source.old) (S.failures source.new)) }
     ensures unwritten { IfErr result (λ e. IsWrite e ⊎ (sink.new ≡ sink.old)) }
     ensures bounded { GaveWithin (λ _. file_limit) (S.left source.old) (S.left source.new) }
@@ -61,7 +63,8 @@ fn raw_of_source<S: Source>(alloc: Global, source: &mut S, layout: Layout) -> Re
 /// The cube whose file the source has.
 fn decoded<S: Source>(alloc: Global, source: &mut S) -> Result<Cube, Fault>
     ensures cube { IfOk result (HasFileOf (S.left source.old)) }
-    ensures refused { IfErr result (λ e. IsReadRefusal (S.left source.old) (S.failures source.old) (S.failures source.new) e ⊎ HasNoFile (S.left source.old) e) }
+    ensures refused { IfErr result (λ e. IsReadRefusal (S.left source.old) (S.failures source.old) (S.failures source.new) e
+        ⊎ HasNoFile (S.left source.old) e) }
     ensures worked { OnOk result (S.failures source.new ≡ S.failures source.old) }
     ensures told { IfErr result (ToldAsRead (S.failures source.old) (S.failures source.new)) }
     ensures bounded { GaveWithin (λ _. file_limit) (S.left source.old) (S.left source.new) }

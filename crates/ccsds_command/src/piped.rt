@@ -39,11 +39,14 @@ pub fn run_piped<R: Threads + Wait + Sync, S: Source, K: Sink, G: Gate + Sync>(
     gate: &G,
 ) -> Result<(), Fault>
     requires { IsLayout settings.now.layout }
-    ensures checked { (fault : Refusal) → params_fault settings.now.params ≡ Err fault → (result ≡ Err fault) × (source.new ≡ source.old) × (sink.new ≡ sink.old) }
+    ensures checked { (fault : Refusal) → params_fault settings.now.params ≡ Err fault → (result ≡ Err fault) × (source.new ≡ source.old)
+        × (sink.new ≡ sink.old) }
     ensures compressed { OnOk result (Compresses settings.now (S.left source.old) (K.taken sink.old) (K.taken sink.new)) }
     ensures may { OnOk result (MayBePlanned settings.now) }
-    ensures refused { IfErr result (IsPipedFault G.may_stop gate.now settings.now (S.left source.old) (S.failures source.old) (S.failures source.new) (K.taken sink.old) (K.taken sink.new) (K.failures sink.old) (K.failures sink.new) (K.stalls sink.old) (K.stalls sink.new)) }
-    ensures worked { OnOk result ((S.failures source.new ≡ S.failures source.old) × (K.failures sink.new ≡ K.failures sink.old) × (K.stalls sink.new ≡ K.stalls sink.old)) }
+    ensures refused { IfErr result (IsPipedFault G.may_stop gate.now settings.now (S.left source.old) (S.failures source.old) (S.failures source.new)
+        (K.taken sink.old) (K.taken sink.new) (K.failures sink.old) (K.failures sink.new) (K.stalls sink.old) (K.stalls sink.new)) }
+    ensures worked { OnOk result ((S.failures source.new ≡ S.failures source.old) × (K.failures sink.new ≡ K.failures sink.old)
+        × (K.stalls sink.new ≡ K.stalls sink.old)) }
     ensures told { IfErr result (ToldAsRead (S.failures source.old) (S.failures source.new)) }
     ensures unwritten { IfErr result (λ e. IsWrite e ⊎ (sink.new ≡ sink.old)) }
     ensures bounded { GaveWithin (λ _. raw_limit settings.now) (S.left source.old) (S.left source.new) }
@@ -101,7 +104,8 @@ fn piped_file<R: Threads + Wait + Sync, S: Source, G: Gate + Sync>(
     requires layout { IsLayout settings.now.layout }
     requires plan { plan.now ≡ planned settings.now }
     ensures file { IfOk result (λ file. HasFile settings.now (S.left source.old) file.items) }
-    ensures refused { IfErr result (λ e. IsCubeRefusal settings.now (S.left source.old) (S.failures source.old) (S.failures source.new) e ⊎ EndedEarly G.may_stop gate.now settings.now (S.left source.old) e) }
+    ensures refused { IfErr result (λ e. IsCubeRefusal settings.now (S.left source.old) (S.failures source.old) (S.failures source.new) e
+        ⊎ EndedEarly G.may_stop gate.now settings.now (S.left source.old) e) }
     ensures worked { OnOk result (S.failures source.new ≡ S.failures source.old) }
     ensures told { IfErr result (ToldAsRead (S.failures source.old) (S.failures source.new)) }
     ensures bounded { GaveWithin (λ _. raw_limit settings.now) (S.left source.old) (S.left source.new) }

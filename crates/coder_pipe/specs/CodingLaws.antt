@@ -15,7 +15,14 @@ all_last limit (x ∷ xs) ys h = all_last limit xs ys h.1
 
 takes_less : (e : Ending) (xs ys : List ℕ) → MayCodeAll e (xs ++ ys) → MayCodeAll e xs
 takes_less e xs ys h =
-    record { params = h.params; numbers = h.numbers; lawful = h.lawful; coded = h.coded; more = omega (arith, h.more, length-append xs ys); range = all_first (2 ^ h.params.kind.bits) xs ys h.range }
+    record {
+      params = h.params;
+      numbers = h.numbers;
+      lawful = h.lawful;
+      coded = h.coded;
+      more = omega (arith, h.more, length-append xs ys);
+      range = all_first (2 ^ h.params.kind.bits) xs ys h.range;
+    }
 
 takes_more : (old new : Ending) (xs ys : List ℕ) → Takes old new true xs → MayCodeAll old (xs ++ ys) → MayCodeAll new ys
 takes_more old new xs ys a h =

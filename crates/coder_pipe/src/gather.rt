@@ -36,9 +36,12 @@ fn next_of<R: Threads + Wait, F: Feed, G: Gate>(
     ensures gates { gates_of stages.new.items ≡ gates_of stages.old.items }
     ensures len { vec_len stages.new ≡ vec_len stages.old }
     ensures within { IfOk result (λ count. (0 < count) × (count ≤ length run.old)) }
-    ensures ok { IfOk result (λ count. handed_of stages.new.items ≡ slice_set (handed_of stages.old.items) q (slice_index_or (handed_of stages.old.items) q [] ++ take count run.new)) }
+    ensures ok { IfOk result (λ count. handed_of stages.new.items ≡ slice_set (handed_of stages.old.items) q (slice_index_or (handed_of stages.old.items) q
+        [] ++ take count run.new)) }
     ensures most { IfOk result (λ count. All (λ n. n ≤ most) (take count run.new)) }
-    ensures err { IfErr result (λ n. (f : _) (g : _) → IsTrue (G.may_stop (slice_index_or (gates_of stages.old.items) q g) (F.predictor (slice_index_or (feeds_of stages.old.items) q f)) n) × (n < length (F.items (slice_index_or (feeds_of stages.old.items) q f)))) }
+    ensures err { IfErr result (λ n. (f : _) (g : _)
+        → IsTrue (G.may_stop (slice_index_or (gates_of stages.old.items) q g) (F.predictor (slice_index_or (feeds_of stages.old.items) q f)) n)
+        × (n < length (F.items (slice_index_or (feeds_of stages.old.items) q f)))) }
 {
     let stage = &mut stages[q];
     let count = stage.next_run(rt, over, run);
@@ -96,9 +99,12 @@ fn next_one_of<R: Threads + Wait, F: Feed, G: Gate>(
     ensures feeds { feeds_of stages.new.items ≡ feeds_of stages.old.items }
     ensures gates { gates_of stages.new.items ≡ gates_of stages.old.items }
     ensures len { vec_len stages.new ≡ vec_len stages.old }
-    ensures ok { IfOk result (λ number. handed_of stages.new.items ≡ slice_set (handed_of stages.old.items) q (slice_index_or (handed_of stages.old.items) q [] ++ number ∷ [])) }
+    ensures ok { IfOk result (λ number. handed_of stages.new.items ≡ slice_set (handed_of stages.old.items) q (slice_index_or (handed_of stages.old.items) q
+        [] ++ number ∷ [])) }
     ensures most { IfOk result (λ number. number ≤ most) }
-    ensures err { IfErr result (λ n. (f : _) (g : _) → IsTrue (G.may_stop (slice_index_or (gates_of stages.old.items) q g) (F.predictor (slice_index_or (feeds_of stages.old.items) q f)) n) × (n < length (F.items (slice_index_or (feeds_of stages.old.items) q f)))) }
+    ensures err { IfErr result (λ n. (f : _) (g : _)
+        → IsTrue (G.may_stop (slice_index_or (gates_of stages.old.items) q g) (F.predictor (slice_index_or (feeds_of stages.old.items) q f)) n)
+        × (n < length (F.items (slice_index_or (feeds_of stages.old.items) q f)))) }
 {
     let stage = &mut stages[q];
     let Some(number) = stage.next_one(rt, over) else {

@@ -87,7 +87,8 @@ impl Weaver {
     pub fn wanted_column(&self, most: usize) -> &[u8]
         requires { 0 < most }
         ensures most { length result.now ≤ most }
-        ensures owned { (p : Parameters) (deal numbers : List ℕ) → HasWoven p deal self.now numbers → AreOwnersFrom (owners deal p) (length numbers) result.now }
+        ensures owned { (p : Parameters) (deal numbers : List ℕ) → HasWoven p deal self.now numbers
+            → AreOwnersFrom (owners deal p) (length numbers) result.now }
         ensures some { 0 < length self.now.end.left → 0 < length result.now }
     {
         let Some(place) = self.end.place() else {
@@ -103,7 +104,8 @@ impl Weaver {
     /// After `WantOfMemory` nothing was changed.
     pub fn take(&mut self, residual: u16) -> Result<(), Fault>
         requires { MayCode self.old.end residual }
-        ensures woven { OnOk result ((p : Parameters) (deal numbers : List ℕ) → HasWoven p deal self.old numbers → HasWoven p deal self.new (numbers ++ residual ∷ [])) }
+        ensures woven { OnOk result ((p : Parameters) (deal numbers : List ℕ) → HasWoven p deal self.old numbers
+            → HasWoven p deal self.new (numbers ++ residual ∷ [])) }
         ensures same { OnErr result (self.new ≡ self.old) }
         ensures refused { IfErr result (λ e. e ≡ WantOfMemory) }
     {
@@ -130,7 +132,8 @@ impl Weaver {
     /// `WantOfMemory` if they can't be allocated.
     pub fn finish(self) -> Result<Vec<u8>, Fault>
         requires { self.end.left ≡ [] }
-        ensures file { IfOk result (λ bytes. (p : Parameters) (deal numbers : List ℕ) → HasWoven p deal self numbers → bytes.items ≡ file_of_residuals numbers p) }
+        ensures file { IfOk result (λ bytes. (p : Parameters) (deal numbers : List ℕ) → HasWoven p deal self numbers
+            → bytes.items ≡ file_of_residuals numbers p) }
         ensures refused { IfErr result (λ e. e ≡ WantOfMemory) }
     {
         let Weaver {

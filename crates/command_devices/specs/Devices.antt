@@ -7,11 +7,13 @@ Gave old new bytes = (before : List ℕ) → old ≡ Some before → (rest : Lis
 
 -- where a source tells its bytes, it gave some from the front of them, at most as many as their limit
 abbrev pub GaveWithin : (List ℕ → ℕ) → Option (List ℕ) → Option (List ℕ) → Type 0
-GaveWithin limit old new = (before : List ℕ) → old ≡ Some before → (bytes : List ℕ) × (rest : List ℕ) × (new ≡ Some rest) × (before ≡ bytes ++ rest) × (length bytes ≤ limit before)
+GaveWithin limit old new = (before : List ℕ) → old ≡ Some before → (bytes : List ℕ) × (rest : List ℕ) × (new ≡ Some rest) × (before ≡ bytes ++ rest)
+    × (length bytes ≤ limit before)
 
 -- where a source tells its bytes, it gave some from the front of them, fewer than the limit
 abbrev pub GaveBelow : ℕ → Option (List ℕ) → Option (List ℕ) → Type 0
-GaveBelow limit old new = (before : List ℕ) → old ≡ Some before → (bytes : List ℕ) × (rest : List ℕ) × (new ≡ Some rest) × (before ≡ bytes ++ rest) × (length bytes < limit)
+GaveBelow limit old new = (before : List ℕ) → old ≡ Some before → (bytes : List ℕ) × (rest : List ℕ) × (new ≡ Some rest) × (before ≡ bytes ++ rest)
+    × (length bytes < limit)
 
 -- where a source tells its bytes, these are the first of them, as many as the limit
 abbrev pub IsFront : ℕ → Option (List ℕ) → List ℕ → Type 0

@@ -47,7 +47,8 @@ pub fn read_up_to<S: Source>(alloc: Global, source: &mut S, limit: u64) -> Resul
     ensures whole { IfOk result (λ bytes. (length bytes.items ≡ limit) ⊎ IsEnd (S.left source.new)) }
     ensures worked { IfOk result (λ _. S.failures source.new ≡ S.failures source.old) }
     ensures unfilled { IfErr result (λ e. e ≡ WantOfMemory → GaveBelow limit (S.left source.old) (S.left source.new)) }
-    ensures refused { IfErr result (λ e. ((e ≡ WantOfMemory) × (S.failures source.new ≡ S.failures source.old)) ⊎ ((e ≡ Read) × Rose (S.failures source.old) (S.failures source.new))) }
+    ensures refused { IfErr result (λ e. ((e ≡ WantOfMemory) × (S.failures source.new ≡ S.failures source.old))
+        ⊎ ((e ≡ Read) × Rose (S.failures source.old) (S.failures source.new))) }
     ensures told { IfErr result (ToldAsRead (S.failures source.old) (S.failures source.new)) }
 {
     let mut bytes = Vec::new(alloc);

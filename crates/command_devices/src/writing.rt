@@ -13,7 +13,8 @@ use cube_core::fault::Fault;
 pub fn write_all<K: Sink>(sink: &mut K, bytes: &[u8]) -> Result<(), Fault>
     ensures whole { OnOk result (Took (K.taken sink.old) (K.taken sink.new) bytes.now) }
     ensures worked { OnOk result ((K.failures sink.new ≡ K.failures sink.old) × (K.stalls sink.new ≡ K.stalls sink.old)) }
-    ensures cut { IfErr result (IsCutShort (K.taken sink.old) (K.taken sink.new) (K.failures sink.old) (K.failures sink.new) (K.stalls sink.old) (K.stalls sink.new) bytes.now) }
+    ensures cut { IfErr result (IsCutShort (K.taken sink.old) (K.taken sink.new) (K.failures sink.old) (K.failures sink.new) (K.stalls sink.old)
+        (K.stalls sink.new) bytes.now) }
 {
     let mut written = 0;
     while written < bytes.len() {

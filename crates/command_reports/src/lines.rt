@@ -4,7 +4,8 @@ ghost use Rattle.std.specs.Prelude.{◌≡◌, ◌++◌, ◌≤◌, ◌^◌, ℕ
 ghost use Rattle.std.specs.Fmt.{signed_decimal};
 ghost use Rattle.cube_core.specs.declared.fault.Fault.TheVariants.{WantOfMemory};
 ghost use Rattle.header_bits.specs.Lawful.{IsLawful};
-ghost use Rattle.command_reports.specs.Lines.{line, choice, coder_text, order_text, start_text, constant_text, image_lines, predictor_lines, coder_lines, header_lines as lines_of};
+ghost use Rattle.command_reports.specs.Lines.{line, choice, coder_text, order_text, start_text, constant_text, image_lines, predictor_lines, coder_lines};
+ghost use Rattle.command_reports.specs.Lines.{header_lines as lines_of};
 
 use cube_core::fault::Fault;
 use cube_core::order::Order;

@@ -36,7 +36,8 @@ AreOfOptions words = BeginWith (codes "compress") words ⊎ BeginWith (codes "ex
 -- options say how a cube is compressed, and which files are read and written
 abbrev pub AreCompressed : List Row → CompressSettings → String Global → String Global → Type 0
 AreCompressed rows s from to =
-    AreParamsOf rows s.params × IsLayoutOf rows s.layout × HasNumber rows (codes "predictors") s.predictors × HasNumber rows (codes "slots") s.slots × AreFilesOf rows from to
+    AreParamsOf rows s.params × IsLayoutOf rows s.layout × HasNumber rows (codes "predictors") s.predictors × HasNumber rows (codes "slots") s.slots
+    × AreFilesOf rows from to
 
 -- and how a file is expanded
 abbrev pub AreExpanded : List Row → Layout → String Global → String Global → Type 0

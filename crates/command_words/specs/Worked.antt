@@ -6,4 +6,5 @@ use Rattle.clap.specs.Walk.{Text}
 abbrev pub column_words : List Text
 column_words =
     codes "compress" ∷ codes "--columns" ∷ codes "1" ∷ codes "--rows" ∷ codes "2" ∷ codes "--bands" ∷ codes "1" ∷ codes "--bits" ∷ codes "8"
-    ∷ codes "--bytes" ∷ codes "1" ∷ codes "--previous" ∷ codes "0" ∷ codes "--reduced" ∷ codes "--column-sums" ∷ codes "--register" ∷ codes "32" ∷ codes "a" ∷ codes "b" ∷ []
+    ∷ codes "--bytes" ∷ codes "1" ∷ codes "--previous" ∷ codes "0" ∷ codes "--reduced" ∷ codes "--column-sums" ∷ codes "--register" ∷ codes "32" ∷ codes "a"
+    ∷ codes "b" ∷ []

@@ -16,7 +16,8 @@ use header_bits::fields::LEAST_EXPONENT;
 pub(crate) fn number(matches: &ArgMatches<'_>, field: NumberField) -> Result<u32, Fault>
     ensures range { IfOk result (InRange field.range.least field.range.most) }
     ensures read { IfOk result (HasNumber (rows matches.now) field.name.now) }
-    ensures refused { IfErr result (λ e. (e ≡ Usage) × ((n : ℕ) → HasNumber (rows matches.now) field.name.now n → ¬ (InRange field.range.least field.range.most n))) }
+    ensures refused { IfErr result (λ e. (e ≡ Usage) × ((n : ℕ) → HasNumber (rows matches.now) field.name.now n
+        → ¬ (InRange field.range.least field.range.most n))) }
 {
     number_in(matches, field.name, field.range)
 }

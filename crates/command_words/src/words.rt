@@ -16,7 +16,8 @@ ghost use Rattle.clap.specs.Simple.{app_of, is_simple, matches_of};
 ghost use Rattle.clap.specs.Faults.{is_simple_and_free};
 ghost use Rattle.clap.specs.declared.error.ErrorKind.TheVariants.{OutOfMemory};
 ghost use Rattle.command_words.specs.Settings.{AreInRange, AreParams, IsCoderInRange, IsDepth};
-ghost use Rattle.command_words.specs.Reading.{AreFilesOf, AreParamsOf, AreSizesOf, HasWord, IsBlockOf, IsCoderOf, IsKindOf, IsLayoutOf, IsOrderOf, IsSampleOf, raw_order_word, rows};
+ghost use Rattle.command_words.specs.Reading.{AreFilesOf, AreParamsOf, AreSizesOf, HasWord, IsBlockOf, IsCoderOf, IsKindOf, IsLayoutOf, IsOrderOf};
+ghost use Rattle.command_words.specs.Reading.{IsSampleOf, raw_order_word, rows};
 ghost use Rattle.command_words.specs.Words.{texts, AreOfOptions, AreTaken, Ask, AskForNone, BeginWith};
 
 use crate::found::{exponent, flag, number, number_in, word};
@@ -101,7 +102,8 @@ fn expand_settings<'a>(alloc: Global, words: &'a [&'a str]) -> Result<Settings, 
 fn matches<'a>(command: Command<'a>, words: &'a [&'a str]) -> Result<ArgMatches<'a>, Fault>
     ensures found { is_simple (app_of command.entry) ≡ true → IfOk result (λ m. rows m ≡ matches_of (app_of command.entry) (texts words.entry.now)) }
     ensures taken { is_simple_and_free (app_of command.entry) ≡ true → IfOk result (λ m. AreTaken (app_of command.entry) (texts words.entry.now)) }
-    ensures refused { IfErr result (λ e. ((e ≡ Usage) × (is_simple_and_free (app_of command.entry) ≡ true → ¬ (AreTaken (app_of command.entry) (texts words.entry.now)))) ⊎ (e ≡ WantOfMemory)) }
+    ensures refused { IfErr result (λ e. ((e ≡ Usage) × (is_simple_and_free (app_of command.entry) ≡ true
+        → ¬ (AreTaken (app_of command.entry) (texts words.entry.now)))) ⊎ (e ≡ WantOfMemory)) }
 {
     command
         .try_get_matches_from(words)
@@ -236,7 +238,8 @@ fn raw_order(matches: &ArgMatches<'_>) -> Result<RawOrder, Fault>
 fn files(alloc: Global, matches: &ArgMatches<'_>) -> Result<(String, String), Fault>
     ensures apart { IfOk result (λ f. string_bytes f.0 ≢ string_bytes f.1) }
     ensures read { IfOk result (λ f. AreFilesOf (rows matches.now) f.0 f.1) }
-    ensures refused { IfErr result (λ e. ((e ≡ Usage) × ((from to : String Global) → AreFilesOf (rows matches.now) from to → string_bytes from ≡ string_bytes to)) ⊎ (e ≡ WantOfMemory)) }
+    ensures refused { IfErr result (λ e. ((e ≡ Usage) × ((from to : String Global) → AreFilesOf (rows matches.now) from to
+        → string_bytes from ≡ string_bytes to)) ⊎ (e ≡ WantOfMemory)) }
 {
     let (Some(from), Some(to)) = (word(matches, "IN"), word(matches, "OUT")) else {
         return Err(Fault::Usage);

@@ -1,5 +1,6 @@
 -- How the samples of a cube lie in raw bytes.
-use Rattle.std.specs.Prelude.{ℕ, ◌≡◌, ◌⊎◌, ◌+◌, ◌-◌, ◌*◌, ◌/◌, ◌%◌, ◌^◌, ◌<◌, ◌≤◌, ◌==◌, nat_le, ◌&&◌, Bool, ℤ, pos, negsuc, ◌-ℤ◌, List, [], ◌∷◌, length, map, take, drop, slice_index, slice_index_or, if◌then◌else◌}
+use Rattle.std.specs.Prelude.{ℕ, ◌≡◌, ◌⊎◌, ◌+◌, ◌-◌, ◌*◌, ◌/◌, ◌%◌, ◌^◌, ◌<◌, ◌≤◌, ◌==◌, nat_le, ◌&&◌, Bool, ℤ, pos, negsuc, ◌-ℤ◌, List, [], ◌∷◌, length}
+use Rattle.std.specs.Prelude.{map, take, drop, slice_index, slice_index_or, if◌then◌else◌}
 use Rattle.std.specs.List.{flat_map}
 use Rattle.cube_core.specs.declared.layout.Layout.{Layout}
 use Rattle.cube_core.specs.declared.layout.RawOrder.{RawOrder}

@@ -14,4 +14,5 @@ pub record AreOffsets (s : Sizes) (k : SampleKind) (offsets : List ℕ) : Type 0
 
 -- the offsets of one row's samples
 abbrev pub AreRowOffsets : Image → ℕ → ℕ → List ℕ → Type 0
-AreRowOffsets c z y offsets = (x : ℕ) → x < c.shape.columns → (slice_index offsets x < 2 ^ c.kind.bits) × (sample_at c z y x ≡ sample_of c.kind (slice_index offsets x))
+AreRowOffsets c z y offsets = (x : ℕ) → x < c.shape.columns → (slice_index offsets x < 2 ^ c.kind.bits)
+    × (sample_at c z y x ≡ sample_of c.kind (slice_index offsets x))

@@ -38,7 +38,8 @@ unfoldable pub places : Sizes → Order → List Place
 places s Bsq =
     flat_map (λ z. flat_map (λ y. map (λ x. record { z = z; y = y; x = x }) (upto s.columns)) (upto s.rows)) (upto s.bands)
 places s (Bi depth) =
-    flat_map (λ y. flat_map (λ i. flat_map (λ x. map (λ z. record { z = z; y = y; x = x }) (group s depth i)) (upto s.columns)) (upto (group_count s depth))) (upto s.rows)
+    flat_map (λ y. flat_map (λ i. flat_map (λ x. map (λ z. record { z = z; y = y; x = x }) (group s depth i)) (upto s.columns))
+    (upto (group_count s depth))) (upto s.rows)
 
 -- the numbers by which places are ordered, the first deciding first
 abbrev pub place_key : Order → Place → List ℕ

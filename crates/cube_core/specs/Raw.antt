@@ -13,7 +13,8 @@ use Rattle.cube_core.specs.Layout.{order_of, raw_value, bytes_at, IsFirstBad, Is
 -- the offset at a place is that of the sample that its bytes spell
 pub record IsOffsetOf (s : Sizes) (k : SampleKind) (l : Layout) (bytes offsets : List ℕ) (p : Place) : Type 0 where
   pub below : slice_index offsets (index_in s.columns s.rows p.z p.y p.x) < 2 ^ k.bits
-  pub value : sample_of k (slice_index offsets (index_in s.columns s.rows p.z p.y p.x)) ≡ raw_value l k (bytes_at l bytes (place_index s (order_of l.order s) p))
+  pub value : sample_of k (slice_index offsets (index_in s.columns s.rows p.z p.y p.x))
+      ≡ raw_value l k (bytes_at l bytes (place_index s (order_of l.order s) p))
 
 -- so it is at every place
 abbrev pub AreOffsetsOf : Sizes → SampleKind → Layout → List ℕ → List ℕ → Type 0

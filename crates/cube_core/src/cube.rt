@@ -71,7 +71,8 @@ impl Cube {
         ensures whole { IfOk result IsCube }
         ensures cube { IfOk result (λ c. (c.shape ≡ shape) × (c.kind ≡ kind) × (raw_bytes c layout ≡ bytes.now)) }
         ensures fits { IfOk result (λ c. HaveBytes c layout (sample_count shape)) }
-        ensures length { (result ≡ Err (RawLength (sample_count shape * layout.bytes) (length bytes.now))) ↔ (length bytes.now ≢ sample_count shape * layout.bytes) }
+        ensures length { (result ≡ Err (RawLength (sample_count shape * layout.bytes) (length bytes.now)))
+            ↔ (length bytes.now ≢ sample_count shape * layout.bytes) }
         ensures refused { IfErr result (IsRawFault shape kind layout bytes.now) }
     {
         // The kind's range is a part of what a cube is.

@@ -78,7 +78,8 @@ pub(crate) fn take_piece(
     requires small { length bytes.now ≤ 2 ^ 49 }
     requires there { (x : ℕ) → x < piece.count → (piece.first + x * piece.step + 1) * layout.bytes ≤ length bytes.now }
     requires room { piece.at + piece.count ≤ length offsets.old }
-    ensures taken { (x : ℕ) → x < piece.count → StandsFor scale.now.kind layout bytes.now (piece.first + x * piece.step) (slice_index offsets.new (piece.at + x)) }
+    ensures taken { (x : ℕ) → x < piece.count
+        → StandsFor scale.now.kind layout bytes.now (piece.first + x * piece.step) (slice_index offsets.new (piece.at + x)) }
     ensures others { (j : ℕ) → (j < piece.at) ⊎ (piece.at + piece.count ≤ j) → slice_index offsets.new j ≡ slice_index offsets.old j }
     ensures good { IsTrue result ↔ ((x : ℕ) → x < piece.count → slice_index offsets.new (piece.at + x) < 2 ^ scale.now.kind.bits) }
 {
@@ -106,7 +107,8 @@ fn take_numbers<const BYTES: u32, const LITTLE: bool>(
     requires small { length bytes.now ≤ 2 ^ 49 }
     requires there { (x : ℕ) → x < piece.count → (piece.first + x * piece.step + 1) * BYTES ≤ length bytes.now }
     requires room { piece.at + piece.count ≤ length offsets.old }
-    ensures taken { (x : ℕ) → x < piece.count → StandsFor scale.now.kind layout bytes.now (piece.first + x * piece.step) (slice_index offsets.new (piece.at + x)) }
+    ensures taken { (x : ℕ) → x < piece.count
+        → StandsFor scale.now.kind layout bytes.now (piece.first + x * piece.step) (slice_index offsets.new (piece.at + x)) }
     ensures others { (j : ℕ) → (j < piece.at) ⊎ (piece.at + piece.count ≤ j) → slice_index offsets.new j ≡ slice_index offsets.old j }
     ensures good { IsTrue result ↔ ((x : ℕ) → x < piece.count → slice_index offsets.new (piece.at + x) < 2 ^ scale.now.kind.bits) }
 {
@@ -154,9 +156,11 @@ pub(crate) fn give_piece(
     requires there { (x : ℕ) → x < piece.count → (piece.first + x * piece.step + 1) * layout.bytes ≤ length bytes.old }
     requires room { piece.at + piece.count ≤ length offsets.now }
     requires range { (x : ℕ) → x < piece.count → slice_index offsets.now (piece.at + x) < 2 ^ scale.now.kind.bits }
-    ensures given { (x : ℕ) → x < piece.count → SpellOffset scale.now.kind layout (slice_index offsets.now (piece.at + x)) (bytes_at layout bytes.new (piece.first + x * piece.step)) }
+    ensures given { (x : ℕ) → x < piece.count
+        → SpellOffset scale.now.kind layout (slice_index offsets.now (piece.at + x)) (bytes_at layout bytes.new (piece.first + x * piece.step)) }
     ensures others { (i : ℕ) → ((x : ℕ) → x < piece.count → i ≢ piece.first + x * piece.step) → bytes_at layout bytes.new i ≡ bytes_at layout bytes.old i }
-    ensures good { IsTrue result ↔ ((x : ℕ) → x < piece.count → HasBytes scale.now.kind layout (sample_of scale.now.kind (slice_index offsets.now (piece.at + x)))) }
+    ensures good { IsTrue result ↔ ((x : ℕ) → x < piece.count
+        → HasBytes scale.now.kind layout (sample_of scale.now.kind (slice_index offsets.now (piece.at + x)))) }
 {
     if layout.bytes == 1 {
         give_numbers::<1, false>(layout, scale, piece, offsets, bytes)
@@ -184,9 +188,11 @@ fn give_numbers<const BYTES: u32, const LITTLE: bool>(
     requires there { (x : ℕ) → x < piece.count → (piece.first + x * piece.step + 1) * BYTES ≤ length bytes.old }
     requires room { piece.at + piece.count ≤ length offsets.now }
     requires range { (x : ℕ) → x < piece.count → slice_index offsets.now (piece.at + x) < 2 ^ scale.now.kind.bits }
-    ensures given { (x : ℕ) → x < piece.count → SpellOffset scale.now.kind layout (slice_index offsets.now (piece.at + x)) (bytes_at layout bytes.new (piece.first + x * piece.step)) }
+    ensures given { (x : ℕ) → x < piece.count
+        → SpellOffset scale.now.kind layout (slice_index offsets.now (piece.at + x)) (bytes_at layout bytes.new (piece.first + x * piece.step)) }
     ensures others { (i : ℕ) → ((x : ℕ) → x < piece.count → i ≢ piece.first + x * piece.step) → bytes_at layout bytes.new i ≡ bytes_at layout bytes.old i }
-    ensures good { IsTrue result ↔ ((x : ℕ) → x < piece.count → HasBytes scale.now.kind layout (sample_of scale.now.kind (slice_index offsets.now (piece.at + x)))) }
+    ensures good { IsTrue result ↔ ((x : ℕ) → x < piece.count
+        → HasBytes scale.now.kind layout (sample_of scale.now.kind (slice_index offsets.now (piece.at + x)))) }
 {
     let mut greatest = 0;
     for x in 0..piece.count {

@@ -72,8 +72,10 @@ impl Scale {
     pub(crate) fn rebased(&self, offset: u16) -> u16
         requires width { (self.now.bytes ≡ 1) ⊎ (self.now.bytes ≡ 2) }
         requires offset { offset < 2 ^ self.now.kind.bits }
-        ensures fits { (result < 2 ^ (8 * self.now.bytes)) ↔ IsSample (record { signed = self.now.kind.signed; bits = 8 * self.now.bytes }) (sample_of self.now.kind offset) }
-        ensures code { result < 2 ^ (8 * self.now.bytes) → raw_code self.now.bytes (sample_of self.now.kind offset) ≡ number_of_rebased self.now.kind.signed self.now.bytes result }
+        ensures fits { (result < 2 ^ (8 * self.now.bytes)) ↔ IsSample (record { signed = self.now.kind.signed; bits = 8 * self.now.bytes })
+            (sample_of self.now.kind offset) }
+        ensures code { result < 2 ^ (8 * self.now.bytes) → raw_code self.now.bytes (sample_of self.now.kind offset) ≡ number_of_rebased self.now.kind.signed
+            self.now.bytes result }
     {
         offset.wrapping_sub(self.lift)
     }

@@ -14,14 +14,16 @@ ghost use Rattle.cube_core.specs.Shape.{sizes_or_fault};
 
 /// Three bands, two a group: the last group has one.
 pub fn groups_of_two()
-    ensures first { take 7 (places (sizes 2 2 3) (Bi 2)) ≡ place 0 0 0 ∷ place 1 0 0 ∷ place 0 0 1 ∷ place 1 0 1 ∷ place 2 0 0 ∷ place 2 0 1 ∷ place 0 1 0 ∷ [] }
+    ensures first { take 7 (places (sizes 2 2 3) (Bi 2)) ≡ place 0 0 0 ∷ place 1 0 0 ∷ place 0 0 1 ∷ place 1 0 1 ∷ place 2 0 0 ∷ place 2 0 1 ∷ place 0 1 0
+        ∷ [] }
     ensures index { place_index (sizes 2 2 3) (Bi 2) (place 2 0 1) ≡ 5 }
 {}
 
 /// Band after band, by line, and by pixel.
 pub fn three_orders()
     ensures sequential { places (sizes 2 1 2) Bsq ≡ place 0 0 0 ∷ place 0 0 1 ∷ place 1 0 0 ∷ place 1 0 1 ∷ [] }
-    ensures by_line { places (sizes 2 2 2) (Bi 1) ≡ place 0 0 0 ∷ place 0 0 1 ∷ place 1 0 0 ∷ place 1 0 1 ∷ place 0 1 0 ∷ place 0 1 1 ∷ place 1 1 0 ∷ place 1 1 1 ∷ [] }
+    ensures by_line { places (sizes 2 2 2) (Bi 1) ≡ place 0 0 0 ∷ place 0 0 1 ∷ place 1 0 0 ∷ place 1 0 1 ∷ place 0 1 0 ∷ place 0 1 1 ∷ place 1 1 0
+        ∷ place 1 1 1 ∷ [] }
     ensures by_pixel { places (sizes 2 1 2) (Bi 2) ≡ place 0 0 0 ∷ place 1 0 0 ∷ place 0 0 1 ∷ place 1 0 1 ∷ [] }
 {}
 

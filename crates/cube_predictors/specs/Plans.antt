@@ -44,7 +44,8 @@ length_fault bands deal = refuse_if (not (length deal == bands)) (BadDeal (min (
 
 -- the number of predictors is judged first, then that of slots, then each owner, then how many are dealt
 unfoldable pub plan_fault : ℕ → ℕ → ℕ → List ℕ → Test
-plan_fault predictors slots bands deal = in_range_or field.Predictors 1 64 predictors >> in_range_or field.Slots 1 65536 slots >> owner_fault predictors 0 deal >> length_fault bands deal
+plan_fault predictors slots bands deal = in_range_or field.Predictors 1 64 predictors >> in_range_or field.Slots 1 65536 slots >> owner_fault predictors 0
+    deal >> length_fault bands deal
 
 -- there is no refusal exactly where there may be a plan
 abbrev pub PlanFaultIsExact : Type 0

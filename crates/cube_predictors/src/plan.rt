@@ -53,7 +53,8 @@ impl Plan {
         requires { IsLawful params.now }
         ensures plan { IfOk result (λ plan. plan ≡ record { params = params.now; predictors = predictors; deal = deal.now; slots = slots }) }
         ensures may { OnOk result (MayPlan predictors slots params.now.shape.bands deal.now) }
-        ensures refused { IfErr result (λ e. ((e ≡ WantOfMemory) × MayPlan predictors slots params.now.shape.bands deal.now) ⊎ (plan_fault predictors slots params.now.shape.bands deal.now ≡ Err e)) }
+        ensures refused { IfErr result (λ e. ((e ≡ WantOfMemory) × MayPlan predictors slots params.now.shape.bands deal.now)
+            ⊎ (plan_fault predictors slots params.now.shape.bands deal.now ≡ Err e)) }
     {
         test_plan(predictors, slots, params.shape.bands(), deal)?;
         Plan::made(alloc, params, predictors, deal, slots)

@@ -33,7 +33,8 @@ pub fn predict_lane<R: Wait, G: Gate>(
     requires image { IsSeen plan.now.params cube.now }
     requires bands { AreFresh plan.now.params predictor plan.now.deal cube.now bands.items }
     requires sent { sender.sent ≡ [] }
-    ensures { Keeps (G.may_stop gate.now) predictor (part predictor (owners plan.now.deal plan.now.params) (residuals plan.now.params cube.now)) sender.lane result }
+    ensures { Keeps (G.may_stop gate.now) predictor (part predictor (owners plan.now.deal plan.now.params) (residuals plan.now.params cube.now)) sender.lane
+        result }
 {
     plan.prove_is_plan();
     let _count = cube.shape().sample_count();

@@ -53,7 +53,8 @@ CodesAll old new list = (p : Params) (numbers : List ℕ) → HasCoded p old num
 
 -- each place that isn't the last of its row is followed by the next place of the row
 abbrev pub AreByRows : ℕ → List Place → Type 0
-AreByRows columns ps = (i : ℕ) (q : Place) → slice_get ps i ≡ Some q → q.x + 1 < columns → slice_get ps (suc i) ≡ Some (record { z = q.z; y = q.y; x = q.x + 1 })
+AreByRows columns ps = (i : ℕ) (q : Place) → slice_get ps i ≡ Some q → q.x + 1 < columns
+    → slice_get ps (suc i) ≡ Some (record { z = q.z; y = q.y; x = q.x + 1 })
 
 -- the first places, so many, are of one row and column, from the band of a place on
 abbrev pub AreOfColumn : Place → ℕ → List Place → Type 0

@@ -55,7 +55,8 @@ GivesMore p new numbers bits unread left number =
 abbrev pub GivesNumber : ℕ → ℕ → ℕ → Result ℕ Fault → Decoder → Unread → Decoder → List Bool → Type 0
 GivesNumber z t place result old unread new left =
     (p : Params) (numbers : List ℕ) (bits : List Bool) → IsLawful p → HasGiven p old numbers bits → IsNumber p numbers z t → place ≡ length numbers
-    → MatchResult result (λ number. GivesMore p new numbers bits unread.left left number) (λ fault. behind_body unread.count p (bits ++ unread.left) ≡ Err fault)
+    → MatchResult result (λ number. GivesMore p new numbers bits unread.left left number) (λ fault. behind_body unread.count p (bits ++ unread.left)
+    ≡ Err fault)
 
 -- so many numbers behind the first n, whatever these are, are those of band z from its number t on
 abbrev pub AreNumbers : Params → ℕ → ℕ → ℕ → ℕ → Type 0
@@ -79,7 +80,8 @@ GivesAll p new numbers bits unread left list =
 -- whatever numbers were given before: the next ones are given, or the refusal is that of the body
 abbrev pub GivesRun : ℕ → ℕ → ℕ → Result (Unit {0}) Fault → Decoder → Unread → Decoder → List Bool → List ℕ → Type 0
 GivesRun z t place result old unread new left list =
-    (p : Params) (numbers : List ℕ) (bits : List Bool) → IsLawful p → HasGiven p old numbers bits → AreNumbers p (length numbers) z t (length list) → place ≡ length numbers
+    (p : Params) (numbers : List ℕ) (bits : List Bool) → IsLawful p → HasGiven p old numbers bits → AreNumbers p (length numbers) z t (length list)
+    → place ≡ length numbers
     → MatchResult result (λ _. GivesAll p new numbers bits unread.left left list) (λ fault. behind_body unread.count p (bits ++ unread.left) ≡ Err fault)
 
 -- the bits begin with a body of the cube's residuals, and these are left

@@ -40,7 +40,8 @@ pub fn decode(alloc: Global, bytes: &[u8]) -> Result<(Params, Cube), Fault>
     ensures file { IfOk result (λ found. IsFile bytes.now found.0 found.1) }
     ensures only { (p : Parameters) (c : Image) → IsFile bytes.now p c → AnswersOr result p c }
     ensures header { (e : Refusal) → header_at (bits_of_bytes bytes.now) ≡ Err e → result ≡ Err e }
-    ensures head { (e : Refusal) → head_at (bits_of_bytes bytes.now) ≡ Err e → (result ≡ Err e) ⊎ ((result ≡ Err WantOfMemory) × BeginsWithTable (bits_of_bytes bytes.now)) }
+    ensures head { (e : Refusal) → head_at (bits_of_bytes bytes.now) ≡ Err e
+        → (result ≡ Err e) ⊎ ((result ≡ Err WantOfMemory) × BeginsWithTable (bits_of_bytes bytes.now)) }
     ensures fault { IfErr result (λ e. (e ≡ WantOfMemory) ⊎ (file_test (bits_of_bytes bytes.now) ≡ Err e)) }
     ensures none { IfErr result (λ e. (e ≡ WantOfMemory) ⊎ IsNoFile bytes.now) }
 {
@@ -52,7 +53,8 @@ fn read_file(alloc: Global, bytes: &[u8]) -> Result<(Params, Cube), Fault>
     requires { length bytes.now ≤ 2 ^ 60 }
     ensures lawful { IfOk result (λ found. IsLawful found.0) }
     ensures file { IfOk result (λ found. IsFile bytes.now found.0 found.1) }
-    ensures head { (e : Refusal) → head_at (bits_of_bytes bytes.now) ≡ Err e → (result ≡ Err e) ⊎ ((result ≡ Err WantOfMemory) × BeginsWithTable (bits_of_bytes bytes.now)) }
+    ensures head { (e : Refusal) → head_at (bits_of_bytes bytes.now) ≡ Err e
+        → (result ≡ Err e) ⊎ ((result ≡ Err WantOfMemory) × BeginsWithTable (bits_of_bytes bytes.now)) }
     ensures fault { IfErr result (λ e. (e ≡ WantOfMemory) ⊎ (file_test (bits_of_bytes bytes.now) ≡ Err e)) }
 {
     let (params, size) = read_header(alloc, bytes)?;

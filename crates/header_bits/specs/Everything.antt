@@ -11,5 +11,6 @@ use Rattle.header_bits.specs.Header.{parts_at, header_at, header_of}
 use Rattle.header_bits.specs.Lawful.{entries_fault, params_fault}
 
 unfoldable pub everything : Unit {0}
-unfolding bits_of number_of bits_of_bytes fundamental number_at zeros_at total spelled values unused part_at then_at as_at image predictor coder weight_count weights some_above constants parts_at header_at header_of entries_fault params_fault
+unfolding bits_of number_of bits_of_bytes fundamental number_at zeros_at total spelled values unused part_at then_at as_at image predictor coder
+    weight_count weights some_above constants parts_at header_at header_of entries_fault params_fault
 everything = tt

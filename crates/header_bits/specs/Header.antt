@@ -1,5 +1,6 @@
 -- The whole header: the image part, the predictor part, a weight table, the coder part and an accumulator table.
-use Rattle.std.specs.Prelude.{◌≡◌, ◌⊎◌, ◌||◌, ℕ, ◌+◌, ◌*◌, ◌≤◌, drop, Option, Some, None, Ok, Err, Bool, true, false, List, ◌∷◌, ◌++◌, [], length, map, Result, ℤ}
+use Rattle.std.specs.Prelude.{◌≡◌, ◌⊎◌, ◌||◌, ℕ, ◌+◌, ◌*◌, ◌≤◌, drop, Option, Some, None, Ok, Err, Bool, true, false, List, ◌∷◌, ◌++◌, [], length, map}
+use Rattle.std.specs.Prelude.{Result, ℤ}
 use Rattle.cube_core.specs.declared.fault.Fault.{Fault}
 use Rattle.cube_core.specs.declared.fault.Fault.TheVariants.{WantOfMemory}
 use Rattle.header_bits.specs.declared.params.Params.{Params}
@@ -32,13 +33,15 @@ coder_place i p = 136 + total (weights i p).fields
 -- the parts, read in order
 unfoldable pub parts_at : Reading Said
 parts_at =
-    then_at (then_at (then_at (then_at (part_at image) (λ i. part_at (predictor i))) (λ x. part_at (weights x.0 x.1))) (λ x. part_at (coder (coder_place x.0.0 x.0.1) x.0.0)))
+    then_at (then_at (then_at (then_at (part_at image) (λ i. part_at (predictor i))) (λ x. part_at (weights x.0 x.1)))
+    (λ x. part_at (coder (coder_place x.0.0 x.0.1) x.0.0)))
     (λ x. part_at (constants (coder_place x.0.0.0 x.0.0.1 + 16) x.0.0.0 x.1))
 
 -- the parts, spelt in order
 abbrev pub SpellsParts : Said → List Bool → Type 0
 SpellsParts =
-    SpellsThen (SpellsThen (SpellsThen (SpellsThen (SpellsPart image) (λ i. SpellsPart (predictor i))) (λ x. SpellsPart (weights x.0 x.1))) (λ x. SpellsPart (coder (coder_place x.0.0 x.0.1) x.0.0)))
+    SpellsThen (SpellsThen (SpellsThen (SpellsThen (SpellsPart image) (λ i. SpellsPart (predictor i))) (λ x. SpellsPart (weights x.0 x.1)))
+    (λ x. SpellsPart (coder (coder_place x.0.0 x.0.1) x.0.0)))
     (λ x. SpellsPart (constants (coder_place x.0.0.0 x.0.0.1 + 16) x.0.0.0 x.1))
 
 abbrev pub start_by : Bool → ℕ → List ℤ → WeightStart

@@ -66,4 +66,5 @@ depth_number (Bi depth) = depth
 -- the numbers that a coder puts into the slots
 abbrev pub image_numbers : ImagePart → List ℕ
 image_numbers i =
-    i.user ∷ i.shape.columns ∷ i.shape.rows ∷ i.shape.bands ∷ flag i.kind.signed ∷ 0 ∷ i.kind.bits ∷ order_flag i.order ∷ depth_number i.order ∷ 0 ∷ i.word ∷ flag i.block ∷ 0 ∷ []
+    i.user ∷ i.shape.columns ∷ i.shape.rows ∷ i.shape.bands ∷ flag i.kind.signed ∷ 0 ∷ i.kind.bits ∷ order_flag i.order ∷ depth_number i.order ∷ 0 ∷ i.word
+    ∷ flag i.block ∷ 0 ∷ []

@@ -1,5 +1,6 @@
 -- Which parameters are lawful, and why others are refused.
-use Rattle.std.specs.Prelude.{◌≡◌, ◌⊎◌, ℕ, ◌+◌, ◌-◌, ◌^◌, ◌≤◌, ◌==◌, nat_lt, nat_le, not, ◌&&◌, true, false, List, [], ◌∷◌, length, ℤ, pos, negsuc, neg_ℤ, ◌≤ℤ◌, ◌-ℤ◌, int_lt, int_le}
+use Rattle.std.specs.Prelude.{◌≡◌, ◌⊎◌, ℕ, ◌+◌, ◌-◌, ◌^◌, ◌≤◌, ◌==◌, nat_lt, nat_le, not, ◌&&◌, true, false, List, [], ◌∷◌, length, ℤ, pos, negsuc, neg_ℤ}
+use Rattle.std.specs.Prelude.{◌≤ℤ◌, ◌-ℤ◌, int_lt, int_le}
 use Rattle.std.specs.List.{AllByRecursion}
 use Rattle.cube_core.specs.declared.fault.Fault.TheVariants.{FieldRange, Disagree}
 use Rattle.cube_core.specs.declared.fault.Field.{Field}
@@ -35,7 +36,8 @@ IsBlockSize size = (size ≡ 8) ⊎ ((size ≡ 16) ⊎ ((size ≡ 32) ⊎ (size 
 -- the usual start; or a table with one number for each weight
 abbrev pub IsWeightStart : Params → WeightStart → Type 0
 IsWeightStart p Usual = Unit {0}
-IsWeightStart p (Table q values) = InRange 3 (p.omega + 3) q × (length values ≡ weight_count p.previous p.reduced p.shape.bands) × AllByRecursion (IsSigned q) values
+IsWeightStart p (Table q values) = InRange 3 (p.omega + 3) q × (length values ≡ weight_count p.previous p.reduced p.shape.bands)
+    × AllByRecursion (IsSigned q) values
 
 -- one constant; or a table with one constant for each band
 abbrev pub IsCountStart : Params → CountStart → Type 0
@@ -43,7 +45,8 @@ IsCountStart p (Constant k) = k ≤ p.kind.bits - 2
 IsCountStart p (Each values) = (length values ≡ p.shape.bands) × AllByRecursion (λ v. v ≤ p.kind.bits - 2) values
 
 abbrev pub IsCoder : Params → Coder → Type 0
-IsCoder p (Sample umax gamma_star gamma_zero start) = InRange 8 32 umax × InRange 4 9 gamma_star × InRange 1 8 gamma_zero × (gamma_zero + 1 ≤ gamma_star) × IsCountStart p start
+IsCoder p (Sample umax gamma_star gamma_zero start) = InRange 8 32 umax × InRange 4 9 gamma_star × InRange 1 8 gamma_zero × (gamma_zero + 1 ≤ gamma_star)
+    × IsCountStart p start
 IsCoder p (Block size restricted reference) = IsBlockSize size × (restricted ≡ true → p.kind.bits ≤ 4) × InRange 1 4096 reference
 
 -- all ranges and rules hold

@@ -85,4 +85,5 @@ predictor i = record { fields = predictor_fields; tests = predictor_tests i; say
 -- the numbers that a coder puts into the slots
 abbrev pub predictor_numbers : PredictorPart → List ℕ
 predictor_numbers p =
-    0 ∷ p.previous ∷ flag p.reduced ∷ 0 ∷ flag p.column ∷ 0 ∷ p.register ∷ p.omega ∷ p.interval_log ∷ exponent_code p.vmin ∷ exponent_code p.vmax ∷ 0 ∷ flag p.custom ∷ flag p.custom ∷ p.resolution ∷ []
+    0 ∷ p.previous ∷ flag p.reduced ∷ 0 ∷ flag p.column ∷ 0 ∷ p.register ∷ p.omega ∷ p.interval_log ∷ exponent_code p.vmin ∷ exponent_code p.vmax ∷ 0
+    ∷ flag p.custom ∷ flag p.custom ∷ p.resolution ∷ []

@@ -1,5 +1,6 @@
 -- The tables that may stand in a header: weights to start from, and an accumulator constant for each band.
-use Rattle.std.specs.Prelude.{ℕ, zero, suc, ◌+◌, ◌-◌, ◌*◌, ◌%◌, ◌^◌, nat_lt, min, Bool, true, false, if◌then◌else◌, List, [], ◌∷◌, ◌++◌, length, map, take, replicate, slice_index, ℤ, pos, negsuc, ◌-ℤ◌}
+use Rattle.std.specs.Prelude.{ℕ, zero, suc, ◌+◌, ◌-◌, ◌*◌, ◌%◌, ◌^◌, nat_lt, min, Bool, true, false, if◌then◌else◌, List, [], ◌∷◌, ◌++◌, length, map, take}
+use Rattle.std.specs.Prelude.{replicate, slice_index, ℤ, pos, negsuc, ◌-ℤ◌}
 use Rattle.cube_core.specs.declared.fault.Fault.TheVariants.{Disagree}
 use Rattle.cube_core.specs.declared.fault.Rule.TheVariants as rule
 use Rattle.cube_core.specs.Steps.{Test, ◌>>◌, refuse_if}

@@ -1,6 +1,7 @@
 //! Bits from the front of bytes.
 
-ghost use Rattle.std.specs.Prelude.{◌≡◌, ◌+◌, ◌-◌, ◌*◌, ◌/◌, ◌%◌, ◌^◌, ◌<◌, ◌≤◌, ◌↔◌, ◌++◌, ◌∷◌, true, false, length, take, drop, replicate, IsOk, IsErr, IfOk, IfErr, OnErr, IsSome, IfSome};
+ghost use Rattle.std.specs.Prelude.{◌≡◌, ◌+◌, ◌-◌, ◌*◌, ◌/◌, ◌%◌, ◌^◌, ◌<◌, ◌≤◌, ◌↔◌, ◌++◌, ◌∷◌, true, false, length, take, drop, replicate, IsOk, IsErr};
+ghost use Rattle.std.specs.Prelude.{IfOk, IfErr, OnErr, IsSome, IfSome};
 ghost use Rattle.cube_core.specs.declared.fault.Fault.TheVariants.{Truncated};
 ghost use Rattle.header_bits.specs.Bits.{bits_of, bits_of_bytes};
 ghost use Rattle.header_bits.specs.Reading.{Reads, ReadsZeros, number_at, zeros_at};

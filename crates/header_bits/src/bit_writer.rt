@@ -1,6 +1,7 @@
 //! Bits at the end of a growing row of bytes.
 
-ghost use Rattle.std.specs.Prelude.{◌≡◌, ◌+◌, ◌-◌, ◌*◌, ◌/◌, ◌%◌, ◌^◌, ◌<◌, ◌≤◌, ◌++◌, [], length, max, vec_len, vec_capacity, IsOk, IsTrue, IfErr, OnOk, OnErr};
+ghost use Rattle.std.specs.Prelude.{◌≡◌, ◌+◌, ◌-◌, ◌*◌, ◌/◌, ◌%◌, ◌^◌, ◌<◌, ◌≤◌, ◌++◌, [], length, max, vec_len, vec_capacity, IsOk, IsTrue, IfErr, OnOk};
+ghost use Rattle.std.specs.Prelude.{OnErr};
 ghost use Rattle.cube_core.specs.declared.fault.Fault.TheVariants.{WantOfMemory};
 ghost use Rattle.header_bits.specs.Bits.{bits_of, bits_of_bytes};
 
@@ -34,9 +35,13 @@ impl Model for BitWriter {
 
     ghost Value = { Written };
 
-    ghost view = { λ a. record { bits = bits_of_bytes a.bytes.items ++ bits_of a.held a.part; room = min (8 * vec_capacity a.bytes) (2 ^ 63) - (8 * vec_len a.bytes + a.held) } };
+    ghost view = { λ a. record {
+      bits = bits_of_bytes a.bytes.items ++ bits_of a.held a.part;
+      room = min (8 * vec_capacity a.bytes) (2 ^ 63) - (8 * vec_len a.bytes + a.held);
+    } };
 
-    ghost invariant = { λ a. (a.held < 64) × (8 * vec_len a.bytes + a.held ≤ 8 * vec_capacity a.bytes) × (8 * vec_len a.bytes + a.held ≤ 2 ^ 63) × (a.ready ≤ 64) × (8 * vec_len a.bytes + 2 * a.ready ≤ 8 * vec_capacity a.bytes) × (8 * vec_len a.bytes + 2 * a.ready ≤ 2 ^ 63) };
+    ghost invariant = { λ a. (a.held < 64) × (8 * vec_len a.bytes + a.held ≤ 8 * vec_capacity a.bytes) × (8 * vec_len a.bytes + a.held ≤ 2 ^ 63)
+        × (a.ready ≤ 64) × (8 * vec_len a.bytes + 2 * a.ready ≤ 8 * vec_capacity a.bytes) × (8 * vec_len a.bytes + 2 * a.ready ≤ 2 ^ 63) };
 }
 
 impl BitWriter {

@@ -7,7 +7,8 @@ ghost use Rattle.cube_core.specs.Steps.{refuse_if};
 ghost use Rattle.cube_core.specs.Shape.{AreSizes};
 ghost use Rattle.cube_core.specs.Kind.{IsKind};
 ghost use Rattle.header_bits.specs.TableParts.{some_above};
-ghost use Rattle.header_bits.specs.Lawful.{IsLawful, in_range_or, exponent_or, order_fault, predictor_fault, start_fault, weight_fault, entries_fault, count_fault, block_size_fault, coder_fault, params_fault};
+ghost use Rattle.header_bits.specs.Lawful.{IsLawful, in_range_or, exponent_or, order_fault, predictor_fault, start_fault, weight_fault, entries_fault};
+ghost use Rattle.header_bits.specs.Lawful.{count_fault, block_size_fault, coder_fault, params_fault};
 
 use crate::field::Range;
 use crate::fields::{self, GREATEST_EXPONENT, LEAST_EXPONENT, is_block_size};

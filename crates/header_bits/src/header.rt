@@ -132,7 +132,8 @@ fn look_through<'a>(reader: &mut BitReader<'a>) -> Result<Parts<'a>, Fault>
 /// `WantOfMemory` where memory for a table isn't had.
 fn read_params(alloc: Global, parts: Parts) -> Result<Params, Fault>
     requires { AreThere parts.image parts.predictor parts.weights.left parts.coder parts.constants.left }
-    ensures params { IfOk result (λ p. p ≡ params_of (said parts.entry.image parts.entry.predictor parts.entry.weights.left parts.entry.coder parts.entry.constants.left)) }
+    ensures params { IfOk result (λ p. p ≡ params_of (said parts.entry.image parts.entry.predictor parts.entry.weights.left parts.entry.coder
+        parts.entry.constants.left)) }
     ensures refused { IfErr result (λ e. (e ≡ WantOfMemory) × ((parts.entry.predictor.custom || has_constants parts.entry.coder) ≡ true)) }
 {
     let Parts {

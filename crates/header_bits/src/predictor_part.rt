@@ -6,7 +6,8 @@ ghost use Rattle.header_bits.specs.declared.layout.Slot.TheVariants as slot;
 ghost use Rattle.header_bits.specs.Layout.{AreValues, total, width};
 ghost use Rattle.header_bits.specs.Parts.{part_at, unused};
 ghost use Rattle.header_bits.specs.ImagePart.{flag};
-ghost use Rattle.header_bits.specs.PredictorPart.{predictor, predictor_fields, predictor_tests, start_tests, predictor_says, exponent_of, exponent_code, predictor_numbers};
+ghost use Rattle.header_bits.specs.PredictorPart.{predictor, predictor_fields, predictor_tests, start_tests, predictor_says, exponent_of, exponent_code};
+ghost use Rattle.header_bits.specs.PredictorPart.{predictor_numbers};
 ghost use Rattle.header_bits.specs.Lawful.{IsExponent};
 ghost use Rattle.header_bits.specs.Header.{is_custom, resolution_of, predictor_part_of};
 
@@ -112,7 +113,8 @@ fn exponent_code(exponent: i32) -> u32
 /// Refuses the first bit of a reserved field that is one.
 fn refuse_unused(index: usize, numbers: &[u32; PREDICTOR_FIELDS]) -> Result<(), Fault>
     requires { index < 15 }
-    ensures { result ≡ unused (96 + total (take index predictor_fields)) (width (slice_index_or predictor_fields index (slot.Unused 0))) (slice_index numbers.now index) }
+    ensures { result ≡ unused (96 + total (take index predictor_fields)) (width (slice_index_or predictor_fields index (slot.Unused 0)))
+        (slice_index numbers.now index) }
 {
     unused_field(image_end(), &predictor_row!(), index, numbers)
 }

@@ -96,8 +96,10 @@ pub(crate) fn read(
     requires previous { predictor.now.previous ≤ 15 }
     requires most { predictor.now.resolution ≤ 22 }
     requires least { predictor.now.custom ≡ true → 1 ≤ predictor.now.resolution }
-    requires whole { predictor.now.custom ≡ true → weight_count predictor.now.previous predictor.now.reduced image.now.shape.bands * predictor.now.resolution ≤ length reader.old.left }
-    ensures start { IfOk result (λ s. s ≡ start_by predictor.now.custom predictor.now.resolution (map (signed_of predictor.now.resolution) (values (number_fields (weight_count predictor.now.previous predictor.now.reduced image.now.shape.bands) predictor.now.resolution) reader.old.left))) }
+    requires whole { predictor.now.custom ≡ true
+        → weight_count predictor.now.previous predictor.now.reduced image.now.shape.bands * predictor.now.resolution ≤ length reader.old.left }
+    ensures start { IfOk result (λ s. s ≡ start_by predictor.now.custom predictor.now.resolution (map (signed_of predictor.now.resolution)
+        (values (number_fields (weight_count predictor.now.previous predictor.now.reduced image.now.shape.bands) predictor.now.resolution) reader.old.left))) }
     ensures refused { IfErr result (λ e. (e ≡ WantOfMemory) × (predictor.now.custom ≡ true)) }
 {
     if !predictor.custom {

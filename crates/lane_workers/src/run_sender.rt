@@ -35,9 +35,17 @@ impl<'g, G: Gate> Model for RunSender<'g, G> {
 
     ghost Value = { RunSending G };
 
-    ghost view = { λ s. record { lane = s.sender.lane; predictor = s.predictor; gate = s.gate.now; taken = s.sender.sent ++ s.waiting; ready = not s.stopped && nat_lt (length s.waiting) s.run; stopped = s.stopped } };
+    ghost view = { λ s. record {
+      lane = s.sender.lane;
+      predictor = s.predictor;
+      gate = s.gate.now;
+      taken = s.sender.sent ++ s.waiting;
+      ready = not s.stopped && nat_lt (length s.waiting) s.run;
+      stopped = s.stopped;
+    } };
 
-    ghost invariant = { λ s. (1 ≤ s.run) × (s.run ≤ 8) × (length s.sender.sent + length s.waiting < 2 ^ 64) × (IsTrue s.stopped → (0 < length s.waiting) × IsTrue (G.may_stop s.gate.now s.predictor (length s.sender.sent))) };
+    ghost invariant = { λ s. (1 ≤ s.run) × (s.run ≤ 8) × (length s.sender.sent + length s.waiting < 2 ^ 64) × (IsTrue s.stopped
+        → (0 < length s.waiting) × IsTrue (G.may_stop s.gate.now s.predictor (length s.sender.sent))) };
 }
 
 impl<'g, G: Gate> RunSender<'g, G> {
@@ -183,7 +191,8 @@ fn send_first<R: Wait, G: Gate>(
     ensures lane { sender.new.lane ≡ sender.old.lane }
     ensures taken { sender.new.sent ++ waiting.new ≡ sender.old.sent ++ waiting.old }
     ensures sent { IsTrue result → (length waiting.new + 1 ≡ length waiting.old) × (length sender.new.sent ≡ length sender.old.sent + 1) }
-    ensures stopped { IsFalse result → (waiting.new ≡ waiting.old) × (sender.new.sent ≡ sender.old.sent) × IsTrue (G.may_stop gate.now predictor (length sender.new.sent)) }
+    ensures stopped { IsFalse result → (waiting.new ≡ waiting.old) × (sender.new.sent ≡ sender.old.sent)
+        × IsTrue (G.may_stop gate.now predictor (length sender.new.sent)) }
 {
     let number = waiting.numbers()[0];
     for _ in rt.forever() {

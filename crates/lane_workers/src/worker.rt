@@ -60,7 +60,8 @@ pub(crate) struct Ended<F: Feed, G: Gate> {
     ghost parted: { IsLane lane },
     ghost prefix: { lane.sent ≡ take (length lane.sent) (F.items feed.value) },
     ghost all: { IsTrue whole → lane.sent ≡ F.items feed.value },
-    ghost stopped: { IsFalse whole → IsTrue (G.may_stop gate.value (F.predictor feed.value) (length lane.sent)) × (length lane.sent < length (F.items feed.value)) },
+    ghost stopped: { IsFalse whole → IsTrue (G.may_stop gate.value (F.predictor feed.value) (length lane.sent))
+        × (length lane.sent < length (F.items feed.value)) },
 }
 
 /// Starts a worker's thread in a scope. `over` is set once it sends no more; nothing rests on it.

@@ -4,10 +4,13 @@ use Rattle.cube_core.specs.Order.{places}
 use Rattle.predict_core.specs.Arithmetic.{wrapped}
 use Rattle.predict_core.specs.LocalSum.{local_sum}
 use Rattle.predict_core.specs.Differences.{central_difference, directional_differences, spectral_differences, difference_vector}
-use Rattle.predict_core.specs.Weights.{eighths, default_weights, entries_before, table_weights, weights_by, growth, step_exponent, step, updated_weight, updated_weights}
+use Rattle.predict_core.specs.Weights.{eighths, default_weights, entries_before, table_weights, weights_by, growth, step_exponent, step, updated_weight}
+use Rattle.predict_core.specs.Weights.{updated_weights}
 use Rattle.predict_core.specs.Prediction.{inner_product, scaled_by, scaled_there, next_weights, weight_vector, first_scaled, scaled_prediction, predicted_value}
 use Rattle.predict_core.specs.Residual.{mapped_between, mapped_residual, residuals}
 
 unfoldable pub everything : Unit {0}
-unfolding sample_at places wrapped local_sum central_difference directional_differences spectral_differences difference_vector eighths default_weights entries_before table_weights weights_by growth step_exponent step updated_weight updated_weights inner_product scaled_by scaled_there next_weights weight_vector first_scaled scaled_prediction predicted_value mapped_between mapped_residual residuals
+unfolding sample_at places wrapped local_sum central_difference directional_differences spectral_differences difference_vector eighths default_weights
+    entries_before table_weights weights_by growth step_exponent step updated_weight updated_weights inner_product scaled_by scaled_there next_weights
+    weight_vector first_scaled scaled_prediction predicted_value mapped_between mapped_residual residuals
 everything = tt

@@ -28,7 +28,8 @@ line_north column current above i = offset_difference (slice_index above (i + 1)
 -- those of its neighbours to the north, the west and the north-west
 abbrev pub line_directions : Bool → List ℕ → List ℕ → ℕ → List ℤ
 line_directions column current above i =
-    line_north column current above i ∷ offset_difference (slice_index current i) (line_sum column current above i) ∷ offset_difference (slice_index above i) (line_sum column current above i) ∷ []
+    line_north column current above i ∷ offset_difference (slice_index current i) (line_sum column current above i) ∷ offset_difference
+    (slice_index above i) (line_sum column current above i) ∷ []
 
 -- two lines tell the neighbours of the places from column x on: place i stands behind one that is west of it
 pub record AreLines (column : Bool) (y : ℕ) (row above : List ℕ) (x count : ℕ) (current upper : List ℕ) : Type 0 where

@@ -30,4 +30,5 @@ abbrev pub OneSample : Type 0
 OneSample =
     (k : SampleKind) (scaled : ℤ) → IsKind k → IsScaled k scaled
     → ((sample : ℤ) → IsSample k sample → mapped k scaled sample < 2 ^ k.bits)
-    × ((n : ℕ) → n < 2 ^ k.bits → (sample : ℤ) × IsSample k sample × (mapped k scaled sample ≡ n) × ((other : ℤ) → IsSample k other → mapped k scaled other ≡ n → other ≡ sample))
+    × ((n : ℕ) → n < 2 ^ k.bits → (sample : ℤ) × IsSample k sample × (mapped k scaled sample ≡ n) × ((other : ℤ) → IsSample k other
+    → mapped k scaled other ≡ n → other ≡ sample))

@@ -1,5 +1,6 @@
 -- What the samples tell of a run of places, before its weights are known.
-use Rattle.std.specs.Prelude.{ℕ, ◌≡◌, ◌+◌, ◌-◌, ◌*◌, ◌/◌, ◌^◌, ◌<◌, ◌≤◌, nat_le, ℤ, pos, ◌+ℤ◌, ◌*ℤ◌, ◌≤ℤ◌, unsigned_abs, List, [], ◌++◌, map, take, replicate, slice_index_or, if◌then◌else◌}
+use Rattle.std.specs.Prelude.{ℕ, ◌≡◌, ◌+◌, ◌-◌, ◌*◌, ◌/◌, ◌^◌, ◌<◌, ◌≤◌, nat_le, ℤ, pos, ◌+ℤ◌, ◌*ℤ◌, ◌≤ℤ◌, unsigned_abs, List, [], ◌++◌, map, take}
+use Rattle.std.specs.Prelude.{replicate, slice_index_or, if◌then◌else◌}
 use Rattle.std.specs.List.{flat_map}
 use Rattle.cube_core.specs.Kind.{smin}
 use Rattle.cube_core.specs.Image.{Image}
@@ -33,7 +34,8 @@ lower_differences p c z y x k n = map (lower_difference p c z y x) (from k n)
 pub record IsRoom (p : Predictor) (c : Image) (z y x count components : ℕ) (sums own : List ℤ) (quads : List Quad) : Type 0 where
   pub sum : (i : ℕ) → i < count → 0 < y + (x + i) → pos 4 *ℤ smin c.kind +ℤ slice_index_or sums i (pos 0) ≡ local_sum p c z y (x + i)
   pub central : (i : ℕ) → i < count → 0 < y + (x + i) → slice_index_or own i (pos 0) ≡ central_difference p c z y (x + i)
-  pub vector : (i : ℕ) → i < count → 0 < y + (x + i) → components_at (quads_of components) quads i ≡ difference_vector p c z y (x + i) ++ replicate (4 * quads_of components - components) (pos 0)
+  pub vector : (i : ℕ) → i < count → 0 < y + (x + i) → components_at (quads_of components) quads i ≡ difference_vector p c z y (x + i) ++ replicate
+      (4 * quads_of components - components) (pos 0)
   pub sum_least : (i : ℕ) → i < count → 0 < y + (x + i) → pos 0 ≤ℤ slice_index_or sums i (pos 0)
   pub sum_most : (i : ℕ) → i < count → 0 < y + (x + i) → slice_index_or sums i (pos 0) ≤ℤ pos 262140
   pub central_in : (i : ℕ) → i < count → 0 < y + (x + i) → unsigned_abs (slice_index_or own i (pos 0)) ≤ 4 * 2 ^ c.kind.bits

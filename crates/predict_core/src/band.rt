@@ -42,7 +42,15 @@ impl Model for Band {
 
     ghost Value = { Learner };
 
-    ghost view = { λ b. record { predictor = b.settings.predictor; shape = b.shape; kind = b.settings.range.kind; band = b.settings.band; place = b.next; weights = take b.settings.count b.weights; piece = b.piece } };
+    ghost view = { λ b. record {
+      predictor = b.settings.predictor;
+      shape = b.shape;
+      kind = b.settings.range.kind;
+      band = b.settings.band;
+      place = b.next;
+      weights = take b.settings.count b.weights;
+      piece = b.piece;
+    } };
 
     ghost invariant = { λ b. IsLearner b.settings b.shape b.weights };
 }
@@ -126,7 +134,8 @@ impl Band {
         requires residual { delta < 2 ^ cube.now.kind.bits }
         ensures moved { MovesOn self.old self.new }
         ensures range { IsSample cube.now.kind result }
-        ensures residual { (p : Parameters) → Follows p self.old cube.now → mapped_residual p (put cube.now self.old.band y x result) self.old.band self.old.place ≡ delta }
+        ensures residual { (p : Parameters) → Follows p self.old cube.now
+            → mapped_residual p (put cube.now self.old.band y x result) self.old.band self.old.place ≡ delta }
         ensures follows { (p : Parameters) → Follows p self.old cube.now → Follows p self.new (put cube.now self.old.band y x result) }
     {
         cube.prove_is_cube();
@@ -153,7 +162,8 @@ fn first_spectral(reduced: bool) -> usize
 pub(crate) fn first_residual(settings: &Settings, cube: &Cube, y: u32, x: u32) -> u16
     requires kind { cube.now.kind ≡ settings.now.range.kind }
     requires place { IsPlace cube.now.shape settings.now.band y x }
-    ensures value { result ≡ mapped cube.now.kind (first_prediction settings.now.predictor cube.now settings.now.band) (sample_at cube.now settings.now.band y x) }
+    ensures value { result ≡ mapped cube.now.kind (first_prediction settings.now.predictor cube.now settings.now.band) (sample_at cube.now settings.now.band
+        y x) }
     ensures bound { result < 2 ^ cube.now.kind.bits }
 {
     let scaled = first_scaled(settings, cube);
@@ -178,9 +188,11 @@ fn next_residual(
     requires t_in { t < 2 ^ 32 }
     requires later { 0 < t }
     requires weights_in { AllWithin (2 ^ (settings.now.predictor.fraction + 2)) weights.old }
-    ensures value { result ≡ mapped cube.now.kind (scaled_there settings.now.predictor cube.now settings.now.band y x (take (component_count settings.now.predictor settings.now.band) weights.old)) (sample_at cube.now settings.now.band y x) }
+    ensures value { result ≡ mapped cube.now.kind (scaled_there settings.now.predictor cube.now settings.now.band y x
+        (take (component_count settings.now.predictor settings.now.band) weights.old)) (sample_at cube.now settings.now.band y x) }
     ensures range { result < 2 ^ cube.now.kind.bits }
-    ensures weights { take (component_count settings.now.predictor settings.now.band) weights.new ≡ next_weights settings.now.predictor cube.now settings.now.band t (take (component_count settings.now.predictor settings.now.band) weights.old) }
+    ensures weights { take (component_count settings.now.predictor settings.now.band) weights.new ≡ next_weights settings.now.predictor cube.now
+        settings.now.band t (take (component_count settings.now.predictor settings.now.band) weights.old) }
     ensures bound { AllWithin (2 ^ (settings.now.predictor.fraction + 2)) weights.new }
 {
     let prediction = predict(settings, cube, y, x, weights);
@@ -198,7 +210,8 @@ fn first_sample(settings: &Settings, cube: &Cube, y: u32, x: u32, delta: u16) ->
     requires first { 0 ≡ y * cube.now.shape.columns + x }
     requires residual { delta < 2 ^ cube.now.kind.bits }
     ensures range { IsSample cube.now.kind result }
-    ensures inverse { mapped cube.now.kind (first_prediction settings.now.predictor (put cube.now settings.now.band y x result) settings.now.band) result ≡ delta }
+    ensures inverse { mapped cube.now.kind (first_prediction settings.now.predictor (put cube.now settings.now.band y x result) settings.now.band) result
+        ≡ delta }
 {
     cube.prove_is_cube();
     let scaled = first_scaled(settings, cube);
@@ -225,8 +238,10 @@ fn next_sample(
     requires weights_in { AllWithin (2 ^ (settings.now.predictor.fraction + 2)) weights.old }
     requires residual { delta < 2 ^ cube.now.kind.bits }
     ensures range { IsSample cube.now.kind result }
-    ensures inverse { mapped cube.now.kind (scaled_there settings.now.predictor (put cube.now settings.now.band y x result) settings.now.band y x (take (component_count settings.now.predictor settings.now.band) weights.old)) result ≡ delta }
-    ensures weights { take (component_count settings.now.predictor settings.now.band) weights.new ≡ next_weights settings.now.predictor (put cube.now settings.now.band y x result) settings.now.band t (take (component_count settings.now.predictor settings.now.band) weights.old) }
+    ensures inverse { mapped cube.now.kind (scaled_there settings.now.predictor (put cube.now settings.now.band y x result) settings.now.band y x
+        (take (component_count settings.now.predictor settings.now.band) weights.old)) result ≡ delta }
+    ensures weights { take (component_count settings.now.predictor settings.now.band) weights.new ≡ next_weights settings.now.predictor
+        (put cube.now settings.now.band y x result) settings.now.band t (take (component_count settings.now.predictor settings.now.band) weights.old) }
     ensures bound { AllWithin (2 ^ (settings.now.predictor.fraction + 2)) weights.new }
 {
     cube.prove_is_cube();

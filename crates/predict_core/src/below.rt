@@ -34,7 +34,8 @@ pub(crate) fn fill_spectral<const Q: usize>(
     requires enough { quads_of settings.now.count ≤ Q }
     requires first_in { first ≤ quads_of settings.now.count }
     requires nearest_in { (1 ≤ nearest) × (nearest ≤ 2) }
-    ensures { (i : ℕ) → i < count → 0 < y + (x + i) → components_at (quads_of settings.now.count) quads.new i ≡ components_at first quads.old i ++ lower_differences settings.now.predictor cube.now settings.now.band y (x + i) nearest (4 * (quads_of settings.now.count - first)) }
+    ensures { (i : ℕ) → i < count → 0 < y + (x + i) → components_at (quads_of settings.now.count) quads.new i ≡ components_at first quads.old i
+        ++ lower_differences settings.now.predictor cube.now settings.now.band y (x + i) nearest (4 * (quads_of settings.now.count - first)) }
 {
     for q in first..(settings.count + 3) / 4 {
         let quad = &mut quads[q];
@@ -58,7 +59,8 @@ fn fill_lower(
     requires few { count ≤ 64 }
     requires inside { x + count ≤ cube.now.shape.columns }
     requires nearest_in { (1 ≤ nearest) × (nearest ≤ 64) }
-    ensures { (i : ℕ) → i < count → 0 < y + (x + i) → slice_index_or quad.new.places i [] ≡ lower_differences settings.now.predictor cube.now settings.now.band y (x + i) nearest 4 }
+    ensures { (i : ℕ) → i < count → 0 < y + (x + i)
+        → slice_index_or quad.new.places i [] ≡ lower_differences settings.now.predictor cube.now settings.now.band y (x + i) nearest 4 }
 {
     if settings.near <= nearest + 1 {
         fill_last_two(settings, cube, y, x, count, nearest, quad);
@@ -83,7 +85,8 @@ fn fill_next_four(
     requires few { count ≤ 64 }
     requires inside { x + count ≤ cube.now.shape.columns }
     requires nearest_in { (1 ≤ nearest) × (nearest ≤ 64) }
-    ensures { (i : ℕ) → i < count → 0 < y + (x + i) → slice_index_or quad.new.places i [] ≡ lower_differences settings.now.predictor cube.now settings.now.band y (x + i) nearest 4 }
+    ensures { (i : ℕ) → i < count → 0 < y + (x + i)
+        → slice_index_or quad.new.places i [] ≡ lower_differences settings.now.predictor cube.now settings.now.band y (x + i) nearest 4 }
 {
     let mut first = Lines::empty();
     let mut second = Lines::empty();
@@ -114,7 +117,8 @@ fn fill_last_two(
     requires inside { x + count ≤ cube.now.shape.columns }
     requires nearest_in { (1 ≤ nearest) × (nearest ≤ 64) }
     requires last { settings.now.near ≤ nearest + 1 }
-    ensures { (i : ℕ) → i < count → 0 < y + (x + i) → slice_index_or quad.new.places i [] ≡ lower_differences settings.now.predictor cube.now settings.now.band y (x + i) nearest 4 }
+    ensures { (i : ℕ) → i < count → 0 < y + (x + i)
+        → slice_index_or quad.new.places i [] ≡ lower_differences settings.now.predictor cube.now settings.now.band y (x + i) nearest 4 }
 {
     let mut first = Lines::empty();
     let mut second = Lines::empty();
@@ -143,7 +147,8 @@ pub(crate) fn fill_below(
     requires below_in { 1 ≤ below }
     requires current { lines.old.current ≡ replicate 66 0 }
     requires above { lines.old.above ≡ replicate 66 0 }
-    ensures { (i : ℕ) → i < count → 0 < y + (x + i) → line_difference (settings.now.predictor.column || y == 0) lines.new.current lines.new.above i ≡ lower_difference settings.now.predictor cube.now settings.now.band y (x + i) below }
+    ensures { (i : ℕ) → i < count → 0 < y + (x + i) → line_difference (settings.now.predictor.column || y == 0) lines.new.current lines.new.above i
+        ≡ lower_difference settings.now.predictor cube.now settings.now.band y (x + i) below }
 {
     if below <= settings.near {
         let z = settings.band - below as u32;

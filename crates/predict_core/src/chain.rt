@@ -4,7 +4,8 @@
 //! the register, the weights don't wait for the prediction and its clip. What no place can do before the one ahead
 //! of it is done is thus short; predictions and residuals are found behind it.
 
-ghost use Rattle.std.specs.Prelude.{◌≡◌, ◌+◌, ◌-◌, ◌*◌, ◌^◌, ◌<◌, ◌≤◌, false, ℕ, pos, negsuc, ◌≤ℤ◌, ◌+ℤ◌, ◌-ℤ◌, ◌*ℤ◌, int_lt, int_le, unsigned_abs, ℤ, List, length, take, ◌++◌, replicate, slice_index_or};
+ghost use Rattle.std.specs.Prelude.{◌≡◌, ◌+◌, ◌-◌, ◌*◌, ◌^◌, ◌<◌, ◌≤◌, false, ℕ, pos, negsuc, ◌≤ℤ◌, ◌+ℤ◌, ◌-ℤ◌, ◌*ℤ◌, int_lt, int_le, unsigned_abs, ℤ};
+ghost use Rattle.std.specs.Prelude.{List, length, take, ◌++◌, replicate, slice_index_or};
 ghost use Rattle.cube_core.specs.Image.{IsPlace};
 ghost use Rattle.cube_core.specs.Kind.{smin};
 ghost use Rattle.header_bits.specs.declared.params.Params.{Params as Parameters};
@@ -148,10 +149,13 @@ fn follow_at<const N: usize, const WRAPS: bool>(
     requires sum_in { (pos 0 ≤ℤ sum) × (sum ≤ℤ pos 262140) }
     requires own_is { own ≡ central_difference settings.now.predictor cube.now settings.now.band y x }
     requires weights_in { AllWithin (2 ^ (steps.fraction + 2)) weights.old }
-    requires differences_are { differences.now ≡ difference_vector settings.now.predictor cube.now settings.now.band y x ++ replicate (18 - settings.now.count) (pos 0) }
-    ensures scaled { scaled_there settings.now.predictor cube.now settings.now.band y x (take settings.now.count weights.old) ≡ scaled_by_difference cube.now.kind result (local_sum settings.now.predictor cube.now settings.now.band y x) }
+    requires differences_are { differences.now ≡ difference_vector settings.now.predictor cube.now settings.now.band y x ++ replicate
+        (18 - settings.now.count) (pos 0) }
+    ensures scaled { scaled_there settings.now.predictor cube.now settings.now.band y x (take settings.now.count weights.old)
+        ≡ scaled_by_difference cube.now.kind result (local_sum settings.now.predictor cube.now settings.now.band y x) }
     ensures small { unsigned_abs result ≤ 18 * 2 ^ 20 }
-    ensures weights { take settings.now.count weights.new ≡ next_weights settings.now.predictor cube.now settings.now.band (y * cube.now.shape.columns + x) (take settings.now.count weights.old) }
+    ensures weights { take settings.now.count weights.new ≡ next_weights settings.now.predictor cube.now settings.now.band (y * cube.now.shape.columns + x)
+        (take settings.now.count weights.old) }
     ensures bound { AllWithin (2 ^ (steps.fraction + 2)) weights.new }
 {
     cube.prove_is_cube();
@@ -197,15 +201,25 @@ pub(crate) fn follow_places<const Q: usize, const N: usize, const WRAPS: bool>(
     requires later { 0 < y + (x + first) }
     requires fraction { steps.fraction ≡ settings.now.predictor.fraction }
     requires bits { steps.bits ≡ settings.now.range.bits }
-    requires exponent { (i : ℕ) → first ≤ i → i < last → steps.exponent ≡ step_exponent settings.now.predictor cube.now.shape.columns cube.now.kind.bits (y * cube.now.shape.columns + (x + i)) }
-    requires sums_are { (i : ℕ) → first ≤ i → i < last → pos 4 *ℤ smin cube.now.kind +ℤ slice_index_or sums.now i (pos 0) ≡ local_sum settings.now.predictor cube.now settings.now.band y (x + i) }
+    requires exponent { (i : ℕ) → first ≤ i → i < last → steps.exponent ≡ step_exponent settings.now.predictor cube.now.shape.columns cube.now.kind.bits
+        (y * cube.now.shape.columns + (x + i)) }
+    requires sums_are { (i : ℕ) → first ≤ i → i < last → pos 4 *ℤ smin cube.now.kind +ℤ slice_index_or sums.now i (pos 0) ≡ local_sum settings.now.predictor
+        cube.now settings.now.band y (x + i) }
     requires sum_least { (i : ℕ) → first ≤ i → i < last → pos 0 ≤ℤ slice_index_or sums.now i (pos 0) }
     requires sum_most { (i : ℕ) → first ≤ i → i < last → slice_index_or sums.now i (pos 0) ≤ℤ pos 262140 }
-    requires own_is { (i : ℕ) → first ≤ i → i < last → slice_index_or own.now i (pos 0) ≡ central_difference settings.now.predictor cube.now settings.now.band y (x + i) }
-    requires components { (i : ℕ) → first ≤ i → i < last → components_at (quads_of settings.now.count) quads.now i ≡ difference_vector settings.now.predictor cube.now settings.now.band y (x + i) ++ replicate (4 * quads_of settings.now.count - settings.now.count) (pos 0) }
+    requires own_is { (i : ℕ) → first ≤ i → i < last
+        → slice_index_or own.now i (pos 0) ≡ central_difference settings.now.predictor cube.now settings.now.band y (x + i) }
+    requires components { (i : ℕ) → first ≤ i → i < last
+        → components_at (quads_of settings.now.count) quads.now i ≡ difference_vector settings.now.predictor cube.now settings.now.band y (x + i)
+        ++ replicate (4 * quads_of settings.now.count - settings.now.count) (pos 0) }
     requires weights_in { AllWithin (2 ^ (steps.fraction + 2)) weights.old }
-    ensures weights { (p : Parameters) → AreWeightsAt p settings.now.predictor cube.now settings.now.band (y * cube.now.shape.columns + (x + first)) (take settings.now.count weights.old) → take settings.now.count weights.new ≡ weight_vector p cube.now settings.now.band (y * cube.now.shape.columns + (x + last)) }
-    ensures parts { (p : Parameters) → AreWeightsAt p settings.now.predictor cube.now settings.now.band (y * cube.now.shape.columns + (x + first)) (take settings.now.count weights.old) → (i : ℕ) → first ≤ i → i < last → scaled_prediction p cube.now settings.now.band (y * cube.now.shape.columns + (x + i)) ≡ scaled_by_difference cube.now.kind (slice_index_or parts.new i (pos 0)) (local_sum settings.now.predictor cube.now settings.now.band y (x + i)) }
+    ensures weights { (p : Parameters) → AreWeightsAt p settings.now.predictor cube.now settings.now.band (y * cube.now.shape.columns + (x + first))
+        (take settings.now.count weights.old) → take settings.now.count weights.new ≡ weight_vector p cube.now settings.now.band (y * cube.now.shape.columns
+        + (x + last)) }
+    ensures parts { (p : Parameters) → AreWeightsAt p settings.now.predictor cube.now settings.now.band (y * cube.now.shape.columns + (x + first))
+        (take settings.now.count weights.old) → (i : ℕ) → first ≤ i → i < last
+        → scaled_prediction p cube.now settings.now.band (y * cube.now.shape.columns + (x + i)) ≡ scaled_by_difference cube.now.kind
+        (slice_index_or parts.new i (pos 0)) (local_sum settings.now.predictor cube.now settings.now.band y (x + i)) }
     ensures kept { (i : ℕ) → i < first → slice_index_or parts.new i (pos 0) ≡ slice_index_or parts.old i (pos 0) }
     ensures small { (i : ℕ) → first ≤ i → i < last → unsigned_abs (slice_index_or parts.new i (pos 0)) ≤ 18 * 2 ^ 20 }
     ensures bound { AllWithin (2 ^ (steps.fraction + 2)) weights.new }

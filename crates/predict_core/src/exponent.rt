@@ -77,7 +77,8 @@ fn alike_behind(predictor: &Predictor, t: u64, most: usize) -> usize
     requires some { 1 ≤ most }
     ensures some { 1 ≤ result }
     ensures few { result ≤ most }
-    ensures alike { (k : ℕ) → k < result → clip (predictor.now.vmin +ℤ pos ((t + k) / 2 ^ predictor.now.interval_log)) predictor.now.vmin predictor.now.vmax ≡ clip (predictor.now.vmin +ℤ pos (t / 2 ^ predictor.now.interval_log)) predictor.now.vmin predictor.now.vmax }
+    ensures alike { (k : ℕ) → k < result → clip (predictor.now.vmin +ℤ pos ((t + k) / 2 ^ predictor.now.interval_log)) predictor.now.vmin predictor.now.vmax
+        ≡ clip (predictor.now.vmin +ℤ pos (t / 2 ^ predictor.now.interval_log)) predictor.now.vmin predictor.now.vmax }
 {
     let intervals = intervals_in(predictor.interval_log, t);
     if predictor.vmin as i64 + intervals as i64 >= predictor.vmax as i64 {

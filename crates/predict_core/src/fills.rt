@@ -30,7 +30,9 @@ pub(crate) fn fill_four(
     fourth: &Lines,
     out: &mut [[i32; 4]; 64],
 )
-    ensures { (i : ℕ) → i < 64 → slice_index_or out.new i [] ≡ line_difference column first.now.current first.now.above i ∷ line_difference column second.now.current second.now.above i ∷ line_difference column third.now.current third.now.above i ∷ line_difference column fourth.now.current fourth.now.above i ∷ [] }
+    ensures { (i : ℕ) → i < 64 → slice_index_or out.new i [] ≡ line_difference column first.now.current first.now.above i ∷ line_difference column
+        second.now.current second.now.above i ∷ line_difference column third.now.current third.now.above i ∷ line_difference column fourth.now.current
+        fourth.now.above i ∷ [] }
 {
     for i in 0..64usize {
         out[i] = [
@@ -44,7 +46,8 @@ pub(crate) fn fill_four(
 
 /// Writes the central differences of two bands at each place, and zeros behind them.
 pub(crate) fn fill_two(column: bool, first: &Lines, second: &Lines, out: &mut [[i32; 4]; 64])
-    ensures { (i : ℕ) → i < 64 → slice_index_or out.new i [] ≡ line_difference column first.now.current first.now.above i ∷ line_difference column second.now.current second.now.above i ∷ pos 0 ∷ pos 0 ∷ [] }
+    ensures { (i : ℕ) → i < 64 → slice_index_or out.new i [] ≡ line_difference column first.now.current first.now.above i ∷ line_difference column
+        second.now.current second.now.above i ∷ pos 0 ∷ pos 0 ∷ [] }
 {
     for i in 0..64usize {
         out[i] = [
@@ -68,7 +71,8 @@ pub(crate) fn fill_directions(
 )
     ensures sums { (i : ℕ) → i < 64 → slice_index_or sums.new i (pos 0) ≡ pos (line_sum column lines.now.current lines.now.above i) }
     ensures own { (i : ℕ) → i < 64 → slice_index_or own.new i (pos 0) ≡ line_difference column lines.now.current lines.now.above i }
-    ensures quads { (i : ℕ) → i < 64 → slice_index_or out.new i [] ≡ line_directions column lines.now.current lines.now.above i ++ line_difference column below.now.current below.now.above i ∷ [] }
+    ensures quads { (i : ℕ) → i < 64 → slice_index_or out.new i [] ≡ line_directions column lines.now.current lines.now.above i ++ line_difference column
+        below.now.current below.now.above i ∷ [] }
 {
     for i in 0..64usize {
         let sum = sum_of_lines(column, &lines.current, &lines.above, i);

@@ -2,7 +2,8 @@
 //!
 //! The sign of an error is told by the differences alone.
 
-ghost use Rattle.std.specs.Prelude.{◌≡◌, ◌+◌, ◌-◌, ◌*◌, ◌^◌, ◌<◌, ◌≤◌, false, ℕ, pos, ◌+ℤ◌, ◌-ℤ◌, ◌*ℤ◌, unsigned_abs, take, drop, length, ◌++◌, replicate, slice_index, if◌then◌else◌};
+ghost use Rattle.std.specs.Prelude.{◌≡◌, ◌+◌, ◌-◌, ◌*◌, ◌^◌, ◌<◌, ◌≤◌, false, ℕ, pos, ◌+ℤ◌, ◌-ℤ◌, ◌*ℤ◌, unsigned_abs, take, drop, length, ◌++◌, replicate};
+ghost use Rattle.std.specs.Prelude.{slice_index, if◌then◌else◌};
 ghost use Rattle.cube_core.specs.Kind.{IsSample, smin};
 ghost use Rattle.cube_core.specs.Image.{IsPlace, put};
 ghost use Rattle.header_bits.specs.declared.params.Params.{Params as Parameters};
@@ -54,11 +55,16 @@ pub(crate) fn invert_places<const Q: usize, const N: usize, const WRAPS: bool>(
     requires few { length deltas.now ≤ 64 }
     requires inside { x + length deltas.now ≤ cube.old.shape.columns }
     requires residuals_in { (i : ℕ) → i < length deltas.now → slice_index deltas.now i < 2 ^ cube.old.kind.bits }
-    requires components { (i : ℕ) → i < length deltas.now → components_at (quads_of settings.now.count) quads.now i ≡ difference_vector settings.now.predictor cube.old settings.now.band y (x + i) ++ replicate (4 * quads_of settings.now.count - settings.now.count) (pos 0) }
+    requires components { (i : ℕ) → i < length deltas.now
+        → components_at (quads_of settings.now.count) quads.now i ≡ difference_vector settings.now.predictor cube.old settings.now.band y (x + i)
+        ++ replicate (4 * quads_of settings.now.count - settings.now.count) (pos 0) }
     requires weights_in { AllWithin (2 ^ (settings.now.predictor.fraction + 2)) weights.old }
     ensures beside { AreAlikeBeside cube.old cube.new settings.now.band y x (length deltas.now) }
-    ensures residuals { (p : Parameters) → AreWeightsAt p settings.now.predictor cube.old settings.now.band (y * cube.old.shape.columns + x) (take settings.now.count weights.old) → run_residuals p cube.new settings.now.band (y * cube.old.shape.columns + x) (length deltas.now) ≡ deltas.now }
-    ensures weights { (p : Parameters) → AreWeightsAt p settings.now.predictor cube.old settings.now.band (y * cube.old.shape.columns + x) (take settings.now.count weights.old) → take settings.now.count weights.new ≡ weight_vector p cube.new settings.now.band (y * cube.old.shape.columns + x + length deltas.now) }
+    ensures residuals { (p : Parameters) → AreWeightsAt p settings.now.predictor cube.old settings.now.band (y * cube.old.shape.columns + x)
+        (take settings.now.count weights.old) → run_residuals p cube.new settings.now.band (y * cube.old.shape.columns + x) (length deltas.now) ≡ deltas.now }
+    ensures weights { (p : Parameters) → AreWeightsAt p settings.now.predictor cube.old settings.now.band (y * cube.old.shape.columns + x)
+        (take settings.now.count weights.old) → take settings.now.count weights.new ≡ weight_vector p cube.new settings.now.band (y * cube.old.shape.columns
+        + x + length deltas.now) }
     ensures within { AllWithin (2 ^ (settings.now.predictor.fraction + 2)) weights.new }
 {
     cube.prove_is_cube();
@@ -111,9 +117,13 @@ fn stretch_at(
     requires row { y < 65536 }
     requires here { i < count }
     requires inside { x + count ≤ settings.now.columns }
-    requires before { (k : ℕ) → i ≤ k → k < before.end → AreSteps before.form settings.now.range.bits (step_exponent settings.now.predictor settings.now.columns settings.now.range.bits (y * settings.now.columns + (x + k))) }
+    requires before { (k : ℕ) → i ≤ k → k < before.end
+        → AreSteps before.form settings.now.range.bits (step_exponent settings.now.predictor settings.now.columns settings.now.range.bits
+        (y * settings.now.columns + (x + k))) }
     ensures some { i < result.end }
-    ensures steps { (k : ℕ) → i ≤ k → k < result.end → AreSteps result.form settings.now.range.bits (step_exponent settings.now.predictor settings.now.columns settings.now.range.bits (y * settings.now.columns + (x + k))) }
+    ensures steps { (k : ℕ) → i ≤ k → k < result.end
+        → AreSteps result.form settings.now.range.bits (step_exponent settings.now.predictor settings.now.columns settings.now.range.bits
+        (y * settings.now.columns + (x + k))) }
 {
     if i < before.end {
         before
@@ -129,7 +139,9 @@ fn next_stretch(settings: &Settings, y: u32, x: u32, i: usize, count: usize) -> 
     requires here { i < count }
     requires inside { x + count ≤ settings.now.columns }
     ensures some { i < result.end }
-    ensures steps { (k : ℕ) → i ≤ k → k < result.end → AreSteps result.form settings.now.range.bits (step_exponent settings.now.predictor settings.now.columns settings.now.range.bits (y * settings.now.columns + (x + k))) }
+    ensures steps { (k : ℕ) → i ≤ k → k < result.end
+        → AreSteps result.form settings.now.range.bits (step_exponent settings.now.predictor settings.now.columns settings.now.range.bits
+        (y * settings.now.columns + (x + k))) }
 {
     let column = x + i as u32;
     let t = y as u64 * settings.columns as u64 + column as u64;
@@ -165,12 +177,16 @@ pub(crate) fn sample_there<const N: usize, const WRAPS: bool>(
     requires sum_is { local_sum settings.now.predictor cube.now settings.now.band y x ≡ pos 4 *ℤ smin cube.now.kind +ℤ pos sum }
     requires sum_in { sum ≤ 262140 }
     requires weights_in { AllWithin (2 ^ (settings.now.predictor.fraction + 2)) weights.old }
-    requires lower { drop (if settings.now.predictor.reduced then 0 else 3) lower.now ≡ spectral_differences settings.now.predictor cube.now settings.now.band y x (previous_bands settings.now.predictor settings.now.band) ++ replicate (18 - settings.now.count) (pos 0) }
+    requires lower { drop (if settings.now.predictor.reduced then 0 else 3) lower.now ≡ spectral_differences settings.now.predictor cube.now
+        settings.now.band y x (previous_bands settings.now.predictor settings.now.band) ++ replicate (18 - settings.now.count) (pos 0) }
     requires residual { delta < 2 ^ cube.now.kind.bits }
-    requires steps { AreSteps form cube.now.kind.bits (step_exponent settings.now.predictor cube.now.shape.columns cube.now.kind.bits (y * cube.now.shape.columns + x)) }
+    requires steps { AreSteps form cube.now.kind.bits (step_exponent settings.now.predictor cube.now.shape.columns cube.now.kind.bits
+        (y * cube.now.shape.columns + x)) }
     ensures range { IsSample cube.now.kind result }
-    ensures inverse { mapped cube.now.kind (scaled_there settings.now.predictor (put cube.now settings.now.band y x result) settings.now.band y x (take settings.now.count weights.old)) result ≡ delta }
-    ensures weights { take settings.now.count weights.new ≡ next_weights settings.now.predictor (put cube.now settings.now.band y x result) settings.now.band (y * cube.now.shape.columns + x) (take settings.now.count weights.old) }
+    ensures inverse { mapped cube.now.kind (scaled_there settings.now.predictor (put cube.now settings.now.band y x result) settings.now.band y x
+        (take settings.now.count weights.old)) result ≡ delta }
+    ensures weights { take settings.now.count weights.new ≡ next_weights settings.now.predictor (put cube.now settings.now.band y x result)
+        settings.now.band (y * cube.now.shape.columns + x) (take settings.now.count weights.old) }
     ensures bound { AllWithin (2 ^ (settings.now.predictor.fraction + 2)) weights.new }
 {
     cube.prove_is_cube();

@@ -104,7 +104,8 @@ impl Band {
         requires told { AreOf self.old.predictor below.old cube.now }
         ensures moved { MovesOn self.old self.new }
         ensures range { IsSample cube.now.kind result }
-        ensures residual { (p : Parameters) → Follows p self.old cube.now → mapped_residual p (put cube.now self.old.band y x result) self.old.band self.old.place ≡ delta }
+        ensures residual { (p : Parameters) → Follows p self.old cube.now
+            → mapped_residual p (put cube.now self.old.band y x result) self.old.band self.old.place ≡ delta }
         ensures follows { (p : Parameters) → Follows p self.old cube.now → Follows p self.new (put cube.now self.old.band y x result) }
         ensures told { AreOf self.new.predictor below.new (put cube.now self.old.band y x result) }
     {
@@ -142,8 +143,10 @@ fn sample_above(
     requires column { below.old.column ≡ x }
     requires told { AreOf settings.now.predictor below.old cube.now }
     ensures range { IsSample cube.now.kind result }
-    ensures inverse { mapped cube.now.kind (scaled_there settings.now.predictor (put cube.now settings.now.band y x result) settings.now.band y x (take settings.now.count weights.old)) result ≡ delta }
-    ensures weights { take settings.now.count weights.new ≡ next_weights settings.now.predictor (put cube.now settings.now.band y x result) settings.now.band (y * cube.now.shape.columns + x) (take settings.now.count weights.old) }
+    ensures inverse { mapped cube.now.kind (scaled_there settings.now.predictor (put cube.now settings.now.band y x result) settings.now.band y x
+        (take settings.now.count weights.old)) result ≡ delta }
+    ensures weights { take settings.now.count weights.new ≡ next_weights settings.now.predictor (put cube.now settings.now.band y x result)
+        settings.now.band (y * cube.now.shape.columns + x) (take settings.now.count weights.old) }
     ensures bound { AllWithin (2 ^ (settings.now.predictor.fraction + 2)) weights.new }
     ensures told { AreOf settings.now.predictor below.new (put cube.now settings.now.band y x result) }
 {
@@ -181,8 +184,10 @@ fn sample_by(
     requires column { below.now.column ≡ x }
     requires told { AreOf settings.now.predictor below.now cube.now }
     ensures range { IsSample cube.now.kind result }
-    ensures inverse { mapped cube.now.kind (scaled_there settings.now.predictor (put cube.now settings.now.band y x result) settings.now.band y x (take settings.now.count weights.old)) result ≡ delta }
-    ensures weights { take settings.now.count weights.new ≡ next_weights settings.now.predictor (put cube.now settings.now.band y x result) settings.now.band (y * cube.now.shape.columns + x) (take settings.now.count weights.old) }
+    ensures inverse { mapped cube.now.kind (scaled_there settings.now.predictor (put cube.now settings.now.band y x result) settings.now.band y x
+        (take settings.now.count weights.old)) result ≡ delta }
+    ensures weights { take settings.now.count weights.new ≡ next_weights settings.now.predictor (put cube.now settings.now.band y x result)
+        settings.now.band (y * cube.now.shape.columns + x) (take settings.now.count weights.old) }
     ensures bound { AllWithin (2 ^ (settings.now.predictor.fraction + 2)) weights.new }
 {
     if settings.predictor.register < 46 {
@@ -220,8 +225,10 @@ fn sample_in<const WRAPS: bool>(
     requires column { below.now.column ≡ x }
     requires told { AreOf settings.now.predictor below.now cube.now }
     ensures range { IsSample cube.now.kind result }
-    ensures inverse { mapped cube.now.kind (scaled_there settings.now.predictor (put cube.now settings.now.band y x result) settings.now.band y x (take settings.now.count weights.old)) result ≡ delta }
-    ensures weights { take settings.now.count weights.new ≡ next_weights settings.now.predictor (put cube.now settings.now.band y x result) settings.now.band (y * cube.now.shape.columns + x) (take settings.now.count weights.old) }
+    ensures inverse { mapped cube.now.kind (scaled_there settings.now.predictor (put cube.now settings.now.band y x result) settings.now.band y x
+        (take settings.now.count weights.old)) result ≡ delta }
+    ensures weights { take settings.now.count weights.new ≡ next_weights settings.now.predictor (put cube.now settings.now.band y x result)
+        settings.now.band (y * cube.now.shape.columns + x) (take settings.now.count weights.old) }
     ensures bound { AllWithin (2 ^ (settings.now.predictor.fraction + 2)) weights.new }
 {
     let count = settings.count;
@@ -266,8 +273,10 @@ fn sample_behind<const N: usize, const WRAPS: bool>(
     requires column { below.now.column ≡ x }
     requires told { AreOf settings.now.predictor below.now cube.now }
     ensures range { IsSample cube.now.kind result }
-    ensures inverse { mapped cube.now.kind (scaled_there settings.now.predictor (put cube.now settings.now.band y x result) settings.now.band y x (take settings.now.count weights.old)) result ≡ delta }
-    ensures weights { take settings.now.count weights.new ≡ next_weights settings.now.predictor (put cube.now settings.now.band y x result) settings.now.band (y * cube.now.shape.columns + x) (take settings.now.count weights.old) }
+    ensures inverse { mapped cube.now.kind (scaled_there settings.now.predictor (put cube.now settings.now.band y x result) settings.now.band y x
+        (take settings.now.count weights.old)) result ≡ delta }
+    ensures weights { take settings.now.count weights.new ≡ next_weights settings.now.predictor (put cube.now settings.now.band y x result)
+        settings.now.band (y * cube.now.shape.columns + x) (take settings.now.count weights.old) }
     ensures bound { AllWithin (2 ^ (settings.now.predictor.fraction + 2)) weights.new }
 {
     let lower = below.behind_directions(settings.predictor.reduced);

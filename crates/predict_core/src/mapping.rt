@@ -5,7 +5,8 @@
 //! number of an error is the lesser of two: the one that both signs take turns for, and the one beyond the
 //! nearer end.
 
-ghost use Rattle.std.specs.Prelude.{◌≡◌, ◌+◌, ◌*◌, ◌^◌, ◌<◌, ◌≤◌, ℕ, pos, negsuc, ◌≤ℤ◌, ◌+ℤ◌, ◌-ℤ◌, ◌*ℤ◌, unsigned_abs, length, replicate, slice_index, slice_index_or};
+ghost use Rattle.std.specs.Prelude.{◌≡◌, ◌+◌, ◌*◌, ◌^◌, ◌<◌, ◌≤◌, ℕ, pos, negsuc, ◌≤ℤ◌, ◌+ℤ◌, ◌-ℤ◌, ◌*ℤ◌, unsigned_abs, length, replicate, slice_index};
+ghost use Rattle.std.specs.Prelude.{slice_index_or};
 ghost use Rattle.cube_core.specs.Kind.{smin, smid, smax};
 ghost use Rattle.cube_core.specs.Image.{IsPlace, sample_at};
 ghost use Rattle.predict_core.specs.Arithmetic.{floor_div, clip};
@@ -37,9 +38,14 @@ pub(crate) fn map_run(
     requires parts_in { (i : ℕ) → i < length residuals.old → 0 < y + (x + i) → unsigned_abs (slice_index_or parts.now i (pos 0)) ≤ 18 * 2 ^ 20 }
     requires sum_least { (i : ℕ) → i < length residuals.old → 0 < y + (x + i) → pos 0 ≤ℤ slice_index_or sums.now i (pos 0) }
     requires sum_most { (i : ℕ) → i < length residuals.old → 0 < y + (x + i) → slice_index_or sums.now i (pos 0) ≤ℤ pos 262140 }
-    requires sum { (i : ℕ) → i < length residuals.old → 0 < y + (x + i) → pos 4 *ℤ smin cube.now.kind +ℤ slice_index_or sums.now i (pos 0) ≡ local_sum settings.now.predictor cube.now settings.now.band y (x + i) }
+    requires sum { (i : ℕ) → i < length residuals.old → 0 < y + (x + i) → pos 4 *ℤ smin cube.now.kind +ℤ slice_index_or sums.now i (pos 0)
+        ≡ local_sum settings.now.predictor cube.now settings.now.band y (x + i) }
     ensures bound { (i : ℕ) → i < length residuals.new → slice_index residuals.new i < 2 ^ cube.now.kind.bits }
-    ensures values { (i : ℕ) → i < length residuals.new → 0 < y + (x + i) → slice_index residuals.new i ≡ mapped cube.now.kind (clip (floor_div (slice_index_or parts.now i (pos 0) +ℤ (local_sum settings.now.predictor cube.now settings.now.band y (x + i) -ℤ pos 4 *ℤ smid cube.now.kind)) 2 +ℤ pos 2 *ℤ smid cube.now.kind +ℤ pos 1) (pos 2 *ℤ smin cube.now.kind) (pos 2 *ℤ smax cube.now.kind +ℤ pos 1)) (sample_at cube.now settings.now.band y (x + i)) }
+    ensures values { (i : ℕ) → i < length residuals.new → 0 < y + (x + i)
+        → slice_index residuals.new i
+        ≡ mapped cube.now.kind (clip (floor_div (slice_index_or parts.now i (pos 0) +ℤ (local_sum settings.now.predictor cube.now settings.now.band y
+        (x + i) -ℤ pos 4 *ℤ smid cube.now.kind)) 2 +ℤ pos 2 *ℤ smid cube.now.kind +ℤ pos 1) (pos 2 *ℤ smin cube.now.kind) (pos 2 *ℤ smax cube.now.kind +ℤ
+        pos 1)) (sample_at cube.now settings.now.band y (x + i)) }
 {
     cube.prove_is_cube();
     let count = residuals.len();
@@ -79,7 +85,9 @@ fn map_places(
     requires greatest_in { (pos 1 ≤ℤ greatest) × (greatest ≤ℤ pos 65535) }
     requires offsets_in { (i : ℕ) → i < 64 → pos (slice_index offsets.now i) ≤ℤ greatest }
     ensures bound { (i : ℕ) → i < 64 → pos (slice_index out.new i) ≤ℤ greatest }
-    ensures values { (i : ℕ) → i < 64 → unsigned_abs (slice_index_or parts.now i (pos 0)) ≤ 18 * 2 ^ 20 → pos 0 ≤ℤ slice_index_or sums.now i (pos 0) → slice_index_or sums.now i (pos 0) ≤ℤ pos 262140 → slice_index out.new i ≡ offset_number greatest (slice_index_or parts.now i (pos 0)) (slice_index_or sums.now i (pos 0)) (slice_index offsets.now i) }
+    ensures values { (i : ℕ) → i < 64 → unsigned_abs (slice_index_or parts.now i (pos 0)) ≤ 18 * 2 ^ 20 → pos 0 ≤ℤ slice_index_or sums.now i (pos 0)
+        → slice_index_or sums.now i (pos 0) ≤ℤ pos 262140
+        → slice_index out.new i ≡ offset_number greatest (slice_index_or parts.now i (pos 0)) (slice_index_or sums.now i (pos 0)) (slice_index offsets.now i) }
 {
     for i in 0..64usize {
         out[i] = number_of_offset(greatest, parts[i], sums[i], offsets[i]);
@@ -104,7 +112,8 @@ fn number_of_offset(greatest: i32, part: i32, sum: i32, offset: u16) -> u16
 pub(crate) fn scaled_offset(greatest: i32, part: i32, sum: i32) -> i32
     requires greatest_in { (pos 1 ≤ℤ greatest) × (greatest ≤ℤ pos 65535) }
     ensures bounds { (pos 0 ≤ℤ result) × (result ≤ℤ (pos 2 *ℤ greatest +ℤ pos 1)) }
-    ensures value { unsigned_abs part ≤ 18 * 2 ^ 20 → pos 0 ≤ℤ sum → sum ≤ℤ pos 262140 → result ≡ clip (floor_div (part +ℤ sum) 2 +ℤ pos 1) (pos 0) (pos 2 *ℤ greatest +ℤ pos 1) }
+    ensures value { unsigned_abs part ≤ 18 * 2 ^ 20 → pos 0 ≤ℤ sum → sum ≤ℤ pos 262140
+        → result ≡ clip (floor_div (part +ℤ sum) 2 +ℤ pos 1) (pos 0) (pos 2 *ℤ greatest +ℤ pos 1) }
 {
     let upper = prediction_of(part.wrapping_add(sum)) + 1;
     upper.min(2 * greatest + 1).max(0)

@@ -24,7 +24,8 @@ impl Band {
         requires next { self.old.place ≡ y * cube.now.shape.columns + x }
         ensures moved { MovesBy count self.old self.new }
         ensures bound { (i : ℕ) → i < count → slice_index_or self.new.piece i 0 < 2 ^ cube.now.kind.bits }
-        ensures residuals { (p : Parameters) → Follows p self.old cube.now → take count self.new.piece ≡ run_residuals p cube.now self.old.band self.old.place count }
+        ensures residuals { (p : Parameters) → Follows p self.old cube.now
+            → take count self.new.piece ≡ run_residuals p cube.now self.old.band self.old.place count }
         ensures follows { (p : Parameters) → Follows p self.old cube.now → Follows p self.new cube.now }
     {
         let mut piece = [0; 64];

@@ -46,14 +46,23 @@ pub(crate) fn follow_run<const Q: usize, const N: usize, const WRAPS: bool>(
     requires order { first ≤ last }
     requires inside { x + last ≤ cube.now.shape.columns }
     requires later { 0 < y + (x + first) }
-    requires sums_are { (i : ℕ) → first ≤ i → i < last → pos 4 *ℤ smin cube.now.kind +ℤ slice_index_or sums.now i (pos 0) ≡ local_sum settings.now.predictor cube.now settings.now.band y (x + i) }
+    requires sums_are { (i : ℕ) → first ≤ i → i < last → pos 4 *ℤ smin cube.now.kind +ℤ slice_index_or sums.now i (pos 0) ≡ local_sum settings.now.predictor
+        cube.now settings.now.band y (x + i) }
     requires sum_least { (i : ℕ) → first ≤ i → i < last → pos 0 ≤ℤ slice_index_or sums.now i (pos 0) }
     requires sum_most { (i : ℕ) → first ≤ i → i < last → slice_index_or sums.now i (pos 0) ≤ℤ pos 262140 }
-    requires own_is { (i : ℕ) → first ≤ i → i < last → slice_index_or own.now i (pos 0) ≡ central_difference settings.now.predictor cube.now settings.now.band y (x + i) }
-    requires components { (i : ℕ) → first ≤ i → i < last → components_at (quads_of settings.now.count) quads.now i ≡ difference_vector settings.now.predictor cube.now settings.now.band y (x + i) ++ replicate (4 * quads_of settings.now.count - settings.now.count) (pos 0) }
+    requires own_is { (i : ℕ) → first ≤ i → i < last
+        → slice_index_or own.now i (pos 0) ≡ central_difference settings.now.predictor cube.now settings.now.band y (x + i) }
+    requires components { (i : ℕ) → first ≤ i → i < last
+        → components_at (quads_of settings.now.count) quads.now i ≡ difference_vector settings.now.predictor cube.now settings.now.band y (x + i)
+        ++ replicate (4 * quads_of settings.now.count - settings.now.count) (pos 0) }
     requires weights_in { AllWithin (2 ^ (settings.now.predictor.fraction + 2)) weights.old }
-    ensures weights { (p : Parameters) → AreWeightsAt p settings.now.predictor cube.now settings.now.band (y * cube.now.shape.columns + (x + first)) (take settings.now.count weights.old) → take settings.now.count weights.new ≡ weight_vector p cube.now settings.now.band (y * cube.now.shape.columns + (x + last)) }
-    ensures parts { (p : Parameters) → AreWeightsAt p settings.now.predictor cube.now settings.now.band (y * cube.now.shape.columns + (x + first)) (take settings.now.count weights.old) → (i : ℕ) → first ≤ i → i < last → scaled_prediction p cube.now settings.now.band (y * cube.now.shape.columns + (x + i)) ≡ scaled_by_difference cube.now.kind (slice_index_or parts.new i (pos 0)) (local_sum settings.now.predictor cube.now settings.now.band y (x + i)) }
+    ensures weights { (p : Parameters) → AreWeightsAt p settings.now.predictor cube.now settings.now.band (y * cube.now.shape.columns + (x + first))
+        (take settings.now.count weights.old) → take settings.now.count weights.new ≡ weight_vector p cube.now settings.now.band (y * cube.now.shape.columns
+        + (x + last)) }
+    ensures parts { (p : Parameters) → AreWeightsAt p settings.now.predictor cube.now settings.now.band (y * cube.now.shape.columns + (x + first))
+        (take settings.now.count weights.old) → (i : ℕ) → first ≤ i → i < last
+        → scaled_prediction p cube.now settings.now.band (y * cube.now.shape.columns + (x + i)) ≡ scaled_by_difference cube.now.kind
+        (slice_index_or parts.new i (pos 0)) (local_sum settings.now.predictor cube.now settings.now.band y (x + i)) }
     ensures small { (i : ℕ) → first ≤ i → i < last → unsigned_abs (slice_index_or parts.new i (pos 0)) ≤ 18 * 2 ^ 20 }
     ensures bound { AllWithin (2 ^ (settings.now.predictor.fraction + 2)) weights.new }
 {

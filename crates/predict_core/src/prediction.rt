@@ -1,6 +1,7 @@
 //! The scaled prediction at a place that is not the first of its band.
 
-ghost use Rattle.std.specs.Prelude.{◌≡◌, ◌+◌, ◌*◌, ◌^◌, ◌<◌, ◌≤◌, false, pos, negsuc, ◌≤ℤ◌, ◌+ℤ◌, ◌-ℤ◌, ◌*ℤ◌, unsigned_abs, ◌-◌, ℤ, List, length, take, ◌++◌, replicate};
+ghost use Rattle.std.specs.Prelude.{◌≡◌, ◌+◌, ◌*◌, ◌^◌, ◌<◌, ◌≤◌, false, pos, negsuc, ◌≤ℤ◌, ◌+ℤ◌, ◌-ℤ◌, ◌*ℤ◌, unsigned_abs, ◌-◌, ℤ, List, length, take};
+ghost use Rattle.std.specs.Prelude.{◌++◌, replicate};
 ghost use Rattle.predict_core.specs.Arithmetic.{clip, floor_div, wrapped};
 ghost use Rattle.predict_core.specs.Prediction.{inner_product, scaled_by as scaled_of};
 ghost use Rattle.predict_core.specs.Chain.{scaled_by_difference};
@@ -28,7 +29,8 @@ pub(crate) fn scaled_by(
     requires weights_in { AllWithin (2 ^ (predictor.now.fraction + 2)) weights.now }
     requires differences_in { AllWithin (2 ^ 18) differences.now }
     requires sum_in { (negsuc 131071 ≤ℤ sum) × (sum ≤ℤ pos 262140) }
-    ensures value { (us : List ℤ) → length us ≡ count → differences.now ≡ us ++ replicate (18 - count) (pos 0) → result ≡ scaled_of predictor.now range.now.kind sum (take count weights.now) us }
+    ensures value { (us : List ℤ) → length us ≡ count → differences.now ≡ us ++ replicate (18 - count) (pos 0)
+        → result ≡ scaled_of predictor.now range.now.kind sum (take count weights.now) us }
     ensures scaled { IsScaled range.now.kind result }
 {
     let product = product_of(count, weights, differences);
@@ -96,7 +98,8 @@ fn is_wrapped<const WRAPS: bool>(
     requires register { WRAPS ≡ false → 46 ≤ predictor.now.register }
     requires product_in { unsigned_abs product ≤ 2 ^ 44 }
     requires sum_in { (negsuc 131071 ≤ℤ sum) × (sum ≤ℤ pos 262140) }
-    ensures kept { result ≡ false → wrapped predictor.now.register (product +ℤ pos (2 ^ predictor.now.fraction) *ℤ (sum -ℤ pos 4 *ℤ smid range.now.kind)) ≡ product +ℤ pos (2 ^ predictor.now.fraction) *ℤ (sum -ℤ pos 4 *ℤ smid range.now.kind) }
+    ensures kept { result ≡ false → wrapped predictor.now.register (product +ℤ pos (2 ^ predictor.now.fraction) *ℤ (sum -ℤ pos 4 *ℤ smid range.now.kind))
+        ≡ product +ℤ pos (2 ^ predictor.now.fraction) *ℤ (sum -ℤ pos 4 *ℤ smid range.now.kind) }
 {
     let register = register_of(predictor.fraction, product, sum, range.smid);
     WRAPS && wrapped_value(predictor.register, register) != register
@@ -108,7 +111,8 @@ fn wrapped_difference(predictor: &Predictor, range: &Range, sum: i32, product: i
     requires lawful { IsPredictor predictor.now }
     requires product_in { unsigned_abs product ≤ 2 ^ 44 }
     requires sum_in { (negsuc 131071 ≤ℤ sum) × (sum ≤ℤ pos 262140) }
-    ensures scaled { (ws us : List ℤ) → product ≡ inner_product ws us → scaled_of predictor.now range.now.kind sum ws us ≡ scaled_by_difference range.now.kind result sum }
+    ensures scaled { (ws us : List ℤ) → product ≡ inner_product ws us
+        → scaled_of predictor.now range.now.kind sum ws us ≡ scaled_by_difference range.now.kind result sum }
     ensures bound { unsigned_abs result ≤ 18 * 2 ^ 20 }
 {
     difference_of(scaled_by_product(predictor, range, sum, product), sum)

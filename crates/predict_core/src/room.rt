@@ -84,9 +84,12 @@ fn fill_first(
     requires few { count ≤ 64 }
     requires inside { x + count ≤ cube.now.shape.columns }
     requires lines { AreBandLines settings.now.predictor cube.now settings.now.band y x count lines.now.current lines.now.above }
-    ensures sums { (i : ℕ) → i < 64 → slice_index_or sums.new i (pos 0) ≡ pos (line_sum (settings.now.predictor.column || y == 0) lines.now.current lines.now.above i) }
-    ensures own { (i : ℕ) → i < 64 → slice_index_or own.new i (pos 0) ≡ line_difference (settings.now.predictor.column || y == 0) lines.now.current lines.now.above i }
-    ensures quad { (i : ℕ) → i < count → 0 < y + (x + i) → slice_index_or quad.new.places i [] ≡ directional_differences settings.now.predictor cube.now settings.now.band y (x + i) ++ lower_differences settings.now.predictor cube.now settings.now.band y (x + i) 1 1 }
+    ensures sums { (i : ℕ) → i < 64
+        → slice_index_or sums.new i (pos 0) ≡ pos (line_sum (settings.now.predictor.column || y == 0) lines.now.current lines.now.above i) }
+    ensures own { (i : ℕ) → i < 64 → slice_index_or own.new i (pos 0) ≡ line_difference (settings.now.predictor.column || y == 0) lines.now.current
+        lines.now.above i }
+    ensures quad { (i : ℕ) → i < count → 0 < y + (x + i) → slice_index_or quad.new.places i [] ≡ directional_differences settings.now.predictor cube.now
+        settings.now.band y (x + i) ++ lower_differences settings.now.predictor cube.now settings.now.band y (x + i) 1 1 }
 {
     let mut below = Lines::empty();
     fill_below(settings, cube, y, x, count, 1, &mut below);
@@ -111,7 +114,8 @@ fn fill_first(
 
 /// Puts the northern difference of the first place in place of the other two directions.
 fn repeat_north(out: &mut [[i32; 4]; 64])
-    ensures first { (north west north_west below : ℤ) → slice_index_or out.old 0 [] ≡ north ∷ west ∷ north_west ∷ below ∷ [] → slice_index_or out.new 0 [] ≡ north ∷ north ∷ north ∷ below ∷ [] }
+    ensures first { (north west north_west below : ℤ) → slice_index_or out.old 0 [] ≡ north ∷ west ∷ north_west ∷ below ∷ []
+        → slice_index_or out.new 0 [] ≡ north ∷ north ∷ north ∷ below ∷ [] }
     ensures others { (k : ℕ) → 0 < k → slice_index_or out.new k [] ≡ slice_index_or out.old k [] }
 {
     let first = out[0];

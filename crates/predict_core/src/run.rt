@@ -35,7 +35,8 @@ impl Band {
         requires next { self.old.place ≡ y * cube.now.shape.columns + x }
         ensures moved { MovesBy (length residuals.old) self.old self.new }
         ensures bound { (i : ℕ) → i < length residuals.new → slice_index residuals.new i < 2 ^ cube.now.kind.bits }
-        ensures residuals { (p : Parameters) → Follows p self.old cube.now → residuals.new ≡ run_residuals p cube.now self.old.band self.old.place (length residuals.old) }
+        ensures residuals { (p : Parameters) → Follows p self.old cube.now
+            → residuals.new ≡ run_residuals p cube.now self.old.band self.old.place (length residuals.old) }
         ensures follows { (p : Parameters) → Follows p self.old cube.now → Follows p self.new cube.now }
     {
         cube.prove_is_cube();
@@ -62,7 +63,8 @@ impl Band {
         requires next { self.old.place ≡ y * cube.now.shape.columns + x }
         ensures moved { MovesBy (length residuals.old) self.old self.new }
         ensures bound { (i : ℕ) → i < length residuals.new → slice_index residuals.new i < 2 ^ cube.now.kind.bits }
-        ensures residuals { (p : Parameters) → Follows p self.old cube.now → residuals.new ≡ run_residuals p cube.now self.old.band self.old.place (length residuals.old) }
+        ensures residuals { (p : Parameters) → Follows p self.old cube.now
+            → residuals.new ≡ run_residuals p cube.now self.old.band self.old.place (length residuals.old) }
         ensures follows { (p : Parameters) → Follows p self.old cube.now → Follows p self.new cube.now }
     {
         cube.prove_is_cube();
@@ -92,8 +94,12 @@ fn predict_run<const WRAPS: bool>(
     requires inside { x + length residuals.old ≤ cube.now.shape.columns }
     requires weights_in { AllWithin (2 ^ (settings.now.predictor.fraction + 2)) weights.old }
     ensures bound { (i : ℕ) → i < length residuals.new → slice_index residuals.new i < 2 ^ cube.now.kind.bits }
-    ensures residuals { (p : Parameters) → AreWeightsAt p settings.now.predictor cube.now settings.now.band (y * cube.now.shape.columns + x) (take settings.now.count weights.old) → residuals.new ≡ run_residuals p cube.now settings.now.band (y * cube.now.shape.columns + x) (length residuals.old) }
-    ensures weights { (p : Parameters) → AreWeightsAt p settings.now.predictor cube.now settings.now.band (y * cube.now.shape.columns + x) (take settings.now.count weights.old) → take settings.now.count weights.new ≡ weight_vector p cube.now settings.now.band (y * cube.now.shape.columns + x + length residuals.old) }
+    ensures residuals { (p : Parameters) → AreWeightsAt p settings.now.predictor cube.now settings.now.band (y * cube.now.shape.columns + x)
+        (take settings.now.count weights.old) → residuals.new ≡ run_residuals p cube.now settings.now.band (y * cube.now.shape.columns + x)
+        (length residuals.old) }
+    ensures weights { (p : Parameters) → AreWeightsAt p settings.now.predictor cube.now settings.now.band (y * cube.now.shape.columns + x)
+        (take settings.now.count weights.old) → take settings.now.count weights.new ≡ weight_vector p cube.now settings.now.band (y * cube.now.shape.columns
+        + x + length residuals.old) }
     ensures within { AllWithin (2 ^ (settings.now.predictor.fraction + 2)) weights.new }
 {
     let count = settings.count;
@@ -136,8 +142,12 @@ fn predict_by<const Q: usize, const N: usize, const WRAPS: bool>(
     requires inside { x + length residuals.old ≤ cube.now.shape.columns }
     requires weights_in { AllWithin (2 ^ (settings.now.predictor.fraction + 2)) weights.old }
     ensures bound { (i : ℕ) → i < length residuals.new → slice_index residuals.new i < 2 ^ cube.now.kind.bits }
-    ensures residuals { (p : Parameters) → AreWeightsAt p settings.now.predictor cube.now settings.now.band (y * cube.now.shape.columns + x) (take settings.now.count weights.old) → residuals.new ≡ run_residuals p cube.now settings.now.band (y * cube.now.shape.columns + x) (length residuals.old) }
-    ensures weights { (p : Parameters) → AreWeightsAt p settings.now.predictor cube.now settings.now.band (y * cube.now.shape.columns + x) (take settings.now.count weights.old) → take settings.now.count weights.new ≡ weight_vector p cube.now settings.now.band (y * cube.now.shape.columns + x + length residuals.old) }
+    ensures residuals { (p : Parameters) → AreWeightsAt p settings.now.predictor cube.now settings.now.band (y * cube.now.shape.columns + x)
+        (take settings.now.count weights.old) → residuals.new ≡ run_residuals p cube.now settings.now.band (y * cube.now.shape.columns + x)
+        (length residuals.old) }
+    ensures weights { (p : Parameters) → AreWeightsAt p settings.now.predictor cube.now settings.now.band (y * cube.now.shape.columns + x)
+        (take settings.now.count weights.old) → take settings.now.count weights.new ≡ weight_vector p cube.now settings.now.band (y * cube.now.shape.columns
+        + x + length residuals.old) }
     ensures within { AllWithin (2 ^ (settings.now.predictor.fraction + 2)) weights.new }
 {
     let count = residuals.len();

@@ -46,7 +46,8 @@ impl Band {
         requires told { AreOf self.old.predictor below.old cube.old }
         ensures moved { MovesBy (length deltas.now) self.old self.new }
         ensures beside { AreAlikeBeside cube.old cube.new self.old.band y x (length deltas.now) }
-        ensures residuals { (p : Parameters) → Follows p self.old cube.old → run_residuals p cube.new self.old.band self.old.place (length deltas.now) ≡ deltas.now }
+        ensures residuals { (p : Parameters) → Follows p self.old cube.old → run_residuals p cube.new self.old.band self.old.place (length deltas.now)
+            ≡ deltas.now }
         ensures follows { (p : Parameters) → Follows p self.old cube.old → Follows p self.new cube.new }
         ensures told { AreOf self.new.predictor below.new cube.new }
     {
@@ -86,7 +87,8 @@ impl Band {
         requires told { AreOf self.old.predictor below.old cube.old }
         ensures moved { MovesBy (length deltas.now) self.old self.new }
         ensures beside { AreAlikeBeside cube.old cube.new self.old.band y x (length deltas.now) }
-        ensures residuals { (p : Parameters) → Follows p self.old cube.old → run_residuals p cube.new self.old.band self.old.place (length deltas.now) ≡ deltas.now }
+        ensures residuals { (p : Parameters) → Follows p self.old cube.old → run_residuals p cube.new self.old.band self.old.place (length deltas.now)
+            ≡ deltas.now }
         ensures follows { (p : Parameters) → Follows p self.old cube.old → Follows p self.new cube.new }
         ensures told { AreOf self.new.predictor below.new cube.new }
     {
@@ -122,8 +124,11 @@ fn invert_run<const WRAPS: bool>(
     requires residuals_in { (i : ℕ) → i < length deltas.now → slice_index deltas.now i < 2 ^ cube.old.kind.bits }
     requires weights_in { AllWithin (2 ^ (settings.now.predictor.fraction + 2)) weights.old }
     ensures beside { AreAlikeBeside cube.old cube.new settings.now.band y x (length deltas.now) }
-    ensures residuals { (p : Parameters) → AreWeightsAt p settings.now.predictor cube.old settings.now.band (y * cube.old.shape.columns + x) (take settings.now.count weights.old) → run_residuals p cube.new settings.now.band (y * cube.old.shape.columns + x) (length deltas.now) ≡ deltas.now }
-    ensures weights { (p : Parameters) → AreWeightsAt p settings.now.predictor cube.old settings.now.band (y * cube.old.shape.columns + x) (take settings.now.count weights.old) → take settings.now.count weights.new ≡ weight_vector p cube.new settings.now.band (y * cube.old.shape.columns + x + length deltas.now) }
+    ensures residuals { (p : Parameters) → AreWeightsAt p settings.now.predictor cube.old settings.now.band (y * cube.old.shape.columns + x)
+        (take settings.now.count weights.old) → run_residuals p cube.new settings.now.band (y * cube.old.shape.columns + x) (length deltas.now) ≡ deltas.now }
+    ensures weights { (p : Parameters) → AreWeightsAt p settings.now.predictor cube.old settings.now.band (y * cube.old.shape.columns + x)
+        (take settings.now.count weights.old) → take settings.now.count weights.new ≡ weight_vector p cube.new settings.now.band (y * cube.old.shape.columns
+        + x + length deltas.now) }
     ensures within { AllWithin (2 ^ (settings.now.predictor.fraction + 2)) weights.new }
 {
     let count = settings.count;
@@ -170,8 +175,11 @@ fn invert_by<const Q: usize, const N: usize, const WRAPS: bool>(
     requires residuals_in { (i : ℕ) → i < length deltas.now → slice_index deltas.now i < 2 ^ cube.old.kind.bits }
     requires weights_in { AllWithin (2 ^ (settings.now.predictor.fraction + 2)) weights.old }
     ensures beside { AreAlikeBeside cube.old cube.new settings.now.band y x (length deltas.now) }
-    ensures residuals { (p : Parameters) → AreWeightsAt p settings.now.predictor cube.old settings.now.band (y * cube.old.shape.columns + x) (take settings.now.count weights.old) → run_residuals p cube.new settings.now.band (y * cube.old.shape.columns + x) (length deltas.now) ≡ deltas.now }
-    ensures weights { (p : Parameters) → AreWeightsAt p settings.now.predictor cube.old settings.now.band (y * cube.old.shape.columns + x) (take settings.now.count weights.old) → take settings.now.count weights.new ≡ weight_vector p cube.new settings.now.band (y * cube.old.shape.columns + x + length deltas.now) }
+    ensures residuals { (p : Parameters) → AreWeightsAt p settings.now.predictor cube.old settings.now.band (y * cube.old.shape.columns + x)
+        (take settings.now.count weights.old) → run_residuals p cube.new settings.now.band (y * cube.old.shape.columns + x) (length deltas.now) ≡ deltas.now }
+    ensures weights { (p : Parameters) → AreWeightsAt p settings.now.predictor cube.old settings.now.band (y * cube.old.shape.columns + x)
+        (take settings.now.count weights.old) → take settings.now.count weights.new ≡ weight_vector p cube.new settings.now.band (y * cube.old.shape.columns
+        + x + length deltas.now) }
     ensures within { AllWithin (2 ^ (settings.now.predictor.fraction + 2)) weights.new }
 {
     cube.prove_is_cube();

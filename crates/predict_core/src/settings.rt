@@ -75,9 +75,11 @@ pub(crate) fn predict(
     requires kind { cube.now.kind ≡ settings.now.range.kind }
     requires later { 0 < y + x }
     requires weights_in { AllWithin (2 ^ (settings.now.predictor.fraction + 2)) weights.now }
-    ensures differences { result.differences ≡ vector settings.now.predictor cube.now settings.now.band y x ++ replicate (18 - component_count settings.now.predictor settings.now.band) (pos 0) }
+    ensures differences { result.differences ≡ vector settings.now.predictor cube.now settings.now.band y x ++ replicate
+        (18 - component_count settings.now.predictor settings.now.band) (pos 0) }
     ensures bound { AllWithin (4 * 2 ^ settings.now.range.bits) result.differences }
-    ensures value { result.scaled ≡ scaled_there settings.now.predictor cube.now settings.now.band y x (take (component_count settings.now.predictor settings.now.band) weights.now) }
+    ensures value { result.scaled ≡ scaled_there settings.now.predictor cube.now settings.now.band y x
+        (take (component_count settings.now.predictor settings.now.band) weights.now) }
     ensures scaled { IsScaled cube.now.kind result.scaled }
 {
     cube.prove_is_cube();
@@ -124,7 +126,9 @@ pub(crate) fn learn(
     requires differences_in { AllWithin (4 * 2 ^ settings.now.range.bits) prediction.now.differences }
     requires scaled_in { IsScaled settings.now.range.kind prediction.now.scaled }
     requires sample_in { (negsuc 32767 ≤ℤ sample) × (sample ≤ℤ pos 65535) }
-    ensures value { (us : List ℤ) → length us ≡ settings.now.count → prediction.now.differences ≡ us ++ replicate (18 - settings.now.count) (pos 0) → take settings.now.count weights.new ≡ updated_weights settings.now.predictor.fraction (step_exponent settings.now.predictor settings.now.columns settings.now.range.bits t) (int_lt (pos 2 *ℤ sample -ℤ prediction.now.scaled) (pos 0)) (take settings.now.count weights.old) us }
+    ensures value { (us : List ℤ) → length us ≡ settings.now.count → prediction.now.differences ≡ us ++ replicate (18 - settings.now.count) (pos 0)
+        → take settings.now.count weights.new ≡ updated_weights settings.now.predictor.fraction (step_exponent settings.now.predictor settings.now.columns
+        settings.now.range.bits t) (int_lt (pos 2 *ℤ sample -ℤ prediction.now.scaled) (pos 0)) (take settings.now.count weights.old) us }
     ensures bound { AllWithin (2 ^ (settings.now.predictor.fraction + 2)) weights.new }
 {
     let exponent = exponent_at(
@@ -150,7 +154,8 @@ pub(crate) fn learn(
 pub(crate) fn form_at(settings: &Settings, y: u32, x: u32) -> Form
     requires row { y < 65536 }
     requires column { x < settings.now.columns }
-    ensures { AreSteps result settings.now.range.bits (step_exponent settings.now.predictor settings.now.columns settings.now.range.bits (y * settings.now.columns + x)) }
+    ensures { AreSteps result settings.now.range.bits (step_exponent settings.now.predictor settings.now.columns settings.now.range.bits
+        (y * settings.now.columns + x)) }
 {
     let bits = settings.range.bits;
     let t = u64::from(y) * u64::from(settings.columns) + u64::from(x);

@@ -1,7 +1,8 @@
 //! The central differences of the bands below a band at one place, kept while the bands of that place follow
 //! one another.
 
-ghost use Rattle.std.specs.Prelude.{◌≡◌, ◌+◌, ◌-◌, ◌*◌, ◌^◌, ◌<◌, ◌≤◌, ℕ, pos, ◌+ℤ◌, ◌*ℤ◌, ◌-ℤ◌, false, take, drop, ◌∷◌, ◌++◌, replicate, slice_set, length, unsigned_abs, if◌then◌else◌};
+ghost use Rattle.std.specs.Prelude.{◌≡◌, ◌+◌, ◌-◌, ◌*◌, ◌^◌, ◌<◌, ◌≤◌, ℕ, pos, ◌+ℤ◌, ◌*ℤ◌, ◌-ℤ◌, false, take, drop, ◌∷◌, ◌++◌, replicate, slice_set};
+ghost use Rattle.std.specs.Prelude.{length, unsigned_abs, if◌then◌else◌};
 ghost use Rattle.cube_core.specs.Image.{Image, IsPlace, put, sample_at};
 ghost use Rattle.predict_core.specs.Predictor.{previous_bands};
 ghost use Rattle.predict_core.specs.Differences.{central_difference, spectral_differences};

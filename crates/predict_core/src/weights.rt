@@ -1,6 +1,7 @@
 //! The weights of the differences: the products with them, and their update.
 
-ghost use Rattle.std.specs.Prelude.{◌≡◌, ◌+◌, ◌-◌, ◌*◌, ◌^◌, ◌≤◌, pos, negsuc, ◌≤ℤ◌, ◌+ℤ◌, ◌-ℤ◌, ◌*ℤ◌, unsigned_abs, int_lt, ℕ, ℤ, List, length, take, ◌++◌, replicate};
+ghost use Rattle.std.specs.Prelude.{◌≡◌, ◌+◌, ◌-◌, ◌*◌, ◌^◌, ◌≤◌, pos, negsuc, ◌≤ℤ◌, ◌+ℤ◌, ◌-ℤ◌, ◌*ℤ◌, unsigned_abs, int_lt, ℕ, ℤ, List, length, take};
+ghost use Rattle.std.specs.Prelude.{◌++◌, replicate};
 ghost use Rattle.predict_core.specs.Arithmetic.{floor_div, clip};
 ghost use Rattle.predict_core.specs.Prediction.{inner_product};
 ghost use Rattle.predict_core.specs.Weights.{step, signed_by, weight_min, weight_max, updated_weight as updated, updated_weights};
@@ -14,7 +15,8 @@ pub(crate) fn product_of(count: usize, weights: &[i32; 18], differences: &[i32; 
     requires count_in { count ≤ 18 }
     requires weights_in { AllWithin (2 ^ 21) weights.now }
     requires differences_in { AllWithin (2 ^ 18) differences.now }
-    ensures value { (us : List ℤ) → length us ≡ count → differences.now ≡ us ++ replicate (18 - count) (pos 0) → result ≡ inner_product (take count weights.now) us }
+    ensures value { (us : List ℤ) → length us ≡ count → differences.now ≡ us ++ replicate (18 - count) (pos 0)
+        → result ≡ inner_product (take count weights.now) us }
     ensures bound { unsigned_abs result ≤ 2 ^ 44 }
     ensures bound_by { (n : ℕ) → AllWithin n weights.now → unsigned_abs result ≤ 18 * (n * 2 ^ 18) }
 {
@@ -66,7 +68,8 @@ pub(crate) fn update(
     requires exponent_most { exponent ≤ℤ pos 21 }
     requires weights_in { AllWithin (2 ^ (fraction + 2)) weights.old }
     requires differences_in { AllWithin (4 * 2 ^ bits) differences.now }
-    ensures value { (us : List ℤ) → length us ≡ count → differences.now ≡ us ++ replicate (18 - count) (pos 0) → take count weights.new ≡ updated_weights fraction exponent negative (take count weights.old) us }
+    ensures value { (us : List ℤ) → length us ≡ count → differences.now ≡ us ++ replicate (18 - count) (pos 0)
+        → take count weights.new ≡ updated_weights fraction exponent negative (take count weights.old) us }
     ensures bound { AllWithin (2 ^ (fraction + 2)) weights.new }
 {
     if count == 0 {

@@ -8,5 +8,6 @@ use Rattle.sample_adaptive.specs.Reading.{plain_at, escape_at, word_at, words_at
 use Rattle.sample_adaptive.specs.Body.{band_numbers, words_after, sample_body}
 
 unfoldable pub everything : Unit {0}
-unfolding bits_of number_of bits_of_bytes places constant_of start_statistics next_statistics statistics_from statistics greatest code_parameter form_text form_of code_at band_numbers words_after sample_body number_at zeros_at plain_at escape_at word_at words_at sample_body_at
+unfolding bits_of number_of bits_of_bytes places constant_of start_statistics next_statistics statistics_from statistics greatest code_parameter form_text
+    form_of code_at band_numbers words_after sample_body number_at zeros_at plain_at escape_at word_at words_at sample_body_at
 everything = tt

@@ -78,7 +78,8 @@ PutsNumber z t number old written new written_now =
 -- and they are taken
 abbrev pub PutsRun : ℕ → ℕ → List ℕ → Counts → List Bool → Counts → List Bool → Type 0
 PutsRun z t numbers old written new written_now =
-    (c : CoderSettings) (gone places : List Place) (before : List ℕ) → length before ≡ length gone → length numbers ≡ length places → AllByRecursion (λ p. p.z ≡ z) places
+    (c : CoderSettings) (gone places : List Place) (before : List ℕ) → length before ≡ length gone → length numbers ≡ length places
+    → AllByRecursion (λ p. p.z ≡ z) places
     → HasTaken c old (λ b. band_numbers b gone before) → t ≡ length (band_numbers z gone before)
     → (written_now ≡ written ++ words_after c gone before places numbers) × HasTaken c new (λ b. band_numbers b (gone ++ places) (before ++ numbers))
 
@@ -93,7 +94,8 @@ GetsNumber z t result old unread new left =
 -- were given and taken; or the answer is the first fault of so many places
 abbrev pub GetsRun : ℕ → ℕ → ℕ → Result (Unit {0}) Fault → Counts → Unread → Counts → List Bool → List ℕ → Type 0
 GetsRun z t place result old unread new left numbers =
-    (c : CoderSettings) (gone places : List Place) (before : List ℕ) → length before ≡ length gone → length numbers ≡ length places → AllByRecursion (λ p. p.z ≡ z) places
+    (c : CoderSettings) (gone places : List Place) (before : List ℕ) → length before ≡ length gone → length numbers ≡ length places
+    → AllByRecursion (λ p. p.z ≡ z) places
     → HasTaken c old (λ b. band_numbers b gone before) → t ≡ length (band_numbers z gone before) → place ≡ length before
     → Reads (λ _. numbers) result left (words_at unread.count c gone before places unread.left)
     × IfOk result (λ _. HasTaken c new (λ b. band_numbers b (gone ++ places) (before ++ numbers)))

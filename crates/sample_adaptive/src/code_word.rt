@@ -116,7 +116,11 @@ fn take_last(
     reader: &mut BitReader,
 ) -> Result<u16, Fault>
     requires { IsCode (record { limit = limit; low = low; bits = bits }) }
-    ensures reads { Reads (λ number. number) result reader.new.left (word_at reader.old.count place (record { limit = limit; low = low; bits = bits }) reader.old.left) }
+    ensures reads { Reads (λ number. number) result reader.new.left (word_at reader.old.count place (record {
+      limit = limit;
+      low = low;
+      bits = bits;
+    }) reader.old.left) }
     ensures below { IfOk result (λ number. number < 2 ^ bits) }
     ensures count { reader.new.count ≡ reader.old.count }
 {

@@ -1,6 +1,7 @@
 //! Laws of the coder's definitions.
 
-ghost use Rattle.sample_adaptive.specs.Laws.{OneForm, OneWord, OneBody, WordIsRead, TruncatedIsNoForm, BadCodeIsNoWord, BodyIsRead, AccumulatorBound, ParameterIsGreatest};
+ghost use Rattle.sample_adaptive.specs.Laws.{OneForm, OneWord, OneBody, WordIsRead, TruncatedIsNoForm, BadCodeIsNoWord, BodyIsRead, AccumulatorBound};
+ghost use Rattle.sample_adaptive.specs.Laws.{ParameterIsGreatest};
 
 /// No form begins another.
 pub fn one_form()

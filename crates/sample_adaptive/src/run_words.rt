@@ -35,7 +35,8 @@ pub(crate) fn put_words(writer: BitWriter, run: LaterRun) -> (BitWriter, Statist
     requires statistics { AreStatistics run.rescaling.size run.statistics }
     requires numbers { AllByRecursion (λ n. n < 2 ^ run.bits) run.numbers.now }
     requires room { 48 * length run.numbers.now ≤ writer.room }
-    ensures taken { (v : Counts) (z t : ℕ) → z < length v.bands → HasSettings v run.entry.bits run.entry.limit run.entry.rescaling.size → of_band v.bands z ≡ run.entry.statistics → 0 < t → PutsRun z t run.entry.numbers.now v writer.bits (with_band v z result.1) result.0.bits }
+    ensures taken { (v : Counts) (z t : ℕ) → z < length v.bands → HasSettings v run.entry.bits run.entry.limit run.entry.rescaling.size
+        → of_band v.bands z ≡ run.entry.statistics → 0 < t → PutsRun z t run.entry.numbers.now v writer.bits (with_band v z result.1) result.0.bits }
     ensures statistics { AreStatistics run.entry.rescaling.size result.1 }
 {
     let mut writer = writer;
@@ -89,7 +90,8 @@ pub(crate) fn take_words(
     requires limit { run.limit ≤ 32 }
     requires statistics { AreStatistics run.rescaling.size statistics.old }
     requires long { (length numbers.old ≤ 2 ^ 16) × (place < 2 ^ 48) }
-    ensures taken { (v : Counts) (z : ℕ) → z < length v.bands → HasSettings v run.bits run.limit run.rescaling.size → of_band v.bands z ≡ statistics.old → GetsRun z t place result v reader.old (with_band v z statistics.new) reader.new.left numbers.new }
+    ensures taken { (v : Counts) (z : ℕ) → z < length v.bands → HasSettings v run.bits run.limit run.rescaling.size → of_band v.bands z ≡ statistics.old
+        → GetsRun z t place result v reader.old (with_band v z statistics.new) reader.new.left numbers.new }
     ensures statistics { AreStatistics run.rescaling.size statistics.new }
     ensures count { reader.new.count ≡ reader.old.count }
     ensures long { length numbers.new ≡ length numbers.old }
@@ -124,7 +126,8 @@ fn take_later(
     requires limit { run.limit ≤ 32 }
     requires statistics { AreStatistics run.rescaling.size statistics.old }
     requires long { (length numbers.old ≤ 2 ^ 16) × (place ≤ 2 ^ 48) }
-    ensures taken { (v : Counts) (z t : ℕ) → z < length v.bands → HasSettings v run.bits run.limit run.rescaling.size → of_band v.bands z ≡ statistics.old → 0 < t → GetsRun z t place result v reader.old (with_band v z statistics.new) reader.new.left numbers.new }
+    ensures taken { (v : Counts) (z t : ℕ) → z < length v.bands → HasSettings v run.bits run.limit run.rescaling.size → of_band v.bands z ≡ statistics.old
+        → 0 < t → GetsRun z t place result v reader.old (with_band v z statistics.new) reader.new.left numbers.new }
     ensures statistics { AreStatistics run.rescaling.size statistics.new }
     ensures count { reader.new.count ≡ reader.old.count }
     ensures long { length numbers.new ≡ length numbers.old }

@@ -49,22 +49,26 @@ pub fn escape()
 
 /// Cube A, band after band.
 pub fn cube_a_bsq()
-    ensures { filled (sample_body common (bands_apart 3 2 2) (55 ∷ 3 ∷ 5 ∷ 0 ∷ 4 ∷ 2 ∷ 20 ∷ 1 ∷ 2 ∷ 2 ∷ 1 ∷ 2 ∷ [])) ≡ bits_of_bytes (0x37 ∷ 0xBD ∷ 0x84 ∷ 0xC2 ∷ 0x93 ∷ 0x5A ∷ 0xE0 ∷ []) }
+    ensures { filled (sample_body common (bands_apart 3 2 2) (55 ∷ 3 ∷ 5 ∷ 0 ∷ 4 ∷ 2 ∷ 20 ∷ 1 ∷ 2 ∷ 2 ∷ 1 ∷ 2 ∷ []))
+        ≡ bits_of_bytes (0x37 ∷ 0xBD ∷ 0x84 ∷ 0xC2 ∷ 0x93 ∷ 0x5A ∷ 0xE0 ∷ []) }
 {}
 
 /// Cube A, its lines interleaved.
 pub fn cube_a_bil()
-    ensures { filled (sample_body common (bands_in_groups 1 3 2 2) (55 ∷ 3 ∷ 5 ∷ 20 ∷ 1 ∷ 2 ∷ 0 ∷ 4 ∷ 2 ∷ 2 ∷ 1 ∷ 2 ∷ [])) ≡ bits_of_bytes (0x37 ∷ 0xBD ∷ 0x14 ∷ 0x9A ∷ 0x84 ∷ 0xDA ∷ 0xE0 ∷ []) }
+    ensures { filled (sample_body common (bands_in_groups 1 3 2 2) (55 ∷ 3 ∷ 5 ∷ 20 ∷ 1 ∷ 2 ∷ 0 ∷ 4 ∷ 2 ∷ 2 ∷ 1 ∷ 2 ∷ []))
+        ≡ bits_of_bytes (0x37 ∷ 0xBD ∷ 0x14 ∷ 0x9A ∷ 0x84 ∷ 0xDA ∷ 0xE0 ∷ []) }
 {}
 
 /// Cube A, its pixels interleaved.
 pub fn cube_a_bip()
-    ensures { filled (sample_body common (bands_in_groups 2 3 2 2) (55 ∷ 20 ∷ 3 ∷ 1 ∷ 5 ∷ 2 ∷ 0 ∷ 2 ∷ 4 ∷ 1 ∷ 2 ∷ 2 ∷ [])) ≡ bits_of_bytes (0x37 ∷ 0x14 ∷ 0xB9 ∷ 0xDA ∷ 0x8C ∷ 0x97 ∷ 0x60 ∷ []) }
+    ensures { filled (sample_body common (bands_in_groups 2 3 2 2) (55 ∷ 20 ∷ 3 ∷ 1 ∷ 5 ∷ 2 ∷ 0 ∷ 2 ∷ 4 ∷ 1 ∷ 2 ∷ 2 ∷ []))
+        ≡ bits_of_bytes (0x37 ∷ 0x14 ∷ 0xB9 ∷ 0xDA ∷ 0x8C ∷ 0x97 ∷ 0x60 ∷ []) }
 {}
 
 /// The greatest number of 11 bits is escaped.
 pub fn register_wraps()
-    ensures { filled (sample_body (of_bits 11) (bands_apart 1 2 2) (2039 ∷ 8 ∷ 7 ∷ 2047 ∷ [])) ≡ bits_of_bytes (0xFE ∷ 0xE8 ∷ 0x00 ∷ 0xE0 ∷ 0x00 ∷ 0x1F ∷ 0xFC ∷ []) }
+    ensures { filled (sample_body (of_bits 11) (bands_apart 1 2 2) (2039 ∷ 8 ∷ 7 ∷ 2047 ∷ [])) ≡ bits_of_bytes (0xFE ∷ 0xE8 ∷ 0x00 ∷ 0xE0 ∷ 0x00 ∷ 0x1F
+        ∷ 0xFC ∷ []) }
 {}
 
 /// The same with a last number of 0.
@@ -89,12 +93,14 @@ pub fn table_of_two_constants()
 
 /// The halved sum is rounded up, and so the last word has one low bit.
 pub fn rescaling_rounds_up()
-    ensures { sample_body rescaling (bands_apart 1 16 1) (0 ∷ 2 ∷ 0 ∷ 0 ∷ 0 ∷ 0 ∷ 0 ∷ 0 ∷ 0 ∷ 0 ∷ 0 ∷ 0 ∷ 0 ∷ 0 ∷ 0 ∷ 0 ∷ []) ≡ take 45 (bits_of_bytes (0x00 ∷ 0xA8 ∷ 0x92 ∷ 0x55 ∷ 0x55 ∷ 0x50 ∷ [])) }
+    ensures { sample_body rescaling (bands_apart 1 16 1) (0 ∷ 2 ∷ 0 ∷ 0 ∷ 0 ∷ 0 ∷ 0 ∷ 0 ∷ 0 ∷ 0 ∷ 0 ∷ 0 ∷ 0 ∷ 0 ∷ 0 ∷ 0 ∷ [])
+        ≡ take 45 (bits_of_bytes (0x00 ∷ 0xA8 ∷ 0x92 ∷ 0x55 ∷ 0x55 ∷ 0x50 ∷ [])) }
 {}
 
 /// Three bands of two samples.
 pub fn three_bands()
-    ensures { filled (sample_body common (bands_apart 1 2 3) (254 ∷ 255 ∷ 23 ∷ 255 ∷ 255 ∷ 11 ∷ [])) ≡ bits_of_bytes (0xFE ∷ 0x00 ∷ 0x00 ∷ 0xFF ∷ 0x17 ∷ 0x00 ∷ 0x00 ∷ 0xFF ∷ 0xFF ∷ 0x58 ∷ []) }
+    ensures { filled (sample_body common (bands_apart 1 2 3) (254 ∷ 255 ∷ 23 ∷ 255 ∷ 255 ∷ 11 ∷ [])) ≡ bits_of_bytes (0xFE ∷ 0x00 ∷ 0x00 ∷ 0xFF ∷ 0x17
+        ∷ 0x00 ∷ 0x00 ∷ 0xFF ∷ 0xFF ∷ 0x58 ∷ []) }
 {}
 
 /// Two bands of two samples, with an escape.
@@ -109,7 +115,8 @@ pub fn fine_weight_table()
 
 /// Two bands with escapes.
 pub fn no_error()
-    ensures { filled (sample_body common (bands_apart 1 3 2) (254 ∷ 30 ∷ 255 ∷ 255 ∷ 0 ∷ 255 ∷ [])) ≡ bits_of_bytes (0xFE ∷ 0x1C ∷ 0x00 ∷ 0x03 ∷ 0xFF ∷ 0xF0 ∷ 0x00 ∷ 0x01 ∷ 0xFE ∷ []) }
+    ensures { filled (sample_body common (bands_apart 1 3 2) (254 ∷ 30 ∷ 255 ∷ 255 ∷ 0 ∷ 255 ∷ [])) ≡ bits_of_bytes (0xFE ∷ 0x1C ∷ 0x00 ∷ 0x03 ∷ 0xFF ∷ 0xF0
+        ∷ 0x00 ∷ 0x01 ∷ 0xFE ∷ []) }
 {}
 
 /// Two bands whose code parameter grows.
@@ -119,10 +126,15 @@ pub fn weights_clipped_from_above()
 
 /// A number of 0 behind an escape.
 pub fn greatest_prediction()
-    ensures { filled (sample_body common (bands_apart 1 3 2) (97 ∷ 255 ∷ 182 ∷ 228 ∷ 0 ∷ 149 ∷ [])) ≡ bits_of_bytes (0x61 ∷ 0x00 ∷ 0x00 ∷ 0xFF ∷ 0x3B ∷ 0x72 ∷ 0x40 ∷ 0x00 ∷ 0x04 ∷ 0xA8 ∷ []) }
+    ensures { filled (sample_body common (bands_apart 1 3 2) (97 ∷ 255 ∷ 182 ∷ 228 ∷ 0 ∷ 149 ∷ [])) ≡ bits_of_bytes (0x61 ∷ 0x00 ∷ 0x00 ∷ 0xFF ∷ 0x3B ∷ 0x72
+        ∷ 0x40 ∷ 0x00 ∷ 0x04 ∷ 0xA8 ∷ []) }
 {}
 
 /// Two bands of 24 samples, of which many are at either end of their range.
 pub fn twenty_four_samples_a_band()
-    ensures { filled (sample_body common (bands_apart 8 3 2) (92 ∷ 169 ∷ 172 ∷ 255 ∷ 143 ∷ 87 ∷ 255 ∷ 0 ∷ 161 ∷ 255 ∷ 0 ∷ 0 ∷ 255 ∷ 197 ∷ 255 ∷ 0 ∷ 0 ∷ 149 ∷ 0 ∷ 255 ∷ 255 ∷ 18 ∷ 0 ∷ 81 ∷ 39 ∷ 255 ∷ 0 ∷ 0 ∷ 158 ∷ 173 ∷ 0 ∷ 0 ∷ 40 ∷ 144 ∷ 255 ∷ 8 ∷ 0 ∷ 255 ∷ 39 ∷ 0 ∷ 79 ∷ 0 ∷ 130 ∷ 255 ∷ 0 ∷ 141 ∷ 77 ∷ 255 ∷ [])) ≡ bits_of_bytes (0x5C ∷ 0x00 ∷ 0x00 ∷ 0xA9 ∷ 0x36 ∷ 0x0F ∷ 0xE4 ∷ 0xF5 ∷ 0x71 ∷ 0xFE ∷ 0x01 ∷ 0x84 ∷ 0x7F ∷ 0x81 ∷ 0x00 ∷ 0x7F ∷ 0x11 ∷ 0x47 ∷ 0xF8 ∷ 0x10 ∷ 0x0A ∷ 0xB0 ∷ 0x07 ∷ 0xF1 ∷ 0xFE ∷ 0x94 ∷ 0x05 ∷ 0x12 ∷ 0x70 ∷ 0x00 ∷ 0x0F ∷ 0xF8 ∷ 0x10 ∷ 0x03 ∷ 0xE3 ∷ 0x6C ∷ 0x08 ∷ 0x1A ∷ 0x0A ∷ 0x03 ∷ 0xFC ∷ 0x88 ∷ 0x03 ∷ 0xFE ∷ 0x78 ∷ 0x09 ∷ 0xF0 ∷ 0x08 ∷ 0x43 ∷ 0xFC ∷ 0x02 ∷ 0x6A ∷ 0x68 ∷ 0xFE ∷ []) }
+    ensures { filled (sample_body common (bands_apart 8 3 2) (92 ∷ 169 ∷ 172 ∷ 255 ∷ 143 ∷ 87 ∷ 255 ∷ 0 ∷ 161 ∷ 255 ∷ 0 ∷ 0 ∷ 255 ∷ 197 ∷ 255 ∷ 0 ∷ 0 ∷ 149
+        ∷ 0 ∷ 255 ∷ 255 ∷ 18 ∷ 0 ∷ 81 ∷ 39 ∷ 255 ∷ 0 ∷ 0 ∷ 158 ∷ 173 ∷ 0 ∷ 0 ∷ 40 ∷ 144 ∷ 255 ∷ 8 ∷ 0 ∷ 255 ∷ 39 ∷ 0 ∷ 79 ∷ 0 ∷ 130 ∷ 255 ∷ 0 ∷ 141 ∷ 77
+        ∷ 255 ∷ [])) ≡ bits_of_bytes (0x5C ∷ 0x00 ∷ 0x00 ∷ 0xA9 ∷ 0x36 ∷ 0x0F ∷ 0xE4 ∷ 0xF5 ∷ 0x71 ∷ 0xFE ∷ 0x01 ∷ 0x84 ∷ 0x7F ∷ 0x81 ∷ 0x00 ∷ 0x7F ∷ 0x11
+        ∷ 0x47 ∷ 0xF8 ∷ 0x10 ∷ 0x0A ∷ 0xB0 ∷ 0x07 ∷ 0xF1 ∷ 0xFE ∷ 0x94 ∷ 0x05 ∷ 0x12 ∷ 0x70 ∷ 0x00 ∷ 0x0F ∷ 0xF8 ∷ 0x10 ∷ 0x03 ∷ 0xE3 ∷ 0x6C ∷ 0x08 ∷ 0x1A
+        ∷ 0x0A ∷ 0x03 ∷ 0xFC ∷ 0x88 ∷ 0x03 ∷ 0xFE ∷ 0x78 ∷ 0x09 ∷ 0xF0 ∷ 0x08 ∷ 0x43 ∷ 0xFC ∷ 0x02 ∷ 0x6A ∷ 0x68 ∷ 0xFE ∷ []) }
 {}

@@ -8,5 +8,6 @@ use Rattle.file_decoding.specs.Files.{behind_body, body_test, head_at, file_test
 use Rattle.cube_predictors.specs.Weave.{owners_of, part, weave}
 
 unfoldable pub everything : Unit {0}
-unfolding of_headers of_residuals of_samples of_blocks body_of packed_from packed file_bits file_of_residuals file_of owners_of part weave behind_body body_test head_at file_test
+unfolding of_headers of_residuals of_samples of_blocks body_of packed_from packed file_bits file_of_residuals file_of owners_of part weave behind_body
+    body_test head_at file_test
 everything = tt

@@ -4,7 +4,9 @@
 ghost use Rattle.std.specs.Prelude.{◌≡◌, ◌∷◌, [], replicate, pos, negsuc, true, false};
 ghost use Rattle.header_bits.specs.Rows.{common};
 ghost use Rattle.file_coding.specs.File.{file_of, file_of_residuals};
-ghost use Rattle.worked_files.specs.Rows.{bytes, file, cube, one_below, coarse_steps, growing_steps, signed_sixteen, short_limit, four_byte_words, register_of, two_below, table_of, coarse_table, with_constants, block, few_bits, of_cube_a, samples_a, interleaved_a, blocks_a, middles};
+ghost use Rattle.worked_files.specs.Rows.{bytes, file, cube, one_below, coarse_steps, growing_steps, signed_sixteen, short_limit, four_byte_words};
+ghost use Rattle.worked_files.specs.Rows.{register_of, two_below, table_of, coarse_table, with_constants, block, few_bits, of_cube_a, samples_a};
+ghost use Rattle.worked_files.specs.Rows.{interleaved_a, blocks_a, middles};
 
 /// One sample stands in its bits.
 pub fn one_sample()
@@ -173,7 +175,8 @@ pub fn greatest_weight()
 
 /// A scaled prediction stays at its greatest value.
 pub fn greatest_prediction()
-    ensures { file (coarse_steps 1 3 2 (negsuc 5)) (79 ∷ 255 ∷ 73 ∷ 228 ∷ 255 ∷ 106 ∷ []) ≡ bytes 29 0x00000100030002110000080006A00200008226610000FF3B72400004A8 }
+    ensures { file (coarse_steps 1 3 2 (negsuc 5)) (79 ∷ 255 ∷ 73 ∷ 228 ∷ 255 ∷ 106 ∷ [])
+        ≡ bytes 29 0x00000100030002110000080006A00200008226610000FF3B72400004A8 }
 {}
 
 /// The exponent of the weight steps grows from the second row on.

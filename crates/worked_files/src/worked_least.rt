@@ -33,11 +33,13 @@ pub fn three_bits_for_each_segment()
 
 /// Two equal samples' file, cut off behind each of its bytes but the last.
 pub fn cut_off_behind_each_byte()
-    ensures { tests_of_cuts (bytes 21 0x00000100020001110000080002A092590082269080) 0 21 ≡ replicate 19 (Err ShortHeader) ++ Err (Truncated 152) ∷ Err (Truncated 160) ∷ [] }
+    ensures { tests_of_cuts (bytes 21 0x00000100020001110000080002A092590082269080) 0 21 ≡ replicate 19 (Err ShortHeader) ++ Err (Truncated 152)
+        ∷ Err (Truncated 160) ∷ [] }
 {}
 
 /// The same of a block that stands for one sample.
 pub fn block_cut_off_behind_each_byte()
     ensures header { tests_of_cuts (bytes 26 0x000001000100011100000C0002A09259000001A00FF000000000) 0 19 ≡ replicate 19 (Err ShortHeader) }
-    ensures body { tests_of_cuts (bytes 26 0x000001000100011100000C0002A09259000001A00FF000000000) 19 7 ≡ Err (Truncated 152) ∷ Err (Truncated 160) ∷ Err (Truncated 168) ∷ Err (Truncated 176) ∷ Err (Truncated 184) ∷ Err (Truncated 192) ∷ Err (Truncated 200) ∷ [] }
+    ensures body { tests_of_cuts (bytes 26 0x000001000100011100000C0002A09259000001A00FF000000000) 19 7 ≡ Err (Truncated 152) ∷ Err (Truncated 160)
+        ∷ Err (Truncated 168) ∷ Err (Truncated 176) ∷ Err (Truncated 184) ∷ Err (Truncated 192) ∷ Err (Truncated 200) ∷ [] }
 {}

@@ -7,12 +7,14 @@ ghost use Rattle.worked_files.specs.Rows.{cube, interleaved_a, samples_a};
 
 /// A predictor for each band.
 pub fn a_band_each()
-    ensures { parts 2 (0 ∷ 1 ∷ []) (interleaved_a 2) (cube (interleaved_a 2) (map pos samples_a)) ≡ (55 ∷ 3 ∷ 5 ∷ 0 ∷ 4 ∷ 2 ∷ []) ∷ (20 ∷ 1 ∷ 2 ∷ 2 ∷ 1 ∷ 2 ∷ []) ∷ [] }
+    ensures { parts 2 (0 ∷ 1 ∷ []) (interleaved_a 2) (cube (interleaved_a 2) (map pos samples_a)) ≡ (55 ∷ 3 ∷ 5 ∷ 0 ∷ 4 ∷ 2 ∷ [])
+        ∷ (20 ∷ 1 ∷ 2 ∷ 2 ∷ 1 ∷ 2 ∷ []) ∷ [] }
 {}
 
 /// One predictor owns both bands, and one owns none.
 pub fn all_bands_to_one()
-    ensures { parts 2 (0 ∷ 0 ∷ []) (interleaved_a 2) (cube (interleaved_a 2) (map pos samples_a)) ≡ (55 ∷ 20 ∷ 3 ∷ 1 ∷ 5 ∷ 2 ∷ 0 ∷ 2 ∷ 4 ∷ 1 ∷ 2 ∷ 2 ∷ []) ∷ [] ∷ [] }
+    ensures { parts 2 (0 ∷ 0 ∷ []) (interleaved_a 2) (cube (interleaved_a 2) (map pos samples_a)) ≡ (55 ∷ 20 ∷ 3 ∷ 1 ∷ 5 ∷ 2 ∷ 0 ∷ 2 ∷ 4 ∷ 1 ∷ 2 ∷ 2 ∷ [])
+        ∷ [] ∷ [] }
 {}
 
 /// Numbers are taken in turn, as their owners' places come.

@@ -3,7 +3,8 @@
 
 ghost use Rattle.std.specs.Prelude.{◌≡◌, ◌∷◌, [], pos, negsuc, neg_ℤ};
 ghost use Rattle.predict_core.specs.Residual.{residuals};
-ghost use Rattle.predict_core.specs.Rows.{cube_a, cube, common, one_below, coarse_steps, fine, full, interleaved, scaled_of_cube_a, register_cube, sizes, signed, unsigned};
+ghost use Rattle.predict_core.specs.Rows.{cube_a, cube, common, one_below, coarse_steps, fine, full, interleaved, scaled_of_cube_a, register_cube, sizes};
+ghost use Rattle.predict_core.specs.Rows.{signed, unsigned};
 
 /// A lone sample is told by its distance from the middle.
 pub fn one_sample()
