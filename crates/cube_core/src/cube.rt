@@ -21,7 +21,7 @@ use std::marker::Model;
 
 /// A shape, a kind, and one sample of that kind at each place.
 ///
-/// A sample is kept as its distance above the least sample of the kind, which fits 16 bits.
+/// A sample is stored as its offset from the least sample of the kind, which fits in 16 bits.
 #[derive(Drop)]
 pub struct Cube {
     shape: Shape,
@@ -41,9 +41,9 @@ impl Model for Cube {
 }
 
 impl Cube {
-    /// A cube of this shape and kind whose samples are all 0.
+    /// Returns a cube of this shape and kind whose samples are all 0.
     ///
-    /// `WantOfMemory` where memory for it was refused.
+    /// Returns `WantOfMemory` if the samples can't be allocated.
     pub fn new(alloc: Global, shape: Shape, kind: Kind) -> Result<Cube, Fault>
         ensures zeros { IfOk result (λ c. c ≡ record { shape = shape; kind = kind; samples = replicate (sample_count shape) (pos 0) }) }
         ensures memory { IfErr result (λ fault. fault ≡ WantOfMemory) }
@@ -56,10 +56,11 @@ impl Cube {
         })
     }
 
-    /// The cube whose samples lie in raw bytes.
+    /// Returns the cube whose samples the raw bytes hold in this layout.
     ///
-    /// `RawLength` where the bytes are not as many as the samples have, then `WantOfMemory`, then
-    /// `SampleRange` with the first sample in the layout's order that isn't of the kind.
+    /// Returns `RawLength` if the number of bytes isn't that of the samples; else `WantOfMemory` if the samples
+    /// can't be allocated; else `SampleRange` with the index, in the layout's order, of the first sample out of
+    /// the kind's range.
     pub fn from_raw(
         alloc: Global,
         shape: Shape,
@@ -91,10 +92,11 @@ impl Cube {
         })
     }
 
-    /// The samples as raw bytes.
+    /// Returns the samples as raw bytes in this layout.
     ///
-    /// `WantOfMemory`, then `SampleRange` with the first sample in the layout's order that its
-    /// bytes can't spell, as happens only with one byte a sample and more than eight bits.
+    /// Returns `WantOfMemory` if the bytes can't be allocated; else `SampleRange` with the index, in the
+    /// layout's order, of the first sample that doesn't fit in its bytes. The latter happens only with one byte
+    /// a sample and more than eight bits.
     pub fn to_raw(&self, alloc: Global, layout: Layout) -> Result<Vec<u8>, Fault>
         requires { IsLayout layout }
         ensures bytes { IfOk result (λ bytes. bytes.items ≡ raw_bytes self.now layout) }
@@ -114,7 +116,7 @@ impl Cube {
         }
     }
 
-    /// The first sample in the layout's order that its bytes can't spell.
+    /// Returns the index, in the layout's order, of the first sample that doesn't fit in its bytes.
     fn first_unfit(&self, layout: Layout) -> u64
         requires layout { IsLayout layout }
         requires some { HaveBytes self.now layout (sample_count self.now.shape) → ⊥ }
@@ -151,7 +153,7 @@ impl Cube {
         self.kind
     }
 
-    /// The sample of band `z` at row `y`, column `x`.
+    /// Returns the sample of band `z` at row `y`, column `x`, which are inside the shape.
     pub fn sample(&self, z: u32, y: u32, x: u32) -> i32
         requires { IsPlace self.now.shape z y x }
         ensures value { result ≡ sample_at self.now z y x }
@@ -162,7 +164,8 @@ impl Cube {
         self.kind.sample_of(self.offsets[at])
     }
 
-    /// Puts a sample at band `z`, row `y`, column `x`, and changes no other.
+    /// Sets the sample of band `z` at row `y`, column `x`, which are inside the shape, to a sample of the kind.
+    /// No other sample changes.
     pub fn set(&mut self, z: u32, y: u32, x: u32, sample: i32)
         requires place { IsPlace self.old.shape z y x }
         requires range { IsSample self.old.kind sample }
@@ -172,7 +175,7 @@ impl Cube {
         self.offsets[at] = self.kind.offset_of(sample);
     }
 
-    /// Proves that sizes and kind are in range, and that each sample is one of the kind. It does nothing when it runs.
+    /// Lemma: sizes and kind are in range, and each sample is one of the kind. It does nothing at run time.
     pub fn prove_is_cube(&self)
         ensures { IsCube self.now }
     {

@@ -19,7 +19,7 @@ pub(crate) struct Spot {
     pub(crate) end: u32,
 }
 
-/// The places that are still to come, in encoding order.
+/// The places still to come, in encoding order.
 #[derive(Drop)]
 pub struct Places {
     shape: Shape,
@@ -41,7 +41,7 @@ impl Model for Places {
 }
 
 impl Places {
-    /// All places of a cube, in encoding order.
+    /// Returns all places of a cube, in encoding order.
     pub fn new(shape: Shape, order: Order) -> Places
         requires { IsOrder shape order }
         ensures { result ≡ places shape order }
@@ -54,7 +54,7 @@ impl Places {
         }
     }
 
-    /// The place that comes next, where one does.
+    /// Returns the next place, or `None` after the last.
     pub fn peek(&self) -> Option<Place>
         ensures { result ≡ slice_get self.now 0 }
     {
@@ -65,15 +65,15 @@ impl Places {
         }
     }
 
-    /// How many places are still to come.
+    /// Returns how many places are still to come.
     pub fn left(&self) -> u64
         ensures { result ≡ length self.now }
     {
         self.left
     }
 
-    /// How many of the places that come next are of one row and column, band after band: at least the first of them, and under interleaving up
-    /// to the last band of its group.
+    /// Returns how many of the next places share a row and column, band after band: at least one, and in
+    /// interleaved order those up to the last band of the group.
     pub fn column(&self) -> u64
         ensures along { (i : ℕ) (p : APlace) → i < result → slice_get self.now 0 ≡ Some p → slice_get self.now i ≡ Some (record p { z = p.z + i }) }
         ensures some { (p : APlace) → slice_get self.now 0 ≡ Some p → 1 ≤ result }
@@ -87,7 +87,7 @@ impl Places {
         }
     }
 
-    /// Goes by so many places, or by all that are still to come where these are fewer.
+    /// Skips `count` places, or all that are left if these are fewer.
     pub fn go_by(&mut self, count: u64)
         ensures { self.new ≡ drop count self.old }
     {
@@ -146,7 +146,8 @@ fn first_spot(shape: Shape, order: Order) -> Spot
     }
 }
 
-/// A spot at most so many places on, and how many it is on: in the same row where places go along rows, else in the same column of bands.
+/// Returns the spot at most `most` places further on, and how many places away it is: in the same row where
+/// places go along rows, otherwise in the same column of bands.
 fn spot_ahead(shape: Shape, order: Order, spot: Spot, most: u64) -> (Spot, u64)
     requires order { IsOrder shape order }
     requires spot { IsSpot shape order spot }
@@ -172,7 +173,7 @@ fn spot_ahead(shape: Shape, order: Order, spot: Spot, most: u64) -> (Spot, u64)
     }
 }
 
-/// The spot behind one that isn't the last.
+/// Returns the spot after one that isn't the last.
 fn spot_after(shape: Shape, order: Order, spot: Spot) -> Spot
     requires order { IsOrder shape order }
     requires spot { IsSpot shape order spot }
@@ -189,7 +190,7 @@ fn spot_after(shape: Shape, order: Order, spot: Spot) -> Spot
     }
 }
 
-/// The place behind one that isn't the last, band after band.
+/// Returns the place after one that isn't the last, in band sequential order.
 fn place_after(shape: Shape, place: Place) -> Place
     requires place { IsPlaceOf shape place }
     requires more { place_index shape Order.Bsq place + 1 < sample_count shape }
@@ -210,7 +211,7 @@ fn place_after(shape: Shape, place: Place) -> Place
     }
 }
 
-/// The spot behind one that isn't the last, under interleaving.
+/// Returns the spot after one that isn't the last, in interleaved order.
 fn interleaved_after(shape: Shape, depth: u32, spot: Spot) -> Spot
     requires depth { InRange 1 shape.bands depth }
     requires spot { IsSpot shape (Order.Bi depth) spot }

@@ -1,4 +1,4 @@
-//! What the coder refuses, each refusal by its name.
+//! The refusals of the coder, each with its name.
 
 ghost use Rattle.std.specs.Prelude.{◌≡◌};
 ghost use Rattle.cube_core.specs.declared.fault.Fault.TheVariants.{WantOfMemory};
@@ -41,17 +41,17 @@ pub enum Field {
 pub enum Rule {
     /// The depth of interleaving is at most the number of bands.
     DepthOverBands,
-    /// Full mode asks for at least two columns (our own choice: see `docs/DECISIONS.md`).
+    /// Full mode needs at least two columns (our own choice: see `docs/DECISIONS.md`).
     FullOneColumn,
-    /// Neighbour-oriented sums ask for at least two columns.
+    /// Neighbour-oriented sums need at least two columns.
     NeighbourOneColumn,
     /// The register has at least D + Ω + 2 bits.
     RegisterTooSmall,
     /// The least weight update exponent is at most the greatest.
     ExponentOrder,
-    /// The usual weight start has no table.
+    /// The default weight start has no table.
     DefaultWithTable,
-    /// The usual weight start has no resolution.
+    /// The default weight start has no resolution.
     DefaultWithResolution,
     /// The weight resolution is at most Ω + 3.
     ResolutionOverOmega,
@@ -61,19 +61,19 @@ pub enum Rule {
     CounterOrder,
     /// The accumulator's constant is at most D - 2.
     StartConstant,
-    /// The constant's field is 15 beside an accumulator table.
+    /// The constant's field is 15 where there is an accumulator table.
     ConstantWithTable,
     /// An accumulator table has one entry for each band.
     AccumulatorTableLength,
     /// An entry of an accumulator table is at most D - 2.
     AccumulatorEntry,
-    /// The restricted set of code options asks for samples of at most four bits.
+    /// The restricted set of code options needs samples of at most four bits.
     RestrictedOverFour,
 }
 
-/// Why a call is refused. Its `Display` is what the program prints: number, name and values.
+/// Why a call is refused. Its `Display` prints the number, the name and the values, as the program does.
 ///
-/// A bit, a place, a block or an index counts from 0.
+/// A bit, place, block or index counts from 0.
 #[derive(Clone, Copy, Debug, PartialEq, Eq, Error)]
 pub enum Fault {
     /// The bytes end inside a part of the header or inside a table.
@@ -82,22 +82,22 @@ pub enum Fault {
     /// The first reserved bit, or fill bit of a table, that is one; `bit` counts from the file's start.
     #[error("2 Reserved {bit}")]
     Reserved { bit: u64 },
-    /// A parameter out of its own range; `value` is the number itself, after any offset of its field.
+    /// A parameter out of its own range; `value` is the parameter itself, after any offset of its field.
     #[error("3 FieldRange {field:?} {value}")]
     FieldRange { field: Field, value: i64 },
-    /// Two parameters break a rule.
+    /// Two parameters contradict a rule.
     #[error("4 Disagree {rule:?}")]
     Disagree { rule: Rule },
-    /// A custom weight start without a table in the file.
+    /// A custom weight start whose table isn't in the file.
     #[error("5 TableElsewhere")]
     TableElsewhere,
     /// The bits end too early; `bit` is the number of bits in the file.
     #[error("6 Truncated {bit}")]
     Truncated { bit: u64 },
-    /// Sample-adaptive: a second spelling, or a value above 2^D - 1; `place` counts in encoding order.
+    /// Sample-adaptive: a second spelling, or a value above 2^D - 1; `place` is the index in encoding order.
     #[error("7 BadCode {place}")]
     BadCode { place: u64 },
-    /// Block-adaptive: the block spells a value above 2^D - 1.
+    /// Block-adaptive: the block holds a value above 2^D - 1.
     #[error("8 BadOption {block}")]
     BadOption { block: u64 },
     /// A run of zero blocks is longer than the rest of its segment.
@@ -115,16 +115,16 @@ pub enum Fault {
     /// A raw sample out of range; `index` counts in the layout's order.
     #[error("13 SampleRange {index}")]
     SampleRange { index: u64 },
-    /// The number of raw bytes is not the one that was wanted.
+    /// There are `had` raw bytes in place of `wanted`.
     #[error("14 RawLength {wanted} {had}")]
     RawLength { wanted: u64, had: u64 },
-    /// The first band that is dealt to no predictor.
+    /// The first band that is assigned to no predictor.
     #[error("15 BadDeal {band}")]
     BadDeal { band: u32 },
     /// A thread was not started.
     #[error("16 SpawnRefused")]
     SpawnRefused,
-    /// A gate stopped a predictor after it had sent so many residuals.
+    /// A gate stopped a predictor after it had sent `sent` residuals.
     #[error("17 Stopped {predictor} {sent}")]
     Stopped { predictor: u32, sent: u64 },
     /// The source failed, or gave more than the limit.

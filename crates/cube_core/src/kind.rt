@@ -27,9 +27,9 @@ impl Model for Kind {
 }
 
 impl Kind {
-    /// Samples of so many bits, signed or not.
+    /// Returns the kind of samples of `bits` bits, signed or not.
     ///
-    /// Where `bits` is not 2 to 16 the answer is `FieldRange` of `DynamicRange`.
+    /// Returns `FieldRange` of `DynamicRange` if `bits` isn't 2 to 16.
     pub fn new(signed: bool, bits: u32) -> Result<Kind, Fault>
         ensures value { result ≡ kind_or_fault (record { signed = signed; bits = bits }) }
         ensures in_range { IsOk result ↔ InRange 2 16 bits }
@@ -97,7 +97,7 @@ impl Kind {
         }
     }
 
-    /// The kind of all numbers of one or two bytes.
+    /// The kind that holds all numbers of one or two bytes.
     pub(crate) fn in_bytes(self, bytes: u32) -> Kind
         requires { (bytes ≡ 1) ⊎ (bytes ≡ 2) }
         ensures { result ≡ record { signed = self.signed; bits = 8 * bytes } }
@@ -108,14 +108,14 @@ impl Kind {
         }
     }
 
-    /// Whether a number is a sample of this kind.
+    /// Returns whether a number is a sample of this kind.
     pub fn has(self, number: i32) -> bool
         ensures { IsTrue result ↔ IsSample self number }
     {
         self.smin() <= number && number <= self.smax()
     }
 
-    /// The sample that stands so far above the least one.
+    /// Returns the sample with this offset from the least one.
     pub fn sample_of(self, offset: u16) -> i32
         requires { offset < 2 ^ self.bits }
         ensures value { result ≡ sample_of self offset }
@@ -125,7 +125,7 @@ impl Kind {
         self.smin() + i32::from(offset)
     }
 
-    /// How far a sample stands above the least one.
+    /// Returns the offset of a sample from the least one.
     pub fn offset_of(self, sample: i32) -> u16
         requires { IsSample self sample }
         ensures value { sample_of self result ≡ sample }

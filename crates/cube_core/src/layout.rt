@@ -9,7 +9,7 @@ use crate::order::Order;
 use crate::shape::Shape;
 use byteorder::{BigEndian, ByteOrder, LittleEndian};
 
-/// In which order the samples of a raw file follow one another.
+/// The order of the samples in a raw file.
 #[derive(Clone, Copy, Debug, PartialEq, Eq)]
 pub enum RawOrder {
     /// Band sequential.
@@ -21,7 +21,7 @@ pub enum RawOrder {
 }
 
 impl RawOrder {
-    /// The encoding order in which the samples follow one another.
+    /// Returns the encoding order in which the samples follow one another.
     pub fn order(self, shape: Shape) -> Order
         ensures { result ≡ order_of self shape }
     {
@@ -35,18 +35,18 @@ impl RawOrder {
 
 /// How samples lie in raw bytes: their order, one or two bytes each, and which byte comes first.
 ///
-/// Samples are whole numbers of so many bytes, in two's complement where they are signed.
+/// Samples are whole numbers of that many bytes, in two's complement where they are signed.
 #[derive(Clone, Copy, Debug, PartialEq, Eq)]
 pub struct Layout {
     pub order: RawOrder,
     /// Bytes of a sample: 1 or 2.
     pub bytes: u32,
-    /// The low byte comes first.
+    /// Whether the low byte comes first.
     pub little: bool,
 }
 
 impl Layout {
-    /// How many raw bytes a cube has.
+    /// Returns the number of raw bytes of a cube.
     pub fn length(self, shape: Shape) -> u64
         requires { IsLayout self }
         ensures { result ≡ sample_count shape * self.bytes }
@@ -54,7 +54,7 @@ impl Layout {
         shape.sample_count() * u64::from(self.bytes)
     }
 
-    /// The sample that the first bytes spell.
+    /// Returns the sample in the first bytes.
     pub(crate) fn value(self, kind: Kind, bytes: &[u8]) -> i32
         requires layout { IsLayout self }
         requires enough { self.bytes ≤ length bytes.now }

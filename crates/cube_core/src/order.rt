@@ -6,17 +6,18 @@ ghost use Rattle.cube_core.specs.Order.{IsOrder, IsPlaceOf, goes_along_rows, pla
 
 use crate::shape::Shape;
 
-/// In which order samples are encoded (CCSDS 123.0-B-1, "Encoding order").
+/// The order in which samples are encoded (CCSDS 123.0-B-1, "Encoding order").
 #[derive(Clone, Copy, Debug, PartialEq, Eq)]
 pub enum Order {
     /// Band sequential: band after band, row after row.
     Bsq,
-    /// Band interleaved, with so many bands a group: 1 is by line, all bands is by pixel.
+    /// Band interleaved, with so many bands in a group: 1 is by line, all bands is by pixel.
     Bi(u32),
 }
 
 impl Order {
-    /// Whether places go along the rows of a band: band after band, or lines of one band interleaved.
+    /// Returns whether places go along the rows of a band: in band sequential order, and interleaved with depth
+    /// 1.
     pub fn goes_along_rows(self) -> bool
         ensures { result ≡ goes_along_rows self }
     {
@@ -27,7 +28,7 @@ impl Order {
     }
 }
 
-/// Where a sample stands: band `z`, row `y`, column `x`, each from 0.
+/// The coordinates of a sample: band `z`, row `y`, column `x`, each from 0.
 #[derive(Clone, Copy, Debug, PartialEq, Eq)]
 pub struct Place {
     pub z: u32,
@@ -35,7 +36,8 @@ pub struct Place {
     pub x: u32,
 }
 
-/// The place of item `i` of the encoding order.
+/// Returns the place with index `i` in encoding order, from 0. `i` is below the number of samples, and the
+/// depth 1 to the number of bands.
 pub fn place_at(shape: &Shape, order: Order, i: u64) -> Place
     requires order { IsOrder shape.now order }
     requires within { i < sample_count shape.now }
@@ -49,7 +51,8 @@ pub fn place_at(shape: &Shape, order: Order, i: u64) -> Place
     }
 }
 
-/// Which item of the encoding order a place is.
+/// Returns the index of a place in encoding order: the inverse of `place_at`. The place is inside the shape,
+/// and the depth 1 to the number of bands.
 pub fn index_of(shape: &Shape, order: Order, place: Place) -> u64
     requires order { IsOrder shape.now order }
     requires place { IsPlaceOf shape.now place }

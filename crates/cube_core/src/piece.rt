@@ -12,23 +12,23 @@ use crate::scale::Scale;
 use crate::shape::{Shape, index_among, index_at};
 use byteorder::{BigEndian, ByteOrder, LittleEndian};
 
-/// How many columns of all bands are gone through at once under interleaving by pixel, so that their
-/// bytes stay at hand.
+/// How many columns of all bands are processed at once under interleaving by pixel, so that their bytes stay in
+/// the cache.
 pub(crate) const BLOCK: u32 = 32;
 
 /// Samples that follow one another in a row of the cube.
 #[derive(Clone, Copy)]
 pub(crate) struct Piece {
-    /// Where the first stands in the cube.
+    /// The index of the first one in the cube.
     pub(crate) at: usize,
     pub(crate) count: usize,
-    /// Where the first stands in the layout's order, and how far one is there from the next.
+    /// The index of the first one in the layout's order, and the distance from there to the next.
     pub(crate) first: usize,
     pub(crate) step: usize,
 }
 
 impl Piece {
-    /// So many samples from a place on, in a row of the cube.
+    /// `count` samples of a row of the cube, from a place on.
     pub(crate) fn new(shape: Shape, order: RawOrder, z: u32, y: u32, x: u32, count: u32) -> Piece
         requires place { IsPlace shape z y x }
         requires within { x + count ≤ shape.columns }
@@ -65,7 +65,7 @@ impl Piece {
     }
 }
 
-/// Writes the offsets of a piece's samples, and says whether all of them are of the kind.
+/// Writes the offsets of a piece's samples, and returns whether all of them are of the kind.
 pub(crate) fn take_piece(
     layout: Layout,
     scale: &Scale,
@@ -92,7 +92,7 @@ pub(crate) fn take_piece(
     }
 }
 
-/// The same, with the form of the numbers known when the loop is compiled.
+/// Does the same, with the form of the numbers known at compile time.
 fn take_numbers<const BYTES: u32, const LITTLE: bool>(
     layout: Layout,
     scale: &Scale,
@@ -122,7 +122,7 @@ fn take_numbers<const BYTES: u32, const LITTLE: bool>(
     scale.has(greatest)
 }
 
-/// The i-th number of raw bytes.
+/// Returns the i-th number of raw bytes.
 fn number_at<const BYTES: u32, const LITTLE: bool>(layout: Layout, bytes: &[u8], i: usize) -> u16
     requires width { (BYTES ≡ 1) ⊎ (BYTES ≡ 2) }
     requires form { layout.bytes ≡ BYTES }
@@ -141,7 +141,7 @@ fn number_at<const BYTES: u32, const LITTLE: bool>(layout: Layout, bytes: &[u8],
     }
 }
 
-/// Writes the numbers of a piece's samples, and says whether their bytes can spell all of them.
+/// Writes the numbers of a piece's samples, and returns whether all of them fit in their bytes.
 pub(crate) fn give_piece(
     layout: Layout,
     scale: &Scale,
@@ -171,7 +171,7 @@ pub(crate) fn give_piece(
     }
 }
 
-/// The same, with the form of the numbers known when the loop is compiled.
+/// Does the same, with the form of the numbers known at compile time.
 fn give_numbers<const BYTES: u32, const LITTLE: bool>(
     layout: Layout,
     scale: &Scale,
@@ -204,7 +204,7 @@ fn give_numbers<const BYTES: u32, const LITTLE: bool>(
     scale.spells::<BYTES>(greatest)
 }
 
-/// Puts down the i-th number of raw bytes.
+/// Writes the i-th number of raw bytes.
 fn put_number<const BYTES: u32, const LITTLE: bool>(
     layout: Layout,
     bytes: &mut [u8],

@@ -1,4 +1,4 @@
-//! Samples given out as raw bytes.
+//! Samples written as raw bytes.
 
 ghost use Rattle.std.specs.Prelude.{◌≡◌, ◌*◌, ◌≤◌, IsTrue, length};
 ghost use Rattle.cube_core.specs.declared.layout.RawOrder.TheVariants.{Bsq};
@@ -13,7 +13,7 @@ use crate::piece::{BLOCK, Piece, give_piece};
 use crate::scale::Scale;
 use crate::shape::Shape;
 
-/// Writes the bytes of all samples, and says whether they can spell each of them.
+/// Writes the bytes of all samples, and returns whether each sample fits in them.
 pub(crate) fn pour(
     shape: Shape,
     kind: Kind,
@@ -58,7 +58,7 @@ fn pour_bands(shape: Shape, kind: Kind, layout: Layout, offsets: &[u16], bytes: 
     )
 }
 
-/// Writes the bytes of samples row after row, so many columns of all bands at once.
+/// Writes the bytes of samples row after row, a block of columns of all bands at a time.
 fn pour_lines(
     shape: Shape,
     kind: Kind,

@@ -1,4 +1,4 @@
-//! Samples taken from raw bytes.
+//! Samples read from raw bytes.
 
 ghost use Rattle.std.specs.Prelude.{◌≡◌, ◌≢◌, ◌*◌, ◌≤◌, ◌^◌, IsTrue, length, OnOk, IfErr};
 ghost use Rattle.cube_core.specs.declared.layout.RawOrder.TheVariants.{Bsq};
@@ -13,7 +13,7 @@ use crate::piece::{BLOCK, Piece, take_piece};
 use crate::scale::Scale;
 use crate::shape::Shape;
 
-/// Writes the offset of each sample, or names the first that isn't of the kind.
+/// Writes the offset of each sample, or reports the first that isn't of the kind.
 pub(crate) fn fill(
     shape: Shape,
     kind: Kind,
@@ -42,7 +42,8 @@ pub(crate) fn fill(
     }
 }
 
-/// Writes the offsets of samples that follow one another as in the cube, and says whether all are of the kind.
+/// Writes the offsets of samples that follow one another as in the cube, and returns whether all are of the
+/// kind.
 fn fill_bands(shape: Shape, kind: Kind, layout: Layout, bytes: &[u8], offsets: &mut [u16]) -> bool
     requires layout { IsLayout layout }
     requires order { layout.order ≡ Bsq }
@@ -66,7 +67,7 @@ fn fill_bands(shape: Shape, kind: Kind, layout: Layout, bytes: &[u8], offsets: &
     )
 }
 
-/// Writes the offsets of samples row after row, so many columns of all bands at once, and says whether
+/// Writes the offsets of samples row after row, a block of columns of all bands at a time, and returns whether
 /// all are of the kind.
 fn fill_lines(
     shape: Shape,
@@ -102,7 +103,7 @@ fn fill_lines(
     true
 }
 
-/// The first sample, in the layout's order, that isn't of the kind.
+/// Returns the index of the first sample, in the layout's order, that isn't of the kind.
 fn first_bad(kind: Kind, layout: Layout, bytes: &[u8], count: u64) -> u64
     requires layout { IsLayout layout }
     requires few { count ≤ 2 ^ 48 }

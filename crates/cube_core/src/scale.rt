@@ -12,9 +12,9 @@ use crate::kind::Kind;
 pub(crate) struct Scale {
     kind: Kind,
     bytes: u32,
-    /// Half of all numbers of so many bytes where samples are signed, else 0.
+    /// Half the number of values of that many bytes where samples are signed, else 0.
     half: u16,
-    /// How far the number that stands for the least of them lies above the least sample, modulo 2^16.
+    /// The offset, from the least sample, of the least number of that many bytes, modulo 2^16.
     lift: u16,
     /// The greatest offset of a sample.
     most: u16,
@@ -25,7 +25,7 @@ pub(crate) struct Scale {
 }
 
 impl Scale {
-    /// That of a kind in so many bytes.
+    /// The scale of a kind in that many bytes.
     pub(crate) fn new(kind: Kind, bytes: u32) -> Scale
         requires { (bytes ≡ 1) ⊎ (bytes ≡ 2) }
         ensures { (result.kind ≡ kind) × (result.bytes ≡ bytes) }
@@ -47,7 +47,7 @@ impl Scale {
         }
     }
 
-    /// The offset of a number, or one above the greatest where the number is no sample.
+    /// Returns the offset of a number, or one above the greatest where the number is no sample.
     pub(crate) fn offset<const BYTES: u32>(&self, number: u16) -> u16
         requires bytes { self.now.bytes ≡ BYTES }
         requires width { (BYTES ≡ 1) ⊎ (BYTES ≡ 2) }
@@ -60,15 +60,15 @@ impl Scale {
         rebased.wrapping_add(self.lift)
     }
 
-    /// Whether the greatest of some offsets, and so each of them, is that of a sample.
+    /// Returns whether the greatest of some offsets, and so each of them, belongs to a sample.
     pub(crate) fn has(&self, greatest: u16) -> bool
         ensures { IsTrue result ↔ (greatest < 2 ^ self.now.kind.bits) }
     {
         greatest <= self.most
     }
 
-    /// An offset, counted from the least number that so many bytes spell in place of the least sample: below 256 or
-    /// 65,536 exactly where they spell its sample.
+    /// Returns an offset counted from the least number of that many bytes instead of the least sample: below
+    /// 256 or 65,536 exactly where the sample fits in them.
     pub(crate) fn rebased(&self, offset: u16) -> u16
         requires width { (self.now.bytes ≡ 1) ⊎ (self.now.bytes ≡ 2) }
         requires offset { offset < 2 ^ self.now.kind.bits }
@@ -80,7 +80,7 @@ impl Scale {
         offset.wrapping_sub(self.lift)
     }
 
-    /// The number that the bytes spell, from the rebased offset of its sample.
+    /// Returns the number in the bytes, from the rebased offset of its sample.
     pub(crate) fn number<const BYTES: u32>(&self, rebased: u16) -> u16
         requires bytes { self.now.bytes ≡ BYTES }
         requires width { (BYTES ≡ 1) ⊎ (BYTES ≡ 2) }
@@ -91,7 +91,7 @@ impl Scale {
         if BYTES == 1 { number % 256 } else { number }
     }
 
-    /// Whether so many bytes spell the greatest of some rebased offsets, and so each of them.
+    /// Returns whether the greatest of some rebased offsets, and so each of them, fits in that many bytes.
     pub(crate) fn spells<const BYTES: u32>(&self, greatest: u16) -> bool
         requires width { (BYTES ≡ 1) ⊎ (BYTES ≡ 2) }
         ensures { IsTrue result ↔ (greatest < 2 ^ (8 * BYTES)) }

@@ -31,10 +31,9 @@ impl Model for Shape {
 }
 
 impl Shape {
-    /// A shape of so many columns, rows and bands.
+    /// Returns the shape with these numbers of columns, rows and bands.
     ///
-    /// Where a size is not 1 to 65,536 the answer is `FieldRange`, with the first such of
-    /// `Columns`, `Rows` and `Bands`.
+    /// Returns `FieldRange` for the first of `Columns`, `Rows` and `Bands` that isn't 1 to 65,536.
     pub fn new(columns: u32, rows: u32, bands: u32) -> Result<Shape, Fault>
         ensures value { result ≡ sizes_or_fault (record { columns = columns; rows = rows; bands = bands }) }
         ensures in_range { IsOk result ↔ AreSizes (record { columns = columns; rows = rows; bands = bands }) }
@@ -49,7 +48,7 @@ impl Shape {
         })
     }
 
-    /// How many samples a row has.
+    /// Returns the number of samples in a row.
     pub fn columns(self) -> u32
         ensures value { result ≡ self.columns }
         ensures range { InRange 1 65536 result }
@@ -57,7 +56,7 @@ impl Shape {
         self.columns
     }
 
-    /// How many rows a band has.
+    /// Returns the number of rows in a band.
     pub fn rows(self) -> u32
         ensures value { result ≡ self.rows }
         ensures range { InRange 1 65536 result }
@@ -65,7 +64,7 @@ impl Shape {
         self.rows
     }
 
-    /// How many bands there are.
+    /// Returns the number of bands.
     pub fn bands(self) -> u32
         ensures value { result ≡ self.bands }
         ensures range { InRange 1 65536 result }
@@ -73,7 +72,7 @@ impl Shape {
         self.bands
     }
 
-    /// How many samples a cube of this shape has: at most 2^48.
+    /// Returns the number of samples of a cube of this shape: at most 2^48.
     pub fn sample_count(self) -> u64
         ensures value { result ≡ sample_count self }
         ensures range { InRange 1 (2 ^ 48) result }
@@ -97,7 +96,7 @@ fn in_range(field: Field, size: u32) -> Result<(), Fault>
     }
 }
 
-/// Where a sample stands in the list, band after band and row after row.
+/// Returns the index of a sample in the list, band after band and row after row.
 pub(crate) fn index_at(shape: Shape, z: u32, y: u32, x: u32) -> usize
     requires { IsPlace shape z y x }
     ensures value { result ≡ index_in shape.columns shape.rows z y x }
@@ -108,7 +107,7 @@ pub(crate) fn index_at(shape: Shape, z: u32, y: u32, x: u32) -> usize
     row * shape.columns() as usize + x as usize
 }
 
-/// Where item `c` of part `b` of part `a` stands, where a part has so many parts, and each so many items.
+/// Returns the index of item `c` of part `b` of part `a`, where a part has `parts` parts of `items` items each.
 pub(crate) fn index_among(parts: u32, items: u32, a: u32, b: u32, c: u32) -> usize
     requires outer { a < 65536 }
     requires inner { (b < parts) × (parts ≤ 65536) }
