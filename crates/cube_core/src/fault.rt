@@ -85,7 +85,7 @@ pub enum Fault {
     /// A parameter out of its own range; `value` is the parameter itself, after any offset of its field.
     #[error("3 FieldRange {field:?} {value}")]
     FieldRange { field: Field, value: i64 },
-    /// Two parameters contradict a rule.
+    /// Two parameters break a rule.
     #[error("4 Disagree {rule:?}")]
     Disagree { rule: Rule },
     /// A custom weight start whose table isn't in the file.

@@ -1,4 +1,4 @@
-//! Bits from the front of bytes.
+//! Reading bits from the front of bytes.
 
 ghost use Rattle.std.specs.Prelude.{◌≡◌, ◌+◌, ◌-◌, ◌*◌, ◌/◌, ◌%◌, ◌^◌, ◌<◌, ◌≤◌, ◌↔◌, ◌++◌, ◌∷◌, true, false, length, take, drop, replicate, IsOk, IsErr};
 ghost use Rattle.std.specs.Prelude.{IfOk, IfErr, OnErr, IsSome, IfSome};
@@ -10,7 +10,7 @@ ghost use Rattle.header_bits.specs.Windows.{IsAhead, IsFrontWord, IsWindow};
 use cube_core::fault::Fault;
 use std::marker::Model;
 
-/// Bytes whose bits are taken one number after another, the most significant bit of each first.
+/// A reader that takes the bits of bytes one number after another, the most significant bit of each byte first.
 ///
 /// Contracts see how many bits there are in all, and the bits that are left.
 #[derive(Drop)]
@@ -32,7 +32,7 @@ impl<'a> Model for BitReader<'a> {
 }
 
 impl<'a> BitReader<'a> {
-    /// A reader at the first bit of at most 2^60 bytes.
+    /// Returns a reader at the first bit of at most 2^60 bytes.
     pub fn new(bytes: &'a [u8]) -> BitReader<'a>
         requires { length bytes.now ≤ 2 ^ 60 }
         ensures count { result.count ≡ 8 * length bytes.now }
@@ -41,7 +41,7 @@ impl<'a> BitReader<'a> {
         BitReader { bytes, at: 0 }
     }
 
-    /// Another reader at the same place of the same bytes.
+    /// Returns another reader at the same position in the same bytes.
     pub fn fork(&self) -> BitReader<'a>
         ensures { result ≡ self.now }
     {
@@ -51,24 +51,24 @@ impl<'a> BitReader<'a> {
         }
     }
 
-    /// How many bits there are in all, those that were taken counted.
+    /// Returns how many bits there are in all, including those taken.
     pub fn count(&self) -> u64
         ensures { result ≡ self.now.count }
     {
         self.bytes.len() as u64 * 8
     }
 
-    /// How many bits are left.
+    /// Returns how many bits are left.
     pub fn left(&self) -> u64
         ensures { result ≡ length self.now.left }
     {
         self.count() - self.at
     }
 
-    /// Takes the next `n` bits as a number, the first bit the most significant.
+    /// Takes the next `n` bits and returns them as a number, the first bit the most significant.
     ///
-    /// `n` is at most 64. Where fewer bits are left the answer is `Truncated`, with the number of
-    /// bits of all the bytes, and the reader stands where it stood.
+    /// `n` is at most 64. Returns `Truncated`, with the number of bits of all the bytes, if fewer bits are
+    /// left; the reader then keeps its position.
     pub fn take(&mut self, n: u32) -> Result<u64, Fault>
         requires { n ≤ 64 }
         ensures reads { Reads (λ x. x) result self.new.left (number_at self.old.count n self.old.left) }
@@ -88,10 +88,10 @@ impl<'a> BitReader<'a> {
         Ok(number)
     }
 
-    /// Takes zeros and the one behind them, or `limit` zeros, and counts the zeros.
+    /// Takes zeros up to a one, which is taken too, or `limit` zeros, and returns the number of zeros.
     ///
-    /// Where the bits end before that the answer is `Truncated`, with the number of bits of all the
-    /// bytes, and the reader stands where it stood.
+    /// Returns `Truncated`, with the number of bits of all the bytes, if the bits end before that; the reader
+    /// then keeps its position.
     pub fn count_zeros(&mut self, limit: u64) -> Result<u64, Fault>
         ensures reads { Reads (λ x. x) result self.new.left (zeros_at self.old.count limit self.old.left) }
         ensures taken { IfOk result (λ zeros. ReadsZeros limit zeros self.old.left self.new.left) }
@@ -113,9 +113,9 @@ impl<'a> BitReader<'a> {
         Ok(zeros)
     }
 
-    /// A word whose 57 highest bits are the next ones, and `None` where fewer are left.
+    /// Returns a word whose 57 highest bits are the next ones, or `None` if fewer than 57 are left.
     ///
-    /// Whoever finds a whole code in one word pays for one load, and goes on by `skip`.
+    /// A caller that finds a whole code in the word pays for one load, and continues with `skip`.
     #[inline(always)]
     pub fn peek(&self) -> Option<u64>
         ensures enough { IsSome result ↔ (57 ≤ length self.now.left) }
@@ -125,7 +125,7 @@ impl<'a> BitReader<'a> {
         Some(word_of_eight(eight) << (self.at % 8))
     }
 
-    /// Goes past the next `n` bits, which are there.
+    /// Skips the next `n` bits. At least `n` are left.
     #[inline(always)]
     pub fn skip(&mut self, n: u64)
         requires { n ≤ length self.old.left }
@@ -136,7 +136,7 @@ impl<'a> BitReader<'a> {
     }
 }
 
-/// The `n` bits of a word behind its `highest` highest ones, as a number.
+/// Returns the `n` bits of a word that follow its `highest` highest ones, as a number.
 #[inline(always)]
 pub fn bits_behind(word: u64, highest: u32, n: u32) -> u64
     requires highest { highest < 64 }
@@ -148,7 +148,7 @@ pub fn bits_behind(word: u64, highest: u32, n: u32) -> u64
     (word << highest >> 1) >> (63 - n)
 }
 
-/// The next `n` bits as a number.
+/// Returns the next `n` bits as a number.
 fn number_of_bits(bytes: &[u8], at: u64, n: u32) -> u64
     requires small { length bytes.now ≤ 2 ^ 60 }
     requires few { n ≤ 64 }
@@ -164,7 +164,7 @@ fn number_of_bits(bytes: &[u8], at: u64, n: u32) -> u64
     (high << 32) | piece_at(bytes, at + u64::from(first), 32)
 }
 
-/// The next few bits as a number: they lie in eight bytes.
+/// Returns the next few bits, which lie in eight bytes, as a number.
 fn piece_at(bytes: &[u8], at: u64, n: u32) -> u64
     requires small { length bytes.now ≤ 2 ^ 60 }
     requires few { n ≤ 56 }
@@ -176,7 +176,7 @@ fn piece_at(bytes: &[u8], at: u64, n: u32) -> u64
     (window_at(bytes, at) >> 1) >> (63 - n)
 }
 
-/// How many zeros come next, before a one and up to `most`, a word of bits at a time.
+/// Returns how many zeros come next, before a one and up to `most`, reading a word of bits at a time.
 fn zeros_ahead(bytes: &[u8], at: u64, most: u64) -> u64
     requires small { length bytes.now ≤ 2 ^ 60 }
     requires enough { at + most ≤ 8 * length bytes.now }
@@ -197,7 +197,7 @@ fn zeros_ahead(bytes: &[u8], at: u64, most: u64) -> u64
     most
 }
 
-/// A word whose highest bits are the next ones, up to the end of the eighth byte from here.
+/// Returns a word whose highest bits are the next ones, up to the end of the eighth byte from here.
 fn window_at(bytes: &[u8], at: u64) -> u64
     requires small { length bytes.now ≤ 2 ^ 60 }
     requires within { at ≤ 8 * length bytes.now }
@@ -206,7 +206,7 @@ fn window_at(bytes: &[u8], at: u64) -> u64
     word_of(&bytes[(at / 8) as usize..]) << (at % 8)
 }
 
-/// The first eight bytes as a word, with zeros for those that aren't there.
+/// Returns the first eight bytes as a word, with zeros for missing ones.
 fn word_of(bytes: &[u8]) -> u64
     ensures { IsFrontWord bytes.now result }
 {
@@ -216,7 +216,7 @@ fn word_of(bytes: &[u8]) -> u64
     }
 }
 
-/// Eight bytes as a word, the first byte the highest.
+/// Returns eight bytes as a word, the first byte the highest.
 fn word_of_eight(bytes: &[u8; 8]) -> u64
     ensures bits { bits_of_bytes bytes.now ≡ bits_of 64 result }
     ensures below { result < 2 ^ 64 }
@@ -224,7 +224,7 @@ fn word_of_eight(bytes: &[u8; 8]) -> u64
     u64::from_be_bytes(*bytes)
 }
 
-/// Fewer than eight bytes, with zeros behind them.
+/// Returns fewer than eight bytes, followed by zeros.
 fn padded(bytes: &[u8]) -> [u8; 8]
     requires { length bytes.now < 8 }
     ensures { take (length bytes.now) result ≡ bytes.now }

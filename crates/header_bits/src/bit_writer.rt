@@ -1,4 +1,4 @@
-//! Bits at the end of a growing row of bytes.
+//! Writing bits to the end of growing bytes.
 
 ghost use Rattle.std.specs.Prelude.{◌≡◌, ◌+◌, ◌-◌, ◌*◌, ◌/◌, ◌%◌, ◌^◌, ◌<◌, ◌≤◌, ◌++◌, [], length, max, vec_len, vec_capacity, IsOk, IsTrue, IfErr, OnOk};
 ghost use Rattle.std.specs.Prelude.{OnErr};
@@ -9,23 +9,23 @@ use cube_core::fault::Fault;
 use std::alloc::{AllocError, Global};
 use std::marker::Model;
 
-/// The most bits that a writer holds.
+/// The greatest number of bits that a writer holds.
 const MOST_BITS: u64 = 1 << 63;
 
 /// A number of bytes that leaves two words below `MOST_BITS`.
 const ROOMY: usize = 1 << 59;
 
-/// Bits that were pushed one number after another, the most significant bit of each first.
+/// A writer that appends bits one number after another, the most significant bit of each first.
 ///
-/// Contracts see its bits, and its room: for how many bits more there is memory.
+/// Contracts see its bits, and its room: how many more bits fit in the memory that it has.
 #[derive(Drop)]
 pub struct BitWriter {
-    /// The words that are full.
+    /// The full words.
     bytes: Vec<u8>,
-    /// The bits behind them are its `held` lowest; what stands above those doesn't matter.
+    /// Its `held` lowest bits follow the full words; the bits above those are unspecified.
     part: u64,
     held: u32,
-    /// 64 where there is memory for two words behind the full ones, as far as was looked, else 0.
+    /// 64 where there is known to be memory for two words after the full ones, else 0.
     ready: u32,
 }
 
@@ -45,7 +45,7 @@ impl Model for BitWriter {
 }
 
 impl BitWriter {
-    /// A writer of no bits.
+    /// Returns a writer without bits.
     pub fn new(alloc: Global) -> BitWriter
         ensures { result.bits ≡ [] }
     {
@@ -57,7 +57,7 @@ impl BitWriter {
         }
     }
 
-    /// How many bits were pushed: at most 2^63.
+    /// Returns how many bits were pushed: at most 2^63.
     pub fn bit_count(&self) -> u64
         ensures count { result ≡ length self.now.bits }
         ensures most { result ≤ 2 ^ 63 }
@@ -65,10 +65,11 @@ impl BitWriter {
         self.bytes.len() as u64 * 8 + u64::from(self.held)
     }
 
-    /// Reserves capacity for `bits` more bits, so that pushes of them succeed. What was written stays, whatever the answer.
+    /// Reserves room for `bits` more bits, so that pushes of them succeed. The bits written so far stay,
+    /// whatever is returned.
     ///
-    /// Where there is less, the room grows to these bits in whole bytes, or to as many as there are bits, and no further. `WantOfMemory` where
-    /// the allocation fails, or where the bits would be more than 2^63.
+    /// Where there is less room, it grows to these bits in whole bytes, or to as many as there are bits, and no
+    /// further. Returns `WantOfMemory` if the allocation fails, or if there would be more than 2^63 bits.
     #[inline(never)]
     pub fn reserve(&mut self, bits: u64) -> Result<(), Fault>
         ensures same { self.new.bits ≡ self.old.bits }
@@ -87,11 +88,11 @@ impl BitWriter {
         Ok(())
     }
 
-    /// Appends the `n` bits of a number, the most significant first.
+    /// Appends a number as `n` bits, the most significant first.
     ///
-    /// `n` is at most 64, and the number below 2^n. A push within the room succeeds. After
-    /// `WantOfMemory`, which comes too where the bits would be more than 2^63, the bits are as before,
-    /// and the room is no smaller.
+    /// `n` is at most 64, and the number below 2^n. A push within the room succeeds. Returns `WantOfMemory` if
+    /// an allocation fails, or if there would be more than 2^63 bits; the bits are then as before, and the room
+    /// is no smaller.
     #[inline(always)]
     pub fn push(&mut self, bits: u64, n: u32) -> Result<(), Fault>
         requires few { n ≤ 64 }
@@ -116,8 +117,8 @@ impl BitWriter {
         Ok(())
     }
 
-    /// Makes room for so many bits as `reserve` does, and tells whether it is there: an answer that needs no memory in the
-    /// loops that push.
+    /// Reserves room for `bits` bits as `reserve` does, and returns whether it is there. Unlike a `Result`, the
+    /// answer needs no memory in the loops that push.
     #[inline(never)]
     fn has_reserved(&mut self, bits: u32) -> bool
         ensures same { self.new.bits ≡ self.old.bits }
@@ -129,7 +130,7 @@ impl BitWriter {
         self.reserve(u64::from(bits)).is_ok()
     }
 
-    /// Appends the `n` bits of a number, for which there is room: a push that can't be refused.
+    /// Appends a number as `n` bits, for which there is room: a push that can't fail.
     ///
     /// `n` is at most 64, and the number below 2^n.
     #[inline(always)]
@@ -154,7 +155,7 @@ impl BitWriter {
         }
     }
 
-    /// The bytes, where the bits are whole bytes. It takes no memory.
+    /// Returns the bytes. The number of bits is a multiple of 8. It allocates nothing.
     pub fn into_bytes(self) -> Vec<u8>
         requires { length self.bits % 8 ≡ 0 }
         ensures { bits_of_bytes result.items ≡ self.bits }
@@ -170,8 +171,8 @@ impl BitWriter {
     }
 }
 
-/// Makes room for so many bytes more: where there is less, for as many again as there are at least, so that a row that grows bit by bit is
-/// seldom moved.
+/// Reserves room for `more` more bytes. Where there is less, it reserves for at least as many again as there
+/// are, so that bytes that grow bit by bit are seldom moved.
 fn grow(bytes: &mut Vec<u8>, more: usize) -> Result<(), AllocError>
     ensures items { bytes.new.items ≡ bytes.old.items }
     ensures len { vec_len bytes.new ≡ vec_len bytes.old }
@@ -187,7 +188,7 @@ fn grow(bytes: &mut Vec<u8>, more: usize) -> Result<(), AllocError>
     bytes.reserve_exact(more.max(len))
 }
 
-/// 64 where there is memory for two words behind these bytes, and 0 where there may be less.
+/// Returns 64 where there is memory for two words after these bytes, and 0 where there may be less.
 fn ready_behind(bytes: &Vec<u8>) -> u32
     ensures most { result ≤ 64 }
     ensures room { 8 * vec_len bytes.now + 2 * result ≤ 8 * vec_capacity bytes.now }
@@ -201,7 +202,7 @@ fn ready_behind(bytes: &Vec<u8>) -> u32
     }
 }
 
-/// The word of a part's `held` lowest bits and the bits that fill it.
+/// Returns the word made of a part's `held` lowest bits and the bits that fill it.
 fn filled(part: u64, held: u32, bits: u64) -> u64
     requires held { held < 64 }
     requires below { bits < 2 ^ (64 - held) }

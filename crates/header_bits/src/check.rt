@@ -1,4 +1,4 @@
-//! Whether parameters are lawful together, and the first reason where they aren't.
+//! Checking parameters, and the first reason why they aren't lawful.
 
 ghost use Rattle.std.specs.Prelude.{◌≡◌, ◌↔◌, ◌≤◌, IsOk, OnOk};
 ghost use Rattle.cube_core.specs.declared.fault.Fault.TheVariants.{Disagree};
@@ -20,11 +20,12 @@ use cube_core::order::Order;
 use cube_core::shape::Shape;
 
 impl Params {
-    /// Whether the parameters are lawful; else the first refusal in the order of the header's fields.
+    /// Checks whether the parameters are lawful; if not, returns the first refusal in the order of the header's
+    /// fields.
     ///
-    /// `FieldRange` names a parameter out of its own range, with its value, and `Disagree` a rule
-    /// that two parameters break (CCSDS 123.0-B-1, "Header"). The first weight of a table that
-    /// doesn't fit the table's bits is refused as `WeightEntry`. It takes no memory.
+    /// `FieldRange` names a parameter out of its own range, with its value, and `Disagree` a rule that two
+    /// parameters contradict (CCSDS 123.0-B-1, "Header"). The first weight of a table that doesn't fit in the
+    /// table's bits is refused as `WeightEntry`. It allocates nothing.
     pub fn check(&self) -> Result<(), Fault>
         ensures fault { result ≡ params_fault self.now }
         ensures lawful { IsOk result ↔ IsLawful self.now }
@@ -33,7 +34,7 @@ impl Params {
     }
 }
 
-/// The first refusal of parameters.
+/// Returns the first refusal of parameters.
 #[tactic(auto, unfolding(crate::specs::Lawful::params_fault))]
 fn first_fault(params: &Params) -> Result<(), Fault>
     ensures fault { result ≡ params_fault params.now }
@@ -108,7 +109,7 @@ fn check_predictor(params: &Params) -> Result<(), Fault>
     disagree_if(params.vmax < params.vmin, Rule::ExponentOrder)
 }
 
-/// Refuses a table of weights that doesn't go with the other parameters.
+/// Refuses a table of weights that contradicts the other parameters.
 fn check_start(params: &Params) -> Result<(), Fault>
     requires previous { params.now.previous ≤ 15 }
     requires omega { params.now.omega ≤ 19 }
@@ -126,7 +127,7 @@ fn check_start(params: &Params) -> Result<(), Fault>
     check_weights(*q, weights)
 }
 
-/// Refuses the first weight that isn't a signed number of so many bits.
+/// Refuses the first weight that isn't a signed number of `bits` bits.
 fn check_weights(bits: u32, weights: &[i32]) -> Result<(), Fault>
     requires { (1 ≤ bits) × (bits ≤ 22) }
     ensures { result ≡ entries_fault bits weights.now }
@@ -137,7 +138,7 @@ fn check_weights(bits: u32, weights: &[i32]) -> Result<(), Fault>
     Ok(())
 }
 
-/// Refuses a weight that isn't a signed number of so many bits.
+/// Refuses a weight that isn't a signed number of `bits` bits.
 fn check_weight(bits: u32, weight: i32) -> Result<(), Fault>
     requires { (1 ≤ bits) × (bits ≤ 22) }
     ensures { result ≡ weight_fault bits weight }
@@ -195,7 +196,7 @@ fn check_count(params: &Params, start: &CountStart) -> Result<(), Fault>
     }
 }
 
-/// Refuses constants of which one is above the most.
+/// Refuses constants if one of them is above `most`.
 fn check_constants(most: u32, constants: &[u8]) -> Result<(), Fault>
     ensures { result ≡ refuse_if (some_above most constants.now) (Disagree rule.AccumulatorEntry) }
 {
@@ -209,7 +210,7 @@ fn check_constants(most: u32, constants: &[u8]) -> Result<(), Fault>
     Ok(())
 }
 
-/// Refuses a size that blocks may not have.
+/// Refuses a size that isn't one of a block's.
 fn check_block_size(size: u32) -> Result<(), Fault>
     ensures { result ≡ block_size_fault size }
 {

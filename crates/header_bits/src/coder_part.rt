@@ -19,16 +19,16 @@ use crate::params::{Coder, CountStart};
 use crate::refusal::{disagree_if, out_of_range_if};
 use cube_core::fault::{Fault, Field, Rule};
 
-/// What the coder part says (CCSDS 123.0-B-1, "Entropy coder metadata").
+/// The contents of the coder part (CCSDS 123.0-B-1, "Entropy coder metadata").
 #[derive(Clone, Copy)]
 pub(crate) enum CoderPart {
     Sample {
         umax: u32,
         gamma_star: u32,
         gamma_zero: u32,
-        /// K, or 15 beside a table.
+        /// K, or 15 where there is a table.
         constant: u32,
-        /// An accumulator table in the file.
+        /// Whether the file has an accumulator table.
         table: bool,
     },
     Block {
@@ -39,7 +39,7 @@ pub(crate) enum CoderPart {
 }
 
 impl CoderPart {
-    /// Reads the coder part of an image; `at` is its first bit's place in the file.
+    /// Reads the coder part of an image; `at` is the position of its first bit in the file.
     pub(crate) fn read(
         at: u64,
         image: &ImagePart,
@@ -64,7 +64,7 @@ impl CoderPart {
         }
     }
 
-    /// Whether an accumulator table follows.
+    /// Returns whether an accumulator table follows.
     pub(crate) fn has_table(&self) -> bool
         ensures { result ≡ has_constants self.now }
     {
@@ -101,7 +101,7 @@ impl CoderPart {
     }
 }
 
-/// The constant for all bands, or 15 beside a table.
+/// Returns the constant for all bands, or 15 where there is a table.
 fn constant_of(start: &CountStart) -> u32
     ensures { result ≡ constant_of start.now }
 {
@@ -154,7 +154,7 @@ fn test_sample(image: &ImagePart, numbers: &[u32; SAMPLE_FIELDS]) -> Result<(), 
     )
 }
 
-/// What the numbers of the sample-adaptive coder's part say.
+/// Returns the coder part that the numbers of the sample-adaptive coder's part stand for.
 fn said_sample(numbers: &[u32; SAMPLE_FIELDS]) -> CoderPart
     ensures { result ≡ sample_says numbers.now }
 {
@@ -181,7 +181,7 @@ fn test_block(at: u64, image: &ImagePart, numbers: &[u32; BLOCK_FIELDS]) -> Resu
     )
 }
 
-/// What the numbers of the block-adaptive coder's part say.
+/// Returns the coder part that the numbers of the block-adaptive coder's part stand for.
 fn said_block(numbers: &[u32; BLOCK_FIELDS]) -> CoderPart
     requires { AreValues block_fields numbers.now }
     ensures { result ≡ block_says numbers.now }

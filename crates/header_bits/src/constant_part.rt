@@ -21,14 +21,14 @@ use crate::tables::ConstantTable;
 use cube_core::fault::{Fault, Rule};
 use std::alloc::Global;
 
-/// How many bits a constant has.
+/// The number of bits of a constant.
 const WIDTH: u32 = 4;
 
-/// Looks through the accumulator table, if there is one, and takes no memory; `at` is its first bit's
-/// place in the file.
+/// Checks the accumulator table, if there is one, and goes past it without allocating; `at` is the position of
+/// its first bit in the file.
 ///
-/// `ShortHeader` where it isn't there whole, `AccumulatorEntry` where a constant is above D - 2, and
-/// `Reserved` for the first bit behind the constants that is one.
+/// Returns `ShortHeader` if the bytes end inside it, `AccumulatorEntry` if a constant is above D - 2, and
+/// `Reserved` for the first bit after the constants that is one.
 pub(crate) fn pass(
     at: u64,
     image: &ImagePart,
@@ -50,7 +50,7 @@ pub(crate) fn pass(
     pass_fill(at + bits, fill_of(bits), reader)
 }
 
-/// Passes so many constants, which are there, and refuses one above the most.
+/// Skips `count` constants, which are there, and refuses one above `most`.
 fn pass_constants(count: usize, most: u32, reader: &mut BitReader) -> Result<(), Fault>
     requires whole { count * 4 ≤ length reader.old.left }
     ensures test { result ≡ refuse_if (some_above most (values (number_fields count 4) reader.old.left)) (Disagree rule.AccumulatorEntry) }
@@ -67,10 +67,10 @@ fn pass_constants(count: usize, most: u32, reader: &mut BitReader) -> Result<(),
     Ok(())
 }
 
-/// Reads the accumulator's start that goes with a coder part of the sample-adaptive coder: from the
-/// front of its table where there is one, which was looked through.
+/// Returns the accumulator start of a coder part of the sample-adaptive coder: where there is a table, which
+/// was checked, it is read from the reader.
 ///
-/// `WantOfMemory` where memory for the table isn't had.
+/// Returns `WantOfMemory` if the table can't be allocated.
 pub(crate) fn read(
     alloc: Global,
     image: &ImagePart,
@@ -90,7 +90,7 @@ pub(crate) fn read(
     Ok(CountStart::Each(ConstantTable::new(constants)))
 }
 
-/// Reads so many constants, which are there.
+/// Reads `count` constants, which are there.
 fn read_constants(alloc: Global, count: usize, reader: &mut BitReader) -> Result<Vec<u8>, Fault>
     requires whole { count * 4 ≤ length reader.old.left }
     ensures constants { IfOk result (λ v. v.items ≡ values (number_fields count 4) reader.old.left) }
@@ -104,7 +104,7 @@ fn read_constants(alloc: Global, count: usize, reader: &mut BitReader) -> Result
     Ok(constants)
 }
 
-/// How many bits the accumulator table of parameters has; none where they have no table.
+/// Returns the number of bits of the accumulator table; 0 where the parameters have none.
 pub(crate) fn bits(params: &Params) -> u64
     requires { IsLawful params.now }
     ensures value { result ≡ length (constant_bits params.now.coder) }
@@ -119,7 +119,7 @@ pub(crate) fn bits(params: &Params) -> u64
     }
 }
 
-/// Appends the accumulator table of parameters, if they have one, where there is room for it.
+/// Appends the accumulator table of parameters, if they have one. There is room for it.
 pub(crate) fn put(params: &Params, writer: &mut BitWriter)
     requires lawful { IsLawful params.now }
     requires room { length (constant_bits params.now.coder) ≤ writer.old.room }
@@ -136,7 +136,7 @@ pub(crate) fn put(params: &Params, writer: &mut BitWriter)
     }
 }
 
-/// Appends constants, where there is room for them.
+/// Appends constants. There is room for them.
 fn put_constants(constants: &[u8], writer: &mut BitWriter)
     requires small { AllByRecursion (λ k. k < 2 ^ 4) constants.now }
     requires room { length (numbers_text 4 constants.now) ≤ writer.old.room }

@@ -1,4 +1,4 @@
-//! What describes a field of a header.
+//! The description of a field of a header.
 
 use crate::layout::Slot;
 
@@ -12,22 +12,22 @@ pub struct Range {
 /// A number.
 #[derive(Clone, Copy)]
 pub struct NumberField {
-    /// What `inspect` calls it.
+    /// Its name in `inspect`.
     pub name: &'static str,
     pub range: Range,
     pub(crate) slot: Slot,
-    /// How many fields of its part stand before it.
+    /// How many fields of its part come before it.
     pub(crate) index: usize,
 }
 
 /// One bit.
 #[derive(Clone, Copy)]
 pub struct FlagField {
-    /// What `inspect` calls it.
+    /// Its name in `inspect`.
     pub name: &'static str,
-    /// What 0 is called.
+    /// The name of 0.
     pub zero: &'static str,
-    /// What 1 is called.
+    /// The name of 1.
     pub one: &'static str,
     pub(crate) slot: Slot,
     pub(crate) index: usize,
@@ -40,7 +40,7 @@ pub(crate) struct ReservedField {
     pub index: usize,
 }
 
-/// The place of a field behind another, or of the first.
+/// The index of a field after another, or of the first.
 macro_rules! index {
     (first) => {
         0
@@ -52,7 +52,7 @@ macro_rules! index {
 
 pub(crate) use index;
 
-/// A number behind another field: its name, its slot, and its least and greatest.
+/// A number after another field: its name, its slot, and its least and greatest value.
 macro_rules! number {
     ($before:ident, $name:literal, $slot:expr, $least:expr, $most:expr) => {
         NumberField {
@@ -69,7 +69,7 @@ macro_rules! number {
 
 pub(crate) use number;
 
-/// A number that so many bits are: its name, and its least and greatest.
+/// A number that is written as it is, in so many bits: its name, and its least and greatest value.
 macro_rules! plain {
     ($before:ident, $bits:literal, $name:literal, $least:expr, $most:expr) => {
         number!($before, $name, Slot::Plain($bits, 0), $least, $most)
@@ -78,7 +78,7 @@ macro_rules! plain {
 
 pub(crate) use plain;
 
-/// A number that so many bits count from its least: its name, and its least and greatest.
+/// A number that is written less its least value, in so many bits: its name, and its least and greatest value.
 macro_rules! counted {
     ($before:ident, $bits:literal, $name:literal, $least:literal, $most:expr) => {
         number!($before, $name, Slot::Plain($bits, $least), $least, $most)
@@ -87,8 +87,8 @@ macro_rules! counted {
 
 pub(crate) use counted;
 
-/// A number of so many bits, which are all zero where it is the power of two that they can't tell: its
-/// name, and its least. That power is its greatest.
+/// A number of so many bits, which are all zero where it is the power of two that doesn't fit in them: its
+/// name, and its least value. That power is its greatest.
 macro_rules! modulo {
     ($before:ident, $bits:literal, $name:literal, $least:literal) => {
         number!($before, $name, Slot::Modulo($bits), $least, 1 << $bits)
@@ -97,7 +97,7 @@ macro_rules! modulo {
 
 pub(crate) use modulo;
 
-/// One bit: its name, and what 0 and 1 are called.
+/// One bit: its name, and the names of 0 and 1.
 macro_rules! flag {
     ($before:ident, $name:literal, $zero:literal, $one:literal) => {
         FlagField {

@@ -1,7 +1,7 @@
 //! The fields of a header, each described once (CCSDS 123.0-B-1, "Header").
 //!
-//! A field stands behind another of its part, which its description names. A part's row has the slots
-//! of its fields in that order, so that where reserved bits stand is counted from the row.
+//! The description of a field names the field of its part that comes before it. A part's row has the slots of
+//! its fields in that order, so that the position of reserved bits is counted from the row.
 
 ghost use Rattle.std.specs.Prelude.{◌≡◌, ◌+◌, ◌^◌, ◌<◌, ◌≤◌, ◌↔◌, true, length, slice_index, slice_index_or, take};
 ghost use Rattle.header_bits.specs.declared.layout.Slot.TheVariants as slot;
@@ -78,7 +78,7 @@ pub(crate) use image_row;
 
 pub(crate) const BEFORE_PREVIOUS: ReservedField = reserved!(first, 2);
 
-/// P, how many previous bands are used for prediction.
+/// P, the number of previous bands used for prediction.
 pub const PREVIOUS: NumberField = plain!(BEFORE_PREVIOUS, 4, "previous", 0, 15);
 
 pub const MODE: FlagField = flag!(PREVIOUS, "mode", "full", "reduced");
@@ -109,7 +109,7 @@ pub(crate) const AFTER_VMAX: ReservedField = reserved!(VMAX, 1);
 
 pub const WEIGHT_START: FlagField = flag!(AFTER_VMAX, "start", "usual", "table");
 
-/// Whether the weight table is in the file.
+/// Whether the file has the weight table.
 pub(crate) const WEIGHT_TABLE: FlagField = flag!(WEIGHT_START, "table", "elsewhere", "here");
 
 /// The resolution of a weight table; it is also at most Ω + 3.
@@ -162,10 +162,10 @@ pub const GAMMA_ZERO: NumberField = modulo!(GAMMA_STAR, 3, "gamma-zero", 1);
 /// K, the accumulator's constant; it is also at most D - 2.
 pub const CONSTANT: NumberField = plain!(GAMMA_ZERO, 4, "k", 0, DYNAMIC_RANGE.range.most - 2);
 
-/// Whether an accumulator table is in the file.
+/// Whether the file has an accumulator table.
 pub const ACCUMULATOR_TABLE: FlagField = flag!(CONSTANT, "constants", "one", "table");
 
-/// What stands in the constant's place beside an accumulator table.
+/// The value of the constant's field where there is an accumulator table.
 pub(crate) const BESIDE_TABLE: u32 = CONSTANT.range.most + 1;
 
 pub(crate) const SAMPLE_FIELDS: usize = ACCUMULATOR_TABLE.index + 1;
@@ -183,7 +183,7 @@ pub(crate) use sample_row;
 
 pub(crate) const BEFORE_BLOCK_SIZE: ReservedField = reserved!(first, 1);
 
-/// J, the samples in a block, which are told by a code.
+/// J, the samples in a block, written as a code.
 pub const BLOCK_SIZE: NumberField = plain!(
     BEFORE_BLOCK_SIZE,
     2,
@@ -192,7 +192,7 @@ pub const BLOCK_SIZE: NumberField = plain!(
     BLOCK_SIZES[3]
 );
 
-/// The sizes that blocks may have, by their codes.
+/// The sizes that blocks may have, in the order of their codes.
 pub const BLOCK_SIZES: [u32; 4] = [8, 16, 32, 64];
 
 pub const RESTRICTED: FlagField = flag!(BLOCK_SIZE, "restricted", "no", "yes");
@@ -211,14 +211,14 @@ macro_rules! block_row {
 
 pub(crate) use block_row;
 
-/// Whether a block may have so many samples.
+/// Returns whether `size` is a lawful number of samples in a block.
 pub fn is_block_size(size: u32) -> bool
     ensures { (result ≡ true) ↔ IsBlockSize size }
 {
     BLOCK_SIZES.contains(&size)
 }
 
-/// The place of the first bit behind the image part.
+/// Returns the position of the first bit after the image part.
 #[tactic(auto, unfolding(crate::specs::Layout::total))]
 pub(crate) fn image_end() -> u64
     ensures { result ≡ 96 }
@@ -226,7 +226,7 @@ pub(crate) fn image_end() -> u64
     total_bits(&image_row!())
 }
 
-/// How many bits the predictor part has.
+/// Returns the number of bits of the predictor part.
 #[tactic(auto, unfolding(crate::specs::Layout::total))]
 pub(crate) fn predictor_bits() -> u64
     ensures { result ≡ 40 }
@@ -234,14 +234,14 @@ pub(crate) fn predictor_bits() -> u64
     total_bits(&predictor_row!())
 }
 
-/// The place of the first bit behind the predictor part.
+/// Returns the position of the first bit after the predictor part.
 pub(crate) fn predictor_end() -> u64
     ensures { result ≡ 136 }
 {
     image_end() + predictor_bits()
 }
 
-/// How many bits the coder part has, whichever coder's it is.
+/// Returns the number of bits of the coder part, of either coder.
 #[tactic(auto, unfolding(crate::specs::Layout::total))]
 pub(crate) fn coder_bits() -> u64
     ensures { result ≡ 16 }
@@ -249,8 +249,8 @@ pub(crate) fn coder_bits() -> u64
     total_bits(&sample_row!())
 }
 
-/// Refuses the first bit of a reserved field that is one. The field stands behind those before it in
-/// its part, whose first bit is at `first`.
+/// Refuses the first bit of a reserved field that is one. The field comes after those before it in its part,
+/// whose first bit is at `first`.
 pub(crate) fn unused_field(
     first: u64,
     slots: &[Slot],

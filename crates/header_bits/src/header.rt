@@ -25,10 +25,10 @@ use crate::{constant_part, weight_part};
 use cube_core::fault::Fault;
 use std::alloc::Global;
 
-/// The header of lawful parameters, in whole bytes (CCSDS 123.0-B-1, "Header").
+/// Returns the header of lawful parameters, in whole bytes (CCSDS 123.0-B-1, "Header").
 ///
-/// Under band sequential order zeros stand in the place of the depth. `WantOfMemory` if the bytes
-/// can't be allocated.
+/// Under band sequential order the depth is written as zeros. Returns `WantOfMemory` if the bytes can't be
+/// allocated.
 pub fn write_header(alloc: Global, params: &Params) -> Result<Vec<u8>, Fault>
     requires { IsLawful params.now }
     ensures header { IfOk result (λ bytes. bits_of_bytes bytes.items ≡ header_of params.now) }
@@ -39,10 +39,9 @@ pub fn write_header(alloc: Global, params: &Params) -> Result<Vec<u8>, Fault>
     Ok(writer.into_bytes())
 }
 
-/// Appends the header of lawful parameters to the bits of a writer: 152 bits and its tables, which
-/// are whole bytes.
+/// Appends the header of lawful parameters to the bits of a writer: 152 bits, then its tables, in whole bytes.
 ///
-/// Within the writer's room it succeeds. After `WantOfMemory` the bits are as before.
+/// It succeeds within the writer's room. After `WantOfMemory` the bits are as before.
 pub fn put_header(params: &Params, writer: &mut BitWriter) -> Result<(), Fault>
     requires { IsLawful params.now }
     ensures appended { OnOk result (writer.new.bits ≡ writer.old.bits ++ header_of params.now) }
@@ -64,7 +63,7 @@ pub fn put_header(params: &Params, writer: &mut BitWriter) -> Result<(), Fault>
     Ok(())
 }
 
-/// How many bits the header of lawful parameters has.
+/// Returns the number of bits of the header of lawful parameters.
 fn header_bits(params: &Params) -> u64
     requires { IsLawful params.now }
     ensures { result ≡ length (header_of params.now) }
@@ -73,12 +72,12 @@ fn header_bits(params: &Params) -> u64
     parts + weight_part::bits(params) + constant_part::bits(params)
 }
 
-/// Reads a header from the front of at most 2^60 bytes: its parameters, and its length in bytes.
+/// Reads a header from the front of at most 2^60 bytes, and returns its parameters and its length in bytes.
 ///
-/// The refusals are the first in the order of the fields: `ShortHeader` where the bytes end inside
-/// a part or a table, `Reserved` with the bit's place, `FieldRange`, `Disagree` and `TableElsewhere`
-/// (CCSDS 123.0-B-1, "Header"). Only where there are none is memory taken, for the tables:
-/// `WantOfMemory` where it isn't had.
+/// Returns the first refusal in the order of the fields: `ShortHeader` if the bytes end inside a part or a
+/// table, `Reserved` with the bit's position, `FieldRange`, `Disagree` and `TableElsewhere` (CCSDS 123.0-B-1,
+/// "Header"). Only where there is none of these does it allocate, for the tables; it returns `WantOfMemory` if
+/// they can't be allocated.
 pub fn read_header(alloc: Global, bytes: &[u8]) -> Result<(Params, usize), Fault>
     requires { length bytes.now ≤ 2 ^ 60 }
     ensures reads { ReadsHeader (bits_of_bytes bytes.now) result }
@@ -94,8 +93,8 @@ pub fn read_header(alloc: Global, bytes: &[u8]) -> Result<(Params, usize), Fault
     Ok((params, bytes.len() - behind))
 }
 
-/// What the parts of a header say, with readers at its tables: a reader stands at a table's place
-/// whether there is one or not.
+/// The parts of a header, with readers at its tables: a reader is at the position of a table whether there is
+/// one or not.
 struct Parts<'a> {
     image: ImagePart,
     predictor: PredictorPart,
@@ -104,8 +103,7 @@ struct Parts<'a> {
     constants: BitReader<'a>,
 }
 
-/// Looks through a whole header, and takes no memory. The refusals are the first in the order of the
-/// fields.
+/// Checks a whole header without allocating. Returns the first refusal in the order of the fields.
 fn look_through<'a>(reader: &mut BitReader<'a>) -> Result<Parts<'a>, Fault>
     ensures reads { Reads (λ x. said x.image x.predictor x.weights.left x.coder x.constants.left) result reader.new.left (parts_at reader.old.left) }
     ensures there { IfOk result (λ x. AreThere x.image x.predictor x.weights.left x.coder x.constants.left) }
@@ -127,9 +125,9 @@ fn look_through<'a>(reader: &mut BitReader<'a>) -> Result<Parts<'a>, Fault>
     })
 }
 
-/// The parameters of a header that was looked through.
+/// Returns the parameters of a header that was checked.
 ///
-/// `WantOfMemory` where memory for a table isn't had.
+/// Returns `WantOfMemory` if a table can't be allocated.
 fn read_params(alloc: Global, parts: Parts) -> Result<Params, Fault>
     requires { AreThere parts.image parts.predictor parts.weights.left parts.coder parts.constants.left }
     ensures params { IfOk result (λ p. p ≡ params_of (said parts.entry.image parts.entry.predictor parts.entry.weights.left parts.entry.coder
@@ -164,7 +162,7 @@ fn read_params(alloc: Global, parts: Parts) -> Result<Params, Fault>
     })
 }
 
-/// The coder that a coder part says, with the accumulator table that a reader stands at.
+/// Returns the coder of a coder part, with the accumulator table at the reader's position.
 fn read_coder(
     alloc: Global,
     image: &ImagePart,

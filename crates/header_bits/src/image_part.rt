@@ -17,7 +17,7 @@ use cube_core::kind::Kind;
 use cube_core::order::Order;
 use cube_core::shape::Shape;
 
-/// What the image part says (CCSDS 123.0-B-1, "Image metadata").
+/// The contents of the image part (CCSDS 123.0-B-1, "Image metadata").
 #[derive(Clone, Copy)]
 pub(crate) struct ImagePart {
     pub user: u32,
@@ -25,7 +25,7 @@ pub(crate) struct ImagePart {
     pub kind: Kind,
     pub order: Order,
     pub word: u32,
-    /// The block-adaptive coder, not the sample-adaptive one.
+    /// Whether the coder is the block-adaptive one.
     pub block: bool,
 }
 
@@ -76,7 +76,7 @@ impl ImagePart {
     }
 }
 
-/// The bit that stands for an order.
+/// Returns the bit that stands for an order.
 fn order_bit(order: Order) -> u32
     ensures { result ≡ order_flag order }
 {
@@ -86,7 +86,7 @@ fn order_bit(order: Order) -> u32
     }
 }
 
-/// The depth of an order, or the number whose bits are zero.
+/// Returns the depth of an order, or the number that is written as zeros.
 fn depth_number(order: Order) -> u32
     ensures { result ≡ depth_number order }
 {
@@ -116,7 +116,7 @@ fn test(numbers: &[u32; IMAGE_FIELDS]) -> Result<(), Fault>
     unused_field(0, &image_row!(), fields::AFTER_CODER.index, numbers)
 }
 
-/// What the numbers of the image part say.
+/// Returns the image part that the numbers stand for.
 fn said(numbers: &[u32; IMAGE_FIELDS]) -> ImagePart
     requires held { AreValues image_fields numbers.now }
     requires passed { image_tests numbers.now ≡ fine }

@@ -1,4 +1,4 @@
-//! A part of a header as a row of numbers, each in a slot of so many bits.
+//! A part of a header as a row of numbers, each in a slot of bits.
 
 ghost use Rattle.std.specs.Prelude.{◌≡◌, ◌+◌, ◌^◌, ◌<◌, ◌≤◌, ◌++◌, length, drop, IsOk, IfErr, OnOk};
 ghost use Rattle.cube_core.specs.declared.fault.Fault.TheVariants.{WantOfMemory};
@@ -8,19 +8,19 @@ use crate::bit_reader::BitReader;
 use crate::bit_writer::BitWriter;
 use cube_core::fault::Fault;
 
-/// A place for a number.
+/// The slot of a number: how many bits it has, and how they stand for the number.
 #[derive(Clone, Copy)]
 pub(crate) enum Slot {
-    /// So many reserved bits, all zero.
+    /// This many reserved bits, all zero.
     Unused(u32),
-    /// So many bits, counted from the second number.
+    /// This many bits, counted from the second number.
     Plain(u32, u32),
-    /// So many bits, where zero stands for the power itself.
+    /// This many bits; zero stands for the power of two that doesn't fit in them.
     Modulo(u32),
 }
 
 impl Slot {
-    /// How many bits the slot has.
+    /// Returns the number of bits of the slot.
     pub(crate) fn width(self) -> u32
         ensures { result ≡ width self }
     {
@@ -31,7 +31,7 @@ impl Slot {
         }
     }
 
-    /// The number that a code stands for.
+    /// Returns the number that a code stands for.
     pub(crate) fn value(self, code: u64) -> u32
         requires narrow { IsNarrow self }
         requires below { code < 2 ^ width self }
@@ -45,7 +45,7 @@ impl Slot {
         }
     }
 
-    /// The code that stands for a number.
+    /// Returns the code that stands for a number.
     pub(crate) fn code(self, value: u32) -> u64
         requires narrow { IsNarrow self }
         requires value { IsValue self value }
@@ -60,7 +60,7 @@ impl Slot {
     }
 }
 
-/// How many bits slots have in all.
+/// Returns the number of bits of all slots.
 pub(crate) fn total_bits(slots: &[Slot]) -> u64
     requires narrow { AreNarrow slots.now }
     requires few { length slots.now ≤ 64 }
@@ -74,7 +74,7 @@ pub(crate) fn total_bits(slots: &[Slot]) -> u64
     bits
 }
 
-/// Reads the numbers of a part that is there whole.
+/// Reads the numbers of a part, all of whose bits are there.
 pub(crate) fn read_values(slots: &[Slot], reader: &mut BitReader, out: &mut [u32])
     requires narrow { AreNarrow slots.now }
     requires same { length out.old ≡ length slots.now }
@@ -90,7 +90,7 @@ pub(crate) fn read_values(slots: &[Slot], reader: &mut BitReader, out: &mut [u32
     }
 }
 
-/// Writes the numbers of a part. Within the writer's room it succeeds.
+/// Writes the numbers of a part. It succeeds within the writer's room.
 pub(crate) fn write_values(
     slots: &[Slot],
     values: &[u32],

@@ -1,4 +1,4 @@
-//! The parameters of a coded image, all of which its header spells.
+//! The parameters of a coded image. Its header holds all of them.
 
 ghost use Rattle.std.specs.Prelude.{◌≡◌};
 ghost use Rattle.header_bits.specs.Plain.{plain, plain_coder};
@@ -10,23 +10,23 @@ use cube_core::shape::Shape;
 
 /// How an image is predicted and coded (CCSDS 123.0-B-1, "Header").
 ///
-/// The fields may hold any numbers; `check` says whether they are lawful together.
+/// The fields may hold any numbers; `check` tells whether they are lawful together.
 #[derive(Drop)]
 pub struct Params {
     /// Nx, Ny and Nz.
     pub shape: Shape,
-    /// Signed or not, and D.
+    /// Whether samples are signed, and D.
     pub kind: Kind,
     pub order: Order,
     /// User-defined data, 0 to 255.
     pub user: u32,
     /// B, the output word size: 1 to 8 bytes.
     pub word: u32,
-    /// P, how many previous bands are used for prediction: 0 to 15.
+    /// P, the number of previous bands used for prediction: 0 to 15.
     pub previous: u32,
-    /// Reduced prediction mode, not full.
+    /// Whether the prediction mode is reduced; else it is full.
     pub reduced: bool,
-    /// Column-oriented local sums, not neighbour-oriented.
+    /// Whether local sums are column-oriented; else they are neighbour-oriented.
     pub column: bool,
     /// R, the register size: 32 to 64 bits.
     pub register: u32,
@@ -43,8 +43,9 @@ pub struct Params {
 }
 
 impl Params {
-    /// The plainest parameters of an image: band-sequential order, reduced mode with column-oriented local sums, no previous band, default weights,
-    /// and the sample-adaptive coder of `Coder::plain`. Others are made of them by naming what differs.
+    /// Returns the plainest parameters of an image: band-sequential order, reduced mode with column-oriented
+    /// local sums, no previous band, default weights, and the sample-adaptive coder of `Coder::plain`. Other
+    /// parameters can be made from them by naming the fields that differ.
     ///
     /// They are lawful for samples of five bits or more.
     pub fn plain(shape: Shape, kind: Kind) -> Params
@@ -71,7 +72,8 @@ impl Params {
 }
 
 impl Coder {
-    /// The sample-adaptive coder with a unary length limit of 16, a rescaling counter size of 6, counters that start at 2, and the accumulator's constant 3.
+    /// Returns the sample-adaptive coder with a unary length limit of 16, a rescaling counter size of 6,
+    /// counters that start at 2, and the accumulator's constant 3.
     pub fn plain() -> Coder
         ensures { result ≡ plain_coder }
     {
@@ -89,7 +91,7 @@ impl Coder {
 pub enum WeightStart {
     /// The default weights of the standard.
     Usual,
-    /// Custom weights, each told by a signed number of `q` bits.
+    /// Custom weights, each given by a signed number of `q` bits.
     Table { q: u32, values: WeightTable },
 }
 
@@ -110,7 +112,7 @@ pub enum Coder {
     Block {
         /// J, the samples in a block: 8, 16, 32 or 64.
         size: u32,
-        /// The restricted set of code options, for samples of at most four bits.
+        /// Whether the set of code options is the restricted one, for samples of at most four bits.
         restricted: bool,
         /// r, the reference sample interval: 1 to 4,096 blocks.
         reference: u32,

@@ -21,7 +21,7 @@ use crate::params::{Params, WeightStart};
 use crate::refusal::{disagree_if, out_of_range_if, refuse_if};
 use cube_core::fault::{Fault, Field, Rule};
 
-/// What the predictor part says (CCSDS 123.0-B-1, "Predictor metadata").
+/// The contents of the predictor part (CCSDS 123.0-B-1, "Predictor metadata").
 #[derive(Clone, Copy)]
 pub(crate) struct PredictorPart {
     pub previous: u32,
@@ -32,9 +32,9 @@ pub(crate) struct PredictorPart {
     pub interval_log: u32,
     pub vmin: i32,
     pub vmax: i32,
-    /// A weight table in the file, not the default weights.
+    /// Whether the file has a weight table; else the weights are the default ones.
     pub custom: bool,
-    /// How many bits each number of the table has; 0 where there is none.
+    /// The number of bits of each number in the table; 0 where there is none.
     pub resolution: u32,
 }
 
@@ -92,7 +92,7 @@ impl PredictorPart {
     }
 }
 
-/// How many bits each number of the table has; 0 where there is none.
+/// Returns the number of bits of each number in the table; 0 where there is none.
 fn resolution_of(start: &WeightStart) -> u32
     ensures { result ≡ resolution_of start.now }
 {
@@ -102,7 +102,7 @@ fn resolution_of(start: &WeightStart) -> u32
     }
 }
 
-/// The code of a weight update scaling exponent.
+/// Returns the code of a weight update scaling exponent.
 fn exponent_code(exponent: i32) -> u32
     requires { IsExponent exponent }
     ensures { result ≡ exponent_code exponent }
@@ -158,7 +158,7 @@ fn test(image: &ImagePart, numbers: &[u32; PREDICTOR_FIELDS]) -> Result<(), Faul
     test_start(numbers)
 }
 
-/// Tests the numbers that tell the weight start, in order.
+/// Tests the numbers of the weight start, in order.
 fn test_start(numbers: &[u32; PREDICTOR_FIELDS]) -> Result<(), Fault>
     requires { AreValues predictor_fields numbers.now }
     ensures { result ≡ start_tests numbers.now }
@@ -180,7 +180,7 @@ fn test_start(numbers: &[u32; PREDICTOR_FIELDS]) -> Result<(), Fault>
     )
 }
 
-/// What the numbers of the predictor part say.
+/// Returns the predictor part that the numbers stand for.
 fn said(numbers: &[u32; PREDICTOR_FIELDS]) -> PredictorPart
     requires { AreValues predictor_fields numbers.now }
     ensures { result ≡ predictor_says numbers.now }
@@ -199,7 +199,7 @@ fn said(numbers: &[u32; PREDICTOR_FIELDS]) -> PredictorPart
     }
 }
 
-/// The weight update scaling exponent of a code.
+/// Returns the weight update scaling exponent of a code.
 fn exponent_of(code: u32) -> i32
     requires { code < 16 }
     ensures { result ≡ exponent_of code }

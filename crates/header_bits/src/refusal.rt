@@ -7,21 +7,21 @@ ghost use Rattle.header_bits.specs.Parts.{unused};
 
 use cube_core::fault::{Fault, Field, Rule};
 
-/// Refuses where a condition holds.
+/// Returns `fault` if a condition holds.
 pub(crate) fn refuse_if(condition: bool, fault: Fault) -> Result<(), Fault>
     ensures { result ≡ refuse_if condition fault }
 {
     if condition { Err(fault) } else { Ok(()) }
 }
 
-/// Refuses where two parameters break a rule.
+/// Returns `Disagree` if two parameters break a rule.
 pub(crate) fn disagree_if(condition: bool, rule: Rule) -> Result<(), Fault>
     ensures { result ≡ refuse_if condition (Disagree rule) }
 {
     refuse_if(condition, Fault::Disagree { rule })
 }
 
-/// Refuses a number under its name.
+/// Returns `FieldRange` with a field and its number if a condition holds.
 pub(crate) fn out_of_range_if(condition: bool, field: Field, number: u32) -> Result<(), Fault>
     ensures { result ≡ refuse_if condition (FieldRange field (pos number)) }
 {
@@ -29,7 +29,7 @@ pub(crate) fn out_of_range_if(condition: bool, field: Field, number: u32) -> Res
     refuse_if(condition, Fault::FieldRange { field, value })
 }
 
-/// Refuses the first of `n` reserved bits that is one; `at` is the place of the first of them.
+/// Refuses the first of `n` reserved bits that is one; `at` is the position of the first of them.
 pub(crate) fn unused(at: u64, n: u32, value: u32) -> Result<(), Fault>
     requires few { n ≤ 16 }
     requires early { at < 2 ^ 33 }

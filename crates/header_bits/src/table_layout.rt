@@ -1,4 +1,4 @@
-//! How a table lies in a header: so many numbers of so many bits each, and zeros up to a whole byte.
+//! How a table lies in a header: numbers of the same number of bits each, then zeros up to a whole byte.
 
 ghost use Rattle.std.specs.Prelude.{◌≡◌, ◌+◌, ◌*◌, ◌^◌, ◌<◌, ◌≤◌, ◌++◌, length, take, drop};
 ghost use Rattle.header_bits.specs.Bits.{bits_of, number_of};
@@ -11,7 +11,7 @@ use crate::bit_writer::BitWriter;
 use crate::refusal::unused;
 use cube_core::fault::Fault;
 
-/// How many bits the numbers of a table have, without the zeros behind them.
+/// Returns the number of bits of a table's numbers, without the zeros after them.
 pub(crate) fn number_bits(count: usize, bits: u32) -> u64
     requires count { count ≤ 2 ^ 21 }
     requires bits { bits ≤ 22 }
@@ -21,7 +21,7 @@ pub(crate) fn number_bits(count: usize, bits: u32) -> u64
     count as u64 * u64::from(bits)
 }
 
-/// How many bits a table has in all.
+/// Returns the number of bits of a table in all.
 pub(crate) fn table_bits(count: usize, bits: u32) -> u64
     requires count { count ≤ 2 ^ 21 }
     requires bits { bits ≤ 22 }
@@ -32,7 +32,7 @@ pub(crate) fn table_bits(count: usize, bits: u32) -> u64
     numbers + u64::from(fill_of(numbers))
 }
 
-/// How many zeros lead from so many bits to a whole byte.
+/// Returns how many zeros fill this many bits up to a whole byte.
 pub(crate) fn fill_of(bits: u64) -> u32
     ensures value { result ≡ fill_of bits }
     ensures few { result < 8 }
@@ -40,8 +40,8 @@ pub(crate) fn fill_of(bits: u64) -> u32
     ((8 - bits % 8) % 8) as u32
 }
 
-/// Passes the zeros behind the numbers of a table, and refuses the first of them that is one; `at` is
-/// the place of the first of them.
+/// Takes the zeros after the numbers of a table, and refuses the first of them that is one; `at` is the
+/// position of the first of them.
 pub(crate) fn pass_fill(at: u64, fill: u32, reader: &mut BitReader) -> Result<(), Fault>
     requires early { at < 2 ^ 32 }
     requires few { fill < 8 }
@@ -53,7 +53,7 @@ pub(crate) fn pass_fill(at: u64, fill: u32, reader: &mut BitReader) -> Result<()
     unused(at, fill, zeros as u32)
 }
 
-/// Appends the zeros behind so many bits, where there is room for them.
+/// Appends the zeros that fill `bits` bits up to a whole byte. There is room for them.
 pub(crate) fn put_fill(bits: u64, writer: &mut BitWriter)
     requires room { fill_of bits ≤ writer.old.room }
     ensures bits { writer.new.bits ≡ writer.old.bits ++ bits_of (fill_of bits) 0 }

@@ -1,4 +1,4 @@
-//! The tables that parameters may hold: weights to start from, and an accumulator constant for each band.
+//! The tables that parameters may hold: initial weights, and an accumulator constant for each band.
 
 use std::marker::Model;
 
@@ -19,21 +19,21 @@ impl Model for WeightTable {
 impl WeightTable {
     ghost use Rattle.std.specs.Prelude.{◌≡◌};
 
-    /// The numbers of a table, in its order.
+    /// Returns the table of these numbers, in its order.
     pub fn new(values: Vec<i32>) -> WeightTable
         ensures { result ≡ values.items }
     {
         WeightTable { values }
     }
 
-    /// The numbers, in the table's order.
+    /// Returns the numbers, in the table's order.
     pub fn as_slice(&self) -> &[i32]
         ensures { result.now ≡ self.now }
     {
         &self.values
     }
 
-    /// Gives the numbers back.
+    /// Returns the numbers, in the table's order, as a `Vec`.
     pub fn into_vec(self) -> Vec<i32>
         ensures { result.items ≡ self }
     {
@@ -58,21 +58,21 @@ impl Model for ConstantTable {
 impl ConstantTable {
     ghost use Rattle.std.specs.Prelude.{◌≡◌};
 
-    /// The constants of a table, in band order.
+    /// Returns the table of these constants, in band order.
     pub fn new(constants: Vec<u8>) -> ConstantTable
         ensures { result ≡ constants.items }
     {
         ConstantTable { constants }
     }
 
-    /// The constants, in band order.
+    /// Returns the constants, in band order.
     pub fn as_slice(&self) -> &[u8]
         ensures { result.now ≡ self.now }
     {
         &self.constants
     }
 
-    /// Gives the constants back.
+    /// Returns the constants, in band order, as a `Vec`.
     pub fn into_vec(self) -> Vec<u8>
         ensures { result.items ≡ self }
     {

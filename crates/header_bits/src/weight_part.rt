@@ -20,8 +20,8 @@ use crate::tables::WeightTable;
 use cube_core::fault::Fault;
 use std::alloc::Global;
 
-/// How many weights the first bands have in all: one for each previous band that there is, and three
-/// more in full mode.
+/// Returns how many weights the first bands have in all: one for each previous band that exists, and three more
+/// in full mode.
 #[tactic(auto, unfolding(crate::specs::TableParts::weight_count))]
 pub(crate) fn weight_count(previous: u32, reduced: bool, bands: u32) -> usize
     requires previous { previous ≤ 15 }
@@ -37,7 +37,7 @@ pub(crate) fn weight_count(previous: u32, reduced: bool, bands: u32) -> usize
     count
 }
 
-/// How many weights the table has that the predictor part announces.
+/// Returns how many weights the table has that the predictor part announces.
 fn count_for(image: &ImagePart, predictor: &PredictorPart) -> usize
     requires { predictor.now.previous ≤ 15 }
     ensures count { result ≡ weight_count predictor.now.previous predictor.now.reduced image.now.shape.bands }
@@ -47,7 +47,7 @@ fn count_for(image: &ImagePart, predictor: &PredictorPart) -> usize
     weight_count(predictor.previous, predictor.reduced, bands)
 }
 
-/// The place of the first bit behind the weight table, if there is one.
+/// Returns the position of the first bit after the weight table, if there is one.
 pub(crate) fn end(image: &ImagePart, predictor: &PredictorPart) -> u64
     requires previous { predictor.now.previous ≤ 15 }
     requires resolution { predictor.now.resolution ≤ 22 }
@@ -61,8 +61,8 @@ pub(crate) fn end(image: &ImagePart, predictor: &PredictorPart) -> u64
     }
 }
 
-/// Looks through the weight table, if there is one, and takes no memory: `ShortHeader` where it isn't
-/// there whole, and `Reserved` for the first bit behind its numbers that is one.
+/// Checks the weight table, if there is one, and goes past it without allocating. Returns `ShortHeader` if the
+/// bytes end inside it, and `Reserved` for the first bit after its numbers that is one.
 pub(crate) fn pass(
     image: &ImagePart,
     predictor: &PredictorPart,
@@ -84,9 +84,9 @@ pub(crate) fn pass(
     pass_fill(predictor_end() + bits, fill_of(bits), reader)
 }
 
-/// Reads the weight start, from the front of its table where there is one, which was looked through.
+/// Returns the weight start: where there is a table, which was checked, it is read from the reader.
 ///
-/// `WantOfMemory` where memory for the table isn't had.
+/// Returns `WantOfMemory` if the table can't be allocated.
 pub(crate) fn read(
     alloc: Global,
     image: &ImagePart,
@@ -111,7 +111,7 @@ pub(crate) fn read(
     Ok(WeightStart::Table { q, values })
 }
 
-/// Reads so many weights of so many bits each, which are there.
+/// Reads `count` weights of `bits` bits each, which are there.
 fn read_weights(
     alloc: Global,
     count: usize,
@@ -131,7 +131,7 @@ fn read_weights(
     Ok(weights)
 }
 
-/// Two to the power of so many bits.
+/// Returns two to the power of `bits`.
 pub(crate) fn power_of_two(bits: u32) -> i32
     requires { bits ≤ 22 }
     ensures value { result ≡ pos (2 ^ bits) }
@@ -140,7 +140,7 @@ pub(crate) fn power_of_two(bits: u32) -> i32
     1 << bits
 }
 
-/// The number of a code in two's complement.
+/// Returns the number that a code in two's complement stands for.
 fn signed_of(bits: u32, code: u32) -> i32
     requires bits { (1 ≤ bits) × (bits ≤ 22) }
     requires below { code < 2 ^ bits }
@@ -154,7 +154,7 @@ fn signed_of(bits: u32, code: u32) -> i32
     }
 }
 
-/// The code of a number in two's complement.
+/// Returns the code of a number in two's complement.
 fn signed_code(bits: u32, weight: i32) -> u64
     requires bits { (1 ≤ bits) × (bits ≤ 22) }
     requires signed { IsSigned bits weight }
@@ -168,7 +168,7 @@ fn signed_code(bits: u32, weight: i32) -> u64
     }
 }
 
-/// How many bits the weight table of parameters has; none where they have no table.
+/// Returns the number of bits of the weight table; 0 where the parameters have none.
 pub(crate) fn bits(params: &Params) -> u64
     requires { IsLawful params.now }
     ensures value { result ≡ length (weight_bits params.now.start) }
@@ -180,7 +180,7 @@ pub(crate) fn bits(params: &Params) -> u64
     }
 }
 
-/// Appends the weight table of parameters, if they have one, where there is room for it.
+/// Appends the weight table of parameters, if they have one. There is room for it.
 pub(crate) fn put(params: &Params, writer: &mut BitWriter)
     requires lawful { IsLawful params.now }
     requires room { length (weight_bits params.now.start) ≤ writer.old.room }
@@ -194,7 +194,7 @@ pub(crate) fn put(params: &Params, writer: &mut BitWriter)
     }
 }
 
-/// Appends weights of so many bits each, where there is room for them.
+/// Appends weights of `bits` bits each. There is room for them.
 fn put_weights(weights: &[i32], bits: u32, writer: &mut BitWriter)
     requires bits { (1 ≤ bits) × (bits ≤ 22) }
     requires signed { AllByRecursion (IsSigned bits) weights.now }
