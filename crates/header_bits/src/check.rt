@@ -24,7 +24,7 @@ impl Params {
     /// fields.
     ///
     /// `FieldRange` names a parameter out of its own range, with its value, and `Disagree` a rule that two
-    /// parameters contradict (CCSDS 123.0-B-1, "Header"). The first weight of a table that doesn't fit in the
+    /// parameters break (CCSDS 123.0-B-1, "Header"). The first weight of a table that doesn't fit in the
     /// table's bits is refused as `WeightEntry`. It allocates nothing.
     pub fn check(&self) -> Result<(), Fault>
         ensures fault { result ≡ params_fault self.now }
