@@ -22,10 +22,10 @@ use header_bits::params::Params;
 use std::alloc::Global;
 use std::marker::Model;
 
-/// The predictor of one band: what it has learnt from the samples so far, and the place that comes next.
+/// The predictor of one band: what it has learned from the samples so far, and its next place.
 ///
-/// It takes no memory but its own, and reads of a cube its own band and the bands below it that are
-/// looked at. The calls for two bands don't depend on each other.
+/// It allocates nothing, and reads of a cube only its own band and the previous bands that its parameters use.
+/// Calls for different bands are independent.
 #[derive(Drop)]
 pub struct Band {
     pub(crate) settings: Settings,
@@ -56,10 +56,10 @@ impl Model for Band {
 }
 
 impl Band {
-    /// The predictor of band `z`, before its first place.
+    /// Returns the predictor of band `z`, at its first place.
     ///
-    /// `z` is below the number of bands. The room for weights is part of the band, so that no memory is
-    /// asked for and nothing is refused.
+    /// `z` is below the number of bands. The weights are stored in the band itself, so that nothing is
+    /// allocated and nothing refused.
     pub fn new(_alloc: Global, params: &Params, z: u32) -> Result<Band, Fault>
         requires lawful { IsLawful params.now }
         requires band { z < params.now.shape.bands }
@@ -88,17 +88,17 @@ impl Band {
         })
     }
 
-    /// t, the raster index of the next sample: samples of the band count row after row from 0.
+    /// Returns t, the raster index of the next sample: samples of the band are counted row after row from 0.
     pub fn next(&self) -> u64
         ensures { result ≡ self.now.place }
     {
         self.next
     }
 
-    /// The mapped residual of the sample at the next place of a cube, and one place on.
+    /// Returns the mapped residual of the cube's sample at the next place, and advances by one place.
     ///
-    /// The cube has the shape and the kind of the parameters, and the next place is row `y`, column `x`.
-    /// The answer is at most 2^D - 1 (CCSDS 123.0-B-1, "Predictor").
+    /// The cube has the shape and kind of the parameters, and the next place is row `y`, column `x`. The result
+    /// is at most 2^D - 1 (CCSDS 123.0-B-1, "Predictor").
     // Inlined into a loop over places it is slower.
     #[inline(never)]
     pub fn forward(&mut self, cube: &Cube, y: u32, x: u32) -> u16
@@ -120,11 +120,11 @@ impl Band {
         }
     }
 
-    /// The sample at the next place of a cube whose mapped residual is `delta`, and one place on.
+    /// Returns the sample at the next place whose mapped residual is `delta`, and advances by one place.
     ///
-    /// The cube has the shape and the kind of the parameters, and the next place is row `y`, column `x`.
-    /// `delta` is at most 2^D - 1. What stands at this place and at later ones is not read, and the cube
-    /// isn't written.
+    /// The cube has the shape and kind of the parameters, and the next place is row `y`, column `x`. `delta` is
+    /// at most 2^D - 1. The cube's samples at this place and later ones are not read, and the cube isn't
+    /// written.
     #[inline(never)]
     pub fn inverse(&mut self, cube: &Cube, y: u32, x: u32, delta: u16) -> i32
         requires shape { cube.now.shape ≡ self.old.shape }
@@ -149,7 +149,8 @@ impl Band {
     }
 }
 
-/// Where the spectral weights stand: behind those of the three directions, in full mode.
+/// Returns the index of the first spectral weight: in full mode the weights of the three directions come before
+/// it.
 fn first_spectral(reduced: bool) -> usize
     ensures value { result ≡ (if reduced then 0 else 3) }
     ensures bound { result ≤ 3 }
@@ -157,7 +158,7 @@ fn first_spectral(reduced: bool) -> usize
     if reduced { 0 } else { 3 }
 }
 
-/// The mapped residual at the first place of a band.
+/// Returns the mapped residual at the first place of a band.
 #[inline(always)]
 pub(crate) fn first_residual(settings: &Settings, cube: &Cube, y: u32, x: u32) -> u16
     requires kind { cube.now.kind ≡ settings.now.range.kind }
@@ -171,7 +172,7 @@ pub(crate) fn first_residual(settings: &Settings, cube: &Cube, y: u32, x: u32) -
     settings.range.residual_of(scaled, sample)
 }
 
-/// The mapped residual at place `t`, not the first of a band, and the weights after it.
+/// Returns the mapped residual at place `t`, not the first of a band, and updates the weights.
 #[inline(always)]
 fn next_residual(
     settings: &Settings,
@@ -201,7 +202,7 @@ fn next_residual(
     settings.range.residual_of(prediction.scaled, sample)
 }
 
-/// The sample of a mapped residual at the first place of a band.
+/// Returns the sample of a mapped residual at the first place of a band.
 #[inline(always)]
 fn first_sample(settings: &Settings, cube: &Cube, y: u32, x: u32, delta: u16) -> i32
     requires kind { cube.now.kind ≡ settings.now.range.kind }
@@ -218,7 +219,7 @@ fn first_sample(settings: &Settings, cube: &Cube, y: u32, x: u32, delta: u16) ->
     settings.range.sample_of(scaled, delta)
 }
 
-/// The sample of a mapped residual at place `t`, not the first of a band, and the weights after it.
+/// Returns the sample of a mapped residual at place `t`, not the first of a band, and updates the weights.
 #[inline(always)]
 fn next_sample(
     settings: &Settings,

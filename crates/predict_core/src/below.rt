@@ -1,7 +1,7 @@
 //! The central differences of the bands below, in quads of four components.
 //!
-//! A quad takes the lines of four bands. Behind the last band that is looked at stand the differences of
-//! empty lines, which are 0.
+//! A quad takes the lines of four bands. After the last band that is used come the differences of empty lines,
+//! which are 0.
 
 ghost use Rattle.std.specs.Prelude.{◌≡◌, ◌+◌, ◌-◌, ◌*◌, ◌<◌, ◌≤◌, ◌||◌, ◌==◌, ℕ, [], ◌++◌, replicate, slice_index_or};
 ghost use Rattle.cube_core.specs.Image.{IsPlace};
@@ -14,8 +14,8 @@ use crate::room::Quad;
 use crate::settings::Settings;
 use cube_core::cube::Cube;
 
-/// Writes the quads behind the first so many: the central differences of the bands below, from the
-/// `nearest` of them on.
+/// Writes the quads after the first `first` ones: the central differences of the bands below, from the `nearest`
+/// of them on.
 pub(crate) fn fill_spectral<const Q: usize>(
     settings: &Settings,
     cube: &Cube,
@@ -69,7 +69,7 @@ fn fill_lower(
     }
 }
 
-/// The same where all four are looked at, or three of them.
+/// Does the same where three or all four of them are used.
 fn fill_next_four(
     settings: &Settings,
     cube: &Cube,
@@ -100,7 +100,7 @@ fn fill_next_four(
     fill_four(column, &first, &second, &third, &fourth, &mut quad.places);
 }
 
-/// The same where at most two of them are looked at, so that the loop is shorter.
+/// Does the same where at most two of them are used, so that the loop is shorter.
 fn fill_last_two(
     settings: &Settings,
     cube: &Cube,
@@ -128,8 +128,8 @@ fn fill_last_two(
     fill_two(column, &first, &second, &mut quad.places);
 }
 
-/// Writes the lines of the band that is `below` bands below; empty lines stay so where there is none to
-/// look at.
+/// Writes the lines of the band that is `below` bands below; where there is none to use, empty lines stay
+/// empty.
 pub(crate) fn fill_below(
     settings: &Settings,
     cube: &Cube,

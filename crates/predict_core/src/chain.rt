@@ -1,8 +1,8 @@
 //! From the weights at one place to those at the next.
 //!
-//! An error is negative exactly where the central difference is at most the predicted one. So where nothing wraps in
-//! the register, the weights don't wait for the prediction and its clip. What no place can do before the one ahead
-//! of it is done is thus short; predictions and residuals are found behind it.
+//! An error is negative exactly where the central difference is at most the predicted one. So where nothing
+//! wraps in the register, the weights don't wait for the prediction and its clip. The part of a place's work
+//! that has to wait for the place before is thus short; predictions and residuals are computed afterwards.
 
 ghost use Rattle.std.specs.Prelude.{◌≡◌, ◌+◌, ◌-◌, ◌*◌, ◌^◌, ◌<◌, ◌≤◌, false, ℕ, pos, negsuc, ◌≤ℤ◌, ◌+ℤ◌, ◌-ℤ◌, ◌*ℤ◌, int_lt, int_le, unsigned_abs, ℤ};
 ghost use Rattle.std.specs.Prelude.{List, length, take, ◌++◌, replicate, slice_index_or};
@@ -23,7 +23,7 @@ use crate::settings::Settings;
 use crate::weights::{form_of, update_by};
 use cube_core::cube::Cube;
 
-/// What the steps of the weights have in common, over places of one exponent.
+/// What the steps of the weights have in common, over places with the same exponent.
 #[derive(Clone, Copy)]
 pub(crate) struct Steps {
     pub fraction: u32,
@@ -35,7 +35,7 @@ pub(crate) struct Steps {
     pub ghost most: { exponent ≤ℤ pos 21 },
 }
 
-/// The first `N` weights behind a place where the predicted difference is `predicted`.
+/// Returns the first `N` weights after a place where the predicted difference is `predicted`.
 ///
 /// `own` is the central difference there (CCSDS 123.0-B-1, "Weight Update").
 #[inline(always)]
@@ -64,7 +64,7 @@ fn follow<const N: usize>(
     );
 }
 
-/// All ones where an error is negative, which it is where the central difference is at most the predicted
+/// Returns all ones where an error is negative, that is, where the central difference is at most the predicted
 /// one; else 0.
 #[inline(always)]
 pub(crate) fn turn_of_error(own: i32, predicted: i32) -> i32
@@ -77,7 +77,7 @@ pub(crate) fn turn_of_error(own: i32, predicted: i32) -> i32
     (own - 1 - predicted) >> 31
 }
 
-/// The components of place `i` from the first `Q` quads of a room, and zeros behind them.
+/// Returns the components of place `i` from the first `Q` quads, followed by zeros.
 #[inline(always)]
 pub(crate) fn differences_at<const Q: usize>(quads: &[Quad; Q], i: usize) -> [i32; 18]
     requires few { Q ≤ 5 }
@@ -96,7 +96,7 @@ pub(crate) fn differences_at<const Q: usize>(quads: &[Quad; Q], i: usize) -> [i3
     ]
 }
 
-/// The components of place `i` in quad `k`, which are zeros behind the first `Q` quads.
+/// Returns the components of place `i` in quad `k`, which are zeros after the first `Q` quads.
 #[inline(always)]
 fn quad_at<const Q: usize>(quads: &[Quad; Q], k: usize, i: usize) -> [i32; 4]
     requires place { i < 64 }
@@ -110,7 +110,7 @@ fn quad_at<const Q: usize>(quads: &[Quad; Q], k: usize, i: usize) -> [i32; 4]
     }
 }
 
-/// Four components, of which it is known that they are four.
+/// Returns four components as an array of known length.
 #[inline(always)]
 fn four_of(components: &[i32; 4]) -> [i32; 4]
     ensures value { result ≡ components.now }
@@ -119,10 +119,11 @@ fn four_of(components: &[i32; 4]) -> [i32; 4]
     *components
 }
 
-/// The predicted central difference at row `y`, column `x` of a cube, and the weights at the next place.
+/// Returns the predicted central difference at row `y`, column `x` of a cube, and the weights at the next
+/// place.
 ///
-/// The scaled prediction is found from the difference and the local sum alone, which is that of the offsets and `sum`.
-/// The place is not the first of its band.
+/// The scaled prediction follows from the difference and the local sum alone, which is that of the offsets and
+/// `sum`. The place is not the first of its band.
 #[inline(always)]
 fn follow_at<const N: usize, const WRAPS: bool>(
     settings: &Settings,
@@ -170,9 +171,9 @@ fn follow_at<const N: usize, const WRAPS: bool>(
     predicted
 }
 
-/// The predicted central differences of the places `first..last` of a run, and the weights behind them.
+/// Returns the predicted central differences of the places `first..last` of a run, and the weights after them.
 ///
-/// The weights stand in a copy of their own, so that the compiler can keep them in registers.
+/// The weights are kept in a copy of their own, so that the compiler can keep them in registers.
 #[inline(always)]
 pub(crate) fn follow_places<const Q: usize, const N: usize, const WRAPS: bool>(
     settings: &Settings,

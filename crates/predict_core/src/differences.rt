@@ -1,4 +1,5 @@
-//! The differences that predict a sample, in a room that is wide enough for all bands; unused places are 0.
+//! The differences that predict a sample, in an array that is long enough for all parameters; unused elements
+//! are 0.
 
 ghost use Rattle.std.specs.Prelude.{◌≡◌, ◌+◌, ◌-◌, ◌<◌, ◌≤◌, pos, ◌+ℤ◌, ◌*ℤ◌, length, take, drop, ◌∷◌, ◌++◌, replicate, true, false, unsigned_abs};
 ghost use Rattle.cube_core.specs.Kind.{smin};
@@ -12,11 +13,11 @@ use crate::neighbourhood::{central_of, difference_of, sum_of};
 use crate::predictor::Predictor;
 use cube_core::cube::Cube;
 
-/// Writes all differences at a place that is not the first of its band into a room of zeros, in full
-/// mode the directional ones first.
+/// Writes all differences at a place that is not the first of its band into an array of zeros, in full mode the
+/// directional ones first.
 ///
-/// `sum` is the local sum of the offsets there, and `near` the number of bands below that are looked at
-/// (CCSDS 123.0-B-1, "Local Differences").
+/// `sum` is the local sum of the offsets there, and `near` the number of bands below that are used (CCSDS
+/// 123.0-B-1, "Local Differences").
 #[inline(always)]
 pub(crate) fn fill_differences(
     predictor: &Predictor,
@@ -47,7 +48,7 @@ pub(crate) fn fill_differences(
     }
 }
 
-/// The local sum of the offsets at a place that is not the first of its band.
+/// Returns the local sum of the offsets at a place that is not the first of its band.
 #[inline(always)]
 pub(crate) fn sum_at(predictor: &Predictor, cube: &Cube, z: u32, y: u32, x: u32) -> u32
     requires place { IsPlace cube.now.shape z y x }
@@ -61,7 +62,7 @@ pub(crate) fn sum_at(predictor: &Predictor, cube: &Cube, z: u32, y: u32, x: u32)
     sum_of(predictor.column, y, row, above, x as usize)
 }
 
-/// Writes the directional differences at the head of a room of zeros.
+/// Writes the directional differences to the front of an array of zeros.
 #[inline(always)]
 fn fill_directional(
     predictor: &Predictor,
@@ -85,7 +86,8 @@ fn fill_directional(
     put_neighbours(predictor, cube, z, y, x, sum, out);
 }
 
-/// Puts the directional differences in full mode at the head of a room that holds those of the bands below.
+/// Writes the directional differences in full mode to the front of an array that holds those of the bands
+/// below.
 ///
 /// The place is not in the first row.
 #[inline(always)]
@@ -110,7 +112,7 @@ pub(crate) fn put_own_directions(
     }
 }
 
-/// Puts the directional differences below the first row at the head of a room.
+/// Writes the directional differences below the first row to the front of an array.
 #[inline(always)]
 fn put_neighbours(
     predictor: &Predictor,
@@ -141,7 +143,7 @@ fn put_neighbours(
     put_directions(north, west, north_west, out);
 }
 
-/// Puts three differences at the head of a room.
+/// Writes three differences to the front of an array.
 #[inline(always)]
 fn put_directions(north: i32, west: i32, north_west: i32, out: &mut [i32; 18])
     requires north_in { unsigned_abs north ≤ 262144 }
@@ -155,7 +157,7 @@ fn put_directions(north: i32, west: i32, north_west: i32, out: &mut [i32; 18])
     out[2] = north_west;
 }
 
-/// Writes the central differences of the `count` bands below `z`, the nearest first, from place `first` on.
+/// Writes the central differences of the `count` bands below `z`, the nearest first, from index `first` on.
 #[inline(always)]
 pub(crate) fn fill_spectral(
     predictor: &Predictor,
@@ -182,7 +184,7 @@ pub(crate) fn fill_spectral(
     }
 }
 
-/// The central difference of band `z` at a place that is not the first.
+/// Returns the central difference of band `z` at a place that is not the first.
 #[inline(always)]
 fn central(predictor: &Predictor, cube: &Cube, z: u32, y: u32, x: u32) -> i32
     requires place { IsPlace cube.now.shape z y x }

@@ -8,7 +8,7 @@ ghost use Rattle.predict_core.specs.Bounds.{IsPredictor};
 use crate::predictor::Predictor;
 use crate::register::floor_shift;
 
-/// The exponent of the steps after place `t`, in rows of so many columns, for samples of so many bits.
+/// Returns the exponent of the steps after place `t`, for rows of `columns` columns and samples of `bits` bits.
 #[inline(always)]
 pub(crate) fn exponent_at(predictor: &Predictor, columns: u32, bits: u32, t: u64) -> i32
     requires lawful { IsPredictor predictor.now }
@@ -22,7 +22,7 @@ pub(crate) fn exponent_at(predictor: &Predictor, columns: u32, bits: u32, t: u64
     growth_at(predictor, columns, t) + bits as i32 - predictor.fraction as i32
 }
 
-/// How far the exponent has grown at place `t`.
+/// Returns how far the exponent has grown at place `t`.
 #[inline(always)]
 fn growth_at(predictor: &Predictor, columns: u32, t: u64) -> i32
     requires lawful { IsPredictor predictor.now }
@@ -38,7 +38,7 @@ fn growth_at(predictor: &Predictor, columns: u32, t: u64) -> i32
     (least + intervals).clamp(least, greatest) as i32
 }
 
-/// How many intervals lie between the second row and a place.
+/// Returns how many intervals lie between the second row and a place.
 #[inline(always)]
 fn intervals_at(interval_log: u32, columns: u32, t: u64) -> i64
     requires interval_in { interval_log ≤ 11 }
@@ -50,7 +50,8 @@ fn intervals_at(interval_log: u32, columns: u32, t: u64) -> i64
     floor_shift(t as i64 - columns as i64, interval_log)
 }
 
-/// How many places from place `t` on, of `most`, have the exponent of that place for certain: one at least.
+/// Returns for how many places from place `t` on, at most `most`, the exponent certainly stays the same: at
+/// least one.
 ///
 /// It changes with each interval from the second row on, until it is the greatest.
 pub(crate) fn places_alike(predictor: &Predictor, columns: u32, t: u64, most: usize) -> usize
@@ -70,7 +71,7 @@ pub(crate) fn places_alike(predictor: &Predictor, columns: u32, t: u64, most: us
     }
 }
 
-/// The same from `t` places behind the first row on.
+/// Does the same, for `t` counted from the second row.
 fn alike_behind(predictor: &Predictor, t: u64, most: usize) -> usize
     requires lawful { IsPredictor predictor.now }
     requires t_in { t < 2 ^ 32 }
@@ -88,7 +89,7 @@ fn alike_behind(predictor: &Predictor, t: u64, most: usize) -> usize
     }
 }
 
-/// How many whole intervals are in so many places.
+/// Returns how many whole intervals are in `t` places.
 fn intervals_in(interval_log: u32, t: u64) -> u64
     requires interval_in { interval_log ≤ 11 }
     requires t_in { t < 2 ^ 32 }
@@ -98,7 +99,7 @@ fn intervals_in(interval_log: u32, t: u64) -> u64
     t >> interval_log
 }
 
-/// How many places from place `t` on are in its interval, the one behind `intervals` whole ones.
+/// Returns how many places from place `t` on are in its interval, which follows `intervals` whole ones.
 fn left_of_interval(interval_log: u32, t: u64, intervals: u64) -> u64
     requires interval_in { interval_log ≤ 11 }
     requires t_in { t < 2 ^ 32 }

@@ -1,7 +1,7 @@
-//! The sums and differences of a run, found from its lines for all places at once.
+//! The sums and differences of a run, computed from its lines for all places at once.
 //!
-//! Each loop goes over all 64 places of rooms of fixed length, so that it has no test and no tail, and the
-//! compiler makes vectors of it. What is written behind the last place of a shorter run isn't read.
+//! Each loop goes over all 64 places of arrays of fixed length, so that it has no test and no tail, and the
+//! compiler vectorizes it. What is written after the last place of a shorter run isn't read.
 
 ghost use Rattle.std.specs.Prelude.{◌≡◌, ◌<◌, ◌≤◌, ℕ, pos, [], ◌∷◌, ◌++◌, slice_index_or, unsigned_abs};
 ghost use Rattle.predict_core.specs.Lines.{line_sum, line_difference, line_directions};
@@ -44,7 +44,7 @@ pub(crate) fn fill_four(
     }
 }
 
-/// Writes the central differences of two bands at each place, and zeros behind them.
+/// Writes the central differences of two bands at each place, followed by zeros.
 pub(crate) fn fill_two(column: bool, first: &Lines, second: &Lines, out: &mut [[i32; 4]; 64])
     ensures { (i : ℕ) → i < 64 → slice_index_or out.new i [] ≡ line_difference column first.now.current first.now.above i ∷ line_difference column
         second.now.current second.now.above i ∷ pos 0 ∷ pos 0 ∷ [] }
@@ -59,8 +59,8 @@ pub(crate) fn fill_two(column: bool, first: &Lines, second: &Lines, out: &mut [[
     }
 }
 
-/// Writes the local sum of offsets, the central and the directional differences of each place, and the
-/// central difference of another band: in a quad stand north, west, north-west, and that band's.
+/// Writes the local sum of offsets, the central and the directional differences of each place, and the central
+/// difference of another band: a quad holds north, west, north-west, and that band's.
 pub(crate) fn fill_directions(
     column: bool,
     lines: &Lines,

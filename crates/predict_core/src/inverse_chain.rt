@@ -1,6 +1,7 @@
-//! The chain of a run whose samples aren't known yet: each sample from its mapped residual, and the weights behind it.
+//! The chain of a run whose samples aren't known yet: each sample from its mapped residual, and the weights
+//! after it.
 //!
-//! The sign of an error is told by the differences alone.
+//! The differences alone give the sign of an error.
 
 ghost use Rattle.std.specs.Prelude.{◌≡◌, ◌+◌, ◌-◌, ◌*◌, ◌^◌, ◌<◌, ◌≤◌, false, ℕ, pos, ◌+ℤ◌, ◌-ℤ◌, ◌*ℤ◌, unsigned_abs, take, drop, length, ◌++◌, replicate};
 ghost use Rattle.std.specs.Prelude.{slice_index, if◌then◌else◌};
@@ -31,9 +32,9 @@ use crate::settings::{Settings, form_at};
 use crate::weights::{Form, update_by};
 use cube_core::cube::Cube;
 
-/// Writes the samples of a run below the first row, one behind another; the weights are those behind it.
+/// Writes the samples of a run below the first row, one after another; the weights become those after it.
 ///
-/// Of the quads the differences of the bands below are looked at.
+/// Of the quads only the differences of the bands below are read.
 #[inline(always)]
 pub(crate) fn invert_places<const Q: usize, const N: usize, const WRAPS: bool>(
     settings: &Settings,
@@ -104,7 +105,8 @@ struct Stretch {
     end: usize,
 }
 
-/// The form of the steps at place `i` of a run of so many places, and up to where it stays: the one before, as far as it goes.
+/// Returns the form of the steps at place `i` of a run of `count` places, and up to where it stays the same:
+/// the one before, while it holds.
 #[inline(always)]
 fn stretch_at(
     settings: &Settings,
@@ -132,7 +134,7 @@ fn stretch_at(
     }
 }
 
-/// The form of the steps at place `i` of a run of so many places, and up to where it stays.
+/// Returns the form of the steps at place `i` of a run of `count` places, and up to where it stays the same.
 #[cold]
 fn next_stretch(settings: &Settings, y: u32, x: u32, i: usize, count: usize) -> Stretch
     requires row { y < 65536 }
@@ -152,9 +154,10 @@ fn next_stretch(settings: &Settings, y: u32, x: u32, i: usize, count: usize) -> 
     }
 }
 
-/// The sample of a mapped residual at a place below the first row, and the weights after it.
+/// Returns the sample of a mapped residual at a place below the first row, and updates the weights.
 ///
-/// `sum` is the local sum of the offsets there, and `form` that of the steps. Of `lower` the differences of the bands below are looked at.
+/// `sum` is the local sum of the offsets there, and `form` the form of the steps. Of `lower` only the
+/// differences of the bands below are read.
 #[inline(always)]
 pub(crate) fn sample_there<const N: usize, const WRAPS: bool>(
     settings: &Settings,
@@ -212,9 +215,10 @@ pub(crate) fn sample_there<const N: usize, const WRAPS: bool>(
     found
 }
 
-/// The sample of a mapped residual, from the predicted central difference and the local sum of the offsets.
+/// Returns the sample of a mapped residual, from the predicted central difference and the local sum of the
+/// offsets.
 ///
-/// It is found as an offset, whose least is 0: so the ends of the range cost nothing.
+/// It is computed as an offset, whose least value is 0, so that the ends of the range cost nothing.
 #[inline(always)]
 fn sample_by_part(range: &Range, part: i32, sum: u32, delta: u16) -> i32
     requires part_in { unsigned_abs part ≤ 18 * 2 ^ 20 }
@@ -228,7 +232,7 @@ fn sample_by_part(range: &Range, part: i32, sum: u32, delta: u16) -> i32
     range.smin + unmap_between(0, greatest, scaled, delta)
 }
 
-/// The central difference of a sample where the local sum of the offsets is `sum`.
+/// Returns the central difference of a sample where the local sum of the offsets is `sum`.
 #[inline(always)]
 pub(crate) fn difference_there(range: &Range, sample: i32, sum: u32) -> i32
     requires sample_in { IsSample range.now.kind sample }

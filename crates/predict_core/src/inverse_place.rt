@@ -1,4 +1,4 @@
-//! A sample from its mapped residual where the bands of a place are decoded one behind another.
+//! A sample from its mapped residual, where the bands of a place are decoded one after another.
 
 ghost use Rattle.std.specs.Prelude.{◌≡◌, ◌+◌, ◌-◌, ◌*◌, ◌^◌, ◌<◌, ◌≤◌, false, pos, ◌+ℤ◌, ◌*ℤ◌, take, drop, ◌++◌, replicate, if◌then◌else◌};
 ghost use Rattle.cube_core.specs.Image.{IsPlace, put};
@@ -23,12 +23,13 @@ use crate::spectral::SpectralDifferences;
 use cube_core::cube::Cube;
 
 impl Band {
-    /// Writes the sample at the next place whose mapped residual is `delta` into the cube, and goes one place on.
+    /// Writes the sample at the next place whose mapped residual is `delta` into the cube, and advances by one
+    /// place.
     ///
-    /// The cube has the shape and the kind of the parameters, and the next place is row `y`, column `x`.
-    /// `delta` is at most 2^D - 1. What stands at this place and at later ones is not read, and no other
-    /// sample is written. `below` are differences of that cube, and afterwards of the cube as it is then: they are
-    /// kept from band to band, so places are best taken band after band.
+    /// The cube has the shape and kind of the parameters, and the next place is row `y`, column `x`. `delta` is
+    /// at most 2^D - 1. The cube's samples at this place and later ones are not read, and no other sample is
+    /// written. `below` holds differences of that cube, and after the call of the cube with the new sample:
+    /// they are kept from band to band, so places are best decoded band after band.
     #[inline(always)]
     pub fn inverse_place(
         &mut self,
@@ -54,7 +55,7 @@ impl Band {
         self.inverse_into(cube, y, x, delta, below);
     }
 
-    /// Writes the sample at the next place, as `inverse_place` does, and tells it.
+    /// Writes the sample at the next place, as `inverse_place` does, and returns it.
     // A call of its own: a caller's loop leaves it the registers, and the row's address is found once.
     #[inline(never)]
     pub(crate) fn inverse_into(
@@ -83,9 +84,9 @@ impl Band {
         sample
     }
 
-    /// The sample of a mapped residual at the next place, as `inverse` finds it.
+    /// Returns the sample of a mapped residual at the next place, as `inverse` does.
     ///
-    /// `below` are differences of the cube, and afterwards of the cube with that sample.
+    /// `below` holds differences of the cube, and after the call of the cube with that sample.
     // Called at one place alone: where there are two, what it calls isn't inlined and takes a copy of the differences.
     #[inline(always)]
     fn inverse_beside(
@@ -120,8 +121,8 @@ impl Band {
     }
 }
 
-/// The sample of a mapped residual below the first row, the weights after it, and what its place tells the
-/// band above.
+/// Returns the sample of a mapped residual below the first row, updates the weights, and keeps what the band
+/// above needs of its place.
 #[inline(always)]
 fn sample_above(
     settings: &Settings,
@@ -159,7 +160,7 @@ fn sample_above(
     sample
 }
 
-/// The sample alone, and the weights after it.
+/// Returns the sample alone, and updates the weights.
 #[inline(always)]
 fn sample_by(
     settings: &Settings,
@@ -197,9 +198,9 @@ fn sample_by(
     }
 }
 
-/// The same in a register that nothing wraps, or in any.
+/// Does the same in a register in which nothing wraps, or in any.
 ///
-/// How many weights there are is found here, so that the compiler knows it.
+/// The number of weights is found here, so that the compiler knows it.
 #[inline(always)]
 fn sample_in<const WRAPS: bool>(
     settings: &Settings,
@@ -243,7 +244,7 @@ fn sample_in<const WRAPS: bool>(
     }
 }
 
-/// The same by the first `N` weights.
+/// Does the same with the first `N` weights.
 ///
 /// Of the differences of the bands below only as many are read.
 #[inline(always)]

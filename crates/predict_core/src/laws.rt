@@ -5,7 +5,7 @@ ghost use Rattle.predict_core.specs.Largest.{RegisterBound};
 ghost use Rattle.predict_core.specs.Mapping.{OneSample};
 ghost use Rattle.predict_core.specs.Precedence.{PlacesPrecede};
 
-/// By each scaled prediction the mapping is a bijection of the samples onto 0 to 2^D - 1.
+/// For each scaled prediction the mapping is a bijection from the samples to 0 to 2^D - 1.
 pub fn one_sample()
     ensures { OneSample }
 {}
@@ -17,7 +17,7 @@ pub fn places_precede()
     ensures { PlacesPrecede }
 {}
 
-/// What the register takes, before it is wrapped, is below 2^45 with either sign.
+/// What the register takes, before it wraps, is below 2^45 with either sign.
 pub fn register_bound()
     ensures { RegisterBound }
 {}
@@ -27,18 +27,18 @@ pub fn difference_bound()
     ensures { DifferenceBound }
 {}
 
-/// In a register of 46 bits or more a prediction comes from the predicted difference and the local sum alone.
+/// In a register of 46 bits or more a prediction follows from the predicted difference and the local sum alone.
 ///
 /// Nothing wraps there, and the fraction of the weights may be dropped before the two are added.
 pub fn unwrapped_prediction()
     ensures { UnwrappedPrediction }
 {}
 
-/// In a register of 46 bits or more an error is negative exactly where the central difference is at
-/// most the predicted one.
+/// In a register of 46 bits or more an error is negative exactly where the central difference is at most the
+/// predicted one.
 ///
-/// So the weights move on without the prediction, and its clip changes nothing for them
-/// (CCSDS 123.0-B-1, "Weight Update").
+/// So the weights can be updated without the prediction, and its clip makes no difference to them (CCSDS
+/// 123.0-B-1, "Weight Update").
 pub fn error_sign()
     ensures { ErrorSign }
 {}

@@ -61,12 +61,12 @@ pub(crate) fn fill_band_lines(
     );
 }
 
-/// Writes the neighbours of `count` places of a row from column `x` on: `current` those in the row itself, and
-/// `upper` those in the row above.
+/// Writes the neighbours of `count` places of a row from column `x` on: to `current` those in the row itself,
+/// and to `upper` those in the row above.
 ///
-/// Where a place has no neighbour, what stands in for it makes the sum of all four right. In the first row,
-/// where the sum is of the western neighbours alone, they stand above their places
-/// (CCSDS 123.0-B-1, "Local Sums").
+/// Where a place has no neighbour, a substitute makes the sum of all four right. In the first row, where the
+/// sum is of the western neighbours alone, these are written above their places (CCSDS 123.0-B-1, "Local
+/// Sums").
 fn fill_lines(
     column: bool,
     y: u32,
@@ -97,7 +97,7 @@ fn fill_lines(
 
 /// Writes `count` offsets of a row from column `x` on, and one more on each side.
 ///
-/// `before` and `after` stand in where the row ends.
+/// `before` and `after` are the substitutes where the row ends.
 fn fill_line(row: &[u16], x: usize, count: usize, before: u16, after: u16, line: &mut [u16; 66])
     requires few { count ≤ 64 }
     requires inside { x + count ≤ length row.now }
@@ -112,9 +112,9 @@ fn fill_line(row: &[u16], x: usize, count: usize, before: u16, after: u16, line:
     }
 }
 
-/// Writes a whole line of a row where the row goes on at both sides of it, as it mostly does.
+/// Writes a whole line of a row where the row continues at both sides of it, as it mostly does.
 ///
-/// In parts of this length a copy is a few moves of vectors in place of a call.
+/// In parts of this length a copy is a few vector moves instead of a call.
 #[inline(always)]
 fn copy_line(row: &[u16], x: usize, line: &mut [u16; 66])
     requires begun { 1 ≤ x }
@@ -126,7 +126,7 @@ fn copy_line(row: &[u16], x: usize, line: &mut [u16; 66])
     line[65] = row[x + 64];
 }
 
-/// Writes `count` offsets of a row from column `x` on behind the first place of a line.
+/// Writes `count` offsets of a row from column `x` on, after the first element of a line.
 fn copy_places(row: &[u16], x: usize, count: usize, line: &mut [u16; 66])
     requires few { count ≤ 64 }
     requires inside { x + count ≤ length row.now }
@@ -135,7 +135,7 @@ fn copy_places(row: &[u16], x: usize, count: usize, line: &mut [u16; 66])
     line[1..count + 1].copy_from_slice(&row[x..x + count]);
 }
 
-/// The offset before column `k` of a row, with one more at each end.
+/// Returns the offset before column `k` of a row that has one more at each end.
 fn offset_at(row: &[u16], k: usize, before: u16, after: u16) -> u16
     requires { k ≤ length row.now + 1 }
     ensures { result ≡ slice_index (bordered before row.now after) k }
@@ -149,14 +149,15 @@ fn offset_at(row: &[u16], k: usize, before: u16, after: u16) -> u16
     }
 }
 
-/// Whether a sum is of one neighbour alone: a column's, or the western one in the first row.
+/// Returns whether a local sum takes one neighbour alone: the northern one under column-oriented sums, or the
+/// western one in the first row.
 pub(crate) fn is_column(column: bool, y: u32) -> bool
     ensures { result ≡ (column || y == 0) }
 {
     column | (y == 0)
 }
 
-/// Four times an average of the neighbours of place `i`.
+/// Returns four times an average of the neighbours of place `i`.
 #[inline(always)]
 pub(crate) fn sum_of_lines(column: bool, current: &[u16; 66], upper: &[u16; 66], i: usize) -> u32
     requires { i < 64 }

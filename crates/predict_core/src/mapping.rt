@@ -1,8 +1,8 @@
 //! The mapped residuals of a run, once its differences are predicted.
 //!
-//! Nothing here waits for another place, and no step has a branch, so that the compiler makes vectors of the
-//! loop. It reckons with offsets from the least sample, in which the middle of the range falls out, and the
-//! number of an error is the lesser of two: the one that both signs take turns for, and the one beyond the
+//! Nothing here waits for another place, and no step has a branch, so that the compiler vectorizes the loop. It
+//! computes with offsets from the least sample, in which the middle of the range cancels out. The number of an
+//! error is the lesser of two: the one for errors whose signs alternate, and the one for errors beyond the
 //! nearer end.
 
 ghost use Rattle.std.specs.Prelude.{◌≡◌, ◌+◌, ◌*◌, ◌^◌, ◌<◌, ◌≤◌, ℕ, pos, negsuc, ◌≤ℤ◌, ◌+ℤ◌, ◌-ℤ◌, ◌*ℤ◌, unsigned_abs, length, replicate, slice_index};
@@ -58,7 +58,7 @@ pub(crate) fn map_run(
     residuals.copy_from_slice(&numbers[..count]);
 }
 
-/// Writes `count` offsets of a row from column `x` on into a room of zeros.
+/// Writes `count` offsets of a row from column `x` on into an array of zeros.
 fn copy_offsets(row: &[u16], x: usize, count: usize, offsets: &mut [u16; 64])
     requires few { count ≤ 64 }
     requires inside { x + count ≤ length row.now }
@@ -94,7 +94,7 @@ fn map_places(
     }
 }
 
-/// The number of an offset, from the predicted difference and the local sum of offsets.
+/// Returns the number of an offset, from the predicted difference and the local sum of offsets.
 #[inline(always)]
 fn number_of_offset(greatest: i32, part: i32, sum: i32, offset: u16) -> u16
     requires greatest_in { (pos 1 ≤ℤ greatest) × (greatest ≤ℤ pos 65535) }
@@ -105,9 +105,9 @@ fn number_of_offset(greatest: i32, part: i32, sum: i32, offset: u16) -> u16
     number_at(greatest, scaled_offset(greatest, part, sum), offset as i32) as u16
 }
 
-/// The scaled prediction of an offset.
+/// Returns the scaled prediction of an offset.
 ///
-/// Behind the last place of a run the numbers may be any, and their sum may wrap.
+/// After the last place of a run the numbers may be any, and their sum may wrap.
 #[inline(always)]
 pub(crate) fn scaled_offset(greatest: i32, part: i32, sum: i32) -> i32
     requires greatest_in { (pos 1 ≤ℤ greatest) × (greatest ≤ℤ pos 65535) }
@@ -119,7 +119,7 @@ pub(crate) fn scaled_offset(greatest: i32, part: i32, sum: i32) -> i32
     upper.min(2 * greatest + 1).max(0)
 }
 
-/// The number of an offset by its scaled prediction.
+/// Returns the number of an offset by its scaled prediction.
 #[inline(always)]
 fn number_at(greatest: i32, twice: i32, offset: i32) -> i32
     requires greatest_in { (pos 1 ≤ℤ greatest) × (greatest ≤ℤ pos 65535) }
@@ -133,7 +133,7 @@ fn number_at(greatest: i32, twice: i32, offset: i32) -> i32
     by_turns(2 * offset - twice).min(beyond)
 }
 
-/// How far two offsets are apart.
+/// Returns the distance between two offsets.
 #[inline(always)]
 fn apart(offset: i32, value: i32) -> i32
     requires offset_in { unsigned_abs offset ≤ 65535 }
@@ -144,7 +144,7 @@ fn apart(offset: i32, value: i32) -> i32
     (offset - value).abs()
 }
 
-/// How far an offset is from the nearer end of the range.
+/// Returns the distance of an offset from the nearer end of the range.
 #[inline(always)]
 fn nearer(greatest: i32, value: i32) -> i32
     requires greatest_in { greatest ≤ℤ pos 65535 }
@@ -155,7 +155,7 @@ fn nearer(greatest: i32, value: i32) -> i32
     value.min(greatest - value)
 }
 
-/// The number of an error where both signs take turns, from twice the error less the parity.
+/// Returns the number of an error where both signs alternate, from twice the error less the parity.
 #[inline(always)]
 fn by_turns(twice: i32) -> i32
     requires { unsigned_abs twice ≤ 2 ^ 18 }

@@ -1,15 +1,15 @@
-//! Local sums and differences of samples that are kept as offsets from the least one.
+//! Local sums and differences of samples that are stored as offsets from the least one.
 //!
-//! A difference is the same for offsets as for samples, and a local sum of offsets is less than one of
-//! samples by four times the least sample.
+//! A difference is the same for offsets as for samples, and a local sum of offsets is less than one of samples
+//! by four times the least sample.
 
 ghost use Rattle.std.specs.Prelude.{◌≡◌, ◌+◌, ◌*◌, ◌<◌, ◌≤◌, length, false, unsigned_abs, slice_index, IsTrue, ◌↔◌};
 ghost use Rattle.predict_core.specs.OffsetSum.{offset_sum, offset_difference};
 
-/// Four times an average of the neighbours of a place: `row` is its own row, and `above` the one above it.
+/// Returns four times an average of the neighbours of a place: `row` is its own row, and `above` the one above
+/// it.
 ///
-/// The first row of a band has none above it; then `above` isn't looked at
-/// (CCSDS 123.0-B-1, "Local Sums").
+/// The first row of a band has none above it; then `above` isn't read (CCSDS 123.0-B-1, "Local Sums").
 #[inline(always)]
 pub(crate) fn sum_of(column: bool, y: u32, row: &[u16], above: &[u16], x: usize) -> u32
     requires inside { x < length row.now }
@@ -32,7 +32,7 @@ pub(crate) fn sum_of(column: bool, y: u32, row: &[u16], above: &[u16], x: usize)
     }
 }
 
-/// Four times a sample, less a local sum.
+/// Returns four times a sample, less a local sum.
 #[inline(always)]
 pub(crate) fn difference_of(offset: u16, sum: u32) -> i32
     requires { sum ≤ 262140 }
@@ -42,7 +42,7 @@ pub(crate) fn difference_of(offset: u16, sum: u32) -> i32
     4 * offset as i32 - sum as i32
 }
 
-/// The central difference at a place.
+/// Returns the central difference at a place.
 #[inline(always)]
 pub(crate) fn central_of(column: bool, y: u32, row: &[u16], above: &[u16], x: usize) -> i32
     requires inside { x < length row.now }
@@ -60,8 +60,8 @@ pub(crate) fn central_of(column: bool, y: u32, row: &[u16], above: &[u16], x: us
     difference_of(row[x], sum)
 }
 
-/// Whether a local sum takes four neighbours, as it mostly does: all bands have the same answer at a
-/// place, so that it is found once for all of them.
+/// Returns whether a local sum takes four neighbours, as it mostly does. The answer at a place is the same for
+/// all bands, so it is found once for all of them.
 #[inline(always)]
 fn is_inside(column: bool, y: u32, x: usize, columns: usize) -> bool
     requires { x < columns }

@@ -10,11 +10,11 @@ use crate::band::Band;
 use cube_core::cube::Cube;
 
 impl Band {
-    /// Goes over the next places of a row, and holds their mapped residuals until the next piece.
+    /// Goes over the next `count` places of a row, and holds their mapped residuals until the next piece.
     ///
-    /// A piece has at most 64 places. It goes from the next place, which is row `y`, column `x`, along its
-    /// row, and doesn't leave it. The cube has the shape and the kind of the parameters. Each residual is
-    /// at most 2^D - 1 (CCSDS 123.0-B-1, "Predictor").
+    /// `count` is at most 64. The first of these places is the next one, row `y`, column `x`, and all of them
+    /// are in that row. The cube has the shape and kind of the parameters. Each residual is at most 2^D - 1
+    /// (CCSDS 123.0-B-1, "Predictor").
     pub fn predict_piece(&mut self, cube: &Cube, y: u32, x: u32, count: usize)
         requires shape { cube.now.shape ≡ self.old.shape }
         requires kind { cube.now.kind ≡ self.old.kind }
@@ -33,7 +33,7 @@ impl Band {
         self.piece = piece;
     }
 
-    /// The mapped residual of place `i` of the piece that was gone over last, counted from 0.
+    /// Returns the mapped residual of place `i`, counted from 0, of the last piece.
     #[inline]
     pub fn piece_residual(&self, i: usize) -> u16
         requires { i < 64 }
@@ -42,7 +42,7 @@ impl Band {
         self.piece[i]
     }
 
-    /// The mapped residuals of the first places of the piece that was gone over last, as many as are asked for.
+    /// The mapped residuals of the first `count` places of the last piece.
     #[inline]
     pub fn piece_residuals(&self, count: usize) -> &[u16]
         requires { count ≤ 64 }

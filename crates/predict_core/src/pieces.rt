@@ -17,10 +17,10 @@ use crate::room::Quad;
 use crate::settings::Settings;
 use cube_core::cube::Cube;
 
-/// The predicted central differences of the places `first..last` of a run, and the weights behind them.
+/// Returns the predicted central differences of the places `first..last` of a run, and the weights after them.
 ///
-/// The place `first` is not the first of its band. `Q` quads tell the differences, and `N` weights are
-/// reckoned with (CCSDS 123.0-B-1, "Weight Update").
+/// The place `first` is not the first of its band. The differences are in `Q` quads, and `N` weights are used
+/// (CCSDS 123.0-B-1, "Weight Update").
 #[inline(always)]
 pub(crate) fn follow_run<const Q: usize, const N: usize, const WRAPS: bool>(
     settings: &Settings,

@@ -14,7 +14,7 @@ use crate::range::Range;
 use crate::register::{floor_shift, register_of, wrapped_value};
 use crate::weights::{product_of, product_of_first};
 
-/// Twice a predicted sample, from the local sum, the weights and the differences.
+/// Returns twice a predicted sample, from the local sum, the weights and the differences.
 #[inline(always)]
 pub(crate) fn scaled_by(
     predictor: &Predictor,
@@ -37,7 +37,7 @@ pub(crate) fn scaled_by(
     scaled_by_product(predictor, range, sum, product)
 }
 
-/// The same from the sum of the products of weights and differences.
+/// Returns the same, from the sum of the products of weights and differences.
 #[inline(always)]
 fn scaled_by_product(predictor: &Predictor, range: &Range, sum: i32, product: i64) -> i32
     requires lawful { IsPredictor predictor.now }
@@ -55,10 +55,11 @@ fn scaled_by_product(predictor: &Predictor, range: &Range, sum: i32, product: i6
     scaled_from(range.smin, range.smax, middle, upper)
 }
 
-/// The predicted central difference at a place, by the first `N` weights, from which the scaled prediction follows.
+/// Returns the predicted central difference at a place, by the first `N` weights. The scaled prediction follows
+/// from it.
 ///
-/// Where nothing wraps in the register, it is the sum of the products, without the weights' fraction and rounded down. Where
-/// something does, it is the difference that leads to the same scaled prediction.
+/// Where nothing wraps in the register, it is the sum of the products, without the weights' fraction, rounded
+/// down. Where something does, it is the difference that leads to the same scaled prediction.
 #[inline(always)]
 pub(crate) fn predicted_difference<const N: usize, const WRAPS: bool>(
     predictor: &Predictor,
@@ -84,7 +85,7 @@ pub(crate) fn predicted_difference<const N: usize, const WRAPS: bool>(
     }
 }
 
-/// Whether the register wraps what it takes, at the sum of products `product` and the local sum `sum`.
+/// Returns whether the register wraps what it takes, for the sum of products `product` and the local sum `sum`.
 ///
 /// It seldom does, so the weights needn't wait for the answer.
 #[inline(always)]
@@ -105,7 +106,7 @@ fn is_wrapped<const WRAPS: bool>(
     WRAPS && wrapped_value(predictor.register, register) != register
 }
 
-/// The predicted central difference where the register wraps, from the sum of the products.
+/// Returns the predicted central difference where the register wraps, from the sum of the products.
 #[cold]
 fn wrapped_difference(predictor: &Predictor, range: &Range, sum: i32, product: i64) -> i32
     requires lawful { IsPredictor predictor.now }
@@ -118,7 +119,7 @@ fn wrapped_difference(predictor: &Predictor, range: &Range, sum: i32, product: i
     difference_of(scaled_by_product(predictor, range, sum, product), sum)
 }
 
-/// The sum of the products, without the weights' fraction, rounded down.
+/// Returns the sum of the products, without the weights' fraction, rounded down.
 #[inline(always)]
 fn whole_product(fraction: u32, product: i64) -> i32
     requires fraction_in { fraction ≤ 19 }
@@ -129,7 +130,7 @@ fn whole_product(fraction: u32, product: i64) -> i32
     floor_shift(product, fraction) as i32
 }
 
-/// The predicted central difference that leads to a scaled prediction, where the local sum is `sum`.
+/// Returns the predicted central difference that leads to a scaled prediction, where the local sum is `sum`.
 #[inline(always)]
 fn difference_of(scaled: i32, sum: i32) -> i32
     requires scaled_in { (negsuc 65535 ≤ℤ scaled) × (scaled ≤ℤ pos 131071) }
@@ -140,7 +141,7 @@ fn difference_of(scaled: i32, sum: i32) -> i32
     2 * scaled - 2 - sum
 }
 
-/// The middle of the prediction's range, moved by the upper part of the register.
+/// Returns the middle of the prediction's range, moved by the upper part of the register.
 #[inline(always)]
 fn center_of(upper: i64, middle: i32) -> i64
     requires upper_in { unsigned_abs upper ≤ 2 ^ 62 }
@@ -150,7 +151,7 @@ fn center_of(upper: i64, middle: i32) -> i64
     upper + (2 * middle) as i64 + 1
 }
 
-/// The scaled prediction from the upper part of the register.
+/// Returns the scaled prediction from the upper part of the register.
 #[inline(always)]
 fn scaled_from(low: i32, high: i32, middle: i32, upper: i64) -> i32
     requires upper_in { unsigned_abs upper ≤ 2 ^ 62 }

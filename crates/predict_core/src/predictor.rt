@@ -1,4 +1,4 @@
-//! What the parameters tell the predictor.
+//! The parameters of the predictor.
 
 ghost use Rattle.std.specs.Prelude.{◌≡◌};
 ghost use Rattle.predict_core.specs.Predictor.{predictor_of};
@@ -7,29 +7,29 @@ ghost use Rattle.header_bits.specs.Lawful.{IsLawful};
 
 use header_bits::params::Params;
 
-/// The predictor's parameters that hold for all bands (CCSDS 123.0-B-1, "Predictor").
+/// The predictor's parameters that are the same for all bands (CCSDS 123.0-B-1, "Predictor").
 #[derive(Clone, Copy)]
 pub struct Predictor {
-    /// P, how many bands below a sample's own are looked at.
+    /// P, the number of previous bands used for prediction.
     pub previous: u32,
-    /// Reduced mode, not full.
+    /// Whether the mode is reduced; else it is full.
     pub reduced: bool,
-    /// Column-oriented sums, not neighbour-oriented.
+    /// Whether local sums are column-oriented; else they are neighbour-oriented.
     pub column: bool,
-    /// R, the bits of the register.
+    /// R, the number of bits of the register.
     pub register: u32,
-    /// Ω, the fractional bits of a weight.
+    /// Ω, the number of fractional bits of a weight.
     pub fraction: u32,
     /// The logarithm of the interval at which the exponent of the steps grows.
     pub interval_log: u32,
-    /// The least of these exponents.
+    /// v_min, the least weight update scaling exponent.
     pub vmin: i32,
-    /// The greatest of them.
+    /// v_max, the greatest weight update scaling exponent.
     pub vmax: i32,
 }
 
 impl Predictor {
-    /// Those of an image's parameters.
+    /// Returns those of an image's parameters.
     pub(crate) fn of(params: &Params) -> Predictor
         requires { IsLawful params.now }
         ensures value { result ≡ predictor_of params.now }

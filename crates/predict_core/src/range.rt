@@ -1,4 +1,4 @@
-//! The range of a kind of samples, found once.
+//! The limits of a kind of samples, computed once.
 
 ghost use Rattle.std.specs.Prelude.{◌≡◌, ◌<◌, ◌^◌, pos, negsuc, ◌≤ℤ◌, ◌+ℤ◌};
 ghost use Rattle.cube_core.specs.Kind.{IsKind, IsSample, smin as least, smid as middle, smax as greatest};
@@ -29,7 +29,7 @@ pub(crate) struct Range {
 }
 
 impl Range {
-    /// The range of a kind.
+    /// Returns the limits of a kind.
     pub(crate) fn of(kind: Kind) -> Range
         ensures { result.kind ≡ kind }
     {
@@ -42,7 +42,7 @@ impl Range {
         }
     }
 
-    /// The mapped residual of a sample.
+    /// Returns the mapped residual of a sample.
     #[inline(always)]
     pub(crate) fn residual_of(&self, scaled: i32, sample: i32) -> u16
         requires scaled { IsScaled self.now.kind scaled }
@@ -53,7 +53,7 @@ impl Range {
         map_between(self.smin, self.smax, scaled, sample)
     }
 
-    /// The sample of a mapped residual.
+    /// Returns the sample of a mapped residual.
     #[inline(always)]
     pub(crate) fn sample_of(&self, scaled: i32, delta: u16) -> i32
         requires scaled { IsScaled self.now.kind scaled }

@@ -1,11 +1,11 @@
-//! The register that a prediction is held in, on 64-bit words.
+//! The register that holds a prediction, in 64-bit words.
 
 ghost use Rattle.std.specs.Prelude.{◌≡◌, ◌+◌, ◌^◌, ◌<◌, ◌≤◌, pos, negsuc, ◌≤ℤ◌, unsigned_abs, ◌+ℤ◌, ◌-ℤ◌, ◌*ℤ◌};
 ghost use Rattle.predict_core.specs.Arithmetic.{wrapped, floor_div};
 
-/// What a register of so many bits keeps of a number.
+/// Returns what a register of `register` bits keeps of a number.
 ///
-/// The bits above the register's go out at the top of the word, and the sign comes in again.
+/// The bits above the register's are shifted out at the top of the word, and the shift back extends the sign.
 pub(crate) fn wrapped_value(register: u32, value: i64) -> i64
     requires least { 32 ≤ register }
     requires most { register ≤ 64 }
@@ -15,7 +15,7 @@ pub(crate) fn wrapped_value(register: u32, value: i64) -> i64
     (value << unused) >> unused
 }
 
-/// `value` divided by 2^`by`, rounded down.
+/// Returns `value` divided by 2^`by`, rounded down.
 pub(crate) fn floor_shift(value: i64, by: u32) -> i64
     requires { by < 64 }
     ensures value { result ≡ floor_div value (2 ^ by) }
@@ -25,7 +25,8 @@ pub(crate) fn floor_shift(value: i64, by: u32) -> i64
     value >> by
 }
 
-/// What goes into the register: the products, and how far the local sum is from four times the middle.
+/// Returns what goes into the register: the sum of the products, and the distance of the local sum from four
+/// times the middle.
 pub(crate) fn register_of(fraction: u32, product: i64, sum: i32, middle: i32) -> i64
     requires fraction_in { fraction ≤ 19 }
     requires product_in { unsigned_abs product ≤ 2 ^ 44 }
@@ -37,7 +38,7 @@ pub(crate) fn register_of(fraction: u32, product: i64, sum: i32, middle: i32) ->
     product + raised(fraction, distance_of(sum, middle))
 }
 
-/// How far a local sum is from four times the middle.
+/// Returns the distance of a local sum from four times the middle.
 fn distance_of(sum: i32, middle: i32) -> i64
     requires sum_in { (negsuc 131071 ≤ℤ sum) × (sum ≤ℤ pos 262140) }
     requires middle_in { (pos 0 ≤ℤ middle) × (middle ≤ℤ pos 32768) }
@@ -47,7 +48,7 @@ fn distance_of(sum: i32, middle: i32) -> i64
     (sum - 4 * middle) as i64
 }
 
-/// A distance with the fractional bits of the weights.
+/// Returns a distance with the fractional bits of the weights.
 fn raised(fraction: u32, distance: i64) -> i64
     requires fraction_in { fraction ≤ 19 }
     requires distance_in { unsigned_abs distance ≤ 2 ^ 18 }

@@ -8,10 +8,10 @@ ghost use Rattle.predict_core.specs.Mapping.{error_of, unmapped_between, Between
 
 use cube_core::kind::Kind;
 
-/// The mapped residual of the sample `s`, by its scaled predicted value.
+/// Returns the mapped residual of the sample `s`, for its scaled predicted value.
 ///
-/// `stilde` is 2·smin to 2·smax + 1, and the answer at most 2^D - 1
-/// (CCSDS 123.0-B-1, "Mapped Prediction Residual").
+/// `stilde` is 2·smin to 2·smax + 1, and `s` a sample of the kind. The result is at most 2^D - 1 (CCSDS
+/// 123.0-B-1, "Mapped Prediction Residual").
 pub fn map_residual(kind: Kind, stilde: i32, s: i32) -> u16
     requires scaled { IsScaled kind stilde }
     requires sample { IsSample kind s }
@@ -22,9 +22,9 @@ pub fn map_residual(kind: Kind, stilde: i32, s: i32) -> u16
     map_between(kind.smin(), kind.smax(), stilde, s)
 }
 
-/// The sample whose mapped residual is `delta`, by its scaled predicted value.
+/// Returns the one sample whose mapped residual is `delta`, for its scaled predicted value.
 ///
-/// `stilde` is 2·smin to 2·smax + 1, and `delta` at most 2^D - 1. There is one such sample.
+/// `stilde` is 2·smin to 2·smax + 1, and `delta` at most 2^D - 1.
 pub fn unmap_residual(kind: Kind, stilde: i32, delta: u16) -> i32
     requires scaled { IsScaled kind stilde }
     requires residual { delta < 2 ^ kind.bits }
@@ -34,7 +34,7 @@ pub fn unmap_residual(kind: Kind, stilde: i32, delta: u16) -> i32
     unmap_between(kind.smin(), kind.smax(), stilde, delta)
 }
 
-/// The mapped residual of `v`, a sample between `low` and `high`.
+/// Returns the mapped residual of `v`, a sample between `low` and `high`.
 #[inline(always)]
 pub(crate) fn map_between(low: i32, high: i32, scaled: i32, v: i32) -> u16
     requires low_in { negsuc 32767 ≤ℤ low }
@@ -54,7 +54,7 @@ pub(crate) fn map_between(low: i32, high: i32, scaled: i32, v: i32) -> u16
     map_error(theta, size, sign) as u16
 }
 
-/// The sample between `low` and `high` whose mapped residual is `delta`.
+/// Returns the sample between `low` and `high` whose mapped residual is `delta`.
 #[inline(always)]
 pub(crate) fn unmap_between(low: i32, high: i32, scaled: i32, delta: u16) -> i32
     requires low_in { negsuc 32767 ≤ℤ low }
@@ -73,7 +73,7 @@ pub(crate) fn unmap_between(low: i32, high: i32, scaled: i32, delta: u16) -> i32
     predicted + unmap_error(theta, below, scaled.unsigned_abs(), delta as u32)
 }
 
-/// Half of a scaled prediction, rounded down.
+/// Returns half of a scaled prediction, rounded down.
 #[inline(always)]
 pub(crate) fn prediction_of(scaled: i32) -> i32
     ensures value { result ≡ floor_div scaled 2 }
@@ -83,7 +83,7 @@ pub(crate) fn prediction_of(scaled: i32) -> i32
     scaled >> 1
 }
 
-/// θ: the distance from the predicted sample to the nearer limit of the range.
+/// Returns θ: the distance from the predicted sample to the nearer limit of the range.
 #[inline(always)]
 fn theta_of(low: i32, high: i32, predicted: i32) -> u32
     requires low_in { negsuc 32767 ≤ℤ low }
@@ -97,7 +97,7 @@ fn theta_of(low: i32, high: i32, predicted: i32) -> u32
     span_of(low, predicted).min(span_of(predicted, high))
 }
 
-/// How far two numbers are apart, the lower one first.
+/// Returns the distance between two numbers, the lower one given first.
 #[inline(always)]
 fn span_of(low: i32, high: i32) -> u32
     requires order { low ≤ℤ high }
@@ -107,7 +107,7 @@ fn span_of(low: i32, high: i32) -> u32
     (high - low) as u32
 }
 
-/// Whether the error has the sign that the scaled prediction's parity asks for.
+/// Returns whether the error has the sign that the scaled prediction's parity asks for.
 #[inline(always)]
 fn has_sign(scaled: i32, error: i32) -> bool
     ensures { result ≡ agrees scaled error }
@@ -119,9 +119,11 @@ fn has_sign(scaled: i32, error: i32) -> bool
     }
 }
 
-/// Maps a prediction residual to a number: up to θ both signs take turns, and beyond it each size has one number.
+/// Maps a prediction residual to a number: up to θ both signs alternate, and beyond it each size has one
+/// number.
 ///
-/// `size` is its absolute value, and `sign` whether it has the sign that the scaled prediction's parity asks for.
+/// `size` is its absolute value, and `sign` whether it has the sign that the scaled prediction's parity asks
+/// for.
 #[inline(always)]
 fn map_error(theta: u32, size: u32, sign: bool) -> u32
     requires fits { size + min size theta ≤ 65535 }

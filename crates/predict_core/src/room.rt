@@ -1,6 +1,6 @@
-//! The room of a run: what the samples alone tell of its places, before a weight is known.
+//! The quantities of a run that depend on the samples alone, before a weight is known.
 //!
-//! A place's components stand in quads of four, each written by one loop over all places.
+//! The components of a place are in quads of four, each written by one loop over all places.
 
 ghost use Rattle.std.specs.Prelude.{◌≡◌, ◌+◌, ◌-◌, ◌<◌, ◌≤◌, ◌||◌, ◌==◌, ℕ, ℤ, [], ◌∷◌, ◌++◌, slice_index_or, pos};
 ghost use Rattle.cube_core.specs.Image.{IsPlace};
@@ -20,11 +20,11 @@ pub(crate) struct Quad {
     pub places: [[i32; 4]; 64],
 }
 
-/// Writes the local sums of offsets, the central differences and the components of `count` places from row
-/// `y`, column `x` on.
+/// Writes the local sums of offsets, the central differences and the components of `count` places from row `y`,
+/// column `x` on.
 ///
-/// Component k of a place stands in quad k / 4, in lane k % 4; there are as many quads as are needed, or more.
-/// Of the first place of a band it tells nothing (CCSDS 123.0-B-1, "Local Sums", "Local Differences").
+/// Component k of a place is in quad k / 4, in lane k % 4; there are as many quads as are needed, or more. For
+/// the first place of a band nothing useful is written (CCSDS 123.0-B-1, "Local Sums", "Local Differences").
 pub(crate) fn fill_run<const Q: usize>(
     settings: &Settings,
     cube: &Cube,
@@ -112,7 +112,7 @@ fn fill_first(
     }
 }
 
-/// Puts the northern difference of the first place in place of the other two directions.
+/// Writes the northern difference of the first place in place of the other two directions.
 fn repeat_north(out: &mut [[i32; 4]; 64])
     ensures first { (north west north_west below : ℤ) → slice_index_or out.old 0 [] ≡ north ∷ west ∷ north_west ∷ below ∷ []
         → slice_index_or out.new 0 [] ≡ north ∷ north ∷ north ∷ below ∷ [] }

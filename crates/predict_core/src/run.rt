@@ -1,4 +1,4 @@
-//! A band's predictor moved on by a run: places of one row, one behind another.
+//! Advancing a band's predictor by a run: places of one row, one after another.
 
 ghost use Rattle.std.specs.Prelude.{◌≡◌, ◌+◌, ◌*◌, ◌^◌, ◌<◌, ◌≤◌, false, ℕ, ◌==◌, if◌then◌else◌, take, length, slice_index};
 ghost use Rattle.cube_core.specs.Image.{IsPlace};
@@ -17,15 +17,16 @@ use crate::room::{Quad, fill_run};
 use crate::settings::Settings;
 use cube_core::cube::Cube;
 
-/// The least run that goes over rooms of 64 places. They cost a shorter one more than its places do.
+/// The least run that is computed in arrays of 64 places. For a shorter run they cost more than its places do.
 pub(crate) const LEAST: usize = 9;
 
 impl Band {
-    /// The mapped residuals of a run, as many as there is room for, and so many places on.
+    /// Writes the mapped residuals of a run, as many as `residuals` has elements, and advances by as many
+    /// places.
     ///
-    /// A run has at most 64 places. It goes from the next place, which is row `y`, column `x`, along its
-    /// row, and doesn't leave it. The cube has the shape and the kind of the parameters. Each residual is
-    /// at most 2^D - 1 (CCSDS 123.0-B-1, "Predictor").
+    /// A run has at most 64 places. Its first place is the next one, row `y`, column `x`, and all of them are
+    /// in that row. The cube has the shape and kind of the parameters. Each residual is at most 2^D - 1 (CCSDS
+    /// 123.0-B-1, "Predictor").
     pub fn forward_run(&mut self, cube: &Cube, y: u32, x: u32, residuals: &mut [u16])
         requires shape { cube.now.shape ≡ self.old.shape }
         requires kind { cube.now.kind ≡ self.old.kind }
@@ -53,7 +54,7 @@ impl Band {
         }
     }
 
-    /// The same, one place after another.
+    /// Does the same, one place after another.
     fn forward_each(&mut self, cube: &Cube, y: u32, x: u32, residuals: &mut [u16])
         requires shape { cube.now.shape ≡ self.old.shape }
         requires kind { cube.now.kind ≡ self.old.kind }
@@ -74,9 +75,10 @@ impl Band {
     }
 }
 
-/// The mapped residuals of a run, in a register that nothing wraps or in any, and the weights behind it.
+/// Writes the mapped residuals of a run, in a register in which nothing wraps or in any, and updates the
+/// weights.
 ///
-/// How many weights there are is found once, so that the compiler knows it in the loops over places.
+/// The number of weights is found once, so that the compiler knows it in the loops over places.
 fn predict_run<const WRAPS: bool>(
     settings: &Settings,
     cube: &Cube,
@@ -118,10 +120,10 @@ fn predict_run<const WRAPS: bool>(
     }
 }
 
-/// The same by `N` weights, whose differences take `Q` quads.
+/// Does the same with `N` weights, whose differences take `Q` quads.
 ///
-/// What the samples tell is found first, for all places at once, then the predicted differences one after
-/// another, and all residuals at once behind them.
+/// What depends on the samples alone is computed first, for all places at once; then the predicted differences,
+/// one after another; and then all residuals at once.
 fn predict_by<const Q: usize, const N: usize, const WRAPS: bool>(
     settings: &Settings,
     cube: &Cube,
@@ -169,7 +171,7 @@ fn predict_by<const Q: usize, const N: usize, const WRAPS: bool>(
     }
 }
 
-/// The first place of a run from row `y`, column `x` on that is not the first of its band.
+/// Returns the index of the first place of a run from row `y`, column `x` on that is not the first of its band.
 fn first_later(y: u32, x: u32) -> usize
     ensures value { result ≡ (if y + x == 0 then 1 else 0) }
     ensures later { 0 < y + (x + result) }

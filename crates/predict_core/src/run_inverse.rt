@@ -1,4 +1,4 @@
-//! A band's predictor moved on by a run whose samples aren't known yet, but their mapped residuals are.
+//! Advancing a band's predictor by a run whose mapped residuals are known, and whose samples aren't yet.
 
 ghost use Rattle.std.specs.Prelude.{◌≡◌, ◌+◌, ◌*◌, ◌^◌, ◌<◌, ◌≤◌, false, ℕ, take, length, slice_index};
 ghost use Rattle.cube_core.specs.Image.{IsPlace};
@@ -21,13 +21,14 @@ use crate::spectral::SpectralDifferences;
 use cube_core::cube::Cube;
 
 impl Band {
-    /// Writes the samples of a run whose mapped residuals are `deltas` into the cube, and goes as many places on.
+    /// Writes the samples of a run whose mapped residuals are `deltas` into the cube, and advances by as many
+    /// places.
     ///
-    /// A run has at most 64 places. It goes from the next place, which is row `y`, column `x`, along its
-    /// row, and doesn't leave it. The cube has the shape and the kind of the parameters, and each residual
-    /// is at most 2^D - 1. What stands at these places and at later ones is not read, and no other sample
-    /// is written. `below` are differences of that cube, and afterwards of the cube as it is then
-    /// (CCSDS 123.0-B-1, "Predictor").
+    /// A run has at most 64 places. Its first place is the next one, row `y`, column `x`, and all of them are
+    /// in that row. The cube has the shape and kind of the parameters, and each residual is at most 2^D - 1.
+    /// The cube's samples at these places and later ones are not read, and no other sample is written. `below`
+    /// holds differences of that cube, and after the call of the cube with the new samples (CCSDS 123.0-B-1,
+    /// "Predictor").
     pub fn inverse_run(
         &mut self,
         cube: &mut Cube,
@@ -66,7 +67,7 @@ impl Band {
         }
     }
 
-    /// The same, one place after another.
+    /// Does the same, one place after another.
     // Apart from the way by rows it leaves that one its registers.
     #[inline(never)]
     fn inverse_each(
@@ -102,9 +103,10 @@ impl Band {
     }
 }
 
-/// Writes the samples of a run below the first row, in a register that nothing wraps or in any; the weights are those behind it.
+/// Writes the samples of a run below the first row, in a register in which nothing wraps or in any, and updates
+/// the weights.
 ///
-/// How many weights there are is found once, so that the compiler knows it in the loop over places.
+/// The number of weights is found once, so that the compiler knows it in the loop over places.
 fn invert_run<const WRAPS: bool>(
     settings: &Settings,
     cube: &mut Cube,
@@ -147,10 +149,10 @@ fn invert_run<const WRAPS: bool>(
     }
 }
 
-/// The same by `N` weights, whose differences take `Q` quads.
+/// Does the same with `N` weights, whose differences take `Q` quads.
 ///
-/// What the bands below tell is found first, for all places at once. A place's own directions wait for the sample
-/// to the west.
+/// What depends on the bands below is computed first, for all places at once. The directional differences of a
+/// place wait for the sample to the west.
 // One for each number of weights, so that each keeps its registers.
 #[inline(never)]
 fn invert_by<const Q: usize, const N: usize, const WRAPS: bool>(

@@ -1,4 +1,4 @@
-//! What a band's predictor finds once, and the prediction of one sample from it.
+//! What a band's predictor computes once, and the prediction of one sample from it.
 
 ghost use Rattle.std.specs.Prelude.{◌≡◌, ◌+◌, ◌-◌, ◌*◌, ◌^◌, ◌<◌, ◌≤◌, pos, negsuc, ◌-ℤ◌, ◌*ℤ◌, ◌≤ℤ◌, int_lt, take, ◌++◌, replicate, false, ℤ, List, length};
 ghost use Rattle.cube_core.specs.Shape.{InRange};
@@ -26,7 +26,7 @@ pub(crate) struct Settings {
     pub range: Range,
     pub columns: u32,
     pub band: u32,
-    /// How many bands below are looked at.
+    /// How many bands below are used.
     pub near: usize,
     /// How many weights are in use.
     pub count: usize,
@@ -38,14 +38,14 @@ pub(crate) struct Settings {
     pub ghost wide: { predictor.column ≡ false → 2 ≤ columns },
 }
 
-/// What is predicted at a place, and from which differences.
+/// The prediction at a place, and the differences that it comes from.
 #[derive(Clone, Copy)]
 pub(crate) struct Prediction {
     pub scaled: i32,
     pub differences: [i32; 18],
 }
 
-/// The scaled prediction at the first place of a band.
+/// Returns the scaled prediction at the first place of a band.
 pub(crate) fn first_scaled(settings: &Settings, cube: &Cube) -> i32
     requires place { IsPlace cube.now.shape settings.now.band 0 0 }
     requires kind { cube.now.kind ≡ settings.now.range.kind }
@@ -61,7 +61,7 @@ pub(crate) fn first_scaled(settings: &Settings, cube: &Cube) -> i32
     }
 }
 
-/// What is predicted at a place that is not the first of its band.
+/// Returns the prediction at a place that is not the first of its band.
 #[inline(always)]
 pub(crate) fn predict(
     settings: &Settings,
@@ -112,7 +112,7 @@ pub(crate) fn predict(
     }
 }
 
-/// Moves the weights after a sample at place `t`.
+/// Updates the weights after a sample at place `t`.
 #[inline(always)]
 pub(crate) fn learn(
     settings: &Settings,
@@ -149,7 +149,7 @@ pub(crate) fn learn(
     );
 }
 
-/// The form of the steps after row `y`, column `x`, a place that is not the first of its band.
+/// Returns the form of the steps after row `y`, column `x`, a place that is not the first of its band.
 #[inline(always)]
 pub(crate) fn form_at(settings: &Settings, y: u32, x: u32) -> Form
     requires row { y < 65536 }

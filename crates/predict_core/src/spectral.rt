@@ -1,5 +1,5 @@
-//! The central differences of the bands below a band at one place, kept while the bands of that place follow
-//! one another.
+//! The central differences of the bands below a band at one place, kept while the bands of that place are
+//! decoded one after another.
 
 ghost use Rattle.std.specs.Prelude.{◌≡◌, ◌+◌, ◌-◌, ◌*◌, ◌^◌, ◌<◌, ◌≤◌, ℕ, pos, ◌+ℤ◌, ◌*ℤ◌, ◌-ℤ◌, false, take, drop, ◌∷◌, ◌++◌, replicate, slice_set};
 ghost use Rattle.std.specs.Prelude.{length, unsigned_abs, if◌then◌else◌};
@@ -14,10 +14,10 @@ use crate::weights::Form;
 use cube_core::cube::Cube;
 
 /// The central differences at row `row`, column `column` of the bands below band `band`, the nearest first,
-/// and zeros behind them, and the form of the steps there. In the first row they tell nothing.
+/// followed by zeros, and the form of the steps there. In the first row they are unspecified.
 ///
-/// Where the bands of a place are decoded one behind another, each needs those of the band before it and the
-/// difference of that band: so none is found twice (CCSDS 123.0-B-1, "Local Differences").
+/// Where the bands of a place are decoded one after another, each needs the differences of the band before it,
+/// and that band's own: so none is computed twice (CCSDS 123.0-B-1, "Local Differences").
 #[derive(Clone, Copy)]
 pub struct SpectralDifferences {
     pub band: u32,
@@ -28,7 +28,7 @@ pub struct SpectralDifferences {
 }
 
 impl SpectralDifferences {
-    /// Those of no place.
+    /// Returns differences that belong to no place.
     pub fn none() -> SpectralDifferences
         ensures { result.row ≡ 0 }
     {
@@ -41,7 +41,7 @@ impl SpectralDifferences {
         }
     }
 
-    /// Tells nothing from now on.
+    /// Forgets the place, so that the differences belong to none.
     #[inline(always)]
     pub(crate) fn forget(&mut self)
         ensures { self.new.row ≡ 0 }
@@ -49,7 +49,7 @@ impl SpectralDifferences {
         self.row = 0;
     }
 
-    /// Those of the bands below a band at row `y`, column `x`: where they aren't kept, they are found anew.
+    /// Computes those of the bands below a band at row `y`, column `x`, unless they are kept already.
     #[inline(always)]
     pub(crate) fn reach(&mut self, settings: &Settings, cube: &Cube, y: u32, x: u32)
         requires place { IsPlace cube.now.shape settings.now.band y x }
@@ -67,7 +67,7 @@ impl SpectralDifferences {
         }
     }
 
-    /// Finds those of the bands below a band at row `y`, column `x`.
+    /// Computes those of the bands below a band at row `y`, column `x`.
     #[cold]
     fn find(&mut self, settings: &Settings, cube: &Cube, y: u32, x: u32)
         requires place { IsPlace cube.now.shape settings.now.band y x }
@@ -100,7 +100,7 @@ impl SpectralDifferences {
         };
     }
 
-    /// The differences in a room whose first three places are left to the directions, in full mode.
+    /// Returns the differences in an array whose first three elements are left to the directions, in full mode.
     #[inline(always)]
     pub(crate) fn behind_directions(&self, reduced: bool) -> [i32; 18]
         ensures { drop (if reduced then 0 else 3) result ≡ take (if reduced then 18 else 15) self.now.differences }
@@ -114,7 +114,7 @@ impl SpectralDifferences {
         }
     }
 
-    /// Goes on to the band above, by the central difference of this one, of which `previous` bands are looked at.
+    /// Moves on to the band above, which uses `previous` bands, by the central difference of this one.
     #[inline(always)]
     pub(crate) fn go_up(&mut self, own: i32, previous: u32)
         requires few { previous ≤ 15 }

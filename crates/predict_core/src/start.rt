@@ -1,4 +1,4 @@
-//! The weights that a band starts from.
+//! The initial weights of a band.
 
 ghost use Rattle.std.specs.Prelude.{◌≡◌, ◌+◌, ◌-◌, ◌*◌, ◌^◌, ◌<◌, ◌≤◌, pos, ◌++◌, drop, length, map, nat_le, replicate, take, unsigned_abs, if◌then◌else◌};
 ghost use Rattle.std.specs.List.{AllByRecursion};
@@ -11,8 +11,8 @@ ghost use Rattle.predict_core.specs.Bounds.{AllWithin};
 
 use header_bits::params::{Params, WeightStart};
 
-/// The weights that band `z` starts from: `first` directional ones and those of `near` bands below
-/// (CCSDS 123.0-B-1, "Weight Initialization").
+/// Returns the initial weights of band `z`: `first` directional ones and those of `near` bands below (CCSDS
+/// 123.0-B-1, "Weight Initialization").
 pub(crate) fn start_of(params: &Params, z: u32, first: usize, near: usize) -> [i32; 18]
     requires lawful { IsLawful params.now }
     requires band { z < params.now.shape.bands }
@@ -31,8 +31,9 @@ pub(crate) fn start_of(params: &Params, z: u32, first: usize, near: usize) -> [i
     }
 }
 
-/// The default weights: 0 for the `first` directional components; for the `count` bands below seven eighths for the
-/// nearest, and an eighth of the weight before for each other (CCSDS 123.0-B-1, "Weight Initialization").
+/// Returns the default weights: 0 for the `first` directional components; of the `count` bands below seven
+/// eighths for the nearest, and an eighth of the weight before for each other (CCSDS 123.0-B-1, "Weight
+/// Initialization").
 pub(crate) fn default_weights(fraction: u32, first: usize, count: usize) -> [i32; 18]
     requires fraction_in { (4 ≤ fraction) × (fraction ≤ 19) }
     requires room { first + count ≤ 18 }
@@ -48,7 +49,7 @@ pub(crate) fn default_weights(fraction: u32, first: usize, count: usize) -> [i32
     weights
 }
 
-/// So many entries of a table, from the first that is wanted.
+/// Returns `count` entries of a table, from entry `from` on.
 fn entries_from(values: &[i32], from: usize, count: usize) -> &[i32]
     requires { from + count ≤ length values.now }
     ensures { result.now ≡ take count (drop from values.now) }
@@ -56,8 +57,8 @@ fn entries_from(values: &[i32], from: usize, count: usize) -> &[i32]
     &values[from..from + count]
 }
 
-/// How many entries of a weight table stand before those of band `z`, where each band has `first` of
-/// them and one for each band below, but for at most `previous`.
+/// Returns how many entries of a weight table come before those of band `z`, where each band has `first` of
+/// them and one for each band below, but at most `previous` of the latter.
 fn entries_before(z: u32, first: usize, previous: u32) -> usize
     requires bands { z < 65536 }
     requires directions { first ≤ 3 }
@@ -70,7 +71,8 @@ fn entries_before(z: u32, first: usize, previous: u32) -> usize
     z * first + near * near.saturating_sub(1) / 2 + (z - near) * most
 }
 
-/// The weights that entries of `q` bits tell: the bits of an entry are the highest of a weight, and ones stand below them.
+/// Returns the weights that entries of `q` bits stand for: the bits of an entry are the highest of a weight,
+/// and the bits below them are ones.
 fn table_start(fraction: u32, q: u32, entries: &[i32]) -> [i32; 18]
     requires fraction_in { (4 ≤ fraction) × (fraction ≤ 19) }
     requires bits { InRange 3 (fraction + 3) q }
@@ -86,7 +88,7 @@ fn table_start(fraction: u32, q: u32, entries: &[i32]) -> [i32; 18]
     weights
 }
 
-/// The weight that an entry of `q` bits tells.
+/// Returns the weight that an entry of `q` bits stands for.
 fn table_weight(fraction: u32, q: u32, entry: i32) -> i32
     requires fraction_in { (4 ≤ fraction) × (fraction ≤ 19) }
     requires bits { InRange 3 (fraction + 3) q }
@@ -98,7 +100,7 @@ fn table_weight(fraction: u32, q: u32, entry: i32) -> i32
     entry * scale + ones_below(fraction, q)
 }
 
-/// The bits of a weight below those of an entry, ones alone.
+/// Returns the bits of a weight below those of an entry, which are all ones.
 fn ones_below(fraction: u32, q: u32) -> i32
     requires fraction_in { fraction ≤ 19 }
     requires bits { InRange 3 (fraction + 3) q }
@@ -111,7 +113,7 @@ fn ones_below(fraction: u32, q: u32) -> i32
     }
 }
 
-/// A power of two.
+/// Returns a power of two.
 fn power(exponent: u32) -> i32
     requires { exponent ≤ 21 }
     ensures value { result ≡ pos (2 ^ exponent) }

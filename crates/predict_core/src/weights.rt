@@ -1,4 +1,4 @@
-//! The weights of the differences: the products with them, and their update.
+//! The weights of the differences: their products, and their update.
 
 ghost use Rattle.std.specs.Prelude.{◌≡◌, ◌+◌, ◌-◌, ◌*◌, ◌^◌, ◌≤◌, pos, negsuc, ◌≤ℤ◌, ◌+ℤ◌, ◌-ℤ◌, ◌*ℤ◌, unsigned_abs, int_lt, ℕ, ℤ, List, length, take};
 ghost use Rattle.std.specs.Prelude.{◌++◌, replicate};
@@ -7,7 +7,7 @@ ghost use Rattle.predict_core.specs.Prediction.{inner_product};
 ghost use Rattle.predict_core.specs.Weights.{step, signed_by, weight_min, weight_max, updated_weight as updated, updated_weights};
 ghost use Rattle.predict_core.specs.Bounds.{AllWithin};
 
-/// The sum of the products of the weights in use with their differences.
+/// Returns the sum of the products of the weights in use with their differences.
 ///
 /// It loops over 8 or 18 components, a count known at compile time.
 #[inline(always)]
@@ -29,7 +29,7 @@ pub(crate) fn product_of(count: usize, weights: &[i32; 18], differences: &[i32; 
     }
 }
 
-/// The sum of the products of the first `N` weights with their differences.
+/// Returns the sum of the products of the first `N` weights with their differences.
 #[inline(always)]
 pub(crate) fn product_of_first<const N: usize>(weights: &[i32; 18], differences: &[i32; 18]) -> i64
     requires few { N ≤ 18 }
@@ -83,9 +83,9 @@ pub(crate) fn update(
     }
 }
 
-/// Updates the first `N` weights. `turn` is all ones where the error is negative, and 0 elsewhere.
+/// Updates the first `N` weights. `turn` is all ones where the error is negative, and 0 otherwise.
 ///
-/// A difference takes the error's sign without a branch, so that the compiler makes vectors of the weights.
+/// A difference takes the error's sign without a branch, so that the compiler vectorizes the loop.
 #[inline(always)]
 fn update_first<const N: usize>(
     weights: &mut [i32; 18],
@@ -115,10 +115,11 @@ fn update_first<const N: usize>(
     }
 }
 
-/// How a difference becomes a step: it is raised by some bits, and halved by others after a half is added.
+/// How a difference becomes a step: it is shifted left by some bits, then a half is added, and it is shifted
+/// right by others.
 ///
-/// At an exponent below 0 nothing is halved, else nothing is raised. So both kinds of exponents go one way,
-/// and a loop over places that finds the form before it has no branch.
+/// At an exponent below 0 nothing is shifted right, otherwise nothing is shifted left. So both kinds of
+/// exponents take one path, and a loop over places that finds the form beforehand has no branch.
 #[derive(Clone, Copy)]
 pub(crate) struct Form {
     up: u32,
@@ -130,13 +131,13 @@ pub(crate) struct Form {
 }
 
 impl Form {
-    /// That of no place.
+    /// The form of no particular place.
     pub(crate) fn none() -> Form {
         raising(0)
     }
 }
 
-/// The form of the steps at an exponent, for samples of so many bits.
+/// Returns the form of the steps at an exponent, for samples of `bits` bits.
 #[inline(always)]
 pub(crate) fn form_of(bits: u32, exponent: i32) -> Form
     requires bits_in { (2 ≤ bits) × (bits ≤ 16) }
@@ -152,7 +153,7 @@ pub(crate) fn form_of(bits: u32, exponent: i32) -> Form
     }
 }
 
-/// The form of the steps at an exponent of `-by - 1`.
+/// Returns the form of the steps at an exponent of `-by - 1`.
 #[inline(always)]
 fn raising(by: u32) -> Form
     requires { by ≤ 22 }
@@ -166,7 +167,7 @@ fn raising(by: u32) -> Form
     }
 }
 
-/// The form of the steps at an exponent of `by`.
+/// Returns the form of the steps at an exponent of `by`.
 #[inline(always)]
 fn halving(by: u32) -> Form
     requires { by ≤ 21 }
@@ -180,7 +181,7 @@ fn halving(by: u32) -> Form
     }
 }
 
-/// The first `N` weights after an error, by the form of the steps at the exponent.
+/// Returns the first `N` weights after an error, by the form of the steps at the exponent.
 #[inline(always)]
 pub(crate) fn update_by<const N: usize>(
     weights: &mut [i32; 18],
@@ -204,7 +205,7 @@ pub(crate) fn update_by<const N: usize>(
     }
 }
 
-/// One weight after an error.
+/// Returns one weight after an error.
 #[inline(always)]
 fn moved(fraction: u32, exponent: i32, form: Form, turn: i32, weight: i32, difference: i32) -> i32
     requires turn_in { (negsuc 0 ≤ℤ turn) × (turn ≤ℤ pos 0) }
@@ -219,7 +220,7 @@ fn moved(fraction: u32, exponent: i32, form: Form, turn: i32, weight: i32, diffe
     clip_weight(fraction, weight, stepped(form, size))
 }
 
-/// The word of a sign: all ones where an error is negative, else 0.
+/// Returns the word of a sign: all ones where an error is negative, else 0.
 #[inline(always)]
 fn turn_of(negative: bool) -> i32
     ensures value { int_lt result (pos 0) ≡ negative }
@@ -229,7 +230,8 @@ fn turn_of(negative: bool) -> i32
     if negative { -1 } else { 0 }
 }
 
-/// The difference with the sign of the error: negated where `turn` is all ones, and unchanged where it is 0.
+/// Returns the difference with the sign of the error: negated where `turn` is all ones, and unchanged where it
+/// is 0.
 #[inline(always)]
 fn apply_sign(turn: i32, difference: i32) -> i32
     requires turn_in { (negsuc 0 ≤ℤ turn) × (turn ≤ℤ pos 0) }
@@ -240,7 +242,7 @@ fn apply_sign(turn: i32, difference: i32) -> i32
     (difference ^ turn) - turn
 }
 
-/// A step of some size.
+/// Returns the step for a size.
 #[inline(always)]
 fn stepped(form: Form, size: i32) -> i32
     requires { unsigned_abs size ≤ 2 ^ (26 - form.up) }
@@ -250,7 +252,7 @@ fn stepped(form: Form, size: i32) -> i32
     (size * (1i32 << form.up) + form.half) >> form.down
 }
 
-/// The weight moved by a step, and clipped to the range of weights.
+/// Returns the weight plus a step, clipped to the range of weights.
 #[inline(always)]
 fn clip_weight(fraction: u32, weight: i32, step: i32) -> i32
     requires fraction_in { fraction ≤ 19 }
