@@ -1,4 +1,4 @@
-//! The bits that come next, as a number: several codes are read from one look at them.
+//! The next bits, as a number: one look at them serves several codes.
 
 ghost use Rattle.std.specs.Prelude.{◌≡◌, ◌≤◌, ◌<◌, ◌^◌, ◌*◌, ◌+◌, ℕ, List, Bool, drop, IfSome};
 ghost use Rattle.header_bits.specs.Bits.{bits_of, fundamental};
@@ -11,13 +11,13 @@ use header_bits::bit_reader::BitReader;
 pub(crate) struct Ahead {
     /// How many bits were looked at.
     peeked: u32,
-    /// How many of them aren't used.
+    /// How many of them aren't used yet.
     known: u32,
-    /// The number that those spell.
+    /// The number in those bits.
     word: u64,
 }
 
-/// The next 56 bits, or as many as are left.
+/// Returns the next 56 bits, or as many as are left.
 #[inline(always)]
 pub(crate) fn look_ahead(reader: &BitReader) -> Ahead
     ensures ahead { IsAhead result reader.now.left }
@@ -34,7 +34,7 @@ pub(crate) fn look_ahead(reader: &BitReader) -> Ahead
     }
 }
 
-/// Takes from the reader what is used.
+/// Takes the used bits from the reader.
 #[inline(always)]
 pub(crate) fn take_used(reader: &mut BitReader, ahead: Ahead)
     requires { IsAhead ahead reader.old.left }
@@ -44,8 +44,8 @@ pub(crate) fn take_used(reader: &mut BitReader, ahead: Ahead)
     reader.take(ahead.peeked - ahead.known).unwrap();
 }
 
-/// The fundamental sequence that comes next, if it ends within the bits ahead and has at most so many
-/// zeros, and what is ahead then.
+/// Returns the fundamental sequence that comes next and the bits after it, if it ends within the bits ahead and
+/// has at most `most` zeros.
 #[inline(always)]
 pub(crate) fn code_ahead(ahead: Ahead, most: u16) -> Option<(u16, Ahead)>
     requires { IsWord ahead }
@@ -69,8 +69,8 @@ pub(crate) fn code_ahead(ahead: Ahead, most: u16) -> Option<(u16, Ahead)>
     ))
 }
 
-/// The value of a quotient and the low bits that come next, if they are ahead and it is at most so
-/// great, and what is ahead then.
+/// Returns the value made of a quotient and the low bits that come next, and the bits after these, if they are
+/// ahead and the value is at most `most`.
 #[inline(always)]
 pub(crate) fn whole_ahead(ahead: Ahead, k: u32, most: u16, quotient: u16) -> Option<(u16, Ahead)>
     requires depth { k ≤ 15 }

@@ -1,4 +1,4 @@
-//! A reader of blocks: their values, one after another.
+//! A reader of blocks, which returns their values one after another.
 
 ghost use Rattle.std.specs.Prelude.{◌≡◌, ◌+◌, ◌%◌, ◌<◌, ◌≤◌, [], ◌∷◌, Ok, Err, Some, None, IfOk, IfErr, OnErr, MatchResult, length};
 ghost use Rattle.cube_core.specs.declared.fault.Fault.{Fault};
@@ -19,23 +19,23 @@ use std::marker::Model;
 
 /// Reads the numbers of a body, one coded data set at a time.
 ///
-/// It holds the values of the data set that it read last, in an array or, of zero blocks, as a count.
+/// It holds the values of the last data set, in an array or, for zero blocks, as a count.
 #[derive(Drop)]
 pub struct BlockReader {
     set: CodeSet,
     /// J: 8, 16, 32 or 64.
     size: u32,
     reference: u32,
-    /// How many blocks there are.
+    /// The number of blocks.
     count: u64,
     /// The block at which the next data set begins.
     block: u64,
     values: [u16; 64],
-    /// How many of the block's values were given.
+    /// How many of the block's values were returned.
     at: u32,
-    /// How many zeros are still to be given.
+    /// How many zeros are still to be returned.
     zeros: u32,
-    /// What a `next` was refused for; every later one is refused for the same.
+    /// The refusal of a `next`, which every later one returns again.
     refused: Option<Fault>,
 }
 
@@ -57,7 +57,7 @@ impl Model for BlockReader {
 }
 
 impl BlockReader {
-    /// A reader of an image's numbers, of which none was given yet. It takes no memory.
+    /// Returns a reader of an image's numbers, none of which was read yet. It allocates nothing.
     ///
     /// The parameters are lawful, and for this coder.
     pub fn new(params: &Params) -> BlockReader
@@ -90,14 +90,13 @@ impl BlockReader {
         }
     }
 
-    /// Gives the next number of the body.
+    /// Returns the next number of the body.
     ///
-    /// Fewer numbers were given than all blocks have. The number is the first in hand; where none is, the
-    /// data set that stands next is taken whole, and its values are in hand. Where no lawful data set stands
-    /// there the answer is the refusal of its first part that isn't lawful: `Truncated` where the bits
-    /// end inside it, `RunPastSegment` for a run code, and `BadOption` for any other. Then the reader
-    /// stands where it stood, every later call answers the same, and nothing else was changed. No memory
-    /// is taken.
+    /// Fewer numbers were returned than all blocks have. Where the reader holds no value, it first reads the
+    /// whole next data set. Where no lawful data set comes next, the refusal is that of its first unlawful
+    /// part: `Truncated` if the bits end inside it, `RunPastSegment` for a run code, and `BadOption` for any
+    /// other. The bits then keep their position, nothing else is changed, and every later call returns the same
+    /// refusal. It allocates nothing.
     #[inline]
     pub fn next(&mut self, reader: &mut BitReader) -> Result<u16, Fault>
         requires { given_count self.old < capacity self.old.cut }
@@ -179,7 +178,7 @@ impl BlockReader {
         }
     }
 
-    /// Gives the first value in hand.
+    /// Returns the first value held.
     fn give(&mut self) -> u16
         requires { 0 < length self.old.held }
         ensures first { GivesFirst self.old result self.new }

@@ -1,4 +1,4 @@
-//! A writer of blocks: it takes numbers one after another, and writes the coded data sets that stand for them.
+//! A writer of blocks: it takes numbers one after another, and writes the coded data sets of their blocks.
 
 ghost use Rattle.std.specs.Prelude.{ℕ, ◌∷◌, ◌-◌, ◌≡◌, ◌+◌, ◌%◌, ◌^◌, ◌<◌, ◌≤◌, ◌++◌, [], length, sum, take, replicate, OnOk, OnErr, IfErr};
 ghost use Rattle.std.specs.List.{AllByRecursion};
@@ -16,26 +16,25 @@ use header_bits::bit_writer::BitWriter;
 use header_bits::params::{Coder, Params};
 use std::marker::Model;
 
-/// Writes the body of numbers, by the shortest option of each block and the longest runs of zero blocks.
+/// Writes the body of numbers, with the shortest option of each block and the longest runs of zero blocks.
 ///
-/// It holds back the values of the block begun, and blocks of zeros, as a count, until it is known how
-/// long their run is.
+/// It holds the values of the block begun, and zero blocks, as a count, until the length of their run is known.
 #[derive(Drop)]
 pub struct BlockWriter {
     set: CodeSet,
     /// J: 8, 16, 32 or 64.
     size: u32,
     reference: u32,
-    /// How many blocks there are.
+    /// The number of blocks.
     count: u64,
     /// The first block of which nothing was written.
     start: u64,
-    /// How many blocks of zeros there are from it on.
+    /// The number of zero blocks from it on.
     zeros: u32,
-    /// The sum of the values that are there of the next block.
+    /// The sum of the values of the next block so far.
     total: u32,
     values: [u16; 64],
-    /// How many values of the next block are there.
+    /// The number of values of the next block so far.
     held: u32,
 }
 
@@ -58,7 +57,7 @@ impl Model for BlockWriter {
 }
 
 impl BlockWriter {
-    /// A writer of an image's numbers, of which none was taken yet. It takes no memory.
+    /// Returns a writer of an image's numbers, none of which was taken yet. It allocates nothing.
     ///
     /// The parameters are lawful, and for this coder.
     pub fn new(params: &Params) -> BlockWriter
@@ -91,11 +90,11 @@ impl BlockWriter {
         }
     }
 
-    /// Takes the next number, and appends what is then known of the body.
+    /// Takes the next number, and appends the part of the body that is then known.
     ///
-    /// Fewer numbers were taken than all blocks have, and the number is at most 2^D - 1. Memory is asked
-    /// for only where the number ends a block. After `WantOfMemory` nothing was changed, and the call may
-    /// be made again.
+    /// Fewer numbers were taken than all blocks have, and the number is at most 2^D - 1. It allocates only
+    /// where the number ends a block. Returns `WantOfMemory` if the allocation fails; then nothing was changed,
+    /// and the call may be repeated.
     #[inline]
     pub fn put(&mut self, delta: u16, writer: &mut BitWriter) -> Result<(), Fault>
         requires number { delta < 2 ^ self.old.cut.set.bits }
@@ -116,10 +115,10 @@ impl BlockWriter {
         self.put_last(delta, writer)
     }
 
-    /// Takes the next numbers, and appends what is then known of the body. Tells how many were taken: fewer than all only where memory was refused
-    /// for the number behind them, which ends a block.
+    /// Takes the next numbers, and appends the part of the body that is then known. Returns how many were
+    /// taken: fewer than all only where an allocation failed for the number after them, which ends a block.
     ///
-    /// With them, no more numbers are taken than all blocks have, and each is at most 2^D - 1.
+    /// With these, no more numbers are taken than all blocks have, and each is at most 2^D - 1.
     pub fn put_all(&mut self, numbers: &[u16], writer: &mut BitWriter) -> usize
         requires numbers { AllByRecursion (λ n. n < 2 ^ self.old.cut.set.bits) numbers.now }
         requires more { taken_count self.old + length numbers.now ≤ capacity self.old.cut }
@@ -159,7 +158,7 @@ impl BlockWriter {
         self.total += sum_of(numbers);
     }
 
-    /// Takes the last number of a block, and appends what is then known of the body.
+    /// Takes the last number of a block, and appends the part of the body that is then known.
     #[inline(never)]
     fn put_last(&mut self, delta: u16, writer: &mut BitWriter) -> Result<(), Fault>
         requires last { length self.old.held + 1 ≡ self.old.cut.size }
@@ -192,10 +191,10 @@ impl BlockWriter {
         Ok(())
     }
 
-    /// Ends the body: appends what is still held, with the block begun filled with zeros.
+    /// Ends the body: appends all that is held, with the block begun filled with zeros.
     ///
-    /// All numbers were taken. Memory is asked for only where they end inside a block. After
-    /// `WantOfMemory` nothing was changed, and the call may be made again.
+    /// All numbers were taken. It allocates only where they end inside a block. Returns `WantOfMemory` if the
+    /// allocation fails; then nothing was changed, and the call may be repeated.
     pub fn end(&mut self, writer: &mut BitWriter) -> Result<(), Fault>
         ensures ended { OnOk result (EndsBody self.old writer.old.bits writer.new.bits) }
         ensures behind { OnOk result (self.new ≡ ended self.old) }
@@ -211,8 +210,8 @@ impl BlockWriter {
         self.pack(&block[..size], self.total, writer)
     }
 
-    /// Takes a whole block with this sum in place of the values held, and appends what is then known of
-    /// the body.
+    /// Takes a whole block with this sum in place of the values held, and appends the part of the body that is
+    /// then known.
     #[inline(never)]
     fn pack(&mut self, block: &[u16], total: u32, writer: &mut BitWriter) -> Result<(), Fault>
         requires whole { length block.now ≡ self.old.cut.size }
@@ -238,7 +237,7 @@ impl BlockWriter {
     }
 }
 
-/// What at most 64 numbers add up to.
+/// Returns the sum of at most 64 numbers.
 #[inline(always)]
 fn sum_of(numbers: &[u16]) -> u32
     requires { length numbers.now ≤ 64 }
@@ -251,7 +250,7 @@ fn sum_of(numbers: &[u16]) -> u32
     total
 }
 
-/// The values with zeros behind them.
+/// Returns the first `held` values, followed by zeros.
 fn filled_block(values: &[u16; 64], held: u32) -> [u16; 64]
     requires { held ≤ 64 }
     ensures { (n : ℕ) → held ≤ n → n ≤ 64 → take n result ≡ take held values.now ++ replicate (n - held) 0 }

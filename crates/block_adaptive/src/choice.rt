@@ -7,8 +7,7 @@ ghost use Rattle.block_adaptive.specs.declared.options.Choice.TheVariants.{Uncod
 
 use crate::options::{Choice, CodeSet};
 
-/// How many bits the identifiers have, but for those of zero blocks and the second extension, which
-/// have one more.
+/// Returns the number of bits of an identifier; those of zero blocks and of the second extension have one more.
 pub(crate) fn identifier_width(set: &CodeSet) -> u32
     ensures value { result ≡ width set.now }
     ensures least { 1 ≤ result }
@@ -23,7 +22,7 @@ pub(crate) fn identifier_width(set: &CodeSet) -> u32
     }
 }
 
-/// How many bits the quotients of a block have under split-sample.
+/// Returns the number of bits of a block's quotients under split-sample.
 fn quotients_cost(k: u32, block: &[u16]) -> u64
     requires k { k ≤ 15 }
     requires few { length block.now ≤ 64 }
@@ -38,7 +37,7 @@ fn quotients_cost(k: u32, block: &[u16]) -> u64
     u64::from(total)
 }
 
-/// How many bits a pair has under the second extension.
+/// Returns the number of bits of a pair under the second extension.
 fn pair_cost(first: u16, second: u16) -> u64
     ensures value { result ≡ pair_number first second + 1 }
     ensures bound { result ≤ 2 ^ 34 }
@@ -47,7 +46,7 @@ fn pair_cost(first: u16, second: u16) -> u64
     sum * (sum + 1) / 2 + u64::from(second) + 1
 }
 
-/// How many bits a block's pairs have under the second extension.
+/// Returns the number of bits of a block's pairs under the second extension.
 fn pairs_cost(block: &[u16]) -> u64
     requires few { length block.now ≤ 64 }
     ensures value { result ≡ length (pair_codes block.now) }
@@ -65,7 +64,7 @@ fn pairs_cost(block: &[u16]) -> u64
     total
 }
 
-/// How many bits a block's data set has under an option, with its identifier.
+/// Returns the number of bits of a block's coded data set under an option, identifier included.
 ///
 /// The block has at most 64 values, and the option is one of the set.
 pub fn option_cost(set: &CodeSet, block: &[u16], choice: Choice) -> u64
@@ -84,8 +83,8 @@ pub fn option_cost(set: &CodeSet, block: &[u16], choice: Choice) -> u64
     }
 }
 
-/// The first k that may have the shortest data set, by the sum of the values: up to it each k is shorter
-/// than the one before, and from two behind it on none is.
+/// Returns the first k that may have the shortest data set, by the sum of the values: up to it each k is
+/// shorter than the one before, and from two after it on none is.
 fn first_split(splits: u32, sum: u64, len: u64) -> u32
     requires splits { splits ≤ 14 }
     requires len { len ≤ 64 }
@@ -107,7 +106,7 @@ fn first_split(splits: u32, sum: u64, len: u64) -> u32
     first
 }
 
-/// The sums of a block's quotients under k and the next two, in one pass.
+/// Returns the sums of a block's quotients under k and the next two, in one pass.
 fn quotient_sums(k: u32, block: &[u16]) -> [u32; 3]
     requires k { k ≤ 13 }
     requires few { length block.now ≤ 64 }
@@ -124,7 +123,7 @@ fn quotient_sums(k: u32, block: &[u16]) -> [u32; 3]
     [first, second, third]
 }
 
-/// How many bits a block's data set has under split-sample, by the sum of its quotients.
+/// Returns the number of bits of a block's data set under split-sample, by the sum of its quotients.
 fn split_cost(width: u32, k: u32, quotients: u32, len: u64) -> u64
     requires width { width ≤ 4 }
     requires k { k ≤ 15 }
@@ -134,10 +133,10 @@ fn split_cost(width: u32, k: u32, quotients: u32, len: u64) -> u64
     u64::from(width) + u64::from(quotients) + len + u64::from(k) * len
 }
 
-/// The option with the shortest data set, and how many bits that has: of several uncoded first, then the
-/// second extension, then the smallest k.
+/// Returns the option with the shortest data set, and its number of bits: of equally short ones uncoded first,
+/// then the second extension, then the smallest k.
 ///
-/// The sum of the values tells of most options that they are no shorter, without going over the block.
+/// The sum of the values shows of most options that they are no shorter, without a pass over the block.
 pub(crate) fn choose(set: &CodeSet, block: &[u16], total: u32) -> (Choice, u64)
     requires bits { set.now.bits ≤ 16 }
     requires few { length block.now ≤ 64 }
@@ -154,7 +153,7 @@ pub(crate) fn choose(set: &CodeSet, block: &[u16], total: u32) -> (Choice, u64)
     }
 }
 
-/// Uncoded, or the second extension where that is shorter, and how many bits the block has then.
+/// Returns uncoded, or the second extension where that is shorter, and the number of bits of the block then.
 fn without_split(set: &CodeSet, block: &[u16]) -> (Choice, u64)
     requires bits { set.now.bits ≤ 16 }
     requires few { length block.now ≤ 64 }
@@ -171,9 +170,9 @@ fn without_split(set: &CodeSet, block: &[u16]) -> (Choice, u64)
     }
 }
 
-/// The choice for values that are less than 1 on average, or in a set without split-sample.
+/// Returns the choice for values that are less than 1 on average, or in a set without split-sample.
 ///
-/// Each k above 0 has two bits for each value at least, and so isn't shorter than k = 0.
+/// Each k above 0 has at least two bits for each value, and so isn't shorter than k = 0.
 fn choose_of_small(set: &CodeSet, block: &[u16], total: u32) -> (Choice, u64)
     requires bits { set.now.bits ≤ 16 }
     requires few { length block.now ≤ 64 }
@@ -193,7 +192,7 @@ fn choose_of_small(set: &CodeSet, block: &[u16], total: u32) -> (Choice, u64)
     }
 }
 
-/// The choice for values that are at least 1 on average, in a set with split-sample.
+/// Returns the choice for values that are at least 1 on average, in a set with split-sample.
 ///
 /// The second extension isn't shorter than k = 0, and only three k may be the shortest.
 fn choose_of_large(set: &CodeSet, block: &[u16], total: u32) -> (Choice, u64)

@@ -15,7 +15,7 @@ use crate::pairs::pairs;
 use cube_core::fault::Fault;
 use header_bits::bit_reader::BitReader;
 
-/// The zeros of a fundamental sequence, of which there may be so many.
+/// Reads a fundamental sequence of at most `most` zeros, and returns the number of its zeros.
 #[inline(always)]
 #[tactic(auto, unfolding(crate::specs::Reading::fundamental_at))]
 pub(crate) fn fundamental(reader: &mut BitReader, block: u64, most: u64) -> Result<u64, Fault>
@@ -31,7 +31,7 @@ pub(crate) fn fundamental(reader: &mut BitReader, block: u64, most: u64) -> Resu
     Ok(zeros)
 }
 
-/// Reads fundamental sequences, one for each place.
+/// Reads a fundamental sequence for each value.
 fn quotients(reader: &mut BitReader, block: u64, most: u16, values: &mut [u16]) -> Result<(), Fault>
     ensures read { Reads (λ _. values.new) result reader.new.left (quotients_at (site_of reader.old block) most (length values.old) reader.old.left) }
     ensures count { reader.new.count ≡ reader.old.count }
@@ -51,7 +51,7 @@ fn quotients(reader: &mut BitReader, block: u64, most: u16, values: &mut [u16]) 
     Ok(())
 }
 
-/// The value of a quotient and the low bits that come next.
+/// Reads the low bits that come next, and returns the value made of a quotient and them.
 #[inline(always)]
 #[tactic(auto, unfolding(crate::specs::Reading::low_at))]
 fn whole(reader: &mut BitReader, block: u64, k: u32, most: u16, quotient: u16) -> Result<u16, Fault>
@@ -67,7 +67,7 @@ fn whole(reader: &mut BitReader, block: u64, k: u32, most: u16, quotient: u16) -
     Ok(value as u16)
 }
 
-/// Reads the low bits behind each quotient.
+/// Reads the low bits of each value, whose quotient is known.
 fn lows(
     reader: &mut BitReader,
     block: u64,
@@ -111,7 +111,7 @@ fn split(
     lows(reader, block, k, most, values)
 }
 
-/// The run of zero blocks that a run code names.
+/// Reads a run code, and returns its run of zero blocks.
 #[tactic(auto, unfolding(crate::specs::Reading::run_at))]
 fn run(reader: &mut BitReader, block: u64, left: u32) -> Result<Found, Fault>
     requires { left ≤ 64 }
@@ -134,7 +134,7 @@ fn run(reader: &mut BitReader, block: u64, left: u32) -> Result<Found, Fault>
     Ok(Found::Run(named as u32))
 }
 
-/// The greatest value, 2^D - 1.
+/// Returns the greatest value, 2^D - 1.
 fn largest(set: &CodeSet) -> u16
     requires { set.now.bits ≤ 16 }
     ensures { result ≡ greatest_value set.now }
@@ -142,7 +142,7 @@ fn largest(set: &CodeSet) -> u16
     ((1u32 << set.bits) - 1) as u16
 }
 
-/// Reads numbers of so many bits, one for each place.
+/// Reads a number of `depth` bits for each value.
 fn words(reader: &mut BitReader, depth: u32, values: &mut [u16]) -> Result<(), Fault>
     requires { depth ≤ 16 }
     ensures read { Reads (λ _. values.new) result reader.new.left (words_at reader.old.count depth (length values.old) reader.old.left) }
@@ -154,7 +154,7 @@ fn words(reader: &mut BitReader, depth: u32, values: &mut [u16]) -> Result<(), F
     Ok(())
 }
 
-/// Reads one coded data set, where so many blocks are left in the segment. The values of a block are written.
+/// Reads one coded data set, where `left` blocks are left in the segment. The values of a block are written.
 #[tactic(auto, unfolding(crate::specs::Reading::data_set_at))]
 pub(crate) fn data_set(
     reader: &mut BitReader,
@@ -190,9 +190,10 @@ pub(crate) fn data_set(
     }
 }
 
-/// Reads one lawful coded data set, where so many blocks are left in the segment. The values of a block are written.
+/// Reads one lawful coded data set, where `left` blocks are left in the segment. The values of a block are
+/// written.
 ///
-/// The refusal is that of the first part of the data set that isn't lawful, and names the block.
+/// The refusal is that of the first unlawful part of the data set, and names the block.
 pub(crate) fn read_data_set(
     reader: &mut BitReader,
     block: u64,

@@ -1,14 +1,14 @@
-//! What one coded data set stands for.
+//! The contents of one coded data set.
 
 use crate::options::Choice;
 
 /// What was read as one coded data set.
 #[derive(Clone, Copy, Debug, PartialEq, Eq, Drop)]
 pub(crate) enum Found {
-    /// A block under an option; its values stand elsewhere.
+    /// A block under an option; its values are written elsewhere.
     Block(Choice),
-    /// So many blocks of zeros.
+    /// This many zero blocks.
     Run(u32),
-    /// Blocks of zeros up to the segment's end.
+    /// Zero blocks up to the segment's end.
     RestOfSegment,
 }

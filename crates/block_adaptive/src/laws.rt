@@ -4,12 +4,12 @@ ghost use Rattle.block_adaptive.specs.Laws.{OneText, OneBody, OptionIsLeast, Cho
 ghost use Rattle.block_adaptive.specs.Laws.{SegmentsAreCounted, NoShorterBody, FaultIsNoDataSet};
 ghost use Rattle.block_adaptive.specs.Prefixes.{TakenIsPrefix};
 
-/// Two lawful data sets of which one begins the other are one data set.
+/// Two lawful data sets are equal if one is a prefix of the other.
 pub fn one_text()
     ensures { OneText }
 {}
 
-/// The chosen option is the shortest, and of several the first.
+/// The chosen option is the shortest, and of equally short ones the first.
 pub fn option_is_least()
     ensures { OptionIsLeast }
 {}
@@ -34,12 +34,12 @@ pub fn chosen_is_body()
     ensures { ChosenIsBody }
 {}
 
-/// What a writer has appended begins the chosen body, whatever numbers are still to come.
+/// What a writer has appended is a prefix of the chosen body, whatever numbers are still to come.
 pub fn taken_is_prefix()
     ensures { TakenIsPrefix }
 {}
 
-/// The data sets of a body are read exactly where lawful data sets for all blocks stand.
+/// The data sets of a body are read exactly where the bits have lawful data sets for all blocks.
 pub fn body_is_read()
     ensures { BodyIsRead }
 {}
@@ -54,13 +54,13 @@ pub fn segments_are_counted()
     ensures { SegmentsAreCounted }
 {}
 
-/// A body has three bits at least for each segment of its blocks.
+/// A body has at least three bits for each segment of its blocks.
 pub fn no_shorter_body()
     ensures { NoShorterBody }
 {}
 
-/// Where a data set is refused no lawful data set begins the bits. Unless they ended too early, none does whatever
-/// bits follow.
+/// Where a data set is refused, no lawful data set is a prefix of the bits. Unless they ended too early, none
+/// is whatever bits follow.
 pub fn fault_is_no_data_set()
     ensures { FaultIsNoDataSet }
 {}

@@ -8,7 +8,7 @@ use crate::data_sets::fundamental;
 use cube_core::fault::Fault;
 use header_bits::bit_reader::BitReader;
 
-/// The sum of a pair, from the pair's number.
+/// Returns the sum of a pair, from the pair's number.
 fn sum_of(most: u16, number: u64) -> u64
     requires { number ≤ 2 * most * (most + 1) }
     ensures value { result ≡ pair_sum most number }
@@ -18,7 +18,7 @@ fn sum_of(most: u16, number: u64) -> u64
     ((8 * number + 1).isqrt() - 1) / 2
 }
 
-/// The pair with a number, which belongs to a data set of the block.
+/// Returns the pair with a number, which comes from a data set of the block.
 #[tactic(auto, unfolding(crate::specs::Reading::pair_of))]
 fn pair(block: u64, most: u16, number: u64) -> Result<(u16, u16), Fault>
     requires { number ≤ 2 * most * (most + 1) }
@@ -37,7 +37,7 @@ fn pair(block: u64, most: u16, number: u64) -> Result<(u16, u16), Fault>
     Ok((first as u16, second as u16))
 }
 
-/// Reads pairs, one for each two places.
+/// Reads a pair for each two values.
 pub(crate) fn pairs(
     reader: &mut BitReader,
     block: u64,

@@ -6,10 +6,10 @@ ghost use Rattle.block_adaptive.specs.Places.{IsPlace, blocks_from};
 ghost use Rattle.block_adaptive.specs.Segments.{segment_count};
 ghost use Rattle.block_adaptive.specs.Settings.{IsSize};
 
-/// How many segments the blocks of so many numbers are cut into. It takes no memory.
+/// Returns the number of segments into which the blocks of `samples` numbers are cut. It allocates nothing.
 ///
-/// There are 1 to 2^48 numbers, in blocks of 8, 16, 32 or 64; at each `reference`-th block, 1 to 4096,
-/// segments of 64 blocks begin anew.
+/// `samples` is 1 to 2^48, and `size`, the numbers in a block, 8, 16, 32 or 64. After every `reference` blocks,
+/// 1 to 4096, segments of 64 blocks begin anew.
 pub fn segment_count(samples: u64, size: u32, reference: u32) -> u64
     requires samples { InRange 1 (2 ^ 48) samples }
     requires size { IsSize size }
@@ -21,18 +21,18 @@ pub fn segment_count(samples: u64, size: u32, reference: u32) -> u64
     blocks / interval * interval.div_ceil(64) + (blocks % interval).div_ceil(64)
 }
 
-/// Where a block stands among the others.
+/// The position of a block among the others.
 #[derive(Clone, Copy, Drop)]
 pub(crate) struct Place {
-    /// r: at each `reference`-th block segments of 64 begin anew.
+    /// r: after every `reference` blocks segments of 64 begin anew.
     pub(crate) reference: u32,
-    /// How many blocks there are in all.
+    /// The number of all blocks.
     pub(crate) count: u64,
-    /// The block.
+    /// The index of the block.
     pub(crate) block: u64,
 }
 
-/// How many blocks there are from this block, itself counted, to its segment's end.
+/// Returns how many blocks there are from this block on, including it, to the end of its segment.
 #[tactic(auto, unfolding(crate::specs::Segments::segment_rest))]
 pub(crate) fn blocks_left(place: &Place) -> u32
     requires { IsPlace place.now }

@@ -1,4 +1,4 @@
-//! Writing coded data sets into room that was reserved for them.
+//! Writing coded data sets into reserved room.
 
 ghost use Rattle.std.specs.Prelude.{◌≡◌, ◌+◌, ◌%◌, ◌^◌, ◌<◌, ◌≤◌, ◌++◌, length, sum, OnOk, OnErr, IfErr, IfOk};
 ghost use Rattle.std.specs.List.{AllByRecursion};
@@ -39,7 +39,7 @@ fn write_fundamental(writer: &mut BitWriter, zeros: u64)
     write_number(writer, 1, left as u32 + 1);
 }
 
-/// The `held` bits of a part and a number's `n` bits behind them, which go out by one push then.
+/// Returns the `held` bits of a part followed by a number's `n` bits, so that one push writes both.
 #[inline(always)]
 fn joined(part: u64, held: u32, bits: u64, n: u32) -> u64
     requires few { (n < 64) × (held + n ≤ 64) }
@@ -137,7 +137,7 @@ fn write_option(writer: &mut BitWriter, set: &CodeSet, choice: Choice, block: &[
     }
 }
 
-/// Writes the coded data set of a run, whose code has so many zeros.
+/// Writes the coded data set of a run, whose code has `zeros` zeros.
 fn write_run(writer: &mut BitWriter, set: &CodeSet, zeros: u32)
     requires room { length (run_text set.now (fundamental zeros)) ≤ writer.old.room }
     ensures { Writes writer.old writer.new (run_text set.now (fundamental zeros)) }
@@ -146,7 +146,7 @@ fn write_run(writer: &mut BitWriter, set: &CodeSet, zeros: u32)
     write_fundamental(writer, u64::from(zeros));
 }
 
-/// How many zeros the code of a run has.
+/// Returns the number of zeros of a run's code.
 #[tactic(auto, unfolding(crate::specs::DataSets::run_code))]
 fn zeros_of_run(blocks: u32) -> u32
     ensures code { fundamental result ≡ run_code blocks }
@@ -159,7 +159,7 @@ fn zeros_of_run(blocks: u32) -> u32
     }
 }
 
-/// How many bits the data set of a run has, whose code has so many zeros.
+/// Returns the number of bits of the data set of a run, whose code has `zeros` zeros.
 fn run_cost(set: &CodeSet, zeros: u32) -> u64
     requires { zeros ≤ 64 }
     ensures value { result ≡ length (run_text set.now (fundamental zeros)) }
@@ -182,7 +182,7 @@ fn write_rest(writer: &mut BitWriter, set: &CodeSet, left: u32) -> Result<(), Fa
     Ok(())
 }
 
-/// Writes a block that isn't zeros, whose values have this sum, behind a run of so many that are.
+/// Writes a block that isn't a zero block, whose values have this sum, after a run of zero blocks.
 #[tactic(auto, unfolding(crate::specs::DataSets::spelled))]
 fn write_block(
     writer: &mut BitWriter,
@@ -212,10 +212,10 @@ fn write_block(
     Ok(())
 }
 
-/// Writes the data sets that a whole block makes, whose values have this sum, behind so many blocks of zeros
-/// that are held; answers how many are held then.
+/// Writes the data sets that a whole block completes, whose values have this sum, after the zero blocks that
+/// are held; returns how many are held then.
 ///
-/// The first one held stands at the place. The memory is asked for first.
+/// The first zero block held is at `place`. It allocates first.
 #[tactic(auto, unfolding(crate::specs::Segments::segment_rest))]
 pub(crate) fn write_data_sets(
     writer: &mut BitWriter,
