@@ -1,4 +1,4 @@
-//! The end of a lane that has sent all that it sends.
+//! The sending end of a lane, once it is closed.
 
 ghost use Rattle.std.specs.Prelude.{◌≡◌, length};
 ghost use Rattle.rtrb.specs.Ring.{sent};
@@ -7,7 +7,7 @@ ghost use Rattle.band_rings.specs.Ends.{name_of_producer};
 use rtrb::Producer;
 use std::marker::Model;
 
-/// An end that sends no more. It keeps the ring until the lane is settled.
+/// A sending end that sends no more. It keeps the ring until the lane is settled.
 ///
 /// Contracts see its lane and all that it sent.
 #[derive(Drop)]
@@ -30,7 +30,7 @@ impl Model for ClosedLane {
 }
 
 impl ClosedLane {
-    /// The sending end of a ring into which so many numbers were sent.
+    /// Returns the closed end of a ring into which `count` numbers were sent.
     pub(crate) fn new(producer: Producer<u16>, count: u64) -> ClosedLane
         requires { count ≡ length (sent producer) }
         ensures { (result.lane ≡ name_of_producer producer) × (result.sent ≡ sent producer) }
@@ -38,7 +38,7 @@ impl ClosedLane {
         ClosedLane { producer, count }
     }
 
-    /// How many numbers were sent.
+    /// Returns how many numbers were sent.
     pub fn sent_count(&self) -> u64
         ensures { result ≡ length self.now.sent }
     {

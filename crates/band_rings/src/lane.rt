@@ -1,4 +1,4 @@
-//! A lane between two threads: a ring of slots through which numbers go in order.
+//! A lane between two threads: a ring of slots that carries numbers in order.
 
 ghost use Rattle.std.specs.Prelude.{◌≡◌, ◌<◌, ◌⊎◌, [], pos, IsOk, IfOk, IfErr};
 ghost use Rattle.cube_core.specs.Shape.{InRange};
@@ -11,14 +11,14 @@ use cube_core::fault::{Fault, Field};
 use rtrb::RingBuffer;
 use std::alloc::Global;
 
-/// The most slots that a lane has.
+/// The greatest number of slots of a lane.
 const MOST_SLOTS: u32 = 65_536;
 
-/// A lane of so many slots, 1 to 65,536: the end that sends and the end that receives. Either may
-/// move to a thread of its own, and no call of either waits or takes memory.
+/// Returns the sending and the receiving end of a lane of `slots` slots, 1 to 65,536. Either end may move to a
+/// thread of its own, and no call of either waits or allocates.
 ///
-/// Where the number of slots is out of range the answer is `FieldRange` of `Slots`; `WantOfMemory`
-/// where the room isn't had.
+/// Returns `FieldRange` of `Slots` if the number of slots is out of range; `WantOfMemory` if the ring can't be
+/// allocated.
 pub fn lane(alloc: Global, slots: u32) -> Result<(LaneSender, LaneReceiver), Fault>
     ensures pair { IfOk result (λ ends. ends.0.lane ≡ ends.1.lane) }
     ensures sender { IfOk result (λ ends. (ends.0.sent ≡ []) × (ends.0.free ≡ slots) × (ends.0.slots ≡ slots)) }

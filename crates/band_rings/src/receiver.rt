@@ -1,4 +1,4 @@
-//! The end of a lane that receives.
+//! The receiving end of a lane.
 
 ghost use Rattle.std.specs.Prelude.{◌≡◌, ◌<◌, ◌≤◌, [], ◌∷◌, ◌++◌, length, take, drop, min, IfSome, IfNone, IsSome};
 ghost use mathlib.Core.List.{IsPrefix};
@@ -34,7 +34,8 @@ impl LaneReceiver {
         LaneReceiver { consumer }
     }
 
-    /// Receives the next number, or none where none was there to see. A number that is known to be there is received.
+    /// Receives and returns the next number, or returns `None` if it sees none. A number that is known to be
+    /// there is received.
     pub fn try_recv(&mut self) -> Option<u16>
         ensures lane { self.new.lane ≡ self.old.lane }
         ensures received { IfSome result (λ number. (self.new.received ≡ self.old.received ++ number ∷ [])
@@ -45,8 +46,8 @@ impl LaneReceiver {
         self.consumer.pop().ok()
     }
 
-    /// Receives numbers into the front of a room, in order, and answers how many: as many as there were
-    /// to see, or as the room holds. What stands behind them in the room stays as it was.
+    /// Receives numbers into the front of `room`, in order, and returns how many: all that it sees, or as many
+    /// as `room` holds. The rest of `room` is unchanged.
     pub fn recv_run(&mut self, room: &mut [u16]) -> usize
         ensures lane { self.new.lane ≡ self.old.lane }
         ensures within { result ≤ length room.old }

@@ -1,4 +1,4 @@
-//! The end of a lane that sends.
+//! The sending end of a lane.
 
 ghost use Rattle.std.specs.Prelude.{◌≡◌, ◌+◌, ◌-◌, ◌^◌, ◌<◌, ◌≤◌, [], ◌∷◌, ◌++◌, length, IfErr, IsOk, IsErr, OnOk, IsTrue, IsFalse};
 ghost use Rattle.cube_core.specs.Shape.{InRange};
@@ -48,7 +48,7 @@ impl LaneSender {
         LaneSender { producer, count: 0 }
     }
 
-    /// How many slots the lane has.
+    /// Returns the number of slots of the lane.
     pub fn slots(&self) -> u32
         ensures value { result ≡ self.now.slots }
         ensures range { InRange 1 65536 result }
@@ -56,17 +56,17 @@ impl LaneSender {
         self.producer.capacity() as u32
     }
 
-    /// How many numbers were sent.
+    /// Returns how many numbers were sent.
     pub fn sent_count(&self) -> u64
         ensures { result ≡ length self.now.sent }
     {
         self.count
     }
 
-    /// Sends a number, or hands it back: then nothing has changed.
+    /// Sends a number, or returns it as an error and changes nothing.
     ///
-    /// It succeeds where fewer numbers than slots were sent so far, and where a slot is known to be
-    /// free. Once `u64::MAX` numbers were sent, each comes back.
+    /// It succeeds where fewer numbers than slots were sent so far, and where a slot is known to be free. Once
+    /// `u64::MAX` numbers were sent, it always fails.
     pub fn try_send(&mut self, number: u16) -> Result<(), u16>
         ensures lane { (self.new.lane ≡ self.old.lane) × (self.new.slots ≡ self.old.slots) }
         ensures sent { OnOk result ((self.new.sent ≡ self.old.sent ++ number ∷ []) × (self.old.free ≤ self.new.free + 1)) }
@@ -87,10 +87,11 @@ impl LaneSender {
         }
     }
 
-    /// Sends all numbers in order, or answers false and none was sent.
+    /// Sends all numbers in order and returns true, or sends none and returns false.
     ///
-    /// It succeeds where the numbers sent so far and these are together no more than the slots, and where
-    /// so many slots are known to be free. It answers false where more than `u64::MAX` would have been sent.
+    /// It succeeds where the numbers sent so far and these together are at most the number of slots, and where
+    /// enough slots for these are known to be free. It returns false if more than `u64::MAX` numbers would have
+    /// been sent.
     pub fn send_run(&mut self, numbers: &[u16]) -> bool
         ensures lane { (self.new.lane ≡ self.old.lane) × (self.new.slots ≡ self.old.slots) }
         ensures sent { IsTrue result → (self.new.sent ≡ self.old.sent ++ numbers.now) × (self.old.free ≤ self.new.free + length numbers.now) }
@@ -109,7 +110,7 @@ impl LaneSender {
         true
     }
 
-    /// Ends the sending: no call of what is left sends.
+    /// Closes the sending end. No call of the closed end sends.
     pub fn close(self) -> ClosedLane
         ensures { (result.lane ≡ self.lane) × (result.sent ≡ self.sent) }
     {

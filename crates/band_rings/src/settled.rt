@@ -1,4 +1,4 @@
-//! Both ends of a lane in one thread again.
+//! Both ends of a lane, in one thread again.
 
 ghost use Rattle.std.specs.Prelude.{◌≡◌, ◌-◌, [], ◌∷◌, ◌++◌, length, IfSome, IfNone};
 ghost use Rattle.rtrb.specs.Ring.{received, known_items};
@@ -9,7 +9,7 @@ use crate::receiver::LaneReceiver;
 use rtrb::Consumer;
 use std::marker::Model;
 
-/// A lane whose two ends have met. What was sent is what was received, and then a rest.
+/// A lane whose two ends are in one thread again. What was sent is what was received, followed by a rest.
 ///
 /// Contracts see these three lists.
 #[derive(Drop)]
@@ -32,8 +32,8 @@ impl Model for SettledLane {
     ghost invariant = { λ s. (s.closed.sent ≡ received s.consumer ++ known_items s.consumer) × (s.left ≡ length (known_items s.consumer)) };
 }
 
-/// Brings the two ends of one lane together. Each keeps its list, and what was sent and not received is the rest,
-/// whatever the two threads did.
+/// Brings the two ends of one lane together. Each keeps its list, and what was sent and not received is the
+/// rest, whatever the two threads did.
 pub fn settle(receiver: LaneReceiver, closed: ClosedLane) -> SettledLane
     requires { receiver.lane ≡ closed.lane }
     ensures kept { (result.sent ≡ closed.sent) × (result.received ≡ receiver.received) }
@@ -53,7 +53,7 @@ pub fn settle(receiver: LaneReceiver, closed: ClosedLane) -> SettledLane
 }
 
 impl SettledLane {
-    /// Receives the first number of the rest. None exactly where the rest is empty.
+    /// Receives and returns the first number of the rest, or `None` exactly if the rest is empty.
     pub fn take_left(&mut self) -> Option<u16>
         ensures kept { self.new.sent ≡ self.old.sent }
         ensures lane { IsLane self.new }
@@ -68,14 +68,14 @@ impl SettledLane {
         Some(number)
     }
 
-    /// How many numbers were sent.
+    /// Returns how many numbers were sent.
     pub fn sent_count(&self) -> u64
         ensures { result ≡ length self.now.sent }
     {
         self.closed.sent_count()
     }
 
-    /// How many numbers were received.
+    /// Returns how many numbers were received.
     pub fn received_count(&self) -> u64
         ensures { result ≡ length self.now.received }
     {
