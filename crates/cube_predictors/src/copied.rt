@@ -1,4 +1,4 @@
-//! Parameters copied, with their tables.
+//! Copies of parameters, with their tables.
 
 ghost use Rattle.std.specs.Prelude.{◌≡◌, IfOk, IfErr};
 ghost use Rattle.cube_core.specs.declared.fault.Fault.TheVariants.{WantOfMemory};
@@ -8,7 +8,7 @@ use header_bits::params::{Coder, CountStart, Params, WeightStart};
 use header_bits::tables::{ConstantTable, WeightTable};
 use std::alloc::Global;
 
-/// The same parameters once more. `WantOfMemory` where there is none for their tables.
+/// Returns a copy of the parameters, or `WantOfMemory` if their tables can't be allocated.
 pub(crate) fn copied(alloc: Global, params: &Params) -> Result<Params, Fault>
     ensures same { IfOk result (λ p. p ≡ params.now) }
     ensures refused { IfErr result (λ e. e ≡ WantOfMemory) }
@@ -32,7 +32,7 @@ pub(crate) fn copied(alloc: Global, params: &Params) -> Result<Params, Fault>
     })
 }
 
-/// The same weights to start from.
+/// Returns a copy of the weight start.
 fn same_start(alloc: Global, start: &WeightStart) -> Result<WeightStart, Fault>
     ensures same { IfOk result (λ s. s ≡ start.now) }
     ensures refused { IfErr result (λ e. e ≡ WantOfMemory) }
@@ -46,7 +46,7 @@ fn same_start(alloc: Global, start: &WeightStart) -> Result<WeightStart, Fault>
     }
 }
 
-/// The same coder.
+/// Returns a copy of the coder's parameters.
 fn same_coder(alloc: Global, coder: &Coder) -> Result<Coder, Fault>
     ensures same { IfOk result (λ c. c ≡ coder.now) }
     ensures refused { IfErr result (λ e. e ≡ WantOfMemory) }
@@ -75,7 +75,7 @@ fn same_coder(alloc: Global, coder: &Coder) -> Result<Coder, Fault>
     }
 }
 
-/// The same constants.
+/// Returns a copy of the accumulator start.
 fn same_counts(alloc: Global, start: &CountStart) -> Result<CountStart, Fault>
     ensures same { IfOk result (λ s. s ≡ start.now) }
     ensures refused { IfErr result (λ e. e ≡ WantOfMemory) }

@@ -19,7 +19,7 @@ use std::alloc::Global;
 use std::marker::Model;
 use std::sync::Wait;
 
-/// A predictor of a plan, with its bands, before it looks at a cube.
+/// A predictor of a plan, with its bands, before it reads a cube.
 #[derive(Drop)]
 pub struct CubeFeed<'a> {
     cube: &'a Cube,
@@ -54,9 +54,10 @@ impl<'a> Feed for CubeFeed<'a> {
     }
 }
 
-/// A feed for each predictor of a plan, which sends its part of the residuals of a cube.
+/// Returns a feed for each predictor of a plan, in order. Each sends its predictor's part of the residuals of a
+/// cube.
 ///
-/// The cube has the plan's shape and kind. `WantOfMemory` where the room for what the bands learn isn't had.
+/// The cube has the plan's shape and kind. Returns `WantOfMemory` if the predictors' state can't be allocated.
 pub fn cube_feeds<'a>(
     alloc: Global,
     cube: &'a Cube,
@@ -78,7 +79,7 @@ pub fn cube_feeds<'a>(
     Ok(feeds)
 }
 
-/// The bands that a plan deals to a predictor, each before its first place.
+/// Returns the predictors of the bands that a plan deals to a predictor, each at its first place.
 fn own_bands(alloc: Global, plan: &Plan, predictor: u32) -> Result<Vec<Band>, Fault>
     ensures fresh { IfOk result (λ bands. (c : Image) → AreFresh plan.now.params predictor plan.now.deal c bands.items) }
     ensures refused { IfErr result (λ e. e ≡ WantOfMemory) }

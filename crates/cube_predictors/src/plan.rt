@@ -12,10 +12,10 @@ use header_bits::params::Params;
 use std::alloc::Global;
 use std::marker::Model;
 
-/// The greatest number of a band that is told.
+/// The greatest band number that is reported.
 const GREATEST_TOLD: usize = 4_294_967_295;
 
-/// Which of the predictors of an image each band is dealt to, and how many residuals a predictor may be ahead of the coding end.
+/// The predictor of each band of an image, and how many residuals a predictor may be ahead of the coding end.
 #[derive(Drop)]
 pub struct Plan {
     params: Params,
@@ -35,14 +35,14 @@ impl Model for Plan {
 }
 
 impl Plan {
-    /// A plan for an image of lawful parameters: band z goes to predictor `deal[z]`, and each
-    /// predictor's lane has room for so many residuals.
+    /// Returns a plan for an image of lawful parameters: band z belongs to predictor `deal[z]`, and each
+    /// predictor's lane has room for `slots` residuals.
     ///
-    /// There are 1 to 64 predictors and 1 to 65,536 slots; else the answer is `FieldRange` of
-    /// `Predictors`, then of `Slots`. `BadDeal` names the first band that is dealt to no predictor; where
-    /// there is none and the deal has not one entry for each band, it names the first band that one of
-    /// the two lacks. `WantOfMemory` comes only behind these, where there is none for the deal or for the
-    /// tables of the parameters, which the plan holds once more.
+    /// There are 1 to 64 predictors and 1 to 65,536 slots. Returns `FieldRange` of `Predictors`, then of
+    /// `Slots`, if they are out of range. Returns `BadDeal` with the first band whose predictor doesn't exist;
+    /// if there is none and the deal doesn't have exactly one entry for each band, with the first band that
+    /// either the deal or the image lacks. Only after these it returns `WantOfMemory`, if the copy of the deal
+    /// or of the parameters' tables can't be allocated.
     pub fn new(
         alloc: Global,
         params: &Params,
@@ -60,7 +60,7 @@ impl Plan {
         Plan::made(alloc, params, predictors, deal, slots)
     }
 
-    /// A plan of which nothing is refused but memory.
+    /// Returns a plan for arguments that were checked. Its only refusal is `WantOfMemory`.
     fn made(
         alloc: Global,
         params: &Params,
@@ -81,35 +81,35 @@ impl Plan {
         })
     }
 
-    /// Proves what holds of every plan. It does nothing when it runs.
+    /// Lemma: what holds of every plan. It does nothing at run time.
     pub fn prove_is_plan(&self)
         ensures { IsPlan self.now }
     {
         let _ = &self.slots;
     }
 
-    /// The parameters that the plan is for.
+    /// Returns the parameters that the plan is for.
     pub fn params(&self) -> &Params
         ensures { result.now ≡ self.now.params }
     {
         &self.params
     }
 
-    /// How many predictors there are.
+    /// Returns the number of predictors.
     pub fn predictors(&self) -> u32
         ensures { result ≡ self.now.predictors }
     {
         self.predictors
     }
 
-    /// The predictor of each band.
+    /// Returns the predictor of each band.
     pub fn deal(&self) -> &[u8]
         ensures { result.now ≡ self.now.deal }
     {
         &self.deal
     }
 
-    /// How many residuals a lane has room for.
+    /// Returns how many residuals a lane has room for.
     pub fn slots(&self) -> u32
         ensures { result ≡ self.now.slots }
     {
@@ -117,7 +117,7 @@ impl Plan {
     }
 }
 
-/// The first refusal of a plan.
+/// Returns the first refusal of a plan.
 #[tactic(auto, unfolding(crate::specs::Plans::plan_fault))]
 fn test_plan(predictors: u32, slots: u32, bands: u32, deal: &[u8]) -> Result<(), Fault>
     ensures { result ≡ plan_fault predictors slots bands deal.now }
@@ -128,7 +128,7 @@ fn test_plan(predictors: u32, slots: u32, bands: u32, deal: &[u8]) -> Result<(),
     test_length(bands, deal)
 }
 
-/// Refuses a number that isn't 1 to a greatest one.
+/// Refuses a number that isn't 1 to `most`.
 fn in_range(field: Field, most: u32, number: u32) -> Result<(), Fault>
     ensures { result ≡ in_range_or field 1 most number }
 {
@@ -140,7 +140,7 @@ fn in_range(field: Field, most: u32, number: u32) -> Result<(), Fault>
     }
 }
 
-/// Refuses the first band that is dealt to no predictor.
+/// Refuses the first band whose predictor doesn't exist.
 fn test_owners(predictors: u32, deal: &[u8]) -> Result<(), Fault>
     ensures { result ≡ owner_fault predictors 0 deal.now }
 {

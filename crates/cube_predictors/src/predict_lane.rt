@@ -16,11 +16,12 @@ use lane_workers::run_sender::RunSender;
 use predict_core::band::Band;
 use std::sync::Wait;
 
-/// Sends a predictor's part of the residuals of a cube along a lane, in encoding order, and closes it.
+/// Sends a predictor's part of the residuals of a cube along a lane, in encoding order, and closes the lane.
 ///
 /// The cube has the plan's shape and kind, the bands are those that the plan deals to the predictor, in order
-/// and each before its first place, and nothing was sent into the lane. What was sent begins the part, whatever the receiver does: all of it where the
-/// answer is whole; else the gate may stop the predictor there, and the part is longer. No memory is taken.
+/// and each at its first place, and nothing was sent into the lane. What is sent is a prefix of the part,
+/// whatever the receiver does: all of it where the result is whole; otherwise the gate may stop the predictor
+/// there, and the part is longer. It allocates nothing.
 pub fn predict_lane<R: Wait, G: Gate>(
     rt: &R,
     cube: &Cube,

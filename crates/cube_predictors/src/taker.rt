@@ -1,4 +1,4 @@
-//! What takes residuals, run by run, as a lane of a predictor does.
+//! What residuals are passed to, run by run, such as a predictor's lane.
 
 ghost use Rattle.std.specs.Prelude.{ℕ, Bool, List};
 ghost use Rattle.cube_predictors.specs.Takings.{AreTakings, MaySend};
@@ -9,20 +9,20 @@ use lane_workers::gate::Gate;
 use lane_workers::run_sender::RunSender;
 use std::sync::Wait;
 
-/// What takes numbers until it stops. What it waits by, if it waits, is handed to it.
+/// Takes numbers until it stops. What it waits by, if it waits, is passed to it.
 pub trait Taker<R> {
-    /// It may be given the numbers of a list, in order.
+    /// Whether it may be given the numbers of a list, in order.
     ghost may: { Self → List ℕ → Type 0 };
 
-    /// What has become of it: it took all of a list, or it stopped in the list.
+    /// How a list changes it: it took all of the list, or it stopped within the list.
     ghost takes: { Self → Self → Bool → List ℕ → Type 0 };
 
-    /// Takes some numbers, in order. False where it has stopped.
+    /// Takes some numbers, in order. Returns false if it has stopped.
     fn take(&mut self, rt: &R, numbers: &[u16]) -> bool
         requires { may self.old numbers.now }
         ensures { takes self.old self.new result numbers.now };
 
-    /// Lists may be taken one behind another.
+    /// Lists may be taken one after another.
     ghost laws: { AreTakings may takes };
 }
 

@@ -15,13 +15,13 @@ use cube_core::order::Order;
 use header_bits::params::Params;
 use predict_core::band::Band;
 
-/// The most places of a piece of a row.
+/// The greatest number of places in a piece of a row.
 const PIECE: u32 = 64;
 
-/// The most residuals of a column that are handed on at once.
+/// The greatest number of residuals of a column that are passed on at once.
 const RUN: usize = 64;
 
-/// Each of some bands goes over so many places of row `y`, from column `x` on, and holds their residuals.
+/// Has each of some bands go over `count` places of row `y`, from column `x` on, and hold their residuals.
 fn predict_pieces(cube: &Cube, params: &Params, y: u32, x: u32, count: u32, bands: &mut [Band])
     requires image { IsSeen params.now cube.now }
     requires place { (y < cube.now.shape.rows) × (x < cube.now.shape.columns) }
@@ -48,7 +48,8 @@ fn gather(i: usize, bands: &[Band], residuals: &mut [u16])
     }
 }
 
-/// Sends the residuals that some bands hold of place `i` of their pieces. False where what takes them has stopped.
+/// Sends the residuals that some bands hold of place `i` of their pieces. Returns false if the taker has
+/// stopped.
 #[inline(always)]
 fn send_column<R, T: Taker<R>>(rt: &R, i: usize, bands: &[Band], taker: &mut T) -> bool
     requires place { i < 64 }
@@ -68,9 +69,10 @@ fn send_column<R, T: Taker<R>>(rt: &R, i: usize, bands: &[Band], taker: &mut T) 
     true
 }
 
-/// Sends the residuals that some bands hold of their pieces, column after column. False where what takes them has stopped.
+/// Sends the residuals that some bands hold of their pieces, column after column. Returns false if the taker
+/// has stopped.
 ///
-/// Those of one band are sent as it holds them.
+/// Those of a single band are sent as one slice.
 fn send_pieces<R, T: Taker<R>>(rt: &R, count: usize, bands: &[Band], taker: &mut T) -> bool
     requires piece { count ≤ 64 }
     requires may { T.may taker.old (held_of bands.now count) }
@@ -87,7 +89,7 @@ fn send_pieces<R, T: Taker<R>>(rt: &R, count: usize, bands: &[Band], taker: &mut
     true
 }
 
-/// Sends the residuals of some bands in row `y`, column after column. False where what takes them has stopped.
+/// Sends the residuals of some bands in row `y`, column after column. Returns false if the taker has stopped.
 fn send_row<R, T: Taker<R>>(
     rt: &R,
     cube: &Cube,
@@ -117,7 +119,7 @@ fn send_row<R, T: Taker<R>>(
     true
 }
 
-/// Sends the residuals of some bands, row after row. False where what takes them has stopped.
+/// Sends the residuals of some bands, row after row. Returns false if the taker has stopped.
 fn send_rows<R, T: Taker<R>>(
     rt: &R,
     cube: &Cube,
@@ -139,7 +141,7 @@ fn send_rows<R, T: Taker<R>>(
     true
 }
 
-/// Sends the residuals of some bands, band after band. False where what takes them has stopped.
+/// Sends the residuals of some bands, band after band. Returns false if the taker has stopped.
 fn send_bands<R, T: Taker<R>>(
     rt: &R,
     cube: &Cube,
@@ -160,7 +162,7 @@ fn send_bands<R, T: Taker<R>>(
     true
 }
 
-/// The predictor to which a band is dealt. One beyond the deal is the first predictor's.
+/// Returns the predictor to which a band is dealt. A band beyond the deal belongs to the first predictor.
 fn owner(deal: &[u8], band: u32) -> u32
     ensures { result ≡ slice_index_or deal.now band 0 }
 {
@@ -170,7 +172,7 @@ fn owner(deal: &[u8], band: u32) -> u32
     }
 }
 
-/// How many of the bands `first` to `end - 1` are dealt to a predictor.
+/// Returns how many of the bands `first` to `end - 1` are dealt to a predictor.
 fn count_own(deal: &[u8], predictor: u32, first: u32, end: u32) -> usize
     requires { first ≤ end }
     ensures { result ≡ length (own predictor deal.now (from first (end - first))) }
@@ -185,7 +187,8 @@ fn count_own(deal: &[u8], predictor: u32, first: u32, end: u32) -> usize
     count
 }
 
-/// Sends the residuals of a predictor's bands in row `y`, group after group of so many bands. False where what takes them has stopped.
+/// Sends the residuals of a predictor's bands in row `y`, group after group of bands. Returns false if the
+/// taker has stopped.
 fn send_line<R, T: Taker<R>>(
     rt: &R,
     cube: &Cube,
@@ -224,7 +227,7 @@ fn send_line<R, T: Taker<R>>(
     true
 }
 
-/// Sends the residuals of a predictor's bands, row after row. False where what takes them has stopped.
+/// Sends the residuals of a predictor's bands, row after row. Returns false if the taker has stopped.
 fn send_lines<R, T: Taker<R>>(
     rt: &R,
     cube: &Cube,
@@ -250,8 +253,8 @@ fn send_lines<R, T: Taker<R>>(
     true
 }
 
-/// Sends the residuals of a predictor's bands, in encoding order. By a deal of no bands all are the first predictor's. False where what takes them
-/// has stopped.
+/// Sends the residuals of a predictor's bands, in encoding order. By an empty deal all bands belong to the
+/// first predictor. Returns false if the taker has stopped.
 pub fn send_own<R, T: Taker<R>>(
     rt: &R,
     cube: &Cube,
