@@ -1,4 +1,4 @@
-//! The coding end as what a walk on one thread hands its residuals to.
+//! The coding end as a taker: a walk on one thread passes its residuals to it.
 
 ghost use Rattle.file_coding.specs.Ends.{MayCodeAll};
 ghost use Rattle.coder_pipe.specs.Codings.{Takes};

@@ -14,9 +14,9 @@ use file_coding::coding_end::CodingEnd;
 use header_bits::params::Params;
 use std::alloc::Global;
 
-/// The file of a cube, by lawful parameters of its shape and kind, and by the coder that they name.
+/// Returns the file of a cube, for lawful parameters of its shape and kind, with the coder that they name.
 ///
-/// `WantOfMemory` if the output or the predictors' state can't be allocated.
+/// Returns `WantOfMemory` if the output or the predictors' state can't be allocated.
 pub fn encode_one(alloc: Global, cube: &Cube, params: &Params) -> Result<Vec<u8>, Fault>
     requires lawful { IsLawful params.now }
     requires shape { cube.now.shape ≡ params.now.shape }

@@ -1,4 +1,4 @@
-//! A cube coded by predictors in threads of their own.
+//! Encoding a cube with predictors in threads of their own.
 
 ghost use Rattle.std.specs.Prelude.{◌≡◌, IfOk, IfErr};
 ghost use Rattle.cube_predictors.specs.Sends.{IsSeen};
@@ -14,11 +14,13 @@ use std::alloc::Global;
 use std::sync::Wait;
 use std::thread::Threads;
 
-/// The file of a cube of the plan's shape and kind, whose residuals the predictors of the plan have sent.
+/// Returns the file of a cube of the plan's shape and kind, whose residuals the predictors of the plan have
+/// sent.
 ///
-/// Each predictor's residuals were received once each, in the order sent, and none is left; they are those of its bands. The bytes are
-/// those that `encode_one` gives, and `decode` gives the cube and its parameters back, where memory isn't refused. The answer is `WantOfMemory`, `SpawnRefused`
-/// where a thread wasn't started, or `Stopped`, only where the gate may stop a predictor at a residual of its part.
+/// Each predictor's residuals were received once each, in the order sent, and none is left; they are those of
+/// its bands. The bytes are those that `encode_one` returns, and `decode` returns the cube and its parameters
+/// from them, unless an allocation fails. The refusals are `WantOfMemory`; `SpawnRefused` if a thread wasn't
+/// started; and `Stopped`, only where the gate may stop a predictor at a residual of its part.
 pub fn encode_predicted<R: Threads + Wait + Sync, G: Gate + Sync>(
     rt: &R,
     alloc: Global,

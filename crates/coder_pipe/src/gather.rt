@@ -1,4 +1,4 @@
-//! What workers hand on for the places that come next.
+//! What workers pass on for the next places.
 
 ghost use Rattle.std.specs.Prelude.{◌≡◌, ℕ, ◌+◌, ◌<◌, ◌≤◌, ◌^◌, [], ◌∷◌, ◌++◌, length, All, IfOk, IfErr, IsTrue, take, vec_len, slice_index_or, slice_set};
 ghost use Rattle.cube_core.specs.Kind.{IsKind};
@@ -18,8 +18,8 @@ use std::sync::Wait;
 use std::sync::atomic::AtomicBool;
 use std::thread::Threads;
 
-/// Waits for the next residuals of a predictor, each of which is at most so great, and hands them on into the front of a run, at least one; or says
-/// after how many it was stopped.
+/// Waits for the next residuals of a predictor, each of which is at most `most`, and writes them to the front
+/// of a run, at least one; or returns after how many the predictor was stopped.
 fn next_of<R: Threads + Wait, F: Feed, G: Gate>(
     rt: &R,
     stages: &mut Vec<Stage<F, G>>,
@@ -55,7 +55,7 @@ fn next_of<R: Threads + Wait, F: Feed, G: Gate>(
     Ok(count)
 }
 
-/// The greatest of some numbers; 0 where there are none.
+/// Returns the greatest of some numbers; 0 if there are none.
 fn greatest_of(numbers: &[u16]) -> u16
     ensures bound { All (λ n. n ≤ result) numbers.now }
     ensures least { (most : ℕ) → All (λ n. n ≤ most) numbers.now → result ≤ most }
@@ -67,7 +67,7 @@ fn greatest_of(numbers: &[u16]) -> u16
     greatest
 }
 
-/// A number greater than any of a feed is never handed on: joining the worker shows that it wasn't sent.
+/// Lemma, by joining the worker: a number greater than any of a feed is never passed on.
 // It stands apart so that the way of all other numbers has no room for a worker to make.
 #[inline(never)]
 fn no_such_number<R: Threads, F: Feed, G: Gate>(
@@ -84,7 +84,8 @@ fn no_such_number<R: Threads, F: Feed, G: Gate>(
     stages.swap_remove(q).never(rt, most);
 }
 
-/// Waits for the next residual of a predictor, which is at most so great, and hands it on; or says after how many the predictor was stopped.
+/// Waits for the next residual of a predictor, which is at most `most`, and returns it; or returns after how
+/// many the predictor was stopped.
 #[inline(always)]
 fn next_one_of<R: Threads + Wait, F: Feed, G: Gate>(
     rt: &R,
@@ -117,10 +118,10 @@ fn next_one_of<R: Threads + Wait, F: Feed, G: Gate>(
     Ok(number)
 }
 
-/// Waits for residuals of the places that come next, which are one predictor's, and hands them on into the front of a run: as many as were there to
-/// see. It answers how many, at least one; or who was stopped, and after how many.
+/// Waits for residuals of the next places, which belong to one predictor, and writes them to the front of a
+/// run: as many as it sees. Returns how many, at least one; or who was stopped, and after how many.
 ///
-/// So many were taken of all, and there are more.
+/// `taken` residuals were taken so far in all, and there are more.
 pub(crate) fn next_of_row<R: Threads + Wait, F: Feed, G: Gate>(
     rt: &R,
     plan: &Plan,
@@ -157,10 +158,10 @@ pub(crate) fn next_of_row<R: Threads + Wait, F: Feed, G: Gate>(
     }
 }
 
-/// Waits for a residual of each of the places that come next in a column of bands, and hands them on into the front of a run, each from its own predictor's
-/// lane. It answers how many, at least one; or who was stopped, and after how many.
+/// Waits for a residual of each of the next places in a column of bands, and writes them to the front of a run,
+/// each from its own predictor's lane. Returns how many, at least one; or who was stopped, and after how many.
 ///
-/// So many were taken of all, and there are more.
+/// `taken` residuals were taken so far in all, and there are more.
 pub(crate) fn next_of_column<R: Threads + Wait, F: Feed, G: Gate>(
     rt: &R,
     plan: &Plan,
@@ -198,7 +199,7 @@ pub(crate) fn next_of_column<R: Threads + Wait, F: Feed, G: Gate>(
     Ok(owners.len())
 }
 
-/// The greatest residual of a kind.
+/// Returns the greatest residual of a kind.
 fn greatest(kind: Kind) -> u16
     requires { IsKind kind }
     ensures { result + 1 ≡ 2 ^ kind.bits }

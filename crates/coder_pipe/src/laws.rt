@@ -6,7 +6,7 @@ ghost use Rattle.cube_predictors.specs.Own.{OwnIsPart};
 ghost use Rattle.cube_predictors.specs.Plans.{PlanFaultIsExact};
 ghost use Rattle.cube_predictors.specs.Weave.{PartsOfWeave, WeaveOfParts, WeaveOfTaken};
 
-/// The file that is written of a cube is a file of it.
+/// The file that is written for a cube is a file of it.
 pub fn chosen_is_file()
     ensures { ChosenIsFile }
 {}
@@ -26,12 +26,12 @@ pub fn no_shorter_file()
     ensures { NoShorterFile }
 {}
 
-/// Two cubes that have the same residuals are one.
+/// Two cubes with the same residuals are equal.
 pub fn one_cube()
     ensures { OneCube }
 {}
 
-/// No bytes are a file of two pairs of parameters and cube.
+/// No bytes are a file of two different pairs of parameters and cube.
 pub fn one_file()
     ensures { OneFile }
 {}
@@ -41,22 +41,22 @@ pub fn weave_of_parts()
     ensures { WeaveOfParts }
 {}
 
-/// Numbers along the first of the places are what their parts are woven to.
+/// Numbers along the first places are what their parts are woven to.
 pub fn weave_of_taken()
     ensures { WeaveOfTaken }
 {}
 
-/// Lists with a number for each place of their predictors are the parts of what they are woven to.
+/// Lists with a number for each place of their predictors are the parts of the list that they weave to.
 pub fn parts_of_weave()
     ensures { PartsOfWeave }
 {}
 
-/// Which number of its band stands at a place of the encoding order.
+/// As many numbers of a band come before a place in encoding order as the band has places before it.
 pub fn time_of_place()
     ensures { TimeOfPlace }
 {}
 
-/// Nothing of a plan is refused exactly where it may be made.
+/// A plan has no refusal exactly where it may be made.
 pub fn plan_fault_is_exact()
     ensures { PlanFaultIsExact }
 {}

@@ -22,19 +22,22 @@ use std::sync::atomic::AtomicBool;
 use std::thread;
 use std::thread::{Scope, Threads};
 
-/// A file, and the lanes through which its residuals came, one for each predictor, by its number.
+/// A file, and the lanes that carried its residuals, one for each predictor, by its number.
 #[derive(Drop)]
 pub struct Piped {
     pub file: Vec<u8>,
     pub lanes: Vec<SettledLane>,
 }
 
-/// The file of the residuals that the predictors of a plan send, woven along the encoding order, and their lanes.
+/// Returns the file of the residuals that the predictors of a plan send, woven along the encoding order, and
+/// their lanes.
 ///
-/// The plan is for these parameters, and there is one feed for each predictor, in their order, which states a list as long as its part of an image's
-/// residuals, each at most 2^D - 1. Each feed runs in a thread of its own, and is spent whatever the answer; the calling thread codes while they send. It sees no cube. The answer is
-/// `WantOfMemory`, `SpawnRefused` where a thread wasn't started, or `Stopped`, with the first predictor that the gate stopped and
-/// how many residuals it had sent. All workers that were started have then been joined.
+/// The plan is for these parameters, and there is one feed for each predictor, in order. Each feed states a
+/// list as long as its predictor's part of an image's residuals, each at most 2^D - 1, runs in a thread of its
+/// own, and is consumed whatever the result; the calling thread codes while they send. It sees no cube. The
+/// refusals are `WantOfMemory`; `SpawnRefused` if a thread wasn't started; and `Stopped`, with the first
+/// predictor that the gate stopped and how many residuals it had sent. All workers that were started have then
+/// been joined.
 pub fn encode_piped<R: Threads + Wait + Sync, F: Feed + Send, G: Gate + Sync>(
     rt: &R,
     alloc: Global,
@@ -88,7 +91,7 @@ fn in_threads<R: Threads + Wait + Sync, F: Feed + Send, G: Gate + Sync>(
     )
 }
 
-/// What the coding end needs room for.
+/// What the coding end allocates.
 #[derive(Drop)]
 struct Room<F: Feed, G: Gate> {
     stages: Vec<Stage<F, G>>,
@@ -96,7 +99,7 @@ struct Room<F: Feed, G: Gate> {
     weaver: Weaver,
 }
 
-/// Room for so many workers, and a weaver that has taken nothing.
+/// Allocates room for `count` workers and their lanes, and a weaver that has taken nothing.
 fn room_for<F: Feed, G: Gate>(
     alloc: Global,
     params: &Params,
@@ -115,7 +118,7 @@ fn room_for<F: Feed, G: Gate>(
     })
 }
 
-/// A flag for each worker, none of which is set.
+/// Returns a flag for each worker, none of which is set.
 fn flags(alloc: Global, count: usize) -> Result<Vec<AtomicBool>, Fault>
     ensures many { IfOk result (λ v. vec_len v ≡ count) }
     ensures refused { IfErr result (λ e. e ≡ WantOfMemory) }
@@ -127,7 +130,7 @@ fn flags(alloc: Global, count: usize) -> Result<Vec<AtomicBool>, Fault>
     Ok(all)
 }
 
-/// Gives each feed a lane of so many slots.
+/// Gives each feed a lane of `slots` slots.
 fn prepare<F: Drop>(alloc: Global, slots: u32, feeds: Vec<F>) -> Result<Vec<Ready<F>>, Fault>
     requires { InRange 1 65536 slots }
     ensures feeds { IfOk result (λ v. map (λ r. r.feed) v.items ≡ feeds.items) }

@@ -24,13 +24,13 @@ use std::thread::{Scope, Threads};
 pub(crate) enum Woven {
     /// A residual was taken for each place.
     Whole,
-    /// A predictor was stopped after it had sent so many.
+    /// A predictor was stopped after it had sent this many residuals.
     Stopped(u32, u64),
-    /// Memory was refused.
+    /// An allocation failed.
     Memory,
 }
 
-/// How many residuals are taken at once at most.
+/// The greatest number of residuals that are taken at once.
 const MOST_RUN: usize = 64;
 
 /// Takes a residual for each place, from the lane of its predictor, run after run.
@@ -75,7 +75,7 @@ pub(crate) fn weave<R: Threads + Wait, F: Feed, G: Gate>(
     Woven::Whole
 }
 
-/// Receives what there is to see of a worker, and drops it.
+/// Receives what it sees of a worker, and drops it.
 fn skip_one<F: Feed, G: Gate>(stages: &mut Vec<Stage<F, G>>, q: usize)
     requires { q < vec_len stages.old }
     ensures feeds { feeds_of stages.new.items ≡ feeds_of stages.old.items }
@@ -139,7 +139,7 @@ pub(crate) fn start_all<'s, E, R: Wait + Sync + 's, F: Feed + Send + 's, G: Gate
     (stages, true)
 }
 
-/// The settled lanes of all workers, joined, once each has handed on as many numbers as its feed has.
+/// Returns the settled lanes of all workers, joined, once each has passed on as many numbers as its feed has.
 pub(crate) fn finish_all<R: Threads, F: Feed, G: Gate>(
     rt: &R,
     stages: Vec<Stage<F, G>>,
@@ -158,7 +158,7 @@ pub(crate) fn finish_all<R: Threads, F: Feed, G: Gate>(
     lanes
 }
 
-/// Joins all workers, and names the first that was stopped.
+/// Joins all workers, and returns the first that was stopped.
 pub(crate) fn stop_all<R: Threads, F: Feed, G: Gate>(
     rt: &R,
     stages: Vec<Stage<F, G>>,
@@ -176,7 +176,7 @@ pub(crate) fn stop_all<R: Threads, F: Feed, G: Gate>(
     first
 }
 
-/// Who was stopped first, once predictor `q` has ended.
+/// Returns who was stopped first, once predictor `q` has ended.
 fn first_of(first: Option<(u32, u64)>, q: u32, sent: Option<u64>) -> Option<(u32, u64)>
     ensures { IfSome result (λ r. (first ≡ Some r) ⊎ ((r.0 ≡ q) × (sent ≡ Some r.1))) }
 {

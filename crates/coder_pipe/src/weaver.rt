@@ -19,7 +19,7 @@ use std::marker::Model;
 
 /// The coding end of an image whose residuals come from predictors. It sees no cube.
 ///
-/// Contracts say of it which numbers it has taken, in encoding order, whoever they came from.
+/// Contracts see which numbers it has taken, in encoding order, whoever they came from.
 #[derive(Drop)]
 pub struct Weaver {
     end: CodingEnd,
@@ -39,9 +39,10 @@ impl Model for Weaver {
 }
 
 impl Weaver {
-    /// The coding end of an image by a plan for its parameters. It has taken nothing.
+    /// Returns the coding end of an image, by a plan for its parameters. It has taken nothing.
     ///
-    /// `WantOfMemory` if the header, the statistics of all bands, or the copy of the deal can't be allocated.
+    /// Returns `WantOfMemory` if the header, the statistics of all bands, or the copy of the deal can't be
+    /// allocated.
     pub fn new(alloc: Global, params: &Params, plan: &Plan) -> Result<Weaver, Fault>
         requires { plan.now.params ≡ params.now }
         ensures woven { IfOk result (λ w. HasWoven params.now plan.now.deal w []) }
@@ -56,7 +57,7 @@ impl Weaver {
         })
     }
 
-    /// The predictor whose residual comes next; none behind the last place. No memory is taken.
+    /// Returns the predictor of the next place, or `None` after the last. It allocates nothing.
     pub fn wants(&self) -> Option<u32>
         ensures { (p : Parameters) (deal numbers : List ℕ) → HasWoven p deal self.now numbers → result ≡ slice_get (owners deal p) (length numbers) }
     {
@@ -64,8 +65,8 @@ impl Weaver {
         Some(u32::from(self.deal[place.z as usize]))
     }
 
-    /// Of how many places that come next the residuals are wanted from one predictor, at most so many: where places go along rows, those of the row.
-    /// It is at least one where one is wanted.
+    /// Returns how many of the next places belong to one predictor, at most `most`: where places go along rows,
+    /// those of the row. It is at least one where there is a next place.
     pub fn wanted_run(&self, most: usize) -> usize
         requires { 0 < most }
         ensures most { result ≤ most }
@@ -82,8 +83,8 @@ impl Weaver {
         }
     }
 
-    /// The predictors whose residuals come next, in order: those of the bands that come next at one row and column, at most so many. There is at least
-    /// one where one is wanted.
+    /// Returns the predictors of the next places, in order: those of the bands that come next at one row and
+    /// column, at most `most`. There is at least one where there is a next place.
     pub fn wanted_column(&self, most: usize) -> &[u8]
         requires { 0 < most }
         ensures most { length result.now ≤ most }
@@ -99,9 +100,9 @@ impl Weaver {
         &self.deal[first..first + count]
     }
 
-    /// Takes the next residual, which is at most 2^D - 1; fewer were taken than there are samples.
+    /// Takes the next residual, which is at most 2^D - 1. Fewer residuals were taken than there are samples.
     ///
-    /// After `WantOfMemory` nothing was changed.
+    /// Returns `WantOfMemory` if an allocation fails; then nothing was changed.
     pub fn take(&mut self, residual: u16) -> Result<(), Fault>
         requires { MayCode self.old.end residual }
         ensures woven { OnOk result ((p : Parameters) (deal numbers : List ℕ) → HasWoven p deal self.old numbers
@@ -115,9 +116,10 @@ impl Weaver {
         self.end.put(place, residual)
     }
 
-    /// Takes the next residuals, each of which is at most 2^D - 1; as many at least are still to come.
+    /// Takes the next residuals, each of which is at most 2^D - 1. At least as many are still to come.
     ///
-    /// After `WantOfMemory` the first of them were taken, as many as there was memory for.
+    /// Returns `WantOfMemory` if an allocation fails; then the first of them were taken, as many as there was
+    /// memory for.
     pub fn take_all(&mut self, residuals: &[u16]) -> Result<(), Fault>
         requires { MayCodeAll self.old.end residuals.now }
         ensures woven { OnOk result (WeavesAll self.old self.new residuals.now) }
@@ -127,9 +129,9 @@ impl Weaver {
         self.end.put_all(residuals)
     }
 
-    /// The bytes of the file, once a residual was taken for each sample.
+    /// Returns the bytes of the file, once a residual was taken for each sample.
     ///
-    /// `WantOfMemory` if they can't be allocated.
+    /// Returns `WantOfMemory` if they can't be allocated.
     pub fn finish(self) -> Result<Vec<u8>, Fault>
         requires { self.end.left ≡ [] }
         ensures file { IfOk result (λ bytes. (p : Parameters) (deal numbers : List ℕ) → HasWoven p deal self numbers
