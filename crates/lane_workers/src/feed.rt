@@ -1,4 +1,4 @@
-//! Feeds, which a worker sends along its lane.
+//! Feeds: lists that workers send along their lanes.
 
 ghost use Rattle.std.specs.Prelude.{◌≡◌, ℕ, List, []};
 ghost use Rattle.lane_workers.specs.Feeds.{Keeps};
@@ -8,7 +8,7 @@ use band_rings::closed::ClosedLane;
 use band_rings::sender::LaneSender;
 use std::sync::Wait;
 
-/// What a worker gives back: its end of the lane, and whether it has sent its whole list.
+/// What a worker returns: its end of the lane, and whether it has sent its whole list.
 #[derive(Drop)]
 pub struct LaneEnd {
     pub closed: ClosedLane,
@@ -23,8 +23,9 @@ pub trait Feed: Drop {
     /// The numbers, in order.
     ghost items: { Self → List ℕ };
 
-    /// Sends the list along a lane into which nothing was sent, and closes it. What was sent begins the list: all of it where the
-    /// end is whole, else the gate may stop the predictor there, and the list is longer.
+    /// Sends the list along a lane into which nothing was sent, and closes the lane. What is sent is a prefix
+    /// of the list: all of it where the end is whole; otherwise the gate may stop the predictor there, and the
+    /// list is longer.
     fn run<R: Wait, G: Gate>(self, rt: &R, sender: LaneSender, gate: &G) -> LaneEnd
         requires { sender.sent ≡ [] }
         ensures { Keeps (G.may_stop gate.now) (predictor self) (items self) sender.lane result };

@@ -1,19 +1,19 @@
-//! Gates, which may stop a worker before a number that it would send.
+//! Gates, which may stop a worker before a number that it is about to send.
 
 ghost use Rattle.std.specs.Prelude.{ℕ, Bool, false, IsTrue, IsFalse};
 
-/// Whether a worker may go on.
+/// Decides whether a worker may go on.
 pub trait Gate {
-    /// The pairs of a predictor and of how many numbers it has sent at which it may be stopped.
+    /// The pairs of a predictor and a count of sent numbers at which it may be stopped.
     ghost may_stop: { Self → ℕ → ℕ → Bool };
 
-    /// Asked before each try to send a number: the `nth` of a predictor, counted from 0, which has come back
-    /// `turn` times so far. False stops the predictor there, and comes only at a pair of the set.
+    /// Called before each try to send a number: the `nth` of a predictor, counted from 0, whose earlier tries
+    /// failed `turn` times. False stops the predictor there, and is returned only at a pair of the set.
     fn pass(&self, predictor: u32, nth: u64, turn: u64) -> bool
         ensures { IsFalse result → IsTrue (may_stop self.now predictor nth) };
 }
 
-/// The gate that stops nobody.
+/// The gate that never stops a predictor.
 #[derive(Clone, Copy, Debug)]
 pub struct OpenGate;
 

@@ -1,4 +1,4 @@
-//! Feeds over lists that are there already.
+//! Feeds over slices.
 
 ghost use Rattle.std.specs.Prelude.{◌≡◌, []};
 ghost use Rattle.lane_workers.specs.Feeds.{Keeps};
@@ -27,7 +27,7 @@ impl<'a> Feed for ListFeed<'a> {
     }
 }
 
-/// Sends numbers along a lane, and closes it.
+/// Sends numbers along a lane, and closes the lane.
 fn send_list<R: Wait, G: Gate>(
     rt: &R,
     predictor: u32,

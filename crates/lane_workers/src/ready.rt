@@ -10,7 +10,7 @@ use band_rings::sender::LaneSender;
 use cube_core::fault::Fault;
 use std::alloc::Global;
 
-/// A feed, and both ends of a lane of its own, into which nothing was sent.
+/// A feed, and both ends of its own lane, into which nothing was sent.
 #[derive(Drop)]
 pub struct Ready<F> {
     pub feed: F,
@@ -22,7 +22,7 @@ pub struct Ready<F> {
 }
 
 impl<F: Drop> Ready<F> {
-    /// Gives a feed a lane of so many slots. `WantOfMemory` where the room for the lane isn't had.
+    /// Gives a feed a lane of `slots` slots. Returns `WantOfMemory` if the lane can't be allocated.
     pub fn new(alloc: Global, slots: u32, feed: F) -> Result<Ready<F>, Fault>
         requires { InRange 1 65536 slots }
         ensures feed { IfOk result (λ r. r.feed ≡ feed) }

@@ -1,4 +1,4 @@
-//! Numbers that were received and are not yet handed on.
+//! Numbers that were received and not yet passed on.
 
 ghost use Rattle.std.specs.Prelude.{◌≡◌, ◌<◌, ◌≤◌, [], ◌∷◌, ◌++◌, length, take, IfSome, IfNone};
 ghost use mathlib.Core.List.{IsPrefix};
@@ -9,11 +9,11 @@ use std::marker::Model;
 /// How many numbers a room holds.
 const PLACES: usize = 64;
 
-/// A small room beside a receiver. Contracts see the numbers that wait in it, in order.
+/// A small buffer beside a receiver. Contracts see the numbers that wait in it, in order.
 #[derive(Drop)]
 pub(crate) struct Room {
     numbers: [u16; PLACES],
-    /// Those from `first` up to `end` wait.
+    /// The numbers from `first` up to `end` wait.
     first: usize,
     end: usize,
 }
@@ -29,7 +29,7 @@ impl Model for Room {
 }
 
 impl Room {
-    /// A room in which nothing waits.
+    /// Returns a room in which nothing waits.
     pub(crate) fn new() -> Room
         ensures { result ≡ [] }
     {
@@ -40,7 +40,8 @@ impl Room {
         }
     }
 
-    /// Hands on the first numbers, into the front of a run, in order, and answers how many: all that wait, or as many as the run holds.
+    /// Moves the first numbers to the front of a run, in order, and returns how many: all that wait, or as many
+    /// as the run holds.
     pub(crate) fn next_run(&mut self, run: &mut [u16]) -> usize
         ensures within { result ≤ length run.old }
         ensures handed { self.old ≡ take result run.new ++ self.new }
@@ -52,7 +53,7 @@ impl Room {
         count
     }
 
-    /// Hands on the first number, or none where nothing waits.
+    /// Removes and returns the first number, or returns `None` if nothing waits.
     #[inline(always)]
     pub(crate) fn next(&mut self) -> Option<u16>
         ensures handed { IfSome result (λ number. self.old ≡ number ∷ self.new) }
@@ -66,7 +67,7 @@ impl Room {
         Some(number)
     }
 
-    /// Receives anew what is there to see of a lane. What waited is gone.
+    /// Fills the room again with what it sees in a lane. Numbers that waited are dropped.
     pub(crate) fn fill(&mut self, receiver: &mut LaneReceiver)
         ensures lane { receiver.new.lane ≡ receiver.old.lane }
         ensures received { receiver.new.received ≡ receiver.old.received ++ self.new }

@@ -1,4 +1,4 @@
-//! Receivers that take numbers from their lane in runs, and hand them on in runs.
+//! Receivers that take numbers from their lane in runs, and pass them on in runs.
 
 ghost use Rattle.std.specs.Prelude.{◌≡◌, ◌<◌, ◌≤◌, [], ◌∷◌, ◌++◌, length, take, IfSome, IfNone};
 ghost use mathlib.Core.List.{IsPrefix};
@@ -12,7 +12,8 @@ use std::marker::Model;
 
 /// A receiver with a small room beside it.
 ///
-/// Contracts see it as a receiver whose numbers are received when they are handed on; those in the room are known to be there.
+/// Contracts see it as a receiver whose numbers are received when they are passed on; those in the room are
+/// known to be there.
 #[derive(Drop)]
 pub struct RunReceiver {
     receiver: LaneReceiver,
@@ -31,9 +32,9 @@ impl Model for RunReceiver {
     ghost invariant = { λ r. r.receiver.received ≡ before r.receiver.received r.room ++ r.room };
 }
 
-/// A lane of which the two ends have met, and what its receiver still has in its room.
+/// A lane whose two ends are in one thread again, and what its receiver still has in its room.
 ///
-/// Contracts see it as a settled lane whose numbers are received when they are handed on.
+/// Contracts see it as a settled lane whose numbers are received when they are passed on.
 #[derive(Drop)]
 pub struct SettledRuns {
     lane: SettledLane,
@@ -53,7 +54,7 @@ impl Model for SettledRuns {
 }
 
 impl RunReceiver {
-    /// A receiver of runs in whose room nothing waits.
+    /// Returns a receiver of runs in whose room nothing waits.
     pub fn new(receiver: LaneReceiver) -> RunReceiver
         ensures { result ≡ receiver }
     {
@@ -63,7 +64,7 @@ impl RunReceiver {
         }
     }
 
-    /// Hands on the next numbers, into the front of a run, in order, and answers how many: none where none was there to see.
+    /// Writes the next numbers to the front of a run, in order, and returns how many: 0 if it sees none.
     pub fn next_run(&mut self, run: &mut [u16]) -> usize
         requires { 0 < length run.old }
         ensures lane { self.new.lane ≡ self.old.lane }
@@ -80,7 +81,8 @@ impl RunReceiver {
         self.room.next_run(run)
     }
 
-    /// Hands on the next number of those that were received, or none where all of them were handed on. It looks at no lane.
+    /// Returns the next number that was already received, or `None` if all of them were passed on. It doesn't
+    /// look at the lane.
     #[inline(always)]
     pub fn next_received(&mut self) -> Option<u16>
         ensures lane { self.new.lane ≡ self.old.lane }
@@ -90,14 +92,14 @@ impl RunReceiver {
         self.room.next()
     }
 
-    /// Receives what is there to see, up to a room, in place of what waits in it, which is handed on to nobody.
+    /// Receives what it sees, up to a room, in place of what waits in it, and drops the latter.
     pub fn skip(&mut self)
         ensures lane { self.new.lane ≡ self.old.lane }
     {
         self.room.fill(&mut self.receiver);
     }
 
-    /// Brings the two ends of one lane together. What is in the room counts among the rest.
+    /// Brings the two ends of one lane together. What is in the room counts as part of the rest.
     pub fn settle(self, closed: ClosedLane) -> SettledRuns
         requires { self.lane ≡ closed.lane }
         ensures kept { (result.sent ≡ closed.sent) × (result.received ≡ self.received) }
@@ -112,7 +114,8 @@ impl RunReceiver {
 }
 
 impl SettledRuns {
-    /// Hands on the first numbers of the rest, into the front of a run, in order, and answers how many: none exactly where the rest is empty.
+    /// Writes the first numbers of the rest to the front of a run, in order, and returns how many: 0 exactly if
+    /// the rest is empty.
     pub fn take_run(&mut self, run: &mut [u16]) -> usize
         requires { 0 < length run.old }
         ensures kept { self.new.sent ≡ self.old.sent }
@@ -129,14 +132,14 @@ impl SettledRuns {
         take_all_left(&mut self.lane, run)
     }
 
-    /// How many numbers were sent.
+    /// Returns how many numbers were sent.
     pub fn sent_count(&self) -> u64
         ensures { result ≡ length self.now.sent }
     {
         self.lane.sent_count()
     }
 
-    /// The settled lane, once all was handed on.
+    /// Returns the settled lane, once all numbers were passed on.
     pub fn into_lane(self) -> SettledLane
         requires { self.rest ≡ [] }
         ensures { result ≡ self }

@@ -13,11 +13,13 @@ use std::thread;
 
 /// A sender of runs: of eight numbers, or as many as the lane has slots.
 ///
-/// Before a run is tried the gate is asked for each of its numbers. Where the gate passes all of them and the lane has no room for the
-/// run, each has come back once, and the first then goes alone. Where the gate passes one of them not, those before it go one by one, each
-/// asked for again before each try, and the sender stops there.
+/// Before a run is tried, the gate is asked for each of its numbers. Where the gate passes all of them and the
+/// lane has no room for the run, the try of each has failed once, and the first is then sent alone. Where the
+/// gate doesn't pass one of them, those before it are sent one by one, the gate being asked again before each
+/// try, and the sender stops there.
 ///
-/// Contracts see its lane, its predictor, its gate, all numbers that it took, whether it takes more, and whether it has stopped.
+/// Contracts see its lane, its predictor, its gate, all numbers that it took, whether it takes more, and
+/// whether it has stopped.
 #[derive(Drop)]
 pub struct RunSender<'g, G: Gate> {
     sender: LaneSender,
@@ -49,7 +51,7 @@ impl<'g, G: Gate> Model for RunSender<'g, G> {
 }
 
 impl<'g, G: Gate> RunSender<'g, G> {
-    /// A sender of a predictor's numbers, past a gate.
+    /// Returns a sender of a predictor's numbers, past a gate.
     pub fn new(predictor: u32, sender: LaneSender, gate: &'g G) -> RunSender<'g, G>
         ensures { result ≡ record { lane = sender.lane; predictor = predictor; gate = gate.now; taken = sender.sent; ready = true; stopped = false } }
     {
@@ -64,7 +66,8 @@ impl<'g, G: Gate> RunSender<'g, G> {
         }
     }
 
-    /// Takes a number, and sends it with those before it once they make a run. False where the gate has stopped the sender.
+    /// Takes a number, and sends it with those before it once they make a run. Returns false if the gate has
+    /// stopped the sender.
     #[inline(always)]
     pub fn send<R: Wait>(&mut self, rt: &R, number: u16) -> bool
         requires ready { IsTrue self.old.ready }
@@ -88,7 +91,8 @@ impl<'g, G: Gate> RunSender<'g, G> {
         !self.stopped
     }
 
-    /// Sends what still waits, unless the gate stops it, and closes the lane. It keeps to the numbers taken.
+    /// Sends what still waits, unless the gate stops it, and closes the lane. What is sent is a prefix of the
+    /// numbers taken.
     pub fn end<R: Wait>(self, rt: &R) -> LaneEnd
         ensures keeps { Keeps (G.may_stop self.entry.gate) self.entry.predictor self.entry.taken self.entry.lane result }
         ensures stopped { IsTrue self.entry.stopped → IsFalse result.whole }
@@ -109,7 +113,7 @@ impl<'g, G: Gate> RunSender<'g, G> {
     }
 }
 
-/// Sends all that wait. False where the gate has stopped the first that still waits.
+/// Sends all numbers that wait. Returns false if the gate has stopped the first that still waits.
 fn send_all<R: Wait, G: Gate>(
     rt: &R,
     predictor: u32,
@@ -131,7 +135,8 @@ fn send_all<R: Wait, G: Gate>(
     true
 }
 
-/// Sends those that wait as one run; or else the first of them alone. False where the gate has stopped the first that still waits.
+/// Sends the waiting numbers as one run, or else the first of them alone. Returns false if the gate has stopped
+/// the first that still waits.
 fn send_run<R: Wait, G: Gate>(
     rt: &R,
     predictor: u32,
@@ -164,7 +169,7 @@ fn send_run<R: Wait, G: Gate>(
     send_first(rt, predictor, sender, waiting, gate)
 }
 
-/// How many of those that wait the gate passes, asked for each until it passes one not.
+/// Returns how many of the waiting numbers the gate passes, asking it for each until it refuses one.
 fn passed<G: Gate>(predictor: u32, sender: &LaneSender, waiting: &Waiting, gate: &G) -> usize
     requires few { length sender.now.sent + length waiting.now < 2 ^ 64 }
     ensures most { result ≤ length waiting.now }
@@ -179,7 +184,7 @@ fn passed<G: Gate>(predictor: u32, sender: &LaneSender, waiting: &Waiting, gate:
     waiting.count()
 }
 
-/// Sends the first of those that wait, alone. False where the gate stops it.
+/// Sends the first of the waiting numbers alone. Returns false if the gate stops it.
 fn send_first<R: Wait, G: Gate>(
     rt: &R,
     predictor: u32,

@@ -1,4 +1,4 @@
-//! Workers as the thread sees them that takes their numbers.
+//! Workers as seen by the thread that takes their numbers.
 
 ghost use Rattle.std.specs.Prelude.{◌≡◌, ◌<◌, ◌≤◌, [], ◌∷◌, ◌++◌, length, take, All, Some, None, IfOk, IfErr, IfSome, IfNone, IsTrue};
 ghost use Rattle.cube_core.specs.declared.fault.Fault.TheVariants.{SpawnRefused};
@@ -17,7 +17,8 @@ use std::thread::{Scope, Threads};
 
 /// A worker, in a thread of its own until it is joined.
 ///
-/// Contracts see its feed and its gate, which numbers were handed on, and, once it was joined and its lane settled, which are left.
+/// Contracts see its feed and its gate, which numbers were passed on, and, once it was joined and its lane
+/// settled, which are left.
 #[derive(Drop)]
 pub struct Stage<F: Feed, G: Gate> {
     state: State<F, G>,
@@ -34,9 +35,9 @@ impl<F: Feed, G: Gate> Model for Stage<F, G> {
 }
 
 impl<F: Feed, G: Gate> Stage<F, G> {
-    /// Starts a worker in a scope. `over` is set once the worker sends no more; no more than waiting rests on it.
+    /// Starts a worker in a scope. `over` is set once the worker sends no more; only waiting depends on it.
     ///
-    /// `SpawnRefused` where its thread wasn't started.
+    /// Returns `SpawnRefused` if the thread wasn't started.
     pub fn start<'s, E, R: Wait + Sync + 's>(
         scope: &Scope<'s, E>,
         rt: &'s R,
@@ -56,8 +57,9 @@ impl<F: Feed, G: Gate> Stage<F, G> {
         })
     }
 
-    /// Waits for the next numbers, and hands them on into the front of a run, in order: at least one, and as many as were there to see, or as the run
-    /// holds. It answers how many: none once the worker has ended, all that it sent was handed on, and it was joined.
+    /// Waits for the next numbers, and writes them to the front of a run, in order: at least one, and as many
+    /// as it sees, or as the run holds. Returns how many: 0 once the worker has ended, all that it sent was
+    /// passed on, and it was joined.
     pub fn next_run<R: Threads + Wait>(
         &mut self,
         rt: &R,
@@ -73,7 +75,8 @@ impl<F: Feed, G: Gate> Stage<F, G> {
         self.state.next_run(rt, over, run)
     }
 
-    /// Waits for the next number, and hands it on. None once the worker has ended, all that it sent was handed on, and it was joined.
+    /// Waits for the next number, and returns it; `None` once the worker has ended, all that it sent was passed
+    /// on, and it was joined.
     #[inline(always)]
     pub fn next_one<R: Threads + Wait>(&mut self, rt: &R, over: &AtomicBool) -> Option<u16>
         ensures same { (self.new.feed ≡ self.old.feed) × (self.new.gate ≡ self.old.gate) }
@@ -83,14 +86,14 @@ impl<F: Feed, G: Gate> Stage<F, G> {
         self.state.next_one(rt, over)
     }
 
-    /// Receives what is there to see, and hands it on to nobody: for a worker that would else find no free slot.
+    /// Receives what it sees, and drops it: for a worker that would otherwise find no free slot.
     pub fn skip(&mut self)
         ensures { (self.new.feed ≡ self.old.feed) × (self.new.gate ≡ self.old.gate) }
     {
         self.state.skip();
     }
 
-    /// How many numbers were sent by a worker that was stopped, once all of them were handed on.
+    /// Returns how many numbers a stopped worker sent, once all of them were passed on.
     pub fn stopped_at(&self) -> u64
         requires spent { self.now.left ≡ Some [] }
         requires short { length self.now.handed < length (F.items self.now.feed) }
@@ -100,7 +103,7 @@ impl<F: Feed, G: Gate> Stage<F, G> {
         self.state.stopped_at()
     }
 
-    /// Joins the worker, and tells how many numbers it sent where it was stopped.
+    /// Joins the worker, and returns how many numbers it sent if it was stopped.
     pub fn stop<R: Threads>(self, rt: &R) -> Option<u64>
         ensures { IfSome result (λ sent. IsTrue (G.may_stop self.gate (F.predictor self.feed) sent) × (sent < length (F.items self.feed))) }
     {
@@ -113,7 +116,8 @@ impl<F: Feed, G: Gate> Stage<F, G> {
         }
     }
 
-    /// The settled lane of a worker, joined, once as many numbers were handed on as its feed has: these are the feed's, and nothing is left.
+    /// Returns the settled lane of a worker, joined, once as many numbers were passed on as its feed has: these
+    /// are the feed's, and nothing is left.
     pub fn finish<R: Threads>(self, rt: &R) -> SettledLane
         requires { length self.handed ≡ length (F.items self.feed) }
         ensures handed { self.handed ≡ F.items self.feed }
@@ -129,7 +133,7 @@ impl<F: Feed, G: Gate> Stage<F, G> {
         lane.into_lane()
     }
 
-    /// A number greater than any of the feed is never handed on: it is known once the worker was joined.
+    /// Lemma, by joining the worker: a number greater than any of the feed is never passed on.
     pub fn never<R: Threads>(self, rt: &R, most: u16)
         requires list { All (λ n. n ≤ most) (F.items self.feed) }
         requires above { All (λ n. n ≤ most) self.handed → ⊥ }

@@ -12,7 +12,7 @@ use std::sync::atomic::{AtomicBool, Ordering};
 use std::thread;
 use std::thread::Threads;
 
-/// Where a worker stands.
+/// The state of a worker.
 #[derive(Drop)]
 pub(crate) enum State<F: Feed, G: Gate> {
     Running(Worker<F, G>),
@@ -20,7 +20,7 @@ pub(crate) enum State<F: Feed, G: Gate> {
 }
 
 impl<F: Feed, G: Gate> State<F, G> {
-    /// Hands on numbers that are there to see, into the front of a run, and answers how many.
+    /// Writes the numbers that it sees to the front of a run, and returns how many.
     fn seen_run(&mut self, run: &mut [u16]) -> usize
         requires { 0 < length run.old }
         ensures same { ((standing_of self.new).feed ≡ (standing_of self.old).feed) × ((standing_of self.new).gate ≡ (standing_of self.old).gate) }
@@ -34,8 +34,9 @@ impl<F: Feed, G: Gate> State<F, G> {
         }
     }
 
-    /// Waits for the next numbers, and hands them on into the front of a run, in order: at least one, and as many as were there to see, or as the run
-    /// holds. It answers how many: none once the worker has ended, all that it sent was handed on, and it was joined.
+    /// Waits for the next numbers, and writes them to the front of a run, in order: at least one, and as many
+    /// as it sees, or as the run holds. Returns how many: 0 once the worker has ended, all that it sent was
+    /// passed on, and it was joined.
     pub(crate) fn next_run<R: Threads + Wait>(
         &mut self,
         rt: &R,
@@ -63,7 +64,8 @@ impl<F: Feed, G: Gate> State<F, G> {
         unreachable!()
     }
 
-    /// Hands on the next number of those that were received of a worker that runs, or none where all of them were handed on.
+    /// Returns the next number that was already received from a running worker, or `None` if all of them were
+    /// passed on.
     #[inline(always)]
     fn next_received(&mut self) -> Option<u16>
         ensures same { ((standing_of self.new).feed ≡ (standing_of self.old).feed) × ((standing_of self.new).gate ≡ (standing_of self.old).gate) }
@@ -76,7 +78,8 @@ impl<F: Feed, G: Gate> State<F, G> {
         }
     }
 
-    /// Waits for the next number, and hands it on. None once the worker has ended, all that it sent was handed on, and it was joined.
+    /// Waits for the next number, and returns it; `None` once the worker has ended, all that it sent was passed
+    /// on, and it was joined.
     #[inline(always)]
     pub(crate) fn next_one<R: Threads + Wait>(&mut self, rt: &R, over: &AtomicBool) -> Option<u16>
         ensures same { ((standing_of self.new).feed ≡ (standing_of self.old).feed) × ((standing_of self.new).gate ≡ (standing_of self.old).gate) }
@@ -93,7 +96,7 @@ impl<F: Feed, G: Gate> State<F, G> {
         Some(run[0])
     }
 
-    /// Receives what is there to see, and hands it on to nobody.
+    /// Receives what it sees, and drops it.
     pub(crate) fn skip(&mut self)
         ensures { ((standing_of self.new).feed ≡ (standing_of self.old).feed) × ((standing_of self.new).gate ≡ (standing_of self.old).gate) }
     {
@@ -102,7 +105,7 @@ impl<F: Feed, G: Gate> State<F, G> {
         }
     }
 
-    /// How many numbers were sent by a worker that was stopped, once all of them were handed on.
+    /// Returns how many numbers a stopped worker sent, once all of them were passed on.
     pub(crate) fn stopped_at(&self) -> u64
         requires spent { (standing_of self.now).left ≡ Some [] }
         requires short { length (standing_of self.now).handed < length (F.items (standing_of self.now).feed) }

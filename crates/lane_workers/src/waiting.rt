@@ -4,10 +4,10 @@ ghost use Rattle.std.specs.Prelude.{◌≡◌, ◌+◌, ◌-◌, ◌^◌, ◌<�
 
 use std::marker::Model;
 
-/// The most numbers that wait.
+/// The greatest count of numbers that wait.
 pub(crate) const MOST: usize = 8;
 
-/// Numbers that wait, and how often each has come back. Contracts see the numbers, in order.
+/// Numbers that wait, and how often a try to send each has failed. Contracts see the numbers, in order.
 #[derive(Drop)]
 pub(crate) struct Waiting {
     numbers: [u16; MOST],
@@ -26,7 +26,7 @@ impl Model for Waiting {
 }
 
 impl Waiting {
-    /// None wait.
+    /// Returns a list in which nothing waits.
     pub(crate) fn new() -> Waiting
         ensures { result ≡ [] }
     {
@@ -37,7 +37,7 @@ impl Waiting {
         }
     }
 
-    /// How many wait.
+    /// Returns how many numbers wait.
     #[inline(always)]
     pub(crate) fn count(&self) -> usize
         ensures value { result ≡ length self.now }
@@ -46,21 +46,21 @@ impl Waiting {
         self.count
     }
 
-    /// The numbers.
+    /// Returns the numbers.
     pub(crate) fn numbers(&self) -> &[u16]
         ensures { result.now ≡ self.now }
     {
         &self.numbers[..self.count]
     }
 
-    /// How often the one at an index has come back; `u64::MAX` stands for more, too.
+    /// Returns how often a try to send the number at an index has failed; `u64::MAX` stands for more, too.
     pub(crate) fn turn(&self, index: usize) -> u64
         requires { index < 8 }
     {
         self.turns[index]
     }
 
-    /// One more waits, behind the others, and has not come back.
+    /// Adds a number after the others, which hasn't been tried yet.
     #[inline(always)]
     pub(crate) fn push(&mut self, number: u16)
         requires { length self.old < 8 }
@@ -71,7 +71,7 @@ impl Waiting {
         self.count += 1;
     }
 
-    /// All have come back once more.
+    /// Counts one more failed try for each number.
     pub(crate) fn come_back(&mut self)
         ensures { self.new ≡ self.old }
     {
@@ -80,14 +80,14 @@ impl Waiting {
         }
     }
 
-    /// The first has come back once more.
+    /// Counts one more failed try for the first number.
     pub(crate) fn first_comes_back(&mut self)
         ensures { self.new ≡ self.old }
     {
         self.turns[0] = one_more(self.turns[0]);
     }
 
-    /// The first waits no more.
+    /// Removes the first number.
     pub(crate) fn drop_first(&mut self)
         requires { 0 < length self.old }
         ensures { self.new ≡ drop 1 self.old }
@@ -97,7 +97,7 @@ impl Waiting {
         self.count -= 1;
     }
 
-    /// None wait any more.
+    /// Removes all numbers.
     #[inline(always)]
     pub(crate) fn clear(&mut self)
         ensures { self.new ≡ [] }
@@ -106,7 +106,7 @@ impl Waiting {
     }
 }
 
-/// A count that is one more, or stays at its greatest.
+/// Returns a count that is one more, or stays at its greatest.
 fn one_more(count: u64) -> u64
     ensures { result ≡ min (count + 1) (2 ^ 64 - 1) }
 {

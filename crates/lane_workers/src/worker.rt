@@ -17,7 +17,7 @@ use std::sync::Wait;
 use std::sync::atomic::{AtomicBool, Ordering};
 use std::thread::{Promise, PromisedHandle, Scope, Threads};
 
-/// What the end of a worker's thread is promised to keep to.
+/// What the end of a worker's thread is promised to satisfy.
 pub(crate) struct EndOf<F, G> {
     pub(crate) feed: Snapshot<F>,
     pub(crate) gate: Snapshot<G>,
@@ -38,7 +38,7 @@ impl<F: Feed, G: Gate> Promise<LaneEnd> for EndOf<F, G> {
     ghost kept_by = { λ p r. Keeps (G.may_stop p.gate.value) (F.predictor p.feed.value) (F.items p.feed.value) p.sender.value.lane r };
 }
 
-/// A thread that runs a feed, and the receiving end of its lane. What the thread sends is the stated feed's.
+/// A thread that runs a feed, and the receiving end of its lane. What the thread sends is a prefix of that feed's list.
 #[derive(Drop)]
 pub(crate) struct Worker<F: Feed, G: Gate> {
     pub(crate) receiver: RunReceiver,
@@ -64,7 +64,7 @@ pub(crate) struct Ended<F: Feed, G: Gate> {
         × (length lane.sent < length (F.items feed.value)) },
 }
 
-/// Starts a worker's thread in a scope. `over` is set once it sends no more; nothing rests on it.
+/// Starts a worker's thread in a scope. `over` is set once it sends no more; no clause depends on it.
 pub(crate) fn start<'s, E, R: Wait + Sync + 's, F: Feed + Send + 's, G: Gate + Sync + 's>(
     scope: &Scope<'s, E>,
     rt: &'s R,
