@@ -1,4 +1,4 @@
-//! A command, whichever it is, from its settings to the ends that they name.
+//! Running a command between the ends that its settings name.
 
 ghost use Rattle.std.specs.Prelude.{◌≡◌, ◌⊎◌, ℕ, List, Some, Err, IfOk, IfErr, OnOk, string_bytes};
 ghost use Rattle.cube_core.specs.declared.fault.Fault.{Fault as Refusal};
@@ -25,10 +25,10 @@ use std::alloc::Global;
 use std::sync::Wait;
 use std::thread::Threads;
 
-/// Opens the ends that a command names, the input first, and runs it between them.
+/// Opens the ends that a command names, the input first, and runs the command between them.
 ///
-/// `Read` where the input can't be opened; then no output was made. `Write` with no byte where the output
-/// can't be made; then nothing was read. What the command itself answers stands with its ends.
+/// Returns `Read` if the input can't be opened; then no output was created. Returns `Write` with 0 bytes if the
+/// output can't be created; then nothing was read. Otherwise it returns the ends with the command's own result.
 pub fn run_command<R: Threads + Wait + Sync, O: Opener>(
     rt: &R,
     alloc: Global,
@@ -55,7 +55,7 @@ pub fn run_command<R: Threads + Wait + Sync, O: Opener>(
     })
 }
 
-/// Opens where a command reads.
+/// Opens a command's input.
 fn input_of<O: Opener>(opener: &O, settings: &Settings) -> Result<O::Input, Fault>
     ensures opened { IfOk result (O.opens opener.now (name_in settings.now)) }
     ensures refused { IfErr result (λ e. (name : List ℕ) × (name_in settings.now ≡ Some name) × (e ≡ Read) × O.has_none opener.now name) }
@@ -66,7 +66,7 @@ fn input_of<O: Opener>(opener: &O, settings: &Settings) -> Result<O::Input, Faul
     }
 }
 
-/// Makes where a command writes.
+/// Creates a command's output.
 fn output_of<O: Opener>(
     opener: &O,
     input: &O::Input,
@@ -83,9 +83,9 @@ fn output_of<O: Opener>(
     }
 }
 
-/// Runs a command between its two ends; `compress` in threads where it has predictors.
+/// Runs a command between its two ends; `compress` runs in threads where it has predictors.
 ///
-/// Its refusals, and what is then written, are those of the command.
+/// The refusals, and what is then written, are those of the command.
 pub fn run_between<R: Threads + Wait + Sync, S: Source, K: Sink>(
     rt: &R,
     alloc: Global,

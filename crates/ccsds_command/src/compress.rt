@@ -1,4 +1,4 @@
-//! A cube's raw bytes in, its file out.
+//! From a cube's raw bytes to its file.
 
 ghost use Rattle.std.specs.Prelude.{◌≡◌, ◌⊎◌, IfOk, IfErr, OnOk, Err};
 ghost use Rattle.cube_core.specs.declared.fault.Fault.{Fault as Refusal};
@@ -19,13 +19,13 @@ use cube_core::cube::Cube;
 use cube_core::fault::Fault;
 use std::alloc::Global;
 
-/// Reads a cube's raw bytes, codes it, and writes the file.
+/// Reads a cube's raw bytes, codes the cube, and writes the file.
 ///
-/// Parameters that aren't lawful are refused before anything is read (`FieldRange`, `Disagree`). The
-/// samples are of one byte or two. At most one byte more than the samples have is read. `Read` where
-/// the source failed; `RawLength` where the bytes are too few or too many; `SampleRange` with the
-/// first sample that isn't of the parameters' kind; `WantOfMemory`; and `Write`, with the bytes that
-/// went out, where the sink failed or took nothing. After any other refusal nothing was written.
+/// Unlawful parameters are refused before anything is read (`FieldRange`, `Disagree`). The samples have one
+/// byte or two. It reads at most one byte more than the samples have. Returns `Read` if the source fails;
+/// `RawLength` if there are too few or too many bytes; `SampleRange` with the first sample that isn't of the
+/// parameters' kind; `WantOfMemory` if an allocation fails; and `Write`, with the number of bytes that went
+/// out, if the sink fails or takes nothing. After any other refusal nothing was written.
 #[tactic(auto, unfolding(crate::specs::Compress::Compresses, crate::specs::Compress::IsCompressFault))]
 pub fn run_compress<S: Source, K: Sink>(
     alloc: Global,
@@ -50,7 +50,7 @@ pub fn run_compress<S: Source, K: Sink>(
     write_all(sink, &file)
 }
 
-/// The file of the cube that the source has the raw bytes of.
+/// Returns the file of the cube whose raw bytes the source has.
 fn file_of_source<S: Source>(
     alloc: Global,
     source: &mut S,
@@ -68,7 +68,7 @@ fn file_of_source<S: Source>(
     encode_one(alloc, &cube, &settings.params)
 }
 
-/// Reads the cube that the source has the raw bytes of.
+/// Reads the cube whose raw bytes the source has.
 pub(crate) fn read_cube<S: Source>(
     alloc: Global,
     source: &mut S,

@@ -1,4 +1,4 @@
-//! A file in, its cube's raw bytes out.
+//! From a file to its cube's raw bytes.
 
 ghost use Rattle.std.specs.Prelude.{◌≡◌, ◌⊎◌, IfOk, IfErr, OnOk};
 ghost use Rattle.cube_core.specs.Layout.{IsLayout};
@@ -20,10 +20,10 @@ use std::alloc::Global;
 
 /// Reads a file, decodes it, and writes its cube's raw bytes.
 ///
-/// The samples are written in one byte or two. `Read` where the source failed, or gave more than 2^40
-/// bytes; the refusals of `decode`; `SampleRange` with the first sample that doesn't fit its byte;
-/// `WantOfMemory`; and `Write`, with the bytes that went out, where the sink failed or took nothing.
-/// After any other refusal nothing was written.
+/// The samples are written in one byte or two. Returns `Read` if the source fails, or has more than 2^40 bytes;
+/// the refusals of `decode`; `SampleRange` with the first sample that doesn't fit in its byte; `WantOfMemory`
+/// if an allocation fails; and `Write`, with the number of bytes that went out, if the sink fails or takes
+/// nothing. After any other refusal nothing was written.
 #[tactic(auto, unfolding(crate::specs::Expand::Expands, crate::specs::Expand::IsExpandFault))]
 pub fn run_expand<S: Source, K: Sink>(
     alloc: Global,
@@ -46,7 +46,7 @@ pub fn run_expand<S: Source, K: Sink>(
     write_all(sink, &raw)
 }
 
-/// The raw bytes of the cube whose file the source has.
+/// Returns the raw bytes of the cube whose file the source has.
 fn raw_of_source<S: Source>(alloc: Global, source: &mut S, layout: Layout) -> Result<Vec<u8>, Fault>
     requires { IsLayout layout }
     ensures raw { IfOk result (λ raw. HasRaw layout (S.left source.old) raw.items) }
@@ -60,7 +60,7 @@ fn raw_of_source<S: Source>(alloc: Global, source: &mut S, layout: Layout) -> Re
     cube.to_raw(alloc, layout)
 }
 
-/// The cube whose file the source has.
+/// Returns the cube whose file the source has.
 fn decoded<S: Source>(alloc: Global, source: &mut S) -> Result<Cube, Fault>
     ensures cube { IfOk result (HasFileOf (S.left source.old)) }
     ensures refused { IfErr result (λ e. IsReadRefusal (S.left source.old) (S.failures source.old) (S.failures source.new) e

@@ -1,4 +1,4 @@
-//! A file in, its header's fields out as lines of text.
+//! From a file to its header's fields as lines of text.
 
 ghost use Rattle.std.specs.Prelude.{◌≡◌, ◌⊎◌, IfOk, IfErr, OnOk};
 ghost use Rattle.header_bits.specs.Lawful.{IsLawful};
@@ -20,9 +20,10 @@ use std::alloc::Global;
 
 /// Reads a file, and writes a line for each field of its header: a name, a space and the value.
 ///
-/// The whole file is read, and only its header is looked at. `Read` where the source failed, or gave
-/// more than 2^40 bytes; the refusals of `read_header`; `WantOfMemory`; and `Write`, with the bytes
-/// that went out, where the sink failed or took nothing. After any other refusal nothing was written.
+/// The whole file is read, and only its header is decoded. Returns `Read` if the source fails, or has more than
+/// 2^40 bytes; the refusals of `read_header`; `WantOfMemory` if an allocation fails; and `Write`, with the
+/// number of bytes that went out, if the sink fails or takes nothing. After any other refusal nothing was
+/// written.
 #[tactic(auto, unfolding(crate::specs::Inspect::Inspects, crate::specs::Inspect::IsInspectFault))]
 pub fn run_inspect<S: Source, K: Sink>(
     alloc: Global,
@@ -43,7 +44,7 @@ pub fn run_inspect<S: Source, K: Sink>(
     write_all(sink, &text)
 }
 
-/// The lines of the source's header.
+/// Returns the lines of the source's header.
 fn lines_of_source<S: Source>(alloc: Global, source: &mut S) -> Result<Vec<u8>, Fault>
     ensures lines { IfOk result (λ text. HasLines (S.left source.old) text.items) }
     ensures refused { IfErr result (IsInspectRefusal (S.left source.old) (S.failures source.old) (S.failures source.new)) }
@@ -56,7 +57,7 @@ fn lines_of_source<S: Source>(alloc: Global, source: &mut S) -> Result<Vec<u8>, 
     header_lines(alloc, &params, size)
 }
 
-/// The source's header: its parameters, and its length in bytes.
+/// Returns the source's header: its parameters, and its length in bytes.
 fn header_of_source<S: Source>(alloc: Global, source: &mut S) -> Result<(Params, usize), Fault>
     ensures header { IfOk result (λ found. HasHeader (S.left source.old) found.0 found.1) }
     ensures lawful { IfOk result (λ found. IsLawful found.0) }

@@ -1,4 +1,4 @@
-//! What a command is run over: whatever opens its ends.
+//! What opens the ends of a command.
 
 ghost use Rattle.std.specs.Prelude.{◌≡◌, List, Option, Some, None, ℕ, IfOk, IfErr};
 ghost use Rattle.cube_core.specs.declared.fault.Fault.TheVariants.{Read, Write};
@@ -7,11 +7,10 @@ use command_devices::sink::Sink;
 use command_devices::source::Source;
 use cube_core::fault::Fault;
 
-/// Opens the ends of a command: where its input comes from and where its output goes, each a standard
-/// stream or a file by its name.
+/// Opens the ends of a command: the input and the output, each a standard stream or a file by its name.
 ///
-/// Contracts see which source or sink a name may stand for (no name stands for the standard stream), and
-/// which names stand for none. An output is asked for with the input in hand, so the input is opened first.
+/// Contracts see which source or sink a name may stand for (no name stands for the standard stream), and which
+/// names stand for none. An output is created with the input in hand, so the input is opened first.
 pub trait Opener {
     type Input: Source + Drop;
 
@@ -25,27 +24,27 @@ pub trait Opener {
 
     ghost makes_none: { Self → List ℕ → Type 0 };
 
-    /// The standard input.
+    /// Returns the standard input.
     fn standard_input(&self) -> Self::Input
         ensures { opens self.now None result };
 
-    /// The standard output.
+    /// Returns the standard output.
     fn standard_output(&self) -> Self::Output
         ensures { makes self.now None result };
 
-    /// The file of this name. `Read` where it can't be opened.
+    /// Opens the file of this name. Returns `Read` if it can't be opened.
     fn open(&self, name: &str) -> Result<Self::Input, Fault>
         ensures opened { IfOk result (opens self.now (Some name.now)) }
         ensures refused { IfErr result (λ e. (e ≡ Read) × has_none self.now name.now) };
 
-    /// A new file of this name, or the one that is there, emptied. `Write` with no byte where it can't be
-    /// made, or where it is the input.
+    /// Creates a file of this name, or empties the one that exists. Returns `Write` with 0 bytes if it can't be
+    /// created, or if it is the input.
     fn create(&self, input: &Self::Input, name: &str) -> Result<Self::Output, Fault>
         ensures made { IfOk result (makes self.now (Some name.now)) }
         ensures refused { IfErr result (λ e. (e ≡ Write 0) × makes_none self.now name.now) };
 }
 
-/// A command that was run: what is left of its ends, and its answer.
+/// A command that was run: its ends, and its result.
 #[derive(Drop)]
 pub struct Ended<S: Drop, K: Drop> {
     pub input: S,

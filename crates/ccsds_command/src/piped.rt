@@ -1,4 +1,4 @@
-//! A cube's raw bytes in, its file out, by predictors in threads of their own.
+//! From a cube's raw bytes to its file, with predictors in threads of their own.
 
 ghost use Rattle.std.specs.Prelude.{◌≡◌, ◌⊎◌, IfOk, IfErr, OnOk, Err};
 ghost use Rattle.cube_core.specs.declared.fault.Fault.{Fault as Refusal};
@@ -24,11 +24,13 @@ use std::alloc::Global;
 use std::sync::Wait;
 use std::thread::Threads;
 
-/// Reads a cube's raw bytes, codes it by predictors in threads of their own, and writes the file, which is that of `run_compress`.
+/// Reads a cube's raw bytes, codes the cube with predictors in threads of their own, and writes the file, which
+/// is that of `run_compress`.
 ///
-/// Parameters that aren't lawful are refused before anything is read (`FieldRange`, `Disagree`), and then numbers of
-/// predictors and slots that no plan may have. Band z goes to predictor z mod their number. The other refusals are those of `run_compress`, and
-/// `SpawnRefused` where a thread wasn't started, and `Stopped` where the gate stopped a predictor. After any refusal but `Write` nothing was written.
+/// Before anything is read, it refuses unlawful parameters (`FieldRange`, `Disagree`), and then numbers of
+/// predictors and slots that no plan may have. Band z goes to predictor z mod their number. The other refusals
+/// are those of `run_compress`; `SpawnRefused` if a thread wasn't started; and `Stopped` if the gate stopped a
+/// predictor. After any refusal but `Write` nothing was written.
 #[tactic(auto, unfolding(crate::specs::Compress::Compresses, crate::specs::Piped::IsPipedFault))]
 pub fn run_piped<R: Threads + Wait + Sync, S: Source, K: Sink, G: Gate + Sync>(
     rt: &R,
@@ -57,7 +59,7 @@ pub fn run_piped<R: Threads + Wait + Sync, S: Source, K: Sink, G: Gate + Sync>(
     write_all(sink, &file)
 }
 
-/// The plan of the settings.
+/// Returns the plan of the settings.
 fn plan_of(alloc: Global, settings: &CompressSettings) -> Result<Plan, Fault>
     requires { IsLawful settings.now.params }
     ensures plan { IfOk result (λ plan. plan ≡ planned settings.now) }
@@ -74,7 +76,7 @@ fn plan_of(alloc: Global, settings: &CompressSettings) -> Result<Plan, Fault>
     )
 }
 
-/// Which predictor each band is dealt to, where their number and that of slots are in range.
+/// Returns the predictor of each band, where the numbers of predictors and slots are in range.
 fn dealt(alloc: Global, settings: &CompressSettings) -> Result<Vec<u8>, Fault>
     ensures deal { IfOk result (λ deal. deal.items ≡ deal_of settings.now) }
     ensures refused { IfErr result (λ e. e ≡ WantOfMemory) }
@@ -92,7 +94,7 @@ fn dealt(alloc: Global, settings: &CompressSettings) -> Result<Vec<u8>, Fault>
     Ok(deal)
 }
 
-/// The file of the cube that the source has the raw bytes of.
+/// Returns the file of the cube whose raw bytes the source has.
 fn piped_file<R: Threads + Wait + Sync, S: Source, G: Gate + Sync>(
     rt: &R,
     alloc: Global,

@@ -1,4 +1,4 @@
-//! A small cube in, its file in hexadecimal out.
+//! From a small cube to its file in hexadecimal.
 
 ghost use Rattle.std.specs.Prelude.{◌≡◌, ◌≢◌, ◌⊎◌, ◌≤◌, ◌++◌, length, slice_index, IfOk, IfErr, OnOk};
 ghost use Rattle.cube_core.specs.declared.fault.Fault.TheVariants.{WantOfMemory, RawLength};
@@ -23,25 +23,25 @@ use cube_core::shape::Shape;
 use header_bits::params::Params;
 use std::alloc::Global;
 
-/// How many bytes the three sizes have.
+/// The number of bytes of the three sizes.
 const SIZES: usize = 6;
 
-/// How the samples lie behind the sizes.
+/// How the samples lie after the sizes.
 const LAYOUT: Layout = Layout {
     order: RawOrder::Bsq,
     bytes: 1,
     little: false,
 };
 
-/// Reads a cube of 8-bit samples, codes it with the plainest parameters, and writes the file in
-/// hexadecimal with a newline.
+/// Reads a cube of 8-bit samples, codes it with the plainest parameters, and writes the file in hexadecimal
+/// with a newline.
 ///
-/// The input is three sizes of two bytes each, the high one first (columns, rows, bands; 0 stands for
-/// 65,536), and then samples of one byte, band after band and row after row. It is read to one byte
-/// more than that at most. `Read` where the source failed; `RawLength` where the sizes or the samples
-/// have too few or too many bytes (after the sizes it counts the samples' bytes alone);
-/// `WantOfMemory`; and `Write`, with the bytes that went out, where the sink failed or took nothing.
-/// After any other refusal nothing was written.
+/// The input is three sizes of two bytes each, the high one first (columns, rows, bands; 0 stands for 65,536),
+/// and then samples of one byte, band after band and row after row. It reads at most one byte more than that.
+/// Returns `Read` if the source fails; `RawLength` if the sizes or the samples have too few or too many bytes
+/// (after the sizes it counts the samples' bytes alone); `WantOfMemory` if an allocation fails; and `Write`,
+/// with the number of bytes that went out, if the sink fails or takes nothing. After any other refusal nothing
+/// was written.
 #[tactic(auto, unfolding(crate::specs::Show::Shows, crate::specs::Show::IsShowFault))]
 pub fn run_show<S: Source, K: Sink>(
     alloc: Global,
@@ -61,7 +61,7 @@ pub fn run_show<S: Source, K: Sink>(
     write_all(sink, &text)
 }
 
-/// The text that is shown of the source's cube.
+/// Returns the text that is shown for the source's cube.
 fn shown_text<S: Source>(alloc: Global, source: &mut S) -> Result<Vec<u8>, Fault>
     ensures shown { IfOk result (λ text. IsShown (S.left source.old) text.items) }
     ensures refused { IfErr result (IsShowRefusal (S.left source.old) (S.failures source.old) (S.failures source.new)) }
@@ -81,7 +81,7 @@ fn shown_text<S: Source>(alloc: Global, source: &mut S) -> Result<Vec<u8>, Fault
     text_of(alloc, &sizes, shape, &raw)
 }
 
-/// The text of a cube of this shape, by the bytes of its sizes and of its samples.
+/// Returns the text of a cube of this shape, from the bytes of its sizes and of its samples.
 fn text_of(alloc: Global, sizes: &[u8], shape: Shape, raw: &[u8]) -> Result<Vec<u8>, Fault>
     requires six { length sizes.now ≡ 6 }
     requires shape { shape ≡ sizes_of sizes.now }
@@ -104,7 +104,7 @@ fn text_of(alloc: Global, sizes: &[u8], shape: Shape, raw: &[u8]) -> Result<Vec<
     hexadecimal(alloc, &file)
 }
 
-/// The shape that three sizes spell.
+/// Returns the shape that three sizes spell.
 fn shape_of(sizes: &[u8]) -> Shape
     requires { length sizes.now ≡ 6 }
     ensures { result ≡ sizes_of sizes.now }
@@ -115,7 +115,7 @@ fn shape_of(sizes: &[u8]) -> Shape
     Shape::new(columns, rows, bands).unwrap()
 }
 
-/// A size of two bytes, where 0 stands for 65,536.
+/// Returns a size of two bytes, where 0 stands for 65,536.
 fn size_at(bytes: &[u8]) -> u32
     requires { 2 ≤ length bytes.now }
     ensures value { result ≡ size_of (slice_index bytes.now 0) (slice_index bytes.now 1) }
