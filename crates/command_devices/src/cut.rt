@@ -1,4 +1,4 @@
-//! A source and a sink over memory that go piece by piece and may fail once.
+//! A source and a sink over memory that transfer a piece at a time and may fail once.
 
 ghost use Rattle.std.specs.Prelude.{◌≡◌, ◌≢◌, ◌⊎◌, ◌<◌, ◌≤◌, [], Ok, Some, length, take, min, IfOk, IfErr, OnOk, OnErr};
 ghost use Rattle.cube_core.specs.declared.fault.Fault.TheVariants.{WantOfMemory};
@@ -11,7 +11,7 @@ use cube_core::fault::Fault;
 use std::alloc::Global;
 use std::marker::Model;
 
-/// Gives bytes from memory, at most `piece` a call; call `fail_at`, counted from 0, fails.
+/// A source that returns bytes from memory, at most `piece` in a call; call `fail_at`, counted from 0, fails.
 #[derive(Drop)]
 pub struct CutSource<'a> {
     bytes: &'a [u8],
@@ -30,7 +30,7 @@ impl<'a> Model for CutSource<'a> {
 }
 
 impl<'a> CutSource<'a> {
-    /// A source of these bytes.
+    /// Returns a source of these bytes.
     ///
     /// `piece` is at least 1.
     pub fn new(bytes: &'a [u8], piece: usize, fail_at: Option<u64>) -> CutSource<'a>
@@ -78,9 +78,9 @@ impl Source for CutSource<'_> {
     }
 }
 
-/// Takes bytes into memory, at most `piece` a call; call `fail_at`, counted from 0, fails.
+/// A sink that takes bytes into memory, at most `piece` in a call; call `fail_at`, counted from 0, fails.
 ///
-/// A piece for which the room is too small fails too.
+/// A call also fails if the piece doesn't fit in the room.
 #[derive(Drop)]
 pub struct CutSink {
     taken: Vec<u8>,
@@ -103,9 +103,9 @@ impl Model for CutSink {
 }
 
 impl CutSink {
-    /// A sink with room for so many bytes.
+    /// Returns a sink with room for `room` bytes.
     ///
-    /// `piece` is at least 1. `WantOfMemory` where the room isn't had.
+    /// `piece` is at least 1. Returns `WantOfMemory` if the room can't be allocated.
     pub fn new(
         alloc: Global,
         room: usize,
@@ -127,7 +127,7 @@ impl CutSink {
         })
     }
 
-    /// The bytes that were taken.
+    /// Returns the bytes that were taken.
     pub fn taken(&self) -> &[u8]
         ensures { result.now ≡ self.now.taken }
     {

@@ -1,4 +1,4 @@
-//! Readers and writers whose answers are known call by call.
+//! Readers and writers whose results contracts know call by call.
 
 ghost use Rattle.std.specs.Prelude.{◌≡◌, ◌⊎◌, ℕ, List, Option, None, Some, ⊤, length, take, IfOk, OnErr};
 ghost use Rattle.std.specs.Io.{ReadsAtMost, WritesAtMost};
@@ -6,16 +6,17 @@ ghost use Rattle.std.specs.Io.KnownBytes.{ReadConsumes, WriteAppends};
 
 use std::io::{self, Read, Write};
 
-/// What is read as a file or a stream of the system is.
+/// What is read like a file or a stream of the system.
 ///
-/// Contracts see the bytes that are left where the type tells them, and which answers of a call are the device's
-/// own: how many bytes it was asked for, those that it gave, or none where it failed, and what became of it.
+/// Contracts see the bytes that are left where the type exposes them, and which results of a call are the
+/// device's own: how many bytes were requested, those that it gave, or none where it failed, and its state
+/// afterwards.
 pub trait InputDevice {
     ghost remaining: { Self → Option (List ℕ) } = { λ _. None };
 
     ghost answers: { Self → ℕ → Option (List ℕ) → Self → Type 0 } = { λ _ _ _ _. ⊤ };
 
-    /// Puts the next bytes into the front of the buffer, and answers how many.
+    /// Writes the next bytes to the front of the buffer, and returns how many.
     fn read(&mut self, buffer: &mut [u8]) -> io::Result<usize>
         ensures within { ReadsAtMost result buffer.new }
         ensures bytes { ReadConsumes (remaining self.old) (remaining self.new) result buffer.new }
@@ -23,16 +24,17 @@ pub trait InputDevice {
         ensures failed { OnErr result (answers self.old (length buffer.old) None self.new) };
 }
 
-/// What is written to as a file or a stream of the system is.
+/// What is written to like a file or a stream of the system.
 ///
-/// Contracts see the bytes that it holds where the type tells them, and which answers of a call are the device's
-/// own: the piece that it was offered, how many bytes it took, or none where it failed, and what became of it.
+/// Contracts see the bytes that it holds where the type exposes them, and which results of a call are the
+/// device's own: the piece that it was offered, how many bytes it took, or none where it failed, and its state
+/// afterwards.
 pub trait OutputDevice {
     ghost contents: { Self → Option (List ℕ) } = { λ _. None };
 
     ghost answers: { Self → List ℕ → Option ℕ → Self → Type 0 } = { λ _ _ _ _. ⊤ };
 
-    /// Takes bytes from the front of the piece, and answers how many.
+    /// Takes bytes from the front of the piece, and returns how many.
     fn write(&mut self, piece: &[u8]) -> io::Result<usize>
         ensures within { WritesAtMost result piece.now }
         ensures bytes { WriteAppends (contents self.old) (contents self.new) result piece.now }

@@ -1,4 +1,4 @@
-//! What a command reads from and writes to, and bytes read and written whole.
+//! The sources and sinks of commands, and bytes read and written whole.
 #![tactic(auto)]
 
 pub mod cut;

@@ -1,4 +1,4 @@
-//! Bytes read whole from a source.
+//! Reading all bytes of a source.
 
 ghost use Rattle.std.specs.Prelude.{◌≡◌, ◌⊎◌, ◌+◌, ◌<◌, ◌≤◌, ◌^◌, max, Ok, [], length, take, drop, IfOk, IfErr, OnOk, OnErr};
 ghost use Rattle.cube_core.specs.declared.fault.Fault.TheVariants.{Read, WantOfMemory};
@@ -9,7 +9,7 @@ use crate::source::{Failed, Source};
 use cube_core::fault::Fault;
 use std::alloc::Global;
 
-/// The least piece that is asked for at once, where so much may come.
+/// The least number of bytes that is requested at once, where the limit allows it.
 const PIECE: usize = 1 << 16;
 
 /// The greatest number of bytes that a file may have.
@@ -17,7 +17,8 @@ const FILE_LIMIT: u64 = 1 << 40;
 
 /// Reads a file to the source's end: at most 2^40 bytes.
 ///
-/// `Read` where the source failed, or gave a byte more; `WantOfMemory`. What had come by then is dropped.
+/// Returns `Read` if the source fails, or has more bytes; `WantOfMemory` if an allocation fails. The bytes read
+/// by then are dropped.
 pub fn read_file<S: Source>(alloc: Global, source: &mut S) -> Result<Vec<u8>, Fault>
     ensures all { IfOk result (λ bytes. IsAll (S.left source.old) bytes.items) }
     ensures limited { IfOk result (λ bytes. length bytes.items ≤ 2 ^ 40) }
@@ -37,8 +38,9 @@ pub fn read_file<S: Source>(alloc: Global, source: &mut S) -> Result<Vec<u8>, Fa
 
 /// Reads to the source's end, and no more than `limit` bytes.
 ///
-/// The memory grows with what came, and is never asked for what was announced. `Read` where the
-/// source failed; `WantOfMemory`. What had come by then is dropped.
+/// The memory grows with the bytes that came, and is never allocated for bytes that were only announced.
+/// Returns `Read` if the source fails; `WantOfMemory` if an allocation fails. The bytes read by then are
+/// dropped.
 pub fn read_up_to<S: Source>(alloc: Global, source: &mut S, limit: u64) -> Result<Vec<u8>, Fault>
     ensures given { IfOk result (λ bytes. Gave (S.left source.old) (S.left source.new) bytes.items) }
     ensures front { IfOk result (λ bytes. IsFront limit (S.left source.old) bytes.items) }
@@ -70,8 +72,8 @@ pub fn read_up_to<S: Source>(alloc: Global, source: &mut S, limit: u64) -> Resul
     Ok(bytes)
 }
 
-/// Puts zeros behind bytes that are fewer than the limit: as many as there are bytes, and no fewer than a
-/// piece has, so far as the limit allows.
+/// Appends zeros to bytes that are fewer than the limit: as many as there are bytes, and at least a piece's, as
+/// far as the limit allows.
 fn grow(bytes: &mut Vec<u8>, limit: u64) -> Result<(), Fault>
     requires { length bytes.old.items < limit }
     ensures kept { OnOk result (take (length bytes.old.items) bytes.new.items ≡ bytes.old.items) }
@@ -86,7 +88,7 @@ fn grow(bytes: &mut Vec<u8>, limit: u64) -> Result<(), Fault>
     Ok(())
 }
 
-/// Reads into what stands behind the first `had` bytes.
+/// Reads into the bytes after the first `had`.
 fn read_behind<S: Source>(source: &mut S, bytes: &mut [u8], had: usize) -> Result<usize, Failed>
     requires { had ≤ length bytes.old }
     ensures within { IfOk result (λ n. had + n ≤ length bytes.old) }

@@ -1,4 +1,4 @@
-//! Where a command's output goes.
+//! The output of a command.
 
 ghost use Rattle.std.specs.Prelude.{◌≡◌, ◌<◌, ◌≤◌, ℕ, List, [], Option, Ok, length, take, IfOk, OnErr};
 ghost use Rattle.command_devices.specs.Devices.{Took, Rises, CountsStall};
@@ -7,8 +7,8 @@ use crate::source::Failed;
 
 /// What bytes are written to.
 ///
-/// Contracts see how often a call failed, how often a call took nothing of a piece that isn't empty
-/// (counts that stay where they stand at 2^64 - 1), and the bytes taken where the type tells them.
+/// Contracts see how often a call failed and how often a call took nothing of a piece that isn't empty (counts
+/// that stay at 2^64 - 1 once they reach it), and the bytes taken where the type exposes them.
 pub trait Sink {
     ghost taken: { Self → Option (List ℕ) };
 
@@ -16,7 +16,7 @@ pub trait Sink {
 
     ghost stalls: { Self → ℕ };
 
-    /// Takes bytes from the front of the piece, and answers how many. A call that fails takes none.
+    /// Takes bytes from the front of the piece, and returns how many. A call that fails takes none.
     fn write(&mut self, piece: &[u8]) -> Result<usize, Failed>
         ensures within { IfOk result (λ n. n ≤ length piece.now) }
         ensures took { IfOk result (λ n. Took (taken self.old) (taken self.new) (take n piece.now)) }

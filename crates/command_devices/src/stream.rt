@@ -9,7 +9,7 @@ use crate::sink::Sink;
 use crate::source::{Failed, Source};
 use std::marker::Model;
 
-/// A source over a reader. It tells its bytes where the reader does; files and streams don't. An
+/// A source over a reader. It exposes its bytes to contracts where the reader does; files and streams don't. An
 /// interrupted call is a failure.
 #[derive(Drop)]
 pub struct ReaderSource<R: InputDevice> {
@@ -24,7 +24,7 @@ impl<R: InputDevice> Model for ReaderSource<R> {
 }
 
 impl<R: InputDevice> ReaderSource<R> {
-    /// A source of what the reader has left.
+    /// Returns a source of the bytes that the reader has left.
     pub fn new(reader: R) -> ReaderSource<R>
         ensures { result ≡ record { reader = reader; failures = 0 } }
     {
@@ -34,7 +34,7 @@ impl<R: InputDevice> ReaderSource<R> {
         }
     }
 
-    /// The reader below.
+    /// Returns the reader.
     pub fn reader(&self) -> &R
         ensures { result.now ≡ self.now.reader }
     {
@@ -68,8 +68,8 @@ impl<R: InputDevice> Source for ReaderSource<R> {
     }
 }
 
-/// A sink over a writer. It tells its bytes where the writer does; files and streams don't. Each piece
-/// goes through to the writer at once.
+/// A sink over a writer. It exposes its bytes to contracts where the writer does; files and streams don't. Each
+/// piece is passed to the writer at once.
 #[derive(Drop)]
 pub struct WriterSink<W: OutputDevice> {
     writer: W,
@@ -84,7 +84,7 @@ impl<W: OutputDevice> Model for WriterSink<W> {
 }
 
 impl<W: OutputDevice> WriterSink<W> {
-    /// A sink behind what the writer holds.
+    /// Returns a sink that appends to what the writer holds.
     pub fn new(writer: W) -> WriterSink<W>
         ensures { result ≡ record { writer = writer; failures = 0; stalls = 0 } }
     {
@@ -95,7 +95,7 @@ impl<W: OutputDevice> WriterSink<W> {
         }
     }
 
-    /// The writer, with what it took.
+    /// Returns the writer, with the bytes that it took.
     pub fn into_writer(self) -> W
         ensures { result ≡ self.writer }
     {

@@ -1,4 +1,4 @@
-//! Bytes written whole to a sink.
+//! Writing all bytes to a sink.
 
 ghost use Rattle.std.specs.Prelude.{◌≡◌, ◌≤◌, length, OnOk, IfErr};
 ghost use Rattle.command_devices.specs.Devices.{Took};
@@ -9,7 +9,7 @@ use cube_core::fault::Fault;
 
 /// Writes all bytes to the sink, whose failures and stalls are then as many as before.
 ///
-/// `Write` with the number of bytes that went out, where the sink failed or took nothing of a piece.
+/// Returns `Write` with the number of bytes that went out, if the sink fails or takes nothing of a piece.
 pub fn write_all<K: Sink>(sink: &mut K, bytes: &[u8]) -> Result<(), Fault>
     ensures whole { OnOk result (Took (K.taken sink.old) (K.taken sink.new) bytes.now) }
     ensures worked { OnOk result ((K.failures sink.new ≡ K.failures sink.old) × (K.stalls sink.new ≡ K.stalls sink.old)) }
