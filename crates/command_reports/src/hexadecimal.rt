@@ -7,7 +7,8 @@ ghost use Rattle.hex.specs.Hex.{encode_lower};
 use cube_core::fault::Fault;
 use std::alloc::Global;
 
-/// Bytes in lower-case hexadecimal, two digits each, and a newline.
+/// Returns bytes in lower-case hexadecimal, two digits each, and a newline. Returns `WantOfMemory` if the text
+/// can't be allocated.
 pub fn hexadecimal(alloc: Global, bytes: &[u8]) -> Result<Vec<u8>, Fault>
     ensures text { IfOk result (λ text. text.items ≡ encode_lower bytes.now ++ 10 ∷ []) }
     ensures refused { IfErr result (λ e. e ≡ WantOfMemory) }

@@ -1,4 +1,4 @@
-//! What the commands tell: a header's lines, a refusal's line and status, and bytes in hexadecimal.
+//! What the commands print: a header's lines, a refusal's line and status, and bytes in hexadecimal.
 #![tactic(auto)]
 
 pub mod hexadecimal;

@@ -15,7 +15,8 @@ use header_bits::params::{Coder, CountStart, Params, WeightStart};
 use std::alloc::Global;
 use std::fmt::Display;
 
-/// A line for each field of a header with these parameters and so many bytes.
+/// Returns a line for each field of a header with these parameters and `size` bytes. Returns `WantOfMemory` if
+/// the text can't be allocated.
 pub fn header_lines(alloc: Global, params: &Params, size: usize) -> Result<Vec<u8>, Fault>
     requires { IsLawful params.now }
     ensures lines { IfOk result (λ text. text.items ≡ lines_of params.now size) }
@@ -29,7 +30,7 @@ pub fn header_lines(alloc: Global, params: &Params, size: usize) -> Result<Vec<u
     Ok(text.into_bytes())
 }
 
-/// Appends what the image part says.
+/// Appends the lines of the image part.
 fn put_image(alloc: Global, text: &mut String, params: &Params) -> Result<(), Fault>
     ensures lines { OnOk result (string_bytes text.new ≡ string_bytes text.old ++ image_lines params.now) }
     ensures refused { IfErr result (λ e. e ≡ WantOfMemory) }
@@ -51,7 +52,7 @@ fn put_image(alloc: Global, text: &mut String, params: &Params) -> Result<(), Fa
     Ok(())
 }
 
-/// Appends what the predictor part says.
+/// Appends the lines of the predictor part.
 fn put_predictor(alloc: Global, text: &mut String, params: &Params) -> Result<(), Fault>
     requires { IsLawful params.now }
     ensures lines { OnOk result (string_bytes text.new ≡ string_bytes text.old ++ predictor_lines params.now) }
@@ -80,7 +81,7 @@ fn put_predictor(alloc: Global, text: &mut String, params: &Params) -> Result<()
     Ok(())
 }
 
-/// Appends what the coder part says.
+/// Appends the lines of the coder part.
 fn put_coder(alloc: Global, text: &mut String, coder: &Coder) -> Result<(), Fault>
     ensures lines { OnOk result (string_bytes text.new ≡ string_bytes text.old ++ coder_lines coder.now) }
     ensures refused { IfErr result (λ e. e ≡ WantOfMemory) }
@@ -138,7 +139,7 @@ fn put_flag(alloc: Global, text: &mut String, field: FlagField, set: bool) -> Re
     Ok(())
 }
 
-/// What a flag's bit is called.
+/// Returns the name of a flag's bit.
 fn word_of(field: FlagField, set: bool) -> &'static str
     ensures { result.now ≡ choice set field.one.now field.zero.now }
 {
@@ -154,7 +155,7 @@ fn coder_text(coder: &Coder) -> &'static str
     }
 }
 
-/// An order's name, and its depth where it is interleaved.
+/// Returns an order's name, and its depth where it is interleaved.
 fn order_text(alloc: Global, order: Order) -> Result<String, Fault>
     ensures text { IfOk result (λ text. string_bytes text ≡ order_text order) }
     ensures refused { IfErr result (λ e. e ≡ WantOfMemory) }
@@ -166,7 +167,7 @@ fn order_text(alloc: Global, order: Order) -> Result<String, Fault>
     }
 }
 
-/// The weight update scaling exponent change interval, by its logarithm.
+/// Returns the weight update scaling exponent change interval, from its logarithm.
 fn interval(log: u32) -> u32
     requires { log ≤ 11 }
     ensures { result ≡ 2 ^ log }
@@ -181,7 +182,7 @@ fn signed_text(alloc: Global, number: i32) -> Result<String, Fault>
     Ok(format!(in alloc; "{number}")?)
 }
 
-/// What the weights start from, and a table's resolution.
+/// Returns the name of the weight start, and a table's resolution.
 fn start_text(alloc: Global, start: &WeightStart) -> Result<String, Fault>
     ensures text { IfOk result (λ text. string_bytes text ≡ start_text start.now) }
     ensures refused { IfErr result (λ e. e ≡ WantOfMemory) }
@@ -193,7 +194,7 @@ fn start_text(alloc: Global, start: &WeightStart) -> Result<String, Fault>
     }
 }
 
-/// The accumulator's constant, or that there is a table.
+/// Returns the accumulator's constant, or that there is a table.
 fn constant_text(alloc: Global, start: &CountStart) -> Result<String, Fault>
     ensures text { IfOk result (λ text. string_bytes text ≡ constant_text start.now) }
     ensures refused { IfErr result (λ e. e ≡ WantOfMemory) }

@@ -7,7 +7,7 @@ ghost use Rattle.command_reports.specs.Status.{status};
 use cube_core::fault::Fault;
 use std::alloc::Global;
 
-/// The program's exit status after a refusal: 1 for the words, 2 for the input, 3 for memory or a
+/// Returns the program's exit status after a refusal: 1 for the words, 2 for the input, 3 for memory or a
 /// thread, 4 for a device.
 pub fn status_of(fault: &Fault) -> u8
     ensures { result ≡ status fault.now }
@@ -20,9 +20,9 @@ pub fn status_of(fault: &Fault) -> u8
     }
 }
 
-/// The line that the program prints on standard error: its name, the fault, and a newline.
+/// Returns the line that the program prints on standard error: its name, the fault, and a newline.
 ///
-/// `WantOfMemory` where memory for the line was refused.
+/// Returns `WantOfMemory` if the line can't be allocated.
 pub fn fault_line(alloc: Global, fault: &Fault) -> Result<Vec<u8>, Fault>
     ensures line { IfOk result (λ line. (told : List ℕ) × (line.items ≡ codes "ccsds: " ++ told ++ 10 ∷ [])) }
     ensures refused { IfErr result (λ e. e ≡ WantOfMemory) }
