@@ -10,9 +10,9 @@ use command_settings::settings::Settings;
 use cube_core::fault::Fault;
 use std::alloc::{AllocError, Global};
 
-/// The settings that the words behind the program's name ask for, as `settings` finds them.
+/// Returns the settings that the words after the program's name ask for, as `settings` does.
 ///
-/// `WantOfMemory` also where there is no room for a list of the words.
+/// Returns `WantOfMemory` also if a list of the words can't be allocated.
 pub fn settings_of(alloc: Global, words: &[String]) -> Result<Settings, Fault>
     ensures ranges { IfOk result AreInRange }
     ensures asked { IfOk result (Ask (map string_bytes words.now)) }
@@ -21,7 +21,7 @@ pub fn settings_of(alloc: Global, words: &[String]) -> Result<Settings, Fault>
     settings(alloc, texts_of(alloc, words)?.as_slice())
 }
 
-/// The texts of words.
+/// Returns the texts of words.
 fn texts_of<'a>(alloc: Global, words: &'a [String]) -> Result<Vec<&'a str>, AllocError>
     ensures { IfOk result (λ v. texts v.items ≡ map string_bytes words.now) }
 {

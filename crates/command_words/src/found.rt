@@ -1,4 +1,4 @@
-//! What was found of an option: its number, its word, or whether it was given.
+//! What was found for an option: its number, its word, or whether it was given.
 
 ghost use Rattle.std.specs.Prelude.{◌≡◌, ◌≤◌, ℕ, ℤ, IfOk, IfErr, option_map};
 ghost use Rattle.cube_core.specs.declared.fault.Fault.TheVariants.{Usage};
@@ -12,7 +12,7 @@ use cube_core::fault::Fault;
 use header_bits::field::{NumberField, Range};
 use header_bits::fields::LEAST_EXPONENT;
 
-/// The number of an option that is called as its field.
+/// Returns the number of an option that is named after its field.
 pub(crate) fn number(matches: &ArgMatches<'_>, field: NumberField) -> Result<u32, Fault>
     ensures range { IfOk result (InRange field.range.least field.range.most) }
     ensures read { IfOk result (HasNumber (rows matches.now) field.name.now) }
@@ -22,7 +22,7 @@ pub(crate) fn number(matches: &ArgMatches<'_>, field: NumberField) -> Result<u32
     number_in(matches, field.name, field.range)
 }
 
-/// An option's number, in its range.
+/// Returns an option's number, in its range.
 pub(crate) fn number_in(matches: &ArgMatches<'_>, name: &str, range: Range) -> Result<u32, Fault>
     ensures range { IfOk result (InRange range.least range.most) }
     ensures read { IfOk result (HasNumber (rows matches.now) name.now) }
@@ -31,7 +31,7 @@ pub(crate) fn number_in(matches: &ArgMatches<'_>, name: &str, range: Range) -> R
     between(matches, name, range.least, range.most)
 }
 
-/// An option's number, from a least to a greatest one.
+/// Returns an option's number, from a least to a greatest one.
 fn between(matches: &ArgMatches<'_>, name: &str, least: u32, most: u32) -> Result<u32, Fault>
     ensures range { IfOk result (InRange least most) }
     ensures read { IfOk result (HasNumber (rows matches.now) name.now) }
@@ -43,7 +43,7 @@ fn between(matches: &ArgMatches<'_>, name: &str, least: u32, most: u32) -> Resul
     }
 }
 
-/// A weight update scaling exponent, which is told as its code.
+/// Returns a weight update scaling exponent, which is given as its code.
 pub(crate) fn exponent(matches: &ArgMatches<'_>, name: &str, codes: Range) -> Result<i32, Fault>
     requires { (codes.least ≡ 0) × (codes.most ≡ 15) }
     ensures range { IfOk result IsExponent }
@@ -54,14 +54,14 @@ pub(crate) fn exponent(matches: &ArgMatches<'_>, name: &str, codes: Range) -> Re
     Ok(code as i32 + LEAST_EXPONENT)
 }
 
-/// Whether a flag was given.
+/// Returns whether a flag was given.
 pub(crate) fn flag(matches: &ArgMatches<'_>, name: &str) -> bool
     ensures { HasFlag (rows matches.now) name.now result }
 {
     matches.get_flag(name)
 }
 
-/// An option's word.
+/// Returns an option's word.
 pub(crate) fn word<'a>(matches: &ArgMatches<'a>, name: &str) -> Option<&'a str>
     ensures { option_map (λ w. w.now) result ≡ first_of name.now (rows matches.now) }
 {

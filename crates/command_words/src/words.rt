@@ -34,12 +34,12 @@ use header_bits::fields::{self, is_block_size};
 use header_bits::params::{Coder, CountStart, Params, WeightStart};
 use std::alloc::Global;
 
-/// The settings that the words behind the program's name ask for. The first word names the command, and
-/// behind `show` and `inspect` there is none.
+/// Returns the settings that the words after the program's name ask for. The first word names the command, and
+/// no word follows `show` and `inspect`.
 ///
-/// `Usage` where they are no lawful command: an unknown word, a word too many or too few, an option
-/// twice or with a value out of its range, the same text for both files, and also where they ask for
-/// help or a version. Nothing is printed. `WantOfMemory` where memory was refused.
+/// Returns `Usage` if they are no lawful command: an unknown word, a word too many or too few, an option twice
+/// or with a value out of its range, the same text for both files, and also if they ask for help or a version.
+/// Nothing is printed. Returns `WantOfMemory` if an allocation fails.
 pub fn settings<'a>(alloc: Global, words: &'a [&'a str]) -> Result<Settings, Fault>
     ensures ranges { IfOk result AreInRange }
     ensures asked { IfOk result (Ask (texts words.entry.now)) }
@@ -54,7 +54,7 @@ pub fn settings<'a>(alloc: Global, words: &'a [&'a str]) -> Result<Settings, Fau
     }
 }
 
-/// Why words were not taken.
+/// Returns why words were refused.
 fn fault_of(error: &Error) -> Fault
     ensures memory { kind_of error.now ≡ OutOfMemory → result ≡ WantOfMemory }
     ensures usage { kind_of error.now ≢ OutOfMemory → result ≡ Usage }
@@ -98,7 +98,7 @@ fn expand_settings<'a>(alloc: Global, words: &'a [&'a str]) -> Result<Settings, 
     Ok(Settings::Expand(layout, from, to))
 }
 
-/// What a command finds in words, the first of which is its name.
+/// Returns what a command finds in words, the first of which is its name.
 fn matches<'a>(command: Command<'a>, words: &'a [&'a str]) -> Result<ArgMatches<'a>, Fault>
     ensures found { is_simple (app_of command.entry) ≡ true → IfOk result (λ m. rows m ≡ matches_of (app_of command.entry) (texts words.entry.now)) }
     ensures taken { is_simple_and_free (app_of command.entry) ≡ true → IfOk result (λ m. AreTaken (app_of command.entry) (texts words.entry.now)) }
@@ -152,7 +152,7 @@ fn kind(matches: &ArgMatches<'_>) -> Result<Kind, Fault>
     Ok(Kind::new(flag(matches, "signed"), bits).unwrap())
 }
 
-/// The encoding order. The depth is always checked for its range, and used only with `bi`.
+/// Returns the encoding order. The depth is always checked against its range, and used only with `bi`.
 fn order(matches: &ArgMatches<'_>) -> Result<Order, Fault>
     ensures depth { IfOk result IsDepth }
     ensures read { IfOk result (IsOrderOf (rows matches.now)) }
@@ -166,7 +166,7 @@ fn order(matches: &ArgMatches<'_>) -> Result<Order, Fault>
     }
 }
 
-/// The coder. The options of both are judged, and those of one are told.
+/// Returns the coder. The options of both coders are checked, and those of one are used.
 fn coder(matches: &ArgMatches<'_>) -> Result<Coder, Fault>
     ensures ranges { IfOk result IsCoderInRange }
     ensures read { IfOk result (IsCoderOf (rows matches.now)) }
@@ -234,7 +234,7 @@ fn raw_order(matches: &ArgMatches<'_>) -> Result<RawOrder, Fault>
     }
 }
 
-/// The two files, IN and OUT.
+/// Returns the two files, IN and OUT.
 fn files(alloc: Global, matches: &ArgMatches<'_>) -> Result<(String, String), Fault>
     ensures apart { IfOk result (λ f. string_bytes f.0 ≢ string_bytes f.1) }
     ensures read { IfOk result (λ f. AreFilesOf (rows matches.now) f.0 f.1) }
