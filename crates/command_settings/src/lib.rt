@@ -1,4 +1,4 @@
-//! What a command is told: its settings, and the files that it reads and writes.
+//! The settings of a command, and the files that it reads and writes.
 #![tactic(auto)]
 
 pub mod settings;

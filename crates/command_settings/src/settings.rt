@@ -9,7 +9,7 @@ pub struct CompressSettings {
     pub params: Params,
     /// How the samples lie in the raw bytes.
     pub layout: Layout,
-    /// How many predictors run in threads of their own, at most 64; with none the cube is coded on one thread.
+    /// How many predictors run in threads of their own, at most 64; with 0 the cube is coded on one thread.
     pub predictors: u32,
     /// How many residuals a predictor may be ahead of the coding end, at most 65,536.
     pub slots: u32,
@@ -18,12 +18,12 @@ pub struct CompressSettings {
 /// A command with its settings, and the paths that it reads from and writes to.
 #[derive(Drop)]
 pub enum Settings {
-    /// A small cube on the standard streams, its file out in hexadecimal.
+    /// Reads a small cube from the standard input, and writes its file in hexadecimal to the standard output.
     Show,
-    /// Raw bytes to a file: the settings, IN and OUT.
+    /// Turns raw bytes into a file: the settings, IN and OUT.
     Compress(CompressSettings, String, String),
-    /// A file to raw bytes: how they lie, IN and OUT.
+    /// Turns a file into raw bytes: their layout, IN and OUT.
     Expand(Layout, String, String),
-    /// A file on the standard input, its header out as lines.
+    /// Reads a file from the standard input, and writes its header as lines.
     Inspect,
 }
