@@ -31,15 +31,15 @@ fn main(rt: HostRuntime) -> ExitCode {
     }
 }
 
-/// Runs the command that the words name, over the system, with the leave to start threads.
+/// Runs the command that the words name, over the system, with the permission to start threads.
 fn run<R: Threads + Wait + Sync>(rt: &HostRuntime, threads: &R) -> Result<(), Fault> {
     run_words(threads, rt.alloc(), &System { rt }, &words(rt)?)?.answer
 }
 
 /// Runs the command that words ask for, between the ends that they name.
 ///
-/// `Usage` where they ask for none; `WantOfMemory`; and where an end isn't had, the refusal of `run_command`. What the command itself answers
-/// stands with its ends.
+/// Returns `Usage` if they ask for none; `WantOfMemory` if an allocation fails; and, if an end can't be opened,
+/// the refusal of `run_command`. Otherwise it returns the ends with the command's own result.
 fn run_words<R: Threads + Wait + Sync, O: Opener>(
     rt: &R,
     alloc: Global,
@@ -58,7 +58,7 @@ fn run_words<R: Threads + Wait + Sync, O: Opener>(
     run_command(rt, alloc, opener, &settings)
 }
 
-/// The words behind the program's name. Words that aren't text are `Usage`.
+/// Returns the words after the program's name. Words that aren't text are `Usage`.
 fn words(rt: &HostRuntime) -> Result<Vec<String>, Fault> {
     match env::args(rt) {
         Ok(words) => Ok(words.skip(1).collect(rt.alloc())?),
@@ -67,8 +67,8 @@ fn words(rt: &HostRuntime) -> Result<Vec<String>, Fault> {
     }
 }
 
-/// Prints the fault's line on standard error, and gives its exit status. Where there is no memory for
-/// the line, nothing is printed.
+/// Prints the fault's line on standard error, and returns its exit status. If the line can't be allocated,
+/// nothing is printed.
 fn report(rt: &HostRuntime, fault: &Fault) -> ExitCode
     ensures { (exit_status result ≡ status fault.now) ⊎ (exit_status result ≡ status WantOfMemory) }
 {
@@ -80,7 +80,8 @@ fn report(rt: &HostRuntime, fault: &Fault) -> ExitCode
     exit_code(fault, &line)
 }
 
-/// The exit status after a refusal: its own where it has its line, and else that of why there is none.
+/// Returns the exit status after a refusal: its own if it has its line, and otherwise that of the reason why
+/// there is none.
 fn exit_code(fault: &Fault, line: &Result<Vec<u8>, Fault>) -> ExitCode
     ensures told { OnOk line.now (exit_status result ≡ status fault.now) }
     ensures untold { IfErr line.now (λ e. exit_status result ≡ status e) }

@@ -12,13 +12,13 @@ use std::fs::{self, File};
 use std::io::{self, Printer, Read, Stdin, Write};
 use std::os::unix::fs::MetadataExt;
 
-/// The system, by what the program was started with.
+/// The system, with what the program was started with.
 #[derive(Drop)]
 pub(crate) struct System<'a> {
     pub rt: &'a HostRuntime,
 }
 
-/// Where a command reads: the standard input, or a file.
+/// A command's input: the standard input, or a file.
 #[derive(Drop)]
 pub(crate) enum Reader {
     Standard(Stdin),
@@ -34,7 +34,7 @@ impl InputDevice for Reader {
     }
 }
 
-/// Where a command writes: the standard output, or a file.
+/// A command's output: the standard output, or a file.
 #[derive(Drop)]
 pub(crate) enum Writer<'a> {
     Standard(Printer<'a, HostRuntime>),
@@ -94,7 +94,8 @@ impl<'a> Opener for System<'a> {
     }
 }
 
-/// Whether a name, through whatever links, leads to the file that is read: its numbers say so.
+/// Returns whether a name leads, through whatever links, to the file that is read, by the system's numbers of
+/// both.
 fn leads_to(rt: &HostRuntime, name: &str, input: &Reader) -> bool {
     let Reader::File(open) = input else {
         return false;
