@@ -50,17 +50,17 @@ pub fn cube_a()
         ≡ bits_of_bytes (0x80 ∷ 0x7E ∷ 0x7D ∷ 0xD1 ∷ 0x14 ∷ 0x24 ∷ 0x94 ∷ 0xF8 ∷ []) }
 {}
 
-/// The second extension and k = 0 are as short.
+/// The second extension and k = 0 are equally short.
 pub fn second_extension_first()
     ensures { filled_up (chosen_block_body (plain 8) 8 1 (0 ∷ 0 ∷ 0 ∷ 1 ∷ 0 ∷ 1 ∷ 0 ∷ 1 ∷ [])) ≡ bits_of_bytes (0x19 ∷ 0x24 ∷ []) }
 {}
 
-/// k = 0 and k = 1 are as short.
+/// k = 0 and k = 1 are equally short.
 pub fn smallest_k_first()
     ensures { filled_up (chosen_block_body (plain 8) 8 1 (1 ∷ 1 ∷ 1 ∷ 1 ∷ 1 ∷ 1 ∷ 1 ∷ 1 ∷ [])) ≡ bits_of_bytes (0x2A ∷ 0xAA ∷ 0xA0 ∷ []) }
 {}
 
-/// Uncoded, k = 0 and k = 1 are as short.
+/// Uncoded, k = 0 and k = 1 are equally short.
 pub fn uncoded_first()
     ensures { filled_up (chosen_block_body (plain 2) 8 1 (1 ∷ 1 ∷ 1 ∷ 1 ∷ 1 ∷ 1 ∷ 1 ∷ 1 ∷ [])) ≡ bits_of_bytes (0xEA ∷ 0xAA ∷ 0xA0 ∷ []) }
 {}
@@ -100,7 +100,7 @@ pub fn two_bits_restricted_uncoded()
     ensures { filled_up (chosen_block_body (restricted 2) 8 1 (3 ∷ 3 ∷ 3 ∷ 3 ∷ 3 ∷ 3 ∷ 3 ∷ 3 ∷ [])) ≡ bits_of_bytes (0xFF ∷ 0xFF ∷ 0x80 ∷ []) }
 {}
 
-/// Uncoded and the second extension are as short.
+/// Uncoded and the second extension are equally short.
 pub fn uncoded_before_second()
     ensures { filled_up (chosen_block_body (restricted 2) 8 1 (2 ∷ 0 ∷ 2 ∷ 0 ∷ 2 ∷ 0 ∷ 0 ∷ 1 ∷ [])) ≡ bits_of_bytes (0xC4 ∷ 0x40 ∷ 0x80 ∷ []) }
 {}
@@ -110,7 +110,7 @@ pub fn one_zero_block_is_read()
     ensures { numbers_read (plain 8) 1 8 (bits_of_bytes (0x08 ∷ [])) ≡ Some (zeros 8) }
 {}
 
-/// The rest code stands for any rest.
+/// The rest code stands for a rest of any length.
 pub fn rest_of_one_block_is_read()
     ensures { numbers_read (plain 8) 1 8 (bits_of_bytes (0x00 ∷ 0x80 ∷ [])) ≡ Some (zeros 8) }
 {}

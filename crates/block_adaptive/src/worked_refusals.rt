@@ -42,12 +42,12 @@ pub fn run_past_sixty_four_blocks()
         ≡ Some (RunPastSegment 0) }
 {}
 
-/// Four zeros may stand where one block is left, the fifth may not.
+/// A run code may have four zeros where one block is left, and not five.
 pub fn run_of_five_zeros()
     ensures { block_body_fault 16 (plain 8) 8 1 1 (bits_of_bytes (0x00 ∷ 0x00 ∷ [])) ≡ Some (RunPastSegment 0) }
 {}
 
-/// Six zeros may stand where six blocks are left, the seventh may not.
+/// A run code may have six zeros where six blocks are left, and not seven.
 pub fn run_of_seven_zeros()
     ensures { block_body_fault 16 (plain 8) 8 8 48 (bits_of_bytes (0x00 ∷ 0x00 ∷ [])) ≡ Some (RunPastSegment 0) }
 {}
@@ -62,7 +62,7 @@ pub fn pair_of_25_zeros()
     ensures { block_body_fault 32 (plain 2) 8 1 1 (bits_of_bytes (0x10 ∷ 0x00 ∷ 0x00 ∷ 0x00 ∷ [])) ≡ Some (BadOption 0) }
 {}
 
-/// The fifth zero of a run code can't be followed where one block is left, and is refused before any one; four may stand.
+/// Where one block is left, the fifth zero of a run code is refused before any one follows; four are accepted.
 pub fn fifth_zero_of_a_run_code()
     ensures fifth { block_body_fault 9 (plain 8) 8 1 1 (take 9 (bits_of_bytes (zeros 2))) ≡ Some (RunPastSegment 0) }
     ensures fourth { block_body_fault 8 (plain 8) 8 1 1 (bits_of_bytes (zeros 1)) ≡ Some (Truncated 8) }

@@ -1,4 +1,4 @@
-//! Worked examples, each as a law over the definitions: a function with nothing to do, whose contract holds.
+//! Worked examples, each a law over the definitions: a function with an empty body, whose contract holds.
 
 pub mod differences;
 pub mod mapping;

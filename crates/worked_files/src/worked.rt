@@ -8,7 +8,7 @@ ghost use Rattle.worked_files.specs.Rows.{bytes, file, cube, one_below, coarse_s
 ghost use Rattle.worked_files.specs.Rows.{register_of, two_below, table_of, coarse_table, with_constants, block, few_bits, of_cube_a, samples_a};
 ghost use Rattle.worked_files.specs.Rows.{interleaved_a, blocks_a, middles};
 
-/// One sample stands in its bits.
+/// One sample is written in its bits.
 pub fn one_sample()
     ensures { file (common 1 1 1) (200 ∷ []) ≡ bytes 20 0x00000100010001110000080002A0925900822690 }
 {}
@@ -108,17 +108,17 @@ pub fn zero_run_of_a_whole_segment()
     ensures { file (block 1 1040 1 4096) (middles 1040) ≡ bytes 22 0x000001041000011100000C0002A09259000000008041 }
 {}
 
-/// Cube A by the block-adaptive coder.
+/// Cube A with the block-adaptive coder.
 pub fn cube_a_in_blocks()
     ensures { file blocks_a samples_a ≡ bytes 27 0x000003000200021100000C0004209259000001807E7DD1142494F8 }
 {}
 
-/// Four bits, by the basic set of options.
+/// Four bits, with the unrestricted set of options.
 pub fn four_bits()
     ensures { file (few_bits 1 4 false) (9 ∷ []) ≡ bytes 21 0x000001000100010900000C0002A0925900000111E0 }
 {}
 
-/// Four bits, by the restricted set.
+/// Four bits, with the restricted set.
 pub fn four_bits_restricted()
     ensures { file (few_bits 1 4 true) (9 ∷ []) ≡ bytes 21 0x000001000100010900000C0002A0925900100123C0 }
 {}
@@ -143,7 +143,7 @@ pub fn segments_from_each_reference_border()
     ensures { file (block 1 1040 1 65) (middles 1040) ≡ bytes 23 0x000001041000011100000C0002A0925900004100840210 }
 {}
 
-/// Of two options that are as short, uncoded comes before the second extension.
+/// Of two equally short options, uncoded comes before the second extension.
 pub fn uncoded_before_second_extension()
     ensures { file_of_residuals (2 ∷ 0 ∷ 2 ∷ 0 ∷ 2 ∷ 0 ∷ 0 ∷ 1 ∷ []) (few_bits 8 2 true) ≡ bytes 22 0x000001000800010500000C0002A09259001001C44080 }
 {}
@@ -168,7 +168,7 @@ pub fn error_of_zero_counts_as_positive()
     ensures { file (coarse_steps 1 3 2 (negsuc 5)) (255 ∷ 225 ∷ 0 ∷ 0 ∷ 0 ∷ 0 ∷ []) ≡ bytes 28 0x00000100030002110000080006A00200008226FE1C0003FFF00001FE }
 {}
 
-/// The greatest weight is one less than the least is far from zero.
+/// The greatest weight is one nearer to zero than the least.
 pub fn greatest_weight()
     ensures { file (coarse_steps 1 3 2 (negsuc 5)) (156 ∷ 184 ∷ 198 ∷ 194 ∷ 205 ∷ 151 ∷ []) ≡ bytes 25 0x00000100030002110000080006A002000082263803DB4C1730 }
 {}

@@ -9,7 +9,7 @@ ghost use Rattle.header_bits.specs.Rows.{sizes};
 ghost use Rattle.file_decoding.specs.Least.{least_test};
 ghost use Rattle.worked_files.specs.Rows.{block, bytes, short_limit, test, tests_of_cuts};
 
-/// 32 bits for 33 samples, though a bad code word stands among them.
+/// 32 bits for 33 samples, though they contain a bad code word.
 pub fn fewer_bits_than_samples()
     ensures { test 23 0x00000100210001110000080002A0925900422090000300 ≡ Err (Truncated 184) }
 {}
@@ -19,7 +19,7 @@ pub fn as_many_bits_as_samples()
     ensures { least_test 184 (record short_limit { shape = sizes 1 32 1 }) (bits_of 32 0x90000300) ≡ fine }
 {}
 
-/// The greatest sizes, and nothing behind the header.
+/// The greatest sizes, and nothing after the header.
 pub fn nothing_behind_the_header()
     ensures samples { test 19 0x00000000000000110000080002A09259008226 ≡ Err (Truncated 152) }
     ensures blocks { test 19 0x000000000000001100000C0002A09259000001 ≡ Err (Truncated 152) }
@@ -31,13 +31,13 @@ pub fn three_bits_for_each_segment()
     ensures too_few { least_test 160 (block 1 1040 1 4096) (bits_of 8 0) ≡ Err (Truncated 160) }
 {}
 
-/// Two equal samples' file, cut off behind each of its bytes but the last.
+/// Two equal samples' file, cut off after each of its bytes but the last.
 pub fn cut_off_behind_each_byte()
     ensures { tests_of_cuts (bytes 21 0x00000100020001110000080002A092590082269080) 0 21 ≡ replicate 19 (Err ShortHeader) ++ Err (Truncated 152)
         ∷ Err (Truncated 160) ∷ [] }
 {}
 
-/// The same of a block that stands for one sample.
+/// The same for a block of one sample.
 pub fn block_cut_off_behind_each_byte()
     ensures header { tests_of_cuts (bytes 26 0x000001000100011100000C0002A09259000001A00FF000000000) 0 19 ≡ replicate 19 (Err ShortHeader) }
     ensures body { tests_of_cuts (bytes 26 0x000001000100011100000C0002A09259000001A00FF000000000) 19 7 ≡ Err (Truncated 152) ∷ Err (Truncated 160)

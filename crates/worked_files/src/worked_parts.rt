@@ -17,7 +17,7 @@ pub fn all_bands_to_one()
         ∷ [] ∷ [] }
 {}
 
-/// Numbers are taken in turn, as their owners' places come.
+/// Numbers are taken in the order of their owners' places.
 pub fn two_lists_woven()
     ensures { weave (0 ∷ 1 ∷ 0 ∷ 1 ∷ []) ((55 ∷ 3 ∷ []) ∷ (20 ∷ 1 ∷ []) ∷ []) ≡ 55 ∷ 20 ∷ 3 ∷ 1 ∷ [] }
 {}

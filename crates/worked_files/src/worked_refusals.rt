@@ -1,4 +1,4 @@
-//! Whole files that are refused, and the first fault of each; and some that a decoder must take.
+//! Whole files that are refused, and the first fault of each; and some that a decoder must accept.
 #![tactic(auto, unfolding(crate::specs::Everything::everything))]
 
 ghost use Rattle.std.specs.Prelude.{◌≡◌, Err};
@@ -16,7 +16,7 @@ pub fn last_byte_is_gone()
     ensures { test 20 0x00000100020001110000080002A0925900822690 ≡ Err (Truncated 160) }
 {}
 
-/// A byte of zeros behind the last output word.
+/// A byte of zeros after the last output word.
 pub fn a_byte_too_many()
     ensures { test 22 0x00000100020001110000080002A09259008226908000 ≡ Err (TooLong 12) }
 {}
@@ -26,7 +26,7 @@ pub fn too_long_before_bad_fill()
     ensures { test 22 0x00000100020001110000080002A09259008226908001 ≡ Err (TooLong 12) }
 {}
 
-/// Eight bits behind a body that ends with a byte.
+/// Eight bits after a body that ends with a byte.
 pub fn a_whole_output_word_too_many()
     ensures { test 22 0x00000100010001810000080002A09259008226FFFF00 ≡ Err (TooLong 8) }
 {}
@@ -46,17 +46,17 @@ pub fn body_filled_alone()
     ensures { test 23 0x00000100020001110000200002A0925900822690800000 ≡ fine }
 {}
 
-/// 3 behind eight zeros: three zeros and a one spell it.
+/// 3 after eight zeros: three zeros and a one spell it.
 pub fn needless_escape()
     ensures { test 22 0x00000100020001110000080002A09259004220900003 ≡ Err (BadCode 1) }
 {}
 
-/// Band after band it stands at place 3.
+/// In band sequential order its index is 3.
 pub fn second_number_of_the_second_band()
     ensures { test 24 0x00000100020002110000080002A0925900422090C8000180 ≡ Err (BadCode 3) }
 {}
 
-/// Interleaved by line it stands at place 2.
+/// Interleaved by line its index is 2.
 pub fn second_number_of_the_first_band()
     ensures { test 23 0x00000100020002100001080002A0925900422090900003 ≡ Err (BadCode 2) }
 {}
@@ -76,12 +76,12 @@ pub fn plain_code_of_a_rest()
     ensures { test 21 0x000001002800011100000C0002A092590000080040 ≡ fine }
 {}
 
-/// Four zeros may stand, the fifth may not.
+/// A run code may have four zeros, and not five.
 pub fn five_zeros_where_one_block_is_left()
     ensures { test 21 0x000001000100011100000C0002A092590000010000 ≡ Err (RunPastSegment 0) }
 {}
 
-/// Six zeros may stand, the seventh may not.
+/// A run code may have six zeros, and not seven.
 pub fn seven_zeros_where_six_blocks_are_left()
     ensures { test 21 0x000001003000011100000C0002A092590000080000 ≡ Err (RunPastSegment 0) }
 {}

@@ -18,7 +18,7 @@ pub fn second_extension_of_two_bits()
     ensures three { file (few_bits 1 2 true) (0 ∷ []) ≡ bytes 21 0x000001000100010500000C0002A0925900100140F0 }
 {}
 
-/// Two bits: a block of the greatest residual goes uncoded, behind one bit.
+/// Two bits: a block of the greatest residual is uncoded, after one bit.
 pub fn uncoded_block_of_two_bits()
     ensures { file_of_residuals (replicate 8 3) (few_bits 8 2 true) ≡ bytes 22 0x000001000800010500000C0002A09259001001FFFF80 }
 {}

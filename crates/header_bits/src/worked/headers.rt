@@ -48,19 +48,19 @@ pub fn uncoded_fill_block()
     ensures read { header_at (header 0x000001000100011100000C0002A09259000001) ≡ Ok (block 1 1 1 false 1, []) }
 {}
 
-/// Reference samples each eight blocks.
+/// A reference interval of eight blocks.
 pub fn zero_run_to_segment_end()
     ensures written { header_of (block 1 48 1 false 8) ≡ header 0x000001003000011100000C0002A09259000008 }
     ensures read { header_at (header 0x000001003000011100000C0002A09259000008) ≡ Ok (block 1 48 1 false 8, []) }
 {}
 
-/// Reference samples each four blocks.
+/// A reference interval of four blocks.
 pub fn short_segments()
     ensures written { header_of (block 1 48 1 false 4) ≡ header 0x000001003000011100000C0002A09259000004 }
     ensures read { header_at (header 0x000001003000011100000C0002A09259000004) ≡ Ok (block 1 48 1 false 4, []) }
 {}
 
-/// The greatest reference interval stands as zeros.
+/// The greatest reference interval is written as zeros.
 pub fn longest_reference_interval()
     ensures written { header_of (block 1 1040 1 false 4096) ≡ header 0x000001041000011100000C0002A09259000000 }
     ensures read { header_at (header 0x000001041000011100000C0002A09259000000) ≡ Ok (block 1 1040 1 false 4096, []) }
@@ -96,7 +96,7 @@ pub fn register_wraps()
     ensures read { header_at (header 0x00000100020002170000080006A0F259008226) ≡ Ok (deep 32, []) }
 {}
 
-/// A register of 64 bits stands as zeros.
+/// A register of 64 bits is written as zeros.
 pub fn widest_register()
     ensures written { header_of (deep 64) ≡ header 0x0000010002000217000008000680F259008226 }
     ensures read { header_at (header 0x0000010002000217000008000680F259008226) ≡ Ok (deep 64, []) }
@@ -114,7 +114,7 @@ pub fn four_bits_unrestricted()
     ensures read { header_at (header 0x000001000100010900000C0002A09259000001) ≡ Ok (narrow_block 4 false, []) }
 {}
 
-/// The greatest sizes stand as zeros.
+/// The greatest sizes are written as zeros.
 pub fn greatest_sizes()
     ensures written { header_of (common 65536 65536 65536) ≡ header 0x00000000000000110000080002A09259008226 }
     ensures read { header_at (header 0x00000000000000110000080002A09259008226) ≡ Ok (common 65536 65536 65536, []) }

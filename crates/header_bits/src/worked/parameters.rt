@@ -27,7 +27,7 @@ pub fn depth_over_bands()
     ensures { params_fault (record (common 1 1 2) { order = Bi 3 }) ≡ Err (Disagree rule.DepthOverBands) }
 {}
 
-/// A register below the 37 bits that sixteen-bit samples and 19 fractional bits ask for.
+/// A register below the 37 bits that sixteen-bit samples and 19 fractional bits need.
 pub fn register_too_small()
     ensures { params_fault (with_register 36) ≡ Err (Disagree rule.RegisterTooSmall) }
 {}
@@ -98,7 +98,7 @@ pub fn weights_of_full_mode()
     ensures six { params_fault (full_weights 6) ≡ Err (Disagree rule.WeightTableLength) }
 {}
 
-/// The weight start is judged before the coder.
+/// The weight start is checked before the coder.
 pub fn weights_are_judged_before_the_coder()
     ensures { params_fault (record (with_weights 1 2 2 1 3 []) { coder = Sample 7 6 1 (Constant 3) }) ≡ Err (Disagree rule.WeightTableLength) }
 {}

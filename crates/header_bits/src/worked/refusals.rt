@@ -9,7 +9,7 @@ ghost use Rattle.header_bits.specs.Bits.{bits_of};
 ghost use Rattle.header_bits.specs.Header.{header_at};
 ghost use Rattle.header_bits.specs.Rows.{common, with_register, with_sample_coder, header};
 
-/// Any bits may stand in the place of a depth that isn't there.
+/// Under band sequential order the field of the depth may hold any bits.
 pub fn any_depth_under_band_sequential_order()
     ensures { header_at (header 0x00000100010001111234080002A09259008226) ≡ Ok (common 1 1 1, []) }
 {}

@@ -15,7 +15,7 @@ pub fn table_of_no_weights()
     ensures read { header_at (header 0x00000100010001110000080002A09259638226) ≡ Ok (with_weights 1 1 1 0 3 [], []) }
 {}
 
-/// One weight, told by -1 in three bits.
+/// One weight, given by -1 in three bits.
 pub fn table_of_one_weight()
     ensures written { header_of (with_weights 1 2 2 1 3 (negsuc 0 ∷ [])) ≡ bits_of 160 0x00000100020002110000080006A0925963E08226 }
     ensures read { header_at (bits_of 160 0x00000100020002110000080006A0925963E08226) ≡ Ok (with_weights 1 2 2 1 3 (negsuc 0 ∷ []), []) }

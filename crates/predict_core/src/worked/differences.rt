@@ -1,4 +1,4 @@
-//! Predicted central differences, and the signs of errors that they tell.
+//! Predicted central differences, and the signs of errors that follow from them.
 #![tactic(auto, unfolding(crate::specs::Everything::everything))]
 
 ghost use Rattle.std.specs.Prelude.{◌≡◌, pos, negsuc};

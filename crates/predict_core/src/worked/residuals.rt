@@ -6,7 +6,7 @@ ghost use Rattle.predict_core.specs.Residual.{residuals};
 ghost use Rattle.predict_core.specs.Rows.{cube_a, cube, common, one_below, coarse_steps, fine, full, interleaved, scaled_of_cube_a, register_cube, sizes};
 ghost use Rattle.predict_core.specs.Rows.{signed, unsigned};
 
-/// A lone sample is told by its distance from the middle.
+/// The residual of a lone sample follows from its distance from the middle.
 pub fn one_sample()
     ensures { residuals common (cube 1 1 1 (200 ∷ [])) ≡ 144 ∷ [] }
 {}

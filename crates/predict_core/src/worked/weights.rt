@@ -10,12 +10,12 @@ ghost use Rattle.predict_core.specs.Residual.{residuals};
 ghost use Rattle.predict_core.specs.Rows.{cube, cube_a, one_below, coarse_steps, coarse_table, coarse, growing_steps, full};
 ghost use Rattle.header_bits.specs.declared.params.WeightStart.TheVariants.{Table};
 
-/// The first place of a band moves no weight.
+/// The first place of a band changes no weight.
 pub fn weights_start_at_the_second_place()
     ensures { residuals (record coarse { previous = 2 }) (cube 1 2 3 (255 ∷ 0 ∷ 232 ∷ 255 ∷ 0 ∷ 11 ∷ [])) ≡ 254 ∷ 255 ∷ 23 ∷ 255 ∷ 255 ∷ 11 ∷ [] }
 {}
 
-/// An error of 0 moves the weights upwards.
+/// An error of 0 counts as positive: it moves the weights upwards.
 pub fn error_of_zero_counts_as_positive()
     ensures { residuals (coarse_steps (negsuc 5)) (cube 1 3 2 (255 ∷ 225 ∷ 0 ∷ 0 ∷ 0 ∷ 0 ∷ [])) ≡ 254 ∷ 30 ∷ 255 ∷ 255 ∷ 0 ∷ 255 ∷ [] }
 {}
@@ -38,12 +38,12 @@ pub fn exponent_grows_from_the_second_row()
         ∷ 39 ∷ 255 ∷ 0 ∷ 0 ∷ 158 ∷ 173 ∷ 0 ∷ 0 ∷ 40 ∷ 144 ∷ 255 ∷ 8 ∷ 0 ∷ 255 ∷ 39 ∷ 0 ∷ 79 ∷ 0 ∷ 130 ∷ 255 ∷ 0 ∷ 141 ∷ 77 ∷ 255 ∷ [] }
 {}
 
-/// A weight table: below the bits of an entry stand ones.
+/// A weight table: the bits below those of an entry are ones.
 pub fn table_entry_of_three_bits()
     ensures { residuals (coarse_table 3 (negsuc 0)) (cube 1 2 2 (255 ∷ 242 ∷ 176 ∷ 255 ∷ [])) ≡ 254 ∷ 13 ∷ 79 ∷ 143 ∷ [] }
 {}
 
-/// An entry may tell all bits of a weight.
+/// An entry may have all bits of a weight.
 pub fn table_entry_of_all_bits()
     ensures { residuals (coarse_table 7 (neg_ℤ (pos 22))) (cube 1 2 2 (31 ∷ 0 ∷ 0 ∷ 0 ∷ [])) ≡ 193 ∷ 62 ∷ 61 ∷ 85 ∷ [] }
 {}
@@ -73,7 +73,7 @@ pub fn default_weights_of_three_bands()
     ensures { default_weights (predictor_of (record full { previous = 3 })) 5 ≡ pos 0 ∷ pos 0 ∷ pos 0 ∷ pos 7168 ∷ pos 896 ∷ pos 112 ∷ [] }
 {}
 
-/// The directional differences stand in the order north, west, north-west; in the first column the north one stands for all.
+/// The directional differences come in the order north, west, north-west; in the first column the north one replaces the others.
 pub fn directions_in_order()
     ensures inside { directional_differences (predictor_of full) cube_a 0 1 1 ≡ pos 0 ∷ negsuc 3 ∷ negsuc 7 ∷ [] }
     ensures first_column { directional_differences (predictor_of full) cube_a 0 1 0 ≡ negsuc 3 ∷ negsuc 3 ∷ negsuc 3 ∷ [] }
