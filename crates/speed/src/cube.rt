@@ -1,4 +1,4 @@
-//! The speed of raw bytes taken in and given out, and of a walk over all places.
+//! The speed of reading and writing raw bytes, and of a walk over all places.
 
 ghost use Rattle.std.specs.Prelude.{◌≡◌, ◌≤◌, IfOk};
 ghost use Rattle.cube_core.specs.Layout.{IsLayout};
@@ -127,7 +127,7 @@ fn walk(report: &Report, name: &str, shape: Shape, order: Order) -> Result<()>
     report.line(name, shape.sample_count(), time, sum)
 }
 
-/// The bytes of so many samples.
+/// Returns the bytes of that many samples.
 fn raw_bytes(alloc: Global, format: Format, count: u64) -> Result<Vec<u8>, AllocError>
     ensures { IfOk result (λ bytes. bytes.items ≡ synthetic_bytes format count) }
 {

@@ -1,4 +1,4 @@
-//! The speed of whole files, there and back.
+//! The speed of whole files, in both directions.
 
 ghost use Rattle.std.specs.Prelude.{◌≡◌};
 ghost use Rattle.header_bits.specs.Lawful.{IsLawful};
@@ -37,7 +37,7 @@ pub fn measure(report: &Report) -> Result<()> {
     Ok(())
 }
 
-/// Measures both ways.
+/// Measures both directions.
 fn there_and_back(report: &Report, coder: &str, order: &str, params: &Params) -> Result<()>
     requires { IsLawful params.now }
 {

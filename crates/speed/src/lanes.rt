@@ -19,13 +19,13 @@ use std::thread::Threads;
 /// How many slots a lane has.
 const SLOTS: u32 = 1024;
 
-/// The most numbers of a run.
+/// The greatest number of numbers in a run.
 const LONGEST: usize = 64;
 
 /// How often each end may find no free slot, or no number, before it gives up.
 const MOST_REFUSED: u32 = 10_000_000;
 
-/// Measures how numbers go singly, and in runs. The checksum is 0 where an end gave up.
+/// Measures how numbers are sent singly, and in runs. The checksum is 0 if an end gave up.
 pub fn measure<R: Threads>(rt: &R, report: &Report) -> Result<()> {
     let count = report.lane_numbers();
     let numbers = residuals(report.alloc(), count)?;
@@ -38,7 +38,7 @@ pub fn measure<R: Threads>(rt: &R, report: &Report) -> Result<()> {
     Ok(())
 }
 
-/// The checksum of numbers that went through a lane, in runs of so many. None where an end gave up.
+/// Returns the checksum of numbers that went through a lane, in runs of `run`; `None` if an end gave up.
 fn through<R: Threads>(
     rt: &R,
     alloc: Global,
@@ -70,7 +70,7 @@ fn through<R: Threads>(
     }
 }
 
-/// Sends numbers in runs of so many, a run of one singly, and closes the lane.
+/// Sends numbers in runs of `run`, a run of one singly, and closes the lane.
 fn send(sender: LaneSender, numbers: &[u16], run: usize) -> ClosedLane
     requires fresh { sender.sent ≡ [] }
     requires run { 1 ≤ run }
@@ -124,7 +124,7 @@ fn send_in_runs(sender: LaneSender, numbers: &[u16], run: usize) -> ClosedLane
     sender.close()
 }
 
-/// Receives so many numbers in runs of so many, a run of one singly, and answers their checksum.
+/// Receives `count` numbers in runs of `run`, a run of one singly, and returns their checksum.
 fn receive(receiver: LaneReceiver, count: usize, run: usize) -> (LaneReceiver, u64)
     requires fresh { receiver.received ≡ [] }
     requires run { run ≤ 64 }
@@ -182,7 +182,7 @@ fn receive_in_runs(receiver: LaneReceiver, count: usize, run: usize) -> (LaneRec
     (receiver, sum)
 }
 
-/// A checksum with some more numbers.
+/// Returns a checksum continued with more numbers.
 fn sum_behind(sum: u64, numbers: &[u16]) -> u64
     ensures { result ≡ fold mixed sum numbers.now }
 {

@@ -1,9 +1,9 @@
-//! The benchmark program: how fast each part of the coder goes through samples.
+//! The benchmark program: how fast each part of the coder processes samples.
 //!
-//! `speed SUBJECT` prints a line for each measured loop: its name, how many samples it went through in
-//! how many nanoseconds, and a checksum of what it found. Without a subject all loops go through little
-//! data, and names and checksums alone are printed. The project in `bench/` prints the same of plain
-//! Rust, and `bench/compare` sets both side by side.
+//! `speed SUBJECT` prints a line for each measured loop: its name, how many samples it processed in
+//! how many nanoseconds, and a checksum of its results. Without a subject all loops process little
+//! data, and it prints only names and checksums. The project in `bench/` prints the same for plain
+//! Rust, and `bench/compare` compares the two.
 #![tactic(auto)]
 
 mod block_coder;

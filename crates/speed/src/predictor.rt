@@ -1,4 +1,4 @@
-//! The speed of the predictor, sample by sample, there and back.
+//! The speed of the predictor, sample by sample, in both directions.
 
 ghost use Rattle.std.specs.Prelude.{◌≡◌, ◌<◌, ◌≤◌, ◌^◌, false, length, slice_index, IfOk, IfErr, OnOk, ℕ};
 ghost use Rattle.cube_core.specs.declared.fault.Fault.TheVariants.{WantOfMemory};
@@ -50,7 +50,7 @@ pub fn measure(report: &Report) -> Result<()> {
     Ok(())
 }
 
-/// Parameters in full mode, whose weights are to start from a table.
+/// Returns parameters in full mode, whose weights start from a table.
 fn with_table(alloc: Global, mut params: Params) -> Result<Params, Fault>
     requires { IsLawful params }
     ensures value { IfOk result (λ p. p ≡ from_table params) }
@@ -77,7 +77,7 @@ fn weight_count(previous: u32, bands: u32) -> usize
     count
 }
 
-/// So many signed numbers of 14 bits.
+/// Returns `count` signed numbers of 14 bits.
 fn synthetic_weights(alloc: Global, count: usize) -> Result<Vec<i32>, AllocError>
     ensures { IfOk result (λ v. v.items ≡ synthetic_weights count) }
 {
@@ -91,7 +91,7 @@ fn synthetic_weights(alloc: Global, count: usize) -> Result<Vec<i32>, AllocError
 
 /// The parameters of a measurement: 12 bits, neighbour sums, and the plain numbers.
 ///
-/// Where they aren't lawful the answer is their first refusal.
+/// Returns the first refusal if they aren't lawful.
 pub fn params_of(
     shape: Shape,
     reduced: bool,
@@ -114,7 +114,7 @@ pub fn params_of(
     Ok(params)
 }
 
-/// Measures both ways.
+/// Measures both directions.
 fn there_and_back(report: &Report, mode: &str, order: &str, params: &Params) -> Result<()>
     requires { IsLawful params.now }
 {

@@ -1,4 +1,4 @@
-//! What is printed of a measured loop.
+//! What is printed for a measured loop.
 
 ghost use Rattle.std.specs.Prelude.{◌≡◌, true, false};
 ghost use Rattle.speed.specs.Measured.{measured_numbers, measured_shape};
@@ -17,14 +17,14 @@ pub struct Report<'a> {
 }
 
 impl<'a> Report<'a> {
-    /// A report of names and checksums, of little data.
+    /// A report of names and checksums, on little data.
     pub fn of_checksums(rt: &'a HostRuntime) -> Report<'a>
         ensures { result.timed ≡ false }
     {
         Report { rt, timed: false }
     }
 
-    /// A report of speeds too, of enough data for them.
+    /// A report that includes speeds, on enough data for them.
     pub fn of_times(rt: &'a HostRuntime) -> Report<'a>
         ensures { result.timed ≡ true }
     {
@@ -42,7 +42,7 @@ impl<'a> Report<'a> {
         if self.timed { 1_000_000 } else { 5_000 }
     }
 
-    /// The shape of the cube that is gone through.
+    /// The shape of the cube that is processed.
     pub fn shape(&self) -> Result<Shape, Fault>
         ensures { result ≡ Ok (measured_shape self.now.timed) }
     {
@@ -59,12 +59,12 @@ impl<'a> Report<'a> {
         Ok(Instant::now(self.rt)?)
     }
 
-    /// How much time went by.
+    /// Returns how much time has passed.
     pub fn since(&self, start: Instant) -> Result<Duration> {
         Ok(start.elapsed(self.rt)?)
     }
 
-    /// Prints a loop's name, how many samples it went through in how many nanoseconds, and its checksum.
+    /// Prints a loop's name, how many samples it processed in how many nanoseconds, and its checksum.
     pub fn line(&self, name: &str, samples: u64, time: Duration, checksum: u64) -> Result<()> {
         if self.timed {
             let nanos = time.as_nanos();

@@ -74,7 +74,7 @@ fn encoded(alloc: Global, params: &Params, numbers: &[u16]) -> Result<Vec<u8>, F
     whole_bytes(writer)
 }
 
-/// Measures how so many numbers are read.
+/// Measures how numbers are read.
 fn decode(report: &Report, params: &Params, count: u64, body: &[u8]) -> Result<()>
     requires lawful { AreForSamples params.now }
     requires bands { 1 ≤ params.now.shape.bands }

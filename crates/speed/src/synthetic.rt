@@ -31,7 +31,7 @@ impl Generator {
         }
     }
 
-    /// The next number of so many bits.
+    /// Returns the next number of that many bits.
     pub fn number(&mut self, bits: u32) -> u16
         requires { (1 ≤ bits) × (bits ≤ 16) }
         ensures state { self.new ≡ next_state self.old }
@@ -47,9 +47,8 @@ impl Generator {
     }
 }
 
-/// So many residuals of twelve bits: zeros followed by a one from a random word are the high part, and so
-/// many random bits the low part; how many changes each 4,096 residuals, and each eighth of these
-/// stretches is zeros.
+/// Returns `count` residuals of twelve bits. The high part is the number of zeros before the first one of a random word,
+/// the low part random bits, whose number changes every 4,096 residuals; every eighth of these stretches is zeros.
 pub fn residuals(alloc: Global, count: u64) -> Result<Vec<u16>, AllocError>
     ensures value { IfOk result (λ v. v.items ≡ synthetic_residuals count) }
     ensures len { IfOk result (λ v. length v.items ≡ count) }
