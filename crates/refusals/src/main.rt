@@ -1,8 +1,8 @@
-//! Calls of the libraries that are refused memory, and are made again.
+//! Library calls whose allocations fail, and which are then repeated.
 //!
-//! Every call below that may answer `WantOfMemory` is made again where it does so. The bodies and files are then those of an
-//! undisturbed run, whichever call for memory the system refuses. `refusals WORD` prints them, by length and checksum; the last
-//! line tells how many calls were made again, and without a word it stands alone.
+//! Every call below that may return `WantOfMemory` is repeated if it does. The bodies and files are then those of an
+//! undisturbed run, whichever allocation the system refuses. `refusals WORD` prints their lengths and checksums; the last
+//! line says how many calls were repeated, and is the only one without a word.
 #![tactic(auto)]
 
 mod again;
