@@ -41,7 +41,7 @@ pub enum Field {
 pub enum Rule {
     /// The depth of interleaving is at most the number of bands.
     DepthOverBands,
-    /// Full mode needs at least two columns (our own choice: see `docs/DECISIONS.md`).
+    /// Full mode needs at least two columns (our own choice: see `docs/FORMAT.md`).
     FullOneColumn,
     /// Neighbour-oriented sums need at least two columns.
     NeighbourOneColumn,
