@@ -75,8 +75,8 @@ fn header_bits(params: &Params) -> u64
 /// Reads a header from the front of at most 2^60 bytes, and returns its parameters and its length in bytes.
 ///
 /// Returns the first refusal in the order of the fields: `ShortHeader` if the bytes end inside a part or a
-/// table, `Reserved` with the bit's position, `FieldRange`, `Disagree` and `TableElsewhere` (CCSDS 123.0-B-1,
-/// "Header"). Only where there is none of these does it allocate, for the tables; it returns `WantOfMemory` if
+/// table, `Reserved` with the bit's position, `FieldRange`, `Disagree` and `TableElsewhere`
+/// (CCSDS 123.0-B-1, "Header"). Only where there is none of these does it allocate, for the tables; it returns `WantOfMemory` if
 /// they can't be allocated.
 pub fn read_header(alloc: Global, bytes: &[u8]) -> Result<(Params, usize), Fault>
     requires { length bytes.now ≤ 2 ^ 60 }

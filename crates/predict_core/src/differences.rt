@@ -16,8 +16,8 @@ use cube_core::cube::Cube;
 /// Writes all differences at a place that is not the first of its band into an array of zeros, in full mode the
 /// directional ones first.
 ///
-/// `sum` is the local sum of the offsets there, and `near` the number of bands below that are used (CCSDS
-/// 123.0-B-1, "Local Differences").
+/// `sum` is the local sum of the offsets there, and `near` the number of bands below that are used
+/// (CCSDS 123.0-B-1, "Local Differences").
 #[inline(always)]
 pub(crate) fn fill_differences(
     predictor: &Predictor,

@@ -37,8 +37,8 @@ pub fn unwrapped_prediction()
 /// In a register of 46 bits or more an error is negative exactly where the central difference is at most the
 /// predicted one.
 ///
-/// So the weights can be updated without the prediction, and its clip makes no difference to them (CCSDS
-/// 123.0-B-1, "Weight Update").
+/// So the weights can be updated without the prediction, and its clip makes no difference to them
+/// (CCSDS 123.0-B-1, "Weight Update").
 pub fn error_sign()
     ensures { ErrorSign }
 {}

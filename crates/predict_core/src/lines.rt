@@ -65,8 +65,8 @@ pub(crate) fn fill_band_lines(
 /// and to `upper` those in the row above.
 ///
 /// Where a place has no neighbour, a substitute makes the sum of all four right. In the first row, where the
-/// sum is of the western neighbours alone, these are written above their places (CCSDS 123.0-B-1, "Local
-/// Sums").
+/// sum is of the western neighbours alone, these are written above their places
+/// (CCSDS 123.0-B-1, "Local Sums").
 fn fill_lines(
     column: bool,
     y: u32,

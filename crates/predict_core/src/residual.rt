@@ -10,8 +10,8 @@ use cube_core::kind::Kind;
 
 /// Returns the mapped residual of the sample `s`, for its scaled predicted value.
 ///
-/// `stilde` is 2·smin to 2·smax + 1, and `s` a sample of the kind. The result is at most 2^D - 1 (CCSDS
-/// 123.0-B-1, "Mapped Prediction Residual").
+/// `stilde` is 2·smin to 2·smax + 1, and `s` a sample of the kind. The result is at most 2^D - 1
+/// (CCSDS 123.0-B-1, "Mapped Prediction Residual").
 pub fn map_residual(kind: Kind, stilde: i32, s: i32) -> u16
     requires scaled { IsScaled kind stilde }
     requires sample { IsSample kind s }

@@ -25,8 +25,8 @@ impl Band {
     /// places.
     ///
     /// A run has at most 64 places. Its first place is the next one, row `y`, column `x`, and all of them are
-    /// in that row. The cube has the shape and kind of the parameters. Each residual is at most 2^D - 1 (CCSDS
-    /// 123.0-B-1, "Predictor").
+    /// in that row. The cube has the shape and kind of the parameters. Each residual is at most 2^D - 1
+    /// (CCSDS 123.0-B-1, "Predictor").
     pub fn forward_run(&mut self, cube: &Cube, y: u32, x: u32, residuals: &mut [u16])
         requires shape { cube.now.shape ≡ self.old.shape }
         requires kind { cube.now.kind ≡ self.old.kind }

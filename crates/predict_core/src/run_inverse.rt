@@ -27,8 +27,8 @@ impl Band {
     /// A run has at most 64 places. Its first place is the next one, row `y`, column `x`, and all of them are
     /// in that row. The cube has the shape and kind of the parameters, and each residual is at most 2^D - 1.
     /// The cube's samples at these places and later ones are not read, and no other sample is written. `below`
-    /// holds differences of that cube, and after the call of the cube with the new samples (CCSDS 123.0-B-1,
-    /// "Predictor").
+    /// holds differences of that cube, and after the call of the cube with the new samples
+    /// (CCSDS 123.0-B-1, "Predictor").
     pub fn inverse_run(
         &mut self,
         cube: &mut Cube,

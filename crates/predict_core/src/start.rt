@@ -11,8 +11,8 @@ ghost use Rattle.predict_core.specs.Bounds.{AllWithin};
 
 use header_bits::params::{Params, WeightStart};
 
-/// Returns the initial weights of band `z`: `first` directional ones and those of `near` bands below (CCSDS
-/// 123.0-B-1, "Weight Initialization").
+/// Returns the initial weights of band `z`: `first` directional ones and those of `near` bands below
+/// (CCSDS 123.0-B-1, "Weight Initialization").
 pub(crate) fn start_of(params: &Params, z: u32, first: usize, near: usize) -> [i32; 18]
     requires lawful { IsLawful params.now }
     requires band { z < params.now.shape.bands }
@@ -32,8 +32,8 @@ pub(crate) fn start_of(params: &Params, z: u32, first: usize, near: usize) -> [i
 }
 
 /// Returns the default weights: 0 for the `first` directional components; of the `count` bands below seven
-/// eighths for the nearest, and an eighth of the weight before for each other (CCSDS 123.0-B-1, "Weight
-/// Initialization").
+/// eighths for the nearest, and an eighth of the weight before for each other
+/// (CCSDS 123.0-B-1, "Weight Initialization").
 pub(crate) fn default_weights(fraction: u32, first: usize, count: usize) -> [i32; 18]
     requires fraction_in { (4 ≤ fraction) × (fraction ≤ 19) }
     requires room { first + count ≤ 18 }
