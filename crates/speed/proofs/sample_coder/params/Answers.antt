@@ -1,4 +1,5 @@
-use Rattle.std.proofs.Common.{arith}
+use Rattle.std.proofs.Common.{ap, arith}
+use Rattle.header_bits.specs.declared.params.Params.{Params}
 use Rattle.sample_adaptive.specs.Statistics.{constant_of}
 use Rattle.speed.proofs.sample_coder.params.Goals as goal
 
@@ -13,6 +14,6 @@ returns-clause-lawful c = record {
     gamma_zero = (omega arith, omega arith);
     order = omega arith;
     entries = tt;
-    constants = λ z lt. omega arith;
+    constants = λ z lt. omega (arith, ap (λ (p : Params). p.kind.bits) c.plain.ensures);
   };
 }
