@@ -91,6 +91,21 @@ unfolding code_parameter
 code_parameter_small bits s small = rw (lt-ltb _ _ small) refl
 
 -- how far a number has to be shifted to be as long as a larger one
+-- a parameter whose product with the counter still fits, but not twice, is still the greatest
+pub parameter_stays : (bits : ℕ) (s : Statistics) (k : ℕ) → k + 2 ≤ bits → s.counter * 2 ^ k ≤ level s → level s < 2 * (s.counter * 2 ^ k) → k ≡ code_parameter bits s
+parameter_stays bits s k few fits passes =
+    elim (cases_lt (level s) (2 * s.counter)) [
+      | inl small ↦ none_fits k small fits
+      | inr large ↦ (let least : min k (bits - 2) ≡ k = omega (arith, few) in sym (code_parameter_is bits s k large fits passes ∙ least))
+    ]
+  where
+    none_fits : (k : ℕ) → level s < 2 * s.counter → s.counter * 2 ^ k ≤ level s → k ≡ code_parameter bits s
+    none_fits zero small fits = code_parameter_small bits s small
+    none_fits (suc j) small fits =
+        let two : 2 ^ 1 ≤ 2 ^ suc j = pow_mono {i = 1} {j = suc j} (omega arith) in
+        let product = mul-le s.counter 2 s.counter (2 ^ suc j) (omega arith) (omega (arith, two)) in
+        absurd (omega (arith, product, small, fits))
+
 pub record IsShift (counter level shift : ℕ) : Type 0 where
   pub whole : counter * 2 ^ shift < 2 ^ 32
   pub enough : level < 2 * (counter * 2 ^ shift)

@@ -6,5 +6,6 @@ pub mod laws;
 pub mod run_words;
 pub mod statistics;
 pub mod stats;
+mod tracked;
 pub mod worked;
 pub mod worked_refusals;

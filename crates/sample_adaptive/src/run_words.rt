@@ -7,7 +7,8 @@ ghost use Rattle.sample_adaptive.specs.Statistics.{AreStatistics};
 ghost use Rattle.sample_adaptive.specs.Taken.{Counts, HasSettings, PutsRun, GetsRun, of_band, with_band};
 
 use crate::code_word::{Code, take_word, word_of};
-use crate::statistics::{Rescaling, Statistics, next, parameter};
+use crate::statistics::{Rescaling, Statistics};
+use crate::tracked::Tracked;
 use cube_core::fault::Fault;
 use header_bits::bit_reader::BitReader;
 use header_bits::bit_writer::BitWriter;
@@ -40,18 +41,19 @@ pub(crate) fn put_words(writer: BitWriter, run: LaterRun) -> (BitWriter, Statist
     ensures statistics { AreStatistics run.entry.rescaling.size result.1 }
 {
     let mut writer = writer;
-    let mut statistics = run.statistics;
+    let mut tracked = Tracked::of(run.bits, run.statistics);
     for i in 0..run.numbers.len() {
+        tracked = tracked.settled(run.bits);
         let code = Code {
             limit: run.limit,
-            low: parameter(run.bits, statistics),
+            low: tracked.low,
             bits: run.bits,
         };
         let word = word_of(code, run.numbers[i]);
         writer.push_reserved(word.bits, word.length);
-        statistics = next(run.rescaling, statistics, run.numbers[i]);
+        tracked = tracked.next(run.rescaling, run.numbers[i]);
     }
-    (writer, statistics)
+    (writer, tracked.statistics)
 }
 
 /// Makes room for so many code words, and asks for no more than that, or than for as many bits again as there are.
@@ -132,19 +134,25 @@ fn take_later(
     ensures count { reader.new.count ≡ reader.old.count }
     ensures long { length numbers.new ≡ length numbers.old }
 {
+    let mut tracked = Tracked::of(run.bits, *statistics);
     for i in 0..numbers.len() {
+        tracked = tracked.settled(run.bits);
         let code = Code {
             limit: run.limit,
-            low: parameter(run.bits, *statistics),
+            low: tracked.low,
             bits: run.bits,
         };
         match take_word(code, place + i as u64, reader) {
             Ok(number) => {
                 numbers[i] = number;
-                *statistics = next(run.rescaling, *statistics, number);
+                tracked = tracked.next(run.rescaling, number);
             }
-            Err(fault) => return Err(fault),
+            Err(fault) => {
+                *statistics = tracked.statistics;
+                return Err(fault);
+            }
         }
     }
+    *statistics = tracked.statistics;
     Ok(())
 }

@@ -1,7 +1,7 @@
 //! The counter and the accumulator of a band, and the code parameter that they give.
 
-ghost use Rattle.std.specs.Prelude.{◌≡◌, ◌+◌, ◌-◌, ◌^◌, ◌<◌, ◌≤◌};
-ghost use Rattle.sample_adaptive.specs.Statistics.{AreStatistics, start_statistics, next_statistics, code_parameter};
+ghost use Rattle.std.specs.Prelude.{◌≡◌, ◌+◌, ◌-◌, ◌*◌, ◌/◌, ◌^◌, ◌<◌, ◌≤◌};
+ghost use Rattle.sample_adaptive.specs.Statistics.{AreStatistics, start_statistics, next_statistics, level as level_of, code_parameter};
 
 /// What a band's numbers so far say of the next one (CCSDS 123.0-B-1, "Adaptive code selection statistics").
 #[derive(Clone, Copy, Debug, PartialEq, Eq)]
@@ -58,18 +58,41 @@ pub(crate) fn next(rescaling: Rescaling, s: Statistics, number: u16) -> Statisti
     ensures value { result ≡ next_statistics rescaling.size s number }
     ensures statistics { AreStatistics rescaling.size result }
 {
-    let sum = s.accumulator + u32::from(number);
     if s.counter < rescaling.greatest {
-        Statistics {
-            counter: s.counter + 1,
-            accumulator: sum,
-        }
+        counted(s, number)
     } else {
-        Statistics {
-            counter: (s.counter + 1) / 2,
-            accumulator: (sum + 1) / 2,
-        }
+        halved(s, number)
     }
+}
+
+/// The statistics that one more number enters.
+pub(crate) fn counted(s: Statistics, number: u16) -> Statistics
+    requires { (s.counter < 2 ^ 31) × (s.accumulator < 2 ^ 31) }
+    ensures { result ≡ record { counter = s.counter + 1; accumulator = s.accumulator + number } }
+{
+    Statistics {
+        counter: s.counter + 1,
+        accumulator: s.accumulator + u32::from(number),
+    }
+}
+
+/// The statistics that one more number enters, both halved.
+pub(crate) fn halved(s: Statistics, number: u16) -> Statistics
+    requires { (s.counter < 2 ^ 31) × (s.accumulator < 2 ^ 31) }
+    ensures { result ≡ record { counter = (s.counter + 1) / 2; accumulator = (s.accumulator + number + 1) / 2 } }
+{
+    Statistics {
+        counter: (s.counter + 1) / 2,
+        accumulator: (s.accumulator + u32::from(number) + 1) / 2,
+    }
+}
+
+/// What the counter's products with powers of two are compared with.
+pub(crate) fn level(s: Statistics) -> u32
+    requires { (s.counter < 2 ^ 9) × (s.accumulator < 2 ^ 25) }
+    ensures { result ≡ level_of s }
+{
+    s.accumulator + 49 * s.counter / 128
 }
 
 /// k, how many low bits of the next number stand plainly in its word: at most D - 2.
@@ -83,7 +106,7 @@ pub(crate) fn parameter(bits: u32, s: Statistics) -> u32
     ensures value { result ≡ code_parameter bits s }
     ensures most { result + 2 ≤ bits }
 {
-    let level = s.accumulator + 49 * s.counter / 128;
+    let level = level(s);
     if level < 2 * s.counter {
         return 0;
     }

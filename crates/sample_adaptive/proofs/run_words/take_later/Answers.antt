@@ -13,17 +13,25 @@ use Rattle.sample_adaptive.proofs.run_words.take_later.Goals as goal
 pub loop-i-init : goal.loop-i-init
 loop-i-init c =
     record {
-      taken = λ v z t within settings own some. subst (λ (w : Counts). GetsRun z t c.args.place (Ok tt) v c.args.reader.now w c.args.reader.now.left []) (sym (same_band v z c.args.statistics.now (sym own))) (gets_none z t c.args.place v c.args.reader.now);
-      statistics = c.requires.statistics;
+      taken = λ v z t within settings own some. subst (λ (s : Statistics). GetsRun z t c.args.place (Ok tt) v c.args.reader.now (with_band v z s) c.args.reader.now.left []) (sym c.of-tracked.ensures.statistics)
+          (subst (λ (w : Counts). GetsRun z t c.args.place (Ok tt) v c.args.reader.now w c.args.reader.now.left []) (sym (same_band v z c.args.statistics.now (sym own))) (gets_none z t c.args.place v c.args.reader.now));
+      statistics = rw c.of-tracked.ensures.statistics c.requires.statistics;
+      low = c.of-tracked.ensures.most;
       count = refl;
       long = refl;
     }
 
-pub parameter-requires-clause-counter : goal.parameter-requires-clause-counter
-parameter-requires-clause-counter c = counter_range c.args.run.rescaling.size c.loop-i.statistics (c.args.run.rescaling.size_in).1 c.loop-i.invariant.statistics
+pub of-tracked-requires-clause-counter : goal.of-tracked-requires-clause-counter
+of-tracked-requires-clause-counter c = counter_range c.args.run.rescaling.size c.args.statistics.now (c.args.run.rescaling.size_in).1 c.requires.statistics
 
-pub parameter-requires-clause-accumulator : goal.parameter-requires-clause-accumulator
-parameter-requires-clause-accumulator c = accumulator_range c.args.run.rescaling.size c.loop-i.statistics (c.args.run.rescaling.size_in).1 c.loop-i.invariant.statistics
+pub of-tracked-requires-clause-accumulator : goal.of-tracked-requires-clause-accumulator
+of-tracked-requires-clause-accumulator c = accumulator_range c.args.run.rescaling.size c.args.statistics.now (c.args.run.rescaling.size_in).1 c.requires.statistics
+
+pub settled-tracked-requires-clause-counter : goal.settled-tracked-requires-clause-counter
+settled-tracked-requires-clause-counter c = counter_range c.args.run.rescaling.size c.loop-i.tracked.statistics (c.args.run.rescaling.size_in).1 c.loop-i.invariant.statistics
+
+pub settled-tracked-requires-clause-accumulator : goal.settled-tracked-requires-clause-accumulator
+settled-tracked-requires-clause-accumulator c = accumulator_range c.args.run.rescaling.size c.loop-i.tracked.statistics (c.args.run.rescaling.size_in).1 c.loop-i.invariant.statistics
 
 pub returns-in-Err-clause-taken : goal.returns-in-Err-clause-taken
 returns-in-Err-clause-taken c = λ v z t within settings own some.
@@ -31,12 +39,12 @@ returns-in-Err-clause-taken c = λ v z t within settings own some.
     let lt : c.loop-i.i < length c.loop-i.numbers = omega (arith, c.loop-i-test.true, was.long) in
     let long : length (take c.loop-i.i c.loop-i.numbers) ≡ c.loop-i.i = omega (arith, lt, length-take c.loop-i.i c.loop-i.numbers) in
     let enough : 0 < length (drop c.loop-i.i c.loop-i.numbers) = omega (arith, lt, length-drop c.loop-i.i c.loop-i.numbers) in
-    let read : word_at c.loop-i.reader.count (c.args.place + length (take c.loop-i.i c.loop-i.numbers)) (record { limit = v.umax; low = code_parameter v.bits c.loop-i.statistics; bits = v.bits }) c.loop-i.reader.left ≡ Err c.in-Err.fault =
-    rw (settings.umax_is, settings.bits_are, long, sym c.parameter.ensures.value) c.in-Err.ensures.reads in
-    let refused = later_refused z (t + length (take c.loop-i.i c.loop-i.numbers)) (c.args.place + length (take c.loop-i.i c.loop-i.numbers)) c.in-Err.fault v (with_band v z c.loop-i.statistics) c.loop-i.statistics c.loop-i.reader c.take_word.new.reader.left (drop c.loop-i.i c.loop-i.numbers)
+    let read : word_at c.loop-i.reader.count (c.args.place + length (take c.loop-i.i c.loop-i.numbers)) (record { limit = v.umax; low = code_parameter v.bits c.loop-i.tracked.statistics; bits = v.bits }) c.loop-i.reader.left ≡ Err c.in-Err.fault =
+    rw (settings.umax_is, settings.bits_are, long, sym c.settled-tracked.ensures.value) c.in-Err.ensures.reads in
+    let refused = later_refused z (t + length (take c.loop-i.i c.loop-i.numbers)) (c.args.place + length (take c.loop-i.i c.loop-i.numbers)) c.in-Err.fault v (with_band v z c.loop-i.tracked.statistics) c.loop-i.tracked.statistics c.loop-i.reader c.take_word.new.reader.left (drop c.loop-i.i c.loop-i.numbers)
     within (omega (arith, some)) read enough in
-    subst (λ (ns : List ℕ). GetsRun z t c.args.place (Err c.in-Err.fault) v c.args.reader.now (with_band v z c.loop-i.statistics) c.take_word.new.reader.left ns) (take-append-drop c.loop-i.i c.loop-i.numbers)
-    (gets_behind z t c.args.place (Err c.in-Err.fault) (take c.loop-i.i c.loop-i.numbers) (drop c.loop-i.i c.loop-i.numbers) v (with_band v z c.loop-i.statistics) (with_band v z c.loop-i.statistics) c.args.reader.now c.loop-i.reader c.take_word.new.reader.left was.count
+    subst (λ (ns : List ℕ). GetsRun z t c.args.place (Err c.in-Err.fault) v c.args.reader.now (with_band v z c.loop-i.tracked.statistics) c.take_word.new.reader.left ns) (take-append-drop c.loop-i.i c.loop-i.numbers)
+    (gets_behind z t c.args.place (Err c.in-Err.fault) (take c.loop-i.i c.loop-i.numbers) (drop c.loop-i.i c.loop-i.numbers) v (with_band v z c.loop-i.tracked.statistics) (with_band v z c.loop-i.tracked.statistics) c.args.reader.now c.loop-i.reader c.take_word.new.reader.left was.count
     (was.taken v z t within settings own some) refused)
 
 pub loop-i-preserved : goal.loop-i-preserved
@@ -47,15 +55,17 @@ loop-i-preserved c =
     let cut : take (c.loop-i.i + 1) (set c.loop-i.numbers c.loop-i.i c.in-Ok.number) ≡ take c.loop-i.i c.loop-i.numbers ++ c.in-Ok.number ∷ [] = rw (add-one c.loop-i.i) (take-suc-set c.loop-i.numbers c.loop-i.i c.in-Ok.number lt) in
     record {
       taken = λ v z t within settings own some.
-          let read : word_at c.loop-i.reader.count (c.args.place + length (take c.loop-i.i c.loop-i.numbers)) (record { limit = v.umax; low = code_parameter v.bits c.loop-i.statistics; bits = v.bits }) c.loop-i.reader.left ≡ Ok (c.in-Ok.number, c.take_word.new.reader.left) =
-          rw (settings.umax_is, settings.bits_are, long, sym c.parameter.ensures.value) c.in-Ok.ensures.reads in
-          let one = gets_later z (t + length (take c.loop-i.i c.loop-i.numbers)) (c.args.place + length (take c.loop-i.i c.loop-i.numbers)) c.in-Ok.number v c.loop-i.statistics c.loop-i.reader c.take_word.new.reader.left within (omega (arith, some)) read in
-          let both = gets_behind z t c.args.place (Ok tt) (take c.loop-i.i c.loop-i.numbers) (c.in-Ok.number ∷ []) v (with_band v z c.loop-i.statistics) (with_band v z (next_statistics v.gamma_star c.loop-i.statistics c.in-Ok.number)) c.args.reader.now c.loop-i.reader c.take_word.new.reader.left was.count
+          let read : word_at c.loop-i.reader.count (c.args.place + length (take c.loop-i.i c.loop-i.numbers)) (record { limit = v.umax; low = code_parameter v.bits c.loop-i.tracked.statistics; bits = v.bits }) c.loop-i.reader.left ≡ Ok (c.in-Ok.number, c.take_word.new.reader.left) =
+          rw (settings.umax_is, settings.bits_are, long, sym c.settled-tracked.ensures.value) c.in-Ok.ensures.reads in
+          let one = gets_later z (t + length (take c.loop-i.i c.loop-i.numbers)) (c.args.place + length (take c.loop-i.i c.loop-i.numbers)) c.in-Ok.number v c.loop-i.tracked.statistics c.loop-i.reader c.take_word.new.reader.left within (omega (arith, some)) read in
+          let both = gets_behind z t c.args.place (Ok tt) (take c.loop-i.i c.loop-i.numbers) (c.in-Ok.number ∷ []) v (with_band v z c.loop-i.tracked.statistics) (with_band v z (next_statistics v.gamma_star c.loop-i.tracked.statistics c.in-Ok.number)) c.args.reader.now c.loop-i.reader c.take_word.new.reader.left was.count
           (was.taken v z t within settings own some) one in
-          let next : next_statistics v.gamma_star c.loop-i.statistics c.in-Ok.number ≡ c.next.result = rw settings.size_is (sym c.next.ensures.value) in
-          subst (λ (ns : List ℕ). GetsRun z t c.args.place (Ok tt) v c.args.reader.now (with_band v z c.next.result) c.take_word.new.reader.left ns) (sym cut)
+          let next : next_statistics v.gamma_star c.loop-i.tracked.statistics c.in-Ok.number ≡ c.next-tracked.result.statistics =
+          rw (settings.size_is, sym c.settled-tracked.ensures.statistics) (sym c.next-tracked.ensures.value) in
+          subst (λ (ns : List ℕ). GetsRun z t c.args.place (Ok tt) v c.args.reader.now (with_band v z c.next-tracked.result.statistics) c.take_word.new.reader.left ns) (sym cut)
           (subst (λ (s : Statistics). GetsRun z t c.args.place (Ok tt) v c.args.reader.now (with_band v z s) c.take_word.new.reader.left (take c.loop-i.i c.loop-i.numbers ++ c.in-Ok.number ∷ [])) next both);
-      statistics = c.next.ensures.statistics;
+      statistics = c.next-tracked.ensures.statistics;
+      low = omega (arith, c.next-tracked.ensures.low, c.settled-tracked.ensures.most);
       count = c.in-Ok.ensures.count ∙ was.count;
       long = length-set c.loop-i.numbers c.loop-i.i c.in-Ok.number ∙ was.long;
     }
@@ -63,4 +73,4 @@ loop-i-preserved c =
 pub returns-clause-taken : goal.returns-clause-taken
 returns-clause-taken c = λ v z t within settings own some.
     let all : take c.loop-i.i c.loop-i.numbers ≡ c.loop-i.numbers = take_all c.loop-i.i c.loop-i.numbers (omega (arith, c.loop-i-test.false, c.loop-i.invariant.long)) in
-    subst (λ (ns : List ℕ). GetsRun z t c.args.place (Ok tt) v c.args.reader.now (with_band v z c.loop-i.statistics) c.loop-i.reader.left ns) all (c.loop-i.invariant.taken v z t within settings own some)
+    subst (λ (ns : List ℕ). GetsRun z t c.args.place (Ok tt) v c.args.reader.now (with_band v z c.loop-i.tracked.statistics) c.loop-i.reader.left ns) all (c.loop-i.invariant.taken v z t within settings own some)

@@ -1,0 +1,9 @@
+use Rattle.std.proofs.Common.{arith}
+use Rattle.sample_adaptive.proofs.Counting.{parameter_stays}
+use Rattle.sample_adaptive.proofs.tracked.Tracked.settled.Goals as goal
+
+pub returns-then-level-self-clause-value : goal.returns-then-level-self-clause-value
+returns-then-level-self-clause-value c =
+    let scaled = c.args.self.scaled_is in
+    let level = c.level-level.ensures in
+    parameter_stays c.args.bits c.args.self.statistics c.args.self.low (omega arith) (omega (arith, scaled, level, c.if-self-level.true)) (omega (arith, scaled, level, c.if-level-self.true))
