@@ -94,6 +94,16 @@ pub row_is : (p : Params) (c : Image) (zs : List ℕ) (y : ℕ) → row_of p c z
 unfolding row_of
 row_is p c zs y = refl
 
+nothing_each : (xs : List ℕ) → flat_map {X = ℕ} {A = ℕ} (λ x. []) xs ≡ []
+nothing_each [] = refl
+nothing_each (x ∷ xs) = nothing_each xs
+
+-- a row of no bands has no residuals
+pub row_of_none : (p : Params) (c : Image) (bands : List Learner) (y : ℕ) → length bands ≡ 0 → row_of p c (bands_of bands) y ≡ []
+unfolding row_of
+row_of_none p c [] y e = nothing_each (upto c.shape.columns)
+row_of_none p c (b ∷ bs) y e = absurd (omega (arith, e))
+
 pub rows_is : (p : Params) (c : Image) (zs : List ℕ) → rows_of p c zs ≡ flat_map (λ y. row_of p c zs y) (upto c.shape.rows)
 unfolding rows_of
 rows_is p c zs = refl

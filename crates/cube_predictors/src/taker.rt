@@ -34,8 +34,10 @@ impl<'g, R: Wait, G: Gate> Taker<R> for RunSender<'g, G> {
     ghost laws = { sendings_are };
 
     fn take(&mut self, rt: &R, numbers: &[u16]) -> bool {
-        for i in 0..numbers.len() {
-            if !self.send(rt, numbers[i]) {
+        let mut first = 0;
+        while first < numbers.len() {
+            first += self.send_some(rt, &numbers[first..]);
+            if !self.goes_on() {
                 return false;
             }
         }

@@ -106,6 +106,9 @@ fn send_row<R, T: Taker<R>>(
     ensures at { IsTrue result → AreAt params.now cube.now ((y + 1) * cube.now.shape.columns) bands.new }
     ensures same { bands_of bands.new ≡ bands_of bands.old }
 {
+    if bands.is_empty() {
+        return true;
+    }
     let columns = cube.shape().columns();
     let mut x = 0;
     while x < columns {

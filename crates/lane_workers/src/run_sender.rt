@@ -1,10 +1,11 @@
 //! Senders that take numbers one by one, and send them in runs past a gate.
 
-ghost use Rattle.std.specs.Prelude.{◌≡◌, ◌+◌, ◌-◌, ◌^◌, ◌<◌, ◌≤◌, [], ◌∷◌, ◌++◌, true, false, length, drop, slice_index, IsTrue, IsFalse};
+ghost use Rattle.std.specs.Prelude.{◌≡◌, ◌+◌, ◌-◌, ◌^◌, ◌<◌, ◌≤◌, [], ◌∷◌, ◌++◌, true, false, length, take, drop, slice_index, IsTrue, IsFalse};
 ghost use Rattle.lane_workers.specs.Feeds.{Keeps};
 
 use crate::feed::LaneEnd;
 use crate::gate::Gate;
+use crate::patience::Patience;
 use crate::waiting::{MOST, Waiting};
 use band_rings::sender::LaneSender;
 use std::marker::Model;
@@ -68,7 +69,6 @@ impl<'g, G: Gate> RunSender<'g, G> {
 
     /// Takes a number, and sends it with those before it once they make a run. Returns false if the gate has
     /// stopped the sender.
-    #[inline(always)]
     pub fn send<R: Wait>(&mut self, rt: &R, number: u16) -> bool
         requires ready { IsTrue self.old.ready }
         requires few { length self.old.taken < 2 ^ 64 - 1 }
@@ -77,17 +77,41 @@ impl<'g, G: Gate> RunSender<'g, G> {
         ensures ready { IsTrue result → IsTrue self.new.ready }
         ensures stopped { IsFalse result → IsTrue self.new.stopped }
     {
-        self.waiting.push(number);
-        if self.waiting.count() < self.run {
-            return true;
+        let _one = self.send_some(rt, &[number]);
+        self.goes_on()
+    }
+
+    /// Takes the first of some numbers, as many as a run lacks, and sends the run once it is whole. Returns how
+    /// many it took, at least one. The gate may have stopped the sender then.
+    #[inline(always)]
+    pub fn send_some<R: Wait>(&mut self, rt: &R, numbers: &[u16]) -> usize
+        requires ready { IsTrue self.old.ready }
+        requires some { 0 < length numbers.now }
+        requires few { length self.old.taken + length numbers.now < 2 ^ 64 }
+        ensures same { (self.new.lane ≡ self.old.lane) × (self.new.predictor ≡ self.old.predictor) × (self.new.gate ≡ self.old.gate) }
+        ensures within { (0 < result) × (result ≤ length numbers.now) }
+        ensures taken { self.new.taken ≡ self.old.taken ++ take result numbers.now }
+        ensures ready { IsFalse self.new.stopped → IsTrue self.new.ready }
+    {
+        let count = numbers.len().min(self.run - self.waiting.count());
+        self.waiting.push_all(&numbers[..count]);
+        if self.waiting.count() == self.run {
+            self.stopped = !send_run(
+                rt,
+                self.predictor,
+                &mut self.sender,
+                &mut self.waiting,
+                self.gate,
+            );
         }
-        self.stopped = !send_run(
-            rt,
-            self.predictor,
-            &mut self.sender,
-            &mut self.waiting,
-            self.gate,
-        );
+        count
+    }
+
+    /// Returns whether the sender takes more: false if the gate has stopped it.
+    pub fn goes_on(&self) -> bool
+        ensures open { IsTrue result → IsFalse self.now.stopped }
+        ensures stopped { IsFalse result → IsTrue self.now.stopped }
+    {
         !self.stopped
     }
 
@@ -200,6 +224,7 @@ fn send_first<R: Wait, G: Gate>(
         × IsTrue (G.may_stop gate.now predictor (length sender.new.sent)) }
 {
     let number = waiting.numbers()[0];
+    let mut patience = Patience::new();
     for _ in rt.forever() {
         if !gate.pass(predictor, sender.sent_count(), waiting.turn(0)) {
             return false;
@@ -209,7 +234,7 @@ fn send_first<R: Wait, G: Gate>(
             return true;
         }
         waiting.first_comes_back();
-        thread::yield_now();
+        patience.wait();
     }
     unreachable!()
 }

@@ -5,11 +5,11 @@ ghost use Rattle.lane_workers.specs.States.{standing_of};
 
 use crate::feed::Feed;
 use crate::gate::Gate;
+use crate::patience::Patience;
 use crate::worker::{Ended, Worker, finish};
 use core::mem::replace_with;
 use std::sync::Wait;
 use std::sync::atomic::{AtomicBool, Ordering};
-use std::thread;
 use std::thread::Threads;
 
 /// The state of a worker.
@@ -49,6 +49,7 @@ impl<F: Feed, G: Gate> State<F, G> {
         ensures handed { (standing_of self.new).handed ≡ (standing_of self.old).handed ++ take result run.new }
         ensures none { result ≡ 0 → (standing_of self.new).left ≡ Some [] }
     {
+        let mut patience = Patience::new();
         for _ in rt.forever() {
             let is_over = over.load(Ordering::SeqCst);
             let count = self.seen_run(run);
@@ -59,7 +60,7 @@ impl<F: Feed, G: Gate> State<F, G> {
                 replace_with(self, rt, join);
                 return self.seen_run(run);
             }
-            thread::yield_now();
+            patience.wait();
         }
         unreachable!()
     }

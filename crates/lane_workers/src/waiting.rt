@@ -11,6 +11,7 @@ pub(crate) const MOST: usize = 8;
 #[derive(Drop)]
 pub(crate) struct Waiting {
     numbers: [u16; MOST],
+    /// 0 where no number waits.
     turns: [u64; MOST],
     count: usize,
 }
@@ -60,22 +61,22 @@ impl Waiting {
         self.turns[index]
     }
 
-    /// Adds a number after the others, which hasn't been tried yet.
+    /// Adds numbers after the others, which haven't been tried yet.
     #[inline(always)]
-    pub(crate) fn push(&mut self, number: u16)
-        requires { length self.old < 8 }
-        ensures { self.new ≡ self.old ++ number ∷ [] }
+    pub(crate) fn push_all(&mut self, numbers: &[u16])
+        requires { length self.old + length numbers.now ≤ 8 }
+        ensures { self.new ≡ self.old ++ numbers.now }
     {
-        self.numbers[self.count] = number;
-        self.turns[self.count] = 0;
-        self.count += 1;
+        let end = self.count + numbers.len();
+        self.numbers[self.count..end].copy_from_slice(numbers);
+        self.count = end;
     }
 
     /// Counts one more failed try for each number.
     pub(crate) fn come_back(&mut self)
         ensures { self.new ≡ self.old }
     {
-        for turn in &mut self.turns {
+        for turn in &mut self.turns[..self.count] {
             *turn = one_more(*turn);
         }
     }
@@ -94,6 +95,7 @@ impl Waiting {
     {
         self.numbers.rotate_left(1);
         self.turns.rotate_left(1);
+        self.turns[MOST - 1] = 0;
         self.count -= 1;
     }
 
@@ -102,6 +104,7 @@ impl Waiting {
     pub(crate) fn clear(&mut self)
         ensures { self.new ≡ [] }
     {
+        self.turns = [0; MOST];
         self.count = 0;
     }
 }

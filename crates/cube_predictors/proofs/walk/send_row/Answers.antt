@@ -1,10 +1,11 @@
-use Rattle.std.proofs.Common.{◌≡◌, ◌≤◌, ◌+◌, true, ap, refl, arith, ◌∙◌}
+use Rattle.std.proofs.Common.{◌≡◌, ◌≤◌, ◌+◌, true, ap, refl, sym, subst, arith, ◌∙◌}
+use Rattle.std.proofs.lemmas.Bool.{eqb-true}
 use Rattle.std.specs.List.{flat_map}
 use Rattle.cube_core.specs.Order.{from, upto}
 use Rattle.cube_predictors.specs.Own.{column_of, row_of}
 use Rattle.cube_predictors.specs.Sends.{bands_of}
 use Rattle.cube_predictors.specs.Pieces.{held_of}
-use Rattle.cube_predictors.proofs.Sending.{Pieces, pieces_whole, at_same, none_yet, piece_fits, piece_cut, row_is}
+use Rattle.cube_predictors.proofs.Sending.{Pieces, pieces_whole, at_same, none_yet, piece_fits, piece_cut, row_is, row_of_none}
 use Rattle.cube_predictors.proofs.RowPieces.{held_is, past_at, row_piece, upto_piece}
 use Rattle.cube_predictors.proofs.walk.send_row.Goals as goal
 use Rattle.cube_predictors.proofs.walk.send_row.Goals.{After-predict_pieces}
@@ -21,6 +22,11 @@ module _ (g : Over) (c : After-predict_pieces g) where
   held =
       held_is c.args.params.now c.args.cube.now c.args.y c.loop-x.x c.min-count.result c.predict_pieces.new.bands c.predict_pieces.ensures.past
       ∙ ap (λ zs. flat_map (λ x. column_of c.args.params.now c.args.cube.now zs c.args.y x) (from c.loop-x.x c.min-count.result)) (c.predict_pieces.ensures.same ∙ c.loop-x.invariant.same)
+
+pub returns-then-is_empty-clause-sent : goal.returns-then-is_empty-clause-sent
+returns-then-is_empty-clause-sent g c =
+    let none = row_of_none c.args.params.now c.args.cube.now c.args.bands.now c.args.y (eqb-true _ 0 (sym c.is_empty.ensures ∙ c.if-is_empty.true)) in
+    subst (g.T.Taker.takes c.args.taker.now c.args.taker.now true) (sym none) (none_yet g.met.T.Taker.laws c.args.taker.now _ c.requires.may)
 
 pub send_pieces-requires-clause-may : goal.send_pieces-requires-clause-may
 send_pieces-requires-clause-may g c =
