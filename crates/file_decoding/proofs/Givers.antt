@@ -16,9 +16,8 @@ use Rattle.header_bits.specs.Lawful.{IsLawful}
 use Rattle.header_bits.specs.Reading.{number_at, zeros_at}
 use Rattle.header_bits.proofs.Fronts.{bind_err, number_fault, zeros_fault, fault_is}
 use Rattle.sample_adaptive.specs.declared.code_word.Code.{Code}
-use Rattle.sample_adaptive.specs.Statistics.{CoderSettings}
 use Rattle.sample_adaptive.specs.Settings.{settings, IsSample}
-use Rattle.sample_adaptive.specs.Body.{sample_body, words_after, band_numbers}
+use Rattle.sample_adaptive.specs.Body.{sample_body}
 use Rattle.sample_adaptive.specs.Reading.{plain_at, escape_at, word_at, words_at, sample_body_at}
 use Rattle.sample_adaptive.specs.Taken.{Counts, GetsNumber}
 use Rattle.sample_adaptive.specs.Words.{code_word, code_at}

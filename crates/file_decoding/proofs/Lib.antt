@@ -10,3 +10,4 @@ pub mod Inverse
 pub mod Long
 pub mod OneCube
 pub mod RunsGiven
+pub mod ColumnsGiven

@@ -169,7 +169,7 @@ walk_run (suc n) p d left bands q b e lawful walk row at moves follows =
     let rest = walk_run n p d next.0 (set bands q.z mid) (on_row q 1) mid e lawful walked (next_row q (suc n) left next.0 row next.1) (get_first bands q.z mid within) later follows in
     subst (λ (ps : List Place). IsOnWalk p d ps (set bands q.z e)) (sym (ap (drop (suc (suc n))) next.1)) (subst (IsOnWalk p d (drop (suc n) next.0)) (set_twice bands q.z mid e) rest)
 
-residuals_run : (n : ℕ) (p : Params) (d : Image) (left : List Place) (q : Place) (t : ℕ) → IsOrder p.shape p.order → left ≡ drop (gone_count p left) (places p.shape p.order) → AreOfRow q n left → t ≡ q.y * d.shape.columns + q.x
+pub residuals_run : (n : ℕ) (p : Params) (d : Image) (left : List Place) (q : Place) (t : ℕ) → IsOrder p.shape p.order → left ≡ drop (gone_count p left) (places p.shape p.order) → AreOfRow q n left → t ≡ q.y * d.shape.columns + q.x
     → residuals_at p d (gone_by p (drop n left)) ≡ residuals_at p d (gone_by p left) ++ run_residuals p d q.z t n
 residuals_run zero p d left q t lawful rest row time = sym (append-nil (residuals_at p d (gone_by p left)))
 residuals_run (suc n) p d left q t lawful rest row time =

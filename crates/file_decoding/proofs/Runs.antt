@@ -9,7 +9,7 @@ use Rattle.header_bits.specs.declared.params.Params.{Params}
 use Rattle.header_bits.specs.Lawful.{IsLawful}
 use Rattle.file_coding.specs.Coding.{IsNumber}
 use Rattle.file_decoding.specs.declared.decoder.Decoder.{Decoder}
-use Rattle.file_decoding.specs.Decoding.{HasGiven, MayAsk, GivesMore, AreNumbers, GivesAll}
+use Rattle.file_decoding.specs.Decoding.{HasGiven, MayAsk, GivesMore, AreEach, GivesAll}
 use Rattle.file_decoding.specs.Files.{behind_body}
 use Rattle.file_decoding.proofs.Givers.{range_more, may_ask}
 
@@ -34,8 +34,8 @@ pub next_there : (n i : ℕ) (numbers list : List ℕ) → n ≡ length numbers 
 next_there n i numbers list e lt = omega (arith, e, lt, length-append numbers (take i list), length-take i list)
 
 -- the numbers that were given are the first of those that are asked for
-pub asked_next : (p : Params) (numbers list : List ℕ) (z t i : ℕ) → AreNumbers p (length numbers) z t (length list) → i < length list → IsNumber p (numbers ++ take i list) z (t + i)
-asked_next p numbers list z t i ask lt = ask i (numbers ++ take i list) lt (omega (arith, lt, length-append numbers (take i list), length-take i list))
+pub asked_next : (p : Params) (numbers list : List ℕ) (zs ts : ℕ → ℕ) (i : ℕ) → AreEach p (length numbers) zs ts (length list) → i < length list → IsNumber p (numbers ++ take i list) (zs i) (ts i)
+asked_next p numbers list zs ts i ask lt = ask i (numbers ++ take i list) lt (omega (arith, lt, length-append numbers (take i list), length-take i list))
 
 -- the refusal of a number is that of the body
 pub refused_behind : (p : Params) (count now_count : ℕ) (bits read unread now : List Bool) (fault : Fault) → now_count ≡ count → unread ≡ read ++ now → behind_body now_count p ((bits ++ read) ++ now) ≡ Err fault → behind_body count p (bits ++ unread) ≡ Err fault

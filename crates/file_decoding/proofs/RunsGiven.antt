@@ -1,5 +1,5 @@
 -- Runs that a coder gives at once.
-use Rattle.std.proofs.Common.{◌≡◌, ◌+◌, ◌<◌, ◌≤◌, ◌^◌, ℕ, zero, suc, Bool, List, [], ◌∷◌, ◌++◌, length, take, drop, replicate, Some, Result, Ok, Err, sym, ap, subst, ◌∙◌, length-append, length-take, length-drop, take-append-drop, arith}
+use Rattle.std.proofs.Common.{◌≡◌, ◌+◌, ◌<◌, ◌≤◌, ◌^◌, ℕ, zero, suc, Bool, List, [], ◌∷◌, ◌++◌, length, take, drop, replicate, Some, Result, Ok, Err, sym, ap, ◌∙◌, length-append, length-drop, take-append-drop, arith}
 use Rattle.std.specs.List.{AllByRecursion, slice_get}
 use Rattle.std.proofs.lemmas.List.{length-replicate}
 use Rattle.cube_core.specs.declared.fault.Fault.{Fault}
@@ -9,23 +9,21 @@ use Rattle.header_bits.specs.declared.params.Params.{Params}
 use Rattle.header_bits.specs.Bits.{Unread}
 use Rattle.sample_adaptive.specs.Settings.{settings}
 use Rattle.sample_adaptive.specs.Body.{words_after}
-use Rattle.sample_adaptive.specs.Reading.{words_at}
 use Rattle.sample_adaptive.specs.Taken.{Counts, GetsRun}
 use Rattle.sample_adaptive.proofs.Bodies.{words_takes}
 use Rattle.sample_adaptive.proofs.RunsRead.{words_longer}
-use Rattle.file_coding.specs.Coding.{places_of, places_behind, IsNumber, IsRun}
+use Rattle.file_coding.specs.Coding.{places_of, places_behind, IsRun}
 use Rattle.file_coding.proofs.Coders.{places_long, settings_bits}
 use Rattle.file_coding.proofs.Runs.{run_count, samples_more_run}
-use Rattle.file_decoding.specs.declared.decoder.Decoder.{Decoder}
 use Rattle.file_decoding.specs.declared.decoder.Decoder.TheVariants.{Samples}
 use Rattle.file_decoding.specs.Decoding.{AreNumbers, GivesRun}
 use Rattle.file_decoding.proofs.Givers.{rest_refused}
 use Rattle.file_decoding.proofs.Rows.{get_drop}
 
-some_same : (p q : Place) → Some p ≡ Some q → p ≡ q
+pub some_same : (p q : Place) → Some p ≡ Some q → p ≡ q
 some_same p q k = cc
 
-none_there : (q : Place) → slice_get [] 0 ≡ Some q → ⊥
+pub none_there : (q : Place) → slice_get [] 0 ≡ Some q → ⊥
 none_there q e = cc
 
 -- the first places, so many, are there, and of one band
@@ -51,7 +49,7 @@ is_run p numbers z t count ask some =
       time = omega (arith, (ask 0 numbers some (omega arith)).3);
     }
 
-range_both : (limit : ℕ) (xs ys : List ℕ) → AllByRecursion (λ v. v < limit) xs → AllByRecursion (λ v. v < limit) ys → AllByRecursion (λ v. v < limit) (xs ++ ys)
+pub range_both : (limit : ℕ) (xs ys : List ℕ) → AllByRecursion (λ v. v < limit) xs → AllByRecursion (λ v. v < limit) ys → AllByRecursion (λ v. v < limit) (xs ++ ys)
 range_both limit [] ys h k = k
 range_both limit (x ∷ xs) ys h k = (h.0, range_both limit xs ys h.1 k)
 

@@ -58,31 +58,55 @@ GivesNumber z t place result old unread new left =
     → MatchResult result (λ number. GivesMore p new numbers bits unread.left left number) (λ fault. behind_body unread.count p (bits ++ unread.left)
     ≡ Err fault)
 
--- so many numbers behind the first n, whatever these are, are those of band z from its number t on
-abbrev pub AreNumbers : Params → ℕ → ℕ → ℕ → ℕ → Type 0
-AreNumbers p n z t count = (i : ℕ) (numbers : List ℕ) → i < count → length numbers ≡ n + i → IsNumber p numbers z (t + i)
+-- so many numbers behind the first n, whatever these are, are numbers of such bands, at such places of each
+abbrev pub AreEach : Params → ℕ → (ℕ → ℕ) → (ℕ → ℕ) → ℕ → Type 0
+AreEach p n zs ts count = (i : ℕ) (numbers : List ℕ) → i < count → length numbers ≡ n + i → IsNumber p numbers (zs i) (ts i)
 
--- so many numbers of band z may be asked for, one behind another: of some parameters the first of them is its number t, and stands at the place
-pub record MayAskAll (d : Decoder) (z t place count : ℕ) : Type 0 where
+-- they are those of band z from its number t on
+abbrev pub AreNumbers : Params → ℕ → ℕ → ℕ → ℕ → Type 0
+AreNumbers p n z t count = AreEach p n (λ i. z) (λ i. t + i) count
+
+-- they are the numbers t of bands one above another, from band z on
+abbrev pub AreAbove : Params → ℕ → ℕ → ℕ → ℕ → Type 0
+AreAbove p n z t count = AreEach p n (λ i. z + i) (λ i. t) count
+
+-- such numbers may be asked for, one behind another: of some parameters the first of them stands at the place
+pub record MayAskEach (d : Decoder) (zs ts : ℕ → ℕ) (place count : ℕ) : Type 0 where
   pub params : Params
   pub numbers : List ℕ
   pub bits : List Bool
   pub lawful : IsLawful params
   pub given : HasGiven params d numbers bits
   pub stands : place ≡ length numbers
-  pub ask : AreNumbers params (length numbers) z t count
+  pub ask : AreEach params (length numbers) zs ts count
+
+-- so many numbers of band z, from its number t on
+abbrev pub MayAskAll : Decoder → ℕ → ℕ → ℕ → ℕ → Type 0
+MayAskAll d z t place count = MayAskEach d (λ i. z) (λ i. t + i) place count
+
+-- number t of each of so many bands, from band z on
+abbrev pub MayAskColumn : Decoder → ℕ → ℕ → ℕ → ℕ → Type 0
+MayAskColumn d z t place count = MayAskEach d (λ i. z + i) (λ i. t) place count
 
 -- bits were read, and with them these numbers more are given
 abbrev pub GivesAll : Params → Decoder → List ℕ → List Bool → List Bool → List Bool → List ℕ → Type 0
 GivesAll p new numbers bits unread left list =
     AllByRecursion (λ n. n < 2 ^ p.kind.bits) list × (read : List Bool) × (unread ≡ read ++ left) × HasGiven p new (numbers ++ list) (bits ++ read)
 
--- whatever numbers were given before: the next ones are given, or the refusal is that of the body
-abbrev pub GivesRun : ℕ → ℕ → ℕ → Result (Unit {0}) Fault → Decoder → Unread → Decoder → List Bool → List ℕ → Type 0
-GivesRun z t place result old unread new left list =
-    (p : Params) (numbers : List ℕ) (bits : List Bool) → IsLawful p → HasGiven p old numbers bits → AreNumbers p (length numbers) z t (length list)
+-- whatever numbers were given before: the next ones, of such bands, are given, or the refusal is that of the body
+abbrev pub GivesEach : (ℕ → ℕ) → (ℕ → ℕ) → ℕ → Result (Unit {0}) Fault → Decoder → Unread → Decoder → List Bool → List ℕ → Type 0
+GivesEach zs ts place result old unread new left list =
+    (p : Params) (numbers : List ℕ) (bits : List Bool) → IsLawful p → HasGiven p old numbers bits → AreEach p (length numbers) zs ts (length list)
     → place ≡ length numbers
     → MatchResult result (λ _. GivesAll p new numbers bits unread.left left list) (λ fault. behind_body unread.count p (bits ++ unread.left) ≡ Err fault)
+
+-- those of band z, from its number t on
+abbrev pub GivesRun : ℕ → ℕ → ℕ → Result (Unit {0}) Fault → Decoder → Unread → Decoder → List Bool → List ℕ → Type 0
+GivesRun z t place result old unread new left list = GivesEach (λ i. z) (λ i. t + i) place result old unread new left list
+
+-- number t of each band, from band z on
+abbrev pub GivesColumn : ℕ → ℕ → ℕ → Result (Unit {0}) Fault → Decoder → Unread → Decoder → List Bool → List ℕ → Type 0
+GivesColumn z t place result old unread new left list = GivesEach (λ i. z + i) (λ i. t) place result old unread new left list
 
 -- the bits begin with a body of the cube's residuals, and these are left
 pub record TakesCube (p : Params) (c : Image) (bits left : List Bool) : Type 0 where

@@ -90,6 +90,14 @@ fn run_from(params: &Params, place: Place) -> usize
     RUN.min((params.shape.columns() - place.x) as usize)
 }
 
+/// How many places of its band come before this one.
+fn time_of(params: &Params, place: Place) -> u64
+    requires { IsPlaceOf params.now.shape place }
+    ensures { result ≡ place.y * params.now.shape.columns + place.x }
+{
+    u64::from(place.y) * u64::from(params.shape.columns()) + u64::from(place.x)
+}
+
 /// The cube whose body stands next.
 fn take_cube(alloc: Global, params: &Params, reader: &mut BitReader) -> Result<Cube, Fault>
     requires { IsLawful params.now }
@@ -114,15 +122,14 @@ fn take_cube(alloc: Global, params: &Params, reader: &mut BitReader) -> Result<C
             band.inverse_run(&mut cube, place.y, place.x, &deltas[..run], &mut below);
             places.go_by(run as u64);
         } else {
-            let column = places.column();
+            let column = places.column().min(RUN as u64) as usize;
+            let t = time_of(params, place);
+            decoder.next_column(place.z, t, index, reader, &mut deltas[..column])?;
             for i in 0..column {
-                let z = place.z + i as u32;
-                let above = &mut bands[z as usize];
-                let number = above.next();
-                let delta = decoder.next(z, number, index + i, reader)?;
-                above.inverse_place(&mut cube, place.y, place.x, delta, &mut below);
+                let above = &mut bands[place.z as usize + i];
+                above.inverse_place(&mut cube, place.y, place.x, deltas[i], &mut below);
             }
-            places.go_by(column);
+            places.go_by(column as u64);
         }
     }
     cube.prove_is_cube();

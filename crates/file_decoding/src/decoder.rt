@@ -8,7 +8,7 @@ ghost use Rattle.block_adaptive.specs.Settings.{IsBlock};
 ghost use Rattle.block_adaptive.specs.Given.{given_count};
 ghost use Rattle.block_adaptive.specs.DataSets.{capacity};
 ghost use Rattle.file_decoding.specs.declared.decoder.Decoder.TheVariants.{Blocks};
-ghost use Rattle.file_decoding.specs.Decoding.{HasGiven, MayAsk, MayAskAll, GivesNumber, GivesRun, placed_at, refusal_at};
+ghost use Rattle.file_decoding.specs.Decoding.{HasGiven, MayAsk, MayAskAll, MayAskColumn, GivesNumber, GivesEach, GivesRun, GivesColumn, placed_at, refusal_at};
 
 use block_adaptive::block_reader::BlockReader;
 use cube_core::fault::Fault;
@@ -91,6 +91,32 @@ impl Decoder {
             Decoder::Blocks(blocks) => next_of_blocks(blocks, reader, deltas),
         }
     }
+
+    /// Gives the next residuals of the body, which are number `t` of band `z` and of the bands above it; the first stands at `place` in
+    /// encoding order.
+    ///
+    /// They are of one row and column, 64 at most and at least one. Where one is spelt by none the answer is the first fault of the
+    /// body, as `next` tells it, and what is in `deltas` means nothing. No memory is taken.
+    #[inline]
+    pub fn next_column(
+        &mut self,
+        z: u32,
+        t: u64,
+        place: u64,
+        reader: &mut BitReader,
+        deltas: &mut [u16],
+    ) -> Result<(), Fault>
+        requires may { MayAskColumn self.old z t place (length deltas.old) }
+        requires small { (1 ≤ length deltas.old) × (length deltas.old ≤ 64) × (place < 2 ^ 48) }
+        ensures given { GivesColumn z t place result self.old reader.old self.new reader.new.left deltas.new }
+        ensures count { reader.new.count ≡ reader.old.count }
+        ensures long { length deltas.new ≡ length deltas.old }
+    {
+        match self {
+            Decoder::Samples(stats) => stats.get_column(z, t, place, reader, deltas),
+            Decoder::Blocks(blocks) => next_of_blocks(blocks, reader, deltas),
+        }
+    }
 }
 
 /// The next residuals of a body of blocks.
@@ -100,7 +126,7 @@ fn next_of_blocks(
     deltas: &mut [u16],
 ) -> Result<(), Fault>
     requires may { given_count blocks.old + length deltas.old ≤ capacity blocks.old.cut }
-    ensures given { (z t place : ℕ) → GivesRun z t place result (Blocks blocks.old) reader.old (Blocks blocks.new) reader.new.left deltas.new }
+    ensures given { (zs ts : ℕ → ℕ) (place : ℕ) → GivesEach zs ts place result (Blocks blocks.old) reader.old (Blocks blocks.new) reader.new.left deltas.new }
     ensures count { reader.new.count ≡ reader.old.count }
     ensures long { length deltas.new ≡ length deltas.old }
 {

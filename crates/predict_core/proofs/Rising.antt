@@ -1,7 +1,7 @@
 -- The differences of the bands below a place, seen from one band higher.
-use Rattle.std.proofs.Common.{◌≡◌, ◌⊎◌, ℕ, zero, suc, ◌+◌, ◌-◌, ◌<◌, ◌≤◌, ℤ, pos, ◌-ℤ◌, ◌*ℤ◌, Bool, true, false, List, [], ◌∷◌, ◌++◌, length, take, set, replicate, if◌then◌else◌, arith, refl, sym, ap, ◌∙◌, inl, inr, append_assoc}
-use Rattle.std.proofs.Math.Seq.{take-append-add}
-use Rattle.std.proofs.lemmas.List.{take-replicate, set-append_right}
+use Rattle.std.proofs.Common.{◌≡◌, ◌⊎◌, ℕ, zero, suc, ◌+◌, ◌-◌, ◌<◌, ◌≤◌, ℤ, pos, ◌-ℤ◌, ◌*ℤ◌, Bool, true, false, List, [], ◌∷◌, ◌++◌, length, take, drop, set, replicate, if◌then◌else◌, arith, refl, sym, ap, ◌∙◌, inl, inr, append_assoc}
+use Rattle.std.proofs.Math.Seq.{take-append-add, take-add}
+use Rattle.std.proofs.lemmas.List.{take-replicate, set-append_right, drop-replicate}
 use Rattle.std.proofs.lemmas.Bool.{cases_lt}
 use Rattle.cube_core.specs.Shape.{sample_count}
 use Rattle.cube_core.specs.Image.{Image, IsPlace, put}
@@ -35,6 +35,26 @@ taken : (us : List ℤ) (n m k : ℕ) → length us ≡ n → n ≤ k → k - n 
 taken us n m k e h l =
     let s : k ≡ length us + (k - n) = omega (arith, e, h) in
     ap (λ j. take j (us ++ replicate m (pos 0))) s ∙ take-append-add us (replicate m (pos 0)) (k - n) ∙ ap (λ vs. us ++ vs) (take-replicate (k - n) m (pos 0) l)
+
+-- behind the differences stand zeros
+pub zeros_behind : (us : List ℤ) (m k : ℕ) → length us ≤ k → drop k (us ++ replicate m (pos 0)) ≡ replicate (m - (k - length us)) (pos 0)
+zeros_behind [] m k h = let e : k - 0 ≡ k = omega arith in rw e (drop-replicate k m (pos 0))
+zeros_behind (u ∷ us) m zero h = absurd (omega (arith, h))
+zeros_behind (u ∷ us) m (suc k) h = let e : suc k - suc (length us) ≡ k - length us = omega arith in rw e (zeros_behind us m k (omega (arith, h)))
+
+drop_five : (xs : List ℤ) → drop 5 xs ≡ drop 1 (drop 4 xs)
+drop_five [] = refl
+drop_five (a ∷ []) = refl
+drop_five (a ∷ b ∷ []) = refl
+drop_five (a ∷ b ∷ d ∷ []) = refl
+drop_five (a ∷ b ∷ d ∷ e ∷ xs) = refl
+
+-- where zeros stand behind the first four, moving these moves all
+pub four_moved : (xs : List ℤ) → drop 4 xs ≡ replicate 14 (pos 0) → take 4 xs ++ drop 5 xs ≡ take 17 xs
+four_moved xs zeros =
+    let rest : drop 5 xs ≡ replicate 13 (pos 0) = drop_five xs ∙ ap (drop 1) zeros in
+    let all : take 17 xs ≡ take 4 xs ++ replicate 13 (pos 0) = take-add 4 13 xs ∙ ap (λ vs. take 4 xs ++ take 13 vs) zeros in
+    ap (λ vs. take 4 xs ++ vs) rest ∙ sym all
 
 -- the room that leaves the first places to the directions
 pub behind_directions : (p : Predictor) (us : List ℤ) (z count : ℕ) → p.previous ≤ 15 → length us ≡ previous_bands p z → count ≡ component_count p z

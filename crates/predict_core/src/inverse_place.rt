@@ -56,9 +56,9 @@ impl Band {
     }
 
     /// Writes the sample at the next place, as `inverse_place` does, and returns it.
-    // A call of its own: a caller's loop leaves it the registers, and the row's address is found once.
-    #[inline(never)]
-    pub(crate) fn inverse_into(
+    // Called by `inverse_place` alone, so that it becomes a part of a caller's loop over bands.
+    #[inline(always)]
+    fn inverse_into(
         &mut self,
         cube: &mut Cube,
         y: u32,
@@ -152,11 +152,13 @@ fn sample_above(
     ensures told { AreOf settings.now.predictor below.new (put cube.now settings.now.band y x result) }
 {
     cube.prove_is_cube();
-    let predictor = &settings.predictor;
-    let sum = sum_at(predictor, cube, settings.band, y, x);
+    // Kept aside, so that they stay in registers while weights are written.
+    let previous = settings.predictor.previous;
+    let range = settings.range;
+    let sum = sum_at(&settings.predictor, cube, settings.band, y, x);
     let sample = sample_by(settings, cube, y, x, sum, weights, below, delta);
-    let own = difference_there(&settings.range, sample, sum);
-    below.go_up(own, predictor.previous);
+    let own = difference_there(&range, sample, sum);
+    below.go_up(own, previous);
     sample
 }
 

@@ -132,7 +132,12 @@ fn copy_places(row: &[u16], x: usize, count: usize, line: &mut [u16; 66])
     requires inside { x + count ≤ length row.now }
     ensures { (k : ℕ) → k < count → slice_index line.new (k + 1) ≡ slice_index row.now (x + k) }
 {
-    line[1..count + 1].copy_from_slice(&row[x..x + count]);
+    if count == 64 {
+        // So many are a few moves of vectors in place of a call.
+        line[1..65].copy_from_slice(&row[x..x + 64]);
+    } else {
+        line[1..count + 1].copy_from_slice(&row[x..x + count]);
+    }
 }
 
 /// Returns the offset before column `k` of a row that has one more at each end.

@@ -1,15 +1,15 @@
 //! Advancing a band's predictor by a run whose mapped residuals are known, and whose samples aren't yet.
 
 ghost use Rattle.std.specs.Prelude.{◌≡◌, ◌+◌, ◌*◌, ◌^◌, ◌<◌, ◌≤◌, false, ℕ, take, length, slice_index};
-ghost use Rattle.cube_core.specs.Image.{IsPlace};
+ghost use Rattle.cube_core.specs.Image.{IsPlace, put};
 ghost use Rattle.header_bits.specs.declared.params.Params.{Params as Parameters};
 ghost use Rattle.predict_core.specs.Bounds.{AllWithin};
 ghost use Rattle.predict_core.specs.Chain.{AreWeightsAt};
 ghost use Rattle.predict_core.specs.Prediction.{weight_vector};
-ghost use Rattle.predict_core.specs.Residual.{run_residuals};
+ghost use Rattle.predict_core.specs.Residual.{mapped_residual, run_residuals};
 ghost use Rattle.predict_core.specs.Rooms.{quads_of};
 ghost use Rattle.predict_core.specs.RunPlaces.{AreAlikeBeside};
-ghost use Rattle.predict_core.specs.Following.{Follows, MovesBy};
+ghost use Rattle.predict_core.specs.Following.{Follows, MovesOn, MovesBy};
 ghost use Rattle.predict_core.specs.Spectral.{AreOf};
 
 use crate::band::Band;
@@ -98,8 +98,35 @@ impl Band {
         let _columns = self.settings.columns;
         for i in 0..deltas.len() {
             let column = x + i as u32;
-            self.inverse_into(cube, y, column, deltas[i], below);
+            self.inverse_alone(cube, y, column, deltas[i], below);
         }
+    }
+
+    /// Writes the sample at the next place, as `inverse_place` does, and returns it. No differences are kept.
+    pub(crate) fn inverse_alone(
+        &mut self,
+        cube: &mut Cube,
+        y: u32,
+        x: u32,
+        delta: u16,
+        below: &mut SpectralDifferences,
+    ) -> i32
+        requires shape { cube.old.shape ≡ self.old.shape }
+        requires kind { cube.old.kind ≡ self.old.kind }
+        requires place { IsPlace cube.old.shape self.old.band y x }
+        requires next { self.old.place ≡ y * cube.old.shape.columns + x }
+        requires residual { delta < 2 ^ cube.old.kind.bits }
+        ensures moved { MovesOn self.old self.new }
+        ensures written { cube.new ≡ put cube.old self.old.band y x result }
+        ensures residual { (p : Parameters) → Follows p self.old cube.old → mapped_residual p cube.new self.old.band self.old.place ≡ delta }
+        ensures follows { (p : Parameters) → Follows p self.old cube.old → Follows p self.new cube.new }
+        ensures told { AreOf self.new.predictor below.new cube.new }
+    {
+        below.forget();
+        let band = self.settings.band;
+        let sample = self.inverse(cube, y, x, delta);
+        cube.set(band, y, x, sample);
+        sample
     }
 }
 

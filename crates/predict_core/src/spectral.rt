@@ -119,6 +119,7 @@ impl SpectralDifferences {
     pub(crate) fn go_up(&mut self, own: i32, previous: u32)
         requires few { previous ≤ 15 }
         requires band { self.old.band < 65536 }
+        requires zeros { previous ≤ 4 → drop 4 self.old.differences ≡ replicate 14 (pos 0) }
         ensures band { self.new.band ≡ self.old.band + 1 }
         ensures row { self.new.row ≡ self.old.row }
         ensures column { self.new.column ≡ self.old.column }
@@ -127,7 +128,12 @@ impl SpectralDifferences {
     {
         let kept = self.differences;
         let differences = &mut self.differences;
-        differences[1..].copy_from_slice(&kept[..17]);
+        if previous <= 4 {
+            // So few are moved at once.
+            differences[1..5].copy_from_slice(&kept[..4]);
+        } else {
+            differences[1..].copy_from_slice(&kept[..17]);
+        }
         differences[0] = own;
         differences[previous as usize] = 0;
         self.band += 1;

@@ -1,5 +1,5 @@
 -- What a coder of one image keeps, and which numbers it has taken.
-use Rattle.std.specs.Prelude.{ℕ, ◌≡◌, ◌<◌, ◌≤◌, ◌==◌, Bool, if◌then◌else◌, List, [], ◌∷◌, ◌++◌, length, slice_index_or, slice_set, Option, None, Result, IfOk}
+use Rattle.std.specs.Prelude.{ℕ, suc, ◌≡◌, ◌+◌, ◌<◌, ◌≤◌, ◌==◌, Bool, if◌then◌else◌, List, [], ◌∷◌, ◌++◌, length, slice_index_or, slice_set, Option, None, Result, IfOk}
 use Rattle.std.specs.List.{AllByRecursion}
 use Rattle.cube_core.specs.declared.fault.Fault.{Fault}
 use Rattle.cube_core.specs.declared.order.Place.{Place}
@@ -97,5 +97,21 @@ GetsRun z t place result old unread new left numbers =
     (c : CoderSettings) (gone places : List Place) (before : List ℕ) → length before ≡ length gone → length numbers ≡ length places
     → AllByRecursion (λ p. p.z ≡ z) places
     → HasTaken c old (λ b. band_numbers b gone before) → t ≡ length (band_numbers z gone before) → place ≡ length before
+    → Reads (λ _. numbers) result left (words_at unread.count c gone before places unread.left)
+    × IfOk result (λ _. HasTaken c new (λ b. band_numbers b (gone ++ places) (before ++ numbers)))
+
+-- places of bands one above another, the first of band z
+abbrev pub AreUpFrom : ℕ → List Place → Type 0
+AreUpFrom z [] = Unit {0}
+AreUpFrom z (p ∷ places) = (p.z ≡ z) × AreUpFrom (suc z) places
+
+-- one number each of bands one above another: whatever numbers were taken along places before, of which each of the bands has t, those whose code words
+-- stand next were given and taken; or the answer is the first fault of so many places
+abbrev pub GetsColumn : ℕ → ℕ → ℕ → Result (Unit {0}) Fault → Counts → Unread → Counts → List Bool → List ℕ → Type 0
+GetsColumn z t place result old unread new left numbers =
+    (c : CoderSettings) (gone places : List Place) (before : List ℕ) → length before ≡ length gone → length numbers ≡ length places
+    → AreUpFrom z places
+    → HasTaken c old (λ b. band_numbers b gone before)
+    → ((b : ℕ) → z ≤ b → b < z + length numbers → t ≡ length (band_numbers b gone before)) → place ≡ length before
     → Reads (λ _. numbers) result left (words_at unread.count c gone before places unread.left)
     × IfOk result (λ _. HasTaken c new (λ b. band_numbers b (gone ++ places) (before ++ numbers)))

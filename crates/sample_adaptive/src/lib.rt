@@ -2,6 +2,7 @@
 #![tactic(auto)]
 
 pub mod code_word;
+pub mod column;
 pub mod laws;
 pub mod run_words;
 pub mod statistics;

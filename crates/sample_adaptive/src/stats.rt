@@ -23,12 +23,12 @@ use std::marker::Model;
 /// The sample-adaptive coder of one image, which takes the numbers of each band in turn.
 #[derive(Drop)]
 pub struct Stats {
-    bits: u32,
-    umax: u32,
-    rescaling: Rescaling,
-    bands: Vec<Statistics>,
+    pub(crate) bits: u32,
+    pub(crate) umax: u32,
+    pub(crate) rescaling: Rescaling,
+    pub(crate) bands: Vec<Statistics>,
     /// What a `get` was refused for; every later one is refused for the same.
-    refused: Option<Fault>,
+    pub(crate) refused: Option<Fault>,
 }
 
 impl Model for Stats {

@@ -8,6 +8,8 @@ mod blocks;
 #[cfg(test)]
 mod blocks_by_hand;
 #[cfg(test)]
+mod columns;
+#[cfg(test)]
 mod cubes;
 #[cfg(test)]
 mod files;

@@ -171,7 +171,7 @@ fn rescaling_rounds_up(rt: HostRuntime) {
 }
 
 /// Settings under which codes soon end in an escape.
-fn short_codes(bits: u32) -> Settings {
+pub(crate) fn short_codes(bits: u32) -> Settings {
     Settings {
         bits,
         umax: 8,

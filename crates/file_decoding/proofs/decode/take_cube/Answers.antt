@@ -1,7 +1,6 @@
-use Rattle.std.proofs.Common.{refl, set, ◌≡◌, ◌∙◌, ◌+◌, ◌-◌, ◌*◌, ◌^◌, ◌≤◌, ◌∷◌, ℕ, suc, List, [], Err, Some, inr, arith, sym, ap, subst, length, take, drop, length-take, length-drop, length-append}
+use Rattle.std.proofs.Common.{refl, set, ◌≡◌, ◌∙◌, ◌+◌, ◌-◌, ◌*◌, ◌^◌, ◌<◌, ◌∷◌, ◌++◌, ℕ, suc, Bool, List, [], get_or, Err, Some, inr, arith, sym, ap, subst, length, take, drop, length-take, length-drop, length-append, append-nil, append_assoc}
 use Rattle.std.specs.List.{slice_get}
 use Rattle.std.proofs.lemmas.List.{take_at}
-use Rattle.std.proofs.lemmas.Nat.{mul-le}
 use Rattle.std.proofs.lemmas.Result.{err_from_is_err_and}
 use Rattle.std.proofs.lemmas.Option.{slice_get-get_or}
 use Rattle.cube_core.specs.declared.order.Place.{Place}
@@ -13,20 +12,18 @@ use Rattle.predict_core.specs.Following.{Learner, MovesBy}
 use Rattle.predict_core.specs.Predictor.{predictor_of}
 use Rattle.predict_core.specs.Residual.{mapped_residual, run_residuals}
 use Rattle.predict_core.specs.RunPlaces.{AreAlikeBeside}
-use Rattle.file_coding.specs.Coding.{IsNumber}
 use Rattle.file_coding.specs.Walked.{IsAlong, residuals_at}
 use Rattle.file_coding.proofs.Come.{time_of}
 use Rattle.file_coding.proofs.Endings.{first_of, none_first}
-use Rattle.file_coding.proofs.Walking.{IsOnWalk, NextGoes, next_goes, band_here, gone_by, gone_count, is_number, walked_none, on_walk_first, length-residuals_at}
-use Rattle.file_decoding.specs.Decoding.{AreNumbers}
+use Rattle.file_coding.proofs.Walking.{IsOnWalk, NextGoes, next_goes, band_here, gone_by, gone_count, walked_none, on_walk_first, length-residuals_at}
+use Rattle.file_decoding.specs.Decoding.{HasGiven, AreNumbers, AreAbove}
 use Rattle.file_decoding.specs.Files.{behind_body}
 use Rattle.file_decoding.proofs.Alike.{SameBefore}
-use Rattle.file_decoding.proofs.Columns.{Climbs, climbs, up, drop_none, drop_next, once}
-use Rattle.file_decoding.proofs.Givers.{may_ask}
+use Rattle.file_decoding.proofs.Columns.{AreOfColumn, Climbs, climbs, up, numbers_above, column_more, each_before, drop_none, drop_next, once}
 use Rattle.file_decoding.proofs.Inverse.{IsDecoded, decoded_first, decoded_whole}
 use Rattle.file_decoding.proofs.Rows.{AreOfRow, run_places, numbers_there, beside_same, walk_same, walk_run, decoded_run, each_below}
 use Rattle.file_decoding.proofs.decode.take_cube.Goals as goal
-use Rattle.file_decoding.proofs.decode.take_cube.Goals.{In-Some, After-next-t, In-loop-i, After-next-number}
+use Rattle.file_decoding.proofs.decode.take_cube.Goals.{In-Some, After-next-t, After-time_of-t, In-loop-i, After-index_mut-above}
 
 pub loop-place-init : goal.loop-place-init
 loop-place-init c =
@@ -196,7 +193,66 @@ loop-place-preserved-then-goes_along_rows c =
           c.in-Some.place c.run_from-run.result c.index_mut-band.result.now.place c.next_run.new.deltas c.requires known.shape beside.alike before known.walk.rest (row d) time known.decoded gives residual);
     }
 
--- ---- a column of bands, band after band
+-- ---- a column of bands: first its numbers, then band after band
+
+first_of_column : (c : After-time_of-t) → slice_get c.loop-place.places 0 ≡ Some c.in-Some.place
+first_of_column c = sym c.peek.ensures ∙ c.in-Some.is
+
+behind_first : (c : After-time_of-t) → (rest : List Place) × (c.loop-place.places ≡ c.in-Some.place ∷ rest)
+behind_first c = first_of c.loop-place.places c.in-Some.place (first_of_column c)
+
+goes_up : (c : After-time_of-t) → NextGoes c.args.params.now c.in-Some.place c.loop-place.places (behind_first c).0
+goes_up c = next_goes c.args.params.now c.in-Some.place c.loop-place.places (behind_first c).0 c.requires.order c.loop-place.invariant.walk.rest (behind_first c).1
+
+pub time_of-t-requires : goal.time_of-t-requires
+time_of-t-requires c = (goes (goal.at.time_of-t-requires c).In-Some).stands.place
+
+-- so many numbers were given
+count_up : (c : After-time_of-t) → gone_count c.args.params.now c.loop-place.places ≡ length (residuals_at c.args.params.now c.loop-place.cube (gone_by c.args.params.now c.loop-place.places))
+count_up c = sym (length-residuals_at c.args.params.now c.loop-place.cube (gone_by c.args.params.now c.loop-place.places) ∙ (goes_up c).count)
+
+-- the numbers that are asked for are the next ones
+asked_up : (c : After-time_of-t) (n : ℕ) → n ≡ c.min-column.result → AreAbove c.args.params.now (length (residuals_at c.args.params.now c.loop-place.cube (gone_by c.args.params.now c.loop-place.places))) c.in-Some.place.z c.time_of-t.result n
+asked_up c n e =
+    let along : AreOfColumn c.in-Some.place n c.loop-place.places = λ i lt. c.column.ensures.along i c.in-Some.place (omega (arith, lt, e, c.min-column.ensures)) (first_of_column c) in
+    subst (λ (k : ℕ). AreAbove c.args.params.now k c.in-Some.place.z c.time_of-t.result n) (count_up c)
+    (numbers_above c.args.params.now c.loop-place.places c.in-Some.place n c.time_of-t.result c.requires.order c.loop-place.invariant.walk.rest along c.time_of-t.ensures)
+
+stands_up : (c : After-time_of-t) → c.sample_count-count.result - c.left.result ≡ length (residuals_at c.args.params.now c.loop-place.cube (gone_by c.args.params.now c.loop-place.places))
+stands_up c = omega (arith, (goes_up c).index, ap length (behind_first c).1, c.left.ensures, c.sample_count-count.ensures.value, count_up c)
+
+room_up : (c : After-time_of-t) → length (take c.min-column.result c.loop-place.deltas) ≡ c.min-column.result
+room_up c = omega (arith, c.loop-place.invariant.room, c.min-column.ensures, length-take c.min-column.result c.loop-place.deltas)
+
+pub next_column-requires-clause-may : goal.next_column-requires-clause-may
+next_column-requires-clause-may c =
+    let d = (goal.at.next_column-requires-clause-may c).After-time_of-t in
+    record {
+      params = c.args.params.now;
+      numbers = residuals_at c.args.params.now c.loop-place.cube (gone_by c.args.params.now c.loop-place.places);
+      bits = c.loop-place.invariant.decoded.read;
+      lawful = c.requires;
+      given = c.loop-place.invariant.decoded.given;
+      stands = stands_up d;
+      ask = asked_up d (length (take c.min-column.result c.loop-place.deltas)) (room_up d);
+    }
+
+pub next_column-requires-clause-small : goal.next_column-requires-clause-small
+next_column-requires-clause-small c =
+    let d = (goal.at.next_column-requires-clause-small c).After-time_of-t in (
+      omega (arith, room_up d, c.min-column.ensures, c.column.ensures.some c.in-Some.place (first_of_column d)),
+      omega (arith, room_up d, c.min-column.ensures),
+      omega (arith, ap length (behind_first d).1, c.left.ensures, c.sample_count-count.ensures.range),
+    )
+
+pub returns-in_err-next_column-clause-refused : goal.returns-in_err-next_column-clause-refused
+returns-in_err-next_column-clause-refused c =
+    let d = (goal.at.returns-in_err-next_column-clause-refused c).After-time_of-t in
+    let known = c.loop-place.invariant in
+    let bad = c.in_err-next_column.ensures.given c.args.params.now (residuals_at c.args.params.now c.loop-place.cube (gone_by c.args.params.now c.loop-place.places)) known.decoded.read c.requires known.decoded.given (asked_up d (length c.next_column.new.deltas) (c.in_err-next_column.ensures.long ∙ room_up d)) (stands_up d) in
+    let body : behind_body c.args.reader.now.count c.args.params.now c.args.reader.now.left ≡ Err c.in_err-next_column.field-0.0 = rw (known.count, ← known.decoded.text) at bad in
+    let told = err_from_is_err_and c.from_residual-in_err-next_column.result c.from_residual-in_err-next_column.ensures.1 in
+    rw (told.1, told.2) (inr body)
 
 pub loop-i-init : goal.loop-i-init
 loop-i-init c =
@@ -204,115 +260,67 @@ loop-i-init c =
     record {
       shape = known.shape;
       kind = known.kind;
-      count = known.count;
       walk = rw (drop_none c.loop-place.places) known.walk;
       told = known.told;
-      decoded = rw (drop_none c.loop-place.places) known.decoded;
+      residuals = sym (append-nil (residuals_at c.args.params.now c.loop-place.cube (gone_by c.args.params.now c.loop-place.places)));
     }
 
 -- the place of the band that comes next, and those behind it
 climb : (c : In-loop-i) → Climbs c.args.params.now c.in-Some.place c.loop-i.i (drop c.loop-i.i c.loop-place.places)
-climb c = climbs c.args.params.now c.in-Some.place c.loop-i.i c.column-column.result c.loop-place.places c.requires.order c.loop-i.invariant.walk.rest c.column-column.ensures.along (sym c.peek.ensures ∙ c.in-Some.is) c.loop-i-test.true
+climb c = climbs c.args.params.now c.in-Some.place c.loop-i.i c.column.result c.loop-place.places c.requires.order c.loop-i.invariant.walk.rest c.column.ensures.along (sym c.peek.ensures ∙ c.in-Some.is) (omega (arith, c.loop-i-test.true, c.min-column.ensures))
 
-climb_at : (c : After-next-number) → Climbs c.args.params.now c.in-Some.place c.loop-i.i (drop c.loop-i.i c.loop-place.places)
-climb_at c = climbs c.args.params.now c.in-Some.place c.loop-i.i c.column-column.result c.loop-place.places c.requires.order c.loop-i.invariant.walk.rest c.column-column.ensures.along (sym c.peek.ensures ∙ c.in-Some.is) c.loop-i-test.true
-
-pub overflow_add-z : goal.overflow_add-z
-overflow_add-z c = let g = (climb (goal.at.overflow_add-z c).In-loop-i).goes in omega (arith, g.stands.place.band, c.requires.sizes.bands.1)
-
-pub overflow_cast-z : goal.overflow_cast-z
-overflow_cast-z c = let g = (climb (goal.at.overflow_cast-z c).In-loop-i).goes in omega (arith, g.stands.place.band, c.requires.sizes.bands.1)
-
-pub overflow_cast-z-in-loop-i : goal.overflow_cast-z-in-loop-i
-overflow_cast-z-in-loop-i c = let g = (climb (goal.at.overflow_cast-z-in-loop-i c).In-loop-i).goes in omega (arith, g.stands.place.band, c.requires.sizes.bands.1)
+climb_at : (c : After-index_mut-above) → Climbs c.args.params.now c.in-Some.place c.loop-i.i (drop c.loop-i.i c.loop-place.places)
+climb_at c = climbs c.args.params.now c.in-Some.place c.loop-i.i c.column.result c.loop-place.places c.requires.order c.loop-i.invariant.walk.rest c.column.ensures.along (sym c.peek.ensures ∙ c.in-Some.is) (omega (arith, c.loop-i-test.true, c.min-column.ensures))
 
 pub index_mut-above-requires : goal.index_mut-above-requires
 index_mut-above-requires c = let g = (climb (goal.at.index_mut-above-requires c).In-loop-i).goes in omega (arith, g.stands.place.band, c.loop-i.invariant.walk.known.many)
 
-above_is : (c : After-next-number) → slice_get c.loop-i.bands.items (c.in-Some.place.z + c.loop-i.i) ≡ Some c.index_mut-above.result.now
+above_is : (c : After-index_mut-above) → slice_get c.loop-i.bands.items (c.in-Some.place.z + c.loop-i.i) ≡ Some c.index_mut-above.result.now
 above_is c =
     slice_get-get_or c.loop-i.bands.items (c.in-Some.place.z + c.loop-i.i) c.index_mut-above.result.now (omega (arith, (climb_at c).goes.stands.place.band, c.loop-i.invariant.walk.known.many)) ∙ ap (λ (b : Learner). Some b) (sym c.index_mut-above.ensures.value)
 
-there : (c : After-next-number) → IsAlong c.args.params.now c.loop-i.cube (length (gone_by c.args.params.now (drop c.loop-i.i c.loop-place.places))) (c.in-Some.place.z + c.loop-i.i) c.index_mut-above.result.now × (c.index_mut-above.result.now.place ≡ time_of c.args.params.now.shape (up c.in-Some.place c.loop-i.i))
+there : (c : After-index_mut-above) → IsAlong c.args.params.now c.loop-i.cube (length (gone_by c.args.params.now (drop c.loop-i.i c.loop-place.places))) (c.in-Some.place.z + c.loop-i.i) c.index_mut-above.result.now × (c.index_mut-above.result.now.place ≡ time_of c.args.params.now.shape (up c.in-Some.place c.loop-i.i))
 there c = band_here c.args.params.now c.loop-i.cube (gone_by c.args.params.now (drop c.loop-i.i c.loop-place.places)) c.loop-i.bands.items (up c.in-Some.place c.loop-i.i) c.index_mut-above.result.now c.requires.order c.loop-i.invariant.walk.known (climb_at c).goes.stands (above_is c)
 
--- the number that is asked for is the next one
-asked_above : (c : After-next-number) → IsNumber c.args.params.now (residuals_at c.args.params.now c.loop-i.cube (gone_by c.args.params.now (drop c.loop-i.i c.loop-place.places))) (c.in-Some.place.z + c.loop-i.i) c.next-number.result
-asked_above c =
-    let number = is_number c.args.params.now c.loop-i.cube (drop c.loop-i.i c.loop-place.places) (climb_at c).rest c.loop-i.bands.items (residuals_at c.args.params.now c.loop-i.cube (gone_by c.args.params.now (drop c.loop-i.i c.loop-place.places))) (up c.in-Some.place c.loop-i.i) c.index_mut-above.result.now c.requires.order c.loop-i.invariant.walk (climb_at c).is (above_is c) (length-residuals_at c.args.params.now c.loop-i.cube (gone_by c.args.params.now (drop c.loop-i.i c.loop-place.places))) in
-    rw c.next-number.ensures number
-
--- the first place of the column
-base : (c : After-next-number) → c.args.params.now.shape.bands * c.args.params.now.shape.rows * c.args.params.now.shape.columns ≡ gone_count c.args.params.now c.loop-place.places + length c.loop-place.places
-base c =
-    let next = first_of c.loop-place.places c.in-Some.place (sym c.peek.ensures ∙ c.in-Some.is) in
-    let g = next_goes c.args.params.now c.in-Some.place c.loop-place.places next.0 c.requires.order c.loop-place.invariant.walk.rest next.1 in
-    omega (arith, g.index, ap length next.1)
-
--- its place is that of the walk
-stands_above : (c : After-next-number) → c.sample_count-count.result - c.left.result + c.loop-i.i ≡ length (residuals_at c.args.params.now c.loop-i.cube (gone_by c.args.params.now (drop c.loop-i.i c.loop-place.places)))
-stands_above c =
-    omega (arith, base c, (climb_at c).goes.index, (climb_at c).goes.count, ap length (climb_at c).is, length-drop c.loop-i.i c.loop-place.places, c.left.ensures, c.sample_count-count.ensures.value, length-residuals_at c.args.params.now c.loop-i.cube (gone_by c.args.params.now (drop c.loop-i.i c.loop-place.places)))
-
-pub overflow_add-index : goal.overflow_add-index
-overflow_add-index c =
-    let d = (goal.at.overflow_add-index c).After-next-number in
-    omega (arith, stands_above d, (climb_at d).goes.below, length-residuals_at c.args.params.now c.loop-i.cube (gone_by c.args.params.now (drop c.loop-i.i c.loop-place.places)), c.sample_count-count.ensures.range, c.sample_count-count.ensures.value)
-
-pub next-requires : goal.next-requires
-next-requires c =
-    let d = (goal.at.next-requires c).After-next-number in
-    let g = (climb_at d).goes in
-    may_ask c.args.params.now c.loop-i.decoder (residuals_at c.args.params.now c.loop-i.cube (gone_by c.args.params.now (drop c.loop-i.i c.loop-place.places))) c.loop-i.invariant.decoded.read (c.in-Some.place.z + c.loop-i.i)
-    c.requires c.loop-i.invariant.decoded.given (omega (arith, g.below, length-residuals_at c.args.params.now c.loop-i.cube (gone_by c.args.params.now (drop c.loop-i.i c.loop-place.places)))) g.stands.place.band
-
-pub returns-in_err-delta-clause-refused : goal.returns-in_err-delta-clause-refused
-returns-in_err-delta-clause-refused c =
-    let d = (goal.at.returns-in_err-delta-clause-refused c).After-next-number in
-    let known = c.loop-i.invariant in
-    let bad = c.in_err-delta.ensures.given c.args.params.now (residuals_at c.args.params.now c.loop-i.cube (gone_by c.args.params.now (drop c.loop-i.i c.loop-place.places))) known.decoded.read c.requires known.decoded.given (asked_above d) (stands_above d) in
-    let body : behind_body c.args.reader.now.count c.args.params.now c.args.reader.now.left ≡ Err c.in_err-delta.field-0.0 = rw (known.count, ← known.decoded.text) at bad in
-    let told = err_from_is_err_and c.from_residual-in_err-delta.result c.from_residual-in_err-delta.ensures.1 in
-    rw (told.1, told.2) (inr body)
-
 pub inverse_place-requires-clause-shape : goal.inverse_place-requires-clause-shape
-inverse_place-requires-clause-shape c = c.loop-i.invariant.shape ∙ sym (there (goal.at.inverse_place-requires-clause-shape c).After-next-number).0.follows.made.shape
+inverse_place-requires-clause-shape c = c.loop-i.invariant.shape ∙ sym (there (goal.at.inverse_place-requires-clause-shape c).After-index_mut-above).0.follows.made.shape
 
 pub inverse_place-requires-clause-kind : goal.inverse_place-requires-clause-kind
-inverse_place-requires-clause-kind c = c.loop-i.invariant.kind ∙ sym (there (goal.at.inverse_place-requires-clause-kind c).After-next-number).0.follows.made.kind
+inverse_place-requires-clause-kind c = c.loop-i.invariant.kind ∙ sym (there (goal.at.inverse_place-requires-clause-kind c).After-index_mut-above).0.follows.made.kind
 
 pub inverse_place-requires-clause-place : goal.inverse_place-requires-clause-place
 inverse_place-requires-clause-place c =
-    let d = (goal.at.inverse_place-requires-clause-place c).After-next-number in
+    let d = (goal.at.inverse_place-requires-clause-place c).After-index_mut-above in
     rw (c.loop-i.invariant.shape, (there d).0.band) (climb_at d).goes.stands.place
 
 pub inverse_place-requires-clause-next : goal.inverse_place-requires-clause-next
-inverse_place-requires-clause-next c = rw c.loop-i.invariant.shape (there (goal.at.inverse_place-requires-clause-next c).After-next-number).1
+inverse_place-requires-clause-next c = rw c.loop-i.invariant.shape (there (goal.at.inverse_place-requires-clause-next c).After-index_mut-above).1
 
 -- the predictor is that of every band
-made_above : (c : After-next-number) → c.index_mut-above.result.now.predictor ≡ predictor_of c.args.params.now
+made_above : (c : After-index_mut-above) → c.index_mut-above.result.now.predictor ≡ predictor_of c.args.params.now
 made_above c = (there c).0.follows.made.predictor
 
 pub inverse_place-requires-clause-told : goal.inverse_place-requires-clause-told
-inverse_place-requires-clause-told c = rw (made_above (goal.at.inverse_place-requires-clause-told c).After-next-number) c.loop-i.invariant.told
+inverse_place-requires-clause-told c = rw (made_above (goal.at.inverse_place-requires-clause-told c).After-index_mut-above) c.loop-i.invariant.told
 
 pub inverse_place-requires-clause-residual : goal.inverse_place-requires-clause-residual
 inverse_place-requires-clause-residual c =
-    let d = (goal.at.inverse_place-requires-clause-residual c).After-next-number in
-    let known = c.loop-i.invariant in
-    let gives = c.in_ok-delta.ensures.given c.args.params.now (residuals_at c.args.params.now c.loop-i.cube (gone_by c.args.params.now (drop c.loop-i.i c.loop-place.places))) known.decoded.read c.requires known.decoded.given (asked_above d) (stands_above d) in
-    rw known.kind gives.0
+    let d = (goal.at.inverse_place-requires-clause-residual c).After-time_of-t in
+    let long : length c.next_column.new.deltas ≡ c.min-column.result = c.in_ok-next_column.ensures.long ∙ room_up d in
+    let gives = c.in_ok-next_column.ensures.given c.args.params.now (residuals_at c.args.params.now c.loop-place.cube (gone_by c.args.params.now c.loop-place.places)) c.loop-place.invariant.decoded.read c.requires c.loop-place.invariant.decoded.given (asked_up d (length c.next_column.new.deltas) long) (stands_up d) in
+    rw c.loop-i.invariant.kind (each_before (2 ^ c.args.params.now.kind.bits) c.next_column.new.deltas (drop c.min-column.result c.loop-place.deltas) gives.0 c.loop-i.i (omega (arith, c.loop-i-test.true, long)))
 
 pub loop-i-preserved : goal.loop-i-preserved
 loop-i-preserved c =
-    let d = (goal.at.loop-i-preserved c).After-next-number in
+    let d = (goal.at.loop-i-preserved c).After-index_mut-above in
     let known = c.loop-i.invariant in
+    let long : length c.next_column.new.deltas ≡ c.min-column.result = c.in_ok-next_column.ensures.long ∙ room_up (goal.at.loop-i-preserved c).After-time_of-t in
+    let within : c.loop-i.i < length (c.next_column.new.deltas ++ drop c.min-column.result c.loop-place.deltas) = omega (arith, c.loop-i-test.true, long, length-append c.next_column.new.deltas (drop c.min-column.result c.loop-place.deltas)) in
     let g = (climb_at d).goes in
     let h = there d in
-    let gives = c.in_ok-delta.ensures.given c.args.params.now (residuals_at c.args.params.now c.loop-i.cube (gone_by c.args.params.now (drop c.loop-i.i c.loop-place.places))) known.decoded.read c.requires known.decoded.given (asked_above d) (stands_above d) in
     let moved : MovesBy 1 c.index_mut-above.result.now c.inverse_place.new.self = once c.index_mut-above.result.now c.inverse_place.new.self c.inverse_place.ensures.moved in
     let beside : AreAlikeBeside c.loop-i.cube c.inverse_place.new.cube (up c.in-Some.place c.loop-i.i).z (up c.in-Some.place c.loop-i.i).y (up c.in-Some.place c.loop-i.i).x 1 = rw h.0.band at c.inverse_place.ensures.beside in
-    let residual : mapped_residual c.args.params.now c.inverse_place.new.cube (up c.in-Some.place c.loop-i.i).z c.index_mut-above.result.now.place ≡ c.in_ok-delta.delta = rw h.0.band at (c.inverse_place.ensures.residual c.args.params.now h.0.follows) in
+    let residual : mapped_residual c.args.params.now c.inverse_place.new.cube (up c.in-Some.place c.loop-i.i).z c.index_mut-above.result.now.place ≡ get_or (c.next_column.new.deltas ++ drop c.min-column.result c.loop-place.deltas) c.loop-i.i 0 = rw h.0.band at (c.inverse_place.ensures.residual c.args.params.now h.0.follows) in
     let follows = c.inverse_place.ensures.follows c.args.params.now h.0.follows in
     let order : IsOrder c.loop-i.cube.shape c.args.params.now.order = subst (λ (s : Sizes). IsOrder s c.args.params.now.order) (sym known.shape) c.requires.order in
     let stands : StandsAt c.loop-i.cube.shape c.args.params.now.order (up c.in-Some.place c.loop-i.i) (length (gone_by c.args.params.now (drop c.loop-i.i c.loop-place.places))) =
@@ -328,28 +336,42 @@ loop-i-preserved c =
     record {
       shape = shape;
       kind = sym beside.alike.kind ∙ known.kind;
-      count = c.in_ok-delta.ensures.count ∙ known.count;
       walk = subst (λ (ps : List Place). IsOnWalk c.args.params.now c.inverse_place.new.cube ps (set c.loop-i.bands.items (up c.in-Some.place c.loop-i.i).z c.inverse_place.new.self)) next walked;
       told = rw (moved.predictor, made_above d) at c.inverse_place.ensures.told;
-      decoded = subst (λ (ps : List Place). IsDecoded c.args.params.now c.inverse_place.new.cube ps c.next.new.self c.args.reader.now.left c.next.new.reader.left) next
-          (decoded_run c.args.params.now c.loop-i.cube c.inverse_place.new.cube (drop c.loop-i.i c.loop-place.places) c.loop-i.decoder c.next.new.self c.args.reader.now.left c.loop-i.reader.left c.next.new.reader.left
-          (up c.in-Some.place c.loop-i.i) 1 c.index_mut-above.result.now.place (c.in_ok-delta.delta ∷ []) c.requires known.shape beside.alike before known.walk.rest one time known.decoded ((gives.0, tt), gives.1, gives.2, gives.3) (ap (λ (n : ℕ). n ∷ []) residual));
+      residuals = column_more c.args.params.now c.loop-i.cube c.inverse_place.new.cube c.loop-place.places (up c.in-Some.place c.loop-i.i) c.index_mut-above.result.now.place c.loop-i.i (residuals_at c.args.params.now c.loop-place.cube (gone_by c.args.params.now c.loop-place.places)) (c.next_column.new.deltas ++ drop c.min-column.result c.loop-place.deltas)
+          c.requires known.shape beside.alike before known.walk.rest one time within residual known.residuals;
     }
 
 pub loop-place-preserved : goal.loop-place-preserved
 loop-place-preserved c =
+    let d = (goal.at.loop-place-preserved c).After-time_of-t in
     let known = c.loop-i.invariant in
-    let done : c.loop-i.i ≡ c.column-column.result = omega (arith, c.loop-i-test.false, c.loop-i.auto.i-end) in
+    let decoded = c.loop-place.invariant.decoded in
+    let done : c.loop-i.i ≡ c.min-column.result = omega (arith, c.loop-i-test.false, c.loop-i.auto.i-end) in
     let behind : c.go_by-else-goes_along_rows.new.self ≡ drop c.loop-i.i c.loop-place.places = c.go_by-else-goes_along_rows.ensures ∙ ap (λ (n : ℕ). drop n c.loop-place.places) (sym done) in
+    let long : length c.next_column.new.deltas ≡ c.min-column.result = c.in_ok-next_column.ensures.long ∙ room_up d in
+    let gives = c.in_ok-next_column.ensures.given c.args.params.now (residuals_at c.args.params.now c.loop-place.cube (gone_by c.args.params.now c.loop-place.places)) c.loop-place.invariant.decoded.read c.requires c.loop-place.invariant.decoded.given (asked_up d (length c.next_column.new.deltas) long) (stands_up d) in
+    let whole : take c.loop-i.i (c.next_column.new.deltas ++ drop c.min-column.result c.loop-place.deltas) ≡ c.next_column.new.deltas = take_at c.next_column.new.deltas (drop c.min-column.result c.loop-place.deltas) c.loop-i.i (long ∙ sym done) in
+    let all : residuals_at c.args.params.now c.loop-i.cube (gone_by c.args.params.now (drop c.loop-i.i c.loop-place.places)) ≡ residuals_at c.args.params.now c.loop-place.cube (gone_by c.args.params.now c.loop-place.places) ++ c.next_column.new.deltas = known.residuals ∙ ap (λ (ns : List ℕ). residuals_at c.args.params.now c.loop-place.cube (gone_by c.args.params.now c.loop-place.places) ++ ns) whole in
+    let now : IsDecoded c.args.params.now c.loop-i.cube (drop c.loop-i.i c.loop-place.places) c.next_column.new.self c.args.reader.now.left c.next_column.new.reader.left = record {
+      read = decoded.read ++ gives.1;
+      text = decoded.text ∙ ap (λ (x : List Bool). decoded.read ++ x) gives.2 ∙ sym (append_assoc decoded.read gives.1 c.next_column.new.reader.left);
+      given = subst (λ (ns : List ℕ). HasGiven c.args.params.now c.next_column.new.self ns (decoded.read ++ gives.1)) (sym all) gives.3;
+    } in
     record {
       shape = known.shape;
       kind = known.kind;
-      count = known.count;
+      count = c.in_ok-next_column.ensures.count ∙ c.loop-place.invariant.count;
       walk = rw behind known.walk;
-      room = c.loop-place.invariant.room;
+      room = omega (arith, length-append c.next_column.new.deltas (drop c.min-column.result c.loop-place.deltas), length-drop c.min-column.result c.loop-place.deltas, long, c.loop-place.invariant.room, c.min-column.ensures);
       told = known.told;
-      decoded = rw behind known.decoded;
+      decoded = rw behind now;
     }
+
+pub loop-place-smaller : goal.loop-place-smaller
+loop-place-smaller c =
+    let d = (goal.at.loop-place-smaller c).After-time_of-t in
+    omega (arith, ap length c.go_by-else-goes_along_rows.ensures, length-drop c.min-column.result c.loop-place.places, ap length (behind_first d).1, c.min-column.ensures, c.column.ensures.some c.in-Some.place (first_of_column d))
 
 pub returns-clause-taken : goal.returns-clause-taken
 returns-clause-taken c =

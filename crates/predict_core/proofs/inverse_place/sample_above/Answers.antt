@@ -1,10 +1,21 @@
-use Rattle.std.proofs.Common.{◌≡◌, ◌+◌, ◌-◌, ◌<◌, ◌≤◌, pos, ◌+ℤ◌, ◌*ℤ◌, false, ◌++◌, replicate, SFits, w32, to_z-of_z, rules, arith, ◌∙◌}
+use Rattle.std.proofs.Common.{◌≡◌, ◌+◌, ◌-◌, ◌<◌, ◌≤◌, pos, ◌+ℤ◌, ◌*ℤ◌, false, ◌++◌, ℕ, drop, length, replicate, ap, SFits, w32, to_z-of_z, rules, arith, ◌∙◌}
 use Rattle.cube_core.specs.Kind.{smin}
 use Rattle.cube_core.specs.Image.{put}
 use Rattle.predict_core.specs.Predictor.{previous_bands}
 use Rattle.predict_core.specs.Differences.{central_difference, spectral_differences}
-use Rattle.predict_core.proofs.Rising.{own_put, raised_put}
+use Rattle.predict_core.proofs.Filling.{spectral_length}
+use Rattle.predict_core.proofs.Rising.{own_put, raised_put, zeros_behind}
 use Rattle.predict_core.proofs.inverse_place.sample_above.Goals as goal
+
+pub go_up-requires-clause-zeros : goal.go_up-requires-clause-zeros
+go_up-requires-clause-zeros c = λ few.
+    let s = c.args.settings.now in
+    let p = s.predictor in
+    let us = spectral_differences p c.args.cube.now s.band c.args.y c.args.x (previous_bands p s.band) in
+    let kept : c.args.below.now.differences ≡ us ++ replicate (18 - previous_bands p s.band) (pos 0) = ((rw (c.requires.band, c.requires.row, c.requires.column) at c.requires.told) c.requires.later).differences in
+    let long = spectral_length p c.args.cube.now s.band c.args.y c.args.x (previous_bands p s.band) in
+    let rest : 18 - previous_bands p s.band - (4 - length us) ≡ 14 = omega (arith, few, long) in
+    ap (drop 4) kept ∙ zeros_behind us (18 - previous_bands p s.band) 4 (omega (arith, few, long)) ∙ ap (λ (n : ℕ). replicate n (pos 0)) rest
 
 pub returns-clause-told : goal.returns-clause-told
 returns-clause-told c h =

@@ -27,4 +27,4 @@ returns-in-Samples-clause-given c = λ p numbers bits lawful given ask at.
     samples_given c.get_run.result c.args.z c.args.t c.args.place c.in-Samples.stats c.get_run.new.self c.args.reader.now c.get_run.new.reader.left c.get_run.new.numbers c.get_run.ensures.taken c.get_run.ensures.bands some p numbers bits lawful (rw c.in-Samples.is at given) ask at
 
 pub returns-in-Blocks-clause-given : goal.returns-in-Blocks-clause-given
-returns-in-Blocks-clause-given c = λ p numbers bits lawful given ask at. c.next_of_blocks.ensures.given c.args.z c.args.t c.args.place p numbers bits lawful (rw c.in-Blocks.is at given) ask at
+returns-in-Blocks-clause-given c = λ p numbers bits lawful given ask at. c.next_of_blocks.ensures.given (λ i. c.args.z) (λ i. c.args.t + i) c.args.place p numbers bits lawful (rw c.in-Blocks.is at given) ask at

@@ -1,0 +1,167 @@
+//! Columns of code words: one number each of bands one above another, read back.
+
+ghost use Rattle.std.specs.Prelude.{◌≡◌, ◌+◌, ◌^◌, ◌<◌, ◌≤◌, ◌==◌, length, Some, IfOk, IfErr, OnErr, ℕ};
+ghost use Rattle.cube_core.specs.declared.fault.Fault.{Fault};
+ghost use Rattle.sample_adaptive.specs.Statistics.{AreStatistics};
+ghost use Rattle.sample_adaptive.specs.Reading.{word_at};
+ghost use Rattle.header_bits.specs.Reading.{Reads};
+ghost use Rattle.sample_adaptive.specs.Taken.{Counts, HasSettings, GetsColumn, code_by, counted, of_band, with_band};
+
+use crate::code_word::{Code, take_word};
+use crate::run_words::RunCodes;
+use crate::statistics::{Statistics, next, parameter};
+use crate::stats::Stats;
+use cube_core::fault::Fault;
+use header_bits::bit_reader::BitReader;
+
+impl Stats {
+    /// Takes a column whose code words stand next: number `t` of band `z`, then that of the band above it, and so on. Takes them into
+    /// the statistics.
+    ///
+    /// `t` counts the numbers that each of the bands has, and `place` is the first number's in encoding order. At most 65,536 numbers are
+    /// taken. Where a number is refused the answer is its fault as `get` tells it, but `BadCode` has its place in encoding order. Then
+    /// the reader stands where it stood, every later call answers the same, and what the statistics and `numbers` say means nothing.
+    #[inline]
+    pub fn get_column(
+        &mut self,
+        z: u32,
+        t: u64,
+        place: u64,
+        reader: &mut BitReader,
+        numbers: &mut [u16],
+    ) -> Result<(), Fault>
+        requires inside { z + length numbers.old ≤ length self.old.bands }
+        requires long { (length numbers.old ≤ 2 ^ 16) × (place < 2 ^ 48) }
+        ensures taken { GetsColumn z t place result self.old reader.old self.new reader.new.left numbers.new }
+        ensures again { (fault : Fault) → self.old.refused ≡ Some fault → result ≡ Err fault }
+        ensures kept { IfErr result (λ fault. self.new.refused ≡ Some fault) }
+        ensures same { OnErr result (reader.new ≡ reader.old) }
+        ensures count { reader.new.count ≡ reader.old.count }
+        ensures long { length numbers.new ≡ length numbers.old }
+        ensures bands { (length self.new.bands ≡ length self.old.bands) × (self.new.bits ≡ self.old.bits) }
+    {
+        if let Some(fault) = self.refused {
+            return Err(fault);
+        }
+        let run = RunCodes {
+            limit: self.umax,
+            bits: self.bits,
+            rescaling: self.rescaling,
+        };
+        // A copy goes ahead: it stays in registers, and a refusal leaves what it was made of.
+        let mut ahead = reader.fork();
+        match take_column(run, z, t, place, &mut self.bands, &mut ahead, numbers) {
+            Ok(()) => {
+                *reader = ahead;
+                Ok(())
+            }
+            Err(refusal) => {
+                self.refused = Some(refusal);
+                Err(refusal)
+            }
+        }
+    }
+}
+
+/// Takes one number each of bands from band `z` on, whose code words stand next, and moves their statistics on.
+///
+/// After a refusal the reader and the statistics are left anywhere.
+#[inline(always)]
+fn take_column(
+    run: RunCodes,
+    z: u32,
+    t: u64,
+    place: u64,
+    bands: &mut [Statistics],
+    reader: &mut BitReader,
+    numbers: &mut [u16],
+) -> Result<(), Fault>
+    requires bits { (2 ≤ run.bits) × (run.bits ≤ 16) }
+    requires limit { run.limit ≤ 32 }
+    requires statistics { (b : ℕ) → b < length bands.old → AreStatistics run.rescaling.size (of_band bands.old b) }
+    requires inside { z + length numbers.old ≤ length bands.old }
+    requires long { (length numbers.old ≤ 2 ^ 16) × (place < 2 ^ 48) }
+    ensures taken { (v : Counts) → v.bands ≡ bands.old → HasSettings v run.bits run.limit run.rescaling.size
+        → GetsColumn z t place result v reader.old (record v { bands = bands.new }) reader.new.left numbers.new }
+    ensures statistics { (b : ℕ) → b < length bands.new → AreStatistics run.rescaling.size (of_band bands.new b) }
+    ensures count { reader.new.count ≡ reader.old.count }
+    ensures long { length numbers.new ≡ length numbers.old }
+    ensures bands { length bands.new ≡ length bands.old }
+{
+    // Two loops, in each of which the compiler knows whether the numbers are the first.
+    if t == 0 {
+        take_each(run, z, true, place, bands, reader, numbers)
+    } else {
+        take_each(run, z, false, place, bands, reader, numbers)
+    }
+}
+
+/// The same, for numbers that are `first` of their bands, or aren't.
+#[inline(always)]
+fn take_each(
+    run: RunCodes,
+    z: u32,
+    first: bool,
+    place: u64,
+    bands: &mut [Statistics],
+    reader: &mut BitReader,
+    numbers: &mut [u16],
+) -> Result<(), Fault>
+    requires bits { (2 ≤ run.bits) × (run.bits ≤ 16) }
+    requires limit { run.limit ≤ 32 }
+    requires statistics { (b : ℕ) → b < length bands.old → AreStatistics run.rescaling.size (of_band bands.old b) }
+    requires inside { z + length numbers.old ≤ length bands.old }
+    requires long { (length numbers.old ≤ 2 ^ 16) × (place < 2 ^ 48) }
+    ensures taken { (v : Counts) (t : ℕ) → first ≡ (t == 0) → v.bands ≡ bands.old → HasSettings v run.bits run.limit run.rescaling.size
+        → GetsColumn z t place result v reader.old (record v { bands = bands.new }) reader.new.left numbers.new }
+    ensures statistics { (b : ℕ) → b < length bands.new → AreStatistics run.rescaling.size (of_band bands.new b) }
+    ensures count { reader.new.count ≡ reader.old.count }
+    ensures long { length numbers.new ≡ length numbers.old }
+    ensures bands { length bands.new ≡ length bands.old }
+{
+    for i in 0..numbers.len() {
+        let statistics = &mut bands[z as usize + i];
+        match take_number(run, first, place + i as u64, statistics, reader) {
+            Ok(number) => numbers[i] = number,
+            Err(fault) => return Err(fault),
+        }
+    }
+    Ok(())
+}
+
+/// Takes a number of a band whose code word stands next, and moves the band's statistics on unless the number is its `first`.
+#[inline(always)]
+fn take_number(
+    run: RunCodes,
+    first: bool,
+    place: u64,
+    statistics: &mut Statistics,
+    reader: &mut BitReader,
+) -> Result<u16, Fault>
+    requires bits { (2 ≤ run.bits) × (run.bits ≤ 16) }
+    requires limit { run.limit ≤ 32 }
+    requires statistics { AreStatistics run.rescaling.size statistics.old }
+    ensures reads { (v : Counts) (z t : ℕ) → first ≡ (t == 0) → HasSettings v run.bits run.limit run.rescaling.size → of_band v.bands z ≡ statistics.old
+        → Reads (λ number. number) result reader.new.left (word_at reader.old.count place (code_by v z t) reader.old.left) }
+    ensures counts { IfOk result (λ number. (v : Counts) (z t : ℕ) → first ≡ (t == 0) → HasSettings v run.bits run.limit run.rescaling.size
+        → of_band v.bands z ≡ statistics.old → counted v z t number ≡ with_band v z statistics.new) }
+    ensures statistics { AreStatistics run.rescaling.size statistics.new }
+    ensures count { reader.new.count ≡ reader.old.count }
+{
+    if first {
+        let code = Code {
+            limit: 0,
+            low: 0,
+            bits: run.bits,
+        };
+        return take_word(code, place, reader);
+    }
+    let code = Code {
+        limit: run.limit,
+        low: parameter(run.bits, *statistics),
+        bits: run.bits,
+    };
+    let number = take_word(code, place, reader)?;
+    *statistics = next(run.rescaling, *statistics, number);
+    Ok(number)
+}
