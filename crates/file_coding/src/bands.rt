@@ -12,7 +12,7 @@ use header_bits::params::Params;
 use predict_core::band::Band;
 use std::alloc::Global;
 
-/// The predictors of all bands, each before its first place.
+/// Returns the predictors of all bands of an image, each at its first place.
 pub fn all_bands(alloc: Global, params: &Params) -> Result<Vec<Band>, Fault>
     requires { IsLawful params.now }
     ensures len { IfOk result (λ bands. vec_len bands ≡ params.now.shape.bands) }

@@ -29,7 +29,7 @@ pub struct CodingEnd {
     encoder: Encoder,
     places: Places,
     columns: u64,
-    /// Where it is set, each place that isn't the last of its row is followed by the next place of the row.
+    /// Whether each place is followed by the next one of its row, as far as the row goes.
     by_rows: bool,
     word: u32,
 }
@@ -47,9 +47,9 @@ impl Model for CodingEnd {
 }
 
 impl CodingEnd {
-    /// The coding end of an image, which has written the header and taken no residual.
+    /// Returns the coding end of an image. It has written the header and taken no residual.
     ///
-    /// `WantOfMemory` if the header or the statistics of all bands can't be allocated.
+    /// Returns `WantOfMemory` if the header or the statistics of all bands can't be allocated.
     pub fn new(alloc: Global, params: &Params) -> Result<CodingEnd, Fault>
         requires { IsLawful params.now }
         ensures coded { IfOk result (λ end. HasCoded params.now end []) }
@@ -67,14 +67,14 @@ impl CodingEnd {
         })
     }
 
-    /// The place whose residual comes next, where one does.
+    /// Returns the place of the next residual, or `None` after the last.
     pub fn place(&self) -> Option<Place>
         ensures { result ≡ slice_get self.now.left 0 }
     {
         self.places.peek()
     }
 
-    /// How many of the places that come next are of one row and column, band after band: at least the first of them.
+    /// Returns how many of the next places share a row and column, band after band: at least one where there is a next place.
     pub fn column(&self) -> u64
         ensures along { (i : ℕ) (p : APlace) → i < result → slice_get self.now.left 0 ≡ Some p → slice_get self.now.left i ≡ Some (record p { z = p.z + i }) }
         ensures some { (p : APlace) → slice_get self.now.left 0 ≡ Some p → 1 ≤ result }
@@ -82,9 +82,9 @@ impl CodingEnd {
         self.places.column()
     }
 
-    /// Takes the residual of the place that comes next.
+    /// Takes the residual of the next place, which is at most 2^D - 1.
     ///
-    /// The residual is at most 2^D - 1. After `WantOfMemory` nothing was changed.
+    /// Returns `WantOfMemory` if an allocation fails; then nothing was changed.
     #[inline(always)]
     pub fn put(&mut self, place: Place, delta: u16) -> Result<(), Fault>
         requires next { slice_get self.old.left 0 ≡ Some place }
@@ -100,9 +100,9 @@ impl CodingEnd {
         Ok(())
     }
 
-    /// Takes the residuals of the places that come next, each of which is at most 2^D - 1.
+    /// Takes the residuals of the next places, each of which is at most 2^D - 1.
     ///
-    /// After `WantOfMemory` the first of them were taken, as many as there was memory for.
+    /// Returns `WantOfMemory` if an allocation fails; then the first of them were taken, as many as there was memory for.
     pub fn put_all(&mut self, residuals: &[u16]) -> Result<(), Fault>
         requires { MayCodeAll self.old residuals.now }
         ensures coded { OnOk result (CodesAll self.old self.new residuals.now) }
@@ -118,7 +118,7 @@ impl CodingEnd {
         }
     }
 
-    /// Takes residuals by the block-adaptive coder, which looks at no place.
+    /// Takes residuals by the block-adaptive coder, which needs no places.
     fn put_blocks(&mut self, residuals: &[u16]) -> Result<(), Fault>
         requires may { MayCodeAll self.old residuals.now }
         requires blocks { IsByBlocks self.old.coder }
@@ -134,7 +134,7 @@ impl CodingEnd {
         Ok(())
     }
 
-    /// Takes residuals of places that come column by column of bands, by the sample-adaptive coder.
+    /// Takes residuals by the sample-adaptive coder where places go by columns of bands.
     fn put_columns(&mut self, residuals: &[u16]) -> Result<(), Fault>
         requires { MayCodeAll self.old residuals.now }
         ensures coded { OnOk result (CodesAll self.old self.new residuals.now) }
@@ -157,8 +157,8 @@ impl CodingEnd {
         Ok(())
     }
 
-    /// Takes residuals of the bands of one row and column, from the place that comes next on. Tells how many were taken: fewer than all only where
-    /// memory was refused.
+    /// Takes residuals of one row and column, band after band, from the next place on. Returns how many were taken: fewer than all only where
+    /// an allocation failed.
     #[inline(always)]
     fn put_column(&mut self, place: Place, column: &[u16]) -> usize
         requires may { MayCodeAll self.old column.now }
@@ -178,7 +178,7 @@ impl CodingEnd {
         column.len()
     }
 
-    /// Takes residuals of places that come row by row, by the sample-adaptive coder.
+    /// Takes residuals by the sample-adaptive coder where places go along rows.
     fn put_rows(&mut self, residuals: &[u16]) -> Result<(), Fault>
         requires may { MayCodeAll self.old residuals.now }
         requires rows { AreByRows self.old.columns self.old.left }
@@ -200,9 +200,9 @@ impl CodingEnd {
         Ok(())
     }
 
-    /// Takes residuals of one row, from the place that comes next on, by the sample-adaptive coder.
+    /// Takes residuals of one row, from the next place on, by the sample-adaptive coder.
     ///
-    /// After `WantOfMemory` nothing was changed.
+    /// Returns `WantOfMemory` if an allocation fails; then nothing was changed.
     #[inline(always)]
     fn put_run(&mut self, place: Place, run: &[u16]) -> Result<(), Fault>
         requires { MayCodeRun self.old place run.now }
@@ -217,9 +217,9 @@ impl CodingEnd {
         Ok(())
     }
 
-    /// The bytes of the file, once all residuals were taken.
+    /// Returns the bytes of the file, once a residual was taken for each place.
     ///
-    /// `WantOfMemory` if they can't be allocated.
+    /// Returns `WantOfMemory` if they can't be allocated.
     pub fn finish(self) -> Result<Vec<u8>, Fault>
         requires { self.left ≡ [] }
         ensures file { IfOk result (λ bytes. (p : Parameters) (numbers : List ℕ) → HasCoded p self numbers → bytes.items ≡ file_of_residuals numbers p) }
@@ -241,7 +241,7 @@ impl CodingEnd {
     }
 }
 
-/// Appends zeros to whole output words of so many bytes.
+/// Appends zeros up to a whole number of output words of `word` bytes.
 fn put_fill(word: u32, writer: &mut BitWriter) -> Result<(), Fault>
     requires { InRange 1 8 word }
     ensures filled { OnOk result (writer.new.bits ≡ filled word writer.old.bits) }
@@ -252,7 +252,7 @@ fn put_fill(word: u32, writer: &mut BitWriter) -> Result<(), Fault>
     writer.push(0, (unit - over) % unit)
 }
 
-/// Proves that bytes are the packing of their bits. It does nothing when it runs.
+/// Lemma: bytes are their own bits, packed. The call does nothing.
 fn prove_packed(bytes: &[u8])
     ensures { bytes.now ≡ packed (bits_of_bytes bytes.now) }
 {}

@@ -14,7 +14,7 @@ use header_bits::params::{Coder, Params};
 use sample_adaptive::stats::Stats;
 use std::alloc::Global;
 
-/// The entropy coder that an image's parameters name, in the direction of writing.
+/// The entropy coder that an image's parameters name, as it writes.
 #[derive(Drop)]
 pub enum Encoder {
     Samples(Stats),
@@ -22,10 +22,10 @@ pub enum Encoder {
 }
 
 impl Encoder {
-    /// The coder of an image, which has taken no residual yet.
+    /// Returns the coder of an image, which has taken no residual.
     ///
-    /// `WantOfMemory` where there is none for the statistics of all bands; the block-adaptive coder
-    /// takes none.
+    /// Returns `WantOfMemory` if the statistics of all bands can't be allocated; the block-adaptive coder allocates
+    /// nothing.
     pub fn new(alloc: Global, params: &Params) -> Result<Encoder, Fault>
         requires { IsLawful params.now }
         ensures taken { IfOk result (λ coder. HasTaken params.now coder [] []) }
@@ -38,11 +38,11 @@ impl Encoder {
         }
     }
 
-    /// Takes the next residual, which is number `t` of band `z`, and appends what is then known of the body.
+    /// Takes the next residual, number `t` of band `z`, and appends the bits of the body that it completes.
     ///
-    /// The residual is at most 2^D - 1, and fewer were taken than there are samples. The block-adaptive
-    /// coder asks for memory only where the residual ends a block. After `WantOfMemory` nothing was
-    /// changed.
+    /// The residual is at most 2^D - 1, and fewer were taken than there are samples. Returns `WantOfMemory` if an
+    /// allocation fails; then nothing was changed. The block-adaptive coder allocates only where the residual ends a
+    /// block.
     #[inline(always)]
     pub fn put(&mut self, z: u32, t: u64, delta: u16, writer: &mut BitWriter) -> Result<(), Fault>
         requires { MayPut self.old z delta }
@@ -57,7 +57,7 @@ impl Encoder {
         }
     }
 
-    /// Whether this is the sample-adaptive coder.
+    /// Returns whether this is the sample-adaptive coder.
     pub fn is_by_samples(&self) -> bool
         ensures samples { IsTrue result → IsBySamples self.now }
         ensures blocks { IsFalse result → IsByBlocks self.now }
@@ -68,10 +68,11 @@ impl Encoder {
         }
     }
 
-    /// Takes a run of band `z` by the sample-adaptive coder: the next residuals, of which the first is number `t` of the band, and appends their code words.
+    /// Takes the next residuals, numbers `t`, `t + 1`, .. of band `z`, and appends their code words. The coder is the
+    /// sample-adaptive one.
     ///
-    /// They are of one row, and each is at most 2^D - 1. Where the writer has room for 48 bits a residual it succeeds. After
-    /// `WantOfMemory` nothing was changed.
+    /// The residuals are of one row, and each is at most 2^D - 1. Returns `WantOfMemory` if an allocation fails; then
+    /// nothing was changed. It succeeds where the writer has room for 48 bits a residual.
     #[inline(always)]
     pub fn put_run(
         &mut self,
@@ -92,10 +93,11 @@ impl Encoder {
         }
     }
 
-    /// Takes the next residuals by the block-adaptive coder, and appends what is then known of the body. Tells how many were taken: fewer than all
-    /// only where memory was refused for the one behind them, which ends a block.
+    /// Takes the next residuals, and appends the bits of the body that they complete. The coder is the block-adaptive
+    /// one. Returns how many were taken: fewer than all only where the next one ends a block for which an allocation
+    /// failed.
     ///
-    /// Each is at most 2^D - 1, and with them no more are taken than there are samples.
+    /// Each residual is at most 2^D - 1, and together no more are taken than there are samples.
     #[inline(always)]
     pub fn put_blocks(&mut self, residuals: &[u16], writer: &mut BitWriter) -> usize
         requires { MayPutBlocks self.old residuals.now }
@@ -109,10 +111,10 @@ impl Encoder {
         }
     }
 
-    /// Ends the body, once all residuals were taken: appends what is still held.
+    /// Ends the body, once all residuals were taken: appends the last block, if it isn't full.
     ///
-    /// The block-adaptive coder alone asks for memory, where the residuals end inside a block. After
-    /// `WantOfMemory` nothing was changed.
+    /// Returns `WantOfMemory` if an allocation fails; then nothing was changed. Only the block-adaptive coder
+    /// allocates, where the residuals end within a block.
     pub fn end(&mut self, writer: &mut BitWriter) -> Result<(), Fault>
         ensures ended { OnOk result (EndsBody self.old writer.old.bits writer.new.bits) }
         ensures same { OnErr result ((self.new ≡ self.old) × (writer.new.bits ≡ writer.old.bits)) }

@@ -26,14 +26,14 @@ use header_bits::params::Params;
 use predict_core::spectral::SpectralDifferences;
 use std::alloc::Global;
 
-/// The parameters and the cube of a file of at most 2^60 bytes.
+/// Returns the parameters and the cube of a file of at most 2^60 bytes.
 ///
-/// The refusals come in this order: those of the header, whatever memory there is; `WantOfMemory` where
-/// the header holds tables and there is none for them; `Truncated` where fewer bits stand behind the
-/// header than the shortest body has; `WantOfMemory`; the first fault of the body in bit order, which is
-/// `Truncated`, `BadCode`, `BadOption` or `RunPastSegment`; `TooLong` where an output word's bits or more
-/// stand behind the body; `BadFill` where one of them is a one. So where the header holds no table, no
-/// memory is asked for up to the first `Truncated`. `Truncated` names the number of the file's bits.
+/// The refusals, in this order: those of the header, however little memory there is; `WantOfMemory` if the header's
+/// tables can't be allocated; `Truncated` if fewer bits follow the header than the shortest body has; `WantOfMemory`;
+/// the first fault of the body in bit order, which is `Truncated`, `BadCode`, `BadOption` or `RunPastSegment`;
+/// `TooLong` if the bits of an output word or more follow the body; `BadFill` if one of the fill bits is a one. So
+/// nothing is allocated before the first `Truncated` where the header has no table. `Truncated` has the number of the
+/// file's bits.
 pub fn decode(alloc: Global, bytes: &[u8]) -> Result<(Params, Cube), Fault>
     requires { length bytes.now ≤ 2 ^ 60 }
     ensures lawful { IfOk result (λ found. IsLawful found.0) }
@@ -48,7 +48,7 @@ pub fn decode(alloc: Global, bytes: &[u8]) -> Result<(Params, Cube), Fault>
     read_file(alloc, bytes)
 }
 
-/// Reads header, body and fill, one after another; memory for the cube is asked for where there can be one.
+/// Reads header, body and fill, one after another. The cube is allocated once the file is long enough to hold one.
 fn read_file(alloc: Global, bytes: &[u8]) -> Result<(Params, Cube), Fault>
     requires { length bytes.now ≤ 2 ^ 60 }
     ensures lawful { IfOk result (λ found. IsLawful found.0) }
@@ -65,7 +65,7 @@ fn read_file(alloc: Global, bytes: &[u8]) -> Result<(Params, Cube), Fault>
     Ok((params, cube))
 }
 
-/// A reader of all the bytes, from which so many whole bytes were taken.
+/// Returns a reader of bytes that has taken the first `size` of them.
 fn reader_behind(bytes: &[u8], size: usize) -> BitReader<'_>
     requires small { length bytes.now ≤ 2 ^ 60 }
     requires within { size ≤ length bytes.now }
@@ -77,10 +77,10 @@ fn reader_behind(bytes: &[u8], size: usize) -> BitReader<'_>
     reader
 }
 
-/// The most places that are decoded at once.
+/// The greatest number of places that are decoded at once.
 const RUN: usize = 64;
 
-/// How many places are decoded at once from this one on: those of its row, but no more than a run has.
+/// Returns how many places are decoded at once from this one on: those up to the end of its row, at most `RUN`.
 fn run_from(params: &Params, place: Place) -> usize
     requires { IsPlaceOf params.now.shape place }
     ensures some { 1 ≤ result }
@@ -90,7 +90,7 @@ fn run_from(params: &Params, place: Place) -> usize
     RUN.min((params.shape.columns() - place.x) as usize)
 }
 
-/// How many places of its band come before this one.
+/// Returns t: how many places of the same band come before this one.
 fn time_of(params: &Params, place: Place) -> u64
     requires { IsPlaceOf params.now.shape place }
     ensures { result ≡ place.y * params.now.shape.columns + place.x }
@@ -98,7 +98,7 @@ fn time_of(params: &Params, place: Place) -> u64
     u64::from(place.y) * u64::from(params.shape.columns()) + u64::from(place.x)
 }
 
-/// The cube whose body stands next.
+/// Reads a body, and returns its cube.
 fn take_cube(alloc: Global, params: &Params, reader: &mut BitReader) -> Result<Cube, Fault>
     requires { IsLawful params.now }
     ensures taken { IfOk result (λ cube. TakesCube params.now cube reader.old.left reader.new.left) }
@@ -136,7 +136,7 @@ fn take_cube(alloc: Global, params: &Params, reader: &mut BitReader) -> Result<C
     Ok(cube)
 }
 
-/// Checks the fill bits after the body: they are fewer than an output word of so many bytes has, and zeros.
+/// Tests the fill bits behind the body: they are zeros, and fewer than an output word of `word` bytes has.
 fn test_fill(word: u32, reader: &BitReader) -> Result<(), Fault>
     requires { InRange 1 8 word }
     ensures { result ≡ fill_test word reader.now.left }

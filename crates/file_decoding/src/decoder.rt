@@ -17,7 +17,7 @@ use header_bits::params::{Coder, Params};
 use sample_adaptive::stats::Stats;
 use std::alloc::Global;
 
-/// The entropy coder that an image's parameters name, in the direction of reading.
+/// The entropy coder that an image's parameters name, as it reads.
 #[derive(Drop)]
 pub enum Decoder {
     Samples(Stats),
@@ -25,10 +25,10 @@ pub enum Decoder {
 }
 
 impl Decoder {
-    /// The coder of an image, which has given no residual yet.
+    /// Returns the coder of an image, which has returned no residual.
     ///
-    /// `WantOfMemory` where there is none for the statistics of all bands; the block-adaptive coder
-    /// takes none.
+    /// Returns `WantOfMemory` if the statistics of all bands can't be allocated; the block-adaptive coder allocates
+    /// nothing.
     pub fn new(alloc: Global, params: &Params) -> Result<Decoder, Fault>
         requires { IsLawful params.now }
         ensures given { IfOk result (λ coder. HasGiven params.now coder [] []) }
@@ -41,13 +41,12 @@ impl Decoder {
         }
     }
 
-    /// Gives the next residual of the body, which is number `t` of band `z` and stands at `place` in
-    /// encoding order.
+    /// Returns the next residual of the body, which is number `t` of band `z` and stands at index `place` in encoding
+    /// order.
     ///
-    /// Fewer were given than there are samples. Where none is spelt there, the answer is the first
-    /// fault of the body: `Truncated`, `BadCode` with the place, `BadOption` or `RunPastSegment`. Then
-    /// the bits that are left are as before, and every later call answers the same, a `BadCode` with its
-    /// own place. No memory is taken.
+    /// Fewer were returned than there are samples. Where the bits encode none, it returns the first fault of the body:
+    /// `Truncated`, `BadCode` with the index, `BadOption` or `RunPastSegment`. Then the bits that are left are as
+    /// before, and every later call returns the same, a `BadCode` with its own index. It allocates nothing.
     #[inline(always)]
     pub fn next(&mut self, z: u32, t: u64, place: u64, reader: &mut BitReader) -> Result<u16, Fault>
         requires { MayAsk self.old z }
@@ -66,11 +65,11 @@ impl Decoder {
         }
     }
 
-    /// Gives the next residuals of the body, which are those of band `z` from number `t` on; the first stands at `place` in encoding
-    /// order.
+    /// Writes the next residuals of the body to `deltas`: numbers `t`, `t + 1`, .. of band `z`. The first stands at index
+    /// `place` in encoding order.
     ///
-    /// They are of one row, 64 at most and at least one. Where one is spelt by none the answer is the first fault of the body, as
-    /// `next` tells it, and what is in `deltas` means nothing. No memory is taken.
+    /// They are of one row, at least one and at most 64. Where the bits encode fewer, it returns the first fault of the
+    /// body, as `next` does, and what is in `deltas` is unspecified. It allocates nothing.
     #[inline]
     pub fn next_run(
         &mut self,
@@ -92,11 +91,11 @@ impl Decoder {
         }
     }
 
-    /// Gives the next residuals of the body, which are number `t` of band `z` and of the bands above it; the first stands at `place` in
-    /// encoding order.
+    /// Writes the next residuals of the body to `deltas`: number `t` of band `z`, then that of the next band, and so on.
+    /// The first stands at index `place` in encoding order.
     ///
-    /// They are of one row and column, 64 at most and at least one. Where one is spelt by none the answer is the first fault of the
-    /// body, as `next` tells it, and what is in `deltas` means nothing. No memory is taken.
+    /// They are of one row and column, at least one and at most 64. Where the bits encode fewer, it returns the first
+    /// fault of the body, as `next` does, and what is in `deltas` is unspecified. It allocates nothing.
     #[inline]
     pub fn next_column(
         &mut self,
@@ -119,7 +118,7 @@ impl Decoder {
     }
 }
 
-/// The next residuals of a body of blocks.
+/// Writes the next residuals of a body of blocks to `deltas`.
 fn next_of_blocks(
     blocks: &mut BlockReader,
     reader: &mut BitReader,
@@ -139,7 +138,7 @@ fn next_of_blocks(
     Ok(())
 }
 
-/// A fault of a code word, at its place in encoding order.
+/// Returns the fault of a code word with its index in encoding order.
 fn placed(fault: Fault, place: u64) -> Fault
     ensures { result ≡ placed_at place fault }
 {

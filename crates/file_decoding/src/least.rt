@@ -9,8 +9,8 @@ use cube_core::fault::Fault;
 use header_bits::bit_reader::BitReader;
 use header_bits::params::{Coder, Params};
 
-/// The fewest bits that a body by lawful parameters has: one for each sample, or three for each segment
-/// of their blocks. It takes no memory.
+/// Returns the fewest bits that a body has under lawful parameters: one for each sample, or three for each segment of
+/// their blocks. It allocates nothing.
 pub fn least_length(params: &Params) -> u64
     requires { IsLawful params.now }
     ensures { result ≡ fewest_bits params.now }
@@ -26,8 +26,7 @@ pub fn least_length(params: &Params) -> u64
     }
 }
 
-/// Tests that as many bits are left as the shortest body has, whatever they are: else the file is
-/// `Truncated`.
+/// Tests that as many bits are left as the shortest body has, whatever they are. Returns `Truncated` otherwise.
 pub(crate) fn test_length(params: &Params, reader: &BitReader) -> Result<(), Fault>
     requires { IsLawful params.now }
     ensures { result ≡ least_test reader.now.count params.now reader.now.left }

@@ -22,17 +22,17 @@ pub struct Code {
     pub bits: u32,
 }
 
-/// Bits as a number: its `length` lowest ones.
+/// Bits, as the `length` lowest ones of a number.
 #[derive(Clone, Copy, Debug, PartialEq, Eq)]
 pub(crate) struct Word {
     pub bits: u64,
     pub length: u32,
 }
 
-/// The code word of a number.
+/// Returns the code word of a number.
 ///
-/// It has at most 48 bits, so one push writes it: zeros, a one and the low bits are one number, and
-/// so are zeros and a whole number.
+/// It has at most 48 bits and is pushed at once: zeros, a one and the low bits make one number, and so do zeros and a
+/// whole number.
 #[tactic(auto, unfolding(crate::specs::Words::form_text, crate::specs::Words::form_of))]
 pub(crate) fn word_of(code: Code, number: u16) -> Word
     requires code { IsCode code }
@@ -56,10 +56,10 @@ pub(crate) fn word_of(code: Code, number: u16) -> Word
     }
 }
 
-/// Takes the number whose code word stands next.
+/// Reads the number whose code word stands next, and returns it.
 ///
-/// `BadCode` with the place where a form stands that is no number's word, `Truncated` where the bits
-/// end within a form. Then the reader stands where it stood.
+/// Returns `BadCode` with the place if the bits are of a code word's form but no number's, and `Truncated` if they end
+/// within one. Then the reader keeps its position.
 #[inline(always)]
 pub(crate) fn take_word(code: Code, place: u64, reader: &mut BitReader) -> Result<u16, Fault>
     requires { IsCode code }
@@ -80,7 +80,7 @@ pub(crate) fn take_word(code: Code, place: u64, reader: &mut BitReader) -> Resul
     }
 }
 
-/// Takes the number whose code word the next 57 bits begin with: no form is longer.
+/// Reads the number whose code word the next 57 bits begin with. No code word is longer.
 #[inline(always)]
 fn take_from(code: Code, place: u64, word: u64, reader: &mut BitReader) -> Result<u16, Fault>
     requires code { IsCode code }
@@ -103,7 +103,7 @@ fn take_from(code: Code, place: u64, word: u64, reader: &mut BitReader) -> Resul
     }
 }
 
-/// Takes the number whose code word stands next, part by part, since fewer than 57 bits may be left.
+/// Reads the number whose code word stands next, part by part, since fewer than 57 bits may be left.
 ///
 /// After a refusal the reader's position is unspecified.
 #[inline(never)]
@@ -135,7 +135,7 @@ fn take_last(
     }
 }
 
-/// The number of a plain form: so many zeros, and low bits.
+/// Returns the number of so many zeros, a one and low bits.
 #[inline(always)]
 fn plain(code: Code, place: u64, zeros: u64, low: u64) -> Result<u16, Fault>
     requires code { IsCode code }
@@ -153,7 +153,7 @@ fn plain(code: Code, place: u64, zeros: u64, low: u64) -> Result<u16, Fault>
     }
 }
 
-/// The number of an escape, which is no plain form's.
+/// Returns the number of an escape. Without one it would have too many zeros.
 #[inline(always)]
 fn escaped(code: Code, place: u64, number: u64) -> Result<u16, Fault>
     requires code { IsCode code }

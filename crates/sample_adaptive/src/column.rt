@@ -1,4 +1,4 @@
-//! Columns of code words: one number each of bands one above another, read back.
+//! Columns of code words, read back: one number of each of several bands.
 
 ghost use Rattle.std.specs.Prelude.{◌≡◌, ◌+◌, ◌^◌, ◌<◌, ◌≤◌, ◌==◌, length, Some, IfOk, IfErr, OnErr, ℕ};
 ghost use Rattle.cube_core.specs.declared.fault.Fault.{Fault};
@@ -15,12 +15,13 @@ use cube_core::fault::Fault;
 use header_bits::bit_reader::BitReader;
 
 impl Stats {
-    /// Takes a column whose code words stand next: number `t` of band `z`, then that of the band above it, and so on. Takes them into
-    /// the statistics.
+    /// Reads number `t` of band `z`, then that of the next band, and so on, whose code words stand next, into `numbers`,
+    /// and updates the bands' statistics.
     ///
-    /// `t` counts the numbers that each of the bands has, and `place` is the first number's in encoding order. At most 65,536 numbers are
-    /// taken. Where a number is refused the answer is its fault as `get` tells it, but `BadCode` has its place in encoding order. Then
-    /// the reader stands where it stood, every later call answers the same, and what the statistics and `numbers` say means nothing.
+    /// `t` counts each band's numbers from 0, and the first number stands at index `place` in encoding order. At most
+    /// 65,536 numbers are read. Where a number is refused, it returns the fault that `get` returns, but `BadCode` has the
+    /// number's index in encoding order. Then the reader keeps its position, every later call returns the same, and the
+    /// statistics and what is in `numbers` are unspecified.
     #[inline]
     pub fn get_column(
         &mut self,
@@ -63,9 +64,9 @@ impl Stats {
     }
 }
 
-/// Takes one number each of bands from band `z` on, whose code words stand next, and moves their statistics on.
+/// Reads one number of each band from band `z` on, whose code words stand next, and updates their statistics.
 ///
-/// After a refusal the reader and the statistics are left anywhere.
+/// After a refusal the reader's position and the statistics are unspecified.
 #[inline(always)]
 fn take_column(
     run: RunCodes,
@@ -96,7 +97,7 @@ fn take_column(
     }
 }
 
-/// The same, for numbers that are `first` of their bands, or aren't.
+/// Does the same, where all numbers are the first of their bands or none is.
 #[inline(always)]
 fn take_each(
     run: RunCodes,
@@ -129,7 +130,7 @@ fn take_each(
     Ok(())
 }
 
-/// Takes a number of a band whose code word stands next, and moves the band's statistics on unless the number is its `first`.
+/// Reads a band's number, whose code word stands next, and updates the statistics unless it is the band's first.
 #[inline(always)]
 fn take_number(
     run: RunCodes,

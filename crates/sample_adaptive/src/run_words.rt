@@ -13,10 +13,10 @@ use cube_core::fault::Fault;
 use header_bits::bit_reader::BitReader;
 use header_bits::bit_writer::BitWriter;
 
-/// The most bits of a code word.
+/// The greatest length of a code word in bits.
 const MOST_BITS: u64 = 48;
 
-/// Numbers of one band behind its first, and what their code words depend on.
+/// Numbers of one band, none of which is its first, and what their code words depend on.
 #[derive(Clone, Copy)]
 pub(crate) struct LaterRun<'a> {
     pub limit: u32,
@@ -26,9 +26,9 @@ pub(crate) struct LaterRun<'a> {
     pub numbers: &'a [u16],
 }
 
-/// Appends the code words of a run, for which there is room, and gives the statistics behind it.
+/// Appends the code words of a run, for which the writer has room, and returns the statistics after it.
 ///
-/// The writer and the statistics come and go by value, so that both can stay in registers.
+/// The writer and the statistics are passed by value, so that both can stay in registers.
 #[inline(always)]
 pub(crate) fn put_words(writer: BitWriter, run: LaterRun) -> (BitWriter, Statistics)
     requires bits { (2 ≤ run.bits) × (run.bits ≤ 16) }
@@ -56,7 +56,7 @@ pub(crate) fn put_words(writer: BitWriter, run: LaterRun) -> (BitWriter, Statist
     (writer, tracked.statistics)
 }
 
-/// Makes room for so many code words, and asks for no more than that, or than for as many bits again as there are.
+/// Reserves room for so many code words. It allocates no more than that, or than as many bits as there are.
 pub(crate) fn make_room(words: usize, writer: &mut BitWriter) -> Result<(), Fault>
     requires few { words ≤ 2 ^ 16 }
     ensures same { writer.new.bits ≡ writer.old.bits }
@@ -68,7 +68,7 @@ pub(crate) fn make_room(words: usize, writer: &mut BitWriter) -> Result<(), Faul
     writer.reserve(MOST_BITS * words as u64)
 }
 
-/// What the code words of a run depend on, beside the statistics.
+/// What the code words of a run depend on besides the statistics.
 #[derive(Clone, Copy)]
 pub(crate) struct RunCodes {
     pub limit: u32,
@@ -76,9 +76,9 @@ pub(crate) struct RunCodes {
     pub rescaling: Rescaling,
 }
 
-/// Takes a run from number `t` on, whose code words stand next, and moves the statistics on.
+/// Reads numbers `t`, `t + 1`, .. of a band, whose code words stand next, and updates the statistics.
 ///
-/// After a refusal the reader and the statistics are left anywhere.
+/// After a refusal the reader's position and the statistics are unspecified.
 #[inline(always)]
 pub(crate) fn take_words(
     run: RunCodes,
@@ -115,7 +115,7 @@ pub(crate) fn take_words(
     }
 }
 
-/// The same of numbers behind the band's first.
+/// Reads numbers of a band, none of which is its first, and updates the statistics.
 #[inline(always)]
 fn take_later(
     run: RunCodes,

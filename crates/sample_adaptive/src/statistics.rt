@@ -3,18 +3,18 @@
 ghost use Rattle.std.specs.Prelude.{◌≡◌, ◌+◌, ◌-◌, ◌*◌, ◌/◌, ◌^◌, ◌<◌, ◌≤◌};
 ghost use Rattle.sample_adaptive.specs.Statistics.{AreStatistics, start_statistics, next_statistics, level as level_of, code_parameter};
 
-/// What a band's numbers so far say of the next one (CCSDS 123.0-B-1, "Adaptive code selection statistics").
+/// A band's statistics, by which its next number is coded (CCSDS 123.0-B-1, "Adaptive code selection statistics").
 #[derive(Clone, Copy, Debug, PartialEq, Eq)]
 pub struct Statistics {
-    /// Γ, how many numbers count.
+    /// Γ, how many numbers the accumulator stands for.
     pub counter: u32,
     /// Σ, their sum.
     pub accumulator: u32,
 }
 
-/// When statistics are halved: where the counter stands at 2^γ* - 1.
+/// When statistics are halved: once the counter is 2^γ* - 1.
 ///
-/// That number is held, so that no number of a band has to find it.
+/// That number is kept, so that it isn't computed for each sample.
 #[derive(Clone, Copy)]
 pub(crate) struct Rescaling {
     /// γ*, the rescaling counter size: 1 to 9.
@@ -26,7 +26,7 @@ pub(crate) struct Rescaling {
 }
 
 impl Rescaling {
-    /// The rescaling by a counter size.
+    /// Returns the rescaling by a rescaling counter size.
     pub(crate) fn of(size: u32) -> Rescaling
         requires { (1 ≤ size) × (size ≤ 9) }
         ensures { result.size ≡ size }
@@ -38,7 +38,7 @@ impl Rescaling {
     }
 }
 
-/// The statistics that a band starts from, by the first counter exponent and the accumulator's constant.
+/// Returns the statistics that a band starts from, by the initial count exponent and the accumulator's constant.
 pub(crate) fn first(gamma_zero: u32, constant: u32) -> Statistics
     requires exponent { gamma_zero ≤ 8 }
     requires constant { constant ≤ 14 }
@@ -51,7 +51,7 @@ pub(crate) fn first(gamma_zero: u32, constant: u32) -> Statistics
     }
 }
 
-/// The statistics after one more number. Where the counter is the greatest, both are halved.
+/// Returns the statistics after one more number. Where the counter is the greatest, both are halved.
 #[tactic(auto, unfolding(crate::specs::Statistics::next_statistics))]
 pub(crate) fn next(rescaling: Rescaling, s: Statistics, number: u16) -> Statistics
     requires statistics { AreStatistics rescaling.size s }
@@ -65,7 +65,7 @@ pub(crate) fn next(rescaling: Rescaling, s: Statistics, number: u16) -> Statisti
     }
 }
 
-/// The statistics that one more number enters.
+/// Returns the statistics with one more number.
 pub(crate) fn counted(s: Statistics, number: u16) -> Statistics
     requires { (s.counter < 2 ^ 31) × (s.accumulator < 2 ^ 31) }
     ensures { result ≡ record { counter = s.counter + 1; accumulator = s.accumulator + number } }
@@ -76,7 +76,7 @@ pub(crate) fn counted(s: Statistics, number: u16) -> Statistics
     }
 }
 
-/// The statistics that one more number enters, both halved.
+/// Returns the statistics with one more number, both halved.
 pub(crate) fn halved(s: Statistics, number: u16) -> Statistics
     requires { (s.counter < 2 ^ 31) × (s.accumulator < 2 ^ 31) }
     ensures { result ≡ record { counter = (s.counter + 1) / 2; accumulator = (s.accumulator + number + 1) / 2 } }
@@ -87,7 +87,7 @@ pub(crate) fn halved(s: Statistics, number: u16) -> Statistics
     }
 }
 
-/// What the counter's products with powers of two are compared with.
+/// Returns what the counter's products with powers of two are compared with.
 pub(crate) fn level(s: Statistics) -> u32
     requires { (s.counter < 2 ^ 9) × (s.accumulator < 2 ^ 25) }
     ensures { result ≡ level_of s }
@@ -95,10 +95,10 @@ pub(crate) fn level(s: Statistics) -> u32
     s.accumulator + 49 * s.counter / 128
 }
 
-/// k, how many low bits of the next number stand plainly in its word: at most D - 2.
+/// Returns k, how many low bits of the next number its code word has as they are: at most D - 2.
 ///
-/// The greatest k with counter·2^k at most the level is found from the two numbers' lengths, in
-/// place of trying each k.
+/// The greatest k with counter·2^k at most the level is found from the lengths of the two numbers, without trying each
+/// k.
 pub(crate) fn parameter(bits: u32, s: Statistics) -> u32
     requires bits { (2 ≤ bits) × (bits ≤ 16) }
     requires counter { (1 ≤ s.counter) × (s.counter < 2 ^ 9) }

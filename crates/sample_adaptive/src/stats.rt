@@ -1,4 +1,4 @@
-//! The coder of one image: each band's statistics, and numbers in and out.
+//! The coder of one image: it keeps each band's statistics, writes numbers, and reads them back.
 
 ghost use Rattle.std.specs.Prelude.{◌≡◌, ◌+◌, ◌*◌, ◌^◌, ◌<◌, ◌≤◌, [], length, max, Err, Some, IsOk, IfOk, IfErr, OnOk, OnErr, ℕ};
 ghost use Rattle.std.specs.List.{AllByRecursion};
@@ -27,7 +27,7 @@ pub struct Stats {
     pub(crate) umax: u32,
     pub(crate) rescaling: Rescaling,
     pub(crate) bands: Vec<Statistics>,
-    /// What a `get` was refused for; every later one is refused for the same.
+    /// The fault for which a `get` was refused, if one was: every later one is refused for the same.
     pub(crate) refused: Option<Fault>,
 }
 
@@ -42,10 +42,10 @@ impl Model for Stats {
 }
 
 impl Stats {
-    /// The coder of an image, of which no number was taken yet.
+    /// Returns the coder of an image, which has taken no number.
     ///
-    /// The parameters are lawful, and for this coder. `WantOfMemory` where there is none for the
-    /// statistics of all bands.
+    /// The parameters are lawful, and name this coder. Returns `WantOfMemory` if the statistics of all bands can't be
+    /// allocated.
     pub fn new(alloc: Global, params: &Params) -> Result<Stats, Fault>
         requires { AreForSamples params.now }
         ensures taken { IfOk result (λ s. HasTaken (settings params.now) s (λ z. [])) }
@@ -72,10 +72,10 @@ impl Stats {
         }
     }
 
-    /// Appends the code word of number `t` of band `z`, and takes the number into the statistics.
+    /// Appends the code word of number `t` of band `z`, and updates the band's statistics.
     ///
-    /// `t` counts the band's numbers from 0, and the number is at most 2^D - 1. One push is made, of
-    /// at most 48 bits. After `WantOfMemory` nothing was changed.
+    /// `t` counts the band's numbers from 0, and the number is at most 2^D - 1. The word has at most 48 bits and is
+    /// pushed at once. Returns `WantOfMemory` if an allocation fails; then nothing was changed.
     #[inline(always)]
     pub fn put(&mut self, z: u32, t: u64, delta: u16, writer: &mut BitWriter) -> Result<(), Fault>
         requires band { z < length self.old.bands }
@@ -98,10 +98,11 @@ impl Stats {
         Ok(())
     }
 
-    /// Appends the code words of a run of band `z`: its numbers from number `t` on, one behind another. Takes them into the statistics.
+    /// Appends the code words of numbers `t`, `t + 1`, .. of band `z`, and updates the band's statistics.
     ///
     /// `t` counts the band's numbers from 0. The run is within a row, so it has at most 65,536 numbers, and each is at
-    /// most 2^D - 1. Where the writer has room for 48 bits a number it succeeds. After `WantOfMemory` nothing was changed.
+    /// most 2^D - 1. Returns `WantOfMemory` if an allocation fails; then nothing was changed. It succeeds where the
+    /// writer has room for 48 bits a number.
     #[inline]
     pub fn put_run(
         &mut self,
@@ -131,7 +132,7 @@ impl Stats {
         Ok(())
     }
 
-    /// Appends the code words of numbers of band `z` that stand behind its first, and for which there is room.
+    /// Appends the code words of numbers of band `z`, none of which is its first. The writer has room for them.
     #[inline(always)]
     fn put_later(&mut self, z: u32, numbers: &[u16], writer: &mut BitWriter)
         requires band { z < length self.old.bands }
@@ -150,12 +151,12 @@ impl Stats {
         self.bands[z as usize] = replace_with(writer, run, put_words);
     }
 
-    /// Takes the number `t` of band `z` whose code word stands next, and takes it into the statistics.
+    /// Reads number `t` of band `z`, whose code word stands next, returns it, and updates the band's statistics.
     ///
-    /// `t` counts the band's numbers from 0. Where no code word stands next the answer is `BadCode`
-    /// with `t` as its place if a form stands there that is no number's word (a needless escape, or a
-    /// number above 2^D - 1), else `Truncated`. Then the reader stands where it stood, every later
-    /// call answers the same, and nothing else was changed.
+    /// `t` counts the band's numbers from 0. Where no code word stands next, it returns `BadCode` with `t` as the place
+    /// if the bits are of a code word's form but no number's (a needless escape, or a number above 2^D - 1), and
+    /// `Truncated` otherwise. Then the reader keeps its position, every later call returns the same, and nothing else
+    /// was changed.
     #[inline(always)]
     pub fn get(&mut self, z: u32, t: u64, reader: &mut BitReader) -> Result<u16, Fault>
         requires { z < length self.old.bands }
@@ -182,12 +183,13 @@ impl Stats {
         }
     }
 
-    /// Takes a run of band `z` whose code words stand next: its numbers from number `t` on, one behind another. Takes them into the statistics.
+    /// Reads numbers `t`, `t + 1`, .. of band `z`, whose code words stand next, into `numbers`, and updates the band's
+    /// statistics.
     ///
-    /// `t` counts the band's numbers from 0, and `place` is the first one's in encoding order. The run is within a row, so it has at most
-    /// 65,536 numbers. Where a number is refused the answer is its fault as `get` tells it, but `BadCode` has its place in encoding
-    /// order. Then the reader stands where it stood, every later call answers the same, nothing else was changed, and what is in
-    /// `numbers` means nothing.
+    /// `t` counts the band's numbers from 0, and the first stands at index `place` in encoding order. The run is within
+    /// a row, so it has at most 65,536 numbers. Where a number is refused, it returns the fault that `get` returns, but
+    /// `BadCode` has the number's index in encoding order. Then the reader keeps its position, every later call returns
+    /// the same, nothing else was changed, and what is in `numbers` is unspecified.
     #[inline]
     pub fn get_run(
         &mut self,
@@ -231,7 +233,7 @@ impl Stats {
         }
     }
 
-    /// How number `t` of band `z` is written.
+    /// Returns how number `t` of band `z` is written.
     fn code(&self, z: u32, t: u64) -> Code
         requires { z < length self.now.bands }
         ensures value { result ≡ code_by self.now z t }
@@ -252,7 +254,7 @@ impl Stats {
         }
     }
 
-    /// Counts number `t` of band `z`, unless it is the first.
+    /// Updates the statistics of band `z` by its number `t`; the first one changes nothing.
     fn count(&mut self, z: u32, t: u64, number: u16)
         requires { z < length self.old.bands }
         ensures { self.new ≡ counted self.old z t number }
@@ -264,7 +266,7 @@ impl Stats {
     }
 }
 
-/// The statistics from which so many bands start.
+/// Returns the statistics that `count` bands start from.
 fn first_of_all(
     alloc: Global,
     gamma_zero: u32,
@@ -285,7 +287,7 @@ fn first_of_all(
     Ok(bands)
 }
 
-/// K of band `z`.
+/// Returns K, the constant of band `z` that its accumulator starts from.
 #[tactic(auto, unfolding(crate::specs::Statistics::constant_of))]
 fn constant(start: &CountStart, z: u32) -> u32
     requires { (count : ℕ) × HasEntries count start.now × (z < count) }
