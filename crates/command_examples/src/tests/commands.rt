@@ -31,11 +31,11 @@ impl<'a> Opener for Memory<'a> {
 
     ghost opens = { λ m name input. ⟦<ReaderSource<&'a [u8]> as Source>⟧.failures input ≡ 0 };
 
-    ghost makes = { λ m name output. ⟦<WriterSink<Vec<u8>> as Sink>⟧.failures output ≡ 0 };
+    ghost makes = { λ m input name output. ⟦<WriterSink<Vec<u8>> as Sink>⟧.failures output ≡ 0 };
 
     ghost has_none = { λ m name. name ≢ codes "in" };
 
-    ghost makes_none = { λ m name. name ≡ codes "in" };
+    ghost makes_none = { λ m input name. name ≡ codes "in" };
 
     fn standard_input(&self) -> ReaderSource<&'a [u8]> {
         ReaderSource::new(self.standard)
