@@ -47,12 +47,12 @@ fn run_words<R: Threads + Wait + Sync, O: Opener>(
     words: &[String],
 ) -> Result<Ended<O::Input, O::Output>, Fault>
     ensures ran { IfOk result (λ ended. (settings : Asked) × Ask (map string_bytes words.now) settings × (s : O.Input) × (k : O.Output)
-        × O.opens opener.now (name_in settings) s × O.makes opener.now (name_out settings) k
+        × O.opens opener.now (name_in settings) s × O.makes opener.now s (name_out settings) k
         × Ran settings (O.Input.left s) (O.Input.failures s) (O.Input.failures ended.input) (O.Output.taken k) (O.Output.taken ended.output)
         (O.Output.failures k) (O.Output.failures ended.output) (O.Output.stalls k) (O.Output.stalls ended.output) ended.answer) }
     ensures refused { IfErr result (λ e. ((e ≡ Usage) × AskForNone (map string_bytes words.now))
         ⊎ ((e ≡ WantOfMemory) ⊎ ((settings : Asked) × Ask (map string_bytes words.now) settings
-        × HasNoEnd (O.has_none opener.now) (O.makes_none opener.now) settings e))) }
+        × HasNoEnd (O.opens opener.now) (O.has_none opener.now) (O.makes_none opener.now) settings e))) }
 {
     let settings = settings_of(alloc, words)?;
     run_command(rt, alloc, opener, &settings)

@@ -58,11 +58,11 @@ impl<'a> Opener for System<'a> {
     // Nothing is known of what a file or stream of the system holds, but that it hasn't failed yet.
     ghost opens = { λ s name input. ⟦<ReaderSource<Reader> as Source>⟧.failures input ≡ 0 };
 
-    ghost makes = { λ s name output. ⟦<WriterSink<Writer<'a>> as Sink>⟧.failures output ≡ 0 };
+    ghost makes = { λ s input name output. ⟦<WriterSink<Writer<'a>> as Sink>⟧.failures output ≡ 0 };
 
     ghost has_none = { λ s name. ⊤ };
 
-    ghost makes_none = { λ s name. ⊤ };
+    ghost makes_none = { λ s input name. ⊤ };
 
     fn standard_input(&self) -> ReaderSource<Reader> {
         ReaderSource::new(Reader::Standard(self.rt.stdin()))

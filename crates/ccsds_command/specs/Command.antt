@@ -30,11 +30,11 @@ name_out (Compress settings from to) = Some (string_bytes to)
 name_out (Expand layout from to) = Some (string_bytes to)
 name_out Inspect = None
 
--- why a command's ends aren't had: its input can't be opened, or its output can't be made
-abbrev pub HasNoEnd : (List ℕ → Type 0) → (List ℕ → Type 0) → Settings → Fault → Type 0
-HasNoEnd has_none makes_none settings fault =
+-- why a command's ends aren't had: its input can't be opened; or that was opened, and its output can't be made
+abbrev pub HasNoEnd : {Input : Type 0} → (Option (List ℕ) → Input → Type 0) → (List ℕ → Type 0) → (Input → List ℕ → Type 0) → Settings → Fault → Type 0
+HasNoEnd {Input} opens has_none makes_none settings fault =
     ((name : List ℕ) × (name_in settings ≡ Some name) × (fault ≡ Read) × has_none name)
-    ⊎ ((name : List ℕ) × (name_out settings ≡ Some name) × (fault ≡ Write 0) × makes_none name)
+    ⊎ ((input : Input) × opens (name_in settings) input × (name : List ℕ) × (name_out settings ≡ Some name) × (fault ≡ Write 0) × makes_none input name)
 
 -- the parameters that are judged before anything is read
 abbrev pub judged : Settings → Option Params

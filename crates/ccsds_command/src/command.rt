@@ -37,13 +37,13 @@ pub fn run_command<R: Threads + Wait + Sync, O: Opener>(
 ) -> Result<Ended<O::Input, O::Output>, Fault>
     requires { HasLayout settings.now }
     ensures ran { IfOk result (λ ended. (s : O.Input) × (k : O.Output) × O.opens opener.now (name_in settings.now) s
-        × O.makes opener.now (name_out settings.now) k × Ran settings.now (O.Input.left s) (O.Input.failures s) (O.Input.failures ended.input)
+        × O.makes opener.now s (name_out settings.now) k × Ran settings.now (O.Input.left s) (O.Input.failures s) (O.Input.failures ended.input)
         (O.Output.taken k) (O.Output.taken ended.output) (O.Output.failures k) (O.Output.failures ended.output) (O.Output.stalls k)
         (O.Output.stalls ended.output) ended.answer) }
     ensures unfilled { IfOk result (λ ended. (s : O.Input) × O.opens opener.now (name_in settings.now) s
         × IfErr ended.answer (IsUnfilled settings.now (O.Input.left s) (O.Input.left ended.input))) }
     ensures planned { IfOk result (λ ended. OnOk ended.answer (IsPlanned settings.now)) }
-    ensures refused { IfErr result (HasNoEnd (O.has_none opener.now) (O.makes_none opener.now) settings.now) }
+    ensures refused { IfErr result (HasNoEnd (O.opens opener.now) (O.has_none opener.now) (O.makes_none opener.now) settings.now) }
 {
     let mut input = input_of(opener, settings)?;
     let mut output = output_of(opener, &input, settings)?;
@@ -72,8 +72,8 @@ fn output_of<O: Opener>(
     input: &O::Input,
     settings: &Settings,
 ) -> Result<O::Output, Fault>
-    ensures made { IfOk result (O.makes opener.now (name_out settings.now)) }
-    ensures refused { IfErr result (λ e. (name : List ℕ) × (name_out settings.now ≡ Some name) × (e ≡ Write 0) × O.makes_none opener.now name) }
+    ensures made { IfOk result (O.makes opener.now input.now (name_out settings.now)) }
+    ensures refused { IfErr result (λ e. (name : List ℕ) × (name_out settings.now ≡ Some name) × (e ≡ Write 0) × O.makes_none opener.now input.now name) }
 {
     match settings {
         Settings::Show | Settings::Inspect => Ok(opener.standard_output()),

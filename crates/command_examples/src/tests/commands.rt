@@ -13,15 +13,45 @@ use command_settings::settings::{CompressSettings, Settings};
 use cube_core::fault::Fault;
 use std::alloc::Global;
 use std::sync::Wait;
+use std::sync::atomic::{AtomicU64, Ordering};
 use std::test::Fail;
 use std::thread::Threads;
 
-/// A standard input, and one file, whose name is `in`. Any new file can be made but one of that name.
+/// A standard input, and one file, whose name is `in`. Any new file can be made but one of that name. It counts how often
+/// either was asked for.
 #[derive(Drop)]
 struct Memory<'a> {
     alloc: Global,
     standard: &'a [u8],
     file: &'a [u8],
+    opened: AtomicU64,
+    made: AtomicU64,
+}
+
+impl<'a> Memory<'a> {
+    fn new(alloc: Global, standard: &'a [u8], file: &'a [u8]) -> Memory<'a> {
+        Memory {
+            alloc,
+            standard,
+            file,
+            opened: AtomicU64::new(0),
+            made: AtomicU64::new(0),
+        }
+    }
+
+    /// How often a file was opened, and how often one was created.
+    fn asked(&self) -> (u64, u64) {
+        (
+            self.opened.load(Ordering::SeqCst),
+            self.made.load(Ordering::SeqCst),
+        )
+    }
+}
+
+/// Counts one more.
+fn count(calls: &AtomicU64) {
+    let before = calls.load(Ordering::SeqCst);
+    calls.store(before.saturating_add(1), Ordering::SeqCst);
 }
 
 impl<'a> Opener for Memory<'a> {
@@ -31,11 +61,11 @@ impl<'a> Opener for Memory<'a> {
 
     ghost opens = { λ m name input. ⟦<ReaderSource<&'a [u8]> as Source>⟧.failures input ≡ 0 };
 
-    ghost makes = { λ m name output. ⟦<WriterSink<Vec<u8>> as Sink>⟧.failures output ≡ 0 };
+    ghost makes = { λ m input name output. ⟦<WriterSink<Vec<u8>> as Sink>⟧.failures output ≡ 0 };
 
     ghost has_none = { λ m name. name ≢ codes "in" };
 
-    ghost makes_none = { λ m name. name ≡ codes "in" };
+    ghost makes_none = { λ m input name. name ≡ codes "in" };
 
     fn standard_input(&self) -> ReaderSource<&'a [u8]> {
         ReaderSource::new(self.standard)
@@ -46,6 +76,7 @@ impl<'a> Opener for Memory<'a> {
     }
 
     fn open(&self, name: &str) -> Result<ReaderSource<&'a [u8]>, Fault> {
+        count(&self.opened);
         if name == "in" {
             Ok(ReaderSource::new(self.file))
         } else {
@@ -58,6 +89,7 @@ impl<'a> Opener for Memory<'a> {
         _input: &ReaderSource<&'a [u8]>,
         name: &str,
     ) -> Result<WriterSink<Vec<u8>>, Fault> {
+        count(&self.made);
         if name == "in" {
             Err(Fault::Write { written: 0 })
         } else {
@@ -76,11 +108,7 @@ fn written<R: Threads + Wait + Sync>(
 ) -> Result<Vec<u8>, Fault>
     requires { HasLayout settings.now }
 {
-    let memory = Memory {
-        alloc,
-        standard,
-        file,
-    };
+    let memory = Memory::new(alloc, standard, file);
     let ended = run_command(threads, alloc, &memory, settings)?;
     ended.answer?;
     Ok(ended.output.into_writer())
@@ -136,5 +164,40 @@ fn ends_that_are_not_there_are_told(rt: HostRuntime) -> Result<(), Fail> {
     let settings = Settings::Expand(ONE_BYTE, name(&rt, "in")?, name(&rt, "in")?);
     let refused = written(&rt, rt.alloc(), &[], &TWO_EQUAL_FILE, &settings);
     assert_eq!(rt; refused.err(), Some(Fault::Write { written: 0 }));
+    Ok(())
+}
+
+/// Whether a command is refused or not, it opens its input once, and creates its output once.
+#[test]
+fn each_file_is_asked_for_once(rt: HostRuntime) -> Result<(), Fail> {
+    for (predictors, raw, refused) in [
+        (0, [200, 200].as_slice(), None),
+        (2, [200, 200].as_slice(), None),
+        (
+            0,
+            [200].as_slice(),
+            Some(Fault::RawLength { wanted: 2, had: 1 }),
+        ),
+    ] {
+        let settings = CompressSettings {
+            predictors,
+            ..two_equal()?
+        };
+        let settings = Settings::Compress(settings, name(&rt, "in")?, name(&rt, "out")?);
+        let memory = Memory::new(rt.alloc(), &[], raw);
+        let ended = run_command(&rt, rt.alloc(), &memory, &settings)?;
+        assert_eq!(rt; ended.answer.err(), refused);
+        assert_eq!(rt; memory.asked(), (1, 1));
+    }
+    for (file, refused) in [
+        (TWO_EQUAL_FILE.as_slice(), None),
+        ([].as_slice(), Some(Fault::ShortHeader)),
+    ] {
+        let settings = Settings::Expand(ONE_BYTE, name(&rt, "in")?, name(&rt, "out")?);
+        let memory = Memory::new(rt.alloc(), &[], file);
+        let ended = run_command(&rt, rt.alloc(), &memory, &settings)?;
+        assert_eq!(rt; ended.answer.err(), refused);
+        assert_eq!(rt; memory.asked(), (1, 1));
+    }
     Ok(())
 }

@@ -99,7 +99,13 @@ expand a
 expand a a
 expand a b c
 expand --columns=3 a b
-expand --bytes 1 --bytes 1 a b";
+expand --bytes 1 --bytes 1 a b
+expand --bytes 0 a b
+expand --bytes 3 a b
+expand --bytes two a b
+expand --layout pixel a b
+expand --little=true a b
+expand --little --little a b";
 
 /// Whether a line is refused.
 fn is_usage(rt: &HostRuntime, line: &str) -> bool {
