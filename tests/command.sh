@@ -184,16 +184,19 @@ same 'the standard input comes in two pieces' text shown
 
 long=$(printf 'x%.0s' $(seq 1 250))
 far=$(printf './%.0s' $(seq 1 1900))
+# Who takes blanks or quotes off a name finds no other file of these bytes.
+mv raw bytes
 for name in 'zwei Wörter' "$long" "$far$long" 'ä\n*' ' raw' 'raw ' $'raw\n' $'zwei\nZeilen' $'\traw' - '"raw"' '$raw' '~' '%41'; do
     told=${name:0:40}
-    cp raw "./$name"
+    cp bytes "./$name"
     rm -f coded
     run "IN is $told" 0 '' compress $two "$name" coded
     holds "IN is $told" coded "$file"
-    run "OUT is $told" 0 '' compress $two raw "$name"
+    run "OUT is $told" 0 '' compress $two bytes "$name"
     holds "OUT is $told" "./$name" "$file"
     rm "./$name"
 done
+mv bytes raw
 run 'a name without letters' 4 $'ccsds: 18 Read\n' compress $two '' coded
 run 'a word without letters' 1 "$usage" compress $two '' raw coded
 run 'a word without letters, behind show' 1 "$usage" show ''

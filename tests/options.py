@@ -225,6 +225,21 @@ def predictors(room):
             room.hold(f"{name}: one file", room.read("other") == room.read("file"), True)
 
 
+# ---- files, each opened once
+
+
+def files(room):
+    """IN is opened once, and then OUT is."""
+    for name in ("raw", "file", "back"):
+        room.write(name, bytes(4))
+    sizes = ["--columns", 2, "--rows", 1, "--bands", 1, "--bits", 16]
+    for words in (["compress", *sizes], ["compress", *sizes, "--predictors", 1], ["expand"]):
+        names = ["file", "back"] if words == ["expand"] else ["raw", "file"]
+        with room.watched(names) as opened:
+            room.hold(f"{words} of watched files", room.run(*words, *names), (0, b"", ""))
+            room.hold(f"{words} opens", opened(), names)
+
+
 # ---- refusals
 
 HEADER = "00 0001 0002 0001 11 0000 08 00 02 a0 92 59 00 82 26"
@@ -268,7 +283,7 @@ def refusals(room):
 def main():
     with tempfile.TemporaryDirectory() as folder:
         room = Room(folder, sys.argv[1] if len(sys.argv) > 1 else PROGRAM)
-        for part in (layouts, options, documented, predictors, refusals):
+        for part in (layouts, options, documented, predictors, files, refusals):
             part(room)
     print(f"options.py: {room.passed} passed, {room.failed} failed")
     return 1 if room.failed else 0
