@@ -1,17 +1,10 @@
 //! Code words that are read several at a time: of one band, and of bands one above another.
 
-ghost use Rattle.std.specs.Prelude.{◌≡◌, length};
-ghost use Rattle.sample_adaptive.specs.Settings.{AreForSamples};
-
-use crate::sample_words::{params_of, short_codes};
+use crate::sample_words::{params_of, params_of_bands, short_codes};
 use crate::texts::{bytes_of, same_fault};
 use cube_core::fault::Fault;
-use cube_core::kind::Kind;
-use cube_core::shape::Shape;
 use header_bits::bit_reader::BitReader;
-use header_bits::params::{Coder, CountStart, Params};
 use sample_adaptive::stats::Stats;
-use std::process::Abort;
 
 /// A run of a band: its first number in eight bits, then an escape.
 #[test]
@@ -29,30 +22,10 @@ fn a_run_is_read(rt: HostRuntime) {
     assert!(rt; reader.left() == 0);
 }
 
-/// Parameters of two bands, under which the code parameter of a band's second number is 0.
-fn two_bands(rt: &impl Abort) -> Params
-    ensures lawful { AreForSamples result }
-    ensures bands { result.shape.bands ≡ 2 }
-{
-    let shape = Shape::new(1, 64, 2).expect(rt, "a shape");
-    let kind = Kind::new(false, 8).expect(rt, "a kind");
-    let bands = shape.bands();
-    assert!(rt; bands == 2);
-    Params {
-        coder: Coder::Sample {
-            umax: 8,
-            gamma_star: 6,
-            gamma_zero: 1,
-            start: CountStart::Constant(0),
-        },
-        ..Params::plain(shape, kind)
-    }
-}
-
 /// Columns of two bands: their first numbers in eight bits each, then as many zeros as the number says, and a one.
 #[test]
 fn columns_are_read(rt: HostRuntime) {
-    let params = two_bands(&rt);
+    let params = params_of_bands(&rt, 2, short_codes(8));
     let mut stats = Stats::new(rt.alloc(), &params).expect(&rt, "memory");
     let bytes = bytes_of(&rt, rt.alloc(), "90 13 14");
     assert!(rt; bytes.len() < 1_000_000);
@@ -72,7 +45,7 @@ fn columns_are_read(rt: HostRuntime) {
 /// The upper band's second number is a needless escape, at place 3 of the body. It is refused so for ever.
 #[test]
 fn a_column_is_refused(rt: HostRuntime) {
-    let params = two_bands(&rt);
+    let params = params_of_bands(&rt, 2, short_codes(8));
     let mut stats = Stats::new(rt.alloc(), &params).expect(&rt, "memory");
     let bytes = bytes_of(&rt, rt.alloc(), "90 13 10 00 30");
     assert!(rt; bytes.len() < 1_000_000);

@@ -30,6 +30,15 @@ pub(crate) fn params_of(rt: &impl Abort, s: Settings) -> Params
     ensures bands { 1 ≤ result.shape.bands }
     ensures bits { result.kind.bits ≡ s.bits }
 {
+    params_of_bands(rt, 1, s)
+}
+
+/// Parameters of so many bands, whose settings are lawful.
+pub(crate) fn params_of_bands(rt: &impl Abort, bands: u32, s: Settings) -> Params
+    ensures lawful { AreForSamples result }
+    ensures bands { result.shape.bands ≡ bands }
+    ensures bits { result.kind.bits ≡ s.bits }
+{
     assert!(rt; s.umax >= 8);
     assert!(rt; s.umax <= 32);
     assert!(rt; s.gamma_zero >= 1);
@@ -39,9 +48,9 @@ pub(crate) fn params_of(rt: &impl Abort, s: Settings) -> Params
     assert!(rt; s.gamma_zero < s.gamma_star);
     assert!(rt; s.bits >= 2);
     assert!(rt; s.constant <= s.bits - 2);
-    let shape = Shape::new(1, 64, 1).expect(rt, "a shape");
+    let shape = Shape::new(1, 64, bands).expect(rt, "a shape");
     let kind = Kind::new(false, s.bits).expect(rt, "a kind");
-    let _bands = shape.bands();
+    assert!(rt; shape.bands() == bands);
     assert!(rt; kind.bits() == s.bits);
     Params {
         coder: Coder::Sample {

@@ -1,7 +1,7 @@
 use Rattle.std.proofs.Common.{ap, arith}
 use Rattle.header_bits.specs.declared.params.Params.{Params}
 use Rattle.sample_adaptive.specs.Statistics.{constant_of}
-use Rattle.worked_examples.proofs.sample_words.params_of.Goals as goal
+use Rattle.worked_examples.proofs.sample_words.params_of_bands.Goals as goal
 
 pub returns-clause-lawful : goal.returns-clause-lawful
 unfolding constant_of
