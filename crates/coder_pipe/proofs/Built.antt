@@ -18,8 +18,8 @@ use Rattle.predict_core.proofs.OneSample.{one_sample_lem}
 use Rattle.file_coding.specs.Walked.{residuals_at}
 use Rattle.file_coding.proofs.Walking.{next_goes, gone_by, gone_count, residuals_push, residuals_whole}
 use Rattle.file_decoding.specs.Files.{IsCubeOf}
-use Rattle.file_decoding.proofs.Alike.{agree_at, mapped_at, scaled_alike, put_alike, put_same}
-use Rattle.file_decoding.proofs.Inverse.{wide_of, residuals_kept}
+use Rattle.file_decoding.proofs.Alike.{agree_at, mapped_at, scaled_alike}
+use Rattle.file_decoding.proofs.Kept.{wide_of, put_alike, put_same, residuals_kept}
 use Rattle.file_decoding.proofs.OneCube.{scaled_inside, least_inside}
 
 -- ---- another sample

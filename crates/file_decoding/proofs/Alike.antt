@@ -1,19 +1,15 @@
 -- Images that are one at all places up to one in the order: what is predicted there, and the residuals.
-use Rattle.std.proofs.Common.{◌≡◌, ◌≢◌, ◌+◌, ◌*◌, ◌<◌, ◌≤◌, ℕ, suc, zero, ℤ, pos, false, List, [], ◌∷◌, refl, sym, ap, ap₂, ◌∙◌, subst, inl, inr, arith}
-use Rattle.std.proofs.lemmas.List.{get_or-set_other}
+use Rattle.std.proofs.Common.{◌≡◌, ◌+◌, ◌*◌, ◌<◌, ◌≤◌, ℕ, suc, zero, ℤ, false, List, [], ◌∷◌, refl, sym, ap, ap₂, ◌∙◌, subst, inl, inr, arith}
 use Rattle.std.proofs.lemmas.Bool.{cases_order}
 use Rattle.std.proofs.Math.Arith.{digits_lt}
 use Rattle.cube_core.specs.declared.order.Order.{Order}
-use Rattle.cube_core.specs.declared.order.Order.TheVariants.{Bsq}
 use Rattle.cube_core.specs.declared.order.Place.{Place}
 use Rattle.cube_core.specs.Shape.{Sizes}
 use Rattle.cube_core.specs.Kind.{SampleKind}
-use Rattle.cube_core.specs.Image.{Image, sample_at, index_in, put}
+use Rattle.cube_core.specs.Image.{Image, sample_at}
 use Rattle.cube_core.specs.Order.{IsOrder, IsPlaceOf, place_key, place_index, IsBefore}
 use Rattle.cube_core.proofs.Keys.{order_is_by_key, item_of_index}
-use Rattle.cube_core.proofs.Orders.{StandsAt}
 use Rattle.cube_core.proofs.Raws.{same_place}
-use Rattle.cube_core.proofs.Walks.{sequential_index}
 use Rattle.header_bits.specs.declared.params.Params.{Params}
 use Rattle.predict_core.specs.Prediction.{weight_vector, scaled_prediction, next_weights}
 use Rattle.predict_core.specs.Predictor.{predictor_of}
@@ -22,6 +18,7 @@ use Rattle.predict_core.specs.Residual.{mapped, mapped_residual}
 use Rattle.predict_core.proofs.Following.{row_is, column_is}
 use Rattle.predict_core.proofs.Frame.{before_is, weights_same, scaled_same, place_same, scaled_there_same, exponent_same}
 use Rattle.file_coding.proofs.Come.{time_of}
+use Rattle.file_decoding.specs.Tiles.{SameBefore}
 
 -- ---- earlier places
 
@@ -47,10 +44,6 @@ earlier_index s o place earlier lawful a b e =
 
     twice : place_index s o earlier ≡ place_index s o place → IsBefore (place_key o place) (place_key o place)
     twice same = subst (λ (r : Place). IsBefore (place_key o r) (place_key o place)) (same_place s o earlier place lawful b a same) here
-
--- two images that are one at each place before the i-th
-abbrev pub SameBefore : Order → Image → Image → ℕ → Type 0
-SameBefore o c d i = (r : Place) → IsPlaceOf c.shape r → place_index c.shape o r < i → sample_at c r.z r.y r.x ≡ sample_at d r.z r.y r.x
 
 pub agree_at : (o : Order) (c d : Image) (i : ℕ) (q : Place) (t : ℕ) → IsOrder c.shape o → AreAlike c d → SameBefore o c d i → IsPlaceOf c.shape q → t ≡ time_of c.shape q → place_index c.shape o q ≤ i → Agree c d q.z t
 agree_at o c d i q t lawful alike same place e le = record {
@@ -105,34 +98,3 @@ weights_behind p c d q (suc t) wide place e agree sample =
     let w = weights_same p c d q.z place.band some wide (suc t) (omega (arith, inside)) agree in
     let s = scaled_there_same (predictor_of p) c d q.z q.y q.x (weight_vector p c q.z (suc t)) agree.alike.kind r.1 r.0 in
     rw (row, column, row', column', s, r.0, sample, exponent_same (predictor_of p) c d (suc t) agree.alike, w) refl
-
--- ---- another sample at one place
-
-pub put_alike : (c : Image) (q : Place) (v : ℤ) → AreAlike c (put c q.z q.y q.x v)
-put_alike c q v = record { shape = refl; kind = refl }
-
--- places with one index in the list of samples are one
-other_index : (s : Sizes) (q r : Place) → IsPlaceOf s q → IsPlaceOf s r → (q ≡ r → ⊥) → index_in s.columns s.rows r.z r.y r.x ≢ index_in s.columns s.rows q.z q.y q.x
-other_index s q r a b apart e = apart (same_place s Bsq q r tt a b (sequential_index s q ∙ sym e ∙ sym (sequential_index s r)))
-
-pub put_other : (c : Image) (q r : Place) (v : ℤ) → IsPlaceOf c.shape q → IsPlaceOf c.shape r → (q ≡ r → ⊥) → sample_at c r.z r.y r.x ≡ sample_at (put c q.z q.y q.x v) r.z r.y r.x
-unfolding sample_at
-put_other c q r v a b apart = sym (get_or-set_other c.samples (index_in c.shape.columns c.shape.rows q.z q.y q.x) (index_in c.shape.columns c.shape.rows r.z r.y r.x) v (pos 0) (other_index c.shape q r a b apart))
-
--- the places before it stay
-pub put_same : (o : Order) (c : Image) (q : Place) (v : ℤ) (i : ℕ) → IsPlaceOf c.shape q → place_index c.shape o q ≡ i → SameBefore o c (put c q.z q.y q.x v) i
-put_same o c q v i place e r there lt = put_other c q r v place there (λ h. omega (arith, lt, e, ap (place_index c.shape o) h))
-
--- residuals at earlier places stay
-pub put_residual : (p : Params) (c : Image) (q r : Place) (v : ℤ) (i : ℕ) → IsOrder c.shape p.order → (p.column ≡ false → 2 ≤ c.shape.columns) → StandsAt c.shape p.order q i → IsPlaceOf c.shape r → place_index c.shape p.order r < i
-    → mapped_residual p c r.z (time_of c.shape r) ≡ mapped_residual p (put c q.z q.y q.x v) r.z (time_of c.shape r)
-put_residual p c q r v i lawful wide stands there lt =
-    let same = put_same p.order c q v i stands.place stands.index in
-    residual_same p c (put c q.z q.y q.x v) r (time_of c.shape r) wide there refl (agree_at p.order c (put c q.z q.y q.x v) i r (time_of c.shape r) lawful (put_alike c q v) same there refl (omega (arith, lt))) (same r there lt)
-
--- so do the weights behind them
-pub put_weights : (p : Params) (c : Image) (q r : Place) (v : ℤ) (i : ℕ) → IsOrder c.shape p.order → (p.column ≡ false → 2 ≤ c.shape.columns) → StandsAt c.shape p.order q i → IsPlaceOf c.shape r → place_index c.shape p.order r < i
-    → weight_vector p c r.z (suc (time_of c.shape r)) ≡ weight_vector p (put c q.z q.y q.x v) r.z (suc (time_of c.shape r))
-put_weights p c q r v i lawful wide stands there lt =
-    let same = put_same p.order c q v i stands.place stands.index in
-    weights_behind p c (put c q.z q.y q.x v) r (time_of c.shape r) wide there refl (agree_at p.order c (put c q.z q.y q.x v) i r (time_of c.shape r) lawful (put_alike c q v) same there refl (omega (arith, lt))) (same r there lt)

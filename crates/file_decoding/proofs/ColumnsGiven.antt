@@ -22,8 +22,8 @@ use Rattle.file_coding.proofs.Runs.{run_count, samples_more_run}
 use Rattle.file_decoding.specs.declared.decoder.Decoder.TheVariants.{Samples}
 use Rattle.file_decoding.specs.Decoding.{AreAbove, GivesColumn}
 use Rattle.file_decoding.proofs.Givers.{rest_refused}
-use Rattle.file_decoding.proofs.Rows.{get_drop}
-use Rattle.file_decoding.proofs.RunsGiven.{some_same, none_there, range_both}
+use Rattle.file_decoding.proofs.Runs.{get_drop, range_both}
+use Rattle.file_decoding.proofs.RunsGiven.{some_same, none_there}
 
 -- the first places, so many, are there, and of bands one above another
 all_up : (ps : List Place) (count z : ℕ) → ((i : ℕ) → i < count → (q : Place) × (slice_get ps i ≡ Some q) × (q.z ≡ z + i)) → (count ≤ length ps) × AreUpFrom z (take count ps)

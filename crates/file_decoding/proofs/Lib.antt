@@ -3,10 +3,12 @@ pub mod FileLaws
 pub mod Fills
 pub mod Found
 pub mod Givers
-pub mod Rows
+pub mod Kept
 pub mod Runs
-pub mod Columns
-pub mod Inverse
+pub mod Tiles
+pub mod TileWalk
+pub mod Filling
+pub mod Decoded
 pub mod Long
 pub mod OneCube
 pub mod RunsGiven

@@ -27,7 +27,8 @@ use Rattle.predict_core.proofs.Padding.{first_from_middle, first_from_below}
 use Rattle.predict_core.specs.declared.predictor.Predictor.{Predictor}
 use Rattle.file_coding.proofs.Come.{time_of}
 use Rattle.file_decoding.specs.Laws.{OneCube}
-use Rattle.file_decoding.proofs.Alike.{SameBefore, agree_at, mapped_at, scaled_alike}
+use Rattle.file_decoding.specs.Tiles.{SameBefore}
+use Rattle.file_decoding.proofs.Alike.{agree_at, mapped_at, scaled_alike}
 
 -- ---- predictions are in range
 

@@ -18,7 +18,7 @@ use Rattle.file_coding.proofs.Runs.{run_count, samples_more_run}
 use Rattle.file_decoding.specs.declared.decoder.Decoder.TheVariants.{Samples}
 use Rattle.file_decoding.specs.Decoding.{AreNumbers, GivesRun}
 use Rattle.file_decoding.proofs.Givers.{rest_refused}
-use Rattle.file_decoding.proofs.Rows.{get_drop}
+use Rattle.file_decoding.proofs.Runs.{get_drop, range_both}
 
 pub some_same : (p q : Place) → Some p ≡ Some q → p ≡ q
 some_same p q k = cc
@@ -48,10 +48,6 @@ is_run p numbers z t count ask some =
       band = there.1;
       time = omega (arith, (ask 0 numbers some (omega arith)).3);
     }
-
-pub range_both : (limit : ℕ) (xs ys : List ℕ) → AllByRecursion (λ v. v < limit) xs → AllByRecursion (λ v. v < limit) ys → AllByRecursion (λ v. v < limit) (xs ++ ys)
-range_both limit [] ys h k = k
-range_both limit (x ∷ xs) ys h k = (h.0, range_both limit xs ys h.1 k)
 
 pub samples_given : (r : Result (Unit {0}) Fault) (z t place : ℕ) (old new : Counts) (unread : Unread) (left : List Bool) (list : List ℕ) → GetsRun z t place r old unread new left list → (length new.bands ≡ length old.bands) × (new.bits ≡ old.bits) → 0 < length list
     → GivesRun z t place r (Samples old) unread (Samples new) left list

@@ -2,3 +2,4 @@ pub mod Decoding
 pub mod Files
 pub mod Laws
 pub mod Least
+pub mod Tiles

@@ -15,6 +15,7 @@ ghost use Rattle.file_decoding.specs.Decoding.{TakesCube, AnswersOr, IsNoFile};
 
 use crate::decoder::Decoder;
 use crate::least::test_length;
+use crate::tile::{COLUMNS, Tile, most_bands};
 use cube_core::cube::Cube;
 use cube_core::cursor::Places;
 use cube_core::fault::Fault;
@@ -23,7 +24,6 @@ use file_coding::bands::all_bands;
 use header_bits::bit_reader::BitReader;
 use header_bits::header::read_header;
 use header_bits::params::Params;
-use predict_core::spectral::SpectralDifferences;
 use std::alloc::Global;
 
 /// Returns the parameters and the cube of a file of at most 2^60 bytes.
@@ -77,19 +77,6 @@ fn reader_behind(bytes: &[u8], size: usize) -> BitReader<'_>
     reader
 }
 
-/// The greatest number of places that are decoded at once.
-const RUN: usize = 64;
-
-/// Returns how many places are decoded at once from this one on: those up to the end of its row, at most `RUN`.
-fn run_from(params: &Params, place: Place) -> usize
-    requires { IsPlaceOf params.now.shape place }
-    ensures some { 1 ≤ result }
-    ensures most { result ≤ 64 }
-    ensures inside { place.x + result ≤ params.now.shape.columns }
-{
-    RUN.min((params.shape.columns() - place.x) as usize)
-}
-
 /// Returns t: how many places of the same band come before this one.
 fn time_of(params: &Params, place: Place) -> u64
     requires { IsPlaceOf params.now.shape place }
@@ -108,29 +95,16 @@ fn take_cube(alloc: Global, params: &Params, reader: &mut BitReader) -> Result<C
     let mut cube = Cube::new(alloc, params.shape, params.kind)?;
     let mut bands = all_bands(alloc, params)?;
     let mut decoder = Decoder::new(alloc, params)?;
+    let mut room = vec![in alloc; 0u16; COLUMNS * most_bands(params.order) as usize]?;
     let count = params.shape.sample_count();
     let mut places = Places::new(params.shape, params.order);
-    let mut deltas = [0; RUN];
-    let mut below = SpectralDifferences::none();
     while let Some(place) = places.peek() {
+        let tile = Tile::at(params, place);
+        let deltas = &mut room[..tile.count()];
         let index = count - places.left();
-        if params.order.goes_along_rows() {
-            let run = run_from(params, place);
-            let band = &mut bands[place.z as usize];
-            let t = band.next();
-            decoder.next_run(place.z, t, index, reader, &mut deltas[..run])?;
-            band.inverse_run(&mut cube, place.y, place.x, &deltas[..run], &mut below);
-            places.go_by(run as u64);
-        } else {
-            let column = places.column().min(RUN as u64) as usize;
-            let t = time_of(params, place);
-            decoder.next_column(place.z, t, index, reader, &mut deltas[..column])?;
-            for i in 0..column {
-                let above = &mut bands[place.z as usize + i];
-                above.inverse_place(&mut cube, place.y, place.x, deltas[i], &mut below);
-            }
-            places.go_by(column as u64);
-        }
+        tile.read(&mut decoder, time_of(params, place), index, reader, deltas)?;
+        tile.fill(&mut cube, &mut bands, deltas);
+        places.go_by(tile.count() as u64);
     }
     cube.prove_is_cube();
     Ok(cube)

@@ -94,7 +94,7 @@ impl Decoder {
     /// Writes the next residuals of the body to `deltas`: number `t` of band `z`, then that of the next band, and so on.
     /// The first stands at index `place` in encoding order.
     ///
-    /// They are of one row and column, at least one and at most 64. Where the bits encode fewer, it returns the first
+    /// They are of one row and column, at least one and at most 65,536. Where the bits encode fewer, it returns the first
     /// fault of the body, as `next` does, and what is in `deltas` is unspecified. It allocates nothing.
     #[inline]
     pub fn next_column(
@@ -106,7 +106,7 @@ impl Decoder {
         deltas: &mut [u16],
     ) -> Result<(), Fault>
         requires may { MayAskColumn self.old z t place (length deltas.old) }
-        requires small { (1 ≤ length deltas.old) × (length deltas.old ≤ 64) × (place < 2 ^ 48) }
+        requires small { (1 ≤ length deltas.old) × (length deltas.old ≤ 2 ^ 16) × (place < 2 ^ 48) }
         ensures given { GivesColumn z t place result self.old reader.old self.new reader.new.left deltas.new }
         ensures count { reader.new.count ≡ reader.old.count }
         ensures long { length deltas.new ≡ length deltas.old }

@@ -4,3 +4,4 @@
 pub mod decode;
 pub mod decoder;
 pub mod least;
+mod tile;

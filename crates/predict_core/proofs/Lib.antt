@@ -29,7 +29,6 @@ pub mod ErrorSigns
 pub mod Borders
 pub mod BandLines
 pub mod RunSteps
-pub mod Rising
 pub mod Places
 pub mod Predicted
 pub mod Quads

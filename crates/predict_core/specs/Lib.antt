@@ -16,7 +16,7 @@ pub mod Predictor
 pub mod Residual
 pub mod Rooms
 pub mod RunPlaces
-pub mod Spectral
+pub mod Steps
 pub mod Weights
 pub mod Rows
 pub mod Everything

@@ -17,7 +17,7 @@ ghost use Rattle.predict_core.specs.Prediction.{scaled_there, next_weights, weig
 ghost use Rattle.predict_core.specs.Residual.{mapped, run_residuals};
 ghost use Rattle.predict_core.specs.Rooms.{components_at, quads_of};
 ghost use Rattle.predict_core.specs.RunPlaces.{AreAlikeBeside};
-ghost use Rattle.predict_core.specs.Spectral.{AreSteps};
+ghost use Rattle.predict_core.specs.Steps.{AreSteps};
 ghost use Rattle.predict_core.specs.Weights.{step_exponent};
 
 use crate::chain::{differences_at, turn_of_error};
@@ -159,7 +159,7 @@ fn next_stretch(settings: &Settings, y: u32, x: u32, i: usize, count: usize) -> 
 /// `sum` is the local sum of the offsets there, and `form` the form of the steps. Of `lower` only the
 /// differences of the bands below are read.
 #[inline(always)]
-pub(crate) fn sample_there<const N: usize, const WRAPS: bool>(
+fn sample_there<const N: usize, const WRAPS: bool>(
     settings: &Settings,
     cube: &Cube,
     y: u32,
@@ -234,7 +234,7 @@ fn sample_by_part(range: &Range, part: i32, sum: u32, delta: u16) -> i32
 
 /// Returns the central difference of a sample where the local sum of the offsets is `sum`.
 #[inline(always)]
-pub(crate) fn difference_there(range: &Range, sample: i32, sum: u32) -> i32
+fn difference_there(range: &Range, sample: i32, sum: u32) -> i32
     requires sample_in { IsSample range.now.kind sample }
     requires sum_in { sum ≤ 262140 }
     ensures value { result ≡ pos 4 *ℤ sample -ℤ (pos 4 *ℤ smin range.now.kind +ℤ pos sum) }

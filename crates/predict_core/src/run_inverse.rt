@@ -10,14 +10,12 @@ ghost use Rattle.predict_core.specs.Residual.{mapped_residual, run_residuals};
 ghost use Rattle.predict_core.specs.Rooms.{quads_of};
 ghost use Rattle.predict_core.specs.RunPlaces.{AreAlikeBeside};
 ghost use Rattle.predict_core.specs.Following.{Follows, MovesOn, MovesBy};
-ghost use Rattle.predict_core.specs.Spectral.{AreOf};
 
 use crate::band::Band;
 use crate::inverse_chain::invert_places;
 use crate::room::{Quad, fill_run};
 use crate::run::LEAST;
 use crate::settings::Settings;
-use crate::spectral::SpectralDifferences;
 use cube_core::cube::Cube;
 
 impl Band {
@@ -26,8 +24,7 @@ impl Band {
     ///
     /// A run has at most 64 places. Its first place is the next one, row `y`, column `x`, and all of them are
     /// in that row. The cube has the shape and kind of the parameters, and each residual is at most 2^D - 1.
-    /// The cube's samples at these places and later ones are not read, and no other sample is written. `below`
-    /// holds differences of that cube, and after the call of the cube with the new samples
+    /// The cube's samples at these places and later ones are not read, and no other sample is written
     /// (CCSDS 123.0-B-1, "Predictor").
     pub fn inverse_run(
         &mut self,
@@ -35,7 +32,6 @@ impl Band {
         y: u32,
         x: u32,
         deltas: &[u16],
-        below: &mut SpectralDifferences,
     )
         requires shape { cube.old.shape ≡ self.old.shape }
         requires kind { cube.old.kind ≡ self.old.kind }
@@ -44,21 +40,18 @@ impl Band {
         requires inside { x + length deltas.now ≤ cube.old.shape.columns }
         requires next { self.old.place ≡ y * cube.old.shape.columns + x }
         requires residuals_in { (i : ℕ) → i < length deltas.now → slice_index deltas.now i < 2 ^ cube.old.kind.bits }
-        requires told { AreOf self.old.predictor below.old cube.old }
         ensures moved { MovesBy (length deltas.now) self.old self.new }
         ensures beside { AreAlikeBeside cube.old cube.new self.old.band y x (length deltas.now) }
         ensures residuals { (p : Parameters) → Follows p self.old cube.old → run_residuals p cube.new self.old.band self.old.place (length deltas.now)
             ≡ deltas.now }
         ensures follows { (p : Parameters) → Follows p self.old cube.old → Follows p self.new cube.new }
-        ensures told { AreOf self.new.predictor below.new cube.new }
     {
         cube.prove_is_cube();
         let count = deltas.len();
         if count < LEAST || y == 0 {
-            self.inverse_each(cube, y, x, deltas, below);
+            self.inverse_each(cube, y, x, deltas);
             return;
         }
-        below.forget();
         self.next += count as u64;
         if self.settings.predictor.register < 46 {
             invert_run::<true>(&self.settings, cube, y, x, &mut self.weights, deltas);
@@ -76,7 +69,6 @@ impl Band {
         y: u32,
         x: u32,
         deltas: &[u16],
-        below: &mut SpectralDifferences,
     )
         requires shape { cube.old.shape ≡ self.old.shape }
         requires kind { cube.old.kind ≡ self.old.kind }
@@ -85,31 +77,29 @@ impl Band {
         requires inside { x + length deltas.now ≤ cube.old.shape.columns }
         requires next { self.old.place ≡ y * cube.old.shape.columns + x }
         requires residuals_in { (i : ℕ) → i < length deltas.now → slice_index deltas.now i < 2 ^ cube.old.kind.bits }
-        requires told { AreOf self.old.predictor below.old cube.old }
         ensures moved { MovesBy (length deltas.now) self.old self.new }
         ensures beside { AreAlikeBeside cube.old cube.new self.old.band y x (length deltas.now) }
         ensures residuals { (p : Parameters) → Follows p self.old cube.old → run_residuals p cube.new self.old.band self.old.place (length deltas.now)
             ≡ deltas.now }
         ensures follows { (p : Parameters) → Follows p self.old cube.old → Follows p self.new cube.new }
-        ensures told { AreOf self.new.predictor below.new cube.new }
     {
         cube.prove_is_cube();
         // That its columns are the cube's is a fact for proofs.
         let _columns = self.settings.columns;
         for i in 0..deltas.len() {
             let column = x + i as u32;
-            self.inverse_alone(cube, y, column, deltas[i], below);
+            self.inverse_into(cube, y, column, deltas[i]);
         }
     }
 
-    /// Writes the sample at the next place, as `inverse_place` does, and returns it. No differences are kept.
-    pub(crate) fn inverse_alone(
+    /// Writes the sample at the next place whose mapped residual is `delta` into the cube, as `inverse` finds it, and
+    /// returns it.
+    fn inverse_into(
         &mut self,
         cube: &mut Cube,
         y: u32,
         x: u32,
         delta: u16,
-        below: &mut SpectralDifferences,
     ) -> i32
         requires shape { cube.old.shape ≡ self.old.shape }
         requires kind { cube.old.kind ≡ self.old.kind }
@@ -120,9 +110,7 @@ impl Band {
         ensures written { cube.new ≡ put cube.old self.old.band y x result }
         ensures residual { (p : Parameters) → Follows p self.old cube.old → mapped_residual p cube.new self.old.band self.old.place ≡ delta }
         ensures follows { (p : Parameters) → Follows p self.old cube.old → Follows p self.new cube.new }
-        ensures told { AreOf self.new.predictor below.new cube.new }
     {
-        below.forget();
         let band = self.settings.band;
         let sample = self.inverse(cube, y, x, delta);
         cube.set(band, y, x, sample);

@@ -9,7 +9,7 @@ ghost use Rattle.predict_core.specs.Weights.{step_exponent, updated_weights};
 ghost use Rattle.predict_core.specs.Prediction.{scaled_there, first_scaled as first_prediction};
 ghost use Rattle.predict_core.specs.Mapping.{IsScaled};
 ghost use Rattle.predict_core.specs.Bounds.{AllWithin, IsPredictor};
-ghost use Rattle.predict_core.specs.Spectral.{AreSteps};
+ghost use Rattle.predict_core.specs.Steps.{AreSteps};
 
 use crate::differences::{fill_differences, sum_at};
 use crate::exponent::exponent_at;

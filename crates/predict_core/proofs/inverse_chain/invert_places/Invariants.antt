@@ -6,7 +6,7 @@ use Rattle.predict_core.specs.Chain.{AreWeightsAt}
 use Rattle.predict_core.specs.Prediction.{weight_vector}
 use Rattle.predict_core.specs.Residual.{run_residuals}
 use Rattle.predict_core.specs.RunPlaces.{AreAlikeBeside}
-use Rattle.predict_core.specs.Spectral.{AreSteps}
+use Rattle.predict_core.specs.Steps.{AreSteps}
 use Rattle.predict_core.specs.Weights.{step_exponent}
 use Rattle.predict_core.proofs.inverse_chain.invert_places.Given as goal
 

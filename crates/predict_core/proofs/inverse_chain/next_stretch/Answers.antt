@@ -1,5 +1,5 @@
 use Rattle.std.proofs.Common.{◌≡◌, ◌+◌, ◌-◌, ◌*◌, sym, ap, ◌∙◌, subst, arith}
-use Rattle.predict_core.specs.Spectral.{AreSteps}
+use Rattle.predict_core.specs.Steps.{AreSteps}
 use Rattle.predict_core.specs.Weights.{step_exponent}
 use Rattle.predict_core.proofs.inverse_chain.next_stretch.Goals as goal
 

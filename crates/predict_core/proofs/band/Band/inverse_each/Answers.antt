@@ -17,7 +17,6 @@ loop-i-init c = record {
   beside = beside_none c.args.cube.now c.args.self.now.band c.args.y c.args.x;
   residuals = λ p f. refl;
   follows = λ p f. f;
-  told = c.requires.told;
   whole = c.prove_is_cube.ensures.whole;
 }
 
@@ -26,8 +25,8 @@ loop-i-preserved c =
     let kept = c.loop-i.invariant in
     let d : Image = c.loop-i.cube in
     let s = c.self.inside.settings in
-    let v = c.inverse_alone.result in
-    let is : c.inverse_alone.new.cube ≡ put d c.args.self.now.band c.args.y (c.args.x + c.loop-i.i) v = rw kept.moved.band at c.inverse_alone.ensures.written in
+    let v = c.inverse_into.result in
+    let is : c.inverse_into.new.cube ≡ put d c.args.self.now.band c.args.y (c.args.x + c.loop-i.i) v = rw kept.moved.band at c.inverse_into.ensures.written in
     let column : c.args.x + c.loop-i.i < c.args.cube.now.shape.columns = omega (arith, c.requires.inside, c.loop-i-test.true) in
     let place : IsPlace d.shape c.args.self.now.band c.args.y (c.args.x + c.loop-i.i) = subst (λ (a : Sizes). IsPlace a c.args.self.now.band c.args.y (c.args.x + c.loop-i.i)) kept.beside.alike.shape (record { band = c.requires.place.band; row = c.requires.place.row; column = column }) in
     let there : c.loop-i.self.place ≡ c.args.y * d.shape.columns + c.args.x + c.loop-i.i = kept.moved.place ∙ ap (λ t. t + c.loop-i.i) (c.requires.next ∙ ap (λ (a : Sizes). c.args.y * a.columns + c.args.x) kept.beside.alike.shape) in
@@ -37,11 +36,10 @@ loop-i-preserved c =
     λ p f h. let g = rw (← c.self.view_is) at f in let w = s.wide (ap (λ (q : Predictor). q.column) g.made.predictor ∙ h) in rw (← kept.beside.alike.shape, shape) (omega (arith, w, columns)) in
     rw is
     (record {
-      moved = moved_next c.loop-i.i c.args.self.now c.loop-i.self c.inverse_alone.new.self kept.moved c.inverse_alone.ensures.moved;
+      moved = moved_next c.loop-i.i c.args.self.now c.loop-i.self c.inverse_into.new.self kept.moved c.inverse_into.ensures.moved;
       beside = beside_next c.args.cube.now d c.args.self.now.band c.args.y c.args.x c.loop-i.i v place kept.whole kept.beside;
-      residuals = λ p f. residuals_next p d c.args.self.now.band c.args.y c.args.x c.loop-i.i v c.args.deltas.now place kept.whole (wide p f) c.loop-i-test.true (kept.residuals p f) (rw (is, kept.moved.band, there) at (c.inverse_alone.ensures.residual p (kept.follows p f)));
-      follows = λ p f. rw is at (c.inverse_alone.ensures.follows p (kept.follows p f));
-      told = rw is at c.inverse_alone.ensures.told;
+      residuals = λ p f. residuals_next p d c.args.self.now.band c.args.y c.args.x c.loop-i.i v c.args.deltas.now place kept.whole (wide p f) c.loop-i-test.true (kept.residuals p f) (rw (is, kept.moved.band, there) at (c.inverse_into.ensures.residual p (kept.follows p f)));
+      follows = λ p f. rw is at (c.inverse_into.ensures.follows p (kept.follows p f));
       whole = rw length-set kept.whole;
     })
 

@@ -4,7 +4,6 @@ use Rattle.header_bits.specs.declared.params.Params.{Params}
 use Rattle.predict_core.specs.Residual.{run_residuals}
 use Rattle.predict_core.specs.RunPlaces.{AreAlikeBeside}
 use Rattle.predict_core.specs.Following.{Follows, MovesBy}
-use Rattle.predict_core.specs.Spectral.{AreOf}
 use Rattle.predict_core.proofs.band.Band.inverse_each.Given as goal
 
 abbrev pub invariant-loop-i : goal.invariant-loop-i
@@ -13,6 +12,5 @@ invariant-loop-i l = record {
   beside : AreAlikeBeside l.initial.cube l.cube l.initial.self.band l.y l.x l.i;
   residuals : (p : Params) → Follows p l.initial.self l.initial.cube → run_residuals p l.cube l.initial.self.band (l.y * l.cube.shape.columns + l.x) l.i ≡ take l.i l.deltas;
   follows : (p : Params) → Follows p l.initial.self l.initial.cube → Follows p l.self l.cube;
-  told : AreOf l.self.predictor l.below l.cube;
   whole : length l.cube.samples ≡ sample_count l.cube.shape;
 }

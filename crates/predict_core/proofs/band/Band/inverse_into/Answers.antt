@@ -5,29 +5,24 @@ use Rattle.predict_core.proofs.band.Band.inverse_into.Goals as goal
 use Rattle.predict_core.proofs.band.Band.inverse_into.Goals.{After-set}
 
 -- the cube with the sample
-is : (c : After-set) → c.set.new.self ≡ put c.args.cube.now c.args.self.now.band c.args.y c.args.x c.inverse_beside-sample.result
+is : (c : After-set) → c.set.new.self ≡ put c.args.cube.now c.args.self.now.band c.args.y c.args.x c.inverse-sample.result
 is c =
-    let fits : SFits w32 c.inverse_beside-sample.result = search rules in
+    let fits : SFits w32 c.inverse-sample.result = search rules in
     let band : c.self.inside.settings.band ≡ c.args.self.now.band = ap (λ (b : Learner). b.band) c.self.view_is in
-    simp (to_z-of_z fits) at c.set.ensures ∙ ap (λ b. put c.args.cube.now b c.args.y c.args.x c.inverse_beside-sample.result) band
+    simp (to_z-of_z fits) at c.set.ensures ∙ ap (λ b. put c.args.cube.now b c.args.y c.args.x c.inverse-sample.result) band
 
 pub returns-clause-written : goal.returns-clause-written
 returns-clause-written c =
     let s = (goal.at.returns-clause-written c).After-set in
-    let fits : SFits w32 c.inverse_beside-sample.result = search rules in
+    let fits : SFits w32 c.inverse-sample.result = search rules in
     rw (to_z-of_z fits) (is s)
 
 pub returns-clause-residual : goal.returns-clause-residual
 returns-clause-residual c p f =
     let s = (goal.at.returns-clause-residual c).After-set in
-    rw (is s) (c.inverse_beside-sample.ensures.residual p f)
+    rw (is s) (c.inverse-sample.ensures.residual p f)
 
 pub returns-clause-follows : goal.returns-clause-follows
 returns-clause-follows c p f =
     let s = (goal.at.returns-clause-follows c).After-set in
-    rw (is s) (c.inverse_beside-sample.ensures.follows p f)
-
-pub returns-clause-told : goal.returns-clause-told
-returns-clause-told c =
-    let s = (goal.at.returns-clause-told c).After-set in
-    rw (is s) c.inverse_beside-sample.ensures.told
+    rw (is s) (c.inverse-sample.ensures.follows p f)

@@ -1,0 +1,13 @@
+use Rattle.std.proofs.Common.{◌∙◌, ◌*◌, ◌/◌, ℕ, inl, inr, ap, arith}
+use Rattle.file_decoding.proofs.Tiles.{is_tile}
+use Rattle.file_decoding.proofs.tile.Tile.at.Goals as goal
+use Rattle.file_decoding.proofs.tile.Tile.at.Goals.{then-place-first, else-place-first}
+
+pub returns-clause-tile : goal.returns-clause-tile
+returns-clause-tile c =
+    let place = c.requires.place in
+    let bands = rw (c.most_bands-depth.ensures, c.bands.ensures.value) at c.min-end.ensures in
+    elim c.if-place-first.branch [
+      | then-place-first w ↦ is_tile c.args.params.now c.args.place _ _ c.requires.lawful.order place (omega (arith, w.result-is, w.min.ensures, place.column, c.columns.ensures.value)) (omega (arith, w.result-is, w.min.ensures)) (omega (arith, w.result-is, w.min.ensures, place.column, c.columns.ensures.value)) (omega (arith, bands)) (inr (w.if-place-first.true ∙ ap (λ (d : ℕ). c.args.place.z / d * d) c.most_bands-depth.ensures))
+      | else-place-first w ↦ is_tile c.args.params.now c.args.place _ _ c.requires.lawful.order place (omega (arith, w.result-is)) (omega (arith, w.result-is)) (omega (arith, w.result-is, place.column)) (omega (arith, bands)) (inl w.result-is)
+    ]

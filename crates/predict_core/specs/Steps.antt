@@ -1,0 +1,10 @@
+-- The steps of the weights at a place, as the parts of a shift and a rounding.
+use Rattle.std.specs.Prelude.{ℕ, ◌≡◌, ◌+◌, ◌^◌, ◌≤◌, ℤ, pos, ◌+ℤ◌, ◌*ℤ◌}
+use Rattle.predict_core.specs.declared.weights.Form.{Form}
+use Rattle.predict_core.specs.Arithmetic.{floor_div}
+use Rattle.predict_core.specs.Weights.{step}
+
+-- steps by a form are those at an exponent, and it has room for differences of samples of so many bits
+pub record AreSteps (f : Form) (bits : ℕ) (exponent : ℤ) : Type 0 where
+  pub steps : (a : ℤ) → floor_div (a *ℤ pos (2 ^ f.up) +ℤ f.half) (2 ^ f.down) ≡ step exponent a
+  pub room : bits + f.up ≤ 24
