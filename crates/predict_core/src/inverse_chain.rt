@@ -32,70 +32,79 @@ use crate::settings::{Settings, form_at};
 use crate::weights::{Form, update_by};
 use cube_core::cube::Cube;
 
-/// Writes the samples of a run below the first row, one after another; the weights become those after it.
+/// A run below the first row whose samples aren't known yet: its first place, the components of its places, the
+/// weights there, and its mapped residuals.
 ///
 /// Of the quads only the differences of the bands below are read.
+#[derive(Clone, Copy)]
+pub(crate) struct OpenRun<'a, const Q: usize> {
+    pub settings: &'a Settings,
+    pub y: u32,
+    pub x: u32,
+    pub quads: &'a [Quad; Q],
+    pub weights: [i32; 18],
+    pub deltas: &'a [u16],
+}
+
+/// Writes the samples of a run, one after another, and returns the weights after it.
+///
+/// The cube is passed by value, so that what it points to stays in registers while samples are written.
 #[inline(always)]
 pub(crate) fn invert_places<const Q: usize, const N: usize, const WRAPS: bool>(
-    settings: &Settings,
-    cube: &mut Cube,
-    y: u32,
-    x: u32,
-    quads: &[Quad; Q],
-    weights: &mut [i32; 18],
-    deltas: &[u16],
-)
+    mut cube: Cube,
+    run: OpenRun<Q>,
+) -> (Cube, [i32; 18])
     requires few_weights { N ≤ 18 }
-    requires enough { settings.now.count ≤ N }
-    requires quads { Q ≡ quads_of settings.now.count }
-    requires register { WRAPS ≡ false → 46 ≤ settings.now.predictor.register }
-    requires later { 0 < y }
-    requires place { IsPlace cube.old.shape settings.now.band y x }
-    requires columns { cube.old.shape.columns ≡ settings.now.columns }
-    requires kind { cube.old.kind ≡ settings.now.range.kind }
-    requires few { length deltas.now ≤ 64 }
-    requires inside { x + length deltas.now ≤ cube.old.shape.columns }
-    requires residuals_in { (i : ℕ) → i < length deltas.now → slice_index deltas.now i < 2 ^ cube.old.kind.bits }
-    requires components { (i : ℕ) → i < length deltas.now
-        → components_at (quads_of settings.now.count) quads.now i ≡ difference_vector settings.now.predictor cube.old settings.now.band y (x + i)
-        ++ replicate (4 * quads_of settings.now.count - settings.now.count) (pos 0) }
-    requires weights_in { AllWithin (2 ^ (settings.now.predictor.fraction + 2)) weights.old }
-    ensures beside { AreAlikeBeside cube.old cube.new settings.now.band y x (length deltas.now) }
-    ensures residuals { (p : Parameters) → AreWeightsAt p settings.now.predictor cube.old settings.now.band (y * cube.old.shape.columns + x)
-        (take settings.now.count weights.old) → run_residuals p cube.new settings.now.band (y * cube.old.shape.columns + x) (length deltas.now) ≡ deltas.now }
-    ensures weights { (p : Parameters) → AreWeightsAt p settings.now.predictor cube.old settings.now.band (y * cube.old.shape.columns + x)
-        (take settings.now.count weights.old) → take settings.now.count weights.new ≡ weight_vector p cube.new settings.now.band (y * cube.old.shape.columns
-        + x + length deltas.now) }
-    ensures within { AllWithin (2 ^ (settings.now.predictor.fraction + 2)) weights.new }
+    requires enough { run.settings.now.count ≤ N }
+    requires quads { Q ≡ quads_of run.settings.now.count }
+    requires register { WRAPS ≡ false → 46 ≤ run.settings.now.predictor.register }
+    requires later { 0 < run.y }
+    requires place { IsPlace cube.shape run.settings.now.band run.y run.x }
+    requires columns { cube.shape.columns ≡ run.settings.now.columns }
+    requires kind { cube.kind ≡ run.settings.now.range.kind }
+    requires few { length run.deltas.now ≤ 64 }
+    requires inside { run.x + length run.deltas.now ≤ cube.shape.columns }
+    requires residuals_in { (i : ℕ) → i < length run.deltas.now → slice_index run.deltas.now i < 2 ^ cube.kind.bits }
+    requires components { (i : ℕ) → i < length run.deltas.now
+        → components_at (quads_of run.settings.now.count) run.quads.now i ≡ difference_vector run.settings.now.predictor cube run.settings.now.band run.y
+        (run.x + i) ++ replicate (4 * quads_of run.settings.now.count - run.settings.now.count) (pos 0) }
+    requires weights_in { AllWithin (2 ^ (run.settings.now.predictor.fraction + 2)) run.weights }
+    ensures beside { AreAlikeBeside cube result.0 run.entry.settings.now.band run.entry.y run.entry.x (length run.entry.deltas.now) }
+    ensures residuals { (p : Parameters) → AreWeightsAt p run.entry.settings.now.predictor cube run.entry.settings.now.band (run.entry.y * cube.shape.columns + run.entry.x)
+        (take run.entry.settings.now.count run.entry.weights) → run_residuals p result.0 run.entry.settings.now.band (run.entry.y * cube.shape.columns + run.entry.x)
+        (length run.entry.deltas.now) ≡ run.entry.deltas.now }
+    ensures weights { (p : Parameters) → AreWeightsAt p run.entry.settings.now.predictor cube run.entry.settings.now.band (run.entry.y * cube.shape.columns + run.entry.x)
+        (take run.entry.settings.now.count run.entry.weights) → take run.entry.settings.now.count result.1 ≡ weight_vector p result.0 run.entry.settings.now.band
+        (run.entry.y * cube.shape.columns + run.entry.x + length run.entry.deltas.now) }
+    ensures within { AllWithin (2 ^ (run.entry.settings.now.predictor.fraction + 2)) result.1 }
 {
     cube.prove_is_cube();
-    // Kept aside, as the weights are, so that they stay in registers while samples are written.
-    let kept = *settings;
-    let settings = &kept;
-    let mut working = *weights;
+    let OpenRun { y, x, quads, mut weights, deltas, .. } = run;
+    // A copy stays in registers.
+    let settings = *run.settings;
     let mut stretch = Stretch {
         form: Form::none(),
         end: 0,
     };
     for i in 0..deltas.len() {
         let column = x + i as u32;
-        stretch = stretch_at(settings, y, x, i, deltas.len(), stretch);
-        let sum = sum_at(&settings.predictor, cube, settings.band, y, column);
+        stretch = stretch_at(&settings, y, x, i, deltas.len(), stretch);
+        let sum = sum_at(&settings.predictor, &cube, settings.band, y, column);
         let lower = differences_at::<Q>(quads, i);
         let sample = sample_there::<N, WRAPS>(
-            settings,
-            cube,
+            &settings,
+            &cube,
             y,
             column,
             sum,
             stretch.form,
-            &mut working,
+            &mut weights,
             &lower,
             deltas[i],
         );
         cube.set(settings.band, y, column, sample);
     }
-    *weights = working;
+    (cube, weights)
 }
 
 /// The form of the steps at places of a run, up to its place `end`.

@@ -12,10 +12,11 @@ ghost use Rattle.predict_core.specs.RunPlaces.{AreAlikeBeside};
 ghost use Rattle.predict_core.specs.Following.{Follows, MovesOn, MovesBy};
 
 use crate::band::Band;
-use crate::inverse_chain::invert_places;
+use crate::inverse_chain::{OpenRun, invert_places};
 use crate::room::{Quad, fill_run};
 use crate::run::LEAST;
 use crate::settings::Settings;
+use core::mem::replace_with;
 use cube_core::cube::Cube;
 
 impl Band {
@@ -208,5 +209,13 @@ fn invert_by<const Q: usize, const N: usize, const WRAPS: bool>(
     };
     let mut quads = [quad; Q];
     fill_run::<Q>(settings, cube, y, x, count, &mut sums, &mut own, &mut quads);
-    invert_places::<Q, N, WRAPS>(settings, cube, y, x, &quads, weights, deltas);
+    let run = OpenRun {
+        settings,
+        y,
+        x,
+        quads: &quads,
+        weights: *weights,
+        deltas,
+    };
+    *weights = replace_with(cube, run, invert_places::<Q, N, WRAPS>);
 }

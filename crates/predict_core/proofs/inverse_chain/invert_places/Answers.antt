@@ -19,9 +19,9 @@ use Rattle.predict_core.proofs.inverse_chain.invert_places.Goals as goal
 
 pub loop-i-init : goal.loop-i-init
 loop-i-init g c = record {
-  beside = beside_none c.args.cube.now c.args.settings.now.band c.args.y c.args.x;
+  beside = beside_none c.args.cube c.args.run.settings.now.band c.args.run.y c.args.run.x;
   residuals = λ p f. refl;
-  weights = λ p f. f.weights ∙ ap (weight_vector p c.args.cube.now c.args.settings.now.band) (omega arith);
+  weights = λ p f. f.weights ∙ ap (weight_vector p c.args.cube c.args.run.settings.now.band) (omega arith);
   bound = c.requires.weights_in;
   steps = λ k le lt. absurd (omega (arith, lt));
   whole = c.prove_is_cube.ensures.whole;
@@ -30,17 +30,17 @@ loop-i-init g c = record {
 pub sample_there-sample-requires-clause-lower : goal.sample_there-sample-requires-clause-lower
 sample_there-sample-requires-clause-lower g c =
     let kept = c.loop-i.invariant in
-    let s = c.args.settings.now in
-    let column : c.args.x + c.loop-i.i < c.args.cube.now.shape.columns = omega (arith, c.requires.inside, c.loop-i-test.true) in
-    let wide : s.predictor.column ≡ false → 2 ≤ c.args.cube.now.shape.columns = λ h. let w = s.wide h in omega (arith, w, c.requires.columns) in
+    let s = c.args.run.settings.now in
+    let column : c.args.run.x + c.loop-i.i < c.args.cube.shape.columns = omega (arith, c.requires.inside, c.loop-i-test.true) in
+    let wide : s.predictor.column ≡ false → 2 ≤ c.args.cube.shape.columns = λ h. let w = s.wide h in omega (arith, w, c.requires.columns) in
     let e = rw (← c.requires.quads) at (c.requires.components c.loop-i.i c.loop-i-test.true) in
-    let gathered = gathered_is (difference_vector s.predictor c.args.cube.now s.band c.args.y (c.args.x + c.loop-i.i)) (components_at g.row.Q c.args.quads.now c.loop-i.i) c.differences_at-lower.result s.count (4 * g.row.Q - s.count) (vector_length s.predictor c.args.cube.now s.band c.args.y (c.args.x + c.loop-i.i) ∙ sym s.count_is) s.few e c.differences_at-lower.ensures in
-    lower_kept s.predictor c.args.cube.now c.loop-i.cube s.band c.args.y c.args.x c.loop-i.i (c.args.x + c.loop-i.i) (record { band = c.requires.place.band; row = c.requires.place.row; column = column }) (omega (arith, c.requires.later)) wide kept.beside c.differences_at-lower.result (18 - s.count) gathered
+    let gathered = gathered_is (difference_vector s.predictor c.args.cube s.band c.args.run.y (c.args.run.x + c.loop-i.i)) (components_at g.row.Q c.args.run.quads.now c.loop-i.i) c.differences_at-lower.result s.count (4 * g.row.Q - s.count) (vector_length s.predictor c.args.cube s.band c.args.run.y (c.args.run.x + c.loop-i.i) ∙ sym s.count_is) s.few e c.differences_at-lower.ensures in
+    lower_kept s.predictor c.args.cube c.loop-i.cube s.band c.args.run.y c.args.run.x c.loop-i.i (c.args.run.x + c.loop-i.i) (record { band = c.requires.place.band; row = c.requires.place.row; column = column }) (omega (arith, c.requires.later)) wide kept.beside c.differences_at-lower.result (18 - s.count) gathered
 
 pub sample_there-sample-requires-clause-steps : goal.sample_there-sample-requires-clause-steps
 sample_there-sample-requires-clause-steps g c =
     let kept = c.loop-i.invariant in
-    let s = c.args.settings.now in
+    let s = c.args.run.settings.now in
     let columns : s.columns ≡ c.loop-i.cube.shape.columns = sym c.requires.columns ∙ ap (λ (a : Sizes). a.columns) kept.beside.alike.shape in
     let bits : s.range.bits ≡ c.loop-i.cube.kind.bits = s.range.bits_is ∙ ap (λ (k : SampleKind). k.bits) (sym c.requires.kind ∙ kept.beside.alike.kind) in
     rw (columns, bits) at (c.stretch_at-stretch.ensures.steps c.loop-i.i (omega arith) c.stretch_at-stretch.ensures.some)
@@ -49,26 +49,26 @@ pub loop-i-preserved : goal.loop-i-preserved
 loop-i-preserved g c =
     let kept = c.loop-i.invariant in
     let d : Image = c.loop-i.cube in
-    let s = c.args.settings.now in
+    let s = c.args.run.settings.now in
     let v = c.sample_there-sample.result in
     let fits : SFits w32 c.sample_there-sample.result = search rules in
-    let is : c.set.new.self ≡ put d s.band c.args.y (c.args.x + c.loop-i.i) v = simp (to_z-of_z fits) at c.set.ensures in
-    let column : c.args.x + c.loop-i.i < c.args.cube.now.shape.columns = omega (arith, c.requires.inside, c.loop-i-test.true) in
-    let place : IsPlace d.shape s.band c.args.y (c.args.x + c.loop-i.i) = subst (λ (a : Sizes). IsPlace a s.band c.args.y (c.args.x + c.loop-i.i)) kept.beside.alike.shape (record { band = c.requires.place.band; row = c.requires.place.row; column = column }) in
-    let later : 0 < c.args.y * d.shape.columns + (c.args.x + c.loop-i.i) = later_place d.shape.columns c.args.y (c.args.x + c.loop-i.i) (omega (arith, c.requires.later)) place.column in
-    let same : c.args.cube.now.shape.columns ≡ d.shape.columns = ap (λ (a : Sizes). a.columns) kept.beside.alike.shape in
-    let wide : (p : Params) → AreWeightsAt p s.predictor c.args.cube.now s.band (c.args.y * c.args.cube.now.shape.columns + c.args.x) (take s.count c.args.weights.now) → p.column ≡ false → 2 ≤ d.shape.columns =
+    let is : c.set.new.self ≡ put d s.band c.args.run.y (c.args.run.x + c.loop-i.i) v = simp (to_z-of_z fits) at c.set.ensures in
+    let column : c.args.run.x + c.loop-i.i < c.args.cube.shape.columns = omega (arith, c.requires.inside, c.loop-i-test.true) in
+    let place : IsPlace d.shape s.band c.args.run.y (c.args.run.x + c.loop-i.i) = subst (λ (a : Sizes). IsPlace a s.band c.args.run.y (c.args.run.x + c.loop-i.i)) kept.beside.alike.shape (record { band = c.requires.place.band; row = c.requires.place.row; column = column }) in
+    let later : 0 < c.args.run.y * d.shape.columns + (c.args.run.x + c.loop-i.i) = later_place d.shape.columns c.args.run.y (c.args.run.x + c.loop-i.i) (omega (arith, c.requires.later)) place.column in
+    let same : c.args.cube.shape.columns ≡ d.shape.columns = ap (λ (a : Sizes). a.columns) kept.beside.alike.shape in
+    let wide : (p : Params) → AreWeightsAt p s.predictor c.args.cube s.band (c.args.run.y * c.args.cube.shape.columns + c.args.run.x) (take s.count c.args.run.weights) → p.column ≡ false → 2 ≤ d.shape.columns =
     λ p f h. let w = s.wide (ap (λ (q : Predictor). q.column) f.predictor ∙ h) in omega (arith, w, c.requires.columns, same) in
-    let sum : (columns : ℕ) → columns ≡ d.shape.columns → c.args.y * columns + (c.args.x + c.loop-i.i) ≡ c.args.y * columns + c.args.x + c.loop-i.i = λ columns e. omega arith in
-    let next : (columns : ℕ) → columns ≡ d.shape.columns → c.args.y * columns + (c.args.x + c.loop-i.i) + 1 ≡ c.args.y * columns + (c.args.x + (c.loop-i.i + 1)) = λ columns e. omega arith in
+    let sum : (columns : ℕ) → columns ≡ d.shape.columns → c.args.run.y * columns + (c.args.run.x + c.loop-i.i) ≡ c.args.run.y * columns + c.args.run.x + c.loop-i.i = λ columns e. omega arith in
+    let next : (columns : ℕ) → columns ≡ d.shape.columns → c.args.run.y * columns + (c.args.run.x + c.loop-i.i) + 1 ≡ c.args.run.y * columns + (c.args.run.x + (c.loop-i.i + 1)) = λ columns e. omega arith in
     rw is
     (record {
-      beside = beside_next c.args.cube.now d s.band c.args.y c.args.x c.loop-i.i v place kept.whole kept.beside;
-      residuals = λ p f. residuals_next p d s.band c.args.y c.args.x c.loop-i.i v c.args.deltas.now place kept.whole (wide p f) c.loop-i-test.true (kept.residuals p f)
-          (ap (mapped_residual p (put d s.band c.args.y (c.args.x + c.loop-i.i) v) s.band) (sym (sum d.shape.columns refl))
-          ∙ residual_put p s.predictor d s.band c.args.y (c.args.x + c.loop-i.i) (c.args.y * d.shape.columns + (c.args.x + c.loop-i.i)) v (take s.count c.loop-i.working) place kept.whole (wide p f) f.predictor refl (kept.weights p f) later (get_or c.args.deltas.now c.loop-i.i 0) c.sample_there-sample.ensures.inverse);
-      weights = λ p f. weights_put p s.predictor d s.band c.args.y (c.args.x + c.loop-i.i) (c.args.y * d.shape.columns + (c.args.x + c.loop-i.i)) v (take s.count c.loop-i.working) place kept.whole (wide p f) f.predictor refl (kept.weights p f) later (take s.count c.sample_there-sample.new.weights) c.sample_there-sample.ensures.weights
-          ∙ ap (weight_vector p (put d s.band c.args.y (c.args.x + c.loop-i.i) v) s.band) (next d.shape.columns refl);
+      beside = beside_next c.args.cube d s.band c.args.run.y c.args.run.x c.loop-i.i v place kept.whole kept.beside;
+      residuals = λ p f. residuals_next p d s.band c.args.run.y c.args.run.x c.loop-i.i v c.args.run.deltas.now place kept.whole (wide p f) c.loop-i-test.true (kept.residuals p f)
+          (ap (mapped_residual p (put d s.band c.args.run.y (c.args.run.x + c.loop-i.i) v) s.band) (sym (sum d.shape.columns refl))
+          ∙ residual_put p s.predictor d s.band c.args.run.y (c.args.run.x + c.loop-i.i) (c.args.run.y * d.shape.columns + (c.args.run.x + c.loop-i.i)) v (take s.count c.loop-i.weights) place kept.whole (wide p f) f.predictor refl (kept.weights p f) later (get_or c.args.run.deltas.now c.loop-i.i 0) c.sample_there-sample.ensures.inverse);
+      weights = λ p f. weights_put p s.predictor d s.band c.args.run.y (c.args.run.x + c.loop-i.i) (c.args.run.y * d.shape.columns + (c.args.run.x + c.loop-i.i)) v (take s.count c.loop-i.weights) place kept.whole (wide p f) f.predictor refl (kept.weights p f) later (take s.count c.sample_there-sample.new.weights) c.sample_there-sample.ensures.weights
+          ∙ ap (weight_vector p (put d s.band c.args.run.y (c.args.run.x + c.loop-i.i) v) s.band) (next d.shape.columns refl);
       bound = c.sample_there-sample.ensures.bound;
       steps = λ k le lt. c.stretch_at-stretch.ensures.steps k (omega (arith, le)) lt;
       whole = rw length-set kept.whole;
@@ -76,23 +76,23 @@ loop-i-preserved g c =
 
 pub returns-clause-beside : goal.returns-clause-beside
 returns-clause-beside g c =
-    let done : c.loop-i.i ≡ length c.args.deltas.now = omega (arith, c.loop-i-test.false, c.loop-i.auto.i-end) in
-    subst (λ n. AreAlikeBeside c.args.cube.now c.loop-i.cube c.args.settings.now.band c.args.y c.args.x n) done c.loop-i.invariant.beside
+    let done : c.loop-i.i ≡ length c.args.run.deltas.now = omega (arith, c.loop-i-test.false, c.loop-i.auto.i-end) in
+    subst (λ n. AreAlikeBeside c.args.cube c.loop-i.cube c.args.run.settings.now.band c.args.run.y c.args.run.x n) done c.loop-i.invariant.beside
 
 pub returns-clause-residuals : goal.returns-clause-residuals
 returns-clause-residuals g c p f =
     let kept = c.loop-i.invariant in
-    let s = c.args.settings.now in
-    let done : c.loop-i.i ≡ length c.args.deltas.now = omega (arith, c.loop-i-test.false, c.loop-i.auto.i-end) in
-    let there : c.args.y * c.args.cube.now.shape.columns + c.args.x ≡ c.args.y * c.loop-i.cube.shape.columns + c.args.x = ap (λ (a : Sizes). c.args.y * a.columns + c.args.x) kept.beside.alike.shape in
-    ap (λ t. run_residuals p c.loop-i.cube s.band t (length c.args.deltas.now)) there
-    ∙ subst (λ n. run_residuals p c.loop-i.cube s.band (c.args.y * c.loop-i.cube.shape.columns + c.args.x) n ≡ take n c.args.deltas.now) done (kept.residuals p f) ∙ take_all (length c.args.deltas.now) c.args.deltas.now (omega arith)
+    let s = c.args.run.settings.now in
+    let done : c.loop-i.i ≡ length c.args.run.deltas.now = omega (arith, c.loop-i-test.false, c.loop-i.auto.i-end) in
+    let there : c.args.run.y * c.args.cube.shape.columns + c.args.run.x ≡ c.args.run.y * c.loop-i.cube.shape.columns + c.args.run.x = ap (λ (a : Sizes). c.args.run.y * a.columns + c.args.run.x) kept.beside.alike.shape in
+    ap (λ t. run_residuals p c.loop-i.cube s.band t (length c.args.run.deltas.now)) there
+    ∙ subst (λ n. run_residuals p c.loop-i.cube s.band (c.args.run.y * c.loop-i.cube.shape.columns + c.args.run.x) n ≡ take n c.args.run.deltas.now) done (kept.residuals p f) ∙ take_all (length c.args.run.deltas.now) c.args.run.deltas.now (omega arith)
 
 pub returns-clause-weights : goal.returns-clause-weights
 returns-clause-weights g c p f =
     let kept = c.loop-i.invariant in
-    let s = c.args.settings.now in
-    let done : c.loop-i.i ≡ length c.args.deltas.now = omega (arith, c.loop-i-test.false, c.loop-i.auto.i-end) in
-    let sum : (columns n : ℕ) → c.loop-i.i ≡ n → c.args.y * columns + (c.args.x + c.loop-i.i) ≡ c.args.y * columns + c.args.x + n = λ columns n e. omega (arith, e) in
-    kept.weights p f ∙ ap (λ (a : Sizes). weight_vector p c.loop-i.cube s.band (c.args.y * a.columns + (c.args.x + c.loop-i.i))) (sym kept.beside.alike.shape)
-    ∙ ap (weight_vector p c.loop-i.cube s.band) (sum c.args.cube.now.shape.columns (length c.args.deltas.now) done)
+    let s = c.args.run.settings.now in
+    let done : c.loop-i.i ≡ length c.args.run.deltas.now = omega (arith, c.loop-i-test.false, c.loop-i.auto.i-end) in
+    let sum : (columns n : ℕ) → c.loop-i.i ≡ n → c.args.run.y * columns + (c.args.run.x + c.loop-i.i) ≡ c.args.run.y * columns + c.args.run.x + n = λ columns n e. omega (arith, e) in
+    kept.weights p f ∙ ap (λ (a : Sizes). weight_vector p c.loop-i.cube s.band (c.args.run.y * a.columns + (c.args.run.x + c.loop-i.i))) (sym kept.beside.alike.shape)
+    ∙ ap (weight_vector p c.loop-i.cube s.band) (sum c.args.cube.shape.columns (length c.args.run.deltas.now) done)
