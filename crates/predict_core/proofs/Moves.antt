@@ -1,5 +1,5 @@
 -- The steps of the weights in words of 32 bits.
-use Rattle.std.proofs.Common.{◌≡◌, ℕ, ◌+◌, ◌-◌, ◌*◌, ◌%◌, ◌^◌, ◌≤◌, ℤ, pos, negsuc, neg_ℤ, ◌+ℤ◌, ◌-ℤ◌, ◌*ℤ◌, ◌≤ℤ◌, unsigned_abs, Bool, List, refl, sym, ap, ◌∙◌, arith, w32, SFits, to_z, pow_mono, le_trans, div-one}
+use Rattle.std.proofs.Common.{◌≡◌, ℕ, ◌+◌, ◌-◌, ◌*◌, ◌%◌, ◌^◌, ◌≤◌, ℤ, pos, negsuc, neg_ℤ, ◌+ℤ◌, ◌-ℤ◌, ◌*ℤ◌, ◌≤ℤ◌, unsigned_abs, Bool, true, false, if◌then◌else◌, List, refl, sym, ap, ◌∙◌, arith, w32, SFits, to_z, pow_mono, le_trans, div-one}
 use Rattle.std.proofs.Math.Pow.{pow-add}
 use Rattle.std.specs.Int.{int_min, int_max}
 use Rattle.std.proofs.lemmas.Int.{ints, clamps, to_z_pos, fits_signed_from_abs, unsigned_abs-mul}
@@ -83,6 +83,12 @@ pub moved_is : (fraction : ℕ) (exponent : ℤ) (negative : Bool) (weight diffe
     → r ≡ clip (weight +ℤ moved) (weight_min fraction) (weight_max fraction) → r ≡ updated_weight fraction exponent negative weight difference
 unfolding updated_weight
 moved_is fraction exponent negative weight difference size moved r a b e = e ∙ rw (b, a) refl
+
+-- a weight after an error of either sign
+pub chosen_weight : (fraction : ℕ) (exponent : ℤ) (negative : Bool) (weight difference raised lowered r : ℤ) → raised ≡ updated_weight fraction exponent false weight difference → lowered ≡ updated_weight fraction exponent true weight difference
+    → r ≡ (if negative then lowered else raised) → r ≡ updated_weight fraction exponent negative weight difference
+chosen_weight fraction exponent true weight difference raised lowered r up down is = is ∙ down
+chosen_weight fraction exponent false weight difference raised lowered r up down is = is ∙ up
 
 -- differences of samples of few bits may be raised by more
 pub within_room : (bits by : ℕ) (us : List ℤ) → bits + by ≤ 24 → AllWithin (4 * 2 ^ bits) us → AllWithin (2 ^ (26 - by)) us

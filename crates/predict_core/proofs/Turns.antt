@@ -1,41 +1,33 @@
 -- The sign of an error as a word of 32 bits: all ones, or 0.
-use Rattle.std.proofs.Common.{◌≡◌, ℕ, zero, suc, ◌-◌, ◌^◌, ◌%◌, ◌<◌, ◌≤◌, ℤ, pos, negsuc, ◌-ℤ◌, ◌≤ℤ◌, int_lt, int_le, unsigned_abs, refl, ap, arith, ◌∙◌, w32, to_z, of_z}
-use Rattle.std.specs.Int.Bits.{bit_xor, bit_and, xor_add_and, xor_zero_r}
-use Rattle.std.proofs.lemmas.Int.{ints, to_z_pos}
-use Rattle.std.proofs.Math.Facts.{to_z-neg}
+use lib.Bits.{and_zero_r}
+use Rattle.std.proofs.Common.{◌≡◌, ℕ, zero, suc, ◌-◌, ◌^◌, ◌%◌, ◌≤◌, ℤ, pos, negsuc, ◌-ℤ◌, ◌≤ℤ◌, int_lt, int_le, unsigned_abs, arith, w32, to_z, of_z, SFits, to_z-of_z, ◌+ℤ◌, if◌then◌else◌, Bool, true, false}
+use Rattle.std.specs.Int.Bits.{bit_and}
+use Rattle.std.proofs.lemmas.Int.{ints, fits_signed_from_abs}
 use Rattle.std.proofs.lemmas.Nat.{and_mask}
 use Rattle.predict_core.specs.Arithmetic.{floor_div}
-use Rattle.predict_core.specs.Weights.{signed_by}
 
--- all bits of a word turned round
-ones : (n : ℕ) → n < 4294967296 → bit_xor n 4294967295 ≡ 4294967295 - n
-ones n h =
-    let masked : bit_and n 4294967295 ≡ n % 4294967296 = and_mask n 32 in
-    omega (arith, masked, xor_add_and n 4294967295)
+-- a word whose bits are all kept
+kept : (d : ℤ) → unsigned_abs d ≤ 2 ^ 22 → bit_and (of_z w32 d) 4294967295 ≡ of_z w32 d
+kept (pos n) h = let masked : bit_and n 4294967295 ≡ n % 4294967296 = and_mask n 32 in omega (arith, masked, h)
+kept (negsuc n) h = let masked : bit_and (2 ^ 32 - suc n) 4294967295 ≡ (2 ^ 32 - suc n) % 4294967296 = and_mask (2 ^ 32 - suc n) 32 in omega (arith, ints, masked, h)
 
-one_less : (a : ℕ) → 4294967295 - a ≡ 2 ^ 32 - suc a
-one_less a = omega arith
+-- one of two numbers, by such a word
+pub chosen_is : (turn a b : ℤ) → negsuc 0 ≤ℤ turn → turn ≤ℤ pos 0 → unsigned_abs a ≤ 2 ^ 21 → unsigned_abs b ≤ 2 ^ 21
+    → a +ℤ to_z w32 (bit_and (of_z w32 (b -ℤ a)) (of_z w32 turn)) ≡ (if int_lt turn (pos 0) then b else a)
+chosen_is (pos zero) a b l h s t = rw (and_zero_r (of_z w32 (b -ℤ a))) (omega (arith, ints))
+chosen_is (pos (suc n)) a b l h s t = absurd (omega (arith, ints, h))
+chosen_is (negsuc zero) a b l h s t =
+    let fits : SFits w32 (b -ℤ a) = fits_signed_from_abs w32 (b -ℤ a) (omega (arith, ints, s, t)) in
+    rw (kept (b -ℤ a) (omega (arith, ints, s, t)), to_z-of_z fits) (omega (arith, ints))
+chosen_is (negsuc (suc n)) a b l h s t = absurd (omega (arith, ints, l))
 
--- a difference whose bits are turned round by such a word, less the word
-pub turned_is : (turn u : ℤ) → negsuc 0 ≤ℤ turn → turn ≤ℤ pos 0 → unsigned_abs u ≤ 2 ^ 26
-    → to_z w32 (bit_xor (of_z w32 u) (of_z w32 turn)) -ℤ to_z w32 (of_z w32 turn) ≡ signed_by (int_lt turn (pos 0)) u
-turned_is (pos zero) u l h s = rw (xor_zero_r (of_z w32 u)) (omega (arith, ints))
-turned_is (pos (suc n)) u l h s = absurd (omega (arith, ints, h))
-turned_is (negsuc zero) (pos a) l h s =
-    let e : bit_xor a 4294967295 ≡ 2 ^ 32 - suc a = ones a (omega (arith, ints, s)) ∙ one_less a in
-    let n : to_z w32 (bit_xor a 4294967295) ≡ negsuc a = ap (to_z w32) e ∙ to_z-neg w32 a (omega (arith, ints, s)) in
-    rw n (omega (arith, ints))
-turned_is (negsuc zero) (negsuc a) l h s =
-    let e : bit_xor (2 ^ 32 - suc a) 4294967295 ≡ a = ones (2 ^ 32 - suc a) (omega (arith, ints, s)) ∙ omega (arith, ints, s) in
-    let n : to_z w32 (bit_xor (2 ^ 32 - suc a) 4294967295) ≡ pos a = ap (to_z w32) e ∙ to_z_pos w32 a (omega (arith, ints, s)) in
-    rw n (omega (arith, ints))
-turned_is (negsuc (suc n)) u l h s = absurd (omega (arith, ints, l))
+pub either_fits : (negative : Bool) (a b : ℤ) → unsigned_abs a ≤ 2 ^ 21 → unsigned_abs b ≤ 2 ^ 21 → SFits w32 (if negative then b else a)
+either_fits true a b s t = fits_signed_from_abs w32 b (omega (arith, t))
+either_fits false a b s t = fits_signed_from_abs w32 a (omega (arith, s))
 
-pub turned_size : (turn u : ℤ) → negsuc 0 ≤ℤ turn → turn ≤ℤ pos 0 → unsigned_abs (signed_by (int_lt turn (pos 0)) u) ≡ unsigned_abs u
-turned_size (pos zero) u l h = refl
-turned_size (pos (suc n)) u l h = absurd (omega (arith, ints, h))
-turned_size (negsuc zero) u l h = omega (arith, ints)
-turned_size (negsuc (suc n)) u l h = absurd (omega (arith, ints, l))
+pub either_within : (limit : ℕ) (negative : Bool) (a b : ℤ) → unsigned_abs a ≤ limit → unsigned_abs b ≤ limit → unsigned_abs (if negative then b else a) ≤ limit
+either_within limit true a b s t = t
+either_within limit false a b s t = s
 
 -- the sign of a number below 2 ^ 31, by a shift
 pub sign_shifted : (a : ℤ) → unsigned_abs a ≤ 2 ^ 30 → (int_lt (floor_div a 2147483648) (pos 0) ≡ int_lt a (pos 0)) × (negsuc 0 ≤ℤ floor_div a 2147483648) × (floor_div a 2147483648 ≤ℤ pos 0)

@@ -2,14 +2,12 @@
 use Rattle.std.specs.Prelude.{ℕ, List, [], ◌∷◌, map, ℤ, pos, negsuc, true, false}
 use Rattle.header_bits.specs.declared.params.Params.{Params}
 use Rattle.header_bits.specs.Plain.{plain}
-use Rattle.header_bits.specs.declared.params.WeightStart.TheVariants.{Usual, Table}
-use Rattle.header_bits.specs.declared.params.Coder.TheVariants.{Sample}
-use Rattle.header_bits.specs.declared.params.CountStart.TheVariants.{Constant}
+use Rattle.header_bits.specs.declared.params.WeightStart.TheVariants.{Table}
 use Rattle.cube_core.specs.Shape.{Sizes}
 use Rattle.cube_core.specs.Kind.{SampleKind}
 use Rattle.cube_core.specs.Image.{Image}
 use Rattle.cube_core.specs.Order.{upto}
-use Rattle.cube_core.specs.declared.order.Order.TheVariants.{Bsq, Bi}
+use Rattle.cube_core.specs.declared.order.Order.TheVariants.{Bi}
 use Rattle.predict_core.specs.Prediction.{scaled_prediction}
 
 abbrev pub sizes : ℕ → ℕ → ℕ → Sizes

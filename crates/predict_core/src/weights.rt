@@ -1,10 +1,10 @@
 //! The weights of the differences: their products, and their update.
 
-ghost use Rattle.std.specs.Prelude.{◌≡◌, ◌+◌, ◌-◌, ◌*◌, ◌^◌, ◌≤◌, pos, negsuc, ◌≤ℤ◌, ◌+ℤ◌, ◌-ℤ◌, ◌*ℤ◌, unsigned_abs, int_lt, ℕ, ℤ, List, length, take};
+ghost use Rattle.std.specs.Prelude.{if◌then◌else◌, ◌≡◌, ◌+◌, ◌-◌, ◌*◌, ◌^◌, ◌≤◌, pos, negsuc, ◌≤ℤ◌, ◌+ℤ◌, ◌-ℤ◌, ◌*ℤ◌, unsigned_abs, int_lt, ℕ, ℤ, List, length, take};
 ghost use Rattle.std.specs.Prelude.{◌++◌, replicate};
 ghost use Rattle.predict_core.specs.Arithmetic.{floor_div, clip};
 ghost use Rattle.predict_core.specs.Prediction.{inner_product};
-ghost use Rattle.predict_core.specs.Weights.{step, signed_by, weight_min, weight_max, updated_weight as updated, updated_weights};
+ghost use Rattle.predict_core.specs.Weights.{step, weight_min, weight_max, updated_weight as updated, updated_weights};
 ghost use Rattle.predict_core.specs.Bounds.{AllWithin};
 
 /// Returns the sum of the products of the weights in use with their differences.
@@ -216,8 +216,10 @@ fn moved(fraction: u32, exponent: i32, form: Form, turn: i32, weight: i32, diffe
     ensures value { result ≡ updated fraction exponent (int_lt turn (pos 0)) weight difference }
     ensures bound { unsigned_abs result ≤ 2 ^ (fraction + 2) }
 {
-    let size = apply_sign(turn, difference);
-    clip_weight(fraction, weight, stepped(form, size))
+    // Both are found while the error isn't known yet: the next prediction waits for the choice alone.
+    let raised = clip_weight(fraction, weight, stepped(form, difference));
+    let lowered = clip_weight(fraction, weight, stepped(form, -difference));
+    chosen(turn, raised, lowered)
 }
 
 /// Returns the word of a sign: all ones where an error is negative, else 0.
@@ -230,16 +232,15 @@ fn turn_of(negative: bool) -> i32
     if negative { -1 } else { 0 }
 }
 
-/// Returns the difference with the sign of the error: negated where `turn` is all ones, and unchanged where it
-/// is 0.
+/// Returns the second weight where `turn` is all ones, and the first where it is 0.
 #[inline(always)]
-fn apply_sign(turn: i32, difference: i32) -> i32
+fn chosen(turn: i32, raised: i32, lowered: i32) -> i32
     requires turn_in { (negsuc 0 ≤ℤ turn) × (turn ≤ℤ pos 0) }
-    requires difference_in { unsigned_abs difference ≤ 2 ^ 26 }
-    ensures value { result ≡ signed_by (int_lt turn (pos 0)) difference }
-    ensures size { unsigned_abs result ≡ unsigned_abs difference }
+    requires raised_in { unsigned_abs raised ≤ 2 ^ 21 }
+    requires lowered_in { unsigned_abs lowered ≤ 2 ^ 21 }
+    ensures { result ≡ (if int_lt turn (pos 0) then lowered else raised) }
 {
-    (difference ^ turn) - turn
+    raised + ((lowered - raised) & turn)
 }
 
 /// Returns the step for a size.

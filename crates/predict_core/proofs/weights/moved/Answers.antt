@@ -1,16 +1,52 @@
-use Rattle.std.proofs.Common.{int_lt, pos, SFits, to_z-of_z, w32, ◌∙◌, arith, rules}
-use Rattle.predict_core.proofs.Moves.{moved_is, room_word}
+use Rattle.std.proofs.Common.{◌≡◌, ◌+◌, ◌^◌, ◌-ℤ◌, int_lt, pos, neg_ℤ, true, false, le_trans, SFits, to_z-of_z, w32, refl, ◌∙◌, arith, rules}
+use Rattle.std.proofs.lemmas.Int.{ints, fits_signed_from_abs}
+use Rattle.predict_core.proofs.Moves.{moved_is, chosen_weight, room_word, limit_within}
+use Rattle.predict_core.proofs.Turns.{either_within}
 use Rattle.predict_core.proofs.weights.moved.Goals as goal
+use Rattle.predict_core.proofs.weights.moved.Goals.{Start, After-chosen}
 
-pub apply_sign-size-requires-clause-difference_in : goal.apply_sign-size-requires-clause-difference_in
-apply_sign-size-requires-clause-difference_in c = rw (to_z-of_z c.ranges.difference) (let r = room_word c.args.form.up in omega (arith, r))
+-- a difference turned round
+turned : (c : Start) → SFits w32 (pos 0 -ℤ c.args.difference)
+turned c = let r = room_word c.args.form.up in fits_signed_from_abs w32 (pos 0 -ℤ c.args.difference) (omega (arith, ints, r, c.requires.difference_in))
+
+pub overflow_sub-difference : goal.overflow_sub-difference
+overflow_sub-difference c = rw (to_z-of_z c.ranges.difference) (turned (goal.at.overflow_sub-difference c).Start)
+
+pub stepped-requires-2 : goal.stepped-requires-2
+stepped-requires-2 c = rw (to_z-of_z c.ranges.difference, to_z-of_z (turned (goal.at.stepped-requires-2 c).Start)) (omega (arith, ints, c.requires.difference_in))
+
+pub chosen-requires-clause-raised_in : goal.chosen-requires-clause-raised_in
+chosen-requires-clause-raised_in c =
+    let fits : SFits w32 c.clip_weight-raised.result = search rules in
+    rw (to_z-of_z fits) (le_trans c.clip_weight-raised.ensures.bound (limit_within c.args.fraction c.requires.fraction_in))
+
+pub chosen-requires-clause-lowered_in : goal.chosen-requires-clause-lowered_in
+chosen-requires-clause-lowered_in c =
+    let fits : SFits w32 c.clip_weight-lowered.result = search rules in
+    rw (to_z-of_z fits) (le_trans c.clip_weight-lowered.ensures.bound (limit_within c.args.fraction c.requires.fraction_in))
 
 pub returns-clause-value : goal.returns-clause-value
 returns-clause-value c =
-    let size_fits : SFits w32 c.apply_sign-size.result = search rules in
-    let stepped_fits : SFits w32 c.stepped.result = search rules in
-    let result_fits : SFits w32 c.clip_weight.result = search rules in
+    let s = (goal.at.returns-clause-value c).Start in
+    let up_fits : SFits w32 c.stepped.result = search rules in
+    let down_fits : SFits w32 c.stepped-2.result = search rules in
+    let raised_fits : SFits w32 c.clip_weight-raised.result = search rules in
+    let lowered_fits : SFits w32 c.clip_weight-lowered.result = search rules in
+    let fits : SFits w32 c.chosen.result = search rules in
     let steps = c.requires.steps in
-    rw (to_z-of_z result_fits)
-    (moved_is c.args.fraction c.args.exponent (int_lt c.args.turn (pos 0)) c.args.weight c.args.difference c.apply_sign-size.result c.stepped.result c.clip_weight.result
-    (simp (to_z-of_z c.ranges.turn, to_z-of_z c.ranges.difference) at c.apply_sign-size.ensures.value) ((simp (to_z-of_z size_fits) at c.stepped.ensures.value) ∙ steps c.apply_sign-size.result) (simp (to_z-of_z c.ranges.weight, to_z-of_z stepped_fits) at c.clip_weight.ensures.value))
+    let back : pos 0 -ℤ c.args.difference ≡ neg_ℤ c.args.difference = omega (arith, ints) in
+    let raised = moved_is c.args.fraction c.args.exponent false c.args.weight c.args.difference c.args.difference c.stepped.result c.clip_weight-raised.result refl
+    ((simp (to_z-of_z c.ranges.difference) at c.stepped.ensures.value) ∙ steps c.args.difference) (simp (to_z-of_z c.ranges.weight, to_z-of_z up_fits) at c.clip_weight-raised.ensures.value) in
+    let lowered = moved_is c.args.fraction c.args.exponent true c.args.weight c.args.difference (pos 0 -ℤ c.args.difference) c.stepped-2.result c.clip_weight-lowered.result back
+    ((simp (to_z-of_z c.ranges.difference, to_z-of_z (turned s)) at c.stepped-2.ensures.value) ∙ steps (pos 0 -ℤ c.args.difference)) (simp (to_z-of_z c.ranges.weight, to_z-of_z down_fits) at c.clip_weight-lowered.ensures.value) in
+    rw (to_z-of_z fits)
+    (chosen_weight c.args.fraction c.args.exponent (int_lt c.args.turn (pos 0)) c.args.weight c.args.difference c.clip_weight-raised.result c.clip_weight-lowered.result c.chosen.result raised lowered
+    (simp (to_z-of_z c.ranges.turn, to_z-of_z raised_fits, to_z-of_z lowered_fits) at c.chosen.ensures))
+
+pub returns-clause-bound : goal.returns-clause-bound
+returns-clause-bound c =
+    let raised_fits : SFits w32 c.clip_weight-raised.result = search rules in
+    let lowered_fits : SFits w32 c.clip_weight-lowered.result = search rules in
+    let fits : SFits w32 c.chosen.result = search rules in
+    let is = simp (to_z-of_z c.ranges.turn, to_z-of_z raised_fits, to_z-of_z lowered_fits) at c.chosen.ensures in
+    rw (to_z-of_z fits, is) (either_within (2 ^ (c.args.fraction + 2)) (int_lt c.args.turn (pos 0)) c.clip_weight-raised.result c.clip_weight-lowered.result c.clip_weight-raised.ensures.bound c.clip_weight-lowered.ensures.bound)
