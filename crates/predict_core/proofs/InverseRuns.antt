@@ -1,22 +1,26 @@
 -- A run whose samples are put into an image one behind another.
-use Rattle.std.proofs.Common.{◌≡◌, ℕ, zero, suc, ◌+◌, ◌-◌, ◌*◌, ◌<◌, ◌≤◌, ℤ, pos, false, true, Bool, List, [], ◌∷◌, ◌++◌, map, length, take, drop, replicate, get_or, append_assoc, refl, sym, ap, ap₂, ◌∙◌, subst, arith, inl, inr, if◌then◌else◌}
+use Rattle.std.proofs.Common.{◌≡◌, ℕ, zero, suc, ◌+◌, ◌-◌, ◌*◌, ◌<◌, ◌≤◌, ℤ, pos, false, true, Bool, List, [], ◌∷◌, ◌++◌, map, length, take, drop, replicate, get_or, append_assoc, length-append, length-take, refl, sym, ap, ap₂, ◌∙◌, subst, arith, inl, inr, if◌then◌else◌}
 use Rattle.std.proofs.Math.Arith.{digits_lt}
+use Rattle.std.proofs.lemmas.List.{take-append-drop}
 use Rattle.cube_core.specs.Shape.{Sizes, sample_count}
 use Rattle.cube_core.specs.Image.{Image, IsPlace, sample_at, put}
 use Rattle.cube_core.specs.Order.{from}
 use Rattle.header_bits.specs.declared.params.Params.{Params}
 use Rattle.predict_core.specs.declared.predictor.Predictor.{Predictor}
-use Rattle.predict_core.specs.Predictor.{previous_bands}
+use Rattle.predict_core.specs.Predictor.{previous_bands, component_count}
 use Rattle.predict_core.specs.Differences.{central_difference, spectral_differences, directional_differences, difference_vector}
 use Rattle.predict_core.specs.Prediction.{scaled_prediction}
 use Rattle.predict_core.specs.Precedence.{Agree, IsEarlier}
 use Rattle.predict_core.specs.Residual.{mapped, mapped_residual, run_residuals}
 use Rattle.predict_core.specs.RunPlaces.{AreAlikeBeside}
-use Rattle.predict_core.proofs.Directions.{reduced_vector_is, full_vector_is, directional_length, heads_dropped}
+use Rattle.predict_core.specs.Rooms.{IsLowerPart, quads_of}
+use Rattle.predict_core.proofs.Directions.{reduced_vector_is, full_vector_is, reduced_count, full_count, heads_dropped}
+use Rattle.predict_core.proofs.Filling.{spectral_length}
 use Rattle.predict_core.proofs.Following.{row_is, column_is}
 use Rattle.predict_core.proofs.Frame.{local_sum_same, scaled_same}
 use Rattle.predict_core.proofs.Inverting.{sample_put_beside, agree_put}
 use Rattle.predict_core.proofs.RunSteps.{one_more}
+use Rattle.predict_core.proofs.Runs.{gathered_is}
 
 pub beside_none : (c : Image) (z y x : ℕ) → AreAlikeBeside c c z y x 0
 beside_none c z y x = record { alike = record { shape = refl; kind = refl }; samples = λ z' y' x' q out. refl }
@@ -105,19 +109,27 @@ module _ (q : Predictor) (c d : Image) (z y first n x : ℕ) (place : IsPlace c.
       let m = central_below (z - suc k) (omega arith) in
       rw (s, m) refl
 
-  pub lower_kept : (room : List ℤ) (m : ℕ) → room ≡ difference_vector q c z y x ++ replicate m (pos 0)
-      → drop (if q.reduced then 0 else 3) room ≡ spectral_differences q d z y x (previous_bands q z) ++ replicate m (pos 0)
-  lower_kept room m e = by_mode q.reduced refl
-    where
-      same : spectral_differences q c z y x (previous_bands q z) ≡ spectral_differences q d z y x (previous_bands q z)
-      same = spectral_below (previous_bands q z) (omega arith)
+  -- gathered in a room of 18, behind so many components that the caller writes
+  lower_from : (k count m : ℕ) (components room : List ℤ) → count ≡ k + previous_bands q z → count ≤ 18 → k ≤ length components → drop k components ≡ spectral_differences q c z y x (previous_bands q z) ++ replicate m (pos 0)
+      → room ≡ take 18 (components ++ replicate 18 (pos 0)) → drop k room ≡ spectral_differences q d z y x (previous_bands q z) ++ replicate (18 - count) (pos 0)
+  lower_from k count m components room e few le h g =
+      let heads : List ℤ = take k components in
+      let lower : List ℤ = spectral_differences q c z y x (previous_bands q z) in
+      let heads_long : length (take k components) ≡ k = omega (arith, le, length-take k components) in
+      let all : components ≡ (take k components ++ lower) ++ replicate m (pos 0) = sym (take-append-drop k components) ∙ ap (λ us. take k components ++ us) h ∙ sym (append_assoc heads lower (replicate m (pos 0))) in
+      let long : length (take k components ++ lower) ≡ count = omega (arith, length-append heads lower, heads_long, spectral_length q c z y x (previous_bands q z), e) in
+      ap (drop k) (gathered_is (take k components ++ lower) components room count m long few all g ∙ append_assoc heads lower (replicate (18 - count) (pos 0)))
+      ∙ heads_dropped heads (lower ++ replicate (18 - count) (pos 0)) k heads_long
+      ∙ ap (λ us. us ++ replicate (18 - count) (pos 0)) (spectral_below (previous_bands q z) (omega arith))
 
-      by_mode : (b : Bool) → q.reduced ≡ b → drop (if b then 0 else 3) room ≡ spectral_differences q d z y x (previous_bands q z) ++ replicate m (pos 0)
-      by_mode true r = e ∙ ap (λ us. us ++ replicate m (pos 0)) (reduced_vector_is q c z y x r ∙ same)
-      by_mode false r =
-          ap (drop 3) (e ∙ ap (λ us. us ++ replicate m (pos 0)) (full_vector_is q c z y x r) ∙ append_assoc (directional_differences q c z y x) (spectral_differences q c z y x (previous_bands q z)) (replicate m (pos 0)))
-          ∙ heads_dropped (directional_differences q c z y x) (spectral_differences q c z y x (previous_bands q z) ++ replicate m (pos 0)) 3 (directional_length q c z y x)
-          ∙ ap (λ us. us ++ replicate m (pos 0)) same
+  pub lower_kept : (count : ℕ) (components room : List ℤ) → count ≡ component_count q z → count ≤ 18 → IsLowerPart q c z y x count components → room ≡ take 18 (components ++ replicate 18 (pos 0))
+      → drop (if q.reduced then 0 else 3) room ≡ spectral_differences q d z y x (previous_bands q z) ++ replicate (18 - count) (pos 0)
+  lower_kept count components room e few part g = by_mode q.reduced refl part.lower
+    where
+      by_mode : (b : Bool) → q.reduced ≡ b → drop (if b then 0 else 3) components ≡ spectral_differences q c z y x (previous_bands q z) ++ replicate (4 * quads_of count - count) (pos 0)
+          → drop (if b then 0 else 3) room ≡ spectral_differences q d z y x (previous_bands q z) ++ replicate (18 - count) (pos 0)
+      by_mode true r h = lower_from 0 count (4 * quads_of count - count) components room (let n = reduced_count q z r in omega (arith, e, n)) few (omega arith) h g
+      by_mode false r h = let three = e ∙ full_count q z r in lower_from 3 count (4 * quads_of count - count) components room three few (omega (arith, part.long, three)) h g
 
 -- with the directions of the place, they are all its differences
 pub vector_filled : (q : Predictor) (c : Image) (z y x m : ℕ) (lower new : List ℤ) → drop (if q.reduced then 0 else 3) lower ≡ spectral_differences q c z y x (previous_bands q z) ++ replicate m (pos 0)

@@ -15,7 +15,7 @@ ghost use Rattle.predict_core.specs.LocalSum.{local_sum};
 ghost use Rattle.predict_core.specs.Differences.{spectral_differences, difference_vector};
 ghost use Rattle.predict_core.specs.Prediction.{scaled_there, next_weights, weight_vector};
 ghost use Rattle.predict_core.specs.Residual.{mapped, run_residuals};
-ghost use Rattle.predict_core.specs.Rooms.{components_at, quads_of};
+ghost use Rattle.predict_core.specs.Rooms.{components_at, quads_of, IsLowerPart};
 ghost use Rattle.predict_core.specs.RunPlaces.{AreAlikeBeside};
 ghost use Rattle.predict_core.specs.Steps.{AreSteps};
 ghost use Rattle.predict_core.specs.Weights.{step_exponent};
@@ -65,9 +65,8 @@ pub(crate) fn invert_places<const Q: usize, const N: usize, const WRAPS: bool>(
     requires few { length run.deltas.now ≤ 64 }
     requires inside { run.x + length run.deltas.now ≤ cube.shape.columns }
     requires residuals_in { (i : ℕ) → i < length run.deltas.now → slice_index run.deltas.now i < 2 ^ cube.kind.bits }
-    requires components { (i : ℕ) → i < length run.deltas.now
-        → components_at (quads_of run.settings.now.count) run.quads.now i ≡ difference_vector run.settings.now.predictor cube run.settings.now.band run.y
-        (run.x + i) ++ replicate (4 * quads_of run.settings.now.count - run.settings.now.count) (pos 0) }
+    requires lower { (i : ℕ) → i < length run.deltas.now → IsLowerPart run.settings.now.predictor cube run.settings.now.band run.y (run.x + i)
+        run.settings.now.count (components_at (quads_of run.settings.now.count) run.quads.now i) }
     requires weights_in { AllWithin (2 ^ (run.settings.now.predictor.fraction + 2)) run.weights }
     ensures beside { AreAlikeBeside cube result.0 run.entry.settings.now.band run.entry.y run.entry.x (length run.entry.deltas.now) }
     ensures residuals { (p : Parameters) → AreWeightsAt p run.entry.settings.now.predictor cube run.entry.settings.now.band (run.entry.y * cube.shape.columns + run.entry.x)

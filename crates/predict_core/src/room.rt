@@ -6,10 +6,10 @@ ghost use Rattle.std.specs.Prelude.{◌≡◌, ◌+◌, ◌-◌, ◌<◌, ◌≤
 ghost use Rattle.cube_core.specs.Image.{IsPlace};
 ghost use Rattle.predict_core.specs.Differences.{directional_differences};
 ghost use Rattle.predict_core.specs.Lines.{line_sum, line_difference, AreBandLines};
-ghost use Rattle.predict_core.specs.Rooms.{IsRoom, quads_of, lower_differences};
+ghost use Rattle.predict_core.specs.Rooms.{IsRoom, IsLowerPart, components_at, quads_of, lower_differences};
 
 use crate::below::{fill_below, fill_spectral};
-use crate::fills::{fill_directions, fill_four, fill_own};
+use crate::fills::{fill_directions, fill_four, fill_last, fill_own};
 use crate::lines::{Lines, fill_band_lines, is_column};
 use crate::settings::Settings;
 use cube_core::cube::Cube;
@@ -61,6 +61,38 @@ pub(crate) fn fill_run<const Q: usize>(
     } else {
         let first = &mut quads[0];
         fill_first(settings, cube, y, x, count, &lines, sums, own, first);
+        fill_spectral::<Q>(settings, cube, y, x, count, 1, 2, quads);
+    }
+}
+
+/// Writes what the bands below tell of the components of `count` places from row `y`, column `x` on.
+///
+/// It is written where `fill_run` writes it. The three directions, which come first in full mode, are left to the
+/// caller; zeros stand in their place.
+pub(crate) fn fill_lower_part<const Q: usize>(
+    settings: &Settings,
+    cube: &Cube,
+    y: u32,
+    x: u32,
+    count: usize,
+    quads: &mut [Quad; Q],
+)
+    requires place { IsPlace cube.now.shape settings.now.band y x }
+    requires columns { cube.now.shape.columns ≡ settings.now.columns }
+    requires some { 1 ≤ count }
+    requires few { count ≤ 64 }
+    requires inside { x + count ≤ cube.now.shape.columns }
+    requires enough { quads_of settings.now.count ≤ Q }
+    ensures { (i : ℕ) → i < count → 0 < y + (x + i) → IsLowerPart settings.now.predictor cube.now settings.now.band y (x + i) settings.now.count
+        (components_at (quads_of settings.now.count) quads.new i) }
+{
+    if settings.predictor.reduced {
+        fill_spectral::<Q>(settings, cube, y, x, count, 0, 1, quads);
+    } else {
+        let mut below = Lines::empty();
+        fill_below(settings, cube, y, x, count, 1, &mut below);
+        let column = is_column(settings.predictor.column, y);
+        fill_last(column, &below, &mut quads[0].places);
         fill_spectral::<Q>(settings, cube, y, x, count, 1, 2, quads);
     }
 }

@@ -13,7 +13,7 @@ ghost use Rattle.predict_core.specs.Following.{Follows, MovesOn, MovesBy};
 
 use crate::band::Band;
 use crate::inverse_chain::{OpenRun, invert_places};
-use crate::room::{Quad, fill_run};
+use crate::room::{Quad, fill_lower_part};
 use crate::run::LEAST;
 use crate::settings::Settings;
 use core::mem::replace_with;
@@ -202,13 +202,11 @@ fn invert_by<const Q: usize, const N: usize, const WRAPS: bool>(
 {
     cube.prove_is_cube();
     let count = deltas.len();
-    let mut sums = [0i32; 64];
-    let mut own = [0i32; 64];
     let quad = Quad {
         places: [[0; 4]; 64],
     };
     let mut quads = [quad; Q];
-    fill_run::<Q>(settings, cube, y, x, count, &mut sums, &mut own, &mut quads);
+    fill_lower_part::<Q>(settings, cube, y, x, count, &mut quads);
     let run = OpenRun {
         settings,
         y,

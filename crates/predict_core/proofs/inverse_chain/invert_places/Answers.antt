@@ -6,15 +6,13 @@ use Rattle.cube_core.specs.Image.{Image, IsPlace, put}
 use Rattle.header_bits.specs.declared.params.Params.{Params}
 use Rattle.predict_core.specs.declared.predictor.Predictor.{Predictor}
 use Rattle.predict_core.specs.Chain.{AreWeightsAt}
-use Rattle.predict_core.specs.Differences.{difference_vector}
 use Rattle.predict_core.specs.Prediction.{weight_vector}
 use Rattle.predict_core.specs.Residual.{mapped_residual, run_residuals}
-use Rattle.predict_core.specs.Rooms.{components_at}
+use Rattle.predict_core.specs.Rooms.{components_at, quads_of}
 use Rattle.predict_core.specs.RunPlaces.{AreAlikeBeside}
 use Rattle.predict_core.proofs.InverseRuns.{beside_none, beside_next, residuals_next, lower_kept}
 use Rattle.predict_core.proofs.Inverting.{residual_put, weights_put}
-use Rattle.predict_core.proofs.Padding.{vector_length}
-use Rattle.predict_core.proofs.Runs.{gathered_is, later_place}
+use Rattle.predict_core.proofs.Runs.{later_place}
 use Rattle.predict_core.proofs.inverse_chain.invert_places.Goals as goal
 
 pub loop-i-init : goal.loop-i-init
@@ -33,9 +31,10 @@ sample_there-sample-requires-clause-lower g c =
     let s = c.args.run.settings.now in
     let column : c.args.run.x + c.loop-i.i < c.args.cube.shape.columns = omega (arith, c.requires.inside, c.loop-i-test.true) in
     let wide : s.predictor.column ≡ false → 2 ≤ c.args.cube.shape.columns = λ h. let w = s.wide h in omega (arith, w, c.requires.columns) in
-    let e = rw (← c.requires.quads) at (c.requires.components c.loop-i.i c.loop-i-test.true) in
-    let gathered = gathered_is (difference_vector s.predictor c.args.cube s.band c.args.run.y (c.args.run.x + c.loop-i.i)) (components_at g.row.Q c.args.run.quads.now c.loop-i.i) c.differences_at-lower.result s.count (4 * g.row.Q - s.count) (vector_length s.predictor c.args.cube s.band c.args.run.y (c.args.run.x + c.loop-i.i) ∙ sym s.count_is) s.few e c.differences_at-lower.ensures in
-    lower_kept s.predictor c.args.cube c.loop-i.cube s.band c.args.run.y c.args.run.x c.loop-i.i (c.args.run.x + c.loop-i.i) (record { band = c.requires.place.band; row = c.requires.place.row; column = column }) (omega (arith, c.requires.later)) wide kept.beside c.differences_at-lower.result (18 - s.count) gathered
+    let part = c.requires.lower c.loop-i.i c.loop-i-test.true in
+    let gathered = rw c.requires.quads at c.differences_at-lower.ensures in
+    lower_kept s.predictor c.args.cube c.loop-i.cube s.band c.args.run.y c.args.run.x c.loop-i.i (c.args.run.x + c.loop-i.i) (record { band = c.requires.place.band; row = c.requires.place.row; column = column }) (omega (arith, c.requires.later)) wide kept.beside
+    s.count (components_at (quads_of s.count) c.args.run.quads.now c.loop-i.i) c.differences_at-lower.result s.count_is s.few part gathered
 
 pub sample_there-sample-requires-clause-steps : goal.sample_there-sample-requires-clause-steps
 sample_there-sample-requires-clause-steps g c =
