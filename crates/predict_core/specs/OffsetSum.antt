@@ -1,5 +1,7 @@
 -- The local sum of samples that are kept as offsets from the least one.
-use Rattle.std.specs.Prelude.{ℕ, ◌+◌, ◌-◌, ◌*◌, ◌==◌, ℤ, pos, ◌-ℤ◌, List, length, slice_index, Bool, if◌then◌else◌}
+use Rattle.std.specs.Prelude.{ℕ, ◌≡◌, ◌+◌, ◌-◌, ◌*◌, ◌<◌, ◌==◌, ℤ, pos, ◌+ℤ◌, ◌-ℤ◌, List, length, slice_index, Bool, if◌then◌else◌}
+use Rattle.cube_core.specs.Kind.{smin}
+use Rattle.cube_core.specs.Image.{Image, sample_at}
 
 -- from the offsets of the place's own row and of the one above it
 abbrev pub offset_sum : Bool → ℕ → List ℕ → List ℕ → ℕ → ℕ
@@ -13,3 +15,7 @@ offset_sum column y row above x =
 -- four times an offset, less a sum of offsets
 abbrev pub offset_difference : ℕ → ℕ → ℤ
 offset_difference offset sum = pos (4 * offset) -ℤ pos sum
+
+-- the offset of the sample to the west of a place that has one
+abbrev pub IsWest : Image → ℕ → ℕ → ℕ → ℕ → Type 0
+IsWest c z y x west = 0 < x → sample_at c z y (x - 1) ≡ smin c.kind +ℤ pos west

@@ -7,9 +7,10 @@ ghost use Rattle.cube_core.specs.Image.{IsPlace};
 ghost use Rattle.predict_core.specs.Predictor.{previous_bands, component_count};
 ghost use Rattle.predict_core.specs.LocalSum.{local_sum};
 ghost use Rattle.predict_core.specs.Differences.{central_difference, spectral_differences, directional_differences, difference_vector as vector};
+ghost use Rattle.predict_core.specs.OffsetSum.{IsWest};
 ghost use Rattle.predict_core.specs.Bounds.{AllWithin, IsPredictor};
 
-use crate::neighbourhood::{central_of, difference_of, sum_of};
+use crate::neighbourhood::{central_of, difference_of, sum_beside, sum_of};
 use crate::predictor::Predictor;
 use cube_core::cube::Cube;
 
@@ -62,6 +63,43 @@ pub(crate) fn sum_at(predictor: &Predictor, cube: &Cube, z: u32, y: u32, x: u32)
     sum_of(predictor.column, y, row, above, x as usize)
 }
 
+/// Returns the same at a place that is not in the first row, where `west` is the offset to the west.
+///
+/// So a sample that was just found isn't read back from memory.
+#[inline(always)]
+pub(crate) fn sum_by_west(
+    predictor: &Predictor,
+    cube: &Cube,
+    z: u32,
+    y: u32,
+    x: u32,
+    west: u16,
+) -> u32
+    requires place { IsPlace cube.now.shape z y x }
+    requires later { 0 < y }
+    requires wide { predictor.now.column ≡ false → 2 ≤ cube.now.shape.columns }
+    requires west { IsWest cube.now z y x west }
+    ensures value { local_sum predictor.now cube.now z y x ≡ pos 4 *ℤ smin cube.now.kind +ℤ pos result }
+    ensures bound { result ≤ 262140 }
+{
+    let row = cube.row(z, y);
+    let above = cube.row(z, y.saturating_sub(1));
+    sum_beside(predictor.column, y, row, above, x as usize, west)
+}
+
+/// Returns the offset of the sample to the west of a place, or 0 in the first column.
+#[inline(always)]
+pub(crate) fn west_of(cube: &Cube, z: u32, y: u32, x: u32) -> u16
+    requires { IsPlace cube.now.shape z y x }
+    ensures { IsWest cube.now z y x result }
+{
+    if x == 0 {
+        0
+    } else {
+        cube.row(z, y)[x as usize - 1]
+    }
+}
+
 /// Writes the directional differences to the front of an array of zeros.
 #[inline(always)]
 fn fill_directional(
@@ -83,13 +121,14 @@ fn fill_directional(
     if y == 0 {
         return;
     }
-    put_neighbours(predictor, cube, z, y, x, sum, out);
+    let west = west_of(cube, z, y, x);
+    put_neighbours(predictor, cube, z, y, x, sum, west, out);
 }
 
 /// Writes the directional differences in full mode to the front of an array that holds those of the bands
 /// below.
 ///
-/// The place is not in the first row.
+/// The place is not in the first row, and `west` is the offset to the west.
 #[inline(always)]
 pub(crate) fn put_own_directions(
     predictor: &Predictor,
@@ -98,17 +137,19 @@ pub(crate) fn put_own_directions(
     y: u32,
     x: u32,
     sum: u32,
+    west: u16,
     out: &mut [i32; 18],
 )
     requires place { IsPlace cube.now.shape z y x }
     requires later { 0 < y }
     requires sum_is { local_sum predictor.now cube.now z y x ≡ pos 4 *ℤ smin cube.now.kind +ℤ pos sum }
     requires sum_in { sum ≤ 262140 }
+    requires west { IsWest cube.now z y x west }
     ensures reduced { predictor.now.reduced ≡ true → out.new ≡ out.old }
     ensures full { predictor.now.reduced ≡ false → out.new ≡ directional_differences predictor.now cube.now z y x ++ drop 3 out.old }
 {
     if !predictor.reduced {
-        put_neighbours(predictor, cube, z, y, x, sum, out);
+        put_neighbours(predictor, cube, z, y, x, sum, west, out);
     }
 }
 
@@ -121,12 +162,14 @@ fn put_neighbours(
     y: u32,
     x: u32,
     sum: u32,
+    west: u16,
     out: &mut [i32; 18],
 )
     requires place { IsPlace cube.now.shape z y x }
     requires later { 0 < y }
     requires sum_is { local_sum predictor.now cube.now z y x ≡ pos 4 *ℤ smin cube.now.kind +ℤ pos sum }
     requires sum_in { sum ≤ 262140 }
+    requires west { IsWest cube.now z y x west }
     ensures value { out.new ≡ directional_differences predictor.now cube.now z y x ++ drop 3 out.old }
     ensures bound { AllWithin 262144 out.old → AllWithin 262144 out.new }
 {
@@ -137,8 +180,7 @@ fn put_neighbours(
         put_directions(north, north, north, out);
         return;
     }
-    let row = cube.row(z, y);
-    let west = difference_of(row[x - 1], sum);
+    let west = difference_of(west, sum);
     let north_west = difference_of(above[x - 1], sum);
     put_directions(north, west, north_west, out);
 }

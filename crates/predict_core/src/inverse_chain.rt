@@ -17,11 +17,12 @@ ghost use Rattle.predict_core.specs.Prediction.{scaled_there, next_weights, weig
 ghost use Rattle.predict_core.specs.Residual.{mapped, run_residuals};
 ghost use Rattle.predict_core.specs.Rooms.{components_at, quads_of, IsLowerPart};
 ghost use Rattle.predict_core.specs.RunPlaces.{AreAlikeBeside};
+ghost use Rattle.predict_core.specs.OffsetSum.{IsWest};
 ghost use Rattle.predict_core.specs.Steps.{AreSteps};
 ghost use Rattle.predict_core.specs.Weights.{step_exponent};
 
 use crate::chain::{differences_at, turn_of_error};
-use crate::differences::{put_own_directions, sum_at};
+use crate::differences::{put_own_directions, sum_by_west, west_of};
 use crate::exponent::{exponent_at, places_alike};
 use crate::mapping::scaled_offset;
 use crate::prediction::predicted_difference;
@@ -85,10 +86,11 @@ pub(crate) fn invert_places<const Q: usize, const N: usize, const WRAPS: bool>(
         form: Form::none(),
         end: 0,
     };
+    let mut west = west_of(&cube, settings.band, y, x);
     for i in 0..deltas.len() {
         let column = x + i as u32;
         stretch = stretch_at(&settings, y, x, i, deltas.len(), stretch);
-        let sum = sum_at(&settings.predictor, &cube, settings.band, y, column);
+        let sum = sum_by_west(&settings.predictor, &cube, settings.band, y, column, west);
         let lower = differences_at::<Q>(quads, i);
         let sample = sample_there::<N, WRAPS>(
             &settings,
@@ -96,12 +98,14 @@ pub(crate) fn invert_places<const Q: usize, const N: usize, const WRAPS: bool>(
             y,
             column,
             sum,
+            west,
             stretch.form,
             &mut weights,
             &lower,
             deltas[i],
         );
         cube.set(settings.band, y, column, sample);
+        west = offset_of(&settings.range, sample);
     }
     (cube, weights)
 }
@@ -164,8 +168,8 @@ fn next_stretch(settings: &Settings, y: u32, x: u32, i: usize, count: usize) -> 
 
 /// Returns the sample of a mapped residual at a place below the first row, and updates the weights.
 ///
-/// `sum` is the local sum of the offsets there, and `form` the form of the steps. Of `lower` only the
-/// differences of the bands below are read.
+/// `sum` is the local sum of the offsets there, `west` the offset to the west, and `form` the form of the steps.
+/// Of `lower` only the differences of the bands below are read.
 #[inline(always)]
 fn sample_there<const N: usize, const WRAPS: bool>(
     settings: &Settings,
@@ -173,6 +177,7 @@ fn sample_there<const N: usize, const WRAPS: bool>(
     y: u32,
     x: u32,
     sum: u32,
+    west: u16,
     form: Form,
     weights: &mut [i32; 18],
     lower: &[i32; 18],
@@ -187,6 +192,7 @@ fn sample_there<const N: usize, const WRAPS: bool>(
     requires kind { cube.now.kind ≡ settings.now.range.kind }
     requires sum_is { local_sum settings.now.predictor cube.now settings.now.band y x ≡ pos 4 *ℤ smin cube.now.kind +ℤ pos sum }
     requires sum_in { sum ≤ 262140 }
+    requires west { IsWest cube.now settings.now.band y x west }
     requires weights_in { AllWithin (2 ^ (settings.now.predictor.fraction + 2)) weights.old }
     requires lower { drop (if settings.now.predictor.reduced then 0 else 3) lower.now ≡ spectral_differences settings.now.predictor cube.now
         settings.now.band y x (previous_bands settings.now.predictor settings.now.band) ++ replicate (18 - settings.now.count) (pos 0) }
@@ -205,7 +211,16 @@ fn sample_there<const N: usize, const WRAPS: bool>(
     let range = &settings.range;
     let t = y as u64 * settings.columns as u64 + x as u64;
     let mut differences = *lower;
-    put_own_directions(predictor, cube, settings.band, y, x, sum, &mut differences);
+    put_own_directions(
+        predictor,
+        cube,
+        settings.band,
+        y,
+        x,
+        sum,
+        west,
+        &mut differences,
+    );
     let whole = 4 * range.smin + sum as i32;
     let part = predicted_difference::<N, WRAPS>(predictor, range, whole, weights, &differences);
     let found = sample_by_part(range, part, sum, delta);
@@ -238,6 +253,15 @@ fn sample_by_part(range: &Range, part: i32, sum: u32, delta: u16) -> i32
     let greatest = range.smax - range.smin;
     let scaled = scaled_offset(greatest, part, sum as i32);
     range.smin + unmap_between(0, greatest, scaled, delta)
+}
+
+/// Returns how far a sample is above the least one.
+#[inline(always)]
+fn offset_of(range: &Range, sample: i32) -> u16
+    requires { IsSample range.now.kind sample }
+    ensures { sample ≡ smin range.now.kind +ℤ pos result }
+{
+    (sample - range.smin) as u16
 }
 
 /// Returns the central difference of a sample where the local sum of the offsets is `sum`.

@@ -3,7 +3,7 @@
 //! A difference is the same for offsets as for samples, and a local sum of offsets is less than one of samples
 //! by four times the least sample.
 
-ghost use Rattle.std.specs.Prelude.{◌≡◌, ◌+◌, ◌*◌, ◌<◌, ◌≤◌, length, false, unsigned_abs, slice_index, IsTrue, ◌↔◌};
+ghost use Rattle.std.specs.Prelude.{◌≡◌, ◌+◌, ◌-◌, ◌*◌, ◌<◌, ◌≤◌, length, false, unsigned_abs, slice_index, IsTrue, ◌↔◌};
 ghost use Rattle.predict_core.specs.OffsetSum.{offset_sum, offset_difference};
 
 /// Returns four times an average of the neighbours of a place: `row` is its own row, and `above` the one above
@@ -21,14 +21,39 @@ pub(crate) fn sum_of(column: bool, y: u32, row: &[u16], above: &[u16], x: usize)
 {
     if y == 0 {
         4 * row[x - 1] as u32
-    } else if column {
+    } else {
+        let west = if x == 0 { 0 } else { row[x - 1] };
+        sum_beside(column, y, row, above, x, west)
+    }
+}
+
+/// Returns the same below the first row, where `west` is the offset to the west of a place that has one.
+#[inline(always)]
+pub(crate) fn sum_beside(
+    column: bool,
+    y: u32,
+    row: &[u16],
+    above: &[u16],
+    x: usize,
+    west: u16,
+) -> u32
+    requires inside { x < length row.now }
+    requires same { length above.now ≡ length row.now }
+    requires later { 0 < y }
+    requires wide { column ≡ false → 2 ≤ length row.now }
+    requires west { 0 < x → slice_index row.now (x - 1) ≡ west }
+    ensures value { result ≡ offset_sum column y row.now above.now x }
+    ensures bound { result ≤ 262140 }
+{
+    let west = west as u32;
+    if column {
         4 * above[x] as u32
     } else if x == 0 {
         2 * (above[x] as u32 + above[x + 1] as u32)
     } else if x + 1 == row.len() {
-        row[x - 1] as u32 + above[x - 1] as u32 + 2 * above[x] as u32
+        west + above[x - 1] as u32 + 2 * above[x] as u32
     } else {
-        row[x - 1] as u32 + above[x - 1] as u32 + above[x] as u32 + above[x + 1] as u32
+        west + above[x - 1] as u32 + above[x] as u32 + above[x + 1] as u32
     }
 }
 

@@ -20,7 +20,7 @@ returns-clause-value c =
     let west_fits : SFits w32 c.difference_of-west.result = search rules in
     let north_west_fits : SFits w32 c.difference_of-north_west.result = search rules in
     let up = ((rw c.saturating_sub.ensures at c.row-above.ensures.samples) c.args.x c.requires.place.column).1 in
-    let left = (c.row-row.ensures.samples (c.args.x - 1) (omega arith)).1 in
+    let left = c.requires.west (omega arith) in
     let corner = ((rw c.saturating_sub.ensures at c.row-above.ensures.samples) (c.args.x - 1) (omega arith)).1 in
     let north : difference_from c.args.predictor.now c.args.cube.now c.args.z c.args.y c.args.x (sample_at c.args.cube.now c.args.z (c.args.y - 1) c.args.x) ≡ c.difference_of-north.result =
     difference_is (smin c.args.cube.now.kind) _ _ _ _ c.args.sum up c.requires.sum_is c.difference_of-north.ensures.value in

@@ -1,7 +1,7 @@
-use Rattle.std.proofs.Common.{◌≡◌, ◌+◌, ◌-◌, ◌*◌, ◌≤◌, ◌<◌, ℕ, false, refl, sym, ap, ◌∙◌, subst, take, length, get_or, SFits, w32, to_z-of_z, rules, arith, length-set}
+use Rattle.std.proofs.Common.{◌≡◌, ◌+◌, ◌-◌, ◌*◌, ◌≤◌, ◌<◌, ℕ, pos, ◌+ℤ◌, false, refl, sym, ap, ◌∙◌, subst, take, length, get_or, SFits, w32, to_z-of_z, rules, arith, length-set}
 use Rattle.std.proofs.lemmas.List.{take_all}
 use Rattle.cube_core.specs.Shape.{Sizes}
-use Rattle.cube_core.specs.Kind.{SampleKind}
+use Rattle.cube_core.specs.Kind.{SampleKind, smin}
 use Rattle.cube_core.specs.Image.{Image, IsPlace, put}
 use Rattle.header_bits.specs.declared.params.Params.{Params}
 use Rattle.predict_core.specs.declared.predictor.Predictor.{Predictor}
@@ -11,7 +11,7 @@ use Rattle.predict_core.specs.Residual.{mapped_residual, run_residuals}
 use Rattle.predict_core.specs.Rooms.{components_at, quads_of}
 use Rattle.predict_core.specs.RunPlaces.{AreAlikeBeside}
 use Rattle.predict_core.proofs.InverseRuns.{beside_none, beside_next, residuals_next, lower_kept}
-use Rattle.predict_core.proofs.Inverting.{residual_put, weights_put}
+use Rattle.predict_core.proofs.Inverting.{residual_put, sample_put, weights_put}
 use Rattle.predict_core.proofs.Runs.{later_place}
 use Rattle.predict_core.proofs.inverse_chain.invert_places.Goals as goal
 
@@ -22,6 +22,7 @@ loop-i-init g c = record {
   weights = λ p f. f.weights ∙ ap (weight_vector p c.args.cube c.args.run.settings.now.band) (omega arith);
   bound = c.requires.weights_in;
   steps = λ k le lt. absurd (omega (arith, lt));
+  west = (let none : c.args.run.x + 0 ≡ c.args.run.x = omega arith in rw none c.west_of-west.ensures);
   whole = c.prove_is_cube.ensures.whole;
 }
 
@@ -56,6 +57,8 @@ loop-i-preserved g c =
     let place : IsPlace d.shape s.band c.args.run.y (c.args.run.x + c.loop-i.i) = subst (λ (a : Sizes). IsPlace a s.band c.args.run.y (c.args.run.x + c.loop-i.i)) kept.beside.alike.shape (record { band = c.requires.place.band; row = c.requires.place.row; column = column }) in
     let later : 0 < c.args.run.y * d.shape.columns + (c.args.run.x + c.loop-i.i) = later_place d.shape.columns c.args.run.y (c.args.run.x + c.loop-i.i) (omega (arith, c.requires.later)) place.column in
     let same : c.args.cube.shape.columns ≡ d.shape.columns = ap (λ (a : Sizes). a.columns) kept.beside.alike.shape in
+    let back : c.args.run.x + (c.loop-i.i + 1) - 1 ≡ c.args.run.x + c.loop-i.i = omega arith in
+    let found : c.sample_there-sample.result ≡ smin d.kind +ℤ pos c.offset_of-west.result = (simp (to_z-of_z fits) at c.offset_of-west.ensures) ∙ ap (λ (k : SampleKind). smin k +ℤ pos c.offset_of-west.result) (sym c.requires.kind ∙ kept.beside.alike.kind) in
     let wide : (p : Params) → AreWeightsAt p s.predictor c.args.cube s.band (c.args.run.y * c.args.cube.shape.columns + c.args.run.x) (take s.count c.args.run.weights) → p.column ≡ false → 2 ≤ d.shape.columns =
     λ p f h. let w = s.wide (ap (λ (q : Predictor). q.column) f.predictor ∙ h) in omega (arith, w, c.requires.columns, same) in
     let sum : (columns : ℕ) → columns ≡ d.shape.columns → c.args.run.y * columns + (c.args.run.x + c.loop-i.i) ≡ c.args.run.y * columns + c.args.run.x + c.loop-i.i = λ columns e. omega arith in
@@ -70,6 +73,7 @@ loop-i-preserved g c =
           ∙ ap (weight_vector p (put d s.band c.args.run.y (c.args.run.x + c.loop-i.i) v) s.band) (next d.shape.columns refl);
       bound = c.sample_there-sample.ensures.bound;
       steps = λ k le lt. c.stretch_at-stretch.ensures.steps k (omega (arith, le)) lt;
+      west = λ some. rw back (sample_put d s.band c.args.run.y (c.args.run.x + c.loop-i.i) v place kept.whole ∙ found);
       whole = rw length-set kept.whole;
     })
 

@@ -4,6 +4,7 @@ use Rattle.header_bits.specs.declared.params.Params.{Params}
 use Rattle.predict_core.specs.Bounds.{AllWithin}
 use Rattle.predict_core.specs.Chain.{AreWeightsAt}
 use Rattle.predict_core.specs.Prediction.{weight_vector}
+use Rattle.predict_core.specs.OffsetSum.{IsWest}
 use Rattle.predict_core.specs.Residual.{run_residuals}
 use Rattle.predict_core.specs.RunPlaces.{AreAlikeBeside}
 use Rattle.predict_core.specs.Steps.{AreSteps}
@@ -17,5 +18,6 @@ invariant-loop-i g l = record {
   weights : (p : Params) → AreWeightsAt p l.fn.run.settings.now.predictor l.fn.cube l.fn.run.settings.now.band (l.fn.run.y * l.fn.cube.shape.columns + l.fn.run.x) (take l.fn.run.settings.now.count l.fn.run.weights) → take l.fn.run.settings.now.count l.weights ≡ weight_vector p l.cube l.fn.run.settings.now.band (l.fn.run.y * l.cube.shape.columns + (l.fn.run.x + l.i));
   bound : AllWithin (2 ^ (l.fn.run.settings.now.predictor.fraction + 2)) l.weights;
   steps : (k : ℕ) → l.i ≤ k → k < l.stretch.end → AreSteps l.stretch.form l.fn.run.settings.now.range.bits (step_exponent l.fn.run.settings.now.predictor l.fn.run.settings.now.columns l.fn.run.settings.now.range.bits (l.fn.run.y * l.fn.run.settings.now.columns + (l.fn.run.x + k)));
+  west : IsWest l.cube l.fn.run.settings.now.band l.fn.run.y (l.fn.run.x + l.i) l.west;
   whole : length l.cube.samples ≡ sample_count l.cube.shape;
 }

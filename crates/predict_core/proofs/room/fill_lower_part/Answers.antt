@@ -1,6 +1,5 @@
-use Rattle.std.proofs.Common.{◌≡◌, ◌+◌, ◌-◌, ◌*◌, ◌<◌, ◌≤◌, ◌++◌, [], ◌∷◌, ℕ, pos, length, set, arith, ap, ◌∙◌}
-use Rattle.predict_core.specs.Lines.{line_difference}
-use Rattle.predict_core.specs.Rooms.{components_at, lower_differences, quads_of}
+use Rattle.std.proofs.Common.{◌+◌, ◌-◌, ◌*◌, ◌<◌, ◌++◌, length, arith, ap, ◌∙◌}
+use Rattle.predict_core.specs.Rooms.{lower_differences, quads_of}
 use Rattle.predict_core.proofs.Quads.{components_none, one_quad, reduced_part, full_part}
 use Rattle.predict_core.proofs.Directions.{full_count}
 use Rattle.predict_core.proofs.room.fill_lower_part.Goals as goal
