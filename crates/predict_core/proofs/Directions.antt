@@ -1,14 +1,15 @@
 -- The directional differences, case by case.
-use Rattle.std.proofs.Common.{◌≡◌, ◌≢◌, ◌+◌, ◌-◌, ◌<◌, ◌≤◌, ℕ, ℤ, pos, ◌+ℤ◌, ◌-ℤ◌, ◌*ℤ◌, true, false, List, [], ◌∷◌, ◌++◌, length, replicate, arith, refl, ◌∙◌, unsigned_abs, zero, suc, set, take, drop}
+use Rattle.std.proofs.Common.{◌≡◌, ◌≢◌, ◌+◌, ◌-◌, ◌==◌, ◌<◌, ◌≤◌, ℕ, ℤ, pos, ◌+ℤ◌, ◌-ℤ◌, ◌*ℤ◌, true, false, List, [], ◌∷◌, ◌++◌, length, replicate, arith, refl, ◌∙◌, unsigned_abs, zero, suc, set, take, drop}
 use Rattle.std.proofs.Math.Seq.{take-append_seam, drop-append_seam}
 use Rattle.std.proofs.lemmas.List.{get_or-replicate, length-replicate}
 use Rattle.predict_core.specs.Bounds.{AllWithin}
 use Rattle.std.proofs.lemmas.Int.{ints}
 use Rattle.std.proofs.lemmas.Bool.Decides.{nat_tests}
+use Rattle.cube_core.specs.Kind.{smin}
 use Rattle.cube_core.specs.Image.{Image, sample_at}
 use Rattle.predict_core.specs.declared.predictor.Predictor.{Predictor}
 use Rattle.predict_core.specs.Differences.{directional_differences, spectral_differences, difference_vector, difference_from}
-use Rattle.predict_core.specs.OffsetSum.{offset_difference}
+use Rattle.predict_core.specs.OffsetSum.{offset_difference, IsWest}
 use Rattle.predict_core.specs.Predictor.{previous_bands, component_count}
 
 pub directional_first : (p : Predictor) (c : Image) (z y x : ℕ) → y ≡ 0 → directional_differences p c z y x ≡ pos 0 ∷ pos 0 ∷ pos 0 ∷ []
@@ -88,3 +89,17 @@ module _ (p : Predictor) (c : Image) (z y x : ℕ) (out new : List ℤ) where
 
   pub full_clear : out ≡ directional_differences p c z y x ++ replicate 15 (pos 0) → drop 3 out ≡ replicate (18 - 3) (pos 0)
   full_clear d = rw d (heads_dropped (directional_differences p c z y x) (replicate 15 (pos 0)) 3 (directional_length p c z y x))
+
+-- ---- the sample to the west, or to the north in the first column
+
+pub west_inside : (c : Image) (z y x west : ℕ) → x ≢ 0 → IsWest c z y x west → sample_at c z y (x - 1) ≡ smin c.kind +ℤ pos west
+west_inside c z y x west n h = let no : (x == 0) ≡ false = grind (arith, nat_tests) in rw no at h
+
+pub west_left : (c : Image) (z y x west : ℕ) → x ≡ 0 → IsWest c z y x west → sample_at c z (y - 1) x ≡ smin c.kind +ℤ pos west
+west_left c z y x west e h =
+    let yes : (x == 0) ≡ true = grind (arith, nat_tests) in
+    let same : x - 1 ≡ x = omega (arith, e) in
+    rw (yes, same) at h
+
+pub is_west : (c : Image) (z y x west : ℕ) → x ≢ 0 → sample_at c z y (x - 1) ≡ smin c.kind +ℤ pos west → IsWest c z y x west
+is_west c z y x west n h = let no : (x == 0) ≡ false = grind (arith, nat_tests) in rw no h

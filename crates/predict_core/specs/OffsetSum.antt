@@ -1,5 +1,5 @@
 -- The local sum of samples that are kept as offsets from the least one.
-use Rattle.std.specs.Prelude.{ℕ, ◌≡◌, ◌+◌, ◌-◌, ◌*◌, ◌<◌, ◌==◌, ℤ, pos, ◌+ℤ◌, ◌-ℤ◌, List, length, slice_index, Bool, if◌then◌else◌}
+use Rattle.std.specs.Prelude.{ℕ, ◌≡◌, ◌+◌, ◌-◌, ◌*◌, ◌==◌, ℤ, pos, ◌+ℤ◌, ◌-ℤ◌, List, length, slice_index, Bool, if◌then◌else◌}
 use Rattle.cube_core.specs.Kind.{smin}
 use Rattle.cube_core.specs.Image.{Image, sample_at}
 
@@ -16,6 +16,6 @@ offset_sum column y row above x =
 abbrev pub offset_difference : ℕ → ℕ → ℤ
 offset_difference offset sum = pos (4 * offset) -ℤ pos sum
 
--- the offset of the sample to the west of a place that has one
+-- the offset of the sample to the west of a place below the first row; in the first column that of the one to the north
 abbrev pub IsWest : Image → ℕ → ℕ → ℕ → ℕ → Type 0
-IsWest c z y x west = 0 < x → sample_at c z y (x - 1) ≡ smin c.kind +ℤ pos west
+IsWest c z y x west = sample_at c z (if x == 0 then y - 1 else y) (x - 1) ≡ smin c.kind +ℤ pos west

@@ -87,14 +87,16 @@ pub(crate) fn sum_by_west(
     sum_beside(predictor.column, y, row, above, x as usize, west)
 }
 
-/// Returns the offset of the sample to the west of a place, or 0 in the first column.
+/// Returns the offset of the sample to the west of a place below the first row; in the first column, of the one
+/// to the north.
 #[inline(always)]
 pub(crate) fn west_of(cube: &Cube, z: u32, y: u32, x: u32) -> u16
-    requires { IsPlace cube.now.shape z y x }
+    requires place { IsPlace cube.now.shape z y x }
+    requires later { 0 < y }
     ensures { IsWest cube.now z y x result }
 {
     if x == 0 {
-        0
+        cube.row(z, y - 1)[0]
     } else {
         cube.row(z, y)[x as usize - 1]
     }
@@ -176,12 +178,9 @@ fn put_neighbours(
     let x = x as usize;
     let above = cube.row(z, y.saturating_sub(1));
     let north = difference_of(above[x], sum);
-    if x == 0 {
-        put_directions(north, north, north, out);
-        return;
-    }
     let west = difference_of(west, sum);
-    let north_west = difference_of(above[x - 1], sum);
+    // In the first column all three are of the sample to the north.
+    let north_west = difference_of(above[x.saturating_sub(1)], sum);
     put_directions(north, west, north_west, out);
 }
 

@@ -1,0 +1,1 @@
+use Rattle.predict_core.proofs.differences.west_of.Goals as goal

@@ -11,6 +11,7 @@ use Rattle.predict_core.specs.Residual.{mapped_residual, run_residuals}
 use Rattle.predict_core.specs.Rooms.{components_at, quads_of}
 use Rattle.predict_core.specs.RunPlaces.{AreAlikeBeside}
 use Rattle.predict_core.proofs.InverseRuns.{beside_none, beside_next, residuals_next, lower_kept}
+use Rattle.predict_core.proofs.Directions.{is_west}
 use Rattle.predict_core.proofs.Inverting.{residual_put, sample_put, weights_put}
 use Rattle.predict_core.proofs.Runs.{later_place}
 use Rattle.predict_core.proofs.inverse_chain.invert_places.Goals as goal
@@ -73,7 +74,7 @@ loop-i-preserved g c =
           ∙ ap (weight_vector p (put d s.band c.args.run.y (c.args.run.x + c.loop-i.i) v) s.band) (next d.shape.columns refl);
       bound = c.sample_there-sample.ensures.bound;
       steps = λ k le lt. c.stretch_at-stretch.ensures.steps k (omega (arith, le)) lt;
-      west = λ some. rw back (sample_put d s.band c.args.run.y (c.args.run.x + c.loop-i.i) v place kept.whole ∙ found);
+      west = is_west (put d s.band c.args.run.y (c.args.run.x + c.loop-i.i) v) s.band c.args.run.y (c.args.run.x + (c.loop-i.i + 1)) c.offset_of-west.result (omega arith) (rw back (sample_put d s.band c.args.run.y (c.args.run.x + c.loop-i.i) v place kept.whole ∙ found));
       whole = rw length-set kept.whole;
     })
 
