@@ -18,7 +18,7 @@ use Rattle.cube_predictors.specs.Plans.{Dealing, IsPlan}
 use Rattle.cube_predictors.specs.Sends.{Predicting, part_of}
 use Rattle.cube_predictors.specs.Weave.{owners, part, parts, weave}
 use Rattle.cube_predictors.proofs.Parts.{length-residuals}
-use Rattle.cube_predictors.proofs.Planning.{all_at}
+use Rattle.std.proofs.lemmas.List.Elements.{All-from_recursion}
 use Rattle.cube_predictors.proofs.Weaves.{part_share, length-owners, weave_of_parts}
 use Rattle.coder_pipe.specs.Piping.{carried, AreFeeds, IsPiped, MayStop, IsFileOf, MayStopPart}
 
@@ -66,7 +66,7 @@ module _ (plan : Dealing) (c : Image) (lawful : IsPlan plan) (cube : IsCubeOf pl
     named = λ q f lt. ap (λ (d : Predicting). d.predictor) (feed_at c plan q f lt);
     whole = λ q f lt. ap (λ (d : Predicting). length (part_of d)) (feed_at c plan q f lt) ∙ part_share q (owners plan.deal plan.params) (residuals plan.params c) whole;
     range = λ q f lt. subst (λ (d : Predicting). All (λ n. n < 2 ^ plan.params.kind.bits) (part_of d)) (sym (feed_at c plan q f lt))
-        (all_at (2 ^ plan.params.kind.bits) (of q) (part_inside (2 ^ plan.params.kind.bits) q (owners plan.deal plan.params) (residuals plan.params c) (inside plan.params c lawful.lawful cube)));
+        (All-from_recursion (λ n. n < 2 ^ plan.params.kind.bits) (of q) (part_inside (2 ^ plan.params.kind.bits) q (owners plan.deal plan.params) (residuals plan.params c) (inside plan.params c lawful.lawful cube)));
   }
 
   lists : map part_of (feeds_from c plan) ≡ parts plan.predictors plan.deal plan.params c
