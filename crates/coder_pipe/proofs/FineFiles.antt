@@ -1,5 +1,5 @@
 -- Bytes without a fault are a file.
-use Rattle.std.proofs.Common.{◌≡◌, ◌*◌, ◌/◌, ◌^◌, ◌<◌, ◌≤◌, ℕ, zero, suc, Bool, true, false, List, [], ◌∷◌, ◌++◌, length, take, replicate, Ok, refl, sym, ap, subst, ◌∙◌, append_assoc, arith}
+use Rattle.std.proofs.Common.{◌≡◌, ◌*◌, ◌/◌, ◌^◌, ◌<◌, ◌≤◌, ℕ, Bool, true, false, List, [], ◌++◌, length, take, replicate, Ok, refl, sym, ap, subst, ◌∙◌, append_assoc, arith}
 use Rattle.std.specs.List.{AllByRecursion}
 use Rattle.std.proofs.lemmas.List.{length-take}
 use Rattle.cube_core.specs.declared.fault.Fault.{Fault}
@@ -25,6 +25,7 @@ use Rattle.sample_adaptive.specs.Settings.{settings}
 use Rattle.sample_adaptive.specs.Body.{sample_body}
 use Rattle.sample_adaptive.specs.Reading.{sample_body_at}
 use Rattle.sample_adaptive.proofs.Bodies as samples
+use Rattle.sample_adaptive.proofs.Running.{all_take}
 use Rattle.block_adaptive.specs.declared.options.CodeSet.{CodeSet}
 use Rattle.block_adaptive.specs.Segments.{block_count}
 use Rattle.block_adaptive.specs.Settings.{IsSize}
@@ -67,11 +68,6 @@ samples_read p count bits left umax gamma_star gamma_zero start order e =
       range = rw (settings_bits p) at words.numbers;
     }
 
-range_take : (limit n : ℕ) (vs : List ℕ) → AllByRecursion (λ v. v < limit) vs → AllByRecursion (λ v. v < limit) (take n vs)
-range_take limit zero vs h = tt
-range_take limit (suc n) [] h = tt
-range_take limit (suc n) (v ∷ vs) h = (h.0, range_take limit n vs h.1)
-
 -- data sets that were read for n numbers are a body of the first n values that they tell
 data_sets_body : (s : CodeSet) (size reference n : ℕ) (data_sets : List CodedDataSet) (numbers : List ℕ) → length numbers ≡ n → take n (values_of (blocks_told (cut_of s size reference n) 0 data_sets)) ≡ numbers → AreCodedDataSets (cut_of s size reference n) 0 data_sets (block_count size n)
     → IsBlockBody s size reference numbers (spelling s data_sets)
@@ -100,7 +96,7 @@ even_read p count half reference restricted bits left some least e =
       coded = data_sets_body (record { bits = p.kind.bits; restricted = restricted }) (2 * half) reference (sample_count p.shape) a.0.0 _ long refl read.0;
       text = read.1 ∙ ap (λ (x : List Bool). spelling (record { bits = p.kind.bits; restricted = restricted }) a.0.0 ++ x) (ok_is a.0.1 left a.2);
       long = long;
-      range = range_take (2 ^ p.kind.bits) (sample_count p.shape) values (told_range (cut_of (record { bits = p.kind.bits; restricted = restricted }) (2 * half) reference (sample_count p.shape)) 0 c.count a.0.0 read.0);
+      range = all_take (λ v. v < 2 ^ p.kind.bits) (sample_count p.shape) values (told_range (cut_of (record { bits = p.kind.bits; restricted = restricted }) (2 * half) reference (sample_count p.shape)) 0 c.count a.0.0 read.0);
     }
 
 block_read : (p : Params) (count size reference : ℕ) (restricted : Bool) (bits left : List Bool) → IsSize size → 1 ≤ reference

@@ -1,8 +1,10 @@
 -- What the pipeline makes of a cube.
-use Rattle.std.proofs.Common.{◌≡◌, ◌^◌, ◌<◌, ℕ, Bool, true, false, List, [], ◌∷◌, length, map, get_or, refl, sym, ap, ◌∙◌, subst, arith}
-use Rattle.std.specs.Prelude.{◌==◌, if◌then◌else◌}
+use Rattle.std.proofs.Common.{◌≡◌, ◌^◌, ◌<◌, ℕ, Bool, List, [], ◌∷◌, length, map, get_or, refl, sym, ap, ◌∙◌, subst, arith}
+use Rattle.std.specs.Prelude.{◌==◌}
 use Rattle.std.specs.List.{All, AllByRecursion}
+use Rattle.std.proofs.lemmas.Bool.{cond_both}
 use Rattle.std.proofs.lemmas.List.{length-map, get_or-map}
+use Rattle.std.proofs.lemmas.Simd.{map-map}
 use Rattle.band_rings.specs.Lane.{Lane}
 use Rattle.cube_core.specs.Image.{Image}
 use Rattle.cube_core.specs.Order.{IsOrder, upto}
@@ -32,23 +34,17 @@ feeds_from c plan = map (feed_of c plan) (upto plan.predictors)
 feed_at : (c : Image) (plan : Dealing) (q : ℕ) (f : Predicting) → q < plan.predictors → get_or (feeds_from c plan) q f ≡ feed_of c plan q
 feed_at c plan q f lt = get_or-map (feed_of c plan) (upto plan.predictors) q 0 f (rw (length-from 0 plan.predictors) lt) ∙ ap (feed_of c plan) (get_or-from 0 plan.predictors q 0 lt ∙ omega arith)
 
-one_inside : (b : Bool) (limit n : ℕ) (xs : List ℕ) → n < limit → AllByRecursion (λ v. v < limit) xs → AllByRecursion (λ v. v < limit) (if b then n ∷ xs else xs)
-one_inside true limit n xs lt h = (lt, h)
-one_inside false limit n xs lt h = h
-
 part_inside : (limit q : ℕ) (os ns : List ℕ) → AllByRecursion (λ v. v < limit) ns → AllByRecursion (λ v. v < limit) (part q os ns)
 unfolding part
 part_inside limit q [] ns h = tt
 part_inside limit q (o ∷ os) [] h = tt
-part_inside limit q (o ∷ os) (n ∷ ns) h = one_inside (o == q) limit n (part q os ns) h.0 (part_inside limit q os ns h.1)
+part_inside limit q (o ∷ os) (n ∷ ns) h =
+    let rest = part_inside limit q os ns h.1 in
+    cond_both (o == q) (n ∷ part q os ns) (part q os ns) (AllByRecursion (λ v. v < limit)) (λ _. (h.0, rest)) (λ _. rest)
 
 file_is : (p : Params) (c : Image) → file_of c p ≡ file_of_residuals (residuals p c) p
 unfolding file_of
 file_is p c = refl
-
-map_twice : {A B C : Type 0} (f : B → C) (g : A → B) (xs : List A) → map f (map g xs) ≡ map (λ x. f (g x)) xs
-map_twice f g [] = refl
-map_twice f g (x ∷ xs) = ap (λ ys. f (g x) ∷ ys) (map_twice f g xs)
 
 module _ (plan : Dealing) (c : Image) (lawful : IsPlan plan) (cube : IsCubeOf plan.params c) where
   abbrev of : ℕ → List ℕ
@@ -70,13 +66,13 @@ module _ (plan : Dealing) (c : Image) (lawful : IsPlan plan) (cube : IsCubeOf pl
   }
 
   lists : map part_of (feeds_from c plan) ≡ parts plan.predictors plan.deal plan.params c
-  lists = map_twice part_of (feed_of c plan) (upto plan.predictors)
+  lists = map-map part_of (feed_of c plan) (upto plan.predictors)
 
   pub is_file_of : (file : List ℕ) (lanes : List Lane) → IsPiped part_of plan (feeds_from c plan) file lanes → IsFileOf plan c file lanes
   is_file_of file lanes h =
       let made : file ≡ file_of c plan.params = h.woven ∙ ap (λ ls. file_of_residuals (weave (owners plan.deal plan.params) ls) plan.params) lists ∙ ap (λ ns. file_of_residuals ns plan.params) (weave_of_parts plan.params c plan.predictors plan.deal cube.shape lawful.lawful.order lawful.may.dealt) ∙ sym (file_is plan.params c) in
       record {
-        carries = h.carries ∙ sym (map_twice carried part_of (feeds_from c plan)) ∙ ap (map carried) lists;
+        carries = h.carries ∙ sym (map-map carried part_of (feeds_from c plan)) ∙ ap (map carried) lists;
         made = made;
         back = subst (λ bytes. IsFile bytes plan.params c) (sym made) (chosen_is_file plan.params c lawful.lawful cube);
       }

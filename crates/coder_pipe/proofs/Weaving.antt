@@ -3,12 +3,14 @@ use Rattle.std.proofs.Common.{◌≡◌, ◌+◌, ◌<◌, ◌≤◌, ℕ, zero,
 use Rattle.std.specs.Prelude.{option_map}
 use Rattle.std.specs.List.{slice_get}
 use Rattle.std.proofs.lemmas.List.{get_or_default, get_or-take, get_or-drop, drop-drop}
+use Rattle.std.proofs.lemmas.Result.{on_err_weaker}
 use Rattle.std.proofs.lemmas.Option.{slice_get-map, slice_get-get_or}
 use Rattle.cube_core.specs.declared.fault.Fault.{Fault}
 use Rattle.cube_core.specs.declared.order.Order.{Order}
 use Rattle.cube_core.specs.declared.order.Place.{Place}
 use Rattle.cube_core.specs.Shape.{Sizes}
 use Rattle.cube_core.specs.Order.{IsPlaceOf, goes_along_rows, place_index, places}
+use Rattle.cube_core.proofs.Lists.{get-drop as first-drop}
 use Rattle.cube_core.proofs.Keys.{order_is_by_key, index_of_item}
 use Rattle.cube_core.proofs.Orders.{item_from_index, place_index_below}
 use Rattle.cube_core.proofs.Walks.{columns_along}
@@ -18,11 +20,7 @@ use Rattle.cube_predictors.specs.Weave.{owners, owners_of}
 use Rattle.coder_pipe.specs.Woven.{Weaving, IsAlong, HasWoven, WeavesAll, AreOfOne, AreOwnersFrom}
 
 get-drop : {A : Type 0} (xs : List A) (n i : ℕ) → slice_get (drop n xs) i ≡ slice_get xs (n + i)
-get-drop [] zero i = refl
-get-drop [] (suc n) zero = refl
-get-drop [] (suc n) (suc i) = refl
-get-drop (x ∷ xs) zero i = let e : 0 + i ≡ i = omega arith in rw e refl
-get-drop (x ∷ xs) (suc n) i = let e : suc n + i ≡ suc (n + i) = omega arith in rw e (get-drop xs n i)
+get-drop xs n i = sym (first-drop (drop n xs) i) ∙ ap (λ ys. slice_get ys 0) (drop-drop i n xs) ∙ first-drop xs (n + i)
 
 -- the owners of the places that come next
 pub wanted : (p : Params) (deal numbers : List ℕ) (e : Ending) (i : ℕ) → HasCoded p e numbers → slice_get (owners deal p) (length numbers + i) ≡ option_map (λ q. get_or deal q.z 0) (slice_get e.left i)
@@ -80,12 +78,6 @@ pub row_owned : (s : Sizes) (o : Order) (w : Weaving) (place : Place) (count : �
 row_owned s o w place count h along next fits =
     owned_by_one w place count next (λ i lt. (record { z = place.z; y = place.y; x = place.x + i }, row_next s o w place i h along next (omega (arith, lt, fits)), refl))
 
-pub none_of_one : (w : Weaving) (p : Params) (deal numbers : List ℕ) → HasWoven p deal w numbers → AreOfOne (owners deal p) (length numbers) 0
-none_of_one w p deal numbers h i lt = absurd (omega (arith, lt))
-
-pub first_of_one : (w : Weaving) (p : Params) (deal numbers : List ℕ) → HasWoven p deal w numbers → AreOfOne (owners deal p) (length numbers) 1
-first_of_one w p deal numbers h i lt = let at : length numbers + i ≡ length numbers = omega (arith, lt) in ap (λ n. slice_get (owners deal p) n) at
-
 -- places that come next in a column are of bands that are dealt
 pub column_fits : (s : Sizes) (o : Order) (w : Weaving) (place : Place) (count : ℕ) → IsAlong s o w → Some place ≡ slice_get w.end.left 0 → ((i : ℕ) → i < count → slice_get w.end.left i ≡ Some (record { z = place.z + i; y = place.y; x = place.x })) → place.z + count ≤ length w.deal
 column_fits s o w place zero h next column = omega (arith, (place_within s o w place h next).1)
@@ -119,17 +111,14 @@ along_one (Err e) s o deal old new next moved same h = subst (λ (w : Ending). I
 -- numbers were taken
 codes_move : (old new : Ending) (list more : List ℕ) → MayCodeAll old list → CodesAll old new more → new.left ≡ drop (length more) old.left
 codes_move old new list more may codes =
-    let all : List Place = places may.params.shape may.params.order in
-    let now = codes may.params may.numbers may.coded in
-    now.left ∙ ap (λ n. drop n (places may.params.shape may.params.order)) (length-append may.numbers more) ∙ sym (drop-drop (length more) (length may.numbers) (places may.params.shape may.params.order)) ∙ ap (drop (length more)) (sym may.coded.left)
+    (codes may.params may.numbers may.coded).left ∙ ap (λ n. drop n (places may.params.shape may.params.order)) (length-append may.numbers more) ∙ sym (drop-drop (length more) (length may.numbers) (places may.params.shape may.params.order)) ∙ ap (drop (length more)) (sym may.coded.left)
 
 weaves : (deal : List ℕ) (old new : Ending) (list : List ℕ) → CodesAll old new list → WeavesAll (record { end = old; deal = deal }) (record { end = new; deal = deal }) list
 weaves deal old new list codes p ds numbers h = record { coded = codes p numbers h.coded; dealt = h.dealt }
 
 pub weaves_some : (r : Result (Unit {0}) Fault) (deal : List ℕ) (old new : Ending) (list : List ℕ) → OnErr r ((n : ℕ) × (n < length list) × CodesAll old new (take n list))
     → OnErr r ((n : ℕ) × (n < length list) × WeavesAll (record { end = old; deal = deal }) (record { end = new; deal = deal }) (take n list))
-weaves_some (Ok u) deal old new list some = tt
-weaves_some (Err e) deal old new list some = (some.0, some.1, weaves deal old new (take some.0 list) some.2)
+weaves_some r deal old new list some = on_err_weaker r (λ some. (some.0, some.1, weaves deal old new (take some.0 list) some.2)) some
 
 pub along_all : (r : Result (Unit {0}) Fault) (s : Sizes) (o : Order) (deal : List ℕ) (old new : Ending) (list : List ℕ) → MayCodeAll old list → OnOk r (CodesAll old new list) → OnErr r ((n : ℕ) × (n < length list) × CodesAll old new (take n list))
     → IsAlong s o (record { end = old; deal = deal }) → IsAlong s o (record { end = new; deal = deal })

@@ -1,11 +1,11 @@
 use Rattle.std.proofs.Common.{◌≡◌, ◌+◌, ◌∷◌, [], ◌++◌, ◌<◌, ◌≤◌, ◌^◌, length, take, get_or, length-append, length-take, length-set, arith, ap, sym, ◌∙◌, Some, ℕ}
 use Rattle.std.specs.List.{slice_get}
 use Rattle.std.proofs.lemmas.List.{length-map, take_more_set}
-use Rattle.std.proofs.lemmas.List.Elements.{All-append}
+use Rattle.std.proofs.lemmas.List.Elements.{All-append, All-cons, All-nil}
 use Rattle.std.proofs.lemmas.Option.{slice_get-get_or}
 use Rattle.cube_predictors.specs.Weave.{owners}
 use Rattle.coder_pipe.specs.Standings.{handed_of}
-use Rattle.coder_pipe.proofs.Taking.{ahead_more, owner_below, fewer_ahead, place_left, may_take, owners_fit, all_one}
+use Rattle.coder_pipe.proofs.Taking.{ahead_more, owner_below, fewer_taken, place_left, may_take, owners_fit}
 use Rattle.coder_pipe.proofs.gather.next_of_column.Goals as goal
 use Rattle.coder_pipe.proofs.gather.next_of_column.Goals.{After-from-owner}
 use Rattle.coder_pipe.proofs.gather.next_of_column.Given.{Over}
@@ -37,7 +37,7 @@ next_one_of-requires-clause-place g c = let d = (goal.at.next_one_of-requires-cl
 pub next_one_of-requires-clause-short : goal.next_one_of-requires-clause-short
 next_one_of-requires-clause-short g c = λ f.
     let d = (goal.at.next_one_of-requires-clause-short g c).After-from-owner in
-    let few = fewer_ahead c.args.plan.now.params c.args.plan.now.deal c.args.weaver.now (handed_of c.loop-i.stages.items) c.args.taken c.from-owner.result (take c.loop-i.i c.loop-i.run) c.loop-i.invariant.ahead (next g d) (handed_within g d) in
+    let few = fewer_taken c.from-owner.result _ _ _ (c.loop-i.invariant.ahead.parts c.from-owner.result (handed_within g d)) (next g d) in
     rw c.loop-i.invariant.feeds (omega (arith, few, c.requires.lists.whole c.from-owner.result f (below g d)))
 
 pub next_one_of-requires-clause-range : goal.next_one_of-requires-clause-range
@@ -64,7 +64,7 @@ loop-i-preserved g c =
     let at : (j : ℕ) → j < 1 → slice_get (owners c.args.plan.now.deal c.args.plan.now.params) (length was.ahead.numbers + length (take c.loop-i.i c.loop-i.run) + j) ≡ Some c.from-owner.result = λ j lt.
     (let here : length was.ahead.numbers + length (take c.loop-i.i c.loop-i.run) + j ≡ length (was.ahead.numbers ++ take c.loop-i.i c.loop-i.run) = omega (arith, lt, length-append was.ahead.numbers (take c.loop-i.i c.loop-i.run)) in rw here (sym (next g d))) in
     let ahead = ahead_more c.args.plan.now.params c.args.plan.now.deal c.args.weaver.now (handed_of c.loop-i.stages.items) (handed_of c.next_one_of.new.stages.items) c.args.taken c.from-owner.result (take c.loop-i.i c.loop-i.run) (c.in-Ok.number ∷ []) was.ahead at (handed_within g d) c.in-Ok.ensures.ok in
-    let range = All-append (λ n. n ≤ c.greatest-most.result) (take c.loop-i.i c.loop-i.run) (c.in-Ok.number ∷ []) was.range (all_one (λ n. n ≤ c.greatest-most.result) c.in-Ok.number c.in-Ok.ensures.most) in
+    let range = All-append (λ n. n ≤ c.greatest-most.result) (take c.loop-i.i c.loop-i.run) (c.in-Ok.number ∷ []) was.range (All-cons (λ n. n ≤ c.greatest-most.result) c.in-Ok.number [] c.in-Ok.ensures.most (All-nil (λ n. n ≤ c.greatest-most.result))) in
     record {
       feeds = c.in-Ok.ensures.feeds ∙ was.feeds;
       gates = c.in-Ok.ensures.gates ∙ was.gates;

@@ -41,7 +41,7 @@ next_of-requires-clause-room g c =
 pub next_of-requires-clause-short : goal.next_of-requires-clause-short
 next_of-requires-clause-short g c = λ f.
     let d = (goal.at.next_of-requires-clause-short g c).In-Some in
-    let few = fewer_taken c.args.plan.now.params c.args.plan.now.deal c.args.weaver.now (handed_of c.args.stages.now.items) c.args.taken c.in-Some.owner c.requires.woven (next g d) (handed_within g d) in
+    let few = fewer_taken c.in-Some.owner _ _ _ (c.requires.woven.parts c.in-Some.owner (handed_within g d)) (next g d) in
     omega (arith, few, c.requires.lists.whole c.in-Some.owner f (below g d))
 
 pub next_of-requires-clause-range : goal.next_of-requires-clause-range

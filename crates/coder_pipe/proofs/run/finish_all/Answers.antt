@@ -5,12 +5,6 @@ use Rattle.coder_pipe.specs.Standings.{feeds_of, handed_of}
 use Rattle.coder_pipe.proofs.Heads.{drop_head, head_map, copy_step, agree_step}
 use Rattle.coder_pipe.proofs.run.finish_all.Goals as goal
 
-pub finish-requires : goal.finish-requires
-finish-requires g c =
-    let was = c.loop-stage.invariant in
-    let h = drop_head c.args.stages.items _ (vec_len c.loop-stage.lanes) c.in-Some.stage (sym was.left ∙ c.in-Some.ensures.steps.0) in
-    rw (h.here c.in-Some.stage) at (c.requires.whole (vec_len c.loop-stage.lanes) c.in-Some.stage h.below)
-
 pub loop-stage-preserved : goal.loop-stage-preserved
 loop-stage-preserved g c =
     let was = c.loop-stage.invariant in let n = vec_len c.loop-stage.lanes in let xs = c.args.stages.items in
