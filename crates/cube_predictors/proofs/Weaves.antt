@@ -7,6 +7,7 @@ use Rattle.std.proofs.lemmas.List.{length-map, get_or-map, nil_from_length, ext_
 use Rattle.std.proofs.lemmas.Bool.Decides.{nat_tests}
 use Rattle.std.proofs.lemmas.Bool.{cases_Bool, eq-eqb}
 use Rattle.std.proofs.lemmas.Grind.{get_or-set_at}
+use Rattle.std.proofs.lemmas.List.Elements.{All-map}
 use Rattle.std.proofs.lemmas.List.Sums.{sum_by-cons}
 use Rattle.std.proofs.lemmas.Option.{slice_get-get_or}
 use Rattle.cube_core.specs.declared.order.Order.{Order}
@@ -143,15 +144,13 @@ parts_of_weave os lists below whole =
 
 -- ---- along the places of an image
 
-pub owned : (s : Sizes) (order : Order) (predictors : ℕ) (deal : List ℕ) → IsOrder s order → IsDeal predictors s.bands deal → All (λ o. o < predictors) (owners_of deal (places s order))
+pub owned : (s : Sizes) (order : Order) (predictors : ℕ) (deal : List ℕ) → IsOrder s order → IsDeal predictors s.bands deal
+    → All (λ o. o < predictors) (owners_of deal (places s order))
 unfolding owners_of
-owned s order predictors deal lawful dealt k d h =
-    let within : k < length (places s order) = rw (length-map (places s order) (λ p. get_or deal p.z 0)) at h in
-    let first : Place = record { z = 0; y = 0; x = 0 } in
-    let place : Place = get_or (places s order) k first in
-    let there : IsPlaceOf s place = (order_is_by_key s order lawful).only k place (slice_get-get_or (places s order) k first within) in
-    let at : get_or (map (λ p. get_or deal p.z 0) (places s order)) k d ≡ get_or deal place.z 0 = get_or-map (λ p. get_or deal p.z 0) (places s order) k first d within in
-    rw at (dealt.owned place.z 0 (rw dealt.whole there.band))
+owned s order predictors deal lawful dealt =
+    All-map (λ o. o < predictors) (λ p. get_or deal p.z 0) (places s order) (λ k d h.
+        let there = (order_is_by_key s order lawful).only k _ (slice_get-get_or (places s order) k d h) in
+        dealt.owned (get_or (places s order) k d).z 0 (rw dealt.whole there.band))
 
 pub length-owners : (deal : List ℕ) (p : Params) → length (owners deal p) ≡ length (places p.shape p.order)
 unfolding owners_of
@@ -160,6 +159,5 @@ length-owners deal p = length-map (places p.shape p.order) (λ q. get_or deal q.
 pub weave_of_parts : WeaveOfParts
 unfolding residuals
 weave_of_parts p c predictors deal shape lawful dealt =
-    let numbers : length (residuals p c) ≡ length (places c.shape p.order) = length-map (places c.shape p.order) (λ q. mapped_residual p c q.z (q.y * c.shape.columns + q.x)) in
-    let along : length (places c.shape p.order) ≡ length (places p.shape p.order) = ap (λ (s : Sizes). length (places s p.order)) shape in
-    weave_of_taken predictors (owners deal p) (residuals p c) (owned p.shape p.order predictors deal lawful dealt) (omega (arith, numbers, along, length-owners deal p))
+    let few : length (residuals p c) ≤ length (owners deal p) = rw (length-map, length-owners, shape) (omega arith) in
+    weave_of_taken predictors (owners deal p) (residuals p c) (owned p.shape p.order predictors deal lawful dealt) few

@@ -1,5 +1,5 @@
 -- Runs: what the coding end has taken, row by row.
-use Rattle.std.proofs.Common.{◌≡◌, ◌+◌, ◌*◌, ◌<◌, ◌≤◌, ◌^◌, ℕ, zero, suc, Bool, true, List, [], ◌∷◌, ◌++◌, append-nil, length, take, drop, Some, sym, ap, subst, ◌∙◌, append_assoc, length-append, length-take, length-drop, get_or, arith}
+use Rattle.std.proofs.Common.{◌≡◌, ◌+◌, ◌*◌, ◌<◌, ◌≤◌, ◌^◌, ℕ, zero, suc, Bool, true, List, [], ◌∷◌, ◌++◌, append-nil, length, take, drop, Some, refl, sym, ap, subst, ◌∙◌, append_assoc, length-append, length-take, length-drop, get_or, arith}
 use Rattle.std.specs.List.{AllByRecursion, slice_get}
 use Rattle.std.proofs.Math.Seq.{take-add, drop-drop}
 use Rattle.std.proofs.lemmas.Nat.{mul-le}
@@ -13,9 +13,10 @@ use Rattle.cube_core.proofs.Keys.{order_is_by_key, index_of_item}
 use Rattle.header_bits.specs.declared.params.Params.{Params}
 use Rattle.header_bits.specs.Header.{header_of}
 use Rattle.sample_adaptive.specs.Settings.{settings, IsSample}
-use Rattle.sample_adaptive.specs.Body.{sample_body, words_after, band_numbers}
+use Rattle.sample_adaptive.specs.Body.{words_after, band_numbers}
 use Rattle.sample_adaptive.specs.Taken.{Counts, HasTaken as HaveTaken, PutsRun as PutsMany}
-use Rattle.sample_adaptive.proofs.Running.{body_run}
+use Rattle.sample_adaptive.proofs.Running.{body_run, all_take, all_drop}
+use Rattle.header_bits.proofs.TableWriting.{all_at}
 use Rattle.file_coding.specs.declared.encoder.Encoder.{Encoder}
 use Rattle.file_coding.specs.declared.encoder.Encoder.TheVariants.{Samples, Blocks}
 use Rattle.file_coding.specs.Coding.{places_of, places_behind, SamplesTaken, HasTaken, IsRun, IsBySamples, MayPutRun, PutsRun}
@@ -36,6 +37,9 @@ pub rows_drop : (columns n : ℕ) (ps : List Place) → AreByRows columns ps →
 rows_drop columns zero ps h = h
 rows_drop columns (suc n) [] h = h
 rows_drop columns (suc n) (q ∷ rest) h = rows_drop columns n rest (rows_shift columns q rest h)
+
+pub rows_behind : (columns n : ℕ) (ps now : List Place) → now ≡ drop n ps → AreByRows columns ps → AreByRows columns now
+rows_behind columns n ps now e h = rw e (rows_drop columns n ps h)
 
 -- the places of a row are of one band
 pub row_band : (columns n : ℕ) (ps : List Place) (place : Place) → AreByRows columns ps → slice_get ps 0 ≡ Some place → place.x + n ≤ columns → AllByRecursion (λ q. q.z ≡ place.z) (take n ps)
@@ -64,18 +68,15 @@ pub samples_more_run : (p : Params) (old new : Counts) (numbers run : List ℕ) 
     → HaveTaken (settings p) new (λ b. band_numbers b (places_of p numbers ++ places_behind p numbers (length run)) (numbers ++ run))
     → SamplesTaken p new (numbers ++ run) (bits ++ words_after (settings p) (places_of p numbers) numbers (places_behind p numbers (length run)) run)
 samples_more_run p old new numbers run bits fits h kept taken =
-    let long : length numbers ≡ length (places_of p numbers) = places_long p numbers (omega (arith, fits)) in
-    let whole : places_of p numbers ++ places_behind p numbers (length run) ≡ places_of p (numbers ++ run) =
-    sym (ap (λ n. take n (places p.shape p.order)) (length-append numbers run) ∙ take-add (length numbers) (length run) (places p.shape p.order)) in
+    let long = places_long p numbers (omega (arith, fits)) in
+    let whole : places_of p (numbers ++ run) ≡ places_of p numbers ++ places_behind p numbers (length run) =
+    rw (length-append numbers run, take-add (length numbers) (length run) (places p.shape p.order)) refl in
     record {
       coder = h.coder;
       bands = kept.0 ∙ h.bands;
       depth = kept.1 ∙ h.depth;
-      taken = subst (λ (qs : List Place). HaveTaken (settings p) new (λ b. band_numbers b qs (numbers ++ run))) whole taken;
-      text =
-          ap (λ (x : List Bool). x ++ words_after (settings p) (places_of p numbers) numbers (places_behind p numbers (length run)) run) h.text
-          ∙ sym (body_run (settings p) (places_of p numbers) (places_behind p numbers (length run)) numbers run long)
-          ∙ ap (λ (qs : List Place). sample_body (settings p) qs (numbers ++ run)) whole;
+      taken = subst (λ (qs : List Place). HaveTaken (settings p) new (λ b. band_numbers b qs (numbers ++ run))) (sym whole) taken;
+      text = rw (whole, body_run (settings p) (places_of p numbers) (places_behind p numbers (length run)) numbers run long, ← h.text) refl;
     }
 
 -- as many places stand behind those of the numbers
@@ -84,21 +85,19 @@ run_count p numbers count fits = omega (arith, fits, length-take count (drop (le
 
 pub samples_run : (z t : ℕ) (run : List ℕ) (old new : Counts) (written now : List Bool) → PutsMany z t run old written new now → (length new.bands ≡ length old.bands) × (new.bits ≡ old.bits) → PutsRun z t run (Samples old) written (Samples new) now
 samples_run z t run old new written now puts kept p numbers bits h next =
-    let long : length numbers ≡ length (places_of p numbers) = places_long p numbers (omega (arith, next.fits)) in
+    let long = places_long p numbers (omega (arith, next.fits)) in
     let did = puts (settings p) (places_of p numbers) (places_behind p numbers (length run)) numbers long (run_count p numbers (length run) next.fits) next.band h.taken next.time in
     (words_after (settings p) (places_of p numbers) numbers (places_behind p numbers (length run)) run, did.0, samples_more_run p old new numbers run bits next.fits h kept did.1)
-
-is_sample : (p : Params) (coder : Encoder) (numbers : List ℕ) (bits : List Bool) → IsBySamples coder → HasTaken p coder numbers bits → IsSample p.coder
-is_sample p (Samples v) numbers bits s h = h.coder
-is_sample p (Blocks v) numbers bits s h = absurd s
 
 not_both : (coder : Coder) → IsSample coder → IsBlock coder → ⊥
 not_both (Sample umax gamma_star gamma_zero start) s b = b
 not_both (Block size restricted reference) s b = s
 
-by_samples : (p : Params) (coder : Encoder) (numbers : List ℕ) (bits : List Bool) → IsSample p.coder → HasTaken p coder numbers bits → IsBySamples coder
-by_samples p (Samples v) numbers bits s h = tt
-by_samples p (Blocks v) numbers bits s h = absurd (not_both p.coder s h.coder)
+-- what takes numbers by samples goes on to do so
+stays : (p : Params) (a b : Encoder) (ns ms : List ℕ) (bits more : List Bool) → HasTaken p a ns bits → HasTaken p b ms more → IsBySamples a → IsBySamples b
+stays p a (Samples w) ns ms bits more h k s = tt
+stays p (Samples v) (Blocks w) ns ms bits more h k s = absurd (not_both p.coder h.coder k.coder)
+stays p (Blocks v) (Blocks w) ns ms bits more h k s = absurd s
 
 -- a run may be put
 may_by_coder : (p : Params) (coder : Encoder) (numbers run : List ℕ) (bits : List Bool) (z t : ℕ) → IsBySamples coder → HasTaken p coder numbers bits → z < p.shape.bands → AllByRecursion (λ n. n < 2 ^ p.kind.bits) run → (length run ≤ 2 ^ 16) × (t < 2 ^ 48)
@@ -127,21 +126,6 @@ codes_none e p numbers h = rw (append-nil numbers) h
 pub codes_behind : (a b d : Ending) (xs ys : List ℕ) → CodesAll a b xs → CodesAll b d ys → CodesAll a d (xs ++ ys)
 codes_behind a b d xs ys f g p numbers h = rw (append_assoc numbers xs ys) at (g p (numbers ++ xs) (f p numbers h))
 
-all_get : (limit i : ℕ) (xs : List ℕ) → AllByRecursion (λ n. n < limit) xs → i < length xs → get_or xs i 0 < limit
-all_get limit i [] h lt = absurd (omega (arith, lt))
-all_get limit zero (x ∷ xs) h lt = h.0
-all_get limit (suc i) (x ∷ xs) h lt = all_get limit i xs h.1 (omega (arith, lt))
-
-all_take : (limit i : ℕ) (xs : List ℕ) → AllByRecursion (λ n. n < limit) xs → AllByRecursion (λ n. n < limit) (take i xs)
-all_take limit zero xs h = tt
-all_take limit (suc i) [] h = tt
-all_take limit (suc i) (x ∷ xs) h = (h.0, all_take limit i xs h.1)
-
-all_drop : (limit i : ℕ) (xs : List ℕ) → AllByRecursion (λ n. n < limit) xs → AllByRecursion (λ n. n < limit) (drop i xs)
-all_drop limit zero xs h = h
-all_drop limit (suc i) [] h = h
-all_drop limit (suc i) (x ∷ xs) h = all_drop limit i xs h.1
-
 -- a part of the numbers behind those that were coded
 pub may_part : (old e : Ending) (list : List ℕ) (first count : ℕ) → MayCodeAll old list → CodesAll old e (take first list) → first + count ≤ length list → MayCodeAll e (take count (drop first list))
 may_part old e list first count may codes fits = record {
@@ -150,7 +134,7 @@ may_part old e list first count may codes fits = record {
   lawful = may.lawful;
   coded = codes may.params may.numbers may.coded;
   more = omega (arith, may.more, length-append may.numbers (take first list), length-take first list, length-take count (drop first list), length-drop first list);
-  range = all_take (2 ^ may.params.kind.bits) count (drop first list) (all_drop (2 ^ may.params.kind.bits) first list may.range);
+  range = all_take (λ n. n < 2 ^ may.params.kind.bits) count (drop first list) (all_drop (λ n. n < 2 ^ may.params.kind.bits) first list may.range);
 }
 
 pub may_one : (old e : Ending) (list : List ℕ) (i : ℕ) → MayCodeAll old list → CodesAll old e (take i list) → i < length list → MayCode e (get_or list i 0)
@@ -160,16 +144,14 @@ may_one old e list i may codes lt = record {
   lawful = may.lawful;
   coded = codes may.params may.numbers may.coded;
   more = omega (arith, may.more, lt, length-append may.numbers (take i list), length-take i list);
-  range = all_get (2 ^ may.params.kind.bits) i list may.range lt;
+  range = all_at (λ n. n < 2 ^ may.params.kind.bits) list i 0 lt may.range;
 }
 
 pub may_run : (old e : Ending) (list : List ℕ) (first count : ℕ) (place : Place) → MayCodeAll old list → IsBySamples old.coder → CodesAll old e (take first list) → AreByRows e.columns e.left → first + count ≤ length list
     → slice_get e.left 0 ≡ Some place → place.x + count ≤ e.columns → MayCodeRun e place (take count (drop first list))
 may_run old e list first count place may samples codes rows fits next row = record {
   may = may_part old e list first count may codes fits;
-  samples =
-      let now = codes may.params may.numbers may.coded in
-      by_samples may.params e.coder (may.numbers ++ take first list) now.written (is_sample may.params old.coder may.numbers may.coded.written samples may.coded.taken) now.taken;
+  samples = stays may.params old.coder e.coder _ _ _ _ may.coded.taken (codes may.params may.numbers may.coded).taken samples;
   rows = rows;
   next = next;
   row = omega (arith, row, length-take count (drop first list));

@@ -54,12 +54,9 @@ band_numbers_other z gone ns q n long e = band_push z gone ns q n long ∙ ap (�
 
 -- numbers are some numbers and a last one
 pub last_of : (ns : List ℕ) (n : ℕ) → length ns ≡ n + 1 → (front : List ℕ) × (last : ℕ) × (ns ≡ front ++ last ∷ []) × (length front ≡ n)
-last_of [] n e = absurd (omega arith)
-last_of (x ∷ []) n e = ([], x, refl, omega arith)
-last_of (x ∷ (y ∷ ns)) zero e = absurd (omega arith)
-last_of (x ∷ (y ∷ ns)) (suc n) e =
-    let more = last_of (y ∷ ns) n (omega arith) in
-    (x ∷ more.0, more.1, ap (λ (xs : List ℕ). x ∷ xs) more.2, ap suc more.3)
+last_of ns n e =
+    let all : take (n + 1) ns ≡ ns = take_all (n + 1) ns (omega (arith, e)) in
+    (take n ns, get_or ns n 0, sym all ∙ take_more ns n 0 (omega (arith, e)), omega (arith, e, length-take n ns))
 
 -- one place more, and with it another image, which the other bands follow as well
 pub walked_more : (p : Params) (c e : Image) (gone : List Place) (bands : List Learner) (q : Place) (b d : Learner)
@@ -194,21 +191,6 @@ gone_all p lawful = take_all (gone_count p []) (places p.shape p.order) (omega (
 pub residuals_whole : (p : Params) (c : Image) → IsOrder p.shape p.order → c.shape ≡ p.shape → residuals_at p c (gone_by p []) ≡ residuals p c
 unfolding residuals
 residuals_whole p c lawful shape = ap (residuals_at p c) (gone_all p lawful ∙ ap (λ (s : Sizes). places s p.order) (sym shape))
-
--- the residuals of one place more
-pub residuals_more : (p : Params) (c : Image) (left rest : List Place) (bands : List Learner) (q : Place) (b : Learner) (number : ℕ)
-    → IsOrder p.shape p.order → c.shape ≡ p.shape → IsOnWalk p c left bands → left ≡ q ∷ rest → slice_get bands q.z ≡ Some b → number ≡ mapped_residual p c b.band b.place
-    → residuals_at p c (gone_by p rest) ≡ residuals_at p c (gone_by p left) ++ number ∷ []
-residuals_more p c left rest bands q b number lawful shape walk is band value =
-    let next = next_goes p q left rest lawful walk.rest is in
-    let here = band_here p c (gone_by p left) bands q b lawful walk.known next.stands band in
-    let place : b.place ≡ q.y * c.shape.columns + q.x = here.1 ∙ ap (λ (s : Sizes). q.y * s.columns + q.x) (sym shape) in
-    let there : number ≡ mapped_residual p c q.z (q.y * c.shape.columns + q.x) = value ∙ ap (λ z. mapped_residual p c z b.place) here.0.band ∙ ap (mapped_residual p c q.z) place in
-    ap (residuals_at p c) next.gone ∙ residuals_push p c (gone_by p left) q ∙ ap (λ n. residuals_at p c (gone_by p left) ++ n ∷ []) (sym there)
-
--- of no place
-pub residuals_none : (p : Params) (c : Image) → IsOrder p.shape p.order → residuals_at p c (gone_by p (places p.shape p.order)) ≡ []
-residuals_none p c lawful = let none : gone_count p (places p.shape p.order) ≡ 0 = omega (arith, length-places p.shape p.order lawful) in rw none refl
 
 -- ---- all bands
 

@@ -1,12 +1,9 @@
 use Rattle.std.proofs.Common.{◌≡◌, ◌+◌, ◌-◌, ◌≤◌, ℕ, List, length, take, drop, get_or, sym, ap, ◌∙◌, length-take, arith}
 use Rattle.file_coding.specs.Ends.{Ending}
 use Rattle.file_coding.proofs.Endings.{place_comes}
-use Rattle.file_coding.proofs.Runs.{codes_none, may_one, may_part}
+use Rattle.file_coding.proofs.Runs.{may_one, may_part}
 use Rattle.file_coding.proofs.Columns.{column_more, column_part}
 use Rattle.file_coding.proofs.coding_end.CodingEnd.put_columns.Goals as goal
-
-pub loop-first-init : goal.loop-first-init
-loop-first-init c = record { coded = codes_none c.args.self.now; within = omega arith }
 
 pub unreachable-requires : goal.unreachable-requires
 unreachable-requires c =

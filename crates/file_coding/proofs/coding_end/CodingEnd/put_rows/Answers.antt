@@ -1,16 +1,12 @@
-use Rattle.std.proofs.Common.{◌≡◌, ◌+◌, ◌-◌, ◌<◌, ◌≤◌, ℕ, List, Result, Ok, Err, OnErr, Some, length, take, drop, get_or, sym, ap, subst, ◌∙◌, arith}
+use Rattle.std.proofs.Common.{◌≡◌, ◌+◌, ◌-◌, ◌<◌, ◌≤◌, ℕ, List, Some, length, take, drop, get_or, sym, ap, subst, ◌∙◌, arith}
 use Rattle.std.specs.List.{slice_get}
 use Rattle.std.proofs.Math.Seq.{take-add}
-use Rattle.std.proofs.lemmas.List.{take_all}
-use Rattle.cube_core.specs.declared.fault.Fault.{Fault}
+use Rattle.std.proofs.lemmas.Result.{err_from_is_err_and}
 use Rattle.cube_core.specs.declared.order.Place.{Place}
 use Rattle.file_coding.specs.Ends.{Ending, CodesAll, MayCodeAll}
 use Rattle.file_coding.proofs.Endings.{place_comes}
-use Rattle.file_coding.proofs.Runs.{codes_none, codes_behind, may_one, may_part, may_run, column_within}
+use Rattle.file_coding.proofs.Runs.{codes_behind, may_one, may_part, may_run, column_within}
 use Rattle.file_coding.proofs.coding_end.CodingEnd.put_rows.Goals as goal
-
-pub loop-first-init : goal.loop-first-init
-loop-first-init c = record { coded = codes_none c.args.self.now; rows = c.requires.rows; within = omega arith }
 
 pub unreachable-requires : goal.unreachable-requires
 unreachable-requires c =
@@ -39,13 +35,9 @@ loop-first-smaller c =
     let inside = column c.args.self.now c.loop-first.self c.args.residuals.now c.loop-first.first c.in-Some.place c.requires.may c.loop-first.invariant.coded c.loop-first.invariant.within (sym c.place.ensures ∙ c.in-Some.is) in
     omega (arith, inside, c.from.ensures, c.min-count.ensures, c.loop-first-test.true, ap (λ (e : Ending). e.columns) c.self.view_is)
 
-some_taken : (r : Result (Unit {0}) Fault) (P : Type 0) → P → OnErr r P
-some_taken (Ok u) P h = tt
-some_taken (Err e) P h = h
-
 pub returns-in_err-put_run-clause-some : goal.returns-in_err-put_run-clause-some
 returns-in_err-put_run-clause-some c =
-    some_taken c.from_residual.result _
+    rw (err_from_is_err_and c.from_residual.result c.from_residual.ensures.1).1
     (c.loop-first.first, c.loop-first-test.true, subst (λ (e : Ending). CodesAll c.args.self.now e (take c.loop-first.first c.args.residuals.now)) (sym c.in_err-put_run.ensures.same) c.loop-first.invariant.coded)
 
 pub loop-first-preserved : goal.loop-first-preserved
@@ -59,6 +51,3 @@ loop-first-preserved c =
       rows = c.in_ok-put_run.ensures.rows;
       within = omega (arith, c.min-count.ensures, was.within);
     }
-
-pub returns-clause-coded : goal.returns-clause-coded
-returns-clause-coded c = subst (CodesAll c.args.self.now c.loop-first.self) (take_all c.loop-first.first c.args.residuals.now (omega (arith, c.loop-first-test.false))) c.loop-first.invariant.coded
