@@ -63,7 +63,7 @@ loop-i-preserved g c =
     let cut = take_more_set c.loop-i.run c.loop-i.i c.in-Ok.number room in
     let at : (j : ℕ) → j < 1 → slice_get (owners c.args.plan.now.deal c.args.plan.now.params) (length was.ahead.numbers + length (take c.loop-i.i c.loop-i.run) + j) ≡ Some c.from-owner.result = λ j lt.
     (let here : length was.ahead.numbers + length (take c.loop-i.i c.loop-i.run) + j ≡ length (was.ahead.numbers ++ take c.loop-i.i c.loop-i.run) = omega (arith, lt, length-append was.ahead.numbers (take c.loop-i.i c.loop-i.run)) in rw here (sym (next g d))) in
-    let ahead = ahead_more c.args.plan.now.params c.args.plan.now.deal c.args.weaver.now (handed_of c.loop-i.stages.items) (handed_of c.next_one_of.new.stages.items) c.args.taken c.from-owner.result (take c.loop-i.i c.loop-i.run) (c.in-Ok.number ∷ []) was.ahead at (handed_within g d) c.in-Ok.ensures.ok in
+    let ahead = ahead_more _ _ _ _ (handed_of c.next_one_of.new.stages.items) _ c.from-owner.result (take c.loop-i.i c.loop-i.run) (c.in-Ok.number ∷ []) was.ahead at (handed_within g d) c.in-Ok.ensures.ok in
     let range = All-append (λ n. n ≤ c.greatest-most.result) (take c.loop-i.i c.loop-i.run) (c.in-Ok.number ∷ []) was.range (All-cons (λ n. n ≤ c.greatest-most.result) c.in-Ok.number [] c.in-Ok.ensures.most (All-nil (λ n. n ≤ c.greatest-most.result))) in
     record {
       feeds = c.in-Ok.ensures.feeds ∙ was.feeds;
@@ -76,7 +76,7 @@ loop-i-preserved g c =
 
 pub returns-clause-within : goal.returns-clause-within
 returns-clause-within g c =
-    let left = place_left c.args.plan.now.params c.args.plan.now.deal c.args.weaver.now (handed_of c.args.stages.now.items) c.args.taken c.prove_is_plan.ensures.lawful.order c.requires.woven c.requires.more in
+    let left = place_left _ _ _ _ _ c.prove_is_plan.ensures.lawful.order c.requires.woven c.requires.more in
     (c.wanted_column-owners.ensures.some left, c.wanted_column-owners.ensures.most)
 
 pub returns-clause-may : goal.returns-clause-may
@@ -86,5 +86,5 @@ returns-clause-may g c =
     let most : c.greatest-most.result + 1 ≡ 2 ^ c.args.plan.now.params.kind.bits = c.greatest-most.ensures ∙ ap (λ p. 2 ^ p.kind.bits) c.params.ensures in
     let from = c.wanted_column-owners.ensures.owned c.args.plan.now.params c.args.plan.now.deal was.ahead.numbers was.ahead.woven in
     let few = owners_fit c.args.plan.now.params c.args.plan.now.deal was.ahead.numbers c.wanted_column-owners.result.now c.prove_is_plan.ensures.lawful.order (omega (arith, was.ahead.long, c.requires.more)) from in
-    may_take c.args.plan.now.params c.args.plan.now.deal c.args.weaver.now was.ahead.numbers (take (length c.wanted_column-owners.result.now) c.loop-i.run) c.greatest-most.result was.ahead.woven c.prove_is_plan.ensures.lawful
+    may_take _ _ _ was.ahead.numbers (take (length c.wanted_column-owners.result.now) c.loop-i.run) c.greatest-most.result was.ahead.woven c.prove_is_plan.ensures.lawful
     (omega (arith, few, length-take (length c.wanted_column-owners.result.now) c.loop-i.run)) most (rw all at was.range)

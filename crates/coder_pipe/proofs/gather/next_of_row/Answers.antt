@@ -35,7 +35,7 @@ next_of-requires-clause-place g c = let d = (goal.at.next_of-requires-clause-pla
 
 pub next_of-requires-clause-room : goal.next_of-requires-clause-room
 next_of-requires-clause-room g c =
-    let left = place_left c.args.plan.now.params c.args.plan.now.deal c.args.weaver.now (handed_of c.args.stages.now.items) c.args.taken c.prove_is_plan.ensures.lawful.order c.requires.woven c.requires.more in
+    let left = place_left _ _ _ _ _ c.prove_is_plan.ensures.lawful.order c.requires.woven c.requires.more in
     omega (arith, c.wanted_run-wanted.ensures.some left, c.wanted_run-wanted.ensures.most, length-take c.wanted_run-wanted.result c.args.run.now)
 
 pub next_of-requires-clause-short : goal.next_of-requires-clause-short
@@ -61,8 +61,8 @@ returns-in-Ok-clause-ahead g c =
     let one = c.wanted_run-wanted.ensures.owned c.args.plan.now.params c.args.plan.now.deal was.numbers was.woven in
     let own = fewer_of_one (owners c.args.plan.now.deal c.args.plan.now.params) (length was.numbers) c.wanted_run-wanted.result (length (take count run)) c.in-Some.owner one few (next g d) in
     let at : (i : ℕ) → i < length (take count run) → slice_get (owners c.args.plan.now.deal c.args.plan.now.params) (length was.numbers + 0 + i) ≡ Some c.in-Some.owner = λ i lt. (let here : length was.numbers + 0 + i ≡ length was.numbers + i = omega arith in rw here (own i lt)) in
-    let none = ahead_none c.args.plan.now.params c.args.plan.now.deal c.args.weaver.now (handed_of c.args.stages.now.items) c.args.taken was in
-    let ahead = ahead_more c.args.plan.now.params c.args.plan.now.deal c.args.weaver.now (handed_of c.args.stages.now.items) (handed_of c.next_of.new.stages.items) c.args.taken c.in-Some.owner [] (take count run) none at (handed_within g d) c.in-Ok.ensures.ok in
+    let none = ahead_none _ _ _ _ _ was in
+    let ahead = ahead_more _ _ _ _ (handed_of c.next_of.new.stages.items) _ c.in-Some.owner [] (take count run) none at (handed_within g d) c.in-Ok.ensures.ok in
     rw (take-append-le count run (drop c.wanted_run-wanted.result c.args.run.now) within) ahead
 
 pub returns-in-Ok-clause-may : goal.returns-in-Ok-clause-may
@@ -77,7 +77,7 @@ returns-in-Ok-clause-may g c =
     let one = c.wanted_run-wanted.ensures.owned c.args.plan.now.params c.args.plan.now.deal was.numbers was.woven in
     let fits = run_fits c.args.plan.now.params c.args.plan.now.deal was.numbers c.in-Some.owner c.wanted_run-wanted.result c.prove_is_plan.ensures.lawful.order (next g d) one in
     subst (MayCodeAll c.args.weaver.now.end) (sym (take-append-le count run (drop c.wanted_run-wanted.result c.args.run.now) within))
-    (may_take c.args.plan.now.params c.args.plan.now.deal c.args.weaver.now was.numbers (take count run) c.greatest-most.result was.woven c.prove_is_plan.ensures.lawful (omega (arith, few, fits)) most c.in-Ok.ensures.most)
+    (may_take _ _ _ was.numbers (take count run) c.greatest-most.result was.woven c.prove_is_plan.ensures.lawful (omega (arith, few, fits)) most c.in-Ok.ensures.most)
 
 pub returns-in-Err-clause-stopped : goal.returns-in-Err-clause-stopped
 returns-in-Err-clause-stopped g c =

@@ -15,9 +15,9 @@ invariant_of-self-2 c = (c.self.invariant.0, λ by. rows_behind c.self.inside.co
 
 pub returns-then-taken-residuals-clause-some : goal.returns-then-taken-residuals-clause-some
 returns-then-taken-residuals-clause-some c =
-    (c.put_blocks-taken.result, c.if-taken-residuals.true, rw (← c.self.view_is) (coded_blocks _ _ c.args.residuals.now c.put_blocks-taken.result (rw (← c.self.view_is) at c.requires.may) c.put_blocks-taken.ensures.most c.go_by.ensures refl refl c.put_blocks-taken.ensures.taken))
+    (c.put_blocks-taken.result, c.if-taken-residuals.true, rw (← c.self.view_is) (coded_blocks _ _ _ c.put_blocks-taken.result (rw (← c.self.view_is) at c.requires.may) c.put_blocks-taken.ensures.most c.go_by.ensures refl refl c.put_blocks-taken.ensures.taken))
 
 pub returns-clause-coded : goal.returns-clause-coded
 returns-clause-coded c =
-    let some = coded_blocks _ _ c.args.residuals.now c.put_blocks-taken.result (rw (← c.self.view_is) at c.requires.may) c.put_blocks-taken.ensures.most c.go_by.ensures refl refl c.put_blocks-taken.ensures.taken in
+    let some = coded_blocks _ _ _ c.put_blocks-taken.result (rw (← c.self.view_is) at c.requires.may) c.put_blocks-taken.ensures.most c.go_by.ensures refl refl c.put_blocks-taken.ensures.taken in
     rw (← c.self.view_is) (rw (take_all c.put_blocks-taken.result c.args.residuals.now (omega (arith, c.if-taken-residuals.false))) at some)

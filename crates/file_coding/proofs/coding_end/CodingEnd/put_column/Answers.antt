@@ -8,7 +8,7 @@ use Rattle.file_coding.proofs.coding_end.CodingEnd.put_column.Goals.{In-loop-i}
 below : (c : In-loop-i) → c.args.place.z + c.loop-i.i < 65536
 below c =
     let now = c.loop-i.self-inside in
-    band_there c.args.self.now c.args.place c.args.column.now c.loop-i.i now.encoder now.writer.bits c.requires.may c.requires.column c.loop-i.invariant.coded c.loop-i-test.true
+    band_there _ c.args.place _ c.loop-i.i now.encoder now.writer.bits c.requires.may c.requires.column c.loop-i.invariant.coded c.loop-i-test.true
 
 pub overflow_cast-z : goal.overflow_cast-z
 overflow_cast-z c = record { fits = omega (arith, below (goal.at.overflow_cast-z c).In-loop-i) }
@@ -19,7 +19,7 @@ overflow_add-z c = record { fits = omega (arith, below (goal.at.overflow_add-z c
 pub put-requires : goal.put-requires
 put-requires c =
     let now = c.loop-i.self-inside in
-    may_put_there c.args.self.now c.args.place c.args.column.now c.loop-i.i now.encoder now.writer.bits c.requires.may c.requires.column c.loop-i.invariant.coded c.loop-i-test.true
+    may_put_there _ c.args.place _ c.loop-i.i now.encoder now.writer.bits c.requires.may c.requires.column c.loop-i.invariant.coded c.loop-i-test.true
 
 pub loop-i-preserved : goal.loop-i-preserved
 loop-i-preserved c =
@@ -32,7 +32,7 @@ loop-i-preserved c =
       columns = was.columns;
       rows = was.rows;
       word = was.word;
-      coded = coded_there c.args.self.now c.args.place (c.from.result * c.self.inside.columns + c.from-2.result) c.args.column.now c.loop-i.i now.encoder c.put.new.self now.writer.bits c.put.new.writer.bits time c.requires.column was.coded c.loop-i-test.true c.in-Ok.ensures.taken;
+      coded = coded_there _ c.args.place _ c.args.column.now c.loop-i.i now.encoder _ now.writer.bits _ time c.requires.column was.coded c.loop-i-test.true c.in-Ok.ensures.taken;
     }
 
 pub invariant_of-self : goal.invariant_of-self

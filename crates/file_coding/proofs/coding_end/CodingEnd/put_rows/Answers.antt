@@ -10,7 +10,7 @@ use Rattle.file_coding.proofs.coding_end.CodingEnd.put_rows.Goals as goal
 
 pub unreachable-requires : goal.unreachable-requires
 unreachable-requires c =
-    place_comes c.loop-first.self (get_or c.args.residuals.now c.loop-first.first 0) (may_one c.args.self.now c.loop-first.self c.args.residuals.now c.loop-first.first c.requires.may c.loop-first.invariant.coded c.loop-first-test.true)
+    place_comes c.loop-first.self (get_or c.args.residuals.now c.loop-first.first 0) (may_one _ _ _ c.loop-first.first c.requires.may c.loop-first.invariant.coded c.loop-first-test.true)
     (sym c.in_default.is ∙ c.place.ensures)
 
 column : (old e : Ending) (list : List ℕ) (first : ℕ) (place : Place) → MayCodeAll old list → CodesAll old e (take first list) → first ≤ length list → slice_get e.left 0 ≡ Some place → place.x < e.columns
@@ -18,21 +18,21 @@ column old e list first place may codes le next = column_within e (take 0 (drop 
 
 pub overflow_sub-row : goal.overflow_sub-row
 overflow_sub-row c =
-    let inside = column c.args.self.now c.loop-first.self c.args.residuals.now c.loop-first.first c.in-Some.place c.requires.may c.loop-first.invariant.coded c.loop-first.invariant.within (sym c.place.ensures ∙ c.in-Some.is) in
+    let inside = column _ _ _ c.loop-first.first c.in-Some.place c.requires.may c.loop-first.invariant.coded c.loop-first.invariant.within (sym c.place.ensures ∙ c.in-Some.is) in
     omega (arith, inside, c.from.ensures, ap (λ (e : Ending). e.columns) c.self.view_is)
 
 pub put_run-requires : goal.put_run-requires
 put_run-requires c =
     let next = sym c.place.ensures ∙ c.in-Some.is in
-    let inside = column c.args.self.now c.loop-first.self c.args.residuals.now c.loop-first.first c.in-Some.place c.requires.may c.loop-first.invariant.coded c.loop-first.invariant.within next in
+    let inside = column _ _ _ c.loop-first.first c.in-Some.place c.requires.may c.loop-first.invariant.coded c.loop-first.invariant.within next in
     let count : c.loop-first.first + c.min-count.result - c.loop-first.first ≡ c.min-count.result = omega arith in
     let row : c.in-Some.place.x + c.min-count.result ≤ c.loop-first.self.columns = omega (arith, inside, c.min-count.ensures, c.from.ensures, ap (λ (e : Ending). e.columns) c.self.view_is) in
-    rw count (may_run c.args.self.now c.loop-first.self c.args.residuals.now c.loop-first.first c.min-count.result c.in-Some.place c.requires.may c.requires.samples c.loop-first.invariant.coded c.loop-first.invariant.rows
+    rw count (may_run _ _ _ c.loop-first.first c.min-count.result c.in-Some.place c.requires.may c.requires.samples c.loop-first.invariant.coded c.loop-first.invariant.rows
     (omega (arith, c.min-count.ensures, c.loop-first.invariant.within)) next row)
 
 pub loop-first-smaller : goal.loop-first-smaller
 loop-first-smaller c =
-    let inside = column c.args.self.now c.loop-first.self c.args.residuals.now c.loop-first.first c.in-Some.place c.requires.may c.loop-first.invariant.coded c.loop-first.invariant.within (sym c.place.ensures ∙ c.in-Some.is) in
+    let inside = column _ _ _ c.loop-first.first c.in-Some.place c.requires.may c.loop-first.invariant.coded c.loop-first.invariant.within (sym c.place.ensures ∙ c.in-Some.is) in
     omega (arith, inside, c.from.ensures, c.min-count.ensures, c.loop-first-test.true, ap (λ (e : Ending). e.columns) c.self.view_is)
 
 pub returns-in_err-put_run-clause-some : goal.returns-in_err-put_run-clause-some
@@ -46,8 +46,7 @@ loop-first-preserved c =
     let count : c.loop-first.first + c.min-count.result - c.loop-first.first ≡ c.min-count.result = omega arith in
     let run : CodesAll c.loop-first.self c.put_run.new.self (take c.min-count.result (drop c.loop-first.first c.args.residuals.now)) = rw count at c.in_ok-put_run.ensures.coded in
     record {
-      coded = subst (CodesAll c.args.self.now c.put_run.new.self) (sym (take-add c.loop-first.first c.min-count.result c.args.residuals.now))
-          (codes_behind c.args.self.now c.loop-first.self c.put_run.new.self (take c.loop-first.first c.args.residuals.now) (take c.min-count.result (drop c.loop-first.first c.args.residuals.now)) was.coded run);
+      coded = rw take-add (codes_behind _ _ _ _ _ was.coded run);
       rows = c.in_ok-put_run.ensures.rows;
       within = omega (arith, c.min-count.ensures, was.within);
     }
