@@ -56,20 +56,17 @@ has_residual : (p : Params) (c : Image) (q : Place) (n i : ℕ) → IsOrder c.sh
 has_residual p c q n i order wide cube stands lt =
     let t : ℕ = q.y * c.shape.columns + q.x in
     let place : IsPlaceOf c.shape q = stands.place in
-    let law = one_sample_lem c.kind (scaled_prediction p c q.z (q.y * c.shape.columns + q.x)) cube.bits (scaled_inside p c q.z (q.y * c.shape.columns + q.x) cube place.band) in
-    let found = law.1 n lt in
-    let v : ℤ = found.0 in
-    let d : Image = put c q.z q.y q.x v in
-    let agree = agree_at p.order c (put c q.z q.y q.x found.0) i q (q.y * c.shape.columns + q.x) order (put_alike c q found.0) (put_same p.order c q found.0 i place stands.index) place refl (omega (arith, stands.index)) in
-    let scaled = scaled_alike p c (put c q.z q.y q.x found.0) q (q.y * c.shape.columns + q.x) wide place refl agree in
+    let scaled : ℤ = scaled_prediction p c q.z t in
+    let found = (one_sample_lem c.kind scaled cube.bits (scaled_inside p c q.z t cube place.band)).1 n lt in
+    let d : Image = put c q.z q.y q.x found.0 in
+    let agree = agree_at p.order c d i q t order (put_alike c q found.0) (put_same p.order c q found.0 i place stands.index) place refl (omega (arith, stands.index)) in
+    let alike = scaled_alike p c d q t wide place refl agree in
     record {
       sample = found.0;
       inside = found.1;
       residual =
-          mapped_at p (put c q.z q.y q.x found.0) q (q.y * c.shape.columns + q.x) refl place.column
-          ∙ ap (λ (s : ℤ). mapped c.kind s (sample_at (put c q.z q.y q.x found.0) q.z q.y q.x)) (sym scaled)
-          ∙ ap (mapped c.kind (scaled_prediction p c q.z (q.y * c.shape.columns + q.x))) (sample_put c q found.0 cube place)
-          ∙ found.2;
+          mapped_at p d q t refl place.column ∙ ap (λ (s : ℤ). mapped c.kind s (sample_at d q.z q.y q.x)) (sym alike)
+          ∙ ap (mapped c.kind scaled) (sample_put c q found.0 cube place) ∙ found.2;
     }
 
 -- ---- sample after sample
@@ -84,11 +81,10 @@ pushed : (p : Params) (c : Image) (q : Place) (left : List Place) (n : ℕ) → 
     → residuals_at p (put c q.z q.y q.x h.sample) (gone_by p left) ≡ residuals_at p c (gone_by p (q ∷ left)) ++ n ∷ []
 pushed p c q left n lawful shape is h =
     let goes = next_goes p q (q ∷ left) left lawful.order is refl in
-    let stands : StandsAt p.shape p.order q (gone_count p (q ∷ left)) = subst (λ (k : ℕ). StandsAt p.shape p.order q k) goes.count goes.stands in
+    let stands = rw goes.count at goes.stands in
     let d : Image = put c q.z q.y q.x h.sample in
-    ap (residuals_at p (put c q.z q.y q.x h.sample)) goes.gone
-    ∙ residuals_push p (put c q.z q.y q.x h.sample) (gone_by p (q ∷ left)) q
-    ∙ ap (λ (k : ℕ). residuals_at p (put c q.z q.y q.x h.sample) (gone_by p (q ∷ left)) ++ k ∷ []) h.residual
+    ap (residuals_at p d) goes.gone ∙ residuals_push p d (gone_by p (q ∷ left)) q
+    ∙ ap (λ (k : ℕ). residuals_at p d (gone_by p (q ∷ left)) ++ k ∷ []) h.residual
     ∙ ap (λ (ns : List ℕ). ns ++ n ∷ []) (sym (residuals_kept p c q h.sample (q ∷ left) lawful shape stands))
 
 build : (p : Params) → IsLawful p → (left : List Place) (c : Image) (rest : List ℕ) → left ≡ drop (gone_count p left) (places p.shape p.order) → IsCubeOf p c → length rest ≡ length left
@@ -98,9 +94,9 @@ build p lawful [] c (n ∷ ns) is cube long range = absurd (omega arith)
 build p lawful (q ∷ left) c [] is cube long range = absurd (omega arith)
 build p lawful (q ∷ left) c (n ∷ ns) is cube long range =
     let goes = next_goes p q (q ∷ left) left lawful.order is refl in
-    let stands : StandsAt c.shape p.order q (length (gone_by p (q ∷ left))) = subst (λ (s : Sizes). StandsAt s p.order q (length (gone_by p (q ∷ left)))) (sym cube.shape) goes.stands in
-    let order : IsOrder c.shape p.order = subst (λ (s : Sizes). IsOrder s p.order) (sym cube.shape) lawful.order in
-    let below : n < 2 ^ c.kind.bits = subst (λ (k : SampleKind). n < 2 ^ k.bits) (sym cube.kind) range.0 in
+    let stands : StandsAt c.shape p.order q (length (gone_by p (q ∷ left))) = rw cube.shape goes.stands in
+    let order : IsOrder c.shape p.order = rw cube.shape lawful.order in
+    let below : n < 2 ^ c.kind.bits = rw cube.kind range.0 in
     let h = has_residual p c q n (length (gone_by p (q ∷ left))) order (wide_of p c lawful cube.shape) cube.cube stands below in
     let after : IsCubeOf p (put c q.z q.y q.x h.sample) = record { cube = put_cube c q h.sample cube.cube h.inside; shape = cube.shape; kind = cube.kind } in
     let others = build p lawful left (put c q.z q.y q.x h.sample) ns goes.others after (omega arith) range.1 in

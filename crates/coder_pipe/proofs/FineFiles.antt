@@ -83,20 +83,19 @@ even_read : (p : Params) (count half reference : ℕ) (restricted : Bool) (bits 
 even_read p count half reference restricted bits left some least e =
     let s : CodeSet = record { bits = p.kind.bits; restricted = restricted } in
     let n : ℕ = sample_count p.shape in
-    let c : Cut = cut_of (record { bits = p.kind.bits; restricted = restricted }) (2 * half) reference (sample_count p.shape) in
-    let a = bind_ok (block_body_at count (record { bits = p.kind.bits; restricted = restricted }) (2 * half) reference (sample_count p.shape) bits) (λ read. Ok read.1) left e in
-    let read = (blocks.body_is_read count (record { bits = p.kind.bits; restricted = restricted }) half reference (sample_count p.shape) a.0.0 bits a.0.1 least).1 a.1 in
-    let values : List ℕ = values_of (blocks_told (cut_of (record { bits = p.kind.bits; restricted = restricted }) (2 * half) reference (sample_count p.shape)) 0 a.0.0) in
-    let told = told_length (cut_of (record { bits = p.kind.bits; restricted = restricted }) (2 * half) reference (sample_count p.shape)) 0 c.count a.0.0 read.0 in
-    let enough = blocks.blocks_enough (2 * half) (sample_count p.shape) (omega arith) in
-    let long : length (take (sample_count p.shape) (values_of (blocks_told (cut_of (record { bits = p.kind.bits; restricted = restricted }) (2 * half) reference (sample_count p.shape)) 0 a.0.0))) ≡ sample_count p.shape = omega (arith, told, enough, length-take (sample_count p.shape) values) in
+    let c : Cut = cut_of s (2 * half) reference n in
+    let a = bind_ok (block_body_at count s (2 * half) reference n bits) (λ read. Ok read.1) left e in
+    let read = (blocks.body_is_read count s half reference n a.0.0 bits a.0.1 least).1 a.1 in
+    let values : List ℕ = values_of (blocks_told c 0 a.0.0) in
+    let told = told_length c 0 c.count a.0.0 read.0 in
+    let long : length (take n values) ≡ n = omega (arith, told, blocks.blocks_enough (2 * half) n (omega arith), length-take n values) in
     record {
-      numbers = take (sample_count p.shape) (values_of (blocks_told (cut_of (record { bits = p.kind.bits; restricted = restricted }) (2 * half) reference (sample_count p.shape)) 0 a.0.0));
-      body = spelling (record { bits = p.kind.bits; restricted = restricted }) a.0.0;
-      coded = data_sets_body (record { bits = p.kind.bits; restricted = restricted }) (2 * half) reference (sample_count p.shape) a.0.0 _ long refl read.0;
-      text = read.1 ∙ ap (λ (x : List Bool). spelling (record { bits = p.kind.bits; restricted = restricted }) a.0.0 ++ x) (ok_is a.0.1 left a.2);
+      numbers = take n values;
+      body = spelling s a.0.0;
+      coded = data_sets_body s (2 * half) reference n a.0.0 _ long refl read.0;
+      text = read.1 ∙ ap (λ (x : List Bool). spelling s a.0.0 ++ x) (ok_is a.0.1 left a.2);
       long = long;
-      range = all_take (λ v. v < 2 ^ p.kind.bits) (sample_count p.shape) values (told_range (cut_of (record { bits = p.kind.bits; restricted = restricted }) (2 * half) reference (sample_count p.shape)) 0 c.count a.0.0 read.0);
+      range = all_take (λ v. v < 2 ^ p.kind.bits) n values (told_range c 0 c.count a.0.0 read.0);
     }
 
 block_read : (p : Params) (count size reference : ℕ) (restricted : Bool) (bits left : List Bool) → IsSize size → 1 ≤ reference

@@ -74,16 +74,17 @@ abbrev pub ahead_none : (p : Params) (deal : List ℕ) (w : Weaving) (handed : L
 ahead_none p deal w handed count h = record { numbers = h.numbers; woven = h.woven; long = h.long; parts = λ q lt. rw (append-nil h.numbers) (h.parts q lt) }
 
 -- a run more was handed on ahead
-pub ahead_more : (p : Params) (deal : List ℕ) (w : Weaving) (handed now : List (List ℕ)) (count owner : ℕ) (ahead run : List ℕ) (h : IsAhead p deal w handed count ahead) → ((i : ℕ) → i < length run → slice_get (owners deal p) (length h.numbers + length ahead + i) ≡ Some owner)
-    → owner < length handed → now ≡ set handed owner (get_or handed owner [] ++ run) → IsAhead p deal w now count (ahead ++ run)
+pub ahead_more : (p : Params) (deal : List ℕ) (w : Weaving) (handed now : List (List ℕ)) (count owner : ℕ) (ahead run : List ℕ) (h : IsAhead p deal w handed count ahead)
+    → ((i : ℕ) → i < length run → slice_get (owners deal p) (length (h.numbers ++ ahead) + i) ≡ Some owner) → owner < length handed
+    → now ≡ set handed owner (get_or handed owner [] ++ run) → IsAhead p deal w now count (ahead ++ run)
 ahead_more p deal w handed now count owner ahead run h at lt is = record {
   numbers = h.numbers;
   woven = h.woven;
   long = h.long;
   parts = λ q below.
-      let behind : (i : ℕ) → i < length run → slice_get (owners deal p) (length (h.numbers ++ ahead) + i) ≡ Some owner = λ i few. rw (length-append h.numbers ahead) (at i few) in
-      let more = more_run handed (owners deal p) (h.numbers ++ ahead) run owner q lt behind (h.parts q (omega (arith, below, ap (λ (rs : List (List ℕ)). length rs) is, length-set handed owner (get_or handed owner [] ++ run)))) (h.parts owner lt) in
-      ap (λ rs. get_or rs q []) is ∙ more ∙ ap (λ ns. part q (owners deal p) ns) (append_assoc h.numbers ahead run);
+      let inside : q < length handed = rw (is, length-set) at below in
+      let more = more_run handed (owners deal p) (h.numbers ++ ahead) run owner q lt at (h.parts q inside) (h.parts owner lt) in
+      rw (is, ← append_assoc) more;
 }
 
 -- what was handed on ahead was taken

@@ -1,4 +1,4 @@
-use Rattle.std.proofs.Common.{◌≡◌, ◌<◌, ◌≤◌, ◌+◌, ◌^◌, [], ℕ, length, take, drop, length-take, arith, ap, sym, subst, ◌∙◌, Some}
+use Rattle.std.proofs.Common.{◌≡◌, ◌<◌, ◌≤◌, ◌+◌, ◌^◌, [], ℕ, length, take, drop, append-nil, length-take, arith, ap, sym, subst, ◌∙◌, Some}
 use Rattle.std.specs.List.{slice_get}
 use Rattle.std.proofs.lemmas.List.{length-map, take-append-le}
 use Rattle.cube_predictors.specs.Weave.{owners}
@@ -19,19 +19,16 @@ module _ (g : Over) (c : In-Some g) where
   next = c.in-Some.ensures c.args.plan.now.params c.args.plan.now.deal c.requires.woven.numbers c.requires.woven.woven
 
   below : c.in-Some.owner < c.args.plan.now.predictors
-  below = owner_below c.args.plan.now.params c.args.plan.now.deal c.requires.woven.numbers c.args.plan.now.predictors c.in-Some.owner c.prove_is_plan.ensures.lawful.order c.prove_is_plan.ensures.may.dealt next
-
-  within : c.in-Some.owner < length c.args.stages.now.items
-  within = omega (arith, below, c.args.stages.now.ok.0, c.requires.many)
+  below = owner_below c.args.plan.now.params _ _ _ _ c.prove_is_plan.ensures.lawful.order c.prove_is_plan.ensures.may.dealt next
 
   handed_within : c.in-Some.owner < length (handed_of c.args.stages.now.items)
-  handed_within = omega (arith, within, length-map c.args.stages.now.items (λ s. s.handed))
+  handed_within = rw length-map (omega (arith, below, c.args.stages.now.ok.0, c.requires.many))
 
 pub bounds-overs-q : goal.bounds-overs-q
-bounds-overs-q g c = let d = (goal.at.bounds-overs-q g c).In-Some in omega (arith, below g d, c.requires.many, c.requires.overs)
+bounds-overs-q g c = omega (arith, below g (goal.at.bounds-overs-q g c).In-Some, c.requires.many, c.requires.overs)
 
 pub next_of-requires-clause-place : goal.next_of-requires-clause-place
-next_of-requires-clause-place g c = let d = (goal.at.next_of-requires-clause-place g c).In-Some in omega (arith, below g d, c.requires.many)
+next_of-requires-clause-place g c = omega (arith, below g (goal.at.next_of-requires-clause-place g c).In-Some, c.requires.many)
 
 pub next_of-requires-clause-room : goal.next_of-requires-clause-room
 next_of-requires-clause-room g c =
@@ -47,7 +44,7 @@ next_of-requires-clause-short g c = λ f.
 pub next_of-requires-clause-range : goal.next_of-requires-clause-range
 next_of-requires-clause-range g c = λ f k e lt.
     let d = (goal.at.next_of-requires-clause-range g c).In-Some in
-    let most : c.greatest-most.result + 1 ≡ 2 ^ c.args.plan.now.params.kind.bits = c.greatest-most.ensures ∙ ap (λ p. 2 ^ p.kind.bits) c.params.ensures in
+    let most = rw c.params.ensures at c.greatest-most.ensures in
     omega (arith, c.requires.lists.range c.in-Some.owner f (below g d) k e lt, most)
 
 pub returns-in-Ok-clause-ahead : goal.returns-in-Ok-clause-ahead
@@ -60,9 +57,8 @@ returns-in-Ok-clause-ahead g c =
     let few : length (take count run) ≤ c.wanted_run-wanted.result = omega (arith, c.in-Ok.ensures.within.1, length-take count run, length-take c.wanted_run-wanted.result c.args.run.now) in
     let one = c.wanted_run-wanted.ensures.owned c.args.plan.now.params c.args.plan.now.deal was.numbers was.woven in
     let own = fewer_of_one (owners c.args.plan.now.deal c.args.plan.now.params) (length was.numbers) c.wanted_run-wanted.result (length (take count run)) c.in-Some.owner one few (next g d) in
-    let at : (i : ℕ) → i < length (take count run) → slice_get (owners c.args.plan.now.deal c.args.plan.now.params) (length was.numbers + 0 + i) ≡ Some c.in-Some.owner = λ i lt. (let here : length was.numbers + 0 + i ≡ length was.numbers + i = omega arith in rw here (own i lt)) in
     let none = ahead_none _ _ _ _ _ was in
-    let ahead = ahead_more _ _ _ _ (handed_of c.next_of.new.stages.items) _ c.in-Some.owner [] (take count run) none at (handed_within g d) c.in-Ok.ensures.ok in
+    let ahead = ahead_more _ _ _ _ (handed_of c.next_of.new.stages.items) _ c.in-Some.owner [] (take count run) none (λ i lt. rw append-nil (own i lt)) (handed_within g d) c.in-Ok.ensures.ok in
     rw (take-append-le count run (drop c.wanted_run-wanted.result c.args.run.now) within) ahead
 
 pub returns-in-Ok-clause-may : goal.returns-in-Ok-clause-may
@@ -73,7 +69,7 @@ returns-in-Ok-clause-may g c =
     let count = c.in-Ok.count in
     let within : count ≤ length run = omega (arith, c.in-Ok.ensures.within.1, c.next_of.auto.run) in
     let few : length (take count run) ≤ c.wanted_run-wanted.result = omega (arith, c.in-Ok.ensures.within.1, length-take count run, length-take c.wanted_run-wanted.result c.args.run.now) in
-    let most : c.greatest-most.result + 1 ≡ 2 ^ c.args.plan.now.params.kind.bits = c.greatest-most.ensures ∙ ap (λ p. 2 ^ p.kind.bits) c.params.ensures in
+    let most = rw c.params.ensures at c.greatest-most.ensures in
     let one = c.wanted_run-wanted.ensures.owned c.args.plan.now.params c.args.plan.now.deal was.numbers was.woven in
     let fits = run_fits c.args.plan.now.params c.args.plan.now.deal was.numbers c.in-Some.owner c.wanted_run-wanted.result c.prove_is_plan.ensures.lawful.order (next g d) one in
     subst (MayCodeAll c.args.weaver.now.end) (sym (take-append-le count run (drop c.wanted_run-wanted.result c.args.run.now) within))
