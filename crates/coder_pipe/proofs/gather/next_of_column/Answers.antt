@@ -19,8 +19,8 @@ module _ (g : Over) (c : After-from-owner g) where
 
   next : Some c.from-owner.result ≡ slice_get (owners c.args.plan.now.deal c.args.plan.now.params) (length (c.loop-i.invariant.ahead.numbers ++ take c.loop-i.i c.loop-i.run))
   next =
-      let own = c.wanted_column-owners.ensures.owned c.args.plan.now.params c.args.plan.now.deal c.loop-i.invariant.ahead.numbers c.loop-i.invariant.ahead.woven c.loop-i.i c.loop-i-test.true in
-      rw reached (ap (λ n. Some n) c.from-owner.ensures ∙ sym (slice_get-get_or c.wanted_column-owners.result.now c.loop-i.i 0 c.loop-i-test.true) ∙ sym own)
+      let own = c.wanted_column-owners.ensures.owned _ _ _ c.loop-i.invariant.ahead.woven c.loop-i.i c.loop-i-test.true in
+      rw (reached, c.from-owner.ensures) (sym (own ∙ slice_get-get_or c.wanted_column-owners.result.now c.loop-i.i 0 c.loop-i-test.true))
 
   below : c.from-owner.result < c.args.plan.now.predictors
   below = owner_below c.args.plan.now.params _ _ _ _ c.prove_is_plan.ensures.lawful.order c.prove_is_plan.ensures.may.dealt next
@@ -83,7 +83,7 @@ returns-clause-may g c =
     let was = c.loop-i.invariant in
     let all : c.loop-i.i ≡ length c.wanted_column-owners.result.now = omega (arith, c.loop-i-test.false, c.loop-i.auto.i-end) in
     let most = rw c.params.ensures at c.greatest-most.ensures in
-    let from = c.wanted_column-owners.ensures.owned c.args.plan.now.params c.args.plan.now.deal was.ahead.numbers was.ahead.woven in
-    let few = owners_fit c.args.plan.now.params c.args.plan.now.deal was.ahead.numbers c.wanted_column-owners.result.now c.prove_is_plan.ensures.lawful.order (omega (arith, was.ahead.long, c.requires.more)) from in
+    let from = c.wanted_column-owners.ensures.owned _ _ _ was.ahead.woven in
+    let few = owners_fit c.args.plan.now.params c.args.plan.now.deal _ c.wanted_column-owners.result.now c.prove_is_plan.ensures.lawful.order (omega (arith, was.ahead.long, c.requires.more)) from in
     may_take _ _ _ was.ahead.numbers (take (length c.wanted_column-owners.result.now) c.loop-i.run) c.greatest-most.result was.ahead.woven c.prove_is_plan.ensures.lawful
     (omega (arith, few, length-take (length c.wanted_column-owners.result.now) c.loop-i.run)) most (rw all at was.range)
