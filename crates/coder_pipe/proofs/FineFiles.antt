@@ -78,8 +78,14 @@ data_sets_body s size reference n data_sets numbers long told lawful = record {
   told = ap (λ (k : ℕ). take k (values_of (blocks_told (cut_of s size reference k) 0 data_sets))) long ∙ told;
 }
 
+-- the bits behind a body of blocks that is read
+abbrev Reads : Params → ℕ → ℕ → ℕ → Bool → List Bool → List Bool → Type 0
+Reads p count size reference restricted bits left =
+    (block_body_at count (record { bits = p.kind.bits; restricted = restricted }) size reference (sample_count p.shape) bits >>= λ read. Ok read.1) ≡ Ok left
+    → IsRead p (Block size restricted reference) bits left
+
 even_read : (p : Params) (count half reference : ℕ) (restricted : Bool) (bits left : List Bool) → 1 ≤ half → 1 ≤ reference
-    → (block_body_at count (record { bits = p.kind.bits; restricted = restricted }) (2 * half) reference (sample_count p.shape) bits >>= λ read. Ok read.1) ≡ Ok left → IsRead p (Block (2 * half) restricted reference) bits left
+    → Reads p count (2 * half) reference restricted bits left
 even_read p count half reference restricted bits left some least e =
     let s : CodeSet = record { bits = p.kind.bits; restricted = restricted } in
     let n : ℕ = sample_count p.shape in
@@ -99,10 +105,10 @@ even_read p count half reference restricted bits left some least e =
     }
 
 block_read : (p : Params) (count size reference : ℕ) (restricted : Bool) (bits left : List Bool) → IsSize size → 1 ≤ reference
-    → (block_body_at count (record { bits = p.kind.bits; restricted = restricted }) size reference (sample_count p.shape) bits >>= λ read. Ok read.1) ≡ Ok left → IsRead p (Block size restricted reference) bits left
+    → Reads p count size reference restricted bits left
 block_read p count size reference restricted bits left sized least =
-    subst (λ (k : ℕ). (block_body_at count (record { bits = p.kind.bits; restricted = restricted }) k reference (sample_count p.shape) bits >>= λ read. Ok read.1) ≡ Ok left → IsRead p (Block k restricted reference) bits left)
-    (size_halved size sized) (even_read p count (size / 2) reference restricted bits left (omega (arith, size_least size sized)) least)
+    subst (λ (k : ℕ). Reads p count k reference restricted bits left) (size_halved size sized)
+    (even_read p count (size / 2) reference restricted bits left (omega (arith, size_least size sized)) least)
 
 body_read : (p : Params) (count : ℕ) (coder : Coder) (bits left : List Bool) → IsCoder p coder → IsOrder p.shape p.order → behind_by coder count p bits ≡ Ok left → IsRead p coder bits left
 body_read p count (Sample umax gamma_star gamma_zero start) bits left lawful order e = samples_read p count bits left umax gamma_star gamma_zero start order e
@@ -138,10 +144,12 @@ pub fine_is_file : FineIsFile
 unfolding file_test body_test behind_body
 fine_is_file bytes e =
     let bits : List Bool = bits_of_bytes bytes in
-    let a = bind_ok (head_at (bits_of_bytes bytes)) (λ header. body_test (length (bits_of_bytes bytes)) header.0 header.1) tt e in
-    let found = header_exact.found a.0.0 (bits_of_bytes bytes) a.0.1 (head_read (bits_of_bytes bytes) a.0 a.1) in
-    let lawful = spelt_is_lawful a.0.0 found.0 found.1 in
-    let b = bind_ok (behind_body (length (bits_of_bytes bytes)) a.0.0 a.0.1) (λ rest. fill_test a.0.0.word rest) tt a.2 in
-    let read = body_read a.0.0 (length (bits_of_bytes bytes)) a.0.0.coder a.0.1 b.0 lawful.coder lawful.order b.1 in
-    let made = built a.0.0 read.numbers lawful read.long read.range in
-    (a.0.0, made.image, lawful, whole bytes a.0.0 found.0 a.0.1 read.body b.0 made.image made.cube (subst (λ (ns : List ℕ). IsBody a.0.0 ns read.body) (sym made.same) read.coded) found.1 found.2 read.text b.2)
+    let a = bind_ok (head_at bits) (λ header. body_test (length bits) header.0 header.1) tt e in
+    let p : Params = a.0.0 in
+    let found = header_exact.found p bits a.0.1 (head_read bits a.0 a.1) in
+    let lawful = spelt_is_lawful p found.0 found.1 in
+    let b = bind_ok (behind_body (length bits) p a.0.1) (λ rest. fill_test p.word rest) tt a.2 in
+    let read = body_read p (length bits) p.coder a.0.1 b.0 lawful.coder lawful.order b.1 in
+    let made = built p read.numbers lawful read.long read.range in
+    let coded : IsBody p (residuals p made.image) read.body = rw made.same read.coded in
+    (p, made.image, lawful, whole bytes p found.0 a.0.1 read.body b.0 made.image made.cube coded found.1 found.2 read.text b.2)

@@ -42,35 +42,33 @@ part_inside limit q (o ∷ os) (n ∷ ns) h =
     let rest = part_inside limit q os ns h.1 in
     cond_both (o == q) (n ∷ part q os ns) (part q os ns) (AllByRecursion (λ v. v < limit)) (λ _. (h.0, rest)) (λ _. rest)
 
-file_is : (p : Params) (c : Image) → file_of c p ≡ file_of_residuals (residuals p c) p
-unfolding file_of
-file_is p c = refl
-
 module _ (plan : Dealing) (c : Image) (lawful : IsPlan plan) (cube : IsCubeOf plan.params c) where
   abbrev of : ℕ → List ℕ
   of q = part q (owners plan.deal plan.params) (residuals plan.params c)
 
   whole : length (residuals plan.params c) ≡ length (owners plan.deal plan.params)
   whole =
-      let order : IsOrder c.shape plan.params.order = subst (λ (s : Sizes). IsOrder s plan.params.order) (sym cube.shape) lawful.lawful.order in
-      let places = length-places plan.params.shape plan.params.order lawful.lawful.order in
-      omega (arith, length-residuals plan.params c order, ap (λ (s : Sizes). s.columns) cube.shape, length-owners plan.deal plan.params, places, ap (λ (s : Sizes). sample_count s) cube.shape)
+      length-residuals plan.params c (rw cube.shape lawful.lawful.order) ∙ ap sample_count cube.shape
+      ∙ sym (length-owners plan.deal plan.params ∙ length-places plan.params.shape plan.params.order lawful.lawful.order)
 
   pub are_feeds : AreFeeds (λ f. f.predictor) part_of plan (feeds_from c plan)
   are_feeds = record {
     many = length-map (upto plan.predictors) (feed_of c plan) ∙ length-from 0 plan.predictors;
     named = λ q f lt. ap (λ (d : Predicting). d.predictor) (feed_at c plan q f lt);
     whole = λ q f lt. ap (λ (d : Predicting). length (part_of d)) (feed_at c plan q f lt) ∙ part_share q (owners plan.deal plan.params) (residuals plan.params c) whole;
-    range = λ q f lt. subst (λ (d : Predicting). All (λ n. n < 2 ^ plan.params.kind.bits) (part_of d)) (sym (feed_at c plan q f lt))
-        (All-from_recursion (λ n. n < 2 ^ plan.params.kind.bits) (of q) (part_inside (2 ^ plan.params.kind.bits) q (owners plan.deal plan.params) (residuals plan.params c) (inside plan.params c lawful.lawful cube)));
+    range = λ q f lt.
+        let all = part_inside (2 ^ plan.params.kind.bits) q (owners plan.deal plan.params) (residuals plan.params c) (inside plan.params c lawful.lawful cube) in
+        rw (feed_at c plan q f lt) (All-from_recursion (λ n. n < 2 ^ plan.params.kind.bits) (of q) all);
   }
 
   lists : map part_of (feeds_from c plan) ≡ parts plan.predictors plan.deal plan.params c
   lists = map-map part_of (feed_of c plan) (upto plan.predictors)
 
   pub is_file_of : (file : List ℕ) (lanes : List Lane) → IsPiped part_of plan (feeds_from c plan) file lanes → IsFileOf plan c file lanes
+  unfolding file_of
   is_file_of file lanes h =
-      let made : file ≡ file_of c plan.params = h.woven ∙ ap (λ ls. file_of_residuals (weave (owners plan.deal plan.params) ls) plan.params) lists ∙ ap (λ ns. file_of_residuals ns plan.params) (weave_of_parts plan.params c plan.predictors plan.deal cube.shape lawful.lawful.order lawful.may.dealt) ∙ sym (file_is plan.params c) in
+      let woven = weave_of_parts plan.params c plan.predictors plan.deal cube.shape lawful.lawful.order lawful.may.dealt in
+      let made : file ≡ file_of c plan.params = rw (lists, woven) at h.woven in
       record {
         carries = h.carries ∙ sym (map-map carried part_of (feeds_from c plan)) ∙ ap (map carried) lists;
         made = made;

@@ -15,7 +15,7 @@ first_only n j lt = omega arith
 
 module _ (g : Over) (c : After-from-owner g) where
   reached : length (c.loop-i.invariant.ahead.numbers ++ take c.loop-i.i c.loop-i.run) ≡ length c.loop-i.invariant.ahead.numbers + c.loop-i.i
-  reached = omega (arith, length-append c.loop-i.invariant.ahead.numbers (take c.loop-i.i c.loop-i.run), length-take c.loop-i.i c.loop-i.run, c.loop-i-test.true, c.loop-i.invariant.long, c.wanted_column-owners.ensures.most)
+  reached = rw (length-append, length-take) (omega (arith, c.loop-i-test.true, c.loop-i.invariant.long, c.wanted_column-owners.ensures.most))
 
   next : Some c.from-owner.result ≡ slice_get (owners c.args.plan.now.deal c.args.plan.now.params) (length (c.loop-i.invariant.ahead.numbers ++ take c.loop-i.i c.loop-i.run))
   next =
