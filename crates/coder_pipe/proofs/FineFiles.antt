@@ -1,5 +1,6 @@
 -- Bytes without a fault are a file.
-use Rattle.std.proofs.Common.{◌≡◌, ◌*◌, ◌/◌, ◌^◌, ◌<◌, ◌≤◌, ℕ, Bool, true, false, List, [], ◌++◌, length, take, replicate, Ok, refl, sym, ap, subst, ◌∙◌, append_assoc, arith}
+use Rattle.std.proofs.Common.{◌≡◌, ◌*◌, ◌/◌, ◌^◌, ◌<◌, ◌≤◌, ℕ, Bool, true, false, List, [], ◌++◌, length, take, replicate, Ok, refl, sym, ap, subst, ◌∙◌}
+use Rattle.std.proofs.Common.{append_assoc, arith}
 use Rattle.std.specs.List.{AllByRecursion}
 use Rattle.std.proofs.lemmas.List.{length-take}
 use Rattle.cube_core.specs.declared.fault.Fault.{Fault}
@@ -54,7 +55,8 @@ record IsRead (p : Params) (coder : Coder) (bits left : List Bool) : Type 0 wher
   range : AllByRecursion (λ n. n < 2 ^ p.kind.bits) numbers
 
 samples_read : (p : Params) (count : ℕ) (bits left : List Bool) (umax gamma_star gamma_zero : ℕ) (start : CountStart) → IsOrder p.shape p.order
-    → (sample_body_at count (settings p) (places p.shape p.order) bits >>= λ read. Ok read.1) ≡ Ok left → IsRead p (Sample umax gamma_star gamma_zero start) bits left
+    → (sample_body_at count (settings p) (places p.shape p.order) bits >>= λ read. Ok read.1) ≡ Ok left
+    → IsRead p (Sample umax gamma_star gamma_zero start) bits left
 unfolding sample_body sample_body_at
 samples_read p count bits left umax gamma_star gamma_zero start order e =
     let a = bind_ok (sample_body_at count (settings p) (places p.shape p.order) bits) (λ read. Ok read.1) left e in
@@ -69,8 +71,9 @@ samples_read p count bits left umax gamma_star gamma_zero start order e =
     }
 
 -- data sets that were read for n numbers are a body of the first n values that they tell
-data_sets_body : (s : CodeSet) (size reference n : ℕ) (data_sets : List CodedDataSet) (numbers : List ℕ) → length numbers ≡ n → take n (values_of (blocks_told (cut_of s size reference n) 0 data_sets)) ≡ numbers → AreCodedDataSets (cut_of s size reference n) 0 data_sets (block_count size n)
-    → IsBlockBody s size reference numbers (spelling s data_sets)
+data_sets_body : (s : CodeSet) (size reference n : ℕ) (data_sets : List CodedDataSet) (numbers : List ℕ) → length numbers ≡ n
+    → take n (values_of (blocks_told (cut_of s size reference n) 0 data_sets)) ≡ numbers
+    → AreCodedDataSets (cut_of s size reference n) 0 data_sets (block_count size n) → IsBlockBody s size reference numbers (spelling s data_sets)
 data_sets_body s size reference n data_sets numbers long told lawful = record {
   data_sets = data_sets;
   lawful = subst (λ (k : ℕ). AreCodedDataSets (cut_of s size reference k) 0 data_sets (block_count size k)) (sym long) lawful;
@@ -110,7 +113,8 @@ block_read p count size reference restricted bits left sized least =
     subst (λ (k : ℕ). Reads p count k reference restricted bits left) (size_halved size sized)
     (even_read p count (size / 2) reference restricted bits left (omega (arith, size_least size sized)) least)
 
-body_read : (p : Params) (count : ℕ) (coder : Coder) (bits left : List Bool) → IsCoder p coder → IsOrder p.shape p.order → behind_by coder count p bits ≡ Ok left → IsRead p coder bits left
+body_read : (p : Params) (count : ℕ) (coder : Coder) (bits left : List Bool) → IsCoder p coder → IsOrder p.shape p.order
+    → behind_by coder count p bits ≡ Ok left → IsRead p coder bits left
 body_read p count (Sample umax gamma_star gamma_zero start) bits left lawful order e = samples_read p count bits left umax gamma_star gamma_zero start order e
 body_read p count (Block size restricted reference) bits left lawful order e = block_read p count size reference restricted bits left lawful.0 lawful.2.0 e
 
@@ -126,7 +130,8 @@ head_read bits x e =
     let a = bind_ok (header_at bits) (λ header. least_test (length bits) header.0 header.1 >> Ok header) x e in
     a.1 ∙ ap (λ (y : Params × List Bool). Ok y) (passes_on _ _ a.0 x a.2)
 
-whole : (bytes : List ℕ) (p : Params) (header rest body left : List Bool) (c : Image) → IsCubeOf p c → IsBody p (residuals p c) body → SpellsHeader p header → bits_of_bytes bytes ≡ header ++ rest → rest ≡ body ++ left → fill_test p.word left ≡ fine → IsFile bytes p c
+whole : (bytes : List ℕ) (p : Params) (header rest body left : List Bool) (c : Image) → IsCubeOf p c → IsBody p (residuals p c) body → SpellsHeader p header
+    → bits_of_bytes bytes ≡ header ++ rest → rest ≡ body ++ left → fill_test p.word left ≡ fine → IsFile bytes p c
 whole bytes p header rest body left c cube coded spelt front behind filled =
     let zeros = passed p.word left filled in
     record {
@@ -137,7 +142,8 @@ whole bytes p header rest body left c cube coded spelt front behind filled =
       spelt = spelt;
       coded = coded;
       few = zeros.0;
-      text = front ∙ ap (λ (x : List Bool). header ++ x) (behind ∙ ap (λ (x : List Bool). body ++ x) zeros.1) ∙ sym (append_assoc header body (replicate (length left) false));
+      text = front ∙ ap (λ (x : List Bool). header ++ x) (behind ∙ ap (λ (x : List Bool). body ++ x) zeros.1)
+          ∙ sym (append_assoc header body (replicate (length left) false));
     }
 
 pub fine_is_file : FineIsFile

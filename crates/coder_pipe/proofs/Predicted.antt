@@ -1,24 +1,23 @@
 -- What the pipeline makes of a cube.
-use Rattle.std.proofs.Common.{◌≡◌, ◌^◌, ◌<◌, ℕ, Bool, List, [], ◌∷◌, length, map, get_or, refl, sym, ap, ◌∙◌, subst, arith}
+use Rattle.std.proofs.Common.{◌≡◌, ◌^◌, ◌<◌, ℕ, Bool, List, [], ◌∷◌, length, map, get_or, sym, ap, ◌∙◌, subst, arith}
 use Rattle.std.specs.Prelude.{◌==◌}
-use Rattle.std.specs.List.{All, AllByRecursion}
+use Rattle.std.specs.List.{AllByRecursion}
 use Rattle.std.proofs.lemmas.Bool.{cond_both}
 use Rattle.std.proofs.lemmas.List.{length-map, get_or-map}
 use Rattle.std.proofs.lemmas.Simd.{map-map}
 use Rattle.band_rings.specs.Lane.{Lane}
 use Rattle.cube_core.specs.Image.{Image}
-use Rattle.cube_core.specs.Order.{IsOrder, upto}
-use Rattle.cube_core.specs.Shape.{Sizes, sample_count}
+use Rattle.cube_core.specs.Order.{upto}
+use Rattle.cube_core.specs.Shape.{sample_count}
 use Rattle.cube_core.proofs.Lists.{length-from, get_or-from}
 use Rattle.cube_core.proofs.Orders.{length-places}
-use Rattle.header_bits.specs.declared.params.Params.{Params}
 use Rattle.predict_core.specs.Residual.{residuals}
-use Rattle.file_coding.specs.File.{file_of, file_of_residuals}
+use Rattle.file_coding.specs.File.{file_of}
 use Rattle.file_decoding.specs.Files.{IsCubeOf, IsFile}
 use Rattle.file_decoding.proofs.FileLaws.{inside, chosen_is_file}
 use Rattle.cube_predictors.specs.Plans.{Dealing, IsPlan}
 use Rattle.cube_predictors.specs.Sends.{Predicting, part_of}
-use Rattle.cube_predictors.specs.Weave.{owners, part, parts, weave}
+use Rattle.cube_predictors.specs.Weave.{owners, part, parts}
 use Rattle.cube_predictors.proofs.Parts.{length-residuals}
 use Rattle.std.proofs.lemmas.List.Elements.{All-from_recursion}
 use Rattle.cube_predictors.proofs.Weaves.{part_share, length-owners, weave_of_parts}
@@ -32,7 +31,9 @@ abbrev pub feeds_from : Image → Dealing → List Predicting
 feeds_from c plan = map (feed_of c plan) (upto plan.predictors)
 
 feed_at : (c : Image) (plan : Dealing) (q : ℕ) (f : Predicting) → q < plan.predictors → get_or (feeds_from c plan) q f ≡ feed_of c plan q
-feed_at c plan q f lt = get_or-map (feed_of c plan) (upto plan.predictors) q 0 f (rw (length-from 0 plan.predictors) lt) ∙ ap (feed_of c plan) (get_or-from 0 plan.predictors q 0 lt ∙ omega arith)
+feed_at c plan q f lt =
+    get_or-map (feed_of c plan) (upto plan.predictors) q 0 f (rw (length-from 0 plan.predictors) lt)
+    ∙ ap (feed_of c plan) (get_or-from 0 plan.predictors q 0 lt ∙ omega arith)
 
 part_inside : (limit q : ℕ) (os ns : List ℕ) → AllByRecursion (λ v. v < limit) ns → AllByRecursion (λ v. v < limit) (part q os ns)
 unfolding part
@@ -55,9 +56,11 @@ module _ (plan : Dealing) (c : Image) (lawful : IsPlan plan) (cube : IsCubeOf pl
   are_feeds = record {
     many = length-map (upto plan.predictors) (feed_of c plan) ∙ length-from 0 plan.predictors;
     named = λ q f lt. ap (λ (d : Predicting). d.predictor) (feed_at c plan q f lt);
-    whole = λ q f lt. ap (λ (d : Predicting). length (part_of d)) (feed_at c plan q f lt) ∙ part_share q (owners plan.deal plan.params) (residuals plan.params c) whole;
+    whole = λ q f lt. ap (λ (d : Predicting). length (part_of d)) (feed_at c plan q f lt)
+        ∙ part_share q (owners plan.deal plan.params) (residuals plan.params c) whole;
     range = λ q f lt.
-        let all = part_inside (2 ^ plan.params.kind.bits) q (owners plan.deal plan.params) (residuals plan.params c) (inside plan.params c lawful.lawful cube) in
+        let all =
+        part_inside (2 ^ plan.params.kind.bits) q (owners plan.deal plan.params) (residuals plan.params c) (inside plan.params c lawful.lawful cube) in
         rw (feed_at c plan q f lt) (All-from_recursion (λ n. n < 2 ^ plan.params.kind.bits) (of q) all);
   }
 
@@ -75,7 +78,8 @@ module _ (plan : Dealing) (c : Image) (lawful : IsPlan plan) (cube : IsCubeOf pl
         back = subst (λ bytes. IsFile bytes plan.params c) (sym made) (chosen_is_file plan.params c lawful.lawful cube);
       }
 
-  pub may_stop_part : {G : Type 0} (may_stop : G → ℕ → ℕ → Bool) (gate : G) (q n : ℕ) → MayStop may_stop gate part_of (feeds_from c plan) q n → MayStopPart may_stop gate plan c q n
+  pub may_stop_part : {G : Type 0} (may_stop : G → ℕ → ℕ → Bool) (gate : G) (q n : ℕ) → MayStop may_stop gate part_of (feeds_from c plan) q n
+      → MayStopPart may_stop gate plan c q n
   may_stop_part may_stop gate q n h =
       let lt : q < plan.predictors = omega (arith, h.0, length-map (upto plan.predictors) (feed_of c plan), length-from 0 plan.predictors) in
       (lt, h.1, subst (λ (d : Predicting). n < length (part_of d)) (feed_at c plan q (feed_of c plan q) lt) (h.2 (feed_of c plan q)))

@@ -28,8 +28,8 @@ module _ {F G : Type 0} where
   feed_moved P ss q new s other lt e same h = rw (get_or-set_same ss q new other lt, same) (rw (at_of (λ s. s.feed) ss q s s.feed lt e) at h)
 
   -- what holds of all that it has handed on holds of the last of it
-  pub last_of : (P : ℕ → Type 0) (ss : List (Standing F G)) (q : ℕ) (new other : Standing F G) (before run : List ℕ) → q < length ss → new.handed ≡ before ++ run
-      → All P (get_or (set ss q new) q other).handed → All P run
+  pub last_of : (P : ℕ → Type 0) (ss : List (Standing F G)) (q : ℕ) (new other : Standing F G) (before run : List ℕ) → q < length ss
+      → new.handed ≡ before ++ run → All P (get_or (set ss q new) q other).handed → All P run
   last_of P ss q new other before run lt is all =
       let both : All P (before ++ run) = rw (get_or-set_same ss q new other lt, is) at all in
       rw drop-append_seam at (All-drop P (length before) (before ++ run) both)

@@ -1,5 +1,6 @@
 -- Whose residuals the coding end of predictors wants, and what it has taken.
-use Rattle.std.proofs.Common.{◌≡◌, ◌+◌, ◌<◌, ◌≤◌, ℕ, zero, suc, true, List, [], ◌∷◌, length, take, drop, get_or, Some, None, Result, Ok, Err, OnOk, OnErr, refl, sym, ap, subst, ◌∙◌, length-append, length-take, arith}
+use Rattle.std.proofs.Common.{◌≡◌, ◌+◌, ◌<◌, ◌≤◌, ℕ, zero, suc, true, List, [], ◌∷◌, length, take, drop, get_or, Some, None, Result, Ok, Err, OnOk, OnErr, refl}
+use Rattle.std.proofs.Common.{sym, ap, subst, ◌∙◌, length-append, length-take, arith}
 use Rattle.std.specs.Prelude.{option_map}
 use Rattle.std.specs.List.{slice_get}
 use Rattle.std.proofs.lemmas.List.{get_or_default, get_or-take, get_or-drop, drop-drop}
@@ -53,7 +54,8 @@ place_within s o w i place h next =
 
 -- and else the owner of the place that comes next
 pub wants_some : (s : Sizes) (o : Order) (w : Weaving) (place : Place) (owner d : ℕ) → IsAlong s o w → Some place ≡ slice_get w.end.left 0
-    → owner ≡ get_or w.deal place.z d → (p : Params) (deal numbers : List ℕ) → HasWoven p deal w numbers → Some owner ≡ slice_get (owners deal p) (length numbers)
+    → owner ≡ get_or w.deal place.z d → (p : Params) (deal numbers : List ℕ) → HasWoven p deal w numbers
+    → Some owner ≡ slice_get (owners deal p) (length numbers)
 wants_some s o w place owner d along next is p deal numbers h =
     let at : owner ≡ get_or deal place.z 0 = is ∙ get_or_default w.deal place.z d 0 (place_within s o w 0 place along next).1 ∙ rw h.dealt refl in
     rw (wanted_first p deal numbers w.end h.coded, ← next, at) refl
@@ -73,8 +75,9 @@ row_next s o w place i h along next more =
     ap (λ left. slice_get left i) h.left ∙ get-drop (places s o) h.gone i
     ∙ item_from_index s o q (h.gone + i) h.order behind (on ∙ omega (arith, at)) (omega (arith, at, on, below))
 
-pub row_owned : (s : Sizes) (o : Order) (w : Weaving) (place : Place) (count : ℕ) → IsAlong s o w → goes_along_rows o ≡ true → Some place ≡ slice_get w.end.left 0
-    → place.x + count ≤ s.columns → (p : Params) (deal numbers : List ℕ) → HasWoven p deal w numbers → AreOfOne (owners deal p) (length numbers) count
+pub row_owned : (s : Sizes) (o : Order) (w : Weaving) (place : Place) (count : ℕ) → IsAlong s o w → goes_along_rows o ≡ true
+    → Some place ≡ slice_get w.end.left 0 → place.x + count ≤ s.columns → (p : Params) (deal numbers : List ℕ) → HasWoven p deal w numbers
+    → AreOfOne (owners deal p) (length numbers) count
 row_owned s o w place count h along next fits p deal numbers woven i lt =
     let of_row = row_next s o w place i h along next (omega (arith, lt, fits)) in
     rw (wanted p deal numbers w.end i woven.coded, wanted_first p deal numbers w.end woven.coded, of_row, ← next) refl
@@ -85,40 +88,52 @@ pub column_fits : (s : Sizes) (o : Order) (w : Weaving) (place : Place) (count :
 column_fits s o w place zero h next column = omega (arith, (place_within s o w 0 place h next).1)
 column_fits s o w place (suc count) h next column = omega (arith, (place_within s o w count _ h (sym (column count (omega arith)))).1)
 
-pub column_owned : (w : Weaving) (place : Place) (count : ℕ) → ((i : ℕ) → i < count → slice_get w.end.left i ≡ Some (record { z = place.z + i; y = place.y; x = place.x })) → place.z + count ≤ length w.deal
+pub column_owned : (w : Weaving) (place : Place) (count : ℕ)
+    → ((i : ℕ) → i < count → slice_get w.end.left i ≡ Some (record { z = place.z + i; y = place.y; x = place.x })) → place.z + count ≤ length w.deal
     → (p : Params) (deal numbers : List ℕ) → HasWoven p deal w numbers → AreOwnersFrom (owners deal p) (length numbers) (take count (drop place.z w.deal))
 column_owned w place count column fits p deal numbers h i lt =
     let few : i < count = omega (arith, lt, length-take count (drop place.z w.deal)) in
-    let own : get_or (take count (drop place.z w.deal)) i 0 ≡ get_or deal (place.z + i) 0 = get_or-take count (drop place.z w.deal) i 0 few ∙ get_or-drop place.z w.deal i 0 ∙ ap (λ ds. get_or ds (place.z + i) 0) h.dealt in
-    wanted p deal numbers w.end i h.coded ∙ ap (option_map (λ q. get_or deal q.z 0)) (column i few) ∙ ap (λ n. Some n) (sym own) ∙ sym (slice_get-get_or (take count (drop place.z w.deal)) i 0 lt)
+    let own : get_or (take count (drop place.z w.deal)) i 0 ≡ get_or deal (place.z + i) 0 =
+    get_or-take count (drop place.z w.deal) i 0 few ∙ get_or-drop place.z w.deal i 0 ∙ ap (λ ds. get_or ds (place.z + i) 0) h.dealt in
+    wanted p deal numbers w.end i h.coded ∙ ap (option_map (λ q. get_or deal q.z 0)) (column i few) ∙ ap (λ n. Some n) (sym own)
+    ∙ sym (slice_get-get_or (take count (drop place.z w.deal)) i 0 lt)
 
 -- ---- along the places
 
 -- it has taken nothing
-pub along_first : (p : Params) (e : Ending) (deal : List ℕ) → HasCoded p e [] → length deal ≡ p.shape.bands → IsAlong p.shape p.order (record { end = e; deal = deal })
+pub along_first : (p : Params) (e : Ending) (deal : List ℕ) → HasCoded p e [] → length deal ≡ p.shape.bands
+    → IsAlong p.shape p.order (record { end = e; deal = deal })
 along_first p e deal h whole = record { order = h.order; whole = whole; gone = 0; left = h.left }
 
 -- so many places have gone by
-pub along_more : (s : Sizes) (o : Order) (deal : List ℕ) (old new : Ending) (count : ℕ) → new.left ≡ drop count old.left → IsAlong s o (record { end = old; deal = deal }) → IsAlong s o (record { end = new; deal = deal })
-along_more s o deal old new count moved h = record { order = h.order; whole = h.whole; gone = h.gone + count; left = moved ∙ ap (drop count) h.left ∙ drop-drop count h.gone (places s o) }
+pub along_more : (s : Sizes) (o : Order) (deal : List ℕ) (old new : Ending) (count : ℕ) → new.left ≡ drop count old.left
+    → IsAlong s o (record { end = old; deal = deal }) → IsAlong s o (record { end = new; deal = deal })
+along_more s o deal old new count moved h =
+    record { order = h.order; whole = h.whole; gone = h.gone + count; left = moved ∙ ap (drop count) h.left ∙ drop-drop count h.gone (places s o) }
 
-pub along_one : (r : Result (Unit {0}) Fault) (s : Sizes) (o : Order) (deal : List ℕ) (old new : Ending) (next : Place) → OnOk r (old.left ≡ next ∷ new.left) → OnErr r (new ≡ old) → IsAlong s o (record { end = old; deal = deal }) → IsAlong s o (record { end = new; deal = deal })
+pub along_one : (r : Result (Unit {0}) Fault) (s : Sizes) (o : Order) (deal : List ℕ) (old new : Ending) (next : Place) → OnOk r (old.left ≡ next ∷ new.left)
+    → OnErr r (new ≡ old) → IsAlong s o (record { end = old; deal = deal }) → IsAlong s o (record { end = new; deal = deal })
 along_one (Ok u) s o deal old new next moved same h = along_more s o deal old new 1 (sym (ap (drop 1) moved)) h
 along_one (Err e) s o deal old new next moved same h = subst (λ (w : Ending). IsAlong s o (record { end = w; deal = deal })) (sym same) h
 
 -- numbers were taken
 codes_move : (old new : Ending) (list more : List ℕ) → MayCodeAll old list → CodesAll old new more → new.left ≡ drop (length more) old.left
 codes_move old new list more may codes =
-    (codes may.params may.numbers may.coded).left ∙ ap (λ n. drop n (places may.params.shape may.params.order)) (length-append may.numbers more) ∙ sym (drop-drop (length more) (length may.numbers) (places may.params.shape may.params.order)) ∙ ap (drop (length more)) (sym may.coded.left)
+    (codes may.params may.numbers may.coded).left ∙ ap (λ n. drop n (places may.params.shape may.params.order)) (length-append may.numbers more)
+    ∙ sym (drop-drop (length more) (length may.numbers) (places may.params.shape may.params.order)) ∙ ap (drop (length more)) (sym may.coded.left)
 
-weaves : (deal : List ℕ) (old new : Ending) (list : List ℕ) → CodesAll old new list → WeavesAll (record { end = old; deal = deal }) (record { end = new; deal = deal }) list
+weaves : (deal : List ℕ) (old new : Ending) (list : List ℕ) → CodesAll old new list
+    → WeavesAll (record { end = old; deal = deal }) (record { end = new; deal = deal }) list
 weaves deal old new list codes p ds numbers h = record { coded = codes p numbers h.coded; dealt = h.dealt }
 
-pub weaves_some : (r : Result (Unit {0}) Fault) (deal : List ℕ) (old new : Ending) (list : List ℕ) → OnErr r ((n : ℕ) × (n < length list) × CodesAll old new (take n list))
+pub weaves_some : (r : Result (Unit {0}) Fault) (deal : List ℕ) (old new : Ending) (list : List ℕ)
+    → OnErr r ((n : ℕ) × (n < length list) × CodesAll old new (take n list))
     → OnErr r ((n : ℕ) × (n < length list) × WeavesAll (record { end = old; deal = deal }) (record { end = new; deal = deal }) (take n list))
 weaves_some r deal old new list some = on_err_weaker r (λ some. (some.0, some.1, weaves deal old new (take some.0 list) some.2)) some
 
-pub along_all : (r : Result (Unit {0}) Fault) (s : Sizes) (o : Order) (deal : List ℕ) (old new : Ending) (list : List ℕ) → MayCodeAll old list → OnOk r (CodesAll old new list) → OnErr r ((n : ℕ) × (n < length list) × CodesAll old new (take n list))
-    → IsAlong s o (record { end = old; deal = deal }) → IsAlong s o (record { end = new; deal = deal })
+pub along_all : (r : Result (Unit {0}) Fault) (s : Sizes) (o : Order) (deal : List ℕ) (old new : Ending) (list : List ℕ) → MayCodeAll old list
+    → OnOk r (CodesAll old new list) → OnErr r ((n : ℕ) × (n < length list) × CodesAll old new (take n list)) → IsAlong s o (record { end = old; deal = deal })
+    → IsAlong s o (record { end = new; deal = deal })
 along_all (Ok u) s o deal old new list may whole some h = along_more s o deal old new (length list) (codes_move old new list list may whole) h
-along_all (Err e) s o deal old new list may whole some h = along_more s o deal old new (length (take some.0 list)) (codes_move old new list (take some.0 list) may some.2) h
+along_all (Err e) s o deal old new list may whole some h =
+    along_more s o deal old new (length (take some.0 list)) (codes_move old new list (take some.0 list) may some.2) h

@@ -1,12 +1,8 @@
 use Rattle.std.proofs.Common.{◌≡◌, [], true, length, arith}
 use Rattle.std.proofs.lemmas.Result.{IfOk-weaker}
-use Rattle.cube_core.specs.declared.fault.Fault.{Fault}
-use Rattle.cube_core.specs.Image.{Image}
-use Rattle.header_bits.specs.declared.params.Params.{Params}
 use Rattle.predict_core.specs.Residual.{residuals}
-use Rattle.file_coding.specs.Ends.{Ending, HasCoded}
-use Rattle.file_coding.specs.File.{file_of_residuals, file_of}
-use Rattle.cube_predictors.specs.Sends.{AreFresh}
+use Rattle.file_coding.specs.Ends.{HasCoded}
+use Rattle.file_coding.specs.File.{file_of}
 use Rattle.coder_pipe.proofs.Encoding.{all_fresh, all_residuals, may_take, none_left}
 use Rattle.coder_pipe.proofs.encode.encode_one.Goals as goal
 use Rattle.coder_pipe.proofs.encode.encode_one.Goals.{After-send_own}
@@ -23,7 +19,9 @@ send_own-requires-clause-may c =
 
 module _ (c : After-send_own) where
   coded : c.send_own.result ≡ true → HasCoded c.args.params.now c.send_own.new.taker (residuals c.args.params.now c.args.cube.now)
-  coded all = rw (all_residuals c.args.params.now c.args.cube.now c.requires.lawful.order c.requires.shape) at (c.send_own.ensures all c.args.params.now [] c.in_ok-end.ensures.coded)
+  coded all =
+      rw (all_residuals c.args.params.now c.args.cube.now c.requires.lawful.order c.requires.shape) at
+      (c.send_own.ensures all c.args.params.now [] c.in_ok-end.ensures.coded)
 
 pub finish-requires : goal.finish-requires
 finish-requires c = none_left _ _ _ c.requires.lawful.order c.requires.shape (coded (goal.at.finish-requires c).After-send_own c.if-not-send_own.false)

@@ -3,7 +3,7 @@ use Rattle.cube_core.specs.declared.fault.Fault.{Fault}
 use Rattle.std.proofs.lemmas.Result.{IfOk-weaker, IfErr-weaker}
 use Rattle.file_decoding.specs.Files.{IsCubeOf}
 use Rattle.cube_predictors.specs.Sends.{Predicting, part_of}
-use Rattle.coder_pipe.specs.Piping.{AreFeeds, IsPiped, EndsEarly, MayStop, MayStopPart}
+use Rattle.coder_pipe.specs.Piping.{AreFeeds, EndsEarly, MayStop, MayStopPart}
 use Rattle.coder_pipe.proofs.Predicted.{feeds_from, are_feeds, is_file_of, may_stop_part}
 use Rattle.coder_pipe.proofs.encode_predicted.encode_predicted.Goals as goal
 use Rattle.coder_pipe.proofs.encode_predicted.encode_predicted.Goals.{After-params}
@@ -20,7 +20,9 @@ module _ (g : Over) (c : After-params g) where
   feeds_are = c.in_ok-feeds.ensures.feeds
 
   lists : AreFeeds (λ (f : Predicting). f.predictor) part_of c.args.plan.now c.in_ok-feeds.feeds.items
-  lists = subst (AreFeeds (λ (f : Predicting). f.predictor) part_of c.args.plan.now) (sym feeds_are) (are_feeds c.args.plan.now c.args.cube.now c.prove_is_plan.ensures cube_of)
+  lists =
+      subst (AreFeeds (λ (f : Predicting). f.predictor) part_of c.args.plan.now) (sym feeds_are)
+      (are_feeds c.args.plan.now c.args.cube.now c.prove_is_plan.ensures cube_of)
 
 pub encode_piped-requires-clause-feeds : goal.encode_piped-requires-clause-feeds
 encode_piped-requires-clause-feeds g c = λ κs h. lists g c

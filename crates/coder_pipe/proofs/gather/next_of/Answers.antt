@@ -9,7 +9,8 @@ stopped_at-requires-clause-short g c =
     let s = c.index_mut-stage.result.now in
     let told = c.next_run-count.ensures in
     let lt : c.args.q < length c.args.stages.now.items = search rules in
-    let same : c.next_run-count.new.self.handed ≡ s.handed = told.handed ∙ ap (λ n. s.handed ++ take n c.next_run-count.new.run) c.if-count-eq0.true ∙ append-nil s.handed in
+    let same : c.next_run-count.new.self.handed ≡ s.handed =
+    told.handed ∙ ap (λ n. s.handed ++ take n c.next_run-count.new.run) c.if-count-eq0.true ∙ append-nil s.handed in
     rw (told.same.0, same) (short_of g.F.Feed.items c.args.stages.now.items c.args.q s lt c.index_mut-stage.ensures.value (c.requires.short s.feed))
 
 pub returns-then-count-eq0-clause-feeds : goal.returns-then-count-eq0-clause-feeds
@@ -22,7 +23,8 @@ pub no_such_number-requires-clause-list : goal.no_such_number-requires-clause-li
 no_such_number-requires-clause-list g c = λ other.
     let s = c.index_mut-stage.result.now in
     let lt : c.args.q < length c.args.stages.now.items = search rules in
-    feed_moved (λ f. All (λ n. n ≤ c.args.most) (g.F.Feed.items f)) c.args.stages.now.items c.args.q c.next_run-count.new.self s other lt c.index_mut-stage.ensures.value
+    feed_moved (λ f. All (λ n. n ≤ c.args.most)
+    (g.F.Feed.items f)) c.args.stages.now.items c.args.q c.next_run-count.new.self s other lt c.index_mut-stage.ensures.value
     c.next_run-count.ensures.same.0 (c.requires.range s.feed)
 
 pub no_such_number-requires-clause-above : goal.no_such_number-requires-clause-above

@@ -1,4 +1,4 @@
-use Rattle.std.proofs.Common.{◌≡◌, ◌+◌, ◌∷◌, [], ◌++◌, ◌<◌, ◌≤◌, ◌^◌, length, take, get_or, length-append, length-take, length-set, arith, ap, sym, ◌∙◌, Some, ℕ}
+use Rattle.std.proofs.Common.{◌≡◌, ◌+◌, ◌∷◌, [], ◌++◌, ◌<◌, ◌≤◌, length, take, get_or, length-append, length-take, length-set, arith, ap, sym, ◌∙◌, Some, ℕ}
 use Rattle.std.specs.List.{slice_get}
 use Rattle.std.proofs.lemmas.List.{length-map, take_more_set}
 use Rattle.std.proofs.lemmas.List.Elements.{All-push}
@@ -17,7 +17,8 @@ module _ (g : Over) (c : After-from-owner g) where
   reached : length (c.loop-i.invariant.ahead.numbers ++ take c.loop-i.i c.loop-i.run) ≡ length c.loop-i.invariant.ahead.numbers + c.loop-i.i
   reached = rw (length-append, length-take) (omega (arith, c.loop-i-test.true, c.loop-i.invariant.long, c.wanted_column-owners.ensures.most))
 
-  next : Some c.from-owner.result ≡ slice_get (owners c.args.plan.now.deal c.args.plan.now.params) (length (c.loop-i.invariant.ahead.numbers ++ take c.loop-i.i c.loop-i.run))
+  next : Some c.from-owner.result ≡ slice_get (owners c.args.plan.now.deal c.args.plan.now.params)
+      (length (c.loop-i.invariant.ahead.numbers ++ take c.loop-i.i c.loop-i.run))
   next =
       let own = c.wanted_column-owners.ensures.owned _ _ _ c.loop-i.invariant.ahead.woven c.loop-i.i c.loop-i-test.true in
       rw (reached, c.from-owner.ensures) (sym (own ∙ slice_get-get_or c.wanted_column-owners.result.now c.loop-i.i 0 c.loop-i-test.true))
@@ -53,7 +54,9 @@ returns-in-Err-clause-stopped g c =
     let d = (goal.at.returns-in-Err-clause-stopped g c).After-from-owner in
     let was = c.loop-i.invariant in (
       omega (arith, below g d, c.requires.lists.many),
-      λ f w. rw (← was.feeds, ← was.gates) (rw (ap (λ fs. g.F.Feed.predictor (get_or fs c.from-owner.result f)) was.feeds ∙ c.requires.lists.named c.from-owner.result f (below g d)) at (c.in-Err.ensures.err f w)),
+      λ f w. rw (← was.feeds, ← was.gates)
+      (rw (ap (λ fs. g.F.Feed.predictor (get_or fs c.from-owner.result f)) was.feeds ∙ c.requires.lists.named c.from-owner.result f (below g d)) at
+      (c.in-Err.ensures.err f w)),
     )
 
 pub loop-i-preserved : goal.loop-i-preserved
@@ -62,7 +65,9 @@ loop-i-preserved g c =
     let was = c.loop-i.invariant in
     let room : c.loop-i.i < length c.loop-i.run = omega (arith, c.loop-i-test.true, was.long, c.wanted_column-owners.ensures.most) in
     let cut = take_more_set c.loop-i.run c.loop-i.i c.in-Ok.number room in
-    let ahead = ahead_more _ _ _ _ (handed_of c.next_one_of.new.stages.items) _ c.from-owner.result (take c.loop-i.i c.loop-i.run) (c.in-Ok.number ∷ []) was.ahead (λ j lt. rw (first_only _ j lt) (sym (next g d))) (handed_within g d) c.in-Ok.ensures.ok in
+    let ahead =
+    ahead_more _ _ _ _ (handed_of c.next_one_of.new.stages.items) _ c.from-owner.result (take c.loop-i.i c.loop-i.run) (c.in-Ok.number ∷ []) was.ahead
+    (λ j lt. rw (first_only _ j lt) (sym (next g d))) (handed_within g d) c.in-Ok.ensures.ok in
     let range = All-push (λ n. n ≤ c.greatest-most.result) (take c.loop-i.i c.loop-i.run) c.in-Ok.number was.range c.in-Ok.ensures.most in
     record {
       feeds = c.in-Ok.ensures.feeds ∙ was.feeds;
@@ -84,6 +89,9 @@ returns-clause-may g c =
     let all : c.loop-i.i ≡ length c.wanted_column-owners.result.now = omega (arith, c.loop-i-test.false, c.loop-i.auto.i-end) in
     let most = rw c.params.ensures at c.greatest-most.ensures in
     let from = c.wanted_column-owners.ensures.owned _ _ _ was.ahead.woven in
-    let few = owners_fit c.args.plan.now.params c.args.plan.now.deal _ c.wanted_column-owners.result.now c.prove_is_plan.ensures.lawful.order (omega (arith, was.ahead.long, c.requires.more)) from in
-    may_take _ _ _ was.ahead.numbers (take (length c.wanted_column-owners.result.now) c.loop-i.run) c.greatest-most.result was.ahead.woven c.prove_is_plan.ensures.lawful
+    let few =
+    owners_fit c.args.plan.now.params c.args.plan.now.deal _ c.wanted_column-owners.result.now c.prove_is_plan.ensures.lawful.order
+    (omega (arith, was.ahead.long, c.requires.more)) from in
+    may_take _ _ _ was.ahead.numbers
+    (take (length c.wanted_column-owners.result.now) c.loop-i.run) c.greatest-most.result was.ahead.woven c.prove_is_plan.ensures.lawful
     (omega (arith, few, length-take (length c.wanted_column-owners.result.now) c.loop-i.run)) most (rw all at was.range)

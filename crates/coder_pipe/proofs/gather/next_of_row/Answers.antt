@@ -1,4 +1,4 @@
-use Rattle.std.proofs.Common.{◌≡◌, ◌<◌, ◌≤◌, ◌+◌, ◌^◌, [], ℕ, length, take, drop, append-nil, length-take, arith, ap, sym, subst, ◌∙◌, Some}
+use Rattle.std.proofs.Common.{◌≡◌, ◌<◌, ◌≤◌, [], length, take, drop, append-nil, length-take, arith, sym, subst, Some}
 use Rattle.std.specs.List.{slice_get}
 use Rattle.std.proofs.lemmas.List.{length-map, take-append-le}
 use Rattle.cube_predictors.specs.Weave.{owners}
@@ -12,7 +12,8 @@ use Rattle.coder_pipe.proofs.gather.next_of_row.Given.{Over}
 pub unreachable-requires : goal.unreachable-requires
 unreachable-requires g c =
     let w = c.requires.woven in
-    owner_there c.args.plan.now.params c.args.plan.now.deal w.numbers c.prove_is_plan.ensures.lawful.order (omega (arith, w.long, c.requires.more)) (c.in_default.ensures c.args.plan.now.params c.args.plan.now.deal w.numbers w.woven)
+    owner_there c.args.plan.now.params c.args.plan.now.deal w.numbers c.prove_is_plan.ensures.lawful.order (omega (arith, w.long, c.requires.more))
+    (c.in_default.ensures c.args.plan.now.params c.args.plan.now.deal w.numbers w.woven)
 
 module _ (g : Over) (c : In-Some g) where
   next : Some c.in-Some.owner ≡ slice_get (owners c.args.plan.now.deal c.args.plan.now.params) (length c.requires.woven.numbers)
@@ -54,11 +55,16 @@ returns-in-Ok-clause-ahead g c =
     let run = c.next_of.new.run in
     let count = c.in-Ok.count in
     let within : count ≤ length run = omega (arith, c.in-Ok.ensures.within.1, c.next_of.auto.run) in
-    let few : length (take count run) ≤ c.wanted_run-wanted.result = omega (arith, c.in-Ok.ensures.within.1, length-take count run, length-take c.wanted_run-wanted.result c.args.run.now) in
+    let few : length (take count run) ≤ c.wanted_run-wanted.result =
+    omega (arith, c.in-Ok.ensures.within.1, length-take count run, length-take c.wanted_run-wanted.result c.args.run.now) in
     let one = c.wanted_run-wanted.ensures.owned _ _ _ was.woven in
-    let own = fewer_of_one (owners c.args.plan.now.deal c.args.plan.now.params) (length was.numbers) c.wanted_run-wanted.result (length (take count run)) c.in-Some.owner one few (next g d) in
+    let own =
+    fewer_of_one (owners c.args.plan.now.deal c.args.plan.now.params) (length was.numbers) c.wanted_run-wanted.result
+    (length (take count run)) c.in-Some.owner one few (next g d) in
     let none = ahead_none _ _ _ _ _ was in
-    let ahead = ahead_more _ _ _ _ (handed_of c.next_of.new.stages.items) _ c.in-Some.owner [] (take count run) none (λ i lt. rw append-nil (own i lt)) (handed_within g d) c.in-Ok.ensures.ok in
+    let ahead =
+    ahead_more _ _ _ _ (handed_of c.next_of.new.stages.items) _ c.in-Some.owner [] (take count run) none (λ i lt. rw append-nil (own i lt))
+    (handed_within g d) c.in-Ok.ensures.ok in
     rw (take-append-le count run (drop c.wanted_run-wanted.result c.args.run.now) within) ahead
 
 pub returns-in-Ok-clause-may : goal.returns-in-Ok-clause-may
@@ -68,12 +74,16 @@ returns-in-Ok-clause-may g c =
     let run = c.next_of.new.run in
     let count = c.in-Ok.count in
     let within : count ≤ length run = omega (arith, c.in-Ok.ensures.within.1, c.next_of.auto.run) in
-    let few : length (take count run) ≤ c.wanted_run-wanted.result = omega (arith, c.in-Ok.ensures.within.1, length-take count run, length-take c.wanted_run-wanted.result c.args.run.now) in
+    let few : length (take count run) ≤ c.wanted_run-wanted.result =
+    omega (arith, c.in-Ok.ensures.within.1, length-take count run, length-take c.wanted_run-wanted.result c.args.run.now) in
     let most = rw c.params.ensures at c.greatest-most.ensures in
     let one = c.wanted_run-wanted.ensures.owned _ _ _ was.woven in
-    let fits = run_fits c.args.plan.now.params c.args.plan.now.deal was.numbers c.in-Some.owner c.wanted_run-wanted.result c.prove_is_plan.ensures.lawful.order (next g d) one in
+    let fits =
+    run_fits c.args.plan.now.params c.args.plan.now.deal was.numbers c.in-Some.owner c.wanted_run-wanted.result c.prove_is_plan.ensures.lawful.order
+    (next g d) one in
     subst (MayCodeAll c.args.weaver.now.end) (sym (take-append-le count run (drop c.wanted_run-wanted.result c.args.run.now) within))
-    (may_take _ _ _ was.numbers (take count run) c.greatest-most.result was.woven c.prove_is_plan.ensures.lawful (omega (arith, few, fits)) most c.in-Ok.ensures.most)
+    (may_take _ _ _ was.numbers (take count run) c.greatest-most.result was.woven c.prove_is_plan.ensures.lawful
+    (omega (arith, few, fits)) most c.in-Ok.ensures.most)
 
 pub returns-in-Err-clause-stopped : goal.returns-in-Err-clause-stopped
 returns-in-Err-clause-stopped g c =

@@ -21,13 +21,15 @@ pub no_such_number-requires-clause-list : goal.no_such_number-requires-clause-li
 no_such_number-requires-clause-list g c = λ other.
     let s = c.index_mut-stage.result.now in
     let lt : c.args.q < length c.args.stages.now.items = search rules in
-    feed_moved (λ f. All (λ n. n ≤ c.args.most) (g.F.Feed.items f)) c.args.stages.now.items c.args.q c.next_one.new.self s other lt c.index_mut-stage.ensures.value
+    feed_moved (λ f. All (λ n. n ≤ c.args.most)
+    (g.F.Feed.items f)) c.args.stages.now.items c.args.q c.next_one.new.self s other lt c.index_mut-stage.ensures.value
     c.next_one.ensures.same.0 (c.requires.range s.feed)
 
 pub no_such_number-requires-clause-above : goal.no_such_number-requires-clause-above
 no_such_number-requires-clause-above g c = λ other all.
     let lt : c.args.q < length c.args.stages.now.items = search rules in
-    let last = last_of (λ n. n ≤ c.args.most) c.args.stages.now.items c.args.q c.next_one.new.self other _ (c.in-Some.number ∷ []) lt c.in-Some.ensures.handed all in
+    let last =
+    last_of (λ n. n ≤ c.args.most) c.args.stages.now.items c.args.q c.next_one.new.self other _ (c.in-Some.number ∷ []) lt c.in-Some.ensures.handed all in
     omega (arith, last 0 0 (omega arith), c.if-number-most.true)
 
 pub returns-clause-feeds : goal.returns-clause-feeds
