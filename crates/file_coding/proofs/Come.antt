@@ -26,13 +26,16 @@ by_key Bsq p q e before = grind arith
 by_key (Bi depth) p q e before = grind (arith, ap (λ n. n / depth) e)
 
 -- of two places of one band the one that stands behind in the order stands behind in the band
-time_increases : (s : Sizes) (o : Order) (p q : Place) → IsOrder s o → IsPlaceOf s p → IsPlaceOf s q → p.z ≡ q.z → place_index s o p < place_index s o q → time_of s p < time_of s q
+time_increases : (s : Sizes) (o : Order) (p q : Place) → IsOrder s o → IsPlaceOf s p → IsPlaceOf s q → p.z ≡ q.z → place_index s o p < place_index s o q
+    → time_of s p < time_of s q
 time_increases s o p q lawful a b e lt =
-    let before = (order_is_by_key s o lawful).increasing (place_index s o p) (place_index s o q) p q lt (item_of_index s o p lawful a) (item_of_index s o q lawful b) in
+    let before =
+    (order_is_by_key s o lawful).increasing (place_index s o p) (place_index s o q) p q lt (item_of_index s o p lawful a) (item_of_index s o q lawful b) in
     earlier s.columns p.y p.x q.y q.x a.column (by_key o p q e before)
 
 -- and the other way round
-pub index_increases : (s : Sizes) (o : Order) (p q : Place) → IsOrder s o → IsPlaceOf s p → IsPlaceOf s q → p.z ≡ q.z → time_of s p < time_of s q → place_index s o p < place_index s o q
+pub index_increases : (s : Sizes) (o : Order) (p q : Place) → IsOrder s o → IsPlaceOf s p → IsPlaceOf s q → p.z ≡ q.z → time_of s p < time_of s q
+    → place_index s o p < place_index s o q
 index_increases s o p q lawful a b e lt = elim (cases_order (place_index s o p) (place_index s o q)) [
   | inl h ↦ absurd (omega (arith, lt, ap (time_of s) (same_place s o p q lawful a b h)))
   | inr (inl h) ↦ h
@@ -48,8 +51,17 @@ come_start s o z p place e = (λ h. absurd (omega (arith, h)), λ h. absurd (ome
 place_at_time : (s : Sizes) (p : Place) → IsPlaceOf s p → (t : ℕ) → t < time_of s p → (q : Place) × IsPlaceOf s q × (q.z ≡ p.z) × (time_of s q ≡ t)
 place_at_time s p place t lt =
     let some : 0 < s.columns = omega (arith, place.column) in
-    let within : p.y * s.columns + p.x < s.columns * s.rows = mul-add-lt p.y s.columns p.x s.rows place.row place.column in
-    (record { z = p.z; y = t / s.columns; x = t % s.columns }, record { band = place.band; row = div_below t s.columns s.rows some (omega (arith, within)); column = mod_below t s.columns some }, refl, div-add-mod' t s.columns)
+    let within : p.y * s.columns + p.x < s.columns * s.rows = mul-add-lt p.y s.columns p.x s.rows place.row place.column in (
+      record { z = p.z; y = t / s.columns; x = t % s.columns },
+      record {
+        band = place.band;
+        row = div_below t s.columns s.rows some
+            (omega (arith, within));
+        column = mod_below t s.columns some;
+      },
+      refl,
+      div-add-mod' t s.columns,
+    )
 
 -- where the walk stands at a place of the band, the band stands there
 pub come_here : (s : Sizes) (o : Order) (z i t : ℕ) (p : Place) → IsOrder s o → HasCome s o z i t → StandsAt s o p i → p.z ≡ z → time_of s p ≡ t

@@ -19,9 +19,11 @@ entries p (Each table) h = h.0
 constants : (p : Params) (start : CountStart) → 2 ≤ p.kind.bits → IsCountStart p start → (z : ℕ) → z < p.shape.bands → constant_of start z + 2 ≤ p.kind.bits
 unfolding constant_of
 constants p (Constant k) b h z lt = omega (arith, h)
-constants p (Each table) b h z lt = let below : slice_index table z ≤ p.kind.bits - 2 = all_at (λ v. v ≤ p.kind.bits - 2) table z 0 (omega (arith, h.0)) h.1 in omega (arith, below)
+constants p (Each table) b h z lt =
+    let below : slice_index table z ≤ p.kind.bits - 2 = all_at (λ v. v ≤ p.kind.bits - 2) table z 0 (omega (arith, h.0)) h.1 in omega (arith, below)
 
-by_coder : (p : Params) (coder : Coder) → InRange 2 16 p.kind.bits → IsCoder p coder → IsSample coder → AreLawful p.shape.bands (coder_settings p.kind.bits coder)
+by_coder : (p : Params) (coder : Coder) → InRange 2 16 p.kind.bits → IsCoder p coder → IsSample coder
+    → AreLawful p.shape.bands (coder_settings p.kind.bits coder)
 by_coder p (Sample umax gamma_star gamma_zero start) b h s =
     record { bits = b; umax = h.0; gamma_star = h.1; gamma_zero = h.2; order = h.3; entries = entries p start h.4; constants = constants p start b.0 h.4 }
 by_coder p (Block size restricted reference) b h s = absurd s

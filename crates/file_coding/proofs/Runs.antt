@@ -1,5 +1,6 @@
 -- Runs: what the coding end has taken, row by row.
-use Rattle.std.proofs.Common.{◌≡◌, ◌+◌, ◌*◌, ◌<◌, ◌≤◌, ◌^◌, ℕ, zero, suc, Bool, true, List, [], ◌∷◌, ◌++◌, append-nil, length, take, drop, Some, refl, sym, ap, subst, ◌∙◌, append_assoc, length-append, length-take, length-drop, get_or, arith}
+use Rattle.std.proofs.Common.{◌≡◌, ◌+◌, ◌*◌, ◌-◌, ◌<◌, ◌≤◌, ◌^◌, ℕ, zero, suc, Bool, true, List, [], ◌∷◌, ◌++◌, append-nil, length, take, drop, Some, refl, sym}
+use Rattle.std.proofs.Common.{ap, subst, ◌∙◌, append_assoc, length-append, length-take, length-drop, get_or, arith}
 use Rattle.std.specs.List.{AllByRecursion, slice_get}
 use Rattle.std.proofs.Math.Seq.{take-add, drop-drop}
 use Rattle.std.proofs.lemmas.Nat.{mul-le}
@@ -42,14 +43,18 @@ pub rows_behind : (columns n : ℕ) (ps now : List Place) → now ≡ drop n ps 
 rows_behind columns n ps now e h = rw e (rows_drop columns n ps h)
 
 -- the places of a row are of one band
-pub row_band : (columns n : ℕ) (ps : List Place) (place : Place) → AreByRows columns ps → slice_get ps 0 ≡ Some place → place.x + n ≤ columns → AllByRecursion (λ q. q.z ≡ place.z) (take n ps)
+pub row_band : (columns n : ℕ) (ps : List Place) (place : Place) → AreByRows columns ps → slice_get ps 0 ≡ Some place → place.x + n ≤ columns
+    → AllByRecursion (λ q. q.z ≡ place.z) (take n ps)
 row_band columns zero ps place h first fits = tt
 row_band columns (suc n) [] place h first fits = tt
 row_band columns (suc zero) (q ∷ ps) place h first fits = ((let same : q ≡ place = cc in ap (λ r. r.z) same), tt)
 row_band columns (suc (suc n)) (q ∷ ps) place h first fits =
     let same : q ≡ place = cc in
-    let next = h 0 place first (omega (arith, fits)) in
-    (ap (λ r. r.z) same, row_band columns (suc n) ps (record { z = place.z; y = place.y; x = place.x + 1 }) (rows_shift columns q ps h) next (omega (arith, fits)))
+    let next = h 0 place first (omega (arith, fits)) in (
+      ap (λ r. r.z) same,
+      row_band columns (suc n) ps (record { z = place.z; y = place.y; x = place.x + 1 }) (rows_shift columns q ps h) next
+          (omega (arith, fits)),
+    )
 
 -- where places go along rows, they come row by row
 pub rows_follow : (s : Sizes) (o : Order) → IsOrder s o → goes_along_rows o ≡ true → AreByRows s.columns (places s o)
@@ -58,13 +63,14 @@ rows_follow s o lawful along i q e lt =
     let there : IsPlaceOf s q = (order_is_by_key s o lawful).only i q e in
     let at : place_index s o q ≡ i = index_of_item s o q i lawful e in
     let step = columns_along s o q 1 along there in
-    let place : IsPlaceOf s (record { z = q.z; y = q.y; x = q.x + 1 }) = record { band = there.band; row = there.row; column = lt } in
-    item_from_index s o (record { z = q.z; y = q.y; x = q.x + 1 }) (suc i) lawful place (step ∙ omega (arith, at)) (omega (arith, at, step, place_index_below s o (record { z = q.z; y = q.y; x = q.x + 1 }) lawful place))
+    let place : IsPlaceOf s next = record { band = there.band; row = there.row; column = lt } in
+    item_from_index s o next (suc i) lawful place (step ∙ omega (arith, at)) (omega (arith, at, step, place_index_below s o next lawful place))
 
 -- ---- by the sample-adaptive coder
 
 -- the numbers of a run more
-pub samples_more_run : (p : Params) (old new : Counts) (numbers run : List ℕ) (bits : List Bool) → length numbers + length run ≤ length (places p.shape p.order) → SamplesTaken p old numbers bits → (length new.bands ≡ length old.bands) × (new.bits ≡ old.bits)
+pub samples_more_run : (p : Params) (old new : Counts) (numbers run : List ℕ) (bits : List Bool) → length numbers + length run ≤ length (places p.shape p.order)
+    → SamplesTaken p old numbers bits → (length new.bands ≡ length old.bands) × (new.bits ≡ old.bits)
     → HaveTaken (settings p) new (λ b. band_numbers b (places_of p numbers ++ places_behind p numbers (length run)) (numbers ++ run))
     → SamplesTaken p new (numbers ++ run) (bits ++ words_after (settings p) (places_of p numbers) numbers (places_behind p numbers (length run)) run)
 samples_more_run p old new numbers run bits fits h kept taken =
@@ -80,14 +86,23 @@ samples_more_run p old new numbers run bits fits h kept taken =
     }
 
 -- as many places stand behind those of the numbers
-pub run_count : (p : Params) (numbers : List ℕ) (count : ℕ) → length numbers + count ≤ length (places p.shape p.order) → count ≡ length (places_behind p numbers count)
-run_count p numbers count fits = omega (arith, fits, length-take count (drop (length numbers) (places p.shape p.order)), length-drop (length numbers) (places p.shape p.order))
+pub run_count : (p : Params) (numbers : List ℕ) (count : ℕ) → length numbers + count ≤ length (places p.shape p.order)
+    → count ≡ length (places_behind p numbers count)
+run_count p numbers count fits =
+    omega (arith, fits, length-take count (drop (length numbers) (places p.shape p.order)), length-drop (length numbers) (places p.shape p.order))
 
-pub samples_run : (z t : ℕ) (run : List ℕ) (old new : Counts) (written now : List Bool) → PutsMany z t run old written new now → (length new.bands ≡ length old.bands) × (new.bits ≡ old.bits) → PutsRun z t run (Samples old) written (Samples new) now
+pub samples_run : (z t : ℕ) (run : List ℕ) (old new : Counts) (written now : List Bool) → PutsMany z t run old written new now
+    → (length new.bands ≡ length old.bands) × (new.bits ≡ old.bits) → PutsRun z t run (Samples old) written (Samples new) now
 samples_run z t run old new written now puts kept p numbers bits h next =
     let long = places_long p numbers (omega (arith, next.fits)) in
-    let did = puts (settings p) (places_of p numbers) (places_behind p numbers (length run)) numbers long (run_count p numbers (length run) next.fits) next.band h.taken next.time in
-    (words_after (settings p) (places_of p numbers) numbers (places_behind p numbers (length run)) run, did.0, samples_more_run p old new numbers run bits next.fits h kept did.1)
+    let did =
+    puts (settings p) (places_of p numbers) (places_behind p numbers (length run)) numbers long
+    (run_count p numbers (length run) next.fits) next.band h.taken next.time in (
+      words_after (settings p) (places_of p numbers) numbers
+          (places_behind p numbers (length run)) run,
+      did.0,
+      samples_more_run p old new numbers run bits next.fits h kept did.1,
+    )
 
 not_both : (coder : Coder) → IsSample coder → IsBlock coder → ⊥
 not_both (Sample umax gamma_star gamma_zero start) s b = b
@@ -100,23 +115,28 @@ stays p (Samples v) (Blocks w) ns ms bits more h k s = absurd (not_both p.coder 
 stays p (Blocks v) (Blocks w) ns ms bits more h k s = absurd s
 
 -- a run may be put
-may_by_coder : (p : Params) (coder : Encoder) (numbers run : List ℕ) (bits : List Bool) (z t : ℕ) → IsBySamples coder → HasTaken p coder numbers bits → z < p.shape.bands → AllByRecursion (λ n. n < 2 ^ p.kind.bits) run → (length run ≤ 2 ^ 16) × (t < 2 ^ 48)
-    → MayPutRun coder z t run
+may_by_coder : (p : Params) (coder : Encoder) (numbers run : List ℕ) (bits : List Bool) (z t : ℕ) → IsBySamples coder → HasTaken p coder numbers bits
+    → z < p.shape.bands → AllByRecursion (λ n. n < 2 ^ p.kind.bits) run → (length run ≤ 2 ^ 16) × (t < 2 ^ 48) → MayPutRun coder z t run
 may_by_coder p (Samples v) numbers run bits z t s h band range few = (omega (arith, h.bands, band), rw h.depth range, few.0, few.1)
 may_by_coder p (Blocks v) numbers run bits z t s h band range few = absurd s
 
 early : (columns y x : ℕ) → columns ≤ 65536 → y < 65536 → x < columns → y * columns + x < 2 ^ 48
-early columns y x few row column = let most : y * columns ≤ 65536 * 65536 = mul-le y columns 65536 65536 (omega (arith, row)) few in omega (arith, most, few, column)
+early columns y x few row column =
+    let most : y * columns ≤ 65536 * 65536 = mul-le y columns 65536 65536 (omega (arith, row)) few in omega (arith, most, few, column)
 
-pub may_put_run : (e : Ending) (place : Place) (t : ℕ) (run : List ℕ) → MayCodeRun e place run → t ≡ place.y * e.columns + place.x → MayPutRun e.coder place.z t run
+pub may_put_run : (e : Ending) (place : Place) (t : ℕ) (run : List ℕ) → MayCodeRun e place run → t ≡ place.y * e.columns + place.x
+    → MayPutRun e.coder place.z t run
 may_put_run e place t run h time =
     let may = h.may in
     let next = first_of e.left place h.next in
     let here = comes_next may.params e may.numbers place next.0 may.coded next.1 in
     let sizes = may.lawful.sizes in
     let columns : e.columns ≤ 65536 = omega (arith, may.coded.columns, sizes.columns.1) in
-    may_by_coder may.params e.coder may.numbers run may.coded.written place.z t h.samples may.coded.taken here.there.band may.range
-    (omega (arith, h.row, columns), rw time (early e.columns place.y place.x columns (omega (arith, here.there.row, sizes.rows.1)) (omega (arith, here.there.column, may.coded.columns))))
+    may_by_coder may.params e.coder may.numbers run may.coded.written place.z t h.samples may.coded.taken here.there.band may.range (
+      omega (arith, h.row, columns),
+      rw time
+          (early e.columns place.y place.x columns (omega (arith, here.there.row, sizes.rows.1)) (omega (arith, here.there.column, may.coded.columns))),
+    )
 
 -- ---- runs one behind another
 
@@ -127,13 +147,22 @@ pub codes_behind : (a b d : Ending) (xs ys : List ℕ) → CodesAll a b xs → C
 codes_behind a b d xs ys f g p numbers h = rw (append_assoc numbers xs ys) at (g p (numbers ++ xs) (f p numbers h))
 
 -- a part of the numbers behind those that were coded
-pub may_part : (old e : Ending) (list : List ℕ) (first count : ℕ) → MayCodeAll old list → CodesAll old e (take first list) → first + count ≤ length list → MayCodeAll e (take count (drop first list))
+pub may_part : (old e : Ending) (list : List ℕ) (first count : ℕ) → MayCodeAll old list → CodesAll old e (take first list) → first + count ≤ length list
+    → MayCodeAll e (take count (drop first list))
 may_part old e list first count may codes fits = record {
   params = may.params;
   numbers = may.numbers ++ take first list;
   lawful = may.lawful;
   coded = codes may.params may.numbers may.coded;
-  more = omega (arith, may.more, length-append may.numbers (take first list), length-take first list, length-take count (drop first list), length-drop first list);
+  more = omega (
+    arith,
+    may.more,
+    length-append may.numbers (take first list),
+    length-take first list,
+    length-take count
+        (drop first list),
+    length-drop first list,
+  );
   range = all_take (λ n. n < 2 ^ may.params.kind.bits) count (drop first list) (all_drop (λ n. n < 2 ^ may.params.kind.bits) first list may.range);
 }
 
@@ -147,8 +176,9 @@ may_one old e list i may codes lt = record {
   range = all_at (λ n. n < 2 ^ may.params.kind.bits) list i 0 lt may.range;
 }
 
-pub may_run : (old e : Ending) (list : List ℕ) (first count : ℕ) (place : Place) → MayCodeAll old list → IsBySamples old.coder → CodesAll old e (take first list) → AreByRows e.columns e.left → first + count ≤ length list
-    → slice_get e.left 0 ≡ Some place → place.x + count ≤ e.columns → MayCodeRun e place (take count (drop first list))
+pub may_run : (old e : Ending) (list : List ℕ) (first count : ℕ) (place : Place) → MayCodeAll old list → IsBySamples old.coder
+    → CodesAll old e (take first list) → AreByRows e.columns e.left → first + count ≤ length list → slice_get e.left 0 ≡ Some place
+    → place.x + count ≤ e.columns → MayCodeRun e place (take count (drop first list))
 may_run old e list first count place may samples codes rows fits next row = record {
   may = may_part old e list first count may codes fits;
   samples = stays may.params old.coder e.coder _ _ _ _ may.coded.taken (codes may.params may.numbers may.coded).taken samples;
@@ -165,37 +195,42 @@ column_within e list place may first =
     omega (arith, here.there.column, may.coded.columns)
 
 -- the residuals that may be coded are no more than the places behind those that were
-pub fits_behind : (old : Ending) (list : List ℕ) → MayCodeAll old list → (p : Params) (numbers : List ℕ) → HasCoded p old numbers → length numbers + length list ≤ length (places p.shape p.order)
+pub fits_behind : (old : Ending) (list : List ℕ) → MayCodeAll old list → (p : Params) (numbers : List ℕ) → HasCoded p old numbers
+    → length numbers + length list ≤ length (places p.shape p.order)
 fits_behind old list may p numbers h =
-    let rest : length old.left ≡ length (drop (length numbers) (places p.shape p.order)) = ap (λ (x : List Place). length x) h.left in
-    let known : length old.left ≡ length (drop (length may.numbers) (places may.params.shape may.params.order)) = ap (λ (x : List Place). length x) may.coded.left in
-    let enough : length list ≤ length old.left = omega (arith, known, may.more, length-drop (length may.numbers) (places may.params.shape may.params.order), length-places may.params.shape may.params.order may.coded.order) in
-    omega (arith, enough, rest, h.within, length-drop (length numbers) (places p.shape p.order), length-places p.shape p.order h.order)
+    let rest : length old.left ≡ length (places p.shape p.order) - length numbers = rw (h.left, length-drop) refl in
+    let known : length old.left ≡ length (places may.params.shape may.params.order) - length may.numbers = rw (may.coded.left, length-drop) refl in
+    let enough : length list ≤ length old.left = omega (arith, known, may.more, length-places may.params.shape may.params.order may.coded.order) in
+    omega (arith, enough, rest, h.within, length-places p.shape p.order h.order)
 
 -- what the entropy coder has taken, the coding end has
-pub coded_behind : (old new : Ending) (list : List ℕ) (p : Params) (numbers : List ℕ) → HasCoded p old numbers → length numbers + length list ≤ length (places p.shape p.order) → new.left ≡ drop (length list) old.left → new.columns ≡ old.columns → new.word ≡ old.word
-    → (written more : List Bool) → old.bits ≡ header_of p ++ written → new.bits ≡ old.bits ++ more → HasTaken p new.coder (numbers ++ list) (written ++ more) → HasCoded p new (numbers ++ list)
+pub coded_behind : (old new : Ending) (list : List ℕ) (p : Params) (numbers : List ℕ) → HasCoded p old numbers
+    → length numbers + length list ≤ length (places p.shape p.order) → new.left ≡ drop (length list) old.left → new.columns ≡ old.columns → new.word ≡ old.word
+    → (written more : List Bool) → old.bits ≡ header_of p ++ written → new.bits ≡ old.bits ++ more → HasTaken p new.coder (numbers ++ list) (written ++ more)
+    → HasCoded p new (numbers ++ list)
 coded_behind old new list p numbers h fits moved columns word written more text grown taken = record {
   columns = columns ∙ h.columns;
   word = word ∙ h.word;
   order = h.order;
   within = omega (arith, fits, length-append numbers list, length-places p.shape p.order h.order);
-  left = moved ∙ ap (drop (length list)) h.left ∙ drop-drop (length list) (length numbers) (places p.shape p.order) ∙ ap (λ n. drop n (places p.shape p.order)) (sym (length-append numbers list));
+  left = rw (moved, h.left, drop-drop, length-append) refl;
   written = written ++ more;
   taken = taken;
   text = grown ∙ ap (λ (x : List Bool). x ++ more) text ∙ append_assoc (header_of p) written more;
 }
 
 -- the residuals of a run were put
-pub coded_run : (old new : Ending) (place : Place) (t : ℕ) (run : List ℕ) → MayCodeRun old place run → new.left ≡ drop (length run) old.left → t ≡ place.y * old.columns + place.x → new.columns ≡ old.columns → new.word ≡ old.word
-    → PutsRun place.z t run old.coder old.bits new.coder new.bits → CodesAll old new run
+pub coded_run : (old new : Ending) (place : Place) (t : ℕ) (run : List ℕ) → MayCodeRun old place run → new.left ≡ drop (length run) old.left
+    → t ≡ place.y * old.columns + place.x → new.columns ≡ old.columns → new.word ≡ old.word → PutsRun place.z t run old.coder old.bits new.coder new.bits
+    → CodesAll old new run
 coded_run old new place t run may moved time columns word puts p numbers h =
     let next = first_of old.left place may.next in
     let here = comes_next p old numbers place next.0 h next.1 in
     let fits = fits_behind old run may.may p numbers h in
     let is_run : IsRun p numbers place.z t (length run) = record {
       fits = fits;
-      band = subst (λ (ps : List Place). AllByRecursion (λ q. q.z ≡ place.z) (take (length run) ps)) h.left (row_band old.columns (length run) old.left place may.rows may.next may.row);
+      band = subst (λ (ps : List Place). AllByRecursion (λ q. q.z ≡ place.z) (take (length run) ps)) h.left
+          (row_band old.columns (length run) old.left place may.rows may.next may.row);
       time = time ∙ ap (λ n. place.y * n + place.x) h.columns ∙ sym (time_of_place p numbers place h.order here.item);
     } in
     let did = puts p numbers h.written h.taken is_run in

@@ -26,25 +26,29 @@ loop-i-preserved c =
     let was = c.loop-i.invariant in
     let now = c.loop-i.self-inside in
     let columns : c.self.inside.columns ≡ c.args.self.now.columns = ap (λ (e : Ending). e.columns) c.self.view_is in
-    let time : c.from.result * c.self.inside.columns + c.from-2.result ≡ c.args.place.y * c.args.self.now.columns + c.args.place.x = rw (c.from.ensures, c.from-2.ensures, columns) refl in
+    let time : c.from.result * c.self.inside.columns + c.from-2.result ≡ c.args.place.y * c.args.self.now.columns + c.args.place.x =
+    rw (c.from.ensures, c.from-2.ensures, columns) refl in
     record {
       places = was.places;
       columns = was.columns;
       rows = was.rows;
       word = was.word;
-      coded = coded_there _ c.args.place _ c.args.column.now c.loop-i.i now.encoder _ now.writer.bits _ time c.requires.column was.coded c.loop-i-test.true c.in-Ok.ensures.taken;
+      coded = coded_there _ c.args.place _ c.args.column.now c.loop-i.i now.encoder _ now.writer.bits _
+          time c.requires.column was.coded c.loop-i-test.true c.in-Ok.ensures.taken;
     }
 
 pub invariant_of-self : goal.invariant_of-self
 invariant_of-self c =
     let was = c.loop-i.invariant in (
       rw was.word c.self.invariant.0,
-      λ by. rows_behind _ _ c.self.inside.places _ (c.go_by.ensures ∙ ap (drop c.loop-i.i) was.places) (rw was.columns (c.self.invariant.1 (rw was.rows at by))),
+      λ by. rows_behind _ _ c.self.inside.places _ (c.go_by.ensures ∙ ap (drop c.loop-i.i) was.places)
+          (rw was.columns (c.self.invariant.1 (rw was.rows at by))),
     )
 
 pub invariant_of-self-2 : goal.invariant_of-self-2
 invariant_of-self-2 c =
     let was = c.loop-i.invariant in (
       rw was.word c.self.invariant.0,
-      λ by. rows_behind _ _ c.self.inside.places _ (c.go_by-2.ensures ∙ ap (drop (length c.args.column.now)) was.places) (rw was.columns (c.self.invariant.1 (rw was.rows at by))),
+      λ by. rows_behind _ _ c.self.inside.places _ (c.go_by-2.ensures ∙ ap (drop (length c.args.column.now)) was.places)
+          (rw was.columns (c.self.invariant.1 (rw was.rows at by))),
     )

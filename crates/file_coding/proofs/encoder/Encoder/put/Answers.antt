@@ -7,8 +7,9 @@ use Rattle.file_coding.specs.Coding.{PutsNumber}
 use Rattle.file_coding.proofs.Coders.{samples_put, blocks_put}
 use Rattle.file_coding.proofs.encoder.Encoder.put.Goals as goal
 
-by_blocks : (r : Result (Unit {0}) Fault) (z t number : ℕ) (old new : Packed) (written now : List Bool) → new.cut ≡ old.cut → OnOk r (taken_count new ≡ taken_count old + 1)
-    → OnOk r (PutsValue number old written new now) → OnOk r (PutsNumber z t number (Blocks old) written (Blocks new) now)
+by_blocks : (r : Result (Unit {0}) Fault) (z t number : ℕ) (old new : Packed) (written now : List Bool) → new.cut ≡ old.cut
+    → OnOk r (taken_count new ≡ taken_count old + 1) → OnOk r (PutsValue number old written new now)
+    → OnOk r (PutsNumber z t number (Blocks old) written (Blocks new) now)
 by_blocks (Ok u) z t number old new written now kept counted h = blocks_put z t number old new written now h kept counted
 by_blocks (Err e) z t number old new written now kept counted h = tt
 
@@ -19,4 +20,4 @@ returns-in-Samples-clause-taken c =
 pub returns-in-Blocks-clause-taken : goal.returns-in-Blocks-clause-taken
 returns-in-Blocks-clause-taken c =
     let told = c.put-in-Blocks.ensures in
-    rw c.in-Blocks.is (by_blocks c.put-in-Blocks.result c.args.z c.args.t c.args.delta _ _ c.args.writer.now.bits c.put-in-Blocks.new.writer.bits told.cut told.counted told.taken)
+    rw c.in-Blocks.is (by_blocks c.put-in-Blocks.result c.args.z c.args.t c.args.delta _ _ _ _ told.cut told.counted told.taken)
