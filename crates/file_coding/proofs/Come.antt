@@ -51,17 +51,10 @@ come_start s o z p place e = (λ h. absurd (omega (arith, h)), λ h. absurd (ome
 place_at_time : (s : Sizes) (p : Place) → IsPlaceOf s p → (t : ℕ) → t < time_of s p → (q : Place) × IsPlaceOf s q × (q.z ≡ p.z) × (time_of s q ≡ t)
 place_at_time s p place t lt =
     let some : 0 < s.columns = omega (arith, place.column) in
-    let within : p.y * s.columns + p.x < s.columns * s.rows = mul-add-lt p.y s.columns p.x s.rows place.row place.column in (
-      record { z = p.z; y = t / s.columns; x = t % s.columns },
-      record {
-        band = place.band;
-        row = div_below t s.columns s.rows some
-            (omega (arith, within));
-        column = mod_below t s.columns some;
-      },
-      refl,
-      div-add-mod' t s.columns,
-    )
+    let within : p.y * s.columns + p.x < s.columns * s.rows = mul-add-lt p.y s.columns p.x s.rows place.row place.column in
+    let q : Place = record { z = p.z; y = t / s.columns; x = t % s.columns } in
+    let row : t / s.columns < s.rows = div_below t s.columns s.rows some (omega (arith, within)) in
+    (q, record { band = place.band; row = row; column = mod_below t s.columns some }, refl, div-add-mod' t s.columns)
 
 -- where the walk stands at a place of the band, the band stands there
 pub come_here : (s : Sizes) (o : Order) (z i t : ℕ) (p : Place) → IsOrder s o → HasCome s o z i t → StandsAt s o p i → p.z ≡ z → time_of s p ≡ t

@@ -1,5 +1,5 @@
 -- What the coding end of an image has taken, number after number, and the file that it then gives.
-use Rattle.std.proofs.Common.{◌≡◌, ◌+◌, ◌*◌, ◌<◌, ℕ, Bool, List, [], ◌∷◌, ◌++◌, length, drop, Some, None, refl, sym, ap, ◌∙◌, append_assoc, length-append}
+use Rattle.std.proofs.Common.{◌≡◌, ◌+◌, ◌*◌, ◌-◌, ◌<◌, ℕ, Bool, List, [], ◌∷◌, ◌++◌, length, drop, Some, None, refl, sym, ap, ◌∙◌, append_assoc, length-append}
 use Rattle.std.proofs.Common.{length-drop, arith}
 use Rattle.std.specs.List.{slice_get}
 use Rattle.cube_core.specs.declared.order.Place.{Place}
@@ -27,16 +27,9 @@ none_first (q ∷ rest) e = absurd (cc)
 -- where one more may be coded, a place is to come
 pub place_comes : (e : Ending) (number : ℕ) → MayCode e number → None ≡ slice_get e.left 0 → ⊥
 place_comes e number may none =
-    let left : length (drop (length may.numbers) (places may.params.shape may.params.order)) ≡ 0 =
-    ap (λ (x : List Place). length x) (sym may.coded.left ∙ none_first e.left (sym none)) in
-    omega (
-      arith,
-      left,
-      length-drop (length may.numbers)
-          (places may.params.shape may.params.order),
-      length-places may.params.shape may.params.order may.coded.order,
-      may.more,
-    )
+    let all = places may.params.shape may.params.order in
+    let left : length all - length may.numbers ≡ 0 = rw (← length-drop, ← may.coded.left, none_first e.left (sym none)) refl in
+    omega (arith, left, length-places may.params.shape may.params.order may.coded.order, may.more)
 
 -- where the place that comes next stands
 pub record ComesNext (p : Params) (numbers : List ℕ) (place : Place) (rest : List Place) : Type 0 where
@@ -49,13 +42,8 @@ pub comes_next : (p : Params) (e : Ending) (numbers : List ℕ) (place : Place) 
     → ComesNext p numbers place rest
 comes_next p e numbers place rest h is =
     let next = next_stands p.shape p.order (length numbers) place rest h.order (sym h.left ∙ is) in
-    record {
-      more = next.0;
-      there = next.1.place;
-      item = item_from_index p.shape p.order place
-          (length numbers) h.order next.1.place next.1.index next.0;
-      left = next.2;
-    }
+    let item = item_from_index p.shape p.order place (length numbers) h.order next.1.place next.1.index next.0 in
+    record { more = next.0; there = next.1.place; item = item; left = next.2 }
 
 pub may_take : (e : Ending) (place : Place) (number : ℕ) → slice_get e.left 0 ≡ Some place → MayCode e number → MayPut e.coder place.z number
 may_take e place number first may =

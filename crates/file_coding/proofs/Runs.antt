@@ -50,11 +50,9 @@ row_band columns (suc n) [] place h first fits = tt
 row_band columns (suc zero) (q ∷ ps) place h first fits = ((let same : q ≡ place = cc in ap (λ r. r.z) same), tt)
 row_band columns (suc (suc n)) (q ∷ ps) place h first fits =
     let same : q ≡ place = cc in
-    let next = h 0 place first (omega (arith, fits)) in (
-      ap (λ r. r.z) same,
-      row_band columns (suc n) ps (record { z = place.z; y = place.y; x = place.x + 1 }) (rows_shift columns q ps h) next
-          (omega (arith, fits)),
-    )
+    let next = h 0 place first (omega (arith, fits)) in
+    let more : Place = record { z = place.z; y = place.y; x = place.x + 1 } in
+    (ap (λ r. r.z) same, row_band columns (suc n) ps more (rows_shift columns q ps h) next (omega (arith, fits)))
 
 -- where places go along rows, they come row by row
 pub rows_follow : (s : Sizes) (o : Order) → IsOrder s o → goes_along_rows o ≡ true → AreByRows s.columns (places s o)
@@ -95,14 +93,9 @@ pub samples_run : (z t : ℕ) (run : List ℕ) (old new : Counts) (written now :
     → (length new.bands ≡ length old.bands) × (new.bits ≡ old.bits) → PutsRun z t run (Samples old) written (Samples new) now
 samples_run z t run old new written now puts kept p numbers bits h next =
     let long = places_long p numbers (omega (arith, next.fits)) in
-    let did =
-    puts (settings p) (places_of p numbers) (places_behind p numbers (length run)) numbers long
-    (run_count p numbers (length run) next.fits) next.band h.taken next.time in (
-      words_after (settings p) (places_of p numbers) numbers
-          (places_behind p numbers (length run)) run,
-      did.0,
-      samples_more_run p old new numbers run bits next.fits h kept did.1,
-    )
+    let qs = places_behind p numbers (length run) in
+    let did = puts (settings p) (places_of p numbers) qs numbers long (run_count p numbers (length run) next.fits) next.band h.taken next.time in
+    (words_after (settings p) (places_of p numbers) numbers qs run, did.0, samples_more_run p old new numbers run bits next.fits h kept did.1)
 
 not_both : (coder : Coder) → IsSample coder → IsBlock coder → ⊥
 not_both (Sample umax gamma_star gamma_zero start) s b = b
@@ -132,11 +125,9 @@ may_put_run e place t run h time =
     let here = comes_next may.params e may.numbers place next.0 may.coded next.1 in
     let sizes = may.lawful.sizes in
     let columns : e.columns ≤ 65536 = omega (arith, may.coded.columns, sizes.columns.1) in
-    may_by_coder may.params e.coder may.numbers run may.coded.written place.z t h.samples may.coded.taken here.there.band may.range (
-      omega (arith, h.row, columns),
-      rw time
-          (early e.columns place.y place.x columns (omega (arith, here.there.row, sizes.rows.1)) (omega (arith, here.there.column, may.coded.columns))),
-    )
+    let inside : place.x < e.columns = omega (arith, here.there.column, may.coded.columns) in
+    let below = early e.columns place.y place.x columns (omega (arith, here.there.row, sizes.rows.1)) inside in
+    may_by_coder _ _ _ run _ place.z t h.samples may.coded.taken here.there.band may.range (omega (arith, h.row, columns), rw time below)
 
 -- ---- runs one behind another
 
@@ -154,15 +145,7 @@ may_part old e list first count may codes fits = record {
   numbers = may.numbers ++ take first list;
   lawful = may.lawful;
   coded = codes may.params may.numbers may.coded;
-  more = omega (
-    arith,
-    may.more,
-    length-append may.numbers (take first list),
-    length-take first list,
-    length-take count
-        (drop first list),
-    length-drop first list,
-  );
+  more = rw (length-append, length-take, length-take, length-drop) (omega (arith, may.more, fits));
   range = all_take (λ n. n < 2 ^ may.params.kind.bits) count (drop first list) (all_drop (λ n. n < 2 ^ may.params.kind.bits) first list may.range);
 }
 

@@ -94,13 +94,8 @@ walked_more p c e gone bands q b d lawful known stands at moves follows others-f
     other : (z : ℕ) (f : Learner) → z < p.shape.bands → z ≢ q.z → slice_get bands z ≡ Some f → IsAlong p e (length gone + 1) z f
     other z f lt h k =
         let before = known.along z lt f k in
-        record {
-          band = before.band;
-          inside = before.inside;
-          follows = others-follow z f lt h before;
-          come = come_other p.shape p.order z
-              (length gone) f.place q lawful before.come stands (λ g. h (sym g));
-        }
+        let come = come_other p.shape p.order z (length gone) f.place q lawful before.come stands (λ g. h (sym g)) in
+        record { band = before.band; inside = before.inside; follows = others-follow z f lt h before; come = come }
 
     along : AreAlong p e (length (gone ++ q ∷ [])) (set bands q.z d)
     along z lt f g = rw grown (elim (get_set bands q.z z d f g) [ inl (h, k) ↦ same z f h k | inr (h, k) ↦ other z f lt h k ])

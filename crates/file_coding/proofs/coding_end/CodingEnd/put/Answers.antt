@@ -15,8 +15,6 @@ returns-clause-coded c =
 
 pub invariant_of-self-2 : goal.invariant_of-self-2
 invariant_of-self-2 c =
-    let moved : c.self.inside.places ≡ c.args.place ∷ c.next.new.self = search rules in (
-      c.self.invariant.0,
-      λ by. rows_shift c.self.inside.columns c.args.place c.next.new.self
-          (subst (AreByRows c.self.inside.columns) moved (c.self.invariant.1 by)),
-    )
+    let moved : c.self.inside.places ≡ c.args.place ∷ c.next.new.self = search rules in
+    let rows = subst (AreByRows c.self.inside.columns) moved in
+    (c.self.invariant.0, λ by. rows_shift c.self.inside.columns c.args.place c.next.new.self (rows (c.self.invariant.1 by)))

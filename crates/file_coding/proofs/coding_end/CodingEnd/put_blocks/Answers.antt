@@ -16,13 +16,10 @@ invariant_of-self-2 c =
     (c.self.invariant.0, λ by. rows_behind c.self.inside.columns c.put_blocks-taken.result c.self.inside.places _ c.go_by.ensures (c.self.invariant.1 by))
 
 pub returns-then-taken-residuals-clause-some : goal.returns-then-taken-residuals-clause-some
-returns-then-taken-residuals-clause-some c = (
-  c.put_blocks-taken.result,
-  c.if-taken-residuals.true,
-  rw (← c.self.view_is)
-      (coded_blocks _ _ _ c.put_blocks-taken.result
-      (rw (← c.self.view_is) at c.requires.may) c.put_blocks-taken.ensures.most c.go_by.ensures refl refl c.put_blocks-taken.ensures.taken),
-)
+returns-then-taken-residuals-clause-some c =
+    let told = c.put_blocks-taken.ensures in
+    let some = coded_blocks _ _ _ c.put_blocks-taken.result (rw (← c.self.view_is) at c.requires.may) told.most c.go_by.ensures refl refl told.taken in
+    (c.put_blocks-taken.result, c.if-taken-residuals.true, rw (← c.self.view_is) some)
 
 pub returns-clause-coded : goal.returns-clause-coded
 returns-clause-coded c =
