@@ -1,10 +1,11 @@
 -- A cube is built of any residuals.
-use Rattle.std.proofs.Common.{◌≡◌, ◌⊎◌, ◌+◌, ◌*◌, ◌<◌, ◌≤◌, ◌^◌, ℕ, ℤ, pos, false, List, [], ◌∷◌, ◌++◌, length, drop, set, replicate, get_or, refl, sym, ap, ◌∙◌, subst, inl, inr, append-nil, append_assoc, arith}
+use Rattle.std.proofs.Common.{◌≡◌, ◌⊎◌, ◌+◌, ◌*◌, ◌<◌, ◌≤◌, ◌^◌, ℕ, ℤ, pos, false, List, [], ◌∷◌, ◌++◌, length, drop, set, replicate, get_or, refl, sym, ap}
+use Rattle.std.proofs.Common.{◌∙◌, subst, inl, inr, append-nil, append_assoc, arith}
 use Rattle.std.specs.List.{AllByRecursion}
 use Rattle.std.proofs.lemmas.List.{get_or-set_same, get_or-set_other, get_or-replicate, length-set, length-replicate}
 use Rattle.std.proofs.lemmas.Bool.{cases_eq}
 use Rattle.cube_core.specs.declared.order.Place.{Place}
-use Rattle.cube_core.specs.Shape.{Sizes, sample_count}
+use Rattle.cube_core.specs.Shape.{sample_count}
 use Rattle.cube_core.specs.Kind.{SampleKind, IsSample, smid}
 use Rattle.cube_core.specs.Image.{Image, IsCube, sample_at, index_in, put}
 use Rattle.cube_core.specs.Order.{IsOrder, IsPlaceOf, places}
@@ -31,7 +32,8 @@ sample_put : (c : Image) (q : Place) (v : ℤ) → IsCube c → IsPlaceOf c.shap
 unfolding sample_at
 sample_put c q v cube place = get_or-set_same c.samples (index_in c.shape.columns c.shape.rows q.z q.y q.x) v (pos 0) (inside_of c q cube place)
 
-set_range : (k : SampleKind) (xs : List ℤ) (i : ℕ) (v : ℤ) → IsSample k v → ((j : ℕ) → j < length xs → IsSample k (get_or xs j (pos 0))) → (j : ℕ) → j < length (set xs i v) → IsSample k (get_or (set xs i v) j (pos 0))
+set_range : (k : SampleKind) (xs : List ℤ) (i : ℕ) (v : ℤ) → IsSample k v → ((j : ℕ) → j < length xs → IsSample k (get_or xs j (pos 0))) → (j : ℕ)
+    → j < length (set xs i v) → IsSample k (get_or (set xs i v) j (pos 0))
 set_range k xs i v s h j lt = by_place (cases_eq j i) (omega (arith, lt, length-set xs i v))
   where
     by_place : (j ≡ i) ⊎ (j ≡ i → ⊥) → j < length xs → IsSample k (get_or (set xs i v) j (pos 0))
@@ -52,24 +54,23 @@ record HasResidual (p : Params) (c : Image) (q : Place) (n : ℕ) : Type 0 where
   inside : IsSample c.kind sample
   residual : mapped_residual p (put c q.z q.y q.x sample) q.z (q.y * c.shape.columns + q.x) ≡ n
 
-has_residual : (p : Params) (c : Image) (q : Place) (n i : ℕ) → IsOrder c.shape p.order → (p.column ≡ false → 2 ≤ c.shape.columns) → IsCube c → StandsAt c.shape p.order q i → n < 2 ^ c.kind.bits → HasResidual p c q n
+has_residual : (p : Params) (c : Image) (q : Place) (n i : ℕ) → IsOrder c.shape p.order → (p.column ≡ false → 2 ≤ c.shape.columns) → IsCube c
+    → StandsAt c.shape p.order q i → n < 2 ^ c.kind.bits → HasResidual p c q n
 has_residual p c q n i order wide cube stands lt =
     let t : ℕ = q.y * c.shape.columns + q.x in
     let place : IsPlaceOf c.shape q = stands.place in
-    let law = one_sample_lem c.kind (scaled_prediction p c q.z (q.y * c.shape.columns + q.x)) cube.bits (scaled_inside p c q.z (q.y * c.shape.columns + q.x) cube place.band) in
-    let found = law.1 n lt in
-    let v : ℤ = found.0 in
-    let d : Image = put c q.z q.y q.x v in
-    let agree = agree_at p.order c (put c q.z q.y q.x found.0) i q (q.y * c.shape.columns + q.x) order (put_alike c q found.0) (put_same p.order c q found.0 i place stands.index) place refl (omega (arith, stands.index)) in
-    let scaled = scaled_alike p c (put c q.z q.y q.x found.0) q (q.y * c.shape.columns + q.x) wide place refl agree in
+    let scaled : ℤ = scaled_prediction p c q.z t in
+    let found = (one_sample_lem c.kind scaled cube.bits (scaled_inside p c q.z t cube place.band)).1 n lt in
+    let d : Image = put c q.z q.y q.x found.0 in
+    let agree =
+    agree_at p.order c d i q t order (put_alike c q found.0) (put_same p.order c q found.0 i place stands.index) place refl (omega (arith, stands.index)) in
+    let alike = scaled_alike p c d q t wide place refl agree in
     record {
       sample = found.0;
       inside = found.1;
       residual =
-          mapped_at p (put c q.z q.y q.x found.0) q (q.y * c.shape.columns + q.x) refl place.column
-          ∙ ap (λ (s : ℤ). mapped c.kind s (sample_at (put c q.z q.y q.x found.0) q.z q.y q.x)) (sym scaled)
-          ∙ ap (mapped c.kind (scaled_prediction p c q.z (q.y * c.shape.columns + q.x))) (sample_put c q found.0 cube place)
-          ∙ found.2;
+          mapped_at p d q t refl place.column ∙ ap (λ (s : ℤ). mapped c.kind s (sample_at d q.z q.y q.x)) (sym alike)
+          ∙ ap (mapped c.kind scaled) (sample_put c q found.0 cube place) ∙ found.2;
     }
 
 -- ---- sample after sample
@@ -80,38 +81,41 @@ pub record Built (p : Params) (numbers : List ℕ) : Type 0 where
   pub cube : IsCubeOf p image
   pub same : residuals p image ≡ numbers
 
-pushed : (p : Params) (c : Image) (q : Place) (left : List Place) (n : ℕ) → IsLawful p → c.shape ≡ p.shape → q ∷ left ≡ drop (gone_count p (q ∷ left)) (places p.shape p.order) → (h : HasResidual p c q n)
+pushed : (p : Params) (c : Image) (q : Place) (left : List Place) (n : ℕ) → IsLawful p → c.shape ≡ p.shape
+    → q ∷ left ≡ drop (gone_count p (q ∷ left)) (places p.shape p.order) → (h : HasResidual p c q n)
     → residuals_at p (put c q.z q.y q.x h.sample) (gone_by p left) ≡ residuals_at p c (gone_by p (q ∷ left)) ++ n ∷ []
 pushed p c q left n lawful shape is h =
     let goes = next_goes p q (q ∷ left) left lawful.order is refl in
-    let stands : StandsAt p.shape p.order q (gone_count p (q ∷ left)) = subst (λ (k : ℕ). StandsAt p.shape p.order q k) goes.count goes.stands in
+    let stands = rw goes.count at goes.stands in
     let d : Image = put c q.z q.y q.x h.sample in
-    ap (residuals_at p (put c q.z q.y q.x h.sample)) goes.gone
-    ∙ residuals_push p (put c q.z q.y q.x h.sample) (gone_by p (q ∷ left)) q
-    ∙ ap (λ (k : ℕ). residuals_at p (put c q.z q.y q.x h.sample) (gone_by p (q ∷ left)) ++ k ∷ []) h.residual
+    ap (residuals_at p d) goes.gone ∙ residuals_push p d (gone_by p (q ∷ left)) q
+    ∙ ap (λ (k : ℕ). residuals_at p d (gone_by p (q ∷ left)) ++ k ∷ []) h.residual
     ∙ ap (λ (ns : List ℕ). ns ++ n ∷ []) (sym (residuals_kept p c q h.sample (q ∷ left) lawful shape stands))
 
-build : (p : Params) → IsLawful p → (left : List Place) (c : Image) (rest : List ℕ) → left ≡ drop (gone_count p left) (places p.shape p.order) → IsCubeOf p c → length rest ≡ length left
-    → AllByRecursion (λ n. n < 2 ^ p.kind.bits) rest → Built p (residuals_at p c (gone_by p left) ++ rest)
-build p lawful [] c [] is cube long range = record { image = c; cube = cube; same = sym (residuals_whole p c lawful.order cube.shape) ∙ sym (append-nil (residuals_at p c (gone_by p []))) }
+build : (p : Params) → IsLawful p → (left : List Place) (c : Image) (rest : List ℕ) → left ≡ drop (gone_count p left) (places p.shape p.order) → IsCubeOf p c
+    → length rest ≡ length left → AllByRecursion (λ n. n < 2 ^ p.kind.bits) rest → Built p (residuals_at p c (gone_by p left) ++ rest)
+build p lawful [] c [] is cube long range =
+    record { image = c; cube = cube; same = sym (residuals_whole p c lawful.order cube.shape) ∙ sym (append-nil (residuals_at p c (gone_by p []))) }
 build p lawful [] c (n ∷ ns) is cube long range = absurd (omega arith)
 build p lawful (q ∷ left) c [] is cube long range = absurd (omega arith)
 build p lawful (q ∷ left) c (n ∷ ns) is cube long range =
     let goes = next_goes p q (q ∷ left) left lawful.order is refl in
-    let stands : StandsAt c.shape p.order q (length (gone_by p (q ∷ left))) = subst (λ (s : Sizes). StandsAt s p.order q (length (gone_by p (q ∷ left)))) (sym cube.shape) goes.stands in
-    let order : IsOrder c.shape p.order = subst (λ (s : Sizes). IsOrder s p.order) (sym cube.shape) lawful.order in
-    let below : n < 2 ^ c.kind.bits = subst (λ (k : SampleKind). n < 2 ^ k.bits) (sym cube.kind) range.0 in
+    let stands : StandsAt c.shape p.order q (length (gone_by p (q ∷ left))) = rw cube.shape goes.stands in
+    let order : IsOrder c.shape p.order = rw cube.shape lawful.order in
+    let below : n < 2 ^ c.kind.bits = rw cube.kind range.0 in
     let h = has_residual p c q n (length (gone_by p (q ∷ left))) order (wide_of p c lawful cube.shape) cube.cube stands below in
     let after : IsCubeOf p (put c q.z q.y q.x h.sample) = record { cube = put_cube c q h.sample cube.cube h.inside; shape = cube.shape; kind = cube.kind } in
     let others = build p lawful left (put c q.z q.y q.x h.sample) ns goes.others after (omega arith) range.1 in
-    subst (Built p) (ap (λ (x : List ℕ). x ++ ns) (pushed p c q left n lawful cube.shape is h) ∙ append_assoc (residuals_at p c (gone_by p (q ∷ left))) (n ∷ []) ns) others
+    subst (Built p) (ap (λ (x : List ℕ). x ++ ns) (pushed p c q left n lawful cube.shape is h)
+    ∙ append_assoc (residuals_at p c (gone_by p (q ∷ left))) (n ∷ []) ns) others
 
 -- ---- from the first place on
 
 middles : Params → Image
 middles p = record { shape = p.shape; kind = p.kind; samples = replicate (sample_count p.shape) (smid p.kind) }
 
-middle_range : (k : SampleKind) (n : ℕ) → IsSample k (smid k) → (i : ℕ) → i < length (replicate n (smid k)) → IsSample k (get_or (replicate n (smid k)) i (pos 0))
+middle_range : (k : SampleKind) (n : ℕ) → IsSample k (smid k) → (i : ℕ) → i < length (replicate n (smid k))
+    → IsSample k (get_or (replicate n (smid k)) i (pos 0))
 middle_range k n s i lt = rw (get_or-replicate n i (smid k) (pos 0) (omega (arith, lt, length-replicate n (smid k)))) s
 
 middles_cube : (p : Params) → IsLawful p → IsCubeOf p (middles p)
@@ -128,7 +132,8 @@ middles_cube p lawful = record {
 }
 
 -- numbers in range, as many as there are samples, are the residuals of a cube
-pub built : (p : Params) (numbers : List ℕ) → IsLawful p → length numbers ≡ sample_count p.shape → AllByRecursion (λ n. n < 2 ^ p.kind.bits) numbers → Built p numbers
+pub built : (p : Params) (numbers : List ℕ) → IsLawful p → length numbers ≡ sample_count p.shape → AllByRecursion (λ n. n < 2 ^ p.kind.bits) numbers
+    → Built p numbers
 built p numbers lawful long range =
     let whole = length-places p.shape p.order lawful.order in
     let none : gone_count p (places p.shape p.order) ≡ 0 = omega (arith, whole) in

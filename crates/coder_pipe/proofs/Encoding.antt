@@ -36,7 +36,8 @@ all_at : (p : Params) (c : Image) (t : ℕ) (bands : List Learner) → ((z : ℕ
 all_at p c t [] h = tt
 all_at p c t (b ∷ bands) h = (h 0 b refl, all_at p c t bands (λ z d e. h (suc z) d e))
 
-pub all_fresh : (p : Params) (c : Image) (bands : List Learner) → length bands ≡ p.shape.bands → AreAlong p c 0 bands → ((z : ℕ) (b : Learner) → slice_get bands z ≡ Some b → b.place ≡ 0) → AreFresh p 0 [] c bands
+pub all_fresh : (p : Params) (c : Image) (bands : List Learner) → length bands ≡ p.shape.bands → AreAlong p c 0 bands
+    → ((z : ℕ) (b : Learner) → slice_get bands z ≡ Some b → b.place ≡ 0) → AreFresh p 0 [] c bands
 all_fresh p c bands many along first = record {
   own = numbered 0 bands (λ z b e. (known z b e).band ∙ omega arith) ∙ ap upto many ∙ sym (own_all (upto p.shape.bands));
   at = all_at p c 0 bands (λ z b e. record { follows = (known z b e).follows; place = first z b e; inside = omega (arith, (known z b e).band, within z b e) });
@@ -61,7 +62,9 @@ length-all : (p : Params) (c : Image) → IsOrder p.shape p.order → c.shape �
 length-all p c lawful shape = length-residuals p c (subst (λ s. IsOrder s p.order) (sym shape) lawful) ∙ ap sample_count shape
 
 pub all_residuals : (p : Params) (c : Image) → IsOrder p.shape p.order → c.shape ≡ p.shape → own_residuals p c 0 [] p.order ≡ residuals p c
-all_residuals p c lawful shape = sym (own_is_part p c 0 [] shape) ∙ part_all (places p.shape p.order) (residuals p c) (length-all p c lawful shape ∙ sym (length-places p.shape p.order lawful))
+all_residuals p c lawful shape =
+    sym (own_is_part p c 0 [] shape)
+    ∙ part_all (places p.shape p.order) (residuals p c) (length-all p c lawful shape ∙ sym (length-places p.shape p.order lawful))
 
 -- they may be taken by a coding end that has taken nothing
 pub may_take : (p : Params) (c : Image) (e : Ending) → IsLawful p → IsSeen p c → IsCube c → HasCoded p e [] → MayCodeAll e (own_residuals p c 0 [] p.order)
@@ -71,9 +74,11 @@ may_take p c e lawful seen cube coded = subst (MayCodeAll e) (sym (all_residuals
   lawful = lawful;
   coded = coded;
   more = omega (arith, length-all p c lawful.order seen.shape);
-  range = subst (λ (k : SampleKind). AllByRecursion (λ n. n < 2 ^ k.bits) (residuals p c)) seen.kind (residuals_inside p c (subst (λ s. IsOrder s p.order) (sym seen.shape) lawful.order) cube);
+  range = subst (λ (k : SampleKind). AllByRecursion (λ n. n < 2 ^ k.bits) (residuals p c)) seen.kind
+      (residuals_inside p c (subst (λ s. IsOrder s p.order) (sym seen.shape) lawful.order) cube);
 })
 
 -- and then no place is left
 pub none_left : (p : Params) (c : Image) (e : Ending) → IsOrder p.shape p.order → c.shape ≡ p.shape → HasCoded p e (residuals p c) → e.left ≡ []
-none_left p c e lawful shape coded = coded.left ∙ drop_all (length (residuals p c)) (places p.shape p.order) (omega (arith, length-all p c lawful shape, length-places p.shape p.order lawful))
+none_left p c e lawful shape coded =
+    coded.left ∙ drop_all (length (residuals p c)) (places p.shape p.order) (omega (arith, length-all p c lawful shape, length-places p.shape p.order lawful))

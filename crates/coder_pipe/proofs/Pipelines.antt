@@ -11,7 +11,7 @@ use Rattle.header_bits.specs.declared.params.Params.{Params}
 use Rattle.lane_workers.specs.Stages.{Standing}
 use Rattle.file_coding.specs.File.{file_of_residuals}
 use Rattle.cube_predictors.specs.Plans.{Dealing, IsPlan}
-use Rattle.cube_predictors.specs.Weave.{owners, part, share, weave}
+use Rattle.cube_predictors.specs.Weave.{owners, part, weave}
 use Rattle.cube_predictors.proofs.Weaves.{weave_is, part_share, owned, length-owners}
 use Rattle.coder_pipe.specs.Piping.{carried, AreFeeds, IsPiped, MayStop}
 use Rattle.coder_pipe.specs.Standings.{feeds_of, handed_of, IsWoven}
@@ -24,8 +24,8 @@ some_of [] k h = absurd (omega arith)
 some_of (x ∷ xs) k h = x
 
 -- all gates are one
-pub one_gate : {F G : Type 0} (may_stop : G → ℕ → ℕ → Bool) (gate : G) (items : F → List ℕ) (feeds now : List F) (gates : List G) (q n : ℕ) → feeds ≡ now → All (λ w. w ≡ gate) gates → length gates ≡ length feeds
-    → MayStopAt may_stop items feeds gates q n → MayStop may_stop gate items now q n
+pub one_gate : {F G : Type 0} (may_stop : G → ℕ → ℕ → Bool) (gate : G) (items : F → List ℕ) (feeds now : List F) (gates : List G) (q n : ℕ) → feeds ≡ now
+    → All (λ w. w ≡ gate) gates → length gates ≡ length feeds → MayStopAt may_stop items feeds gates q n → MayStop may_stop gate items now q n
 one_gate may_stop gate items feeds now gates q n same all long at =
     let f = some_of feeds q at.0 in
     let here : get_or gates q gate ≡ gate = all q gate (omega (arith, at.0)) in
@@ -37,28 +37,36 @@ whole_places : (p : Params) (deal numbers : List ℕ) → IsOrder p.shape p.orde
 whole_places p deal numbers lawful e = omega (arith, e, length-owners deal p, length-places p.shape p.order lawful)
 
 -- then no place is to come
-pub nothing_left : (p : Params) (deal : List ℕ) (w : Weaving) (handed : List (List ℕ)) → IsOrder p.shape p.order → IsWoven p deal w handed (sample_count p.shape) → w.end.left ≡ []
+pub nothing_left : (p : Params) (deal : List ℕ) (w : Weaving) (handed : List (List ℕ)) → IsOrder p.shape p.order
+    → IsWoven p deal w handed (sample_count p.shape) → w.end.left ≡ []
 nothing_left p deal w handed lawful h =
     h.woven.coded.left ∙ drop_of_length-le (places p.shape p.order) (omega (arith, h.long, length-places p.shape p.order lawful))
 
 -- and each worker has handed on as many as its feed has
-pub handed_whole : {F G : Type 0} (predictor : F → ℕ) (items : F → List ℕ) (plan : Dealing) (w : Weaving) (ss : List (Standing F G)) (feeds : List F) → IsPlan plan → AreFeeds predictor items plan feeds → feeds_of ss ≡ feeds
-    → IsWoven plan.params plan.deal w (handed_of ss) (sample_count plan.params.shape) → All (λ s. length s.handed ≡ length (items s.feed)) ss
+pub handed_whole : {F G : Type 0} (predictor : F → ℕ) (items : F → List ℕ) (plan : Dealing) (w : Weaving) (ss : List (Standing F G)) (feeds : List F)
+    → IsPlan plan → AreFeeds predictor items plan feeds → feeds_of ss ≡ feeds → IsWoven plan.params plan.deal w (handed_of ss) (sample_count plan.params.shape)
+    → All (λ s. length s.handed ≡ length (items s.feed)) ss
 handed_whole predictor items plan w ss feeds lawful lists same h k d lt =
+    let s = get_or ss k d in
+    let os : List ℕ = owners plan.deal plan.params in
     let few : k < plan.predictors = omega (arith, lt, ap (λ (fs : List _). length fs) same, length-map ss (λ s. s.feed), lists.many) in
-    let handed : get_or (handed_of ss) k [] ≡ (get_or ss k d).handed = get_or-map (λ s. s.handed) ss k d [] lt in
-    let feed : get_or feeds k (get_or ss k d).feed ≡ (get_or ss k d).feed = ap (λ fs. get_or fs k (get_or ss k d).feed) (sym same) ∙ get_or-map (λ s. s.feed) ss k d (get_or ss k d).feed lt in
-    let count : length (part k (owners plan.deal plan.params) h.numbers) ≡ share k (owners plan.deal plan.params) = part_share k (owners plan.deal plan.params) h.numbers (whole_places plan.params plan.deal h.numbers lawful.lawful.order h.long) in
-    ap (λ (ns : List ℕ). length ns) (sym handed ∙ h.parts k (omega (arith, lt, length-map ss (λ s. s.handed)))) ∙ count ∙ sym (lists.whole k (get_or ss k d).feed few) ∙ ap (λ f. length (items f)) feed
+    let handed : get_or (handed_of ss) k [] ≡ s.handed = get_or-map (λ s. s.handed) ss k d [] lt in
+    let feed : get_or feeds k s.feed ≡ s.feed = rw (← same) (get_or-map (λ s. s.feed) ss k d s.feed lt) in
+    let count = part_share k os h.numbers (whole_places plan.params plan.deal h.numbers lawful.lawful.order h.long) in
+    ap (λ (ns : List ℕ). length ns) (sym handed ∙ h.parts k (rw length-map lt)) ∙ count ∙ sym (lists.whole k s.feed few) ∙ ap (λ f. length (items f)) feed
 
 -- the file is that of the feeds' lists, woven
-pub piped : {F : Type 0} (predictor : F → ℕ) (items : F → List ℕ) (plan : Dealing) (w : Weaving) (feeds : List F) (handed : List (List ℕ)) (file : List ℕ) (lanes : List Lane) → IsPlan plan → AreFeeds predictor items plan feeds
-    → IsWoven plan.params plan.deal w handed (sample_count plan.params.shape) → handed ≡ map items feeds → lanes ≡ map (λ f. carried (items f)) feeds → ((p : Params) (deal numbers : List ℕ) → HasWoven p deal w numbers → file ≡ file_of_residuals numbers p)
-    → IsPiped items plan feeds file lanes
+pub piped : {F : Type 0} (predictor : F → ℕ) (items : F → List ℕ) (plan : Dealing) (w : Weaving) (feeds : List F) (handed : List (List ℕ)) (file : List ℕ)
+    (lanes : List Lane) → IsPlan plan → AreFeeds predictor items plan feeds → IsWoven plan.params plan.deal w handed (sample_count plan.params.shape)
+    → handed ≡ map items feeds → lanes ≡ map (λ f. carried (items f)) feeds
+    → ((p : Params) (deal numbers : List ℕ) → HasWoven p deal w numbers → file ≡ file_of_residuals numbers p) → IsPiped items plan feeds file lanes
 piped predictor items plan w feeds handed file lanes lawful lists h all carries files =
     let os : List ℕ = owners plan.deal plan.params in
-    let many : length (map items feeds) ≡ plan.predictors = length-map feeds items ∙ lists.many in
-    let parts : (k : ℕ) → k < length (map items feeds) → get_or (map items feeds) k [] ≡ part k (owners plan.deal plan.params) h.numbers = λ k lt. ap (λ rs. get_or rs k []) (sym all) ∙ h.parts k (omega (arith, lt, ap (λ (rs : List (List ℕ)). length rs) all)) in
-    let below : All (λ o. o < length (map items feeds)) (owners plan.deal plan.params) = λ k d lt. rw many (owned plan.params.shape plan.params.order plan.predictors plan.deal lawful.lawful.order lawful.may.dealt k d lt) in
-    let woven : weave (owners plan.deal plan.params) (map items feeds) ≡ h.numbers = weave_is (owners plan.deal plan.params) h.numbers (map items feeds) (omega (arith, whole_places plan.params plan.deal h.numbers lawful.lawful.order h.long)) parts below in
+    let ls : List (List ℕ) = map items feeds in
+    let many : length ls ≡ plan.predictors = length-map feeds items ∙ lists.many in
+    let parts : (k : ℕ) → k < length ls → get_or ls k [] ≡ part k os h.numbers = λ k lt. rw all at (h.parts k (rw all lt)) in
+    let below : All (λ o. o < length ls) os =
+    λ k d lt. rw many (owned plan.params.shape plan.params.order plan.predictors plan.deal lawful.lawful.order lawful.may.dealt k d lt) in
+    let whole = whole_places plan.params plan.deal h.numbers lawful.lawful.order h.long in
+    let woven : weave os ls ≡ h.numbers = weave_is os h.numbers ls (omega (arith, whole)) parts below in
     record { carries = carries; woven = files plan.params plan.deal h.numbers h.woven ∙ ap (λ ns. file_of_residuals ns plan.params) (sym woven) }

@@ -1,24 +1,25 @@
 -- What the pipeline makes of a cube.
-use Rattle.std.proofs.Common.{◌≡◌, ◌^◌, ◌<◌, ℕ, Bool, true, false, List, [], ◌∷◌, length, map, get_or, refl, sym, ap, ◌∙◌, subst, arith}
-use Rattle.std.specs.Prelude.{◌==◌, if◌then◌else◌}
-use Rattle.std.specs.List.{All, AllByRecursion}
+use Rattle.std.proofs.Common.{◌≡◌, ◌^◌, ◌<◌, ℕ, Bool, List, [], ◌∷◌, length, map, get_or, sym, ap, ◌∙◌, subst, arith}
+use Rattle.std.specs.Prelude.{◌==◌}
+use Rattle.std.specs.List.{AllByRecursion}
+use Rattle.std.proofs.lemmas.Bool.{cond_both}
 use Rattle.std.proofs.lemmas.List.{length-map, get_or-map}
+use Rattle.std.proofs.lemmas.Simd.{map-map}
 use Rattle.band_rings.specs.Lane.{Lane}
 use Rattle.cube_core.specs.Image.{Image}
-use Rattle.cube_core.specs.Order.{IsOrder, upto}
-use Rattle.cube_core.specs.Shape.{Sizes, sample_count}
+use Rattle.cube_core.specs.Order.{upto}
+use Rattle.cube_core.specs.Shape.{sample_count}
 use Rattle.cube_core.proofs.Lists.{length-from, get_or-from}
 use Rattle.cube_core.proofs.Orders.{length-places}
-use Rattle.header_bits.specs.declared.params.Params.{Params}
 use Rattle.predict_core.specs.Residual.{residuals}
-use Rattle.file_coding.specs.File.{file_of, file_of_residuals}
+use Rattle.file_coding.specs.File.{file_of}
 use Rattle.file_decoding.specs.Files.{IsCubeOf, IsFile}
 use Rattle.file_decoding.proofs.FileLaws.{inside, chosen_is_file}
 use Rattle.cube_predictors.specs.Plans.{Dealing, IsPlan}
 use Rattle.cube_predictors.specs.Sends.{Predicting, part_of}
-use Rattle.cube_predictors.specs.Weave.{owners, part, parts, weave}
+use Rattle.cube_predictors.specs.Weave.{owners, part, parts}
 use Rattle.cube_predictors.proofs.Parts.{length-residuals}
-use Rattle.cube_predictors.proofs.Planning.{all_at}
+use Rattle.std.proofs.lemmas.List.Elements.{All-from_recursion}
 use Rattle.cube_predictors.proofs.Weaves.{part_share, length-owners, weave_of_parts}
 use Rattle.coder_pipe.specs.Piping.{carried, AreFeeds, IsPiped, MayStop, IsFileOf, MayStopPart}
 
@@ -30,25 +31,17 @@ abbrev pub feeds_from : Image → Dealing → List Predicting
 feeds_from c plan = map (feed_of c plan) (upto plan.predictors)
 
 feed_at : (c : Image) (plan : Dealing) (q : ℕ) (f : Predicting) → q < plan.predictors → get_or (feeds_from c plan) q f ≡ feed_of c plan q
-feed_at c plan q f lt = get_or-map (feed_of c plan) (upto plan.predictors) q 0 f (rw (length-from 0 plan.predictors) lt) ∙ ap (feed_of c plan) (get_or-from 0 plan.predictors q 0 lt ∙ omega arith)
-
-one_inside : (b : Bool) (limit n : ℕ) (xs : List ℕ) → n < limit → AllByRecursion (λ v. v < limit) xs → AllByRecursion (λ v. v < limit) (if b then n ∷ xs else xs)
-one_inside true limit n xs lt h = (lt, h)
-one_inside false limit n xs lt h = h
+feed_at c plan q f lt =
+    get_or-map (feed_of c plan) (upto plan.predictors) q 0 f (rw (length-from 0 plan.predictors) lt)
+    ∙ ap (feed_of c plan) (get_or-from 0 plan.predictors q 0 lt ∙ omega arith)
 
 part_inside : (limit q : ℕ) (os ns : List ℕ) → AllByRecursion (λ v. v < limit) ns → AllByRecursion (λ v. v < limit) (part q os ns)
 unfolding part
 part_inside limit q [] ns h = tt
 part_inside limit q (o ∷ os) [] h = tt
-part_inside limit q (o ∷ os) (n ∷ ns) h = one_inside (o == q) limit n (part q os ns) h.0 (part_inside limit q os ns h.1)
-
-file_is : (p : Params) (c : Image) → file_of c p ≡ file_of_residuals (residuals p c) p
-unfolding file_of
-file_is p c = refl
-
-map_twice : {A B C : Type 0} (f : B → C) (g : A → B) (xs : List A) → map f (map g xs) ≡ map (λ x. f (g x)) xs
-map_twice f g [] = refl
-map_twice f g (x ∷ xs) = ap (λ ys. f (g x) ∷ ys) (map_twice f g xs)
+part_inside limit q (o ∷ os) (n ∷ ns) h =
+    let rest = part_inside limit q os ns h.1 in
+    cond_both (o == q) (n ∷ part q os ns) (part q os ns) (AllByRecursion (λ v. v < limit)) (λ _. (h.0, rest)) (λ _. rest)
 
 module _ (plan : Dealing) (c : Image) (lawful : IsPlan plan) (cube : IsCubeOf plan.params c) where
   abbrev of : ℕ → List ℕ
@@ -56,32 +49,37 @@ module _ (plan : Dealing) (c : Image) (lawful : IsPlan plan) (cube : IsCubeOf pl
 
   whole : length (residuals plan.params c) ≡ length (owners plan.deal plan.params)
   whole =
-      let order : IsOrder c.shape plan.params.order = subst (λ (s : Sizes). IsOrder s plan.params.order) (sym cube.shape) lawful.lawful.order in
-      let places = length-places plan.params.shape plan.params.order lawful.lawful.order in
-      omega (arith, length-residuals plan.params c order, ap (λ (s : Sizes). s.columns) cube.shape, length-owners plan.deal plan.params, places, ap (λ (s : Sizes). sample_count s) cube.shape)
+      length-residuals plan.params c (rw cube.shape lawful.lawful.order) ∙ ap sample_count cube.shape
+      ∙ sym (length-owners plan.deal plan.params ∙ length-places plan.params.shape plan.params.order lawful.lawful.order)
 
   pub are_feeds : AreFeeds (λ f. f.predictor) part_of plan (feeds_from c plan)
   are_feeds = record {
     many = length-map (upto plan.predictors) (feed_of c plan) ∙ length-from 0 plan.predictors;
     named = λ q f lt. ap (λ (d : Predicting). d.predictor) (feed_at c plan q f lt);
-    whole = λ q f lt. ap (λ (d : Predicting). length (part_of d)) (feed_at c plan q f lt) ∙ part_share q (owners plan.deal plan.params) (residuals plan.params c) whole;
-    range = λ q f lt. subst (λ (d : Predicting). All (λ n. n < 2 ^ plan.params.kind.bits) (part_of d)) (sym (feed_at c plan q f lt))
-        (all_at (2 ^ plan.params.kind.bits) (of q) (part_inside (2 ^ plan.params.kind.bits) q (owners plan.deal plan.params) (residuals plan.params c) (inside plan.params c lawful.lawful cube)));
+    whole = λ q f lt. ap (λ (d : Predicting). length (part_of d)) (feed_at c plan q f lt)
+        ∙ part_share q (owners plan.deal plan.params) (residuals plan.params c) whole;
+    range = λ q f lt.
+        let all =
+        part_inside (2 ^ plan.params.kind.bits) q (owners plan.deal plan.params) (residuals plan.params c) (inside plan.params c lawful.lawful cube) in
+        rw (feed_at c plan q f lt) (All-from_recursion (λ n. n < 2 ^ plan.params.kind.bits) (of q) all);
   }
 
   lists : map part_of (feeds_from c plan) ≡ parts plan.predictors plan.deal plan.params c
-  lists = map_twice part_of (feed_of c plan) (upto plan.predictors)
+  lists = map-map part_of (feed_of c plan) (upto plan.predictors)
 
   pub is_file_of : (file : List ℕ) (lanes : List Lane) → IsPiped part_of plan (feeds_from c plan) file lanes → IsFileOf plan c file lanes
+  unfolding file_of
   is_file_of file lanes h =
-      let made : file ≡ file_of c plan.params = h.woven ∙ ap (λ ls. file_of_residuals (weave (owners plan.deal plan.params) ls) plan.params) lists ∙ ap (λ ns. file_of_residuals ns plan.params) (weave_of_parts plan.params c plan.predictors plan.deal cube.shape lawful.lawful.order lawful.may.dealt) ∙ sym (file_is plan.params c) in
+      let woven = weave_of_parts plan.params c plan.predictors plan.deal cube.shape lawful.lawful.order lawful.may.dealt in
+      let made : file ≡ file_of c plan.params = rw (lists, woven) at h.woven in
       record {
-        carries = h.carries ∙ sym (map_twice carried part_of (feeds_from c plan)) ∙ ap (map carried) lists;
+        carries = h.carries ∙ sym (map-map carried part_of (feeds_from c plan)) ∙ ap (map carried) lists;
         made = made;
         back = subst (λ bytes. IsFile bytes plan.params c) (sym made) (chosen_is_file plan.params c lawful.lawful cube);
       }
 
-  pub may_stop_part : {G : Type 0} (may_stop : G → ℕ → ℕ → Bool) (gate : G) (q n : ℕ) → MayStop may_stop gate part_of (feeds_from c plan) q n → MayStopPart may_stop gate plan c q n
+  pub may_stop_part : {G : Type 0} (may_stop : G → ℕ → ℕ → Bool) (gate : G) (q n : ℕ) → MayStop may_stop gate part_of (feeds_from c plan) q n
+      → MayStopPart may_stop gate plan c q n
   may_stop_part may_stop gate q n h =
       let lt : q < plan.predictors = omega (arith, h.0, length-map (upto plan.predictors) (feed_of c plan), length-from 0 plan.predictors) in
       (lt, h.1, subst (λ (d : Predicting). n < length (part_of d)) (feed_at c plan q (feed_of c plan q) lt) (h.2 (feed_of c plan q)))

@@ -1,8 +1,12 @@
 -- What the coding end has taken of all predictors, run after run.
-use Rattle.std.proofs.Common.{◌≡◌, ◌+◌, ◌^◌, ◌<◌, ◌≤◌, ℕ, zero, suc, Bool, true, false, List, [], ◌∷◌, ◌++◌, length, drop, get_or, set, Some, None, refl, sym, ap, ◌∙◌, inl, inr, append-nil, append_assoc, length-append, length-drop, length-set, get_or-set_same, get_or-set_other, arith}
+use Rattle.std.proofs.Common.{◌≡◌, ◌+◌, ◌^◌, ◌<◌, ◌≤◌, ℕ, zero, suc, List, [], ◌∷◌, ◌++◌, length, drop, get_or, set, Some, None, refl, sym, ap, ◌∙◌, inl, inr}
+use Rattle.std.proofs.Common.{append-nil, append_assoc, length-append, length-drop, length-set, get_or-set_other, arith}
 use Rattle.std.specs.Prelude.{◌==◌, if◌then◌else◌}
-use Rattle.std.specs.List.{All, AllByRecursion, slice_get}
-use Rattle.std.proofs.lemmas.Bool.{cases_eq, eq-eqb, ne_eqb}
+use Rattle.std.specs.List.{All, slice_get}
+use Rattle.std.proofs.lemmas.Bool.{cases_Bool}
+use Rattle.std.proofs.lemmas.Bool.Decides.{nat_tests}
+use Rattle.std.proofs.lemmas.Grind.{get_or-set_at}
+use Rattle.std.proofs.lemmas.List.Elements.{All-weaker, recursion_from_All}
 use Rattle.std.proofs.lemmas.Option.{slice_get_within, slice_get-get_or, get_or_from_slice_get}
 use Rattle.cube_core.specs.Shape.{sample_count}
 use Rattle.cube_core.specs.Order.{IsOrder, places}
@@ -15,99 +19,89 @@ use Rattle.cube_predictors.proofs.Weaves.{part_none, part_push, part_short, owne
 use Rattle.coder_pipe.specs.Standings.{IsAhead, IsWoven}
 use Rattle.coder_pipe.specs.Woven.{Weaving, HasWoven, WeavesAll, AreOfOne, AreOwnersFrom}
 
-pub woven_first : (p : Params) (deal : List ℕ) (w : Weaving) (handed : List (List ℕ)) → HasWoven p deal w [] → All (λ r. r ≡ []) handed → IsWoven p deal w handed 0
+pub woven_first : (p : Params) (deal : List ℕ) (w : Weaving) (handed : List (List ℕ)) → HasWoven p deal w [] → All (λ r. r ≡ []) handed
+    → IsWoven p deal w handed 0
 woven_first p deal w handed h none = record { numbers = []; woven = h; long = refl; parts = λ q lt. none q [] lt ∙ sym (part_none q (owners deal p)) }
 
 -- whose number comes next
-pub owner_below : (p : Params) (deal numbers : List ℕ) (predictors owner : ℕ) → IsOrder p.shape p.order → IsDeal predictors p.shape.bands deal → Some owner ≡ slice_get (owners deal p) (length numbers) → owner < predictors
+pub owner_below : (p : Params) (deal numbers : List ℕ) (predictors owner : ℕ) → IsOrder p.shape p.order → IsDeal predictors p.shape.bands deal
+    → Some owner ≡ slice_get (owners deal p) (length numbers) → owner < predictors
 owner_below p deal numbers predictors owner lawful dealt e =
     let lt : length numbers < length (owners deal p) = slice_get_within (owners deal p) (length numbers) owner (sym e) in
     let at : get_or (owners deal p) (length numbers) 0 ≡ owner = get_or_from_slice_get (owners deal p) (length numbers) owner 0 (sym e) in
     rw at at (owned p.shape p.order predictors deal lawful dealt (length numbers) 0 lt)
 
 -- there is one as long as there are places
-pub owner_there : (p : Params) (deal numbers : List ℕ) → IsOrder p.shape p.order → length numbers < sample_count p.shape → None ≡ slice_get (owners deal p) (length numbers) → ⊥
+pub owner_there : (p : Params) (deal numbers : List ℕ) → IsOrder p.shape p.order → length numbers < sample_count p.shape
+    → None ≡ slice_get (owners deal p) (length numbers) → ⊥
 owner_there p deal numbers lawful lt e =
-    let some : slice_get (owners deal p) (length numbers) ≡ Some (get_or (owners deal p) (length numbers) 0) = slice_get-get_or (owners deal p) (length numbers) 0 (omega (arith, lt, length-owners deal p, length-places p.shape p.order lawful)) in
+    let some : slice_get (owners deal p) (length numbers) ≡ Some (get_or (owners deal p) (length numbers) 0) =
+    slice_get-get_or (owners deal p) (length numbers) 0 (omega (arith, lt, length-owners deal p, length-places p.shape p.order lawful)) in
     absurd (cc)
 
 -- fewer were taken of it than there are
-pub fewer_taken : (p : Params) (deal : List ℕ) (w : Weaving) (handed : List (List ℕ)) (count owner : ℕ) (h : IsWoven p deal w handed count) → Some owner ≡ slice_get (owners deal p) (length h.numbers) → owner < length handed
-    → length (get_or handed owner []) < share owner (owners deal p)
-fewer_taken p deal w handed count owner h e lt = rw (h.parts owner lt) (part_short owner (length h.numbers) (owners deal p) h.numbers refl (sym e))
-
--- nor were more handed on ahead
-pub fewer_ahead : (p : Params) (deal : List ℕ) (w : Weaving) (handed : List (List ℕ)) (count owner : ℕ) (ahead : List ℕ) (h : IsAhead p deal w handed count ahead) → Some owner ≡ slice_get (owners deal p) (length (h.numbers ++ ahead)) → owner < length handed
-    → length (get_or handed owner []) < share owner (owners deal p)
-fewer_ahead p deal w handed count owner ahead h e lt = rw (h.parts owner lt) (part_short owner (length (h.numbers ++ ahead)) (owners deal p) (h.numbers ++ ahead) refl (sym e))
+pub fewer_taken : (owner : ℕ) (os numbers handed : List ℕ) → handed ≡ part owner os numbers → Some owner ≡ slice_get os (length numbers)
+    → length handed < share owner os
+fewer_taken owner os numbers handed is e = rw is (part_short owner (length numbers) os numbers refl (sym e))
 
 -- ---- runs
 
 -- so many places are of one owner, so there are so many
-pub run_fits : (p : Params) (deal numbers : List ℕ) (owner count : ℕ) → IsOrder p.shape p.order → Some owner ≡ slice_get (owners deal p) (length numbers) → AreOfOne (owners deal p) (length numbers) count → length numbers + count ≤ sample_count p.shape
-run_fits p deal numbers owner zero lawful e one = omega (arith, slice_get_within (owners deal p) (length numbers) owner (sym e), length-owners deal p, length-places p.shape p.order lawful)
+pub run_fits : (p : Params) (deal numbers : List ℕ) (owner count : ℕ) → IsOrder p.shape p.order → Some owner ≡ slice_get (owners deal p) (length numbers)
+    → AreOfOne (owners deal p) (length numbers) count → length numbers + count ≤ sample_count p.shape
+run_fits p deal numbers owner zero lawful e one =
+    omega (arith, slice_get_within (owners deal p) (length numbers) owner (sym e), length-owners deal p, length-places p.shape p.order lawful)
 run_fits p deal numbers owner (suc count) lawful e one =
     let last : slice_get (owners deal p) (length numbers + count) ≡ Some owner = one count (omega arith) ∙ sym e in
     omega (arith, slice_get_within (owners deal p) (length numbers + count) owner last, length-owners deal p, length-places p.shape p.order lawful)
 
 -- and fewer of them are so, too
-pub fewer_of_one : (os : List ℕ) (n count less owner : ℕ) → AreOfOne os n count → less ≤ count → Some owner ≡ slice_get os n → (i : ℕ) → i < less → slice_get os (n + i) ≡ Some owner
+pub fewer_of_one : (os : List ℕ) (n count less owner : ℕ) → AreOfOne os n count → less ≤ count → Some owner ≡ slice_get os n → (i : ℕ) → i < less
+    → slice_get os (n + i) ≡ Some owner
 fewer_of_one os n count less owner one le e i lt = one i (omega (arith, lt, le)) ∙ sym e
 
-run_behind : (b : Bool) (before run : List ℕ) (n : ℕ) → (before ++ (if b then n ∷ [] else [])) ++ (if b then run else []) ≡ before ++ (if b then n ∷ run else [])
-run_behind true before run n = append_assoc before (n ∷ []) run
-run_behind false before run n = append-nil (before ++ [])
-
-none_behind : (b : Bool) (before : List ℕ) → before ≡ before ++ (if b then [] else [])
-none_behind true before = sym (append-nil before)
-none_behind false before = sym (append-nil before)
-
 -- a run of numbers of one owner stands behind its part, and the other parts stay
-part_run : (q owner : ℕ) (os ns run : List ℕ) → ((i : ℕ) → i < length run → slice_get os (length ns + i) ≡ Some owner) → part q os (ns ++ run) ≡ part q os ns ++ (if owner == q then run else [])
-part_run q owner os ns [] at = ap (λ xs. part q os xs) (append-nil ns) ∙ none_behind (owner == q) (part q os ns)
+part_run : (q owner : ℕ) (os ns run : List ℕ) → ((i : ℕ) → i < length run → slice_get os (length ns + i) ≡ Some owner)
+    → part q os (ns ++ run) ≡ part q os ns ++ (if owner == q then run else [])
+part_run q owner os ns [] at = elim (cases_Bool (owner == q)) [ inl t ↦ rw (t, append-nil, append-nil) refl | inr t ↦ rw (t, append-nil, append-nil) refl ]
 part_run q owner os ns (n ∷ run) at =
     let first : slice_get os (length ns) ≡ Some owner = let here : length ns + 0 ≡ length ns = omega arith in rw here at (at 0 (omega arith)) in
     let grown : length (ns ++ n ∷ []) ≡ length ns + 1 = length-append ns (n ∷ []) in
-    let later : (i : ℕ) → i < length run → slice_get os (length (ns ++ n ∷ []) + i) ≡ Some owner = λ i lt. (let to : length (ns ++ n ∷ []) + i ≡ length ns + suc i = omega (arith, grown) in rw to (at (suc i) (omega (arith, lt)))) in
-    ap (λ xs. part q os xs) (sym (append_assoc ns (n ∷ []) run))
-    ∙ part_run q owner os (ns ++ n ∷ []) run later
-    ∙ ap (λ xs. xs ++ (if owner == q then run else [])) (part_push q (length ns) os ns owner n refl first)
-    ∙ run_behind (owner == q) (part q os ns) run n
+    let later : (i : ℕ) → i < length run → slice_get os (length (ns ++ n ∷ []) + i) ≡ Some owner =
+    λ i lt. (let to : length (ns ++ n ∷ []) + i ≡ length ns + suc i = omega (arith, grown) in rw to (at (suc i) (omega (arith, lt)))) in
+    let behind = part_run q owner os (ns ++ n ∷ []) run later in
+    let one = part_push q (length ns) os ns owner n refl first in
+    ap (λ xs. part q os xs) (sym (append_assoc ns (n ∷ []) run)) ∙ behind ∙ rw one (
+    elim (cases_Bool (owner == q)) [ inl t ↦ rw (t, append_assoc) refl | inr t ↦ rw (t, append-nil, append-nil) refl ])
 
-more_run : (handed : List (List ℕ)) (os ns run : List ℕ) (o k : ℕ) → o < length handed → ((i : ℕ) → i < length run → slice_get os (length ns + i) ≡ Some o) → get_or handed k [] ≡ part k os ns → get_or handed o [] ≡ part o os ns
-    → get_or (set handed o (get_or handed o [] ++ run)) k [] ≡ part k os (ns ++ run)
+more_run : (handed : List (List ℕ)) (os ns run : List ℕ) (o k : ℕ) → o < length handed → ((i : ℕ) → i < length run → slice_get os (length ns + i) ≡ Some o)
+    → get_or handed k [] ≡ part k os ns → get_or handed o [] ≡ part o os ns → get_or (set handed o (get_or handed o [] ++ run)) k [] ≡ part k os (ns ++ run)
 more_run handed os ns run o k lt at here own =
     let pushed = part_run k o os ns run at in
-    elim (cases_eq k o) [
-      | inl same ↦ (
-          let test : (o == k) ≡ true = eq-eqb o k (sym same) in
-          let to : part k os (ns ++ run) ≡ part k os ns ++ run = pushed ∙ ap (λ (b : Bool). part k os ns ++ (if b then run else [])) test in
-          ap (λ j. get_or (set handed o (get_or handed o [] ++ run)) j []) same ∙ get_or-set_same handed o (get_or handed o [] ++ run) [] lt ∙ ap (λ v. v ++ run) own ∙ ap (λ j. part j os ns ++ run) (sym same) ∙ sym to)
-      | inr other ↦ (
-          let test : (o == k) ≡ false = ne_eqb o k (λ e. other (sym e)) in
-          let to : part k os (ns ++ run) ≡ part k os ns = pushed ∙ ap (λ (b : Bool). part k os ns ++ (if b then run else [])) test ∙ append-nil (part k os ns) in
-          get_or-set_other handed o k (get_or handed o [] ++ run) [] other ∙ here ∙ sym to)
-    ]
+    grind (arith, nat_tests, get_or-set_at, get_or-set_other, append-nil, pushed)
 
 -- nothing was handed on ahead
-abbrev pub ahead_none : (p : Params) (deal : List ℕ) (w : Weaving) (handed : List (List ℕ)) (count : ℕ) → IsWoven p deal w handed count → IsAhead p deal w handed count []
+abbrev pub ahead_none : (p : Params) (deal : List ℕ) (w : Weaving) (handed : List (List ℕ)) (count : ℕ) → IsWoven p deal w handed count
+    → IsAhead p deal w handed count []
 ahead_none p deal w handed count h = record { numbers = h.numbers; woven = h.woven; long = h.long; parts = λ q lt. rw (append-nil h.numbers) (h.parts q lt) }
 
 -- a run more was handed on ahead
-pub ahead_more : (p : Params) (deal : List ℕ) (w : Weaving) (handed now : List (List ℕ)) (count owner : ℕ) (ahead run : List ℕ) (h : IsAhead p deal w handed count ahead) → ((i : ℕ) → i < length run → slice_get (owners deal p) (length h.numbers + length ahead + i) ≡ Some owner)
+pub ahead_more : (p : Params) (deal : List ℕ) (w : Weaving) (handed now : List (List ℕ)) (count owner : ℕ) (ahead run : List ℕ)
+    (h : IsAhead p deal w handed count ahead) → ((i : ℕ) → i < length run → slice_get (owners deal p) (length (h.numbers ++ ahead) + i) ≡ Some owner)
     → owner < length handed → now ≡ set handed owner (get_or handed owner [] ++ run) → IsAhead p deal w now count (ahead ++ run)
 ahead_more p deal w handed now count owner ahead run h at lt is = record {
   numbers = h.numbers;
   woven = h.woven;
   long = h.long;
   parts = λ q below.
-      let behind : (i : ℕ) → i < length run → slice_get (owners deal p) (length (h.numbers ++ ahead) + i) ≡ Some owner = λ i few. rw (length-append h.numbers ahead) (at i few) in
-      let more = more_run handed (owners deal p) (h.numbers ++ ahead) run owner q lt behind (h.parts q (omega (arith, below, ap (λ (rs : List (List ℕ)). length rs) is, length-set handed owner (get_or handed owner [] ++ run)))) (h.parts owner lt) in
-      ap (λ rs. get_or rs q []) is ∙ more ∙ ap (λ ns. part q (owners deal p) ns) (append_assoc h.numbers ahead run);
+      let inside : q < length handed = rw (is, length-set) at below in
+      let more = more_run handed (owners deal p) (h.numbers ++ ahead) run owner q lt at (h.parts q inside) (h.parts owner lt) in
+      rw (is, ← append_assoc) more;
 }
 
 -- what was handed on ahead was taken
-pub woven_ahead : (p : Params) (deal : List ℕ) (old new : Weaving) (handed : List (List ℕ)) (count : ℕ) (ahead : List ℕ) → IsAhead p deal old handed count ahead → WeavesAll old new ahead → IsWoven p deal new handed (count + length ahead)
+pub woven_ahead : (p : Params) (deal : List ℕ) (old new : Weaving) (handed : List (List ℕ)) (count : ℕ) (ahead : List ℕ) → IsAhead p deal old handed count ahead
+    → WeavesAll old new ahead → IsWoven p deal new handed (count + length ahead)
 woven_ahead p deal old new handed count ahead h takes = record {
   numbers = h.numbers ++ ahead;
   woven = takes p deal h.numbers h.woven;
@@ -115,36 +109,31 @@ woven_ahead p deal old new handed count ahead h takes = record {
   parts = h.parts;
 }
 
-pub all_one : (P : ℕ → Type 0) (n : ℕ) → P n → All P (n ∷ [])
-all_one P n h zero d lt = h
-all_one P n h (suc k) d lt = absurd (omega (arith, lt))
-
--- numbers at most so great are below a limit
-below_limit : (most limit : ℕ) (ns : List ℕ) → most + 1 ≡ limit → All (λ n. n ≤ most) ns → AllByRecursion (λ n. n < limit) ns
-below_limit most limit [] e h = tt
-below_limit most limit (n ∷ ns) e h = (omega (arith, e, h 0 n (omega arith)), below_limit most limit ns e (λ i d lt. h (suc i) d (omega (arith, lt))))
-
 -- numbers that were handed on may be taken
-pub may_take : (p : Params) (deal : List ℕ) (w : Weaving) (numbers list : List ℕ) (most : ℕ) → HasWoven p deal w numbers → IsLawful p → length numbers + length list ≤ sample_count p.shape → most + 1 ≡ 2 ^ p.kind.bits → All (λ n. n ≤ most) list
-    → MayCodeAll w.end list
+pub may_take : (p : Params) (deal : List ℕ) (w : Weaving) (numbers list : List ℕ) (most : ℕ) → HasWoven p deal w numbers → IsLawful p
+    → length numbers + length list ≤ sample_count p.shape → most + 1 ≡ 2 ^ p.kind.bits → All (λ n. n ≤ most) list → MayCodeAll w.end list
 may_take p deal w numbers list most h lawful few is range = record {
   params = p;
   numbers = numbers;
   lawful = lawful;
   coded = h.coded;
   more = few;
-  range = below_limit most (2 ^ p.kind.bits) list is range;
+  range = recursion_from_All (λ n. n < 2 ^ p.kind.bits) list (All-weaker (λ n. n ≤ most) (λ n. n < 2 ^ p.kind.bits) (λ n le. omega (arith, is, le)) list range);
 }
 
 -- there are as many places as owners behind those taken
-pub owners_fit : (p : Params) (deal numbers some : List ℕ) → IsOrder p.shape p.order → length numbers ≤ sample_count p.shape → AreOwnersFrom (owners deal p) (length numbers) some → length numbers + length some ≤ sample_count p.shape
+pub owners_fit : (p : Params) (deal numbers some : List ℕ) → IsOrder p.shape p.order → length numbers ≤ sample_count p.shape
+    → AreOwnersFrom (owners deal p) (length numbers) some → length numbers + length some ≤ sample_count p.shape
 owners_fit p deal numbers [] lawful few from = omega (arith, few)
 owners_fit p deal numbers (o ∷ os) lawful few from =
-    let last : slice_get (owners deal p) (length numbers + length os) ≡ Some (get_or (o ∷ os) (length os) 0) = from (length os) (omega arith) ∙ slice_get-get_or (o ∷ os) (length os) 0 (omega arith) in
-    omega (arith, slice_get_within (owners deal p) (length numbers + length os) (get_or (o ∷ os) (length os) 0) last, length-owners deal p, length-places p.shape p.order lawful)
+    let last : slice_get (owners deal p) (length numbers + length os) ≡ Some (get_or (o ∷ os) (length os) 0) =
+    from (length os) (omega arith) ∙ slice_get-get_or (o ∷ os) (length os) 0 (omega arith) in
+    omega (arith, slice_get_within (owners deal p) (length numbers + length os)
+    (get_or (o ∷ os) (length os) 0) last, length-owners deal p, length-places p.shape p.order lawful)
 
 -- fewer were taken than there are places, so a place is to come
-pub place_left : (p : Params) (deal : List ℕ) (w : Weaving) (handed : List (List ℕ)) (count : ℕ) → IsOrder p.shape p.order → IsWoven p deal w handed count → count < sample_count p.shape → 0 < length w.end.left
+pub place_left : (p : Params) (deal : List ℕ) (w : Weaving) (handed : List (List ℕ)) (count : ℕ) → IsOrder p.shape p.order → IsWoven p deal w handed count
+    → count < sample_count p.shape → 0 < length w.end.left
 place_left p deal w handed count lawful h lt =
     let left : length w.end.left ≡ length (drop (length h.numbers) (places p.shape p.order)) = ap (λ (x : List _). length x) h.woven.coded.left in
     omega (arith, left, h.long, lt, length-drop (length h.numbers) (places p.shape p.order), length-places p.shape p.order lawful)

@@ -1,14 +1,17 @@
 -- Whose residuals the coding end of predictors wants, and what it has taken.
-use Rattle.std.proofs.Common.{◌≡◌, ◌+◌, ◌<◌, ◌≤◌, ℕ, zero, suc, true, List, [], ◌∷◌, length, take, drop, get_or, Some, None, Result, Ok, Err, OnOk, OnErr, refl, sym, ap, subst, ◌∙◌, length-append, length-take, arith}
+use Rattle.std.proofs.Common.{◌≡◌, ◌+◌, ◌<◌, ◌≤◌, ℕ, zero, suc, true, List, [], ◌∷◌, length, take, drop, get_or, Some, None, Result, Ok, Err, OnOk, OnErr, refl}
+use Rattle.std.proofs.Common.{sym, ap, subst, ◌∙◌, length-append, length-take, arith}
 use Rattle.std.specs.Prelude.{option_map}
 use Rattle.std.specs.List.{slice_get}
 use Rattle.std.proofs.lemmas.List.{get_or_default, get_or-take, get_or-drop, drop-drop}
+use Rattle.std.proofs.lemmas.Result.{on_err_weaker}
 use Rattle.std.proofs.lemmas.Option.{slice_get-map, slice_get-get_or}
 use Rattle.cube_core.specs.declared.fault.Fault.{Fault}
 use Rattle.cube_core.specs.declared.order.Order.{Order}
 use Rattle.cube_core.specs.declared.order.Place.{Place}
 use Rattle.cube_core.specs.Shape.{Sizes}
 use Rattle.cube_core.specs.Order.{IsPlaceOf, goes_along_rows, place_index, places}
+use Rattle.cube_core.proofs.Lists.{get-drop as first-drop}
 use Rattle.cube_core.proofs.Keys.{order_is_by_key, index_of_item}
 use Rattle.cube_core.proofs.Orders.{item_from_index, place_index_below}
 use Rattle.cube_core.proofs.Walks.{columns_along}
@@ -18,120 +21,119 @@ use Rattle.cube_predictors.specs.Weave.{owners, owners_of}
 use Rattle.coder_pipe.specs.Woven.{Weaving, IsAlong, HasWoven, WeavesAll, AreOfOne, AreOwnersFrom}
 
 get-drop : {A : Type 0} (xs : List A) (n i : ℕ) → slice_get (drop n xs) i ≡ slice_get xs (n + i)
-get-drop [] zero i = refl
-get-drop [] (suc n) zero = refl
-get-drop [] (suc n) (suc i) = refl
-get-drop (x ∷ xs) zero i = let e : 0 + i ≡ i = omega arith in rw e refl
-get-drop (x ∷ xs) (suc n) i = let e : suc n + i ≡ suc (n + i) = omega arith in rw e (get-drop xs n i)
+get-drop xs n i = sym (first-drop (drop n xs) i) ∙ ap (λ ys. slice_get ys 0) (drop-drop i n xs) ∙ first-drop xs (n + i)
 
 -- the owners of the places that come next
-pub wanted : (p : Params) (deal numbers : List ℕ) (e : Ending) (i : ℕ) → HasCoded p e numbers → slice_get (owners deal p) (length numbers + i) ≡ option_map (λ q. get_or deal q.z 0) (slice_get e.left i)
+pub wanted : (p : Params) (deal numbers : List ℕ) (e : Ending) (i : ℕ) → HasCoded p e numbers
+    → slice_get (owners deal p) (length numbers + i) ≡ option_map (λ q. get_or deal q.z 0) (slice_get e.left i)
 unfolding owners_of
-wanted p deal numbers e i h =
-    slice_get-map (λ q. get_or deal q.z 0) (places p.shape p.order) (length numbers + i)
-    ∙ ap (option_map (λ q. get_or deal q.z 0)) (sym (get-drop (places p.shape p.order) (length numbers) i) ∙ ap (λ left. slice_get left i) (sym h.left))
+wanted p deal numbers e i h = rw h.left (
+  slice_get-map (λ q. get_or deal q.z 0) (places p.shape p.order) (length numbers + i)
+  ∙ ap (option_map (λ q. get_or deal q.z 0)) (sym (get-drop (places p.shape p.order) (length numbers) i)))
 
-wanted_first : (p : Params) (deal numbers : List ℕ) (e : Ending) → HasCoded p e numbers → slice_get (owners deal p) (length numbers) ≡ option_map (λ q. get_or deal q.z 0) (slice_get e.left 0)
+wanted_first : (p : Params) (deal numbers : List ℕ) (e : Ending) → HasCoded p e numbers
+    → slice_get (owners deal p) (length numbers) ≡ option_map (λ q. get_or deal q.z 0) (slice_get e.left 0)
 wanted_first p deal numbers e h = let at : length numbers + 0 ≡ length numbers = omega arith in rw at at (wanted p deal numbers e 0 h)
 
 -- none is wanted where no place is to come
-pub wants_none : (w : Weaving) → None ≡ slice_get w.end.left 0 → (p : Params) (deal numbers : List ℕ) → HasWoven p deal w numbers → None ≡ slice_get (owners deal p) (length numbers)
-wants_none w none p deal numbers h = sym (wanted_first p deal numbers w.end h.coded ∙ ap (option_map (λ q. get_or deal q.z 0)) (sym none))
+pub wants_none : (w : Weaving) → None ≡ slice_get w.end.left 0 → (p : Params) (deal numbers : List ℕ) → HasWoven p deal w numbers
+    → None ≡ slice_get (owners deal p) (length numbers)
+wants_none w none p deal numbers h = rw (wanted_first p deal numbers w.end h.coded, ← none) refl
 
--- the next place is one of the image's, of a band that is dealt
-pub place_within : (s : Sizes) (o : Order) (w : Weaving) (place : Place) → IsAlong s o w → Some place ≡ slice_get w.end.left 0 → IsPlaceOf s place × (place.z < length w.deal)
-place_within s o w place h next =
-    let there : IsPlaceOf s place = (order_is_by_key s o h.order).only (h.gone + 0) place (sym (get-drop (places s o) h.gone 0) ∙ ap (λ left. slice_get left 0) (sym h.left) ∙ sym next) in
+-- where a place that comes stands
+place_item : (s : Sizes) (o : Order) (w : Weaving) (i : ℕ) (place : Place) (h : IsAlong s o w) → Some place ≡ slice_get w.end.left i
+    → slice_get (places s o) (h.gone + i) ≡ Some place
+place_item s o w i place h next = sym (get-drop (places s o) h.gone i) ∙ ap (λ left. slice_get left i) (sym h.left) ∙ sym next
+
+-- it is one of the image's, of a band that is dealt
+pub place_within : (s : Sizes) (o : Order) (w : Weaving) (i : ℕ) (place : Place) → IsAlong s o w → Some place ≡ slice_get w.end.left i
+    → IsPlaceOf s place × (place.z < length w.deal)
+place_within s o w i place h next =
+    let there = (order_is_by_key s o h.order).only (h.gone + i) place (place_item s o w i place h next) in
     (there, omega (arith, h.whole, there.band))
 
 -- and else the owner of the place that comes next
-pub wants_some : (s : Sizes) (o : Order) (w : Weaving) (place : Place) (owner d : ℕ) → IsAlong s o w → Some place ≡ slice_get w.end.left 0 → owner ≡ get_or w.deal place.z d → (p : Params) (deal numbers : List ℕ) → HasWoven p deal w numbers → Some owner ≡ slice_get (owners deal p) (length numbers)
+pub wants_some : (s : Sizes) (o : Order) (w : Weaving) (place : Place) (owner d : ℕ) → IsAlong s o w → Some place ≡ slice_get w.end.left 0
+    → owner ≡ get_or w.deal place.z d → (p : Params) (deal numbers : List ℕ) → HasWoven p deal w numbers
+    → Some owner ≡ slice_get (owners deal p) (length numbers)
 wants_some s o w place owner d along next is p deal numbers h =
-    let at : owner ≡ get_or deal place.z 0 = is ∙ get_or_default w.deal place.z d 0 (place_within s o w place along next).1 ∙ ap (λ ds. get_or ds place.z 0) h.dealt in
-    sym (wanted_first p deal numbers w.end h.coded ∙ ap (option_map (λ q. get_or deal q.z 0)) (sym next) ∙ ap (λ o. Some o) (sym at))
+    let at : owner ≡ get_or deal place.z 0 = is ∙ get_or_default w.deal place.z d 0 (place_within s o w 0 place along next).1 ∙ rw h.dealt refl in
+    rw (wanted_first p deal numbers w.end h.coded, ← next, at) refl
 
 -- ---- runs
 
--- places that come next and are of bands dealt to one predictor
-pub owned_by_one : (w : Weaving) (place : Place) (count : ℕ) → Some place ≡ slice_get w.end.left 0 → ((i : ℕ) → i < count → (q : Place) × (slice_get w.end.left i ≡ Some q) × (get_or w.deal q.z 0 ≡ get_or w.deal place.z 0))
-    → (p : Params) (deal numbers : List ℕ) → HasWoven p deal w numbers → AreOfOne (owners deal p) (length numbers) count
-owned_by_one w place count next alike p deal numbers h i lt =
-    let q = alike i lt in
-    let same : get_or deal (q.0).z 0 ≡ get_or deal place.z 0 = ap (λ ds. get_or ds (q.0).z 0) (sym h.dealt) ∙ q.2 ∙ ap (λ ds. get_or ds place.z 0) h.dealt in
-    wanted p deal numbers w.end i h.coded ∙ ap (option_map (λ r. get_or deal r.z 0)) q.1 ∙ ap (λ n. Some n) same
-    ∙ sym (wanted_first p deal numbers w.end h.coded ∙ ap (option_map (λ r. get_or deal r.z 0)) (sym next))
-
 -- where places go along rows, those of the row come next
-row_next : (s : Sizes) (o : Order) (w : Weaving) (place : Place) (i : ℕ) → IsAlong s o w → goes_along_rows o ≡ true → Some place ≡ slice_get w.end.left 0 → place.x + i < s.columns
-    → slice_get w.end.left i ≡ Some (record { z = place.z; y = place.y; x = place.x + i })
+row_next : (s : Sizes) (o : Order) (w : Weaving) (place : Place) (i : ℕ) → IsAlong s o w → goes_along_rows o ≡ true → Some place ≡ slice_get w.end.left 0
+    → place.x + i < s.columns → slice_get w.end.left i ≡ Some (record { z = place.z; y = place.y; x = place.x + i })
 row_next s o w place i h along next more =
     let q : Place = record { z = place.z; y = place.y; x = place.x + i } in
-    let item : slice_get (places s o) (h.gone + 0) ≡ Some place = sym (get-drop (places s o) h.gone 0) ∙ ap (λ left. slice_get left 0) (sym h.left) ∙ sym next in
-    let there : IsPlaceOf s place = (order_is_by_key s o h.order).only (h.gone + 0) place item in
-    let at : place_index s o place ≡ h.gone + 0 = index_of_item s o place (h.gone + 0) h.order item in
+    let there = (place_within s o w 0 place h next).0 in
+    let at : place_index s o place ≡ h.gone + 0 = index_of_item s o place (h.gone + 0) h.order (place_item s o w 0 place h next) in
     let on = columns_along s o place i along there in
-    let behind : IsPlaceOf s (record { z = place.z; y = place.y; x = place.x + i }) = record { band = there.band; row = there.row; column = more } in
-    let below = place_index_below s o (record { z = place.z; y = place.y; x = place.x + i }) h.order behind in
+    let behind : IsPlaceOf s q = record { band = there.band; row = there.row; column = more } in
+    let below = place_index_below s o q h.order behind in
     ap (λ left. slice_get left i) h.left ∙ get-drop (places s o) h.gone i
-    ∙ item_from_index s o (record { z = place.z; y = place.y; x = place.x + i }) (h.gone + i) h.order behind (on ∙ omega (arith, at)) (omega (arith, at, on, below))
+    ∙ item_from_index s o q (h.gone + i) h.order behind (on ∙ omega (arith, at)) (omega (arith, at, on, below))
 
-pub row_owned : (s : Sizes) (o : Order) (w : Weaving) (place : Place) (count : ℕ) → IsAlong s o w → goes_along_rows o ≡ true → Some place ≡ slice_get w.end.left 0 → place.x + count ≤ s.columns
-    → (p : Params) (deal numbers : List ℕ) → HasWoven p deal w numbers → AreOfOne (owners deal p) (length numbers) count
-row_owned s o w place count h along next fits =
-    owned_by_one w place count next (λ i lt. (record { z = place.z; y = place.y; x = place.x + i }, row_next s o w place i h along next (omega (arith, lt, fits)), refl))
-
-pub none_of_one : (w : Weaving) (p : Params) (deal numbers : List ℕ) → HasWoven p deal w numbers → AreOfOne (owners deal p) (length numbers) 0
-none_of_one w p deal numbers h i lt = absurd (omega (arith, lt))
-
-pub first_of_one : (w : Weaving) (p : Params) (deal numbers : List ℕ) → HasWoven p deal w numbers → AreOfOne (owners deal p) (length numbers) 1
-first_of_one w p deal numbers h i lt = let at : length numbers + i ≡ length numbers = omega (arith, lt) in ap (λ n. slice_get (owners deal p) n) at
+pub row_owned : (s : Sizes) (o : Order) (w : Weaving) (place : Place) (count : ℕ) → IsAlong s o w → goes_along_rows o ≡ true
+    → Some place ≡ slice_get w.end.left 0 → place.x + count ≤ s.columns → (p : Params) (deal numbers : List ℕ) → HasWoven p deal w numbers
+    → AreOfOne (owners deal p) (length numbers) count
+row_owned s o w place count h along next fits p deal numbers woven i lt =
+    let of_row = row_next s o w place i h along next (omega (arith, lt, fits)) in
+    rw (wanted p deal numbers w.end i woven.coded, wanted_first p deal numbers w.end woven.coded, of_row, ← next) refl
 
 -- places that come next in a column are of bands that are dealt
-pub column_fits : (s : Sizes) (o : Order) (w : Weaving) (place : Place) (count : ℕ) → IsAlong s o w → Some place ≡ slice_get w.end.left 0 → ((i : ℕ) → i < count → slice_get w.end.left i ≡ Some (record { z = place.z + i; y = place.y; x = place.x })) → place.z + count ≤ length w.deal
-column_fits s o w place zero h next column = omega (arith, (place_within s o w place h next).1)
-column_fits s o w place (suc count) h next column =
-    let last : Place = record { z = place.z + count; y = place.y; x = place.x } in
-    let item : slice_get (places s o) (h.gone + count) ≡ Some (record { z = place.z + count; y = place.y; x = place.x }) = sym (get-drop (places s o) h.gone count) ∙ ap (λ left. slice_get left count) (sym h.left) ∙ column count (omega arith) in
-    let there : IsPlaceOf s (record { z = place.z + count; y = place.y; x = place.x }) = (order_is_by_key s o h.order).only (h.gone + count) (record { z = place.z + count; y = place.y; x = place.x }) item in
-    omega (arith, h.whole, there.band)
+pub column_fits : (s : Sizes) (o : Order) (w : Weaving) (place : Place) (count : ℕ) → IsAlong s o w → Some place ≡ slice_get w.end.left 0
+    → ((i : ℕ) → i < count → slice_get w.end.left i ≡ Some (record { z = place.z + i; y = place.y; x = place.x })) → place.z + count ≤ length w.deal
+column_fits s o w place zero h next column = omega (arith, (place_within s o w 0 place h next).1)
+column_fits s o w place (suc count) h next column = omega (arith, (place_within s o w count _ h (sym (column count (omega arith)))).1)
 
-pub column_owned : (w : Weaving) (place : Place) (count : ℕ) → ((i : ℕ) → i < count → slice_get w.end.left i ≡ Some (record { z = place.z + i; y = place.y; x = place.x })) → place.z + count ≤ length w.deal
+pub column_owned : (w : Weaving) (place : Place) (count : ℕ)
+    → ((i : ℕ) → i < count → slice_get w.end.left i ≡ Some (record { z = place.z + i; y = place.y; x = place.x })) → place.z + count ≤ length w.deal
     → (p : Params) (deal numbers : List ℕ) → HasWoven p deal w numbers → AreOwnersFrom (owners deal p) (length numbers) (take count (drop place.z w.deal))
 column_owned w place count column fits p deal numbers h i lt =
     let few : i < count = omega (arith, lt, length-take count (drop place.z w.deal)) in
-    let own : get_or (take count (drop place.z w.deal)) i 0 ≡ get_or deal (place.z + i) 0 = get_or-take count (drop place.z w.deal) i 0 few ∙ get_or-drop place.z w.deal i 0 ∙ ap (λ ds. get_or ds (place.z + i) 0) h.dealt in
-    wanted p deal numbers w.end i h.coded ∙ ap (option_map (λ q. get_or deal q.z 0)) (column i few) ∙ ap (λ n. Some n) (sym own) ∙ sym (slice_get-get_or (take count (drop place.z w.deal)) i 0 lt)
+    let own : get_or (take count (drop place.z w.deal)) i 0 ≡ get_or deal (place.z + i) 0 =
+    get_or-take count (drop place.z w.deal) i 0 few ∙ get_or-drop place.z w.deal i 0 ∙ ap (λ ds. get_or ds (place.z + i) 0) h.dealt in
+    wanted p deal numbers w.end i h.coded ∙ ap (option_map (λ q. get_or deal q.z 0)) (column i few) ∙ ap (λ n. Some n) (sym own)
+    ∙ sym (slice_get-get_or (take count (drop place.z w.deal)) i 0 lt)
 
 -- ---- along the places
 
 -- it has taken nothing
-pub along_first : (p : Params) (e : Ending) (deal : List ℕ) → HasCoded p e [] → length deal ≡ p.shape.bands → IsAlong p.shape p.order (record { end = e; deal = deal })
+pub along_first : (p : Params) (e : Ending) (deal : List ℕ) → HasCoded p e [] → length deal ≡ p.shape.bands
+    → IsAlong p.shape p.order (record { end = e; deal = deal })
 along_first p e deal h whole = record { order = h.order; whole = whole; gone = 0; left = h.left }
 
 -- so many places have gone by
-pub along_more : (s : Sizes) (o : Order) (deal : List ℕ) (old new : Ending) (count : ℕ) → new.left ≡ drop count old.left → IsAlong s o (record { end = old; deal = deal }) → IsAlong s o (record { end = new; deal = deal })
-along_more s o deal old new count moved h = record { order = h.order; whole = h.whole; gone = h.gone + count; left = moved ∙ ap (drop count) h.left ∙ drop-drop count h.gone (places s o) }
+pub along_more : (s : Sizes) (o : Order) (deal : List ℕ) (old new : Ending) (count : ℕ) → new.left ≡ drop count old.left
+    → IsAlong s o (record { end = old; deal = deal }) → IsAlong s o (record { end = new; deal = deal })
+along_more s o deal old new count moved h =
+    record { order = h.order; whole = h.whole; gone = h.gone + count; left = moved ∙ ap (drop count) h.left ∙ drop-drop count h.gone (places s o) }
 
-pub along_one : (r : Result (Unit {0}) Fault) (s : Sizes) (o : Order) (deal : List ℕ) (old new : Ending) (next : Place) → OnOk r (old.left ≡ next ∷ new.left) → OnErr r (new ≡ old) → IsAlong s o (record { end = old; deal = deal }) → IsAlong s o (record { end = new; deal = deal })
+pub along_one : (r : Result (Unit {0}) Fault) (s : Sizes) (o : Order) (deal : List ℕ) (old new : Ending) (next : Place) → OnOk r (old.left ≡ next ∷ new.left)
+    → OnErr r (new ≡ old) → IsAlong s o (record { end = old; deal = deal }) → IsAlong s o (record { end = new; deal = deal })
 along_one (Ok u) s o deal old new next moved same h = along_more s o deal old new 1 (sym (ap (drop 1) moved)) h
 along_one (Err e) s o deal old new next moved same h = subst (λ (w : Ending). IsAlong s o (record { end = w; deal = deal })) (sym same) h
 
 -- numbers were taken
 codes_move : (old new : Ending) (list more : List ℕ) → MayCodeAll old list → CodesAll old new more → new.left ≡ drop (length more) old.left
 codes_move old new list more may codes =
-    let all : List Place = places may.params.shape may.params.order in
-    let now = codes may.params may.numbers may.coded in
-    now.left ∙ ap (λ n. drop n (places may.params.shape may.params.order)) (length-append may.numbers more) ∙ sym (drop-drop (length more) (length may.numbers) (places may.params.shape may.params.order)) ∙ ap (drop (length more)) (sym may.coded.left)
+    (codes may.params may.numbers may.coded).left ∙ ap (λ n. drop n (places may.params.shape may.params.order)) (length-append may.numbers more)
+    ∙ sym (drop-drop (length more) (length may.numbers) (places may.params.shape may.params.order)) ∙ ap (drop (length more)) (sym may.coded.left)
 
-weaves : (deal : List ℕ) (old new : Ending) (list : List ℕ) → CodesAll old new list → WeavesAll (record { end = old; deal = deal }) (record { end = new; deal = deal }) list
+weaves : (deal : List ℕ) (old new : Ending) (list : List ℕ) → CodesAll old new list
+    → WeavesAll (record { end = old; deal = deal }) (record { end = new; deal = deal }) list
 weaves deal old new list codes p ds numbers h = record { coded = codes p numbers h.coded; dealt = h.dealt }
 
-pub weaves_some : (r : Result (Unit {0}) Fault) (deal : List ℕ) (old new : Ending) (list : List ℕ) → OnErr r ((n : ℕ) × (n < length list) × CodesAll old new (take n list))
+pub weaves_some : (r : Result (Unit {0}) Fault) (deal : List ℕ) (old new : Ending) (list : List ℕ)
+    → OnErr r ((n : ℕ) × (n < length list) × CodesAll old new (take n list))
     → OnErr r ((n : ℕ) × (n < length list) × WeavesAll (record { end = old; deal = deal }) (record { end = new; deal = deal }) (take n list))
-weaves_some (Ok u) deal old new list some = tt
-weaves_some (Err e) deal old new list some = (some.0, some.1, weaves deal old new (take some.0 list) some.2)
+weaves_some r deal old new list some = on_err_weaker r (λ some. (some.0, some.1, weaves deal old new (take some.0 list) some.2)) some
 
-pub along_all : (r : Result (Unit {0}) Fault) (s : Sizes) (o : Order) (deal : List ℕ) (old new : Ending) (list : List ℕ) → MayCodeAll old list → OnOk r (CodesAll old new list) → OnErr r ((n : ℕ) × (n < length list) × CodesAll old new (take n list))
-    → IsAlong s o (record { end = old; deal = deal }) → IsAlong s o (record { end = new; deal = deal })
+pub along_all : (r : Result (Unit {0}) Fault) (s : Sizes) (o : Order) (deal : List ℕ) (old new : Ending) (list : List ℕ) → MayCodeAll old list
+    → OnOk r (CodesAll old new list) → OnErr r ((n : ℕ) × (n < length list) × CodesAll old new (take n list)) → IsAlong s o (record { end = old; deal = deal })
+    → IsAlong s o (record { end = new; deal = deal })
 along_all (Ok u) s o deal old new list may whole some h = along_more s o deal old new (length list) (codes_move old new list list may whole) h
-along_all (Err e) s o deal old new list may whole some h = along_more s o deal old new (length (take some.0 list)) (codes_move old new list (take some.0 list) may some.2) h
+along_all (Err e) s o deal old new list may whole some h =
+    along_more s o deal old new (length (take some.0 list)) (codes_move old new list (take some.0 list) may some.2) h

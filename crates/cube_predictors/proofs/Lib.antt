@@ -4,5 +4,4 @@ pub mod Parts
 pub mod Planning
 pub mod RowPieces
 pub mod Sending
-pub mod Sendings
 pub mod Weaves

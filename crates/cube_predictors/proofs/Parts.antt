@@ -1,35 +1,31 @@
 -- A predictor that keeps to what it took keeps to its part.
-use Rattle.std.proofs.Common.{◌≡◌, ◌+◌, ◌*◌, ◌^◌, ◌<◌, ◌≤◌, ℕ, suc, Bool, true, false, List, [], ◌∷◌, ◌++◌, length, take, IsTrue, IsFalse, refl, sym, ap, ◌∙◌, subst, append-nil, length-append, arith}
-use Rattle.std.specs.Prelude.{◌==◌, if◌then◌else◌}
-use Rattle.std.specs.List.{flat_map}
+use Rattle.std.proofs.Common.{◌≡◌, ◌+◌, ◌*◌, ◌≤◌, ℕ, suc, Bool, true, false, List, [], ◌∷◌, ◌++◌, length, IsTrue, IsFalse, refl, sym, ap, ◌∙◌, subst, append-nil, length-append, arith}
+use Rattle.std.specs.Prelude.{◌==◌}
+use Rattle.std.proofs.lemmas.Bool.{cond_both}
 use Rattle.std.proofs.lemmas.List.{length-map, nil_from_length, take-append-le}
 use Rattle.band_rings.specs.Lane.{LaneName}
 use Rattle.cube_core.specs.Shape.{sample_count}
 use Rattle.cube_core.specs.Image.{Image}
-use Rattle.cube_core.specs.declared.order.Order.TheVariants.{Bsq}
-use Rattle.cube_core.specs.Order.{IsOrder, places, upto}
+use Rattle.cube_core.specs.Order.{IsOrder, places}
 use Rattle.cube_core.proofs.Orders.{length-places}
 use Rattle.header_bits.specs.declared.params.Params.{Params}
 use Rattle.lane_workers.specs.declared.feed.LaneEnd.{LaneEnd}
 use Rattle.lane_workers.specs.Feeds.{Keeps}
 use Rattle.lane_workers.specs.Runs.{RunSending}
 use Rattle.predict_core.specs.Residual.{mapped_residual, residuals}
-use Rattle.predict_core.specs.Following.{Learner}
-use Rattle.cube_predictors.specs.Own.{own, rows_of, own_residuals}
-use Rattle.cube_predictors.specs.Sends.{IsSeen, bands_of, Sends}
+use Rattle.cube_predictors.specs.Own.{own_residuals}
+use Rattle.cube_predictors.specs.Sends.{IsSeen, Sends}
 use Rattle.cube_predictors.specs.Weave.{owners, part}
 use Rattle.cube_predictors.proofs.Owning.{own_is_part}
 
 -- a part is no longer than the whole
-no_longer : (b : Bool) (n : ℕ) (xs : List ℕ) (count : ℕ) → length xs ≤ count → length (if b then n ∷ xs else xs) ≤ suc count
-no_longer true n xs count h = omega (arith, h)
-no_longer false n xs count h = omega (arith, h)
-
-pub part_few : (q : ℕ) (os ns : List ℕ) → length (part q os ns) ≤ length ns
+part_few : (q : ℕ) (os ns : List ℕ) → length (part q os ns) ≤ length ns
 unfolding part
 part_few q [] ns = omega arith
 part_few q (o ∷ os) [] = omega arith
-part_few q (o ∷ os) (n ∷ ns) = no_longer (o == q) n (part q os ns) (length ns) (part_few q os ns)
+part_few q (o ∷ os) (n ∷ ns) =
+    let few = part_few q os ns in
+    cond_both (o == q) (n ∷ part q os ns) (part q os ns) (λ xs. length xs ≤ suc (length ns)) (λ _. omega (arith, few)) (λ _. omega (arith, few))
 
 pub length-residuals : (p : Params) (c : Image) → IsOrder c.shape p.order → length (residuals p c) ≡ sample_count c.shape
 unfolding residuals
@@ -45,23 +41,16 @@ own_few p c q deal count seen lawful few =
 pub keeps_part : {G : Type 0} (may_stop : ℕ → ℕ → Bool) (q : ℕ) (old new : RunSending G) (all : Bool) (list : List ℕ) (lane : LaneName) (end : LaneEnd) → old.taken ≡ [] → Sends old new all list → Keeps may_stop q new.taken lane end → (IsTrue new.stopped → IsFalse end.whole)
     → Keeps may_stop q list lane end
 keeps_part may_stop q old new true list lane end none sent keeps stopped =
-    let same : list ≡ new.taken = ap (λ ns. ns ++ list) (sym none) ∙ sent.taken ∙ ap (λ rest. new.taken ++ rest) (nil_from_length sent.rest (sent.whole refl).0) ∙ append-nil new.taken in
+    let same : list ≡ new.taken = rw (none, nil_from_length sent.rest (sent.whole refl).0, append-nil new.taken) at sent.taken in
     subst (λ items. Keeps may_stop q items lane end) (sym same) keeps
 keeps_part may_stop q old new false list lane end none sent keeps stopped =
-    let same : list ≡ new.taken ++ sent.rest = ap (λ ns. ns ++ list) (sym none) ∙ sent.taken in
+    let same : list ≡ new.taken ++ sent.rest = rw none at sent.taken in
     let halted : IsFalse end.whole = stopped (sent.stopped refl) in
     let at = keeps.stopped halted in
-    let long : length list ≡ length new.taken + length sent.rest = ap (λ (ns : List ℕ). length ns) same ∙ length-append new.taken sent.rest in
+    let long : length list ≡ length new.taken + length sent.rest = rw (same, length-append) refl in
     record {
       lane_is = keeps.lane_is;
-      prefix = keeps.prefix ∙ sym (take-append-le (length end.closed.sent) new.taken sent.rest (omega (arith, at.1))) ∙ ap (take (length end.closed.sent)) (sym same);
+      prefix = rw (same, take-append-le (length end.closed.sent) new.taken sent.rest (omega (arith, at.1))) keeps.prefix;
       whole = λ h. absurd (cc);
       stopped = λ h. (at.0, omega (arith, at.1, long));
     }
-
--- the numbers of all own bands can be counted
-pub bands_fit : (p : Params) (c : Image) (q : ℕ) (deal : List ℕ) (bands : List Learner) (taken : List ℕ) → taken ≡ [] → bands_of bands ≡ own q deal (upto p.shape.bands) → c.shape ≡ p.shape → length (own_residuals p c q deal Bsq) ≤ 2 ^ 48
-    → length taken + length (flat_map (λ z. rows_of p c (z ∷ [])) (bands_of bands)) < 2 ^ 64
-bands_fit p c q deal bands taken none mine shape few =
-    let same : bands_of bands ≡ own q deal (upto c.shape.bands) = mine ∙ ap (λ s. own q deal (upto s.bands)) (sym shape) in
-    omega (arith, ap (λ (ns : List ℕ). length ns) none, ap (λ zs. length (flat_map (λ z. rows_of p c (z ∷ [])) zs)) same, few)

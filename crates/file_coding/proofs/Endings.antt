@@ -1,5 +1,6 @@
 -- What the coding end of an image has taken, number after number, and the file that it then gives.
-use Rattle.std.proofs.Common.{◌≡◌, ◌+◌, ◌*◌, ◌<◌, ℕ, Bool, List, [], ◌∷◌, ◌++◌, length, drop, Some, None, refl, sym, ap, ◌∙◌, append_assoc, length-append, length-drop, arith}
+use Rattle.std.proofs.Common.{◌≡◌, ◌+◌, ◌*◌, ◌-◌, ◌<◌, ℕ, Bool, List, [], ◌∷◌, ◌++◌, length, drop, Some, None, refl, sym, ap, ◌∙◌, append_assoc, length-append}
+use Rattle.std.proofs.Common.{length-drop, arith}
 use Rattle.std.specs.List.{slice_get}
 use Rattle.cube_core.specs.declared.order.Place.{Place}
 use Rattle.cube_core.specs.Shape.{sample_count}
@@ -26,8 +27,9 @@ none_first (q ∷ rest) e = absurd (cc)
 -- where one more may be coded, a place is to come
 pub place_comes : (e : Ending) (number : ℕ) → MayCode e number → None ≡ slice_get e.left 0 → ⊥
 place_comes e number may none =
-    let left : length (drop (length may.numbers) (places may.params.shape may.params.order)) ≡ 0 = ap (λ (x : List Place). length x) (sym may.coded.left ∙ none_first e.left (sym none)) in
-    omega (arith, left, length-drop (length may.numbers) (places may.params.shape may.params.order), length-places may.params.shape may.params.order may.coded.order, may.more)
+    let all = places may.params.shape may.params.order in
+    let left : length all - length may.numbers ≡ 0 = rw (← length-drop, ← may.coded.left, none_first e.left (sym none)) refl in
+    omega (arith, left, length-places may.params.shape may.params.order may.coded.order, may.more)
 
 -- where the place that comes next stands
 pub record ComesNext (p : Params) (numbers : List ℕ) (place : Place) (rest : List Place) : Type 0 where
@@ -36,10 +38,12 @@ pub record ComesNext (p : Params) (numbers : List ℕ) (place : Place) (rest : L
   pub item : slice_get (places p.shape p.order) (length numbers) ≡ Some place
   pub left : rest ≡ drop (length numbers + 1) (places p.shape p.order)
 
-pub comes_next : (p : Params) (e : Ending) (numbers : List ℕ) (place : Place) (rest : List Place) → HasCoded p e numbers → e.left ≡ place ∷ rest → ComesNext p numbers place rest
+pub comes_next : (p : Params) (e : Ending) (numbers : List ℕ) (place : Place) (rest : List Place) → HasCoded p e numbers → e.left ≡ place ∷ rest
+    → ComesNext p numbers place rest
 comes_next p e numbers place rest h is =
     let next = next_stands p.shape p.order (length numbers) place rest h.order (sym h.left ∙ is) in
-    record { more = next.0; there = next.1.place; item = item_from_index p.shape p.order place (length numbers) h.order next.1.place next.1.index next.0; left = next.2 }
+    let item = item_from_index p.shape p.order place (length numbers) h.order next.1.place next.1.index next.0 in
+    record { more = next.0; there = next.1.place; item = item; left = next.2 }
 
 pub may_take : (e : Ending) (place : Place) (number : ℕ) → slice_get e.left 0 ≡ Some place → MayCode e number → MayPut e.coder place.z number
 may_take e place number first may =
@@ -48,11 +52,13 @@ may_take e place number first may =
     may_put may.params e.coder may.numbers may.coded.written place.z number may.lawful may.coded.taken may.more here.there.band may.range
 
 -- the next place's residual was put
-pub coded_more : (old new : Ending) (place : Place) (t number : ℕ) → old.left ≡ place ∷ new.left → t ≡ place.y * old.columns + place.x → new.columns ≡ old.columns → new.word ≡ old.word
-    → PutsNumber place.z t number old.coder old.bits new.coder new.bits → (p : Params) (numbers : List ℕ) → HasCoded p old numbers → HasCoded p new (numbers ++ number ∷ [])
+pub coded_more : (old new : Ending) (place : Place) (t number : ℕ) → old.left ≡ place ∷ new.left → t ≡ place.y * old.columns + place.x
+    → new.columns ≡ old.columns → new.word ≡ old.word → PutsNumber place.z t number old.coder old.bits new.coder new.bits → (p : Params) (numbers : List ℕ)
+    → HasCoded p old numbers → HasCoded p new (numbers ++ number ∷ [])
 coded_more old new place t number moved time columns word puts p numbers h =
     let next = comes_next p old numbers place new.left h moved in
-    let is_number : IsNumber p numbers place.z t = (place, next.item, refl, time ∙ ap (λ n. place.y * n + place.x) h.columns ∙ sym (time_of_place p numbers place h.order next.item)) in
+    let is_number : IsNumber p numbers place.z t =
+    (place, next.item, refl, time ∙ ap (λ n. place.y * n + place.x) h.columns ∙ sym (time_of_place p numbers place h.order next.item)) in
     let did = puts p numbers h.written h.taken is_number in
     let long : length (numbers ++ number ∷ []) ≡ length numbers + 1 = length-append numbers (number ∷ []) in
     record {
@@ -73,10 +79,11 @@ all_coded p e numbers h none =
     omega (arith, left, length-drop (length numbers) (places p.shape p.order), length-places p.shape p.order h.order, h.within)
 
 -- the bytes of what was written, once the body was ended and filled
-pub is_file : (e : Ending) (ended full : List Bool) (bytes : List ℕ) → e.left ≡ [] → EndsBody e.coder e.bits ended → full ≡ filled e.word ended → bytes ≡ packed full
-    → (p : Params) (numbers : List ℕ) → HasCoded p e numbers → bytes ≡ file_of_residuals numbers p
+pub is_file : (e : Ending) (ended full : List Bool) (bytes : List ℕ) → e.left ≡ [] → EndsBody e.coder e.bits ended → full ≡ filled e.word ended
+    → bytes ≡ packed full → (p : Params) (numbers : List ℕ) → HasCoded p e numbers → bytes ≡ file_of_residuals numbers p
 unfolding file_bits file_of_residuals
 is_file e ended full bytes none ends fills packs p numbers h =
     let did = ends p numbers h.written h.taken h.order (all_coded p e numbers h none) in
-    let text : ended ≡ header_of p ++ body_of p numbers = did.1 ∙ ap (λ (x : List Bool). x ++ did.0) h.text ∙ append_assoc (header_of p) h.written did.0 ∙ ap (λ (x : List Bool). header_of p ++ x) did.2 in
+    let text : ended ≡ header_of p ++ body_of p numbers =
+    did.1 ∙ ap (λ (x : List Bool). x ++ did.0) h.text ∙ append_assoc (header_of p) h.written did.0 ∙ ap (λ (x : List Bool). header_of p ++ x) did.2 in
     packs ∙ ap packed (fills ∙ ap (λ n. filled n ended) h.word ∙ ap (filled p.word) text)

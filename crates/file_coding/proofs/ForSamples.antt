@@ -1,6 +1,6 @@
 -- Lawful parameters are lawful for the sample-adaptive coder.
-use Rattle.std.proofs.Common.{◌+◌, ◌-◌, ◌<◌, ◌≤◌, ℕ, zero, suc, List, [], ◌∷◌, length, arith}
-use Rattle.std.specs.List.{AllByRecursion, slice_index}
+use Rattle.std.proofs.Common.{◌+◌, ◌-◌, ◌<◌, ◌≤◌, ℕ, arith}
+use Rattle.std.specs.List.{slice_index}
 use Rattle.header_bits.specs.declared.params.Params.{Params}
 use Rattle.header_bits.specs.declared.params.Coder.{Coder}
 use Rattle.header_bits.specs.declared.params.Coder.TheVariants.{Sample, Block}
@@ -8,6 +8,7 @@ use Rattle.header_bits.specs.declared.params.CountStart.{CountStart}
 use Rattle.header_bits.specs.declared.params.CountStart.TheVariants.{Constant, Each}
 use Rattle.header_bits.specs.Lawful.{IsLawful, IsCoder, IsCountStart}
 use Rattle.cube_core.specs.Shape.{InRange}
+use Rattle.header_bits.proofs.TableWriting.{all_at}
 use Rattle.sample_adaptive.specs.Statistics.{constant_of}
 use Rattle.sample_adaptive.specs.Settings.{IsSample, HasEntries, AreLawful, AreForSamples, coder_settings}
 
@@ -15,17 +16,14 @@ entries : (p : Params) (start : CountStart) → IsCountStart p start → HasEntr
 entries p (Constant k) h = tt
 entries p (Each table) h = h.0
 
-all_at : {n : ℕ} (table : List ℕ) (z : ℕ) → AllByRecursion (λ v. v ≤ n) table → z < length table → slice_index table z ≤ n
-all_at [] z h lt = absurd (omega arith)
-all_at (x ∷ xs) zero h lt = h.0
-all_at (x ∷ xs) (suc z) h lt = all_at xs z h.1 (omega arith)
-
 constants : (p : Params) (start : CountStart) → 2 ≤ p.kind.bits → IsCountStart p start → (z : ℕ) → z < p.shape.bands → constant_of start z + 2 ≤ p.kind.bits
 unfolding constant_of
 constants p (Constant k) b h z lt = omega (arith, h)
-constants p (Each table) b h z lt = let below : slice_index table z ≤ p.kind.bits - 2 = all_at table z h.1 (omega (arith, h.0)) in omega (arith, below)
+constants p (Each table) b h z lt =
+    let below : slice_index table z ≤ p.kind.bits - 2 = all_at (λ v. v ≤ p.kind.bits - 2) table z 0 (omega (arith, h.0)) h.1 in omega (arith, below)
 
-by_coder : (p : Params) (coder : Coder) → InRange 2 16 p.kind.bits → IsCoder p coder → IsSample coder → AreLawful p.shape.bands (coder_settings p.kind.bits coder)
+by_coder : (p : Params) (coder : Coder) → InRange 2 16 p.kind.bits → IsCoder p coder → IsSample coder
+    → AreLawful p.shape.bands (coder_settings p.kind.bits coder)
 by_coder p (Sample umax gamma_star gamma_zero start) b h s =
     record { bits = b; umax = h.0; gamma_star = h.1; gamma_zero = h.2; order = h.3; entries = entries p start h.4; constants = constants p start b.0 h.4 }
 by_coder p (Block size restricted reference) b h s = absurd s

@@ -1,5 +1,6 @@
 -- Bytes are packed from their bits, and fill brings bits to whole output words.
-use Rattle.std.proofs.Common.{◌≡◌, ◌+◌, ◌*◌, ◌/◌, ◌%◌, ◌^◌, ◌<◌, ◌≤◌, ◌-◌, ℕ, suc, zero, Bool, false, List, [], ◌∷◌, ◌++◌, length, take, drop, replicate, get_or, refl, sym, ap, ◌∙◌, length-append, arith}
+use Rattle.std.proofs.Common.{◌≡◌, ◌+◌, ◌*◌, ◌/◌, ◌%◌, ◌^◌, ◌<◌, ◌≤◌, ◌-◌, ℕ, suc, zero, Bool, false, List, [], ◌∷◌, ◌++◌, length, take, drop, replicate}
+use Rattle.std.proofs.Common.{get_or, refl, sym, ap, ◌∙◌, length-append, arith}
 use Rattle.std.proofs.lemmas.List.{take_at, drop_at, length-replicate}
 use Rattle.std.proofs.Math.Nat.{mod-eq_of_lt, zero-div}
 use Rattle.header_bits.specs.Bits.{bits_of, bits_of_bytes, number_of}
@@ -62,5 +63,6 @@ whole_words n unit some = elim (cases_eq (n % unit) 0) [ inl h ↦ (n / unit, no
 pub filled_whole : (word : ℕ) (bits : List Bool) → 1 ≤ word → length (filled word bits) % 8 ≡ 0
 filled_whole word bits a =
     let f = whole_words (length bits) (8 * word) (omega arith) in
-    let long : length (filled word bits) ≡ 8 * word * f.0 = length-append bits (replicate (fill_length word (length bits)) false) ∙ rw (length-replicate (fill_length word (length bits)) false) f.1 in
+    let long : length (filled word bits) ≡ 8 * word * f.0 =
+    length-append bits (replicate (fill_length word (length bits)) false) ∙ rw (length-replicate (fill_length word (length bits)) false) f.1 in
     rw long (omega arith)

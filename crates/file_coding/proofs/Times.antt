@@ -1,5 +1,6 @@
 -- Which number of its band stands at a place.
-use Rattle.std.proofs.Common.{◌≡◌, ◌+◌, ◌<◌, ◌≤◌, ℕ, suc, zero, List, [], ◌∷◌, ◌++◌, length, take, refl, sym, ◌∙◌, inl, inr, length-append, length-take, arith, add-one}
+use Rattle.std.proofs.Common.{◌≡◌, ◌+◌, ◌<◌, ◌≤◌, ℕ, suc, zero, List, [], ◌∷◌, ◌++◌, length, take, refl, sym, inl, inr, length-append, length-take, arith}
+use Rattle.std.proofs.Common.{add-one}
 use Rattle.std.proofs.lemmas.Bool.{cases_eq}
 use Rattle.std.proofs.lemmas.Option.{slice_get_within}
 use Rattle.cube_core.specs.declared.order.Order.{Order}
@@ -29,22 +30,22 @@ count_come s o z (suc i) ns lawful le e =
     let next = place_of s o i lawful (omega (arith, le)) in
     let q : Place = next.0 in
     let gone : List Place = take i (places s o) in
-    let more : take (i + 1) (places s o) ≡ take i (places s o) ++ next.0 ∷ [] = (take_next (places s o) i next.0 (item_from_index s o next.0 i lawful next.1.place next.1.index (omega (arith, le)))).1 in
-    let long : length split.0 ≡ length (take i (places s o)) = split.3 ∙ sym (taken s o i lawful (omega (arith, le))) in
+    let more : take (i + 1) (places s o) ≡ gone ++ q ∷ [] =
+    (take_next (places s o) i q (item_from_index s o q i lawful next.1.place next.1.index (omega (arith, le)))).1 in
+    let long : length split.0 ≡ length gone = rw length-take (omega (arith, le, split.3, length-places s o lawful)) in
     let before : HasCome s o z i (count_at s o z i split.0) = count_come s o z i split.0 lawful (omega (arith, le)) split.3 in
     rw (← add-one, split.2, more) (
-    elim (cases_eq next.0.z z) [
-      | inl same ↦ rw (band_numbers_same z (take i (places s o)) split.0 next.0 split.1 long same, length-append) (come_step s o z i (count_at s o z i split.0) next.0 lawful before next.1 same)
-      | inr other ↦ rw (band_numbers_other z (take i (places s o)) split.0 next.0 split.1 long other) (come_other s o z i (count_at s o z i split.0) next.0 lawful before next.1 other)
+    elim (cases_eq q.z z) [
+      | inl same ↦ rw (band_numbers_same z gone split.0 q split.1 long same, length-append)
+          (come_step s o z i (count_at s o z i split.0) q lawful before next.1 same)
+      | inr other ↦ rw (band_numbers_other z gone split.0 q split.1 long other) (come_other s o z i (count_at s o z i split.0) q lawful before next.1 other)
     ]
     )
-  where
-    taken : (s : Sizes) (o : Order) (i : ℕ) → IsOrder s o → i ≤ sample_count s → length (take i (places s o)) ≡ i
-    taken s o i lawful le = omega (arith, length-take i (places s o), length-places s o lawful)
 
 pub time_of_place : TimeOfPlace
 time_of_place p ns q lawful at =
     let lt : length ns < length (places p.shape p.order) = slice_get_within (places p.shape p.order) (length ns) q at in
-    let stands : StandsAt p.shape p.order q (length ns) = record { place = (order_is_by_key p.shape p.order lawful).only (length ns) q at; index = index_of_item p.shape p.order q (length ns) lawful at } in
+    let place = (order_is_by_key p.shape p.order lawful).only (length ns) q at in
+    let stands : StandsAt p.shape p.order q (length ns) = record { place = place; index = index_of_item p.shape p.order q (length ns) lawful at } in
     let come = count_come p.shape p.order q.z (length ns) ns lawful (omega (arith, lt, length-places p.shape p.order lawful)) refl in
     sym (come_here p.shape p.order q.z (length ns) (length (of_band p ns q.z)) q lawful come stands refl)

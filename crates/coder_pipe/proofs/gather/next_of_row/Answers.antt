@@ -1,4 +1,4 @@
-use Rattle.std.proofs.Common.{◌≡◌, ◌<◌, ◌≤◌, ◌+◌, ◌^◌, [], ℕ, length, take, drop, length-take, arith, ap, sym, subst, ◌∙◌, Some}
+use Rattle.std.proofs.Common.{◌≡◌, ◌<◌, ◌≤◌, [], length, take, drop, append-nil, length-take, arith, sym, subst, Some}
 use Rattle.std.specs.List.{slice_get}
 use Rattle.std.proofs.lemmas.List.{length-map, take-append-le}
 use Rattle.cube_predictors.specs.Weave.{owners}
@@ -12,42 +12,40 @@ use Rattle.coder_pipe.proofs.gather.next_of_row.Given.{Over}
 pub unreachable-requires : goal.unreachable-requires
 unreachable-requires g c =
     let w = c.requires.woven in
-    owner_there c.args.plan.now.params c.args.plan.now.deal w.numbers c.prove_is_plan.ensures.lawful.order (omega (arith, w.long, c.requires.more)) (c.in_default.ensures c.args.plan.now.params c.args.plan.now.deal w.numbers w.woven)
+    owner_there c.args.plan.now.params c.args.plan.now.deal w.numbers c.prove_is_plan.ensures.lawful.order (omega (arith, w.long, c.requires.more))
+    (c.in_default.ensures c.args.plan.now.params c.args.plan.now.deal w.numbers w.woven)
 
 module _ (g : Over) (c : In-Some g) where
   next : Some c.in-Some.owner ≡ slice_get (owners c.args.plan.now.deal c.args.plan.now.params) (length c.requires.woven.numbers)
   next = c.in-Some.ensures c.args.plan.now.params c.args.plan.now.deal c.requires.woven.numbers c.requires.woven.woven
 
   below : c.in-Some.owner < c.args.plan.now.predictors
-  below = owner_below c.args.plan.now.params c.args.plan.now.deal c.requires.woven.numbers c.args.plan.now.predictors c.in-Some.owner c.prove_is_plan.ensures.lawful.order c.prove_is_plan.ensures.may.dealt next
-
-  within : c.in-Some.owner < length c.args.stages.now.items
-  within = omega (arith, below, c.args.stages.now.ok.0, c.requires.many)
+  below = owner_below c.args.plan.now.params _ _ _ _ c.prove_is_plan.ensures.lawful.order c.prove_is_plan.ensures.may.dealt next
 
   handed_within : c.in-Some.owner < length (handed_of c.args.stages.now.items)
-  handed_within = omega (arith, within, length-map c.args.stages.now.items (λ s. s.handed))
+  handed_within = rw length-map (omega (arith, below, c.args.stages.now.ok.0, c.requires.many))
 
 pub bounds-overs-q : goal.bounds-overs-q
-bounds-overs-q g c = let d = (goal.at.bounds-overs-q g c).In-Some in omega (arith, below g d, c.requires.many, c.requires.overs)
+bounds-overs-q g c = omega (arith, below g (goal.at.bounds-overs-q g c).In-Some, c.requires.many, c.requires.overs)
 
 pub next_of-requires-clause-place : goal.next_of-requires-clause-place
-next_of-requires-clause-place g c = let d = (goal.at.next_of-requires-clause-place g c).In-Some in omega (arith, below g d, c.requires.many)
+next_of-requires-clause-place g c = omega (arith, below g (goal.at.next_of-requires-clause-place g c).In-Some, c.requires.many)
 
 pub next_of-requires-clause-room : goal.next_of-requires-clause-room
 next_of-requires-clause-room g c =
-    let left = place_left c.args.plan.now.params c.args.plan.now.deal c.args.weaver.now (handed_of c.args.stages.now.items) c.args.taken c.prove_is_plan.ensures.lawful.order c.requires.woven c.requires.more in
+    let left = place_left _ _ _ _ _ c.prove_is_plan.ensures.lawful.order c.requires.woven c.requires.more in
     omega (arith, c.wanted_run-wanted.ensures.some left, c.wanted_run-wanted.ensures.most, length-take c.wanted_run-wanted.result c.args.run.now)
 
 pub next_of-requires-clause-short : goal.next_of-requires-clause-short
 next_of-requires-clause-short g c = λ f.
     let d = (goal.at.next_of-requires-clause-short g c).In-Some in
-    let few = fewer_taken c.args.plan.now.params c.args.plan.now.deal c.args.weaver.now (handed_of c.args.stages.now.items) c.args.taken c.in-Some.owner c.requires.woven (next g d) (handed_within g d) in
+    let few = fewer_taken c.in-Some.owner _ _ _ (c.requires.woven.parts c.in-Some.owner (handed_within g d)) (next g d) in
     omega (arith, few, c.requires.lists.whole c.in-Some.owner f (below g d))
 
 pub next_of-requires-clause-range : goal.next_of-requires-clause-range
 next_of-requires-clause-range g c = λ f k e lt.
     let d = (goal.at.next_of-requires-clause-range g c).In-Some in
-    let most : c.greatest-most.result + 1 ≡ 2 ^ c.args.plan.now.params.kind.bits = c.greatest-most.ensures ∙ ap (λ p. 2 ^ p.kind.bits) c.params.ensures in
+    let most = rw c.params.ensures at c.greatest-most.ensures in
     omega (arith, c.requires.lists.range c.in-Some.owner f (below g d) k e lt, most)
 
 pub returns-in-Ok-clause-ahead : goal.returns-in-Ok-clause-ahead
@@ -57,12 +55,16 @@ returns-in-Ok-clause-ahead g c =
     let run = c.next_of.new.run in
     let count = c.in-Ok.count in
     let within : count ≤ length run = omega (arith, c.in-Ok.ensures.within.1, c.next_of.auto.run) in
-    let few : length (take count run) ≤ c.wanted_run-wanted.result = omega (arith, c.in-Ok.ensures.within.1, length-take count run, length-take c.wanted_run-wanted.result c.args.run.now) in
-    let one = c.wanted_run-wanted.ensures.owned c.args.plan.now.params c.args.plan.now.deal was.numbers was.woven in
-    let own = fewer_of_one (owners c.args.plan.now.deal c.args.plan.now.params) (length was.numbers) c.wanted_run-wanted.result (length (take count run)) c.in-Some.owner one few (next g d) in
-    let at : (i : ℕ) → i < length (take count run) → slice_get (owners c.args.plan.now.deal c.args.plan.now.params) (length was.numbers + 0 + i) ≡ Some c.in-Some.owner = λ i lt. (let here : length was.numbers + 0 + i ≡ length was.numbers + i = omega arith in rw here (own i lt)) in
-    let none = ahead_none c.args.plan.now.params c.args.plan.now.deal c.args.weaver.now (handed_of c.args.stages.now.items) c.args.taken was in
-    let ahead = ahead_more c.args.plan.now.params c.args.plan.now.deal c.args.weaver.now (handed_of c.args.stages.now.items) (handed_of c.next_of.new.stages.items) c.args.taken c.in-Some.owner [] (take count run) none at (handed_within g d) c.in-Ok.ensures.ok in
+    let few : length (take count run) ≤ c.wanted_run-wanted.result =
+    omega (arith, c.in-Ok.ensures.within.1, length-take count run, length-take c.wanted_run-wanted.result c.args.run.now) in
+    let one = c.wanted_run-wanted.ensures.owned _ _ _ was.woven in
+    let own =
+    fewer_of_one (owners c.args.plan.now.deal c.args.plan.now.params) (length was.numbers) c.wanted_run-wanted.result
+    (length (take count run)) c.in-Some.owner one few (next g d) in
+    let none = ahead_none _ _ _ _ _ was in
+    let ahead =
+    ahead_more _ _ _ _ (handed_of c.next_of.new.stages.items) _ c.in-Some.owner [] (take count run) none (λ i lt. rw append-nil (own i lt))
+    (handed_within g d) c.in-Ok.ensures.ok in
     rw (take-append-le count run (drop c.wanted_run-wanted.result c.args.run.now) within) ahead
 
 pub returns-in-Ok-clause-may : goal.returns-in-Ok-clause-may
@@ -72,12 +74,16 @@ returns-in-Ok-clause-may g c =
     let run = c.next_of.new.run in
     let count = c.in-Ok.count in
     let within : count ≤ length run = omega (arith, c.in-Ok.ensures.within.1, c.next_of.auto.run) in
-    let few : length (take count run) ≤ c.wanted_run-wanted.result = omega (arith, c.in-Ok.ensures.within.1, length-take count run, length-take c.wanted_run-wanted.result c.args.run.now) in
-    let most : c.greatest-most.result + 1 ≡ 2 ^ c.args.plan.now.params.kind.bits = c.greatest-most.ensures ∙ ap (λ p. 2 ^ p.kind.bits) c.params.ensures in
-    let one = c.wanted_run-wanted.ensures.owned c.args.plan.now.params c.args.plan.now.deal was.numbers was.woven in
-    let fits = run_fits c.args.plan.now.params c.args.plan.now.deal was.numbers c.in-Some.owner c.wanted_run-wanted.result c.prove_is_plan.ensures.lawful.order (next g d) one in
+    let few : length (take count run) ≤ c.wanted_run-wanted.result =
+    omega (arith, c.in-Ok.ensures.within.1, length-take count run, length-take c.wanted_run-wanted.result c.args.run.now) in
+    let most = rw c.params.ensures at c.greatest-most.ensures in
+    let one = c.wanted_run-wanted.ensures.owned _ _ _ was.woven in
+    let fits =
+    run_fits c.args.plan.now.params c.args.plan.now.deal was.numbers c.in-Some.owner c.wanted_run-wanted.result c.prove_is_plan.ensures.lawful.order
+    (next g d) one in
     subst (MayCodeAll c.args.weaver.now.end) (sym (take-append-le count run (drop c.wanted_run-wanted.result c.args.run.now) within))
-    (may_take c.args.plan.now.params c.args.plan.now.deal c.args.weaver.now was.numbers (take count run) c.greatest-most.result was.woven c.prove_is_plan.ensures.lawful (omega (arith, few, fits)) most c.in-Ok.ensures.most)
+    (may_take _ _ _ was.numbers (take count run) c.greatest-most.result was.woven c.prove_is_plan.ensures.lawful
+    (omega (arith, few, fits)) most c.in-Ok.ensures.most)
 
 pub returns-in-Err-clause-stopped : goal.returns-in-Err-clause-stopped
 returns-in-Err-clause-stopped g c =

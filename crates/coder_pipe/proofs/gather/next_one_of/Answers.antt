@@ -1,50 +1,44 @@
-use Rattle.std.proofs.Common.{◌≡◌, ◌<◌, ◌≤◌, [], ◌∷◌, length, get_or, arith, ap, sym, subst, ◌∙◌, rules, get_or-set_same}
+use Rattle.std.proofs.Common.{◌<◌, ◌≤◌, [], ◌∷◌, length, arith, rules}
 use Rattle.std.specs.List.{All}
 use Rattle.std.proofs.lemmas.List.{map-set}
-use Rattle.coder_pipe.specs.Standings.{feeds_of, handed_of}
-use Rattle.coder_pipe.proofs.Standings.{all_behind, at_of, same_feeds, same_gates}
+use Rattle.coder_pipe.proofs.Standings.{at_of, same_feeds, same_gates, short_of, feed_moved, last_of}
 use Rattle.coder_pipe.proofs.gather.next_one_of.Goals as goal
 
 pub stopped_at-requires-clause-short : goal.stopped_at-requires-clause-short
 stopped_at-requires-clause-short g c =
     let s = c.index_mut-stage.result.now in
     let lt : c.args.q < length c.args.stages.now.items = search rules in
-    let handed : get_or (handed_of c.args.stages.now.items) c.args.q [] ≡ s.handed = at_of (λ s. s.handed) c.args.stages.now.items c.args.q s [] lt c.index_mut-stage.ensures.value in
-    let feed : get_or (feeds_of c.args.stages.now.items) c.args.q s.feed ≡ s.feed = at_of (λ s. s.feed) c.args.stages.now.items c.args.q s s.feed lt c.index_mut-stage.ensures.value in
-    let short : length s.handed < length (g.F.Feed.items s.feed) = rw (handed, feed) at (c.requires.short s.feed) in
-    rw (c.in_default.ensures.same.0, c.in_default.ensures.none.1) short
+    rw (c.in_default.ensures.same.0, c.in_default.ensures.none.1)
+    (short_of g.F.Feed.items c.args.stages.now.items c.args.q s lt c.index_mut-stage.ensures.value (c.requires.short s.feed))
 
 pub returns-in_default-clause-feeds : goal.returns-in_default-clause-feeds
-returns-in_default-clause-feeds g c = same_feeds c.args.stages.now.items c.args.q c.next_one.new.self c.index_mut-stage.result.now c.index_mut-stage.ensures.value c.next_one.ensures.same.0
+returns-in_default-clause-feeds g c = same_feeds _ c.args.q c.next_one.new.self _ c.index_mut-stage.ensures.value c.next_one.ensures.same.0
 
 pub returns-in_default-clause-gates : goal.returns-in_default-clause-gates
-returns-in_default-clause-gates g c = same_gates c.args.stages.now.items c.args.q c.next_one.new.self c.index_mut-stage.result.now c.index_mut-stage.ensures.value c.next_one.ensures.same.1
+returns-in_default-clause-gates g c = same_gates _ c.args.q c.next_one.new.self _ c.index_mut-stage.ensures.value c.next_one.ensures.same.1
 
 pub no_such_number-requires-clause-list : goal.no_such_number-requires-clause-list
 no_such_number-requires-clause-list g c = λ other.
     let s = c.index_mut-stage.result.now in
     let lt : c.args.q < length c.args.stages.now.items = search rules in
-    let feed : get_or (feeds_of c.args.stages.now.items) c.args.q s.feed ≡ s.feed = at_of (λ s. s.feed) c.args.stages.now.items c.args.q s s.feed lt c.index_mut-stage.ensures.value in
-    let there = get_or-set_same c.args.stages.now.items c.args.q c.next_one.new.self other lt in
-    subst (λ f. All (λ n. n ≤ c.args.most) (g.F.Feed.items f)) (feed ∙ sym (ap (λ t. t.feed) there ∙ c.next_one.ensures.same.0)) (c.requires.range s.feed)
+    feed_moved (λ f. All (λ n. n ≤ c.args.most)
+    (g.F.Feed.items f)) c.args.stages.now.items c.args.q c.next_one.new.self s other lt c.index_mut-stage.ensures.value
+    c.next_one.ensures.same.0 (c.requires.range s.feed)
 
 pub no_such_number-requires-clause-above : goal.no_such_number-requires-clause-above
 no_such_number-requires-clause-above g c = λ other all.
     let lt : c.args.q < length c.args.stages.now.items = search rules in
-    let there = get_or-set_same c.args.stages.now.items c.args.q c.next_one.new.self other lt in
-    let handed = ap (λ t. t.handed) there ∙ c.in-Some.ensures.handed in
-    let last = all_behind (λ n. n ≤ c.args.most) c.index_mut-stage.result.now.handed (c.in-Some.number ∷ []) (subst (λ ns. All (λ n. n ≤ c.args.most) ns) handed all) in
+    let last =
+    last_of (λ n. n ≤ c.args.most) c.args.stages.now.items c.args.q c.next_one.new.self other _ (c.in-Some.number ∷ []) lt c.in-Some.ensures.handed all in
     omega (arith, last 0 0 (omega arith), c.if-number-most.true)
 
 pub returns-clause-feeds : goal.returns-clause-feeds
-returns-clause-feeds g c = same_feeds c.args.stages.now.items c.args.q c.next_one.new.self c.index_mut-stage.result.now c.index_mut-stage.ensures.value c.next_one.ensures.same.0
+returns-clause-feeds g c = same_feeds _ c.args.q c.next_one.new.self _ c.index_mut-stage.ensures.value c.next_one.ensures.same.0
 
 pub returns-clause-gates : goal.returns-clause-gates
-returns-clause-gates g c = same_gates c.args.stages.now.items c.args.q c.next_one.new.self c.index_mut-stage.result.now c.index_mut-stage.ensures.value c.next_one.ensures.same.1
+returns-clause-gates g c = same_gates _ c.args.q c.next_one.new.self _ c.index_mut-stage.ensures.value c.next_one.ensures.same.1
 
 pub returns-clause-ok : goal.returns-clause-ok
 returns-clause-ok g c =
-    let s = c.index_mut-stage.result.now in
     let lt : c.args.q < length c.args.stages.now.items = search rules in
-    let handed : get_or (handed_of c.args.stages.now.items) c.args.q [] ≡ s.handed = at_of (λ s. s.handed) c.args.stages.now.items c.args.q s [] lt c.index_mut-stage.ensures.value in
-    rw (map-set, handed, c.in-Some.ensures.handed)
+    rw (map-set, at_of (λ s. s.handed) c.args.stages.now.items c.args.q _ [] lt c.index_mut-stage.ensures.value, c.in-Some.ensures.handed)

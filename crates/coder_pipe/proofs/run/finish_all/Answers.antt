@@ -5,12 +5,6 @@ use Rattle.coder_pipe.specs.Standings.{feeds_of, handed_of}
 use Rattle.coder_pipe.proofs.Heads.{drop_head, head_map, copy_step, agree_step}
 use Rattle.coder_pipe.proofs.run.finish_all.Goals as goal
 
-pub finish-requires : goal.finish-requires
-finish-requires g c =
-    let was = c.loop-stage.invariant in
-    let h = drop_head c.args.stages.items _ (vec_len c.loop-stage.lanes) c.in-Some.stage (sym was.left ∙ c.in-Some.ensures.steps.0) in
-    rw (h.here c.in-Some.stage) at (c.requires.whole (vec_len c.loop-stage.lanes) c.in-Some.stage h.below)
-
 pub loop-stage-preserved : goal.loop-stage-preserved
 loop-stage-preserved g c =
     let was = c.loop-stage.invariant in let n = vec_len c.loop-stage.lanes in let xs = c.args.stages.items in
@@ -23,9 +17,15 @@ loop-stage-preserved g c =
       left = rw more h.left;
       room = c.push_reserved.ensures.capacity ∙ was.room;
       count = rw more (omega (arith, h.below));
-      handed = rw more (agree_step (handed_of xs) (map g.F.Feed.items (feeds_of xs)) n (g.F.Feed.items c.in-Some.stage.feed) was.handed (rw length-map h.below) (rw (length-map, length-map) h.below)
+      handed =
+          rw more (agree_step (handed_of xs) (map g.F.Feed.items (feeds_of xs)) n (g.F.Feed.items c.in-Some.stage.feed) was.handed (rw length-map h.below)
+          (rw (length-map, length-map) h.below)
           (head_map h (λ s. s.handed) (g.F.Feed.items c.in-Some.stage.feed) ∙ c.finish.ensures.handed)
           (get_or-map g.F.Feed.items (feeds_of xs) n c.in-Some.stage.feed (g.F.Feed.items c.in-Some.stage.feed) below ∙ ap g.F.Feed.items feed));
-      lanes = rw (more, c.push_reserved.ensures.items) (copy_step (map (λ f. carried (g.F.Feed.items f)) (feeds_of xs)) c.loop-stage.lanes.items n c.finish.result was.lanes (rw (length-map, length-map) h.below)
-          (get_or-map (λ f. carried (g.F.Feed.items f)) (feeds_of xs) n c.in-Some.stage.feed c.finish.result below ∙ ap (λ f. carried (g.F.Feed.items f)) feed ∙ sym c.finish.ensures.lane));
+      lanes =
+          rw (more, c.push_reserved.ensures.items)
+          (copy_step (map (λ f. carried (g.F.Feed.items f)) (feeds_of xs)) c.loop-stage.lanes.items n c.finish.result was.lanes
+          (rw (length-map, length-map) h.below)
+          (get_or-map (λ f. carried (g.F.Feed.items f)) (feeds_of xs) n c.in-Some.stage.feed c.finish.result below ∙ ap (λ f. carried (g.F.Feed.items f)) feed
+          ∙ sym c.finish.ensures.lane));
     }

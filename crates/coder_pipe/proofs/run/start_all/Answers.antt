@@ -10,6 +10,7 @@ loop-ready-preserved g c =
       feeds = grind (arith, common_steps);
       room = grind (arith, common_steps);
       count = grind (arith, common_steps);
-      gates = rw (c.push_reserved.ensures.items, map-append) (All-push (λ w. w ≡ c.args.gate.now) _ _ c.loop-ready.invariant.gates (ap (λ s. s.gate) c.in-Ok.ensures.stage));
+      gates = rw (c.push_reserved.ensures.items, map-append)
+          (All-push (λ w. w ≡ c.args.gate.now) _ _ c.loop-ready.invariant.gates (ap (λ s. s.gate) c.in-Ok.ensures.stage));
       none = rw (c.push_reserved.ensures.items, map-append) (All-push (λ r. r ≡ []) _ _ c.loop-ready.invariant.none (ap (λ s. s.handed) c.in-Ok.ensures.stage));
     }

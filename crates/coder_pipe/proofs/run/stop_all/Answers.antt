@@ -14,7 +14,8 @@ loop-stage-preserved g c =
     let below : q < length (feeds_of xs) = rw length-map h.below in
     let feed_at : (f : _) → get_or (feeds_of xs) q f ≡ c.in-Some.stage.feed = λ f. head_map h (λ s. s.feed) f in
     let gate_at : (w : _) → get_or (gates_of xs) q w ≡ c.in-Some.stage.gate = λ w. head_map h (λ s. s.gate) w in
-    let pred : g.F.Feed.predictor c.in-Some.stage.feed ≡ q = ap g.F.Feed.predictor (sym (feed_at c.in-Some.stage.feed)) ∙ c.requires.named q c.in-Some.stage.feed (omega (arith, h.below)) in
+    let pred : g.F.Feed.predictor c.in-Some.stage.feed ≡ q =
+    ap g.F.Feed.predictor (sym (feed_at c.in-Some.stage.feed)) ∙ c.requires.named q c.in-Some.stage.feed (omega (arith, h.below)) in
     record {
       left = h.left;
       count = omega (arith, h.below);

@@ -1,16 +1,14 @@
-use Rattle.std.proofs.Common.{◌≡◌, ◌+◌, ◌++◌, ◌∷◌, [], take, set, suc, ap, sym, ◌∙◌, add-one, length-set, arith}
-use Rattle.std.proofs.Math.Seq.{take-suc-set}
-use Rattle.cube_predictors.specs.Pieces.{held_at}
+use Rattle.std.proofs.Common.{◌<◌, length, sym, ◌∙◌, length-set, arith}
+use Rattle.std.proofs.lemmas.List.{take_more_set}
 use Rattle.cube_predictors.proofs.RowPieces.{next_held}
 use Rattle.cube_predictors.proofs.walk.gather.Goals as goal
 
 pub loop-k-preserved : goal.loop-k-preserved
 loop-k-preserved c =
-    let bands = c.args.bands.now in
-    let k = c.loop-k.k in
-    let number = c.piece_residual.result in
-    let more = next_held bands c.args.i k number c.index-bands-k.result (omega (arith, c.loop-k.auto.k-end, c.loop-k-test.true)) c.index-bands-k.is c.piece_residual.ensures in
+    let was = c.loop-k.invariant in
+    let lt : c.loop-k.k < length c.loop-k.residuals = omega (arith, was.long, c.loop-k.auto.k-end, c.loop-k-test.true) in
+    let more = next_held c.args.bands.now c.args.i c.loop-k.k _ _ (omega (arith, c.loop-k.auto.k-end, c.loop-k-test.true)) c.index-bands-k.is c.piece_residual.ensures in
     record {
-      long = length-set c.loop-k.residuals k number ∙ c.loop-k.invariant.long;
-      done = rw add-one (take-suc-set c.loop-k.residuals k number (omega (arith, c.loop-k.invariant.long, c.loop-k.auto.k-end, c.loop-k-test.true))) ∙ ap (λ ns. ns ++ number ∷ []) c.loop-k.invariant.done ∙ sym more;
+      long = length-set c.loop-k.residuals c.loop-k.k c.piece_residual.result ∙ was.long;
+      done = rw (take_more_set c.loop-k.residuals c.loop-k.k c.piece_residual.result lt, was.done) (sym more);
     }

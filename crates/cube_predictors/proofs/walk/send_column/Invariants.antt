@@ -1,4 +1,4 @@
-use Rattle.std.proofs.Common.{◌≡◌, ◌-◌, ◌≤◌, true, length, take}
+use Rattle.std.proofs.Common.{◌-◌, ◌≤◌, true, length, take}
 use Rattle.cube_predictors.specs.Pieces.{held_at}
 use Rattle.cube_predictors.proofs.walk.send_column.Given as goal
 

@@ -1,58 +1,63 @@
-use Rattle.std.proofs.Common.{◌≡◌, ◌≤◌, ◌+◌, true, ap, refl, sym, subst, arith, ◌∙◌}
+use Rattle.std.proofs.Common.{◌≡◌, ◌≤◌, ◌+◌, ℕ, List, true, ap, refl, sym, subst, arith, ◌∙◌}
 use Rattle.std.proofs.lemmas.Bool.{eqb-true}
 use Rattle.std.specs.List.{flat_map}
 use Rattle.cube_core.specs.Order.{from, upto}
 use Rattle.cube_predictors.specs.Own.{column_of, row_of}
 use Rattle.cube_predictors.specs.Sends.{bands_of}
 use Rattle.cube_predictors.specs.Pieces.{held_of}
-use Rattle.cube_predictors.proofs.Sending.{Pieces, pieces_whole, at_same, none_yet, piece_fits, piece_cut, row_is, row_of_none}
-use Rattle.cube_predictors.proofs.RowPieces.{held_is, past_at, row_piece, upto_piece}
+use Rattle.cube_predictors.proofs.Sending.{Pieces, at_same, none_yet, piece_fits, piece_cut, piece_rest, row_of_none, upto_piece}
+use Rattle.cube_predictors.proofs.RowPieces.{held_is, past_at}
 use Rattle.cube_predictors.proofs.walk.send_row.Goals as goal
 use Rattle.cube_predictors.proofs.walk.send_row.Goals.{After-predict_pieces}
 use Rattle.cube_predictors.proofs.walk.send_row.Given.{Over}
 
 module _ (g : Over) (c : After-predict_pieces g) where
+  abbrev column : ℕ → List ℕ
+  column x = column_of c.args.params.now c.args.cube.now (bands_of c.args.bands.now) c.args.y x
+
   within : c.loop-x.x + c.min-count.result ≤ c.args.cube.now.shape.columns
   within = omega (arith, c.loop-x-test.true, c.min-count.ensures, c.columns-columns.ensures.value, ap (λ s. s.columns) c.shape.ensures)
 
-  pieces : Pieces (row_of c.args.params.now c.args.cube.now (bands_of c.args.bands.now) c.args.y) (flat_map (λ x. column_of c.args.params.now c.args.cube.now (bands_of c.args.bands.now) c.args.y x) (upto c.loop-x.x)) (flat_map (λ x. column_of c.args.params.now c.args.cube.now (bands_of c.args.bands.now) c.args.y x) (from c.loop-x.x c.min-count.result))
-  pieces = row_piece c.args.params.now c.args.cube.now (bands_of c.args.bands.now) c.args.y c.loop-x.x c.min-count.result within
+  pieces : Pieces (row_of c.args.params.now c.args.cube.now (bands_of c.args.bands.now) c.args.y) (flat_map column (upto c.loop-x.x)) (flat_map column (from c.loop-x.x c.min-count.result))
+  unfolding row_of
+  pieces = piece_rest column c.loop-x.x c.min-count.result c.args.cube.now.shape.columns within
 
-  held : held_of c.predict_pieces.new.bands c.min-count.result ≡ flat_map (λ x. column_of c.args.params.now c.args.cube.now (bands_of c.args.bands.now) c.args.y x) (from c.loop-x.x c.min-count.result)
+  held : held_of c.predict_pieces.new.bands c.min-count.result ≡ flat_map column (from c.loop-x.x c.min-count.result)
   held =
-      held_is c.args.params.now c.args.cube.now c.args.y c.loop-x.x c.min-count.result c.predict_pieces.new.bands c.predict_pieces.ensures.past
+      held_is _ _ c.args.y c.loop-x.x c.min-count.result c.predict_pieces.new.bands c.predict_pieces.ensures.past
       ∙ ap (λ zs. flat_map (λ x. column_of c.args.params.now c.args.cube.now zs c.args.y x) (from c.loop-x.x c.min-count.result)) (c.predict_pieces.ensures.same ∙ c.loop-x.invariant.same)
 
 pub returns-then-is_empty-clause-sent : goal.returns-then-is_empty-clause-sent
 returns-then-is_empty-clause-sent g c =
     let none = row_of_none c.args.params.now c.args.cube.now c.args.bands.now c.args.y (eqb-true _ 0 (sym c.is_empty.ensures ∙ c.if-is_empty.true)) in
-    subst (g.T.Taker.takes c.args.taker.now c.args.taker.now true) (sym none) (none_yet g.met.T.Taker.laws c.args.taker.now _ c.requires.may)
+    subst (g.T.Taker.takes c.args.taker.now c.args.taker.now true) (sym none) (none_yet g.met.T.Taker.laws c.requires.may)
 
 pub send_pieces-requires-clause-may : goal.send_pieces-requires-clause-may
 send_pieces-requires-clause-may g c =
     let d = (goal.at.send_pieces-requires-clause-may g c).After-predict_pieces in
-    rw (held g d) (piece_fits g.met.T.Taker.laws c.args.taker.now c.loop-x.taker _ _ _ c.loop-x.invariant.sent (pieces g d) c.requires.may)
+    rw (held g d) (piece_fits g.met.T.Taker.laws c.loop-x.invariant.sent (pieces g d) c.requires.may)
 
 pub returns-then-not-send_pieces-clause-sent : goal.returns-then-not-send_pieces-clause-sent
 returns-then-not-send_pieces-clause-sent g c =
     let d = (goal.at.returns-then-not-send_pieces-clause-sent g c).After-predict_pieces in
-    piece_cut g.met.T.Taker.laws c.args.taker.now c.loop-x.taker c.send_pieces.new.taker _ _ _ c.loop-x.invariant.sent (pieces g d) (rw (held g d, c.if-not-send_pieces.true) at c.send_pieces.ensures.sent)
+    piece_cut g.met.T.Taker.laws c.loop-x.invariant.sent (pieces g d) (rw (held g d, c.if-not-send_pieces.true) at c.send_pieces.ensures.sent)
 
 pub loop-x-preserved : goal.loop-x-preserved
 loop-x-preserved g c =
     let d = (goal.at.loop-x-preserved g c).After-predict_pieces in
     record {
       within = within g d;
-      at = at_same c.args.params.now c.args.cube.now _ _ c.predict_pieces.new.bands (past_at c.args.params.now c.args.cube.now _ _ c.predict_pieces.new.bands c.predict_pieces.ensures.past) (omega arith);
+      at = at_same _ _ _ _ _ (past_at _ _ _ _ _ c.predict_pieces.ensures.past) (omega arith);
       same = c.predict_pieces.ensures.same ∙ c.loop-x.invariant.same;
-      sent = rw upto_piece (g.met.T.Taker.laws.behind c.args.taker.now c.loop-x.taker c.send_pieces.new.taker true _ _ c.loop-x.invariant.sent (rw (held g d, c.if-not-send_pieces.false) at c.send_pieces.ensures.sent));
+      sent = rw upto_piece (g.met.T.Taker.laws.behind _ _ _ true _ _ c.loop-x.invariant.sent (rw (held g d, c.if-not-send_pieces.false) at c.send_pieces.ensures.sent));
     }
 
 pub returns-clause-sent : goal.returns-clause-sent
+unfolding row_of
 returns-clause-sent g c =
-    let columns = ap (λ s. s.columns) c.shape.ensures in
-    pieces_whole g.met.T.Taker.laws c.args.taker.now c.loop-x.taker (λ x. column_of c.args.params.now c.args.cube.now (bands_of c.args.bands.now) c.args.y x) _ c.loop-x.x c.args.cube.now.shape.columns c.loop-x.invariant.sent
-    (omega (arith, c.loop-x-test.false, c.loop-x.invariant.within, c.columns-columns.ensures.value, columns)) (row_is c.args.params.now c.args.cube.now (bands_of c.args.bands.now) c.args.y)
+    let all : c.loop-x.x ≡ c.args.cube.now.shape.columns =
+    omega (arith, c.loop-x-test.false, c.loop-x.invariant.within, c.columns-columns.ensures.value, ap (λ s. s.columns) c.shape.ensures) in
+    rw all at c.loop-x.invariant.sent
 
 pub loop-x-init : goal.loop-x-init
-loop-x-init g c = record { within = omega arith; at = at_same c.args.params.now c.args.cube.now _ _ c.args.bands.now c.requires.at (omega arith); same = refl; sent = none_yet g.met.T.Taker.laws c.args.taker.now _ c.requires.may }
+loop-x-init g c = record { within = omega arith; at = at_same _ _ _ _ _ c.requires.at (omega arith); same = refl; sent = none_yet g.met.T.Taker.laws c.requires.may }

@@ -6,4 +6,4 @@ pub unreachable-requires : goal.unreachable-requires
 unreachable-requires c = place_comes c.self.inside.end c.args.residual (rw (← c.self.view_is) at c.requires) c.in_default.ensures
 
 pub invariant_of-self : goal.invariant_of-self
-invariant_of-self c = along_one c.put.result c.self.inside.shape c.self.inside.order c.self.inside.deal.items c.self.inside.end c.put.new.self c.in-Some.place c.put.ensures.moved c.put.ensures.same c.self.invariant
+invariant_of-self c = along_one c.put.result _ c.self.inside.order _ c.self.inside.end _ c.in-Some.place c.put.ensures.moved c.put.ensures.same c.self.invariant

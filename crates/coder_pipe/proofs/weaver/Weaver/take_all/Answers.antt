@@ -5,7 +5,7 @@ use Rattle.coder_pipe.proofs.weaver.Weaver.take_all.Goals as goal
 pub invariant_of-self : goal.invariant_of-self
 invariant_of-self c =
     let may : MayCodeAll c.self.inside.end c.args.residuals.now = rw (← c.self.view_is) at c.requires in
-    along_all c.put_all.result c.self.inside.shape c.self.inside.order c.self.inside.deal.items c.self.inside.end c.put_all.new.self c.args.residuals.now may c.put_all.ensures.coded c.put_all.ensures.some c.self.invariant
+    along_all c.put_all.result _ c.self.inside.order _ _ _ _ may c.put_all.ensures.coded c.put_all.ensures.some c.self.invariant
 
 pub returns-clause-some : goal.returns-clause-some
-returns-clause-some c = rw (← c.self.view_is) (weaves_some c.put_all.result c.self.inside.deal.items c.self.inside.end c.put_all.new.self c.args.residuals.now c.put_all.ensures.some)
+returns-clause-some c = rw (← c.self.view_is) (weaves_some c.put_all.result _ _ _ _ c.put_all.ensures.some)

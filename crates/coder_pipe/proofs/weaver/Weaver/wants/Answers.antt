@@ -6,7 +6,10 @@ pub returns-in_err-place : goal.returns-in_err-place
 returns-in_err-place c = rw (c.from_residual.ensures, ← c.self.view_is) (wants_none _ c.in_err-place.ensures)
 
 pub returns : goal.returns
-returns c = rw (← c.self.view_is) (wants_some _ _ _ c.in_ok-place.place c.from.result _ c.self.invariant c.in_ok-place.ensures (c.from.ensures ∙ c.index.ensures))
+returns c =
+    rw (← c.self.view_is) (wants_some _ _ _ c.in_ok-place.place c.from.result _ c.self.invariant c.in_ok-place.ensures (c.from.ensures ∙ c.index.ensures))
 
 pub index-requires : goal.index-requires
-index-requires c = let within = (place_within c.self.inside.shape c.self.inside.order _ c.in_ok-place.place c.self.invariant c.in_ok-place.ensures).1 in omega (arith, within, c.self.inside.deal.ok.0)
+index-requires c =
+    let within =
+    (place_within _ c.self.inside.order _ 0 c.in_ok-place.place c.self.invariant c.in_ok-place.ensures).1 in omega (arith, within, c.self.inside.deal.ok.0)

@@ -3,4 +3,6 @@ use Rattle.file_coding.proofs.Runs.{rows_follow}
 use Rattle.file_coding.proofs.coding_end.CodingEnd.new.Goals as goal
 
 pub invariant_of-result-2 : goal.invariant_of-result-2
-invariant_of-result-2 c = (c.requires.word, λ by. rw (c.new-2.ensures, c.from.ensures, c.columns.ensures.value) (rows_follow c.args.params.now.shape c.args.params.now.order c.requires.order (sym c.goes_along_rows.ensures ∙ by)))
+invariant_of-result-2 c =
+    let rows = rows_follow c.args.params.now.shape c.args.params.now.order c.requires.order in
+    (c.requires.word, λ by. rw (c.new-2.ensures, c.from.ensures, c.columns.ensures.value) (rows (sym c.goes_along_rows.ensures ∙ by)))

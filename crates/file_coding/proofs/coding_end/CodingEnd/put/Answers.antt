@@ -1,4 +1,4 @@
-use Rattle.std.proofs.Common.{◌≡◌, ◌+◌, ◌*◌, ◌∷◌, rules, refl, subst}
+use Rattle.std.proofs.Common.{ap₂, ◌≡◌, ◌+◌, ◌*◌, ◌∷◌, rules, refl, subst}
 use Rattle.file_coding.specs.Ends.{AreByRows}
 use Rattle.file_coding.proofs.Runs.{rows_shift}
 use Rattle.file_coding.proofs.Endings.{may_take, coded_more}
@@ -10,10 +10,11 @@ put-requires c = rw (← c.self.view_is) at (may_take c.args.self.now c.args.pla
 pub returns-clause-coded : goal.returns-clause-coded
 returns-clause-coded c =
     let moved : c.args.self.now.left ≡ c.args.place ∷ c.next.new.self = search rules in
-    let time : c.from.result * c.self.inside.columns + c.from-2.result ≡ c.args.place.y * c.self.inside.columns + c.args.place.x = rw (c.from.ensures, c.from-2.ensures) refl in
+    let time = ap₂ (λ y x. y * c.self.inside.columns + x) c.from.ensures c.from-2.ensures in
     rw (← c.self.view_is) (coded_more _ _ c.args.place _ c.args.delta (rw (← c.self.view_is) at moved) time refl refl c.in_ok-put.ensures.taken)
 
 pub invariant_of-self-2 : goal.invariant_of-self-2
 invariant_of-self-2 c =
     let moved : c.self.inside.places ≡ c.args.place ∷ c.next.new.self = search rules in
-    (c.self.invariant.0, λ by. rows_shift c.self.inside.columns c.args.place c.next.new.self (subst (AreByRows c.self.inside.columns) moved (c.self.invariant.1 by)))
+    let rows = subst (AreByRows c.self.inside.columns) moved in
+    (c.self.invariant.0, λ by. rows_shift c.self.inside.columns c.args.place c.next.new.self (rows (c.self.invariant.1 by)))

@@ -1,22 +1,20 @@
-use Rattle.std.proofs.Common.{◌≡◌, ◌+◌, ◌*◌, length, sym, subst, refl}
-use Rattle.file_coding.specs.Ends.{AreByRows}
-use Rattle.file_coding.proofs.Runs.{may_put_run, coded_run, rows_drop}
+use Rattle.std.proofs.Common.{ap₂, ◌+◌, ◌*◌, refl}
+use Rattle.file_coding.proofs.Runs.{may_put_run, coded_run, rows_behind}
 use Rattle.file_coding.proofs.coding_end.CodingEnd.put_run.Goals as goal
 
 pub put_run-requires : goal.put_run-requires
 put_run-requires c =
-    let time : c.from.result * c.self.inside.columns + c.from-2.result ≡ c.args.place.y * c.self.inside.columns + c.args.place.x = rw (c.from.ensures, c.from-2.ensures) refl in
+    let time = ap₂ (λ y x. y * c.self.inside.columns + x) c.from.ensures c.from-2.ensures in
     may_put_run _ c.args.place _ c.args.run.now (rw (← c.self.view_is) at c.requires) time
 
 pub invariant_of-self-2 : goal.invariant_of-self-2
-invariant_of-self-2 c = (c.self.invariant.0, λ by. subst (AreByRows c.self.inside.columns) (sym c.go_by.ensures) (rows_drop c.self.inside.columns (length c.args.run.now) c.self.inside.places (c.self.invariant.1 by)))
+invariant_of-self-2 c = (c.self.invariant.0, λ by. rows_behind c.self.inside.columns _ c.self.inside.places _ c.go_by.ensures (c.self.invariant.1 by))
 
 pub returns-clause-coded : goal.returns-clause-coded
 returns-clause-coded c =
-    let time : c.from.result * c.self.inside.columns + c.from-2.result ≡ c.args.place.y * c.self.inside.columns + c.args.place.x = rw (c.from.ensures, c.from-2.ensures) refl in
-    rw (← c.self.view_is) (coded_run _ _ c.args.place _ c.args.run.now (rw (← c.self.view_is) at c.requires) c.go_by.ensures time refl refl c.in_ok-put_run.ensures.taken)
+    let time = ap₂ (λ y x. y * c.self.inside.columns + x) c.from.ensures c.from-2.ensures in
+    rw (← c.self.view_is)
+    (coded_run _ _ c.args.place _ c.args.run.now (rw (← c.self.view_is) at c.requires) c.go_by.ensures time refl refl c.in_ok-put_run.ensures.taken)
 
 pub returns-clause-rows : goal.returns-clause-rows
-returns-clause-rows c =
-    let rows : AreByRows c.self.inside.columns c.self.inside.places = (rw (← c.self.view_is) at c.requires).rows in
-    subst (AreByRows c.self.inside.columns) (sym c.go_by.ensures) (rows_drop c.self.inside.columns (length c.args.run.now) c.self.inside.places rows)
+returns-clause-rows c = rows_behind c.self.inside.columns _ c.self.inside.places _ c.go_by.ensures (rw (← c.self.view_is) at c.requires).rows

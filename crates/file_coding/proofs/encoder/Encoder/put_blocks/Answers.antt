@@ -5,5 +5,7 @@ use Rattle.file_coding.proofs.encoder.Encoder.put_blocks.Goals as goal
 
 pub returns-clause-taken : goal.returns-clause-taken
 returns-clause-taken c =
-    let counted : taken_count c.put_all.new.self ≡ taken_count c.in-Blocks.blocks + length (take c.put_all.result c.args.residuals.now) = omega (arith, c.put_all.ensures.counted, c.put_all.ensures.most, length-take c.put_all.result c.args.residuals.now) in
-    rw c.in-Blocks.is (blocks_put_all (take c.put_all.result c.args.residuals.now) c.in-Blocks.blocks c.put_all.new.self c.args.writer.now.bits c.put_all.new.writer.bits c.put_all.ensures.taken c.put_all.ensures.cut counted)
+    let told = c.put_all.ensures in
+    let list = take c.put_all.result c.args.residuals.now in
+    let counted : taken_count c.put_all.new.self ≡ taken_count c.in-Blocks.blocks + length list = rw length-take (omega (arith, told.counted, told.most)) in
+    rw c.in-Blocks.is (blocks_put_all list _ _ c.args.writer.now.bits c.put_all.new.writer.bits told.taken told.cut counted)
