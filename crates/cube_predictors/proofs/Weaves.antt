@@ -1,5 +1,5 @@
 -- The parts of a list, woven along the owners of its places, make it again.
-use Rattle.std.proofs.Common.{◌≡◌, ℕ, zero, suc, ◌+◌, ◌*◌, ◌<◌, ◌≤◌, inl, inr, List, [], ◌∷◌, ◌++◌, length, map, get_or, set, Some, refl, sym, ap, ◌∙◌, arith, true}
+use Rattle.std.proofs.Common.{◌≡◌, ℕ, zero, suc, ◌+◌, ◌<◌, ◌≤◌, inl, inr, List, [], ◌∷◌, ◌++◌, length, get_or, set, Some, refl, sym, ap, ◌∙◌, arith, true}
 use Rattle.std.specs.Prelude.{◌==◌, if◌then◌else◌}
 use Rattle.std.specs.List.{All, slice_get}
 use Rattle.std.proofs.Common.{length-set, get_or-set_other}
@@ -11,13 +11,12 @@ use Rattle.std.proofs.lemmas.List.Elements.{All-map}
 use Rattle.std.proofs.lemmas.List.Sums.{sum_by-cons}
 use Rattle.std.proofs.lemmas.Option.{slice_get-get_or}
 use Rattle.cube_core.specs.declared.order.Order.{Order}
-use Rattle.cube_core.specs.declared.order.Place.{Place}
 use Rattle.cube_core.specs.Shape.{Sizes}
-use Rattle.cube_core.specs.Order.{IsOrder, IsPlaceOf, places, upto}
+use Rattle.cube_core.specs.Order.{IsOrder, places, upto}
 use Rattle.cube_core.proofs.Keys.{order_is_by_key}
 use Rattle.cube_core.proofs.Lists.{length-from, get_or-from}
 use Rattle.header_bits.specs.declared.params.Params.{Params}
-use Rattle.predict_core.specs.Residual.{mapped_residual, residuals}
+use Rattle.predict_core.specs.Residual.{residuals}
 use Rattle.cube_predictors.specs.Weave.{IsDeal, owners_of, owners, share, part, parts_of, parts, weave, WeaveOfParts, WeaveOfTaken, AreWhole, PartsOfWeave}
 
 -- ---- one number more
