@@ -128,8 +128,13 @@ owners_fit p deal numbers [] lawful few from = omega (arith, few)
 owners_fit p deal numbers (o ∷ os) lawful few from =
     let last : slice_get (owners deal p) (length numbers + length os) ≡ Some (get_or (o ∷ os) (length os) 0) =
     from (length os) (omega arith) ∙ slice_get-get_or (o ∷ os) (length os) 0 (omega arith) in
-    omega (arith, slice_get_within (owners deal p) (length numbers + length os)
-    (get_or (o ∷ os) (length os) 0) last, length-owners deal p, length-places p.shape p.order lawful)
+    omega (
+      arith,
+      slice_get_within (owners deal p) (length numbers + length os)
+          (get_or (o ∷ os) (length os) 0) last,
+      length-owners deal p,
+      length-places p.shape p.order lawful,
+    )
 
 -- fewer were taken than there are places, so a place is to come
 pub place_left : (p : Params) (deal : List ℕ) (w : Weaving) (handed : List (List ℕ)) (count : ℕ) → IsOrder p.shape p.order → IsWoven p deal w handed count

@@ -148,8 +148,8 @@ pub owned : (s : Sizes) (order : Order) (predictors : ℕ) (deal : List ℕ) →
 unfolding owners_of
 owned s order predictors deal lawful dealt =
     All-map (λ o. o < predictors) (λ p. get_or deal p.z 0) (places s order) (λ k d h.
-        let there = (order_is_by_key s order lawful).only k _ (slice_get-get_or (places s order) k d h) in
-        dealt.owned (get_or (places s order) k d).z 0 (rw dealt.whole there.band))
+    let there = (order_is_by_key s order lawful).only k _ (slice_get-get_or (places s order) k d h) in
+    dealt.owned (get_or (places s order) k d).z 0 (rw dealt.whole there.band))
 
 pub length-owners : (deal : List ℕ) (p : Params) → length (owners deal p) ≡ length (places p.shape p.order)
 unfolding owners_of

@@ -32,7 +32,7 @@ abbrev pub Fills : Params → Tile → Image → Image → List Learner → List
 Fills p tile c d bands now deltas n =
     IsLawful p → c.shape ≡ p.shape → IsTile p tile → AreAlong p c (place_index p.shape p.order tile.place) bands
     → ((b : ℕ) → b < n → (g : Learner) → slice_get now (tile.place.z + b) ≡ Some g → Follows p g d)
-      × ((i b : ℕ) → i < tile.columns → b < n → mapped_residual p d (tile.place.z + b) (tile.place.y * d.shape.columns + (tile.place.x + i)) ≡ slice_index deltas (i * tile.bands + b))
+    × ((i b : ℕ) → i < tile.columns → b < n → mapped_residual p d (tile.place.z + b) (tile.place.y * d.shape.columns + (tile.place.x + i)) ≡ slice_index deltas (i * tile.bands + b))
 
 -- a band that has gone over the tile's columns
 pub record IsPast (c : Image) (tile : Tile) (b : ℕ) (g : Learner) : Type 0 where

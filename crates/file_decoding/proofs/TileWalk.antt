@@ -88,13 +88,16 @@ band_there (f ∷ bands) (suc z) lt = band_there bands z (omega (arith, lt))
 pub bands_ready : (p : Params) (c : Image) (tile : Tile) (bands : List Learner) (n : ℕ) → IsOrder p.shape p.order → c.shape ≡ p.shape → c.kind ≡ p.kind → length bands ≡ p.shape.bands → IsTile p tile → n ≡ place_index p.shape p.order tile.place → AreAlong p c n bands → AreReady c tile bands
 bands_ready p c tile bands n lawful shape kind many is at along b lt =
     let band = band_there bands (tile.place.z + b) (omega (arith, lt, is.bands, many)) in
-    let here = along (tile.place.z + b) (omega (arith, lt, is.bands)) band.0 band.1 in
-    (band.0, band.1, record {
-      shape = shape ∙ sym here.follows.made.shape;
-      kind = kind ∙ sym here.follows.made.kind;
-      band = here.band;
-      place = sym (time_at p tile b n band.0.place lawful is lt at here.come) ∙ ap (λ (s : Sizes). tile.place.y * s.columns + tile.place.x) (sym shape);
-    })
+    let here = along (tile.place.z + b) (omega (arith, lt, is.bands)) band.0 band.1 in (
+      band.0,
+      band.1,
+      record {
+        shape = shape ∙ sym here.follows.made.shape;
+        kind = kind ∙ sym here.follows.made.kind;
+        band = here.band;
+        place = sym (time_at p tile b n band.0.place lawful is lt at here.come) ∙ ap (λ (s : Sizes). tile.place.y * s.columns + tile.place.x) (sym shape);
+      },
+    )
 
 -- ---- behind a tile
 

@@ -56,7 +56,11 @@ impl Tile {
         let rest = (params.shape.columns() - place.x) as usize;
         Tile {
             place,
-            columns: if place.z == first { COLUMNS.min(rest) } else { 1 },
+            columns: if place.z == first {
+                COLUMNS.min(rest)
+            } else {
+                1
+            },
             bands: (end - place.z) as usize,
         }
     }
@@ -96,7 +100,13 @@ impl Tile {
         for i in 0..self.columns {
             let first = i * self.bands;
             let column = &mut deltas[first..first + self.bands];
-            decoder.next_column(self.place.z, t + i as u64, index + first as u64, reader, column)?;
+            decoder.next_column(
+                self.place.z,
+                t + i as u64,
+                index + first as u64,
+                reader,
+                column,
+            )?;
         }
         Ok(())
     }

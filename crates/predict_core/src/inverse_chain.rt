@@ -79,7 +79,14 @@ pub(crate) fn invert_places<const Q: usize, const N: usize, const WRAPS: bool>(
     ensures within { AllWithin (2 ^ (run.entry.settings.now.predictor.fraction + 2)) result.1 }
 {
     cube.prove_is_cube();
-    let OpenRun { y, x, quads, mut weights, deltas, .. } = run;
+    let OpenRun {
+        y,
+        x,
+        quads,
+        mut weights,
+        deltas,
+        ..
+    } = run;
     // A copy stays in registers.
     let settings = *run.settings;
     let mut stretch = Stretch {

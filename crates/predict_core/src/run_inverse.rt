@@ -27,13 +27,7 @@ impl Band {
     /// in that row. The cube has the shape and kind of the parameters, and each residual is at most 2^D - 1.
     /// The cube's samples at these places and later ones are not read, and no other sample is written
     /// (CCSDS 123.0-B-1, "Predictor").
-    pub fn inverse_run(
-        &mut self,
-        cube: &mut Cube,
-        y: u32,
-        x: u32,
-        deltas: &[u16],
-    )
+    pub fn inverse_run(&mut self, cube: &mut Cube, y: u32, x: u32, deltas: &[u16])
         requires shape { cube.old.shape ≡ self.old.shape }
         requires kind { cube.old.kind ≡ self.old.kind }
         requires place { IsPlace cube.old.shape self.old.band y x }
@@ -64,13 +58,7 @@ impl Band {
     /// Does the same, one place after another.
     // Apart from the way by rows it leaves that one its registers.
     #[inline(never)]
-    fn inverse_each(
-        &mut self,
-        cube: &mut Cube,
-        y: u32,
-        x: u32,
-        deltas: &[u16],
-    )
+    fn inverse_each(&mut self, cube: &mut Cube, y: u32, x: u32, deltas: &[u16])
         requires shape { cube.old.shape ≡ self.old.shape }
         requires kind { cube.old.kind ≡ self.old.kind }
         requires place { IsPlace cube.old.shape self.old.band y x }
@@ -95,13 +83,7 @@ impl Band {
 
     /// Writes the sample at the next place whose mapped residual is `delta` into the cube, as `inverse` finds it, and
     /// returns it.
-    fn inverse_into(
-        &mut self,
-        cube: &mut Cube,
-        y: u32,
-        x: u32,
-        delta: u16,
-    ) -> i32
+    fn inverse_into(&mut self, cube: &mut Cube, y: u32, x: u32, delta: u16) -> i32
         requires shape { cube.old.shape ≡ self.old.shape }
         requires kind { cube.old.kind ≡ self.old.kind }
         requires place { IsPlace cube.old.shape self.old.band y x }

@@ -57,8 +57,7 @@ loop-b-preserved c =
 pub returns-clause-filled : goal.returns-clause-filled
 returns-clause-filled c p lawful shape is along =
     let done : c.loop-b.b ≡ c.args.self.now.bands = omega (arith, c.loop-b-test.false, c.loop-b.auto.b-end) in
-    let filled : AreFilled c.args.self.now c.args.cube.now c.loop-b.cube c.args.bands.now c.loop-b.bands c.args.deltas.now c.args.self.now.bands = subst (λ (n : ℕ). AreFilled c.args.self.now c.args.cube.now c.loop-b.cube c.args.bands.now c.loop-b.bands c.args.deltas.now n) done c.loop-b.invariant in
-    (
+    let filled : AreFilled c.args.self.now c.args.cube.now c.loop-b.cube c.args.bands.now c.loop-b.bands c.args.deltas.now c.args.self.now.bands = subst (λ (n : ℕ). AreFilled c.args.self.now c.args.cube.now c.loop-b.cube c.args.bands.now c.loop-b.bands c.args.deltas.now n) done c.loop-b.invariant in (
       same_before p c.args.self.now c.args.cube.now c.loop-b.cube c.args.bands.now c.loop-b.bands c.args.deltas.now c.args.self.now.bands shape is (omega arith) filled,
       filled_residuals p c.args.self.now c.args.cube.now c.loop-b.cube c.args.bands.now c.loop-b.bands c.args.deltas.now filled lawful shape is along,
       filled_whole p c.args.self.now c.args.cube.now c.loop-b.cube c.args.bands.now c.loop-b.bands c.args.deltas.now filled c.requires.whole c.requires.ready lawful shape is along,
