@@ -23,7 +23,7 @@ pub(crate) fn identifier_width(set: &CodeSet) -> u32
 }
 
 /// Returns the number of bits of a block's quotients under split-sample.
-fn quotients_cost(k: u32, block: &[u16]) -> u64
+pub(crate) fn quotients_cost(k: u32, block: &[u16]) -> u64
     requires k { k ≤ 15 }
     requires few { length block.now ≤ 64 }
     ensures value { result ≡ length (quotient_codes k block.now) }
