@@ -39,11 +39,14 @@ last_counted v b inside last =
     ap (λ (n : ℕ). n * v.cut.size + 0) blocks ∙ omega (arith, last)
 
 -- where all values but one of a block are held, the next number ends it
-pub ends_block : (v : Packed) (r : Result (Unit {0}) Fault) → length v.held + 1 ≡ v.cut.size → IfErr r (λ _. EndsBlock v)
-ends_block v (Ok x) last = tt
-ends_block v (Err e) last =
+pub last_left : (v : Packed) → length v.held + 1 ≡ v.cut.size → EndsBlock v
+last_left v last =
     let whole : taken_count v + 1 ≡ (v.start + v.zeros + 1) * v.cut.size = omega (arith, last) in
     rw whole (mul-mod_left (v.start + v.zeros + 1) v.cut.size)
+
+pub ends_block : (v : Packed) (r : Result (Unit {0}) Fault) → length v.held + 1 ≡ v.cut.size → IfErr r (λ _. EndsBlock v)
+ends_block v (Ok x) last = tt
+ends_block v (Err e) last = last_left v last
 
 -- where values are held, the numbers end inside a block
 pub ends_inside : (v : Packed) (r : Result (Unit {0}) Fault) → 0 < length v.held → length v.held < v.cut.size → IfErr r (λ _. EndsInside v)

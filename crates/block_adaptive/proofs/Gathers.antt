@@ -45,6 +45,9 @@ appends_word w new was held part n bits word lt le is room filled pushed spent =
 pub appends_both : (a b c : Written) (p q r x y : List Bool) → Appends a p b q x → Appends b q c r y → Appends a p c r (x ++ y)
 appends_both a b c p q r x y first second = record { writes = writes_both (behind a p) (behind b q) (behind c r) x y first.writes second.writes; fits = second.fits }
 
+pub alone : (old : Written) (was x : List Bool) → was ≡ [] → length x ≤ old.room → length was + length x ≤ old.room
+alone old was x none h = omega (arith, ap length none)
+
 pub first_fits : (old : Written) (was x y : List Bool) → length was + length (x ++ y) ≤ old.room → length was + length x ≤ old.room
 first_fits old was x y h = omega (arith, length-append x y)
 

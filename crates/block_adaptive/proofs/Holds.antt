@@ -1,10 +1,10 @@
 -- What a writer has taken, several numbers at a time.
-use Rattle.std.proofs.Common.{◌≡◌, ℕ, suc, ◌+◌, ◌*◌, ◌-◌, ◌^◌, ◌<◌, ◌≤◌, Bool, List, [], ◌∷◌, ◌++◌, length, take, drop, get_or, sum, refl, sym, ap, subst, ◌∙◌, inl, inr, arith, append_assoc, Fits, w16}
+use Rattle.std.proofs.Common.{◌≡◌, ℕ, zero, suc, ◌+◌, ◌*◌, ◌-◌, ◌^◌, ◌<◌, ◌≤◌, Bool, List, [], ◌∷◌, ◌++◌, length, take, drop, get_or, sum, refl, sym, ap, subst, ◌∙◌, inl, inr, arith, append_assoc, Fits, w16}
 use Rattle.std.specs.List.{AllByRecursion}
 use Rattle.std.specs.Prelude.{Result, Ok, Err, OnErr}
 use Rattle.std.proofs.Math.Seq.{take-add}
 use Rattle.std.proofs.lemmas.Bool.{cases_lt}
-use Rattle.std.proofs.lemmas.List.{append-nil, length-append, length-take, length-drop, take_at, take_more}
+use Rattle.std.proofs.lemmas.List.{append-nil, length-append, length-take, length-drop, take_at, take_more, take-take}
 use Rattle.cube_core.specs.declared.fault.Fault.{Fault}
 use Rattle.block_adaptive.specs.DataSets.{Cut}
 use Rattle.block_adaptive.specs.Holding.{AreStored}
@@ -23,6 +23,16 @@ held_all values list behind held le =
 range_all : (limit : ℕ) (held list : List ℕ) → AllByRecursion (λ v. v < limit) held → AllByRecursion (λ v. v < limit) list → AllByRecursion (λ v. v < limit) (held ++ list)
 range_all limit [] list h more = more
 range_all limit (v ∷ held) list h more = (h.0, range_all limit held list h.1 more)
+
+pub range_front : (limit n : ℕ) (list : List ℕ) → AllByRecursion (λ v. v < limit) list → AllByRecursion (λ v. v < limit) (take n list)
+range_front limit zero list h = tt
+range_front limit (suc n) [] h = tt
+range_front limit (suc n) (v ∷ list) h = (h.0, range_front limit n list h.1)
+
+pub range_behind : (limit n : ℕ) (list : List ℕ) → AllByRecursion (λ v. v < limit) list → AllByRecursion (λ v. v < limit) (drop n list)
+range_behind limit zero list h = h
+range_behind limit (suc n) [] h = tt
+range_behind limit (suc n) (v ∷ list) h = range_behind limit n list h.1
 
 pub stored_more : (c : Cut) (i counted total : ℕ) (held list : List ℕ) → AreStored c i counted total held → AllByRecursion (λ v. v < 2 ^ c.set.bits) list → length held + length list < c.size → (1 ≤ length list → i + counted < c.count)
     → AreStored c i counted (total + sum list) (held ++ list)
@@ -60,6 +70,14 @@ hold_more old v new list first count written now puts is =
     let here : PutsAll (take count (drop first list)) v now new now = values_held v new now (take count (drop first list)) (is ∙ ap (λ (n : ℕ). record v { held = v.held ++ take n (drop first list) }) e) in
     subst (λ (x : List ℕ). PutsAll x old written new now) (sym (take-add first count list)) (puts_behind (take first list) (take count (drop first list)) old v new written now now puts here)
 
+-- a block's numbers, or the first of them
+pub block_more : (old v new : Packed) (list : List ℕ) (first size count : ℕ) (written now later : List Bool) → count ≤ size → PutsAll (take first list) old written v now → PutsAll (take count (take (first + size - first) (drop first list))) v now new later
+    → PutsAll (take (first + count) list) old written new later
+block_more old v new list first size count written now later le puts more =
+    let e : first + size - first ≡ size = omega arith in
+    let here : PutsAll (take count (drop first list)) v now new later = rw (e, take-take count size (drop first list) le) at more in
+    subst (λ (x : List ℕ). PutsAll x old written new later) (sym (take-add first count list)) (puts_behind (take first list) (take count (drop first list)) old v new written now later puts here)
+
 pub number_more : (old v new : Packed) (list : List ℕ) (n : ℕ) (written now later : List Bool) → PutsAll (take n list) old written v now → n < length list → PutsNumber (get_or list n 0) v now new later
     → PutsAll (take (n + 1) list) old written new later
 number_more old v new list n written now later puts lt number =
@@ -80,3 +98,13 @@ held_counted v new list first count le is =
 pub sum_small : (list : List ℕ) → ((i : ℕ) → Fits w16 (get_or list i 0)) → sum list ≤ 65536 * length list
 sum_small [] h = omega arith
 sum_small (v ∷ vs) h = omega (arith, sum_cons v vs, (h 0).fits, sum_small vs (λ i. h (suc i)))
+
+pub sum_front : (n : ℕ) (list : List ℕ) → sum (take n list) ≤ sum list
+sum_front zero list = omega arith
+sum_front (suc n) [] = omega arith
+sum_front (suc n) (v ∷ vs) = omega (arith, sum_cons v (take n vs), sum_cons v vs, sum_front n vs)
+
+pub sum_next : (i n : ℕ) (list : List ℕ) → sum (take (i + n) list) ≡ sum (take i list) + sum (take (i + n - i) (drop i list))
+sum_next i n list =
+    let e : i + n - i ≡ n = omega arith in
+    ap sum (take-add i n list) ∙ sum_append (take i list) (take n (drop i list)) ∙ rw e refl

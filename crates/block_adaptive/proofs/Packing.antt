@@ -240,13 +240,13 @@ pub values_held : (v new : Packed) (written : List Bool) (xs : List ℕ) → new
 values_held v new written xs is = λ taken bits h.
     ([], sym (append-nil written), rw (is, append-nil bits) (values_taken v taken bits xs h))
 
-pub number_packed : (v new : Packed) (written now : List Bool) (x : ℕ) → IsCut v.cut → v.start + v.zeros < v.cut.count → length (v.held ++ x ∷ []) ≡ v.cut.size → AllByRecursion (λ y. y < 2 ^ v.cut.set.bits) (v.held ++ x ∷ [])
-    → now ≡ written ++ data_sets_packed v (v.held ++ x ∷ []) → new ≡ packed v (v.held ++ x ∷ []) → PutsNumber x v written new now
-number_packed v new written now x cut more len range data_sets is = λ taken bits h.
-    let told : taken ++ x ∷ [] ≡ values_of (h.blocks ++ (v.held ++ x ∷ []) ∷ []) =
-    ap (λ (ns : List ℕ). ns ++ x ∷ []) h.numbers ∙ append_assoc (values_of h.blocks) v.held (x ∷ [])
-    ∙ ap (λ (ns : List ℕ). values_of h.blocks ++ ns) (sym (append-nil (v.held ++ x ∷ []))) ∙ sym (values_append h.blocks ((v.held ++ x ∷ []) ∷ [])) in
-    (data_sets_packed v (v.held ++ x ∷ []), data_sets, rw is (block_taken v taken (taken ++ x ∷ []) bits (v.held ++ x ∷ []) cut more len range h told))
+pub values_packed : (v new : Packed) (written now : List Bool) (xs : List ℕ) → IsCut v.cut → v.start + v.zeros < v.cut.count → length (v.held ++ xs) ≡ v.cut.size → AllByRecursion (λ y. y < 2 ^ v.cut.set.bits) (v.held ++ xs)
+    → now ≡ written ++ data_sets_packed v (v.held ++ xs) → new ≡ packed v (v.held ++ xs) → PutsAll xs v written new now
+values_packed v new written now xs cut more len range data_sets is = λ taken bits h.
+    let told : taken ++ xs ≡ values_of (h.blocks ++ (v.held ++ xs) ∷ []) =
+    ap (λ (ns : List ℕ). ns ++ xs) h.numbers ∙ append_assoc (values_of h.blocks) v.held xs
+    ∙ ap (λ (ns : List ℕ). values_of h.blocks ++ ns) (sym (append-nil (v.held ++ xs))) ∙ sym (values_append h.blocks ((v.held ++ xs) ∷ [])) in
+    (data_sets_packed v (v.held ++ xs), data_sets, rw is (block_taken v taken (taken ++ xs) bits (v.held ++ xs) cut more len range h told))
 
 -- ---- the values held
 

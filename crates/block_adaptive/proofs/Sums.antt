@@ -31,16 +31,8 @@ plain_length vs = omega (arith, quotients_length 0 vs, plain_sum vs)
 pub quotient_more : (k : ℕ) (vs : List ℕ) (i : ℕ) → i < length vs → quotient_sum k (take (i + 1) vs) ≡ quotient_sum k (take i vs) + get_or vs i 0 / 2 ^ k
 quotient_more k vs i lt = sum_by_more (λ (x : ℕ). x / 2 ^ k) vs i 0 lt
 
--- the sums under three neighbours, by the place
-pub sums_at : (k i : ℕ) (vs : List ℕ) → i < 3 → get_or (quotient_sum k vs ∷ quotient_sum (k + 1) vs ∷ quotient_sum (k + 2) vs ∷ []) i 0 ≡ quotient_sum (k + i) vs
-sums_at k zero vs lt = (let e : k + 0 ≡ k = omega arith in rw e refl)
-sums_at k (suc zero) vs lt = refl
-sums_at k (suc (suc zero)) vs lt = refl
-sums_at k (suc (suc (suc i))) vs lt = absurd (omega arith)
-
-pub split_is : (s : CodeSet) (k i : ℕ) (vs : List ℕ) → i < 3
-    → width s + get_or (quotient_sum k vs ∷ quotient_sum (k + 1) vs ∷ quotient_sum (k + 2) vs ∷ []) i 0 + length vs + (k + i) * length vs ≡ cost s (Split (k + i)) vs
-split_is s k i vs lt = omega (arith, split_cost s (k + i) vs, quotients_length (k + i) vs, sums_at k i vs lt)
+pub split_is : (s : CodeSet) (k : ℕ) (vs : List ℕ) → width s + quotient_sum k vs + length vs + k * length vs ≡ cost s (Split k) vs
+split_is s k vs = omega (arith, split_cost s k vs, quotients_length k vs)
 
 -- ---- a block is zeros where its values add up to 0
 

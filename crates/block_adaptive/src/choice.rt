@@ -209,11 +209,13 @@ fn choose_of_large(set: &CodeSet, block: &[u16], total: u32) -> (Choice, u64)
     let splits = (1u32 << width) - 2;
     let len = block.len() as u64;
     let first = first_split(splits, u64::from(total), len);
-    let sums = quotient_sums(first, block);
+    let [mut quotients, mut next, last] = quotient_sums(first, block);
     let mut best = Choice::Uncoded;
     let mut least = option_cost(set, block, best);
     for k in first..splits.min(first + 3) {
-        let cost = split_cost(width, k, sums[(k - first) as usize], len);
+        let cost = split_cost(width, k, quotients, len);
+        quotients = next;
+        next = last;
         if cost < least {
             best = Choice::Split(k);
             least = cost;

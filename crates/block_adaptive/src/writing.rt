@@ -7,7 +7,7 @@ ghost use Rattle.header_bits.specs.Bits.{bits_of, fundamental};
 ghost use Rattle.block_adaptive.specs.Options.{IsOption, zero_identifier, identifier, quotient_codes, low_groups, pair_codes, option_text, cost};
 ghost use Rattle.block_adaptive.specs.DataSets.{run_text, run_code, spelled, spelling};
 ghost use Rattle.block_adaptive.specs.Places.{IsPlace, blocks_from};
-ghost use Rattle.block_adaptive.specs.Taken.{Appends, rest_of, run_and_block, data_sets_after, zeros_after};
+ghost use Rattle.block_adaptive.specs.Taken.{Writes, Appends, rest_of, run_and_block, data_sets_after, zeros_after};
 
 use crate::choice::{choose, identifier_width, quotients_cost};
 use crate::gathering::{Gathered, low_word, quotient_word};
@@ -17,6 +17,7 @@ use cube_core::fault::Fault;
 use header_bits::bit_writer::BitWriter;
 
 /// Appends the values of a block without their k lowest bits, eight at a time.
+#[inline(always)]
 fn append_quotients(gathered: &mut Gathered, writer: &mut BitWriter, k: u32, block: &[u16])
     requires k { k ≤ 15 }
     requires eights { length block.now % 8 ≡ 0 }
@@ -48,6 +49,7 @@ fn append_codes(gathered: &mut Gathered, writer: &mut BitWriter, k: u32, values:
 }
 
 /// Appends the k lowest bits of each value of a block, of four values at a time.
+#[inline(always)]
 fn append_lows(gathered: &mut Gathered, writer: &mut BitWriter, k: u32, block: &[u16])
     requires k { k ≤ 16 }
     requires fours { length block.now % 4 ≡ 0 }
@@ -77,6 +79,7 @@ fn append_pairs(gathered: &mut Gathered, writer: &mut BitWriter, block: &[u16])
 }
 
 /// Appends the coded data set of a block under an option.
+#[inline(always)]
 fn append_option(
     gathered: &mut Gathered,
     writer: &mut BitWriter,
@@ -108,13 +111,29 @@ fn append_option(
     }
 }
 
-/// Appends the coded data set of a run, whose code has `zeros` zeros.
-fn append_run(gathered: &mut Gathered, writer: &mut BitWriter, set: &CodeSet, zeros: u32)
-    requires room { length gathered.old + length (run_text set.now (fundamental zeros)) ≤ writer.old.room }
-    ensures { Appends writer.old gathered.old writer.new gathered.new (run_text set.now (fundamental zeros)) }
+/// Writes the coded data set of a block under an option.
+#[inline(always)]
+fn write_option(writer: &mut BitWriter, set: &CodeSet, choice: Choice, block: &[u16])
+    requires bits { set.now.bits ≤ 16 }
+    requires option { IsOption set.now choice }
+    requires eights { length block.now % 8 ≡ 0 }
+    requires room { cost set.now choice block.now ≤ writer.old.room }
+    ensures { Writes writer.old writer.new (option_text set.now choice block.now) }
 {
+    let mut gathered = Gathered::new();
+    append_option(&mut gathered, writer, set, choice, block);
+    gathered.flush(writer);
+}
+
+/// Writes the coded data set of a run, whose code has `zeros` zeros.
+fn write_run(writer: &mut BitWriter, set: &CodeSet, zeros: u32)
+    requires room { length (run_text set.now (fundamental zeros)) ≤ writer.old.room }
+    ensures { Writes writer.old writer.new (run_text set.now (fundamental zeros)) }
+{
+    let mut gathered = Gathered::new();
     gathered.append(writer, 0, identifier_width(set) + 1);
     gathered.append_fundamental(writer, u64::from(zeros));
+    gathered.flush(writer);
 }
 
 /// Returns the number of zeros of a run's code.
@@ -149,9 +168,7 @@ fn write_rest(writer: &mut BitWriter, set: &CodeSet, left: u32) -> Result<(), Fa
 {
     let zeros = if left >= 5 { 4 } else { zeros_of_run(left) };
     writer.reserve(run_cost(set, zeros))?;
-    let mut gathered = Gathered::new();
-    append_run(&mut gathered, writer, set, zeros);
-    gathered.flush(writer);
+    write_run(writer, set, zeros);
     Ok(())
 }
 
@@ -174,16 +191,14 @@ fn write_block(
     ensures refused { IfErr result (λ e. e ≡ WantOfMemory) }
 {
     let (choice, cost) = choose(set, block, total);
-    let mut gathered = Gathered::new();
     if zeros > 0 {
         let code = zeros_of_run(zeros);
         writer.reserve(run_cost(set, code) + cost)?;
-        append_run(&mut gathered, writer, set, code);
+        write_run(writer, set, code);
     } else {
         writer.reserve(cost)?;
     }
-    append_option(&mut gathered, writer, set, choice, block);
-    gathered.flush(writer);
+    write_option(writer, set, choice, block);
     Ok(())
 }
 

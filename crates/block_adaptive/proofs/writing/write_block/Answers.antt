@@ -1,5 +1,5 @@
 use Rattle.block_adaptive.proofs.Least.{option_is_least}
 use Rattle.block_adaptive.proofs.writing.write_block.Goals as goal
 
-pub append_option-requires-clause-option : goal.append_option-requires-clause-option
-append_option-requires-clause-option c = rw c.choose-choice.ensures.chosen (option_is_least c.args.set.now c.args.block.now).0
+pub write_option-requires-clause-option : goal.write_option-requires-clause-option
+write_option-requires-clause-option c = rw c.choose-choice.ensures.chosen (option_is_least c.args.set.now c.args.block.now).0
