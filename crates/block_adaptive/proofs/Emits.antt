@@ -43,9 +43,6 @@ remains_end old now whole left is h = record {
   spent = omega (arith, h.room, ap length is);
 }
 
-pub writes_nothing : (old : Written) → Writes old old []
-writes_nothing old = record { appended = sym (append-nil old.bits); spent = omega arith }
-
 pub writes_both : (a b c : Written) (x y : List Bool) → Writes a b x → Writes b c y → Writes a c (x ++ y)
 writes_both a b c x y p q = record {
   appended = q.appended ∙ ap (λ (bs : List Bool). bs ++ y) p.appended ∙ append_assoc a.bits x y;
@@ -86,6 +83,9 @@ pair_next i block lt =
     let first : 2 * i < length block = omega arith in
     rw (e, f, drop-cons block (2 * i) 0 first, drop-cons block (suc (2 * i)) 0 second) refl
 
+pub quotient_bits : (k i : ℕ) (block : List ℕ) → i < length block → quotient_codes k (drop i block) ≡ bits_of (get_or block i 0 / 2 ^ k + 1) 1 ++ quotient_codes k (drop (i + 1) block)
+quotient_bits k i block lt = quotient_next k i block lt ∙ ap (λ (bs : List Bool). bs ++ quotient_codes k (drop (i + 1) block)) (sym (bits_of-fundamental (get_or block i 0 / 2 ^ k)))
+
 pub quotient_end : (k i : ℕ) (block : List ℕ) → length block ≤ i → quotient_codes k (drop i block) ≡ []
 unfolding quotient_codes
 quotient_end k i block le = rw (drop_all i block le) refl
@@ -123,13 +123,7 @@ identifier_zero s = bits_of_zero (width s + 1) ∙ ends (width s)
 pub low_next_masked : (k i : ℕ) (block : List ℕ) → i < length block → low_groups k (drop i block) ≡ bits_of k (get_or block i 0 % 2 ^ k) ++ low_groups k (drop (i + 1) block)
 low_next_masked k i block lt = low_next k i block lt ∙ ap (λ (bs : List Bool). bs ++ low_groups k (drop (i + 1) block)) (sym (bits_of-mod k k (get_or block i 0) (omega arith)))
 
--- ---- parts that stand one behind another, in room for both
-
-pub first_room : (old : Written) (x y : List Bool) → length (x ++ y) ≤ old.room → length x ≤ old.room
-first_room old x y h = omega (arith, length-append x y)
-
-pub second_room : (old now : Written) (x y : List Bool) → length (x ++ y) ≤ old.room → Writes old now x → length y ≤ now.room
-second_room old now x y h w = omega (arith, length-append x y, w.spent)
+-- ---- a run
 
 pub run_text_cost : (s : CodeSet) (n : ℕ) → length (run_text s (fundamental n)) ≡ width s + n + 2
 run_text_cost s n = omega (arith, length-append (zero_identifier s) (fundamental n), length-fundamental n, ap length (identifier_zero s), length-bits_of (width s + 1) 0)

@@ -1,15 +1,16 @@
 -- What a writer has taken, several numbers at a time.
-use Rattle.std.proofs.Common.{◌≡◌, ℕ, suc, ◌+◌, ◌*◌, ◌-◌, ◌^◌, ◌<◌, ◌≤◌, Bool, List, [], ◌∷◌, ◌++◌, length, take, drop, get_or, sum, refl, sym, ap, subst, ◌∙◌, inl, inr, arith, append_assoc, Fits, w16}
+use Rattle.std.proofs.Common.{◌≡◌, ℕ, zero, suc, ◌+◌, ◌*◌, ◌-◌, ◌^◌, ◌<◌, ◌≤◌, Bool, List, [], ◌∷◌, ◌++◌, length, take, drop, get_or, sum, refl, sym, ap, subst, ◌∙◌, inl, inr, arith, append_assoc, Fits, w16}
 use Rattle.std.specs.List.{AllByRecursion}
 use Rattle.std.specs.Prelude.{Result, Ok, Err, OnErr}
 use Rattle.std.proofs.Math.Seq.{take-add}
 use Rattle.std.proofs.lemmas.Bool.{cases_lt}
-use Rattle.std.proofs.lemmas.List.{append-nil, length-append, length-take, length-drop, take_at, take_more}
+use Rattle.std.proofs.lemmas.List.{length-append, length-take, length-drop, take_at, take_more, take-take}
 use Rattle.cube_core.specs.declared.fault.Fault.{Fault}
 use Rattle.block_adaptive.specs.DataSets.{Cut}
 use Rattle.block_adaptive.specs.Holding.{AreStored}
 use Rattle.block_adaptive.specs.Taken.{Packed, HasTaken, PutsNumber, PutsAll, taken_count}
 use Rattle.block_adaptive.proofs.Packing.{values_held}
+use Rattle.block_adaptive.proofs.Ranges.{range_append}
 use Rattle.block_adaptive.proofs.Sums.{sum_append, sum_cons}
 
 -- ---- the values held
@@ -19,10 +20,6 @@ pub held_all : (values list behind : List ℕ) (held : ℕ) → held ≤ length 
 held_all values list behind held le =
     let long : held + length list ≡ length (take held values ++ list) = omega (arith, le, length-append (take held values) list, length-take held values) in
     ap (λ (x : List ℕ). take (held + length list) x) (sym (append_assoc (take held values) list behind)) ∙ take_at (take held values ++ list) behind (held + length list) (sym long)
-
-range_all : (limit : ℕ) (held list : List ℕ) → AllByRecursion (λ v. v < limit) held → AllByRecursion (λ v. v < limit) list → AllByRecursion (λ v. v < limit) (held ++ list)
-range_all limit [] list h more = more
-range_all limit (v ∷ held) list h more = (h.0, range_all limit held list h.1 more)
 
 pub stored_more : (c : Cut) (i counted total : ℕ) (held list : List ℕ) → AreStored c i counted total held → AllByRecursion (λ v. v < 2 ^ c.set.bits) list → length held + length list < c.size → (1 ≤ length list → i + counted < c.count)
     → AreStored c i counted (total + sum list) (held ++ list)
@@ -35,7 +32,7 @@ stored_more c i counted total held list h range few more = record {
     | inr none ↦ h.more (omega (arith, some, none, length-append held list))
   ];
   few = omega (arith, few, length-append held list);
-  range = range_all (2 ^ c.set.bits) held list h.range range;
+  range = range_append (2 ^ c.set.bits) held list h.range range;
   added = omega (arith, h.added, sum_append held list);
 }
 
@@ -50,15 +47,20 @@ puts_behind a b old mid new written now later first second taken bits h =
       subst (λ (x : List ℕ). HasTaken new x (bits ++ (one.0 ++ two.0))) (append_assoc taken a b) (subst (λ (x : List Bool). HasTaken new ((taken ++ a) ++ b) x) (append_assoc bits one.0 two.0) two.2),
     )
 
-pub puts_none : (v : Packed) (written : List Bool) → PutsAll [] v written v written
-puts_none v written taken bits h = ([], sym (append-nil written), rw (append-nil taken, append-nil bits) h)
-
 pub hold_more : (old v new : Packed) (list : List ℕ) (first count : ℕ) (written now : List Bool) → PutsAll (take first list) old written v now → new ≡ record v { held = v.held ++ take (first + count - first) (drop first list) }
     → PutsAll (take (first + count) list) old written new now
 hold_more old v new list first count written now puts is =
     let e : first + count - first ≡ count = omega arith in
     let here : PutsAll (take count (drop first list)) v now new now = values_held v new now (take count (drop first list)) (is ∙ ap (λ (n : ℕ). record v { held = v.held ++ take n (drop first list) }) e) in
     subst (λ (x : List ℕ). PutsAll x old written new now) (sym (take-add first count list)) (puts_behind (take first list) (take count (drop first list)) old v new written now now puts here)
+
+-- a block's numbers, or the first of them
+pub block_more : (old v new : Packed) (list : List ℕ) (first size count : ℕ) (written now later : List Bool) → count ≤ size → PutsAll (take first list) old written v now → PutsAll (take count (take (first + size - first) (drop first list))) v now new later
+    → PutsAll (take (first + count) list) old written new later
+block_more old v new list first size count written now later le puts more =
+    let e : first + size - first ≡ size = omega arith in
+    let here : PutsAll (take count (drop first list)) v now new later = rw (e, take-take count size (drop first list) le) at more in
+    subst (λ (x : List ℕ). PutsAll x old written new later) (sym (take-add first count list)) (puts_behind (take first list) (take count (drop first list)) old v new written now later puts here)
 
 pub number_more : (old v new : Packed) (list : List ℕ) (n : ℕ) (written now later : List Bool) → PutsAll (take n list) old written v now → n < length list → PutsNumber (get_or list n 0) v now new later
     → PutsAll (take (n + 1) list) old written new later
@@ -80,3 +82,13 @@ held_counted v new list first count le is =
 pub sum_small : (list : List ℕ) → ((i : ℕ) → Fits w16 (get_or list i 0)) → sum list ≤ 65536 * length list
 sum_small [] h = omega arith
 sum_small (v ∷ vs) h = omega (arith, sum_cons v vs, (h 0).fits, sum_small vs (λ i. h (suc i)))
+
+pub sum_front : (n : ℕ) (list : List ℕ) → sum (take n list) ≤ sum list
+sum_front zero list = omega arith
+sum_front (suc n) [] = omega arith
+sum_front (suc n) (v ∷ vs) = omega (arith, sum_cons v (take n vs), sum_cons v vs, sum_front n vs)
+
+pub sum_next : (i n : ℕ) (list : List ℕ) → sum (take (i + n) list) ≡ sum (take i list) + sum (take (i + n - i) (drop i list))
+sum_next i n list =
+    let e : i + n - i ≡ n = omega arith in
+    ap sum (take-add i n list) ∙ sum_append (take i list) (take n (drop i list)) ∙ rw e refl

@@ -128,8 +128,17 @@ impl BlockWriter {
         ensures memory { result < length numbers.now → EndsBlock self.new }
         ensures cut { self.new.cut ≡ self.old.cut }
     {
+        let size = self.size as usize;
         let mut first = 0;
         while first < numbers.len() {
+            if self.held == 0 && numbers.len() - first >= size {
+                let taken = self.put_block(&numbers[first..first + size], writer);
+                if taken < size {
+                    return first + taken;
+                }
+                first += size;
+                continue;
+            }
             let free = (self.size - 1 - self.held) as usize;
             let end = first + free.min(numbers.len() - first);
             self.hold(&numbers[first..end]);
@@ -158,6 +167,29 @@ impl BlockWriter {
         self.total += sum_of(numbers);
     }
 
+    /// Takes the numbers of a block where none is held, and appends the part of the body that is then known.
+    /// Returns how many were taken: all but the last where an allocation failed.
+    fn put_block(&mut self, block: &[u16], writer: &mut BitWriter) -> usize
+        requires none { self.old.held ≡ [] }
+        requires whole { length block.now ≡ self.old.cut.size }
+        requires range { AllByRecursion (λ v. v < 2 ^ self.old.cut.set.bits) block.now }
+        requires more { taken_count self.old + length block.now ≤ capacity self.old.cut }
+        ensures taken { PutsAll (take result block.now) self.old writer.old.bits self.new writer.new.bits }
+        ensures counted { taken_count self.new ≡ taken_count self.old + result }
+        ensures most { result ≤ length block.now }
+        ensures memory { result < length block.now → EndsBlock self.new }
+        ensures cut { self.new.cut ≡ self.old.cut }
+    {
+        let most = self.size as usize - 1;
+        match self.pack(block, sum_of_eights(block), writer) {
+            Ok(()) => most + 1,
+            Err(_) => {
+                self.hold(&block[..most]);
+                most
+            }
+        }
+    }
+
     /// Takes the last number of a block, and appends the part of the body that is then known.
     #[inline(never)]
     fn put_last(&mut self, delta: u16, writer: &mut BitWriter) -> Result<(), Fault>
@@ -168,27 +200,10 @@ impl BlockWriter {
         ensures same { OnErr result ((self.new ≡ self.old) × (writer.new.bits ≡ writer.old.bits)) }
         ensures refused { IfErr result (λ e. e ≡ WantOfMemory) }
     {
-        // It stands behind the values held, which are as they were where there is no memory.
-        self.values[self.held as usize] = delta;
+        let mut block = self.values;
+        block[self.held as usize] = delta;
         let total = self.total + u32::from(delta);
-        let place = Place {
-            reference: self.reference,
-            count: self.count,
-            block: self.start,
-        };
-        let zeros = write_data_sets(
-            writer,
-            &self.set,
-            &place,
-            self.zeros,
-            &self.values[..self.size as usize],
-            total,
-        )?;
-        self.start += u64::from(self.zeros + 1 - zeros);
-        self.zeros = zeros;
-        self.held = 0;
-        self.total = 0;
-        Ok(())
+        self.pack(&block[..self.size as usize], total, writer)
     }
 
     /// Ends the body: appends all that is held, with the block begun filled with zeros.
@@ -216,7 +231,6 @@ impl BlockWriter {
     fn pack(&mut self, block: &[u16], total: u32, writer: &mut BitWriter) -> Result<(), Fault>
         requires whole { length block.now ≡ self.old.cut.size }
         requires total { total ≡ sum block.now }
-        requires range { AllByRecursion (λ v. v < 2 ^ self.old.cut.set.bits) block.now }
         requires more { self.old.start + self.old.zeros < self.old.cut.count }
         ensures appended { OnOk result (writer.new.bits ≡ writer.old.bits ++ data_sets_packed self.old block.now) }
         ensures packed { OnOk result (self.new ≡ packed self.old block.now) }
@@ -246,6 +260,22 @@ fn sum_of(numbers: &[u16]) -> u32
     let mut total = 0;
     for i in 0..numbers.len() {
         total += u32::from(numbers[i]);
+    }
+    total
+}
+
+/// Returns the sum of a block, of eight values at a time: the inner loop then has a length that is known.
+#[inline(always)]
+fn sum_of_eights(block: &[u16]) -> u32
+    requires few { length block.now ≤ 64 }
+    requires eights { length block.now % 8 ≡ 0 }
+    ensures { result ≡ sum block.now }
+{
+    let mut total = 0;
+    let mut first = 0;
+    while first < block.len() {
+        total += sum_of(&block[first..first + 8]);
+        first += 8;
     }
     total
 }

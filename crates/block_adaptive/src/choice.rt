@@ -23,7 +23,7 @@ pub(crate) fn identifier_width(set: &CodeSet) -> u32
 }
 
 /// Returns the number of bits of a block's quotients under split-sample.
-fn quotients_cost(k: u32, block: &[u16]) -> u64
+pub(crate) fn quotients_cost(k: u32, block: &[u16]) -> u64
     requires k { k ≤ 15 }
     requires few { length block.now ≤ 64 }
     ensures value { result ≡ length (quotient_codes k block.now) }
@@ -209,11 +209,13 @@ fn choose_of_large(set: &CodeSet, block: &[u16], total: u32) -> (Choice, u64)
     let splits = (1u32 << width) - 2;
     let len = block.len() as u64;
     let first = first_split(splits, u64::from(total), len);
-    let sums = quotient_sums(first, block);
+    let [mut quotients, mut next, last] = quotient_sums(first, block);
     let mut best = Choice::Uncoded;
     let mut least = option_cost(set, block, best);
     for k in first..splits.min(first + 3) {
-        let cost = split_cost(width, k, sums[(k - first) as usize], len);
+        let cost = split_cost(width, k, quotients, len);
+        quotients = next;
+        next = last;
         if cost < least {
             best = Choice::Split(k);
             least = cost;

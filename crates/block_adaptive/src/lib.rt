@@ -7,6 +7,7 @@ pub mod block_writer;
 pub mod choice;
 mod data_sets;
 mod found;
+mod gathering;
 pub mod laws;
 pub mod options;
 mod pairs;

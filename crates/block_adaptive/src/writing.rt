@@ -7,134 +7,122 @@ ghost use Rattle.header_bits.specs.Bits.{bits_of, fundamental};
 ghost use Rattle.block_adaptive.specs.Options.{IsOption, zero_identifier, identifier, quotient_codes, low_groups, pair_codes, option_text, cost};
 ghost use Rattle.block_adaptive.specs.DataSets.{run_text, run_code, spelled, spelling};
 ghost use Rattle.block_adaptive.specs.Places.{IsPlace, blocks_from};
-ghost use Rattle.block_adaptive.specs.Taken.{Writes, rest_of, run_and_block, data_sets_after, zeros_after};
+ghost use Rattle.block_adaptive.specs.Taken.{Writes, Appends, rest_of, run_and_block, data_sets_after, zeros_after};
 
-use crate::choice::{choose, identifier_width};
+use crate::choice::{choose, identifier_width, quotients_cost};
+use crate::gathering::{Gathered, low_word, quotient_word};
 use crate::options::{Choice, CodeSet};
 use crate::segments::{Place, blocks_left};
 use cube_core::fault::Fault;
 use header_bits::bit_writer::BitWriter;
 
-/// Writes the `n` bits of a number.
-fn write_number(writer: &mut BitWriter, bits: u64, n: u32)
-    requires few { n ≤ 64 }
-    requires below { bits < 2 ^ n }
-    requires room { n ≤ writer.old.room }
-    ensures { Writes writer.old writer.new (bits_of n bits) }
-{
-    writer.push(bits, n).unwrap();
-}
-
-/// Writes a fundamental sequence, up to 64 zeros at a time.
+/// Appends the values of a block without their k lowest bits, eight at a time.
 #[inline(always)]
-fn write_fundamental(writer: &mut BitWriter, zeros: u64)
-    requires { zeros + 1 ≤ writer.old.room }
-    ensures { Writes writer.old writer.new (fundamental zeros) }
-{
-    let mut left = zeros;
-    while left >= 64 {
-        write_number(writer, 0, 64);
-        left -= 64;
-    }
-    write_number(writer, 1, left as u32 + 1);
-}
-
-/// Returns the `held` bits of a part followed by a number's `n` bits, so that one push writes both.
-#[inline(always)]
-fn joined(part: u64, held: u32, bits: u64, n: u32) -> u64
-    requires few { (n < 64) × (held + n ≤ 64) }
-    requires part { part < 2 ^ held }
-    requires below { bits < 2 ^ n }
-    ensures bits { bits_of (held + n) result ≡ bits_of held part ++ bits_of n bits }
-    ensures below { result < 2 ^ (held + n) }
-{
-    (part << n) | bits
-}
-
-/// Writes the values of a block without their k lowest bits.
-fn write_quotients(writer: &mut BitWriter, k: u32, block: &[u16])
+fn append_quotients(gathered: &mut Gathered, writer: &mut BitWriter, k: u32, block: &[u16])
     requires k { k ≤ 15 }
-    requires room { length (quotient_codes k block.now) ≤ writer.old.room }
-    ensures { Writes writer.old writer.new (quotient_codes k block.now) }
+    requires eights { length block.now % 8 ≡ 0 }
+    requires room { length gathered.old + length (quotient_codes k block.now) ≤ writer.old.room }
+    ensures { Appends writer.old gathered.old writer.new gathered.new (quotient_codes k block.now) }
 {
-    let mut part = 0;
-    let mut held = 0;
-    for value in block {
-        let zeros = u32::from(*value >> k);
-        if held + zeros < 63 {
-            part = joined(part, held, 1, zeros + 1);
-            held += zeros + 1;
+    let mut first = 0;
+    while first < block.len() {
+        let eight = &block[first..first + 8];
+        let cost = quotients_cost(k, eight);
+        if cost < 64 {
+            gathered.append(writer, quotient_word(k, eight), cost as u32);
         } else {
-            write_number(writer, part, held);
-            write_fundamental(writer, u64::from(zeros));
-            part = 0;
-            held = 0;
+            append_codes(gathered, writer, k, eight);
         }
+        first += 8;
     }
-    write_number(writer, part, held);
 }
 
-/// Writes the k lowest bits of each value of a block.
-fn write_lows(writer: &mut BitWriter, k: u32, block: &[u16])
+/// Appends values without their k lowest bits, one at a time.
+fn append_codes(gathered: &mut Gathered, writer: &mut BitWriter, k: u32, values: &[u16])
+    requires k { k ≤ 15 }
+    requires room { length gathered.old + length (quotient_codes k values.now) ≤ writer.old.room }
+    ensures { Appends writer.old gathered.old writer.new gathered.new (quotient_codes k values.now) }
+{
+    for value in values {
+        gathered.append_fundamental(writer, u64::from(*value >> k));
+    }
+}
+
+/// Appends the k lowest bits of each value of a block, of four values at a time.
+#[inline(always)]
+fn append_lows(gathered: &mut Gathered, writer: &mut BitWriter, k: u32, block: &[u16])
     requires k { k ≤ 16 }
-    requires room { length (low_groups k block.now) ≤ writer.old.room }
-    ensures { Writes writer.old writer.new (low_groups k block.now) }
+    requires fours { length block.now % 4 ≡ 0 }
+    requires room { length gathered.old + length (low_groups k block.now) ≤ writer.old.room }
+    ensures { Appends writer.old gathered.old writer.new gathered.new (low_groups k block.now) }
 {
-    let mask = (1u64 << k) - 1;
-    let mut part = 0;
-    let mut held = 0;
-    for value in block {
-        let low = u64::from(*value) & mask;
-        if held + k <= 64 {
-            part = joined(part, held, low, k);
-            held += k;
-        } else {
-            write_number(writer, part, held);
-            part = low;
-            held = k;
-        }
+    let mut first = 0;
+    while first < block.len() {
+        let four = &block[first..first + 4];
+        gathered.append(writer, low_word(k, four), 4 * k);
+        first += 4;
     }
-    write_number(writer, part, held);
 }
 
-/// Writes the pairs of a block.
-fn write_pairs(writer: &mut BitWriter, block: &[u16])
+/// Appends the pairs of a block.
+fn append_pairs(gathered: &mut Gathered, writer: &mut BitWriter, block: &[u16])
     requires even { length block.now % 2 ≡ 0 }
-    requires room { length (pair_codes block.now) ≤ writer.old.room }
-    ensures { Writes writer.old writer.new (pair_codes block.now) }
+    requires room { length gathered.old + length (pair_codes block.now) ≤ writer.old.room }
+    ensures { Appends writer.old gathered.old writer.new gathered.new (pair_codes block.now) }
 {
     for i in 0..block.len() / 2 {
         let first = block[2 * i] as u64;
         let second = block[2 * i + 1] as u64;
         let sum = first + second;
-        write_fundamental(writer, sum * (sum + 1) / 2 + second);
+        gathered.append_fundamental(writer, sum * (sum + 1) / 2 + second);
     }
 }
 
-/// Writes the coded data set of a block under an option.
-fn write_option(writer: &mut BitWriter, set: &CodeSet, choice: Choice, block: &[u16])
+/// Appends the coded data set of a block under an option.
+#[inline(always)]
+fn append_option(
+    gathered: &mut Gathered,
+    writer: &mut BitWriter,
+    set: &CodeSet,
+    choice: Choice,
+    block: &[u16],
+)
     requires bits { set.now.bits ≤ 16 }
     requires option { IsOption set.now choice }
-    requires even { length block.now % 2 ≡ 0 }
-    requires room { cost set.now choice block.now ≤ writer.old.room }
-    ensures { Writes writer.old writer.new (option_text set.now choice block.now) }
+    requires eights { length block.now % 8 ≡ 0 }
+    requires room { length gathered.old + cost set.now choice block.now ≤ writer.old.room }
+    ensures { Appends writer.old gathered.old writer.new gathered.new (option_text set.now choice block.now) }
 {
     let width = identifier_width(set);
     match choice {
         Choice::Uncoded => {
-            write_number(writer, (1 << width) - 1, width);
-            write_lows(writer, set.bits, block);
+            gathered.append(writer, (1 << width) - 1, width);
+            append_lows(gathered, writer, set.bits, block);
         }
         Choice::Second => {
-            write_number(writer, 1, width + 1);
-            write_pairs(writer, block);
+            gathered.append(writer, 1, width + 1);
+            append_pairs(gathered, writer, block);
         }
         Choice::Split(k) => {
-            write_number(writer, u64::from(k) + 1, width);
-            write_quotients(writer, k, block);
-            write_lows(writer, k, block);
+            gathered.append(writer, u64::from(k) + 1, width);
+            append_quotients(gathered, writer, k, block);
+            append_lows(gathered, writer, k, block);
         }
     }
+}
+
+/// Writes the coded data set of a block under an option.
+#[inline(always)]
+fn write_option(writer: &mut BitWriter, set: &CodeSet, choice: Choice, block: &[u16])
+    requires bits { set.now.bits ≤ 16 }
+    requires option { IsOption set.now choice }
+    requires eights { length block.now % 8 ≡ 0 }
+    requires room { cost set.now choice block.now ≤ writer.old.room }
+    ensures { Writes writer.old writer.new (option_text set.now choice block.now) }
+{
+    let mut gathered = Gathered::new();
+    append_option(&mut gathered, writer, set, choice, block);
+    gathered.flush(writer);
 }
 
 /// Writes the coded data set of a run, whose code has `zeros` zeros.
@@ -142,8 +130,10 @@ fn write_run(writer: &mut BitWriter, set: &CodeSet, zeros: u32)
     requires room { length (run_text set.now (fundamental zeros)) ≤ writer.old.room }
     ensures { Writes writer.old writer.new (run_text set.now (fundamental zeros)) }
 {
-    write_number(writer, 0, identifier_width(set) + 1);
-    write_fundamental(writer, u64::from(zeros));
+    let mut gathered = Gathered::new();
+    gathered.append(writer, 0, identifier_width(set) + 1);
+    gathered.append_fundamental(writer, u64::from(zeros));
+    gathered.flush(writer);
 }
 
 /// Returns the number of zeros of a run's code.
@@ -195,7 +185,7 @@ fn write_block(
     requires zeros { zeros ≤ 64 }
     requires few { length block.now ≤ 64 }
     requires total { total ≡ sum block.now }
-    requires even { length block.now % 2 ≡ 0 }
+    requires eights { length block.now % 8 ≡ 0 }
     ensures appended { OnOk result (writer.new.bits ≡ writer.old.bits ++ spelling set.now (run_and_block set.now zeros block.now)) }
     ensures same { OnErr result (writer.new.bits ≡ writer.old.bits) }
     ensures refused { IfErr result (λ e. e ≡ WantOfMemory) }
@@ -230,7 +220,7 @@ pub(crate) fn write_data_sets(
     requires left { zeros < blocks_from place.now }
     requires few { length block.now ≤ 64 }
     requires total { total ≡ sum block.now }
-    requires even { length block.now % 2 ≡ 0 }
+    requires eights { length block.now % 8 ≡ 0 }
     ensures appended { OnOk result (writer.new.bits ≡ writer.old.bits ++ spelling set.now (data_sets_after set.now (blocks_from place.now) zeros block.now)) }
     ensures held { IfOk result (λ n. n ≡ zeros_after (blocks_from place.now) zeros block.now) }
     ensures same { OnErr result (writer.new.bits ≡ writer.old.bits) }

@@ -1,4 +1,4 @@
-use Rattle.std.proofs.Common.{◌≡◌, ℕ, ◌+◌, ◌-◌, ◌*◌, ◌%◌, ◌^◌, ◌<◌, true, ap, ◌∙◌, arith}
+use Rattle.std.proofs.Common.{◌≡◌, ℕ, ◌+◌, ◌-◌, ◌*◌, ◌%◌, ◌^◌, true, ap, refl, ◌∙◌, arith}
 use Rattle.std.proofs.lemmas.Nat.{one_shl}
 use Rattle.block_adaptive.specs.declared.options.Choice.TheVariants.{Split}
 use Rattle.block_adaptive.specs.Options.{splits, width, cost}
@@ -31,11 +31,8 @@ loop-k-preserved c =
     let s = c.args.set.now in
     let vs = c.args.block.now in
     let first = c.first_split-first.result in
-    let place : first + (c.loop-k.k - first) ≡ c.loop-k.k = omega (arith, c.loop-k.invariant.from) in
-    let few : c.loop-k.k - first < 3 = omega (arith, c.loop-k-test.true, c.min-k-end.ensures) in
-    let told = rw (c.quotient_sums-sums.ensures, c.identifier_width-width.ensures.value) at c.split_cost-cost.ensures in
-    let is = split_is s first (c.loop-k.k - first) vs few in
-    let cost-is : c.split_cost-cost.result ≡ cost s (Split c.loop-k.k) vs = told ∙ (rw place at is) in
+    let now = c.loop-k.invariant.now (omega (arith, c.loop-k-test.true, c.min-k-end.ensures)) in
+    let cost-is : c.split_cost-cost.result ≡ cost s (Split c.loop-k.k) vs = (rw (now, c.identifier_width-width.ensures.value) at c.split_cost-cost.ensures) ∙ split_is s c.loop-k.k vs in
     elim c.if-cost-least.branch [
       | then-cost-least w ↦
           rw (w.best-is, w.least-is) (record {
@@ -43,6 +40,8 @@ loop-k-preserved c =
             least = cost-is;
             bound = omega (arith, c.loop-k.invariant.bound, w.if-cost-least.true);
             from = omega (arith, c.loop-k.invariant.from);
+            now = λ lt. c.loop-k.invariant.next (omega (arith, lt));
+            next = λ lt. (let here : c.loop-k.k ≡ first = omega (arith, lt, c.loop-k.invariant.from) in let e : first + 1 + 1 ≡ first + 2 = omega arith in rw (here, c.quotient_sums.ensures, e) refl);
           })
       | else-cost-least w ↦
           rw (w.best-is, w.least-is) (record {
@@ -50,5 +49,7 @@ loop-k-preserved c =
             least = c.loop-k.invariant.least;
             bound = c.loop-k.invariant.bound;
             from = omega (arith, c.loop-k.invariant.from);
+            now = λ lt. c.loop-k.invariant.next (omega (arith, lt));
+            next = λ lt. (let here : c.loop-k.k ≡ first = omega (arith, lt, c.loop-k.invariant.from) in let e : first + 1 + 1 ≡ first + 2 = omega arith in rw (here, c.quotient_sums.ensures, e) refl);
           })
     ]

@@ -1,6 +1,8 @@
-use Rattle.std.proofs.Common.{◌≡◌, ◌∙◌, ◌+◌, ◌≤◌, length, take, ap, arith}
+use Rattle.std.proofs.Common.{◌≡◌, ◌∙◌, ◌+◌, ◌-◌, ◌^◌, ◌≤◌, length, take, drop, ap, arith}
 use Rattle.block_adaptive.specs.Taken.{Packed, taken_count}
-use Rattle.block_adaptive.proofs.Holds.{hold_more, number_more, held_counted, after_refusal}
+use Rattle.std.proofs.lemmas.List.{length-take}
+use Rattle.block_adaptive.proofs.Holds.{hold_more, block_more, number_more, held_counted, after_refusal}
+use Rattle.block_adaptive.proofs.Ranges.{range_front, range_behind}
 use Rattle.block_adaptive.proofs.block_writer.BlockWriter.put_all.Goals as goal
 
 pub returns-in_default-clause-taken : goal.returns-in_default-clause-taken
@@ -30,4 +32,23 @@ loop-first-preserved c =
       counted = omega (arith, counted, was.counted);
       cut = ap (λ (v : Packed). v.cut) c.hold.ensures ∙ was.cut;
       within = within;
+    }
+
+pub hold-requires-clause-numbers : goal.hold-requires-clause-numbers
+hold-requires-clause-numbers c =
+    rw c.loop-first.invariant.cut (range_front (2 ^ c.args.self.now.cut.set.bits) (c.loop-first.first + c.min.result - c.loop-first.first) (drop c.loop-first.first c.args.numbers.now) (range_behind (2 ^ c.args.self.now.cut.set.bits) c.loop-first.first c.args.numbers.now c.requires.numbers))
+
+pub returns-then-taken-size-clause-taken : goal.returns-then-taken-size-clause-taken
+returns-then-taken-size-clause-taken c =
+    block_more c.args.self.now c.loop-first.self c.put_block-taken.new.self c.args.numbers.now c.loop-first.first c.self.inside.size c.put_block-taken.result c.args.writer.now.bits c.loop-first.writer.bits c.put_block-taken.new.writer.bits (omega (arith, c.if-taken-size.true))
+    c.loop-first.invariant.puts c.put_block-taken.ensures.taken
+
+pub loop-first-preserved-then-numbers-first : goal.loop-first-preserved-then-numbers-first
+loop-first-preserved-then-numbers-first c =
+    let all : c.put_block-taken.result ≡ c.self.inside.size = omega (arith, c.if-taken-size.false, c.put_block-taken.ensures.most, length-take (c.loop-first.first + c.self.inside.size - c.loop-first.first) (drop c.loop-first.first c.args.numbers.now)) in
+    record {
+      puts = block_more c.args.self.now c.loop-first.self c.put_block-taken.new.self c.args.numbers.now c.loop-first.first c.self.inside.size c.self.inside.size c.args.writer.now.bits c.loop-first.writer.bits c.put_block-taken.new.writer.bits (omega arith) c.loop-first.invariant.puts (rw all at c.put_block-taken.ensures.taken);
+      counted = omega (arith, all, c.loop-first.invariant.counted, c.put_block-taken.ensures.counted);
+      cut = c.put_block-taken.ensures.cut ∙ c.loop-first.invariant.cut;
+      within = omega (arith, c.if-numbers-first.true, c.loop-first.invariant.within);
     }

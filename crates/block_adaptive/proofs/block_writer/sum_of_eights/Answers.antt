@@ -1,0 +1,29 @@
+use Rattle.std.proofs.Common.{◌∙◌, ◌+◌, ap, sum, arith}
+use Rattle.std.proofs.lemmas.List.{take_all}
+use Rattle.block_adaptive.proofs.Holds.{sum_small, sum_front, sum_next}
+use Rattle.block_adaptive.proofs.block_writer.sum_of_eights.Goals as goal
+
+pub overflow_add-total : goal.overflow_add-total
+overflow_add-total c =
+    record {
+      fits = omega (
+        arith,
+        c.requires.few,
+        c.loop-first.invariant.so_far,
+        c.sum_of-total.ensures,
+        sum_next c.loop-first.first 8 c.args.block.now,
+        sum_front (c.loop-first.first + 8) c.args.block.now,
+        sum_small c.args.block.now c.type_inv.block,
+      );
+    }
+
+pub loop-first-preserved : goal.loop-first-preserved
+loop-first-preserved c =
+    record {
+      so_far = omega (arith, c.loop-first.invariant.so_far, c.sum_of-total.ensures, sum_next c.loop-first.first 8 c.args.block.now);
+      eights = omega (arith, c.loop-first.invariant.eights);
+      within = omega (arith, c.loop-first.invariant.eights, c.requires.eights, c.loop-first-test.true);
+    }
+
+pub returns : goal.returns
+returns c = c.loop-first.invariant.so_far ∙ ap sum (take_all c.loop-first.first c.args.block.now (omega arith))

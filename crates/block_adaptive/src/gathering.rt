@@ -1,0 +1,148 @@
+//! Bits that are gathered in a word, so that whole words are pushed.
+
+ghost use Rattle.std.specs.Prelude.{◌≡◌, ◌+◌, ◌-◌, ◌^◌, ◌<◌, ◌≤◌, ◌++◌, [], length};
+ghost use Rattle.header_bits.specs.Bits.{bits_of, fundamental};
+ghost use Rattle.block_adaptive.specs.Options.{quotient_codes, low_groups};
+ghost use Rattle.block_adaptive.specs.Taken.{Writes, Appends};
+
+use header_bits::bit_writer::BitWriter;
+use std::marker::Model;
+
+/// Bits that come behind what a writer has, fewer than a word.
+///
+/// A word that is full goes to the writer. Where words alone are pushed, it doesn't depend on the position of a
+/// text which push fills a word of the writer, so that the branch is predicted. Contracts see the bits.
+#[derive(Drop)]
+pub(crate) struct Gathered {
+    /// Its `held` lowest bits are gathered; the bits above those are unspecified.
+    part: u64,
+    held: u32,
+}
+
+impl Model for Gathered {
+    ghost use Rattle.std.specs.Prelude.{List, Bool, ◌<◌};
+    ghost use Rattle.header_bits.specs.Bits.{bits_of};
+
+    ghost Value = { List Bool };
+
+    ghost view = { λ a. bits_of a.held a.part };
+
+    ghost invariant = { λ a. a.held < 64 };
+}
+
+impl Gathered {
+    /// Returns no bits.
+    #[inline(always)]
+    pub(crate) fn new() -> Gathered
+        ensures { result ≡ [] }
+    {
+        Gathered { part: 0, held: 0 }
+    }
+
+    /// Appends a number as `n` bits.
+    #[inline(always)]
+    pub(crate) fn append(&mut self, writer: &mut BitWriter, bits: u64, n: u32)
+        requires few { n ≤ 64 }
+        requires below { bits < 2 ^ n }
+        requires room { length self.old + n ≤ writer.old.room }
+        ensures { Appends writer.old self.old writer.new self.new (bits_of n bits) }
+    {
+        let free = 64 - self.held;
+        if n < free {
+            self.part = (self.part << n) | bits;
+            self.held += n;
+        } else {
+            let rest = n - free;
+            let word = filled(self.part, self.held, bits >> rest);
+            writer.push_reserved(word, 64);
+            self.part = bits;
+            self.held = rest;
+        }
+    }
+
+    /// Appends a fundamental sequence, up to 64 zeros at a time.
+    #[inline(always)]
+    pub(crate) fn append_fundamental(&mut self, writer: &mut BitWriter, zeros: u64)
+        requires { length self.old + (zeros + 1) ≤ writer.old.room }
+        ensures { Appends writer.old self.old writer.new self.new (fundamental zeros) }
+    {
+        let mut left = zeros;
+        while left >= 64 {
+            self.append(writer, 0, 64);
+            left -= 64;
+        }
+        self.append(writer, 1, left as u32 + 1);
+    }
+
+    /// Pushes the bits.
+    #[inline(always)]
+    pub(crate) fn flush(self, writer: &mut BitWriter)
+        requires { length self ≤ writer.old.room }
+        ensures { Writes writer.old writer.new self }
+    {
+        let mask = (1u64 << self.held) - 1;
+        writer.push_reserved(self.part & mask, self.held);
+    }
+}
+
+/// Returns the word made of a part's `held` lowest bits and the bits that fill it.
+#[inline(always)]
+fn filled(part: u64, held: u32, bits: u64) -> u64
+    requires held { held < 64 }
+    requires below { bits < 2 ^ (64 - held) }
+    ensures { bits_of 64 result ≡ bits_of held part ++ bits_of (64 - held) bits }
+{
+    if held == 0 {
+        bits
+    } else {
+        (part << (64 - held)) | bits
+    }
+}
+
+/// Returns the `held` bits of a word followed by a number's `n` bits.
+#[inline(always)]
+fn joined(word: u64, held: u32, bits: u64, n: u32) -> u64
+    requires few { (n < 64) × (held + n ≤ 64) }
+    requires word { word < 2 ^ held }
+    requires below { bits < 2 ^ n }
+    ensures bits { bits_of (held + n) result ≡ bits_of held word ++ bits_of n bits }
+    ensures below { result < 2 ^ (held + n) }
+{
+    (word << n) | bits
+}
+
+/// Returns the codes of a few values without their k lowest bits, together fewer than 64 bits, as one number.
+#[inline(always)]
+pub(crate) fn quotient_word(k: u32, values: &[u16]) -> u64
+    requires k { k ≤ 15 }
+    requires few { length (quotient_codes k values.now) < 64 }
+    ensures bits { bits_of (length (quotient_codes k values.now)) result ≡ quotient_codes k values.now }
+    ensures below { result < 2 ^ length (quotient_codes k values.now) }
+{
+    let mut word = 0;
+    let mut held = 0;
+    for value in values {
+        let n = u32::from(*value >> k) + 1;
+        word = joined(word, held, 1, n);
+        held += n;
+    }
+    word
+}
+
+/// Returns the k lowest bits of each of a few values, together at most 64 bits, as one number.
+#[inline(always)]
+pub(crate) fn low_word(k: u32, values: &[u16]) -> u64
+    requires k { k ≤ 16 }
+    requires few { length (low_groups k values.now) ≤ 64 }
+    ensures bits { bits_of (length (low_groups k values.now)) result ≡ low_groups k values.now }
+    ensures below { result < 2 ^ length (low_groups k values.now) }
+{
+    let mask = (1u64 << k) - 1;
+    let mut word = 0;
+    let mut held = 0;
+    for value in values {
+        word = joined(word, held, u64::from(*value) & mask, k);
+        held += k;
+    }
+    word
+}
