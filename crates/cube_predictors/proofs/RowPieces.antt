@@ -1,8 +1,10 @@
 -- Pieces of a row, one behind another.
-use Rattle.std.proofs.Common.{◌≡◌, ◌+◌, ◌-◌, ◌*◌, ◌<◌, ◌≤◌, ℕ, zero, suc, List, [], ◌∷◌, ◌++◌, length, take, drop, get_or, set, refl, sym, ap, ap₂, ◌∙◌, add-one, get_or-take, length-drop, arith}
+use Rattle.std.proofs.Common.{◌≡◌, ◌+◌, ◌-◌, ◌*◌, ◌<◌, ◌≤◌, ℕ, zero, suc, List, [], ◌∷◌, ◌++◌, length, take, drop, get_or, set, refl, sym, ap, ap₂, ◌∙◌, add-one, get_or-take, length-append, length-drop, append-nil, arith}
 use Rattle.std.specs.List.{flat_map}
 use Rattle.std.proofs.lemmas.Grind.{flat_map-append}
 use Rattle.std.proofs.Math.Seq.{take-add, take-append_seam}
+use Rattle.std.proofs.lemmas.Slice.{take-put_mid}
+use borrow.Rule.Slice.PartMut.{put_mid}
 use Rattle.std.proofs.lemmas.List.{take_more, take-map, drop-map, take-append-drop, length-take, length-take-le, length-map, get_or-map}
 use Rattle.cube_core.specs.Image.{Image}
 use Rattle.cube_core.specs.Order.{from, upto}
@@ -13,7 +15,7 @@ use Rattle.predict_core.specs.Residual.{mapped_residual, run_residuals}
 use Rattle.cube_predictors.specs.Own.{column_of, row_of}
 use Rattle.cube_predictors.specs.Sends.{IsAt, AreAt, bands_of}
 use Rattle.cube_predictors.specs.Pieces.{IsPast, ArePast, held_at, held_of}
-use Rattle.cube_predictors.proofs.Sending.{Pieces, upto_more}
+use Rattle.cube_predictors.proofs.Sending.{Pieces, from_more, upto_more}
 
 -- ---- the bands
 
@@ -78,7 +80,7 @@ from_split a (suc m) n =
 pub upto_piece : (f : ℕ → List ℕ) (x n : ℕ) → flat_map f (upto (x + n)) ≡ flat_map f (upto x) ++ flat_map f (from x n)
 upto_piece f x n = ap (flat_map f) (from_split 0 x n) ∙ flat_map-append f (upto x) (from (0 + x) n) ∙ ap (λ k. flat_map f (upto x) ++ flat_map f (from k n)) (omega arith)
 
-piece_rest : (f : ℕ → List ℕ) (x n m : ℕ) → x + n ≤ m → Pieces (flat_map f (upto m)) (flat_map f (upto x)) (flat_map f (from x n))
+pub piece_rest : (f : ℕ → List ℕ) (x n m : ℕ) → x + n ≤ m → Pieces (flat_map f (upto m)) (flat_map f (upto x)) (flat_map f (from x n))
 piece_rest f x n m le =
     let all : m ≡ x + n + (m - (x + n)) = omega (arith, le) in
     record {
@@ -127,3 +129,22 @@ held_alone (d ∷ []) b n numbers one there is long =
     let enough : n ≤ length b.piece = omega (arith, long, ap (λ (ns : List ℕ). length ns) is, length-take n b.piece) in
     is ∙ sym (first_items b.piece n enough) ∙ ap (λ (r : Learner). held_of (r ∷ []) n) there
 held_alone (d ∷ e ∷ bands) b n numbers one there is long = absurd (omega (arith, one))
+
+-- ---- several columns at once
+
+-- the residuals of one more place, behind those of the places before it
+pub places_more : (bands : List Learner) (first k n many : ℕ) (room numbers : List ℕ) → length numbers ≡ many → k * many ≤ length room → numbers ≡ held_at bands (first + k) → take (k * many) room ≡ flat_map (λ i. held_at bands i) (from first k)
+    → take ((k + 1) * many) (put_mid (k * many) n room numbers) ≡ flat_map (λ i. held_at bands i) (from first (k + 1))
+places_more bands first k n many room numbers long within is done =
+    let next : k + 1 ≡ suc k = omega arith in
+    let end : (k + 1) * many ≡ k * many + length numbers = grind (arith, long) in
+    let places : from first (k + 1) ≡ from first k ++ (first + k) ∷ [] = ap (from first) next ∙ from_more first k in
+    take-put_mid (k * many) n room numbers ((k + 1) * many) end within
+    ∙ ap₂ (λ a b. a ++ b) done (is ∙ sym (append-nil (held_at bands (first + k))))
+    ∙ sym (flat_map-append (λ i. held_at bands i) (from first k) ((first + k) ∷ []))
+    ∙ ap (flat_map (λ i. held_at bands i)) (sym places)
+
+-- a part was written anew, by as many
+pub part_long : (a n many : ℕ) (room numbers : List ℕ) → n ≡ many → length numbers ≡ many → a + many ≤ length room → length (put_mid a n room numbers) ≡ length room
+part_long a n many room numbers same long within =
+    omega (arith, same, long, within, length-append (take a room) (numbers ++ drop n (drop a room)), length-append numbers (drop n (drop a room)), length-take a room, length-drop n (drop a room), length-drop a room)

@@ -27,7 +27,7 @@ same_bands bands was i b d same e band = map-set_same (λ r. r.band) bands i d b
 
 -- ---- pieces, one behind another
 
-from_more : (a n : ℕ) → from a (suc n) ≡ from a n ++ (a + n) ∷ []
+pub from_more : (a n : ℕ) → from a (suc n) ≡ from a n ++ (a + n) ∷ []
 from_more a zero = ap (λ k. k ∷ []) (omega arith)
 from_more a (suc n) = ap (λ ks. a ∷ ks) (from_more (suc a) n ∙ ap (λ k. from (suc a) n ++ k ∷ []) (omega arith))
 

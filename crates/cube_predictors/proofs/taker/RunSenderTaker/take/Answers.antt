@@ -1,5 +1,4 @@
-use Rattle.std.proofs.Common.{◌≡◌, ◌+◌, ◌-◌, ◌++◌, ℕ, List, false, true, length, take, drop, length-drop, take-add, arith}
-use Rattle.cube_predictors.specs.Sends.{Sends}
+use Rattle.std.proofs.Common.{◌≡◌, ◌-◌, ℕ, List, false, true, length, take, drop, length-drop, take-add, arith}
 use Rattle.cube_predictors.specs.TakingLaws.{sendings_are}
 use Rattle.cube_predictors.proofs.Sending.{piece_cut}
 use Rattle.cube_predictors.proofs.Sendings.{sent_some}

@@ -2,7 +2,7 @@ use Rattle.std.proofs.Common.{◌≡◌, ◌<◌, ◌+◌, ◌*◌, ap, length, 
 use Rattle.predict_core.specs.Following.{Learner}
 use Rattle.cube_predictors.proofs.Sending.{at_index, same_bands}
 use Rattle.cube_predictors.proofs.RowPieces.{moved_by, past_step}
-use Rattle.cube_predictors.proofs.walk.predict_pieces.Goals as goal
+use Rattle.cube_predictors.proofs.pieces.predict_pieces.Goals as goal
 
 pub loop-i-preserved : goal.loop-i-preserved
 loop-i-preserved c =

@@ -1,6 +1,6 @@
 use Rattle.std.proofs.Common.{◌≡◌, length, take}
 use Rattle.cube_predictors.specs.Pieces.{held_at}
-use Rattle.cube_predictors.proofs.walk.gather.Given as goal
+use Rattle.cube_predictors.proofs.pieces.gather.Given as goal
 
 abbrev pub invariant-loop-k : goal.invariant-loop-k
 invariant-loop-k l = record {

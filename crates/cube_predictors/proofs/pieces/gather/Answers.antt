@@ -1,8 +1,7 @@
-use Rattle.std.proofs.Common.{◌≡◌, ◌+◌, ◌++◌, ◌∷◌, [], take, set, suc, ap, sym, ◌∙◌, add-one, length-set, arith}
+use Rattle.std.proofs.Common.{◌++◌, ◌∷◌, [], ap, sym, ◌∙◌, add-one, length-set, arith}
 use Rattle.std.proofs.Math.Seq.{take-suc-set}
-use Rattle.cube_predictors.specs.Pieces.{held_at}
 use Rattle.cube_predictors.proofs.RowPieces.{next_held}
-use Rattle.cube_predictors.proofs.walk.gather.Goals as goal
+use Rattle.cube_predictors.proofs.pieces.gather.Goals as goal
 
 pub loop-k-preserved : goal.loop-k-preserved
 loop-k-preserved c =

@@ -1,6 +1,6 @@
-use Rattle.std.proofs.Common.{◌≡◌, ◌-◌, ◌≤◌, true, length, take}
+use Rattle.std.proofs.Common.{◌-◌, ◌≤◌, true, length, take}
 use Rattle.cube_predictors.specs.Pieces.{held_at}
-use Rattle.cube_predictors.proofs.walk.send_column.Given as goal
+use Rattle.cube_predictors.proofs.pieces.send_column.Given as goal
 
 abbrev pub invariant-loop-first : goal.invariant-loop-first
 invariant-loop-first g l = record {

@@ -1,7 +1,7 @@
 use Rattle.std.proofs.Common.{◌≡◌, ◌+◌, ◌*◌, take, drop}
 use Rattle.cube_predictors.specs.Sends.{AreAt, bands_of}
 use Rattle.cube_predictors.specs.Pieces.{ArePast}
-use Rattle.cube_predictors.proofs.walk.predict_pieces.Given as goal
+use Rattle.cube_predictors.proofs.pieces.predict_pieces.Given as goal
 
 abbrev pub invariant-loop-i : goal.invariant-loop-i
 invariant-loop-i l = record {

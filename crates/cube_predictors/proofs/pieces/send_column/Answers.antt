@@ -1,11 +1,11 @@
-use Rattle.std.proofs.Common.{◌≡◌, ◌+◌, ◌-◌, ◌≤◌, ◌++◌, true, length, take, drop, sym, subst, arith}
+use Rattle.std.proofs.Common.{◌≡◌, ◌+◌, ◌≤◌, ◌++◌, true, length, take, drop, sym, subst, arith}
 use Rattle.std.proofs.Math.Seq.{take-add}
 use Rattle.cube_predictors.specs.Pieces.{held_at}
 use Rattle.cube_predictors.proofs.Sending.{none_yet, piece_fits, piece_cut}
 use Rattle.cube_predictors.proofs.RowPieces.{gathered, run_piece}
-use Rattle.cube_predictors.proofs.walk.send_column.Goals as goal
-use Rattle.cube_predictors.proofs.walk.send_column.Goals.{After-gather}
-use Rattle.cube_predictors.proofs.walk.send_column.Given.{Over}
+use Rattle.cube_predictors.proofs.pieces.send_column.Goals as goal
+use Rattle.cube_predictors.proofs.pieces.send_column.Goals.{After-gather}
+use Rattle.cube_predictors.proofs.pieces.send_column.Given.{Over}
 
 module _ (g : Over) (c : After-gather g) where
   within : c.loop-first.first + c.min-count.result ≤ length c.args.bands.now
