@@ -19,7 +19,7 @@ use Rattle.sample_adaptive.proofs.Running.{body_run}
 use Rattle.file_coding.specs.declared.encoder.Encoder.{Encoder}
 use Rattle.file_coding.specs.declared.encoder.Encoder.TheVariants.{Samples, Blocks}
 use Rattle.file_coding.specs.Coding.{places_of, places_behind, SamplesTaken, HasTaken, IsRun, IsBySamples, MayPutRun, PutsRun}
-use Rattle.file_coding.specs.Ends.{Ending, HasCoded, MayCode, MayCodeAll, CodesAll, AreByRows, MayCodeRun}
+use Rattle.file_coding.specs.Ends.{Ending, HasCoded, MayCode, MayCodeAll, CodesAll, AreByRows, AreOfColumn, MayCodeRun, MayCodeColumn}
 use Rattle.file_coding.proofs.Coders.{places_long}
 use Rattle.file_coding.proofs.Endings.{comes_next, first_of}
 use Rattle.block_adaptive.specs.Settings.{IsBlock}
@@ -163,16 +163,29 @@ may_one old e list i may codes lt = record {
   range = all_get (2 ^ may.params.kind.bits) i list may.range lt;
 }
 
+-- the coder is still the sample-adaptive one
+samples_still : (old e : Ending) (list : List ℕ) (first : ℕ) → MayCodeAll old list → IsBySamples old.coder → CodesAll old e (take first list) → IsBySamples e.coder
+samples_still old e list first may samples codes =
+    let now = codes may.params may.numbers may.coded in
+    by_samples may.params e.coder (may.numbers ++ take first list) now.written (is_sample may.params old.coder may.numbers may.coded.written samples may.coded.taken) now.taken
+
 pub may_run : (old e : Ending) (list : List ℕ) (first count : ℕ) (place : Place) → MayCodeAll old list → IsBySamples old.coder → CodesAll old e (take first list) → AreByRows e.columns e.left → first + count ≤ length list
     → slice_get e.left 0 ≡ Some place → place.x + count ≤ e.columns → MayCodeRun e place (take count (drop first list))
 may_run old e list first count place may samples codes rows fits next row = record {
   may = may_part old e list first count may codes fits;
-  samples =
-      let now = codes may.params may.numbers may.coded in
-      by_samples may.params e.coder (may.numbers ++ take first list) now.written (is_sample may.params old.coder may.numbers may.coded.written samples may.coded.taken) now.taken;
+  samples = samples_still old e list first may samples codes;
   rows = rows;
   next = next;
   row = omega (arith, row, length-take count (drop first list));
+}
+
+pub may_column : (old e : Ending) (list : List ℕ) (first count : ℕ) (place : Place) → MayCodeAll old list → IsBySamples old.coder → CodesAll old e (take first list) → first + count ≤ length list → slice_get e.left 0 ≡ Some place
+    → AreOfColumn place (length (take count (drop first list))) e.left → MayCodeColumn e place (take count (drop first list))
+may_column old e list first count place may samples codes fits next along = record {
+  may = may_part old e list first count may codes fits;
+  samples = samples_still old e list first may samples codes;
+  next = next;
+  along = along;
 }
 
 -- the next place is of a column
