@@ -1,7 +1,10 @@
 -- Pieces of a row, one behind another.
 use Rattle.std.proofs.Common.{◌≡◌, ◌+◌, ◌*◌, ◌<◌, ◌≤◌, ℕ, zero, suc, List, [], ◌∷◌, ◌++◌, length, take, drop, get_or, set, refl, sym, ap, ap₂, subst, ◌∙◌}
-use Rattle.std.proofs.Common.{add-one, get_or-take, length-drop, arith}
+use Rattle.std.proofs.Common.{add-one, get_or-take, append-nil, length-append, length-drop, arith}
 use Rattle.std.specs.List.{flat_map}
+use Rattle.std.proofs.lemmas.Grind.{flat_map-append}
+use Rattle.std.proofs.lemmas.Slice.{take-put_mid}
+use borrow.Rule.Slice.PartMut.{put_mid}
 use Rattle.std.proofs.Math.Seq.{take-add}
 use Rattle.std.proofs.lemmas.List.{take_more, take_more_set, drop_more, drop-set-lt, take-map, drop-map, take-append-drop, length-take, length-take-le, length-map, get_or-map, take_at}
 use Rattle.std.proofs.lemmas.List.Elements.{All-weaker, All-from_recursion, recursion_from_All}
@@ -14,7 +17,7 @@ use Rattle.predict_core.specs.Residual.{mapped_residual, run_residuals}
 use Rattle.cube_predictors.specs.Own.{column_of}
 use Rattle.cube_predictors.specs.Sends.{IsAt, AreAt, bands_of}
 use Rattle.cube_predictors.specs.Pieces.{IsPast, ArePast, held_at, held_of}
-use Rattle.cube_predictors.proofs.Sending.{Pieces, each_append, upto_more}
+use Rattle.cube_predictors.proofs.Sending.{Pieces, each_append, from_split, upto_more}
 
 -- ---- the bands
 
@@ -95,3 +98,22 @@ held_alone (d ∷ []) b n numbers one there is long =
     let enough : n ≤ length b.piece = omega (arith, long, ap (λ (ns : List ℕ). length ns) is, length-take n b.piece) in
     is ∙ sym (first_items b.piece n enough) ∙ ap (λ (r : Learner). held_of (r ∷ []) n) there
 held_alone (d ∷ e ∷ bands) b n numbers one there is long = absurd (omega (arith, one))
+
+-- ---- several columns at once
+
+-- the residuals of one more place, behind those of the places before it
+pub places_more : (bands : List Learner) (first k n many : ℕ) (room numbers : List ℕ) → length numbers ≡ many → k * many ≤ length room → numbers ≡ held_at bands (first + k)
+    → take (k * many) room ≡ flat_map (λ i. held_at bands i) (from first k)
+    → take ((k + 1) * many) (put_mid (k * many) n room numbers) ≡ flat_map (λ i. held_at bands i) (from first (k + 1))
+places_more bands first k n many room numbers long within is done =
+    let end : (k + 1) * many ≡ k * many + length numbers = grind (arith, long) in
+    take-put_mid (k * many) n room numbers ((k + 1) * many) end within
+    ∙ ap₂ (λ a b. a ++ b) done (is ∙ sym (append-nil (held_at bands (first + k))))
+    ∙ sym (flat_map-append (λ i. held_at bands i) (from first k) ((first + k) ∷ []))
+    ∙ ap (flat_map (λ i. held_at bands i)) (sym (from_split first k 1))
+
+-- a part was written anew, by as many
+pub part_long : (a n many : ℕ) (room numbers : List ℕ) → n ≡ many → length numbers ≡ many → a + many ≤ length room → length (put_mid a n room numbers) ≡ length room
+part_long a n many room numbers same long within =
+    omega (arith, same, long, within, length-append (take a room) (numbers ++ drop n (drop a room)), length-append numbers (drop n (drop a room)),
+    length-take a room, length-drop n (drop a room), length-drop a room)

@@ -7,8 +7,8 @@ ghost use Rattle.cube_core.specs.declared.order.Order.TheVariants.{Bi};
 ghost use Rattle.header_bits.specs.Lawful.{IsLawful};
 ghost use Rattle.cube_predictors.specs.Own.{own, row_of, rows_of, line_of, own_residuals};
 ghost use Rattle.cube_predictors.specs.Sends.{IsSeen, AreAt, AreFresh, bands_of};
-ghost use Rattle.cube_predictors.specs.Pieces.{ArePast, held_at, held_of};
 
+use crate::pieces::{RUN, predict_pieces, send_pieces};
 use crate::taker::Taker;
 use cube_core::cube::Cube;
 use cube_core::order::Order;
@@ -17,77 +17,6 @@ use predict_core::band::Band;
 
 /// The greatest number of places in a piece of a row.
 const PIECE: u32 = 64;
-
-/// The greatest number of residuals of a column that are passed on at once.
-const RUN: usize = 64;
-
-/// Has each of some bands go over `count` places of row `y`, from column `x` on, and hold their residuals.
-fn predict_pieces(cube: &Cube, params: &Params, y: u32, x: u32, count: u32, bands: &mut [Band])
-    requires image { IsSeen params.now cube.now }
-    requires place { (y < cube.now.shape.rows) × (x < cube.now.shape.columns) }
-    requires piece { (count ≤ 64) × (x + count ≤ cube.now.shape.columns) }
-    requires at { AreAt params.now cube.now (y * cube.now.shape.columns + x) bands.old }
-    ensures past { ArePast params.now cube.now (y * cube.now.shape.columns + x) count bands.new }
-    ensures same { bands_of bands.new ≡ bands_of bands.old }
-{
-    for i in 0..bands.len() {
-        let band = &mut bands[i];
-        band.predict_piece(cube, y, x, count as usize);
-    }
-}
-
-/// Writes the residuals that some bands hold of place `i` of their pieces, band after band.
-#[inline(always)]
-fn gather(i: usize, bands: &[Band], residuals: &mut [u16])
-    requires place { i < 64 }
-    requires room { length residuals.old ≡ length bands.now }
-    ensures { residuals.new ≡ held_at bands.now i }
-{
-    for k in 0..bands.len() {
-        residuals[k] = bands[k].piece_residual(i);
-    }
-}
-
-/// Sends the residuals that some bands hold of place `i` of their pieces. Returns false if the taker has
-/// stopped.
-#[inline(always)]
-fn send_column<R, T: Taker<R>>(rt: &R, i: usize, bands: &[Band], taker: &mut T) -> bool
-    requires place { i < 64 }
-    requires may { T.may taker.old (held_at bands.now i) }
-    ensures sent { T.takes taker.old taker.new result (held_at bands.now i) }
-{
-    let mut room = [0; RUN];
-    let mut first = 0;
-    while first < bands.len() {
-        let count = RUN.min(bands.len() - first);
-        gather(i, &bands[first..first + count], &mut room[..count]);
-        if !taker.take(rt, &room[..count]) {
-            return false;
-        }
-        first += count;
-    }
-    true
-}
-
-/// Sends the residuals that some bands hold of their pieces, column after column. Returns false if the taker
-/// has stopped.
-///
-/// Those of a single band are sent as one slice.
-fn send_pieces<R, T: Taker<R>>(rt: &R, count: usize, bands: &[Band], taker: &mut T) -> bool
-    requires piece { count ≤ 64 }
-    requires may { T.may taker.old (held_of bands.now count) }
-    ensures sent { T.takes taker.old taker.new result (held_of bands.now count) }
-{
-    if bands.len() == 1 {
-        return taker.take(rt, bands[0].piece_residuals(count));
-    }
-    for i in 0..count {
-        if !send_column(rt, i, bands, taker) {
-            return false;
-        }
-    }
-    true
-}
 
 /// Sends the residuals of some bands in row `y`, column after column. Returns false if the taker has stopped.
 fn send_row<R, T: Taker<R>>(
@@ -110,11 +39,12 @@ fn send_row<R, T: Taker<R>>(
         return true;
     }
     let columns = cube.shape().columns();
+    let mut room = [0; RUN];
     let mut x = 0;
     while x < columns {
         let count = PIECE.min(columns - x);
         predict_pieces(cube, params, y, x, count, bands);
-        if !send_pieces(rt, count as usize, bands, taker) {
+        if !send_pieces(rt, count as usize, bands, &mut room, taker) {
             return false;
         }
         x += count;

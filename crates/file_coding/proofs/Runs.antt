@@ -21,7 +21,7 @@ use Rattle.header_bits.proofs.TableWriting.{all_at}
 use Rattle.file_coding.specs.declared.encoder.Encoder.{Encoder}
 use Rattle.file_coding.specs.declared.encoder.Encoder.TheVariants.{Samples, Blocks}
 use Rattle.file_coding.specs.Coding.{places_of, places_behind, SamplesTaken, HasTaken, IsRun, IsBySamples, MayPutRun, PutsRun}
-use Rattle.file_coding.specs.Ends.{Ending, HasCoded, MayCode, MayCodeAll, CodesAll, AreByRows, MayCodeRun}
+use Rattle.file_coding.specs.Ends.{Ending, HasCoded, MayCode, MayCodeAll, CodesAll, AreByRows, AreOfColumn, MayCodeRun, MayCodeColumn}
 use Rattle.file_coding.proofs.Coders.{places_long}
 use Rattle.file_coding.proofs.Endings.{comes_next, first_of}
 use Rattle.block_adaptive.specs.Settings.{IsBlock}
@@ -159,15 +159,27 @@ may_one old e list i may codes lt = record {
   range = all_at (λ n. n < 2 ^ may.params.kind.bits) list i 0 lt may.range;
 }
 
-pub may_run : (old e : Ending) (list : List ℕ) (first count : ℕ) (place : Place) → MayCodeAll old list → IsBySamples old.coder
-    → CodesAll old e (take first list) → AreByRows e.columns e.left → first + count ≤ length list → slice_get e.left 0 ≡ Some place
-    → place.x + count ≤ e.columns → MayCodeRun e place (take count (drop first list))
+-- the coder is still the sample-adaptive one
+samples_still : (old e : Ending) (list : List ℕ) (first : ℕ) → MayCodeAll old list → IsBySamples old.coder → CodesAll old e (take first list) → IsBySamples e.coder
+samples_still old e list first may samples codes = stays may.params old.coder e.coder _ _ _ _ may.coded.taken (codes may.params may.numbers may.coded).taken samples
+
+pub may_run : (old e : Ending) (list : List ℕ) (first count : ℕ) (place : Place) → MayCodeAll old list → IsBySamples old.coder → CodesAll old e (take first list) → AreByRows e.columns e.left → first + count ≤ length list
+    → slice_get e.left 0 ≡ Some place → place.x + count ≤ e.columns → MayCodeRun e place (take count (drop first list))
 may_run old e list first count place may samples codes rows fits next row = record {
   may = may_part old e list first count may codes fits;
-  samples = stays may.params old.coder e.coder _ _ _ _ may.coded.taken (codes may.params may.numbers may.coded).taken samples;
+  samples = samples_still old e list first may samples codes;
   rows = rows;
   next = next;
   row = omega (arith, row, length-take count (drop first list));
+}
+
+pub may_column : (old e : Ending) (list : List ℕ) (first count : ℕ) (place : Place) → MayCodeAll old list → IsBySamples old.coder → CodesAll old e (take first list) → first + count ≤ length list → slice_get e.left 0 ≡ Some place
+    → AreOfColumn place (length (take count (drop first list))) e.left → MayCodeColumn e place (take count (drop first list))
+may_column old e list first count place may samples codes fits next along = record {
+  may = may_part old e list first count may codes fits;
+  samples = samples_still old e list first may samples codes;
+  next = next;
+  along = along;
 }
 
 -- the next place is of a column

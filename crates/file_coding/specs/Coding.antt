@@ -1,5 +1,5 @@
 -- The coding end: which residuals it has taken, in encoding order.
-use Rattle.std.specs.Prelude.{ℕ, ◌≡◌, ◌+◌, ◌*◌, ◌^◌, ◌<◌, ◌≤◌, Bool, List, [], ◌∷◌, ◌++◌, length, take, drop, slice_get, Some}
+use Rattle.std.specs.Prelude.{ℕ, suc, ◌≡◌, ◌+◌, ◌*◌, ◌^◌, ◌<◌, ◌≤◌, Bool, List, [], ◌∷◌, ◌++◌, length, take, drop, slice_get, Some}
 use Rattle.std.specs.List.{AllByRecursion}
 use Rattle.cube_core.specs.declared.order.Place.{Place}
 use Rattle.cube_core.specs.Shape.{sample_count}
@@ -89,6 +89,17 @@ abbrev pub PutsRun : ℕ → ℕ → List ℕ → Encoder → List Bool → Enco
 PutsRun z t run old written new written_now =
     (p : Params) (numbers : List ℕ) (bits : List Bool) → HasTaken p old numbers bits → IsRun p numbers z t (length run)
     → (more : List Bool) × (written_now ≡ written ++ more) × HasTaken p new (numbers ++ run) (bits ++ more)
+
+-- numbers of bands from band z on may be put as one column: the coder is the sample-adaptive one
+abbrev pub MayPutColumn : Encoder → ℕ → List ℕ → Type 0
+MayPutColumn (Samples v) z column = (z + length column ≤ length v.bands) × AllByRecursion (λ n. n < 2 ^ v.bits) column × (length column ≤ 2 ^ 16)
+MayPutColumn (Blocks v) z column = ⊥
+
+-- one number each of bands from band z on: each is taken in turn, as number t of its band
+abbrev pub PutsColumn : ℕ → ℕ → List ℕ → Encoder → List Bool → Encoder → List Bool → Type 0
+PutsColumn z t [] old written new written_now = (new ≡ old) × (written_now ≡ written)
+PutsColumn z t (number ∷ numbers) old written new written_now =
+    (mid : Encoder) × (written_mid : List Bool) × PutsNumber z t number old written mid written_mid × PutsColumn (suc z) t numbers mid written_mid new written_now
 
 -- numbers may be put as they come: the coder is the block-adaptive one, and has blocks for them
 abbrev pub MayPutBlocks : Encoder → List ℕ → Type 0

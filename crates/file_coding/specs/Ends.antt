@@ -67,3 +67,10 @@ pub record MayCodeRun (e : Ending) (place : Place) (run : List ℕ) : Type 0 whe
   pub rows : AreByRows e.columns e.left
   pub next : slice_get e.left 0 ≡ Some place
   pub row : place.x + length run ≤ e.columns
+
+-- these numbers may be coded, and they are of one row and column, from the place that comes next
+pub record MayCodeColumn (e : Ending) (place : Place) (column : List ℕ) : Type 0 where
+  pub may : MayCodeAll e column
+  pub samples : IsBySamples e.coder
+  pub next : slice_get e.left 0 ≡ Some place
+  pub along : AreOfColumn place (length column) e.left

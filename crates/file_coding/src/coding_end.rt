@@ -9,7 +9,7 @@ ghost use Rattle.header_bits.specs.Bits.{bits_of_bytes};
 ghost use Rattle.header_bits.specs.Lawful.{IsLawful};
 ghost use Rattle.cube_core.specs.declared.order.Order.TheVariants.{Bsq, Bi};
 ghost use Rattle.file_coding.specs.Coding.{IsBySamples, IsByBlocks};
-ghost use Rattle.file_coding.specs.Ends.{HasCoded, MayCode, MayCodeAll, MayCodeRun, CodesAll, AreByRows, AreOfColumn};
+ghost use Rattle.file_coding.specs.Ends.{HasCoded, MayCode, MayCodeAll, MayCodeRun, MayCodeColumn, CodesAll, AreByRows};
 ghost use Rattle.file_coding.specs.File.{filled, packed, file_of_residuals};
 
 use crate::encoder::Encoder;
@@ -136,7 +136,8 @@ impl CodingEnd {
 
     /// Takes residuals by the sample-adaptive coder where places go by columns of bands.
     fn put_columns(&mut self, residuals: &[u16]) -> Result<(), Fault>
-        requires { MayCodeAll self.old residuals.now }
+        requires may { MayCodeAll self.old residuals.now }
+        requires samples { IsBySamples self.old.coder }
         ensures coded { OnOk result (CodesAll self.old self.new residuals.now) }
         ensures some { OnErr result ((n : ℕ) × (n < length residuals.now) × CodesAll self.old self.new (take n residuals.now)) }
         ensures refused { IfErr result (λ e. e ≡ WantOfMemory) }
@@ -147,35 +148,28 @@ impl CodingEnd {
                 unreachable!()
             };
             let column = self.places.column().min(1 << 16) as usize;
-            let end = first + column.min(residuals.len() - first);
-            let taken = self.put_column(place, &residuals[first..end]);
-            first += taken;
-            if first < end {
-                return Err(Fault::WantOfMemory);
-            }
+            let count = column.min(residuals.len() - first);
+            self.put_column(place, &residuals[first..first + count])?;
+            first += count;
         }
         Ok(())
     }
 
-    /// Takes residuals of one row and column, band after band, from the next place on. Returns how many were taken: fewer than all only where
-    /// an allocation failed.
+    /// Takes residuals of one row and column, band after band, from the next place on, by the sample-adaptive coder.
+    ///
+    /// Returns `WantOfMemory` if an allocation fails; then nothing was changed.
     #[inline(always)]
-    fn put_column(&mut self, place: Place, column: &[u16]) -> usize
-        requires may { MayCodeAll self.old column.now }
-        requires column { AreOfColumn place (length column.now) self.old.left }
-        ensures coded { CodesAll self.old self.new (take result column.now) }
-        ensures most { result ≤ length column.now }
+    fn put_column(&mut self, place: Place, column: &[u16]) -> Result<(), Fault>
+        requires { MayCodeColumn self.old place column.now }
+        ensures coded { OnOk result (CodesAll self.old self.new column.now) }
+        ensures same { OnErr result (self.new ≡ self.old) }
+        ensures refused { IfErr result (λ e. e ≡ WantOfMemory) }
     {
         let t = u64::from(place.y) * self.columns + u64::from(place.x);
-        for i in 0..column.len() {
-            let z = place.z + i as u32;
-            let Ok(()) = self.encoder.put(z, t, column[i], &mut self.writer) else {
-                self.places.go_by(i as u64);
-                return i;
-            };
-        }
+        self.encoder
+            .put_column(place.z, t, column, &mut self.writer)?;
         self.places.go_by(column.len() as u64);
-        column.len()
+        Ok(())
     }
 
     /// Takes residuals by the sample-adaptive coder where places go along rows.

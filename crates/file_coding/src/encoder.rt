@@ -4,7 +4,7 @@ ghost use Rattle.std.specs.Prelude.{◌≡◌, ◌*◌, ◌<◌, ◌≤◌, [], 
 ghost use Rattle.cube_core.specs.declared.fault.Fault.TheVariants.{WantOfMemory};
 ghost use Rattle.header_bits.specs.Lawful.{IsLawful};
 ghost use Rattle.block_adaptive.specs.Settings.{IsBlock};
-ghost use Rattle.file_coding.specs.Coding.{HasTaken, MayPut, MayPutRun, MayPutBlocks, MayGrow, MayGrowAtEnd, PutsNumber, PutsRun, PutsBlocks, EndsBody};
+ghost use Rattle.file_coding.specs.Coding.{HasTaken, MayPut, MayPutRun, MayPutColumn, MayPutBlocks, MayGrow, MayGrowAtEnd, PutsNumber, PutsRun, PutsColumn, PutsBlocks, EndsBody};
 ghost use Rattle.file_coding.specs.Coding.{IsBySamples, IsByBlocks};
 
 use block_adaptive::block_writer::BlockWriter;
@@ -89,6 +89,31 @@ impl Encoder {
     {
         match self {
             Encoder::Samples(stats) => stats.put_run(z, t, run, writer),
+            Encoder::Blocks(_) => unreachable!(),
+        }
+    }
+
+    /// Takes the next residuals, number `t` of band `z`, of the next band, and so on, and appends their code words. The
+    /// coder is the sample-adaptive one.
+    ///
+    /// Each residual is at most 2^D - 1. Returns `WantOfMemory` if an allocation fails; then nothing was changed. It
+    /// succeeds where the writer has room for 48 bits a residual.
+    #[inline(always)]
+    pub fn put_column(
+        &mut self,
+        z: u32,
+        t: u64,
+        column: &[u16],
+        writer: &mut BitWriter,
+    ) -> Result<(), Fault>
+        requires { MayPutColumn self.old z column.now }
+        ensures taken { OnOk result (PutsColumn z t column.now self.old writer.old.bits self.new writer.new.bits) }
+        ensures same { OnErr result ((self.new ≡ self.old) × (writer.new.bits ≡ writer.old.bits)) }
+        ensures within { 48 * length column.now ≤ writer.old.room → IsOk result }
+        ensures refused { IfErr result (λ e. e ≡ WantOfMemory) }
+    {
+        match self {
+            Encoder::Samples(stats) => stats.put_column(z, t, column, writer),
             Encoder::Blocks(_) => unreachable!(),
         }
     }

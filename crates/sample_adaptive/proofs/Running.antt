@@ -1,7 +1,7 @@
 -- A run of one band's numbers, taken one after another.
-use Rattle.std.proofs.Common.{◌≡◌, ◌+◌, ◌<◌, ℕ, zero, suc, Bool, true, false, cond, eqb, List, [], ◌∷◌, ◌++◌, length, take, drop, set, refl, sym, ap, subst, ◌∙◌, append_assoc, append-nil, length-append, length-take, length-drop, take-append-drop, arith, eq-eqb}
+use Rattle.std.proofs.Common.{◌≡◌, ◌+◌, ◌<◌, ℕ, zero, suc, Bool, true, false, cond, eqb, List, [], ◌∷◌, ◌++◌, length, take, drop, get_or, set, refl, sym, ap, ap₂, subst, ◌∙◌, append_assoc, append-nil, length-append, length-take, length-drop, take-append-drop, arith, eq-eqb}
 use Rattle.std.proofs.lemmas.Bool.{ne_eqb}
-use Rattle.std.proofs.lemmas.List.{get_or-set_same, length-set, set-set, set-get_or}
+use Rattle.std.proofs.lemmas.List.{get_or-set_same, length-set, set-set, set-get_or, take_more}
 use Rattle.std.specs.List.{AllByRecursion}
 use Rattle.cube_core.specs.declared.order.Place.{Place}
 use Rattle.sample_adaptive.specs.declared.code_word.Code.{Code}
@@ -110,5 +110,18 @@ run_later z t number v s written written_now lt some text =
       subst (λ (w : Counts). HasTaken c w (with_number taken z number)) counts (taken_more c (with_band v z s) taken z t number h inside is),
     ))
 
+pub run_step : (z t i number : ℕ) (v : Counts) (s next : Statistics) (numbers : List ℕ) (written was now : List Bool) → z < length v.bands → 0 < t → i < length numbers → number ≡ get_or numbers i 0
+    → now ≡ was ++ code_word (record { limit = v.umax; low = code_parameter v.bits s; bits = v.bits }) number → next ≡ next_statistics v.gamma_star s number → PutsRun z t (take i numbers) v written (with_band v z s) was
+    → PutsRun z t (take (i + 1) numbers) v written (with_band v z next) now
+run_step z t i number v s next numbers written was now lt some within there text counts run =
+    let one = run_later z (t + length (take i numbers)) number v s was now lt (omega (arith, some)) text in
+    let both = run_behind z t (take i numbers) (number ∷ []) v (with_band v z s) (with_band v z (next_statistics v.gamma_star s number)) written was now run one in
+    let cut : take i numbers ++ number ∷ [] ≡ take (i + 1) numbers = ap (λ n. take i numbers ++ n ∷ []) there ∙ sym (take_more numbers i 0 within) in
+    subst (λ (ns : List ℕ). PutsRun z t ns v written (with_band v z next) now) cut (subst (λ (d : Statistics). PutsRun z t (take i numbers ++ number ∷ []) v written (with_band v z d) now) (sym counts) both)
+
 pub same_band : (v : Counts) (z : ℕ) (s : Statistics) → s ≡ of_band v.bands z → with_band v z s ≡ v
 same_band v z s e = rw (e, set-get_or) refl
+
+-- two words behind what was written
+pub two_words : (was now a b v w : List Bool) → now ≡ was ++ a ++ b → a ≡ v → b ≡ w → now ≡ was ++ v ++ w
+two_words was now a b v w text e f = text ∙ ap₂ (λ (p q : List Bool). was ++ p ++ q) e f

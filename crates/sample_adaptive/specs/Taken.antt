@@ -83,6 +83,13 @@ PutsRun z t numbers old written new written_now =
     → HasTaken c old (λ b. band_numbers b gone before) → t ≡ length (band_numbers z gone before)
     → (written_now ≡ written ++ words_after c gone before places numbers) × HasTaken c new (λ b. band_numbers b (gone ++ places) (before ++ numbers))
 
+-- one number each of bands one above another, from band z on: each is taken in turn, as number t of its band
+abbrev pub PutsColumn : ℕ → ℕ → List ℕ → Counts → List Bool → Counts → List Bool → Type 0
+PutsColumn z t [] old written new written_now = (new ≡ old) × (written_now ≡ written)
+PutsColumn z t (number ∷ numbers) old written new written_now =
+    (mid : Counts) × (written_mid : List Bool) × (length mid.bands ≡ length old.bands) × (mid.bits ≡ old.bits)
+    × PutsNumber z t number old written mid written_mid × PutsColumn (suc z) t numbers mid written_mid new written_now
+
 -- whatever numbers were taken before, of which band z has t: the number whose code word stands next was taken, or the first fault is answered
 abbrev pub GetsNumber : ℕ → ℕ → Result ℕ Fault → Counts → Unread → Counts → List Bool → Type 0
 GetsNumber z t result old unread new left =

@@ -1,6 +1,6 @@
 //! Code words: how a number is written, and how it is read back.
 
-ghost use Rattle.std.specs.Prelude.{◌≡◌, ◌+◌, ◌*◌, ◌/◌, ◌^◌, ◌<◌, ◌≤◌, ◌↔◌, IsOk, IfOk, IfErr, OnErr};
+ghost use Rattle.std.specs.Prelude.{◌≡◌, ◌+◌, ◌*◌, ◌/◌, ◌^◌, ◌<◌, ◌≤◌, ◌↔◌, ◌++◌, IsOk, IfOk, IfErr, OnErr};
 ghost use Rattle.cube_core.specs.declared.fault.Fault.TheVariants.{BadCode};
 ghost use Rattle.header_bits.specs.Bits.{bits_of};
 ghost use Rattle.header_bits.specs.Reading.{Reads};
@@ -10,6 +10,7 @@ ghost use Rattle.sample_adaptive.specs.Reading.{word_at};
 
 use cube_core::fault::Fault;
 use header_bits::bit_reader::{BitReader, bits_behind};
+use header_bits::bit_writer::BitWriter;
 
 /// How the next number is written (CCSDS 123.0-B-1, "Sample-adaptive entropy coder").
 #[derive(Clone, Copy, Debug, PartialEq, Eq)]
@@ -53,6 +54,27 @@ pub(crate) fn word_of(code: Code, number: u16) -> Word
             bits: u64::from(number),
             length: code.limit + code.bits,
         }
+    }
+}
+
+/// Appends two code words, for which there is room.
+///
+/// Together they mostly fit in 64 bits, and then they are pushed at once.
+#[inline(always)]
+pub(crate) fn push_both(first: Word, second: Word, writer: &mut BitWriter)
+    requires first { (first.bits < 2 ^ first.length) × (first.length ≤ 48) }
+    requires second { (second.bits < 2 ^ second.length) × (second.length ≤ 48) }
+    requires room { first.length + second.length ≤ writer.old.room }
+    ensures appended { writer.new.bits ≡ writer.old.bits ++ bits_of first.length first.bits ++ bits_of second.length second.bits }
+    ensures room { writer.old.room ≤ writer.new.room + first.length + second.length }
+{
+    let length = first.length + second.length;
+    if length <= 64 {
+        let both = (first.bits << second.length) + second.bits;
+        writer.push_reserved(both, length);
+    } else {
+        writer.push_reserved(first.bits, first.length);
+        writer.push_reserved(second.bits, second.length);
     }
 }
 

@@ -4,9 +4,11 @@
 pub mod code_word;
 pub mod column;
 pub mod laws;
+mod measure;
 pub mod run_words;
 pub mod statistics;
 pub mod stats;
 mod tracked;
 pub mod worked;
 pub mod worked_refusals;
+pub mod written_column;

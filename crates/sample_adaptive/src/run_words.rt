@@ -3,10 +3,12 @@
 ghost use Rattle.std.specs.Prelude.{◌≡◌, ◌+◌, ◌*◌, ◌^◌, ◌<◌, ◌≤◌, length, max, IsOk, IfErr, OnOk, ℕ};
 ghost use Rattle.std.specs.List.{AllByRecursion};
 ghost use Rattle.cube_core.specs.declared.fault.Fault.TheVariants.{WantOfMemory};
-ghost use Rattle.sample_adaptive.specs.Statistics.{AreStatistics};
+ghost use Rattle.sample_adaptive.specs.Statistics.{AreStatistics, next_statistics, code_parameter};
+ghost use Rattle.header_bits.specs.Bits.{bits_of};
+ghost use Rattle.sample_adaptive.specs.Words.{code_word};
 ghost use Rattle.sample_adaptive.specs.Taken.{Counts, HasSettings, PutsRun, GetsRun, of_band, with_band};
 
-use crate::code_word::{Code, take_word, word_of};
+use crate::code_word::{Code, Word, push_both, take_word, word_of};
 use crate::statistics::{Rescaling, Statistics};
 use crate::tracked::Tracked;
 use cube_core::fault::Fault;
@@ -42,18 +44,48 @@ pub(crate) fn put_words(writer: BitWriter, run: LaterRun) -> (BitWriter, Statist
 {
     let mut writer = writer;
     let mut tracked = Tracked::of(run.bits, run.statistics);
-    for i in 0..run.numbers.len() {
-        tracked = tracked.settled(run.bits);
-        let code = Code {
-            limit: run.limit,
-            low: tracked.low,
-            bits: run.bits,
-        };
-        let word = word_of(code, run.numbers[i]);
-        writer.push_reserved(word.bits, word.length);
-        tracked = tracked.next(run.rescaling, run.numbers[i]);
+    let numbers = run.numbers;
+    let mut i = 0;
+    while i + 1 < numbers.len() {
+        let first = word_within(run, tracked, numbers[i]);
+        let second = word_within(run, first.1, numbers[i + 1]);
+        push_both(first.0, second.0, &mut writer);
+        tracked = second.1;
+        i += 2;
     }
-    (writer, tracked.statistics)
+    if i == numbers.len() {
+        return (writer, tracked.statistics);
+    }
+    let last = word_within(run, tracked, numbers[i]);
+    writer.push_reserved(last.0.bits, last.0.length);
+    (writer, last.1.statistics)
+}
+
+/// Returns the code word of the next number of a run, and the statistics after it.
+#[inline(always)]
+fn word_within(run: LaterRun, tracked: Tracked, number: u16) -> (Word, Tracked)
+    requires bits { (2 ≤ run.bits) × (run.bits ≤ 16) × (tracked.low + 2 ≤ run.bits) }
+    requires limit { run.limit ≤ 32 }
+    requires statistics { AreStatistics run.rescaling.size tracked.statistics }
+    requires number { number < 2 ^ run.bits }
+    ensures word { bits_of result.0.length result.0.bits ≡ code_word (record {
+      limit = run.entry.limit;
+      low = code_parameter run.entry.bits tracked.statistics;
+      bits = run.entry.bits;
+    }) number }
+    ensures below { result.0.bits < 2 ^ result.0.length }
+    ensures few { result.0.length ≤ 48 }
+    ensures next { result.1.statistics ≡ next_statistics run.entry.rescaling.size tracked.statistics number }
+    ensures statistics { AreStatistics run.entry.rescaling.size result.1.statistics }
+    ensures low { result.1.low + 2 ≤ run.entry.bits }
+{
+    let tracked = tracked.settled(run.bits);
+    let code = Code {
+        limit: run.limit,
+        low: tracked.low,
+        bits: run.bits,
+    };
+    (word_of(code, number), tracked.next(run.rescaling, number))
 }
 
 /// Reserves room for so many code words. It allocates no more than that, or than as many bits as there are.

@@ -3,6 +3,8 @@
 ghost use Rattle.std.specs.Prelude.{◌≡◌, ◌+◌, ◌-◌, ◌*◌, ◌/◌, ◌^◌, ◌<◌, ◌≤◌};
 ghost use Rattle.sample_adaptive.specs.Statistics.{AreStatistics, start_statistics, next_statistics, level as level_of, code_parameter};
 
+use crate::measure::Measure;
+
 /// A band's statistics, by which its next number is coded (CCSDS 123.0-B-1, "Adaptive code selection statistics").
 #[derive(Clone, Copy, Debug, PartialEq, Eq)]
 pub struct Statistics {
@@ -96,9 +98,6 @@ pub(crate) fn level(s: Statistics) -> u32
 }
 
 /// Returns k, how many low bits of the next number its code word has as they are: at most D - 2.
-///
-/// The greatest k with counter·2^k at most the level is found from the lengths of the two numbers, without trying each
-/// k.
 pub(crate) fn parameter(bits: u32, s: Statistics) -> u32
     requires bits { (2 ≤ bits) × (bits ≤ 16) }
     requires counter { (1 ≤ s.counter) × (s.counter < 2 ^ 9) }
@@ -106,15 +105,5 @@ pub(crate) fn parameter(bits: u32, s: Statistics) -> u32
     ensures value { result ≡ code_parameter bits s }
     ensures most { result + 2 ≤ bits }
 {
-    let level = level(s);
-    if level < 2 * s.counter {
-        return 0;
-    }
-    let shift = level.ilog2() - s.counter.ilog2();
-    let most = if s.counter << shift <= level {
-        shift
-    } else {
-        shift - 1
-    };
-    most.min(bits - 2)
+    Measure::of(s.counter).parameter(bits, s.accumulator)
 }

@@ -1,9 +1,10 @@
-//! Code words that are read several at a time: of one band, and of bands one above another.
+//! Code words that are read or written several at a time: of one band, and of bands one above another.
 
-use crate::sample_words::{params_of, params_of_bands, short_codes};
+use crate::sample_words::{Settings, params_of, params_of_bands, short_codes};
 use crate::texts::{bytes_of, same_fault};
 use cube_core::fault::Fault;
 use header_bits::bit_reader::BitReader;
+use header_bits::bit_writer::BitWriter;
 use sample_adaptive::stats::Stats;
 
 /// A run of a band: its first number in eight bits, then an escape.
@@ -40,6 +41,28 @@ fn columns_are_read(rt: HostRuntime) {
         .expect(&rt, "the second numbers");
     assert!(rt; numbers == [3, 1]);
     assert!(rt; reader.left() == 2);
+}
+
+/// The same columns are written so.
+#[test]
+fn columns_are_put(rt: HostRuntime) {
+    let settings = Settings {
+        bits: 8,
+        ..short_codes(8)
+    };
+    let params = params_of_bands(&rt, 2, settings);
+    let mut stats = Stats::new(rt.alloc(), &params).expect(&rt, "memory");
+    let mut writer = BitWriter::new(rt.alloc());
+    stats
+        .put_column(0, 0, &[144, 19], &mut writer)
+        .expect(&rt, "memory");
+    stats
+        .put_column(0, 1, &[3, 1], &mut writer)
+        .expect(&rt, "memory");
+    writer.push(0, 2).expect(&rt, "memory");
+    assert!(rt; writer.bit_count() == 24);
+    let bytes = writer.into_bytes();
+    assert!(rt; bytes.as_slice() == [0x90, 0x13, 0x14].as_slice());
 }
 
 /// The upper band's second number is a needless escape, at place 3 of the body. It is refused so for ever.

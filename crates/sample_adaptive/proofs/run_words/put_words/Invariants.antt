@@ -11,4 +11,8 @@ invariant-loop-i l =
       statistics : AreStatistics l.fn.run.rescaling.size l.tracked.statistics;
       low : l.tracked.low + 2 ≤ l.fn.run.bits;
       room : 48 * (length l.fn.run.numbers.now - l.i) ≤ l.writer.room;
+      within : l.i ≤ length l.fn.run.numbers.now;
     }
+
+abbrev pub decreases-loop-i : goal.decreases-loop-i
+decreases-loop-i l = length l.numbers - l.i

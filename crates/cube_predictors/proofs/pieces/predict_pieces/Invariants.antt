@@ -1,0 +1,11 @@
+use Rattle.std.proofs.Common.{◌≡◌, ◌+◌, ◌*◌, take, drop}
+use Rattle.cube_predictors.specs.Sends.{AreAt, bands_of}
+use Rattle.cube_predictors.specs.Pieces.{ArePast}
+use Rattle.cube_predictors.proofs.pieces.predict_pieces.Given as goal
+
+abbrev pub invariant-loop-i : goal.invariant-loop-i
+invariant-loop-i l = record {
+  done : ArePast l.params l.cube (l.y * l.cube.shape.columns + l.x) l.count (take l.i l.bands);
+  left : AreAt l.params l.cube (l.y * l.cube.shape.columns + l.x) (drop l.i l.bands);
+  same : bands_of l.bands ≡ bands_of l.initial.bands;
+}

@@ -1,0 +1,168 @@
+//! Columns of code words, written: one number of each of several bands.
+
+ghost use Rattle.std.specs.Prelude.{◌≡◌, ◌+◌, ◌*◌, ◌^◌, ◌<◌, ◌≤◌, ◌==◌, length, IsOk, IfErr, OnOk, OnErr, ℕ};
+ghost use Rattle.std.specs.List.{AllByRecursion};
+ghost use Rattle.cube_core.specs.declared.fault.Fault.TheVariants.{WantOfMemory};
+ghost use Rattle.header_bits.specs.Bits.{bits_of};
+ghost use Rattle.sample_adaptive.specs.Statistics.{AreStatistics};
+ghost use Rattle.sample_adaptive.specs.Words.{code_word};
+ghost use Rattle.sample_adaptive.specs.Taken.{Counts, HasSettings, PutsColumn, code_by, counted, of_band, with_band};
+
+use crate::code_word::{Code, Word, push_both, word_of};
+use crate::measure::Measure;
+use crate::run_words::{RunCodes, make_room};
+use crate::statistics::{Statistics, next};
+use crate::stats::Stats;
+use core::mem::replace;
+use cube_core::fault::Fault;
+use header_bits::bit_writer::BitWriter;
+
+impl Stats {
+    /// Appends the code word of number `t` of band `z`, then that of the next band, and so on, and updates the bands'
+    /// statistics.
+    ///
+    /// `t` counts each band's numbers from 0, and each number is at most 2^D - 1. At most 65,536 numbers are put.
+    /// Returns `WantOfMemory` if an allocation fails; then nothing was changed. It succeeds where the writer has room
+    /// for 48 bits a number.
+    #[inline]
+    pub fn put_column(
+        &mut self,
+        z: u32,
+        t: u64,
+        numbers: &[u16],
+        writer: &mut BitWriter,
+    ) -> Result<(), Fault>
+        requires inside { z + length numbers.now ≤ length self.old.bands }
+        requires numbers { AllByRecursion (λ n. n < 2 ^ self.old.bits) numbers.now }
+        requires few { length numbers.now ≤ 2 ^ 16 }
+        ensures taken { OnOk result (PutsColumn z t numbers.now self.old writer.old.bits self.new writer.new.bits) }
+        ensures same { OnErr result ((self.new ≡ self.old) × (writer.new.bits ≡ writer.old.bits)) }
+        ensures within { 48 * length numbers.now ≤ writer.old.room → IsOk result }
+        ensures refused { IfErr result (λ e. e ≡ WantOfMemory) }
+        ensures bands { (length self.new.bands ≡ length self.old.bands) × (self.new.bits ≡ self.old.bits) }
+    {
+        make_room(numbers.len(), writer)?;
+        let run = RunCodes {
+            limit: self.umax,
+            bits: self.bits,
+            rescaling: self.rescaling,
+        };
+        // The writer is taken out for as long, so that it stays in registers.
+        let nothing = BitWriter::new(*self.bands.allocator());
+        let mut ahead = replace(writer, nothing);
+        put_words_of(run, z, t, &mut self.bands, numbers, &mut ahead);
+        *writer = ahead;
+        Ok(())
+    }
+}
+
+/// Appends the code word of one number of each band from band `z` on, and updates their statistics. The writer has room
+/// for them.
+#[inline(always)]
+fn put_words_of(
+    run: RunCodes,
+    z: u32,
+    t: u64,
+    bands: &mut [Statistics],
+    numbers: &[u16],
+    writer: &mut BitWriter,
+)
+    requires bits { (2 ≤ run.bits) × (run.bits ≤ 16) }
+    requires limit { run.limit ≤ 32 }
+    requires statistics { (b : ℕ) → b < length bands.old → AreStatistics run.rescaling.size (of_band bands.old b) }
+    requires inside { z + length numbers.now ≤ length bands.old }
+    requires few { length numbers.now ≤ 2 ^ 16 }
+    requires numbers { AllByRecursion (λ n. n < 2 ^ run.bits) numbers.now }
+    requires room { 48 * length numbers.now ≤ writer.old.room }
+    ensures taken { (v : Counts) → v.bands ≡ bands.old → HasSettings v run.bits run.limit run.rescaling.size
+        → PutsColumn z t numbers.now v writer.old.bits (record v { bands = bands.new }) writer.new.bits }
+    ensures statistics { (b : ℕ) → b < length bands.new → AreStatistics run.rescaling.size (of_band bands.new b) }
+    ensures bands { length bands.new ≡ length bands.old }
+{
+    // Two loops, in each of which the compiler knows whether the numbers are the first.
+    if t == 0 {
+        put_each(run, z, true, bands, numbers, writer);
+    } else {
+        put_each(run, z, false, bands, numbers, writer);
+    }
+}
+
+/// Does the same, where all numbers are the first of their bands or none is.
+#[inline(always)]
+fn put_each(
+    run: RunCodes,
+    z: u32,
+    first: bool,
+    bands: &mut [Statistics],
+    numbers: &[u16],
+    writer: &mut BitWriter,
+)
+    requires bits { (2 ≤ run.bits) × (run.bits ≤ 16) }
+    requires limit { run.limit ≤ 32 }
+    requires statistics { (b : ℕ) → b < length bands.old → AreStatistics run.rescaling.size (of_band bands.old b) }
+    requires inside { z + length numbers.now ≤ length bands.old }
+    requires few { length numbers.now ≤ 2 ^ 16 }
+    requires numbers { AllByRecursion (λ n. n < 2 ^ run.bits) numbers.now }
+    requires room { 48 * length numbers.now ≤ writer.old.room }
+    ensures taken { (v : Counts) (t : ℕ) → first ≡ (t == 0) → v.bands ≡ bands.old → HasSettings v run.bits run.limit run.rescaling.size
+        → PutsColumn z t numbers.now v writer.old.bits (record v { bands = bands.new }) writer.new.bits }
+    ensures statistics { (b : ℕ) → b < length bands.new → AreStatistics run.rescaling.size (of_band bands.new b) }
+    ensures bands { length bands.new ≡ length bands.old }
+{
+    if numbers.is_empty() {
+        return;
+    }
+    let measure = Measure::of(bands[z as usize].counter);
+    let mut i = 0;
+    while i + 1 < numbers.len() {
+        let at = z as usize + i;
+        let one = next_word(run, first, measure, &mut bands[at], numbers[i]);
+        let two = next_word(run, first, measure, &mut bands[at + 1], numbers[i + 1]);
+        push_both(one, two, writer);
+        i += 2;
+    }
+    if i == numbers.len() {
+        return;
+    }
+    let at = z as usize + i;
+    let last = next_word(run, first, measure, &mut bands[at], numbers[i]);
+    writer.push_reserved(last.bits, last.length);
+}
+
+/// Returns the code word of a band's next number, and updates its statistics unless the number is the band's first.
+#[inline(always)]
+fn next_word(
+    run: RunCodes,
+    first: bool,
+    measure: Measure,
+    statistics: &mut Statistics,
+    number: u16,
+) -> Word
+    requires bits { (2 ≤ run.bits) × (run.bits ≤ 16) }
+    requires limit { run.limit ≤ 32 }
+    requires statistics { AreStatistics run.rescaling.size statistics.old }
+    requires number { number < 2 ^ run.bits }
+    ensures word { (v : Counts) (z t : ℕ) → first ≡ (t == 0) → HasSettings v run.bits run.limit run.rescaling.size → of_band v.bands z ≡ statistics.old
+        → bits_of result.length result.bits ≡ code_word (code_by v z t) number }
+    ensures below { result.bits < 2 ^ result.length }
+    ensures few { result.length ≤ 48 }
+    ensures counts { (v : Counts) (z t : ℕ) → first ≡ (t == 0) → HasSettings v run.bits run.limit run.rescaling.size → of_band v.bands z ≡ statistics.old
+        → counted v z t number ≡ with_band v z statistics.new }
+    ensures statistics { AreStatistics run.rescaling.size statistics.new }
+{
+    if first {
+        let code = Code {
+            limit: 0,
+            low: 0,
+            bits: run.bits,
+        };
+        return word_of(code, number);
+    }
+    let code = Code {
+        limit: run.limit,
+        low: measure.parameter_of(run.bits, *statistics),
+        bits: run.bits,
+    };
+    *statistics = next(run.rescaling, *statistics, number);
+    word_of(code, number)
+}
