@@ -28,8 +28,8 @@ pub wanted : (p : Params) (deal numbers : List ℕ) (e : Ending) (i : ℕ) → H
     → slice_get (owners deal p) (length numbers + i) ≡ option_map (λ q. get_or deal q.z 0) (slice_get e.left i)
 unfolding owners_of
 wanted p deal numbers e i h = rw h.left (
-  slice_get-map (λ q. get_or deal q.z 0) (places p.shape p.order) (length numbers + i)
-  ∙ ap (option_map (λ q. get_or deal q.z 0)) (sym (get-drop (places p.shape p.order) (length numbers) i)))
+    slice_get-map (λ q. get_or deal q.z 0) (places p.shape p.order) (length numbers + i)
+    ∙ ap (option_map (λ q. get_or deal q.z 0)) (sym (get-drop (places p.shape p.order) (length numbers) i)))
 
 wanted_first : (p : Params) (deal numbers : List ℕ) (e : Ending) → HasCoded p e numbers
     → slice_get (owners deal p) (length numbers) ≡ option_map (λ q. get_or deal q.z 0) (slice_get e.left 0)

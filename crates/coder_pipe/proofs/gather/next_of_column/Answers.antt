@@ -55,8 +55,8 @@ returns-in-Err-clause-stopped g c =
     let was = c.loop-i.invariant in (
       omega (arith, below g d, c.requires.lists.many),
       λ f w. rw (← was.feeds, ← was.gates)
-      (rw (ap (λ fs. g.F.Feed.predictor (get_or fs c.from-owner.result f)) was.feeds ∙ c.requires.lists.named c.from-owner.result f (below g d)) at
-      (c.in-Err.ensures.err f w)),
+          (rw (ap (λ fs. g.F.Feed.predictor (get_or fs c.from-owner.result f)) was.feeds ∙ c.requires.lists.named c.from-owner.result f (below g d)) at
+          (c.in-Err.ensures.err f w)),
     )
 
 pub loop-i-preserved : goal.loop-i-preserved

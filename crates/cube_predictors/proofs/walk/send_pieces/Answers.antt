@@ -7,7 +7,9 @@ use Rattle.cube_predictors.proofs.walk.send_pieces.Goals.{After-piece_residuals}
 use Rattle.cube_predictors.proofs.walk.send_pieces.Given.{Over}
 
 alone : (g : Over) (c : After-piece_residuals g) → c.piece_residuals.result.now ≡ held_of c.args.bands.now c.args.count
-alone g c = held_alone _ c.index-bands-0.result c.args.count _ (omega (arith, c.if-bands-eq1.true)) c.index-bands-0.is c.piece_residuals.ensures.value c.piece_residuals.ensures.long
+alone g c =
+    held_alone _ c.index-bands-0.result c.args.count _
+    (omega (arith, c.if-bands-eq1.true)) c.index-bands-0.is c.piece_residuals.ensures.value c.piece_residuals.ensures.long
 
 pub take-requires : goal.take-requires
 take-requires g c = subst (λ ns. g.T.Taker.may c.args.taker.now ns) (sym (alone g (goal.at.take-requires g c).After-piece_residuals)) c.requires.may
