@@ -1,7 +1,6 @@
 -- What is spelled by a lawful data set is read as that data set, whatever follows it.
 use Rattle.std.proofs.Common.{◌≡◌, ℕ, suc, ◌+◌, ◌-◌, ◌*◌, ◌/◌, ◌^◌, ◌<◌, ◌≤◌, max, Bool, true, false, cond, eqb, leb, ltb, ◌&&◌, List, ◌∷◌, ◌++◌, Ok, refl, sym, ap, subst, ◌∙◌, inl, inr, append_assoc, arith, eq-eqb}
-use Rattle.std.proofs.lemmas.Bool.{le-ltb, cases_lt}
-use Rattle.std.proofs.lemmas.Bool.Decides.{nat_tests}
+use Rattle.std.proofs.lemmas.Bool.{le-ltb, cases_lt, eq-eqb, le-leb, lt-leb, ne_eqb}
 use Rattle.std.proofs.Math.Pow.{pow_mono}
 use Rattle.block_adaptive.specs.Laws.{OneText}
 use Rattle.block_adaptive.specs.declared.options.CodeSet.{CodeSet}
@@ -16,15 +15,6 @@ use Rattle.header_bits.proofs.Fronts.{zeros_again, zeros_front, ones_front, bit_
 use Rattle.block_adaptive.proofs.Codes.{words_again, split_again, weaker}
 use Rattle.block_adaptive.proofs.Triangles.{pairs_again}
 
-le-leb : (a b : ℕ) → a ≤ b → leb a b ≡ true
-le-leb a b h = grind (arith, nat_tests)
-
-lt-leb : (a b : ℕ) → b < a → leb a b ≡ false
-lt-leb a b h = grind (arith, nat_tests)
-
-pub ne-eqb : (a b : ℕ) → (a ≡ b → ⊥) → eqb a b ≡ false
-ne-eqb a b h = grind (arith, nat_tests)
-
 pub run_again : (site : Site) (left n : ℕ) (rest : List Bool) → 1 ≤ n → n ≤ left → run_at site left (run_code n ++ rest) ≡ Ok (Run n, rest)
 unfolding run_at run_code
 run_again site left n rest least most =
@@ -32,14 +22,14 @@ run_again site left n rest least most =
       | inl gt ↦
           (let a : leb n 4 ≡ false = lt-leb _ _ gt in
           let b : ltb (max 4 left) n ≡ false = le-ltb _ _ (omega arith) in
-          let c : eqb n 4 ≡ false = ne-eqb _ _ (λ e. omega arith) in
+          let c : eqb n 4 ≡ false = ne_eqb _ _ (λ e. omega arith) in
           let d : leb n 3 ≡ false = lt-leb _ _ (omega arith) in
           let e : ltb left n ≡ false = le-ltb _ _ most in
           rw (a, zeros_again site.count n (suc (max 4 left)) rest (omega arith), b, c, d, e) refl)
       | inr le ↦
           (let a : leb n 4 ≡ true = le-leb _ _ le in
           let b : ltb (max 4 left) (n - 1) ≡ false = le-ltb _ _ (omega arith) in
-          let c : eqb (n - 1) 4 ≡ false = ne-eqb _ _ (λ e. omega arith) in
+          let c : eqb (n - 1) 4 ≡ false = ne_eqb _ _ (λ e. omega arith) in
           let d : leb (n - 1) 3 ≡ true = le-leb _ _ (omega arith) in
           let f : n - 1 + 1 ≡ n = omega arith in
           let e : ltb left n ≡ false = le-ltb _ _ most in
@@ -76,7 +66,7 @@ unfolding data_set_at option_text identifier coded
 block_again site s half left Uncoded vs rest h =
     let two : 2 ≤ 2 ^ width s = two_below (width s) (width_least s) in
     let words : words_at site.count s.bits (2 * half) (low_groups s.bits vs ++ rest) ≡ Ok (vs, rest) = subst (λ (k : ℕ). words_at site.count s.bits k (low_groups s.bits vs ++ rest) ≡ Ok (vs, rest)) h.whole (words_again site s.bits vs rest h.range) in
-    let a : eqb (2 ^ width s - 1) 0 ≡ false = ne-eqb _ _ (λ e. omega arith) in
+    let a : eqb (2 ^ width s - 1) 0 ≡ false = ne_eqb _ _ (λ e. omega arith) in
     let b : eqb (2 ^ width s - 1) (2 ^ width s - 1) ≡ true = eq-eqb (2 ^ width s - 1) (2 ^ width s - 1) refl in
     rw (append_assoc, ones_front site.count (width s) (low_groups s.bits vs ++ rest), a, b, words) refl
 block_again site s half left Second vs rest h =
@@ -85,8 +75,8 @@ block_again site s half left Second vs rest h =
     rw (append_assoc, append_assoc, zeros_front site.count (width s) (true ∷ (pair_codes vs ++ rest)), bit_front site.count true (pair_codes vs ++ rest), e, pairs) refl
 block_again site s half left (Split k) vs rest h =
     let below : k + 1 < 2 ^ width s = omega (arith, h.option) in
-    let a : eqb (k + 1) 0 ≡ false = ne-eqb _ _ (λ e. omega arith) in
-    let b : eqb (k + 1) (2 ^ width s - 1) ≡ false = ne-eqb _ _ (λ e. omega (arith, h.option)) in
+    let a : eqb (k + 1) 0 ≡ false = ne_eqb _ _ (λ e. omega arith) in
+    let b : eqb (k + 1) (2 ^ width s - 1) ≡ false = ne_eqb _ _ (λ e. omega (arith, h.option)) in
     let c : k + 1 - 1 ≡ k = omega arith in
     let values : split_at site k (greatest_value s) (2 * half) ((quotient_codes k vs ++ low_groups k vs) ++ rest) ≡ Ok (vs, rest) = subst (λ (n : ℕ). split_at site k (greatest_value s) n ((quotient_codes k vs ++ low_groups k vs) ++ rest) ≡ Ok (vs, rest)) h.whole (split_again site s.bits k vs rest h.range) in
     rw (append_assoc, number_again site.count (width s) (k + 1) ((quotient_codes k vs ++ low_groups k vs) ++ rest) below, a, b, c, values) refl

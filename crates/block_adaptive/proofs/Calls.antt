@@ -1,7 +1,6 @@
 -- What callers of the reader and the writer of blocks know.
-use Rattle.std.proofs.Common.{◌≡◌, ℕ, zero, suc, ◌+◌, ◌-◌, ◌*◌, ◌/◌, ◌<◌, ◌≤◌, Bool, true, false, leb, List, [], ◌∷◌, ◌++◌, length, replicate, Ok, Err, refl, sym, ap, subst, ◌∙◌, inl, inr, arith, append_assoc}
-use Rattle.std.proofs.lemmas.Bool.{cases_lt}
-use Rattle.std.proofs.lemmas.Bool.Decides.{nat_tests}
+use Rattle.std.proofs.Common.{◌≡◌, ℕ, zero, suc, ◌+◌, ◌-◌, ◌*◌, ◌/◌, ◌<◌, ◌≤◌, Bool, false, leb, List, [], ◌∷◌, ◌++◌, length, replicate, Ok, Err, refl, sym, ap, subst, ◌∙◌, inl, inr, arith, append_assoc}
+use Rattle.std.proofs.lemmas.Bool.{cases_lt, lt-leb}
 use Rattle.std.proofs.lemmas.Nat.{mul-le}
 use Rattle.std.proofs.Math.Nat.{lt-div-mul-add}
 use Rattle.std.proofs.lemmas.List.{append-nil, length-append, length-replicate}
@@ -46,12 +45,6 @@ told_length c i j (t ∷ data_sets) h =
     omega arith
 
 -- ---- the whole body
-
-le-leb : (a b : ℕ) → a ≤ b → leb a b ≡ true
-le-leb a b h = grind (arith, nat_tests)
-
-lt-leb : (a b : ℕ) → b < a → leb a b ≡ false
-lt-leb a b h = grind (arith, nat_tests)
 
 -- lawful data sets, and then a data set that is refused: so is the body
 data_sets_refused : (count half n i j : ℕ) (c : Cut) (data_sets : List CodedDataSet) (left : List Bool) (e : Fault) → c.size ≡ 2 * half → j < c.count → c.count ≤ n + i → AreCodedDataSets c i data_sets j

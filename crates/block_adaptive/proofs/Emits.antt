@@ -43,9 +43,6 @@ remains_end old now whole left is h = record {
   spent = omega (arith, h.room, ap length is);
 }
 
-pub writes_nothing : (old : Written) → Writes old old []
-writes_nothing old = record { appended = sym (append-nil old.bits); spent = omega arith }
-
 pub writes_both : (a b c : Written) (x y : List Bool) → Writes a b x → Writes b c y → Writes a c (x ++ y)
 writes_both a b c x y p q = record {
   appended = q.appended ∙ ap (λ (bs : List Bool). bs ++ y) p.appended ∙ append_assoc a.bits x y;

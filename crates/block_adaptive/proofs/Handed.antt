@@ -1,6 +1,6 @@
 -- What a reader has in hand.
-use Rattle.std.proofs.Common.{◌≡◌, ℕ, zero, suc, ◌+◌, ◌-◌, ◌*◌, ◌<◌, ◌≤◌, Bool, List, [], ◌∷◌, ◌++◌, length, take, drop, replicate, None, Ok, ◌/◌, ◌%◌, inl, inr, refl, sym, ap, ◌∙◌, arith, append_assoc, get_or, add-one, drop-cons}
-use Rattle.std.proofs.lemmas.List.{append-nil, get_or-take, length-append, length-take, length-drop, length-replicate, drop_all}
+use Rattle.std.proofs.Common.{◌≡◌, ℕ, zero, suc, ◌+◌, ◌-◌, ◌*◌, ◌<◌, ◌≤◌, Bool, List, [], ◌∷◌, ◌++◌, length, take, drop, replicate, None, Ok, ◌/◌, inl, inr, refl, sym, ap, ◌∙◌, arith, append_assoc, get_or, add-one, drop-cons}
+use Rattle.std.proofs.lemmas.List.{append-nil, get_or-take, length-take, drop_all}
 use Rattle.std.proofs.lemmas.Nat.{mul-le}
 use Rattle.header_bits.specs.Bits.{Unread}
 use Rattle.header_bits.proofs.Reading.{ok_is}
@@ -69,19 +69,12 @@ size_halved size (inr (inl e)) = omega arith
 size_halved size (inr (inr (inl e))) = omega arith
 size_halved size (inr (inr (inr e))) = omega arith
 
-pub size_even : (size : ℕ) → IsSize size → size % 2 ≡ 0
-size_even size h = omega (arith, size_halved size h)
-
 pub taken_size : (size : ℕ) (values : List ℕ) → size ≤ 64 → length values ≡ 64 → length (take size values) ≡ size
 taken_size size values le len = omega (arith, length-take size values)
 
 pub rest_most : (c : Cut) (i : ℕ) → left_at c i ≤ c.count - i
 unfolding segment_rest
 rest_most c i = omega arith
-
-pub in_hand_length : (size i spare : ℕ) (values : List ℕ) → size ≤ 64 → length values ≡ 64 → i ≤ size → length (drop i (take size values) ++ zeros spare) ≡ size - i + spare
-in_hand_length size i spare values le len inside =
-    omega (arith, length-append (drop i (take size values)) (zeros spare), length-drop i (take size values), taken_size size values le len, length-replicate {A = ℕ} spare 0)
 
 -- a run in hand keeps the parts in range
 pub run_parts : (c : Cut) (i given counted n : ℕ) → AreParts c i given counted → n ≤ left_at c i → left_at c i ≤ 64 → AreParts c (i + n) c.size (n * c.size)

@@ -4,12 +4,13 @@ use Rattle.std.specs.List.{AllByRecursion}
 use Rattle.std.specs.Prelude.{Result, Ok, Err, OnErr}
 use Rattle.std.proofs.Math.Seq.{take-add}
 use Rattle.std.proofs.lemmas.Bool.{cases_lt}
-use Rattle.std.proofs.lemmas.List.{append-nil, length-append, length-take, length-drop, take_at, take_more, take-take}
+use Rattle.std.proofs.lemmas.List.{length-append, length-take, length-drop, take_at, take_more, take-take}
 use Rattle.cube_core.specs.declared.fault.Fault.{Fault}
 use Rattle.block_adaptive.specs.DataSets.{Cut}
 use Rattle.block_adaptive.specs.Holding.{AreStored}
 use Rattle.block_adaptive.specs.Taken.{Packed, HasTaken, PutsNumber, PutsAll, taken_count}
 use Rattle.block_adaptive.proofs.Packing.{values_held}
+use Rattle.block_adaptive.proofs.Ranges.{range_append}
 use Rattle.block_adaptive.proofs.Sums.{sum_append, sum_cons}
 
 -- ---- the values held
@@ -19,20 +20,6 @@ pub held_all : (values list behind : List ℕ) (held : ℕ) → held ≤ length 
 held_all values list behind held le =
     let long : held + length list ≡ length (take held values ++ list) = omega (arith, le, length-append (take held values) list, length-take held values) in
     ap (λ (x : List ℕ). take (held + length list) x) (sym (append_assoc (take held values) list behind)) ∙ take_at (take held values ++ list) behind (held + length list) (sym long)
-
-range_all : (limit : ℕ) (held list : List ℕ) → AllByRecursion (λ v. v < limit) held → AllByRecursion (λ v. v < limit) list → AllByRecursion (λ v. v < limit) (held ++ list)
-range_all limit [] list h more = more
-range_all limit (v ∷ held) list h more = (h.0, range_all limit held list h.1 more)
-
-pub range_front : (limit n : ℕ) (list : List ℕ) → AllByRecursion (λ v. v < limit) list → AllByRecursion (λ v. v < limit) (take n list)
-range_front limit zero list h = tt
-range_front limit (suc n) [] h = tt
-range_front limit (suc n) (v ∷ list) h = (h.0, range_front limit n list h.1)
-
-pub range_behind : (limit n : ℕ) (list : List ℕ) → AllByRecursion (λ v. v < limit) list → AllByRecursion (λ v. v < limit) (drop n list)
-range_behind limit zero list h = h
-range_behind limit (suc n) [] h = tt
-range_behind limit (suc n) (v ∷ list) h = range_behind limit n list h.1
 
 pub stored_more : (c : Cut) (i counted total : ℕ) (held list : List ℕ) → AreStored c i counted total held → AllByRecursion (λ v. v < 2 ^ c.set.bits) list → length held + length list < c.size → (1 ≤ length list → i + counted < c.count)
     → AreStored c i counted (total + sum list) (held ++ list)
@@ -45,7 +32,7 @@ stored_more c i counted total held list h range few more = record {
     | inr none ↦ h.more (omega (arith, some, none, length-append held list))
   ];
   few = omega (arith, few, length-append held list);
-  range = range_all (2 ^ c.set.bits) held list h.range range;
+  range = range_append (2 ^ c.set.bits) held list h.range range;
   added = omega (arith, h.added, sum_append held list);
 }
 
@@ -59,9 +46,6 @@ puts_behind a b old mid new written now later first second taken bits h =
       two.1 ∙ ap (λ (x : List Bool). x ++ two.0) one.1 ∙ append_assoc written one.0 two.0,
       subst (λ (x : List ℕ). HasTaken new x (bits ++ (one.0 ++ two.0))) (append_assoc taken a b) (subst (λ (x : List Bool). HasTaken new ((taken ++ a) ++ b) x) (append_assoc bits one.0 two.0) two.2),
     )
-
-pub puts_none : (v : Packed) (written : List Bool) → PutsAll [] v written v written
-puts_none v written taken bits h = ([], sym (append-nil written), rw (append-nil taken, append-nil bits) h)
 
 pub hold_more : (old v new : Packed) (list : List ℕ) (first count : ℕ) (written now : List Bool) → PutsAll (take first list) old written v now → new ≡ record v { held = v.held ++ take (first + count - first) (drop first list) }
     → PutsAll (take (first + count) list) old written new now

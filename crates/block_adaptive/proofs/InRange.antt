@@ -5,11 +5,8 @@ use Rattle.header_bits.specs.Bits.{Unread}
 use Rattle.block_adaptive.specs.declared.options.CodeSet.{CodeSet}
 use Rattle.block_adaptive.specs.DataSets.{CodedDataSet, Block as Whole, Run, RestOfSegment, Cut, left_at, IsCodedDataSet, AreCodedDataSets, blocks_in, blocks_of, blocks_told, values_of}
 use Rattle.block_adaptive.specs.Given.{Unpacked, HasGiven, GivesNext}
+use Rattle.block_adaptive.proofs.Ranges.{range_append, range_zeros}
 use Rattle.block_adaptive.proofs.Handed.{Gives, values_append}
-
-range_append : (limit : ℕ) (xs ys : List ℕ) → AllByRecursion (λ v. v < limit) xs → AllByRecursion (λ v. v < limit) ys → AllByRecursion (λ v. v < limit) (xs ++ ys)
-range_append limit [] ys h k = k
-range_append limit (x ∷ xs) ys h k = (h.0, range_append limit xs ys h.1 k)
 
 range_there : (limit : ℕ) (xs : List ℕ) (n : ℕ) (ys : List ℕ) → AllByRecursion (λ v. v < limit) ((xs ++ n ∷ []) ++ ys) → n < limit
 range_there limit [] n ys h = h.0
@@ -17,11 +14,7 @@ range_there limit (x ∷ xs) n ys h = range_there limit xs n ys h.1
 
 zeros_range : (limit n size : ℕ) → 0 < limit → AllByRecursion (λ v. v < limit) (values_of (replicate n (replicate size 0)))
 zeros_range limit zero size pos = tt
-zeros_range limit (suc n) size pos = range_append limit (replicate size 0) (values_of (replicate n (replicate size 0))) (block_range size) (zeros_range limit n size pos)
-  where
-    block_range : (m : ℕ) → AllByRecursion (λ v. v < limit) (replicate m 0)
-    block_range zero = tt
-    block_range (suc m) = (pos, block_range m)
+zeros_range limit (suc n) size pos = range_append limit (replicate size 0) (values_of (replicate n (replicate size 0))) (range_zeros limit size pos) (zeros_range limit n size pos)
 
 data_set_range : (s : CodeSet) (size left : ℕ) (t : CodedDataSet) → IsCodedDataSet s size left t → AllByRecursion (λ v. v < 2 ^ s.bits) (values_of (blocks_of size left t))
 data_set_range s size left (Whole o vs) h = rw (append-nil vs) h.range

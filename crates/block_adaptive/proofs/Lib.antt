@@ -7,6 +7,7 @@ pub mod Counts
 pub mod InRange
 pub mod Costs
 pub mod Sums
+pub mod Ranges
 pub mod Least
 pub mod Slopes
 pub mod Tried

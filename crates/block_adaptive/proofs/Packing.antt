@@ -2,9 +2,8 @@
 use Rattle.std.proofs.Common.{◌≡◌, ℕ, zero, suc, ◌+◌, ◌-◌, ◌*◌, ◌^◌, ◌<◌, ◌≤◌, Bool, true, false, cond, eqb, List, [], ◌∷◌, ◌++◌, length, take, drop, replicate, set, refl, sym, ap, subst, ◌∙◌, inl, inr, arith, append_assoc, add-one}
 use Rattle.std.specs.List.{AllByRecursion}
 use Rattle.std.specs.Prelude.{Result, Ok, Err, OnOk}
-use Rattle.std.proofs.lemmas.Bool.{cases_lt, eqb-true, eqb-false}
-use Rattle.std.proofs.lemmas.Bool.Decides.{nat_tests}
-use Rattle.std.proofs.lemmas.List.{append-nil, length-append, length-replicate, length-take, take_at, drop_at, take_all, take-set-le}
+use Rattle.std.proofs.lemmas.Bool.{cases_lt, eqb-true, eqb-false, ne_eqb}
+use Rattle.std.proofs.lemmas.List.{append-nil, length-append, length-replicate, take_at, drop_at, take_all, take-set-le}
 use Rattle.std.proofs.Math.Seq.{take-suc-set}
 use Rattle.std.proofs.lemmas.Nat.{div-mul-add}
 use Rattle.block_adaptive.specs.declared.options.CodeSet.{CodeSet}
@@ -13,13 +12,11 @@ use Rattle.block_adaptive.specs.DataSets.{CodedDataSet, Cut, left_at, spelled, s
 use Rattle.block_adaptive.specs.Chosen.{chosen_from, chosen_data_sets, chosen_block_body, is_zero}
 use Rattle.block_adaptive.specs.Laws.{AreBlocks}
 use Rattle.block_adaptive.specs.Settings.{IsCut}
-use Rattle.block_adaptive.specs.Taken.{Packed, HasTaken, PutsNumber, PutsAll, EndsBody, rest_of, run_and_block, data_sets_after, zeros_after, packed, data_sets_packed}
+use Rattle.block_adaptive.specs.Taken.{Packed, HasTaken, PutsAll, EndsBody, rest_of, run_and_block, data_sets_after, zeros_after, packed, data_sets_packed}
 use Rattle.block_adaptive.proofs.Lawful.{rest_least, zeros_of}
 use Rattle.block_adaptive.proofs.Streaming.{enough, block_next, run_next, run_to_end}
+use Rattle.block_adaptive.proofs.Ranges.{range_append, range_zeros}
 use Rattle.block_adaptive.proofs.Handed.{zeros, values_append, rest_most, size_least}
-
-ne-eqb : (a b : ℕ) → (a ≡ b → ⊥) → eqb a b ≡ false
-ne-eqb a b h = grind (arith, nat_tests)
 
 -- ---- one block more, in the chosen data sets
 
@@ -63,7 +60,7 @@ block_step c start (suc held) b future pos all is inside =
     let size = held_length (suc held) c.size b future in
     let fuel = enough c c.count (suc (suc c.count)) start (replicate (suc held) (zeros c.size) ++ b ∷ future) (omega arith) (omega arith) in
     let next : start + (suc held + 1 - 0) ≡ start + suc held + 1 = omega arith in
-    let some : eqb (suc held) 0 ≡ false = ne-eqb _ _ (λ e. omega arith) in
+    let some : eqb (suc held) 0 ≡ false = ne_eqb _ _ (λ e. omega arith) in
     rw (fuel, run_next c (suc c.count) start held b future (inside (omega arith)) is, block_next c c.count (start + suc held) b future (rest_least c.reference c.count (start + suc held) pos (omega arith)) is, next, some) refl
 
 pub step : (c : Cut) (start held : ℕ) (b : List ℕ) (future : List (List ℕ)) → length b ≡ c.size → 1 ≤ c.reference → start + held + 1 + length future ≡ c.count → (1 ≤ held → held < left_at c start) → Step c start held b future (zeros_after (left_at c start) held b)
@@ -250,20 +247,8 @@ values_packed v new written now xs cut more len range data_sets is = λ taken bi
 
 -- ---- the values held
 
-pub range_push : (limit : ℕ) (held : List ℕ) (x : ℕ) → AllByRecursion (λ v. v < limit) held → x < limit → AllByRecursion (λ v. v < limit) (held ++ x ∷ [])
-range_push limit [] x h lt = (lt, tt)
-range_push limit (v ∷ held) x h lt = (h.0, range_push limit held x h.1 lt)
-
-range_zeros : (limit n : ℕ) → 0 < limit → AllByRecursion (λ v. v < limit) (zeros n)
-range_zeros limit zero pos = tt
-range_zeros limit (suc n) pos = (pos, range_zeros limit n pos)
-
 pub range_filled : (limit size : ℕ) (held : List ℕ) → 0 < limit → AllByRecursion (λ v. v < limit) held → AllByRecursion (λ v. v < limit) (filled size held)
-range_filled limit size held pos h = join held (zeros (size - length held)) h (range_zeros limit (size - length held) pos)
-  where
-    join : (a b : List ℕ) → AllByRecursion (λ v. v < limit) a → AllByRecursion (λ v. v < limit) b → AllByRecursion (λ v. v < limit) (a ++ b)
-    join [] b p q = q
-    join (x ∷ a) b p q = (p.0, join a b p.1 q)
+range_filled limit size held pos h = range_append limit held (zeros (size - length held)) h (range_zeros limit (size - length held) pos)
 
 -- one value more in the array
 pub held_more : (values : List ℕ) (i x : ℕ) → i < length values → take (i + 1) (set values i x) ≡ take i values ++ x ∷ []
@@ -298,6 +283,3 @@ on_ok_both (Err e) P Q R f p q = tt
 pub on_ok_of : {A E : Type 0} (r : Result A E) (P R : Type 0) → (P → R) → OnOk r P → OnOk r R
 on_ok_of (Ok x) P R f p = f p
 on_ok_of (Err e) P R f p = tt
-
-pub take_length : (values : List ℕ) (n : ℕ) → n ≤ length values → length (take n values) ≡ n
-take_length values n le = omega (arith, length-take n values)

@@ -1,7 +1,6 @@
 -- Segments are as many as are counted, and each has a data set of three bits at least.
 use Rattle.std.proofs.Common.{◌≡◌, ℕ, min, cond, add-zero, zero, suc, ◌+◌, ◌-◌, ◌*◌, ◌/◌, ◌%◌, ◌<◌, ◌≤◌, true, false, leb, List, [], ◌∷◌, ◌++◌, length, replicate, sum, refl, sym, ap, subst, ◌∙◌, inl, inr, arith}
-use Rattle.std.proofs.lemmas.Bool.{cases_lt}
-use Rattle.std.proofs.lemmas.Bool.Decides.{nat_tests}
+use Rattle.std.proofs.lemmas.Bool.{cases_lt, le-leb, lt-leb}
 use Rattle.std.proofs.lemmas.List.{length-append, length-replicate}
 use Rattle.std.proofs.lemmas.Nat.{div-mul-add, mod-mul-add, div-add-mod', mod_below, mul-le}
 use Rattle.header_bits.specs.Bits.{fundamental}
@@ -97,12 +96,6 @@ border_next r n i pos lt border more =
 
 -- ---- segments one after another
 
-done-leb : (a b : ℕ) → a ≤ b → leb a b ≡ true
-done-leb a b h = grind (arith, nat_tests)
-
-more-leb : (a b : ℕ) → b < a → leb a b ≡ false
-more-leb a b h = grind (arith, nat_tests)
-
 begun_none : (r : ℕ) → 1 ≤ r → begun r 0 ≡ 0
 begun_none r pos =
     let zero_times : 0 * r + 0 ≡ 0 = omega arith in
@@ -119,7 +112,7 @@ counted r n zero i pos le enough border = (let same : i ≡ n = omega arith in r
 counted r n (suc most) i pos le enough border =
     elim (cases_lt i n) [
       | inl lt ↦
-          (let more : leb n i ≡ false = more-leb n i lt in
+          (let more : leb n i ≡ false = lt-leb n i lt in
           let one = begun_one r n i pos lt (border lt) in
           let k : ℕ = segment_rest r n i in
           let some : 1 ≤ k = rest_least r n i pos lt in
@@ -127,7 +120,7 @@ counted r n (suc most) i pos le enough border =
           let others = counted r n most (i + k) pos (omega arith) (omega arith) (λ less. border_next r n i pos lt (border lt) less) in
           rw (more, sum_cons k (segments_from r n most (i + k))) (omega (arith, one, others.0), omega (arith, others.1)))
       | inr ge ↦
-          (let done : leb n i ≡ true = done-leb n i ge in
+          (let done : leb n i ≡ true = le-leb n i ge in
           let same : i ≡ n = omega arith in
           rw done (ap (λ (k : ℕ). k + 0) (ap (begun r) same) ∙ add-zero (begun r n), omega arith))
     ]

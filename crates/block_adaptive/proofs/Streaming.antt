@@ -1,15 +1,11 @@
 -- The chosen data sets, block after block, as a writer sees them.
 use Rattle.std.proofs.Common.{◌≡◌, ℕ, zero, suc, ◌+◌, ◌<◌, ◌≤◌, Bool, true, false, cond, eqb, leb, ◌&&◌, List, [], ◌∷◌, ◌++◌, length, drop, replicate, refl, ap, arith, eq-eqb}
-use Rattle.std.proofs.lemmas.Bool.{eqb-true, eqb-false}
-use Rattle.std.proofs.lemmas.Bool.Decides.{nat_tests}
+use Rattle.std.proofs.lemmas.Bool.{eqb-true, eqb-false, eq-eqb, ne_eqb}
 use Rattle.std.proofs.lemmas.List.{length-drop, length-replicate, drop_at}
 use Rattle.block_adaptive.specs.declared.options.CodeSet.{CodeSet}
 use Rattle.block_adaptive.specs.Segments.{segment_rest}
 use Rattle.block_adaptive.specs.DataSets.{CodedDataSet, Block, Run, RestOfSegment, Cut, blocks_in}
 use Rattle.block_adaptive.specs.Chosen.{chosen_option, is_zero, zero_blocks, data_set_of, chosen_from}
-
-ne-eqb : (a b : ℕ) → (a ≡ b → ⊥) → eqb a b ≡ false
-ne-eqb a b h = grind (arith, nat_tests)
 
 -- a data set stands for a block or more
 data_set_least : (s : CodeSet) (left : ℕ) (b : List ℕ) (bs : List (List ℕ)) → 1 ≤ blocks_in left (data_set_of s left b bs)
@@ -66,8 +62,8 @@ unfolding chosen_from
 run_next c n i z x bs lt h =
     let left : ℕ = segment_rest c.reference c.count i in
     let k : zero_blocks left (replicate (suc z) (replicate c.size 0) ++ x ∷ bs) ≡ suc z = run_broken c.size left (suc z) x bs h (omega arith) in
-    let a : eqb (suc z) 0 ≡ false = ne-eqb _ _ (λ e. omega arith) in
-    let b : eqb (suc z) left ≡ false = ne-eqb _ _ (λ e. omega arith) in
+    let a : eqb (suc z) 0 ≡ false = ne_eqb _ _ (λ e. omega arith) in
+    let b : eqb (suc z) left ≡ false = ne_eqb _ _ (λ e. omega arith) in
     rw (k, a, b, drop_at (replicate z (replicate c.size 0)) (x ∷ bs) z (length-replicate z (replicate c.size 0))) refl
 
 -- zeros up to the segment's end are a run
@@ -76,7 +72,7 @@ pub run_to_end : (c : Cut) (n i z : ℕ) (bs : List (List ℕ)) → segment_rest
 unfolding chosen_from
 run_to_end c n i z bs is =
     let k = run_whole c.size (suc z) bs in
-    let a : eqb (suc z) 0 ≡ false = ne-eqb _ _ (λ e. omega arith) in
+    let a : eqb (suc z) 0 ≡ false = ne_eqb _ _ (λ e. omega arith) in
     let b : eqb (suc z) (suc z) ≡ true = eq-eqb (suc z) (suc z) refl in
     rw (is, k, a, b) (go (leb 5 (suc z)))
   where

@@ -1,6 +1,6 @@
 -- A data set that is read is lawful, and the bits begin with its spelling.
 use Rattle.std.proofs.Common.{◌≡◌, ℕ, zero, suc, ◌+◌, ◌-◌, ◌*◌, ◌/◌, ◌^◌, ◌<◌, ◌≤◌, ◌⊎◌, max, Bool, true, false, cond, eqb, leb, ltb, List, [], ◌∷◌, ◌++◌, replicate, Result, Ok, Err, refl, sym, ap, subst, ◌∙◌, inl, inr, append_assoc, arith}
-use Rattle.std.proofs.lemmas.Bool.{ltb-false, cases_lt, eqb-true, eqb-false}
+use Rattle.std.proofs.lemmas.Bool.{ltb-false, cases_lt, eqb-true, eqb-false, le-leb, lt-leb}
 use Rattle.std.proofs.lemmas.Bool.Decides.{nat_tests}
 use Rattle.std.proofs.lemmas.Nat.{pow_pos}
 use Rattle.cube_core.specs.declared.fault.Fault.{Fault}
@@ -29,12 +29,6 @@ leb-true a b h = grind (arith, nat_tests)
 
 leb-false : (a b : ℕ) → leb a b ≡ false → b < a
 leb-false a b h = grind (arith, nat_tests)
-
-le-leb : (a b : ℕ) → a ≤ b → leb a b ≡ true
-le-leb a b h = grind (arith, nat_tests)
-
-lt-leb : (a b : ℕ) → b < a → leb a b ≡ false
-lt-leb a b h = grind (arith, nat_tests)
 
 -- ---- runs
 

@@ -1,16 +1,12 @@
 -- A pair is read as the pair that its number stands for.
 use Rattle.std.proofs.Common.{◌≡◌, ℕ, zero, suc, ◌+◌, ◌-◌, ◌*◌, ◌/◌, ◌<◌, ◌≤◌, Bool, true, false, leb, ltb, List, [], ◌∷◌, ◌++◌, length, Ok, refl, subst, inl, inr, append_assoc, arith, lit<}
 use Rattle.std.specs.List.{AllByRecursion}
-use Rattle.std.proofs.lemmas.Bool.{le-ltb, cases_lt}
-use Rattle.std.proofs.lemmas.Bool.Decides.{nat_tests}
+use Rattle.std.proofs.lemmas.Bool.{le-ltb, cases_lt, le-leb, lt-leb}
 use Rattle.std.proofs.Math.Nat.{add-mul-div_right, mul-div_cancel}
 use Rattle.std.proofs.lemmas.Nat.{mul-le}
 use Rattle.block_adaptive.specs.Options.{pair_number, pair_codes}
 use Rattle.block_adaptive.specs.Reading.{Site, greatest, pair_sum, pair_of, pairs_at}
 use Rattle.block_adaptive.proofs.Codes.{fundamental_again}
-
-triangle : ℕ → ℕ
-triangle s = s * (s + 1) / 2
 
 pub triangle_step : (s : ℕ) → (s + 1) * (s + 1 + 1) / 2 ≡ s * (s + 1) / 2 + (s + 1)
 triangle_step s =
@@ -34,12 +30,6 @@ greatest_is f n (suc limit) le here above =
       | inl lt ↦ rw (above (suc limit) lt) (greatest_is f n limit (omega arith) here above)
       | inr ge ↦ (let e : suc limit ≡ n = omega arith in rw (e, here) refl)
     ]
-
-le-leb : (a b : ℕ) → a ≤ b → leb a b ≡ true
-le-leb a b h = grind (arith, nat_tests)
-
-lt-leb : (a b : ℕ) → b < a → leb a b ≡ false
-lt-leb a b h = grind (arith, nat_tests)
 
 pub pair_sum_is : (most a b : ℕ) → a ≤ most → b ≤ most → pair_sum most (pair_number a b) ≡ a + b
 unfolding pair_sum

@@ -34,14 +34,6 @@ tried_more longer first k (Split j) h = (h.0, omega (arith, h.1))
 
 -- ---- the first two
 
-pub uncoded_alone : (s : CodeSet) (vs : List ℕ) (first : ℕ) → LeadsTried s vs true first first Uncoded
-uncoded_alone s vs first = record { tried = tt; leads = leads }
-  where
-    leads : (p : Choice) → IsTried true first first p → Leads s vs Uncoded p
-    leads Uncoded h = inr (refl, omega arith)
-    leads Second h = absurd cc
-    leads (Split j) h = absurd (omega (arith, h.0, h.1))
-
 pub uncoded_leads : (s : CodeSet) (vs : List ℕ) (first : ℕ) → cost s Uncoded vs ≤ cost s Second vs → LeadsTried s vs false first first Uncoded
 uncoded_leads s vs first le = record { tried = tt; leads = leads }
   where

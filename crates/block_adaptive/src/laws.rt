@@ -5,16 +5,19 @@ ghost use Rattle.block_adaptive.specs.Laws.{SegmentsAreCounted, NoShorterBody, F
 ghost use Rattle.block_adaptive.specs.Prefixes.{TakenIsPrefix};
 
 /// Two lawful data sets are equal if one is a prefix of the other.
+#[tactic(auto, using(crate::proofs::Again::one_text))]
 pub fn one_text()
     ensures { OneText }
 {}
 
 /// The chosen option is the shortest, and of equally short ones the first.
+#[tactic(auto, using(crate::proofs::Least::option_is_least))]
 pub fn option_is_least()
     ensures { OptionIsLeast }
 {}
 
 /// The chosen data sets of blocks are lawful, and stand for the blocks.
+#[tactic(auto, using(crate::proofs::Lawful::chosen_is_lawful))]
 pub fn chosen_is_lawful()
     ensures { ChosenIsLawful }
 {}
@@ -30,11 +33,13 @@ pub fn one_body()
 {}
 
 /// The chosen body of numbers is a body of them.
+#[tactic(auto, using(crate::proofs::Bodies::chosen_is_body))]
 pub fn chosen_is_body()
     ensures { ChosenIsBody }
 {}
 
 /// What a writer has appended is a prefix of the chosen body, whatever numbers are still to come.
+#[tactic(auto, using(crate::proofs::Calls::taken_is_prefix))]
 pub fn taken_is_prefix()
     ensures { TakenIsPrefix }
 {}
@@ -45,6 +50,7 @@ pub fn body_is_read()
 {}
 
 /// A pair of values up to m has at most 2·m·(m + 1) zeros under the second extension.
+#[tactic(auto, using(crate::proofs::Triangles::pair_below))]
 pub fn pair_bound()
     ensures { PairBound }
 {}
@@ -61,6 +67,7 @@ pub fn no_shorter_body()
 
 /// Where a data set is refused, no lawful data set is a prefix of the bits. Unless they ended too early, none
 /// is whatever bits follow.
+#[tactic(auto, using(crate::proofs::Stable::fault_is_no_data_set))]
 pub fn fault_is_no_data_set()
     ensures { FaultIsNoDataSet }
 {}

@@ -1,6 +1,7 @@
 //! Worked examples of the coder's bodies, as laws on its definitions. Blocks have eight values.
 //!
 //! A body is given as bytes, with the zero bits that fill the last one.
+#![tactic(auto, unfolding(crate::specs::Everything::everything))]
 
 ghost use Rattle.std.specs.Prelude.{◌≡◌, ◌∷◌, [], Some};
 ghost use Rattle.header_bits.specs.Bits.{bits_of_bytes};

@@ -1,4 +1,5 @@
 //! Worked examples of what a reader refuses, as laws on the definitions. Blocks have eight values.
+#![tactic(auto, unfolding(crate::specs::Everything::everything))]
 
 ghost use Rattle.std.specs.Prelude.{◌≡◌, ◌∷◌, [], Some, take};
 ghost use Rattle.cube_core.specs.declared.fault.Fault.TheVariants.{BadOption, RunPastSegment, Truncated};

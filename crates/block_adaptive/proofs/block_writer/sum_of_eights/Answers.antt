@@ -1,4 +1,4 @@
-use Rattle.std.proofs.Common.{◌≡◌, ◌∙◌, ◌+◌, ◌≤◌, length, ap, sum, arith}
+use Rattle.std.proofs.Common.{◌∙◌, ◌+◌, ap, sum, arith}
 use Rattle.std.proofs.lemmas.List.{take_all}
 use Rattle.block_adaptive.proofs.Holds.{sum_small, sum_front, sum_next}
 use Rattle.block_adaptive.proofs.block_writer.sum_of_eights.Goals as goal

@@ -1,4 +1,4 @@
-use Rattle.std.proofs.Common.{◌≡◌, ◌-◌, ◌*◌, ◌%◌, ◌≤◌, length, take, sum}
+use Rattle.std.proofs.Common.{◌≡◌, ◌-◌, ◌%◌, ◌≤◌, length, take, sum}
 use Rattle.block_adaptive.proofs.block_writer.sum_of_eights.Given as goal
 
 abbrev pub invariant-loop-first : goal.invariant-loop-first

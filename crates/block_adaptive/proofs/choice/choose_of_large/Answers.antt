@@ -1,4 +1,4 @@
-use Rattle.std.proofs.Common.{◌≡◌, ℕ, ◌+◌, ◌-◌, ◌*◌, ◌%◌, ◌^◌, ◌<◌, true, ap, refl, ◌∙◌, arith}
+use Rattle.std.proofs.Common.{◌≡◌, ℕ, ◌+◌, ◌-◌, ◌*◌, ◌%◌, ◌^◌, true, ap, refl, ◌∙◌, arith}
 use Rattle.std.proofs.lemmas.Nat.{one_shl}
 use Rattle.block_adaptive.specs.declared.options.Choice.TheVariants.{Split}
 use Rattle.block_adaptive.specs.Options.{splits, width, cost}

@@ -1,4 +1,4 @@
-use Rattle.std.proofs.Common.{◌≡◌, ◌+◌, ◌*◌, ◌%◌, ◌^◌, ◌≤◌, ◌<◌, get_or, arith}
+use Rattle.std.proofs.Common.{◌≡◌, ◌*◌, ◌%◌, ◌^◌, get_or, arith}
 use Rattle.std.proofs.lemmas.Nat.{one_shl, and_mask, pow_pos}
 use Rattle.std.proofs.Math.Nat.{mod-lt}
 use Rattle.block_adaptive.specs.Options.{low_groups}

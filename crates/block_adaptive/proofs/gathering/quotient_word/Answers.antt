@@ -1,6 +1,5 @@
-use Rattle.std.proofs.Common.{◌≡◌, ◌+◌, ◌/◌, ◌^◌, ◌≤◌, ◌<◌, ◌++◌, drop, get_or, length, sym, ap, ◌∙◌, List, Bool, arith}
+use Rattle.std.proofs.Common.{◌+◌, ◌/◌, ◌^◌, ◌≤◌, get_or, arith}
 use Rattle.std.proofs.Math.Pow.{pow_mono}
-use Rattle.header_bits.specs.Bits.{bits_of}
 use Rattle.block_adaptive.specs.Options.{quotient_codes}
 use Rattle.block_adaptive.proofs.Emits.{quotient_end, quotient_bits}
 use Rattle.block_adaptive.proofs.Gathers.{words_start, words_few, words_joined, words_end, words_below}

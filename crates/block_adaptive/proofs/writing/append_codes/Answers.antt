@@ -1,4 +1,4 @@
-use Rattle.std.proofs.Common.{◌+◌, ◌/◌, ◌^◌, drop, get_or, arith}
+use Rattle.std.proofs.Common.{◌/◌, ◌^◌, get_or, arith}
 use Rattle.header_bits.specs.Bits.{fundamental}
 use Rattle.block_adaptive.specs.Options.{quotient_codes}
 use Rattle.block_adaptive.proofs.Emits.{quotient_next, quotient_end}

@@ -1,4 +1,4 @@
-use Rattle.std.proofs.Common.{◌≡◌, ◌+◌, ◌*◌, ◌-◌, ◌≤◌, drop, take, length, arith}
+use Rattle.std.proofs.Common.{◌+◌, ◌-◌, drop, take, arith}
 use Rattle.block_adaptive.specs.Options.{quotient_codes}
 use Rattle.block_adaptive.proofs.Emits.{quotient_end}
 use Rattle.block_adaptive.proofs.Gathers.{goes_room, goes_step, goes_end, quotients_of_some}

@@ -1,8 +1,9 @@
 use Rattle.std.proofs.Common.{◌≡◌, ◌+◌, true, false, eqb, refl, sym, arith}
 use Rattle.std.proofs.lemmas.List.{append-nil}
+use Rattle.std.proofs.lemmas.Bool.{eq-eqb, ne_eqb}
 use Rattle.block_adaptive.specs.Chosen.{is_zero}
 use Rattle.block_adaptive.specs.Places.{blocks_from}
-use Rattle.block_adaptive.proofs.Sums.{eq-eqb, ne-eqb, zero_block, some_block}
+use Rattle.block_adaptive.proofs.Sums.{zero_block, some_block}
 use Rattle.block_adaptive.proofs.writing.write_data_sets.Goals as goal
 
 pub returns-then-total-ne0-clause-appended : goal.returns-then-total-ne0-clause-appended
@@ -18,13 +19,13 @@ returns-then-total-ne0-clause-held c =
 pub returns-then-zeros-left-clause-appended : goal.returns-then-zeros-left-clause-appended
 returns-then-zeros-left-clause-appended c =
     let none : is_zero c.args.block.now ≡ true = zero_block c.args.block.now c.args.total c.requires.total c.if-total-ne0.false in
-    let inside : eqb (c.args.zeros + 1) (blocks_from c.args.place.now) ≡ false = ne-eqb _ _ (λ e. absurd (omega (arith, e, c.if-zeros-left.true, c.blocks_left-left.ensures.value))) in
+    let inside : eqb (c.args.zeros + 1) (blocks_from c.args.place.now) ≡ false = ne_eqb _ _ (λ e. absurd (omega (arith, e, c.if-zeros-left.true, c.blocks_left-left.ensures.value))) in
     rw (none, inside) (sym (append-nil c.args.writer.now.bits))
 
 pub returns-then-zeros-left-clause-held : goal.returns-then-zeros-left-clause-held
 returns-then-zeros-left-clause-held c =
     let none : is_zero c.args.block.now ≡ true = zero_block c.args.block.now c.args.total c.requires.total c.if-total-ne0.false in
-    let inside : eqb (c.args.zeros + 1) (blocks_from c.args.place.now) ≡ false = ne-eqb _ _ (λ e. absurd (omega (arith, e, c.if-zeros-left.true, c.blocks_left-left.ensures.value))) in
+    let inside : eqb (c.args.zeros + 1) (blocks_from c.args.place.now) ≡ false = ne_eqb _ _ (λ e. absurd (omega (arith, e, c.if-zeros-left.true, c.blocks_left-left.ensures.value))) in
     rw (none, inside) refl
 
 pub returns-clause-appended : goal.returns-clause-appended

@@ -1,4 +1,3 @@
-use Rattle.std.proofs.Common.{◌+◌, length, ap, arith}
 use Rattle.block_adaptive.proofs.Gathers.{alone, appends_end}
 use Rattle.block_adaptive.proofs.writing.write_option.Goals as goal
 

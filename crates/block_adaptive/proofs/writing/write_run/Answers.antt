@@ -1,4 +1,4 @@
-use Rattle.std.proofs.Common.{[], ◌+◌, length, ap, arith}
+use Rattle.std.proofs.Common.{◌+◌, length, ap, arith}
 use Rattle.header_bits.proofs.Numbers.{length-bits_of}
 use Rattle.header_bits.specs.Bits.{fundamental}
 use Rattle.block_adaptive.specs.Options.{width, zero_identifier}

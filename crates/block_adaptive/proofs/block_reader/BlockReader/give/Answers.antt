@@ -1,11 +1,10 @@
 use Rattle.std.proofs.Common.{sym, ap, ◌∙◌, arith, ◌≤◌, length}
 use Rattle.block_adaptive.specs.Given.{Unpacked}
-use Rattle.block_adaptive.proofs.Handed.{first_in_hand, size_most, put_back}
+use Rattle.block_adaptive.proofs.Handed.{first_in_hand, put_back}
 use Rattle.block_adaptive.proofs.block_reader.BlockReader.give.Goals as goal
 
 pub returns-then-self-clause-first : goal.returns-then-self-clause-first
 returns-then-self-clause-first c =
-    let few = size_most c.self.inside.size c.self.invariant.cut.size in
     let room : c.self.inside.size ≤ length c.self.inside.values = omega (arith, c.self.told) in (
       ap (λ (v : Unpacked). v.held) (sym c.self.view_is) ∙ first_in_hand c.self.inside.size c.self.inside.at c.self.inside.zeros c.self.inside.values c.if-self.true room,
       put_back _ _ _ c.self.view_is,

@@ -13,8 +13,6 @@ use Rattle.block_adaptive.proofs.block_writer.BlockWriter.end.Goals as goal
 pub returns-then-self-eq0-clause-ended : goal.returns-then-self-eq0-clause-ended
 returns-then-self-eq0-clause-ended c =
     let held-is : c.args.self.now.held ≡ take c.self.inside.held c.self.inside.values = ap (λ (v : Packed). v.held) (sym c.self.view_is) in
-    let size-is : c.args.self.now.cut.size ≡ c.self.inside.size = ap (λ (v : Packed). v.cut.size) (sym c.self.view_is) in
-    let few = size_most c.self.inside.size c.self.invariant.cut.size in
     let cut : IsCut c.args.self.now.cut = rw (← c.self.view_is) c.self.invariant.cut in
     nothing_left c.args.self.now c.args.writer.now.bits cut (held-is ∙ ap (λ (n : ℕ). take n c.self.inside.values) c.if-self-eq0.true)
 
@@ -39,6 +37,5 @@ pub returns-clause-memory : goal.returns-clause-memory
 returns-clause-memory c =
     let held-is : c.args.self.now.held ≡ take c.self.inside.held c.self.inside.values = ap (λ (v : Packed). v.held) (sym c.self.view_is) in
     let size-is : c.args.self.now.cut.size ≡ c.self.inside.size = ap (λ (v : Packed). v.cut.size) (sym c.self.view_is) in
-    let most = size_most c.self.inside.size c.self.invariant.cut.size in
     let size : length (take c.self.inside.held c.self.inside.values) ≡ c.self.inside.held = omega (arith, length-take c.self.inside.held c.self.inside.values, c.self.told, c.self.invariant.few) in
     ends_inside c.args.self.now c.pack-2.result (omega (arith, ap length held-is, size, c.if-self-eq0.false)) (omega (arith, ap length held-is, size, size-is, c.self.invariant.few))

@@ -1,4 +1,4 @@
-use Rattle.std.proofs.Common.{◌≡◌, ◌∙◌, ℕ, List, ◌≤◌, ◌++◌, length, take, sym, ap, arith}
+use Rattle.std.proofs.Common.{◌≡◌, ◌∙◌, ℕ, List, ◌≤◌, ◌++◌, length, sym, ap, arith}
 use Rattle.std.proofs.lemmas.List.{length-take}
 use Rattle.block_adaptive.specs.Taken.{Packed}
 use Rattle.block_adaptive.specs.contracts.block_writer.BlockWriter.{the_view}
@@ -15,8 +15,6 @@ overflow_add-self-2 c =
 
 pub invariant_of-self : goal.invariant_of-self
 invariant_of-self c =
-    let cut-is = ap (λ (v : Packed). v.cut) (sym c.self.view_is) in
-    let held-is : c.args.self.now.held ≡ take c.self.inside.held c.self.inside.values = ap (λ (v : Packed). v.held) (sym c.self.view_is) in
     let size = size_most c.self.inside.size c.self.invariant.cut.size in
     let room : c.self.inside.held ≤ length c.self.inside.values = omega (arith, c.self.told, c.self.invariant.few, size, length-take c.self.inside.held c.self.inside.values) in
     let copied : c.copy_from_slice.new.self ≡ c.args.numbers.now = c.copy_from_slice.ensures.after in

@@ -1,7 +1,8 @@
 use Rattle.std.proofs.Common.{◌≡◌, ◌∙◌, ◌+◌, ◌-◌, ◌^◌, ◌≤◌, length, take, drop, ap, arith}
 use Rattle.block_adaptive.specs.Taken.{Packed, taken_count}
-use Rattle.std.proofs.lemmas.List.{length-take, length-drop}
-use Rattle.block_adaptive.proofs.Holds.{hold_more, block_more, number_more, held_counted, after_refusal, range_front, range_behind}
+use Rattle.std.proofs.lemmas.List.{length-take}
+use Rattle.block_adaptive.proofs.Holds.{hold_more, block_more, number_more, held_counted, after_refusal}
+use Rattle.block_adaptive.proofs.Ranges.{range_front, range_behind}
 use Rattle.block_adaptive.proofs.block_writer.BlockWriter.put_all.Goals as goal
 
 pub returns-in_default-clause-taken : goal.returns-in_default-clause-taken

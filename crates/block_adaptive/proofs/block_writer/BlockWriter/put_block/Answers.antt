@@ -1,10 +1,10 @@
-use Rattle.std.proofs.Common.{◌≡◌, ◌∙◌, ◌+◌, ◌-◌, ◌^◌, ◌<◌, ◌≤◌, ℕ, List, [], ◌++◌, length, take, sym, ap, arith}
+use Rattle.std.proofs.Common.{◌≡◌, ◌∙◌, ◌+◌, ◌-◌, ◌^◌, ℕ, List, ◌++◌, length, take, sym, ap, arith}
 use Rattle.std.proofs.lemmas.List.{length-take, take_all}
 use Rattle.block_adaptive.specs.Settings.{IsCut}
-use Rattle.block_adaptive.specs.Taken.{Packed, PutsAll}
+use Rattle.block_adaptive.specs.Taken.{Packed}
 use Rattle.block_adaptive.proofs.Counts.{room_left, last_left}
 use Rattle.block_adaptive.proofs.Handed.{size_least, size_most}
-use Rattle.block_adaptive.proofs.Holds.{range_front}
+use Rattle.block_adaptive.proofs.Ranges.{range_front}
 use Rattle.block_adaptive.proofs.Packing.{values_held, values_packed}
 use Rattle.block_adaptive.proofs.block_writer.BlockWriter.put_block.Goals as goal
 

@@ -1,4 +1,4 @@
-use Rattle.std.proofs.Common.{◌+◌, arith}
+use Rattle.std.proofs.Common.{arith}
 use Rattle.block_adaptive.proofs.Stored.{total_few}
 use Rattle.block_adaptive.proofs.block_writer.BlockWriter.put_last.Goals as goal
 

@@ -1,7 +1,6 @@
-use Rattle.std.proofs.Common.{◌≡◌, ◌∙◌, ◌*◌, ◌%◌, ◌^◌, ◌++◌, bit_and, ◌-◌, length, List, Bool, ap, sym, arith}
+use Rattle.std.proofs.Common.{◌≡◌, ◌∙◌, ◌*◌, ◌%◌, ◌^◌, ◌++◌, length, List, Bool, ap, arith}
 use Rattle.std.proofs.lemmas.Nat.{one_shl, and_mask, pow_pos}
 use Rattle.std.proofs.Math.Nat.{mod-lt}
-use Rattle.header_bits.specs.Bits.{bits_of}
 use Rattle.header_bits.proofs.Numbers.{length-bits_of, bits_of-mod}
 use Rattle.block_adaptive.proofs.gathering.Gathered.flush.Goals as goal
 

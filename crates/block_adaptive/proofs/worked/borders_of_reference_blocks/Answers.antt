@@ -1,7 +1,0 @@
-use Rattle.std.proofs.Common.{refl}
-use Rattle.block_adaptive.specs.Everything.{everything}
-use Rattle.block_adaptive.proofs.worked.borders_of_reference_blocks.Goals as goal
-
-pub returns : goal.returns
-unfolding everything
-returns c = refl

@@ -1,7 +1,0 @@
-use Rattle.std.proofs.Common.{refl}
-use Rattle.block_adaptive.specs.Everything.{everything}
-use Rattle.block_adaptive.proofs.worked.one_zero_block_is_read.Goals as goal
-
-pub returns : goal.returns
-unfolding everything
-returns c = refl
