@@ -1,14 +1,10 @@
 -- How many numbers a writer has taken, and how many a reader has given.
-use Rattle.std.proofs.Common.{◌≡◌, ℕ, suc, ◌/◌, ◌+◌, ◌-◌, ◌*◌, ◌<◌, ◌≤◌, [], length, Result, Ok, Err, IfErr, refl, ap, inl, inr, arith}
+use Rattle.std.proofs.Common.{◌≡◌, ℕ, ◌+◌, ◌*◌, ◌<◌, [], length, Result, Ok, Err, IfErr, ap, inl, inr, arith}
 use Rattle.std.proofs.lemmas.Bool.{cases_lt}
 use Rattle.std.proofs.lemmas.Nat.{mul-le, mod-mul-add}
-use Rattle.std.proofs.Math.Nat.{mul-mod_left, div-mul-le_self}
+use Rattle.std.proofs.Math.Nat.{mul-mod_left}
 use Rattle.cube_core.specs.declared.fault.Fault.{Fault}
-use Rattle.header_bits.specs.declared.params.Coder.{Coder}
-use Rattle.header_bits.specs.declared.params.Coder.TheVariants as coder
-use Rattle.block_adaptive.specs.Segments.{block_count}
 use Rattle.block_adaptive.specs.DataSets.{capacity}
-use Rattle.block_adaptive.specs.Settings.{coder_cut}
 use Rattle.block_adaptive.specs.Given.{Unpacked, given_count}
 use Rattle.block_adaptive.specs.Taken.{Packed, EndsBlock, EndsInside, taken_count}
 
@@ -44,17 +40,3 @@ ends_inside v (Err e) some few = rw (mod-mul-add (v.start + v.zeros) v.cut.size 
 
 pub data_set_left : (v : Unpacked) → given_count v < capacity v.cut → v.held ≡ [] → v.block < v.cut.count
 data_set_left v few none = block_left v.cut.size v.cut.count v.block 0 (omega (arith, few, ap length none))
-
--- ---- a cut by parameters
-
--- fewer blocks than n numbers take have no room for them
-blocks_least : (size n blocks : ℕ) → 1 ≤ size → n ≤ blocks * size → block_count size n ≤ blocks
-blocks_least size n blocks some enough =
-    elim (cases_lt blocks (block_count size n)) [
-      | inl lt ↦ (let low : (n + size - 1) / size * size ≤ n + size - 1 = div-mul-le_self (n + size - 1) size in let p = mul-le (suc blocks) size (block_count size n) size lt (omega arith) in absurd (omega (arith, low, p)))
-      | inr ge ↦ ge
-    ]
-
-coder_blocks : (bits n : ℕ) (c : Coder) → (coder_cut bits n c).count ≡ block_count (coder_cut bits n c).size n
-coder_blocks bits n (coder.Block size restricted reference) = refl
-coder_blocks bits n (coder.Sample umax gamma_star gamma_zero start) = refl

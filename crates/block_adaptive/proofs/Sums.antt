@@ -1,5 +1,5 @@
 -- The sum of a block's values, and the sums of their quotients.
-use Rattle.std.proofs.Common.{◌≡◌, ℕ, zero, suc, ◌+◌, ◌*◌, ◌/◌, ◌^◌, ◌<◌, ◌≤◌, true, false, eqb, List, [], ◌∷◌, ◌++◌, length, replicate, sum, refl, arith}
+use Rattle.std.proofs.Common.{◌≡◌, ℕ, zero, suc, ◌+◌, ◌*◌, ◌/◌, ◌^◌, ◌<◌, ◌≤◌, true, false, eqb, List, [], ◌∷◌, ◌++◌, length, sum, refl, arith}
 use Rattle.std.specs.List.{AllByRecursion}
 use Rattle.std.proofs.lemmas.List.Sums.{sum_by-cons, sum_by-append, sum_by_push}
 use Rattle.std.proofs.lemmas.Bool.{ne_eqb}
@@ -42,11 +42,6 @@ some_block (zero ∷ vs) total is some = some_block vs total is some
 some_block (suc v ∷ vs) total is some =
     let front : eqb (suc v) 0 ≡ false = ne_eqb (suc v) 0 (λ e. absurd (omega arith)) in
     rw front refl
-
--- zeros add nothing
-sum_zeros : (n : ℕ) → sum (replicate n 0) ≡ 0
-sum_zeros zero = refl
-sum_zeros (suc n) = sum_zeros n
 
 pub sum_append : (vs ws : List ℕ) → sum (vs ++ ws) ≡ sum vs + sum ws
 sum_append vs ws = sum_by-append (λ (x : ℕ). x) vs ws

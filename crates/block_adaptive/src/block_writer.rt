@@ -131,6 +131,7 @@ impl BlockWriter {
         let size = self.size as usize;
         let mut first = 0;
         while first < numbers.len() {
+            // A block that is whole here is coded from here, without a copy.
             if self.held == 0 && numbers.len() - first >= size {
                 let taken = self.put_block(&numbers[first..first + size], writer);
                 if taken < size {

@@ -1,5 +1,5 @@
 -- A cube is built of any residuals.
-use Rattle.std.proofs.Common.{◌≡◌, ◌⊎◌, ◌+◌, ◌*◌, ◌<◌, ◌≤◌, ◌^◌, ℕ, ℤ, pos, false, List, [], ◌∷◌, ◌++◌, length, drop, set, replicate, get_or, refl, sym, ap}
+use Rattle.std.proofs.Common.{◌≡◌, ◌+◌, ◌*◌, ◌<◌, ◌≤◌, ◌^◌, ℕ, ℤ, pos, false, List, [], ◌∷◌, ◌++◌, length, drop, set, replicate, get_or, refl, sym, ap}
 use Rattle.std.proofs.Common.{◌∙◌, subst, inl, inr, append-nil, append_assoc, arith}
 use Rattle.std.specs.List.{AllByRecursion}
 use Rattle.std.proofs.lemmas.List.{get_or-set_same, get_or-set_other, get_or-replicate, length-set, length-replicate}
@@ -34,11 +34,12 @@ sample_put c q v cube place = get_or-set_same c.samples (index_in c.shape.column
 
 set_range : (k : SampleKind) (xs : List ℤ) (i : ℕ) (v : ℤ) → IsSample k v → ((j : ℕ) → j < length xs → IsSample k (get_or xs j (pos 0))) → (j : ℕ)
     → j < length (set xs i v) → IsSample k (get_or (set xs i v) j (pos 0))
-set_range k xs i v s h j lt = by_place (cases_eq j i) (omega (arith, lt, length-set xs i v))
-  where
-    by_place : (j ≡ i) ⊎ (j ≡ i → ⊥) → j < length xs → IsSample k (get_or (set xs i v) j (pos 0))
-    by_place (inl e) inside = rw (e, get_or-set_same xs i v (pos 0) (subst (λ (n : ℕ). n < length xs) e inside)) s
-    by_place (inr e) inside = rw (get_or-set_other xs i j v (pos 0) e) (h j inside)
+set_range k xs i v s h j lt =
+    let inside : j < length xs = rw length-set at lt in
+    elim (cases_eq j i) [
+      | inl e ↦ rw (e, get_or-set_same xs i v (pos 0) (rw e at inside)) s
+      | inr e ↦ rw (get_or-set_other xs i j v (pos 0) e) (h j inside)
+    ]
 
 put_cube : (c : Image) (q : Place) (v : ℤ) → IsCube c → IsSample c.kind v → IsCube (put c q.z q.y q.x v)
 put_cube c q v cube s = record {

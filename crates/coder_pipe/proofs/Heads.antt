@@ -1,5 +1,5 @@
 -- Lists that are gone through from the front.
-use Rattle.std.proofs.Common.{◌≡◌, ℕ, suc, zero, ◌+◌, ◌<◌, List, [], ◌∷◌, ◌++◌, length, take, drop, get_or, map, ap, arith, sym, ◌∙◌, add-one, subst, Option}
+use Rattle.std.proofs.Common.{◌≡◌, ℕ, suc, zero, ◌+◌, ◌<◌, List, [], ◌∷◌, ◌++◌, length, take, drop, get_or, map, ap, arith, refl, ◌∙◌, add-one, subst, Option}
 use Rattle.std.proofs.Common.{Some, None, IfSome, inl, inr, ◌⊎◌}
 use Rattle.std.proofs.lemmas.List.{take_more, get_or-map}
 
@@ -20,16 +20,10 @@ drop_head (y ∷ ys) zs (suc n) x e =
 
 -- one more of a list that is copied in order
 pub copy_step : {A : Type 0} (xs ys : List A) (n : ℕ) (x : A) → ys ≡ take n xs → n < length xs → get_or xs n x ≡ x → ys ++ x ∷ [] ≡ take (n + 1) xs
-copy_step xs ys n x e l at = sym (take_more xs n x l ∙ ap (λ z. take n xs ++ z ∷ []) at ∙ ap (λ zs. zs ++ x ∷ []) (sym e))
+copy_step xs ys n x e l at = rw (take_more xs n x l, at, e) refl
 
 pub head_map : {A B : Type 0} {xs zs : List A} {n : ℕ} {x : A} → Head xs zs n x → (f : A → B) (e : B) → get_or (map f xs) n e ≡ f x
 head_map {xs = xs} {n = n} {x = x} h f e = get_or-map f xs n x e h.below ∙ ap f (h.here x)
-
--- one more of two lists that agree so far
-pub agree_step : {A : Type 0} (xs ys : List A) (n : ℕ) (x : A) → take n xs ≡ take n ys → n < length xs → n < length ys → get_or xs n x ≡ x → get_or ys n x ≡ x
-    → take (n + 1) xs ≡ take (n + 1) ys
-agree_step xs ys n x e a b at bt =
-    take_more xs n x a ∙ ap (λ z. take n xs ++ z ∷ []) at ∙ ap (λ zs. zs ++ x ∷ []) e ∙ ap (λ z. take n ys ++ z ∷ []) (sym bt) ∙ sym (take_more ys n x b)
 
 -- what is known of what was found, before or now
 pub some_step : {R : Type 0} (o now : Option R) (P Q : R → Type 0) → IfSome now (λ r. (o ≡ Some r) ⊎ Q r) → IfSome o P → ((r : R) → Q r → P r) → IfSome now P

@@ -55,11 +55,6 @@ run_fits p deal numbers owner (suc count) lawful e one =
     let last : slice_get (owners deal p) (length numbers + count) ≡ Some owner = one count (omega arith) ∙ sym e in
     omega (arith, slice_get_within (owners deal p) (length numbers + count) owner last, length-owners deal p, length-places p.shape p.order lawful)
 
--- and fewer of them are so, too
-pub fewer_of_one : (os : List ℕ) (n count less owner : ℕ) → AreOfOne os n count → less ≤ count → Some owner ≡ slice_get os n → (i : ℕ) → i < less
-    → slice_get os (n + i) ≡ Some owner
-fewer_of_one os n count less owner one le e i lt = one i (omega (arith, lt, le)) ∙ sym e
-
 -- a run of numbers of one owner stands behind its part, and the other parts stay
 part_run : (q owner : ℕ) (os ns run : List ℕ) → ((i : ℕ) → i < length run → slice_get os (length ns + i) ≡ Some owner)
     → part q os (ns ++ run) ≡ part q os ns ++ (if owner == q then run else [])
@@ -126,15 +121,9 @@ pub owners_fit : (p : Params) (deal numbers some : List ℕ) → IsOrder p.shape
     → AreOwnersFrom (owners deal p) (length numbers) some → length numbers + length some ≤ sample_count p.shape
 owners_fit p deal numbers [] lawful few from = omega (arith, few)
 owners_fit p deal numbers (o ∷ os) lawful few from =
-    let last : slice_get (owners deal p) (length numbers + length os) ≡ Some (get_or (o ∷ os) (length os) 0) =
-    from (length os) (omega arith) ∙ slice_get-get_or (o ∷ os) (length os) 0 (omega arith) in
-    omega (
-      arith,
-      slice_get_within (owners deal p) (length numbers + length os)
-          (get_or (o ∷ os) (length os) 0) last,
-      length-owners deal p,
-      length-places p.shape p.order lawful,
-    )
+    let last = from (length os) (omega arith) ∙ slice_get-get_or (o ∷ os) (length os) 0 (omega arith) in
+    let within = slice_get_within (owners deal p) (length numbers + length os) (get_or (o ∷ os) (length os) 0) last in
+    omega (arith, within, length-owners deal p, length-places p.shape p.order lawful)
 
 -- fewer were taken than there are places, so a place is to come
 pub place_left : (p : Params) (deal : List ℕ) (w : Weaving) (handed : List (List ℕ)) (count : ℕ) → IsOrder p.shape p.order → IsWoven p deal w handed count

@@ -1,5 +1,6 @@
 -- A predictor's bands, group after group.
-use Rattle.std.proofs.Common.{◌≡◌, ◌+◌, ◌*◌, ◌-◌, ◌/◌, ◌<◌, ◌≤◌, ℕ, suc, min, List, [], ◌∷◌, ◌++◌, length, take, drop, get_or, refl, sym, ap, ◌∙◌, append_assoc, length-append, arith}
+use Rattle.std.proofs.Common.{◌≡◌, ◌+◌, ◌*◌, ◌-◌, ◌/◌, ◌<◌, ◌≤◌, ℕ, suc, min, List, [], ◌∷◌, ◌++◌, length, take, drop, get_or, refl, sym, ap, ◌∙◌, append_assoc}
+use Rattle.std.proofs.Common.{length-append, arith}
 use Rattle.std.specs.Prelude.{◌==◌}
 use Rattle.std.proofs.lemmas.Bool.{eq-eqb, ne_eqb, cond-true, cond-false}
 use Rattle.std.proofs.lemmas.Nat.{mul-le}
@@ -26,7 +27,8 @@ pub own_none : (q z owner : ℕ) (deal : List ℕ) → owner ≡ get_or deal z 0
 own_none q z owner deal e other = cond-false _ _ _ (ne_eqb (get_or deal z 0) q (λ h. other (e ∙ h)))
 
 -- one band more
-pub own_more : (q first z : ℕ) (deal : List ℕ) → first ≤ z → length (own q deal (from first (z + 1 - first))) ≡ length (own q deal (from first (z - first))) + length (own q deal (z ∷ []))
+pub own_more : (q first z : ℕ) (deal : List ℕ) → first ≤ z
+    → length (own q deal (from first (z + 1 - first))) ≡ length (own q deal (from first (z - first))) + length (own q deal (z ∷ []))
 own_more q first z deal le =
     let e : z + 1 - first ≡ (z - first) + 1 = omega arith in
     let f : first + (z - first) ≡ z = omega arith in
@@ -40,7 +42,8 @@ own_next q deal z = own_split q deal z 1
 
 -- a predictor has at most all of some bands
 pub own_few : (q : ℕ) (deal : List ℕ) (a n : ℕ) → length (own q deal (from a n)) ≤ n
-own_few q deal a n = omega (arith, length-filter (λ z. get_or deal z 0 == q) (from a n), count_by-le-length (λ z. get_or deal z 0 == q) (from a n), length-from a n)
+own_few q deal a n =
+    omega (arith, length-filter (λ z. get_or deal z 0 == q) (from a n), count_by-le-length (λ z. get_or deal z 0 == q) (from a n), length-from a n)
 
 -- ---- group after group
 
@@ -61,13 +64,16 @@ is_group q deal s depth i first end slot count some lt first_is end_is slot_is c
     let size : end - first ≡ min depth (s.bands - i * depth) = omega (arith, end_is, start, low, high) in
     let front : first + (end - first) ≡ end = omega (arith, end_is, start, low, high) in
     let whole : end + (s.bands - end) ≡ s.bands = omega (arith, end_is) in
-    let before : own q deal (upto end) ≡ own q deal (upto first) ++ own q deal (from first (end - first)) = rw front at (own_split q deal first (end - first)) in
-    let mine : own q deal (upto s.bands) ≡ own q deal (upto end) ++ own q deal (from end (s.bands - end)) = rw whole at (own_split q deal end (s.bands - end)) in
+    let before : own q deal (upto end) ≡ own q deal (upto first) ++ own q deal (from first (end - first)) =
+    rw front at (own_split q deal first (end - first)) in
+    let mine : own q deal (upto s.bands) ≡ own q deal (upto end) ++ own q deal (from end (s.bands - end)) =
+    rw whole at (own_split q deal end (s.bands - end)) in
     let more : slot + count ≡ length (own q deal (upto end)) = rw (before, length-append) (omega (arith, slot_is, count_is)) in
     record {
       next = omega (arith, end_is, start);
       fits = rw (mine, length-append) (omega (arith, more));
-      there = rw (slot_is, count_is, mine, before, append_assoc, drop-append_seam, take-append_seam) (ap (own q deal) (rw size (ap (λ k. from k (min depth (s.bands - i * depth))) start)));
+      there = rw (slot_is, count_is, mine, before, append_assoc, drop-append_seam, take-append_seam)
+          (ap (own q deal) (rw size (ap (λ k. from k (min depth (s.bands - i * depth))) start)));
       more = more;
     }
 
@@ -79,6 +85,6 @@ all_groups s depth i some ge =
     omega (arith, high, far)
 
 -- the bands of the group, out of the bands that are the predictor's
-pub group_there : (q : ℕ) (deal : List ℕ) (s : Sizes) (depth i end slot count n : ℕ) (bands was : List Learner) → IsGroup q deal s depth i end slot count → n ≡ count
-    → bands_of bands ≡ bands_of was → bands_of was ≡ own q deal (upto s.bands) → bands_of (take n (drop slot bands)) ≡ own q deal (group s depth i)
+pub group_there : (q : ℕ) (deal : List ℕ) (s : Sizes) (depth i end slot count n : ℕ) (bands was : List Learner) → IsGroup q deal s depth i end slot count
+    → n ≡ count → bands_of bands ≡ bands_of was → bands_of was ≡ own q deal (upto s.bands) → bands_of (take n (drop slot bands)) ≡ own q deal (group s depth i)
 group_there q deal s depth i end slot count n bands was h e same mine = rw (e, ← take-map, ← drop-map, same, mine) h.there

@@ -18,7 +18,8 @@ use Rattle.cube_predictors.specs.Weave.{owners_of, part}
 use Rattle.cube_predictors.proofs.Sending.{nothing_each}
 
 -- what is chosen, and its images
-chosen : {A B : Type 0} (b : Bool) (f : A → B) (x : A) (xs : List A) (ys : List B) → ys ≡ map f xs → (if b then f x ∷ ys else ys) ≡ map f (if b then x ∷ xs else xs)
+chosen : {A B : Type 0} (b : Bool) (f : A → B) (x : A) (xs : List A) (ys : List B) → ys ≡ map f xs
+    → (if b then f x ∷ ys else ys) ≡ map f (if b then x ∷ xs else xs)
 chosen true f x xs ys e = ap (λ v. f x ∷ v) e
 chosen false f x xs ys e = e
 
@@ -52,7 +53,8 @@ module _ (p : Params) (c : Image) (q : ℕ) (deal : List ℕ) where
 
   -- some bands at one row and column, and some columns of one band's row
   own_column : (y x : ℕ) (zs : List ℕ) → at_own (map (λ z. record { z = z; y = y; x = x }) zs) ≡ column_of p c (own q deal zs) y x
-  own_column y x zs = ap (map residual) (filter_of mine (λ z. record { z = z; y = y; x = x }) zs) ∙ map-map residual (λ z. record { z = z; y = y; x = x }) (own q deal zs)
+  own_column y x zs =
+      ap (map residual) (filter_of mine (λ z. record { z = z; y = y; x = x }) zs) ∙ map-map residual (λ z. record { z = z; y = y; x = x }) (own q deal zs)
 
   own_row : (z y : ℕ) (xs : List ℕ) → at_own (map (λ x. record { z = z; y = y; x = x }) xs) ≡ flat_map (λ x. column_of p c (own q deal (z ∷ [])) y x) xs
   own_row z y xs =
@@ -90,4 +92,5 @@ module _ (p : Params) (c : Image) (q : ℕ) (deal : List ℕ) where
 pub own_is_part : OwnIsPart
 unfolding residuals
 own_is_part p c q deal shape =
-    ap (λ s. part q (owners_of deal (places s p.order)) (residuals p c)) (sym shape) ∙ part_at_own p c q deal (places c.shape p.order) ∙ by_order p c q deal p.order
+    ap (λ s. part q (owners_of deal (places s p.order)) (residuals p c)) (sym shape) ∙ part_at_own p c q deal (places c.shape p.order)
+    ∙ by_order p c q deal p.order

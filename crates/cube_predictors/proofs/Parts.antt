@@ -1,18 +1,19 @@
 -- A predictor that keeps to what it took keeps to its part.
-use Rattle.std.proofs.Common.{◌≡◌, ◌+◌, ◌*◌, ◌≤◌, ℕ, suc, Bool, true, false, List, [], ◌∷◌, ◌++◌, length, IsTrue, IsFalse, refl, sym, ap, ◌∙◌, subst, append-nil, length-append, arith}
+use Rattle.std.proofs.Common.{◌≡◌, ◌+◌, ◌≤◌, ℕ, suc, Bool, true, false, List, [], ◌∷◌, ◌++◌, length, IsTrue, IsFalse, refl, sym, subst}
+use Rattle.std.proofs.Common.{append-nil, length-append, arith}
 use Rattle.std.specs.Prelude.{◌==◌}
 use Rattle.std.proofs.lemmas.Bool.{cond_both}
 use Rattle.std.proofs.lemmas.List.{length-map, nil_from_length, take-append-le}
 use Rattle.band_rings.specs.Lane.{LaneName}
 use Rattle.cube_core.specs.Shape.{sample_count}
 use Rattle.cube_core.specs.Image.{Image}
-use Rattle.cube_core.specs.Order.{IsOrder, places}
+use Rattle.cube_core.specs.Order.{IsOrder}
 use Rattle.cube_core.proofs.Orders.{length-places}
 use Rattle.header_bits.specs.declared.params.Params.{Params}
 use Rattle.lane_workers.specs.declared.feed.LaneEnd.{LaneEnd}
 use Rattle.lane_workers.specs.Feeds.{Keeps}
 use Rattle.lane_workers.specs.Runs.{RunSending}
-use Rattle.predict_core.specs.Residual.{mapped_residual, residuals}
+use Rattle.predict_core.specs.Residual.{residuals}
 use Rattle.cube_predictors.specs.Own.{own_residuals}
 use Rattle.cube_predictors.specs.Sends.{IsSeen, Sends}
 use Rattle.cube_predictors.specs.Weave.{owners, part}
@@ -29,17 +30,18 @@ part_few q (o ∷ os) (n ∷ ns) =
 
 pub length-residuals : (p : Params) (c : Image) → IsOrder c.shape p.order → length (residuals p c) ≡ sample_count c.shape
 unfolding residuals
-length-residuals p c lawful = length-map (places c.shape p.order) (λ q. mapped_residual p c q.z (q.y * c.shape.columns + q.x)) ∙ length-places c.shape p.order lawful
+length-residuals p c lawful = rw length-map (length-places c.shape p.order lawful)
 
 -- so that it can be counted
-pub own_few : (p : Params) (c : Image) (q : ℕ) (deal : List ℕ) (count : ℕ) → IsSeen p c → IsOrder p.shape p.order → sample_count c.shape ≤ count → length (own_residuals p c q deal p.order) ≤ count
+pub own_few : (p : Params) (c : Image) (q : ℕ) (deal : List ℕ) (count : ℕ) → IsSeen p c → IsOrder p.shape p.order → sample_count c.shape ≤ count
+    → length (own_residuals p c q deal p.order) ≤ count
 own_few p c q deal count seen lawful few =
-    let order : IsOrder c.shape p.order = subst (λ s. IsOrder s p.order) (sym seen.shape) lawful in
-    omega (arith, ap (λ (ns : List ℕ). length ns) (own_is_part p c q deal seen.shape), part_few q (owners deal p) (residuals p c), length-residuals p c order, few)
+    let long = length-residuals p c (rw seen.shape lawful) in
+    rw (← own_is_part p c q deal seen.shape) (omega (arith, part_few q (owners deal p) (residuals p c), long, few))
 
 -- what a sender keeps to, of a list that it was to send
-pub keeps_part : {G : Type 0} (may_stop : ℕ → ℕ → Bool) (q : ℕ) (old new : RunSending G) (all : Bool) (list : List ℕ) (lane : LaneName) (end : LaneEnd) → old.taken ≡ [] → Sends old new all list → Keeps may_stop q new.taken lane end → (IsTrue new.stopped → IsFalse end.whole)
-    → Keeps may_stop q list lane end
+pub keeps_part : {G : Type 0} (may_stop : ℕ → ℕ → Bool) (q : ℕ) (old new : RunSending G) (all : Bool) (list : List ℕ) (lane : LaneName) (end : LaneEnd)
+    → old.taken ≡ [] → Sends old new all list → Keeps may_stop q new.taken lane end → (IsTrue new.stopped → IsFalse end.whole) → Keeps may_stop q list lane end
 keeps_part may_stop q old new true list lane end none sent keeps stopped =
     let same : list ≡ new.taken = rw (none, nil_from_length sent.rest (sent.whole refl).0, append-nil new.taken) at sent.taken in
     subst (λ items. Keeps may_stop q items lane end) (sym same) keeps

@@ -14,7 +14,8 @@ use Rattle.cube_predictors.specs.Plans.{told_band, owner_fault, length_fault, pl
 
 -- one band behind another
 pub owner_step : (predictors z owner : ℕ) (deal : List ℕ) → z < length deal → owner ≡ get_or deal z 0
-    → owner_fault predictors z (drop z deal) ≡ (refuse_if (not (ltb owner predictors)) (BadDeal (told_band z)) >> owner_fault predictors (z + 1) (drop (z + 1) deal))
+    → owner_fault predictors z (drop z deal) ≡
+    (refuse_if (not (ltb owner predictors)) (BadDeal (told_band z)) >> owner_fault predictors (z + 1) (drop (z + 1) deal))
 unfolding owner_fault
 owner_step predictors z owner deal lt e = rw (add-one, drop-cons deal z 0 lt, e) refl
 

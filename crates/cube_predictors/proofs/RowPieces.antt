@@ -6,7 +6,8 @@ use Rattle.std.proofs.lemmas.Grind.{flat_map-append}
 use Rattle.std.proofs.lemmas.Slice.{take-put_mid}
 use borrow.Rule.Slice.PartMut.{put_mid}
 use Rattle.std.proofs.Math.Seq.{take-add}
-use Rattle.std.proofs.lemmas.List.{take_more, take_more_set, drop_more, drop-set-lt, take-map, drop-map, take-append-drop, length-take, length-take-le, length-map, get_or-map, take_at}
+use Rattle.std.proofs.lemmas.List.{take_more, take_more_set, drop_more, drop-set-lt, take-map, drop-map, take-append-drop, length-take, length-take-le}
+use Rattle.std.proofs.lemmas.List.{length-map, get_or-map, take_at}
 use Rattle.std.proofs.lemmas.List.Elements.{All-weaker, All-from_recursion, recursion_from_All}
 use Rattle.cube_core.specs.Image.{Image}
 use Rattle.cube_core.specs.Order.{from, upto}
@@ -22,8 +23,8 @@ use Rattle.cube_predictors.proofs.Sending.{Pieces, each_append, from_split, upto
 -- ---- the bands
 
 -- one band has gone over its piece, and so the bands up to it
-pub past_step : (p : Params) (c : Image) (t n i : ℕ) (bands : List Learner) (b d : Learner) → i < length bands → ArePast p c t n (take i bands) → AreAt p c t (drop i bands)
-    → MovesBy n (get_or bands i b) d → (Follows p (get_or bands i b) c → Follows p d c)
+pub past_step : (p : Params) (c : Image) (t n i : ℕ) (bands : List Learner) (b d : Learner) → i < length bands → ArePast p c t n (take i bands)
+    → AreAt p c t (drop i bands) → MovesBy n (get_or bands i b) d → (Follows p (get_or bands i b) c → Follows p d c)
     → (Follows p (get_or bands i b) c → take n d.piece ≡ run_residuals p c (get_or bands i b).band (get_or bands i b).place n)
     → ArePast p c t n (take (i + 1) (set bands i d)) × AreAt p c t (drop (i + 1) (set bands i d))
 past_step p c t n i bands b d lt done left moves follows held =
@@ -36,14 +37,17 @@ past_step p c t n i bands b d lt done left moves follows held =
     (rw (take_more_set bands i d lt) all, rw (drop-set-lt (i + 1) bands i d (omega arith)) here.1)
 
 pub past_at : (p : Params) (c : Image) (t n : ℕ) (bands : List Learner) → ArePast p c t n bands → AreAt p c (t + n) bands
-past_at p c t n bands h = recursion_from_All (IsAt p c (t + n)) bands (All-weaker (IsPast p c t n) (IsAt p c (t + n)) (λ b h. h.at) bands (All-from_recursion (IsPast p c t n) bands h))
+past_at p c t n bands h =
+    recursion_from_All (IsAt p c (t + n)) bands
+    (All-weaker (IsPast p c t n) (IsAt p c (t + n)) (λ b h. h.at) bands (All-from_recursion (IsPast p c t n) bands h))
 
 -- ---- what they hold
 
 pub next_held : (bands : List Learner) (i k number : ℕ) (b : Learner) → k < length bands → b ≡ get_or bands k b → number ≡ get_or b.piece i 0
     → take (k + 1) (held_at bands i) ≡ take k (held_at bands i) ++ number ∷ []
 next_held bands i k number b lt there is =
-    let item : get_or (held_at bands i) k 0 ≡ number = get_or-map (λ r. get_or r.piece i 0) bands k b 0 lt ∙ ap (λ (r : Learner). get_or r.piece i 0) (sym there) ∙ sym is in
+    let item : get_or (held_at bands i) k 0 ≡ number =
+    get_or-map (λ r. get_or r.piece i 0) bands k b 0 lt ∙ ap (λ (r : Learner). get_or r.piece i 0) (sym there) ∙ sym is in
     rw (← item) (take_more (held_at bands i) k 0 (rw length-map lt))
 
 held_column : (p : Params) (c : Image) (y x n i : ℕ) (bands : List Learner) → i < n → ArePast p c (y * c.shape.columns + x) n bands
@@ -68,7 +72,8 @@ same_lists f g a b (suc n) h =
 pub held_is : (p : Params) (c : Image) (y x n : ℕ) (bands : List Learner) → ArePast p c (y * c.shape.columns + x) n bands
     → held_of bands n ≡ flat_map (λ k. column_of p c (bands_of bands) y k) (from x n)
 held_is p c y x n bands h =
-    same_lists (λ i. held_at bands i) (λ k. column_of p c (bands_of bands) y k) 0 x n (λ i lt. ap (λ k. held_at bands k) (omega arith) ∙ held_column p c y x n i bands lt h)
+    same_lists (λ i. held_at bands i) (λ k. column_of p c (bands_of bands) y k) 0 x n
+    (λ i lt. ap (λ k. held_at bands k) (omega arith) ∙ held_column p c y x n i bands lt h)
 
 -- ---- runs of a column, and of one band
 
@@ -76,11 +81,13 @@ pub run_piece : (ns : List ℕ) (i n : ℕ) → Pieces ns (take i ns) (take n (d
 run_piece ns i n = record { tail = drop (i + n) ns; whole = rw (← take-add i n ns) (sym (take-append-drop (i + n) ns)) }
 
 -- what was gathered of a column stands in front of what the room held before
-pub gathered : (bands : List Learner) (i first n many : ℕ) (numbers room : List ℕ) → first + n ≤ length bands → many ≡ n → numbers ≡ held_at (take many (drop first bands)) i
-    → take n (numbers ++ room) ≡ take n (drop first (held_at bands i))
+pub gathered : (bands : List Learner) (i first n many : ℕ) (numbers room : List ℕ) → first + n ≤ length bands → many ≡ n
+    → numbers ≡ held_at (take many (drop first bands)) i → take n (numbers ++ room) ≡ take n (drop first (held_at bands i))
 gathered bands i first n many numbers room le same is =
     let run : numbers ≡ take n (drop first (held_at bands i)) = is ∙ rw (same, ← take-map, ← drop-map) refl in
-    let long : length numbers ≡ n = rw run (length-take-le n (drop first (held_at bands i)) (omega (arith, le, length-drop first (held_at bands i), length-map bands (λ b. get_or b.piece i 0)))) in
+    let long : length numbers ≡ n =
+    rw run (length-take-le n (drop first (held_at bands i))
+    (omega (arith, le, length-drop first (held_at bands i), length-map bands (λ b. get_or b.piece i 0)))) in
     take_at numbers room n long ∙ run
 
 first_items : (ns : List ℕ) (n : ℕ) → n ≤ length ns → flat_map (λ i. get_or ns i 0 ∷ []) (upto n) ≡ take n ns
@@ -91,8 +98,8 @@ first_items ns (suc n) le =
     subst (λ k. flat_map (λ i. get_or ns i 0 ∷ []) (upto k) ≡ take k ns) (add-one n) more
 
 -- one band's residuals, place after place, are those that it holds
-pub held_alone : (bands : List Learner) (b : Learner) (n : ℕ) (numbers : List ℕ) → length bands ≡ 1 → b ≡ get_or bands 0 b → numbers ≡ take n b.piece → length numbers ≡ n
-    → numbers ≡ held_of bands n
+pub held_alone : (bands : List Learner) (b : Learner) (n : ℕ) (numbers : List ℕ) → length bands ≡ 1 → b ≡ get_or bands 0 b → numbers ≡ take n b.piece
+    → length numbers ≡ n → numbers ≡ held_of bands n
 held_alone [] b n numbers one there is long = absurd (omega (arith, one))
 held_alone (d ∷ []) b n numbers one there is long =
     let enough : n ≤ length b.piece = omega (arith, long, ap (λ (ns : List ℕ). length ns) is, length-take n b.piece) in
@@ -115,5 +122,14 @@ places_more bands first k n many room numbers long within is done =
 -- a part was written anew, by as many
 pub part_long : (a n many : ℕ) (room numbers : List ℕ) → n ≡ many → length numbers ≡ many → a + many ≤ length room → length (put_mid a n room numbers) ≡ length room
 part_long a n many room numbers same long within =
-    omega (arith, same, long, within, length-append (take a room) (numbers ++ drop n (drop a room)), length-append numbers (drop n (drop a room)),
-    length-take a room, length-drop n (drop a room), length-drop a room)
+    omega (
+      arith,
+      same,
+      long,
+      within,
+      length-append (take a room) (numbers ++ drop n (drop a room)),
+      length-append numbers (drop n (drop a room)),
+      length-take a room,
+      length-drop n (drop a room),
+      length-drop a room,
+    )

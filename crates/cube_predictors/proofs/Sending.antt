@@ -67,10 +67,12 @@ module _ {S : Type 0} {may : S → List ℕ → Type 0} {takes : S → S → Boo
 
   -- the next piece may be taken
   pub piece_fits : {old mid : S} {all done next : List ℕ} → takes old mid true done → Pieces all done next → may old all → may mid next
-  piece_fits {old = old} {done = done} {next = next} h pieces m = laws.more _ _ done next h (laws.less _ (done ++ next) pieces.tail (subst (may old) pieces.whole m))
+  piece_fits {old = old} {done = done} {next = next} h pieces m =
+      laws.more _ _ done next h (laws.less _ (done ++ next) pieces.tail (subst (may old) pieces.whole m))
 
   -- it was taken, or the taker stopped in it
-  pub piece_cut : {old mid new : S} {all done next : List ℕ} → takes old mid true done → Pieces all done next → takes mid new false next → takes old new false all
+  pub piece_cut : {old mid new : S} {all done next : List ℕ} → takes old mid true done → Pieces all done next → takes mid new false next
+      → takes old new false all
   piece_cut {old = old} {new = new} {done = done} {next = next} h pieces cut =
       subst (takes old new false) (sym pieces.whole) (laws.cut _ _ (done ++ next) pieces.tail (laws.behind _ _ _ false _ _ h cut))
 
@@ -110,7 +112,8 @@ done_put p c t i n j bands sub e fits long h k =
     rw (take-put_mid i n bands sub j (omega (arith, e, many)) (omega (arith, e, fits))) (each_append (IsAt p c t) (take i bands) sub h k)
 
 -- the one band
-pub band_there : (bands was : List Learner) (i n : ℕ) → n ≡ 1 → i < length bands → bands_of bands ≡ bands_of was → bands_of (take n (drop i bands)) ≡ get_or (bands_of was) i 0 ∷ []
+pub band_there : (bands was : List Learner) (i n : ℕ) → n ≡ 1 → i < length bands → bands_of bands ≡ bands_of was
+    → bands_of (take n (drop i bands)) ≡ get_or (bands_of was) i 0 ∷ []
 band_there bands was i n e lt same =
     let within : i < length (bands_of was) = omega (arith, lt, length-map bands (λ b. b.band), ap (λ (zs : List ℕ). length zs) same) in
     rw (e, ← take-map, ← drop-map, same, drop_more (bands_of was) i 0 within) refl

@@ -1,5 +1,6 @@
 -- The parts of a list, woven along the owners of its places, make it again.
-use Rattle.std.proofs.Common.{◌≡◌, ℕ, zero, suc, ◌+◌, ◌<◌, ◌≤◌, inl, inr, List, [], ◌∷◌, ◌++◌, length, get_or, set, Some, refl, sym, ap, ◌∙◌, arith, true}
+use Rattle.std.proofs.Common.{◌≡◌, ℕ, zero, suc, ◌+◌, ◌<◌, ◌≤◌, inl, inr, List, [], ◌∷◌, ◌++◌, length, get_or, set, Some, refl, sym, ap, ◌∙◌, arith}
+use Rattle.std.proofs.Common.{true}
 use Rattle.std.specs.Prelude.{◌==◌, if◌then◌else◌}
 use Rattle.std.specs.List.{All, slice_get}
 use Rattle.std.proofs.Common.{length-set, get_or-set_other}
@@ -27,7 +28,8 @@ part_none q [] = refl
 part_none q (o ∷ os) = refl
 
 -- the next number goes to the owner of its place
-pub part_push : (q i : ℕ) (os ns : List ℕ) (o n : ℕ) → i ≡ length ns → slice_get os i ≡ Some o → part q os (ns ++ n ∷ []) ≡ part q os ns ++ (if o == q then n ∷ [] else [])
+pub part_push : (q i : ℕ) (os ns : List ℕ) (o n : ℕ) → i ≡ length ns → slice_get os i ≡ Some o
+    → part q os (ns ++ n ∷ []) ≡ part q os ns ++ (if o == q then n ∷ [] else [])
 unfolding part
 part_push q i [] ns o n e at = absurd (cc)
 part_push q zero (p ∷ os) [] o n e at = let same : p ≡ o = cc in rw (same, part_none q os) refl
@@ -76,8 +78,8 @@ unfolding part
 kept_parts os ns lists o n below parts k h = grind (arith, nat_tests, get_or-set_at, get_or-set_other, parts k h)
 
 -- lists that are the parts of numbers, woven along their owners, are the numbers
-pub weave_is : (os ns : List ℕ) (lists : List (List ℕ)) → length ns ≤ length os → ((k : ℕ) → k < length lists → get_or lists k [] ≡ part k os ns) → All (λ o. o < length lists) os
-    → weave os lists ≡ ns
+pub weave_is : (os ns : List ℕ) (lists : List (List ℕ)) → length ns ≤ length os → ((k : ℕ) → k < length lists → get_or lists k [] ≡ part k os ns)
+    → All (λ o. o < length lists) os → weave os lists ≡ ns
 unfolding part weave
 weave_is [] [] lists e parts below = refl
 weave_is [] (n ∷ ns) lists e parts below = absurd (omega arith)
@@ -87,7 +89,8 @@ weave_is (o ∷ os) (n ∷ ns) lists e each below =
     let here : (o == o) ≡ true = eq-eqb o o refl in
     let first : get_or lists o [] ≡ n ∷ part o os ns = rw here at (each o there) in
     let rest = part o os ns in
-    let others : (k : ℕ) → k < length (set lists o rest) → get_or (set lists o rest) k [] ≡ part k os ns = λ k h. kept_parts os ns lists o n there each k (rw length-set at h) in
+    let others : (k : ℕ) → k < length (set lists o rest) → get_or (set lists o rest) k [] ≡ part k os ns =
+    λ k h. kept_parts os ns lists o n there each k (rw length-set at h) in
     let later : All (λ x. x < length (set lists o rest)) os = λ k d h. rw length-set (below (suc k) d (omega (arith, h))) in
     rw (weave_step o n os rest lists first) (ap (λ zs. n ∷ zs) (weave_is os ns (set lists o rest) (omega (arith, e)) others later))
 
@@ -110,7 +113,8 @@ weave_of_taken predictors os ns below few =
 -- one list is shorter by its first number, which stood at the first place
 kept_whole : (os : List ℕ) (lists : List (List ℕ)) (o n : ℕ) (rest : List ℕ) → AreWhole (o ∷ os) lists → get_or lists o [] ≡ n ∷ rest → o < length lists
     → (k : ℕ) → k < length lists → length (get_or (set lists o rest) k []) ≡ share k os
-kept_whole os lists o n rest whole first below k h = grind (arith, nat_tests, get_or-set_at, get_or-set_other, whole k h, share_cons k o os, ap (λ (v : List ℕ). length v) first)
+kept_whole os lists o n rest whole first below k h =
+    grind (arith, nat_tests, get_or-set_at, get_or-set_other, whole k h, share_cons k o os, ap (λ (v : List ℕ). length v) first)
 
 -- the parts of what is woven, of one place more
 grown_part : (os w : List ℕ) (lists : List (List ℕ)) (o n : ℕ) (rest : List ℕ) → get_or lists o [] ≡ n ∷ rest → o < length lists
@@ -133,13 +137,17 @@ parts_woven (o ∷ os) lists below whole =
     let f = first_rest (get_or lists o []) (omega (arith, whole o there, share_own o os)) in
     let kept : AreWhole os (set lists o f.1) = λ k h. kept_whole os lists o f.0 f.1 whole f.2 there k (rw length-set at h) in
     let inner = parts_woven os (set lists o f.1) (λ k d h. rw length-set (below (suc k) d (omega (arith, h)))) kept in
-    rw (weave_step o f.0 os f.1 lists f.2) (omega (arith, inner.0), grown_part os (weave os (set lists o f.1)) lists o f.0 f.1 f.2 there (λ k h. inner.1 k (rw length-set h)))
+    rw (weave_step o f.0 os f.1 lists f.2)
+    (omega (arith, inner.0), grown_part os (weave os (set lists o f.1)) lists o f.0 f.1 f.2 there (λ k h. inner.1 k (rw length-set h)))
 
 pub parts_of_weave : PartsOfWeave
 parts_of_weave os lists below whole =
     let w = parts_woven os lists below whole in
-    let many = length-parts (length lists) os (weave os lists) in
-    (w.0, ext_get_or [] (parts_of (length lists) os (weave os lists)) lists many (λ k h. parts_at (length lists) k os (weave os lists) (rw many at h) ∙ w.1 k (rw many at h)))
+    let many = length-parts (length lists) os (weave os lists) in (
+      w.0,
+      ext_get_or [] (parts_of (length lists) os (weave os lists)) lists many
+          (λ k h. parts_at (length lists) k os (weave os lists) (rw many at h) ∙ w.1 k (rw many at h)),
+    )
 
 -- ---- along the places of an image
 

@@ -1,10 +1,10 @@
-use Rattle.std.proofs.Common.{◌≡◌, ◌<◌, ◌≤◌, [], length, take, drop, append-nil, length-take, arith, sym, subst, Some}
+use Rattle.std.proofs.Common.{◌≡◌, ◌<◌, ◌≤◌, [], length, take, drop, append-nil, length-take, arith, sym, subst, Some, ◌∙◌}
 use Rattle.std.specs.List.{slice_get}
 use Rattle.std.proofs.lemmas.List.{length-map, take-append-le}
 use Rattle.cube_predictors.specs.Weave.{owners}
 use Rattle.file_coding.specs.Ends.{MayCodeAll}
 use Rattle.coder_pipe.specs.Standings.{handed_of}
-use Rattle.coder_pipe.proofs.Taking.{ahead_none, ahead_more, owner_below, owner_there, fewer_taken, fewer_of_one, run_fits, may_take, place_left}
+use Rattle.coder_pipe.proofs.Taking.{ahead_none, ahead_more, owner_below, owner_there, fewer_taken, run_fits, may_take, place_left}
 use Rattle.coder_pipe.proofs.gather.next_of_row.Goals as goal
 use Rattle.coder_pipe.proofs.gather.next_of_row.Goals.{In-Some}
 use Rattle.coder_pipe.proofs.gather.next_of_row.Given.{Over}
@@ -58,13 +58,10 @@ returns-in-Ok-clause-ahead g c =
     let few : length (take count run) ≤ c.wanted_run-wanted.result =
     omega (arith, c.in-Ok.ensures.within.1, length-take count run, length-take c.wanted_run-wanted.result c.args.run.now) in
     let one = c.wanted_run-wanted.ensures.owned _ _ _ was.woven in
-    let own =
-    fewer_of_one (owners c.args.plan.now.deal c.args.plan.now.params) (length was.numbers) c.wanted_run-wanted.result
-    (length (take count run)) c.in-Some.owner one few (next g d) in
     let none = ahead_none _ _ _ _ _ was in
     let ahead =
-    ahead_more _ _ _ _ (handed_of c.next_of.new.stages.items) _ c.in-Some.owner [] (take count run) none (λ i lt. rw append-nil (own i lt))
-    (handed_within g d) c.in-Ok.ensures.ok in
+    ahead_more _ _ _ _ (handed_of c.next_of.new.stages.items) _ c.in-Some.owner [] (take count run) none
+    (λ i lt. rw append-nil (one i (omega (arith, lt, few)) ∙ sym (next g d))) (handed_within g d) c.in-Ok.ensures.ok in
     rw (take-append-le count run (drop c.wanted_run-wanted.result c.args.run.now) within) ahead
 
 pub returns-in-Ok-clause-may : goal.returns-in-Ok-clause-may

@@ -16,16 +16,8 @@ finish-requires g c = nothing_left _ _ _ _ c.prove_is_plan.ensures.lawful.order 
 pub stop_all-requires-clause-named : goal.stop_all-requires-clause-named
 stop_all-requires-clause-named g c = λ k f h.
     let same = c.drain-in-Stopped.ensures.feeds ∙ c.in-Stopped.ensures.feeds ∙ c.start_all-stages.ensures.feeds c.if-not-all.false in
-    let few : k < c.args.plan.now.predictors =
-    omega (
-      arith,
-      h,
-      c.drain-in-Stopped.new.stages.ok.0,
-      length-map c.drain-in-Stopped.new.stages.items (λ s. s.feed),
-      ap
-          (λ fs. length fs) same,
-      c.requires.lists.many,
-    ) in
+    let held = length-map c.drain-in-Stopped.new.stages.items (λ s. s.feed) in
+    let few : k < c.args.plan.now.predictors = omega (arith, h, c.drain-in-Stopped.new.stages.ok.0, held, ap (λ fs. length fs) same, c.requires.lists.many) in
     rw same (c.requires.lists.named k f few)
 
 pub returns-in-Whole-clause-piped : goal.returns-in-Whole-clause-piped

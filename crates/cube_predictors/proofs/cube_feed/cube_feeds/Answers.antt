@@ -11,4 +11,6 @@ invariant_of-push c = (c.requires, c.in_ok-own_bands.ensures.fresh c.args.cube.n
 pub loop-predictor-preserved : goal.loop-predictor-preserved
 loop-predictor-preserved c =
     let f : ℕ → Predicting = λ q. record { cube = c.args.cube.now; plan = c.args.plan.now; predictor = q } in
-    rw (c.in_ok-push.ensures.items, upto_next) (ap (λ fs. fs ++ f c.loop-predictor.predictor ∷ []) c.loop-predictor.invariant ∙ sym (map-append f (upto c.loop-predictor.predictor) (c.loop-predictor.predictor ∷ [])))
+    rw (c.in_ok-push.ensures.items, upto_next)
+    (ap (λ fs. fs ++ f c.loop-predictor.predictor ∷ []) c.loop-predictor.invariant
+    ∙ sym (map-append f (upto c.loop-predictor.predictor) (c.loop-predictor.predictor ∷ [])))

@@ -19,9 +19,11 @@ loop-z-preserved c =
           let follows = rw w.params-then-from-predictor.ensures at w.in_ok-new.ensures.follows in
           rw (w.bands-is, w.in_ok-push.ensures.items) (record {
             own = rw (map-append, own_next, own_one c.args.predictor c.loop-z.z _ _ owner w.if-from-predictor.true, was.own, made.1) refl;
-            at = λ image. each_append (IsAt p image 0) c.loop-z.bands.items (b ∷ []) (was.at image) (record { follows = follows image; place = made.2; inside = omega (arith, made.1, lt) }, tt);
+            at = λ image. each_append (IsAt p image 0) c.loop-z.bands.items (b ∷ []) (was.at image)
+                (record { follows = follows image; place = made.2; inside = omega (arith, made.1, lt) }, tt);
           }))
-      | else-from-predictor w ↦ rw w.bands-is (record { own = rw (own_next, own_none c.args.predictor c.loop-z.z _ _ owner w.if-from-predictor.false, append-nil) was.own; at = was.at })
+      | else-from-predictor w ↦ rw w.bands-is
+          (record { own = rw (own_next, own_none c.args.predictor c.loop-z.z _ _ owner w.if-from-predictor.false, append-nil) was.own; at = was.at })
     ]
 
 pub returns-clause-fresh : goal.returns-clause-fresh

@@ -1,5 +1,5 @@
-use Rattle.std.proofs.Common.{◌≡◌, true, sym, subst, arith}
-use Rattle.cube_predictors.specs.Pieces.{held_at, held_of}
+use Rattle.std.proofs.Common.{true}
+use Rattle.cube_predictors.specs.Pieces.{held_at}
 use Rattle.cube_predictors.proofs.Sending.{none_yet, piece_fits, piece_cut, upto_more, upto_rest}
 use Rattle.cube_predictors.proofs.pieces.send_columns.Goals as goal
 

@@ -32,7 +32,9 @@ pub returns : goal.returns
 returns g c =
     let d = (goal.at.returns g c).After-deal-deal in
     let told = c.send_own-all.ensures in
-    let keeps = keeps_part (g.G.Gate.may_stop c.args.gate.now) c.args.predictor c.new-sender.result c.send_own-all.new.taker c.send_own-all.result _ _ c.end.result (none g d) told
+    let keeps =
+    keeps_part (g.G.Gate.may_stop c.args.gate.now) c.args.predictor c.new-sender.result c.send_own-all.new.taker c.send_own-all.result _ _ c.end.result
+    (none g d) told
     (rw (told.gate, told.predictor, told.lane, c.new-sender.ensures) at c.end.ensures.keeps) c.end.ensures.stopped in
     let whole = same g d ∙ sym (own_is_part c.args.plan.now.params c.args.cube.now c.args.predictor c.args.plan.now.deal c.requires.image.shape) in
     subst (λ items. Keeps (g.G.Gate.may_stop c.args.gate.now) c.args.predictor items c.args.sender.lane c.end.result) whole keeps

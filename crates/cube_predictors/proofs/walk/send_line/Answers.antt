@@ -24,7 +24,9 @@ module _ (g : Over) (c : After-count_own-count g) where
   in_order = rw bands_are at c.loop-i-test.true
 
   there : IsGroup c.args.predictor c.args.deal.now c.args.cube.now.shape c.args.depth c.loop-i.i c.min-end.result c.loop-i.slot c.count_own-count.result
-  there = is_group _ _ _ c.args.depth c.loop-i.i c.loop-i.first c.min-end.result _ _ c.requires.depth.0 in_order c.loop-i.invariant.first (rw bands_are at c.min-end.ensures) c.loop-i.invariant.slot c.count_own-count.ensures
+  there =
+      is_group _ _ _ c.args.depth c.loop-i.i c.loop-i.first c.min-end.result _ _ c.requires.depth.0 in_order c.loop-i.invariant.first
+      (rw bands_are at c.min-end.ensures) c.loop-i.invariant.slot c.count_own-count.ensures
 
   long : length c.loop-i.bands ≡ length (own c.args.predictor c.args.deal.now (upto c.args.cube.now.shape.bands))
   long = sym (length-map c.loop-i.bands (λ b. b.band)) ∙ ap (λ (zs : List ℕ). length zs) (c.loop-i.invariant.same ∙ c.requires.own)
@@ -38,7 +40,8 @@ module _ (g : Over) (c : After-count_own-count g) where
   own_bands : bands_of (take (c.loop-i.slot + c.count_own-count.result - c.loop-i.slot) (drop c.loop-i.slot c.loop-i.bands)) ≡ mine c.loop-i.i
   own_bands = group_there _ _ _ _ _ _ c.loop-i.slot _ _ c.loop-i.bands c.args.bands.now there (omega arith) c.loop-i.invariant.same c.requires.own
 
-  pieces : Pieces (line_of c.args.params.now c.args.cube.now c.args.predictor c.args.deal.now c.args.depth c.args.y) (flat_map run (upto c.loop-i.i)) (run c.loop-i.i)
+  pieces : Pieces (line_of c.args.params.now c.args.cube.now c.args.predictor c.args.deal.now c.args.depth c.args.y) (flat_map run (upto c.loop-i.i))
+      (run c.loop-i.i)
   unfolding line_of
   pieces = upto_rest run c.loop-i.i (group_count c.args.cube.now.shape c.args.depth) in_order
 
@@ -72,7 +75,8 @@ loop-i-preserved g c =
     record {
       first = (there g d).next;
       slot = (there g d).more;
-      done = done_put _ _ _ c.loop-i.slot n _ c.loop-i.bands _ (omega arith) (within g d) c.send_row.auto.bands was.done (c.send_row.ensures.at c.if-not-send_row.false);
+      done = done_put _ _ _ c.loop-i.slot n _ c.loop-i.bands _ (omega arith) (within g d) c.send_row.auto.bands was.done
+          (c.send_row.ensures.at c.if-not-send_row.false);
       left = left_put _ _ _ c.loop-i.slot n _ c.loop-i.bands _ (omega arith) (within g d) c.send_row.auto.bands was.left;
       same = bands_put c.loop-i.bands _ _ c.loop-i.slot n was.same c.send_row.ensures.same;
       sent = rw upto_more (g.met.T.Taker.laws.behind _ _ _ true _ _ was.sent (rw (own_bands g d, c.if-not-send_row.false) at c.send_row.ensures.sent));

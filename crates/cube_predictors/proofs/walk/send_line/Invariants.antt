@@ -12,5 +12,6 @@ invariant-loop-i g l = record {
   done : AreAt l.params l.cube ((l.y + 1) * l.cube.shape.columns) (take l.slot l.bands);
   left : AreAt l.params l.cube (l.y * l.cube.shape.columns) (drop l.slot l.bands);
   same : bands_of l.bands ≡ bands_of l.initial.bands;
-  sent : g.T.Taker.takes l.initial.taker l.taker true (flat_map (λ i. row_of l.params l.cube (own l.predictor l.deal (group l.cube.shape l.depth i)) l.y) (upto l.i));
+  sent : g.T.Taker.takes l.initial.taker l.taker true
+      (flat_map (λ i. row_of l.params l.cube (own l.predictor l.deal (group l.cube.shape l.depth i)) l.y) (upto l.i));
 }

@@ -18,14 +18,16 @@ module _ (g : Over) (c : After-predict_pieces g) where
   within : c.loop-x.x + c.min-count.result ≤ c.args.cube.now.shape.columns
   within = omega (arith, c.loop-x-test.true, c.min-count.ensures, c.columns-columns.ensures.value, ap (λ s. s.columns) c.shape.ensures)
 
-  pieces : Pieces (row_of c.args.params.now c.args.cube.now (bands_of c.args.bands.now) c.args.y) (flat_map column (upto c.loop-x.x)) (flat_map column (from c.loop-x.x c.min-count.result))
+  pieces : Pieces (row_of c.args.params.now c.args.cube.now (bands_of c.args.bands.now) c.args.y) (flat_map column (upto c.loop-x.x))
+      (flat_map column (from c.loop-x.x c.min-count.result))
   unfolding row_of
   pieces = piece_rest column c.loop-x.x c.min-count.result c.args.cube.now.shape.columns within
 
   held : held_of c.predict_pieces.new.bands c.min-count.result ≡ flat_map column (from c.loop-x.x c.min-count.result)
   held =
       held_is _ _ c.args.y c.loop-x.x c.min-count.result c.predict_pieces.new.bands c.predict_pieces.ensures.past
-      ∙ ap (λ zs. flat_map (λ x. column_of c.args.params.now c.args.cube.now zs c.args.y x) (from c.loop-x.x c.min-count.result)) (c.predict_pieces.ensures.same ∙ c.loop-x.invariant.same)
+      ∙ ap (λ zs. flat_map (λ x. column_of c.args.params.now c.args.cube.now zs c.args.y x) (from c.loop-x.x c.min-count.result))
+      (c.predict_pieces.ensures.same ∙ c.loop-x.invariant.same)
 
 pub returns-then-is_empty-clause-sent : goal.returns-then-is_empty-clause-sent
 returns-then-is_empty-clause-sent g c =
@@ -49,7 +51,8 @@ loop-x-preserved g c =
       within = within g d;
       at = at_same _ _ _ _ _ (past_at _ _ _ _ _ c.predict_pieces.ensures.past) (omega arith);
       same = c.predict_pieces.ensures.same ∙ c.loop-x.invariant.same;
-      sent = rw upto_piece (g.met.T.Taker.laws.behind _ _ _ true _ _ c.loop-x.invariant.sent (rw (held g d, c.if-not-send_pieces.false) at c.send_pieces.ensures.sent));
+      sent = rw upto_piece (g.met.T.Taker.laws.behind _ _ _ true _ _ c.loop-x.invariant.sent
+          (rw (held g d, c.if-not-send_pieces.false) at c.send_pieces.ensures.sent));
     }
 
 pub returns-clause-sent : goal.returns-clause-sent
@@ -60,4 +63,5 @@ returns-clause-sent g c =
     rw all at c.loop-x.invariant.sent
 
 pub loop-x-init : goal.loop-x-init
-loop-x-init g c = record { within = omega arith; at = at_same _ _ _ _ _ c.requires.at (omega arith); same = refl; sent = none_yet g.met.T.Taker.laws c.requires.may }
+loop-x-init g c =
+    record { within = omega arith; at = at_same _ _ _ _ _ c.requires.at (omega arith); same = refl; sent = none_yet g.met.T.Taker.laws c.requires.may }

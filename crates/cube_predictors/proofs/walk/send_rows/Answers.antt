@@ -38,7 +38,8 @@ loop-y-preserved g c =
 pub returns-clause-sent : goal.returns-clause-sent
 unfolding rows_of
 returns-clause-sent g c =
-    let all : c.loop-y.y ≡ c.args.cube.now.shape.rows = omega (arith, c.loop-y-test.false, c.loop-y.auto.y-end, c.rows-y-end.ensures.value, ap (λ s. s.rows) c.shape.ensures) in
+    let all : c.loop-y.y ≡ c.args.cube.now.shape.rows =
+    omega (arith, c.loop-y-test.false, c.loop-y.auto.y-end, c.rows-y-end.ensures.value, ap (λ s. s.rows) c.shape.ensures) in
     rw all at c.loop-y.invariant.sent
 
 pub loop-y-init : goal.loop-y-init
