@@ -1,28 +1,30 @@
 -- Codes and low bits among the bits ahead.
-use Rattle.std.proofs.Common.{◌≡◌, ◌≢◌, ℕ, suc, ◌+◌, ◌-◌, ◌*◌, ◌/◌, ◌%◌, ◌^◌, ◌<◌, ◌≤◌, Bool, List, ◌++◌, length, drop, refl, sym, ap, subst, ◌∙◌, inl, inr, append_assoc, arith, lit<, Ok}
+use Rattle.std.proofs.Common.{◌≡◌, ◌≢◌, ℕ, suc, ◌+◌, ◌-◌, ◌*◌, ◌/◌, ◌%◌, ◌^◌, ◌<◌, ◌≤◌, Bool, List, ◌++◌, length, drop, set, get_or, refl, sym, ap, subst, ◌∙◌, inl, inr, append_assoc, arith, lit<, Result, Ok, Err, drop-cons}
+use Rattle.std.specs.List.{AllByRecursion}
 use Rattle.std.specs.Int.Count.{count_leading_zeros}
 use Rattle.std.proofs.lemmas.Bool.{cases_lt}
-use Rattle.std.proofs.lemmas.Nat.{leading_length, mul-le, div-mul-add, shr_below, pow_pos}
-use Rattle.std.proofs.lemmas.List.{drop-drop, drop_at}
-use Rattle.std.proofs.Math.Nat.{div-mul-le_self, lt-div-mul-add, mod-eq_of_lt, pow-succ', pow-le-pow_right}
+use Rattle.std.proofs.lemmas.Nat.{leading_length, mul-le, div-mul-add, shr_below}
+use Rattle.std.proofs.lemmas.List.{drop-drop, drop_at, drop-set-lt}
+use Rattle.std.proofs.Math.Nat.{div-mul-le_self, mod-eq_of_lt, pow-succ', pow-le-pow_right}
+use Rattle.cube_core.specs.declared.fault.Fault.{Fault}
 use Rattle.header_bits.specs.Bits.{bits_of, fundamental}
-use Rattle.header_bits.proofs.Numbers.{length-bits_of, bits_of-join, bits_of-low, bits_of-fundamental}
+use Rattle.header_bits.specs.Windows.{IsAhead as IsFront}
+use Rattle.header_bits.proofs.Numbers.{length-bits_of, no_bits, bits_of-add, bits_of-mod, bits_of-join, bits_of-low, bits_of-fundamental}
 use Rattle.block_adaptive.specs.declared.ahead.Ahead.{Ahead}
 use Rattle.block_adaptive.specs.Ahead.{IsAhead, IsWord, Uses, used}
 use Rattle.block_adaptive.specs.Reading.{Site, fundamental_at, low_at}
-use Rattle.block_adaptive.proofs.Codes.{fundamental_again, low_again}
+use Rattle.block_adaptive.proofs.Codes.{fundamental_again, low_again, weaker}
 use Rattle.block_adaptive.proofs.Costs.{length-fundamental}
 
 -- the bits ahead are a text and what is ahead behind it
-uses : (a b : Ahead) (text left : List Bool) → b.peeked ≡ a.peeked → b.known + length text ≡ a.known → IsWord b → bits_of a.known a.word ≡ text ++ bits_of b.known b.word → IsAhead a left → Uses a b text left
-uses a b text left same size word is h =
+uses : (a b : Ahead) (text left : List Bool) → b.peeked ≡ a.peeked → b.known + length text ≡ a.known → bits_of a.known a.word ≡ text ++ bits_of b.known b.word → IsAhead a left → Uses a b text left
+uses a b text left same size is h =
     let behind : List Bool = bits_of b.known b.word ++ drop b.peeked left in
     let whole : drop (used a) left ≡ text ++ behind = h.bits ∙ ap (λ (x : List Bool). x ++ drop a.peeked left) is ∙ append_assoc text (bits_of b.known b.word) (drop a.peeked left) ∙ ap (λ (n : ℕ). text ++ (bits_of b.known b.word ++ drop n left)) (sym same) in
     let place : used a + length text ≡ used b = omega (arith, h.few) in
     let rest : drop (used b) left ≡ behind = ap (λ (n : ℕ). drop n left) (sym place) ∙ sym (drop-drop (length text) (used a) left) ∙ ap (drop (length text)) whole ∙ drop_at text behind (length text) refl in
     record {
       ahead = record { few = omega (arith, h.few); most = omega (arith, h.most); enough = omega (arith, h.enough); bits = rest };
-      word = word;
       text = whole ∙ ap (λ (x : List Bool). text ++ x) (sym rest);
     }
 
@@ -43,7 +45,7 @@ pub record IsTop (word known j : ℕ) : Type 0 where
 pow_up : (i j : ℕ) → i ≤ j → 2 ^ i ≤ 2 ^ j
 pow_up i j le = pow-le-pow_right {n = 2} (lit< tt) {i = i} {j = j} le
 
-pub top_is : (word known : ℕ) → word < 2 ^ known → known ≤ 56 → word ≢ 0 → IsTop word known (63 - count_leading_zeros 64 word)
+pub top_is : (word known : ℕ) → word < 2 ^ known → known ≤ 57 → word ≢ 0 → IsTop word known (63 - count_leading_zeros 64 word)
 top_is word known below few some =
     let wide = pow_up known 64 (omega arith) in
     let p = leading_length 64 word (omega arith) in
@@ -62,55 +64,66 @@ top_is word known below few some =
     }
 
 -- the code that ends with it
-pub code_used : (a : Ahead) (j : ℕ) (left : List Bool) → IsWord a → IsTop a.word a.known j → IsAhead a left → Uses a (record { peeked = a.peeked; known = j; word = a.word - 2 ^ j }) (fundamental (a.known - j - 1)) left
-code_used a j left word top h =
+pub code_used : (a : Ahead) (j : ℕ) (left : List Bool) → IsTop a.word a.known j → IsAhead a left → Uses a (record { peeked = a.peeked; known = j; word = a.word - 2 ^ j }) (fundamental (a.known - j - 1)) left
+code_used a j left top h =
     let z : ℕ = a.known - j - 1 in
     let size : z + 1 + j ≡ a.known = omega (arith, top.inside) in
     let one : 1 * 2 ^ j ≡ 2 ^ j = omega arith in
     let is : bits_of a.known a.word ≡ fundamental z ++ bits_of j (a.word - 2 ^ j) =
     subst (λ (p : ℕ). bits_of a.known a.word ≡ fundamental z ++ bits_of j (a.word - p)) one
     (ap (λ (n : ℕ). bits_of n a.word) (sym size) ∙ parts (z + 1) j 1 a.word (omega (arith, top.least)) (omega (arith, top.most)) ∙ ap (λ (x : List Bool). x ++ bits_of j (a.word - 1 * 2 ^ j)) (bits_of-fundamental z)) in
-    uses a (record { peeked = a.peeked; known = j; word = a.word - 2 ^ j }) (fundamental z) left refl (omega (arith, length-fundamental z)) (record { few = omega (arith, word.few, top.inside); below = omega (arith, top.most, top.least) }) is h
+    uses a (record { peeked = a.peeked; known = j; word = a.word - 2 ^ j }) (fundamental z) left refl (omega (arith, length-fundamental z)) is h
+
+-- and what is ahead behind it
+pub code_word : (a : Ahead) (j : ℕ) → IsWord a → IsTop a.word a.known j → IsWord (record { peeked = a.peeked; known = j; word = a.word - 2 ^ j })
+code_word a j word top = record { few = omega (arith, word.few, top.inside); below = omega (arith, top.most, top.least) }
 
 -- ---- low bits
 
-pub low_used : (a : Ahead) (k : ℕ) (left : List Bool) → IsWord a → k ≤ a.known → IsAhead a left
-    → Uses a (record { peeked = a.peeked; known = a.known - k; word = a.word - a.word / 2 ^ (a.known - k) * 2 ^ (a.known - k) }) (bits_of k (a.word / 2 ^ (a.known - k))) left
-low_used a k left word le h =
+pub low_used : (a : Ahead) (k : ℕ) (left : List Bool) → k ≤ a.known → IsAhead a left
+    → Uses a (record { peeked = a.peeked; known = a.known - k; word = a.word }) (bits_of k (a.word / 2 ^ (a.known - k) % 2 ^ k)) left
+low_used a k left le h =
     let n : ℕ = a.known - k in
-    let low : ℕ = a.word / 2 ^ n in
+    let high : ℕ = a.word / 2 ^ n in
     let size : k + n ≡ a.known = omega arith in
-    let under : low * 2 ^ n ≤ a.word = div-mul-le_self a.word (2 ^ n) in
-    let over : a.word < low * 2 ^ n + 2 ^ n = lt-div-mul-add {a = a.word} {b = 2 ^ n} (pow_pos n) in
-    let is : bits_of a.known a.word ≡ bits_of k low ++ bits_of n (a.word - low * 2 ^ n) = ap (λ (m : ℕ). bits_of m a.word) (sym size) ∙ parts k n low a.word under over in
-    uses a (record { peeked = a.peeked; known = n; word = a.word - low * 2 ^ n }) (bits_of k low) left refl (omega (arith, length-bits_of k low)) (record { few = omega (arith, word.few); below = omega arith }) is h
-
-pub low_below : (word known k : ℕ) → word < 2 ^ known → k ≤ known → word / 2 ^ (known - k) < 2 ^ k
-low_below word known k below le =
-    let size : k + (known - k) ≡ known = omega arith in
-    shr_below word k (known - k) (subst (λ (n : ℕ). word < 2 ^ n) (sym size) below)
-
--- no bit is lost
-pub quotient_shifted : (q k : ℕ) → q < 65536 → k ≤ 15 → (q * 2 ^ k % 18446744073709551616 ≡ q * 2 ^ k) × (q * 2 ^ k ≤ 65536 * 32768)
-quotient_shifted q k lt le =
-    let wide : 2 ^ k ≤ 32768 = pow_up k 15 le in
-    let all : q * 2 ^ k ≤ 65536 * 32768 = mul-le q (2 ^ k) 65536 32768 (omega arith) wide in
-    (mod-eq_of_lt (omega arith), all)
-
-pub low_shifted : (word n : ℕ) → word < 2 ^ 56 → word / 2 ^ n * 2 ^ n % 18446744073709551616 ≡ word / 2 ^ n * 2 ^ n
-low_shifted word n below =
-    let under : word / 2 ^ n * 2 ^ n ≤ word = div-mul-le_self word (2 ^ n) in
-    mod-eq_of_lt (omega arith)
+    let is : bits_of a.known a.word ≡ bits_of k (high % 2 ^ k) ++ bits_of n a.word =
+    ap (λ (m : ℕ). bits_of m a.word) (sym size) ∙ bits_of-add k n a.word ∙ ap (λ (x : List Bool). x ++ bits_of n a.word) (sym (bits_of-mod k k high (omega arith))) in
+    uses a (record { peeked = a.peeked; known = n; word = a.word }) (bits_of k (high % 2 ^ k)) left refl (omega (arith, length-bits_of k (high % 2 ^ k))) is h
 
 pub low_few : (low k : ℕ) → low < 2 ^ k → k ≤ 15 → low < 32768
 low_few low k lt le = (let wide : 2 ^ k ≤ 32768 = pow_up k 15 le in omega arith)
 
-pub word_below : (a : Ahead) → IsWord a → a.word < 2 ^ 56
-word_below a h = (let wide = pow_up a.known 56 h.few in omega (arith, h.below))
+-- a quotient that is small enough for any low bits: no bit is lost
+pub whole_small : (q k low most : ℕ) → most < 65536 → (q + 1) * 2 ^ k ≤ most + 1 → low < 2 ^ k → (q * 2 ^ k % 65536 ≡ q * 2 ^ k) × (q * 2 ^ k + low ≤ most)
+whole_small q k low most small within lt =
+    let parts : (q + 1) * 2 ^ k ≡ q * 2 ^ k + 2 ^ k = omega arith in
+    (mod-eq_of_lt (omega arith), omega arith)
+
+-- nor in a test for the greatest
+pub greatest_shifted : (most k : ℕ) → most < 65536 → k ≤ 15 → (most / 2 ^ k + 1) * 2 ^ k % 4294967296 ≡ (most / 2 ^ k + 1) * 2 ^ k
+greatest_shifted most k small le =
+    let wide : 2 ^ k ≤ 32768 = pow_up k 15 le in
+    let under : most / 2 ^ k * 2 ^ k ≤ most = div-mul-le_self most (2 ^ k) in
+    let parts : (most / 2 ^ k + 1) * 2 ^ k ≡ most / 2 ^ k * 2 ^ k + 2 ^ k = omega arith in
+    mod-eq_of_lt (omega arith)
+
+-- all quotients are, where the greatest is
+pub all_within : (k greatest most : ℕ) (qs : List ℕ) → (greatest + 1) * 2 ^ k ≤ most + 1 → AllByRecursion (λ q. q ≤ greatest) qs → AllByRecursion (λ q. (q + 1) * 2 ^ k ≤ most + 1) qs
+all_within k greatest most qs within h =
+    weaker (λ q. q ≤ greatest) (λ q. (q + 1) * 2 ^ k ≤ most + 1) (λ q le. (let p = mul-le (q + 1) (2 ^ k) (greatest + 1) (2 ^ k) (omega arith) (omega arith) in omega arith)) qs h
+
+pub within_here : (k most i : ℕ) (qs : List ℕ) → i < length qs → AllByRecursion (λ q. (q + 1) * 2 ^ k ≤ most + 1) (drop i qs) → ((get_or qs i 0 + 1) * 2 ^ k ≤ most + 1) × AllByRecursion (λ q. (q + 1) * 2 ^ k ≤ most + 1) (drop (suc i) qs)
+within_here k most i qs lt h = rw (drop-cons qs i 0) at h
+
+pub within_behind : (k most i v : ℕ) (qs : List ℕ) → AllByRecursion (λ q. (q + 1) * 2 ^ k ≤ most + 1) (drop (suc i) qs) → AllByRecursion (λ q. (q + 1) * 2 ^ k ≤ most + 1) (drop (i + 1) (set qs i v))
+within_behind k most i v qs h =
+    let next : i + 1 ≡ suc i = omega arith in
+    let back : drop (suc i) (set qs i v) ≡ drop (suc i) qs = drop-set-lt (suc i) qs i v (omega arith) in
+    rw (next, back) h
 
 -- ---- a look
 
-pub looked : (n word : ℕ) (left after : List Bool) → n ≤ 56 → n ≤ length left → left ≡ bits_of n word ++ after → IsAhead (record { peeked = n; known = n; word = word }) left
+pub looked : (n word : ℕ) (left after : List Bool) → n ≤ 57 → n ≤ length left → left ≡ bits_of n word ++ after → IsAhead (record { peeked = n; known = n; word = word }) left
 looked n word left after most enough is =
     let none : n - n ≡ 0 = omega arith in
     let behind : drop n left ≡ after = ap (drop n) is ∙ drop_at (bits_of n word) after n (length-bits_of n word) in
@@ -121,8 +134,12 @@ looked n word left after most enough is =
       bits = ap (λ (k : ℕ). drop k left) none ∙ is ∙ ap (λ (x : List Bool). bits_of n word ++ x) (sym behind);
     }
 
-pub taken : (n word : ℕ) (left after : List Bool) → left ≡ bits_of n word ++ after → after ≡ drop n left
-taken n word left after is = sym (ap (drop n) is ∙ drop_at (bits_of n word) after n (length-bits_of n word))
+pub looked_word : (left : List Bool) (word : ℕ) → word < 2 ^ 64 → IsFront 57 left word → 57 ≤ length left → IsAhead (record { peeked = 57; known = 57; word = word / 2 ^ 7 }) left × IsWord (record { peeked = 57; known = 57; word = word / 2 ^ 7 })
+looked_word left word below h enough =
+    (looked 57 (word / 2 ^ 7) left (drop 57 left) (omega arith) enough (h 57 (omega arith)), record { few = omega arith; below = shr_below word 57 7 below })
+
+pub looked_nowhere : (left : List Bool) → IsAhead (record { peeked = 0; known = 0; word = 0 }) left
+looked_nowhere left = looked 0 0 left left (omega arith) (omega arith) (ap (λ (x : List Bool). x ++ left) (sym (no_bits 0)))
 
 -- ---- what they are read as
 
@@ -135,3 +152,19 @@ whole_read site k most q low v a b left lt is le h =
     let same : bits_of k v ≡ bits_of k low = ap (bits_of k) is ∙ bits_of-low k k q low (omega arith) in
     let again = low_again site k most v (drop (used b) left) le in
     rw h.text (rw (high, same) at again)
+
+-- ---- a look behind what was used
+
+abbrev pub Reading : Type 0
+Reading = List Bool → Result (ℕ × List Bool) Fault
+
+-- what is read out of the bits that were looked at anew
+pub read_fresh : (f : Reading) (m : ℕ) (was a b : Ahead) (old left : List Bool) → left ≡ drop (used was) old → used a ≡ 0 → f (drop (used a) left) ≡ Ok (m, drop (used b) left) → f (drop (used was) old) ≡ Ok (m, drop (used b) left)
+read_fresh f m was a b old left is unused e = ap f (sym is) ∙ ap (λ (n : ℕ). f (drop n left)) (sym unused) ∙ e
+
+-- what is read by itself, before a look at the bits behind it
+pub read_alone : (f : Reading) (m : ℕ) (was b : Ahead) (old left after : List Bool) → left ≡ drop (used was) old → used b ≡ 0 → f left ≡ Ok (m, after) → f (drop (used was) old) ≡ Ok (m, drop (used b) after)
+read_alone f m was b old left after is unused e = ap f (sym is) ∙ e ∙ ap (λ (n : ℕ). Ok (m, drop n after)) (sym unused)
+
+pub read_refused : (f : Reading) (e : Fault) (was : Ahead) (old left : List Bool) → left ≡ drop (used was) old → f left ≡ Err e → f (drop (used was) old) ≡ Err e
+read_refused f e was old left is bad = ap f (sym is) ∙ bad

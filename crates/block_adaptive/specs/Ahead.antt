@@ -9,18 +9,17 @@ used a = a.peeked - a.known
 
 -- the number has no more bits than aren't used
 pub record IsWord (a : Ahead) : Type 0 where
-  pub few : a.known ≤ 56
+  pub few : a.known ≤ 57
   pub below : a.word < 2 ^ a.known
 
 -- the bits that were looked at are the next ones
 pub record IsAhead (a : Ahead) (left : List Bool) : Type 0 where
   pub few : a.known ≤ a.peeked
-  pub most : a.peeked ≤ 56
+  pub most : a.peeked ≤ 57
   pub enough : a.peeked ≤ length left
   pub bits : drop (used a) left ≡ bits_of a.known a.word ++ drop a.peeked left
 
 -- these bits are used too
 pub record Uses (a b : Ahead) (bits left : List Bool) : Type 0 where
   pub ahead : IsAhead b left
-  pub word : IsWord b
   pub text : drop (used a) left ≡ bits ++ drop (used b) left

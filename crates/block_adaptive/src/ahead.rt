@@ -1,6 +1,6 @@
 //! The next bits, as a number: one look at them serves several codes.
 
-ghost use Rattle.std.specs.Prelude.{◌≡◌, ◌≤◌, ◌<◌, ◌^◌, ◌*◌, ◌+◌, ℕ, List, Bool, drop, IfSome};
+ghost use Rattle.std.specs.Prelude.{◌≡◌, ◌≤◌, ◌<◌, ◌^◌, ℕ, List, Bool, drop, IfSome};
 ghost use Rattle.header_bits.specs.Bits.{bits_of, fundamental};
 ghost use Rattle.block_adaptive.specs.Ahead.{IsAhead, IsWord, Uses, used};
 
@@ -13,24 +13,28 @@ pub(crate) struct Ahead {
     peeked: u32,
     /// How many of them aren't used yet.
     known: u32,
-    /// The number in those bits.
+    /// A number whose lowest bits are those.
     word: u64,
 }
 
-/// Returns the next 56 bits, or as many as are left.
+/// Returns the next 57 bits, or none if fewer are left.
 #[inline(always)]
 pub(crate) fn look_ahead(reader: &BitReader) -> Ahead
     ensures ahead { IsAhead result reader.now.left }
     ensures word { IsWord result }
     ensures unused { used result ≡ 0 }
 {
-    let known = reader.left().min(56) as u32;
-    let mut copy = reader.fork();
-    let word = copy.take(known).unwrap();
-    Ahead {
-        peeked: known,
-        known,
-        word,
+    match reader.peek() {
+        Some(word) => Ahead {
+            peeked: 57,
+            known: 57,
+            word: word >> 7,
+        },
+        None => Ahead {
+            peeked: 0,
+            known: 0,
+            word: 0,
+        },
     }
 }
 
@@ -41,7 +45,7 @@ pub(crate) fn take_used(reader: &mut BitReader, ahead: Ahead)
     ensures left { reader.new.left ≡ drop (used ahead) reader.old.left }
     ensures count { reader.new.count ≡ reader.old.count }
 {
-    reader.take(ahead.peeked - ahead.known).unwrap();
+    reader.skip(u64::from(ahead.peeked - ahead.known));
 }
 
 /// Returns the fundamental sequence that comes next and the bits after it, if it ends within the bits ahead and
@@ -49,7 +53,7 @@ pub(crate) fn take_used(reader: &mut BitReader, ahead: Ahead)
 #[inline(always)]
 pub(crate) fn code_ahead(ahead: Ahead, most: u16) -> Option<(u16, Ahead)>
     requires { IsWord ahead }
-    ensures { IfSome result (λ p. (p.0 ≤ most) × ((left : List Bool) → IsAhead ahead left → Uses ahead p.1 (fundamental p.0) left)) }
+    ensures { IfSome result (λ p. (p.0 ≤ most) × IsWord p.1 × ((left : List Bool) → IsAhead ahead left → Uses ahead p.1 (fundamental p.0) left)) }
 {
     if ahead.word == 0 {
         return None;
@@ -69,30 +73,24 @@ pub(crate) fn code_ahead(ahead: Ahead, most: u16) -> Option<(u16, Ahead)>
     ))
 }
 
-/// Returns the value made of a quotient and the low bits that come next, and the bits after these, if they are
-/// ahead and the value is at most `most`.
+/// Returns the number in the `k` bits that come next, and the bits after these, if they are ahead.
 #[inline(always)]
-pub(crate) fn whole_ahead(ahead: Ahead, k: u32, most: u16, quotient: u16) -> Option<(u16, Ahead)>
+pub(crate) fn low_ahead(ahead: Ahead, k: u32) -> Option<(u16, Ahead)>
     requires depth { k ≤ 15 }
-    requires word { IsWord ahead }
-    ensures { IfSome result (λ p. (p.0 ≤ most) × ((left : List Bool) → IsAhead ahead left → (low : ℕ) × (low < 2 ^ k) × (p.0 ≡ quotient * 2 ^ k + low)
-        × Uses ahead p.1 (bits_of k low) left)) }
+    requires few { ahead.known ≤ 57 }
+    ensures { IfSome result (λ p. (p.0 < 2 ^ k) × ((left : List Bool) → IsAhead ahead left → Uses ahead p.1 (bits_of k p.0) left)) }
 {
     if ahead.known < k {
         return None;
     }
     let known = ahead.known - k;
-    let low = ahead.word >> known;
-    let value = (u64::from(quotient) << k) + low;
-    if value > u64::from(most) {
-        return None;
-    }
+    let low = (ahead.word >> known) & ((1 << k) - 1);
     Some((
-        value as u16,
+        low as u16,
         Ahead {
             peeked: ahead.peeked,
             known,
-            word: ahead.word - (low << known),
+            word: ahead.word,
         },
     ))
 }

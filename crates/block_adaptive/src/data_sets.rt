@@ -1,13 +1,15 @@
 //! Reading one coded data set: a block under its option, or a run of zero blocks (CCSDS 121.0-B, "Coded data set").
 
-ghost use Rattle.std.specs.Prelude.{◌≡◌, ◌≤◌, ◌<◌, ◌^◌, ◌-◌, ℕ, List, length, IfErr, IfOk, Ok, Err, ◌%◌, ◌++◌, Bool};
+ghost use Rattle.std.specs.Prelude.{◌≡◌, ◌≤◌, ◌<◌, ◌^◌, ◌+◌, ◌-◌, ◌*◌, ℕ, List, length, drop, IfErr, IfOk, Ok, Err, ◌%◌, ◌++◌, Bool};
+ghost use Rattle.std.specs.List.{AllByRecursion};
 ghost use Rattle.header_bits.specs.Reading.{Reads};
+ghost use Rattle.block_adaptive.specs.Ahead.{IsAhead, IsWord, used};
 ghost use Rattle.block_adaptive.specs.Options.{width, greatest_value};
 ghost use Rattle.block_adaptive.specs.Reading.{site_of, fundamental_at, quotients_at, low_at, lows_at, split_at, words_at, run_at, data_set_at};
 ghost use Rattle.block_adaptive.specs.DataSets.{CodedDataSet, spelled, IsCodedDataSet};
 ghost use Rattle.block_adaptive.specs.Told.{told};
 
-use crate::ahead::{code_ahead, look_ahead, take_used, whole_ahead};
+use crate::ahead::{Ahead, code_ahead, look_ahead, low_ahead, take_used};
 use crate::choice::identifier_width;
 use crate::found::Found;
 use crate::options::{Choice, CodeSet};
@@ -42,13 +44,35 @@ fn quotients(reader: &mut BitReader, block: u64, most: u16, values: &mut [u16]) 
             *value = quotient;
             ahead = next;
         } else {
-            take_used(reader, ahead);
-            *value = fundamental(reader, block, u64::from(most))? as u16;
-            ahead = look_ahead(reader);
+            let (quotient, next) = next_code(reader, block, most, ahead)?;
+            *value = quotient;
+            ahead = next;
         }
     }
     take_used(reader, ahead);
     Ok(())
+}
+
+/// Reads the fundamental sequence behind the used bits, and looks ahead anew.
+#[inline(always)]
+fn next_code(
+    reader: &mut BitReader,
+    block: u64,
+    most: u16,
+    ahead: Ahead,
+) -> Result<(u16, Ahead), Fault>
+    requires { IsAhead ahead reader.old.left }
+    ensures found { IfOk result (λ p. IsWord p.1 × IsAhead p.1 reader.new.left
+        × (fundamental_at (site_of reader.old block) most (drop (used ahead) reader.old.left) ≡ Ok (p.0, drop (used p.1) reader.new.left))) }
+    ensures fault { IfErr result (λ fault. fundamental_at (site_of reader.old block) most (drop (used ahead) reader.old.left) ≡ Err fault) }
+    ensures count { reader.new.count ≡ reader.old.count }
+{
+    take_used(reader, ahead);
+    if let Some(found) = code_ahead(look_ahead(reader), most) {
+        return Ok(found);
+    }
+    let quotient = fundamental(reader, block, u64::from(most))? as u16;
+    Ok((quotient, look_ahead(reader)))
 }
 
 /// Reads the low bits that come next, and returns the value made of a quotient and them.
@@ -79,19 +103,65 @@ fn lows(
     ensures read { Reads (λ _. values.new) result reader.new.left (lows_at (site_of reader.old block) k most values.old reader.old.left) }
     ensures count { reader.new.count ≡ reader.old.count }
 {
+    for value in values.iter_mut() {
+        *value = whole(reader, block, k, most, *value)?;
+    }
+    Ok(())
+}
+
+/// Reads the low bits of each value, whose quotient is known and allows any low bits.
+fn lows_within(
+    reader: &mut BitReader,
+    block: u64,
+    k: u32,
+    most: u16,
+    values: &mut [u16],
+) -> Result<(), Fault>
+    requires depth { k ≤ 15 }
+    requires within { AllByRecursion (λ q. (q + 1) * 2 ^ k ≤ most + 1) values.old }
+    ensures read { Reads (λ _. values.new) result reader.new.left (lows_at (site_of reader.old block) k most values.old reader.old.left) }
+    ensures count { reader.new.count ≡ reader.old.count }
+{
     let mut ahead = look_ahead(reader);
     for value in values.iter_mut() {
-        if let Some((known, next)) = whole_ahead(ahead, k, most, *value) {
-            *value = known;
+        if let Some((low, next)) = low_ahead(ahead, k) {
+            *value = (*value << k) + low;
             ahead = next;
         } else {
-            take_used(reader, ahead);
-            *value = whole(reader, block, k, most, *value)?;
-            ahead = look_ahead(reader);
+            let (known, next) = next_whole(reader, block, k, most, *value, ahead)?;
+            *value = known;
+            ahead = next;
         }
     }
     take_used(reader, ahead);
     Ok(())
+}
+
+/// Reads the low bits behind the used bits, and looks ahead anew. Returns the value made of a quotient, which
+/// allows any low bits, and them.
+#[inline(always)]
+fn next_whole(
+    reader: &mut BitReader,
+    block: u64,
+    k: u32,
+    most: u16,
+    quotient: u16,
+    ahead: Ahead,
+) -> Result<(u16, Ahead), Fault>
+    requires depth { k ≤ 15 }
+    requires within { (quotient + 1) * 2 ^ k ≤ most + 1 }
+    requires ahead { IsAhead ahead reader.old.left }
+    ensures found { IfOk result (λ p. IsAhead p.1 reader.new.left
+        × (low_at (site_of reader.old block) k most quotient (drop (used ahead) reader.old.left) ≡ Ok (p.0, drop (used p.1) reader.new.left))) }
+    ensures fault { IfErr result (λ fault. low_at (site_of reader.old block) k most quotient (drop (used ahead) reader.old.left) ≡ Err fault) }
+    ensures count { reader.new.count ≡ reader.old.count }
+{
+    take_used(reader, ahead);
+    if let Some((low, next)) = low_ahead(look_ahead(reader), k) {
+        return Ok(((quotient << k) + low, next));
+    }
+    let known = whole(reader, block, k, most, quotient)?;
+    Ok((known, look_ahead(reader)))
 }
 
 /// Reads a block under a split-sample option.
@@ -107,8 +177,13 @@ fn split(
     ensures read { Reads (λ _. values.new) result reader.new.left (split_at (site_of reader.old block) k most (length values.old) reader.old.left) }
     ensures count { reader.new.count ≡ reader.old.count }
 {
-    quotients(reader, block, most >> k, values)?;
-    lows(reader, block, k, most, values)
+    let greatest = most >> k;
+    quotients(reader, block, greatest, values)?;
+    if (u32::from(greatest) + 1) << k <= u32::from(most) + 1 {
+        lows_within(reader, block, k, most, values)
+    } else {
+        lows(reader, block, k, most, values)
+    }
 }
 
 /// Reads a run code, and returns its run of zero blocks.

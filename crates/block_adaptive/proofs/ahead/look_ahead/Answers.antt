@@ -1,8 +1,15 @@
 use Rattle.std.proofs.Common.{arith}
-use Rattle.block_adaptive.proofs.Looking.{looked}
+use Rattle.header_bits.proofs.Ahead.{ahead_length}
+use Rattle.block_adaptive.proofs.Looking.{looked_word, looked_nowhere}
 use Rattle.block_adaptive.proofs.ahead.look_ahead.Goals as goal
 
-pub returns-clause-ahead : goal.returns-clause-ahead
-returns-clause-ahead c =
-    looked c.min-known.result c.unwrap-word.result c.args.reader.now.left c.take.new.self.left (omega (arith, c.min-known.ensures)) (omega (arith, c.min-known.ensures, c.left.ensures))
-    (rw (← c.fork-copy.ensures) (rw c.unwrap-word.ensures at c.take.ensures.taken))
+pub returns-in-Some-clause-ahead : goal.returns-in-Some-clause-ahead
+returns-in-Some-clause-ahead c =
+    (looked_word c.args.reader.now.left c.in-Some.word (omega arith) c.in-Some.ensures.bits (ahead_length 57 c.args.reader.now.left c.in-Some.word c.in-Some.ensures.bits)).0
+
+pub returns-in-Some-clause-word : goal.returns-in-Some-clause-word
+returns-in-Some-clause-word c =
+    (looked_word c.args.reader.now.left c.in-Some.word (omega arith) c.in-Some.ensures.bits (ahead_length 57 c.args.reader.now.left c.in-Some.word c.in-Some.ensures.bits)).1
+
+pub returns-in-None-clause-ahead : goal.returns-in-None-clause-ahead
+returns-in-None-clause-ahead c = looked_nowhere c.args.reader.now.left

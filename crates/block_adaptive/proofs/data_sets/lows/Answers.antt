@@ -1,11 +1,13 @@
-use Rattle.std.proofs.Common.{◌≡◌, ◌∙◌, ◌<◌, length, drop, get_or, arith}
+use Rattle.std.proofs.Common.{◌≡◌, ◌∙◌, ◌<◌, length, refl, arith}
 use Rattle.std.proofs.lemmas.Result.{err_from_is_err_and}
-use Rattle.block_adaptive.specs.Ahead.{used}
 use Rattle.block_adaptive.specs.Reading.{Site, site_of, low_at}
-use Rattle.block_adaptive.proofs.Each.{each_at, Reader, each_more, each_ends, each_done, lows_each}
-use Rattle.block_adaptive.proofs.Looking.{whole_read}
+use Rattle.block_adaptive.proofs.Each.{each_at, Reader, each_start, each_more, each_ends, each_done, lows_each}
 use Rattle.block_adaptive.proofs.data_sets.lows.Goals as goal
-use Rattle.block_adaptive.proofs.data_sets.lows.Goals.{in-Some, in_default+in_ok-value}
+
+pub loop-value-init : goal.loop-value-init
+loop-value-init c =
+    let site : Site = site_of c.args.reader.now c.args.block in
+    record { read = each_start (low_at site c.args.k c.args.most) c.args.values.now c.args.reader.now.left; count = refl }
 
 pub returns-in_err-value-clause-read : goal.returns-in_err-value-clause-read
 returns-in_err-value-clause-read c =
@@ -13,37 +15,23 @@ returns-in_err-value-clause-read c =
     let site : Site = site_of c.args.reader.now c.args.block in
     let f : Reader = low_at site c.args.k c.args.most in
     let lt : c.loop-value.value-index < length c.loop-value.values = omega arith in
-    let one = rw (c.take_used.ensures.count, c.loop-value.invariant.count, c.take_used.ensures.left) at c.in_err-value.ensures.read in
-    rw (p.1, p.2) (lows_each site c.args.k c.args.most c.args.values.now c.args.reader.now.left ∙ each_ends f c.loop-value.values c.loop-value.value-index c.in_err-value.field-0.0 (drop (used c.loop-value.ahead) c.loop-value.reader.left) (each_at f c.args.values.now c.args.reader.now.left) lt one c.loop-value.invariant.read)
+    let one = rw c.loop-value.invariant.count at c.in_err-value.ensures.read in
+    rw (p.1, p.2) (lows_each site c.args.k c.args.most c.args.values.now c.args.reader.now.left ∙ each_ends f c.loop-value.values c.loop-value.value-index c.in_err-value.field-0.0 c.loop-value.reader.left (each_at f c.args.values.now c.args.reader.now.left) lt one c.loop-value.invariant.read)
 
 pub loop-value-preserved : goal.loop-value-preserved
 loop-value-preserved c =
     let site : Site = site_of c.args.reader.now c.args.block in
     let f : Reader = low_at site c.args.k c.args.most in
     let lt : c.loop-value.value-index < length c.loop-value.values = omega arith in
-    elim c.match-whole_ahead.branch [
-      | in-Some w ↦
-          (let found = w.in-Some.ensures.1 c.loop-value.reader.left c.loop-value.invariant.ahead in
-          let one = whole_read site c.args.k c.args.most (get_or c.loop-value.values c.loop-value.value-index 0) found.0 w.in-Some.known c.loop-value.ahead w.in-Some.next c.loop-value.reader.left found.1 found.2 w.in-Some.ensures.0 found.3 in
-          rw (w.reader-is, w.values-is, w.ahead-is) (record {
-            ahead = found.3.ahead;
-            word = found.3.word;
-            read = each_more f c.loop-value.values c.loop-value.value-index w.in-Some.known (drop (used c.loop-value.ahead) c.loop-value.reader.left) (drop (used w.in-Some.next) c.loop-value.reader.left) (each_at f c.args.values.now c.args.reader.now.left) lt one c.loop-value.invariant.read;
-            count = c.loop-value.invariant.count;
-          }))
-      | in_default+in_ok-value w ↦
-          (let one = rw (w.take_used.ensures.count, c.loop-value.invariant.count, w.take_used.ensures.left) at w.in_ok-value.ensures.read in
-          rw (w.reader-is, w.values-is, w.ahead-is) (record {
-            ahead = w.look_ahead-ahead-in_default.ensures.ahead;
-            word = w.look_ahead-ahead-in_default.ensures.word;
-            read = rw w.look_ahead-ahead-in_default.ensures.unused (each_more f c.loop-value.values c.loop-value.value-index w.in_ok-value.field-0 (drop (used c.loop-value.ahead) c.loop-value.reader.left) w.whole.new.reader.left (each_at f c.args.values.now c.args.reader.now.left) lt one c.loop-value.invariant.read);
-            count = w.in_ok-value.ensures.count ∙ w.take_used.ensures.count ∙ c.loop-value.invariant.count;
-          }))
-    ]
+    let one = rw c.loop-value.invariant.count at c.in_ok-value.ensures.read in
+    record {
+      read = each_more f c.loop-value.values c.loop-value.value-index c.in_ok-value.field-0 c.loop-value.reader.left c.whole.new.reader.left (each_at f c.args.values.now c.args.reader.now.left) lt one c.loop-value.invariant.read;
+      count = c.in_ok-value.ensures.count ∙ c.loop-value.invariant.count;
+    }
 
 pub returns-clause-read : goal.returns-clause-read
 returns-clause-read c =
     let site : Site = site_of c.args.reader.now c.args.block in
     let f : Reader = low_at site c.args.k c.args.most in
     let same : c.loop-value.value-index ≡ length c.loop-value.values = omega arith in
-    rw c.take_used-2.ensures.left (lows_each site c.args.k c.args.most c.args.values.now c.args.reader.now.left ∙ each_done f c.loop-value.values c.loop-value.value-index (drop (used c.loop-value.ahead) c.loop-value.reader.left) (each_at f c.args.values.now c.args.reader.now.left) same c.loop-value.invariant.read)
+    lows_each site c.args.k c.args.most c.args.values.now c.args.reader.now.left ∙ each_done f c.loop-value.values c.loop-value.value-index c.loop-value.reader.left (each_at f c.args.values.now c.args.reader.now.left) same c.loop-value.invariant.read

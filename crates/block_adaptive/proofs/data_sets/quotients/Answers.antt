@@ -5,16 +5,16 @@ use Rattle.block_adaptive.specs.Reading.{Site, site_of, fundamental_at}
 use Rattle.block_adaptive.proofs.Each.{each_at, Reader, each_more, each_ends, each_done, quotients_each}
 use Rattle.block_adaptive.proofs.Looking.{code_read}
 use Rattle.block_adaptive.proofs.data_sets.quotients.Goals as goal
-use Rattle.block_adaptive.proofs.data_sets.quotients.Goals.{in-Some, in_default+in_ok-value}
+use Rattle.block_adaptive.proofs.data_sets.quotients.Goals.{in-Some, in_default+in_ok-quotient}
 
-pub returns-in_err-value-clause-read : goal.returns-in_err-value-clause-read
-returns-in_err-value-clause-read c =
+pub returns-in_err-quotient-clause-read : goal.returns-in_err-quotient-clause-read
+returns-in_err-quotient-clause-read c =
     let p = err_from_is_err_and c.from_residual.result c.from_residual.ensures.1 in
     let site : Site = site_of c.args.reader.now c.args.block in
     let f : Reader = λ _ left. fundamental_at site c.args.most left in
     let lt : c.loop-value.value-index < length c.loop-value.values = omega arith in
-    let one = rw (c.take_used.ensures.count, c.loop-value.invariant.count, c.take_used.ensures.left, c.from.ensures) at c.in_err-value.ensures.read in
-    rw (p.1, p.2) (quotients_each site c.args.most c.args.values.now c.args.reader.now.left ∙ each_ends f c.loop-value.values c.loop-value.value-index c.in_err-value.field-0.0 (drop (used c.loop-value.ahead) c.loop-value.reader.left) (each_at f c.args.values.now c.args.reader.now.left) lt one c.loop-value.invariant.read)
+    let one = rw c.loop-value.invariant.count at c.in_err-quotient.ensures.fault in
+    rw (p.1, p.2) (quotients_each site c.args.most c.args.values.now c.args.reader.now.left ∙ each_ends f c.loop-value.values c.loop-value.value-index c.in_err-quotient.field-0.0 (drop (used c.loop-value.ahead) c.loop-value.reader.left) (each_at f c.args.values.now c.args.reader.now.left) lt one c.loop-value.invariant.read)
 
 pub loop-value-preserved : goal.loop-value-preserved
 loop-value-preserved c =
@@ -23,21 +23,21 @@ loop-value-preserved c =
     let lt : c.loop-value.value-index < length c.loop-value.values = omega arith in
     elim c.match-code_ahead.branch [
       | in-Some w ↦
-          (let uses = w.in-Some.ensures.1 c.loop-value.reader.left c.loop-value.invariant.ahead in
+          (let uses = w.in-Some.ensures.2 c.loop-value.reader.left c.loop-value.invariant.ahead in
           let one = code_read site c.args.most w.in-Some.quotient c.loop-value.ahead w.in-Some.next c.loop-value.reader.left w.in-Some.ensures.0 uses in
           rw (w.reader-is, w.values-is, w.ahead-is) (record {
             ahead = uses.ahead;
-            word = uses.word;
+            word = w.in-Some.ensures.1;
             read = each_more f c.loop-value.values c.loop-value.value-index w.in-Some.quotient (drop (used c.loop-value.ahead) c.loop-value.reader.left) (drop (used w.in-Some.next) c.loop-value.reader.left) (each_at f c.args.values.now c.args.reader.now.left) lt one c.loop-value.invariant.read;
             count = c.loop-value.invariant.count;
           }))
-      | in_default+in_ok-value w ↦
-          (let one = rw (w.take_used.ensures.count, c.loop-value.invariant.count, w.take_used.ensures.left, w.from.ensures) at w.in_ok-value.ensures.read in
+      | in_default+in_ok-quotient w ↦
+          (let one = rw c.loop-value.invariant.count at w.in_ok-quotient.ensures.found.2 in
           rw (w.reader-is, w.values-is, w.ahead-is) (record {
-            ahead = w.look_ahead-ahead-in_default.ensures.ahead;
-            word = w.look_ahead-ahead-in_default.ensures.word;
-            read = rw w.look_ahead-ahead-in_default.ensures.unused (each_more f c.loop-value.values c.loop-value.value-index w.in_ok-value.field-0 (drop (used c.loop-value.ahead) c.loop-value.reader.left) w.fundamental.new.reader.left (each_at f c.args.values.now c.args.reader.now.left) lt one c.loop-value.invariant.read);
-            count = w.in_ok-value.ensures.count ∙ w.take_used.ensures.count ∙ c.loop-value.invariant.count;
+            ahead = w.in_ok-quotient.ensures.found.1;
+            word = w.in_ok-quotient.ensures.found.0;
+            read = each_more f c.loop-value.values c.loop-value.value-index w.in_ok-quotient.quotient (drop (used c.loop-value.ahead) c.loop-value.reader.left) (drop (used w.in_ok-quotient.next) w.next_code.new.reader.left) (each_at f c.args.values.now c.args.reader.now.left) lt one c.loop-value.invariant.read;
+            count = w.in_ok-quotient.ensures.count ∙ c.loop-value.invariant.count;
           }))
     ]
 
@@ -46,4 +46,4 @@ returns-clause-read c =
     let site : Site = site_of c.args.reader.now c.args.block in
     let f : Reader = λ _ left. fundamental_at site c.args.most left in
     let same : c.loop-value.value-index ≡ length c.loop-value.values = omega arith in
-    rw c.take_used-2.ensures.left (quotients_each site c.args.most c.args.values.now c.args.reader.now.left ∙ each_done f c.loop-value.values c.loop-value.value-index (drop (used c.loop-value.ahead) c.loop-value.reader.left) (each_at f c.args.values.now c.args.reader.now.left) same c.loop-value.invariant.read)
+    rw c.take_used.ensures.left (quotients_each site c.args.most c.args.values.now c.args.reader.now.left ∙ each_done f c.loop-value.values c.loop-value.value-index (drop (used c.loop-value.ahead) c.loop-value.reader.left) (each_at f c.args.values.now c.args.reader.now.left) same c.loop-value.invariant.read)
