@@ -22,6 +22,7 @@ pub mod Looking
 pub mod Twos
 pub mod Streaming
 pub mod Handed
+pub mod Runs
 pub mod Emits
 pub mod Gathers
 pub mod Packing

@@ -1,5 +1,6 @@
 -- What a reader of blocks holds, and which numbers it has given.
 use Rattle.std.specs.Prelude.{ℕ, ◌≡◌, ◌+◌, ◌-◌, ◌*◌, ◌^◌, ◌<◌, Bool, List, [], ◌∷◌, ◌++◌, length, Result, Ok, Err, MatchResult, Option, None}
+use Rattle.std.specs.List.{AllByRecursion}
 use Rattle.cube_core.specs.declared.fault.Fault.{Fault}
 use Rattle.cube_core.specs.Steps.{◌>>=◌}
 use Rattle.header_bits.specs.Bits.{Unread}
@@ -43,10 +44,26 @@ given_count v = v.block * v.cut.size - length v.held
 abbrev pub GivesFirst : Unpacked → ℕ → Unpacked → Type 0
 GivesFirst v value new = (v.held ≡ value ∷ new.held) × (new ≡ record v { held = new.held })
 
+-- the first values in hand were given
+abbrev pub GivesFront : Unpacked → List ℕ → Unpacked → Type 0
+GivesFront v values new = (v.held ≡ values ++ new.held) × (new ≡ record v { held = new.held })
+
 -- what was given before, and one number more, in range; the bits between were read. Or the refusal is that of the whole body
 abbrev pub GivesNext : Unpacked → Unread → Result ℕ Fault → Unpacked → List Bool → Type 0
 GivesNext old reader result new left =
     (given : List ℕ) (bits : List Bool) → HasGiven old given bits
     → MatchResult result (λ value. (value < 2 ^ old.cut.set.bits) × (read : List Bool) × (reader.left ≡ read ++ left)
     × HasGiven new (given ++ value ∷ []) (bits ++ read))
+    (λ fault. data_sets_at reader.count old.cut old.cut.count 0 (bits ++ reader.left) ≡ Err fault)
+
+-- bits were read, and with them these numbers more are given, each in range
+abbrev pub GivesAll : Unpacked → List ℕ → List Bool → List Bool → Unpacked → List Bool → List ℕ → Type 0
+GivesAll old given bits unread new left list =
+    AllByRecursion (λ v. v < 2 ^ old.cut.set.bits) list × (read : List Bool) × (unread ≡ read ++ left) × HasGiven new (given ++ list) (bits ++ read)
+
+-- whatever was given before: these numbers more are given. Or the refusal is that of the whole body
+abbrev pub GivesRun : Unpacked → Unread → Result (Unit {0}) Fault → Unpacked → List Bool → List ℕ → Type 0
+GivesRun old reader result new left list =
+    (given : List ℕ) (bits : List Bool) → HasGiven old given bits
+    → MatchResult result (λ _. GivesAll old given bits reader.left new left list)
     (λ fault. data_sets_at reader.count old.cut old.cut.count 0 (bits ++ reader.left) ≡ Err fault)

@@ -1,12 +1,13 @@
 //! A reader of blocks, which returns their values one after another.
 
-ghost use Rattle.std.specs.Prelude.{◌≡◌, ◌+◌, ◌%◌, ◌<◌, ◌≤◌, [], ◌∷◌, Ok, Err, Some, None, IfOk, IfErr, OnErr, MatchResult, length};
+ghost use Rattle.std.specs.Prelude.{◌≡◌, ℕ, ◌+◌, ◌%◌, ◌<◌, ◌≤◌, Bool, List, [], ◌∷◌, ◌++◌, Ok, Err, Some, None, IfOk, IfErr, OnErr, MatchResult, length, take};
 ghost use Rattle.cube_core.specs.declared.fault.Fault.{Fault};
 ghost use Rattle.header_bits.specs.Reading.{Reads};
 ghost use Rattle.block_adaptive.specs.DataSets.{Cut, left_at, capacity};
 ghost use Rattle.cube_core.specs.Shape.{sample_count};
 ghost use Rattle.block_adaptive.specs.Settings.{AreForBlocks, IsCutOf, cut_by};
-ghost use Rattle.block_adaptive.specs.Given.{Unpacked, given_count, GivesFirst, GivesNext, HasGiven, next_data_set, in_hand};
+ghost use Rattle.block_adaptive.specs.Given.{Unpacked, given_count, GivesFirst, GivesFront, GivesNext, GivesAll, GivesRun, HasGiven, next_data_set, in_hand};
+ghost use Rattle.block_adaptive.specs.Reading.{data_sets_at};
 
 use crate::data_sets::read_data_set;
 use crate::found::Found;
@@ -122,6 +123,58 @@ impl BlockReader {
         Ok(self.give())
     }
 
+    /// Writes the next numbers of the body to `numbers`: the same as so many calls of `next` return.
+    ///
+    /// With these, no more numbers are returned than all blocks have. Where no lawful data set comes next while
+    /// numbers are missing, the refusal is that of `next`; the bits then keep the position of that data set, what
+    /// is in `numbers` is unspecified, and every later call returns the same refusal. It allocates nothing.
+    pub fn next_run(&mut self, reader: &mut BitReader, numbers: &mut [u16]) -> Result<(), Fault>
+        requires { given_count self.old + length numbers.old ≤ capacity self.old.cut }
+        ensures given { GivesRun self.old reader.old result self.new reader.new.left numbers.new }
+        ensures again { (fault : Fault) → self.old.refused ≡ Some fault → result ≡ Err fault }
+        ensures kept { IfErr result (λ fault. self.new.refused ≡ Some fault) }
+        ensures stops { IfErr result (λ fault. self.old.refused ≡ None → (self.new.held ≡ []) × (next_data_set self.new reader.new ≡ Err fault)) }
+        ensures counted { IfOk result (λ _. given_count self.new ≡ given_count self.old + length numbers.old) }
+        ensures inside { self.new.block ≤ self.new.cut.count }
+        ensures count { reader.new.count ≡ reader.old.count }
+        ensures cut { self.new.cut ≡ self.old.cut }
+    {
+        if let Some(fault) = self.refused {
+            return Err(fault);
+        }
+        let mut done = 0;
+        while done < numbers.len() {
+            done += self.next_some(reader, &mut numbers[done..])?;
+        }
+        Ok(())
+    }
+
+    /// Writes the next numbers of the body to the front of `numbers`, and returns how many: those of one data set
+    /// for which there is room.
+    #[inline(always)]
+    fn next_some(&mut self, reader: &mut BitReader, numbers: &mut [u16]) -> Result<usize, Fault>
+        requires more { given_count self.old < capacity self.old.cut }
+        requires room { 0 < length numbers.old }
+        ensures given { IfOk result (λ n. (given : List ℕ) (bits : List Bool) → HasGiven self.old given bits
+            → GivesAll self.old given bits reader.old.left self.new reader.new.left (take n numbers.new)) }
+        ensures some { IfOk result (λ n. (0 < n) × (n ≤ length numbers.old)) }
+        ensures counted { IfOk result (λ n. given_count self.new ≡ given_count self.old + n) }
+        ensures working { IfOk result (λ _. self.new.refused ≡ self.old.refused) }
+        ensures body { IfErr result (λ fault. (given : List ℕ) (bits : List Bool) → HasGiven self.old given bits
+            → data_sets_at reader.old.count self.old.cut self.old.cut.count 0 (bits ++ reader.old.left) ≡ Err fault) }
+        ensures fault { IfErr result (λ fault. (self.old.held ≡ []) × (next_data_set self.old reader.old ≡ Err fault)) }
+        ensures kept { IfErr result (λ fault. self.new ≡ record self.old { refused = Some fault }) }
+        ensures same { OnErr result (reader.new ≡ reader.old) }
+        ensures inside { self.new.block ≤ self.new.cut.count }
+        ensures count { reader.new.count ≡ reader.old.count }
+        ensures cut { self.new.cut ≡ self.old.cut }
+    {
+        if self.zeros == 0 && self.at == self.size {
+            self.take_data_set(reader)?;
+        }
+        Ok(self.give_run(numbers))
+    }
+
     /// Reads the next coded data set, and keeps its values.
     #[inline(never)]
     fn take_data_set(&mut self, reader: &mut BitReader) -> Result<(), Fault>
@@ -192,6 +245,30 @@ impl BlockReader {
         } else {
             self.zeros -= 1;
             0
+        }
+    }
+
+    /// Moves the first values held to the front of `numbers`, and returns how many: as many as there is room for.
+    #[inline(always)]
+    fn give_run(&mut self, numbers: &mut [u16]) -> usize
+        requires held { 0 < length self.old.held }
+        requires room { 0 < length numbers.old }
+        ensures front { GivesFront self.old (take result numbers.new) self.new }
+        ensures some { (0 < result) × (result ≤ length numbers.old) }
+        ensures counted { given_count self.new ≡ given_count self.old + result }
+        ensures inside { self.new.block ≤ self.new.cut.count }
+    {
+        if self.at < self.size {
+            let at = self.at as usize;
+            let count = numbers.len().min((self.size - self.at) as usize);
+            numbers[..count].copy_from_slice(&self.values[at..at + count]);
+            self.at += count as u32;
+            count
+        } else {
+            let count = numbers.len().min(self.zeros as usize);
+            numbers[..count].fill(0);
+            self.zeros -= count as u32;
+            count
         }
     }
 }

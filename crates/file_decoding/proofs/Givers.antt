@@ -29,13 +29,13 @@ use Rattle.sample_adaptive.proofs.Taking.{taken_along}
 use Rattle.block_adaptive.specs.Settings.{IsBlock, IsCutOf, cut_by, coder_cut}
 use Rattle.block_adaptive.specs.Segments.{block_count}
 use Rattle.block_adaptive.specs.DataSets.{Cut, cut_of, blocks_told, values_of}
-use Rattle.block_adaptive.specs.Given.{Unpacked, given_count, GivesNext, HasGiven as HaveGiven}
+use Rattle.block_adaptive.specs.Given.{Unpacked, given_count, GivesNext, GivesRun, HasGiven as HaveGiven}
 use Rattle.block_adaptive.specs.Reading.{data_sets_at, block_body_at}
 use Rattle.file_coding.specs.Coding.{places_of, of_band, IsNumber}
 use Rattle.file_coding.proofs.Coders.{take_next, places_long, places_whole, samples_more, settings_bits, cut_bits}
 use Rattle.file_decoding.specs.declared.decoder.Decoder.{Decoder}
 use Rattle.file_decoding.specs.declared.decoder.Decoder.TheVariants.{Samples, Blocks}
-use Rattle.file_decoding.specs.Decoding.{HasGiven, MayAsk, GivesMore, GivesNumber}
+use Rattle.file_decoding.specs.Decoding.{HasGiven, MayAsk, GivesMore, GivesNumber, GivesEach}
 use Rattle.file_decoding.specs.Files.{IsBody, IsBodyBy, behind_by, behind_body}
 
 -- ---- lists
@@ -189,6 +189,21 @@ blocks_given (Ok value) z t place old new unread left gives kept counted inside 
       record { coder = h.coder; cut = there; room = room; inside = inside; given = did.3; count = count },
     )
 blocks_given (Err fault) z t place old new unread left gives kept counted inside p numbers bits lawful h next at =
+    block_behind p old.cut unread.count (bits ++ unread.left) h.coder h.cut ∙ rw (gives numbers bits h.given) refl
+
+pub blocks_run : (r : Result (Unit {0}) Fault) (zs ts : ℕ → ℕ) (place : ℕ) (old new : Unpacked) (unread : Unread) (left : List Bool) (was list : List ℕ) → length list ≡ length was → GivesRun old unread r new left list
+    → new.cut ≡ old.cut → IfOk r (λ _. given_count new ≡ given_count old + length was) → new.block ≤ new.cut.count → GivesEach zs ts place r (Blocks old) unread (Blocks new) left list
+blocks_run (Ok x) zs ts place old new unread left was list long gives kept counted inside p numbers bits lawful h ask at =
+    let did = gives numbers bits h.given in
+    let there : new.cut ≡ cut_by p = kept ∙ h.cut in
+    let room : IsCutOf (sample_count p.shape) new.cut = rw kept h.room in
+    let count : given_count new ≡ length (numbers ++ list) = omega (arith, counted, h.count, length-append numbers list) in (
+      subst (λ (b : ℕ). AllByRecursion (λ n. n < 2 ^ b) list) (cut_bits p old.cut h.cut) did.0,
+      did.1,
+      did.2,
+      record { coder = h.coder; cut = there; room = room; inside = inside; given = did.3; count = count },
+    )
+blocks_run (Err fault) zs ts place old new unread left was list long gives kept counted inside p numbers bits lawful h ask at =
     block_behind p old.cut unread.count (bits ++ unread.left) h.coder h.cut ∙ rw (gives numbers bits h.given) refl
 
 -- ---- by either

@@ -129,13 +129,7 @@ fn next_of_blocks(
     ensures count { reader.new.count ≡ reader.old.count }
     ensures long { length deltas.new ≡ length deltas.old }
 {
-    for i in 0..deltas.len() {
-        match blocks.next(reader) {
-            Ok(number) => deltas[i] = number,
-            Err(fault) => return Err(fault),
-        }
-    }
-    Ok(())
+    blocks.next_run(reader, deltas)
 }
 
 /// Returns the fault of a code word with its index in encoding order.
