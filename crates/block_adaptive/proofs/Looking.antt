@@ -1,19 +1,19 @@
 -- Codes and low bits among the bits ahead.
-use Rattle.std.proofs.Common.{◌≡◌, ◌≢◌, ℕ, suc, ◌+◌, ◌-◌, ◌*◌, ◌/◌, ◌%◌, ◌^◌, ◌<◌, ◌≤◌, Bool, List, ◌++◌, length, drop, set, get_or, refl, sym, ap, subst, ◌∙◌, inl, inr, append_assoc, arith, lit<, Result, Ok, Err, drop-cons}
-use Rattle.std.specs.List.{AllByRecursion}
+use Rattle.std.proofs.Common.{◌≡◌, ◌≢◌, ℕ, suc, ◌+◌, ◌-◌, ◌*◌, ◌/◌, ◌^◌, ◌<◌, ◌≤◌, Bool, List, ◌++◌, length, drop, refl, sym, ap, subst, ◌∙◌, inl, inr, append_assoc, arith, lit<, Result, Ok, Err}
 use Rattle.std.specs.Int.Count.{count_leading_zeros}
 use Rattle.std.proofs.lemmas.Bool.{cases_lt}
-use Rattle.std.proofs.lemmas.Nat.{leading_length, mul-le, div-mul-add, shr_below}
-use Rattle.std.proofs.lemmas.List.{drop-drop, drop_at, drop-set-lt}
-use Rattle.std.proofs.Math.Nat.{div-mul-le_self, mod-eq_of_lt, pow-succ', pow-le-pow_right}
+use Rattle.std.specs.Int.Bits.{bit_xor, xor_zero_r}
+use Rattle.std.proofs.lemmas.Nat.{leading_length, pow_pos, shr_below, xor_block}
+use Rattle.std.proofs.lemmas.List.{drop-drop, drop_at}
+use Rattle.std.proofs.Math.Nat.{pow-succ', pow-le-pow_right}
 use Rattle.cube_core.specs.declared.fault.Fault.{Fault}
 use Rattle.header_bits.specs.Bits.{bits_of, fundamental}
 use Rattle.header_bits.specs.Windows.{IsAhead as IsFront}
-use Rattle.header_bits.proofs.Numbers.{length-bits_of, no_bits, bits_of-add, bits_of-mod, bits_of-join, bits_of-low, bits_of-fundamental}
+use Rattle.header_bits.proofs.Numbers.{length-bits_of, no_bits, bits_of-join, bits_of-fundamental}
 use Rattle.block_adaptive.specs.declared.ahead.Ahead.{Ahead}
 use Rattle.block_adaptive.specs.Ahead.{IsAhead, IsWord, Uses, used}
-use Rattle.block_adaptive.specs.Reading.{Site, fundamental_at, low_at}
-use Rattle.block_adaptive.proofs.Codes.{fundamental_again, low_again, weaker}
+use Rattle.block_adaptive.specs.Reading.{Site, fundamental_at}
+use Rattle.block_adaptive.proofs.Codes.{fundamental_again}
 use Rattle.block_adaptive.proofs.Costs.{length-fundamental}
 
 -- the bits ahead are a text and what is ahead behind it
@@ -63,6 +63,15 @@ top_is word known below few some =
       most = omega arith;
     }
 
+-- without its first one
+pub top_cleared : (word j : ℕ) → 2 ^ j ≤ word → word < 2 ^ j + 2 ^ j → bit_xor word (2 ^ j) ≡ word - 2 ^ j
+top_cleared word j least most =
+    let r : ℕ = word - 2 ^ j in
+    let is : 1 * 2 ^ j + r ≡ word = omega arith in
+    let one : 1 * 2 ^ j + 0 ≡ 2 ^ j = omega arith in
+    let none : bit_xor 1 1 * 2 ^ j + r ≡ r = omega arith in
+    ap (λ (n : ℕ). bit_xor n (2 ^ j)) (sym is) ∙ ap (bit_xor (1 * 2 ^ j + r)) (sym one) ∙ xor_block j 1 1 r 0 (omega arith) (pow_pos j) ∙ ap (λ (n : ℕ). bit_xor 1 1 * 2 ^ j + n) (xor_zero_r r) ∙ none
+
 -- the code that ends with it
 pub code_used : (a : Ahead) (j : ℕ) (left : List Bool) → IsTop a.word a.known j → IsAhead a left → Uses a (record { peeked = a.peeked; known = j; word = a.word - 2 ^ j }) (fundamental (a.known - j - 1)) left
 code_used a j left top h =
@@ -77,49 +86,6 @@ code_used a j left top h =
 -- and what is ahead behind it
 pub code_word : (a : Ahead) (j : ℕ) → IsWord a → IsTop a.word a.known j → IsWord (record { peeked = a.peeked; known = j; word = a.word - 2 ^ j })
 code_word a j word top = record { few = omega (arith, word.few, top.inside); below = omega (arith, top.most, top.least) }
-
--- ---- low bits
-
-pub low_used : (a : Ahead) (k : ℕ) (left : List Bool) → k ≤ a.known → IsAhead a left
-    → Uses a (record { peeked = a.peeked; known = a.known - k; word = a.word }) (bits_of k (a.word / 2 ^ (a.known - k) % 2 ^ k)) left
-low_used a k left le h =
-    let n : ℕ = a.known - k in
-    let high : ℕ = a.word / 2 ^ n in
-    let size : k + n ≡ a.known = omega arith in
-    let is : bits_of a.known a.word ≡ bits_of k (high % 2 ^ k) ++ bits_of n a.word =
-    ap (λ (m : ℕ). bits_of m a.word) (sym size) ∙ bits_of-add k n a.word ∙ ap (λ (x : List Bool). x ++ bits_of n a.word) (sym (bits_of-mod k k high (omega arith))) in
-    uses a (record { peeked = a.peeked; known = n; word = a.word }) (bits_of k (high % 2 ^ k)) left refl (omega (arith, length-bits_of k (high % 2 ^ k))) is h
-
-pub low_few : (low k : ℕ) → low < 2 ^ k → k ≤ 15 → low < 32768
-low_few low k lt le = (let wide : 2 ^ k ≤ 32768 = pow_up k 15 le in omega arith)
-
--- a quotient that is small enough for any low bits: no bit is lost
-pub whole_small : (q k low most : ℕ) → most < 65536 → (q + 1) * 2 ^ k ≤ most + 1 → low < 2 ^ k → (q * 2 ^ k % 65536 ≡ q * 2 ^ k) × (q * 2 ^ k + low ≤ most)
-whole_small q k low most small within lt =
-    let parts : (q + 1) * 2 ^ k ≡ q * 2 ^ k + 2 ^ k = omega arith in
-    (mod-eq_of_lt (omega arith), omega arith)
-
--- nor in a test for the greatest
-pub greatest_shifted : (most k : ℕ) → most < 65536 → k ≤ 15 → (most / 2 ^ k + 1) * 2 ^ k % 4294967296 ≡ (most / 2 ^ k + 1) * 2 ^ k
-greatest_shifted most k small le =
-    let wide : 2 ^ k ≤ 32768 = pow_up k 15 le in
-    let under : most / 2 ^ k * 2 ^ k ≤ most = div-mul-le_self most (2 ^ k) in
-    let parts : (most / 2 ^ k + 1) * 2 ^ k ≡ most / 2 ^ k * 2 ^ k + 2 ^ k = omega arith in
-    mod-eq_of_lt (omega arith)
-
--- all quotients are, where the greatest is
-pub all_within : (k greatest most : ℕ) (qs : List ℕ) → (greatest + 1) * 2 ^ k ≤ most + 1 → AllByRecursion (λ q. q ≤ greatest) qs → AllByRecursion (λ q. (q + 1) * 2 ^ k ≤ most + 1) qs
-all_within k greatest most qs within h =
-    weaker (λ q. q ≤ greatest) (λ q. (q + 1) * 2 ^ k ≤ most + 1) (λ q le. (let p = mul-le (q + 1) (2 ^ k) (greatest + 1) (2 ^ k) (omega arith) (omega arith) in omega arith)) qs h
-
-pub within_here : (k most i : ℕ) (qs : List ℕ) → i < length qs → AllByRecursion (λ q. (q + 1) * 2 ^ k ≤ most + 1) (drop i qs) → ((get_or qs i 0 + 1) * 2 ^ k ≤ most + 1) × AllByRecursion (λ q. (q + 1) * 2 ^ k ≤ most + 1) (drop (suc i) qs)
-within_here k most i qs lt h = rw (drop-cons qs i 0) at h
-
-pub within_behind : (k most i v : ℕ) (qs : List ℕ) → AllByRecursion (λ q. (q + 1) * 2 ^ k ≤ most + 1) (drop (suc i) qs) → AllByRecursion (λ q. (q + 1) * 2 ^ k ≤ most + 1) (drop (i + 1) (set qs i v))
-within_behind k most i v qs h =
-    let next : i + 1 ≡ suc i = omega arith in
-    let back : drop (suc i) (set qs i v) ≡ drop (suc i) qs = drop-set-lt (suc i) qs i v (omega arith) in
-    rw (next, back) h
 
 -- ---- a look
 
@@ -145,13 +111,6 @@ looked_nowhere left = looked 0 0 left left (omega arith) (omega arith) (ap (λ (
 
 pub code_read : (site : Site) (most m : ℕ) (a b : Ahead) (left : List Bool) → m ≤ most → Uses a b (fundamental m) left → fundamental_at site most (drop (used a) left) ≡ Ok (m, drop (used b) left)
 code_read site most m a b left le h = rw h.text (fundamental_again site most m (drop (used b) left) le)
-
-pub whole_read : (site : Site) (k most q low v : ℕ) (a b : Ahead) (left : List Bool) → low < 2 ^ k → v ≡ q * 2 ^ k + low → v ≤ most → Uses a b (bits_of k low) left → low_at site k most q (drop (used a) left) ≡ Ok (v, drop (used b) left)
-whole_read site k most q low v a b left lt is le h =
-    let high : v / 2 ^ k ≡ q = ap (λ (n : ℕ). n / 2 ^ k) is ∙ div-mul-add q (2 ^ k) low lt in
-    let same : bits_of k v ≡ bits_of k low = ap (bits_of k) is ∙ bits_of-low k k q low (omega arith) in
-    let again = low_again site k most v (drop (used b) left) le in
-    rw h.text (rw (high, same) at again)
 
 -- ---- a look behind what was used
 

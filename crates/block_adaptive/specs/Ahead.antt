@@ -1,5 +1,5 @@
 -- What a reader of codes sees ahead.
-use Rattle.std.specs.Prelude.{◌≡◌, ℕ, ◌-◌, ◌^◌, ◌<◌, ◌≤◌, Bool, List, ◌++◌, length, drop}
+use Rattle.std.specs.Prelude.{◌≡◌, ℕ, ◌+◌, ◌-◌, ◌*◌, ◌/◌, ◌%◌, ◌^◌, ◌<◌, ◌≤◌, Bool, List, [], ◌∷◌, ◌++◌, length, drop}
 use Rattle.header_bits.specs.Bits.{bits_of}
 use Rattle.block_adaptive.specs.declared.ahead.Ahead.{Ahead}
 
@@ -23,3 +23,9 @@ pub record IsAhead (a : Ahead) (left : List Bool) : Type 0 where
 pub record Uses (a b : Ahead) (bits left : List Bool) : Type 0 where
   pub ahead : IsAhead b left
   pub text : drop (used a) left ≡ bits ++ drop (used b) left
+
+-- four quotients with their low bits, which are the highest bits of a word
+abbrev pub joined_four : ℕ → ℕ → ℕ → ℕ → ℕ → ℕ → List ℕ
+joined_four k word a b c d =
+    let low : ℕ → ℕ = λ place. word / 2 ^ (64 - place) % 2 ^ k in
+    (a * 2 ^ k + low k) ∷ (b * 2 ^ k + low (2 * k)) ∷ (c * 2 ^ k + low (3 * k)) ∷ (d * 2 ^ k + low (4 * k)) ∷ []

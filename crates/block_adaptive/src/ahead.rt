@@ -1,7 +1,7 @@
 //! The next bits, as a number: one look at them serves several codes.
 
 ghost use Rattle.std.specs.Prelude.{◌≡◌, ◌≤◌, ◌<◌, ◌^◌, ℕ, List, Bool, drop, IfSome};
-ghost use Rattle.header_bits.specs.Bits.{bits_of, fundamental};
+ghost use Rattle.header_bits.specs.Bits.{fundamental};
 ghost use Rattle.block_adaptive.specs.Ahead.{IsAhead, IsWord, Uses, used};
 
 use header_bits::bit_reader::BitReader;
@@ -68,29 +68,7 @@ pub(crate) fn code_ahead(ahead: Ahead, most: u16) -> Option<(u16, Ahead)>
         Ahead {
             peeked: ahead.peeked,
             known,
-            word: ahead.word - (1 << known),
-        },
-    ))
-}
-
-/// Returns the number in the `k` bits that come next, and the bits after these, if they are ahead.
-#[inline(always)]
-pub(crate) fn low_ahead(ahead: Ahead, k: u32) -> Option<(u16, Ahead)>
-    requires depth { k ≤ 15 }
-    requires few { ahead.known ≤ 57 }
-    ensures { IfSome result (λ p. (p.0 < 2 ^ k) × ((left : List Bool) → IsAhead ahead left → Uses ahead p.1 (bits_of k p.0) left)) }
-{
-    if ahead.known < k {
-        return None;
-    }
-    let known = ahead.known - k;
-    let low = (ahead.word >> known) & ((1 << k) - 1);
-    Some((
-        low as u16,
-        Ahead {
-            peeked: ahead.peeked,
-            known,
-            word: ahead.word,
+            word: ahead.word ^ (1 << known),
         },
     ))
 }

@@ -1,17 +1,17 @@
 //! Reading one coded data set: a block under its option, or a run of zero blocks (CCSDS 121.0-B, "Coded data set").
 
 ghost use Rattle.std.specs.Prelude.{◌≡◌, ◌≤◌, ◌<◌, ◌^◌, ◌+◌, ◌-◌, ◌*◌, ℕ, List, length, drop, IfErr, IfOk, Ok, Err, ◌%◌, ◌++◌, Bool};
-ghost use Rattle.std.specs.List.{AllByRecursion};
 ghost use Rattle.header_bits.specs.Reading.{Reads};
 ghost use Rattle.block_adaptive.specs.Ahead.{IsAhead, IsWord, used};
 ghost use Rattle.block_adaptive.specs.Options.{width, greatest_value};
-ghost use Rattle.block_adaptive.specs.Reading.{site_of, fundamental_at, quotients_at, low_at, lows_at, split_at, words_at, run_at, data_set_at};
+ghost use Rattle.block_adaptive.specs.Reading.{site_of, fundamental_at, quotients_at, split_at, words_at, run_at, data_set_at};
 ghost use Rattle.block_adaptive.specs.DataSets.{CodedDataSet, spelled, IsCodedDataSet};
 ghost use Rattle.block_adaptive.specs.Told.{told};
 
-use crate::ahead::{Ahead, code_ahead, look_ahead, low_ahead, take_used};
+use crate::ahead::{Ahead, code_ahead, look_ahead, take_used};
 use crate::choice::identifier_width;
 use crate::found::Found;
+use crate::lows::{lows, lows_within};
 use crate::options::{Choice, CodeSet};
 use crate::pairs::pairs;
 use cube_core::fault::Fault;
@@ -75,95 +75,6 @@ fn next_code(
     Ok((quotient, look_ahead(reader)))
 }
 
-/// Reads the low bits that come next, and returns the value made of a quotient and them.
-#[inline(always)]
-#[tactic(auto, unfolding(crate::specs::Reading::low_at))]
-fn whole(reader: &mut BitReader, block: u64, k: u32, most: u16, quotient: u16) -> Result<u16, Fault>
-    requires { k ≤ 15 }
-    ensures read { Reads (λ x. x) result reader.new.left (low_at (site_of reader.old block) k most quotient reader.old.left) }
-    ensures count { reader.new.count ≡ reader.old.count }
-{
-    let low = reader.take(k)? as u32;
-    let value = (u32::from(quotient) << k) + low;
-    if value > u32::from(most) {
-        return Err(Fault::BadOption { block });
-    }
-    Ok(value as u16)
-}
-
-/// Reads the low bits of each value, whose quotient is known.
-fn lows(
-    reader: &mut BitReader,
-    block: u64,
-    k: u32,
-    most: u16,
-    values: &mut [u16],
-) -> Result<(), Fault>
-    requires { k ≤ 15 }
-    ensures read { Reads (λ _. values.new) result reader.new.left (lows_at (site_of reader.old block) k most values.old reader.old.left) }
-    ensures count { reader.new.count ≡ reader.old.count }
-{
-    for value in values.iter_mut() {
-        *value = whole(reader, block, k, most, *value)?;
-    }
-    Ok(())
-}
-
-/// Reads the low bits of each value, whose quotient is known and allows any low bits.
-fn lows_within(
-    reader: &mut BitReader,
-    block: u64,
-    k: u32,
-    most: u16,
-    values: &mut [u16],
-) -> Result<(), Fault>
-    requires depth { k ≤ 15 }
-    requires within { AllByRecursion (λ q. (q + 1) * 2 ^ k ≤ most + 1) values.old }
-    ensures read { Reads (λ _. values.new) result reader.new.left (lows_at (site_of reader.old block) k most values.old reader.old.left) }
-    ensures count { reader.new.count ≡ reader.old.count }
-{
-    let mut ahead = look_ahead(reader);
-    for value in values.iter_mut() {
-        if let Some((low, next)) = low_ahead(ahead, k) {
-            *value = (*value << k) + low;
-            ahead = next;
-        } else {
-            let (known, next) = next_whole(reader, block, k, most, *value, ahead)?;
-            *value = known;
-            ahead = next;
-        }
-    }
-    take_used(reader, ahead);
-    Ok(())
-}
-
-/// Reads the low bits behind the used bits, and looks ahead anew. Returns the value made of a quotient, which
-/// allows any low bits, and them.
-#[inline(always)]
-fn next_whole(
-    reader: &mut BitReader,
-    block: u64,
-    k: u32,
-    most: u16,
-    quotient: u16,
-    ahead: Ahead,
-) -> Result<(u16, Ahead), Fault>
-    requires depth { k ≤ 15 }
-    requires within { (quotient + 1) * 2 ^ k ≤ most + 1 }
-    requires ahead { IsAhead ahead reader.old.left }
-    ensures found { IfOk result (λ p. IsAhead p.1 reader.new.left
-        × (low_at (site_of reader.old block) k most quotient (drop (used ahead) reader.old.left) ≡ Ok (p.0, drop (used p.1) reader.new.left))) }
-    ensures fault { IfErr result (λ fault. low_at (site_of reader.old block) k most quotient (drop (used ahead) reader.old.left) ≡ Err fault) }
-    ensures count { reader.new.count ≡ reader.old.count }
-{
-    take_used(reader, ahead);
-    if let Some((low, next)) = low_ahead(look_ahead(reader), k) {
-        return Ok(((quotient << k) + low, next));
-    }
-    let known = whole(reader, block, k, most, quotient)?;
-    Ok((known, look_ahead(reader)))
-}
-
 /// Reads a block under a split-sample option.
 #[tactic(auto, unfolding(crate::specs::Reading::split_at))]
 fn split(
@@ -173,7 +84,8 @@ fn split(
     most: u16,
     values: &mut [u16],
 ) -> Result<(), Fault>
-    requires { k ≤ 15 }
+    requires depth { k ≤ 14 }
+    requires fours { length values.old % 4 ≡ 0 }
     ensures read { Reads (λ _. values.new) result reader.new.left (split_at (site_of reader.old block) k most (length values.old) reader.old.left) }
     ensures count { reader.new.count ≡ reader.old.count }
 {
@@ -240,7 +152,7 @@ pub(crate) fn data_set(
 ) -> Result<Found, Fault>
     requires bits { set.now.bits ≤ 16 }
     requires left { left ≤ 64 }
-    requires even { length values.old % 2 ≡ 0 }
+    requires fours { length values.old % 4 ≡ 0 }
     ensures read { Reads (told values.new) result reader.new.left (data_set_at (site_of reader.old block) set.now (length values.old) left reader.old.left) }
     ensures count { reader.new.count ≡ reader.old.count }
 {
@@ -278,7 +190,7 @@ pub(crate) fn read_data_set(
 ) -> Result<Found, Fault>
     requires bits { set.now.bits ≤ 16 }
     requires left { (1 ≤ left) × (left ≤ 64) }
-    requires even { length values.old % 2 ≡ 0 }
+    requires fours { length values.old % 4 ≡ 0 }
     ensures read { Reads (told values.new) result reader.new.left (data_set_at (site_of reader.old block) set.now (length values.old) left reader.old.left) }
     ensures found { IfOk result (λ found. (reader.old.left ≡ spelled set.now (told values.new found) ++ reader.new.left)
         × IsCodedDataSet set.now (length values.old) left (told values.new found)) }

@@ -9,6 +9,7 @@ mod data_sets;
 mod found;
 mod gathering;
 pub mod laws;
+mod lows;
 pub mod options;
 mod pairs;
 pub mod segments;

@@ -2,7 +2,7 @@ use Rattle.std.proofs.Common.{◌≡◌, ◌∙◌, ◌<◌, length, refl, arith
 use Rattle.std.proofs.lemmas.Result.{err_from_is_err_and}
 use Rattle.block_adaptive.specs.Reading.{Site, site_of, low_at}
 use Rattle.block_adaptive.proofs.Each.{each_at, Reader, each_start, each_more, each_ends, each_done, lows_each}
-use Rattle.block_adaptive.proofs.data_sets.lows.Goals as goal
+use Rattle.block_adaptive.proofs.lows.lows.Goals as goal
 
 pub loop-value-init : goal.loop-value-init
 loop-value-init c =

@@ -1,7 +1,7 @@
 use Rattle.std.proofs.Common.{◌≡◌, take, drop}
 use Rattle.block_adaptive.specs.Reading.{site_of, low_at}
 use Rattle.block_adaptive.proofs.Each.{each_at, with_front}
-use Rattle.block_adaptive.proofs.data_sets.lows.Given as goal
+use Rattle.block_adaptive.proofs.lows.lows.Given as goal
 
 abbrev pub invariant-loop-value : goal.invariant-loop-value
 invariant-loop-value l = record {

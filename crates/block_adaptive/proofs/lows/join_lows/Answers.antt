@@ -1,0 +1,24 @@
+use Rattle.std.proofs.Common.{◌≡◌, ◌+◌, ◌-◌, ◌*◌, ◌/◌, ◌%◌, ◌^◌, refl}
+use Rattle.block_adaptive.proofs.Fours.{four_within, four_shifts}
+use Rattle.block_adaptive.proofs.lows.join_lows.Goals as goal
+
+pub joined-requires-clause-within : goal.joined-requires-clause-within
+joined-requires-clause-within c = (four_within c.args.k 65536 c.args.four.now 0 0 0 c.requires.four c.requires.within).0
+
+pub joined-requires-2-clause-within : goal.joined-requires-2-clause-within
+joined-requires-2-clause-within c = (four_within c.args.k 65536 c.args.four.now c.joined.result 0 0 c.requires.four c.requires.within).1
+
+pub joined-requires-3-clause-within : goal.joined-requires-3-clause-within
+joined-requires-3-clause-within c = (four_within c.args.k 65536 c.args.four.now c.joined.result c.joined-2.result 0 c.requires.four c.requires.within).2
+
+pub joined-requires-4-clause-within : goal.joined-requires-4-clause-within
+joined-requires-4-clause-within c = (four_within c.args.k 65536 c.args.four.now c.joined.result c.joined-2.result c.joined-3.result c.requires.four c.requires.within).3
+
+pub returns : goal.returns
+returns c = λ a b x d is.
+    let shifts = four_shifts c.args.word c.args.k c.requires.depth in
+    let first : c.joined.result ≡ a * 2 ^ c.args.k + c.args.word / 2 ^ (64 - c.args.k) % 2 ^ c.args.k = rw (is, shifts.3) at c.joined.ensures in
+    let second : c.joined-2.result ≡ b * 2 ^ c.args.k + c.args.word / 2 ^ (64 - 2 * c.args.k) % 2 ^ c.args.k = rw (is, shifts.2) at c.joined-2.ensures in
+    let third : c.joined-3.result ≡ x * 2 ^ c.args.k + c.args.word / 2 ^ (64 - 3 * c.args.k) % 2 ^ c.args.k = rw (is, shifts.1) at c.joined-3.ensures in
+    let last : c.joined-4.result ≡ d * 2 ^ c.args.k + c.args.word / 2 ^ (64 - 4 * c.args.k) % 2 ^ c.args.k = rw (is, shifts.0) at c.joined-4.ensures in
+    rw (is, first, second, third, last) refl
