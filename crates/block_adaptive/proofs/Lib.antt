@@ -19,6 +19,7 @@ pub mod ForBlocks
 pub mod Fronts
 pub mod Each
 pub mod Looking
+pub mod Bounds
 pub mod Fours
 pub mod Twos
 pub mod Streaming

@@ -1,5 +1,5 @@
 -- Codes and low bits among the bits ahead.
-use Rattle.std.proofs.Common.{◌≡◌, ◌≢◌, ℕ, suc, ◌+◌, ◌-◌, ◌*◌, ◌/◌, ◌^◌, ◌<◌, ◌≤◌, Bool, List, ◌++◌, length, drop, refl, sym, ap, subst, ◌∙◌, inl, inr, append_assoc, arith, lit<, Result, Ok, Err}
+use Rattle.std.proofs.Common.{◌≡◌, ◌≢◌, ℕ, suc, ◌+◌, ◌-◌, ◌*◌, ◌/◌, ◌^◌, ◌<◌, ◌≤◌, Bool, List, ◌++◌, length, drop, refl, sym, ap, subst, ◌∙◌, inl, inr, append_assoc, arith, lit<, Result, Ok}
 use Rattle.std.specs.Int.Count.{count_leading_zeros}
 use Rattle.std.proofs.lemmas.Bool.{cases_lt}
 use Rattle.std.specs.Int.Bits.{bit_xor, xor_zero_r}
@@ -124,6 +124,3 @@ read_fresh f m was a b old left is unused e = ap f (sym is) ∙ ap (λ (n : ℕ)
 -- what is read by itself, before a look at the bits behind it
 pub read_alone : (f : Reading) (m : ℕ) (was b : Ahead) (old left after : List Bool) → left ≡ drop (used was) old → used b ≡ 0 → f left ≡ Ok (m, after) → f (drop (used was) old) ≡ Ok (m, drop (used b) after)
 read_alone f m was b old left after is unused e = ap f (sym is) ∙ e ∙ ap (λ (n : ℕ). Ok (m, drop n after)) (sym unused)
-
-pub read_refused : (f : Reading) (e : Fault) (was : Ahead) (old left : List Bool) → left ≡ drop (used was) old → f left ≡ Err e → f (drop (used was) old) ≡ Err e
-read_refused f e was old left is bad = ap f (sym is) ∙ bad

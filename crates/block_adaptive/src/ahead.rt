@@ -48,23 +48,18 @@ pub(crate) fn take_used(reader: &mut BitReader, ahead: Ahead)
     reader.skip(u64::from(ahead.peeked - ahead.known));
 }
 
-/// Returns the fundamental sequence that comes next and the bits after it, if it ends within the bits ahead and
-/// has at most `most` zeros.
+/// Returns the fundamental sequence that comes next and the bits after it, if it ends within the bits ahead.
 #[inline(always)]
-pub(crate) fn code_ahead(ahead: Ahead, most: u16) -> Option<(u16, Ahead)>
+pub(crate) fn code_ahead(ahead: Ahead) -> Option<(u16, Ahead)>
     requires { IsWord ahead }
-    ensures { IfSome result (λ p. (p.0 ≤ most) × IsWord p.1 × ((left : List Bool) → IsAhead ahead left → Uses ahead p.1 (fundamental p.0) left)) }
+    ensures { IfSome result (λ p. (p.0 ≤ 56) × IsWord p.1 × ((left : List Bool) → IsAhead ahead left → Uses ahead p.1 (fundamental p.0) left)) }
 {
     if ahead.word == 0 {
         return None;
     }
     let known = 63 - ahead.word.leading_zeros();
-    let zeros = ahead.known - known - 1;
-    if zeros > u32::from(most) {
-        return None;
-    }
     Some((
-        zeros as u16,
+        (ahead.known - known - 1) as u16,
         Ahead {
             peeked: ahead.peeked,
             known,

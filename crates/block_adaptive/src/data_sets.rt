@@ -1,6 +1,7 @@
 //! Reading one coded data set: a block under its option, or a run of zero blocks (CCSDS 121.0-B, "Coded data set").
 
 ghost use Rattle.std.specs.Prelude.{◌≡◌, ◌≤◌, ◌<◌, ◌^◌, ◌+◌, ◌-◌, ◌*◌, ℕ, List, length, drop, IfErr, IfOk, Ok, Err, ◌%◌, ◌++◌, Bool};
+ghost use Rattle.std.specs.List.{AllByRecursion};
 ghost use Rattle.header_bits.specs.Reading.{Reads};
 ghost use Rattle.block_adaptive.specs.Ahead.{IsAhead, IsWord, used};
 ghost use Rattle.block_adaptive.specs.Options.{width, greatest_value};
@@ -34,45 +35,79 @@ pub(crate) fn fundamental(reader: &mut BitReader, block: u64, most: u64) -> Resu
 }
 
 /// Reads a fundamental sequence for each value.
+#[inline(always)]
 fn quotients(reader: &mut BitReader, block: u64, most: u16, values: &mut [u16]) -> Result<(), Fault>
     ensures read { Reads (λ _. values.new) result reader.new.left (quotients_at (site_of reader.old block) most (length values.old) reader.old.left) }
     ensures count { reader.new.count ≡ reader.old.count }
 {
+    let mut ahead = reader.fork();
+    if let Ok(bound) = codes(&mut ahead, block, values) {
+        if bound <= most {
+            *reader = ahead;
+            return Ok(());
+        }
+    }
+    judged_codes(reader, block, most, values)
+}
+
+/// Reads a fundamental sequence for each value, and returns a number that none is above.
+///
+/// One test of that number for the block takes the place of one for each value.
+#[inline(always)]
+fn codes(reader: &mut BitReader, block: u64, values: &mut [u16]) -> Result<u16, Fault>
+    ensures read { IfOk result (λ bound. AllByRecursion (λ q. q ≤ bound) values.new
+        × (quotients_at (site_of reader.old block) 65535 (length values.old) reader.old.left ≡ Ok (values.new, reader.new.left))) }
+    ensures count { reader.new.count ≡ reader.old.count }
+{
+    let mut bound = 0;
     let mut ahead = look_ahead(reader);
     for value in values.iter_mut() {
-        if let Some((quotient, next)) = code_ahead(ahead, most) {
+        if let Some((quotient, next)) = code_ahead(ahead) {
+            bound |= quotient;
             *value = quotient;
             ahead = next;
         } else {
-            let (quotient, next) = next_code(reader, block, most, ahead)?;
+            let (quotient, next) = next_code(reader, block, ahead)?;
+            bound |= quotient;
             *value = quotient;
             ahead = next;
         }
     }
     take_used(reader, ahead);
-    Ok(())
+    Ok(bound)
 }
 
 /// Reads the fundamental sequence behind the used bits, and looks ahead anew.
 #[inline(always)]
-fn next_code(
-    reader: &mut BitReader,
-    block: u64,
-    most: u16,
-    ahead: Ahead,
-) -> Result<(u16, Ahead), Fault>
+fn next_code(reader: &mut BitReader, block: u64, ahead: Ahead) -> Result<(u16, Ahead), Fault>
     requires { IsAhead ahead reader.old.left }
     ensures found { IfOk result (λ p. IsWord p.1 × IsAhead p.1 reader.new.left
-        × (fundamental_at (site_of reader.old block) most (drop (used ahead) reader.old.left) ≡ Ok (p.0, drop (used p.1) reader.new.left))) }
-    ensures fault { IfErr result (λ fault. fundamental_at (site_of reader.old block) most (drop (used ahead) reader.old.left) ≡ Err fault) }
+        × (fundamental_at (site_of reader.old block) 65535 (drop (used ahead) reader.old.left) ≡ Ok (p.0, drop (used p.1) reader.new.left))) }
     ensures count { reader.new.count ≡ reader.old.count }
 {
     take_used(reader, ahead);
-    if let Some(found) = code_ahead(look_ahead(reader), most) {
+    if let Some(found) = code_ahead(look_ahead(reader)) {
         return Ok(found);
     }
-    let quotient = fundamental(reader, block, u64::from(most))? as u16;
+    let quotient = fundamental(reader, block, 65_535)? as u16;
     Ok((quotient, look_ahead(reader)))
+}
+
+/// Reads a fundamental sequence for each value, and judges one after another.
+#[inline(never)]
+fn judged_codes(
+    reader: &mut BitReader,
+    block: u64,
+    most: u16,
+    values: &mut [u16],
+) -> Result<(), Fault>
+    ensures read { Reads (λ _. values.new) result reader.new.left (quotients_at (site_of reader.old block) most (length values.old) reader.old.left) }
+    ensures count { reader.new.count ≡ reader.old.count }
+{
+    for value in values.iter_mut() {
+        *value = fundamental(reader, block, u64::from(most))? as u16;
+    }
+    Ok(())
 }
 
 /// Reads a block under a split-sample option.

@@ -1,7 +1,6 @@
-use Rattle.std.proofs.Common.{List, Bool}
-use Rattle.std.proofs.lemmas.Result.{err_from_is_err_and}
+use Rattle.std.proofs.Common.{arith, List, Bool}
 use Rattle.block_adaptive.specs.Reading.{Site, site_of, fundamental_at}
-use Rattle.block_adaptive.proofs.Looking.{code_read, read_fresh, read_alone, read_refused}
+use Rattle.block_adaptive.proofs.Looking.{code_read, read_fresh, read_alone}
 use Rattle.block_adaptive.proofs.data_sets.next_code.Goals as goal
 
 pub returns-in-Some-clause-found : goal.returns-in-Some-clause-found
@@ -9,21 +8,14 @@ returns-in-Some-clause-found c =
     let site : Site = site_of c.args.reader.now c.args.block in
     let left : List Bool = c.take_used.new.reader.left in
     let uses = c.in-Some.ensures.2 left c.look_ahead.ensures.ahead in
-    let one = code_read site c.args.most c.in-Some.found.0 c.look_ahead.result c.in-Some.found.1 left c.in-Some.ensures.0 uses in
-    (c.in-Some.ensures.1, uses.ahead, read_fresh (fundamental_at site c.args.most) c.in-Some.found.0 c.args.ahead c.look_ahead.result c.in-Some.found.1 c.args.reader.now.left left c.take_used.ensures.left c.look_ahead.ensures.unused one)
+    let one = code_read site 65535 c.in-Some.found.0 c.look_ahead.result c.in-Some.found.1 left (omega (arith, c.in-Some.ensures.0)) uses in
+    (c.in-Some.ensures.1, uses.ahead, read_fresh (fundamental_at site 65535) c.in-Some.found.0 c.args.ahead c.look_ahead.result c.in-Some.found.1 c.args.reader.now.left left c.take_used.ensures.left c.look_ahead.ensures.unused one)
 
 pub returns-clause-found : goal.returns-clause-found
 returns-clause-found c =
     let site : Site = site_of c.args.reader.now c.args.block in
-    let one = rw (c.take_used.ensures.count, c.from.ensures) at c.in_ok-quotient.ensures.read in (
+    let one = rw c.take_used.ensures.count at c.in_ok-quotient.ensures.read in (
       c.look_ahead-2.ensures.word,
       c.look_ahead-2.ensures.ahead,
-      read_alone (fundamental_at site c.args.most) c.in_ok-quotient.field-0 c.args.ahead c.look_ahead-2.result c.args.reader.now.left c.take_used.new.reader.left c.fundamental.new.reader.left c.take_used.ensures.left c.look_ahead-2.ensures.unused one,
+      read_alone (fundamental_at site 65535) c.in_ok-quotient.field-0 c.args.ahead c.look_ahead-2.result c.args.reader.now.left c.take_used.new.reader.left c.fundamental.new.reader.left c.take_used.ensures.left c.look_ahead-2.ensures.unused one,
     )
-
-pub returns-in_err-quotient-clause-fault : goal.returns-in_err-quotient-clause-fault
-returns-in_err-quotient-clause-fault c =
-    let p = err_from_is_err_and c.from_residual.result c.from_residual.ensures.1 in
-    let site : Site = site_of c.args.reader.now c.args.block in
-    let one = rw (c.take_used.ensures.count, c.from.ensures) at c.in_err-quotient.ensures.read in
-    rw (p.1, p.2) (read_refused (fundamental_at site c.args.most) c.in_err-quotient.field-0.0 c.args.ahead c.args.reader.now.left c.take_used.new.reader.left c.take_used.ensures.left one)

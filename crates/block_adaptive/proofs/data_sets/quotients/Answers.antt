@@ -1,49 +1,10 @@
-use Rattle.std.proofs.Common.{◌≡◌, ◌∙◌, ◌<◌, length, drop, arith}
-use Rattle.std.proofs.lemmas.Result.{err_from_is_err_and}
-use Rattle.block_adaptive.specs.Ahead.{used}
-use Rattle.block_adaptive.specs.Reading.{Site, site_of, fundamental_at}
-use Rattle.block_adaptive.proofs.Each.{each_at, Reader, each_more, each_ends, each_done, quotients_each}
-use Rattle.block_adaptive.proofs.Looking.{code_read}
+use Rattle.std.proofs.Common.{length}
+use Rattle.block_adaptive.specs.Reading.{site_of}
+use Rattle.block_adaptive.proofs.Bounds.{bounded, judged_within}
 use Rattle.block_adaptive.proofs.data_sets.quotients.Goals as goal
-use Rattle.block_adaptive.proofs.data_sets.quotients.Goals.{in-Some, in_default+in_ok-quotient}
 
-pub returns-in_err-quotient-clause-read : goal.returns-in_err-quotient-clause-read
-returns-in_err-quotient-clause-read c =
-    let p = err_from_is_err_and c.from_residual.result c.from_residual.ensures.1 in
-    let site : Site = site_of c.args.reader.now c.args.block in
-    let f : Reader = λ _ left. fundamental_at site c.args.most left in
-    let lt : c.loop-value.value-index < length c.loop-value.values = omega arith in
-    let one = rw c.loop-value.invariant.count at c.in_err-quotient.ensures.fault in
-    rw (p.1, p.2) (quotients_each site c.args.most c.args.values.now c.args.reader.now.left ∙ each_ends f c.loop-value.values c.loop-value.value-index c.in_err-quotient.field-0.0 (drop (used c.loop-value.ahead) c.loop-value.reader.left) (each_at f c.args.values.now c.args.reader.now.left) lt one c.loop-value.invariant.read)
-
-pub loop-value-preserved : goal.loop-value-preserved
-loop-value-preserved c =
-    let site : Site = site_of c.args.reader.now c.args.block in
-    let f : Reader = λ _ left. fundamental_at site c.args.most left in
-    let lt : c.loop-value.value-index < length c.loop-value.values = omega arith in
-    elim c.match-code_ahead.branch [
-      | in-Some w ↦
-          (let uses = w.in-Some.ensures.2 c.loop-value.reader.left c.loop-value.invariant.ahead in
-          let one = code_read site c.args.most w.in-Some.quotient c.loop-value.ahead w.in-Some.next c.loop-value.reader.left w.in-Some.ensures.0 uses in
-          rw (w.reader-is, w.values-is, w.ahead-is) (record {
-            ahead = uses.ahead;
-            word = w.in-Some.ensures.1;
-            read = each_more f c.loop-value.values c.loop-value.value-index w.in-Some.quotient (drop (used c.loop-value.ahead) c.loop-value.reader.left) (drop (used w.in-Some.next) c.loop-value.reader.left) (each_at f c.args.values.now c.args.reader.now.left) lt one c.loop-value.invariant.read;
-            count = c.loop-value.invariant.count;
-          }))
-      | in_default+in_ok-quotient w ↦
-          (let one = rw c.loop-value.invariant.count at w.in_ok-quotient.ensures.found.2 in
-          rw (w.reader-is, w.values-is, w.ahead-is) (record {
-            ahead = w.in_ok-quotient.ensures.found.1;
-            word = w.in_ok-quotient.ensures.found.0;
-            read = each_more f c.loop-value.values c.loop-value.value-index w.in_ok-quotient.quotient (drop (used c.loop-value.ahead) c.loop-value.reader.left) (drop (used w.in_ok-quotient.next) w.next_code.new.reader.left) (each_at f c.args.values.now c.args.reader.now.left) lt one c.loop-value.invariant.read;
-            count = w.in_ok-quotient.ensures.count ∙ c.loop-value.invariant.count;
-          }))
-    ]
-
-pub returns-clause-read : goal.returns-clause-read
-returns-clause-read c =
-    let site : Site = site_of c.args.reader.now c.args.block in
-    let f : Reader = λ _ left. fundamental_at site c.args.most left in
-    let same : c.loop-value.value-index ≡ length c.loop-value.values = omega arith in
-    rw c.take_used.ensures.left (quotients_each site c.args.most c.args.values.now c.args.reader.now.left ∙ each_done f c.loop-value.values c.loop-value.value-index (drop (used c.loop-value.ahead) c.loop-value.reader.left) (each_at f c.args.values.now c.args.reader.now.left) same c.loop-value.invariant.read)
+pub returns-then-bound-most-clause-read : goal.returns-then-bound-most-clause-read
+returns-then-bound-most-clause-read c =
+    let few = bounded c.in-Ok.bound c.args.most c.codes.new.values c.if-bound-most.true c.in-Ok.ensures.read.0 in
+    let read = rw c.fork-ahead.ensures at c.in-Ok.ensures.read.1 in
+    judged_within (site_of c.args.reader.now c.args.block) c.args.most 65535 (length c.args.values.now) c.args.reader.now.left (c.codes.new.values, c.codes.new.reader.left) read few
