@@ -76,6 +76,10 @@ pub rest_most : (c : Cut) (i : ℕ) → left_at c i ≤ c.count - i
 unfolding segment_rest
 rest_most c i = omega arith
 
+pub rest_small : (reference count i : ℕ) → segment_rest reference count i ≤ 64
+unfolding segment_rest
+rest_small reference count i = omega arith
+
 -- a run in hand keeps the parts in range
 pub run_parts : (c : Cut) (i given counted n : ℕ) → AreParts c i given counted → n ≤ left_at c i → left_at c i ≤ 64 → AreParts c (i + n) c.size (n * c.size)
 run_parts c i given counted n h le most = record {

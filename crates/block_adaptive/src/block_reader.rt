@@ -187,18 +187,18 @@ impl BlockReader {
         ensures same { OnErr result (reader.new ≡ reader.old) }
         ensures count { reader.new.count ≡ reader.old.count }
     {
-        let left = blocks_left(&Place {
+        let place = Place {
             reference: self.reference,
             count: self.count,
             block: self.block,
-        });
+        };
         let set = self.set;
         let mut ahead = reader.fork();
         match read_data_set(
             &mut ahead,
             self.block,
             &set,
-            left,
+            &place,
             &mut self.values[..self.size as usize],
         ) {
             Ok(Found::Block(_)) => {
@@ -216,6 +216,7 @@ impl BlockReader {
                 Ok(())
             }
             Ok(Found::RestOfSegment) => {
+                let left = blocks_left(&place);
                 *reader = ahead;
                 self.at = self.size;
                 self.zeros = left * self.size;

@@ -7,6 +7,7 @@ ghost use Rattle.block_adaptive.specs.Ahead.{IsAhead, IsWord, used};
 ghost use Rattle.block_adaptive.specs.Options.{width, greatest_value};
 ghost use Rattle.block_adaptive.specs.Reading.{site_of, fundamental_at, quotients_at, split_at, words_at, run_at, data_set_at};
 ghost use Rattle.block_adaptive.specs.DataSets.{CodedDataSet, spelled, IsCodedDataSet};
+ghost use Rattle.block_adaptive.specs.Places.{IsPlace, blocks_from};
 ghost use Rattle.block_adaptive.specs.Told.{told};
 
 use crate::ahead::{Ahead, code_ahead, look_ahead, take_used};
@@ -15,6 +16,7 @@ use crate::found::Found;
 use crate::lows::{lows, lows_within};
 use crate::options::{Choice, CodeSet};
 use crate::pairs::pairs;
+use crate::segments::{Place, blocks_left};
 use cube_core::fault::Fault;
 use header_bits::bit_reader::BitReader;
 
@@ -176,19 +178,19 @@ fn words(reader: &mut BitReader, depth: u32, values: &mut [u16]) -> Result<(), F
     Ok(())
 }
 
-/// Reads one coded data set, where `left` blocks are left in the segment. The values of a block are written.
+/// Reads one coded data set, that of the block at a place. The values of a block are written.
 #[tactic(auto, unfolding(crate::specs::Reading::data_set_at))]
 pub(crate) fn data_set(
     reader: &mut BitReader,
     block: u64,
     set: &CodeSet,
-    left: u32,
+    place: &Place,
     values: &mut [u16],
 ) -> Result<Found, Fault>
     requires bits { set.now.bits ≤ 16 }
-    requires left { left ≤ 64 }
+    requires place { IsPlace place.now }
     requires fours { length values.old % 4 ≡ 0 }
-    ensures read { Reads (told values.new) result reader.new.left (data_set_at (site_of reader.old block) set.now (length values.old) left reader.old.left) }
+    ensures read { Reads (told values.new) result reader.new.left (data_set_at (site_of reader.old block) set.now (length values.old) (blocks_from place.now) reader.old.left) }
     ensures count { reader.new.count ≡ reader.old.count }
 {
     let most = largest(set);
@@ -197,7 +199,7 @@ pub(crate) fn data_set(
     if number == 0 {
         let more = reader.take(1)?;
         if more == 0 {
-            let found = run(reader, block, left)?;
+            let found = run(reader, block, blocks_left(place))?;
             return Ok(found);
         }
         pairs(reader, block, most, values)?;
@@ -212,26 +214,25 @@ pub(crate) fn data_set(
     }
 }
 
-/// Reads one lawful coded data set, where `left` blocks are left in the segment. The values of a block are
-/// written.
+/// Reads one lawful coded data set, that of the block at a place. The values of a block are written.
 ///
 /// The refusal is that of the first unlawful part of the data set, and names the block.
 pub(crate) fn read_data_set(
     reader: &mut BitReader,
     block: u64,
     set: &CodeSet,
-    left: u32,
+    place: &Place,
     values: &mut [u16],
 ) -> Result<Found, Fault>
     requires bits { set.now.bits ≤ 16 }
-    requires left { (1 ≤ left) × (left ≤ 64) }
+    requires place { IsPlace place.now }
     requires fours { length values.old % 4 ≡ 0 }
-    ensures read { Reads (told values.new) result reader.new.left (data_set_at (site_of reader.old block) set.now (length values.old) left reader.old.left) }
+    ensures read { Reads (told values.new) result reader.new.left (data_set_at (site_of reader.old block) set.now (length values.old) (blocks_from place.now) reader.old.left) }
     ensures found { IfOk result (λ found. (reader.old.left ≡ spelled set.now (told values.new found) ++ reader.new.left)
-        × IsCodedDataSet set.now (length values.old) left (told values.new found)) }
-    ensures none { IfErr result (λ _. (t : CodedDataSet) (rest : List Bool) → IsCodedDataSet set.now (length values.old) left t
+        × IsCodedDataSet set.now (length values.old) (blocks_from place.now) (told values.new found)) }
+    ensures none { IfErr result (λ _. (t : CodedDataSet) (rest : List Bool) → IsCodedDataSet set.now (length values.old) (blocks_from place.now) t
         → reader.old.left ≡ spelled set.now t ++ rest → ⊥) }
     ensures count { reader.new.count ≡ reader.old.count }
 {
-    data_set(reader, block, set, left, values)
+    data_set(reader, block, set, place, values)
 }
