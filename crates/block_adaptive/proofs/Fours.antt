@@ -13,8 +13,10 @@ use Rattle.header_bits.proofs.Fronts.{bind_ok, bind_err}
 use Rattle.header_bits.proofs.Reading.{ok_is}
 use Rattle.header_bits.proofs.Windows.{two_shifts}
 use Rattle.block_adaptive.specs.Ahead.{joined_four}
-use Rattle.block_adaptive.specs.Reading.{Site, low_at, lows_at}
-use Rattle.block_adaptive.proofs.Codes.{weaker}
+use Rattle.block_adaptive.specs.Reading.{Site, quotients_at, low_at, lows_at, split_at}
+use Rattle.block_adaptive.proofs.Codes.{low_again, weaker}
+use Rattle.block_adaptive.proofs.Takes.{quotients_takes}
+use Rattle.header_bits.proofs.Numbers.{no_bits}
 use Rattle.block_adaptive.proofs.Each.{with_front, front_none}
 
 -- ---- small numbers
@@ -147,6 +149,29 @@ lows_none site k most (q ∷ qs) ys bits e h =
   where
     not_both : (x : List ℕ × List Bool) (e : Fault) → Ok x ≡ Err e → ⊥
     not_both x e h = cc
+
+-- ---- no low bits
+
+low_none : (site : Site) (most q : ℕ) (bits : List Bool) → q ≤ most → low_at site 0 most q bits ≡ Ok (q, bits)
+low_none site most q bits le =
+    let again = rw (no_bits q) at (low_again site 0 most q bits le) in
+    let whole : q / 2 ^ 0 ≡ q = omega arith in
+    subst (λ (n : ℕ). low_at site 0 most n bits ≡ Ok (q, bits)) whole again
+
+all_none : (site : Site) (most : ℕ) (qs : List ℕ) (bits : List Bool) → AllByRecursion (λ q. q ≤ most) qs → lows_at site 0 most qs bits ≡ Ok (qs, bits)
+unfolding lows_at
+all_none site most [] bits h = refl
+all_none site most (q ∷ qs) bits h = rw (low_none site most q bits h.0, all_none site most qs bits h.1) refl
+
+-- quotients are the values where k is 0
+pub split_none : (site : Site) (k most n : ℕ) (bits left : List Bool) (qs : List ℕ) → k ≡ 0 → quotients_at site (most / 2 ^ k) n bits ≡ Ok (qs, left) → split_at site k most n bits ≡ Ok (qs, left)
+unfolding split_at
+split_none site k most n bits left qs none read =
+    let takes = quotients_takes site (most / 2 ^ k) n bits (qs, left) read in
+    let whole : most / 2 ^ 0 ≡ most = omega arith in
+    let small : AllByRecursion (λ q. q ≤ most) qs = rw (none, whole) at takes.all in
+    let here : lows_at site k most qs left ≡ Ok (qs, left) = subst (λ (m : ℕ). lows_at site m most qs left ≡ Ok (qs, left)) (sym none) (all_none site most qs left small) in
+    rw read here
 
 -- ---- a loop that reads four at a time
 

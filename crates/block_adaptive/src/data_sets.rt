@@ -128,6 +128,9 @@ fn split(
 {
     let greatest = most >> k;
     quotients(reader, block, greatest, values)?;
+    if k == 0 {
+        return Ok(());
+    }
     if (u32::from(greatest) + 1) << k <= u32::from(most) + 1 {
         lows_within(reader, block, k, most, values)
     } else {
@@ -190,7 +193,8 @@ pub(crate) fn data_set(
     requires bits { set.now.bits ≤ 16 }
     requires place { IsPlace place.now }
     requires fours { length values.old % 4 ≡ 0 }
-    ensures read { Reads (told values.new) result reader.new.left (data_set_at (site_of reader.old block) set.now (length values.old) (blocks_from place.now) reader.old.left) }
+    ensures read { Reads (told values.new) result reader.new.left (data_set_at (site_of reader.old block) set.now (length values.old)
+        (blocks_from place.now) reader.old.left) }
     ensures count { reader.new.count ≡ reader.old.count }
 {
     let most = largest(set);
@@ -227,7 +231,8 @@ pub(crate) fn read_data_set(
     requires bits { set.now.bits ≤ 16 }
     requires place { IsPlace place.now }
     requires fours { length values.old % 4 ≡ 0 }
-    ensures read { Reads (told values.new) result reader.new.left (data_set_at (site_of reader.old block) set.now (length values.old) (blocks_from place.now) reader.old.left) }
+    ensures read { Reads (told values.new) result reader.new.left (data_set_at (site_of reader.old block) set.now (length values.old)
+        (blocks_from place.now) reader.old.left) }
     ensures found { IfOk result (λ found. (reader.old.left ≡ spelled set.now (told values.new found) ++ reader.new.left)
         × IsCodedDataSet set.now (length values.old) (blocks_from place.now) (told values.new found)) }
     ensures none { IfErr result (λ _. (t : CodedDataSet) (rest : List Bool) → IsCodedDataSet set.now (length values.old) (blocks_from place.now) t
