@@ -15,7 +15,8 @@ all_append : (bound : ℕ) (xs ys : List ℕ) → AllByRecursion (λ q. q ≤ bo
 all_append bound [] ys h k = k
 all_append bound (x ∷ xs) ys h k = (h.0, all_append bound xs ys h.1 k)
 
-pub bound_more : (bound q i : ℕ) (vs : List ℕ) → i < length vs → AllByRecursion (λ v. v ≤ bound) (take i vs) → AllByRecursion (λ v. v ≤ bit_or bound q) (take (i + 1) (set vs i q))
+pub bound_more : (bound q i : ℕ) (vs : List ℕ) → i < length vs → AllByRecursion (λ v. v ≤ bound) (take i vs)
+    → AllByRecursion (λ v. v ≤ bit_or bound q) (take (i + 1) (set vs i q))
 bound_more bound q i vs lt h =
     let before = weaker (λ v. v ≤ bound) (λ v. v ≤ bit_or bound q) (λ v le. omega (arith, le_or_l bound q)) (take i vs) h in
     rw (take_more_set vs i q lt) (all_append (bit_or bound q) (take i vs) (q ∷ []) before (le_or_r bound q, tt))
@@ -27,7 +28,8 @@ pub bounded : (bound most : ℕ) (vs : List ℕ) → bound ≤ most → AllByRec
 bounded bound most vs le h = weaker (λ v. v ≤ bound) (λ v. v ≤ most) (λ v small. omega arith) vs h
 
 -- what is read with more zeros allowed is read so too where it has few
-pub judged_within : (site : Site) (most more n : ℕ) (bits : List Bool) (x : List ℕ × List Bool) → quotients_at site more n bits ≡ Ok x → AllByRecursion (λ v. v ≤ most) x.0 → quotients_at site most n bits ≡ Ok x
+pub judged_within : (site : Site) (most more n : ℕ) (bits : List Bool) (x : List ℕ × List Bool) → quotients_at site more n bits ≡ Ok x
+    → AllByRecursion (λ v. v ≤ most) x.0 → quotients_at site most n bits ≡ Ok x
 unfolding quotients_at
 judged_within site most more zero bits x e h = e
 judged_within site most more (suc n) bits x e h =
@@ -35,7 +37,8 @@ judged_within site most more (suc n) bits x e h =
     let b = bind_ok (quotients_at site more n a.0.1) (λ qs. Ok (a.0.0 ∷ qs.0, qs.1)) x a.2 in
     let is = ok_is (a.0.0 ∷ b.0.0, b.0.1) x b.2 in
     let all : AllByRecursion (λ v. v ≤ most) (a.0.0 ∷ b.0.0) = subst (λ (y : List ℕ × List Bool). AllByRecursion (λ v. v ≤ most) y.0) (sym is) h in
-    let first : fundamental_at site most bits ≡ Ok a.0 = ap (fundamental_at site most) (fundamental_takes site more bits a.0 a.1).0 ∙ fundamental_again site most a.0.0 a.0.1 all.0 in
+    let first : fundamental_at site most bits ≡ Ok a.0 = ap (fundamental_at site most) (fundamental_takes site more bits a.0 a.1).0
+    ∙ fundamental_again site most a.0.0 a.0.1 all.0 in
     let others = judged_within site most more n a.0.1 b.0 b.1 all.1 in
     ap (λ (r : Result (ℕ × List Bool) Fault). r >>= λ q. quotients_at site most n q.1 >>= λ qs. Ok (q.0 ∷ qs.0, qs.1)) first
     ∙ ap (λ (r : Result (List ℕ × List Bool) Fault). r >>= λ qs. Ok (a.0.0 ∷ qs.0, qs.1)) others ∙ b.2

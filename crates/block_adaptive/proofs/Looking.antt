@@ -17,12 +17,15 @@ use Rattle.block_adaptive.proofs.Codes.{fundamental_again}
 use Rattle.block_adaptive.proofs.Costs.{length-fundamental}
 
 -- the bits ahead are a text and what is ahead behind it
-uses : (a b : Ahead) (text left : List Bool) → b.peeked ≡ a.peeked → b.known + length text ≡ a.known → bits_of a.known a.word ≡ text ++ bits_of b.known b.word → IsAhead a left → Uses a b text left
+uses : (a b : Ahead) (text left : List Bool) → b.peeked ≡ a.peeked → b.known + length text ≡ a.known → bits_of a.known a.word ≡ text ++ bits_of b.known b.word
+    → IsAhead a left → Uses a b text left
 uses a b text left same size is h =
     let behind : List Bool = bits_of b.known b.word ++ drop b.peeked left in
-    let whole : drop (used a) left ≡ text ++ behind = h.bits ∙ ap (λ (x : List Bool). x ++ drop a.peeked left) is ∙ append_assoc text (bits_of b.known b.word) (drop a.peeked left) ∙ ap (λ (n : ℕ). text ++ (bits_of b.known b.word ++ drop n left)) (sym same) in
+    let whole : drop (used a) left ≡ text ++ behind = h.bits ∙ ap (λ (x : List Bool). x ++ drop a.peeked left) is
+    ∙ append_assoc text (bits_of b.known b.word) (drop a.peeked left) ∙ ap (λ (n : ℕ). text ++ (bits_of b.known b.word ++ drop n left)) (sym same) in
     let place : used a + length text ≡ used b = omega (arith, h.few) in
-    let rest : drop (used b) left ≡ behind = ap (λ (n : ℕ). drop n left) (sym place) ∙ sym (drop-drop (length text) (used a) left) ∙ ap (drop (length text)) whole ∙ drop_at text behind (length text) refl in
+    let rest : drop (used b) left ≡ behind = ap (λ (n : ℕ). drop n left) (sym place) ∙ sym (drop-drop (length text) (used a) left)
+    ∙ ap (drop (length text)) whole ∙ drop_at text behind (length text) refl in
     record {
       ahead = record { few = omega (arith, h.few); most = omega (arith, h.most); enough = omega (arith, h.enough); bits = rest };
       text = whole ∙ ap (λ (x : List Bool). text ++ x) (sym rest);
@@ -70,17 +73,20 @@ top_cleared word j least most =
     let is : 1 * 2 ^ j + r ≡ word = omega arith in
     let one : 1 * 2 ^ j + 0 ≡ 2 ^ j = omega arith in
     let none : bit_xor 1 1 * 2 ^ j + r ≡ r = omega arith in
-    ap (λ (n : ℕ). bit_xor n (2 ^ j)) (sym is) ∙ ap (bit_xor (1 * 2 ^ j + r)) (sym one) ∙ xor_block j 1 1 r 0 (omega arith) (pow_pos j) ∙ ap (λ (n : ℕ). bit_xor 1 1 * 2 ^ j + n) (xor_zero_r r) ∙ none
+    ap (λ (n : ℕ). bit_xor n (2 ^ j)) (sym is) ∙ ap (bit_xor (1 * 2 ^ j + r)) (sym one) ∙ xor_block j 1 1 r 0 (omega arith) (pow_pos j)
+    ∙ ap (λ (n : ℕ). bit_xor 1 1 * 2 ^ j + n) (xor_zero_r r) ∙ none
 
 -- the code that ends with it
-pub code_used : (a : Ahead) (j : ℕ) (left : List Bool) → IsTop a.word a.known j → IsAhead a left → Uses a (record { peeked = a.peeked; known = j; word = a.word - 2 ^ j }) (fundamental (a.known - j - 1)) left
+pub code_used : (a : Ahead) (j : ℕ) (left : List Bool) → IsTop a.word a.known j → IsAhead a left
+    → Uses a (record { peeked = a.peeked; known = j; word = a.word - 2 ^ j }) (fundamental (a.known - j - 1)) left
 code_used a j left top h =
     let z : ℕ = a.known - j - 1 in
     let size : z + 1 + j ≡ a.known = omega (arith, top.inside) in
     let one : 1 * 2 ^ j ≡ 2 ^ j = omega arith in
     let is : bits_of a.known a.word ≡ fundamental z ++ bits_of j (a.word - 2 ^ j) =
     subst (λ (p : ℕ). bits_of a.known a.word ≡ fundamental z ++ bits_of j (a.word - p)) one
-    (ap (λ (n : ℕ). bits_of n a.word) (sym size) ∙ parts (z + 1) j 1 a.word (omega (arith, top.least)) (omega (arith, top.most)) ∙ ap (λ (x : List Bool). x ++ bits_of j (a.word - 1 * 2 ^ j)) (bits_of-fundamental z)) in
+    (ap (λ (n : ℕ). bits_of n a.word) (sym size) ∙ parts (z + 1) j 1 a.word (omega (arith, top.least)) (omega (arith, top.most))
+    ∙ ap (λ (x : List Bool). x ++ bits_of j (a.word - 1 * 2 ^ j)) (bits_of-fundamental z)) in
     uses a (record { peeked = a.peeked; known = j; word = a.word - 2 ^ j }) (fundamental z) left refl (omega (arith, length-fundamental z)) is h
 
 -- and what is ahead behind it
@@ -89,7 +95,8 @@ code_word a j word top = record { few = omega (arith, word.few, top.inside); bel
 
 -- ---- a look
 
-pub looked : (n word : ℕ) (left after : List Bool) → n ≤ 57 → n ≤ length left → left ≡ bits_of n word ++ after → IsAhead (record { peeked = n; known = n; word = word }) left
+pub looked : (n word : ℕ) (left after : List Bool) → n ≤ 57 → n ≤ length left → left ≡ bits_of n word ++ after
+    → IsAhead (record { peeked = n; known = n; word = word }) left
 looked n word left after most enough is =
     let none : n - n ≡ 0 = omega arith in
     let behind : drop n left ≡ after = ap (drop n) is ∙ drop_at (bits_of n word) after n (length-bits_of n word) in
@@ -100,7 +107,8 @@ looked n word left after most enough is =
       bits = ap (λ (k : ℕ). drop k left) none ∙ is ∙ ap (λ (x : List Bool). bits_of n word ++ x) (sym behind);
     }
 
-pub looked_word : (left : List Bool) (word : ℕ) → word < 2 ^ 64 → IsFront 57 left word → 57 ≤ length left → IsAhead (record { peeked = 57; known = 57; word = word / 2 ^ 7 }) left × IsWord (record { peeked = 57; known = 57; word = word / 2 ^ 7 })
+pub looked_word : (left : List Bool) (word : ℕ) → word < 2 ^ 64 → IsFront 57 left word → 57 ≤ length left
+    → IsAhead (record { peeked = 57; known = 57; word = word / 2 ^ 7 }) left × IsWord (record { peeked = 57; known = 57; word = word / 2 ^ 7 })
 looked_word left word below h enough =
     (looked 57 (word / 2 ^ 7) left (drop 57 left) (omega arith) enough (h 57 (omega arith)), record { few = omega arith; below = shr_below word 57 7 below })
 
@@ -109,7 +117,8 @@ looked_nowhere left = looked 0 0 left left (omega arith) (omega arith) (ap (λ (
 
 -- ---- what they are read as
 
-pub code_read : (site : Site) (most m : ℕ) (a b : Ahead) (left : List Bool) → m ≤ most → Uses a b (fundamental m) left → fundamental_at site most (drop (used a) left) ≡ Ok (m, drop (used b) left)
+pub code_read : (site : Site) (most m : ℕ) (a b : Ahead) (left : List Bool) → m ≤ most → Uses a b (fundamental m) left
+    → fundamental_at site most (drop (used a) left) ≡ Ok (m, drop (used b) left)
 code_read site most m a b left le h = rw h.text (fundamental_again site most m (drop (used b) left) le)
 
 -- ---- a look behind what was used
@@ -118,9 +127,11 @@ abbrev pub Reading : Type 0
 Reading = List Bool → Result (ℕ × List Bool) Fault
 
 -- what is read out of the bits that were looked at anew
-pub read_fresh : (f : Reading) (m : ℕ) (was a b : Ahead) (old left : List Bool) → left ≡ drop (used was) old → used a ≡ 0 → f (drop (used a) left) ≡ Ok (m, drop (used b) left) → f (drop (used was) old) ≡ Ok (m, drop (used b) left)
+pub read_fresh : (f : Reading) (m : ℕ) (was a b : Ahead) (old left : List Bool) → left ≡ drop (used was) old → used a ≡ 0
+    → f (drop (used a) left) ≡ Ok (m, drop (used b) left) → f (drop (used was) old) ≡ Ok (m, drop (used b) left)
 read_fresh f m was a b old left is unused e = ap f (sym is) ∙ ap (λ (n : ℕ). f (drop n left)) (sym unused) ∙ e
 
 -- what is read by itself, before a look at the bits behind it
-pub read_alone : (f : Reading) (m : ℕ) (was b : Ahead) (old left after : List Bool) → left ≡ drop (used was) old → used b ≡ 0 → f left ≡ Ok (m, after) → f (drop (used was) old) ≡ Ok (m, drop (used b) after)
+pub read_alone : (f : Reading) (m : ℕ) (was b : Ahead) (old left after : List Bool) → left ≡ drop (used was) old → used b ≡ 0 → f left ≡ Ok (m, after)
+    → f (drop (used was) old) ≡ Ok (m, drop (used b) after)
 read_alone f m was b old left after is unused e = ap f (sym is) ∙ e ∙ ap (λ (n : ℕ). Ok (m, drop n after)) (sym unused)

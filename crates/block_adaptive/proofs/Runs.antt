@@ -38,9 +38,11 @@ first_of_hand size at count spare values copied behind le long same =
     let here : List ℕ = drop at (take size values) in
     let more : at + (size - at) ≡ size = omega arith in
     let inner : here ≡ take (size - at) (drop at values) = ap (λ n. drop at (take n values)) (sym more) ∙ drop-take at (size - at) values in
-    let front : take count here ≡ take count (copied ++ behind) = ap (take count) inner ∙ take-take count (size - at) (drop at values) (omega arith) ∙ sym same ∙ sym (take_at copied behind count long) in
+    let front : take count here ≡ take count (copied ++ behind) = ap (take count) inner ∙ take-take count (size - at) (drop at values) (omega arith) ∙ sym same
+    ∙ sym (take_at copied behind count long) in
     let split : here ≡ take count (copied ++ behind) ++ drop (at + count) (take size values) =
-    sym (take-append-drop count here) ∙ ap (λ (vs : List ℕ). vs ++ drop count here) front ∙ ap (λ (vs : List ℕ). take count (copied ++ behind) ++ vs) (drop-drop count at (take size values)) in
+    sym (take-append-drop count here) ∙ ap (λ (vs : List ℕ). vs ++ drop count here) front
+    ∙ ap (λ (vs : List ℕ). take count (copied ++ behind) ++ vs) (drop-drop count at (take size values)) in
     ap (λ (vs : List ℕ). vs ++ zeros spare) split ∙ append_assoc (take count (copied ++ behind)) (drop (at + count) (take size values)) (zeros spare)
 
 pub zeros_of_hand : (size at count spare : ℕ) (values filled behind : List ℕ) → at ≡ size → count ≤ spare → length filled ≡ count → filled ≡ zeros count
@@ -53,23 +55,27 @@ zeros_of_hand size at count spare values filled behind same le long are =
 
 -- ---- what was given
 
-pub values_given : (v new : Unpacked) (given list : List ℕ) (bits : List Bool) → HasGiven v given bits → GivesFront v list new → HasGiven new (given ++ list) bits
+pub values_given : (v new : Unpacked) (given list : List ℕ) (bits : List Bool) → HasGiven v given bits → GivesFront v list new
+    → HasGiven new (given ++ list) bits
 values_given v new given list bits h front =
     let is : given ++ v.held ≡ (given ++ list) ++ new.held = ap (λ (held : List ℕ). given ++ held) front.0 ∙ sym (append_assoc given list new.held) in
     rw front.1 (record { data_sets = h.data_sets; lawful = h.lawful; text = h.text; told = h.told ∙ is; working = h.working })
 
 -- out of what was in hand
-pub held_run : (v new : Unpacked) (list : List ℕ) (unread : List Bool) → GivesFront v list new → (given : List ℕ) (bits : List Bool) → HasGiven v given bits → GivesAll v given bits unread new unread list
+pub held_run : (v new : Unpacked) (list : List ℕ) (unread : List Bool) → GivesFront v list new → (given : List ℕ) (bits : List Bool) → HasGiven v given bits
+    → GivesAll v given bits unread new unread list
 held_run v new list unread front given bits h =
     let has : HasGiven new (given ++ list) bits = values_given v new given list bits h front in
     let same : new.cut ≡ v.cut = ap (λ (u : Unpacked). u.cut) front.1 in
     (subst (λ (c : Cut). AllByRecursion (λ n. n < 2 ^ c.set.bits) list) same (list_range new given list bits has), [], refl, rw (append-nil bits) has)
 
 -- out of the data set that came next
-pub taken_run : (v held new : Unpacked) (reader : Unread) (left : List Bool) (list : List ℕ) → IsCut v.cut → v.block < v.cut.count → v.held ≡ [] → next_data_set v reader ≡ Ok (held, left) → GivesFront held list new
+pub taken_run : (v held new : Unpacked) (reader : Unread) (left : List Bool) (list : List ℕ) → IsCut v.cut → v.block < v.cut.count → v.held ≡ []
+    → next_data_set v reader ≡ Ok (held, left) → GivesFront held list new
     → (given : List ℕ) (bits : List Bool) → HasGiven v given bits → GivesAll v given bits reader.left new left list
 taken_run v held new reader left list cut more none e front given bits h =
-    let a = bind_ok (data_set_at (site_of reader v.block) v.cut.set v.cut.size (left_at v.cut v.block) reader.left) (λ t. Ok (holding v t.0, t.1)) (held, left) e in
+    let a = bind_ok (data_set_at (site_of reader v.block) v.cut.set v.cut.size (left_at v.cut v.block) reader.left) (λ t. Ok (holding v t.0, t.1)) (held, left)
+    e in
     let same = ok_is (holding v a.0.0, a.0.1) (held, left) a.2 in
     let is : holding v a.0.0 ≡ held = ap (λ (x : Unpacked × List Bool). x.0) same in
     let rest : a.0.1 ≡ left = ap (λ (x : Unpacked × List Bool). x.1) same in
@@ -86,34 +92,41 @@ taken_run v held new reader left list cut more none e front given bits h =
 -- the refusal that was met is as before
 pub taken_kept : (v held : Unpacked) (reader : Unread) (left : List Bool) → next_data_set v reader ≡ Ok (held, left) → held.refused ≡ v.refused
 taken_kept v held reader left e =
-    let a = bind_ok (data_set_at (site_of reader v.block) v.cut.set v.cut.size (left_at v.cut v.block) reader.left) (λ t. Ok (holding v t.0, t.1)) (held, left) e in
+    let a = bind_ok (data_set_at (site_of reader v.block) v.cut.set v.cut.size (left_at v.cut v.block) reader.left) (λ t. Ok (holding v t.0, t.1)) (held, left)
+    e in
     ap (λ (x : Unpacked × List Bool). x.0.refused) (sym (ok_is (holding v a.0.0, a.0.1) (held, left) a.2))
 
 -- ---- one run behind another
 
 -- numbers that were written behind others
-pub written_more : (at count : ℕ) (xs ys behind : List ℕ) → at ≤ length xs → count ≤ length ys → take (at + count) (take at xs ++ (ys ++ behind)) ≡ take at xs ++ take count ys
+pub written_more : (at count : ℕ) (xs ys behind : List ℕ) → at ≤ length xs → count ≤ length ys
+    → take (at + count) (take at xs ++ (ys ++ behind)) ≡ take at xs ++ take count ys
 written_more at count xs ys behind first second =
     let long : length (take at xs) ≡ at = omega (arith, length-take at xs) in
-    take-add at count (take at xs ++ (ys ++ behind)) ∙ ap (λ (vs : List ℕ). vs ++ take count (drop at (take at xs ++ (ys ++ behind)))) (take_at (take at xs) (ys ++ behind) at long)
-    ∙ ap (λ (vs : List ℕ). take at xs ++ take count vs) (drop_at (take at xs) (ys ++ behind) at long) ∙ ap (λ (vs : List ℕ). take at xs ++ vs) (take-append-le count ys behind second)
+    take-add at count (take at xs ++ (ys ++ behind))
+    ∙ ap (λ (vs : List ℕ). vs ++ take count (drop at (take at xs ++ (ys ++ behind)))) (take_at (take at xs) (ys ++ behind) at long)
+    ∙ ap (λ (vs : List ℕ). take at xs ++ take count vs) (drop_at (take at xs) (ys ++ behind) at long)
+    ∙ ap (λ (vs : List ℕ). take at xs ++ vs) (take-append-le count ys behind second)
 
-pub none_given : (v : Unpacked) (unread : List Bool) (given : List ℕ) (bits : List Bool) → HasGiven v given bits → GivesAll v given bits unread v unread []
-none_given v unread given bits h = (tt, [], refl, rw (append-nil given, append-nil bits) h)
-
-pub runs_joined : (v mid new : Unpacked) (given xs ys : List ℕ) (bits unread now left : List Bool) → mid.cut ≡ v.cut → (g : GivesAll v given bits unread mid now xs) → GivesAll mid (given ++ xs) (bits ++ g.1) now new left ys
+pub runs_joined : (v mid new : Unpacked) (given xs ys : List ℕ) (bits unread now left : List Bool) → mid.cut ≡ v.cut
+    → (g : GivesAll v given bits unread mid now xs) → GivesAll mid (given ++ xs) (bits ++ g.1) now new left ys
     → GivesAll v given bits unread new left (xs ++ ys)
 runs_joined v mid new given xs ys bits unread now left same g m = (
   range_append (2 ^ v.cut.set.bits) xs ys g.0 (subst (λ (c : Cut). AllByRecursion (λ n. n < 2 ^ c.set.bits) ys) same m.0),
   g.1 ++ m.1,
   g.2 ∙ ap (λ (y : List Bool). g.1 ++ y) m.2 ∙ sym (append_assoc g.1 m.1 left),
-  subst (λ (ns : List ℕ). HasGiven new ns (bits ++ (g.1 ++ m.1))) (append_assoc given xs ys) (subst (λ (bs : List Bool). HasGiven new ((given ++ xs) ++ ys) bs) (append_assoc bits g.1 m.1) m.3),
+  subst (λ (ns : List ℕ). HasGiven new ns (bits ++ (g.1 ++ m.1))) (append_assoc given xs ys)
+      (subst (λ (bs : List Bool). HasGiven new ((given ++ xs) ++ ys) bs) (append_assoc bits g.1 m.1) m.3),
 )
 
 -- a refusal behind numbers that were given is that of the body
-pub run_refused : (v mid : Unpacked) (count now_count : ℕ) (xs given : List ℕ) (bits unread now : List Bool) (e : Fault) → mid.cut ≡ v.cut → now_count ≡ count → (g : GivesAll v given bits unread mid now xs)
-    → ((ns : List ℕ) (bs : List Bool) → HasGiven mid ns bs → data_sets_at now_count mid.cut mid.cut.count 0 (bs ++ now) ≡ Err e) → data_sets_at count v.cut v.cut.count 0 (bits ++ unread) ≡ Err e
+pub run_refused : (v mid : Unpacked) (count now_count : ℕ) (xs given : List ℕ) (bits unread now : List Bool) (e : Fault) → mid.cut ≡ v.cut → now_count ≡ count
+    → (g : GivesAll v given bits unread mid now xs)
+    → ((ns : List ℕ) (bs : List Bool) → HasGiven mid ns bs → data_sets_at now_count mid.cut mid.cut.count 0 (bs ++ now) ≡ Err e)
+    → data_sets_at count v.cut v.cut.count 0 (bits ++ unread) ≡ Err e
 run_refused v mid count now_count xs given bits unread now e same counts g bad =
     let there = bad (given ++ xs) (bits ++ g.1) g.3 in
-    ap (λ (bs : List Bool). data_sets_at count v.cut v.cut.count 0 (bits ++ bs)) g.2 ∙ ap (data_sets_at count v.cut v.cut.count 0) (sym (append_assoc bits g.1 now))
-    ∙ ap (λ (c : Cut). data_sets_at count c c.count 0 ((bits ++ g.1) ++ now)) (sym same) ∙ ap (λ (n : ℕ). data_sets_at n mid.cut mid.cut.count 0 ((bits ++ g.1) ++ now)) (sym counts) ∙ there
+    ap (λ (bs : List Bool). data_sets_at count v.cut v.cut.count 0 (bits ++ bs)) g.2
+    ∙ ap (data_sets_at count v.cut v.cut.count 0) (sym (append_assoc bits g.1 now))
+    ∙ ap (λ (c : Cut). data_sets_at count c c.count 0 ((bits ++ g.1) ++ now)) (sym same)
+    ∙ ap (λ (n : ℕ). data_sets_at n mid.cut mid.cut.count 0 ((bits ++ g.1) ++ now)) (sym counts) ∙ there

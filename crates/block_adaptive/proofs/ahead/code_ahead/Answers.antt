@@ -13,7 +13,11 @@ overflow_sub-result-2 c = omega (arith, (top_is c.args.ahead.word c.args.ahead.k
 pub returns : goal.returns
 returns c =
     let top = top_is c.args.ahead.word c.args.ahead.known c.requires.below c.requires.few c.if-ahead-eq0.false in
-    rw (one_shl (63 - count_leading_zeros 64 c.args.ahead.word) 64 (omega arith), top_cleared c.args.ahead.word (63 - count_leading_zeros 64 c.args.ahead.word) top.least top.most) (
+    rw (
+      one_shl (63 - count_leading_zeros 64 c.args.ahead.word) 64 (omega arith),
+      top_cleared c.args.ahead.word (63 - count_leading_zeros 64 c.args.ahead.word)
+          top.least top.most,
+    ) (
       omega (arith, c.requires.few),
       code_word c.args.ahead (63 - count_leading_zeros 64 c.args.ahead.word) c.requires top,
       λ left h. code_used c.args.ahead (63 - count_leading_zeros 64 c.args.ahead.word) left top h,

@@ -15,12 +15,14 @@ loop-value-preserved c =
     elim c.match-code_ahead.branch [
       | in-Some w ↦
           (let uses = w.in-Some.ensures.2 c.loop-value.reader.left c.loop-value.invariant.ahead in
-          let one = code_read site 65535 w.in-Some.quotient c.loop-value.ahead w.in-Some.next c.loop-value.reader.left (omega (arith, w.in-Some.ensures.0)) uses in
+          let one = code_read site 65535 w.in-Some.quotient c.loop-value.ahead w.in-Some.next c.loop-value.reader.left (omega (arith, w.in-Some.ensures.0))
+          uses in
           rw (w.reader-is, w.values-is, w.bound-is, w.ahead-is) (record {
             ahead = uses.ahead;
             word = w.in-Some.ensures.1;
             bound = bound_more c.loop-value.bound w.in-Some.quotient c.loop-value.value-index c.loop-value.values lt c.loop-value.invariant.bound;
-            read = each_more f c.loop-value.values c.loop-value.value-index w.in-Some.quotient (drop (used c.loop-value.ahead) c.loop-value.reader.left) (drop (used w.in-Some.next) c.loop-value.reader.left) (each_at f c.args.values.now c.args.reader.now.left) lt one c.loop-value.invariant.read;
+            read = each_more f c.loop-value.values c.loop-value.value-index w.in-Some.quotient (drop (used c.loop-value.ahead) c.loop-value.reader.left)
+                (drop (used w.in-Some.next) c.loop-value.reader.left) (each_at f c.args.values.now c.args.reader.now.left) lt one c.loop-value.invariant.read;
             count = c.loop-value.invariant.count;
           }))
       | in_default+in_ok-quotient w ↦
@@ -29,7 +31,9 @@ loop-value-preserved c =
             ahead = w.in_ok-quotient.ensures.found.1;
             word = w.in_ok-quotient.ensures.found.0;
             bound = bound_more c.loop-value.bound w.in_ok-quotient.quotient c.loop-value.value-index c.loop-value.values lt c.loop-value.invariant.bound;
-            read = each_more f c.loop-value.values c.loop-value.value-index w.in_ok-quotient.quotient (drop (used c.loop-value.ahead) c.loop-value.reader.left) (drop (used w.in_ok-quotient.next) w.next_code.new.reader.left) (each_at f c.args.values.now c.args.reader.now.left) lt one c.loop-value.invariant.read;
+            read = each_more f c.loop-value.values c.loop-value.value-index w.in_ok-quotient.quotient (drop (used c.loop-value.ahead) c.loop-value.reader.left)
+                (drop (used w.in_ok-quotient.next) w.next_code.new.reader.left) (each_at f c.args.values.now c.args.reader.now.left)
+                lt one c.loop-value.invariant.read;
             count = w.in_ok-quotient.ensures.count ∙ c.loop-value.invariant.count;
           }))
     ]
@@ -40,5 +44,7 @@ returns-clause-read c =
     let f : Reader = λ _ left. fundamental_at site 65535 left in
     let same : c.loop-value.value-index ≡ length c.loop-value.values = omega arith in (
       (all_bound c.loop-value.bound c.loop-value.value-index c.loop-value.values same c.loop-value.invariant.bound),
-      rw c.take_used.ensures.left (quotients_each site 65535 c.args.values.now c.args.reader.now.left ∙ each_done f c.loop-value.values c.loop-value.value-index (drop (used c.loop-value.ahead) c.loop-value.reader.left) (each_at f c.args.values.now c.args.reader.now.left) same c.loop-value.invariant.read),
+      rw c.take_used.ensures.left (quotients_each site 65535 c.args.values.now c.args.reader.now.left
+          ∙ each_done f c.loop-value.values c.loop-value.value-index (drop (used c.loop-value.ahead) c.loop-value.reader.left)
+          (each_at f c.args.values.now c.args.reader.now.left) same c.loop-value.invariant.read),
     )

@@ -10,6 +10,8 @@ invariant-loop-value l = record {
   ahead : IsAhead l.ahead l.reader.left;
   word : IsWord l.ahead;
   bound : AllByRecursion (λ q. q ≤ l.bound) (take l.value-index l.values);
-  read : with_front (take l.value-index l.values) (each_at (λ _ left. fundamental_at (site_of l.fn.reader l.block) 65535 left) (drop l.value-index l.values) (drop (used l.ahead) l.reader.left)) ≡ each_at (λ _ left. fundamental_at (site_of l.fn.reader l.block) 65535 left) l.fn.values l.fn.reader.left;
+  read : with_front (take l.value-index l.values)
+      (each_at (λ _ left. fundamental_at (site_of l.fn.reader l.block) 65535 left) (drop l.value-index l.values) (drop (used l.ahead) l.reader.left)) ≡ each_at
+      (λ _ left. fundamental_at (site_of l.fn.reader l.block) 65535 left) l.fn.values l.fn.reader.left;
   count : l.reader.count ≡ l.fn.reader.count;
 }

@@ -7,4 +7,5 @@ pub returns-then-bound-most-clause-read : goal.returns-then-bound-most-clause-re
 returns-then-bound-most-clause-read c =
     let few = bounded c.in-Ok.bound c.args.most c.codes.new.values c.if-bound-most.true c.in-Ok.ensures.read.0 in
     let read = rw c.fork-ahead.ensures at c.in-Ok.ensures.read.1 in
-    judged_within (site_of c.args.reader.now c.args.block) c.args.most 65535 (length c.args.values.now) c.args.reader.now.left (c.codes.new.values, c.codes.new.reader.left) read few
+    judged_within (site_of c.args.reader.now c.args.block) c.args.most 65535 (length c.args.values.now) c.args.reader.now.left
+    (c.codes.new.values, c.codes.new.reader.left) read few

@@ -13,4 +13,6 @@ skip-requires c = omega (arith, ahead_length 57 c.args.reader.now.left c.in-Some
 pub returns-in-Some-clause-read : goal.returns-in-Some-clause-read
 returns-in-Some-clause-read c =
     rw (c.skip.ensures.left, c.from.ensures)
-    (four_read (site_of c.args.reader.now c.args.block) c.args.k c.args.most c.args.four.now c.join_lows.new.four c.args.reader.now.left c.in-Some.word c.in-Some.ensures.bits c.requires.depth c.requires.four c.requires.within c.join_lows.ensures)
+    (four_read (site_of c.args.reader.now c.args.block)
+    c.args.k c.args.most c.args.four.now c.join_lows.new.four c.args.reader.now.left c.in-Some.word c.in-Some.ensures.bits c.requires.depth c.requires.four
+    c.requires.within c.join_lows.ensures)

@@ -12,7 +12,8 @@ pub joined-requires-3-clause-within : goal.joined-requires-3-clause-within
 joined-requires-3-clause-within c = (four_within c.args.k 65536 c.args.four.now c.joined.result c.joined-2.result 0 c.requires.four c.requires.within).2
 
 pub joined-requires-4-clause-within : goal.joined-requires-4-clause-within
-joined-requires-4-clause-within c = (four_within c.args.k 65536 c.args.four.now c.joined.result c.joined-2.result c.joined-3.result c.requires.four c.requires.within).3
+joined-requires-4-clause-within c =
+    (four_within c.args.k 65536 c.args.four.now c.joined.result c.joined-2.result c.joined-3.result c.requires.four c.requires.within).3
 
 pub returns : goal.returns
 returns c = λ a b x d is.

@@ -16,7 +16,9 @@ returns-in_err-value-clause-read c =
     let f : Reader = low_at site c.args.k c.args.most in
     let lt : c.loop-value.value-index < length c.loop-value.values = omega arith in
     let one = rw c.loop-value.invariant.count at c.in_err-value.ensures.read in
-    rw (p.1, p.2) (lows_each site c.args.k c.args.most c.args.values.now c.args.reader.now.left ∙ each_ends f c.loop-value.values c.loop-value.value-index c.in_err-value.field-0.0 c.loop-value.reader.left (each_at f c.args.values.now c.args.reader.now.left) lt one c.loop-value.invariant.read)
+    rw (p.1, p.2) (lows_each site c.args.k c.args.most c.args.values.now c.args.reader.now.left
+    ∙ each_ends f c.loop-value.values c.loop-value.value-index c.in_err-value.field-0.0 c.loop-value.reader.left
+    (each_at f c.args.values.now c.args.reader.now.left) lt one c.loop-value.invariant.read)
 
 pub loop-value-preserved : goal.loop-value-preserved
 loop-value-preserved c =
@@ -25,7 +27,8 @@ loop-value-preserved c =
     let lt : c.loop-value.value-index < length c.loop-value.values = omega arith in
     let one = rw c.loop-value.invariant.count at c.in_ok-value.ensures.read in
     record {
-      read = each_more f c.loop-value.values c.loop-value.value-index c.in_ok-value.field-0 c.loop-value.reader.left c.whole.new.reader.left (each_at f c.args.values.now c.args.reader.now.left) lt one c.loop-value.invariant.read;
+      read = each_more f c.loop-value.values c.loop-value.value-index c.in_ok-value.field-0 c.loop-value.reader.left c.whole.new.reader.left
+          (each_at f c.args.values.now c.args.reader.now.left) lt one c.loop-value.invariant.read;
       count = c.in_ok-value.ensures.count ∙ c.loop-value.invariant.count;
     }
 
@@ -34,4 +37,6 @@ returns-clause-read c =
     let site : Site = site_of c.args.reader.now c.args.block in
     let f : Reader = low_at site c.args.k c.args.most in
     let same : c.loop-value.value-index ≡ length c.loop-value.values = omega arith in
-    lows_each site c.args.k c.args.most c.args.values.now c.args.reader.now.left ∙ each_done f c.loop-value.values c.loop-value.value-index c.loop-value.reader.left (each_at f c.args.values.now c.args.reader.now.left) same c.loop-value.invariant.read
+    lows_each site c.args.k c.args.most c.args.values.now c.args.reader.now.left
+    ∙ each_done f c.loop-value.values c.loop-value.value-index c.loop-value.reader.left (each_at f c.args.values.now c.args.reader.now.left)
+    same c.loop-value.invariant.read

@@ -23,7 +23,8 @@ returns-in_err-four_lows-clause-read c =
     let p = err_from_is_err_and c.from_residual.result c.from_residual.ensures.1 in
     let was = c.loop-first.invariant in
     let bad = rw was.count at c.in_err-four_lows.ensures.read in
-    rw (p.1, p.2) (fours_end (site_of c.args.reader.now c.args.block) c.args.k c.args.most c.loop-first.first _ c.loop-first.values c.loop-first.reader.left c.in_err-four_lows.field-0.0 _ bad was.read)
+    rw (p.1, p.2) (fours_end (site_of c.args.reader.now c.args.block)
+    c.args.k c.args.most c.loop-first.first _ c.loop-first.values c.loop-first.reader.left c.in_err-four_lows.field-0.0 _ bad was.read)
 
 pub loop-first-preserved : goal.loop-first-preserved
 loop-first-preserved c =
@@ -35,7 +36,8 @@ loop-first-preserved c =
     let room : first + n ≤ length c.loop-first.values = omega (arith, was.fours, was.long, was.inside, c.loop-first-test.true, c.requires.fours) in
     let long : length c.four_lows.new.four ≡ n = search rules in
     let read = rw was.count at c.in_ok-four_lows.ensures.read in
-    let more = fours_more (site_of c.args.reader.now c.args.block) c.args.k c.args.most first n c.loop-first.values c.four_lows.new.four c.loop-first.reader.left c.four_lows.new.reader.left _ room long read was.read in
+    let more = fours_more (site_of c.args.reader.now c.args.block)
+    c.args.k c.args.most first n c.loop-first.values c.four_lows.new.four c.loop-first.reader.left c.four_lows.new.reader.left _ room long read was.read in
     let behind = fours_behind c.args.k (c.args.most + 1) first n c.loop-first.values c.four_lows.new.four room long was.within in
     record {
       read = rw next at more;
@@ -48,4 +50,5 @@ loop-first-preserved c =
 
 pub returns-clause-read : goal.returns-clause-read
 returns-clause-read c =
-    fours_done (site_of c.args.reader.now c.args.block) c.args.k c.args.most c.loop-first.first c.loop-first.values c.loop-first.reader.left _ (omega (arith, c.loop-first-test.false, c.loop-first.invariant.inside)) c.loop-first.invariant.read
+    fours_done (site_of c.args.reader.now c.args.block) c.args.k c.args.most c.loop-first.first c.loop-first.values c.loop-first.reader.left _
+    (omega (arith, c.loop-first-test.false, c.loop-first.invariant.inside)) c.loop-first.invariant.read

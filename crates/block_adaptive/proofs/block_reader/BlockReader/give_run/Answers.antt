@@ -10,7 +10,8 @@ returns-then-self-clause-front c =
     let long : length c.copy_from_slice.new.self ≡ c.min-count.result = search rules in
     let same : c.copy_from_slice.new.self ≡ take c.min-count.result (drop c.self.inside.at c.self.inside.values) = search rules in (
       ap (λ (v : Unpacked). v.held) (sym c.self.view_is)
-          ∙ first_of_hand c.self.inside.size c.self.inside.at c.min-count.result c.self.inside.zeros c.self.inside.values c.copy_from_slice.new.self (drop c.min-count.result c.args.numbers.now) le long same,
+          ∙ first_of_hand c.self.inside.size c.self.inside.at c.min-count.result c.self.inside.zeros c.self.inside.values c.copy_from_slice.new.self
+          (drop c.min-count.result c.args.numbers.now) le long same,
       put_back _ _ _ c.self.view_is,
     )
 
@@ -21,6 +22,7 @@ returns-else-self-clause-front c =
     let long : length c.fill.new.self ≡ c.min-count-else-self.result = search rules in
     let are : c.fill.new.self ≡ zeros c.min-count-else-self.result = search rules in (
       ap (λ (v : Unpacked). v.held) (sym c.self.view_is)
-          ∙ zeros_of_hand c.self.inside.size c.self.inside.at c.min-count-else-self.result c.self.inside.zeros c.self.inside.values c.fill.new.self (drop c.min-count-else-self.result c.args.numbers.now) at-end le long are,
+          ∙ zeros_of_hand c.self.inside.size c.self.inside.at c.min-count-else-self.result c.self.inside.zeros c.self.inside.values c.fill.new.self
+          (drop c.min-count-else-self.result c.args.numbers.now) at-end le long are,
       put_back _ _ _ c.self.view_is,
     )

@@ -9,7 +9,9 @@ pub returns-in_err-done-clause-given : goal.returns-in_err-done-clause-given
 returns-in_err-done-clause-given c =
     let p = err_from_is_err_and c.from_residual.result c.from_residual.ensures.1 in
     let was = c.loop-done.invariant in
-    rw (p.1, p.2) (λ given bits h. run_refused c.args.self.now c.loop-done.self c.args.reader.now.count c.loop-done.reader.count (take c.loop-done.done c.loop-done.numbers) given bits c.args.reader.now.left c.loop-done.reader.left c.in_err-done.field-0.0 was.cut was.count (was.given given bits h) c.in_err-done.ensures.body)
+    rw (p.1, p.2) (λ given bits h. run_refused c.args.self.now c.loop-done.self c.args.reader.now.count c.loop-done.reader.count
+    (take c.loop-done.done c.loop-done.numbers) given bits c.args.reader.now.left c.loop-done.reader.left c.in_err-done.field-0.0 was.cut was.count
+    (was.given given bits h) c.in_err-done.ensures.body)
 
 pub loop-done-preserved : goal.loop-done-preserved
 loop-done-preserved c =
@@ -22,7 +24,8 @@ loop-done-preserved c =
       given = λ given bits h.
           let here = was.given given bits h in
           subst (λ (ns : List ℕ). GivesAll c.args.self.now given bits c.args.reader.now.left c.next_some.new.self c.next_some.new.reader.left ns) (sym list)
-          (runs_joined c.args.self.now c.loop-done.self c.next_some.new.self given first more bits c.args.reader.now.left c.loop-done.reader.left c.next_some.new.reader.left was.cut here (c.in_ok-done.ensures.given (given ++ first) (bits ++ here.1) here.3));
+          (runs_joined c.args.self.now c.loop-done.self c.next_some.new.self given first more bits c.args.reader.now.left c.loop-done.reader.left
+          c.next_some.new.reader.left was.cut here (c.in_ok-done.ensures.given (given ++ first) (bits ++ here.1) here.3));
       counted = omega (arith, was.counted, c.in_ok-done.ensures.counted);
       working = c.in_ok-done.ensures.working ∙ was.working;
       cut = c.in_ok-done.ensures.cut ∙ was.cut;
@@ -35,4 +38,5 @@ loop-done-preserved c =
 pub returns-clause-given : goal.returns-clause-given
 returns-clause-given c = λ given bits h.
     let was = c.loop-done.invariant in
-    subst (λ (ns : List ℕ). GivesAll c.args.self.now given bits c.args.reader.now.left c.loop-done.self c.loop-done.reader.left ns) (take_all c.loop-done.done c.loop-done.numbers (omega (arith, c.loop-done-test.false))) (was.given given bits h)
+    subst (λ (ns : List ℕ). GivesAll c.args.self.now given bits c.args.reader.now.left c.loop-done.self c.loop-done.reader.left ns)
+    (take_all c.loop-done.done c.loop-done.numbers (omega (arith, c.loop-done-test.false))) (was.given given bits h)

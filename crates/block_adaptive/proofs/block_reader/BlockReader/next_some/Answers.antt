@@ -14,15 +14,18 @@ returns-clause-given c =
     let cut : IsCut c.args.self.now.cut = rw (← c.self.view_is) c.self.invariant.cut in
     elim c.if-self-eq0.branch [
       | then-self-eq0+then-self+in_ok-take_data_set w ↦
-          (let none : c.args.self.now.held ≡ [] = ap (λ (v : Unpacked). v.held) (sym c.self.view_is) ∙ empty_hand c.self.inside.size c.self.inside.at c.self.inside.zeros c.self.inside.values w.if-self.true w.if-self-eq0.true in
-          rw w.reader-is (taken_run c.args.self.now w.take_data_set.new.self c.give_run.new.self c.args.reader.now _ _ cut (data_set_left c.args.self.now c.requires.more none) none w.in_ok-take_data_set.ensures.read (rw w.self-is at c.give_run.ensures.front)))
+          (let none : c.args.self.now.held ≡ [] = ap (λ (v : Unpacked). v.held) (sym c.self.view_is)
+          ∙ empty_hand c.self.inside.size c.self.inside.at c.self.inside.zeros c.self.inside.values w.if-self.true w.if-self-eq0.true in
+          rw w.reader-is (taken_run c.args.self.now w.take_data_set.new.self c.give_run.new.self c.args.reader.now _ _ cut
+          (data_set_left c.args.self.now c.requires.more none) none w.in_ok-take_data_set.ensures.read (rw w.self-is at c.give_run.ensures.front)))
       | else-self-eq0 w ↦ rw w.reader-is (held_run c.args.self.now c.give_run.new.self _ c.args.reader.now.left (rw w.self-is at c.give_run.ensures.front))
     ]
 
 pub returns-in_err-take_data_set-clause-body : goal.returns-in_err-take_data_set-clause-body
 returns-in_err-take_data_set-clause-body c =
     let cut : IsCut c.args.self.now.cut = rw (← c.self.view_is) c.self.invariant.cut in
-    let none : c.args.self.now.held ≡ [] = ap (λ (v : Unpacked). v.held) (sym c.self.view_is) ∙ empty_hand c.self.inside.size c.self.inside.at c.self.inside.zeros c.self.inside.values c.if-self.true c.if-self-eq0.true in
+    let none : c.args.self.now.held ≡ [] = ap (λ (v : Unpacked). v.held) (sym c.self.view_is)
+    ∙ empty_hand c.self.inside.size c.self.inside.at c.self.inside.zeros c.self.inside.values c.if-self.true c.if-self-eq0.true in
     let p = err_from_is_err_and c.from_residual.result c.from_residual.ensures.1 in
     rw (p.1, p.2) (next_refused c.args.self.now c.args.reader.now c.in_err-take_data_set.field-0.0 cut c.requires.more none c.in_err-take_data_set.ensures.read)
 
@@ -30,6 +33,7 @@ pub returns-clause-working : goal.returns-clause-working
 returns-clause-working c =
     elim c.if-self-eq0.branch [
       | then-self-eq0+then-self+in_ok-take_data_set w ↦
-          ap (λ (v : Unpacked). v.refused) c.give_run.ensures.front.1 ∙ ap (λ (v : Unpacked). v.refused) w.self-is ∙ taken_kept c.args.self.now w.take_data_set.new.self c.args.reader.now _ w.in_ok-take_data_set.ensures.read
+          ap (λ (v : Unpacked). v.refused) c.give_run.ensures.front.1 ∙ ap (λ (v : Unpacked). v.refused) w.self-is
+          ∙ taken_kept c.args.self.now w.take_data_set.new.self c.args.reader.now _ w.in_ok-take_data_set.ensures.read
       | else-self-eq0 w ↦ ap (λ (v : Unpacked). v.refused) c.give_run.ensures.front.1 ∙ ap (λ (v : Unpacked). v.refused) w.self-is
     ]

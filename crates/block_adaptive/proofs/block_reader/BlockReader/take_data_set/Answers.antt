@@ -8,7 +8,15 @@ use Rattle.block_adaptive.proofs.block_reader.BlockReader.take_data_set.Goals as
 pub overflow_add-self-in-Ok-Run : goal.overflow_add-self-in-Ok-Run
 overflow_add-self-in-Ok-Run c =
     let k = rw c.in-Ok-Run.field-0-is at c.in-Ok-Run.ensures.found in
-    omega (arith, k.1.1, c.from.ensures, rest_most (record { set = c.self.inside.set; size = c.self.inside.size; reference = c.self.inside.reference; count = c.self.inside.count }) c.self.inside.block, c.self.invariant.block)
+    omega (
+      arith,
+      k.1.1,
+      c.from.ensures,
+      rest_most
+          (record { set = c.self.inside.set; size = c.self.inside.size; reference = c.self.inside.reference; count = c.self.inside.count })
+          c.self.inside.block,
+      c.self.invariant.block,
+    )
 
 pub overflow_mul-self : goal.overflow_mul-self
 overflow_mul-self c =
@@ -23,20 +31,33 @@ invariant_of-self-in-Ok-Run c =
 
 pub overflow_add-self-in-Ok-RestOfSegment : goal.overflow_add-self-in-Ok-RestOfSegment
 overflow_add-self-in-Ok-RestOfSegment c =
-    omega (arith, c.from-in-Ok-RestOfSegment.ensures, c.blocks_left-left.ensures.value, rest_most (record { set = c.self.inside.set; size = c.self.inside.size; reference = c.self.inside.reference; count = c.self.inside.count }) c.self.inside.block, c.self.invariant.block)
+    omega (
+      arith,
+      c.from-in-Ok-RestOfSegment.ensures,
+      c.blocks_left-left.ensures.value,
+      rest_most
+          (record { set = c.self.inside.set; size = c.self.inside.size; reference = c.self.inside.reference; count = c.self.inside.count })
+          c.self.inside.block,
+      c.self.invariant.block,
+    )
 
 pub invariant_of-self-in-Ok-RestOfSegment : goal.invariant_of-self-in-Ok-RestOfSegment
 invariant_of-self-in-Ok-RestOfSegment c =
-    rw (c.from-in-Ok-RestOfSegment.ensures, c.blocks_left-left.ensures.value) (run_parts _ _ _ _ _ c.self.invariant (omega arith) (rw c.blocks_left-left.ensures.value at c.blocks_left-left.ensures.most))
+    rw (c.from-in-Ok-RestOfSegment.ensures, c.blocks_left-left.ensures.value)
+    (run_parts _ _ _ _ _ c.self.invariant (omega arith) (rw c.blocks_left-left.ensures.value at c.blocks_left-left.ensures.most))
 
 pub returns-in-Ok-Run-clause-read : goal.returns-in-Ok-Run-clause-read
 returns-in-Ok-Run-clause-read c =
-    let sized : length (take c.self.inside.size c.self.inside.values) ≡ c.self.inside.size = taken_size c.self.inside.size c.self.inside.values (size_most c.self.inside.size c.self.invariant.cut.size) c.self.told in
+    let sized : length (take c.self.inside.size c.self.inside.values) ≡ c.self.inside.size =
+    taken_size c.self.inside.size c.self.inside.values (size_most c.self.inside.size c.self.invariant.cut.size) c.self.told in
     let read = rw (c.in-Ok-Run.field-0-is, c.fork-ahead.ensures, sized) at c.in-Ok-Run.ensures.read in
-    rw c.from.ensures (ap (λ (v : Unpacked). next_data_set v c.args.reader.now) (sym c.self.view_is) ∙ run_held (the_view c.self.inside) c.args.reader.now c.in-Ok-Run.blocks _ c.read_data_set.new.reader.left read)
+    rw c.from.ensures (ap (λ (v : Unpacked). next_data_set v c.args.reader.now) (sym c.self.view_is)
+    ∙ run_held (the_view c.self.inside) c.args.reader.now c.in-Ok-Run.blocks _ c.read_data_set.new.reader.left read)
 
 pub returns-in-Ok-RestOfSegment-clause-read : goal.returns-in-Ok-RestOfSegment-clause-read
 returns-in-Ok-RestOfSegment-clause-read c =
-    let sized : length (take c.self.inside.size c.self.inside.values) ≡ c.self.inside.size = taken_size c.self.inside.size c.self.inside.values (size_most c.self.inside.size c.self.invariant.cut.size) c.self.told in
+    let sized : length (take c.self.inside.size c.self.inside.values) ≡ c.self.inside.size =
+    taken_size c.self.inside.size c.self.inside.values (size_most c.self.inside.size c.self.invariant.cut.size) c.self.told in
     let read = rw (c.in-Ok-RestOfSegment.field-0-is, c.fork-ahead.ensures, sized) at c.in-Ok-RestOfSegment.ensures.read in
-    rw (c.from-in-Ok-RestOfSegment.ensures, c.blocks_left-left.ensures.value) (ap (λ (v : Unpacked). next_data_set v c.args.reader.now) (sym c.self.view_is) ∙ rest_held (the_view c.self.inside) c.args.reader.now _ c.read_data_set.new.reader.left read)
+    rw (c.from-in-Ok-RestOfSegment.ensures, c.blocks_left-left.ensures.value) (ap (λ (v : Unpacked). next_data_set v c.args.reader.now) (sym c.self.view_is)
+    ∙ rest_held (the_view c.self.inside) c.args.reader.now _ c.read_data_set.new.reader.left read)
