@@ -27,20 +27,24 @@ after_both l [] second = refl
 after_both l (step ∷ first) second = after_both (stepped l step) first second
 
 -- all numbers are sent, from a lane of which none was received
-sends : (sent more : List ℕ) → after (record { sent = sent; received = []; rest = sent }) (map Push more) ≡ record { sent = sent ++ more; received = []; rest = sent ++ more }
+sends : (sent more : List ℕ)
+    → after (record { sent = sent; received = []; rest = sent }) (map Push more) ≡ record { sent = sent ++ more; received = []; rest = sent ++ more }
 unfolding after stepped
 sends sent [] = rw (append-nil sent) refl
 sends sent (v ∷ more) = sends (sent ++ v ∷ []) more ∙ ap (λ ns. record { sent = ns; received = []; rest = ns }) (append_assoc sent (v ∷ []) more)
 
 -- as many are received
-receives : (sent received front rest : List ℕ) → after (record { sent = sent; received = received; rest = front ++ rest }) (map (λ _. Pop) front) ≡ record { sent = sent; received = received ++ front; rest = rest }
+receives : (sent received front rest : List ℕ) → after (record { sent = sent; received = received; rest = front ++ rest }) (map (λ _. Pop) front)
+    ≡ record { sent = sent; received = received ++ front; rest = rest }
 unfolding after stepped
 receives sent received [] rest = rw (append-nil received) refl
-receives sent received (v ∷ front) rest = receives sent (received ++ v ∷ []) front rest ∙ ap (λ ns. record { sent = sent; received = ns; rest = rest }) (append_assoc received (v ∷ []) front)
+receives sent received (v ∷ front) rest =
+    receives sent (received ++ v ∷ []) front rest ∙ ap (λ ns. record { sent = sent; received = ns; rest = rest }) (append_assoc received (v ∷ []) front)
 
 pub each_lane_is_reached : EachLaneIsReached
 each_lane_is_reached l is =
     let pushes = map Push l.sent in
     let pops = map (λ _. Pop) l.received in
-    let all_sent : after fresh pushes ≡ record { sent = l.sent; received = []; rest = l.received ++ l.rest } = sends [] l.sent ∙ ap (λ ns. record { sent = l.sent; received = []; rest = ns }) is in
+    let all_sent : after fresh pushes ≡ record { sent = l.sent; received = []; rest = l.received ++ l.rest } =
+    sends [] l.sent ∙ ap (λ ns. record { sent = l.sent; received = []; rest = ns }) is in
     (pushes ++ pops, after_both fresh pushes pops ∙ ap (λ k. after k pops) all_sent ∙ receives l.sent [] l.received l.rest)

@@ -7,6 +7,7 @@ gained (Ok t) P Q bytes known took = (bytes, known, took)
 gained (Err e) P Q bytes known took = tt
 
 -- where it is cut short, it was a result of which this is known
-pub cut_short : {T E : Type 0} (r : Result T E) (Before : E → Type 0) (P : List ℕ → Type 0) (Q : List ℕ → E → Type 0) (bytes : List ℕ) → P bytes → IfErr r (Q bytes) → IfErr r (λ e. Before e ⊎ ((made : List ℕ) × P made × Q made e))
+pub cut_short : {T E : Type 0} (r : Result T E) (Before : E → Type 0) (P : List ℕ → Type 0) (Q : List ℕ → E → Type 0) (bytes : List ℕ) → P bytes
+    → IfErr r (Q bytes) → IfErr r (λ e. Before e ⊎ ((made : List ℕ) × P made × Q made e))
 cut_short (Ok t) Before P Q bytes known cut = tt
 cut_short (Err e) Before P Q bytes known cut = inr (bytes, known, cut)

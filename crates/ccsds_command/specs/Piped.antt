@@ -1,5 +1,5 @@
 -- What a cube's raw bytes are compressed to by predictors in threads of their own.
-use Rattle.std.specs.Prelude.{◌≡◌, ◌⊎◌, ℕ, ◌%◌, ◌≤◌, ◌&&◌, nat_le, Bool, if◌then◌else◌, List, [], map, Option, Err}
+use Rattle.std.specs.Prelude.{◌≡◌, ◌⊎◌, ℕ, ◌%◌, ◌&&◌, nat_le, Bool, if◌then◌else◌, List, [], map, Option, Err}
 use Rattle.cube_core.specs.declared.fault.Fault.{Fault}
 use Rattle.cube_core.specs.Image.{Image}
 use Rattle.cube_core.specs.Order.{upto}

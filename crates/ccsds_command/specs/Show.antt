@@ -1,20 +1,15 @@
 -- What is shown of a small cube.
-use Rattle.std.specs.Prelude.{◌≡◌, ◌⊎◌, ℕ, ◌+◌, ◌-◌, ◌*◌, ◌==◌, nat_lt, min, if◌then◌else◌, true, false, List, [], ◌∷◌, ◌++◌, length, slice_index, Option}
-use Rattle.std.specs.Prelude.{Some, None, pos, negsuc}
+use Rattle.std.specs.Prelude.{◌≡◌, ◌⊎◌, ℕ, ◌+◌, ◌-◌, ◌*◌, ◌==◌, nat_lt, min, if◌then◌else◌, false, List, [], ◌∷◌, ◌++◌, length, slice_index, Option}
+use Rattle.std.specs.Prelude.{Some, None}
 use Rattle.hex.specs.Hex.{encode_lower}
 use Rattle.cube_core.specs.declared.fault.Fault.{Fault}
 use Rattle.cube_core.specs.declared.fault.Fault.TheVariants.{WantOfMemory, RawLength, Read}
-use Rattle.cube_core.specs.declared.order.Order.TheVariants.{Bsq}
 use Rattle.cube_core.specs.declared.layout.Layout.{Layout}
 use Rattle.cube_core.specs.declared.layout.RawOrder.TheVariants as raw
 use Rattle.cube_core.specs.Shape.{Sizes, sample_count}
 use Rattle.cube_core.specs.Kind.{SampleKind}
 use Rattle.cube_core.specs.Image.{Image, IsCube}
 use Rattle.cube_core.specs.Layout.{raw_bytes}
-use Rattle.header_bits.specs.declared.params.Params.{Params}
-use Rattle.header_bits.specs.declared.params.WeightStart.TheVariants.{Usual}
-use Rattle.header_bits.specs.declared.params.Coder.TheVariants.{Sample}
-use Rattle.header_bits.specs.declared.params.CountStart.TheVariants.{Constant}
 use Rattle.header_bits.specs.Plain.{plain}
 use Rattle.coder_pipe.specs.File.{file_of}
 use Rattle.command_devices.specs.Devices.{Took, Rose}

@@ -42,7 +42,7 @@ owner_there p deal numbers lawful lt e =
 -- fewer were taken of it than there are
 pub fewer_taken : (owner : ℕ) (os numbers handed : List ℕ) → handed ≡ part owner os numbers → Some owner ≡ slice_get os (length numbers)
     → length handed < share owner os
-fewer_taken owner os numbers handed is e = rw is (part_short owner (length numbers) os numbers refl (sym e))
+fewer_taken owner os numbers handed is e = rw is (part_short owner os numbers (sym e))
 
 -- ---- runs
 
@@ -65,7 +65,7 @@ part_run q owner os ns (n ∷ run) at =
     let later : (i : ℕ) → i < length run → slice_get os (length (ns ++ n ∷ []) + i) ≡ Some owner =
     λ i lt. (let to : length (ns ++ n ∷ []) + i ≡ length ns + suc i = omega (arith, grown) in rw to (at (suc i) (omega (arith, lt)))) in
     let behind = part_run q owner os (ns ++ n ∷ []) run later in
-    let one = part_push q (length ns) os ns owner n refl first in
+    let one = part_push q os ns owner n first in
     ap (λ xs. part q os xs) (sym (append_assoc ns (n ∷ []) run)) ∙ behind ∙ rw one (
     elim (cases_Bool (owner == q)) [ inl t ↦ rw (t, append_assoc) refl | inr t ↦ rw (t, append-nil, append-nil) refl ])
 

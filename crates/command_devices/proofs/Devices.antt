@@ -1,5 +1,6 @@
 -- What is known of a device after one call and another.
-use Rattle.std.proofs.Common.{◌≡◌, ℕ, ◌+◌, ◌-◌, ◌<◌, ◌≤◌, List, ◌++◌, length, take, drop, Option, Some, inl, inr, sym, ap, ◌∙◌, subst, append_assoc, length-drop, length-take, take-add, take-take, arith}
+use Rattle.std.proofs.Common.{◌≡◌, ℕ, ◌+◌, ◌-◌, ◌<◌, ◌≤◌, List, ◌++◌, length, take, drop, Option, Some, inl, inr, sym, ap, ◌∙◌, subst, append_assoc}
+use Rattle.std.proofs.Common.{length-drop, length-take, take-add, take-take, arith}
 use Rattle.std.proofs.lemmas.List.{take_all, take-append-le, take-append-drop, drop_at, take_at}
 use Rattle.std.proofs.Math.Seq.{take-append-add}
 use borrow.Rule.Slice.PartMut.{put_mid, post_of}
@@ -34,17 +35,22 @@ pub rest_is : (i : ℕ) (bytes : List ℕ) → take (length bytes - i) (drop i b
 rest_is i bytes = take_all (length bytes - i) (drop i bytes) (omega (arith, length-drop i bytes))
 
 -- what stands behind the first bytes after a write there
-pub part_written : (had k n : ℕ) (bytes piece : List ℕ) → had ≤ length bytes → n ≤ length piece → drop had (take (had + n) (put_mid had k bytes piece)) ≡ take n piece
+pub part_written : (had k n : ℕ) (bytes piece : List ℕ) → had ≤ length bytes → n ≤ length piece
+    → drop had (take (had + n) (put_mid had k bytes piece)) ≡ take n piece
 part_written had k n bytes piece h le =
     let front : length (take had bytes) ≡ had = omega (arith, length-take had bytes) in
-    let cut : take (had + n) (take had bytes ++ (piece ++ post_of had k bytes)) ≡ take had bytes ++ take n (piece ++ post_of had k bytes) = subst (λ (i : ℕ). take (i + n) (take had bytes ++ (piece ++ post_of had k bytes)) ≡ take had bytes ++ take n (piece ++ post_of had k bytes)) front (take-append-add (take had bytes) (piece ++ post_of had k bytes) n) in
+    let cut : take (had + n) (take had bytes ++ (piece ++ post_of had k bytes)) ≡ take had bytes ++ take n (piece ++ post_of had k bytes) =
+    subst (λ (i : ℕ). take (i + n) (take had bytes ++ (piece ++ post_of had k bytes)) ≡ take had bytes ++ take n (piece ++ post_of had k bytes)) front
+    (take-append-add (take had bytes) (piece ++ post_of had k bytes) n) in
     rw (cut, take-append-le n piece (post_of had k bytes) le) (drop_at (take had bytes) (take n piece) had front)
 
 -- the bytes read so far, and those that came behind them
-pub read_more : (had n : ℕ) (old new : List ℕ) → had ≤ length new → take had new ≡ take had old → take (had + n) new ≡ take had old ++ drop had (take (had + n) new)
+pub read_more : (had n : ℕ) (old new : List ℕ) → had ≤ length new → take had new ≡ take had old
+    → take (had + n) new ≡ take had old ++ drop had (take (had + n) new)
 read_more had n old new h kept =
     let split = sym (take-append-drop had (take (had + n) new)) in
-    let front : take had (take (had + n) new) ≡ take had old = rw (take-add had n new) (take_at (take had new) (take n (drop had new)) had (omega (arith, length-take had new))) ∙ kept in
+    let front : take had (take (had + n) new) ≡ take had old =
+    rw (take-add had n new) (take_at (take had new) (take n (drop had new)) had (omega (arith, length-take had new))) ∙ kept in
     split ∙ ap (λ (x : List ℕ). x ++ drop had (take (had + n) new)) front
 
 -- what more was put behind bytes changes none of their first

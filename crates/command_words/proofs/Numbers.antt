@@ -13,7 +13,8 @@ abbrev pub Parsed : List ℕ → Result ℕ ParseIntError → Type 0
 Parsed t x = ParsesUnsigned 32 10 t x × ExplainsUnsignedError 10 t x × HasUnsignedDigitsIfOk t x
 
 module _ (f : Found) (name : Text) where
-  pub some_number : (n : ℕ) → (one_text f name ≡ None → Some n ≡ None) → ((t : List ℕ) → one_text f name ≡ Some t → ReadsOne Parsed t (Some n)) → HasNumber (rows_of f) name n
+  pub some_number : (n : ℕ) → (one_text f name ≡ None → Some n ≡ None) → ((t : List ℕ) → one_text f name ≡ Some t → ReadsOne Parsed t (Some n))
+      → HasNumber (rows_of f) name n
   some_number n none value = go (one_text f name) refl
     where
       go : (o : Option Text) → one_text f name ≡ o → HasNumber (rows_of f) name n

@@ -16,7 +16,8 @@ pub power_grows : (i j : ℕ) → i ≤ j → 2 ^ i ≤ 2 ^ j
 power_grows i j h = pow_mono h
 
 -- one below a power, as the code computes it
-pub top_fits : (k : ℕ) → 1 ≤ k → k ≤ 16 → (pos 1 ≤ℤ to_z w32 (of_z w32 (to_z w32 ((1 * 2 ^ k) % 2 ^ 32) -ℤ pos 1))) × (to_z w32 (of_z w32 (to_z w32 ((1 * 2 ^ k) % 2 ^ 32) -ℤ pos 1)) ≤ℤ pos 65535)
+pub top_fits : (k : ℕ) → 1 ≤ k → k ≤ 16
+    → (pos 1 ≤ℤ to_z w32 (of_z w32 (to_z w32 ((1 * 2 ^ k) % 2 ^ 32) -ℤ pos 1))) × (to_z w32 (of_z w32 (to_z w32 ((1 * 2 ^ k) % 2 ^ 32) -ℤ pos 1)) ≤ℤ pos 65535)
 top_fits k a b =
     let p : 2 ^ k ≤ 2 ^ 16 = power_grows k 16 b in
     let q : 2 ^ 1 ≤ 2 ^ k = power_grows 1 k a in
@@ -25,7 +26,8 @@ top_fits k a b =
 
 middle_by : (signed : Bool) (bits : ℕ) → 2 ≤ bits → bits ≤ 16 → smid (record { signed = signed; bits = bits }) ≤ℤ smax (record { signed = signed; bits = bits })
 middle_by true d a b = let p = power_grows 1 (d - 1) (omega arith) in omega (arith, ints)
-middle_by false d a b = let p = power_grows (suc (d - 1)) d (omega arith) in let q = power_grows 1 (d - 1) (omega arith) in omega (arith, ints, pow-suc 2 (d - 1))
+middle_by false d a b = let p = power_grows (suc (d - 1)) d (omega arith) in let q = power_grows 1 (d - 1) (omega arith) in
+    omega (arith, ints, pow-suc 2 (d - 1))
 
 pub middle_inside : (k : SampleKind) → IsKind k → smid k ≤ℤ smax k
 middle_inside k h = middle_by k.signed k.bits h.0 h.1

@@ -22,7 +22,8 @@ length-pieces f a (suc n) w same =
     length-append (f a) (flat_map f (from (suc a) n)) ∙ rw (first, others) (omega arith)
 
 -- the j-th item of the i-th piece, where the pieces before it have one length
-pub get_or-pieces : {A : Type 0} (f : ℕ → List A) (a n w i j : ℕ) (d : A) → ((k : ℕ) → a ≤ k → k < a + i → length (f k) ≡ w) → i < n → j < length (f (a + i)) → get_or (flat_map f (from a n)) (i * w + j) d ≡ get_or (f (a + i)) j d
+pub get_or-pieces : {A : Type 0} (f : ℕ → List A) (a n w i j : ℕ) (d : A) → ((k : ℕ) → a ≤ k → k < a + i → length (f k) ≡ w) → i < n → j < length (f (a + i))
+    → get_or (flat_map f (from a n)) (i * w + j) d ≡ get_or (f (a + i)) j d
 get_or-pieces f a zero w i j d same lt in_piece = absurd (omega arith)
 get_or-pieces f a (suc n) w zero j d same lt in_piece =
     let e : a + 0 ≡ a = omega arith in

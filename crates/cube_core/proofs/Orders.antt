@@ -40,12 +40,14 @@ get_or-band_of s z y x d a b =
     let e : 0 + y ≡ y = omega arith in
     get_or-pieces (row_of s z) 0 s.rows s.columns y x d (λ k low high. length-row_of s z k) a (rw (e, length-row_of s z y) b) ∙ rw e (get_or-row_of s z y x d b)
 
-place_at_bsq : (s : Sizes) (z y x : ℕ) (d : Place) → z < s.bands → y < s.rows → x < s.columns → get_or (flat_map (band_of s) (upto s.bands)) ((z * s.rows + y) * s.columns + x) d ≡ record { z = z; y = y; x = x }
+place_at_bsq : (s : Sizes) (z y x : ℕ) (d : Place) → z < s.bands → y < s.rows → x < s.columns
+    → get_or (flat_map (band_of s) (upto s.bands)) ((z * s.rows + y) * s.columns + x) d ≡ record { z = z; y = y; x = x }
 place_at_bsq s z y x d a b c =
     let e : 0 + z ≡ z = omega arith in
     let i : (z * s.rows + y) * s.columns + x ≡ z * (s.rows * s.columns) + (y * s.columns + x) = omega arith in
     let in_band : y * s.columns + x < s.columns * s.rows = mul-add-lt y s.columns x s.rows b c in
-    rw i (get_or-pieces (band_of s) 0 s.bands (s.rows * s.columns) z (y * s.columns + x) d (λ k low high. length-band_of s k) a (rw (e, length-band_of s z) (omega (arith, in_band))) ∙ rw e (get_or-band_of s z y x d b c))
+    rw i (get_or-pieces (band_of s) 0 s.bands (s.rows * s.columns) z (y * s.columns + x) d (λ k low high. length-band_of s k) a
+    (rw (e, length-band_of s z) (omega (arith, in_band))) ∙ rw e (get_or-band_of s z y x d b c))
 
 -- ---- band interleaved
 
@@ -58,7 +60,8 @@ size_of s depth i = min depth (s.bands - i * depth)
 length-stack_of : (s : Sizes) (depth y i x : ℕ) → length (stack_of s depth y i x) ≡ size_of s depth i
 length-stack_of s depth y i x = length-map (group s depth i) _ ∙ length-from (i * depth) (size_of s depth i)
 
-get_or-stack_of : (s : Sizes) (depth y i x k : ℕ) (d : Place) → k < size_of s depth i → get_or (stack_of s depth y i x) k d ≡ record { z = i * depth + k; y = y; x = x }
+get_or-stack_of : (s : Sizes) (depth y i x k : ℕ) (d : Place) → k < size_of s depth i
+    → get_or (stack_of s depth y i x) k d ≡ record { z = i * depth + k; y = y; x = x }
 get_or-stack_of s depth y i x k d lt =
     get_or-map (λ (z : ℕ). let p : Place = record { z = z; y = y; x = x } in p) (group s depth i) k 0 d (rw (length-from (i * depth) (size_of s depth i)) lt)
     ∙ ap (λ (z : ℕ). let p : Place = record { z = z; y = y; x = x } in p) (get_or-from (i * depth) (size_of s depth i) k 0 lt)
@@ -69,16 +72,19 @@ group_row s depth y i = flat_map (stack_of s depth y i) (upto s.columns)
 length-group_row : (s : Sizes) (depth y i : ℕ) → length (group_row s depth y i) ≡ s.columns * size_of s depth i
 length-group_row s depth y i = length-pieces (stack_of s depth y i) 0 s.columns (size_of s depth i) (λ x low high. length-stack_of s depth y i x)
 
-get_or-group_row : (s : Sizes) (depth y i x k : ℕ) (d : Place) → x < s.columns → k < size_of s depth i → get_or (group_row s depth y i) (x * size_of s depth i + k) d ≡ record { z = i * depth + k; y = y; x = x }
+get_or-group_row : (s : Sizes) (depth y i x k : ℕ) (d : Place) → x < s.columns → k < size_of s depth i
+    → get_or (group_row s depth y i) (x * size_of s depth i + k) d ≡ record { z = i * depth + k; y = y; x = x }
 get_or-group_row s depth y i x k d a b =
     let e : 0 + x ≡ x = omega arith in
-    get_or-pieces (stack_of s depth y i) 0 s.columns (size_of s depth i) x k d (λ j low high. length-stack_of s depth y i j) a (rw (e, length-stack_of s depth y i x) b) ∙ rw e (get_or-stack_of s depth y i x k d b)
+    get_or-pieces (stack_of s depth y i) 0 s.columns (size_of s depth i) x k d (λ j low high. length-stack_of s depth y i j) a
+    (rw (e, length-stack_of s depth y i x) b) ∙ rw e (get_or-stack_of s depth y i x k d b)
 
 abbrev line_of : Sizes → ℕ → ℕ → List Place
 line_of s depth y = flat_map (group_row s depth y) (upto (group_count s depth))
 
 -- the groups from the a-th on, n of them
-length-groups : (s : Sizes) (depth y a n : ℕ) → length (flat_map (group_row s depth y) (from a n)) ≡ s.columns * (min ((a + n) * depth) s.bands - min (a * depth) s.bands)
+length-groups : (s : Sizes) (depth y a n : ℕ)
+    → length (flat_map (group_row s depth y) (from a n)) ≡ s.columns * (min ((a + n) * depth) s.bands - min (a * depth) s.bands)
 length-groups s depth y a zero =
     let e : a + 0 ≡ a = omega arith in
     let none : min (a * depth) s.bands - min (a * depth) s.bands ≡ 0 = omega arith in
@@ -87,7 +93,8 @@ length-groups s depth y a (suc n) =
     let next : (suc a + n) * depth ≡ (a + suc n) * depth = omega arith in
     let step : suc a * depth ≡ a * depth + depth = omega arith in
     let grows : suc a * depth ≤ (a + suc n) * depth = mul-le (suc a) depth (a + suc n) depth (omega arith) (omega arith) in
-    let sizes : size_of s depth a + (min ((a + suc n) * depth) s.bands - min (suc a * depth) s.bands) ≡ min ((a + suc n) * depth) s.bands - min (a * depth) s.bands = omega arith in
+    let sizes : size_of s depth a + (min ((a + suc n) * depth) s.bands - min (suc a * depth) s.bands)
+    ≡ min ((a + suc n) * depth) s.bands - min (a * depth) s.bands = omega arith in
     length-append (group_row s depth y a) (flat_map (group_row s depth y) (from (suc a) n))
     ∙ rw (length-group_row s depth y a, length-groups s depth y (suc a) n, next, ← sizes) (omega arith)
 
@@ -107,22 +114,29 @@ length-line_of s depth y h =
 whole_group : (s : Sizes) (depth i k : ℕ) → i * depth < s.bands → k < i → size_of s depth k ≡ depth
 whole_group s depth i k h lt = let p : suc k * depth ≤ i * depth = mul-le (suc k) depth i depth (omega arith) (omega arith) in omega arith
 
-get_or-line_of : (s : Sizes) (depth y i x k : ℕ) (d : Place) → 1 ≤ depth → i * depth < s.bands → x < s.columns → k < size_of s depth i → get_or (line_of s depth y) (i * (s.columns * depth) + (x * size_of s depth i + k)) d ≡ record { z = i * depth + k; y = y; x = x }
+get_or-line_of : (s : Sizes) (depth y i x k : ℕ) (d : Place) → 1 ≤ depth → i * depth < s.bands → x < s.columns → k < size_of s depth i
+    → get_or (line_of s depth y) (i * (s.columns * depth) + (x * size_of s depth i + k)) d ≡ record { z = i * depth + k; y = y; x = x }
 get_or-line_of s depth y i x k d h a b c =
     let e : 0 + i ≡ i = omega arith in
     let many : i < group_count s depth = group_below s.bands depth i h a in
     let inside : x * size_of s depth i + k < size_of s depth i * s.columns = mul-add-lt x (size_of s depth i) k s.columns b c in
     get_or-pieces (group_row s depth y) 0 (group_count s depth) (s.columns * depth) i (x * size_of s depth i + k) d
-    (λ j low high. length-group_row s depth y j ∙ ap (λ (m : ℕ). s.columns * m) (whole_group s depth i j a (omega arith))) many (rw (e, length-group_row s depth y i) (omega (arith, inside)))
+    (λ j low high. length-group_row s depth y j ∙ ap (λ (m : ℕ). s.columns * m) (whole_group s depth i j a (omega arith))) many
+    (rw (e, length-group_row s depth y i) (omega (arith, inside)))
     ∙ rw e (get_or-group_row s depth y i x k d b c)
 
-pub place_at_bi : (s : Sizes) (depth y i x k : ℕ) (d : Place) → 1 ≤ depth → y < s.rows → i * depth < s.bands → x < s.columns → k < size_of s depth i → get_or (flat_map (line_of s depth) (upto s.rows)) ((y * s.bands + i * depth) * s.columns + (x * size_of s depth i + k)) d ≡ record { z = i * depth + k; y = y; x = x }
+pub place_at_bi : (s : Sizes) (depth y i x k : ℕ) (d : Place) → 1 ≤ depth → y < s.rows → i * depth < s.bands → x < s.columns → k < size_of s depth i
+    → get_or (flat_map (line_of s depth) (upto s.rows)) ((y * s.bands + i * depth) * s.columns + (x * size_of s depth i + k)) d
+    ≡ record { z = i * depth + k; y = y; x = x }
 place_at_bi s depth y i x k d h r a b c =
     let e : 0 + y ≡ y = omega arith in
-    let place : (y * s.bands + i * depth) * s.columns + (x * size_of s depth i + k) ≡ y * (s.bands * s.columns) + (i * (s.columns * depth) + (x * size_of s depth i + k)) = omega arith in
+    let place : (y * s.bands + i * depth) * s.columns + (x * size_of s depth i + k)
+    ≡ y * (s.bands * s.columns) + (i * (s.columns * depth) + (x * size_of s depth i + k)) = omega arith in
     let inside : x * size_of s depth i + k < size_of s depth i * s.columns = mul-add-lt x (size_of s depth i) k s.columns b c in
-    let fits : (i * depth + size_of s depth i) * s.columns ≤ s.bands * s.columns = mul-le (i * depth + size_of s depth i) s.columns s.bands s.columns (omega arith) (omega arith) in
-    rw place (get_or-pieces (line_of s depth) 0 s.rows (s.bands * s.columns) y (i * (s.columns * depth) + (x * size_of s depth i + k)) d (λ j low high. length-line_of s depth j h) r (rw (e, length-line_of s depth y h) (omega (arith, inside, fits)))
+    let fits : (i * depth + size_of s depth i) * s.columns ≤ s.bands * s.columns =
+    mul-le (i * depth + size_of s depth i) s.columns s.bands s.columns (omega arith) (omega arith) in
+    rw place (get_or-pieces (line_of s depth) 0 s.rows (s.bands * s.columns) y (i * (s.columns * depth) + (x * size_of s depth i + k)) d
+    (λ j low high. length-line_of s depth j h) r (rw (e, length-line_of s depth y h) (omega (arith, inside, fits)))
     ∙ rw e (get_or-line_of s depth y i x k d h a b c))
 
 -- ---- both
@@ -135,7 +149,8 @@ place_at_index s (Bi depth) p d o h =
     let low : p.z / depth * depth ≤ p.z = div-mul-le_self p.z depth in
     let high : p.z < p.z / depth * depth + depth = lt-div-mul-add o.0 in
     let z : p.z / depth * depth + (p.z - p.z / depth * depth) ≡ p.z = omega arith in
-    place_at_bi s depth p.y (p.z / depth) p.x (p.z - p.z / depth * depth) d o.0 h.row (omega (arith, h.band)) h.column (omega (arith, h.band)) ∙ ap (λ (n : ℕ). let q : Place = record { z = n; y = p.y; x = p.x } in q) z
+    place_at_bi s depth p.y (p.z / depth) p.x (p.z - p.z / depth * depth) d o.0 h.row (omega (arith, h.band)) h.column (omega (arith, h.band))
+    ∙ ap (λ (n : ℕ). let q : Place = record { z = n; y = p.y; x = p.x } in q) z
 
 pub length-places : (s : Sizes) (o : Order) → IsOrder s o → length (places s o) ≡ sample_count s
 unfolding places
@@ -149,7 +164,8 @@ pub record StandsAt (s : Sizes) (o : Order) (p : Place) (i : ℕ) : Type 0 where
   pub place : IsPlaceOf s p
   pub index : place_index s o p ≡ i
 
-pub sequential_place_is : (s : Sizes) (i : ℕ) → 1 ≤ s.columns → 1 ≤ s.rows → i < sample_count s → StandsAt s Bsq (record { z = i / s.columns / s.rows; y = i / s.columns % s.rows; x = i % s.columns }) i
+pub sequential_place_is : (s : Sizes) (i : ℕ) → 1 ≤ s.columns → 1 ≤ s.rows → i < sample_count s
+    → StandsAt s Bsq (record { z = i / s.columns / s.rows; y = i / s.columns % s.rows; x = i % s.columns }) i
 unfolding place_index
 sequential_place_is s i a b lt =
     let row : i / s.columns < s.bands * s.rows = div_below i s.columns (s.bands * s.rows) a lt in
@@ -160,7 +176,8 @@ sequential_place_is s i a b lt =
     }
 
 -- what is left of a line behind its whole groups fits the group that it is in
-in_group : (bands columns depth r first q size : ℕ) → r < bands * columns → q < depth * columns → first * columns + q ≡ r → first < bands → size ≡ min depth (bands - first) → q < columns * size
+in_group : (bands columns depth r first q size : ℕ) → r < bands * columns → q < depth * columns → first * columns + q ≡ r → first < bands
+    → size ≡ min depth (bands - first) → q < columns * size
 in_group bands columns depth r first q size a b e f d = elim (cases_lt (bands - first) depth) [ inl h ↦ short h | inr h ↦ whole h ]
   where
     short : bands - first < depth → q < columns * size
@@ -172,8 +189,10 @@ in_group bands columns depth r first q size a b e f d = elim (cases_lt (bands - 
     whole : depth ≤ bands - first → q < columns * size
     whole h = let m : size ≡ depth = omega arith in rw m (omega arith)
 
-pub interleaved_place_is : (s : Sizes) (depth i r g q size : ℕ) → 1 ≤ s.bands → 1 ≤ s.columns → 1 ≤ depth → i < sample_count s → r ≡ i % (s.bands * s.columns) → g ≡ r / (depth * s.columns) → q ≡ r % (depth * s.columns)
-    → size ≡ min depth (s.bands - g * depth) → StandsAt s (Bi depth) (record { z = g * depth + q % size; y = i / (s.bands * s.columns); x = q / size }) i × (g * depth < s.bands) × (0 < size)
+pub interleaved_place_is : (s : Sizes) (depth i r g q size : ℕ) → 1 ≤ s.bands → 1 ≤ s.columns → 1 ≤ depth → i < sample_count s → r ≡ i % (s.bands * s.columns)
+    → g ≡ r / (depth * s.columns) → q ≡ r % (depth * s.columns)
+    → size ≡ min depth (s.bands - g * depth)
+    → StandsAt s (Bi depth) (record { z = g * depth + q % size; y = i / (s.bands * s.columns); x = q / size }) i × (g * depth < s.bands) × (0 < size)
 unfolding place_index
 interleaved_place_is s depth i r g q size some_bands some_columns h lt r_is g_is q_is size_is =
     let line : 0 < s.bands * s.columns = mul-le 1 1 s.bands s.columns some_bands some_columns in
@@ -194,13 +213,17 @@ interleaved_place_is s depth i r g q size some_bands some_columns h lt r_is g_is
     (record { place = record { band = omega arith; row = y; column = x }; index = rw (group, ← size_is, behind, inner) (omega arith) }, first, positive)
 
 -- the same of numbers that are these sizes
-pub interleaved_found : (s : Sizes) (depth i b c m size : ℕ) → 1 ≤ s.bands → 1 ≤ s.columns → 1 ≤ depth → i < sample_count s → b ≡ s.bands → c ≡ s.columns → m ≡ depth
+pub interleaved_found : (s : Sizes) (depth i b c m size : ℕ) → 1 ≤ s.bands → 1 ≤ s.columns → 1 ≤ depth → i < sample_count s → b ≡ s.bands
+    → c ≡ s.columns → m ≡ depth
     → size ≡ min m (b - i % (b * c) / (m * c) * m)
-    → StandsAt s (Bi depth) (record { z = i % (b * c) / (m * c) * m + i % (b * c) % (m * c) % size; y = i / (b * c); x = i % (b * c) % (m * c) / size }) i × (i % (b * c) / (m * c) * m < b) × (0 < size)
+    → StandsAt s (Bi depth) (record { z = i % (b * c) / (m * c) * m + i % (b * c) % (m * c) % size; y = i / (b * c); x = i % (b * c) % (m * c) / size }) i
+    × (i % (b * c) / (m * c) * m < b) × (0 < size)
 interleaved_found s depth i b c m size some_bands some_columns h lt eb ec em e =
-    rw (eb, ec, em) (interleaved_place_is s depth i (i % (s.bands * s.columns)) (i % (s.bands * s.columns) / (depth * s.columns)) (i % (s.bands * s.columns) % (depth * s.columns)) size some_bands some_columns h lt refl refl refl (rw (eb, ec, em) at e))
+    rw (eb, ec, em) (interleaved_place_is s depth i (i % (s.bands * s.columns)) (i % (s.bands * s.columns) / (depth * s.columns))
+    (i % (s.bands * s.columns) % (depth * s.columns)) size some_bands some_columns h lt refl refl refl (rw (eb, ec, em) at e))
 
-pub item_from_index : (s : Sizes) (o : Order) (p : Place) (i : ℕ) → IsOrder s o → IsPlaceOf s p → place_index s o p ≡ i → i < sample_count s → slice_get (places s o) i ≡ Some p
+pub item_from_index : (s : Sizes) (o : Order) (p : Place) (i : ℕ) → IsOrder s o → IsPlaceOf s p → place_index s o p ≡ i → i < sample_count s
+    → slice_get (places s o) i ≡ Some p
 item_from_index s o p i lawful place e lt =
     slice_get-get_or (places s o) i p (rw (length-places s o lawful) lt) ∙ ap (λ (q : Place). Some q) (rw e at (place_at_index s o p p lawful place))
 
@@ -215,14 +238,17 @@ place_index_below s (Bi depth) p lawful h =
     let size : ℕ = min depth (s.bands - first) in
     let inside : p.x * size + (p.z - first) < size * s.columns = mul-add-lt p.x size (p.z - first) s.columns h.column (omega (arith, h.band)) in
     let fits : (first + size) * s.columns ≤ s.bands * s.columns = mul-le (first + size) s.columns s.bands s.columns (omega (arith, h.band)) (omega arith) in
-    let line : (suc p.y) * (s.bands * s.columns) ≤ s.rows * (s.bands * s.columns) = mul-le (suc p.y) (s.bands * s.columns) s.rows (s.bands * s.columns) h.row (omega arith) in
+    let line : (suc p.y) * (s.bands * s.columns) ≤ s.rows * (s.bands * s.columns) =
+    mul-le (suc p.y) (s.bands * s.columns) s.rows (s.bands * s.columns) h.row (omega arith) in
     omega (arith, inside, fits, line)
 
-pub sequential_index_is : (s : Sizes) (p : Place) (z rows y columns x : ℕ) → z ≡ p.z → rows ≡ s.rows → y ≡ p.y → columns ≡ s.columns → x ≡ p.x → (z * rows + y) * columns + x ≡ place_index s Bsq p
+pub sequential_index_is : (s : Sizes) (p : Place) (z rows y columns x : ℕ) → z ≡ p.z → rows ≡ s.rows → y ≡ p.y → columns ≡ s.columns → x ≡ p.x
+    → (z * rows + y) * columns + x ≡ place_index s Bsq p
 unfolding place_index
 sequential_index_is s p z rows y columns x a b c d e = rw (a, b, c, d, e) refl
 
-pub interleaved_index_is : (s : Sizes) (depth : ℕ) (p : Place) (y bands first columns x size z m : ℕ) → y ≡ p.y → bands ≡ s.bands → first ≡ p.z / depth * depth → columns ≡ s.columns → x ≡ p.x → size ≡ min m (bands - first) → m ≡ depth → z ≡ p.z
+pub interleaved_index_is : (s : Sizes) (depth : ℕ) (p : Place) (y bands first columns x size z m : ℕ) → y ≡ p.y → bands ≡ s.bands → first ≡ p.z / depth * depth
+    → columns ≡ s.columns → x ≡ p.x → size ≡ min m (bands - first) → m ≡ depth → z ≡ p.z
     → (y * bands + first) * columns + (x * size + (z - first)) ≡ place_index s (Bi depth) p
 unfolding place_index
 interleaved_index_is s depth p y bands first columns x size z m a b c d e f g h = rw (a, f, g, b, c, d, e, h) refl

@@ -1,5 +1,6 @@
 -- Pieces of a row, one sample after another.
-use Rattle.std.proofs.Common.{◌≡◌, ◌≢◌, ◌⊎◌, ◌+◌, ◌*◌, ◌/◌, ◌-◌, ◌<◌, ◌≤◌, ◌^◌, ℕ, suc, min, List, [], ◌∷◌, length, take, drop, drop-cons, length-take, get_or, set, refl, sym, ap, ◌∙◌, subst, arith, inl, inr}
+use Rattle.std.proofs.Common.{◌≡◌, ◌≢◌, ◌⊎◌, ◌+◌, ◌*◌, ◌/◌, ◌-◌, ◌<◌, ◌≤◌, ◌^◌, ℕ, suc, min, List, [], ◌∷◌, length, take, drop, drop-cons, length-take, get_or}
+use Rattle.std.proofs.Common.{set, refl, sym, ap, ◌∙◌, subst, arith, inl, inr}
 use borrow.Rule.Slice.PartMut.{put_mid}
 use Rattle.std.proofs.lemmas.List.{get_or-set_same, get_or-set_other, length-set, drop_all, drop-take, length-take-le}
 use Rattle.std.proofs.lemmas.Slice.{take-put_mid, take-put_mid_below, drop-put_mid}
@@ -25,7 +26,8 @@ use Rattle.cube_core.proofs.Raws.{same_place, place_of, bytes_there}
 use Rattle.cube_core.proofs.Walks.{sequential_index, index_in_group}
 
 -- one more item of a piece that begins at a place of a list
-pub item_more : (P : ℕ → ℕ → Type 0) (hs : List ℕ) (at x offset : ℕ) → at + x < length hs → P x offset → ((j : ℕ) → j < x → P j (get_or hs (at + j) 0)) → (j : ℕ) → j < x + 1 → P j (get_or (set hs (at + x) offset) (at + j) 0)
+pub item_more : (P : ℕ → ℕ → Type 0) (hs : List ℕ) (at x offset : ℕ) → at + x < length hs → P x offset → ((j : ℕ) → j < x → P j (get_or hs (at + j) 0))
+    → (j : ℕ) → j < x + 1 → P j (get_or (set hs (at + x) offset) (at + j) 0)
 item_more P hs at x offset within here before j lt =
     elim (cases_eq j x) [
       | inl e ↦ rw (e, get_or-set_same hs (at + x) offset 0 within) here
@@ -33,12 +35,16 @@ item_more P hs at x offset within here before j lt =
     ]
 
 -- what stands outside the piece stays
-pub others_stay : (hs first : List ℕ) (at x offset : ℕ) → ((j : ℕ) → (j < at) ⊎ (at + x ≤ j) → get_or hs j 0 ≡ get_or first j 0) → (j : ℕ) → (j < at) ⊎ (at + (x + 1) ≤ j) → get_or (set hs (at + x) offset) j 0 ≡ get_or first j 0
-others_stay hs first at x offset before j (inl low) = let apart : j ≢ at + x = omega arith in rw (get_or-set_other hs (at + x) j offset 0 apart) (before j (inl low))
-others_stay hs first at x offset before j (inr high) = let apart : j ≢ at + x = omega arith in rw (get_or-set_other hs (at + x) j offset 0 apart) (before j (inr (omega arith)))
+pub others_stay : (hs first : List ℕ) (at x offset : ℕ) → ((j : ℕ) → (j < at) ⊎ (at + x ≤ j) → get_or hs j 0 ≡ get_or first j 0) → (j : ℕ)
+    → (j < at) ⊎ (at + (x + 1) ≤ j) → get_or (set hs (at + x) offset) j 0 ≡ get_or first j 0
+others_stay hs first at x offset before j (inl low) = let apart : j ≢ at + x = omega arith in
+    rw (get_or-set_other hs (at + x) j offset 0 apart) (before j (inl low))
+others_stay hs first at x offset before j (inr high) = let apart : j ≢ at + x = omega arith in
+    rw (get_or-set_other hs (at + x) j offset 0 apart) (before j (inr (omega arith)))
 
 -- the items of the longer piece are those of the shorter one and the last
-pub all_but_last : (hs : List ℕ) (at x offset limit : ℕ) → at + x < length hs → ((j : ℕ) → j < x + 1 → get_or (set hs (at + x) offset) (at + j) 0 < limit) → (offset < limit) × ((j : ℕ) → j < x → get_or hs (at + j) 0 < limit)
+pub all_but_last : (hs : List ℕ) (at x offset limit : ℕ) → at + x < length hs → ((j : ℕ) → j < x + 1 → get_or (set hs (at + x) offset) (at + j) 0 < limit)
+    → (offset < limit) × ((j : ℕ) → j < x → get_or hs (at + j) 0 < limit)
 all_but_last hs at x offset limit within all = (rw (get_or-set_same hs (at + x) offset 0 within) at (all x (omega arith)), earlier)
   where
     earlier : (j : ℕ) → j < x → get_or hs (at + j) 0 < limit
@@ -49,13 +55,15 @@ all_but_last hs at x offset limit within all = (rw (get_or-set_same hs (at + x) 
 pub items_of_band : (s : Sizes) (z y x j : ℕ) → place_index s Bsq (record { z = z; y = y; x = x + j }) ≡ index_in s.columns s.rows z y x + j * 1
 items_of_band s z y x j = sequential_index s (record { z = z; y = y; x = x + j }) ∙ omega arith
 
-pub items_of_line : (s : Sizes) (z y x j : ℕ) → z < s.bands → place_index s (Bi 1) (record { z = z; y = y; x = x + j }) ≡ index_in s.columns s.bands y z x + j * 1
+pub items_of_line : (s : Sizes) (z y x j : ℕ) → z < s.bands
+    → place_index s (Bi 1) (record { z = z; y = y; x = x + j }) ≡ index_in s.columns s.bands y z x + j * 1
 items_of_line s z y x j lt =
     let first : z ≡ z / 1 * 1 = omega arith in
     let one : min 1 (s.bands - z) ≡ 1 = omega arith in
     index_in_group s 1 z (record { z = z; y = y; x = x + j }) first ∙ rw one (omega arith)
 
-pub items_of_pixels : (s : Sizes) (z y x j : ℕ) → z < s.bands → place_index s (Bi s.bands) (record { z = z; y = y; x = x + j }) ≡ index_in s.bands s.columns y x z + j * s.bands
+pub items_of_pixels : (s : Sizes) (z y x j : ℕ) → z < s.bands
+    → place_index s (Bi s.bands) (record { z = z; y = y; x = x + j }) ≡ index_in s.bands s.columns y x z + j * s.bands
 items_of_pixels s z y x j lt =
     let none : (0 * s.bands + z) / s.bands ≡ 0 = div-mul-add 0 s.bands z lt in
     let same : 0 * s.bands + z ≡ z = omega arith in
@@ -84,9 +92,13 @@ pub record IsTaken (s : Sizes) (k : SampleKind) (l : Layout) (bytes old new : Li
   pub others : (i : ℕ) → (i < at) ⊎ (at + count ≤ i) → get_or new i 0 ≡ get_or old i 0
 
 -- the offset at a place of the piece is that of its sample, and elsewhere offsets stay
-pub offset_there : (s : Sizes) (k : SampleKind) (l : Layout) (bytes old new : List ℕ) (z y x at count first step : ℕ) (p : Place) → IsTaken s k l bytes old new z y x at count first step → IsPlaceOf s p → IsOffsetOf s k l bytes old p ⊎ IsIn p z y x count → IsOffsetOf s k l bytes new p
+pub offset_there : (s : Sizes) (k : SampleKind) (l : Layout) (bytes old new : List ℕ) (z y x at count first step : ℕ) (p : Place)
+    → IsTaken s k l bytes old new z y x at count first step → IsPlaceOf s p → IsOffsetOf s k l bytes old p ⊎ IsIn p z y x count → IsOffsetOf s k l bytes new p
 offset_there s k l bytes old new z y x at count first step p h place known =
-    elim (cases_lt i at) [ inl low ↦ kept (inl low) known | inr above ↦ elim (cases_lt i (at + count)) [ inl high ↦ fresh above high | inr past ↦ kept (inr past) known ] ]
+    elim (cases_lt i at) [
+      | inl low ↦ kept (inl low) known
+      | inr above ↦ elim (cases_lt i (at + count)) [ inl high ↦ fresh above high | inr past ↦ kept (inr past) known ]
+    ]
   where
     i : ℕ
     i = index_in s.columns s.rows p.z p.y p.x
@@ -106,7 +118,8 @@ offset_there s k l bytes old new z y x at count first step p h place known =
         let there : at + (i - at) ≡ i = omega arith in
         let q : Place = record { z = z; y = y; x = x + (i - at) } in
         let place_q : IsPlaceOf s (record { z = z; y = y; x = x + (i - at) }) = record { band = h.band; row = h.row; column = omega (arith, h.columns) } in
-        let index_q : place_index s Bsq (record { z = z; y = y; x = x + (i - at) }) ≡ place_index s Bsq p = sequential_index s (record { z = z; y = y; x = x + (i - at) }) ∙ omega (arith, h.at_is) ∙ sym (sequential_index s p) in
+        let index_q : place_index s Bsq (record { z = z; y = y; x = x + (i - at) }) ≡ place_index s Bsq p =
+        sequential_index s (record { z = z; y = y; x = x + (i - at) }) ∙ omega (arith, h.at_is) ∙ sym (sequential_index s p) in
         let same : record { z = z; y = y; x = x + (i - at) } ≡ p = same_place s Bsq (record { z = z; y = y; x = x + (i - at) }) p tt place_q place index_q in
         let stands = h.taken (i - at) lt in
         let below = h.good (i - at) lt in
@@ -137,12 +150,17 @@ block_ends s P y x count z all h p place (inr (row, inl low)) = h p place (inr (
 block_ends s P y x count z all h p place (inr (row, inr (_, low))) = absurd (omega (arith, low))
 
 pub row_ends : (s : Sizes) (P : Place → Type 0) (y x : ℕ) → s.columns ≤ x → EachPast s P y x 0 0 → EachPast s P (y + 1) 0 0 0
-row_ends s P y x all h p place (inl low) = elim (cases_lt p.y y) [ inl above ↦ h p place (inl above) | inr here ↦ h p place (inr (omega arith, inl (omega (arith, place.column)))) ]
+row_ends s P y x all h p place (inl low) =
+    elim (cases_lt p.y y) [
+      | inl above ↦ h p place (inl above)
+      | inr here ↦ h p place (inr (omega arith, inl (omega (arith, place.column))))
+    ]
 row_ends s P y x all h p place (inr (row, inl low)) = absurd (omega (arith, low))
 row_ends s P y x all h p place (inr (row, inr (_, low))) = absurd (omega (arith, low))
 
 -- one more band of a block
-pub band_more : (s : Sizes) (P Q : Place → Type 0) (y x count z : ℕ) → ((p : Place) → IsPlaceOf s p → P p ⊎ IsIn p z y x count → Q p) → EachPast s P y x count z → EachPast s Q y x count (z + 1)
+pub band_more : (s : Sizes) (P Q : Place → Type 0) (y x count z : ℕ) → ((p : Place) → IsPlaceOf s p → P p ⊎ IsIn p z y x count → Q p) → EachPast s P y x count z
+    → EachPast s Q y x count (z + 1)
 band_more s P Q y x count z step h p place (inl low) = step p place (inl (h p place (inl low)))
 band_more s P Q y x count z step h p place (inr (row, inl low)) = step p place (inl (h p place (inr (row, inl low))))
 band_more s P Q y x count z step h p place (inr (row, inr (high, low))) =
@@ -155,18 +173,25 @@ band_more s P Q y x count z step h p place (inr (row, inr (high, low))) =
     ]
 
 -- the numbers of a piece are there
-pub piece_there : (s : Sizes) (l : Layout) (z y x count first step length_is : ℕ) → IsLayout l → IsOrder s (order_of l.order s) → z < s.bands → y < s.rows → x + count ≤ s.columns → LieEvenly s (order_of l.order s) z y x count first step → length_is ≡ sample_count s * l.bytes → (j : ℕ) → j < count → (first + j * step < sample_count s) × ((first + j * step + 1) * l.bytes ≤ length_is)
+pub piece_there : (s : Sizes) (l : Layout) (z y x count first step length_is : ℕ) → IsLayout l → IsOrder s (order_of l.order s) → z < s.bands → y < s.rows
+    → x + count ≤ s.columns → LieEvenly s (order_of l.order s) z y x count first step → length_is ≡ sample_count s * l.bytes → (j : ℕ) → j < count
+    → (first + j * step < sample_count s) × ((first + j * step + 1) * l.bytes ≤ length_is)
 piece_there s l z y x count first step length_is layout lawful band row columns items whole j lt =
     let place : IsPlaceOf s (record { z = z; y = y; x = x + j }) = record { band = band; row = row; column = omega arith } in
-    let below : first + j * step < sample_count s = rw (← items j lt) (place_index_below s (order_of l.order s) (record { z = z; y = y; x = x + j }) lawful place) in
+    let below : first + j * step < sample_count s =
+    rw (← items j lt) (place_index_below s (order_of l.order s) (record { z = z; y = y; x = x + j }) lawful place) in
     (below, rw whole (omega (arith, bytes_there l (first + j * step) (sample_count s) layout below)))
 
 -- where all samples are of the kind, so are the offsets of a piece
-pub piece_good : (k : SampleKind) (l : Layout) (bytes new : List ℕ) (at count first step n : ℕ) → ((j : ℕ) → j < count → first + j * step < n) → ((j : ℕ) → j < count → StandsFor k l bytes (first + j * step) (get_or new (at + j) 0)) → AreSamples k l bytes n → (j : ℕ) → j < count → get_or new (at + j) 0 < 2 ^ k.bits
+pub piece_good : (k : SampleKind) (l : Layout) (bytes new : List ℕ) (at count first step n : ℕ) → ((j : ℕ) → j < count → first + j * step < n)
+    → ((j : ℕ) → j < count → StandsFor k l bytes (first + j * step) (get_or new (at + j) 0)) → AreSamples k l bytes n → (j : ℕ) → j < count
+    → get_or new (at + j) 0 < 2 ^ k.bits
 piece_good k l bytes new at count first step n within taken all j lt = (taken j lt).range (all (first + j * step) (within j lt))
 
 -- the offsets of all samples, where they follow one another as in the cube
-pub all_there : (s : Sizes) (k : SampleKind) (l : Layout) (bytes new : List ℕ) (count : ℕ) → l.order ≡ raw.Bsq → count ≡ sample_count s → ((j : ℕ) → j < count → StandsFor k l bytes (0 + j * 1) (get_or new (0 + j) 0)) → ((j : ℕ) → j < count → get_or new (0 + j) 0 < 2 ^ k.bits) → AreOffsetsOf s k l bytes new
+pub all_there : (s : Sizes) (k : SampleKind) (l : Layout) (bytes new : List ℕ) (count : ℕ) → l.order ≡ raw.Bsq → count ≡ sample_count s
+    → ((j : ℕ) → j < count → StandsFor k l bytes (0 + j * 1) (get_or new (0 + j) 0)) → ((j : ℕ) → j < count → get_or new (0 + j) 0 < 2 ^ k.bits)
+    → AreOffsetsOf s k l bytes new
 all_there s k l bytes new count e n taken good p place =
     let i : ℕ = index_in s.columns s.rows p.z p.y p.x in
     let lt : index_in s.columns s.rows p.z p.y p.x < count = rw n (index_below s.columns s.rows s.bands p.z p.y p.x place.band place.row place.column) in
@@ -185,19 +210,28 @@ pub byte_put : (xs : List ℕ) (i v : ℕ) → i < length xs → take 1 (drop (i
 byte_put xs i v lt = let e : i * 1 ≡ i = omega arith in rw (e, single (set xs i v) i (rw (length-set {A = ℕ}) lt), get_or-set_same xs i v 0 lt) refl
 
 pub byte_kept : (xs : List ℕ) (i v j : ℕ) → j ≢ i → take 1 (drop (j * 1) (set xs i v)) ≡ take 1 (drop (j * 1) xs)
-byte_kept xs i v j other = let e : j * 1 ≡ j = omega arith in rw e (elim (cases_lt j (length xs)) [ inl lt ↦ single (set xs i v) j (rw (length-set {A = ℕ}) lt) ∙ rw (get_or-set_other xs i j v 0 other) (sym (single xs j lt)) | inr past ↦ rw (drop_all j xs past, drop_all j (set xs i v) (rw (length-set {A = ℕ}) past)) refl ])
+byte_kept xs i v j other = let e : j * 1 ≡ j = omega arith in rw e (elim (cases_lt j (length xs)) [
+  | inl lt ↦ single (set xs i v) j (rw (length-set {A = ℕ}) lt) ∙ rw (get_or-set_other xs i j v 0 other) (sym (single xs j lt))
+  | inr past ↦ rw (drop_all j xs past, drop_all j (set xs i v) (rw (length-set {A = ℕ}) past)) refl
+])
 
 -- two bytes are put down, and no others
 pub pair_put : (xs ys : List ℕ) (i k : ℕ) → 2 * i + 2 ≤ length xs → length ys ≡ 2 → take 2 (drop (i * 2) (put_mid (2 * i) k xs ys)) ≡ ys
 pair_put xs ys i k fits two =
     let e : i * 2 ≡ 2 * i = omega arith in
     let before : length (take (2 * i) xs) ≡ 2 * i = length-take-le (2 * i) xs (omega arith) in
-    rw (e, ← drop-take (2 * i) 2 (put_mid (2 * i) k xs ys), take-put_mid (2 * i) k xs ys (2 * i + 2) (omega arith) (omega arith)) (rw before at (drop-append_seam (take (2 * i) xs) ys))
+    rw (e, ← drop-take (2 * i) 2 (put_mid (2 * i) k xs ys), take-put_mid (2 * i) k xs ys (2 * i + 2) (omega arith) (omega arith))
+    (rw before at (drop-append_seam (take (2 * i) xs) ys))
 
-pub pair_kept : (xs ys : List ℕ) (i k j : ℕ) → 2 * i + 2 ≤ length xs → length ys ≡ 2 → k ≡ 2 → j ≢ i → take 2 (drop (j * 2) (put_mid (2 * i) k xs ys)) ≡ take 2 (drop (j * 2) xs)
+pub pair_kept : (xs ys : List ℕ) (i k j : ℕ) → 2 * i + 2 ≤ length xs → length ys ≡ 2 → k ≡ 2 → j ≢ i
+    → take 2 (drop (j * 2) (put_mid (2 * i) k xs ys)) ≡ take 2 (drop (j * 2) xs)
 pair_kept xs ys i k j fits two e other =
     elim (cases_lt j i) [
-      | inl low ↦ rw (← drop-take (j * 2) 2 (put_mid (2 * i) k xs ys), ← drop-take (j * 2) 2 xs, take-put_mid_below (2 * i) k xs ys (j * 2 + 2) (omega arith) (omega arith)) refl
+      | inl low ↦ rw (
+        ← drop-take (j * 2) 2 (put_mid (2 * i) k xs ys),
+        ← drop-take (j * 2) 2 xs,
+        take-put_mid_below (2 * i) k xs ys (j * 2 + 2) (omega arith) (omega arith),
+      ) refl
       | inr high ↦ rw (drop-put_mid (2 * i) k xs ys (j * 2) (omega arith) (omega arith) (two ∙ sym e)) refl
     ]
 
@@ -210,12 +244,18 @@ apart_by_step first step x y some other e =
     ]
 
 -- one more number of a piece is put down
-pub given_more : (k : SampleKind) (l : Layout) (hs old new : List ℕ) (at first step x : ℕ) → 1 ≤ step → SpellOffset k l (get_or hs (at + x) 0) (bytes_at l new (first + x * step)) → ((i : ℕ) → i ≢ first + x * step → bytes_at l new i ≡ bytes_at l old i)
-    → ((j : ℕ) → j < x → SpellOffset k l (get_or hs (at + j) 0) (bytes_at l old (first + j * step))) → (j : ℕ) → j < x + 1 → SpellOffset k l (get_or hs (at + j) 0) (bytes_at l new (first + j * step))
+pub given_more : (k : SampleKind) (l : Layout) (hs old new : List ℕ) (at first step x : ℕ) → 1 ≤ step
+    → SpellOffset k l (get_or hs (at + x) 0) (bytes_at l new (first + x * step)) → ((i : ℕ) → i ≢ first + x * step → bytes_at l new i ≡ bytes_at l old i)
+    → ((j : ℕ) → j < x → SpellOffset k l (get_or hs (at + j) 0) (bytes_at l old (first + j * step))) → (j : ℕ) → j < x + 1
+    → SpellOffset k l (get_or hs (at + j) 0) (bytes_at l new (first + j * step))
 given_more k l hs old new at first step x some here others before j lt =
-    elim (cases_eq j x) [ inl e ↦ rw e here | inr other ↦ λ fits. others (first + j * step) (apart_by_step first step j x some other) ∙ before j (omega arith) fits ]
+    elim (cases_eq j x) [
+      | inl e ↦ rw e here
+      | inr other ↦ λ fits. others (first + j * step) (apart_by_step first step j x some other) ∙ before j (omega arith) fits
+    ]
 
-pub others_more : (l : Layout) (start old new : List ℕ) (first step x : ℕ) → ((i : ℕ) → i ≢ first + x * step → bytes_at l new i ≡ bytes_at l old i) → ((i : ℕ) → ((j : ℕ) → j < x → i ≢ first + j * step) → bytes_at l old i ≡ bytes_at l start i)
+pub others_more : (l : Layout) (start old new : List ℕ) (first step x : ℕ) → ((i : ℕ) → i ≢ first + x * step → bytes_at l new i ≡ bytes_at l old i)
+    → ((i : ℕ) → ((j : ℕ) → j < x → i ≢ first + j * step) → bytes_at l old i ≡ bytes_at l start i)
     → (i : ℕ) → ((j : ℕ) → j < x + 1 → i ≢ first + j * step) → bytes_at l new i ≡ bytes_at l start i
 others_more l start old new first step x others before i out = others i (out x (omega arith)) ∙ before i (λ j lt. out j (omega arith))
 
@@ -247,14 +287,23 @@ in_or_out p z y x count =
         | inr other ↦ inr (λ h. other h.row)
         | inl row ↦ elim (cases_lt p.x x) [
           | inl before ↦ inr (λ h. omega (arith, h.low))
-          | inr low ↦ elim (cases_lt p.x (x + count)) [ inl high ↦ inl (record { band = band; row = row; low = low; high = high }) | inr past ↦ inr (λ h. omega (arith, h.high)) ]
+          | inr low ↦ elim (cases_lt p.x (x + count)) [
+            | inl high ↦ inl (record { band = band; row = row; low = low; high = high })
+            | inr past ↦ inr (λ h. omega (arith, h.high))
+          ]
         ]
       ]
     ]
 
 -- the bytes of a sample of the piece are there, and elsewhere bytes stay
-pub poured_there : (s : Sizes) (k : SampleKind) (l : Layout) (offsets old new : List ℕ) (z y x at count first step : ℕ) (p : Place) → IsOrder s (order_of l.order s) → IsGiven s k l offsets old new z y x at count first step → IsPlaceOf s p → IsPoured s k l offsets old p ⊎ IsIn p z y x count → IsPoured s k l offsets new p
-poured_there s k l offsets old new z y x at count first step p lawful h place known = elim (in_or_out p z y x count) [ inl inside ↦ fresh inside | inr out ↦ kept out known ]
+pub poured_there : (s : Sizes) (k : SampleKind) (l : Layout) (offsets old new : List ℕ) (z y x at count first step : ℕ) (p : Place)
+    → IsOrder s (order_of l.order s) → IsGiven s k l offsets old new z y x at count first step → IsPlaceOf s p
+    → IsPoured s k l offsets old p ⊎ IsIn p z y x count → IsPoured s k l offsets new p
+poured_there s k l offsets old new z y x at count first step p lawful h place known =
+    elim (in_or_out p z y x count) [
+      | inl inside ↦ fresh inside
+      | inr out ↦ kept out known
+    ]
   where
     fresh : IsIn p z y x count → IsPoured s k l offsets new p
     fresh inside =
@@ -272,23 +321,33 @@ poured_there s k l offsets old new z y x at count first step p lawful h place kn
         apart : (j : ℕ) → j < count → place_index s (order_of l.order s) p ≢ first + j * step
         apart j lt e =
             let place_j : IsPlaceOf s (record { z = z; y = y; x = x + j }) = record { band = h.band; row = h.row; column = omega (arith, h.columns) } in
-            let same : p ≡ record { z = z; y = y; x = x + j } = same_place s (order_of l.order s) p (record { z = z; y = y; x = x + j }) lawful place place_j (e ∙ sym (h.items j lt)) in
-            out (record { band = ap (λ (q : Place). q.z) same; row = ap (λ (q : Place). q.y) same; low = omega (arith, ap (λ (q : Place). q.x) same); high = omega (arith, ap (λ (q : Place). q.x) same) })
+            let same : p ≡ record { z = z; y = y; x = x + j } =
+            same_place s (order_of l.order s) p (record { z = z; y = y; x = x + j }) lawful place place_j (e ∙ sym (h.items j lt)) in
+            out (record {
+              band = ap (λ (q : Place). q.z) same;
+              row = ap (λ (q : Place). q.y) same;
+              low = omega (arith, ap (λ (q : Place). q.x) same);
+              high = omega (arith, ap (λ (q : Place). q.x) same);
+            })
 
 -- where all samples have their bytes, so have those of a piece
-pub piece_fits : (s : Sizes) (k : SampleKind) (l : Layout) (offsets : List ℕ) (z y x at count : ℕ) → z < s.bands → y < s.rows → x + count ≤ s.columns → at ≡ index_in s.columns s.rows z y x → CanBePoured s k l offsets → (j : ℕ) → j < count → HasBytes k l (sample_of k (get_or offsets (at + j) 0))
+pub piece_fits : (s : Sizes) (k : SampleKind) (l : Layout) (offsets : List ℕ) (z y x at count : ℕ) → z < s.bands → y < s.rows → x + count ≤ s.columns
+    → at ≡ index_in s.columns s.rows z y x → CanBePoured s k l offsets → (j : ℕ) → j < count → HasBytes k l (sample_of k (get_or offsets (at + j) 0))
 piece_fits s k l offsets z y x at count band row columns at_is all j lt =
     let there : index_in s.columns s.rows z y (x + j) ≡ at + j = omega (arith, at_is) in
     rw there at (all (record { z = z; y = y; x = x + j }) (record { band = band; row = row; column = omega arith }))
 
 -- the offsets of a piece are there, and in range
-pub piece_offsets : (s : Sizes) (k : SampleKind) (offsets : List ℕ) (z y x at count : ℕ) → z < s.bands → y < s.rows → x + count ≤ s.columns → at ≡ index_in s.columns s.rows z y x → AreOffsets s k offsets → (j : ℕ) → j < count → (at + j < length offsets) × (get_or offsets (at + j) 0 < 2 ^ k.bits)
+pub piece_offsets : (s : Sizes) (k : SampleKind) (offsets : List ℕ) (z y x at count : ℕ) → z < s.bands → y < s.rows → x + count ≤ s.columns
+    → at ≡ index_in s.columns s.rows z y x → AreOffsets s k offsets → (j : ℕ) → j < count → (at + j < length offsets) × (get_or offsets (at + j) 0 < 2 ^ k.bits)
 piece_offsets s k offsets z y x at count band row columns at_is h j lt =
     let below : at + j < length offsets = omega (arith, at_is, h.whole, index_below s.columns s.rows s.bands z y (x + j) band row (omega arith)) in
     (below, h.range (at + j) below)
 
 -- the bytes of all samples, where they follow one another as in the cube
-pub all_given : (s : Sizes) (k : SampleKind) (l : Layout) (offsets new : List ℕ) (count : ℕ) → l.order ≡ raw.Bsq → count ≡ sample_count s → ((j : ℕ) → j < count → SpellOffset k l (get_or offsets (0 + j) 0) (bytes_at l new (0 + j * 1))) → ((j : ℕ) → j < count → HasBytes k l (sample_of k (get_or offsets (0 + j) 0))) → ArePoured s k l offsets new
+pub all_given : (s : Sizes) (k : SampleKind) (l : Layout) (offsets new : List ℕ) (count : ℕ) → l.order ≡ raw.Bsq → count ≡ sample_count s
+    → ((j : ℕ) → j < count → SpellOffset k l (get_or offsets (0 + j) 0) (bytes_at l new (0 + j * 1)))
+    → ((j : ℕ) → j < count → HasBytes k l (sample_of k (get_or offsets (0 + j) 0))) → ArePoured s k l offsets new
 all_given s k l offsets new count e n given good p place =
     let lt : index_in s.columns s.rows p.z p.y p.x < count = rw n (index_below s.columns s.rows s.bands p.z p.y p.x place.band place.row place.column) in
     let item : place_index s (order_of l.order s) p ≡ 0 + index_in s.columns s.rows p.z p.y p.x * 1 = rw e (sequential_index s p ∙ omega arith) in
@@ -297,7 +356,8 @@ all_given s k l offsets new count e n given good p place =
     record { fits = rw here at fits; there = rw item (rw here at (given (index_in s.columns s.rows p.z p.y p.x) lt fits)) }
 
 -- where all samples have their bytes, each of the first ones has
-pub all_fit : (s : Sizes) (k : SampleKind) (l : Layout) (offsets : List ℕ) (count : ℕ) → count ≡ sample_count s → CanBePoured s k l offsets → (j : ℕ) → j < count → HasBytes k l (sample_of k (get_or offsets (0 + j) 0))
+pub all_fit : (s : Sizes) (k : SampleKind) (l : Layout) (offsets : List ℕ) (count : ℕ) → count ≡ sample_count s → CanBePoured s k l offsets → (j : ℕ)
+    → j < count → HasBytes k l (sample_of k (get_or offsets (0 + j) 0))
 all_fit s k l offsets count n all j lt =
     let there = place_of s Bsq j tt (omega arith) in
     let here : index_in s.columns s.rows there.0.z there.0.y there.0.x ≡ 0 + j = sym (sequential_index s there.0) ∙ there.1.index ∙ omega arith in

@@ -1,5 +1,6 @@
 -- The raw bytes of samples that were taken in from bytes are those bytes.
-use Rattle.std.proofs.Common.{◌≡◌, ◌+◌, ◌*◌, ◌/◌, ◌%◌, ◌^◌, ◌<◌, ◌≤◌, ◌-◌, ℕ, suc, zero, pos, negsuc, ◌-ℤ◌, Bool, true, false, leb, List, [], ◌∷◌, length, take, drop, replicate, get_or, refl, sym, ap, ◌∙◌, subst, arith, inl, inr, length-take, length-drop}
+use Rattle.std.proofs.Common.{◌≡◌, ◌+◌, ◌*◌, ◌/◌, ◌%◌, ◌^◌, ◌<◌, ◌≤◌, ◌-◌, ℕ, suc, zero, pos, negsuc, ◌-ℤ◌, Bool, true, false, leb, List, [], ◌∷◌, length, take}
+use Rattle.std.proofs.Common.{drop, replicate, get_or, refl, sym, ap, ◌∙◌, subst, arith, inl, inr, length-take, length-drop}
 use Rattle.std.proofs.lemmas.List.{take-append-drop, drop-drop, nil_from_length, get_or-take, get_or-drop, get_or_past, length-map}
 use Rattle.std.proofs.lemmas.Int.{ints}
 use Rattle.std.specs.Prelude.{if◌then◌else◌, ◌&&◌}
@@ -22,12 +23,14 @@ use Rattle.cube_core.proofs.Orders.{StandsAt, place_at_index, length-places}
 use Rattle.cube_core.proofs.Raws.{place_of, lawful_order, bytes_there}
 
 -- a list is cut into pieces of one length, each of which is what f makes of an item
-pub pieces_whole : {A : Type 0} (f : A → List ℕ) (xs : List A) (w : ℕ) (bytes : List ℕ) → length bytes ≡ length xs * w → ((i : ℕ) (d : A) → i < length xs → f (get_or xs i d) ≡ take w (drop (i * w) bytes)) → flat_map f xs ≡ bytes
+pub pieces_whole : {A : Type 0} (f : A → List ℕ) (xs : List A) (w : ℕ) (bytes : List ℕ) → length bytes ≡ length xs * w
+    → ((i : ℕ) (d : A) → i < length xs → f (get_or xs i d) ≡ take w (drop (i * w) bytes)) → flat_map f xs ≡ bytes
 pieces_whole f [] w bytes long each = sym (nil_from_length bytes (long ∙ omega arith))
 pieces_whole f (x ∷ xs) w bytes long each =
     let none : 0 * w ≡ 0 = omega arith in
     let first : f x ≡ take w bytes = rw none at (each 0 x (omega arith)) in
-    let others : flat_map f xs ≡ drop w bytes = pieces_whole f xs w (drop w bytes) (omega (arith, length-drop w bytes)) (λ i d lt. each (suc i) d (omega arith) ∙ ap (take w) (further i)) in
+    let others : flat_map f xs ≡ drop w bytes =
+    pieces_whole f xs w (drop w bytes) (omega (arith, length-drop w bytes)) (λ i d lt. each (suc i) d (omega arith) ∙ ap (take w) (further i)) in
     rw (first, others) (take-append-drop w bytes)
   where
     further : (i : ℕ) → drop (suc i * w) bytes ≡ drop (i * w) (drop w bytes)
@@ -35,7 +38,8 @@ pieces_whole f (x ∷ xs) w bytes long each =
 
 -- ---- one sample
 
-code_by : (test : Bool) (bytes number : ℕ) → number < 2 ^ (8 * bytes) → raw_code bytes (if test then pos number -ℤ pos (2 ^ (8 * bytes)) else pos number) ≡ number
+code_by : (test : Bool) (bytes number : ℕ) → number < 2 ^ (8 * bytes)
+    → raw_code bytes (if test then pos number -ℤ pos (2 ^ (8 * bytes)) else pos number) ≡ number
 code_by true bytes number h =
     let below : pos number -ℤ pos (2 ^ (8 * bytes)) ≡ negsuc (2 ^ (8 * bytes) - number - 1) = omega (arith, ints) in
     rw below (omega arith)
@@ -54,7 +58,8 @@ one_again l k [] h e n = absurd (omega (arith, n))
 one_again l k (a ∷ []) h e n = rw (e, code_again k.signed 1 a (h 0)) refl
 one_again l k (a ∷ b ∷ bs) h e n = absurd (omega (arith, n))
 
-two_again : (little : Bool) (l : Layout) (k : SampleKind) (bytes : List ℕ) → AreBytes bytes → l.little ≡ little → l.bytes ≡ 2 → length bytes ≡ 2 → sample_bytes l (raw_value l k bytes) ≡ bytes
+two_again : (little : Bool) (l : Layout) (k : SampleKind) (bytes : List ℕ) → AreBytes bytes → l.little ≡ little → l.bytes ≡ 2 → length bytes ≡ 2
+    → sample_bytes l (raw_value l k bytes) ≡ bytes
 unfolding sample_bytes
 two_again little l k [] h f e n = absurd (omega (arith, n))
 two_again little l k (a ∷ []) h f e n = absurd (omega (arith, n))
@@ -69,7 +74,8 @@ two_again false l k (a ∷ b ∷ []) h f e n =
 two_again little l k (a ∷ b ∷ c ∷ bs) h f e n = absurd (omega (arith, n))
 
 -- the bytes of the sample that bytes spell are these bytes
-pub sample_bytes_again : (l : Layout) (k : SampleKind) (bytes : List ℕ) → IsLayout l → AreBytes bytes → length bytes ≡ l.bytes → sample_bytes l (raw_value l k bytes) ≡ bytes
+pub sample_bytes_again : (l : Layout) (k : SampleKind) (bytes : List ℕ) → IsLayout l → AreBytes bytes → length bytes ≡ l.bytes
+    → sample_bytes l (raw_value l k bytes) ≡ bytes
 sample_bytes_again l k bytes (inl e) h n = one_again l k bytes h e (n ∙ e)
 sample_bytes_again l k bytes (inr e) h n = two_again l.little l k bytes h refl e (n ∙ e)
 
@@ -80,41 +86,56 @@ image s k offsets = record { shape = s; kind = k; samples = samples_of k offsets
 
 -- the bytes of a sample are bytes
 pub bytes_at_small : (l : Layout) (bytes : List ℕ) (i : ℕ) → AreBytes bytes → AreBytes (bytes_at l bytes i)
-bytes_at_small l bytes i small j = elim (cases_lt j l.bytes) [ inl lt ↦ rw (get_or-take l.bytes (drop (i * l.bytes) bytes) j 0 lt, get_or-drop (i * l.bytes) bytes j 0) (small (i * l.bytes + j)) | inr past ↦ rw (get_or_past (bytes_at l bytes i) j 0 (omega (arith, length-take l.bytes (drop (i * l.bytes) bytes)))) (omega arith) ]
+bytes_at_small l bytes i small j =
+    elim (cases_lt j l.bytes) [
+      | inl lt ↦ rw (get_or-take l.bytes (drop (i * l.bytes) bytes) j 0 lt, get_or-drop (i * l.bytes) bytes j 0) (small (i * l.bytes + j))
+      | inr past ↦ rw (get_or_past (bytes_at l bytes i) j 0 (omega (arith, length-take l.bytes (drop (i * l.bytes) bytes)))) (omega arith)
+    ]
 
 -- the sample that stands at i is the one that its bytes spell
-pub sample_spelled : (s : Sizes) (k : SampleKind) (l : Layout) (bytes offsets : List ℕ) (p : Place) (i : ℕ) → length offsets ≡ sample_count s → AreOffsetsOf s k l bytes offsets → StandsAt s (order_of l.order s) p i → sample_at (image s k offsets) p.z p.y p.x ≡ raw_value l k (bytes_at l bytes i)
+pub sample_spelled : (s : Sizes) (k : SampleKind) (l : Layout) (bytes offsets : List ℕ) (p : Place) (i : ℕ) → length offsets ≡ sample_count s
+    → AreOffsetsOf s k l bytes offsets → StandsAt s (order_of l.order s) p i → sample_at (image s k offsets) p.z p.y p.x ≡ raw_value l k (bytes_at l bytes i)
 sample_spelled s k l bytes offsets p i full here stands =
-    let at : index_in s.columns s.rows p.z p.y p.x < length offsets = rw full (index_below s.columns s.rows s.bands p.z p.y p.x stands.place.band stands.place.row stands.place.column) in
+    let at : index_in s.columns s.rows p.z p.y p.x < length offsets =
+    rw full (index_below s.columns s.rows s.bands p.z p.y p.x stands.place.band stands.place.row stands.place.column) in
     let read = sample_at_offset (image s k offsets) s k offsets p.z p.y p.x (index_in s.columns s.rows p.z p.y p.x) refl refl at in
     read ∙ (here p stands.place).value ∙ ap (λ (n : ℕ). raw_value l k (bytes_at l bytes n)) stands.index
 
-each_sample : (s : Sizes) (k : SampleKind) (l : Layout) (bytes offsets : List ℕ) (i : ℕ) (d : Place) → IsLayout l → 0 < sample_count s → length bytes ≡ sample_count s * l.bytes → AreBytes bytes → length offsets ≡ sample_count s → AreOffsetsOf s k l bytes offsets → i < sample_count s
-    → sample_bytes l (sample_at (image s k offsets) (get_or (places s (order_of l.order s)) i d).z (get_or (places s (order_of l.order s)) i d).y (get_or (places s (order_of l.order s)) i d).x) ≡ bytes_at l bytes i
+each_sample : (s : Sizes) (k : SampleKind) (l : Layout) (bytes offsets : List ℕ) (i : ℕ) (d : Place) → IsLayout l → 0 < sample_count s
+    → length bytes ≡ sample_count s * l.bytes → AreBytes bytes → length offsets ≡ sample_count s → AreOffsetsOf s k l bytes offsets → i < sample_count s
+    → sample_bytes l (sample_at (image s k offsets) (get_or (places s (order_of l.order s)) i d).z (get_or (places s (order_of l.order s)) i d).y
+    (get_or (places s (order_of l.order s)) i d).x) ≡ bytes_at l bytes i
 each_sample s k l bytes offsets i d layout some long small full here lt =
     let lawful = lawful_order l.order s some in
     let there = place_of s (order_of l.order s) i lawful lt in
     let p : Place = there.0 in
-    let item : get_or (places s (order_of l.order s)) i d ≡ p = subst (λ (n : ℕ). get_or (places s (order_of l.order s)) n d ≡ p) there.1.index (place_at_index s (order_of l.order s) p d lawful there.1.place) in
+    let item : get_or (places s (order_of l.order s)) i d ≡ p =
+    subst (λ (n : ℕ). get_or (places s (order_of l.order s)) n d ≡ p) there.1.index (place_at_index s (order_of l.order s) p d lawful there.1.place) in
     let fits : i * l.bytes + l.bytes ≤ length bytes = rw long (bytes_there l i (sample_count s) layout lt) in
     let whole : length (bytes_at l bytes i) ≡ l.bytes = omega (arith, length-take l.bytes (drop (i * l.bytes) bytes), length-drop (i * l.bytes) bytes) in
-    rw (item, sample_spelled s k l bytes offsets p i full here there.1) (sample_bytes_again l k (bytes_at l bytes i) layout (bytes_at_small l bytes i small) whole)
+    rw (item, sample_spelled s k l bytes offsets p i full here there.1)
+    (sample_bytes_again l k (bytes_at l bytes i) layout (bytes_at_small l bytes i small) whole)
 
-pub raw_bytes_again : (s : Sizes) (k : SampleKind) (l : Layout) (bytes offsets : List ℕ) → IsLayout l → 0 < sample_count s → length bytes ≡ sample_count s * l.bytes → AreBytes bytes → length offsets ≡ sample_count s → AreOffsetsOf s k l bytes offsets
+pub raw_bytes_again : (s : Sizes) (k : SampleKind) (l : Layout) (bytes offsets : List ℕ) → IsLayout l → 0 < sample_count s
+    → length bytes ≡ sample_count s * l.bytes → AreBytes bytes → length offsets ≡ sample_count s → AreOffsetsOf s k l bytes offsets
     → raw_bytes (record { shape = s; kind = k; samples = samples_of k offsets }) l ≡ bytes
 unfolding raw_bytes
 raw_bytes_again s k l bytes offsets layout some long small full here =
-    pieces_whole (λ (p : Place). sample_bytes l (sample_at (image s k offsets) p.z p.y p.x)) (places s (order_of l.order s)) l.bytes bytes (rw (length-places s (order_of l.order s) (lawful_order l.order s some)) long)
-    (λ i d lt. each_sample s k l bytes offsets i d layout some long small full here (omega (arith, lt, length-places s (order_of l.order s) (lawful_order l.order s some))))
+    pieces_whole (λ (p : Place). sample_bytes l (sample_at (image s k offsets) p.z p.y p.x)) (places s (order_of l.order s)) l.bytes bytes
+    (rw (length-places s (order_of l.order s) (lawful_order l.order s some)) long)
+    (λ i d lt. each_sample s k l bytes offsets i d layout some long small full here
+    (omega (arith, lt, length-places s (order_of l.order s) (lawful_order l.order s some))))
 
 -- ---- offsets
 
 -- each offset is within the kind's bits
-pub are_offsets : (s : Sizes) (k : SampleKind) (l : Layout) (bytes offsets : List ℕ) → 0 < sample_count s → length offsets ≡ sample_count s → AreOffsetsOf s k l bytes offsets → AreOffsets s k offsets
+pub are_offsets : (s : Sizes) (k : SampleKind) (l : Layout) (bytes offsets : List ℕ) → 0 < sample_count s → length offsets ≡ sample_count s
+    → AreOffsetsOf s k l bytes offsets → AreOffsets s k offsets
 are_offsets s k l bytes offsets some full here =
     record {
       whole = full;
-      range = λ i lt. let there = place_of s Bsq i tt (omega arith) in subst (λ (n : ℕ). get_or offsets n 0 < 2 ^ k.bits) (sym (sequential_index s there.0) ∙ there.1.index) (here there.0 there.1.place).below;
+      range = λ i lt. let there = place_of s Bsq i tt (omega arith) in
+          subst (λ (n : ℕ). get_or offsets n 0 < 2 ^ k.bits) (sym (sequential_index s there.0) ∙ there.1.index) (here there.0 there.1.place).below;
     }
 
 pub zeros_are_samples : (k : SampleKind) (n offset : ℕ) → sample_of k offset ≡ pos 0 → samples_of k (replicate n offset) ≡ replicate n (pos 0)
@@ -123,7 +144,8 @@ zeros_are_samples k zero offset e = refl
 zeros_are_samples k (suc n) offset e = rw (e, zeros_are_samples k n offset e) refl
 
 -- what is kept as offsets is a cube
-pub is_cube : (s : Sizes) (k : SampleKind) (offsets : List ℕ) → AreSizes s → IsKind k → AreOffsets s k offsets → IsCube (record { shape = s; kind = k; samples = samples_of k offsets })
+pub is_cube : (s : Sizes) (k : SampleKind) (offsets : List ℕ) → AreSizes s → IsKind k → AreOffsets s k offsets
+    → IsCube (record { shape = s; kind = k; samples = samples_of k offsets })
 unfolding samples_of
 is_cube s k offsets sizes bits here =
     let long : length (samples_of k offsets) ≡ length offsets = length-map offsets (sample_of k) in
@@ -131,5 +153,6 @@ is_cube s k offsets sizes bits here =
       sizes = sizes;
       bits = bits;
       whole = long ∙ here.whole;
-      range = λ i lt. let within : i < length offsets = rw long at lt in rw (sample_read k offsets i within) (offset_is_sample k (get_or offsets i 0) bits (here.range i within));
+      range = λ i lt. let within : i < length offsets = rw long at lt in
+          rw (sample_read k offsets i within) (offset_is_sample k (get_or offsets i 0) bits (here.range i within));
     }

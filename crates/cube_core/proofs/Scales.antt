@@ -18,7 +18,8 @@ rebased_two number h = grind (arith, ints, nat_tests)
 abbrev Stands : SampleKind → ℕ → ℤ → Type 0
 Stands k offset v = (offset < 2 ^ k.bits → sample_of k offset ≡ v) × (IsSample k v → offset < 2 ^ k.bits)
 
-lifted : (bits half lift t : ℕ) → 2 ≤ bits → bits ≤ 16 → half ≤ 32768 → t < 2 * half → lift < 65536 → (lift + half) % 65536 ≡ 2 ^ (bits - 1) → Stands (record { signed = true; bits = bits }) ((t + lift) % 65536) (pos t -ℤ pos half)
+lifted : (bits half lift t : ℕ) → 2 ≤ bits → bits ≤ 16 → half ≤ 32768 → t < 2 * half → lift < 65536 → (lift + half) % 65536 ≡ 2 ^ (bits - 1)
+    → Stands (record { signed = true; bits = bits }) ((t + lift) % 65536) (pos t -ℤ pos half)
 lifted bits half lift t a b c d e f =
     let twice : 2 ^ bits ≡ 2 * 2 ^ (bits - 1) = doubled bits (omega arith) in
     let most : 2 ^ (bits - 1) ≤ 2 ^ 15 = power_grows (bits - 1) 15 (omega arith) in
@@ -29,7 +30,9 @@ plain bits lift t a b c =
     let none : lift ≡ 0 = omega arith in
     (λ lt. omega (arith, ints), λ s. omega (arith, ints, s.0, s.1))
 
-stands_by : (signed : Bool) (bits bytes number half lift rebased : ℕ) → 2 ≤ bits → bits ≤ 16 → (bytes ≡ 1) ⊎ (bytes ≡ 2) → number < 2 ^ (8 * bytes) → half ≡ half_of signed bytes → lift < 65536 → (lift + half) % 65536 ≡ zero_offset (record { signed = signed; bits = bits }) → rebased ≡ (number + half) % 2 ^ (8 * bytes)
+stands_by : (signed : Bool) (bits bytes number half lift rebased : ℕ) → 2 ≤ bits → bits ≤ 16 → (bytes ≡ 1) ⊎ (bytes ≡ 2) → number < 2 ^ (8 * bytes)
+    → half ≡ half_of signed bytes → lift < 65536 → (lift + half) % 65536 ≡ zero_offset (record { signed = signed; bits = bits })
+    → rebased ≡ (number + half) % 2 ^ (8 * bytes)
     → Stands (record { signed = signed; bits = bits }) ((rebased + lift) % 65536) (twos_complement signed bytes number)
 stands_by true bits bytes number half lift rebased a b (inl e) n h l z t =
     let small : number < 256 = rw e at n in
@@ -56,6 +59,7 @@ stands_by false bits bytes number half lift rebased a b (inr e) n h l z t =
     let same : rebased ≡ number = omega arith in
     rw same (plain bits lift number (omega arith) l (rw h at z))
 
-pub stands : (k : SampleKind) (bytes number half lift rebased : ℕ) → IsKind k → (bytes ≡ 1) ⊎ (bytes ≡ 2) → number < 2 ^ (8 * bytes) → half ≡ half_of k.signed bytes → lift < 65536 → (lift + half) % 65536 ≡ zero_offset k → rebased ≡ (number + half) % 2 ^ (8 * bytes)
+pub stands : (k : SampleKind) (bytes number half lift rebased : ℕ) → IsKind k → (bytes ≡ 1) ⊎ (bytes ≡ 2) → number < 2 ^ (8 * bytes)
+    → half ≡ half_of k.signed bytes → lift < 65536 → (lift + half) % 65536 ≡ zero_offset k → rebased ≡ (number + half) % 2 ^ (8 * bytes)
     → Stands k ((rebased + lift) % 65536) (twos_complement k.signed bytes number)
 stands k bytes number half lift rebased a = stands_by k.signed k.bits bytes number half lift rebased a.0 a.1

@@ -14,22 +14,26 @@ one_byte l v number e n =
     let code : number ≡ raw_code 1 v = rw e at n in
     rw (e, ← code) refl
 
-pub little_first : (l : Layout) (v : ℤ) (number : ℕ) → l.bytes ≡ 2 → l.little ≡ true → number ≡ raw_code l.bytes v → number < 65536 → little_bytes 2 number ≡ sample_bytes l v
+pub little_first : (l : Layout) (v : ℤ) (number : ℕ) → l.bytes ≡ 2 → l.little ≡ true → number ≡ raw_code l.bytes v → number < 65536
+    → little_bytes 2 number ≡ sample_bytes l v
 unfolding sample_bytes
 little_first l v number e f n h =
     let code : number ≡ raw_code 2 v = rw e at n in
     let high : number / 256 % 256 ≡ number / 256 = omega arith in
     rw (e, f, ← code, high) refl
 
-pub big_first : (l : Layout) (v : ℤ) (number : ℕ) → l.bytes ≡ 2 → l.little ≡ false → number ≡ raw_code l.bytes v → number < 65536 → big_bytes 2 number ≡ sample_bytes l v
+pub big_first : (l : Layout) (v : ℤ) (number : ℕ) → l.bytes ≡ 2 → l.little ≡ false → number ≡ raw_code l.bytes v → number < 65536
+    → big_bytes 2 number ≡ sample_bytes l v
 unfolding sample_bytes
 big_first l v number e f n h =
     let code : number ≡ raw_code 2 v = rw e at n in
     let high : number / 256 % 256 ≡ number / 256 = omega arith in
     rw (e, f, ← code, high) refl
 
-within : (signed : Bool) (bits span : ℕ) (v : ℤ) → 1 ≤ bits → bits ≤ span → IsSample (record { signed = signed; bits = bits }) v → IsSample (record { signed = signed; bits = span }) v
-within true bits span v h e s = let p : 2 ^ (bits - 1) ≤ 2 ^ (span - 1) = power_grows (bits - 1) (span - 1) (omega arith) in (omega (arith, ints, s.0, p), omega (arith, ints, s.1, p))
+within : (signed : Bool) (bits span : ℕ) (v : ℤ) → 1 ≤ bits → bits ≤ span → IsSample (record { signed = signed; bits = bits }) v
+    → IsSample (record { signed = signed; bits = span }) v
+within true bits span v h e s = let p : 2 ^ (bits - 1) ≤ 2 ^ (span - 1) = power_grows (bits - 1) (span - 1) (omega arith) in
+    (omega (arith, ints, s.0, p), omega (arith, ints, s.1, p))
 within false bits span v h e s = let p : 2 ^ bits ≤ 2 ^ span = power_grows bits span e in (s.0, omega (arith, ints, s.1, p))
 
 -- samples of few bits have their bytes

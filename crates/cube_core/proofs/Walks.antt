@@ -1,5 +1,6 @@
 -- A walk's steps from place to place.
-use Rattle.std.proofs.Common.{◌≡◌, ◌+◌, ◌*◌, ◌/◌, ◌<◌, ◌≤◌, ◌-◌, ℕ, zero, suc, min, true, false, List, [], ◌∷◌, Some, length, drop, refl, sym, ap, ◌∙◌, subst, arith, drop-cons, length-drop}
+use Rattle.std.proofs.Common.{◌≡◌, ◌+◌, ◌*◌, ◌/◌, ◌<◌, ◌≤◌, ◌-◌, ℕ, zero, suc, min, true, false, List, [], ◌∷◌, Some, length, drop, refl, sym, ap, ◌∙◌, subst}
+use Rattle.std.proofs.Common.{arith, drop-cons, length-drop}
 use Rattle.std.specs.List.{slice_get}
 use Rattle.std.proofs.lemmas.Bool.{eqb-true, true≢false}
 use Rattle.std.proofs.lemmas.List.{drop-drop}
@@ -31,7 +32,8 @@ pub next_row : (s : Sizes) (p : Place) → p.x + 1 ≡ s.columns → place_index
 unfolding place_index
 next_row s p e = rw (← e) (omega arith)
 
-pub next_band : (s : Sizes) (p : Place) → p.x + 1 ≡ s.columns → p.y + 1 ≡ s.rows → place_index s Bsq (record { z = p.z + 1; y = 0; x = 0 }) ≡ place_index s Bsq p + 1
+pub next_band : (s : Sizes) (p : Place) → p.x + 1 ≡ s.columns → p.y + 1 ≡ s.rows
+    → place_index s Bsq (record { z = p.z + 1; y = 0; x = 0 }) ≡ place_index s Bsq p + 1
 unfolding place_index
 next_band s p e f = rw (← e, ← f) (omega arith)
 
@@ -43,7 +45,8 @@ band_follows s p e f more =
 
 -- ---- band interleaved
 
-pub index_in_group : (s : Sizes) (depth first : ℕ) (p : Place) → first ≡ p.z / depth * depth → place_index s (Bi depth) p ≡ (p.y * s.bands + first) * s.columns + (p.x * min depth (s.bands - first) + (p.z - first))
+pub index_in_group : (s : Sizes) (depth first : ℕ) (p : Place) → first ≡ p.z / depth * depth
+    → place_index s (Bi depth) p ≡ (p.y * s.bands + first) * s.columns + (p.x * min depth (s.bands - first) + (p.z - first))
 unfolding place_index
 index_in_group s depth first p e = rw e refl
 
@@ -57,7 +60,8 @@ group_kept depth first z w e a b =
 pub group_next : (depth first z : ℕ) → 1 ≤ depth → first ≡ z / depth * depth → first + depth ≡ (first + depth) / depth * depth
 group_next depth first z h e =
     let place : (z / depth + 1) * depth + 0 ≡ first + depth = omega arith in
-    let group : (first + depth) / depth ≡ z / depth + 1 = subst (λ (n : ℕ). n / depth ≡ z / depth + 1) place (div-mul-add (z / depth + 1) depth 0 (omega arith)) in
+    let group : (first + depth) / depth ≡ z / depth + 1 =
+    subst (λ (n : ℕ). n / depth ≡ z / depth + 1) place (div-mul-add (z / depth + 1) depth 0 (omega arith)) in
     rw group (omega arith)
 
 -- a spot of these bands so many places on
@@ -74,10 +78,12 @@ abbrev places_on : Spot → ℕ → Spot
 places_on p n = record { place = record { z = p.place.z; y = p.place.y; x = p.place.x + n }; first = p.first; end = p.end }
 
 -- so many bands on, in the group
-pub bands_of_group : (s : Sizes) (depth : ℕ) (p : Spot) (n : ℕ) → 1 ≤ depth → IsSpot s (Bi depth) p → p.place.z + n < p.end → StepsOn s (Bi depth) n p (bands_on p n)
+pub bands_of_group : (s : Sizes) (depth : ℕ) (p : Spot) (n : ℕ) → 1 ≤ depth → IsSpot s (Bi depth) p → p.place.z + n < p.end
+    → StepsOn s (Bi depth) n p (bands_on p n)
 bands_of_group s depth p n h spot more =
     let low : p.place.z / depth * depth ≤ p.place.z = div-mul-le_self p.place.z depth in
-    let kept : p.first ≡ (p.place.z + n) / depth * depth = group_kept depth p.first p.place.z (p.place.z + n) spot.1 (omega (arith, spot.1)) (omega (arith, spot.2)) in (
+    let kept : p.first ≡ (p.place.z + n) / depth * depth =
+    group_kept depth p.first p.place.z (p.place.z + n) spot.1 (omega (arith, spot.1)) (omega (arith, spot.2)) in (
       (record { band = omega (arith, spot.2); row = spot.0.row; column = spot.0.column }, kept, spot.2),
       index_in_group s depth p.first (bands_on p n).place kept ∙ sym (ap (λ i. i + n) (index_in_group s depth p.first p.place spot.1) ∙ omega (arith, spot.1)),
     )
@@ -89,7 +95,8 @@ columns_of_line s p n there =
     rw (index_in_group s 1 p.z p first, index_in_group s 1 p.z (record { z = p.z; y = p.y; x = p.x + n }) first, one) (omega arith)
 
 -- so many columns on, where places go along rows
-pub columns_along : (s : Sizes) (o : Order) (p : Place) (n : ℕ) → goes_along_rows o ≡ true → IsPlaceOf s p → place_index s o (record { z = p.z; y = p.y; x = p.x + n }) ≡ place_index s o p + n
+pub columns_along : (s : Sizes) (o : Order) (p : Place) (n : ℕ) → goes_along_rows o ≡ true → IsPlaceOf s p
+    → place_index s o (record { z = p.z; y = p.y; x = p.x + n }) ≡ place_index s o p + n
 columns_along s Bsq p n along there = columns_on s p n
 columns_along s (Bi depth) p n along there = rw (eqb-true depth 1 along) (columns_of_line s p n there)
 
@@ -101,7 +108,8 @@ spot_along : (s : Sizes) (o : Order) (p : Spot) (n : ℕ) → IsSpot s o p → p
 spot_along s Bsq p n spot more = record { band = spot.band; row = spot.row; column = more }
 spot_along s (Bi depth) p n spot more = (record { band = spot.0.band; row = spot.0.row; column = more }, spot.1, spot.2)
 
-pub columns_of_row : (s : Sizes) (o : Order) (p : Spot) (n : ℕ) → goes_along_rows o ≡ true → IsSpot s o p → p.place.x + n < s.columns → StepsOn s o n p (places_on p n)
+pub columns_of_row : (s : Sizes) (o : Order) (p : Spot) (n : ℕ) → goes_along_rows o ≡ true → IsSpot s o p → p.place.x + n < s.columns
+    → StepsOn s o n p (places_on p n)
 columns_of_row s o p n along spot more = (spot_along s o p n spot more, columns_along s o p.place n along (spot_place s o p spot))
 
 -- under interleaving a spot's band is before its group's end
@@ -110,23 +118,27 @@ before_end s Bsq p lawful along spot = elim (true≢false along) [ ]
 before_end s (Bi depth) p lawful along spot = omega (arith, spot.1, spot.2, spot.0.band, lt-div-mul-add {a = p.place.z} lawful.0)
 
 -- so many bands on, where places go along columns of bands
-pub bands_of_column : (s : Sizes) (o : Order) (p : Spot) (n : ℕ) → IsOrder s o → goes_along_rows o ≡ false → IsSpot s o p → p.place.z + n < p.end → StepsOn s o n p (bands_on p n)
+pub bands_of_column : (s : Sizes) (o : Order) (p : Spot) (n : ℕ) → IsOrder s o → goes_along_rows o ≡ false → IsSpot s o p → p.place.z + n < p.end
+    → StepsOn s o n p (bands_on p n)
 bands_of_column s Bsq p n lawful along spot more = elim (true≢false along) [ ]
 bands_of_column s (Bi depth) p n lawful along spot more = bands_of_group s depth p n lawful.0 spot more
 
 -- the group's first band, a column on
-pub next_in_row : (s : Sizes) (depth : ℕ) (p : Spot) → 1 ≤ depth → IsSpot s (Bi depth) p → p.end ≤ p.place.z + 1 → p.place.x + 1 < s.columns → StepsTo s depth p (record { place = record { z = p.first; y = p.place.y; x = p.place.x + 1 }; first = p.first; end = p.end })
+pub next_in_row : (s : Sizes) (depth : ℕ) (p : Spot) → 1 ≤ depth → IsSpot s (Bi depth) p → p.end ≤ p.place.z + 1 → p.place.x + 1 < s.columns
+    → StepsTo s depth p (record { place = record { z = p.first; y = p.place.y; x = p.place.x + 1 }; first = p.first; end = p.end })
 next_in_row s depth p h spot last more =
     let low : p.place.z / depth * depth ≤ p.place.z = div-mul-le_self p.place.z depth in
     let high : p.place.z < p.place.z / depth * depth + depth = lt-div-mul-add h in
     let kept : p.first ≡ p.first / depth * depth = group_kept depth p.first p.place.z p.first spot.1 (omega arith) (omega arith) in
     let behind : p.place.z - p.first + 1 ≡ min depth (s.bands - p.first) = omega (arith, spot.1, spot.2, spot.0.band) in (
       (record { band = omega (arith, spot.1, spot.0.band); row = spot.0.row; column = more }, kept, spot.2),
-      index_in_group s depth p.first (record { z = p.first; y = p.place.y; x = p.place.x + 1 }) kept ∙ sym (ap (λ n. n + 1) (index_in_group s depth p.first p.place spot.1) ∙ omega (arith, behind)),
+      index_in_group s depth p.first (record { z = p.first; y = p.place.y; x = p.place.x + 1 }) kept
+          ∙ sym (ap (λ n. n + 1) (index_in_group s depth p.first p.place spot.1) ∙ omega (arith, behind)),
     )
 
 -- the next group's first band, in the first column
-pub next_group : (s : Sizes) (depth : ℕ) (p : Spot) → 1 ≤ depth → IsSpot s (Bi depth) p → p.end ≤ p.place.z + 1 → s.columns ≤ p.place.x + 1 → p.end < s.bands → StepsTo s depth p (record { place = record { z = p.end; y = p.place.y; x = 0 }; first = p.end; end = min s.bands (p.end + depth) })
+pub next_group : (s : Sizes) (depth : ℕ) (p : Spot) → 1 ≤ depth → IsSpot s (Bi depth) p → p.end ≤ p.place.z + 1 → s.columns ≤ p.place.x + 1 → p.end < s.bands
+    → StepsTo s depth p (record { place = record { z = p.end; y = p.place.y; x = 0 }; first = p.end; end = min s.bands (p.end + depth) })
 next_group s depth p h spot last column more =
     let low : p.place.z / depth * depth ≤ p.place.z = div-mul-le_self p.place.z depth in
     let end : p.first + depth ≡ p.end = omega (arith, spot.2) in
@@ -134,13 +146,17 @@ next_group s depth p h spot last column more =
     let size : min depth (s.bands - p.first) ≡ depth = omega (arith, spot.2) in
     let x : p.place.x + 1 ≡ s.columns = omega (arith, spot.0.column) in
     let behind : p.place.z - p.first + 1 ≡ depth = omega (arith, spot.1, spot.2, spot.0.band, lt-div-mul-add {a = p.place.z} h) in
-    let place : (p.place.y * s.bands + p.end) * s.columns ≡ (p.place.y * s.bands + p.first) * s.columns + depth * (p.place.x + 1) = rw (← end, ← x) (omega arith) in (
+    let place : (p.place.y * s.bands + p.end) * s.columns ≡ (p.place.y * s.bands + p.first) * s.columns + depth * (p.place.x + 1) =
+    rw (← end, ← x) (omega arith) in (
       (record { band = more; row = spot.0.row; column = omega (arith, spot.0.column) }, next, omega arith),
-      index_in_group s depth p.end (record { z = p.end; y = p.place.y; x = 0 }) next ∙ sym (ap (λ n. n + 1) (index_in_group s depth p.first p.place spot.1) ∙ rw size (omega (arith, place, behind))),
+      index_in_group s depth p.end (record { z = p.end; y = p.place.y; x = 0 }) next
+          ∙ sym (ap (λ n. n + 1) (index_in_group s depth p.first p.place spot.1) ∙ rw size (omega (arith, place, behind))),
     )
 
 -- the first band and column of the next row
-pub next_line : (s : Sizes) (depth : ℕ) (p : Spot) → 1 ≤ depth → depth ≤ s.bands → IsSpot s (Bi depth) p → p.end ≤ p.place.z + 1 → s.columns ≤ p.place.x + 1 → s.bands ≤ p.end → place_index s (Bi depth) p.place + 1 < sample_count s → StepsTo s depth p (record { place = record { z = 0; y = p.place.y + 1; x = 0 }; first = 0; end = depth })
+pub next_line : (s : Sizes) (depth : ℕ) (p : Spot) → 1 ≤ depth → depth ≤ s.bands → IsSpot s (Bi depth) p → p.end ≤ p.place.z + 1 → s.columns ≤ p.place.x + 1
+    → s.bands ≤ p.end → place_index s (Bi depth) p.place + 1 < sample_count s
+    → StepsTo s depth p (record { place = record { z = 0; y = p.place.y + 1; x = 0 }; first = 0; end = depth })
 next_line s depth p h deep spot last column bands more =
     let low : p.place.z / depth * depth ≤ p.place.z = div-mul-le_self p.place.z depth in
     let size : min depth (s.bands - p.first) ≡ s.bands - p.first = omega (arith, spot.2) in
@@ -148,8 +164,10 @@ next_line s depth p h deep spot last column bands more =
     let behind : p.place.z - p.first + 1 ≡ s.bands - p.first = omega (arith, spot.1, spot.2, spot.0.band) in
     let all : p.first + (s.bands - p.first) ≡ s.bands = omega (arith, spot.1, spot.0.band) in
     let line : (p.place.y + 1) * s.bands * s.columns ≡ (p.place.y * s.bands + (p.first + (s.bands - p.first))) * s.columns = rw all (omega arith) in
-    let place : (p.place.y + 1) * s.bands * s.columns ≡ (p.place.y * s.bands + p.first) * s.columns + (s.bands - p.first) * (p.place.x + 1) = line ∙ rw (← x) (omega arith) in
-    let index : place_index s (Bi depth) p.place + 1 ≡ (p.place.y + 1) * s.bands * s.columns = ap (λ n. n + 1) (index_in_group s depth p.first p.place spot.1) ∙ rw size (omega (arith, place, behind)) in
+    let place : (p.place.y + 1) * s.bands * s.columns ≡ (p.place.y * s.bands + p.first) * s.columns + (s.bands - p.first) * (p.place.x + 1) =
+    line ∙ rw (← x) (omega arith) in
+    let index : place_index s (Bi depth) p.place + 1 ≡ (p.place.y + 1) * s.bands * s.columns =
+    ap (λ n. n + 1) (index_in_group s depth p.first p.place spot.1) ∙ rw size (omega (arith, place, behind)) in
     let row : p.place.y + 1 < s.rows = lt_of_mul-lt-mul_left (s.bands * s.columns) (omega (arith, index)) in
     let first : 0 ≡ 0 / depth * depth = omega arith in (
       (record { band = omega arith; row = row; column = omega (arith, spot.0.column) }, first, omega arith),
@@ -166,7 +184,8 @@ pub none_left : (s : Sizes) (o : Order) → IsOrder s o → places_left s o 0 �
 unfolding places_left
 none_left s o lawful = drop_of_length-le (places s o) (omega (arith, length-places s o lawful))
 
-pub first_left : (s : Sizes) (o : Order) (p : Place) (left : ℕ) → IsOrder s o → IsPlaceOf s p → place_index s o p + left ≡ sample_count s → 0 < left → places_left s o left ≡ p ∷ places_left s o (left - 1)
+pub first_left : (s : Sizes) (o : Order) (p : Place) (left : ℕ) → IsOrder s o → IsPlaceOf s p → place_index s o p + left ≡ sample_count s → 0 < left
+    → places_left s o left ≡ p ∷ places_left s o (left - 1)
 unfolding places_left
 first_left s o p left lawful place e more =
     let here : sample_count s - left ≡ place_index s o p = omega arith in
@@ -182,7 +201,8 @@ left_behind s o left n few h =
     rw e (sym (drop-drop n (sample_count s - left) (places s o)))
 
 -- a walk goes on to a spot so many places on, and to the one behind it
-pub walk_on : (s : Sizes) (o : Order) (p q after : Spot) (left n : ℕ) → IsWalk s o p left → n < left → StepsOn s o n p q → (0 < left - (n + 1) → StepsOn s o 1 q after) → IsWalk s o after (left - (n + 1))
+pub walk_on : (s : Sizes) (o : Order) (p q after : Spot) (left n : ℕ) → IsWalk s o p left → n < left → StepsOn s o n p q
+    → (0 < left - (n + 1) → StepsOn s o 1 q after) → IsWalk s o after (left - (n + 1))
 walk_on s o p q after left n walk more on next = record {
   lawful = walk.lawful;
   few = omega (arith, walk.few);
@@ -190,7 +210,8 @@ walk_on s o p q after left n walk more on next = record {
 }
 
 -- what remains to be gone by after a part of it
-pub rest_behind : (s : Sizes) (o : Order) (left rest n : ℕ) → left ≤ sample_count s → rest ≤ left → n ≤ rest → drop (rest - n) (places_left s o (left - n)) ≡ drop rest (places_left s o left)
+pub rest_behind : (s : Sizes) (o : Order) (left rest n : ℕ) → left ≤ sample_count s → rest ≤ left → n ≤ rest
+    → drop (rest - n) (places_left s o (left - n)) ≡ drop rest (places_left s o left)
 rest_behind s o left rest n few all some =
     let e : n + (rest - n) ≡ rest = omega arith in
     rw (left_behind s o left n few (omega arith)) (drop-drop (rest - n) n (places_left s o left) ∙ rw e refl)
@@ -201,7 +222,8 @@ drop_at_most zero (p ∷ ps) = let e : min 0 (suc (length ps)) ≡ 0 = omega ari
 drop_at_most (suc n) (p ∷ ps) = let e : min (suc n) (suc (length ps)) ≡ suc (min n (length ps)) = omega arith in rw e (drop_at_most n ps)
 
 -- so many places, or all that are left
-pub at_most_left : (s : Sizes) (o : Order) (left count : ℕ) → IsOrder s o → left ≤ sample_count s → drop (min count left) (places_left s o left) ≡ drop count (places_left s o left)
+pub at_most_left : (s : Sizes) (o : Order) (left count : ℕ) → IsOrder s o → left ≤ sample_count s
+    → drop (min count left) (places_left s o left) ≡ drop count (places_left s o left)
 at_most_left s o left count lawful few =
     let long : length (places_left s o left) ≡ left = length-places_left s o left lawful few in
     ap (λ n. drop (min count n) (places_left s o left)) (sym long) ∙ drop_at_most count (places_left s o left)
@@ -222,15 +244,18 @@ first_index s (Bi depth) =
     rw none (omega arith)
 
 -- the places of a column come one behind another
-pub column_left : (s : Sizes) (depth : ℕ) (p : Spot) (left i : ℕ) → IsWalk s (Bi depth) p left → 0 < left → p.place.z + i < p.end → slice_get (places_left s (Bi depth) left) i ≡ Some (bands_on p i).place
+pub column_left : (s : Sizes) (depth : ℕ) (p : Spot) (left i : ℕ) → IsWalk s (Bi depth) p left → 0 < left → p.place.z + i < p.end
+    → slice_get (places_left s (Bi depth) left) i ≡ Some (bands_on p i).place
 column_left s depth p left i walk more inside =
     let on = bands_of_group s depth p i walk.lawful.0 (walk.spot more).0 inside in
     let index : place_index s (Bi depth) (bands_on p i).place < sample_count s = place_index_below s (Bi depth) (bands_on p i).place walk.lawful on.0.0 in
     let few : i < left = omega (arith, index, on.1, (walk.spot more).1) in
     let next = first_left s (Bi depth) (bands_on p i).place (left - i) walk.lawful on.0.0 (omega (arith, on.1, (walk.spot more).1, few)) (omega (arith, few)) in
-    sym (get-drop (places_left s (Bi depth) left) i) ∙ ap (λ (ps : List Place). slice_get ps 0) (sym (left_behind s (Bi depth) left i walk.few (omega (arith, few))) ∙ next)
+    sym (get-drop (places_left s (Bi depth) left) i)
+    ∙ ap (λ (ps : List Place). slice_get ps 0) (sym (left_behind s (Bi depth) left i walk.few (omega (arith, few))) ∙ next)
 
-pub column_of : (s : Sizes) (o : Order) (depth : ℕ) (p : Spot) (left : ℕ) (ps : List Place) (i : ℕ) (q : Place) → o ≡ Bi depth → IsWalk s o p left → 0 < left → places_left s o left ≡ ps → i < p.end - p.place.z → slice_get ps 0 ≡ Some q
+pub column_of : (s : Sizes) (o : Order) (depth : ℕ) (p : Spot) (left : ℕ) (ps : List Place) (i : ℕ) (q : Place) → o ≡ Bi depth → IsWalk s o p left → 0 < left
+    → places_left s o left ≡ ps → i < p.end - p.place.z → slice_get ps 0 ≡ Some q
     → slice_get ps i ≡ Some (record { z = q.z + i; y = q.y; x = q.x })
 column_of s o depth p left ps i q is walk more these inside first =
     let under : IsWalk s (Bi depth) p left = subst (λ (k : Order). IsWalk s k p left) is walk in
@@ -238,4 +263,5 @@ column_of s o depth p left ps i q is walk more these inside first =
     let next : ps ≡ p.place ∷ places_left s (Bi depth) (left - 1) = sym list ∙ next_left s (Bi depth) p left under more in
     let here : Some p.place ≡ Some q = sym (ap (λ (x : List Place). slice_get x 0) next) ∙ first in
     let same : p.place ≡ q = cc in
-    ap (λ (x : List Place). slice_get x i) (sym list) ∙ column_left s depth p left i under more (omega (arith, inside)) ∙ ap (λ (r : Place). Some (record { z = r.z + i; y = r.y; x = r.x })) same
+    ap (λ (x : List Place). slice_get x i) (sym list) ∙ column_left s depth p left i under more (omega (arith, inside))
+    ∙ ap (λ (r : Place). Some (record { z = r.z + i; y = r.y; x = r.x })) same

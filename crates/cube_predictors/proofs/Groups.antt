@@ -34,11 +34,8 @@ own_more q first z deal le =
     let f : first + (z - first) ≡ z = omega arith in
     rw (e, from_split first (z - first) 1, f, filter-append, length-append) refl
 
-own_split : (q : ℕ) (deal : List ℕ) (x n : ℕ) → own q deal (upto (x + n)) ≡ own q deal (upto x) ++ own q deal (from x n)
+pub own_split : (q : ℕ) (deal : List ℕ) (x n : ℕ) → own q deal (upto (x + n)) ≡ own q deal (upto x) ++ own q deal (from x n)
 own_split q deal x n = ap (own q deal) (upto_split x n) ∙ filter-append (λ z. get_or deal z 0 == q) (upto x) (from x n)
-
-pub own_next : (q : ℕ) (deal : List ℕ) (z : ℕ) → own q deal (upto (z + 1)) ≡ own q deal (upto z) ++ own q deal (z ∷ [])
-own_next q deal z = own_split q deal z 1
 
 -- a predictor has at most all of some bands
 pub own_few : (q : ℕ) (deal : List ℕ) (a n : ℕ) → length (own q deal (from a n)) ≤ n

@@ -1,5 +1,5 @@
 -- A predictor's part of the residuals is those of its own bands, in encoding order.
-use Rattle.std.proofs.Common.{◌≡◌, ◌+◌, ◌*◌, ℕ, Bool, true, false, List, [], ◌∷◌, ◌++◌, map, refl, sym, ap, ap₂, ◌∙◌}
+use Rattle.std.proofs.Common.{◌≡◌, ◌+◌, ◌*◌, ℕ, Bool, true, false, List, [], ◌∷◌, ◌++◌, map, refl, sym, ap, ◌∙◌}
 use Rattle.std.specs.Prelude.{◌==◌, if◌then◌else◌, filter, slice_index_or}
 use Rattle.std.specs.List.{flat_map}
 use Rattle.std.proofs.lemmas.List.{map-append}
@@ -27,10 +27,6 @@ filter_of : {A B : Type 0} (test : B → Bool) (f : A → B) (xs : List A) → f
 filter_of test f [] = refl
 filter_of test f (x ∷ xs) = chosen (test (f x)) f x (filter (λ x. test (f x)) xs) (filter test (map f xs)) (filter_of test f xs)
 
-flat_same : {A : Type 0} (f g : A → List ℕ) (xs : List A) → ((x : A) → f x ≡ g x) → flat_map f xs ≡ flat_map g xs
-flat_same f g [] e = refl
-flat_same f g (x ∷ xs) e = ap₂ (λ v w. v ++ w) (e x) (flat_same f g xs e)
-
 module _ (p : Params) (c : Image) (q : ℕ) (deal : List ℕ) where
   abbrev residual : Place → ℕ
   residual r = mapped_residual p c r.z (r.y * c.shape.columns + r.x)
@@ -47,9 +43,9 @@ module _ (p : Params) (c : Image) (q : ℕ) (deal : List ℕ) where
   part_at_own [] = refl
   part_at_own (r ∷ ps) = chosen (mine r) residual r (filter mine ps) (part q (owners_of deal ps) (map residual ps)) (part_at_own ps)
 
-  own_flat : {A : Type 0} (h : A → List Place) (xs : List A) → at_own (flat_map h xs) ≡ flat_map (λ x. at_own (h x)) xs
-  own_flat h [] = refl
-  own_flat h (x ∷ xs) = rw (filter-append, map-append, own_flat h xs) refl
+  own_each : {A : Type 0} (h : A → List Place) (f : A → List ℕ) (xs : List A) → ((x : A) → at_own (h x) ≡ f x) → at_own (flat_map h xs) ≡ flat_map f xs
+  own_each h f [] e = refl
+  own_each h f (x ∷ xs) e = rw (filter-append, map-append, e x, own_each h f xs e) refl
 
   -- some bands at one row and column, and some columns of one band's row
   own_column : (y x : ℕ) (zs : List ℕ) → at_own (map (λ z. record { z = z; y = y; x = x }) zs) ≡ column_of p c (own q deal zs) y x
@@ -58,12 +54,12 @@ module _ (p : Params) (c : Image) (q : ℕ) (deal : List ℕ) where
 
   own_row : (z y : ℕ) (xs : List ℕ) → at_own (map (λ x. record { z = z; y = y; x = x }) xs) ≡ flat_map (λ x. column_of p c (own q deal (z ∷ [])) y x) xs
   own_row z y xs =
-      ap at_own (sym (flat_map_single (λ x. record { z = z; y = y; x = x }) xs)) ∙ own_flat (λ x. record { z = z; y = y; x = x } ∷ []) xs
-      ∙ flat_same _ (λ x. column_of p c (own q deal (z ∷ [])) y x) xs (λ x. own_column y x (z ∷ []))
+      ap at_own (sym (flat_map_single (λ x. record { z = z; y = y; x = x }) xs))
+      ∙ own_each (λ x. record { z = z; y = y; x = x } ∷ []) _ xs (λ x. own_column y x (z ∷ []))
 
   no_rows : rows_of p c [] ≡ []
   unfolding rows_of row_of
-  no_rows = flat_same _ (λ y. []) (upto c.shape.rows) (λ y. nothing_each (upto c.shape.columns)) ∙ nothing_each (upto c.shape.rows)
+  no_rows = simp nothing_each
 
   one_more : (b : Bool) (z : ℕ) (zs ns : List ℕ) → ns ≡ flat_map (λ z. rows_of p c (z ∷ [])) zs
       → rows_of p c (if b then z ∷ [] else []) ++ ns ≡ flat_map (λ z. rows_of p c (z ∷ [])) (if b then z ∷ zs else zs)
@@ -77,17 +73,12 @@ module _ (p : Params) (c : Image) (q : ℕ) (deal : List ℕ) where
   by_order : (order : Order) → at_own (places c.shape order) ≡ own_residuals p c q deal order
   unfolding places row_of rows_of line_of
   by_order Bsq =
-      own_flat _ (upto c.shape.bands)
-      ∙ flat_same _ (λ z. rows_of p c (own q deal (z ∷ []))) (upto c.shape.bands) (λ z.
-      own_flat _ (upto c.shape.rows) ∙ flat_same _ (λ y. row_of p c (own q deal (z ∷ [])) y) (upto c.shape.rows) (λ y. own_row z y (upto c.shape.columns)))
+      own_each _ (λ z. rows_of p c (own q deal (z ∷ []))) (upto c.shape.bands) (λ z. own_each _ _ (upto c.shape.rows) (λ y. own_row z y (upto c.shape.columns)))
       ∙ own_bands (upto c.shape.bands)
   by_order (Bi depth) =
-      own_flat _ (upto c.shape.rows)
-      ∙ flat_same _ (λ y. line_of p c q deal depth y) (upto c.shape.rows) (λ y.
-      own_flat _ (upto (group_count c.shape depth))
-      ∙ flat_same _ (λ i. row_of p c (own q deal (group c.shape depth i)) y) (upto (group_count c.shape depth)) (λ i.
-      own_flat _ (upto c.shape.columns)
-      ∙ flat_same _ (λ x. column_of p c (own q deal (group c.shape depth i)) y x) (upto c.shape.columns) (λ x. own_column y x (group c.shape depth i))))
+      own_each _ (λ y. line_of p c q deal depth y) (upto c.shape.rows) (λ y.
+      own_each _ (λ i. row_of p c (own q deal (group c.shape depth i)) y) (upto (group_count c.shape depth)) (λ i.
+      own_each _ _ (upto c.shape.columns) (λ x. own_column y x (group c.shape depth i))))
 
 pub own_is_part : OwnIsPart
 unfolding residuals

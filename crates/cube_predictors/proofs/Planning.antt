@@ -8,13 +8,12 @@ use Rattle.cube_core.specs.declared.fault.Fault.TheVariants.{BadDeal}
 use Rattle.cube_core.specs.Steps.{◌>>◌, refuse_if}
 use Rattle.header_bits.specs.Lawful.{in_range_or}
 use Rattle.header_bits.specs.Parts.{fine}
-use Rattle.header_bits.proofs.Tests.{then_ok, then_fine, refuse_ok, refuse_fine, not_false, in_range_ok, in_range_fine}
+use Rattle.header_bits.proofs.Tests.{then_ok, ◌then_fine◌, refuse_ok, refuse_fine, not_false, in_range_ok, in_range_fine}
 use Rattle.cube_predictors.specs.Weave.{IsDeal}
 use Rattle.cube_predictors.specs.Plans.{told_band, owner_fault, length_fault, plan_fault, PlanFaultIsExact}
 
 -- one band behind another
-pub owner_step : (predictors z owner : ℕ) (deal : List ℕ) → z < length deal → owner ≡ get_or deal z 0
-    → owner_fault predictors z (drop z deal) ≡
+pub owner_step : (predictors z owner : ℕ) (deal : List ℕ) → z < length deal → owner ≡ get_or deal z 0 → owner_fault predictors z (drop z deal) ≡
     (refuse_if (not (ltb owner predictors)) (BadDeal (told_band z)) >> owner_fault predictors (z + 1) (drop (z + 1) deal))
 unfolding owner_fault
 owner_step predictors z owner deal lt e = rw (add-one, drop-cons deal z 0 lt, e) refl
@@ -29,7 +28,7 @@ owners_ok predictors z (q ∷ deal) e =
 owners_fine : (predictors z : ℕ) (deal : List ℕ) → AllByRecursion (λ q. q < predictors) deal → owner_fault predictors z deal ≡ fine
 unfolding owner_fault
 owners_fine predictors z [] h = refl
-owners_fine predictors z (q ∷ deal) h = then_fine _ _ (refuse_fine _ _ (ap not (lt-ltb q predictors h.0))) (owners_fine predictors (suc z) deal h.1)
+owners_fine predictors z (q ∷ deal) h = refuse_fine _ _ (ap not (lt-ltb q predictors h.0)) then_fine owners_fine predictors (suc z) deal h.1
 
 pub plan_fault_is_exact : PlanFaultIsExact
 unfolding plan_fault
@@ -44,5 +43,5 @@ plan_fault_is_exact predictors slots bands deal = (
   λ h.
       let owners = owners_fine predictors 0 deal (recursion_from_All (λ q. q < predictors) deal h.dealt.owned) in
       let whole = refuse_fine _ _ (ap not (eq-eqb (length deal) bands h.dealt.whole)) in
-      then_fine _ _ (in_range_fine _ _ _ _ h.few) (then_fine _ _ (in_range_fine _ _ _ _ h.room) (then_fine _ _ owners whole)),
+      in_range_fine _ _ _ _ h.few then_fine in_range_fine _ _ _ _ h.room then_fine owners then_fine whole,
 )

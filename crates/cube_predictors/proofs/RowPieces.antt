@@ -57,8 +57,7 @@ held_column p c y x n i (b ∷ bands) lt h = ap₂ (λ r rs. r ∷ rs) there (he
   where
     there : get_or b.piece i 0 ≡ mapped_residual p c b.band (y * c.shape.columns + (x + i))
     there =
-        sym (get_or-take n b.piece i 0 lt)
-        ∙ ap (λ (ns : List ℕ). get_or ns i 0) h.0.held
+        sym (get_or-take n b.piece i 0 lt) ∙ ap (λ (ns : List ℕ). get_or ns i 0) h.0.held
         ∙ get_or-map (mapped_residual p c b.band) (from (y * c.shape.columns + x) n) i 0 0 (rw length-from lt)
         ∙ ap (mapped_residual p c b.band) (get_or-from (y * c.shape.columns + x) n i 0 lt ∙ omega arith)
 
@@ -109,27 +108,15 @@ held_alone (d ∷ e ∷ bands) b n numbers one there is long = absurd (omega (ar
 -- ---- several columns at once
 
 -- the residuals of one more place, behind those of the places before it
-pub places_more : (bands : List Learner) (first k n many : ℕ) (room numbers : List ℕ) → length numbers ≡ many → k * many ≤ length room → numbers ≡ held_at bands (first + k)
-    → take (k * many) room ≡ flat_map (λ i. held_at bands i) (from first k)
+pub places_more : (bands : List Learner) (first k n many : ℕ) (room numbers : List ℕ) → length numbers ≡ many → k * many ≤ length room
+    → numbers ≡ held_at bands (first + k) → take (k * many) room ≡ flat_map (λ i. held_at bands i) (from first k)
     → take ((k + 1) * many) (put_mid (k * many) n room numbers) ≡ flat_map (λ i. held_at bands i) (from first (k + 1))
 places_more bands first k n many room numbers long within is done =
     let end : (k + 1) * many ≡ k * many + length numbers = grind (arith, long) in
-    take-put_mid (k * many) n room numbers ((k + 1) * many) end within
-    ∙ ap₂ (λ a b. a ++ b) done (is ∙ sym (append-nil (held_at bands (first + k))))
-    ∙ sym (flat_map-append (λ i. held_at bands i) (from first k) ((first + k) ∷ []))
-    ∙ ap (flat_map (λ i. held_at bands i)) (sym (from_split first k 1))
+    take-put_mid (k * many) n room numbers ((k + 1) * many) end within ∙ ap₂ (λ a b. a ++ b) done (is ∙ sym (append-nil (held_at bands (first + k))))
+    ∙ sym (flat_map-append (λ i. held_at bands i) (from first k) ((first + k) ∷ [])) ∙ ap (flat_map (λ i. held_at bands i)) (sym (from_split first k 1))
 
 -- a part was written anew, by as many
-pub part_long : (a n many : ℕ) (room numbers : List ℕ) → n ≡ many → length numbers ≡ many → a + many ≤ length room → length (put_mid a n room numbers) ≡ length room
-part_long a n many room numbers same long within =
-    omega (
-      arith,
-      same,
-      long,
-      within,
-      length-append (take a room) (numbers ++ drop n (drop a room)),
-      length-append numbers (drop n (drop a room)),
-      length-take a room,
-      length-drop n (drop a room),
-      length-drop a room,
-    )
+pub part_long : (a n many : ℕ) (room numbers : List ℕ) → n ≡ many → length numbers ≡ many → a + many ≤ length room
+    → length (put_mid a n room numbers) ≡ length room
+part_long a n many room numbers same long within = rw (length-append, length-append, length-take, length-drop, length-drop) (omega (arith, same, long, within))

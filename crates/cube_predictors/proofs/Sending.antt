@@ -31,9 +31,6 @@ from_split a (suc m) n =
 pub upto_split : (x n : ℕ) → upto (x + n) ≡ upto x ++ from x n
 upto_split x n = rw zero-add at (from_split 0 x n)
 
-pub upto_next : (n : ℕ) → upto (n + 1) ≡ upto n ++ n ∷ []
-upto_next n = upto_split n 1
-
 -- the pieces up to a place, the next one, and those behind it
 pub record Pieces (all done next : List ℕ) : Type 0 where
   pub tail : List ℕ
@@ -53,8 +50,12 @@ piece_rest f x n m le =
 pub upto_rest : (f : ℕ → List ℕ) (i n : ℕ) → i < n → Pieces (flat_map f (upto n)) (flat_map f (upto i)) (f i)
 upto_rest f i n lt = rw (append-nil (f i)) at (piece_rest f i 1 n (omega (arith, lt)))
 
-pub take_rest : (f : ℕ → List ℕ) (zs : List ℕ) (i : ℕ) → i < length zs
-    → (flat_map f (take (i + 1) zs) ≡ flat_map f (take i zs) ++ f (get_or zs i 0)) × Pieces (flat_map f zs) (flat_map f (take i zs)) (f (get_or zs i 0))
+-- the next of some pieces stands behind those before it, and in front of those behind it
+abbrev pub IsNext : (ℕ → List ℕ) → List ℕ → ℕ → Type 0
+IsNext f zs i =
+    (flat_map f (take (i + 1) zs) ≡ flat_map f (take i zs) ++ f (get_or zs i 0)) × Pieces (flat_map f zs) (flat_map f (take i zs)) (f (get_or zs i 0))
+
+pub take_rest : (f : ℕ → List ℕ) (zs : List ℕ) (i : ℕ) → i < length zs → IsNext f zs i
 take_rest f zs i lt =
     let more : flat_map f (take (i + 1) zs) ≡ flat_map f (take i zs) ++ f (get_or zs i 0) =
     rw (flat_map-append, append-nil (f (get_or zs i 0))) at (ap (flat_map f) (take_more zs i 0 lt)) in

@@ -1,5 +1,5 @@
 -- The parts of a list, woven along the owners of its places, make it again.
-use Rattle.std.proofs.Common.{◌≡◌, ℕ, zero, suc, ◌+◌, ◌<◌, ◌≤◌, inl, inr, List, [], ◌∷◌, ◌++◌, length, get_or, set, Some, refl, sym, ap, ◌∙◌, arith}
+use Rattle.std.proofs.Common.{◌≡◌, ℕ, suc, ◌+◌, ◌<◌, ◌≤◌, inl, inr, List, [], ◌∷◌, ◌++◌, length, get_or, set, Some, refl, sym, ap, ◌∙◌, arith}
 use Rattle.std.proofs.Common.{true}
 use Rattle.std.specs.Prelude.{◌==◌, if◌then◌else◌}
 use Rattle.std.specs.List.{All, slice_get}
@@ -28,15 +28,13 @@ part_none q [] = refl
 part_none q (o ∷ os) = refl
 
 -- the next number goes to the owner of its place
-pub part_push : (q i : ℕ) (os ns : List ℕ) (o n : ℕ) → i ≡ length ns → slice_get os i ≡ Some o
+pub part_push : (q : ℕ) (os ns : List ℕ) (o n : ℕ) → slice_get os (length ns) ≡ Some o
     → part q os (ns ++ n ∷ []) ≡ part q os ns ++ (if o == q then n ∷ [] else [])
 unfolding part
-part_push q i [] ns o n e at = absurd (cc)
-part_push q zero (p ∷ os) [] o n e at = let same : p ≡ o = cc in rw (same, part_none q os) refl
-part_push q zero (p ∷ os) (m ∷ ns) o n e at = absurd (omega arith)
-part_push q (suc i) (p ∷ os) [] o n e at = absurd (omega arith)
-part_push q (suc i) (p ∷ os) (m ∷ ns) o n e at =
-    let more = part_push q i os ns o n (omega (arith, e)) at in
+part_push q [] ns o n at = absurd (cc)
+part_push q (p ∷ os) [] o n at = let same : p ≡ o = cc in rw (same, part_none q os) refl
+part_push q (p ∷ os) (m ∷ ns) o n at =
+    let more = part_push q os ns o n at in
     elim (cases_Bool (p == q)) [ inl t ↦ rw (t, more) refl | inr t ↦ rw (t, more) refl ]
 
 share_cons : (q o : ℕ) (os : List ℕ) → share q (o ∷ os) ≡ (if o == q then 1 else 0) + share q os
@@ -55,14 +53,12 @@ part_share q (p ∷ os) (m ∷ ns) e =
     elim (cases_Bool (p == q)) [ inl t ↦ rw (share_cons, t) (omega (arith, more)) | inr t ↦ rw (share_cons, t) (omega (arith, more)) ]
 
 -- the owner of the next place still has a number to come
-pub part_short : (q i : ℕ) (os ns : List ℕ) → i ≡ length ns → slice_get os i ≡ Some q → length (part q os ns) < share q os
+pub part_short : (q : ℕ) (os ns : List ℕ) → slice_get os (length ns) ≡ Some q → length (part q os ns) < share q os
 unfolding part
-part_short q i [] ns e at = absurd (cc)
-part_short q zero (p ∷ os) [] e at = let same : p ≡ q = cc in rw same (omega (arith, share_own q os))
-part_short q zero (p ∷ os) (m ∷ ns) e at = absurd (omega arith)
-part_short q (suc i) (p ∷ os) [] e at = absurd (omega arith)
-part_short q (suc i) (p ∷ os) (m ∷ ns) e at =
-    let more = part_short q i os ns (omega (arith, e)) at in
+part_short q [] ns at = absurd (cc)
+part_short q (p ∷ os) [] at = let same : p ≡ q = cc in rw same (omega (arith, share_own q os))
+part_short q (p ∷ os) (m ∷ ns) at =
+    let more = part_short q os ns at in
     elim (cases_Bool (p == q)) [ inl t ↦ rw (share_cons, t) (omega (arith, more)) | inr t ↦ rw (share_cons, t) (omega (arith, more)) ]
 
 -- ---- weaving
@@ -154,8 +150,7 @@ parts_of_weave os lists below whole =
 pub owned : (s : Sizes) (order : Order) (predictors : ℕ) (deal : List ℕ) → IsOrder s order → IsDeal predictors s.bands deal
     → All (λ o. o < predictors) (owners_of deal (places s order))
 unfolding owners_of
-owned s order predictors deal lawful dealt =
-    All-map (λ o. o < predictors) (λ p. get_or deal p.z 0) (places s order) (λ k d h.
+owned s order predictors deal lawful dealt = All-map (λ o. o < predictors) (λ p. get_or deal p.z 0) (places s order) (λ k d h.
     let there = (order_is_by_key s order lawful).only k _ (slice_get-get_or (places s order) k d h) in
     dealt.owned (get_or (places s order) k d).z 0 (rw dealt.whole there.band))
 

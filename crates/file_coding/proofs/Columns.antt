@@ -1,5 +1,6 @@
 -- What the coding end has taken, column by column, and by blocks.
-use Rattle.std.proofs.Common.{◌≡◌, ◌+◌, ◌*◌, ◌^◌, ◌<◌, ◌≤◌, ℕ, zero, suc, Bool, List, [], ◌∷◌, length, take, drop, get_or, Some, refl, sym, ap, subst, ◌∙◌, length-take, length-drop, arith}
+use Rattle.std.proofs.Common.{◌≡◌, ◌+◌, ◌*◌, ◌^◌, ◌<◌, ◌≤◌, ℕ, zero, suc, Bool, List, [], ◌∷◌, length, take, drop, get_or, Some, refl, sym, ap, subst, ◌∙◌}
+use Rattle.std.proofs.Common.{length-take, length-drop, arith}
 use Rattle.std.specs.List.{AllByRecursion, slice_get}
 use Rattle.std.proofs.Math.Seq.{drop-cons, drop-drop}
 use Rattle.std.proofs.lemmas.List.{take_more, take_all}
@@ -43,7 +44,8 @@ coded_blocks old new list n may le moved columns word puts p numbers h =
 abbrev pub behind : Ending → ℕ → Encoder → List Bool → Ending
 behind e n coder bits = record { columns = e.columns; word = e.word; left = drop n e.left; coder = coder; bits = bits }
 
-pub coded_there : (e : Ending) (place : Place) (t : ℕ) (list : List ℕ) (i : ℕ) (coder now : Encoder) (bits later : List Bool) → t ≡ place.y * e.columns + place.x → AreOfColumn place (length list) e.left → CodesAll e (behind e i coder bits) (take i list) → i < length list
+pub coded_there : (e : Ending) (place : Place) (t : ℕ) (list : List ℕ) (i : ℕ) (coder now : Encoder) (bits later : List Bool)
+    → t ≡ place.y * e.columns + place.x → AreOfColumn place (length list) e.left → CodesAll e (behind e i coder bits) (take i list) → i < length list
     → PutsNumber (place.z + i) t (get_or list i 0) coder bits now later → CodesAll e (behind e (i + 1) now later) (take (i + 1) list)
 coded_there e place t list i coder now bits later time column codes lt puts =
     let there : Place = record { z = place.z + i; y = place.y; x = place.x } in
@@ -63,18 +65,21 @@ column_part place column left list along first le i lt = along i place (omega (a
 
 -- ---- by the sample-adaptive coder
 
-pub samples_column : (z t : ℕ) (column : List ℕ) (old new : Counts) (written now : List Bool) → PutsOnes z t column old written new now → PutsColumn z t column (Samples old) written (Samples new) now
+pub samples_column : (z t : ℕ) (column : List ℕ) (old new : Counts) (written now : List Bool) → PutsOnes z t column old written new now
+    → PutsColumn z t column (Samples old) written (Samples new) now
 samples_column z t [] old new written now h = (ap (λ (v : Counts). Samples v) h.0, h.1)
 samples_column z t (number ∷ numbers) old new written now h =
     (Samples h.0, h.1, samples_put z t number old h.0 written h.1 h.4 (h.2, h.3), samples_column (suc z) t numbers h.0 new h.1 now h.5)
 
-by_coder : (p : Params) (coder : Encoder) (numbers column : List ℕ) (bits : List Bool) (z : ℕ) → IsBySamples coder → HasTaken p coder numbers bits → z + length column ≤ p.shape.bands → AllByRecursion (λ n. n < 2 ^ p.kind.bits) column → length column ≤ 2 ^ 16
+by_coder : (p : Params) (coder : Encoder) (numbers column : List ℕ) (bits : List Bool) (z : ℕ) → IsBySamples coder → HasTaken p coder numbers bits
+    → z + length column ≤ p.shape.bands → AllByRecursion (λ n. n < 2 ^ p.kind.bits) column → length column ≤ 2 ^ 16
     → MayPutColumn coder z column
 by_coder p (Samples v) numbers column bits z s h bands range few = (omega (arith, h.bands, bands), rw h.depth range, few)
 by_coder p (Blocks v) numbers column bits z s h bands range few = absurd s
 
 -- the bands of a column are among those of the image
-bands_within : (e : Ending) (place : Place) (count : ℕ) (column : List ℕ) (may : MayCodeAll e column) → slice_get e.left 0 ≡ Some place → AreOfColumn place count e.left → place.z + count ≤ may.params.shape.bands
+bands_within : (e : Ending) (place : Place) (count : ℕ) (column : List ℕ) (may : MayCodeAll e column) → slice_get e.left 0 ≡ Some place
+    → AreOfColumn place count e.left → place.z + count ≤ may.params.shape.bands
 bands_within e place zero column may next along =
     let first = first_of e.left place next in
     let here = comes_next may.params e may.numbers place first.0 may.coded first.1 in
@@ -82,9 +87,11 @@ bands_within e place zero column may next along =
 bands_within e place (suc n) column may next along =
     let last : Place = record { z = place.z + n; y = place.y; x = place.x } in
     let ps = places may.params.shape may.params.order in
-    let left : slice_get (drop (length may.numbers) ps) n ≡ Some last = subst (λ (qs : List Place). slice_get qs n ≡ Some last) may.coded.left (along n (omega arith)) in
+    let left : slice_get (drop (length may.numbers) ps) n ≡ Some last =
+    subst (λ (qs : List Place). slice_get qs n ≡ Some last) may.coded.left (along n (omega arith)) in
     let item : slice_get ps (length may.numbers + n) ≡ Some last =
-    sym (get-drop ps (length may.numbers + n)) ∙ ap (λ (qs : List Place). slice_get qs 0) (sym (drop-drop n (length may.numbers) ps)) ∙ get-drop (drop (length may.numbers) ps) n ∙ left in
+    sym (get-drop ps (length may.numbers + n)) ∙ ap (λ (qs : List Place). slice_get qs 0) (sym (drop-drop n (length may.numbers) ps))
+    ∙ get-drop (drop (length may.numbers) ps) n ∙ left in
     let there = (order_is_by_key may.params.shape may.params.order may.coded.order).only (length may.numbers + n) last item in
     omega (arith, there.band)
 
@@ -92,11 +99,14 @@ pub may_put_column : (e : Ending) (place : Place) (column : List ℕ) → MayCod
 may_put_column e place column h =
     let may = h.may in
     let within = bands_within e place (length column) column may h.next h.along in
-    by_coder may.params e.coder may.numbers column may.coded.written place.z h.samples may.coded.taken within may.range (omega (arith, within, may.lawful.sizes.bands.1))
+    by_coder may.params e.coder may.numbers column may.coded.written place.z h.samples may.coded.taken within may.range
+    (omega (arith, within, may.lawful.sizes.bands.1))
 
 -- the rest of a column is put
-codes_rest : (e : Ending) (place : Place) (t : ℕ) (list rest : List ℕ) (i : ℕ) (coder now : Encoder) (bits later : List Bool) → t ≡ place.y * e.columns + place.x → AreOfColumn place (length list) e.left → i ≤ length list → drop i list ≡ rest
-    → CodesAll e (behind e i coder bits) (take i list) → PutsColumn (place.z + i) t rest coder bits now later → CodesAll e (behind e (length list) now later) list
+codes_rest : (e : Ending) (place : Place) (t : ℕ) (list rest : List ℕ) (i : ℕ) (coder now : Encoder) (bits later : List Bool)
+    → t ≡ place.y * e.columns + place.x → AreOfColumn place (length list) e.left → i ≤ length list → drop i list ≡ rest
+    → CodesAll e (behind e i coder bits) (take i list) → PutsColumn (place.z + i) t rest coder bits now later
+    → CodesAll e (behind e (length list) now later) list
 codes_rest e place t list [] i coder now bits later time along le is codes h =
     let none : length (drop i list) ≡ 0 = ap (λ (ns : List ℕ). length ns) is in
     let all : i ≡ length list = omega (arith, le, none, length-drop i list) in
@@ -110,13 +120,16 @@ codes_rest e place t list (number ∷ numbers) i coder now bits later time along
     let more : drop (i + 1) list ≡ numbers = ap (λ n. drop n list) (sym next) ∙ sym (ap (λ (ns : List ℕ). drop 1 ns) cut) in
     let above : suc (place.z + i) ≡ place.z + (i + 1) = omega arith in
     let one : PutsNumber (place.z + i) t (get_or list i 0) coder bits h.0 h.1 = subst (λ n. PutsNumber (place.z + i) t n coder bits h.0 h.1) first h.2 in
-    codes_rest e place t list numbers (i + 1) h.0 now h.1 later time along (omega (arith, lt)) more (coded_there e place t list i coder h.0 bits h.1 time along codes lt one) (subst (λ z. PutsColumn z t numbers h.0 h.1 now later) above h.3)
+    codes_rest e place t list numbers (i + 1) h.0 now h.1 later time along (omega (arith, lt)) more
+    (coded_there e place t list i coder h.0 bits h.1 time along codes lt one) (subst (λ z. PutsColumn z t numbers h.0 h.1 now later) above h.3)
 
 -- the residuals of a column were put
-pub coded_column : (old new : Ending) (place : Place) (t : ℕ) (column : List ℕ) → MayCodeColumn old place column → new.left ≡ drop (length column) old.left → t ≡ place.y * old.columns + place.x → new.columns ≡ old.columns → new.word ≡ old.word
+pub coded_column : (old new : Ending) (place : Place) (t : ℕ) (column : List ℕ) → MayCodeColumn old place column → new.left ≡ drop (length column) old.left
+    → t ≡ place.y * old.columns + place.x → new.columns ≡ old.columns → new.word ≡ old.word
     → PutsColumn place.z t column old.coder old.bits new.coder new.bits → CodesAll old new column
 coded_column old new place t column may moved time columns word puts =
     let here : place.z ≡ place.z + 0 = omega arith in
     let is : behind old (length column) new.coder new.bits ≡ new = rw (← columns, ← word, ← moved) refl in
     subst (λ (e : Ending). CodesAll old e column) is
-    (codes_rest old place t column column 0 old.coder new.coder old.bits new.bits time may.along (omega arith) refl (codes_none old) (subst (λ z. PutsColumn z t column old.coder old.bits new.coder new.bits) here puts))
+    (codes_rest old place t column column 0 old.coder new.coder old.bits new.bits time may.along (omega arith) refl (codes_none old)
+    (subst (λ z. PutsColumn z t column old.coder old.bits new.coder new.bits) here puts))

@@ -160,10 +160,13 @@ may_one old e list i may codes lt = record {
 }
 
 -- the coder is still the sample-adaptive one
-samples_still : (old e : Ending) (list : List ℕ) (first : ℕ) → MayCodeAll old list → IsBySamples old.coder → CodesAll old e (take first list) → IsBySamples e.coder
-samples_still old e list first may samples codes = stays may.params old.coder e.coder _ _ _ _ may.coded.taken (codes may.params may.numbers may.coded).taken samples
+samples_still : (old e : Ending) (list : List ℕ) (first : ℕ) → MayCodeAll old list → IsBySamples old.coder → CodesAll old e (take first list)
+    → IsBySamples e.coder
+samples_still old e list first may samples codes =
+    stays may.params old.coder e.coder _ _ _ _ may.coded.taken (codes may.params may.numbers may.coded).taken samples
 
-pub may_run : (old e : Ending) (list : List ℕ) (first count : ℕ) (place : Place) → MayCodeAll old list → IsBySamples old.coder → CodesAll old e (take first list) → AreByRows e.columns e.left → first + count ≤ length list
+pub may_run : (old e : Ending) (list : List ℕ) (first count : ℕ) (place : Place) → MayCodeAll old list → IsBySamples old.coder
+    → CodesAll old e (take first list) → AreByRows e.columns e.left → first + count ≤ length list
     → slice_get e.left 0 ≡ Some place → place.x + count ≤ e.columns → MayCodeRun e place (take count (drop first list))
 may_run old e list first count place may samples codes rows fits next row = record {
   may = may_part old e list first count may codes fits;
@@ -173,7 +176,8 @@ may_run old e list first count place may samples codes rows fits next row = reco
   row = omega (arith, row, length-take count (drop first list));
 }
 
-pub may_column : (old e : Ending) (list : List ℕ) (first count : ℕ) (place : Place) → MayCodeAll old list → IsBySamples old.coder → CodesAll old e (take first list) → first + count ≤ length list → slice_get e.left 0 ≡ Some place
+pub may_column : (old e : Ending) (list : List ℕ) (first count : ℕ) (place : Place) → MayCodeAll old list → IsBySamples old.coder
+    → CodesAll old e (take first list) → first + count ≤ length list → slice_get e.left 0 ≡ Some place
     → AreOfColumn place (length (take count (drop first list))) e.left → MayCodeColumn e place (take count (drop first list))
 may_column old e list first count place may samples codes fits next along = record {
   may = may_part old e list first count may codes fits;

@@ -99,7 +99,8 @@ MayPutColumn (Blocks v) z column = ⊥
 abbrev pub PutsColumn : ℕ → ℕ → List ℕ → Encoder → List Bool → Encoder → List Bool → Type 0
 PutsColumn z t [] old written new written_now = (new ≡ old) × (written_now ≡ written)
 PutsColumn z t (number ∷ numbers) old written new written_now =
-    (mid : Encoder) × (written_mid : List Bool) × PutsNumber z t number old written mid written_mid × PutsColumn (suc z) t numbers mid written_mid new written_now
+    (mid : Encoder) × (written_mid : List Bool) × PutsNumber z t number old written mid written_mid
+    × PutsColumn (suc z) t numbers mid written_mid new written_now
 
 -- numbers may be put as they come: the coder is the block-adaptive one, and has blocks for them
 abbrev pub MayPutBlocks : Encoder → List ℕ → Type 0

@@ -14,7 +14,8 @@ length-bits_of_bytes (b ∷ bytes) =
 pub bits_of_bytes-append : (a b : List ℕ) → bits_of_bytes (a ++ b) ≡ bits_of_bytes a ++ bits_of_bytes b
 unfolding bits_of_bytes
 bits_of_bytes-append [] b = refl
-bits_of_bytes-append (x ∷ a) b = ap (λ (r : List Bool). bits_of 8 x ++ r) (bits_of_bytes-append a b) ∙ sym (append_assoc (bits_of 8 x) (bits_of_bytes a) (bits_of_bytes b))
+bits_of_bytes-append (x ∷ a) b =
+    ap (λ (r : List Bool). bits_of 8 x ++ r) (bits_of_bytes-append a b) ∙ sym (append_assoc (bits_of 8 x) (bits_of_bytes a) (bits_of_bytes b))
 
 -- whole bytes left out
 pub bits_of_bytes-drop : (i : ℕ) (bytes : List ℕ) → drop (8 * i) (bits_of_bytes bytes) ≡ bits_of_bytes (drop i bytes)
@@ -31,5 +32,10 @@ bits_of_bytes-drop (suc i) (b ∷ bytes) =
 -- the first whole bytes
 pub bits_of_bytes-take : (i : ℕ) (bytes : List ℕ) → bits_of_bytes (take i bytes) ≡ take (8 * i) (bits_of_bytes bytes)
 bits_of_bytes-take i bytes =
-    let whole : bits_of_bytes bytes ≡ bits_of_bytes (take i bytes) ++ bits_of_bytes (drop i bytes) = ap bits_of_bytes (sym (take-append-drop i bytes)) ∙ bits_of_bytes-append (take i bytes) (drop i bytes) in
-    elim (cases_lt i (length bytes)) [ inr all ↦ ap bits_of_bytes (take_all i bytes all) ∙ sym (take_all (8 * i) (bits_of_bytes bytes) (omega (arith, length-bits_of_bytes bytes))) | inl short ↦ sym (ap (take (8 * i)) whole ∙ take_at (bits_of_bytes (take i bytes)) (bits_of_bytes (drop i bytes)) (8 * i) (omega (arith, length-bits_of_bytes (take i bytes), length-take i bytes))) ]
+    let whole : bits_of_bytes bytes ≡ bits_of_bytes (take i bytes) ++ bits_of_bytes (drop i bytes) =
+    ap bits_of_bytes (sym (take-append-drop i bytes)) ∙ bits_of_bytes-append (take i bytes) (drop i bytes) in
+    elim (cases_lt i (length bytes)) [
+      | inr all ↦ ap bits_of_bytes (take_all i bytes all) ∙ sym (take_all (8 * i) (bits_of_bytes bytes) (omega (arith, length-bits_of_bytes bytes)))
+      | inl short ↦ sym (ap (take (8 * i)) whole ∙ take_at (bits_of_bytes (take i bytes)) (bits_of_bytes (drop i bytes))
+          (8 * i) (omega (arith, length-bits_of_bytes (take i bytes), length-take i bytes)))
+    ]

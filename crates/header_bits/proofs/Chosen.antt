@@ -1,5 +1,6 @@
 -- The header that a coder writes is a spelling of its parameters.
-use Rattle.std.proofs.Common.{◌≡◌, inl, inr, ℕ, zero, suc, ◌+◌, ◌-◌, ◌*◌, ◌/◌, ◌^◌, ◌<◌, ◌≤◌, ◌≤ℤ◌, Bool, true, false, cond, ◌&&◌, ltb, eqb, List, [], ◌∷◌, ◌++◌, length, map, take, get_or, ℤ, pos, negsuc, refl, sym, ap, subst, ◌∙◌, arith}
+use Rattle.std.proofs.Common.{◌≡◌, inl, inr, ℕ, zero, suc, ◌+◌, ◌-◌, ◌*◌, ◌/◌, ◌^◌, ◌<◌, ◌≤◌, ◌≤ℤ◌, Bool, true, false, cond, ◌&&◌, ltb, eqb, List, [], ◌∷◌}
+use Rattle.std.proofs.Common.{◌++◌, length, map, take, get_or, ℤ, pos, negsuc, refl, sym, ap, subst, ◌∙◌, arith}
 use Rattle.std.proofs.lemmas.Int.{ints}
 use Rattle.std.specs.List.{AllByRecursion}
 use Rattle.std.proofs.lemmas.List.{length-map}
@@ -25,9 +26,10 @@ use Rattle.header_bits.specs.ImagePart.{image, image_numbers, flag, order_flag, 
 use Rattle.header_bits.specs.PredictorPart.{predictor, start_tests, predictor_numbers, exponent_of, exponent_code}
 use Rattle.header_bits.specs.CoderPart.{coder, coder_by, coder_fields, coder_numbers, size_code}
 use Rattle.header_bits.specs.TableParts.{weights, weights_by, weight_count, constants, constants_by, table_fields, signed_code}
-use Rattle.header_bits.specs.Header.{Said, params_of, start_by, coder_by_part, coder_place, header_of, SpellsHeader, SpellsParts, image_part_of, predictor_part_of, coder_part_of, is_block, is_custom, resolution_of, is_each, weight_bits, each_bits, constant_bits}
+use Rattle.header_bits.specs.Header.{Said, params_of, start_by, coder_by_part, coder_place, header_of, SpellsHeader, SpellsParts, image_part_of}
+use Rattle.header_bits.specs.Header.{predictor_part_of, coder_part_of, is_block, is_custom, resolution_of, is_each, weight_bits, each_bits, constant_bits}
 use Rattle.header_bits.specs.Lawful.{IsLawful, IsExponent, IsBlockSize, IsWeightStart, IsCountStart, IsCoder}
-use Rattle.header_bits.proofs.Tests.{then_fine, refuse_fine, not_under}
+use Rattle.header_bits.proofs.Tests.{◌then_fine◌, refuse_fine, not_under}
 use Rattle.header_bits.proofs.Held.{image_held, predictor_held, coder_held, image_bits, predictor_bits, coder_bits}
 use Rattle.header_bits.proofs.Lawfulness.{above_none}
 use Rattle.header_bits.proofs.TableTexts.{codes_small, codes_back, table_held, table_front, table_fill}
@@ -63,7 +65,8 @@ image_chosen p h =
     record {
       numbers = image_numbers i;
       held = image_held p h;
-      passed = then_fine _ _ (unused_zero 57 2) (then_fine _ _ (refuse_fine _ _ (ne_eqb p.kind.bits 1 (λ e. omega (arith, e, h.kind)))) (then_fine _ _ (refuse_fine _ _ (order_passes p.shape p.order h.order)) (then_fine _ _ (unused_zero 80 2) (unused_zero 86 10))));
+      passed = unused_zero 57 2 then_fine refuse_fine _ _ (ne_eqb p.kind.bits 1 (λ e. omega (arith, e, h.kind)))
+          then_fine refuse_fine _ _ (order_passes p.shape p.order h.order) then_fine unused_zero 80 2 then_fine unused_zero 86 10;
       said = rw (flag_back p.kind.signed, order_back p.order, flag_back i.block) refl;
       text = refl;
     }
@@ -87,7 +90,7 @@ start_passes : (p : Params) (s : WeightStart) (a b c d f g h j k l m : ℕ) → 
     → start_tests (a ∷ b ∷ c ∷ d ∷ f ∷ g ∷ h ∷ p.omega ∷ j ∷ k ∷ l ∷ m ∷ flag (is_custom s) ∷ flag (is_custom s) ∷ resolution_of s ∷ []) ≡ fine
 start_passes p Usual a b c d f g h j k l m w = refuse_fine _ _ (le-ltb (p.omega + 3) 0 (omega arith))
 start_passes p (Table q values) a b c d f g h j k l m w =
-    then_fine _ _ refl (then_fine _ _ refl (then_fine _ _ refl (then_fine _ _ (refuse_fine _ _ (le-ltb q 3 w.0.0)) (refuse_fine _ _ (le-ltb (p.omega + 3) q w.0.1)))))
+    refl then_fine refl then_fine refl then_fine refuse_fine _ _ (le-ltb q 3 w.0.0) then_fine refuse_fine _ _ (le-ltb (p.omega + 3) q w.0.1)
 
 predictor_chosen : (p : Params) → IsLawful p → SpellsPart (predictor (image_part_of p)) (predictor_part_of p) (predictor_bits p)
 unfolding predictor
@@ -96,9 +99,13 @@ predictor_chosen p h =
     record {
       numbers = predictor_numbers d;
       held = predictor_held p h;
-      passed = then_fine _ _ (unused_zero 96 2) (then_fine _ _ (refuse_fine _ _ (mode_passes p.reduced p.shape.columns h.mode)) (then_fine _ _ (unused_zero 103 1) (then_fine _ _ (refuse_fine _ _ (mode_passes p.column p.shape.columns h.sums)) (then_fine _ _ (unused_zero 105 1)
-          (then_fine _ _ (refuse_fine _ _ (le-ltb p.register 32 h.register.0)) (then_fine _ _ (refuse_fine _ _ (le-ltb p.register (p.kind.bits + p.omega + 2) h.wide)) (then_fine _ _ (refuse_fine _ _ (le-ltb 11 p.interval_log h.interval.1))
-          (then_fine _ _ (refuse_fine _ _ (le-ltb (exponent_code p.vmax) (exponent_code p.vmin) (exponent_codes p.vmin p.vmax h.vmin h.vmax h.exponents))) (then_fine _ _ (unused_zero 128 1) (start_passes p p.start 0 p.previous (flag p.reduced) 0 (flag p.column) 0 p.register p.interval_log (exponent_code p.vmin) (exponent_code p.vmax) 0 h.start))))))))));
+      passed = unused_zero 96 2 then_fine refuse_fine _ _ (mode_passes p.reduced p.shape.columns h.mode) then_fine unused_zero 103 1
+          then_fine refuse_fine _ _ (mode_passes p.column p.shape.columns h.sums) then_fine unused_zero 105 1
+          then_fine refuse_fine _ _ (le-ltb p.register 32 h.register.0) then_fine refuse_fine _ _ (le-ltb p.register (p.kind.bits + p.omega + 2) h.wide)
+          then_fine refuse_fine _ _ (le-ltb 11 p.interval_log h.interval.1)
+          then_fine refuse_fine _ _ (le-ltb (exponent_code p.vmax) (exponent_code p.vmin) (exponent_codes p.vmin p.vmax h.vmin h.vmax h.exponents))
+          then_fine unused_zero 128 1 then_fine start_passes p p.start 0 p.previous (flag p.reduced) 0 (flag p.column) 0 p.register p.interval_log
+          (exponent_code p.vmin) (exponent_code p.vmax) 0 h.start;
       said = rw (flag_back p.reduced, flag_back p.column, exponent_back p.vmin h.vmin, exponent_back p.vmax h.vmax, flag_back d.custom) refl;
       text = refl;
     }
@@ -111,34 +118,36 @@ size_back size (inr (inl e)) = rw e refl
 size_back size (inr (inr (inl e))) = rw e refl
 size_back size (inr (inr (inr e))) = rw e refl
 
-coder_by_chosen : (at : ℕ) (p : Params) (i : ImagePart) (c : Coder) → i.kind ≡ p.kind → IsCoder p c → AreValues (coder_fields (coder_part_of c)) (coder_numbers (coder_part_of c))
+coder_by_chosen : (at : ℕ) (p : Params) (i : ImagePart) (c : Coder) → i.kind ≡ p.kind → IsCoder p c
+    → AreValues (coder_fields (coder_part_of c)) (coder_numbers (coder_part_of c))
     → SpellsPart (coder_by (is_block c) at i) (coder_part_of c) (spelled (coder_fields (coder_part_of c)) (coder_numbers (coder_part_of c)))
 coder_by_chosen at p i (Sample umax gamma_star gamma_zero (Constant k)) e h held = record {
   numbers = umax ∷ gamma_star ∷ gamma_zero ∷ k ∷ 0 ∷ [];
   held = held;
-  passed = then_fine _ _ (refuse_fine _ _ (le-ltb umax 8 h.0.0)) (then_fine _ _ (refuse_fine _ _ (le-ltb 9 gamma_star h.1.1)) (then_fine _ _ (refuse_fine _ _ (le-ltb gamma_star (gamma_zero + 1) h.3))
-      (then_fine _ _ (refuse_fine _ _ (le-ltb (i.kind.bits - 2) k (rw e h.4))) refl)));
+  passed = refuse_fine _ _ (le-ltb umax 8 h.0.0) then_fine refuse_fine _ _ (le-ltb 9 gamma_star h.1.1)
+      then_fine refuse_fine _ _ (le-ltb gamma_star (gamma_zero + 1) h.3) then_fine refuse_fine _ _ (le-ltb (i.kind.bits - 2) k (rw e h.4)) then_fine refl;
   said = refl;
   text = refl;
 }
 coder_by_chosen at p i (Sample umax gamma_star gamma_zero (Each values)) e h held = record {
   numbers = umax ∷ gamma_star ∷ gamma_zero ∷ 15 ∷ 1 ∷ [];
   held = held;
-  passed = then_fine _ _ (refuse_fine _ _ (le-ltb umax 8 h.0.0)) (then_fine _ _ (refuse_fine _ _ (le-ltb 9 gamma_star h.1.1)) (then_fine _ _ (refuse_fine _ _ (le-ltb gamma_star (gamma_zero + 1) h.3)) (then_fine _ _ refl refl)));
+  passed = refuse_fine _ _ (le-ltb umax 8 h.0.0) then_fine refuse_fine _ _ (le-ltb 9 gamma_star h.1.1)
+      then_fine refuse_fine _ _ (le-ltb gamma_star (gamma_zero + 1) h.3) then_fine refl then_fine refl;
   said = refl;
   text = refl;
 }
 coder_by_chosen at p i (Block size true reference) e h held = record {
   numbers = 0 ∷ size_code size ∷ 1 ∷ reference ∷ [];
   held = held;
-  passed = then_fine _ _ (unused_zero at 1) (refuse_fine _ _ (le-ltb 4 i.kind.bits (rw e (h.1 refl))));
+  passed = unused_zero at 1 then_fine refuse_fine _ _ (le-ltb 4 i.kind.bits (rw e (h.1 refl)));
   said = rw (size_back size h.0) refl;
   text = refl;
 }
 coder_by_chosen at p i (Block size false reference) e h held = record {
   numbers = 0 ∷ size_code size ∷ 0 ∷ reference ∷ [];
   held = held;
-  passed = then_fine _ _ (unused_zero at 1) refl;
+  passed = unused_zero at 1 then_fine refl;
   said = rw (size_back size h.0) refl;
   text = refl;
 }
@@ -154,10 +163,12 @@ weights_of : WeightStart → List ℤ
 weights_of Usual = []
 weights_of (Table q values) = values
 
-weights_chosen : (p : Params) (s : WeightStart) → IsWeightStart p s → SpellsPart (weights_by (is_custom s) (weight_count p.previous p.reduced p.shape.bands) (resolution_of s)) (weights_of s) (weight_bits s)
+weights_chosen : (p : Params) (s : WeightStart) → IsWeightStart p s
+    → SpellsPart (weights_by (is_custom s) (weight_count p.previous p.reduced p.shape.bands) (resolution_of s)) (weights_of s) (weight_bits s)
 unfolding weights_of spelled
 weights_chosen p Usual h = record { numbers = []; held = tt; passed = refl; said = refl; text = refl }
-weights_chosen p (Table q values) h = subst (λ (n : ℕ). SpellsPart (weights_by true n q) values (spelled (table_fields (length values) q) (map (signed_code q) values ++ 0 ∷ []))) h.1 spelt
+weights_chosen p (Table q values) h =
+    subst (λ (n : ℕ). SpellsPart (weights_by true n q) values (spelled (table_fields (length values) q) (map (signed_code q) values ++ 0 ∷ []))) h.1 spelt
   where
     codes : List ℕ
     codes = map (signed_code q) values
@@ -172,8 +183,10 @@ weights_chosen p (Table q values) h = subst (λ (n : ℕ). SpellsPart (weights_b
     spelt = record {
       numbers = map (signed_code q) values ++ 0 ∷ [];
       held = subst (λ (n : ℕ). AreValues (table_fields n q) (map (signed_code q) values ++ 0 ∷ [])) many (table_held q (map (signed_code q) values) small);
-      passed = (let fill : get_or (map (signed_code q) values ++ 0 ∷ []) (length values) 0 ≡ 0 = rw (← many) (table_fill (map (signed_code q) values)) in rw fill (unused_zero _ _));
-      said = (let front : take (length values) (map (signed_code q) values ++ 0 ∷ []) ≡ map (signed_code q) values = rw (← many) (table_front (map (signed_code q) values)) in rw front (codes_back q values (omega (arith, h.0.0)) h.2));
+      passed = (let fill : get_or (map (signed_code q) values ++ 0 ∷ []) (length values) 0 ≡ 0 = rw (← many) (table_fill (map (signed_code q) values)) in
+          rw fill (unused_zero _ _));
+      said = (let front : take (length values) (map (signed_code q) values ++ 0 ∷ []) ≡ map (signed_code q) values =
+          rw (← many) (table_front (map (signed_code q) values)) in rw front (codes_back q values (omega (arith, h.0.0)) h.2));
       text = refl;
     }
 
@@ -192,7 +205,8 @@ entries_small : (most limit : ℕ) (vs : List ℕ) → most < limit → AllByRec
 entries_small most limit [] lt h = tt
 entries_small most limit (v ∷ vs) lt h = (omega (arith, h.0), entries_small most limit vs lt h.1)
 
-each_chosen : (at : ℕ) (p : Params) (i : ImagePart) (s : CountStart) → i.kind ≡ p.kind → i.shape ≡ p.shape → p.kind.bits ≤ 16 → IsCountStart p s → SpellsPart (constants_by (is_each s) at i) (each_of s) (each_bits s)
+each_chosen : (at : ℕ) (p : Params) (i : ImagePart) (s : CountStart) → i.kind ≡ p.kind → i.shape ≡ p.shape → p.kind.bits ≤ 16 → IsCountStart p s
+    → SpellsPart (constants_by (is_each s) at i) (each_of s) (each_bits s)
 unfolding each_of spelled
 each_chosen at p i (Constant k) e f deep h = record { numbers = []; held = tt; passed = refl; said = refl; text = refl }
 each_chosen at p i (Each values) e f deep h =
@@ -204,12 +218,13 @@ each_chosen at p i (Each values) e f deep h =
     record {
       numbers = values ++ 0 ∷ [];
       held = subst (λ (n : ℕ). AreValues (table_fields n 4) (values ++ 0 ∷ [])) bands (table_held 4 values small);
-      passed = rw (front, fill) (then_fine _ _ (refuse_fine _ _ (above_none (i.kind.bits - 2) values most)) (unused_zero _ _));
+      passed = rw (front, fill) (refuse_fine _ _ (above_none (i.kind.bits - 2) values most) then_fine unused_zero _ _);
       said = front;
       text = ap (λ (n : ℕ). spelled (table_fields n 4) (values ++ 0 ∷ [])) bands;
     }
 
-constants_chosen : (at : ℕ) (p : Params) (i : ImagePart) (c : Coder) → i.kind ≡ p.kind → i.shape ≡ p.shape → p.kind.bits ≤ 16 → IsCoder p c → SpellsPart (constants at i (coder_part_of c)) (entries_of c) (constant_bits c)
+constants_chosen : (at : ℕ) (p : Params) (i : ImagePart) (c : Coder) → i.kind ≡ p.kind → i.shape ≡ p.shape → p.kind.bits ≤ 16 → IsCoder p c
+    → SpellsPart (constants at i (coder_part_of c)) (entries_of c) (constant_bits c)
 unfolding constants entries_of spelled
 constants_chosen at p i (Sample umax gamma_star gamma_zero start) e f deep h = each_chosen at p i start e f deep h.4
 constants_chosen at p i (Block size restricted reference) e f deep h = record { numbers = []; held = tt; passed = refl; said = refl; text = refl }
@@ -235,7 +250,8 @@ params_back : (p : Params) → params_of (all_said p) ≡ p
 unfolding all_said
 params_back p = rw (start_back p.start, coder_back p.coder) refl
 
-parts_chosen : (p : Params) → IsLawful p → SpellsParts (all_said p) (image_bits p ++ predictor_bits p ++ weight_bits p.start ++ coder_bits p ++ constant_bits p.coder)
+parts_chosen : (p : Params) → IsLawful p
+    → SpellsParts (all_said p) (image_bits p ++ predictor_bits p ++ weight_bits p.start ++ coder_bits p ++ constant_bits p.coder)
 unfolding all_said weights
 parts_chosen p h =
     let i : ImagePart = image_part_of p in

@@ -1,5 +1,6 @@
 -- The entries of a table, judged one after another.
-use Rattle.std.proofs.Common.{◌≡◌, ℕ, ◌+◌, ◌-◌, ◌^◌, ◌<◌, ◌≤◌, Bool, true, false, not, ◌&&◌, int_le, List, [], ◌∷◌, length, drop, get_or, ℤ, pos, neg_ℤ, ◌-ℤ◌, Err, refl, sym, ap, ◌∙◌, arith}
+use Rattle.std.proofs.Common.{◌≡◌, ℕ, ◌+◌, ◌-◌, ◌^◌, ◌<◌, ◌≤◌, Bool, true, false, not, ◌&&◌, int_le, List, [], ◌∷◌, length, drop, get_or, ℤ, pos, neg_ℤ, ◌-ℤ◌}
+use Rattle.std.proofs.Common.{Err, refl, sym, ap, ◌∙◌, arith}
 use Rattle.std.proofs.lemmas.Int.{ints}
 use Rattle.cube_core.specs.declared.fault.Fault.TheVariants.{FieldRange}
 use Rattle.cube_core.specs.declared.fault.Field.TheVariants as field
@@ -37,14 +38,17 @@ above_none_left most i vs le = ap (some_above most) (drop_all i vs le)
 
 -- ---- weights
 
-entry_next : (bits i : ℕ) (vs : List ℤ) → i < length vs → entries_fault bits (drop i vs) ≡ (weight_fault bits (get_or vs i (pos 0)) >> entries_fault bits (drop (i + 1) vs))
+entry_next : (bits i : ℕ) (vs : List ℤ) → i < length vs
+    → entries_fault bits (drop i vs) ≡ (weight_fault bits (get_or vs i (pos 0)) >> entries_fault bits (drop (i + 1) vs))
 unfolding entries_fault
 entry_next bits i vs lt = ap (entries_fault bits) (drop_more vs i (pos 0) lt)
 
-pub entry_refused : (bits i : ℕ) (vs : List ℤ) (all : Test) (e : Fault) → i < length vs → entries_fault bits (drop i vs) ≡ all → weight_fault bits (get_or vs i (pos 0)) ≡ Err e → all ≡ Err e
+pub entry_refused : (bits i : ℕ) (vs : List ℤ) (all : Test) (e : Fault) → i < length vs → entries_fault bits (drop i vs) ≡ all
+    → weight_fault bits (get_or vs i (pos 0)) ≡ Err e → all ≡ Err e
 entry_refused bits i vs all e lt so_far bad = sym so_far ∙ entry_next bits i vs lt ∙ ap (λ (t : Test). t >> entries_fault bits (drop (i + 1) vs)) bad
 
-pub entry_passed : (bits i : ℕ) (vs : List ℤ) (all : Test) → i < length vs → entries_fault bits (drop i vs) ≡ all → weight_fault bits (get_or vs i (pos 0)) ≡ fine → entries_fault bits (drop (i + 1) vs) ≡ all
+pub entry_passed : (bits i : ℕ) (vs : List ℤ) (all : Test) → i < length vs → entries_fault bits (drop i vs) ≡ all
+    → weight_fault bits (get_or vs i (pos 0)) ≡ fine → entries_fault bits (drop (i + 1) vs) ≡ all
 entry_passed bits i vs all lt so_far good = sym (sym so_far ∙ entry_next bits i vs lt ∙ ap (λ (t : Test). t >> entries_fault bits (drop (i + 1) vs)) good)
 
 pub entries_none_left : (bits i : ℕ) (vs : List ℤ) → length vs ≤ i → entries_fault bits (drop i vs) ≡ fine
@@ -57,14 +61,19 @@ minus : (bound : ℤ) (n : ℕ) → bound ≡ pos n → pos 0 -ℤ bound ≡ neg
 minus bound n e = omega (arith, ints, e)
 
 -- a weight that is judged by both bounds
-judged : (bits : ℕ) (weight value bound : ℤ) (within : Bool) (r : Test) → bound ≡ pos (2 ^ (bits - 1)) → value ≡ weight → within ≡ (int_le (pos 0 -ℤ bound) weight && int_le weight (bound -ℤ pos 1)) → r ≡ refuse_if (not within) (FieldRange field.WeightEntry value) → r ≡ weight_fault bits weight
+judged : (bits : ℕ) (weight value bound : ℤ) (within : Bool) (r : Test) → bound ≡ pos (2 ^ (bits - 1)) → value ≡ weight
+    → within ≡ (int_le (pos 0 -ℤ bound) weight && int_le weight (bound -ℤ pos 1)) → r ≡ refuse_if (not within) (FieldRange field.WeightEntry value)
+    → r ≡ weight_fault bits weight
 judged bits weight value bound within r e f is h =
     h ∙ rw (is, f, minus bound (2 ^ (bits - 1)) e, e) refl
 
 -- the least one holds, so that the greatest decides
-pub judged_above : (bits : ℕ) (weight value bound : ℤ) (within : Bool) (r : Test) → bound ≡ pos (2 ^ (bits - 1)) → value ≡ weight → int_le (pos 0 -ℤ bound) weight ≡ true → within ≡ int_le weight (bound -ℤ pos 1) → r ≡ refuse_if (not within) (FieldRange field.WeightEntry value) → r ≡ weight_fault bits weight
+pub judged_above : (bits : ℕ) (weight value bound : ℤ) (within : Bool) (r : Test) → bound ≡ pos (2 ^ (bits - 1)) → value ≡ weight
+    → int_le (pos 0 -ℤ bound) weight ≡ true → within ≡ int_le weight (bound -ℤ pos 1) → r ≡ refuse_if (not within) (FieldRange field.WeightEntry value)
+    → r ≡ weight_fault bits weight
 judged_above bits weight value bound within r e f low is h = judged bits weight value bound within r e f (rw low is) h
 
 -- a weight below the least one
-pub judged_below : (bits : ℕ) (weight value bound : ℤ) (within : Bool) (r : Test) → bound ≡ pos (2 ^ (bits - 1)) → value ≡ weight → int_le (pos 0 -ℤ bound) weight ≡ false → within ≡ false → r ≡ refuse_if (not within) (FieldRange field.WeightEntry value) → r ≡ weight_fault bits weight
+pub judged_below : (bits : ℕ) (weight value bound : ℤ) (within : Bool) (r : Test) → bound ≡ pos (2 ^ (bits - 1)) → value ≡ weight
+    → int_le (pos 0 -ℤ bound) weight ≡ false → within ≡ false → r ≡ refuse_if (not within) (FieldRange field.WeightEntry value) → r ≡ weight_fault bits weight
 judged_below bits weight value bound within r e f low is h = judged bits weight value bound within r e f (rw low is) h

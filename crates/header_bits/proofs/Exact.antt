@@ -32,7 +32,8 @@ part_exact {X} part = record { again = again; found = found }
     again x h rest s =
         let v : List ℕ = s.numbers in
         let size : length (spelled part.fields v) ≡ total part.fields = length-spelled part.fields v s.held in
-        let long : ltb (length (spelled part.fields v ++ rest)) (total part.fields) ≡ false = le-ltb _ _ (omega (arith, size, length-append (spelled part.fields v) rest)) in
+        let long : ltb (length (spelled part.fields v ++ rest)) (total part.fields) ≡ false =
+        le-ltb _ _ (omega (arith, size, length-append (spelled part.fields v) rest)) in
         ap (λ (b : List Bool). part_at part (b ++ rest)) s.text
         ∙ rw (long, values_again part.fields v rest s.held, s.passed, s.said, drop_at (spelled part.fields v) rest (total part.fields) size) refl
 
@@ -44,8 +45,12 @@ part_exact {X} part = record { again = again; found = found }
         let t = bind_ok (part.tests v) (λ _. Ok (part.says v, drop n bits)) (x, rest) g.1 in
         let same = ok_is (part.says v, drop n bits) (x, rest) t.2 in
         let s = spelled_again part.fields bits (ltb-false _ _ g.0) in
-        let spells : SpellsPart part x (spelled part.fields v) = record { numbers = v; held = s.1; passed = t.1; said = ap (λ (y : X × List Bool). y.0) same; text = refl } in
-        (spelled part.fields v, spells, sym (take-append-drop n bits) ∙ ap (λ (f : List Bool). f ++ drop n bits) (sym s.0) ∙ ap (λ (y : X × List Bool). spelled part.fields v ++ y.1) same)
+        let spells : SpellsPart part x (spelled part.fields v) =
+        record { numbers = v; held = s.1; passed = t.1; said = ap (λ (y : X × List Bool). y.0) same; text = refl } in (
+          spelled part.fields v,
+          spells,
+          sym (take-append-drop n bits) ∙ ap (λ (f : List Bool). f ++ drop n bits) (sym s.0) ∙ ap (λ (y : X × List Bool). spelled part.fields v ++ y.1) same,
+        )
 
 pub then_exact : {X Y : Type 0} (first : Reading X) (second : X → Reading Y) (First : X → List Bool → Type 0) (Second : X → Y → List Bool → Type 0)
     → IsExact first First → ((x : X) → IsExact (second x) (Second x)) → IsExact (then_at first second) (SpellsThen First Second)
@@ -65,17 +70,20 @@ then_exact {X} {Y} first second First Second p q = record { again = again; found
         let one = p.found a.0.0 bits a.0.1 a.1 in
         let two = (q a.0.0).found b.0.0 a.0.1 b.0.1 b.1 in
         let whole : bits ≡ (one.0 ++ two.0) ++ b.0.1 = one.2 ∙ ap (λ (r : List Bool). one.0 ++ r) two.2 ∙ sym (append_assoc one.0 two.0 b.0.1) in
-        let spells : SpellsThen First Second (a.0.0, b.0.0) (one.0 ++ two.0) = record { front = one.0; back = two.0; first = one.1; second = two.1; text = refl } in
+        let spells : SpellsThen First Second (a.0.0, b.0.0) (one.0 ++ two.0) =
+        record { front = one.0; back = two.0; first = one.1; second = two.1; text = refl } in
         subst (λ (y : (X × Y) × List Bool). (h : List Bool) × SpellsThen First Second y.0 h × (bits ≡ h ++ y.1)) same (one.0 ++ two.0, spells, whole)
 
-pub one_spelling : {X : Type 0} (read : Reading X) (Spells : X → List Bool → Type 0) → IsExact read Spells → (g h a b : List Bool) (x y : X) → Spells x g → Spells y h → g ++ a ≡ h ++ b → (x ≡ y) × (g ≡ h)
+pub one_spelling : {X : Type 0} (read : Reading X) (Spells : X → List Bool → Type 0) → IsExact read Spells → (g h a b : List Bool) (x y : X) → Spells x g
+    → Spells y h → g ++ a ≡ h ++ b → (x ≡ y) × (g ≡ h)
 one_spelling {X} read Spells p g h a b x y s t e =
     let both : done (x, a) ≡ done (y, b) = sym (p.again x g a s) ∙ ap read e ∙ p.again y h b t in
     let same = ok_is (x, a) (y, b) both in
     let rest : a ≡ b = ap (λ (z : X × List Bool). z.1) same in
     (ap (λ (z : X × List Bool). z.0) same, append_cancel_right g h a (e ∙ ap (λ (r : List Bool). h ++ r) (sym rest)))
 
-pub as_exact : {X Y : Type 0} (form : X → Y) (read : Reading X) (Spells : X → List Bool → Type 0) → IsExact read Spells → IsExact (as_at form read) (SpellsAs form Spells)
+pub as_exact : {X Y : Type 0} (form : X → Y) (read : Reading X) (Spells : X → List Bool → Type 0) → IsExact read Spells
+    → IsExact (as_at form read) (SpellsAs form Spells)
 unfolding as_at
 as_exact {X} {Y} form read Spells p = record { again = again; found = found }
   where

@@ -1,5 +1,6 @@
 -- Steps of reading that went well or failed, and what stands at the front of bits.
-use Rattle.std.proofs.Common.{◌≡◌, ℕ, zero, suc, ◌+◌, ◌-◌, ◌^◌, ◌<◌, ◌⊎◌, Bool, true, false, cond, ltb, List, [], ◌∷◌, ◌++◌, length, take, drop, replicate, Result, Ok, Err, refl, ap, subst, ◌∙◌, inl, inr, arith, lit<}
+use Rattle.std.proofs.Common.{◌≡◌, ℕ, zero, suc, ◌+◌, ◌-◌, ◌^◌, ◌<◌, ◌⊎◌, Bool, true, false, cond, ltb, List, [], ◌∷◌, ◌++◌, length, take, drop, replicate}
+use Rattle.std.proofs.Common.{Result, Ok, Err, refl, ap, subst, ◌∙◌, inl, inr, arith, lit<}
 use Rattle.std.proofs.lemmas.List.{length-replicate}
 use Rattle.std.proofs.Math.Nat.{pow-succ'}
 use Rattle.std.proofs.lemmas.Nat.{pow_pos}
@@ -32,7 +33,8 @@ failed e = Err e
 pub fault_is : {A : Type 0} (d e : Fault) → failed {A = A} d ≡ failed {A = A} e → d ≡ e
 fault_is d e h = cc
 
-pub bind_err : {A B : Type 0} (r : Result A Fault) (f : A → Result B Fault) (e : Fault) → (r >>= f) ≡ Err e → (r ≡ Err e) ⊎ ((x : A) × (r ≡ Ok x) × (f x ≡ Err e))
+pub bind_err : {A B : Type 0} (r : Result A Fault) (f : A → Result B Fault) (e : Fault) → (r >>= f) ≡ Err e
+    → (r ≡ Err e) ⊎ ((x : A) × (r ≡ Ok x) × (f x ≡ Err e))
 bind_err (Ok x) f e h = inr (x, refl, h)
 bind_err (Err d) f e h = inl (ap (λ (k : Fault). Err k) (fault_is d e h))
 
@@ -45,7 +47,8 @@ pub number_fault : (count n : ℕ) (bits : List Bool) (e : Fault) → number_at 
 unfolding number_at
 number_fault count n bits e h = test_fault (ltb (length bits) n) (Truncated count) e (number_of (take n bits), drop n bits) h
 
-one_more_fault : (count : ℕ) (e : Fault) (r : Result (ℕ × List Bool) Fault) → ((d : Fault) → r ≡ Err d → Truncated count ≡ d) → one_more r ≡ Err e → Truncated count ≡ e
+one_more_fault : (count : ℕ) (e : Fault) (r : Result (ℕ × List Bool) Fault) → ((d : Fault) → r ≡ Err d → Truncated count ≡ d) → one_more r ≡ Err e
+    → Truncated count ≡ e
 one_more_fault count e (Ok x) earlier h = absurd cc
 one_more_fault count e (Err d) earlier h = earlier d refl ∙ fault_is d e h
 

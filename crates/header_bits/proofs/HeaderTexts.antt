@@ -1,5 +1,6 @@
 -- The length of a header, and what it is written from.
-use Rattle.std.proofs.Common.{◌≡◌, ℕ, ◌+◌, ◌-◌, ◌*◌, ◌/◌, ◌%◌, ◌≤◌, ◌||◌, Bool, true, false, List, [], ◌∷◌, ◌++◌, length, map, take, drop, Ok, ℤ, refl, sym, ap, subst, ◌∙◌, append_assoc, length-append, arith}
+use Rattle.std.proofs.Common.{◌≡◌, ℕ, ◌+◌, ◌-◌, ◌*◌, ◌/◌, ◌%◌, ◌≤◌, ◌||◌, Bool, true, false, List, [], ◌∷◌, ◌++◌, length, map, take, drop, Ok, ℤ, refl, sym, ap}
+use Rattle.std.proofs.Common.{subst, ◌∙◌, append_assoc, length-append, arith}
 use Rattle.std.proofs.lemmas.List.{take_at, drop_at, length-map}
 use Rattle.header_bits.specs.declared.params.Params.{Params}
 use Rattle.header_bits.specs.declared.params.WeightStart.TheVariants.{Table}
@@ -15,8 +16,10 @@ use Rattle.header_bits.specs.Parts.{Part, part_at, SpellsPart}
 use Rattle.header_bits.specs.ImagePart.{image, image_fields, image_numbers}
 use Rattle.header_bits.specs.PredictorPart.{predictor, predictor_fields, predictor_numbers}
 use Rattle.header_bits.specs.CoderPart.{coder_fields, coder_numbers, coder}
-use Rattle.header_bits.specs.TableParts.{fill_of, table_fields, numbers_text, signed_code, weight_count, weights, weights_by, constants, constants_by, has_constants}
-use Rattle.header_bits.specs.Header.{image_part_of, predictor_part_of, coder_part_of, coder_place, Said, said, AreThere, params_of, parts_at, start_by, coder_by_part, is_custom, has_each, has_table, weight_bits, constant_bits, header_of, header_at, SpellsHeader}
+use Rattle.header_bits.specs.TableParts.{fill_of, table_fields, numbers_text, signed_code, weight_count, weights, weights_by, constants, constants_by}
+use Rattle.header_bits.specs.TableParts.{has_constants}
+use Rattle.header_bits.specs.Header.{image_part_of, predictor_part_of, coder_part_of, coder_place, Said, said, AreThere, params_of, parts_at, start_by}
+use Rattle.header_bits.specs.Header.{coder_by_part, is_custom, has_each, has_table, weight_bits, constant_bits, header_of, header_at, SpellsHeader}
 use Rattle.header_bits.specs.Lawful.{IsLawful}
 use Rattle.header_bits.proofs.Numbers.{length-bits_of}
 use Rattle.header_bits.proofs.Slots.{length-spelled}
@@ -29,20 +32,30 @@ use Rattle.header_bits.proofs.Headers.{header_exact, header_read, part_leaves}
 
 -- ---- the tables
 
-pub weights_text : (q : ℕ) (values : List ℤ) → weight_bits (Table q values) ≡ numbers_text q (map (signed_code q) values) ++ bits_of (fill_of (length values * q)) 0
+pub weights_text : (q : ℕ) (values : List ℤ)
+    → weight_bits (Table q values) ≡ numbers_text q (map (signed_code q) values) ++ bits_of (fill_of (length values * q)) 0
 weights_text q values =
-    subst (λ (n : ℕ). spelled (table_fields n q) (map (signed_code q) values ++ 0 ∷ []) ≡ numbers_text q (map (signed_code q) values) ++ bits_of (fill_of (n * q)) 0) (length-map values (signed_code q))
+    subst (λ (n : ℕ). spelled (table_fields n q) (map (signed_code q) values ++ 0 ∷ [])
+    ≡ numbers_text q (map (signed_code q) values) ++ bits_of (fill_of (n * q)) 0) (length-map values (signed_code q))
     (spelled_table q (fill_of (length (map (signed_code q) values) * q)) (map (signed_code q) values))
 
-pub constants_text : (umax gamma_star gamma_zero : ℕ) (values : List ℕ) → constant_bits (Sample umax gamma_star gamma_zero (Each values)) ≡ numbers_text 4 values ++ bits_of (fill_of (length values * 4)) 0
+pub constants_text : (umax gamma_star gamma_zero : ℕ) (values : List ℕ)
+    → constant_bits (Sample umax gamma_star gamma_zero (Each values)) ≡ numbers_text 4 values ++ bits_of (fill_of (length values * 4)) 0
 constants_text umax gamma_star gamma_zero values = spelled_table 4 (fill_of (length values * 4)) values
 
 pub weights_length : (q : ℕ) (values : List ℤ) → length (weight_bits (Table q values)) ≡ total (table_fields (length values) q)
 weights_length q values =
     ap length (weights_text q values) ∙ length-append (numbers_text q (map (signed_code q) values)) (bits_of (fill_of (length values * q)) 0)
-    ∙ omega (arith, total_table (length values) q, length-numbers_text q (map (signed_code q) values), ap (λ n. n * q) (length-map values (signed_code q)), length-bits_of (fill_of (length values * q)) 0)
+    ∙ omega (
+      arith,
+      total_table (length values) q,
+      length-numbers_text q (map (signed_code q) values),
+      ap (λ n. n * q) (length-map values (signed_code q)),
+      length-bits_of (fill_of (length values * q)) 0,
+    )
 
-pub constants_length : (umax gamma_star gamma_zero : ℕ) (values : List ℕ) → length (constant_bits (Sample umax gamma_star gamma_zero (Each values))) ≡ total (table_fields (length values) 4)
+pub constants_length : (umax gamma_star gamma_zero : ℕ) (values : List ℕ)
+    → length (constant_bits (Sample umax gamma_star gamma_zero (Each values))) ≡ total (table_fields (length values) 4)
 constants_length umax gamma_star gamma_zero values =
     ap length (constants_text umax gamma_star gamma_zero values) ∙ length-append (numbers_text 4 values) (bits_of (fill_of (length values * 4)) 0)
     ∙ omega (arith, total_table (length values) 4, length-numbers_text 4 values, length-bits_of (fill_of (length values * 4)) 0)
@@ -52,17 +65,30 @@ constants_length umax gamma_star gamma_zero values =
 behind : (old a b one two : List Bool) → one ≡ old ++ a → two ≡ one ++ b → two ≡ old ++ (a ++ b)
 behind old a b one two first second = second ∙ ap (λ (x : List Bool). x ++ b) first ∙ append_assoc old a b
 
-pub header_written : (p : Params) (old one two three four new : List Bool) → one ≡ old ++ image_bits p → two ≡ one ++ predictor_bits p → three ≡ two ++ weight_bits p.start → four ≡ three ++ coder_bits p → new ≡ four ++ constant_bits p.coder → new ≡ old ++ header_of p
+pub header_written : (p : Params) (old one two three four new : List Bool) → one ≡ old ++ image_bits p → two ≡ one ++ predictor_bits p
+    → three ≡ two ++ weight_bits p.start → four ≡ three ++ coder_bits p → new ≡ four ++ constant_bits p.coder → new ≡ old ++ header_of p
 unfolding header_of
 header_written p old one two three four new a b c d e =
-    behind old _ (constant_bits p.coder) four new (behind old _ (coder_bits p) three four (behind old _ (weight_bits p.start) two three (behind old _ (predictor_bits p) one two a b) c) d) e
+    behind old _ (constant_bits p.coder) four new
+    (behind old _ (coder_bits p) three four (behind old _ (weight_bits p.start) two three (behind old _ (predictor_bits p) one two a b) c) d) e
 
 pub header_length : (p : Params) → IsLawful p → length (header_of p) ≡ 152 + length (weight_bits p.start) + length (constant_bits p.coder)
 unfolding header_of
 header_length p h =
     let front : List Bool = image_bits p ++ predictor_bits p in
     length-append (image_bits p ++ predictor_bits p ++ weight_bits p.start ++ coder_bits p) (constant_bits p.coder)
-    ∙ omega (arith, length-append (image_bits p ++ predictor_bits p ++ weight_bits p.start) (coder_bits p), length-append (image_bits p ++ predictor_bits p) (weight_bits p.start), length-append (image_bits p) (predictor_bits p), length-spelled image_fields (image_numbers (image_part_of p)) (image_held p h), length-spelled predictor_fields (predictor_numbers (predictor_part_of p)) (predictor_held p h), length-spelled (coder_fields (coder_part_of p.coder)) (coder_numbers (coder_part_of p.coder)) (coder_held p h), image_total, predictor_total, coder_total (coder_part_of p.coder))
+    ∙ omega (
+      arith,
+      length-append (image_bits p ++ predictor_bits p ++ weight_bits p.start) (coder_bits p),
+      length-append (image_bits p ++ predictor_bits p) (weight_bits p.start),
+      length-append (image_bits p) (predictor_bits p),
+      length-spelled image_fields (image_numbers (image_part_of p)) (image_held p h),
+      length-spelled predictor_fields (predictor_numbers (predictor_part_of p)) (predictor_held p h),
+      length-spelled (coder_fields (coder_part_of p.coder)) (coder_numbers (coder_part_of p.coder)) (coder_held p h),
+      image_total,
+      predictor_total,
+      coder_total (coder_part_of p.coder),
+    )
 
 -- ---- what is spelt is whole bytes
 
@@ -113,7 +139,8 @@ spelt_whole p h s =
 -- ---- where a header was read
 
 -- the tables that passed are there
-pub are_there : (place : ℕ) (i : ImagePart) (p : PredictorPart) (c : CoderPart) (two three four five : List Bool) (ws : List ℤ) (ks : List ℕ) → (p.previous ≤ 15) × (p.resolution ≤ 22) × (p.custom ≡ true → 1 ≤ p.resolution)
+pub are_there : (place : ℕ) (i : ImagePart) (p : PredictorPart) (c : CoderPart) (two three four five : List Bool) (ws : List ℤ) (ks : List ℕ)
+    → (p.previous ≤ 15) × (p.resolution ≤ 22) × (p.custom ≡ true → 1 ≤ p.resolution)
     → part_at (weights i p) two ≡ Ok (ws, three) → part_at (constants (place + 16) i c) four ≡ Ok (ks, five) → AreThere i p two c four
 are_there place i p c two three four five ws ks facts passed ended =
     let a = part_leaves (weights i p) ws two three passed in
@@ -127,7 +154,8 @@ are_there place i p c two three four five ws ks facts passed ended =
     }
 
 -- a table that was announced is among the parameters
-pub table_kept : (i : ImagePart) (p : PredictorPart) (at_weights : List Bool) (c : CoderPart) (at_constants : List Bool) → has_table (params_of (said i p at_weights c at_constants)) ≡ (p.custom || has_constants c)
+pub table_kept : (i : ImagePart) (p : PredictorPart) (at_weights : List Bool) (c : CoderPart) (at_constants : List Bool)
+    → has_table (params_of (said i p at_weights c at_constants)) ≡ (p.custom || has_constants c)
 table_kept i p at_weights c at_constants = rw (custom p.custom p.resolution _, each c _) refl
   where
     custom : (b : Bool) (q : ℕ) (values : List ℤ) → is_custom (start_by b q values) ≡ b
@@ -151,7 +179,8 @@ pub record Stands (p : Params) (bits : List Bool) (bytes : ℕ) : Type 0 where
   pub reads : header_at bits ≡ Ok (p, drop (8 * bytes) bits)
   pub spelt : SpellsHeader p (take (8 * bytes) bits)
 
-pub header_stands : (p : Params) (bits left : List Bool) (all bytes : ℕ) → header_at bits ≡ Ok (p, left) → length bits ≡ 8 * all → bytes ≡ all - length left / 8 → Stands p bits bytes
+pub header_stands : (p : Params) (bits left : List Bool) (all bytes : ℕ) → header_at bits ≡ Ok (p, left) → length bits ≡ 8 * all → bytes ≡ all - length left / 8
+    → Stands p bits bytes
 header_stands p bits left all bytes e size n =
     let found = header_exact.found p bits left e in
     let whole = spelt_whole p found.0 found.1 in

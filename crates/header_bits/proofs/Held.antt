@@ -104,7 +104,10 @@ predictor_held p h = (
                       (omega arith, exponent_small p.vmax h.vmax),
                       (
                         lit< tt,
-                        ((omega arith, flag_small (is_custom p.start)), ((omega arith, flag_small (is_custom p.start)), ((omega arith, resolution_small p p.start h.fraction.1 h.start), tt))),
+                        (
+                          (omega arith, flag_small (is_custom p.start)),
+                          ((omega arith, flag_small (is_custom p.start)), ((omega arith, resolution_small p p.start h.fraction.1 h.start), tt)),
+                        ),
                       ),
                     ),
                   ),
@@ -119,8 +122,10 @@ predictor_held p h = (
 )
 
 held_by : (p : Params) (c : Coder) → p.kind.bits ≤ 16 → IsCoder p c → AreValues (coder_fields (coder_part_of c)) (coder_numbers (coder_part_of c))
-held_by p (Sample umax gamma_star gamma_zero start) le h =
-    ((omega (arith, h.0), h.0.1), ((h.1.0, omega (arith, h.1)), ((h.2.0, h.2.1), ((omega arith, constant_small p start le h.4), ((omega arith, flag_small (is_each start)), tt)))))
+held_by p (Sample umax gamma_star gamma_zero start) le h = (
+  (omega (arith, h.0), h.0.1),
+  ((h.1.0, omega (arith, h.1)), ((h.2.0, h.2.1), ((omega arith, constant_small p start le h.4), ((omega arith, flag_small (is_each start)), tt)))),
+)
 held_by p (Block size restricted reference) le h =
     (lit< tt, ((omega arith, size_small size), ((omega arith, flag_small restricted), ((h.2.0, h.2.1), tt))))
 

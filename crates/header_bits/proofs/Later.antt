@@ -1,5 +1,6 @@
 -- Bytes behind a header change nothing in how it is read, or refused, unless it was too short.
-use Rattle.std.proofs.Common.{◌≡◌, ◌⊎◌, ◌+◌, ◌≤◌, Bool, true, false, cond, ltb, List, [], ◌∷◌, ◌++◌, length, drop, Result, Ok, Err, refl, ap, ◌∙◌, inl, inr, length-append, length-drop, arith}
+use Rattle.std.proofs.Common.{◌≡◌, ◌⊎◌, ◌+◌, ◌≤◌, Bool, true, false, cond, ltb, List, [], ◌∷◌, ◌++◌, length, drop, Result, Ok, Err, refl, ap, ◌∙◌, inl, inr}
+use Rattle.std.proofs.Common.{length-append, length-drop, arith}
 use Rattle.std.proofs.lemmas.Bool.{ltb-false, le-ltb}
 use Rattle.std.proofs.lemmas.List.{take-append-le, drop-append-le}
 use Rattle.cube_core.specs.declared.fault.Fault.{Fault}
@@ -25,7 +26,8 @@ Goes more (Err e) later = (e ≡ ShortHeader) ⊎ (later ≡ Err e)
 abbrev GoesOn : {X : Type 0} → Reading X → Type 0
 GoesOn read = (more bits : List Bool) → Goes more (read bits) (read (bits ++ more))
 
-goes_then : {A B : Type 0} (more : List Bool) (r s : Result (A × List Bool) Fault) (f : A × List Bool → Result (B × List Bool) Fault) → Goes more r s → ((a : A) (rest : List Bool) → Goes more (f (a, rest)) (f (a, rest ++ more)))
+goes_then : {A B : Type 0} (more : List Bool) (r s : Result (A × List Bool) Fault) (f : A × List Bool → Result (B × List Bool) Fault) → Goes more r s
+    → ((a : A) (rest : List Bool) → Goes more (f (a, rest)) (f (a, rest ++ more)))
     → Goes more (r >>= f) (s >>= f)
 goes_then more (Ok x) s f h k = rw h (k x.0 x.1)
 goes_then more (Err e) s f (inl t) k = inl t
@@ -49,13 +51,17 @@ unfolding part_at
 part_goes {X} part more bits = by_test (ltb (length bits) (total part.fields)) refl
   where
     by_test : (b : Bool) → ltb (length bits) (total part.fields) ≡ b
-        → Goes more (cond b (Err ShortHeader) (part.tests (values part.fields bits) >>= λ _. Ok (part.says (values part.fields bits), drop (total part.fields) bits)))
-        (cond (ltb (length (bits ++ more)) (total part.fields)) (Err ShortHeader) (part.tests (values part.fields (bits ++ more)) >>= λ _. Ok (part.says (values part.fields (bits ++ more)), drop (total part.fields) (bits ++ more))))
+        → Goes more (cond b (Err ShortHeader)
+        (part.tests (values part.fields bits) >>= λ _. Ok (part.says (values part.fields bits), drop (total part.fields) bits)))
+        (cond (ltb (length (bits ++ more)) (total part.fields)) (Err ShortHeader) (part.tests (values part.fields (bits ++ more))
+        >>= λ _. Ok (part.says (values part.fields (bits ++ more)), drop (total part.fields) (bits ++ more))))
     by_test true e = inl refl
     by_test false e =
         let le : total part.fields ≤ length bits = ltb-false (length bits) (total part.fields) e in
-        let there : ltb (length (bits ++ more)) (total part.fields) ≡ false = le-ltb (length (bits ++ more)) (total part.fields) (omega (arith, le, length-append bits more)) in
-        rw (there, values_same part.fields bits more le, drop-append-le (total part.fields) bits more le) (tested more (part.tests (values part.fields bits)) (part.says (values part.fields bits)) (drop (total part.fields) bits))
+        let there : ltb (length (bits ++ more)) (total part.fields) ≡ false =
+        le-ltb (length (bits ++ more)) (total part.fields) (omega (arith, le, length-append bits more)) in
+        rw (there, values_same part.fields bits more le, drop-append-le (total part.fields) bits more le)
+        (tested more (part.tests (values part.fields bits)) (part.says (values part.fields bits)) (drop (total part.fields) bits))
 
 then_goes : {X Y : Type 0} (first : Reading X) (second : X → Reading Y) → GoesOn first → ((x : X) → GoesOn (second x)) → GoesOn (then_at first second)
 unfolding then_at
@@ -73,7 +79,8 @@ parts_goes =
     let one = then_goes (part_at image) (λ i. part_at (predictor i)) (part_goes image) (λ i. part_goes (predictor i)) in
     let two = then_goes _ (λ x. part_at (weights x.0 x.1)) one (λ x. part_goes (weights x.0 x.1)) in
     let three = then_goes _ (λ x. part_at (coder (coder_place x.0.0 x.0.1) x.0.0)) two (λ x. part_goes (coder (coder_place x.0.0 x.0.1) x.0.0)) in
-    then_goes _ (λ x. part_at (constants (coder_place x.0.0.0 x.0.0.1 + 16) x.0.0.0 x.1)) three (λ x. part_goes (constants (coder_place x.0.0.0 x.0.0.1 + 16) x.0.0.0 x.1))
+    then_goes _ (λ x. part_at (constants (coder_place x.0.0.0 x.0.0.1 + 16) x.0.0.0 x.1)) three
+    (λ x. part_goes (constants (coder_place x.0.0.0 x.0.0.1 + 16) x.0.0.0 x.1))
 
 header_goes : GoesOn header_at
 unfolding header_at

@@ -1,5 +1,6 @@
 -- Parameters are lawful exactly where no refusal is met.
-use Rattle.std.proofs.Common.{◌≡◌, inl, inr, ℕ, ◌+◌, ◌-◌, ◌^◌, ◌≤◌, ◌≤ℤ◌, ◌-ℤ◌, neg_ℤ, Bool, true, false, cond, not, ◌&&◌, ltb, eqb, int_le, int_lt, List, [], ◌∷◌, length, ℤ, pos, IsOk, OnOk, ◌↔◌, Ok, Err, refl, sym, ◌∙◌, arith}
+use Rattle.std.proofs.Common.{◌≡◌, inl, inr, ℕ, ◌+◌, ◌-◌, ◌^◌, ◌≤◌, ◌≤ℤ◌, ◌-ℤ◌, neg_ℤ, Bool, true, false, cond, not, ◌&&◌, ltb, eqb, int_le, int_lt, List, []}
+use Rattle.std.proofs.Common.{◌∷◌, length, ℤ, pos, IsOk, OnOk, ◌↔◌, Ok, Err, refl, sym, ◌∙◌, arith}
 use Rattle.std.specs.List.{AllByRecursion}
 use Rattle.std.proofs.lemmas.Bool.{ltb-false, le-ltb, eqb-true, eqb-false, eq-eqb, ne_eqb, not_from_true, and_from, and_parts}
 use Rattle.cube_core.specs.declared.fault.Field.TheVariants as field
@@ -20,8 +21,10 @@ use Rattle.header_bits.specs.declared.params.CountStart.{CountStart}
 use Rattle.header_bits.specs.declared.params.CountStart.TheVariants.{Constant, Each}
 use Rattle.header_bits.specs.Parts.{fine}
 use Rattle.header_bits.specs.TableParts.{weight_count, some_above}
-use Rattle.header_bits.specs.Lawful.{IsLawful, IsExponent, IsSigned, IsBlockSize, IsWeightStart, IsCountStart, IsCoder, in_range_or, exponent_or, order_fault, predictor_fault, entries_fault, start_fault, count_fault, block_size_fault, coder_fault, params_fault}
-use Rattle.header_bits.proofs.Tests.{then_ok, then_fine, refuse_ok, refuse_fine, not_false, in_range_ok, in_range_fine, exponent_ok, exponent_fine, le_true, true_le, lt_false, false_lt, under, not_under}
+use Rattle.header_bits.specs.Lawful.{IsLawful, IsExponent, IsSigned, IsBlockSize, IsWeightStart, IsCountStart, IsCoder, in_range_or, exponent_or, order_fault}
+use Rattle.header_bits.specs.Lawful.{predictor_fault, entries_fault, start_fault, count_fault, block_size_fault, coder_fault, params_fault}
+use Rattle.header_bits.proofs.Tests.{then_ok, ◌then_fine◌, refuse_ok, refuse_fine, not_false, in_range_ok, in_range_fine, exponent_ok, exponent_fine, le_true}
+use Rattle.header_bits.proofs.Tests.{true_le, lt_false, false_lt, under, not_under}
 
 order_ok : (s : Sizes) (o : Order) → order_fault s o ≡ fine → IsOrder s o
 order_ok s Bsq e = tt
@@ -32,7 +35,7 @@ order_ok s (Bi depth) e =
 
 order_fine : (s : Sizes) (o : Order) → IsOrder s o → order_fault s o ≡ fine
 order_fine s Bsq h = refl
-order_fine s (Bi depth) h = then_fine _ _ (refuse_fine _ _ (ne_eqb depth 0 (λ e. omega (arith, e, h.0)))) (refuse_fine _ _ (le-ltb s.bands depth h.1))
+order_fine s (Bi depth) h = refuse_fine _ _ (ne_eqb depth 0 (λ e. omega (arith, e, h.0))) then_fine refuse_fine _ _ (le-ltb s.bands depth h.1)
 
 -- one column is for reduced mode and column-oriented sums
 columns_ok : (b : Bool) (columns : ℕ) → 1 ≤ columns → (not b && eqb columns 1) ≡ false → b ≡ false → 2 ≤ columns
@@ -59,14 +62,15 @@ entries_fine q [] h = refl
 entries_fine q (v ∷ vs) h =
     let low : ℤ = neg_ℤ (pos (2 ^ (q - 1))) in
     let high : ℤ = pos (2 ^ (q - 1)) -ℤ pos 1 in
-    then_fine _ _ (refuse_fine _ _ (not_from_true _ (and_from (int_le low v) (int_le v high) (true_le low v h.0.0) (true_le v high h.0.1)))) (entries_fine q vs h.1)
+    refuse_fine _ _ (not_from_true _ (and_from (int_le low v) (int_le v high) (true_le low v h.0.0) (true_le v high h.0.1))) then_fine entries_fine q vs h.1
 
 pub none_above : (most : ℕ) (vs : List ℕ) → some_above most vs ≡ false → AllByRecursion (λ v. v ≤ most) vs
 unfolding some_above
 none_above most [] e = tt
 none_above most (v ∷ vs) e = by_test (ltb most v) refl e (none_above most vs)
   where
-    by_test : (b : Bool) → ltb most v ≡ b → cond b true (some_above most vs) ≡ false → (some_above most vs ≡ false → AllByRecursion (λ v. v ≤ most) vs) → AllByRecursion (λ v. v ≤ most) (v ∷ vs)
+    by_test : (b : Bool) → ltb most v ≡ b → cond b true (some_above most vs) ≡ false → (some_above most vs ≡ false → AllByRecursion (λ v. v ≤ most) vs)
+        → AllByRecursion (λ v. v ≤ most) (v ∷ vs)
     by_test true test h more = absurd cc
     by_test false test h more = (ltb-false most v test, more h)
 
@@ -80,30 +84,36 @@ start_ok p Usual e = tt
 start_ok p (Table q values) e =
     let b = then_ok (refuse_if (ltb q 3) (FieldRange field.Resolution (pos q))) _ e in
     let c = then_ok (refuse_if (ltb (p.omega + 3) q) (Disagree rule.ResolutionOverOmega)) _ b.1 in
-    let d = then_ok (refuse_if (not (eqb (length values) (weight_count p.previous p.reduced p.shape.bands))) (Disagree rule.WeightTableLength)) (entries_fault q values) c.1 in
-    ((ltb-false q 3 (refuse_ok _ _ b.0), ltb-false (p.omega + 3) q (refuse_ok _ _ c.0)), eqb-true _ _ (not_false _ (refuse_ok _ _ d.0)), entries_ok q values d.1)
+    let d = then_ok (refuse_if (not (eqb (length values) (weight_count p.previous p.reduced p.shape.bands))) (Disagree rule.WeightTableLength))
+    (entries_fault q values) c.1 in (
+      (ltb-false q 3 (refuse_ok _ _ b.0), ltb-false (p.omega + 3) q (refuse_ok _ _ c.0)),
+      eqb-true _ _ (not_false _ (refuse_ok _ _ d.0)),
+      entries_ok q values d.1,
+    )
 
 start_fine : (p : Params) (s : WeightStart) → IsWeightStart p s → start_fault p s ≡ fine
 start_fine p Usual h = refl
 start_fine p (Table q values) h =
-    then_fine _ _ (refuse_fine _ _ (le-ltb q 3 h.0.0)) (then_fine _ _ (refuse_fine _ _ (le-ltb (p.omega + 3) q h.0.1))
-    (then_fine _ _ (refuse_fine _ _ (not_from_true _ (eq-eqb _ _ h.1))) (entries_fine q values h.2)))
+    refuse_fine _ _ (le-ltb q 3 h.0.0) then_fine refuse_fine _ _ (le-ltb (p.omega + 3) q h.0.1) then_fine refuse_fine _ _ (not_from_true _ (eq-eqb _ _ h.1))
+    then_fine entries_fine q values h.2
 
 count_ok : (p : Params) (s : CountStart) → count_fault p s ≡ fine → IsCountStart p s
 count_ok p (Constant k) e = ltb-false (p.kind.bits - 2) k (refuse_ok _ _ e)
 count_ok p (Each values) e =
-    let b = then_ok (refuse_if (not (eqb (length values) p.shape.bands)) (Disagree rule.AccumulatorTableLength)) (refuse_if (some_above (p.kind.bits - 2) values) (Disagree rule.AccumulatorEntry)) e in
+    let b = then_ok (refuse_if (not (eqb (length values) p.shape.bands)) (Disagree rule.AccumulatorTableLength))
+    (refuse_if (some_above (p.kind.bits - 2) values) (Disagree rule.AccumulatorEntry)) e in
     (eqb-true _ _ (not_false _ (refuse_ok _ _ b.0)), none_above _ values (refuse_ok _ _ b.1))
 
 count_fine : (p : Params) (s : CountStart) → IsCountStart p s → count_fault p s ≡ fine
 count_fine p (Constant k) h = refuse_fine _ _ (le-ltb (p.kind.bits - 2) k h)
 count_fine p (Each values) h =
-    then_fine _ _ (refuse_fine _ _ (not_from_true _ (eq-eqb _ _ h.0))) (refuse_fine _ _ (above_none _ values h.1))
+    refuse_fine _ _ (not_from_true _ (eq-eqb _ _ h.0)) then_fine refuse_fine _ _ (above_none _ values h.1)
 
 size_ok : (size : ℕ) → block_size_fault size ≡ fine → IsBlockSize size
 size_ok size e = by_tests (eqb size 8) (eqb size 16) (eqb size 32) (eqb size 64) refl refl refl refl (refuse_ok _ _ e)
   where
-    by_tests : (a b c d : Bool) → eqb size 8 ≡ a → eqb size 16 ≡ b → eqb size 32 ≡ c → eqb size 64 ≡ d → (not a && not b && not c && not d) ≡ false → IsBlockSize size
+    by_tests : (a b c d : Bool) → eqb size 8 ≡ a → eqb size 16 ≡ b → eqb size 32 ≡ c → eqb size 64 ≡ d → (not a && not b && not c && not d) ≡ false
+        → IsBlockSize size
     by_tests true b c d p q r s h = inl (eqb-true size 8 p)
     by_tests false true c d p q r s h = inr (inl (eqb-true size 16 q))
     by_tests false false true d p q r s h = inr (inr (inl (eqb-true size 32 r)))
@@ -121,8 +131,13 @@ coder_ok p (Sample umax gamma_star gamma_zero start) e =
     let a = then_ok (in_range_or field.Umax 8 32 umax) _ e in
     let b = then_ok (in_range_or field.GammaStar 4 9 gamma_star) _ a.1 in
     let c = then_ok (in_range_or field.GammaZero 1 8 gamma_zero) _ b.1 in
-    let d = then_ok (refuse_if (ltb gamma_star (gamma_zero + 1)) (Disagree rule.CounterOrder)) (count_fault p start) c.1 in
-    (in_range_ok _ 8 32 umax a.0, in_range_ok _ 4 9 gamma_star b.0, in_range_ok _ 1 8 gamma_zero c.0, ltb-false gamma_star (gamma_zero + 1) (refuse_ok _ _ d.0), count_ok p start d.1)
+    let d = then_ok (refuse_if (ltb gamma_star (gamma_zero + 1)) (Disagree rule.CounterOrder)) (count_fault p start) c.1 in (
+      in_range_ok _ 8 32 umax a.0,
+      in_range_ok _ 4 9 gamma_star b.0,
+      in_range_ok _ 1 8 gamma_zero c.0,
+      ltb-false gamma_star (gamma_zero + 1) (refuse_ok _ _ d.0),
+      count_ok p start d.1,
+    )
 coder_ok p (Block size restricted reference) e =
     let a = then_ok (block_size_fault size) _ e in
     let c = then_ok (refuse_if (restricted && ltb 4 p.kind.bits) (Disagree rule.RestrictedOverFour)) (in_range_or field.Reference 1 4096 reference) a.1 in (
@@ -133,11 +148,11 @@ coder_ok p (Block size restricted reference) e =
 
 coder_fine : (p : Params) (c : Coder) → IsCoder p c → coder_fault p c ≡ fine
 coder_fine p (Sample umax gamma_star gamma_zero start) h =
-    then_fine _ _ (in_range_fine field.Umax 8 32 umax h.0) (then_fine _ _ (in_range_fine field.GammaStar 4 9 gamma_star h.1) (then_fine _ _ (in_range_fine field.GammaZero 1 8 gamma_zero h.2)
-    (then_fine _ _ (refuse_fine _ _ (le-ltb gamma_star (gamma_zero + 1) h.3)) (count_fine p start h.4))))
+    in_range_fine field.Umax 8 32 umax h.0 then_fine in_range_fine field.GammaStar 4 9 gamma_star h.1 then_fine in_range_fine field.GammaZero 1 8 gamma_zero h.2
+    then_fine refuse_fine _ _ (le-ltb gamma_star (gamma_zero + 1) h.3) then_fine count_fine p start h.4
 coder_fine p (Block size restricted reference) h =
-    then_fine _ _ (size_fine size h.0)
-    (then_fine _ _ (refuse_fine _ _ (not_under restricted (ltb 4 p.kind.bits) (λ r. le-ltb 4 p.kind.bits (h.1 r)))) (in_range_fine field.Reference 1 4096 reference h.2))
+    size_fine size h.0 then_fine refuse_fine _ _ (not_under restricted (ltb 4 p.kind.bits) (λ r. le-ltb 4 p.kind.bits (h.1 r)))
+    then_fine in_range_fine field.Reference 1 4096 reference h.2
 
 -- what the tests of the predictor's parameters leave
 record IsPredictor (p : Params) : Type 0 where
@@ -178,15 +193,18 @@ predictor_ok p some e =
 
 predictor_fine : (p : Params) → IsLawful p → predictor_fault p ≡ fine
 predictor_fine p h =
-    then_fine _ _ (in_range_fine field.Previous 0 15 p.previous (omega arith, h.previous)) (then_fine _ _ (refuse_fine _ _ (columns_fine p.reduced p.shape.columns h.mode)) (then_fine _ _ (refuse_fine _ _ (columns_fine p.column p.shape.columns h.sums))
-    (then_fine _ _ (in_range_fine field.Register 32 64 p.register h.register) (then_fine _ _ (in_range_fine field.Omega 4 19 p.omega h.fraction) (then_fine _ _ (refuse_fine _ _ (le-ltb p.register (p.kind.bits + p.omega + 2) h.wide))
-    (then_fine _ _ (in_range_fine field.Interval 4 11 p.interval_log h.interval) (then_fine _ _ (exponent_fine field.VMin p.vmin h.vmin) (then_fine _ _ (exponent_fine field.VMax p.vmax h.vmax) (refuse_fine _ _ (false_lt p.vmax p.vmin h.exponents))))))))))
+    in_range_fine field.Previous 0 15 p.previous (omega arith, h.previous) then_fine refuse_fine _ _ (columns_fine p.reduced p.shape.columns h.mode)
+    then_fine refuse_fine _ _ (columns_fine p.column p.shape.columns h.sums) then_fine in_range_fine field.Register 32 64 p.register h.register
+    then_fine in_range_fine field.Omega 4 19 p.omega h.fraction then_fine refuse_fine _ _ (le-ltb p.register (p.kind.bits + p.omega + 2) h.wide)
+    then_fine in_range_fine field.Interval 4 11 p.interval_log h.interval then_fine exponent_fine field.VMin p.vmin h.vmin
+    then_fine exponent_fine field.VMax p.vmax h.vmax then_fine refuse_fine _ _ (false_lt p.vmax p.vmin h.exponents)
 
 pub lawful_is_fine : (p : Params) → IsLawful p → params_fault p ≡ fine
 unfolding params_fault
 lawful_is_fine p h =
-    then_fine _ _ (in_range_fine field.User 0 255 p.user (omega arith, h.user)) (then_fine _ _ (order_fine p.shape p.order h.order) (then_fine _ _ (in_range_fine field.WordSize 1 8 p.word h.word)
-    (then_fine _ _ (predictor_fine p h) (then_fine _ _ (start_fine p p.start h.start) (coder_fine p p.coder h.coder)))))
+    in_range_fine field.User 0 255 p.user (omega arith, h.user) then_fine order_fine p.shape p.order h.order
+    then_fine in_range_fine field.WordSize 1 8 p.word h.word then_fine predictor_fine p h then_fine start_fine p p.start h.start
+    then_fine coder_fine p p.coder h.coder
 
 pub fine_is_lawful : (p : Params) → AreSizes p.shape → IsKind p.kind → params_fault p ≡ fine → IsLawful p
 unfolding params_fault

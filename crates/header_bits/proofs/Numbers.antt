@@ -1,5 +1,6 @@
 -- The laws of a number's bits.
-use Rattle.std.proofs.Common.{◌≡◌, ℕ, zero, suc, ◌+◌, ◌*◌, ◌/◌, ◌%◌, ◌^◌, ◌<◌, ◌≤◌, Bool, true, false, eqb, List, [], ◌∷◌, ◌++◌, length, take, drop, replicate, refl, sym, ap, ◌∙◌, arith, lit<}
+use Rattle.std.proofs.Common.{◌≡◌, ℕ, zero, suc, ◌+◌, ◌*◌, ◌/◌, ◌%◌, ◌^◌, ◌<◌, ◌≤◌, Bool, true, false, eqb, List, [], ◌∷◌, ◌++◌, length, take, drop, replicate}
+use Rattle.std.proofs.Common.{refl, sym, ap, ◌∙◌, arith, lit<}
 use Rattle.std.proofs.lemmas.List.{take_at, drop_at}
 use Rattle.std.proofs.lemmas.Nat.{pow_pos, same_from_place, div-mul-add, mod-mul-add, shr-shr, shr_split}
 use Rattle.std.proofs.lemmas.Nat.Bits.{bit_at_cat_low}
@@ -63,7 +64,8 @@ pub same_bits : (n v w : ℕ) → v % 2 ^ n ≡ w % 2 ^ n → bits_of n v ≡ bi
 unfolding bits_of
 same_bits zero v w e = refl
 same_bits (suc n) v w e =
-    let p = same_from_place (v / 2 ^ n % 2) (v % 2 ^ n) (w / 2 ^ n % 2) (w % 2 ^ n) (2 ^ n) (mod-lt v (pow_pos n)) (mod-lt w (pow_pos n)) (sym (high_bit n v) ∙ e ∙ high_bit n w) in
+    let p = same_from_place (v / 2 ^ n % 2) (v % 2 ^ n) (w / 2 ^ n % 2) (w % 2 ^ n) (2 ^ n) (mod-lt v (pow_pos n)) (mod-lt w (pow_pos n))
+    (sym (high_bit n v) ∙ e ∙ high_bit n w) in
     rw (p.0, same_bits n v w p.1) refl
 
 pub number_below : (bs : List Bool) → number_of bs < 2 ^ length bs
@@ -93,7 +95,11 @@ pub bits_of-number_of : (bs : List Bool) → bits_of (length bs) (number_of bs) 
 unfolding bits_of number_of
 bits_of-number_of [] = refl
 bits_of-number_of (b ∷ bs) =
-    rw (top_bit b (length bs) (number_of bs) (number_below bs), same_bits (length bs) (weight_of b (length bs) + number_of bs) (number_of bs) (low_part b (length bs) (number_of bs) (number_below bs)), bits_of-number_of bs) refl
+    rw (
+      top_bit b (length bs) (number_of bs) (number_below bs),
+      same_bits (length bs) (weight_of b (length bs) + number_of bs) (number_of bs) (low_part b (length bs) (number_of bs) (number_below bs)),
+      bits_of-number_of bs,
+    ) refl
 
 -- the number of n bits, and what follows them, where they stand in front
 pub taken_is : (n v : ℕ) (old new : List Bool) → v < 2 ^ n → old ≡ bits_of n v ++ new → (v ≡ number_of (take n old)) × (new ≡ drop n old)
@@ -114,7 +120,8 @@ one_bit = refl
 
 -- one, behind zeros
 pub bits_of_one : (n : ℕ) → bits_of (n + 1) 1 ≡ replicate n false ++ true ∷ []
-bits_of_one n = bits_of-add n 1 1 ∙ ap (λ (k : ℕ). bits_of n k ++ bits_of 1 1) (omega arith) ∙ ap (λ (x : List Bool). x ++ bits_of 1 1) (bits_of_zero n) ∙ ap (λ (x : List Bool). replicate n false ++ x) one_bit
+bits_of_one n = bits_of-add n 1 1 ∙ ap (λ (k : ℕ). bits_of n k ++ bits_of 1 1) (omega arith) ∙ ap (λ (x : List Bool). x ++ bits_of 1 1) (bits_of_zero n)
+    ∙ ap (λ (x : List Bool). replicate n false ++ x) one_bit
 
 pub fundamental_is : (m : ℕ) → fundamental m ≡ replicate m false ++ true ∷ []
 unfolding fundamental

@@ -16,15 +16,18 @@ pub part_short : {X : Type 0} (part : Part X) (bits : List Bool) → length bits
 unfolding part_at
 part_short part bits lt = rw (lt-ltb (length bits) (total part.fields) lt) refl
 
-pub part_refused : {X : Type 0} (part : Part X) (bits : List Bool) (v : List ℕ) (e : Fault) → total part.fields ≤ length bits → v ≡ values part.fields bits → part.tests v ≡ Err e → part_at part bits ≡ Err e
+pub part_refused : {X : Type 0} (part : Part X) (bits : List Bool) (v : List ℕ) (e : Fault) → total part.fields ≤ length bits → v ≡ values part.fields bits
+    → part.tests v ≡ Err e → part_at part bits ≡ Err e
 unfolding part_at
 part_refused part bits v e le is refused = rw (le-ltb (length bits) (total part.fields) le, ← is, refused) refl
 
-pub part_said : {X : Type 0} (part : Part X) (bits : List Bool) (v : List ℕ) (x : X) → total part.fields ≤ length bits → v ≡ values part.fields bits → part.tests v ≡ fine → x ≡ part.says v → part_at part bits ≡ Ok (x, drop (total part.fields) bits)
+pub part_said : {X : Type 0} (part : Part X) (bits : List Bool) (v : List ℕ) (x : X) → total part.fields ≤ length bits → v ≡ values part.fields bits
+    → part.tests v ≡ fine → x ≡ part.says v → part_at part bits ≡ Ok (x, drop (total part.fields) bits)
 unfolding part_at
 part_said part bits v x le is passed says = rw (le-ltb (length bits) (total part.fields) le, ← is, passed, says) refl
 
-pub values_held : {X : Type 0} (part : Part X) (bits : List Bool) (v : List ℕ) → total part.fields ≤ length bits → v ≡ values part.fields bits → AreValues part.fields v
+pub values_held : {X : Type 0} (part : Part X) (bits : List Bool) (v : List ℕ) → total part.fields ≤ length bits → v ≡ values part.fields bits
+    → AreValues part.fields v
 values_held part bits v le is = rw is ((spelled_again part.fields bits le).1)
 
 pub image_size : total image.fields ≡ 96
@@ -45,6 +48,7 @@ unfolding coder
 coder_size at i = coder_by_size i.block at i
 
 -- the coder that the image part names
-pub coder_is : (b : Bool) (at : ℕ) (i : ImagePart) (bits : List Bool) (r : Result (CoderPart × List Bool) Fault) → i.block ≡ b → part_at (coder_by b at i) bits ≡ r → part_at (coder at i) bits ≡ r
+pub coder_is : (b : Bool) (at : ℕ) (i : ImagePart) (bits : List Bool) (r : Result (CoderPart × List Bool) Fault) → i.block ≡ b
+    → part_at (coder_by b at i) bits ≡ r → part_at (coder at i) bits ≡ r
 unfolding coder
 coder_is b at i bits r e h = subst (λ (c : Bool). part_at (coder_by c at i) bits ≡ r) (sym e) h

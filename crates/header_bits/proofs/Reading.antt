@@ -1,5 +1,6 @@
 -- What the readings of numbers and of zeros give.
-use Rattle.std.proofs.Common.{◌≡◌, ℕ, zero, suc, ◌+◌, ◌%◌, ◌^◌, ◌<◌, ◌≤◌, Bool, true, false, cond, ltb, List, [], ◌∷◌, ◌++◌, length, take, drop, replicate, Result, Ok, Err, refl, sym, ap, subst, ◌∙◌, arith}
+use Rattle.std.proofs.Common.{◌≡◌, ℕ, zero, suc, ◌+◌, ◌%◌, ◌^◌, ◌<◌, ◌≤◌, Bool, true, false, cond, ltb, List, [], ◌∷◌, ◌++◌, length, take, drop, replicate}
+use Rattle.std.proofs.Common.{Result, Ok, Err, refl, sym, ap, subst, ◌∙◌, arith}
 use Rattle.std.proofs.lemmas.Bool.{ltb-false, lt-ltb, le-ltb}
 use Rattle.std.proofs.lemmas.List.{take_at, drop_at, drop_all, drop-drop, take-append-drop, append-nil, length-append, length-take}
 use Rattle.std.proofs.Math.Nat.{mod-eq_of_lt}
@@ -17,7 +18,8 @@ number_front count bs rest =
 
 -- the low bits of any number are read
 pub number_low : (count n v : ℕ) (rest : List Bool) → number_at count n (bits_of n v ++ rest) ≡ Ok (v % 2 ^ n, rest)
-number_low count n v rest = rw (number_of-bits_of n v) at (subst (λ (k : ℕ). number_at count k (bits_of n v ++ rest) ≡ Ok (number_of (bits_of n v), rest)) (length-bits_of n v) (number_front count (bits_of n v) rest))
+number_low count n v rest = rw (number_of-bits_of n v) at (subst (λ (k : ℕ). number_at count k (bits_of n v ++ rest)
+    ≡ Ok (number_of (bits_of n v), rest)) (length-bits_of n v) (number_front count (bits_of n v) rest))
 
 -- a number's bits are read as the number
 pub number_again : (count n v : ℕ) (rest : List Bool) → v < 2 ^ n → number_at count n (bits_of n v ++ rest) ≡ Ok (v, rest)
@@ -38,14 +40,17 @@ pub number_takes : (count n : ℕ) (bits : List Bool) (x : ℕ × List Bool) →
 unfolding number_at
 number_takes count n bits x e = by_test (ltb (length bits) n) refl e
   where
-    by_test : (b : Bool) → ltb (length bits) n ≡ b → cond b (Err (Truncated count)) (Ok (number_of (take n bits), drop n bits)) ≡ Ok x → (bits ≡ bits_of n x.0 ++ x.1) × (x.0 < 2 ^ n)
+    by_test : (b : Bool) → ltb (length bits) n ≡ b → cond b (Err (Truncated count)) (Ok (number_of (take n bits), drop n bits)) ≡ Ok x
+        → (bits ≡ bits_of n x.0 ++ x.1) × (x.0 < 2 ^ n)
     by_test true test h = absurd cc
     by_test false test h =
         let long : n ≤ length bits = ltb-false _ _ test in
         let len : length (take n bits) ≡ n = omega (arith, length-take n bits) in
-        let back : bits_of n (number_of (take n bits)) ≡ take n bits = subst (λ (k : ℕ). bits_of k (number_of (take n bits)) ≡ take n bits) len (bits_of-number_of (take n bits)) in
+        let back : bits_of n (number_of (take n bits)) ≡ take n bits =
+        subst (λ (k : ℕ). bits_of k (number_of (take n bits)) ≡ take n bits) len (bits_of-number_of (take n bits)) in
         let below : number_of (take n bits) < 2 ^ n = subst (λ (k : ℕ). number_of (take n bits) < 2 ^ k) len (number_below (take n bits)) in
-        subst (λ (y : ℕ × List Bool). (bits ≡ bits_of n y.0 ++ y.1) × (y.0 < 2 ^ n)) (ok_is (number_of (take n bits), drop n bits) x h) (rw back (sym (take-append-drop n bits)), below)
+        subst (λ (y : ℕ × List Bool). (bits ≡ bits_of n y.0 ++ y.1) × (y.0 < 2 ^ n)) (ok_is (number_of (take n bits), drop n bits) x h)
+        (rw back (sym (take-append-drop n bits)), below)
 
 -- zeros, and then a one
 pub zeros_ended : (count limit zeros : ℕ) (rest : List Bool) → zeros < limit → zeros_at count limit (replicate zeros false ++ true ∷ rest) ≡ Ok (zeros, rest)
@@ -69,24 +74,30 @@ zeros_short count (suc limit) (suc z) lt = ap one_more (zeros_short count limit 
 
 -- ---- at a place
 
-pub ends_at : (count limit zeros at : ℕ) (bits left : List Bool) → zeros < limit → drop at bits ≡ left → drop at bits ≡ replicate zeros false ++ drop (at + zeros) bits → drop (at + zeros) bits ≡ true ∷ drop (at + zeros + 1) bits
+pub ends_at : (count limit zeros at : ℕ) (bits left : List Bool) → zeros < limit → drop at bits ≡ left
+    → drop at bits ≡ replicate zeros false ++ drop (at + zeros) bits → drop (at + zeros) bits ≡ true ∷ drop (at + zeros + 1) bits
     → zeros_at count limit left ≡ Ok (zeros, drop (at + (zeros + 1)) bits)
 ends_at count limit zeros at bits left lt is first one =
     let place : at + zeros + 1 ≡ at + (zeros + 1) = omega arith in
-    let whole : left ≡ replicate zeros false ++ true ∷ drop (at + (zeros + 1)) bits = sym is ∙ first ∙ ap (λ (x : List Bool). replicate zeros false ++ x) (one ∙ ap (λ k. true ∷ drop k bits) place) in
+    let whole : left ≡ replicate zeros false ++ true ∷ drop (at + (zeros + 1)) bits =
+    sym is ∙ first ∙ ap (λ (x : List Bool). replicate zeros false ++ x) (one ∙ ap (λ k. true ∷ drop k bits) place) in
     ap (zeros_at count limit) whole ∙ zeros_ended count limit zeros (drop (at + (zeros + 1)) bits) lt
 
-pub full_at : (count limit zeros at : ℕ) (bits left : List Bool) → zeros ≡ limit → drop at bits ≡ left → drop at bits ≡ replicate zeros false ++ drop (at + zeros) bits → zeros_at count limit left ≡ Ok (zeros, drop (at + zeros) bits)
+pub full_at : (count limit zeros at : ℕ) (bits left : List Bool) → zeros ≡ limit → drop at bits ≡ left
+    → drop at bits ≡ replicate zeros false ++ drop (at + zeros) bits → zeros_at count limit left ≡ Ok (zeros, drop (at + zeros) bits)
 full_at count limit zeros at bits left e is first =
-    ap (zeros_at count limit) (sym is ∙ first) ∙ subst (λ (k : ℕ). zeros_at count k (replicate zeros false ++ drop (at + zeros) bits) ≡ Ok (zeros, drop (at + zeros) bits)) e (zeros_full count zeros (drop (at + zeros) bits))
+    ap (zeros_at count limit) (sym is ∙ first) ∙ subst (λ (k : ℕ). zeros_at count k (replicate zeros false ++ drop (at + zeros) bits)
+    ≡ Ok (zeros, drop (at + zeros) bits)) e (zeros_full count zeros (drop (at + zeros) bits))
 
 -- only zeros are left
-pub only_zeros : (zeros at : ℕ) (bits left : List Bool) → zeros ≡ length left → drop at bits ≡ left → drop at bits ≡ replicate zeros false ++ drop (at + zeros) bits → left ≡ replicate zeros false
+pub only_zeros : (zeros at : ℕ) (bits left : List Bool) → zeros ≡ length left → drop at bits ≡ left
+    → drop at bits ≡ replicate zeros false ++ drop (at + zeros) bits → left ≡ replicate zeros false
 only_zeros zeros at bits left e is first =
     let none : drop (at + zeros) bits ≡ [] = sym (drop-drop zeros at bits) ∙ ap (drop zeros) is ∙ drop_all zeros left (omega arith) in
     sym is ∙ first ∙ ap (λ (x : List Bool). replicate zeros false ++ x) none ∙ append-nil (replicate zeros false)
 
-pub short_at : (count limit zeros at : ℕ) (bits left : List Bool) → zeros ≡ length left → zeros < limit → drop at bits ≡ left → drop at bits ≡ replicate zeros false ++ drop (at + zeros) bits → zeros_at count limit left ≡ Err (Truncated count)
+pub short_at : (count limit zeros at : ℕ) (bits left : List Bool) → zeros ≡ length left → zeros < limit → drop at bits ≡ left
+    → drop at bits ≡ replicate zeros false ++ drop (at + zeros) bits → zeros_at count limit left ≡ Err (Truncated count)
 short_at count limit zeros at bits left e lt is first = ap (zeros_at count limit) (only_zeros zeros at bits left e is first) ∙ zeros_short count limit zeros lt
 
 -- a one stands among no zeros

@@ -1,5 +1,6 @@
 -- One slot, and a row of them.
-use Rattle.std.proofs.Common.{◌≡◌, ℕ, zero, suc, ◌+◌, ◌^◌, ◌<◌, ◌≤◌, Bool, List, [], ◌∷◌, ◌++◌, length, take, drop, refl, sym, ap, ◌∙◌, append_assoc, arith, inl, inr}
+use Rattle.std.proofs.Common.{◌≡◌, ℕ, zero, suc, ◌+◌, ◌^◌, ◌<◌, ◌≤◌, Bool, List, [], ◌∷◌, ◌++◌, length, take, drop, refl, sym, ap, ◌∙◌, append_assoc, arith}
+use Rattle.std.proofs.Common.{inl, inr}
 use Rattle.std.proofs.Math.Nat.{mod-eq_of_lt, mod_self}
 use Rattle.std.proofs.lemmas.Nat.{pow_pos}
 use Rattle.std.proofs.lemmas.Bool.{cases_lt, cases_eq, eq-eqb, ne_eqb}
@@ -59,7 +60,14 @@ values_again (s ∷ ss) (v ∷ vs) rest h =
     let others : List Bool = spelled ss vs ++ rest in
     let parts : (first ++ spelled ss vs) ++ rest ≡ first ++ others = append_assoc first (spelled ss vs) rest in
     let number : number_of first ≡ code = number_of-bits_of (width s) code ∙ mod-eq_of_lt (code_of-below s v h.0) in
-    rw (parts, take_at first others (width s) (length-bits_of (width s) code), drop_at first others (width s) (length-bits_of (width s) code), number, value_again s v h.0, values_again ss vs rest h.1) refl
+    rw (
+      parts,
+      take_at first others (width s) (length-bits_of (width s) code),
+      drop_at first others (width s) (length-bits_of (width s) code),
+      number,
+      value_again s v h.0,
+      values_again ss vs rest h.1,
+    ) refl
 
 abbrev nothing : List Bool
 nothing = []
@@ -77,7 +85,8 @@ below_same : (c m n : ℕ) → c < 2 ^ m → m ≡ n → c < 2 ^ n
 below_same c m n lt e = rw (← e) lt
 
 -- what is read is spelt so
-pub spelled_again : (ss : List Slot) (bits : List Bool) → total ss ≤ length bits → (spelled ss (values ss bits) ≡ take (total ss) bits) × AreValues ss (values ss bits)
+pub spelled_again : (ss : List Slot) (bits : List Bool) → total ss ≤ length bits
+    → (spelled ss (values ss bits) ≡ take (total ss) bits) × AreValues ss (values ss bits)
 unfolding spelled values total
 spelled_again [] bits le = (refl, tt)
 spelled_again (s ∷ ss) bits le =

@@ -1,5 +1,6 @@
 -- What a header spells is lawful.
-use Rattle.std.proofs.Common.{◌≡◌, inl, inr, ℕ, zero, suc, ◌+◌, ◌-◌, ◌*◌, ◌^◌, ◌<◌, ◌≤◌, ◌≤ℤ◌, Bool, true, false, cond, not, ◌&&◌, ltb, eqb, List, [], ◌∷◌, length, take, get_or, ℤ, pos, Ok, refl, subst, ◌∙◌, arith, lit<}
+use Rattle.std.proofs.Common.{◌≡◌, inl, inr, ℕ, zero, suc, ◌+◌, ◌-◌, ◌*◌, ◌^◌, ◌<◌, ◌≤◌, ◌≤ℤ◌, Bool, true, false, cond, not, ◌&&◌, ltb, eqb, List, [], ◌∷◌}
+use Rattle.std.proofs.Common.{length, take, get_or, ℤ, pos, Ok, refl, subst, ◌∙◌, arith, lit<}
 use Rattle.std.specs.List.{AllByRecursion}
 use Rattle.std.proofs.lemmas.Int.{ints}
 use Rattle.std.proofs.lemmas.List.{length-map}
@@ -62,7 +63,8 @@ image_said v h e =
     let bits : InRange 1 16 (get_or v 6 0) = held_at image_fields v 6 h (lit< tt) in
     record {
       user = omega (arith, user);
-      sizes = record { columns = held_at image_fields v 1 h (lit< tt); rows = held_at image_fields v 2 h (lit< tt); bands = held_at image_fields v 3 h (lit< tt) };
+      sizes =
+          record { columns = held_at image_fields v 1 h (lit< tt); rows = held_at image_fields v 2 h (lit< tt); bands = held_at image_fields v 3 h (lit< tt) };
       kind = (omega (arith, some, bits), bits.1);
       order = order_said (eqb (get_or v 7 0) 0) (image_says v).shape (get_or v 8 0) (held_at image_fields v 8 h (lit< tt)).0 (refuse_ok _ _ c.0);
       word = held_at image_fields v 10 h (lit< tt);
@@ -103,7 +105,8 @@ exponent_said n lt = (omega (arith, ints), omega (arith, ints))
 exponents_said : (m n : ℕ) → m ≤ n → exponent_of m ≤ℤ exponent_of n
 exponents_said m n le = omega (arith, ints)
 
-predictor_said : (i : ImagePart) (v : List ℕ) → 1 ≤ i.shape.columns → AreValues predictor_fields v → predictor_tests i v ≡ fine → IsPredictorPart i (predictor_says v)
+predictor_said : (i : ImagePart) (v : List ℕ) → 1 ≤ i.shape.columns → AreValues predictor_fields v → predictor_tests i v ≡ fine
+    → IsPredictorPart i (predictor_says v)
 predictor_said i v some h e =
     let a = then_ok (unused 96 2 (get_or v 0 0)) _ e in
     let b = then_ok (refuse_if (eqb (get_or v 2 0) 0 && eqb i.shape.columns 1) (Disagree rule.FullOneColumn)) _ a.1 in
@@ -118,7 +121,8 @@ predictor_said i v some h e =
     let o = then_ok (refuse_if (not (eqb (get_or v 12 0) 1) && eqb (get_or v 13 0) 1) (Disagree rule.DefaultWithTable)) _ m.1 in
     let q = then_ok (refuse_if (eqb (get_or v 12 0) 1 && not (eqb (get_or v 13 0) 1)) TableElsewhere) _ o.1 in
     let r = then_ok (refuse_if (not (eqb (get_or v 12 0) 1) && ltb 0 (get_or v 14 0)) (Disagree rule.DefaultWithResolution)) _ q.1 in
-    let s = then_ok (refuse_if (eqb (get_or v 12 0) 1 && ltb (get_or v 14 0) 3) (FieldRange field.Resolution (pos (get_or v 14 0)))) (refuse_if (ltb (get_or v 7 0 + 3) (get_or v 14 0)) (Disagree rule.ResolutionOverOmega)) r.1 in
+    let s = then_ok (refuse_if (eqb (get_or v 12 0) 1 && ltb (get_or v 14 0) 3) (FieldRange field.Resolution (pos (get_or v 14 0))))
+    (refuse_if (ltb (get_or v 7 0 + 3) (get_or v 14 0)) (Disagree rule.ResolutionOverOmega)) r.1 in
     let previous : get_or v 1 0 < 16 = (held_at predictor_fields v 1 h (lit< tt)).1 in
     let fraction : (4 ≤ get_or v 7 0) × (get_or v 7 0 < 20) = held_at predictor_fields v 7 h (lit< tt) in
     let interval : (4 ≤ get_or v 8 0) × (get_or v 8 0 < 20) = held_at predictor_fields v 8 h (lit< tt) in
@@ -149,25 +153,30 @@ predictor_spelt i p bits some s = subst (λ (x : PredictorPart). IsPredictorPart
 AreWeights : ImagePart → PredictorPart → List ℤ → Type 0
 AreWeights i p ws = (length ws ≡ weight_count p.previous p.reduced i.shape.bands) × AllByRecursion (IsSigned p.resolution) ws
 
-weights_spelt : (i : ImagePart) (p : PredictorPart) (ws : List ℤ) (bits : List Bool) → 1 ≤ p.resolution → SpellsPart (weights i p) ws bits → p.custom ≡ true → AreWeights i p ws
+weights_spelt : (i : ImagePart) (p : PredictorPart) (ws : List ℤ) (bits : List Bool) → 1 ≤ p.resolution → SpellsPart (weights i p) ws bits → p.custom ≡ true
+    → AreWeights i p ws
 unfolding weights AreWeights
 weights_spelt i p ws bits some s custom = by_flag p.custom custom s
   where
     count : ℕ
     count = weight_count p.previous p.reduced i.shape.bands
 
-    by_flag : (b : Bool) → b ≡ true → SpellsPart (weights_by b (weight_count p.previous p.reduced i.shape.bands) p.resolution) ws bits → (length ws ≡ weight_count p.previous p.reduced i.shape.bands) × AllByRecursion (IsSigned p.resolution) ws
+    by_flag : (b : Bool) → b ≡ true → SpellsPart (weights_by b (weight_count p.previous p.reduced i.shape.bands) p.resolution) ws bits
+        → (length ws ≡ weight_count p.previous p.reduced i.shape.bands) × AllByRecursion (IsSigned p.resolution) ws
     by_flag true e t =
         let n : ℕ = weight_count p.previous p.reduced i.shape.bands in
-        let many = length-map (take (weight_count p.previous p.reduced i.shape.bands) t.numbers) (signed_of p.resolution) ∙ table_count (weight_count p.previous p.reduced i.shape.bands) p.resolution t.numbers t.held in
-        let range = all_signed p.resolution (take (weight_count p.previous p.reduced i.shape.bands) t.numbers) some (table_small (weight_count p.previous p.reduced i.shape.bands) p.resolution t.numbers t.held) in
+        let many = length-map (take (weight_count p.previous p.reduced i.shape.bands) t.numbers) (signed_of p.resolution)
+        ∙ table_count (weight_count p.previous p.reduced i.shape.bands) p.resolution t.numbers t.held in
+        let range = all_signed p.resolution (take (weight_count p.previous p.reduced i.shape.bands) t.numbers) some
+        (table_small (weight_count p.previous p.reduced i.shape.bands) p.resolution t.numbers t.held) in
         subst (λ (xs : List ℤ). (length xs ≡ weight_count p.previous p.reduced i.shape.bands) × AllByRecursion (IsSigned p.resolution) xs) t.said (many, range)
     by_flag false e t = absurd (cc)
 
 -- ---- the coder part
 
 abbrev IsCoderPart : ImagePart → CoderPart → Type 0
-IsCoderPart i (Sample umax gamma_star gamma_zero constant table) = InRange 8 32 umax × InRange 4 9 gamma_star × InRange 1 8 gamma_zero × (gamma_zero + 1 ≤ gamma_star) × (table ≡ false → constant ≤ i.kind.bits - 2)
+IsCoderPart i (Sample umax gamma_star gamma_zero constant table) =
+    InRange 8 32 umax × InRange 4 9 gamma_star × InRange 1 8 gamma_zero × (gamma_zero + 1 ≤ gamma_star) × (table ≡ false → constant ≤ i.kind.bits - 2)
 IsCoderPart i (Block size restricted reference) = IsBlockSize size × (restricted ≡ true → i.kind.bits ≤ 4) × InRange 1 4096 reference
 
 sample_said : (i : ImagePart) (v : List ℕ) → AreValues sample_fields v → sample_tests i v ≡ fine → IsCoderPart i (sample_says v)
@@ -180,7 +189,8 @@ sample_said i v h e =
       ((held_at sample_fields v 1 h (lit< tt)).0, ltb-false 9 (get_or v 1 0) (refuse_ok _ _ b.0)),
       held_at sample_fields v 2 h (lit< tt),
       ltb-false (get_or v 1 0) (get_or v 2 0 + 1) (refuse_ok _ _ c.0),
-      (λ none. ltb-false (i.kind.bits - 2) (get_or v 3 0) (under (not (eqb (get_or v 4 0) 1)) (ltb (i.kind.bits - 2) (get_or v 3 0)) (refuse_ok _ _ f.0) (rw none refl))),
+      (λ none. ltb-false (i.kind.bits - 2) (get_or v 3 0)
+          (under (not (eqb (get_or v 4 0) 1)) (ltb (i.kind.bits - 2) (get_or v 3 0)) (refuse_ok _ _ f.0) (rw none refl))),
     )
 
 size_said : (n : ℕ) → n < 4 → IsBlockSize (8 * 2 ^ n)
@@ -208,7 +218,8 @@ coder_spelt at i c bits s = coder_by_spelt i.block at i c bits s
 
 -- ---- the accumulator table
 
-constants_spelt : (at : ℕ) (i : ImagePart) (c : CoderPart) (ks : List ℕ) (bits : List Bool) → SpellsPart (constants at i c) ks bits → has_constants c ≡ true → (length ks ≡ i.shape.bands) × AllByRecursion (λ v. v ≤ i.kind.bits - 2) ks
+constants_spelt : (at : ℕ) (i : ImagePart) (c : CoderPart) (ks : List ℕ) (bits : List Bool) → SpellsPart (constants at i c) ks bits → has_constants c ≡ true
+    → (length ks ≡ i.shape.bands) × AllByRecursion (λ v. v ≤ i.kind.bits - 2) ks
 unfolding constants
 constants_spelt at i c ks bits s table = by_flag (has_constants c) table s
   where
@@ -221,17 +232,20 @@ constants_spelt at i c ks bits s table = by_flag (has_constants c) table s
 
 -- ---- the header
 
-start_said : (p : Params) (b : Bool) (q : ℕ) (ws : List ℤ) → (b ≡ true → InRange 3 (p.omega + 3) q) → (b ≡ true → (length ws ≡ weight_count p.previous p.reduced p.shape.bands) × AllByRecursion (IsSigned q) ws)
+start_said : (p : Params) (b : Bool) (q : ℕ) (ws : List ℤ) → (b ≡ true → InRange 3 (p.omega + 3) q)
+    → (b ≡ true → (length ws ≡ weight_count p.previous p.reduced p.shape.bands) × AllByRecursion (IsSigned q) ws)
     → IsWeightStart p (start_by b q ws)
 start_said p true q ws h k = (let there = h refl in let table = k refl in (there, table.0, table.1))
 start_said p false q ws h k = tt
 
-count_said : (p : Params) (b : Bool) (constant : ℕ) (ks : List ℕ) → (b ≡ false → constant ≤ p.kind.bits - 2) → (b ≡ true → (length ks ≡ p.shape.bands) × AllByRecursion (λ v. v ≤ p.kind.bits - 2) ks)
+count_said : (p : Params) (b : Bool) (constant : ℕ) (ks : List ℕ) → (b ≡ false → constant ≤ p.kind.bits - 2)
+    → (b ≡ true → (length ks ≡ p.shape.bands) × AllByRecursion (λ v. v ≤ p.kind.bits - 2) ks)
     → IsCountStart p (count_by b constant ks)
 count_said p true constant ks one k = k refl
 count_said p false constant ks one k = one refl
 
-coder_said : (p : Params) (i : ImagePart) (c : CoderPart) (ks : List ℕ) → p.kind ≡ i.kind → p.shape ≡ i.shape → IsCoderPart i c → (has_constants c ≡ true → (length ks ≡ i.shape.bands) × AllByRecursion (λ v. v ≤ i.kind.bits - 2) ks) → IsCoder p (coder_by_part c ks)
+coder_said : (p : Params) (i : ImagePart) (c : CoderPart) (ks : List ℕ) → p.kind ≡ i.kind → p.shape ≡ i.shape → IsCoderPart i c
+    → (has_constants c ≡ true → (length ks ≡ i.shape.bands) × AllByRecursion (λ v. v ≤ i.kind.bits - 2) ks) → IsCoder p (coder_by_part c ks)
 coder_said p i (Sample umax gamma_star gamma_zero constant table) ks e f h k =
     (h.0, h.1, h.2, h.3, count_said p table constant ks (λ none. rw e (h.4 none)) (λ there. rw (e, f) (k there)))
 coder_said p i (Block size restricted reference) ks e f h k = (h.0, (λ there. rw e (h.1 there)), h.2)
@@ -264,14 +278,16 @@ spelt_is_lawful p bits s = subst (λ (x : Params). IsLawful x) s.same said
           vmin = second.vmin;
           vmax = second.vmax;
           exponents = second.exponents;
-          start = start_said (params_of x) d.custom d.resolution x.0.0.1 second.start (λ custom. weights_spelt i d x.0.0.1 _ (omega (arith, second.start custom)) s.spells.first.first.second custom);
+          start = start_said (params_of x) d.custom d.resolution x.0.0.1 second.start
+              (λ custom. weights_spelt i d x.0.0.1 _ (omega (arith, second.start custom)) s.spells.first.first.second custom);
           coder = coder_said (params_of x) i x.0.1 x.1 refl refl third (λ table. constants_spelt _ i x.0.1 x.1 _ s.spells.second table);
         }
 
 -- ---- what reading the parts tells
 
 -- the numbers of a weight table that is announced have a few bits each
-pub start_read : (i : ImagePart) (p : PredictorPart) (bits one rest : List Bool) → part_at image bits ≡ Ok (i, one) → part_at (predictor i) one ≡ Ok (p, rest) → (p.previous ≤ 15) × (p.resolution ≤ 22) × (p.custom ≡ true → 1 ≤ p.resolution)
+pub start_read : (i : ImagePart) (p : PredictorPart) (bits one rest : List Bool) → part_at image bits ≡ Ok (i, one) → part_at (predictor i) one ≡ Ok (p, rest)
+    → (p.previous ≤ 15) × (p.resolution ≤ 22) × (p.custom ≡ true → 1 ≤ p.resolution)
 start_read i p bits one rest first second =
     let a = (part_exact image).found i bits one first in
     let b = (part_exact (predictor i)).found p one rest second in

@@ -1,5 +1,6 @@
 -- The numbers of a table, one after another.
-use Rattle.std.proofs.Common.{◌≡◌, ℕ, zero, suc, ◌+◌, ◌-◌, ◌*◌, ◌^◌, ◌<◌, ◌≤◌, Bool, List, [], ◌∷◌, ◌++◌, length, take, drop, get_or, refl, sym, ap, ◌∙◌, append_assoc, arith}
+use Rattle.std.proofs.Common.{◌≡◌, ℕ, zero, suc, ◌+◌, ◌-◌, ◌*◌, ◌^◌, ◌<◌, ◌≤◌, Bool, List, [], ◌∷◌, ◌++◌, length, take, drop, get_or, refl, sym, ap, ◌∙◌}
+use Rattle.std.proofs.Common.{append_assoc, arith}
 use Rattle.std.proofs.Math.Nat.{suc-mul}
 use Rattle.std.proofs.lemmas.List.{take_at, drop-drop, length-append, length-replicate, append-nil}
 use Rattle.header_bits.specs.Bits.{bits_of, number_of}
@@ -41,7 +42,8 @@ total_table count bits = total_append (number_fields count bits) (Unused (fill_o
 
 -- ---- what stands in a table
 
-values_table : (count bits : ℕ) (left : List Bool) → values (table_fields count bits) left ≡ values (number_fields count bits) left ++ number_of (take (fill_of (count * bits)) (drop (count * bits) left)) ∷ []
+values_table : (count bits : ℕ) (left : List Bool) → values (table_fields count bits) left
+    ≡ values (number_fields count bits) left ++ number_of (take (fill_of (count * bits)) (drop (count * bits) left)) ∷ []
 unfolding values
 values_table count bits left =
     values_append (number_fields count bits) (Unused (fill_of (count * bits)) ∷ []) left
@@ -56,9 +58,11 @@ last_of (w ∷ vs) v = last_of vs v
 
 pub table_numbers : (count bits : ℕ) (left : List Bool) → take count (values (table_fields count bits) left) ≡ values (number_fields count bits) left
 table_numbers count bits left =
-    ap (take count) (values_table count bits left) ∙ take_at (values (number_fields count bits) left) (number_of (take (fill_of (count * bits)) (drop (count * bits) left)) ∷ []) count (many_numbers count bits left)
+    ap (take count) (values_table count bits left) ∙ take_at (values (number_fields count bits) left)
+    (number_of (take (fill_of (count * bits)) (drop (count * bits) left)) ∷ []) count (many_numbers count bits left)
 
-pub table_zeros : (count bits : ℕ) (left : List Bool) → get_or (values (table_fields count bits) left) count 0 ≡ number_of (take (fill_of (count * bits)) (drop (count * bits) left))
+pub table_zeros : (count bits : ℕ) (left : List Bool)
+    → get_or (values (table_fields count bits) left) count 0 ≡ number_of (take (fill_of (count * bits)) (drop (count * bits) left))
 table_zeros count bits left =
     let numbers : List ℕ = values (number_fields count bits) left in
     let zeros : ℕ = number_of (take (fill_of (count * bits)) (drop (count * bits) left)) in
@@ -68,13 +72,15 @@ table_zeros count bits left =
 -- ---- one number more
 
 -- a number was taken, of those that are still to be read
-pub number_next : (n m bits code : ℕ) (left new : List Bool) → n ≡ suc m → code < 2 ^ bits → left ≡ bits_of bits code ++ new → values (number_fields n bits) left ≡ code ∷ values (number_fields m bits) new
+pub number_next : (n m bits code : ℕ) (left new : List Bool) → n ≡ suc m → code < 2 ^ bits → left ≡ bits_of bits code ++ new
+    → values (number_fields n bits) left ≡ code ∷ values (number_fields m bits) new
 unfolding values
 number_next n m bits code left new e below taken =
     let p = taken_is bits code left new below taken in
     let split : values (number_fields (suc m) bits) left ≡ (0 + number_of (take bits left)) ∷ values (number_fields m bits) (drop bits left) = refl in
     let same : 0 + number_of (take bits left) ≡ code = omega (arith, p.0) in
-    ap (λ k. values (number_fields k bits) left) e ∙ split ∙ ap (λ k. k ∷ values (number_fields m bits) (drop bits left)) same ∙ ap (λ (x : List Bool). code ∷ values (number_fields m bits) x) (sym p.1)
+    ap (λ k. values (number_fields k bits) left) e ∙ split ∙ ap (λ k. k ∷ values (number_fields m bits) (drop bits left)) same
+    ∙ ap (λ (x : List Bool). code ∷ values (number_fields m bits) x) (sym p.1)
 
 pub number_enough : (n m bits : ℕ) (left : List Bool) → n ≡ suc m → n * bits ≤ length left → bits ≤ length left
 number_enough n m bits left e le = (let split : n * bits ≡ m * bits + bits = ap (λ k. k * bits) e ∙ suc-mul m bits in omega (arith, split, le))
@@ -82,10 +88,12 @@ number_enough n m bits left e le = (let split : n * bits ≡ m * bits + bits = a
 pub number_whole : (n m bits code : ℕ) (left new : List Bool) → n ≡ suc m → n * bits ≤ length left → left ≡ bits_of bits code ++ new → m * bits ≤ length new
 number_whole n m bits code left new e le taken =
     let split : n * bits ≡ m * bits + bits = ap (λ k. k * bits) e ∙ suc-mul m bits in
-    let long : length left ≡ bits + length new = ap length taken ∙ length-append (bits_of bits code) new ∙ ap (λ k. k + length new) (length-bits_of bits code) in
+    let long : length left ≡ bits + length new =
+    ap length taken ∙ length-append (bits_of bits code) new ∙ ap (λ k. k + length new) (length-bits_of bits code) in
     omega (arith, split, le, long)
 
-pub number_rest : (n m bits code : ℕ) (left new : List Bool) → n ≡ suc m → code < 2 ^ bits → left ≡ bits_of bits code ++ new → drop (m * bits) new ≡ drop (n * bits) left
+pub number_rest : (n m bits code : ℕ) (left new : List Bool) → n ≡ suc m → code < 2 ^ bits → left ≡ bits_of bits code ++ new
+    → drop (m * bits) new ≡ drop (n * bits) left
 number_rest n m bits code left new e below taken =
     let p = taken_is bits code left new below taken in
     let split : bits + m * bits ≡ n * bits = sym (ap (λ k. k * bits) e ∙ suc-mul m bits ∙ omega arith) in
@@ -101,15 +109,18 @@ numbers_none n bits left e = ap (λ k. values (number_fields k bits) left) e
 pub length-numbers_text : (bits : ℕ) (vs : List ℕ) → length (numbers_text bits vs) ≡ length vs * bits
 unfolding spelled
 length-numbers_text bits [] = omega arith
-length-numbers_text bits (v ∷ vs) = length-append (bits_of bits (v - 0)) (numbers_text bits vs) ∙ omega (arith, length-bits_of bits (v - 0), length-numbers_text bits vs, suc-mul (length vs) bits)
+length-numbers_text bits (v ∷ vs) = length-append (bits_of bits (v - 0)) (numbers_text bits vs)
+    ∙ omega (arith, length-bits_of bits (v - 0), length-numbers_text bits vs, suc-mul (length vs) bits)
 
 pub numbers_text_next : (bits v : ℕ) (vs : List ℕ) → numbers_text bits (v ∷ vs) ≡ bits_of bits v ++ numbers_text bits vs
 unfolding spelled
 numbers_text_next bits v vs = (let same : v - 0 ≡ v = omega arith in rw same refl)
 
 -- a table's text is its numbers and zeros
-pub spelled_table : (bits fill : ℕ) (vs : List ℕ) → spelled (number_fields (length vs) bits ++ Unused fill ∷ []) (vs ++ 0 ∷ []) ≡ numbers_text bits vs ++ bits_of fill 0
+pub spelled_table : (bits fill : ℕ) (vs : List ℕ)
+    → spelled (number_fields (length vs) bits ++ Unused fill ∷ []) (vs ++ 0 ∷ []) ≡ numbers_text bits vs ++ bits_of fill 0
 unfolding spelled
 spelled_table bits fill [] = append-nil (bits_of fill 0)
 spelled_table bits fill (v ∷ vs) =
-    ap (λ (x : List Bool). bits_of bits (v - 0) ++ x) (spelled_table bits fill vs) ∙ sym (append_assoc (bits_of bits (v - 0)) (numbers_text bits vs) (bits_of fill 0))
+    ap (λ (x : List Bool). bits_of bits (v - 0) ++ x) (spelled_table bits fill vs)
+    ∙ sym (append_assoc (bits_of bits (v - 0)) (numbers_text bits vs) (bits_of fill 0))

@@ -1,5 +1,6 @@
 -- Tables that are looked through.
-use Rattle.std.proofs.Common.{◌≡◌, ℕ, zero, suc, ◌+◌, ◌-◌, ◌*◌, ◌<◌, ◌≤◌, Bool, true, false, cond, List, length, take, drop, map, Ok, Err, refl, sym, ap, subst, ◌∙◌, arith}
+use Rattle.std.proofs.Common.{◌≡◌, ℕ, zero, suc, ◌+◌, ◌-◌, ◌*◌, ◌<◌, ◌≤◌, Bool, true, false, cond, List, ℤ, length, take, drop, map, Ok, Err, refl, sym, ap}
+use Rattle.std.proofs.Common.{subst, ◌∙◌, arith}
 use Rattle.std.proofs.lemmas.Bool.{le-ltb}
 use Rattle.std.proofs.lemmas.List.{drop-drop}
 use Rattle.cube_core.specs.declared.fault.Fault.{Fault}
@@ -13,7 +14,8 @@ use Rattle.header_bits.specs.declared.coder_part.CoderPart.TheVariants.{Sample, 
 use Rattle.header_bits.specs.Bits.{number_of}
 use Rattle.header_bits.specs.Layout.{total, values}
 use Rattle.header_bits.specs.Parts.{Part, fine, unused, part_at, Passes}
-use Rattle.header_bits.specs.TableParts.{weight_count, fill_of, table_fields, number_fields, signed_of, weights_by, weights, some_above, constants_by, has_constants, constants}
+use Rattle.header_bits.specs.TableParts.{weight_count, fill_of, table_fields, number_fields, signed_of, weights_by, weights, some_above, constants_by}
+use Rattle.header_bits.specs.TableParts.{has_constants, constants}
 use Rattle.header_bits.specs.Header.{start_by, coder_by_part}
 use Rattle.header_bits.proofs.PartReading.{part_short, part_refused, part_said}
 use Rattle.header_bits.proofs.TableNumbers.{total_table, table_numbers, table_zeros}
@@ -23,57 +25,80 @@ pub table_end : (count bits : ℕ) (left : List Bool) → drop (fill_of (count *
 table_end count bits left = drop-drop (fill_of (count * bits)) (count * bits) left ∙ ap (λ n. drop n left) (sym (total_table count bits))
 
 -- a part passes where it is there and its tests are these
-passes : {X : Type 0} (part : Part X) (r : Test) (left new : List Bool) → total part.fields ≤ length left → r ≡ part.tests (values part.fields left) → new ≡ drop (total part.fields) left → Passes part r left new
-passes part (Ok u) left new le e n = part_said part left (values part.fields left) (part.says (values part.fields left)) le refl (sym e) refl ∙ ap (λ (x : List Bool). Ok (part.says (values part.fields left), x)) (sym n)
+passes : {X : Type 0} (part : Part X) (r : Test) (left new : List Bool) → total part.fields ≤ length left → r ≡ part.tests (values part.fields left)
+    → new ≡ drop (total part.fields) left → Passes part r left new
+passes part (Ok u) left new le e n = part_said part left (values part.fields left) (part.says (values part.fields left)) le refl (sym e) refl
+    ∙ ap (λ (x : List Bool). Ok (part.says (values part.fields left), x)) (sym n)
 passes part (Err d) left new le e n = part_refused part left (values part.fields left) d le refl (sym e)
 
 -- ---- the weight table
 
-pub weights_absent : (i : ImagePart) (p : PredictorPart) (left : List Bool) → p.custom ≡ false → part_at (weights i p) left ≡ Ok ((weights i p).says (values (weights i p).fields left), left)
+-- how many weights a table of its own has
+abbrev entries_of : ImagePart → PredictorPart → ℕ
+entries_of i p = weight_count p.previous p.reduced i.shape.bands
+
+-- the table where it is announced, and where it isn't
+abbrev table_of : Bool → ImagePart → PredictorPart → Part (List ℤ)
+table_of b i p = weights_by b (entries_of i p) p.resolution
+
+pub weights_absent : (i : ImagePart) (p : PredictorPart) (left : List Bool) → p.custom ≡ false
+    → part_at (weights i p) left ≡ Ok ((weights i p).says (values (weights i p).fields left), left)
 unfolding part_at weights total values
-weights_absent i p left e = subst (λ (b : Bool). part_at (weights_by b (weight_count p.previous p.reduced i.shape.bands) p.resolution) left ≡ Ok ((weights_by b (weight_count p.previous p.reduced i.shape.bands) p.resolution).says (values (weights_by b (weight_count p.previous p.reduced i.shape.bands) p.resolution).fields left), left)) (sym e)
+weights_absent i p left e = subst (λ (b : Bool). part_at (table_of b i p) left ≡ Ok ((table_of b i p).says (values (table_of b i p).fields left), left)) (sym e)
     (rw (le-ltb (length left) 0 (omega arith)) refl)
 
-pub weights_total : (i : ImagePart) (p : PredictorPart) → p.custom ≡ true → total (weights i p).fields ≡ total (table_fields (weight_count p.previous p.reduced i.shape.bands) p.resolution)
+pub weights_total : (i : ImagePart) (p : PredictorPart) → p.custom ≡ true → total (weights i p).fields ≡ total (table_fields (entries_of i p) p.resolution)
 unfolding weights
-weights_total i p e = ap (λ (b : Bool). total (weights_by b (weight_count p.previous p.reduced i.shape.bands) p.resolution).fields) e
+weights_total i p e = ap (λ (b : Bool). total (table_of b i p).fields) e
 
 pub no_weights_total : (i : ImagePart) (p : PredictorPart) → p.custom ≡ false → total (weights i p).fields ≡ 0
 unfolding weights total
-no_weights_total i p e = ap (λ (b : Bool). total (weights_by b (weight_count p.previous p.reduced i.shape.bands) p.resolution).fields) e
+no_weights_total i p e = ap (λ (b : Bool). total (table_of b i p).fields) e
 
-pub weights_short : (i : ImagePart) (p : PredictorPart) (left : List Bool) → p.custom ≡ true → length left < total (table_fields (weight_count p.previous p.reduced i.shape.bands) p.resolution) → part_at (weights i p) left ≡ Err ShortHeader
+pub weights_short : (i : ImagePart) (p : PredictorPart) (left : List Bool) → p.custom ≡ true → length left < total (table_fields (entries_of i p) p.resolution)
+    → part_at (weights i p) left ≡ Err ShortHeader
 weights_short i p left e lt = part_short (weights i p) left (rw (weights_total i p e) lt)
 
 pub weights_passed : (i : ImagePart) (p : PredictorPart) (r : Test) (left new : List Bool) → p.custom ≡ true
-    → let n = weight_count p.previous p.reduced i.shape.bands * p.resolution in
-    total (table_fields (weight_count p.previous p.reduced i.shape.bands) p.resolution) ≤ length left → r ≡ unused (136 + n) (fill_of n) (number_of (take (fill_of n) (drop n left))) → new ≡ drop (fill_of n) (drop n left) → Passes (weights i p) r left new
+    → let n = entries_of i p * p.resolution in
+    total (table_fields (entries_of i p) p.resolution) ≤ length left → r ≡ unused (136 + n) (fill_of n) (number_of (take (fill_of n) (drop n left)))
+    → new ≡ drop (fill_of n) (drop n left) → Passes (weights i p) r left new
 unfolding weights
 weights_passed i p r left new e le test end =
-    let count : ℕ = weight_count p.previous p.reduced i.shape.bands in
+    let count : ℕ = entries_of i p in
     let n : ℕ = count * p.resolution in
-    subst (λ (b : Bool). Passes (weights_by b (weight_count p.previous p.reduced i.shape.bands) p.resolution) r left new) (sym e)
-    (passes (weights_by true count p.resolution) r left new le (test ∙ ap (unused (136 + n) (fill_of n)) (sym (table_zeros count p.resolution left))) (end ∙ table_end count p.resolution left))
+    subst (λ (b : Bool). Passes (table_of b i p) r left new) (sym e)
+    (passes (table_of true i p) r left new le (test ∙ ap (unused (136 + n) (fill_of n)) (sym (table_zeros count p.resolution left)))
+    (end ∙ table_end count p.resolution left))
 
 -- ---- the accumulator table
 
-pub constants_absent : (at : ℕ) (i : ImagePart) (c : CoderPart) (left : List Bool) → has_constants c ≡ false → part_at (constants at i c) left ≡ Ok ((constants at i c).says (values (constants at i c).fields left), left)
+-- an entry is above the greatest
+abbrev above_fault : ImagePart → List Bool → Test
+above_fault i left = refuse_if (some_above (i.kind.bits - 2) (values (number_fields i.shape.bands 4) left)) (Disagree rule.AccumulatorEntry)
+
+pub constants_absent : (at : ℕ) (i : ImagePart) (c : CoderPart) (left : List Bool) → has_constants c ≡ false
+    → part_at (constants at i c) left ≡ Ok ((constants at i c).says (values (constants at i c).fields left), left)
 unfolding part_at constants total values
-constants_absent at i c left e = subst (λ (b : Bool). part_at (constants_by b at i) left ≡ Ok ((constants_by b at i).says (values (constants_by b at i).fields left), left)) (sym e) (rw (le-ltb (length left) 0 (omega arith)) refl)
+constants_absent at i c left e = subst (λ (b : Bool). part_at (constants_by b at i) left
+    ≡ Ok ((constants_by b at i).says (values (constants_by b at i).fields left), left)) (sym e) (rw (le-ltb (length left) 0 (omega arith)) refl)
 
 pub constants_total : (at : ℕ) (i : ImagePart) (c : CoderPart) → has_constants c ≡ true → total (constants at i c).fields ≡ total (table_fields i.shape.bands 4)
 unfolding constants
 constants_total at i c e = ap (λ (b : Bool). total (constants_by b at i).fields) e
 
-pub constants_short : (at : ℕ) (i : ImagePart) (c : CoderPart) (left : List Bool) → has_constants c ≡ true → length left < total (table_fields i.shape.bands 4) → part_at (constants at i c) left ≡ Err ShortHeader
+pub constants_short : (at : ℕ) (i : ImagePart) (c : CoderPart) (left : List Bool) → has_constants c ≡ true → length left < total (table_fields i.shape.bands 4)
+    → part_at (constants at i c) left ≡ Err ShortHeader
 constants_short at i c left e lt = part_short (constants at i c) left (rw (constants_total at i c e) lt)
 
 constants_tests : (at : ℕ) (i : ImagePart) (left : List Bool) → let n = i.shape.bands * 4 in
-    (constants_by true at i).tests (values (constants_by true at i).fields left) ≡ (refuse_if (some_above (i.kind.bits - 2) (values (number_fields i.shape.bands 4) left)) (Disagree rule.AccumulatorEntry) >> unused (at + n) (fill_of n) (number_of (take (fill_of n) (drop n left))))
+    (constants_by true at i).tests (values (constants_by true at i).fields left)
+    ≡ (above_fault i left >> unused (at + n) (fill_of n) (number_of (take (fill_of n) (drop n left))))
 constants_tests at i left = rw (table_numbers i.shape.bands 4 left, table_zeros i.shape.bands 4 left) refl
 
-pub constants_entry : (at : ℕ) (i : ImagePart) (c : CoderPart) (e : Fault) (left : List Bool) → has_constants c ≡ true → total (table_fields i.shape.bands 4) ≤ length left
-    → refuse_if (some_above (i.kind.bits - 2) (values (number_fields i.shape.bands 4) left)) (Disagree rule.AccumulatorEntry) ≡ Err e → part_at (constants at i c) left ≡ Err e
+pub constants_entry : (at : ℕ) (i : ImagePart) (c : CoderPart) (e : Fault) (left : List Bool) → has_constants c ≡ true
+    → total (table_fields i.shape.bands 4) ≤ length left
+    → above_fault i left ≡ Err e → part_at (constants at i c) left ≡ Err e
 unfolding constants
 constants_entry at i c e left there le bad =
     subst (λ (b : Bool). part_at (constants_by b at i) left ≡ Err e) (sym there)
@@ -81,7 +106,7 @@ constants_entry at i c e left there le bad =
 
 pub constants_passed : (at : ℕ) (i : ImagePart) (c : CoderPart) (r : Test) (left new : List Bool) → has_constants c ≡ true
     → let n = i.shape.bands * 4 in
-    total (table_fields i.shape.bands 4) ≤ length left → refuse_if (some_above (i.kind.bits - 2) (values (number_fields i.shape.bands 4) left)) (Disagree rule.AccumulatorEntry) ≡ fine
+    total (table_fields i.shape.bands 4) ≤ length left → above_fault i left ≡ fine
     → r ≡ unused (at + n) (fill_of n) (number_of (take (fill_of n) (drop n left))) → new ≡ drop (fill_of n) (drop n left) → Passes (constants at i c) r left new
 unfolding constants
 constants_passed at i c r left new there le good test end =
@@ -91,15 +116,18 @@ constants_passed at i c r left new there le good test end =
 -- ---- what a table says, read again
 
 pub start_again : (i : ImagePart) (p : PredictorPart) (left : List Bool)
-    → start_by p.custom p.resolution ((weights i p).says (values (weights i p).fields left)) ≡ start_by p.custom p.resolution (map (signed_of p.resolution) (values (number_fields (weight_count p.previous p.reduced i.shape.bands) p.resolution) left))
+    → start_by p.custom p.resolution ((weights i p).says (values (weights i p).fields left))
+    ≡ start_by p.custom p.resolution (map (signed_of p.resolution) (values (number_fields (entries_of i p) p.resolution) left))
 unfolding weights
 start_again i p left = by_flag p.custom
   where
-    by_flag : (b : Bool) → start_by b p.resolution ((weights_by b (weight_count p.previous p.reduced i.shape.bands) p.resolution).says (values (weights_by b (weight_count p.previous p.reduced i.shape.bands) p.resolution).fields left)) ≡ start_by b p.resolution (map (signed_of p.resolution) (values (number_fields (weight_count p.previous p.reduced i.shape.bands) p.resolution) left))
-    by_flag true = rw (table_numbers (weight_count p.previous p.reduced i.shape.bands) p.resolution left) refl
+    by_flag : (b : Bool) → start_by b p.resolution ((table_of b i p).says (values (table_of b i p).fields left))
+        ≡ start_by b p.resolution (map (signed_of p.resolution) (values (number_fields (entries_of i p) p.resolution) left))
+    by_flag true = rw (table_numbers (entries_of i p) p.resolution left) refl
     by_flag false = refl
 
-pub coder_again : (at : ℕ) (i : ImagePart) (c : CoderPart) (left : List Bool) → coder_by_part c ((constants at i c).says (values (constants at i c).fields left)) ≡ coder_by_part c (values (number_fields i.shape.bands 4) left)
+pub coder_again : (at : ℕ) (i : ImagePart) (c : CoderPart) (left : List Bool)
+    → coder_by_part c ((constants at i c).says (values (constants at i c).fields left)) ≡ coder_by_part c (values (number_fields i.shape.bands 4) left)
 unfolding constants
 coder_again at i (Sample umax gamma_star gamma_zero constant true) left = rw (table_numbers i.shape.bands 4 left) refl
 coder_again at i (Sample umax gamma_star gamma_zero constant false) left = refl

@@ -1,5 +1,6 @@
 -- Tables in a header: what they hold, and how they are spelt.
-use Rattle.std.proofs.Common.{◌≡◌, ◌+◌, ◌-◌, ◌*◌, ◌%◌, ◌^◌, ◌<◌, ◌≤◌, ℕ, zero, suc, Bool, true, false, cond, ltb, List, [], ◌∷◌, ◌++◌, length, take, map, replicate, get_or, ℤ, pos, negsuc, ◌-ℤ◌, refl, ap, ◌∙◌, length-append, arith}
+use Rattle.std.proofs.Common.{◌≡◌, ◌+◌, ◌-◌, ◌*◌, ◌%◌, ◌^◌, ◌<◌, ◌≤◌, ℕ, zero, suc, Bool, true, false, cond, ltb, List, [], ◌∷◌, ◌++◌, length, take, map}
+use Rattle.std.proofs.Common.{replicate, get_or, ℤ, pos, negsuc, ◌-ℤ◌, refl, ap, ◌∙◌, length-append, arith}
 use Rattle.std.specs.List.{AllByRecursion}
 use Rattle.std.proofs.lemmas.Int.{ints}
 use Rattle.std.proofs.lemmas.List.{length-replicate, length-take}
@@ -23,9 +24,16 @@ values_count (s ∷ ss) (v ∷ vs) h = ap suc (values_count ss vs h.1)
 pub table_count : (count bits : ℕ) (vs : List ℕ) → AreValues (table_fields count bits) vs → length (take count vs) ≡ count
 table_count count bits vs h =
     let all = values_count (table_fields count bits) vs h in
-    omega (arith, all, length-append (replicate count (Plain bits 0)) (Unused ((8 - count * bits % 8) % 8) ∷ []), length-replicate count (Plain bits 0), length-take count vs)
+    omega (
+      arith,
+      all,
+      length-append (replicate count (Plain bits 0)) (Unused ((8 - count * bits % 8) % 8) ∷ []),
+      length-replicate count (Plain bits 0),
+      length-take count vs,
+    )
 
-small_from : (count bits : ℕ) (others : List Slot) (vs : List ℕ) → AreValues (replicate count (Plain bits 0) ++ others) vs → AllByRecursion (λ v. v < 2 ^ bits) (take count vs)
+small_from : (count bits : ℕ) (others : List Slot) (vs : List ℕ) → AreValues (replicate count (Plain bits 0) ++ others) vs
+    → AllByRecursion (λ v. v < 2 ^ bits) (take count vs)
 small_from zero bits others vs h = tt
 small_from (suc count) bits others [] h = elim h [ ]
 small_from (suc count) bits others (v ∷ vs) h = (omega (arith, h.0), small_from count bits others vs h.1)
@@ -42,7 +50,8 @@ signed_range bits code some lt = by_test (ltb code (2 ^ (bits - 1))) refl
   where
     by_test : (b : Bool) → ltb code (2 ^ (bits - 1)) ≡ b → IsSigned bits (cond b (pos code) (pos code -ℤ pos (2 ^ bits)))
     by_test true e = (let below = ltb-true code (2 ^ (bits - 1)) e in (omega (arith, ints), omega (arith, ints, below)))
-    by_test false e = (let above = ltb-false code (2 ^ (bits - 1)) e in let two = doubled bits some in (omega (arith, ints, above, two), omega (arith, ints, lt, two)))
+    by_test false e =
+        (let above = ltb-false code (2 ^ (bits - 1)) e in let two = doubled bits some in (omega (arith, ints, above, two), omega (arith, ints, lt, two)))
 
 pub all_signed : (bits : ℕ) (vs : List ℕ) → 1 ≤ bits → AllByRecursion (λ v. v < 2 ^ bits) vs → AllByRecursion (IsSigned bits) (map (signed_of bits) vs)
 all_signed bits [] some h = tt
@@ -68,9 +77,11 @@ code_back bits (negsuc n) some h =
 
 pub codes_back : (bits : ℕ) (vs : List ℤ) → 1 ≤ bits → AllByRecursion (IsSigned bits) vs → map (signed_of bits) (map (signed_code bits) vs) ≡ vs
 codes_back bits [] some h = refl
-codes_back bits (v ∷ vs) some h = ap (λ (x : ℤ). x ∷ map (signed_of bits) (map (signed_code bits) vs)) (code_back bits v some h.0) ∙ ap (λ (xs : List ℤ). v ∷ xs) (codes_back bits vs some h.1)
+codes_back bits (v ∷ vs) some h = ap (λ (x : ℤ). x ∷ map (signed_of bits) (map (signed_code bits) vs)) (code_back bits v some h.0)
+    ∙ ap (λ (xs : List ℤ). v ∷ xs) (codes_back bits vs some h.1)
 
-held_from : (bits fill : ℕ) (vs : List ℕ) → AllByRecursion (λ v. v < 2 ^ bits) vs → AreValues (replicate (length vs) (Plain bits 0) ++ Unused fill ∷ []) (vs ++ 0 ∷ [])
+held_from : (bits fill : ℕ) (vs : List ℕ) → AllByRecursion (λ v. v < 2 ^ bits) vs
+    → AreValues (replicate (length vs) (Plain bits 0) ++ Unused fill ∷ []) (vs ++ 0 ∷ [])
 held_from bits fill [] h = (pow_pos fill, tt)
 held_from bits fill (v ∷ vs) h = ((omega arith, omega (arith, h.0)), held_from bits fill vs h.1)
 

@@ -1,5 +1,6 @@
 -- The numbers of a table, written one after another.
-use Rattle.std.proofs.Common.{◌≡◌, ℕ, zero, suc, ◌+◌, ◌-◌, ◌*◌, ◌^◌, ◌<◌, ◌≤◌, Bool, List, [], ◌∷◌, ◌++◌, length, map, drop, get_or, ℤ, pos, sym, ap, ◌∙◌, append_assoc, length-append, arith}
+use Rattle.std.proofs.Common.{◌≡◌, ℕ, zero, suc, ◌+◌, ◌-◌, ◌*◌, ◌^◌, ◌<◌, ◌≤◌, Bool, List, [], ◌∷◌, ◌++◌, length, map, drop, get_or, ℤ, pos, sym, ap, ◌∙◌}
+use Rattle.std.proofs.Common.{append_assoc, length-append, arith}
 use Rattle.std.specs.List.{AllByRecursion}
 use Rattle.std.proofs.lemmas.List.{drop_more, drop_all, append-nil}
 use Rattle.header_bits.specs.declared.params.Params.{Params}
@@ -24,14 +25,18 @@ pub record IsWriting (bits : ℕ) (all rest : List ℕ) (old new : Written) : Ty
   pub room : old.room + length (numbers_text bits rest) ≤ new.room + length (numbers_text bits all)
 
 next_length : (bits v : ℕ) (rest more : List ℕ) → rest ≡ v ∷ more → length (numbers_text bits rest) ≡ bits + length (numbers_text bits more)
-next_length bits v rest more e = ap (λ (x : List ℕ). length (numbers_text bits x)) e ∙ ap length (numbers_text_next bits v more) ∙ length-append (bits_of bits v) (numbers_text bits more) ∙ ap (λ n. n + length (numbers_text bits more)) (length-bits_of bits v)
+next_length bits v rest more e = ap (λ (x : List ℕ). length (numbers_text bits x)) e ∙ ap length (numbers_text_next bits v more)
+    ∙ length-append (bits_of bits v) (numbers_text bits more) ∙ ap (λ n. n + length (numbers_text bits more)) (length-bits_of bits v)
 
-pub writing_enough : (bits v : ℕ) (all rest more : List ℕ) (old new : Written) → rest ≡ v ∷ more → length (numbers_text bits all) ≤ old.room → IsWriting bits all rest old new → bits ≤ new.room
+pub writing_enough : (bits v : ℕ) (all rest more : List ℕ) (old new : Written) → rest ≡ v ∷ more → length (numbers_text bits all) ≤ old.room
+    → IsWriting bits all rest old new → bits ≤ new.room
 writing_enough bits v all rest more old new e enough h = omega (arith, h.room, enough, next_length bits v rest more e)
 
-pub writing_next : (bits v : ℕ) (all rest more : List ℕ) (old mid new : Written) → rest ≡ v ∷ more → IsWriting bits all rest old mid → new.bits ≡ mid.bits ++ bits_of bits v → mid.room ≤ new.room + bits → IsWriting bits all more old new
+pub writing_next : (bits v : ℕ) (all rest more : List ℕ) (old mid new : Written) → rest ≡ v ∷ more → IsWriting bits all rest old mid
+    → new.bits ≡ mid.bits ++ bits_of bits v → mid.room ≤ new.room + bits → IsWriting bits all more old new
 writing_next bits v all rest more old mid new e h appended room = record {
-  written = ap (λ (x : List Bool). x ++ numbers_text bits more) appended ∙ append_assoc mid.bits (bits_of bits v) (numbers_text bits more) ∙ ap (λ (x : List Bool). mid.bits ++ x) (sym (numbers_text_next bits v more))
+  written = ap (λ (x : List Bool). x ++ numbers_text bits more) appended ∙ append_assoc mid.bits (bits_of bits v) (numbers_text bits more)
+      ∙ ap (λ (x : List Bool). mid.bits ++ x) (sym (numbers_text_next bits v more))
       ∙ ap (λ (x : List ℕ). mid.bits ++ numbers_text bits x) (sym e) ∙ h.written;
   room = omega (arith, h.room, room, next_length bits v rest more e);
 }
@@ -40,14 +45,17 @@ none_left : (bits : ℕ) (rest : List ℕ) → rest ≡ [] → numbers_text bits
 unfolding spelled
 none_left bits rest e = ap (numbers_text bits) e
 
-pub writing_end : (bits : ℕ) (all rest : List ℕ) (old new : Written) → rest ≡ [] → IsWriting bits all rest old new → (new.bits ≡ old.bits ++ numbers_text bits all) × (old.room ≤ new.room + length (numbers_text bits all))
-writing_end bits all rest old new e h = (sym (append-nil new.bits) ∙ ap (λ (x : List Bool). new.bits ++ x) (sym (none_left bits rest e)) ∙ h.written, omega (arith, h.room))
+pub writing_end : (bits : ℕ) (all rest : List ℕ) (old new : Written) → rest ≡ [] → IsWriting bits all rest old new
+    → (new.bits ≡ old.bits ++ numbers_text bits all) × (old.room ≤ new.room + length (numbers_text bits all))
+writing_end bits all rest old new e h =
+    (sym (append-nil new.bits) ∙ ap (λ (x : List Bool). new.bits ++ x) (sym (none_left bits rest e)) ∙ h.written, omega (arith, h.room))
 
 -- the first number that is left
 pub number_left : (vs : List ℕ) (i : ℕ) → i < length vs → drop i vs ≡ get_or vs i 0 ∷ drop (i + 1) vs
 number_left vs i lt = drop_more vs i 0 lt
 
-pub code_left : (bits : ℕ) (vs : List ℤ) (i : ℕ) → i < length vs → map (signed_code bits) (drop i vs) ≡ signed_code bits (get_or vs i (pos 0)) ∷ map (signed_code bits) (drop (i + 1) vs)
+pub code_left : (bits : ℕ) (vs : List ℤ) (i : ℕ) → i < length vs
+    → map (signed_code bits) (drop i vs) ≡ signed_code bits (get_or vs i (pos 0)) ∷ map (signed_code bits) (drop (i + 1) vs)
 code_left bits vs i lt = ap (map (signed_code bits)) (drop_more vs i (pos 0) lt)
 
 pub no_code_left : (bits : ℕ) (vs : List ℤ) (i : ℕ) → length vs ≤ i → map (signed_code bits) (drop i vs) ≡ []
@@ -60,19 +68,25 @@ all_at P (v ∷ vs) (suc i) d lt h = all_at P vs i d (omega arith) h.1
 
 -- ---- the tables of lawful parameters
 
-pub start_text : (q : ℕ) (values : List ℤ) (s : WeightStart) → s ≡ Table q values → weight_bits s ≡ numbers_text q (map (signed_code q) values) ++ bits_of (fill_of (length values * q)) 0
+pub start_text : (q : ℕ) (values : List ℤ) (s : WeightStart) → s ≡ Table q values
+    → weight_bits s ≡ numbers_text q (map (signed_code q) values) ++ bits_of (fill_of (length values * q)) 0
 start_text q values s e = ap weight_bits e ∙ weights_text q values
 
-pub start_length : (q : ℕ) (values : List ℤ) (s : WeightStart) → s ≡ Table q values → length (weight_bits s) ≡ length (numbers_text q (map (signed_code q) values)) + fill_of (length values * q)
+pub start_length : (q : ℕ) (values : List ℤ) (s : WeightStart) → s ≡ Table q values
+    → length (weight_bits s) ≡ length (numbers_text q (map (signed_code q) values)) + fill_of (length values * q)
 start_length q values s e =
-    ap length (start_text q values s e) ∙ length-append (numbers_text q (map (signed_code q) values)) (bits_of (fill_of (length values * q)) 0) ∙ ap (λ n. length (numbers_text q (map (signed_code q) values)) + n) (length-bits_of (fill_of (length values * q)) 0)
+    ap length (start_text q values s e) ∙ length-append (numbers_text q (map (signed_code q) values)) (bits_of (fill_of (length values * q)) 0)
+    ∙ ap (λ n. length (numbers_text q (map (signed_code q) values)) + n) (length-bits_of (fill_of (length values * q)) 0)
 
-pub coder_text : (umax gamma_star gamma_zero : ℕ) (values : List ℕ) (c : Coder) → c ≡ Sample umax gamma_star gamma_zero (Each values) → constant_bits c ≡ numbers_text 4 values ++ bits_of (fill_of (length values * 4)) 0
+pub coder_text : (umax gamma_star gamma_zero : ℕ) (values : List ℕ) (c : Coder) → c ≡ Sample umax gamma_star gamma_zero (Each values)
+    → constant_bits c ≡ numbers_text 4 values ++ bits_of (fill_of (length values * 4)) 0
 coder_text umax gamma_star gamma_zero values c e = ap constant_bits e ∙ constants_text umax gamma_star gamma_zero values
 
-pub coder_length : (umax gamma_star gamma_zero : ℕ) (values : List ℕ) (c : Coder) → c ≡ Sample umax gamma_star gamma_zero (Each values) → length (constant_bits c) ≡ length (numbers_text 4 values) + fill_of (length values * 4)
+pub coder_length : (umax gamma_star gamma_zero : ℕ) (values : List ℕ) (c : Coder) → c ≡ Sample umax gamma_star gamma_zero (Each values)
+    → length (constant_bits c) ≡ length (numbers_text 4 values) + fill_of (length values * 4)
 coder_length umax gamma_star gamma_zero values c e =
-    ap length (coder_text umax gamma_star gamma_zero values c e) ∙ length-append (numbers_text 4 values) (bits_of (fill_of (length values * 4)) 0) ∙ ap (λ n. length (numbers_text 4 values) + n) (length-bits_of (fill_of (length values * 4)) 0)
+    ap length (coder_text umax gamma_star gamma_zero values c e) ∙ length-append (numbers_text 4 values) (bits_of (fill_of (length values * 4)) 0)
+    ∙ ap (λ n. length (numbers_text 4 values) + n) (length-bits_of (fill_of (length values * 4)) 0)
 
 pub table_lawful : (p : Params) (s : WeightStart) (q : ℕ) (values : List ℤ) → s ≡ Table q values → IsWeightStart p s → IsWeightStart p (Table q values)
 table_lawful p s q values e h = rw e at h
@@ -89,14 +103,16 @@ weights_lawful p q values h e =
     let bound = weight_bound p.previous p.reduced p.shape.bands h.previous in
     record { least = omega (arith, t.0); most = omega (arith, t.0, h.fraction); count = omega (arith, t.1, bound, h.sizes.bands); signed = t.2 }
 
-each_lawful : (p : Params) (c : Coder) (umax gamma_star gamma_zero : ℕ) (values : List ℕ) → c ≡ Sample umax gamma_star gamma_zero (Each values) → IsCoder p c → IsCoder p (Sample umax gamma_star gamma_zero (Each values))
+each_lawful : (p : Params) (c : Coder) (umax gamma_star gamma_zero : ℕ) (values : List ℕ) → c ≡ Sample umax gamma_star gamma_zero (Each values) → IsCoder p c
+    → IsCoder p (Sample umax gamma_star gamma_zero (Each values))
 each_lawful p c umax gamma_star gamma_zero values e h = rw e at h
 
 small_entries : (most : ℕ) (vs : List ℕ) → most < 2 ^ 4 → AllByRecursion (λ v. v ≤ most) vs → AllByRecursion (λ k. k < 2 ^ 4) vs
 small_entries most [] lt h = tt
 small_entries most (v ∷ vs) lt h = (omega (arith, h.0), small_entries most vs lt h.1)
 
-pub constants_lawful : (p : Params) (umax gamma_star gamma_zero : ℕ) (values : List ℕ) → IsLawful p → p.coder ≡ Sample umax gamma_star gamma_zero (Each values) → (length values ≤ 2 ^ 21) × AllByRecursion (λ k. k < 2 ^ 4) values
+pub constants_lawful : (p : Params) (umax gamma_star gamma_zero : ℕ) (values : List ℕ) → IsLawful p → p.coder ≡ Sample umax gamma_star gamma_zero (Each values)
+    → (length values ≤ 2 ^ 21) × AllByRecursion (λ k. k < 2 ^ 4) values
 constants_lawful p umax gamma_star gamma_zero values h e =
     let t = (each_lawful p p.coder umax gamma_star gamma_zero values e h.coder).4 in
     (omega (arith, t.0, h.sizes.bands), small_entries (p.kind.bits - 2) values (omega (arith, h.kind)) t.1)

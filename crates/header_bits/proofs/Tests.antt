@@ -13,8 +13,10 @@ pub then_ok : (a b : Test) → (a >> b) ≡ fine → (a ≡ fine) × (b ≡ fine
 then_ok (Ok t) b e = (refl, e)
 then_ok (Err f) b e = absurd cc
 
-pub then_fine : (a b : Test) → a ≡ fine → b ≡ fine → (a >> b) ≡ fine
-then_fine a b p q = rw (p, q) refl
+-- a test that passed, and those behind it
+infixr 10 ◌then_fine◌
+pub ◌then_fine◌ : {a b : Test} → a ≡ fine → b ≡ fine → (a >> b) ≡ fine
+p then_fine q = rw (p, q) refl
 
 pub refuse_ok : (b : Bool) (f : Fault) → refuse_if b f ≡ fine → b ≡ false
 refuse_ok true f e = absurd cc

@@ -1,12 +1,10 @@
 -- Parameters and headers of the worked examples.
-use Rattle.std.specs.Prelude.{ℕ, true, false, Bool, List, ℤ, pos, negsuc, replicate}
+use Rattle.std.specs.Prelude.{ℕ, false, Bool, List, ℤ, pos, negsuc, replicate}
 use Rattle.cube_core.specs.declared.order.Order.{Order}
-use Rattle.cube_core.specs.declared.order.Order.TheVariants.{Bsq}
 use Rattle.cube_core.specs.Shape.{Sizes}
 use Rattle.cube_core.specs.Kind.{SampleKind}
 use Rattle.header_bits.specs.declared.params.Params.{Params}
-use Rattle.header_bits.specs.declared.params.WeightStart.TheVariants.{Usual, Table}
-use Rattle.header_bits.specs.declared.params.Coder.{Coder}
+use Rattle.header_bits.specs.declared.params.WeightStart.TheVariants.{Table}
 use Rattle.header_bits.specs.declared.params.Coder.TheVariants.{Sample, Block}
 use Rattle.header_bits.specs.declared.params.CountStart.TheVariants.{Constant, Each}
 use Rattle.header_bits.specs.Bits.{bits_of}

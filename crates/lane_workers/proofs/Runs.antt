@@ -10,14 +10,16 @@ before_append front last =
     rw e (take-append_seam front last)
 
 -- some of the numbers at the end are handed on
-pub before_run : (all front last run later : List ℕ) → all ≡ front ++ last → last ≡ run ++ later → (before all later ≡ front ++ run) × (all ≡ before all later ++ later)
+pub before_run : (all front last run later : List ℕ) → all ≡ front ++ last → last ≡ run ++ later
+    → (before all later ≡ front ++ run) × (all ≡ before all later ++ later)
 before_run all front last run later e parts =
     let parted : all ≡ (front ++ run) ++ later = e ∙ ap (λ ns. front ++ ns) parts ∙ sym (append_assoc front run later) in
     let here : before all later ≡ front ++ run = ap (λ ns. before ns later) parted ∙ before_append (front ++ run) later in
     (here, parted ∙ ap (λ ns. ns ++ later) (sym here))
 
 -- of the numbers from one place up to another, the first are copied to the front of a run
-pub first_of_room : (numbers copied behind : List ℕ) (first end count : ℕ) → count ≤ end - first → length copied ≡ count → copied ≡ take count (drop first numbers)
+pub first_of_room : (numbers copied behind : List ℕ) (first end count : ℕ) → count ≤ end - first → length copied ≡ count
+    → copied ≡ take count (drop first numbers)
     → take (end - first) (drop first numbers) ≡ take count (copied ++ behind) ++ take (end - (first + count)) (drop (first + count) numbers)
 first_of_room numbers copied behind first end count within long same =
     let left : end - (first + count) ≡ end - first - count = omega arith in

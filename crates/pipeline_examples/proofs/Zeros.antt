@@ -37,12 +37,14 @@ module _ {F : Type 0} where
   items_at items f g h (suc (suc q)) lt first second = absurd (omega arith)
 
   pub are_feeds : (predictor : F → ℕ) (items : F → List ℕ) (plan : Dealing) (f g : F)
-      → plan.predictors ≡ 2 → plan.deal ≡ 0 ∷ 1 ∷ [] → plan.params.shape ≡ record { columns = 3; rows = 2; bands = 2 } → plan.params.kind.bits ≡ 8 → plan.params.order ≡ Bi 2
+      → plan.predictors ≡ 2 → plan.deal ≡ 0 ∷ 1 ∷ [] → plan.params.shape ≡ record { columns = 3; rows = 2; bands = 2 } → plan.params.kind.bits ≡ 8
+      → plan.params.order ≡ Bi 2
       → predictor f ≡ 0 → predictor g ≡ 1 → items f ≡ zeros → items g ≡ zeros → AreFeeds predictor items plan (f ∷ g ∷ [])
   are_feeds predictor items plan f g many deal shape bits order named_f named_g zeros_f zeros_g = record {
     many = sym many;
     named = λ q h lt. named_at predictor f g h q (rw many at lt) named_f named_g;
-    whole = λ q h lt. ap (λ (ns : List ℕ). length ns) (items_at items f g h q (rw many at lt) zeros_f zeros_g) ∙ sym (rw (deal, shape, order) (six q (rw many at lt)));
+    whole = λ q h lt. ap (λ (ns : List ℕ). length ns) (items_at items f g h q (rw many at lt) zeros_f zeros_g)
+        ∙ sym (rw (deal, shape, order) (six q (rw many at lt)));
     range = λ q h lt k e below.
         let all = items_at items f g h q (rw many at lt) zeros_f zeros_g in
         rw (all, zero_at k e (rw all at below), bits) (omega arith);

@@ -1,5 +1,6 @@
 -- Lines of offsets, and the sums that they tell.
-use Rattle.std.proofs.Common.{◌≡◌, ◌≢◌, ℕ, zero, suc, ◌+◌, ◌-◌, ◌<◌, ◌≤◌, false, ◌||◌, ◌==◌, List, [], ◌∷◌, length, get_or, set, arith, refl, sym, ap, ◌∙◌, inl, inr, get_or-set_same, get_or-set_other, length-set}
+use Rattle.std.proofs.Common.{◌≡◌, ◌≢◌, ℕ, zero, suc, ◌+◌, ◌-◌, ◌<◌, ◌≤◌, false, ◌||◌, ◌==◌, List, [], ◌∷◌, length, get_or, set, arith, refl, sym, ap, ◌∙◌, inl}
+use Rattle.std.proofs.Common.{inr, get_or-set_same, get_or-set_other, length-set}
 use Rattle.std.proofs.lemmas.Bool.{cases_eq}
 use Rattle.std.proofs.lemmas.Bool.Decides.{nat_tests}
 use Rattle.std.proofs.lemmas.List.{get_or-append-add}
@@ -30,7 +31,8 @@ pub ends_written : (line row : List ℕ) (x count before after v w : ℕ) → 2 
     → (k : ℕ) → k < count + 2 → get_or (set (set line 0 v) (count + 1) w) k 0 ≡ get_or (bordered before row after) (x + k) 0
 ends_written line row x count before after v w long inside middle a b k l =
     elim (cases_eq k (count + 1)) [
-      | inl e ↦ rw e (get_or-set_same (set line 0 v) (count + 1) w 0 (rw (length-set {A = ℕ}) (omega arith)) ∙ b ∙ ap (λ n. get_or (bordered before row after) n 0) (omega arith))
+      | inl e ↦ rw e (get_or-set_same (set line 0 v) (count + 1) w 0 (rw (length-set {A = ℕ}) (omega arith)) ∙ b
+          ∙ ap (λ n. get_or (bordered before row after) n 0) (omega arith))
       | inr n ↦ get_or-set_other (set line 0 v) (count + 1) k w 0 n ∙ elim (cases_eq k 0) [
         | inl e ↦ rw e (get_or-set_same line 0 v 0 (omega arith) ∙ a ∙ ap (λ n. get_or (bordered before row after) n 0) (omega arith))
         | inr m ↦
@@ -42,11 +44,13 @@ ends_written line row x count before after v w long inside middle a b k l =
 -- ---- sums of four neighbours
 
 -- two lines of a row below the first one, for sums of four
-module _ (y : ℕ) (row above : List ℕ) (x count after : ℕ) (current upper : List ℕ) (later : y ≢ 0) (inside : x + count ≤ length row) (same : length above ≡ length row) (wide : 2 ≤ length row)
+module _ (y : ℕ) (row above : List ℕ) (x count after : ℕ) (current upper : List ℕ) (later : y ≢ 0) (inside : x + count ≤ length row)
+    (same : length above ≡ length row) (wide : 2 ≤ length row)
     (near : (k : ℕ) → k < count + 2 → get_or current k 0 ≡ get_or (bordered (get_or above 0 0) row after) (x + k) 0)
     (far : (k : ℕ) → k < count + 2 → get_or upper k 0 ≡ get_or (bordered (get_or above 1 0) above (get_or above (length above - 1) 0)) (x + k) 0) where
   near_own : (i : ℕ) → i < count → get_or current (i + 1) 0 ≡ get_or row (x + i) 0
-  near_own i l = near (i + 1) (omega arith) ∙ border_inside (get_or above 0 0) row after (x + (i + 1)) (omega arith) (omega arith) ∙ ap (λ n. get_or row n 0) (omega arith)
+  near_own i l =
+      near (i + 1) (omega arith) ∙ border_inside (get_or above 0 0) row after (x + (i + 1)) (omega arith) (omega arith) ∙ ap (λ n. get_or row n 0) (omega arith)
 
   near_west : (i : ℕ) → i < count → 0 < x + i → get_or current i 0 ≡ get_or row (x + i - 1) 0
   near_west i l h = near i (omega arith) ∙ border_inside (get_or above 0 0) row after (x + i) h (omega arith)
@@ -56,7 +60,8 @@ module _ (y : ℕ) (row above : List ℕ) (x count after : ℕ) (current upper :
 
   far_north : (i : ℕ) → i < count → get_or upper (i + 1) 0 ≡ get_or above (x + i) 0
   far_north i l =
-      far (i + 1) (omega arith) ∙ border_inside (get_or above 1 0) above (get_or above (length above - 1) 0) (x + (i + 1)) (omega arith) (omega arith) ∙ ap (λ n. get_or above n 0) (omega arith)
+      far (i + 1) (omega arith) ∙ border_inside (get_or above 1 0) above (get_or above (length above - 1) 0) (x + (i + 1)) (omega arith) (omega arith)
+      ∙ ap (λ n. get_or above n 0) (omega arith)
 
   far_west : (i : ℕ) → i < count → 0 < x + i → get_or upper i 0 ≡ get_or above (x + i - 1) 0
   far_west i l h = far i (omega arith) ∙ border_inside (get_or above 1 0) above (get_or above (length above - 1) 0) (x + i) h (omega arith)
@@ -66,11 +71,13 @@ module _ (y : ℕ) (row above : List ℕ) (x count after : ℕ) (current upper :
 
   far_east : (i : ℕ) → i < count → x + i + 1 < length row → get_or upper (i + 2) 0 ≡ get_or above (x + i + 1) 0
   far_east i l h =
-      far (i + 2) (omega arith) ∙ border_inside (get_or above 1 0) above (get_or above (length above - 1) 0) (x + (i + 2)) (omega arith) (omega arith) ∙ ap (λ n. get_or above n 0) (omega arith)
+      far (i + 2) (omega arith) ∙ border_inside (get_or above 1 0) above (get_or above (length above - 1) 0) (x + (i + 2)) (omega arith) (omega arith)
+      ∙ ap (λ n. get_or above n 0) (omega arith)
 
   far_last : (i : ℕ) → i < count → x + i + 1 ≡ length row → get_or upper (i + 2) 0 ≡ get_or above (x + i) 0
   far_last i l e =
-      far (i + 2) (omega arith) ∙ border_after (get_or above 1 0) above (get_or above (length above - 1) 0) (x + (i + 2)) (omega arith) ∙ ap (λ n. get_or above n 0) (omega arith)
+      far (i + 2) (omega arith) ∙ border_after (get_or above 1 0) above (get_or above (length above - 1) 0) (x + (i + 2)) (omega arith)
+      ∙ ap (λ n. get_or above n 0) (omega arith)
 
   four : (i : ℕ) → i < count → line_sum false current upper i ≡ offset_sum false y row above (x + i)
   four i l =

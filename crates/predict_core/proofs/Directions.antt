@@ -1,5 +1,6 @@
 -- The directional differences, case by case.
-use Rattle.std.proofs.Common.{◌≡◌, ◌≢◌, ◌+◌, ◌-◌, ◌==◌, ◌<◌, ◌≤◌, ℕ, ℤ, pos, ◌+ℤ◌, ◌-ℤ◌, ◌*ℤ◌, true, false, List, [], ◌∷◌, ◌++◌, length, replicate, arith, refl, ◌∙◌, unsigned_abs, zero, suc, set, take, drop}
+use Rattle.std.proofs.Common.{◌≡◌, ◌≢◌, ◌+◌, ◌-◌, ◌==◌, ◌<◌, ◌≤◌, ℕ, ℤ, pos, ◌+ℤ◌, ◌-ℤ◌, ◌*ℤ◌, true, false, List, [], ◌∷◌, ◌++◌, length, replicate, arith, refl}
+use Rattle.std.proofs.Common.{◌∙◌, unsigned_abs, zero, suc, set, take, drop}
 use Rattle.std.proofs.Math.Seq.{take-append_seam, drop-append_seam}
 use Rattle.std.proofs.lemmas.List.{get_or-replicate, length-replicate}
 use Rattle.predict_core.specs.Bounds.{AllWithin}
@@ -17,12 +18,14 @@ unfolding directional_differences
 directional_first p c z y x e = rw e refl
 
 pub directional_left : (p : Predictor) (c : Image) (z y x : ℕ) → y ≢ 0 → x ≡ 0
-    → directional_differences p c z y x ≡ difference_from p c z y x (sample_at c z (y - 1) x) ∷ difference_from p c z y x (sample_at c z (y - 1) x) ∷ difference_from p c z y x (sample_at c z (y - 1) x) ∷ []
+    → directional_differences p c z y x ≡ difference_from p c z y x (sample_at c z (y - 1) x) ∷ difference_from p c z y x (sample_at c z (y - 1) x)
+    ∷ difference_from p c z y x (sample_at c z (y - 1) x) ∷ []
 unfolding directional_differences
 directional_left p c z y x n h = grind (arith, nat_tests)
 
 pub directional_inside : (p : Predictor) (c : Image) (z y x : ℕ) → y ≢ 0 → x ≢ 0
-    → directional_differences p c z y x ≡ difference_from p c z y x (sample_at c z (y - 1) x) ∷ difference_from p c z y x (sample_at c z y (x - 1)) ∷ difference_from p c z y x (sample_at c z (y - 1) (x - 1)) ∷ []
+    → directional_differences p c z y x ≡ difference_from p c z y x (sample_at c z (y - 1) x) ∷ difference_from p c z y x (sample_at c z y (x - 1))
+    ∷ difference_from p c z y x (sample_at c z (y - 1) (x - 1)) ∷ []
 unfolding directional_differences
 directional_inside p c z y x n h = grind (arith, nat_tests)
 
@@ -31,14 +34,17 @@ unfolding directional_differences
 directional_length p c z y x = grind (arith, nat_tests)
 
 -- a difference from offsets
-pub difference_is : (low sample s d : ℤ) (offset sum : ℕ) → sample ≡ low +ℤ pos offset → s ≡ pos 4 *ℤ low +ℤ pos sum → d ≡ offset_difference offset sum → pos 4 *ℤ sample -ℤ s ≡ d
+pub difference_is : (low sample s d : ℤ) (offset sum : ℕ) → sample ≡ low +ℤ pos offset → s ≡ pos 4 *ℤ low +ℤ pos sum → d ≡ offset_difference offset sum
+    → pos 4 *ℤ sample -ℤ s ≡ d
 difference_is low sample s d offset sum e f g = omega (arith, ints)
 
-pub reduced_vector_is : (p : Predictor) (c : Image) (z y x : ℕ) → p.reduced ≡ true → difference_vector p c z y x ≡ spectral_differences p c z y x (previous_bands p z)
+pub reduced_vector_is : (p : Predictor) (c : Image) (z y x : ℕ) → p.reduced ≡ true
+    → difference_vector p c z y x ≡ spectral_differences p c z y x (previous_bands p z)
 unfolding difference_vector
 reduced_vector_is p c z y x h = rw h refl
 
-pub full_vector_is : (p : Predictor) (c : Image) (z y x : ℕ) → p.reduced ≡ false → difference_vector p c z y x ≡ directional_differences p c z y x ++ spectral_differences p c z y x (previous_bands p z)
+pub full_vector_is : (p : Predictor) (c : Image) (z y x : ℕ) → p.reduced ≡ false
+    → difference_vector p c z y x ≡ directional_differences p c z y x ++ spectral_differences p c z y x (previous_bands p z)
 unfolding difference_vector
 full_vector_is p c z y x h = rw h refl
 
@@ -60,7 +66,8 @@ three_written (o ∷ []) a b d l = absurd (omega (arith, l))
 three_written (o ∷ p ∷ []) a b d l = absurd (omega (arith, l))
 three_written (o ∷ p ∷ q ∷ out) a b d l = refl
 
-pub three_over : (n : ℕ) (out : List ℤ) (a b d : ℤ) → unsigned_abs a ≤ n → unsigned_abs b ≤ n → unsigned_abs d ≤ n → AllWithin n out → AllWithin n (a ∷ b ∷ d ∷ drop 3 out)
+pub three_over : (n : ℕ) (out : List ℤ) (a b d : ℤ) → unsigned_abs a ≤ n → unsigned_abs b ≤ n → unsigned_abs d ≤ n → AllWithin n out
+    → AllWithin n (a ∷ b ∷ d ∷ drop 3 out)
 three_over n out a b d h k l w zero m = h
 three_over n out a b d h k l w (suc zero) m = k
 three_over n out a b d h k l w (suc (suc zero)) m = l
@@ -70,10 +77,12 @@ three_over n (o ∷ p ∷ []) a b d h k l w (suc (suc (suc i))) m = absurd (omeg
 three_over n (o ∷ p ∷ q ∷ out) a b d h k l w (suc (suc (suc i))) m = w (suc (suc (suc i))) (omega (arith, m))
 
 pub zeros_within : (n m : ℕ) → AllWithin n (replicate m (pos 0))
-zeros_within n m i l = rw (get_or-replicate m i (pos 0) (pos 0) (let e : i < length (replicate m (pos 0)) = l in rw (length-replicate m (pos 0)) at e)) (omega arith)
+zeros_within n m i l =
+    rw (get_or-replicate m i (pos 0) (pos 0) (let e : i < length (replicate m (pos 0)) = l in rw (length-replicate m (pos 0)) at e)) (omega arith)
 
 module _ (p : Predictor) (c : Image) (z y x : ℕ) (out new : List ℤ) where
-  pub reduced_filled : p.reduced ≡ true → new ≡ take 0 (replicate 18 (pos 0)) ++ spectral_differences p c z y x (previous_bands p z) ++ replicate (18 - 0 - previous_bands p z) (pos 0)
+  pub reduced_filled : p.reduced ≡ true
+      → new ≡ take 0 (replicate 18 (pos 0)) ++ spectral_differences p c z y x (previous_bands p z) ++ replicate (18 - 0 - previous_bands p z) (pos 0)
       → new ≡ difference_vector p c z y x ++ replicate (18 - component_count p z) (pos 0)
   reduced_filled h e =
       let s : 18 - 0 - previous_bands p z ≡ 18 - previous_bands p z = omega arith in
@@ -84,7 +93,8 @@ module _ (p : Predictor) (c : Image) (z y x : ℕ) (out new : List ℤ) where
       → new ≡ difference_vector p c z y x ++ replicate (18 - component_count p z) (pos 0)
   full_filled h d e =
       let s : 18 - 3 - previous_bands p z ≡ 18 - (3 + previous_bands p z) = omega arith in
-      let t : take 3 out ≡ directional_differences p c z y x = rw d (heads_taken (directional_differences p c z y x) (replicate 15 (pos 0)) 3 (directional_length p c z y x)) in
+      let t : take 3 out ≡ directional_differences p c z y x =
+      rw d (heads_taken (directional_differences p c z y x) (replicate 15 (pos 0)) 3 (directional_length p c z y x)) in
       e ∙ rw (t, full_vector_is p c z y x h, full_count p z h, s) refl
 
   pub full_clear : out ≡ directional_differences p c z y x ++ replicate 15 (pos 0) → drop 3 out ≡ replicate (18 - 3) (pos 0)

@@ -1,5 +1,6 @@
 -- Differences written one after another into a fixed room whose rest is 0.
-use Rattle.std.proofs.Common.{◌≡◌, ◌+◌, ◌-◌, ◌<◌, ℕ, zero, suc, ℤ, pos, List, [], ◌∷◌, ◌++◌, length, take, drop, set, replicate, arith, refl, ◌∙◌, sym, add-one, append_assoc, append-nil, length-append}
+use Rattle.std.proofs.Common.{◌≡◌, ◌+◌, ◌-◌, ◌<◌, ℕ, zero, suc, ℤ, pos, List, [], ◌∷◌, ◌++◌, length, take, drop, set, replicate, arith, refl, ◌∙◌, sym, add-one}
+use Rattle.std.proofs.Common.{append_assoc, append-nil, length-append}
 use Rattle.std.proofs.Math.Seq.{set-append_seam}
 use Rattle.std.proofs.lemmas.List.{take-append-drop}
 use Rattle.cube_core.specs.Image.{Image}
@@ -13,7 +14,8 @@ spectral_length p c z y x (suc n) =
     let e = spectral_length p c z y x n in
     length-append (spectral_differences p c z y x n) (central_difference p c (z - suc n) y x ∷ []) ∙ omega (arith, e)
 
-pub spectral_next : (p : Predictor) (c : Image) (z y x n : ℕ) → spectral_differences p c z y x (n + 1) ≡ spectral_differences p c z y x n ++ central_difference p c (z - 1 - n) y x ∷ []
+pub spectral_next : (p : Predictor) (c : Image) (z y x n : ℕ)
+    → spectral_differences p c z y x (n + 1) ≡ spectral_differences p c z y x n ++ central_difference p c (z - 1 - n) y x ∷ []
 unfolding spectral_differences
 spectral_next p c z y x n = let s : z - 1 - n ≡ z - suc n = omega arith in rw (add-one, s) refl
 
@@ -28,11 +30,13 @@ written heads middle (suc m) i v e h =
     joined : (heads ++ middle) ++ (v ∷ replicate m (pos 0)) ≡ heads ++ (middle ++ v ∷ []) ++ replicate m (pos 0)
     joined = simp append_assoc
 
-pub filled_next : (p : Predictor) (c : Image) (z y x first i : ℕ) (heads out : List ℤ) (v : ℤ) → first ≡ length heads → first + i < 18 → v ≡ central_difference p c (z - 1 - i) y x
+pub filled_next : (p : Predictor) (c : Image) (z y x first i : ℕ) (heads out : List ℤ) (v : ℤ) → first ≡ length heads → first + i < 18
+    → v ≡ central_difference p c (z - 1 - i) y x
     → out ≡ heads ++ spectral_differences p c z y x i ++ replicate (18 - first - i) (pos 0)
     → set out (first + i) v ≡ heads ++ spectral_differences p c z y x (i + 1) ++ replicate (18 - first - (i + 1)) (pos 0)
 filled_next p c z y x first i heads out v a b d e =
-    let n : first + i ≡ length (heads ++ spectral_differences p c z y x i) = omega (arith, length-append heads (spectral_differences p c z y x i), spectral_length p c z y x i) in
+    let n : first + i ≡ length (heads ++ spectral_differences p c z y x i) =
+    omega (arith, length-append heads (spectral_differences p c z y x i), spectral_length p c z y x i) in
     let m : 18 - first - i - 1 ≡ 18 - first - (i + 1) = omega arith in
     rw (spectral_next p c z y x i, ← d, e, ← m) (written heads (spectral_differences p c z y x i) (18 - first - i) (first + i) v n (omega arith))
 

@@ -1,5 +1,6 @@
 -- Quotients rounded down, and the sign of an error that they tell.
-use Rattle.std.proofs.Common.{◌≡◌, ℕ, zero, suc, ◌+◌, ◌-◌, ◌*◌, ◌%◌, ◌^◌, ◌<◌, ◌≤◌, ℤ, pos, negsuc, ◌+ℤ◌, ◌-ℤ◌, ◌*ℤ◌, ◌≤ℤ◌, int_lt, int_le, unsigned_abs, Bool, true, false, arith, refl, sym, ap, ◌∙◌, pow_pos, pow-suc}
+use Rattle.std.proofs.Common.{◌≡◌, ℕ, zero, suc, ◌+◌, ◌-◌, ◌*◌, ◌%◌, ◌^◌, ◌<◌, ◌≤◌, ℤ, pos, negsuc, ◌+ℤ◌, ◌-ℤ◌, ◌*ℤ◌, ◌≤ℤ◌, int_lt, int_le, unsigned_abs, Bool}
+use Rattle.std.proofs.Common.{true, false, arith, refl, sym, ap, ◌∙◌, pow_pos, pow-suc}
 use Rattle.std.proofs.lemmas.Int.{ints, clamps, int_rem_euclid_is}
 use Rattle.std.proofs.lemmas.Nat.{shr-shr, div-add-mod', div_below}
 use Rattle.std.proofs.Math.Nat.{mod-lt}
@@ -62,9 +63,11 @@ half_of_floor (pos a) k = ap pos (shr-shr a k 1)
 half_of_floor (negsuc a) k = ap negsuc (shr-shr a k 1)
 
 -- the upper part of a sum of products and a number with so many fractional bits
-pub upper_part : (fraction : ℕ) (product distance : ℤ) → floor_div (product +ℤ pos (2 ^ fraction) *ℤ distance) (2 ^ (fraction + 1)) ≡ floor_div (floor_div product (2 ^ fraction) +ℤ distance) 2
+pub upper_part : (fraction : ℕ) (product distance : ℤ)
+    → floor_div (product +ℤ pos (2 ^ fraction) *ℤ distance) (2 ^ (fraction + 1)) ≡ floor_div (floor_div product (2 ^ fraction) +ℤ distance) 2
 upper_part fraction product distance =
-    sym (half_of_floor (product +ℤ pos (2 ^ fraction) *ℤ distance) fraction) ∙ ap (λ q. floor_div q 2) (floor_of_sum product distance (2 ^ fraction) (pow_pos fraction))
+    sym (half_of_floor (product +ℤ pos (2 ^ fraction) *ℤ distance) fraction)
+    ∙ ap (λ q. floor_div q 2) (floor_of_sum product distance (2 ^ fraction) (pow_pos fraction))
 
 same_test : (s t : Bool) → (s ≡ true → t ≡ true) → (t ≡ true → s ≡ true) → s ≡ t
 same_test true true f g = refl
@@ -92,7 +95,8 @@ sign_of_center low high sample center scaled a b e =
     (λ h. let l = true_lt (pos 2 *ℤ sample -ℤ scaled) (pos 0) h in lt_true (pos 2 *ℤ sample) center (omega (arith, ints, clamps, e, l)))
     (λ h. let l = true_lt (pos 2 *ℤ sample) center h in lt_true (pos 2 *ℤ sample -ℤ scaled) (pos 0) (omega (arith, ints, clamps, e, l)))
 
-half_way : (sample sum middle part half : ℤ) → (pos 2 *ℤ half) ≤ℤ (part +ℤ (sum -ℤ pos 4 *ℤ middle)) → ((part +ℤ (sum -ℤ pos 4 *ℤ middle)) +ℤ pos 1) ≤ℤ (pos 2 *ℤ half +ℤ pos 2)
+half_way : (sample sum middle part half : ℤ) → (pos 2 *ℤ half) ≤ℤ (part +ℤ (sum -ℤ pos 4 *ℤ middle))
+    → ((part +ℤ (sum -ℤ pos 4 *ℤ middle)) +ℤ pos 1) ≤ℤ (pos 2 *ℤ half +ℤ pos 2)
     → int_lt (pos 2 *ℤ sample) (half +ℤ pos 2 *ℤ middle +ℤ pos 1) ≡ int_le (pos 4 *ℤ sample -ℤ sum) part
 half_way sample sum middle part half under over =
     same_test _ _

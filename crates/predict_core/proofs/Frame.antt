@@ -1,5 +1,6 @@
 -- What is read at a place is earlier.
-use Rattle.std.proofs.Common.{◌≡◌, ◌≢◌, ◌⊎◌, inl, inr, ◌+◌, ◌-◌, ◌*◌, ◌/◌, ◌%◌, ◌<◌, ◌≤◌, ℕ, zero, suc, ℤ, pos, ◌+ℤ◌, ◌*ℤ◌, Bool, true, false, List, [], ◌∷◌, arith, refl, ◌∙◌, sym, ap, ap₂, subst, div-add-mod', mul-le-mul_right, le_antisymm}
+use Rattle.std.proofs.Common.{◌≡◌, ◌≢◌, ◌⊎◌, inl, inr, ◌+◌, ◌-◌, ◌*◌, ◌/◌, ◌%◌, ◌<◌, ◌≤◌, ℕ, zero, suc, ℤ, pos, ◌+ℤ◌, ◌*ℤ◌, Bool, true, false, List, [], ◌∷◌}
+use Rattle.std.proofs.Common.{arith, refl, ◌∙◌, sym, ap, ap₂, subst, div-add-mod', mul-le-mul_right, le_antisymm}
 use Rattle.std.proofs.Math.Nat.{mod-lt, div-mul-le_self, div-zero}
 use Rattle.std.proofs.Math.Arith.{digits_lt}
 use Rattle.std.proofs.lemmas.Nat.{div_below, le-div}
@@ -27,8 +28,10 @@ use Rattle.predict_core.proofs.Directions.{directional_first, directional_left, 
 row_more : (a b k : ℕ) → suc a ≡ b → a * k + k ≡ b * k
 row_more a b k e = let f : a * k + k ≡ suc a * k = omega arith in f ∙ ap (λ n. n * k) e
 
-module _ (p : Predictor) (c d : Image) (same : c.shape.columns ≡ d.shape.columns) (z y x : ℕ) (later : 0 < y + x) (wide : p.column ≡ false → 2 ≤ c.shape.columns) (column : x < c.shape.columns)
-    (reads : (y' x' : ℕ) → x' < c.shape.columns → y' * c.shape.columns + x' < y * c.shape.columns + x → y' ≤ y → sample_at c z y' x' ≡ sample_at d z y' x') where
+module _ (p : Predictor) (c d : Image) (same : c.shape.columns ≡ d.shape.columns) (z y x : ℕ)
+    (later : 0 < y + x) (wide : p.column ≡ false → 2 ≤ c.shape.columns) (column : x < c.shape.columns)
+    (reads : (y' x' : ℕ) → x' < c.shape.columns → y' * c.shape.columns + x' < y * c.shape.columns + x → y' ≤ y
+    → sample_at c z y' x' ≡ sample_at d z y' x') where
   row_up : (x' : ℕ) → x' < c.shape.columns → y ≢ 0 → (y - 1) * c.shape.columns + x' < y * c.shape.columns + x
   row_up x' h n =
       let e : (y - 1) * c.shape.columns + c.shape.columns ≡ y * c.shape.columns = row_more (y - 1) y c.shape.columns (omega arith) in
@@ -97,18 +100,22 @@ module _ (p : Predictor) (c d : Image) (same : c.shape.columns ≡ d.shape.colum
           rw (directional_inside p c z y x n h, directional_inside p d z y x n h, s, u, v, l) refl
 
 -- what is read at a place of one band
-module _ (p : Predictor) (c d : Image) (z y x : ℕ) (place : IsPlace c.shape z y x) (later : 0 < y + x) (wide : p.column ≡ false → 2 ≤ c.shape.columns) (agree : Agree c d z (y * c.shape.columns + x)) where
+module _ (p : Predictor) (c d : Image) (z y x : ℕ) (place : IsPlace c.shape z y x)
+    (later : 0 < y + x) (wide : p.column ≡ false → 2 ≤ c.shape.columns) (agree : Agree c d z (y * c.shape.columns + x)) where
   own : (y' x' : ℕ) → x' < c.shape.columns → y' * c.shape.columns + x' < y * c.shape.columns + x → y' ≤ y → sample_at c z y' x' ≡ sample_at d z y' x'
   own y' x' h l k = agree.samples z y' x' (record { band = place.band; row = (let r = place.row in omega arith); column = h }) (inr (refl, l))
 
-  under : (z' y' x' : ℕ) → z' < z → x' < c.shape.columns → y' * c.shape.columns + x' ≤ y * c.shape.columns + x → y' ≤ y → sample_at c z' y' x' ≡ sample_at d z' y' x'
-  under z' y' x' b h l k = agree.samples z' y' x' (record { band = (let r = place.band in omega arith); row = (let r = place.row in omega arith); column = h }) (inl (b, l))
+  under : (z' y' x' : ℕ) → z' < z → x' < c.shape.columns → y' * c.shape.columns + x' ≤ y * c.shape.columns + x → y' ≤ y
+      → sample_at c z' y' x' ≡ sample_at d z' y' x'
+  under z' y' x' b h l k =
+      agree.samples z' y' x' (record { band = (let r = place.band in omega arith); row = (let r = place.row in omega arith); column = h }) (inl (b, l))
 
   central_same : (z' : ℕ) → z' < z → central_difference p c z' y x ≡ central_difference p d z' y x
   unfolding central_difference
   central_same z' b =
       let s = under z' y x b place.column (omega arith) (omega arith) in
-      let m = local_sum_same p c d (ap (λ (s : Sizes). s.columns) agree.alike.shape) z' y x later wide place.column (λ y' x' h l k. under z' y' x' b h (omega arith) k) in
+      let m = local_sum_same p c d (ap (λ (s : Sizes). s.columns) agree.alike.shape) z' y x later wide place.column
+      (λ y' x' h l k. under z' y' x' b h (omega arith) k) in
       rw (s, m) refl
 
   spectral_same : (n : ℕ) → n ≤ z → spectral_differences p c z y x n ≡ spectral_differences p d z y x n
@@ -129,7 +136,8 @@ module _ (p : Predictor) (c d : Image) (z y x : ℕ) (place : IsPlace c.shape z 
       let b = directional_same p c d (ap (λ (s : Sizes). s.columns) agree.alike.shape) z y x later wide place.column own in
       rw (a, b) refl
 
-pub exponent_same : (p : Predictor) (c d : Image) (t : ℕ) → AreAlike c d → step_exponent p c.shape.columns c.kind.bits t ≡ step_exponent p d.shape.columns d.kind.bits t
+pub exponent_same : (p : Predictor) (c d : Image) (t : ℕ) → AreAlike c d
+    → step_exponent p c.shape.columns c.kind.bits t ≡ step_exponent p d.shape.columns d.kind.bits t
 exponent_same p c d t k = ap₂ (λ n m. step_exponent p n m t) (ap (λ (s : Sizes). s.columns) k.shape) (ap (λ (s : SampleKind). s.bits) k.kind)
 
 pub scaled_there_same : (p : Predictor) (c d : Image) (z y x : ℕ) (ws : List ℤ) → c.kind ≡ d.kind → local_sum p c z y x ≡ local_sum p d z y x
@@ -168,8 +176,13 @@ rows_some : (a b : ℕ) → 0 < a * b → 0 < a
 rows_some zero b h = absurd (omega arith)
 rows_some (suc a) b h = omega arith
 
-pub first_scaled_same : (p : Predictor) (c d : Image) (z : ℕ) → z < c.shape.bands → 0 < c.shape.columns → 0 < c.shape.rows → Agree c d z 0 → first_scaled p c z ≡ first_scaled p d z
-first_scaled_same p c d z band some rows a = elim (cases_eq p.previous 0) [ inl e ↦ middle (inl e) | inr n ↦ elim (cases_eq z 0) [ inl e ↦ middle (inr (n, e)) | inr m ↦ below n m ] ]
+pub first_scaled_same : (p : Predictor) (c d : Image) (z : ℕ) → z < c.shape.bands → 0 < c.shape.columns → 0 < c.shape.rows → Agree c d z 0
+    → first_scaled p c z ≡ first_scaled p d z
+first_scaled_same p c d z band some rows a =
+    elim (cases_eq p.previous 0) [
+      | inl e ↦ middle (inl e)
+      | inr n ↦ elim (cases_eq z 0) [ inl e ↦ middle (inr (n, e)) | inr m ↦ below n m ]
+    ]
   where
     middle : (p.previous ≡ 0) ⊎ ((p.previous ≡ 0 → ⊥) × (z ≡ 0)) → first_scaled p c z ≡ first_scaled p d z
     middle h = first_from_middle p c z h ∙ ap (λ (k : SampleKind). pos 2 *ℤ smid k) a.alike.kind ∙ sym (first_from_middle p d z h)
@@ -203,7 +216,8 @@ module _ (p : Predictor) (c d : Image) (z : ℕ) (band : z < c.shape.bands) (som
       let before = agree_before c d z t (suc t) (omega arith) a in
       let r = place_same t h k before in
       let v : sample_at c z (t / c.shape.columns) (t % c.shape.columns) ≡ sample_at d z (t / c.shape.columns) (t % c.shape.columns) =
-      a.samples z (t / c.shape.columns) (t % c.shape.columns) (place_of c z t band some k) (inr (refl, (let e = index_of c z t band some k in omega (arith, e)))) in
+      a.samples z (t / c.shape.columns) (t % c.shape.columns) (place_of c z t band some k)
+      (inr (refl, (let e = index_of c z t band some k in omega (arith, e)))) in
       let s = scaled_there_same p c d z (t / c.shape.columns) (t % c.shape.columns) ws a.alike.kind r.1 r.0 in
       rw (row_same t before, column_same t before, s, r.0, v, exponent_same p c d t a.alike) refl
 
@@ -249,13 +263,15 @@ div_le a b k h = elim (cases_lt 0 k) [ inl l ↦ le-div (a / k) b k l (omega (ar
 same_row : (columns y x y' x' : ℕ) → y' ≡ y → y' * columns + x' < y * columns + x → x' < x
 same_row columns y x y' x' e l = let f : y' * columns ≡ y * columns = ap (λ n. n * columns) e in omega (arith, f)
 
-by_bands : (columns z y x z' y' x' : ℕ) → x < columns → x' < columns → IsEarlier z (y * columns + x) z' (y' * columns + x') → IsBefore (z' ∷ y' ∷ x' ∷ []) (z ∷ y ∷ x ∷ [])
+by_bands : (columns z y x z' y' x' : ℕ) → x < columns → x' < columns → IsEarlier z (y * columns + x) z' (y' * columns + x')
+    → IsBefore (z' ∷ y' ∷ x' ∷ []) (z ∷ y ∷ x ∷ [])
 by_bands columns z y x z' y' x' h k (inl (b, l)) = inl b
 by_bands columns z y x z' y' x' h k (inr (b, l)) =
     inr (b, elim (row_order columns y x y' x' h k (omega arith)) [ inl a ↦ inl a | inr q ↦ inr (q.0, inl (same_row columns y x y' x' q.0 l)) ])
 
 -- z' is not above z: then its group is not above z's
-by_groups : (m columns z y x z' y' x' : ℕ) → x < columns → x' < columns → IsEarlier z (y * columns + x) z' (y' * columns + x') → IsBefore (y' ∷ z' / m ∷ x' ∷ z' ∷ []) (y ∷ z / m ∷ x ∷ z ∷ [])
+by_groups : (m columns z y x z' y' x' : ℕ) → x < columns → x' < columns → IsEarlier z (y * columns + x) z' (y' * columns + x')
+    → IsBefore (y' ∷ z' / m ∷ x' ∷ z' ∷ []) (y ∷ z / m ∷ x ∷ z ∷ [])
 by_groups m columns z y x z' y' x' h k (inl (b, l)) =
     elim (row_order columns y x y' x' h k l) [
       | inl a ↦ inl a
@@ -285,7 +301,8 @@ places_precede_lem p order c d place wide alike there reads =
     let t : ℕ = place.y * c.shape.columns + place.x in
     let agree : Agree c d place.z t = record {
       alike = alike;
-      samples = λ z' y' x' q e. reads (record { z = z'; y = y'; x = x' }) q (before_is order c.shape.columns place (record { z = z'; y = y'; x = x' }) there.column q.column e);
+      samples = λ z' y' x' q e. reads (record { z = z'; y = y'; x = x' }) q
+          (before_is order c.shape.columns place (record { z = z'; y = y'; x = x' }) there.column q.column e);
     } in
     let within : t < c.shape.rows * c.shape.columns = digits_lt there.row there.column in
     record {

@@ -27,7 +27,8 @@ inner_within n (w ∷ ws) (u ∷ us) h k =
     product_within n w u h k = rw (unsigned_abs-mul w u) (mul-le (unsigned_abs w) (unsigned_abs u) n (2 ^ 18) h k)
 
 -- of the first so many
-pub first_within : (n k : ℕ) (ws us : List ℤ) → k ≤ 18 → AllWithin n ws → AllWithin (2 ^ 18) us → unsigned_abs (inner_product (take k ws) (take k us)) ≤ 18 * (n * 2 ^ 18)
+pub first_within : (n k : ℕ) (ws us : List ℤ) → k ≤ 18 → AllWithin n ws → AllWithin (2 ^ 18) us
+    → unsigned_abs (inner_product (take k ws) (take k us)) ≤ 18 * (n * 2 ^ 18)
 first_within n k ws us few h l =
     let e = length-take k us in
     le_trans (inner_within n (take k ws) (take k us) (within_take n k ws h) (within_take (2 ^ 18) k us l))

@@ -1,5 +1,6 @@
 -- How far the exponent of the steps stays the same.
-use Rattle.std.proofs.Common.{◌≡◌, ℕ, ◌+◌, ◌-◌, ◌*◌, ◌/◌, ◌%◌, ◌^◌, ◌<◌, ◌≤◌, ℤ, pos, negsuc, ◌+ℤ◌, ◌-ℤ◌, ◌≤ℤ◌, ◌<ℤ◌, arith, refl, sym, ap, ◌∙◌, pow_pos, pow_mono}
+use Rattle.std.proofs.Common.{◌≡◌, ℕ, ◌+◌, ◌-◌, ◌*◌, ◌/◌, ◌%◌, ◌^◌, ◌<◌, ◌≤◌, ℤ, pos, negsuc, ◌+ℤ◌, ◌-ℤ◌, ◌≤ℤ◌, ◌<ℤ◌, arith, refl, sym, ap, ◌∙◌, pow_pos}
+use Rattle.std.proofs.Common.{pow_mono}
 use Rattle.std.proofs.lemmas.Int.{ints, clamps}
 use Rattle.std.proofs.Math.Nat.{div-mul-le_self, lt-div-mul-add, mod-eq_of_lt}
 use Rattle.predict_core.specs.Arithmetic.{floor_div, clip}
@@ -30,7 +31,8 @@ behind_first_row : (p : Predictor) (columns t : ℕ) → columns ≤ t → growt
 unfolding growth
 behind_first_row p columns t h = let e : pos t -ℤ pos columns ≡ pos (t - columns) = omega (arith, ints) in rw e refl
 
-pub alike_in_first_row : (p : Predictor) (columns bits t k : ℕ) → p.vmin ≤ℤ p.vmax → t + k < columns → step_exponent p columns bits (t + k) ≡ step_exponent p columns bits t
+pub alike_in_first_row : (p : Predictor) (columns bits t k : ℕ) → p.vmin ≤ℤ p.vmax → t + k < columns
+    → step_exponent p columns bits (t + k) ≡ step_exponent p columns bits t
 unfolding step_exponent
 alike_in_first_row p columns bits t k h l = rw (in_first_row p columns (t + k) h l, in_first_row p columns t h (omega arith)) refl
 
@@ -41,7 +43,8 @@ unfolding step_exponent
 alike_later p columns bits t k h e =
     let s : t + k - columns ≡ t - columns + k = omega arith in
     let m : columns ≤ t + k = omega arith in
-    ap (λ v. v +ℤ pos bits -ℤ pos p.fraction) (behind_first_row p columns (t + k) m ∙ ap (λ n. clip (p.vmin +ℤ pos (n / 2 ^ p.interval_log)) p.vmin p.vmax) s ∙ e ∙ sym (behind_first_row p columns t h))
+    ap (λ v. v +ℤ pos bits -ℤ pos p.fraction) (behind_first_row p columns (t + k) m ∙ ap (λ n. clip (p.vmin +ℤ pos (n / 2 ^ p.interval_log)) p.vmin p.vmax) s
+    ∙ e ∙ sym (behind_first_row p columns t h))
 
 -- from where the exponent is the greatest
 pub alike_at_most : (low high : ℤ) (a b : ℕ) → low ≤ℤ high → high ≤ℤ (low +ℤ pos a) → a ≤ b → clip (low +ℤ pos b) low high ≡ clip (low +ℤ pos a) low high

@@ -1,5 +1,6 @@
 -- The sum that the register takes is small.
-use Rattle.std.proofs.Common.{◌≡◌, ◌+◌, ◌-◌, ◌*◌, ◌^◌, ◌<◌, ◌≤◌, ℕ, zero, suc, ℤ, pos, ◌+ℤ◌, ◌-ℤ◌, ◌*ℤ◌, ◌≤ℤ◌, neg_ℤ, unsigned_abs, Bool, true, false, List, [], ◌∷◌, length, if◌then◌else◌, arith, refl, sym, subst, ap, ◌∙◌, le_trans}
+use Rattle.std.proofs.Common.{◌≡◌, ◌+◌, ◌-◌, ◌*◌, ◌^◌, ◌<◌, ◌≤◌, ℕ, zero, suc, ℤ, pos, ◌+ℤ◌, ◌-ℤ◌, ◌*ℤ◌, ◌≤ℤ◌, neg_ℤ, unsigned_abs, Bool, true, false, List, []}
+use Rattle.std.proofs.Common.{◌∷◌, length, if◌then◌else◌, arith, refl, sym, subst, ap, ◌∙◌, le_trans}
 use Rattle.std.proofs.lemmas.Int.{ints, unsigned_abs-mul}
 use Rattle.std.proofs.lemmas.Nat.{mul-le, pow_pos}
 use Rattle.std.proofs.Math.Pow.{pow_mono, pow-add}
@@ -75,14 +76,17 @@ unfolding updated_weight
 updated_small fraction exponent negative w u =
     let some : 1 ≤ 2 ^ (fraction + 2) = pow_pos (fraction + 2) in
     let ordered : weight_min fraction ≤ℤ weight_max fraction = omega (arith, ints, some) in
-    held_small (2 ^ (fraction + 2)) _ (clipped_low _ (weight_min fraction) (weight_max fraction) _ refl) (clipped_high _ (weight_min fraction) (weight_max fraction) _ ordered refl)
+    held_small (2 ^ (fraction + 2)) _ (clipped_low _ (weight_min fraction) (weight_max fraction) _ refl)
+    (clipped_high _ (weight_min fraction) (weight_max fraction) _ ordered refl)
 
-updated_within : (fraction : ℕ) (exponent : ℤ) (negative : Bool) (ws us : List ℤ) → AllWithin (2 ^ (fraction + 2)) (updated_weights fraction exponent negative ws us)
+updated_within : (fraction : ℕ) (exponent : ℤ) (negative : Bool) (ws us : List ℤ)
+    → AllWithin (2 ^ (fraction + 2)) (updated_weights fraction exponent negative ws us)
 unfolding updated_weights
 updated_within fraction exponent negative [] us = within_none (2 ^ (fraction + 2))
 updated_within fraction exponent negative (w ∷ ws) [] = within_none (2 ^ (fraction + 2))
 updated_within fraction exponent negative (w ∷ ws) (u ∷ us) =
-    within_cons (2 ^ (fraction + 2)) (updated_weight fraction exponent negative w u) (updated_weights fraction exponent negative ws us) (updated_small fraction exponent negative w u) (updated_within fraction exponent negative ws us)
+    within_cons (2 ^ (fraction + 2)) (updated_weight fraction exponent negative w u) (updated_weights fraction exponent negative ws us)
+    (updated_small fraction exponent negative w u) (updated_within fraction exponent negative ws us)
 
 pub weights_within : (p : Params) (c : Image) (z t : ℕ) → IsLawful p → AllWithin (2 ^ (p.omega + 2)) (weight_vector p c z t)
 unfolding weight_vector next_weights
@@ -101,12 +105,15 @@ few_components p z few = by_reduced p.reduced
 
 -- ---- the local sum
 
-middle_between : (signed : Bool) (bits : ℕ) → 2 ≤ bits → Between (smin (record { signed = signed; bits = bits })) (smax (record { signed = signed; bits = bits })) (smid (record { signed = signed; bits = bits }))
+middle_between : (signed : Bool) (bits : ℕ) → 2 ≤ bits
+    → Between (smin (record { signed = signed; bits = bits })) (smax (record { signed = signed; bits = bits })) (smid (record { signed = signed; bits = bits }))
 middle_between true bits some = (let power = pow_pos (bits - 1) in (omega (arith, ints, power), omega (arith, ints, power)))
-middle_between false bits some = (let two = doubled bits (omega arith) in let power = pow_pos (bits - 1) in (omega (arith, ints, power), omega (arith, ints, two, power)))
+middle_between false bits some =
+    (let two = doubled bits (omega arith) in let power = pow_pos (bits - 1) in (omega (arith, ints, power), omega (arith, ints, two, power)))
 
 raised_small : (k : ℕ) (v : ℤ) → k ≤ 19 → unsigned_abs v ≤ 2 ^ 18 → unsigned_abs (pos (2 ^ k) *ℤ v) ≤ 2 ^ 37
-raised_small k v le small = rw (unsigned_abs-mul (pos (2 ^ k)) v) (let power : 2 ^ k ≤ 2 ^ 19 = pow_mono le in mul-le (2 ^ k) (unsigned_abs v) (2 ^ 19) (2 ^ 18) power small)
+raised_small k v le small =
+    rw (unsigned_abs-mul (pos (2 ^ k)) v) (let power : 2 ^ k ≤ 2 ^ 19 = pow_mono le in mul-le (2 ^ k) (unsigned_abs v) (2 ^ 19) (2 ^ 18) power small)
 
 turned : (a b : ℤ) (n : ℕ) → unsigned_abs (a -ℤ b) ≤ n → unsigned_abs (b -ℤ a) ≤ n
 turned a b n h = omega (arith, ints, h)
@@ -115,7 +122,8 @@ both_small : (a b : ℤ) (n : ℕ) → n ≤ 2 ^ 21 → unsigned_abs a ≤ 18 * 
 both_small a b n most h k = omega (arith, ints, h, k)
 
 -- what is predicted from at a place of a cube, by weights between their bounds
-module _ (q : Predictor) (c : Image) (z y x : ℕ) (ws : List ℤ) (cube : IsCube c) (place : IsPlace c.shape z y x) (later : 0 < y + x) (wide : q.column ≡ false → 2 ≤ c.shape.columns) (few : q.previous ≤ 15) (most : q.fraction ≤ 19)
+module _ (q : Predictor) (c : Image) (z y x : ℕ) (ws : List ℤ) (cube : IsCube c) (place : IsPlace c.shape z y x)
+    (later : 0 < y + x) (wide : q.column ≡ false → 2 ≤ c.shape.columns) (few : q.previous ≤ 15) (most : q.fraction ≤ 19)
     (within : AllWithin (2 ^ (q.fraction + 2)) ws) where
   pub products_small : unsigned_abs (inner_product ws (difference_vector q c z y x)) ≤ 18 * (2 ^ (q.fraction + 2) * 2 ^ 18)
   products_small =
@@ -123,26 +131,33 @@ module _ (q : Predictor) (c : Image) (z y x : ℕ) (ws : List ℤ) (cube : IsCub
       let bits : c.kind.bits ≤ 16 = cube.bits.1 in
       let vector = within_most c.kind.bits us bits (vector_within q c cube y x later wide z place) in
       let short : length us ≤ 18 = omega (arith, vector_length q c z y x, few_components q z few) in
-      le_trans (inner_within (2 ^ (q.fraction + 2)) ws us within vector) (mul-le (length us) (2 ^ (q.fraction + 2) * 2 ^ 18) 18 (2 ^ (q.fraction + 2) * 2 ^ 18) short (omega arith))
+      le_trans (inner_within (2 ^ (q.fraction + 2)) ws us within vector)
+      (mul-le (length us) (2 ^ (q.fraction + 2) * 2 ^ 18) 18 (2 ^ (q.fraction + 2) * 2 ^ 18) short (omega arith))
 
-  pub register_small : unsigned_abs (inner_product ws (difference_vector q c z y x) +ℤ pos (2 ^ q.fraction) *ℤ (local_sum q c z y x -ℤ pos 4 *ℤ smid c.kind)) < 2 ^ 45
+  pub register_small : unsigned_abs (inner_product ws (difference_vector q c z y x) +ℤ pos (2 ^ q.fraction) *ℤ (local_sum q c z y x -ℤ pos 4 *ℤ smid c.kind))
+      < 2 ^ 45
   register_small =
       let bits : c.kind.bits ≤ 16 = cube.bits.1 in
       let middle = middle_between c.kind.signed c.kind.bits cube.bits.0 in
       let power : 2 ^ c.kind.bits ≤ 2 ^ 16 = pow_mono bits in
-      let near = apart (smin c.kind) (smax c.kind) (smid c.kind) (local_sum q c z y x) (2 ^ c.kind.bits) (span c.kind cube.bits) middle (sum_within q c cube y x later wide z place) in
+      let near = apart (smin c.kind) (smax c.kind) (smid c.kind) (local_sum q c z y x) (2 ^ c.kind.bits) (span c.kind cube.bits) middle
+      (sum_within q c cube y x later wide z place) in
       let small = turned (pos 4 *ℤ smid c.kind) (local_sum q c z y x) (2 ^ 18) (omega (arith, near, power)) in
-      both_small (inner_product ws (difference_vector q c z y x)) (pos (2 ^ q.fraction) *ℤ (local_sum q c z y x -ℤ pos 4 *ℤ smid c.kind)) (2 ^ (q.fraction + 2)) (limit_within q.fraction most) products_small (raised_small q.fraction (local_sum q c z y x -ℤ pos 4 *ℤ smid c.kind) most small)
+      both_small (inner_product ws (difference_vector q c z y x)) (pos (2 ^ q.fraction) *ℤ (local_sum q c z y x -ℤ pos 4 *ℤ smid c.kind)) (2 ^ (q.fraction + 2))
+      (limit_within q.fraction most) products_small (raised_small q.fraction (local_sum q c z y x -ℤ pos 4 *ℤ smid c.kind) most small)
 
 -- and by those of a cube
 wide_enough : (p : Params) (c : Image) → IsLawful p → c.shape ≡ p.shape → p.column ≡ false → 2 ≤ c.shape.columns
 wide_enough p c lawful shape e = subst (λ (s : Sizes). 2 ≤ s.columns) (sym shape) (lawful.sums e)
 
 pub products_within : (p : Params) (c : Image) (z y x : ℕ) → IsLawful p → IsCube c → c.shape ≡ p.shape → IsPlace c.shape z y x → 0 < y + x
-    → unsigned_abs (inner_product (weight_vector p c z (y * c.shape.columns + x)) (difference_vector (predictor_of p) c z y x)) ≤ 18 * (2 ^ (p.omega + 2) * 2 ^ 18)
+    → unsigned_abs (inner_product (weight_vector p c z (y * c.shape.columns + x)) (difference_vector (predictor_of p) c z y x))
+    ≤ 18 * (2 ^ (p.omega + 2) * 2 ^ 18)
 products_within p c z y x lawful cube shape place later =
-    products_small (predictor_of p) c z y x (weight_vector p c z (y * c.shape.columns + x)) cube place later (wide_enough p c lawful shape) lawful.previous lawful.fraction.1 (weights_within p c z (y * c.shape.columns + x) lawful)
+    products_small (predictor_of p) c z y x (weight_vector p c z (y * c.shape.columns + x)) cube place later
+    (wide_enough p c lawful shape) lawful.previous lawful.fraction.1 (weights_within p c z (y * c.shape.columns + x) lawful)
 
 pub register_bound : RegisterBound
 register_bound p c z y x lawful cube shape kind place later =
-    register_small (predictor_of p) c z y x (weight_vector p c z (y * c.shape.columns + x)) cube place later (wide_enough p c lawful shape) lawful.previous lawful.fraction.1 (weights_within p c z (y * c.shape.columns + x) lawful)
+    register_small (predictor_of p) c z y x (weight_vector p c z (y * c.shape.columns + x)) cube place later
+    (wide_enough p c lawful shape) lawful.previous lawful.fraction.1 (weights_within p c z (y * c.shape.columns + x) lawful)

@@ -17,7 +17,8 @@ use Rattle.predict_core.proofs.Ranges.{sample_within}
 pub sign_by_difference : (k : SampleKind) (sum sample part scaled : ℤ) → IsSample k sample → scaled ≡ scaled_by_difference k part sum
     → int_lt (pos 2 *ℤ sample -ℤ scaled) (pos 0) ≡ int_le (pos 4 *ℤ sample -ℤ sum) part
 sign_by_difference k sum sample part scaled h e =
-    sign_of_center (smin k) (smax k) sample (floor_div (part +ℤ (sum -ℤ pos 4 *ℤ smid k)) 2 +ℤ pos 2 *ℤ smid k +ℤ pos 1) scaled h.0 h.1 e ∙ sign_of_part sample sum (smid k) part
+    sign_of_center (smin k) (smax k) sample (floor_div (part +ℤ (sum -ℤ pos 4 *ℤ smid k)) 2 +ℤ pos 2 *ℤ smid k +ℤ pos 1) scaled h.0 h.1 e
+    ∙ sign_of_part sample sum (smid k) part
 
 module _ (q : Predictor) (c : Image) (z y x : ℕ) (ws : List ℤ) (cube : IsCube c) (place : IsPlace c.shape z y x) where
   sign : (part : ℤ) → scaled_there q c z y x ws ≡ scaled_by_difference c.kind part (local_sum q c z y x)
@@ -25,9 +26,12 @@ module _ (q : Predictor) (c : Image) (z y x : ℕ) (ws : List ℤ) (cube : IsCub
   unfolding central_difference
   sign part e = sign_by_difference c.kind (local_sum q c z y x) (sample_at c z y x) part (scaled_there q c z y x ws) (sample_within c cube z y x place) e
 
-  pub next_by_difference : (new : List ℤ) (own part : ℤ) → own ≡ central_difference q c z y x → scaled_there q c z y x ws ≡ scaled_by_difference c.kind part (local_sum q c z y x)
-      → new ≡ updated_weights q.fraction (step_exponent q c.shape.columns c.kind.bits (y * c.shape.columns + x)) (int_le own part) ws (difference_vector q c z y x)
+  pub next_by_difference : (new : List ℤ) (own part : ℤ) → own ≡ central_difference q c z y x
+      → scaled_there q c z y x ws ≡ scaled_by_difference c.kind part (local_sum q c z y x)
+      → new ≡ updated_weights q.fraction (step_exponent q c.shape.columns c.kind.bits (y * c.shape.columns + x)) (int_le own part) ws
+      (difference_vector q c z y x)
       → new ≡ next_weights q c z (y * c.shape.columns + x) ws
   next_by_difference new own part a e h =
       next_is q c z (y * c.shape.columns + x) y x ws new (scaled_there q c z y x ws) (sample_at c z y x) refl place.column refl refl
-      (h ∙ ap (λ t. updated_weights q.fraction (step_exponent q c.shape.columns c.kind.bits (y * c.shape.columns + x)) t ws (difference_vector q c z y x)) (rw a (sym (sign part e))))
+      (h ∙ ap (λ t. updated_weights q.fraction (step_exponent q c.shape.columns c.kind.bits (y * c.shape.columns + x)) t ws (difference_vector q c z y x))
+      (rw a (sym (sign part e))))

@@ -1,5 +1,6 @@
 -- The local sum, case by case, from samples and from offsets.
-use Rattle.std.proofs.Common.{◌≡◌, ◌≢◌, ◌+◌, ◌-◌, ◌*◌, ◌<◌, ◌≤◌, ℕ, ℤ, pos, ◌+ℤ◌, ◌-ℤ◌, ◌*ℤ◌, Bool, true, false, List, length, get_or, inl, inr, arith, refl, ◌∙◌, sym}
+use Rattle.std.proofs.Common.{◌≡◌, ◌≢◌, ◌+◌, ◌-◌, ◌*◌, ◌<◌, ◌≤◌, ℕ, ℤ, pos, ◌+ℤ◌, ◌-ℤ◌, ◌*ℤ◌, Bool, true, false, List, length, get_or, inl, inr, arith, refl}
+use Rattle.std.proofs.Common.{◌∙◌, sym}
 use Rattle.std.proofs.lemmas.Int.{ints}
 use Rattle.std.proofs.lemmas.Bool.{cases_eq}
 use Rattle.std.proofs.lemmas.Bool.Decides.{nat_tests}
@@ -44,7 +45,8 @@ offsets_in_first_row column y row above x e = grind (arith, nat_tests)
 offsets_by_column : (column : Bool) (y : ℕ) (row above : List ℕ) (x : ℕ) → y ≢ 0 → column ≡ true → offset_sum column y row above x ≡ 4 * get_or above x 0
 offsets_by_column column y row above x a b = grind (arith, nat_tests)
 
-pub offsets_at_left : (column : Bool) (y : ℕ) (row above : List ℕ) (x : ℕ) → y ≢ 0 → column ≡ false → x ≡ 0 → offset_sum column y row above x ≡ 2 * (get_or above x 0 + get_or above (x + 1) 0)
+pub offsets_at_left : (column : Bool) (y : ℕ) (row above : List ℕ) (x : ℕ) → y ≢ 0 → column ≡ false → x ≡ 0
+    → offset_sum column y row above x ≡ 2 * (get_or above x 0 + get_or above (x + 1) 0)
 offsets_at_left column y row above x a b d = grind (arith, nat_tests)
 
 pub offsets_at_right : (column : Bool) (y : ℕ) (row above : List ℕ) (x : ℕ) → y ≢ 0 → column ≡ false → x ≢ 0 → x + 1 ≡ length row
@@ -66,13 +68,15 @@ two low a b h i e f = omega (arith, ints)
 three : (low a b d : ℤ) (h i j : ℕ) → a ≡ low +ℤ pos h → b ≡ low +ℤ pos i → d ≡ low +ℤ pos j → a +ℤ b +ℤ pos 2 *ℤ d ≡ pos 4 *ℤ low +ℤ pos (h + i + 2 * j)
 three low a b d h i j e f g = omega (arith, ints)
 
-all : (low a b d u : ℤ) (h i j k : ℕ) → a ≡ low +ℤ pos h → b ≡ low +ℤ pos i → d ≡ low +ℤ pos j → u ≡ low +ℤ pos k → a +ℤ b +ℤ d +ℤ u ≡ pos 4 *ℤ low +ℤ pos (h + i + j + k)
+all : (low a b d u : ℤ) (h i j k : ℕ) → a ≡ low +ℤ pos h → b ≡ low +ℤ pos i → d ≡ low +ℤ pos j → u ≡ low +ℤ pos k
+    → a +ℤ b +ℤ d +ℤ u ≡ pos 4 *ℤ low +ℤ pos (h + i + j + k)
 all low a b d u h i j k e f g l = omega (arith, ints)
 
 less : (low a s : ℤ) (h t : ℕ) → a ≡ low +ℤ pos h → s ≡ pos 4 *ℤ low +ℤ pos t → pos 4 *ℤ a -ℤ s ≡ pos (4 * h) -ℤ pos t
 less low a s h t e f = omega (arith, ints)
 
-module _ (p : Predictor) (c : Image) (z y x : ℕ) (row above : List ℕ) (column : x < c.shape.columns) (long : length row ≡ c.shape.columns) (own : AreRowOffsets c z y row) (upper : AreRowOffsets c z (y - 1) above) (later : 0 < y + x) (wide : p.column ≡ false → 2 ≤ c.shape.columns) where
+module _ (p : Predictor) (c : Image) (z y x : ℕ) (row above : List ℕ) (column : x < c.shape.columns) (long : length row ≡ c.shape.columns)
+    (own : AreRowOffsets c z y row) (upper : AreRowOffsets c z (y - 1) above) (later : 0 < y + x) (wide : p.column ≡ false → 2 ≤ c.shape.columns) where
   left : x ≢ 0 → sample_at c z y (x - 1) ≡ smin c.kind +ℤ pos (get_or row (x - 1) 0)
   left n = (own (x - 1) (omega arith)).1
 
@@ -110,7 +114,8 @@ module _ (p : Predictor) (c : Image) (z y x : ℕ) (row above : List ℕ) (colum
           elim (cases_eq x 0) [ inl h ↦ at_left n e h | inr h ↦ elim (cases_eq (x + 1) c.shape.columns) [ inl r ↦ at_right n e h r | inr r ↦ between n e h r ] ]
 
   -- and a difference of samples is that of their offsets
-  pub difference_of_offsets : (sample : ℤ) (offset : ℕ) → sample ≡ smin c.kind +ℤ pos offset → difference_from p c z y x sample ≡ offset_difference offset (offset_sum p.column y row above x)
+  pub difference_of_offsets : (sample : ℤ) (offset : ℕ) → sample ≡ smin c.kind +ℤ pos offset
+      → difference_from p c z y x sample ≡ offset_difference offset (offset_sum p.column y row above x)
   difference_of_offsets sample offset e = less (smin c.kind) sample _ offset _ e sum_of_offsets
 
   pub central_of_offsets : central_difference p c z y x ≡ offset_difference (get_or row x 0) (offset_sum p.column y row above x)

@@ -1,5 +1,6 @@
 -- The steps of the weights in words of 32 bits.
-use Rattle.std.proofs.Common.{◌≡◌, ℕ, ◌+◌, ◌-◌, ◌*◌, ◌%◌, ◌^◌, ◌≤◌, ℤ, pos, negsuc, neg_ℤ, ◌+ℤ◌, ◌-ℤ◌, ◌*ℤ◌, ◌≤ℤ◌, unsigned_abs, Bool, true, false, if◌then◌else◌, List, refl, sym, ap, ◌∙◌, arith, w32, SFits, to_z, pow_mono, le_trans, div-one}
+use Rattle.std.proofs.Common.{◌≡◌, ℕ, ◌+◌, ◌-◌, ◌*◌, ◌%◌, ◌^◌, ◌≤◌, ℤ, pos, negsuc, neg_ℤ, ◌+ℤ◌, ◌-ℤ◌, ◌*ℤ◌, ◌≤ℤ◌, unsigned_abs, Bool, true, false}
+use Rattle.std.proofs.Common.{if◌then◌else◌, List, refl, sym, ap, ◌∙◌, arith, w32, SFits, to_z, pow_mono, le_trans, div-one}
 use Rattle.std.proofs.Math.Pow.{pow-add}
 use Rattle.std.specs.Int.{int_min, int_max}
 use Rattle.std.proofs.lemmas.Int.{ints, clamps, to_z_pos, fits_signed_from_abs, unsigned_abs-mul}
@@ -43,7 +44,8 @@ halving_is a k = ap (λ b. floor_div (b +ℤ pos (2 ^ k)) (2 ^ (k + 1))) (once a
     once : (b : ℤ) → b *ℤ pos 1 ≡ b
     once b = omega (arith, ints)
 
-pub half_added : (a half : ℤ) (k : ℕ) → k ≤ 22 → unsigned_abs a ≤ 2 ^ (26 - k) → pos 0 ≤ℤ half → half ≤ℤ pos 2097152 → unsigned_abs (a *ℤ pos (2 ^ k) +ℤ half) ≤ 2 ^ 27
+pub half_added : (a half : ℤ) (k : ℕ) → k ≤ 22 → unsigned_abs a ≤ 2 ^ (26 - k) → pos 0 ≤ℤ half → half ≤ℤ pos 2097152
+    → unsigned_abs (a *ℤ pos (2 ^ k) +ℤ half) ≤ 2 ^ 27
 half_added a half k l h b d = let r = raised_within a k (omega arith) h in added (a *ℤ pos (2 ^ k)) r
   where
     added : (v : ℤ) → unsigned_abs v ≤ 2 ^ 26 → unsigned_abs (v +ℤ half) ≤ 2 ^ 27
@@ -79,13 +81,15 @@ clipped_high a low high r h e = omega (arith, ints, clamps)
 pub held_within : (n : ℕ) (r : ℤ) → 1 ≤ n → (pos 0 -ℤ pos n) ≤ℤ r → r ≤ℤ (pos n -ℤ pos 1) → unsigned_abs r ≤ n
 held_within n r k a b = omega (arith, ints)
 
-pub moved_is : (fraction : ℕ) (exponent : ℤ) (negative : Bool) (weight difference size moved r : ℤ) → size ≡ signed_by negative difference → moved ≡ step exponent size
+pub moved_is : (fraction : ℕ) (exponent : ℤ) (negative : Bool) (weight difference size moved r : ℤ) → size ≡ signed_by negative difference
+    → moved ≡ step exponent size
     → r ≡ clip (weight +ℤ moved) (weight_min fraction) (weight_max fraction) → r ≡ updated_weight fraction exponent negative weight difference
 unfolding updated_weight
 moved_is fraction exponent negative weight difference size moved r a b e = e ∙ rw (b, a) refl
 
 -- a weight after an error of either sign
-pub chosen_weight : (fraction : ℕ) (exponent : ℤ) (negative : Bool) (weight difference raised lowered r : ℤ) → raised ≡ updated_weight fraction exponent false weight difference → lowered ≡ updated_weight fraction exponent true weight difference
+pub chosen_weight : (fraction : ℕ) (exponent : ℤ) (negative : Bool) (weight difference raised lowered r : ℤ)
+    → raised ≡ updated_weight fraction exponent false weight difference → lowered ≡ updated_weight fraction exponent true weight difference
     → r ≡ (if negative then lowered else raised) → r ≡ updated_weight fraction exponent negative weight difference
 chosen_weight fraction exponent true weight difference raised lowered r up down is = is ∙ down
 chosen_weight fraction exponent false weight difference raised lowered r up down is = is ∙ up

@@ -1,5 +1,6 @@
 -- Numbers of offsets: the lesser of two, and the same as those of samples.
-use Rattle.std.proofs.Common.{◌≡◌, ℕ, ◌+◌, ◌*◌, ◌%◌, ◌^◌, ◌≤◌, ◌⊎◌, inl, inr, min, ℤ, pos, negsuc, ◌+ℤ◌, ◌-ℤ◌, ◌*ℤ◌, ◌≤ℤ◌, unsigned_abs, Bool, true, false, refl, sym, ap, ap₂, ◌∙◌, arith, to_z, of_z, w32, SFits}
+use Rattle.std.proofs.Common.{◌≡◌, ℕ, ◌+◌, ◌*◌, ◌%◌, ◌^◌, ◌≤◌, ◌⊎◌, inl, inr, min, ℤ, pos, negsuc, ◌+ℤ◌, ◌-ℤ◌, ◌*ℤ◌, ◌≤ℤ◌, unsigned_abs, Bool, true, false}
+use Rattle.std.proofs.Common.{refl, sym, ap, ap₂, ◌∙◌, arith, to_z, of_z, w32, SFits}
 use Rattle.std.specs.Int.{int_min}
 use Rattle.std.proofs.lemmas.Int.{ints, clamps, fits_signed_from_abs, wrapping_add_is, int_wrap_fits}
 use Rattle.predict_core.specs.Arithmetic.{floor_div, clip}
@@ -8,14 +9,19 @@ use Rattle.predict_core.proofs.OneSample.{not_both, signed_by, NumberBy, agrees_
 use Rattle.predict_core.proofs.Floors.{floor_of_sum}
 
 -- what both signs take turns for
-turns : (parity : ℕ) (e far turned : ℤ) (sign : Bool) → signed_by parity e sign → far ≡ pos 2 *ℤ e -ℤ pos (parity % 2) → (pos 0 ≤ℤ far → turned ≡ far) → (far ≤ℤ negsuc 0 → turned ≡ negsuc 0 -ℤ far)
+turns : (parity : ℕ) (e far turned : ℤ) (sign : Bool) → signed_by parity e sign → far ≡ pos 2 *ℤ e -ℤ pos (parity % 2) → (pos 0 ≤ℤ far → turned ≡ far)
+    → (far ≤ℤ negsuc 0 → turned ≡ negsuc 0 -ℤ far)
     → ((sign ≡ true) × (turned ≡ pos (2 * unsigned_abs e))) ⊎ ((sign ≡ false) × (turned +ℤ pos 1 ≡ pos (2 * unsigned_abs e)) × (1 ≤ unsigned_abs e))
 turns parity e far turned sign (inl h) f up down = inl (h.0, (let a = h.1 in let b = h.2 in let u = up (omega (arith, ints)) in omega (arith, ints)))
-turns parity e far turned sign (inr (inl h)) f up down = inr (h.0, (let a = h.1 in let b = h.2 in let u = down (omega (arith, ints)) in omega (arith, ints)), (let b = h.2 in omega (arith, ints)))
-turns parity e far turned sign (inr (inr (inl h))) f up down = inl (h.0, (let a = h.1 in let b = h.2 in let u = down (omega (arith, ints)) in omega (arith, ints)))
-turns parity e far turned sign (inr (inr (inr h))) f up down = inr (h.0, (let a = h.1 in let b = h.2 in let u = up (omega (arith, ints)) in omega (arith, ints)), (let b = h.2 in omega (arith, ints)))
+turns parity e far turned sign (inr (inl h)) f up down =
+    inr (h.0, (let a = h.1 in let b = h.2 in let u = down (omega (arith, ints)) in omega (arith, ints)), (let b = h.2 in omega (arith, ints)))
+turns parity e far turned sign (inr (inr (inl h))) f up down =
+    inl (h.0, (let a = h.1 in let b = h.2 in let u = down (omega (arith, ints)) in omega (arith, ints)))
+turns parity e far turned sign (inr (inr (inr h))) f up down =
+    inr (h.0, (let a = h.1 in let b = h.2 in let u = up (omega (arith, ints)) in omega (arith, ints)), (let b = h.2 in omega (arith, ints)))
 
-lesser_by : (theta size n : ℕ) (turned : ℤ) (sign : Bool) → ((sign ≡ true) × (turned ≡ pos (2 * size))) ⊎ ((sign ≡ false) × (turned +ℤ pos 1 ≡ pos (2 * size)) × (1 ≤ size)) → NumberBy theta size sign n → int_min turned (pos size +ℤ pos theta) ≡ pos n
+lesser_by : (theta size n : ℕ) (turned : ℤ) (sign : Bool) → ((sign ≡ true) × (turned ≡ pos (2 * size)))
+    ⊎ ((sign ≡ false) × (turned +ℤ pos 1 ≡ pos (2 * size)) × (1 ≤ size)) → NumberBy theta size sign n → int_min turned (pos size +ℤ pos theta) ≡ pos n
 lesser_by theta size n turned sign (inl t) (inl c) = let e = t.1 in let l = c.0 in let m = c.1 in omega (arith, ints, clamps)
 lesser_by theta size n turned sign (inr t) (inl c) = let e = t.1 in let l = c.0 in let m = c.1 in omega (arith, ints, clamps)
 lesser_by theta size n turned sign (inl t) (inr (inl c)) = let e = t.1 in let l = c.0 in let m = c.2 in omega (arith, ints, clamps)
@@ -28,7 +34,8 @@ parts_of : (t : ℤ) → pos 0 ≤ℤ t → t ≡ pos 2 *ℤ floor_div t 2 +ℤ 
 parts_of (pos t) h = omega (arith, ints)
 parts_of (negsuc t) h = absurd (omega (arith, ints, h))
 
-pub number_is : (g t h turned : ℤ) → pos 0 ≤ℤ t → (pos 0 ≤ℤ (pos 2 *ℤ h -ℤ t) → turned ≡ pos 2 *ℤ h -ℤ t) → ((pos 2 *ℤ h -ℤ t) ≤ℤ negsuc 0 → turned ≡ negsuc 0 -ℤ (pos 2 *ℤ h -ℤ t))
+pub number_is : (g t h turned : ℤ) → pos 0 ≤ℤ t → (pos 0 ≤ℤ (pos 2 *ℤ h -ℤ t) → turned ≡ pos 2 *ℤ h -ℤ t)
+    → ((pos 2 *ℤ h -ℤ t) ≤ℤ negsuc 0 → turned ≡ negsuc 0 -ℤ (pos 2 *ℤ h -ℤ t))
     → int_min turned (pos (unsigned_abs (h -ℤ floor_div t 2)) +ℤ pos (theta_between (pos 0) g (floor_div t 2))) ≡ pos (mapped_between (pos 0) g t h)
 unfolding mapped_between
 number_is g t h turned some up down =
@@ -67,7 +74,8 @@ scaled_up low middle high part sum =
 
 pub offset_mapped : (low middle high part sum whole : ℤ) (offset : ℕ) → pos 4 *ℤ low +ℤ sum ≡ whole
     → mapped_between (pos 0) (high -ℤ low) (clip (floor_div (part +ℤ sum) 2 +ℤ pos 1) (pos 0) (pos 2 *ℤ (high -ℤ low) +ℤ pos 1)) (pos offset)
-    ≡ mapped_between low high (clip (floor_div (part +ℤ (whole -ℤ pos 4 *ℤ middle)) 2 +ℤ pos 2 *ℤ middle +ℤ pos 1) (pos 2 *ℤ low) (pos 2 *ℤ high +ℤ pos 1)) (low +ℤ pos offset)
+    ≡ mapped_between low high (clip (floor_div (part +ℤ (whole -ℤ pos 4 *ℤ middle)) 2 +ℤ pos 2 *ℤ middle +ℤ pos 1) (pos 2 *ℤ low) (pos 2 *ℤ high +ℤ pos 1))
+    (low +ℤ pos offset)
 offset_mapped low middle high part sum whole offset e =
     sym (shifted low high (clip (floor_div (part +ℤ sum) 2 +ℤ pos 1) (pos 0) (pos 2 *ℤ (high -ℤ low) +ℤ pos 1)) (pos offset))
     ∙ ap (λ t. mapped_between low high t (low +ℤ pos offset)) (sym (scaled_up low middle high part sum) ∙ rw e refl)

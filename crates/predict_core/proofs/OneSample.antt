@@ -1,5 +1,6 @@
 -- Each number is the number of one sample.
-use Rattle.std.proofs.Common.{◌≡◌, ℕ, ◌+◌, ◌-◌, ◌*◌, ◌/◌, ◌%◌, ◌<◌, ◌≤◌, ◌⊎◌, inl, inr, min, ℤ, pos, negsuc, neg_ℤ, ◌+ℤ◌, ◌-ℤ◌, ◌*ℤ◌, ◌≤ℤ◌, ◌<ℤ◌, ◌^◌, unsigned_abs, Bool, true, false, refl, sym, ap, ◌∙◌, arith}
+use Rattle.std.proofs.Common.{◌≡◌, ℕ, ◌+◌, ◌-◌, ◌*◌, ◌/◌, ◌%◌, ◌<◌, ◌≤◌, ◌⊎◌, inl, inr, min, ℤ, pos, negsuc, neg_ℤ, ◌+ℤ◌, ◌-ℤ◌, ◌*ℤ◌, ◌≤ℤ◌, ◌<ℤ◌, ◌^◌}
+use Rattle.std.proofs.Common.{unsigned_abs, Bool, true, false, refl, sym, ap, ◌∙◌, arith}
 use Rattle.std.proofs.lemmas.Int.{ints}
 use Rattle.std.proofs.lemmas.Bool.Decides.{nat_tests}
 use Rattle.std.proofs.lemmas.Bool.{cases_lt}
@@ -43,7 +44,8 @@ error_cases : (theta below parity n : ℕ) (e : ℤ) → e ≡ error_of theta be
 error_cases theta below parity n e h = grind (arith, nat_tests)
 
 abbrev pub NumberBy : ℕ → ℕ → Bool → ℕ → Type 0
-NumberBy theta size sign n = ((theta < size) × (n ≡ size + theta)) ⊎ (((size ≤ theta) × (sign ≡ true) × (n ≡ 2 * size)) ⊎ ((size ≤ theta) × (sign ≡ false) × (n ≡ 2 * size - 1)))
+NumberBy theta size sign n =
+    ((theta < size) × (n ≡ size + theta)) ⊎ (((size ≤ theta) × (sign ≡ true) × (n ≡ 2 * size)) ⊎ ((size ≤ theta) × (sign ≡ false) × (n ≡ 2 * size - 1)))
 
 abbrev ErrorBy : ℕ → ℕ → ℕ → ℕ → ℤ → Type 0
 ErrorBy theta below parity n e =
@@ -54,21 +56,26 @@ ErrorBy theta below parity n e =
 pub not_both : (s : Bool) → s ≡ true → s ≡ false → ⊥
 not_both s a b = cc
 
-same_error : (theta a b parity n : ℕ) (e r : ℤ) (sign : Bool) → theta ≡ min a b → neg_ℤ (pos a) ≤ℤ e → e ≤ℤ pos b → signed_by parity e sign → NumberBy theta (unsigned_abs e) sign n → ErrorBy theta a parity n r → r ≡ e
+same_error : (theta a b parity n : ℕ) (e r : ℤ) (sign : Bool) → theta ≡ min a b → neg_ℤ (pos a) ≤ℤ e → e ≤ℤ pos b → signed_by parity e sign
+    → NumberBy theta (unsigned_abs e) sign n → ErrorBy theta a parity n r → r ≡ e
 same_error theta a b parity n e r sign m low high s c d = grind (arith, ints)
 
 -- the number of an error gives the error back
-pub error_back : (a b parity n : ℕ) (e : ℤ) (sign : Bool) → neg_ℤ (pos a) ≤ℤ e → e ≤ℤ pos b → signed_by parity e sign → n ≡ number_of (min a b) (unsigned_abs e) sign → error_of (min a b) a parity n ≡ e
+pub error_back : (a b parity n : ℕ) (e : ℤ) (sign : Bool) → neg_ℤ (pos a) ≤ℤ e → e ≤ℤ pos b → signed_by parity e sign
+    → n ≡ number_of (min a b) (unsigned_abs e) sign → error_of (min a b) a parity n ≡ e
 error_back a b parity n e sign low high s h =
-    same_error (min a b) a b parity n e (error_of (min a b) a parity n) sign refl low high s (number_cases (min a b) (unsigned_abs e) n sign h) (error_cases (min a b) a parity n _ refl)
+    same_error (min a b) a b parity n e (error_of (min a b) a parity n) sign refl low high s (number_cases (min a b) (unsigned_abs e) n sign h)
+    (error_cases (min a b) a parity n _ refl)
 
-small_number : (theta a b parity n : ℕ) (e : ℤ) (sign : Bool) → theta ≡ min a b → neg_ℤ (pos a) ≤ℤ e → e ≤ℤ pos b → NumberBy theta (unsigned_abs e) sign n → n ≤ a + b
+small_number : (theta a b parity n : ℕ) (e : ℤ) (sign : Bool) → theta ≡ min a b → neg_ℤ (pos a) ≤ℤ e → e ≤ℤ pos b
+    → NumberBy theta (unsigned_abs e) sign n → n ≤ a + b
 small_number theta a b parity n e sign m low high c = grind (arith, ints)
 
 small_error : (theta a b parity n : ℕ) (e : ℤ) → theta ≡ min a b → n ≤ a + b → ErrorBy theta a parity n e → (neg_ℤ (pos a) ≤ℤ e) × (e ≤ℤ pos b)
 small_error theta a b parity n e m h d = (grind (arith, ints), grind (arith, ints))
 
-same_number : (theta a b parity n k : ℕ) (e : ℤ) (sign : Bool) → theta ≡ min a b → n ≤ a + b → ErrorBy theta a parity n e → signed_by parity e sign → NumberBy theta (unsigned_abs e) sign k → k ≡ n
+same_number : (theta a b parity n k : ℕ) (e : ℤ) (sign : Bool) → theta ≡ min a b → n ≤ a + b → ErrorBy theta a parity n e → signed_by parity e sign
+    → NumberBy theta (unsigned_abs e) sign k → k ≡ n
 same_number theta a b parity n k e sign m h d s c = grind (arith, ints)
 
 pub half_low : (z : ℤ) → (pos 2 *ℤ floor_div z 2) ≤ℤ z
@@ -86,7 +93,8 @@ module _ (low high scaled : ℤ) (least : (pos 2 *ℤ low) ≤ℤ scaled) (most 
   inside : Between low high (floor_div scaled 2)
   inside = within low high scaled (floor_div scaled 2) least most (half_low scaled) (half_high scaled)
 
-  pub error_bounds : (v : ℤ) → Between low high v → (neg_ℤ (pos (unsigned_abs (floor_div scaled 2 -ℤ low))) ≤ℤ (v -ℤ floor_div scaled 2)) × ((v -ℤ floor_div scaled 2) ≤ℤ pos (unsigned_abs (high -ℤ floor_div scaled 2)))
+  pub error_bounds : (v : ℤ) → Between low high v → (neg_ℤ (pos (unsigned_abs (floor_div scaled 2 -ℤ low))) ≤ℤ (v -ℤ floor_div scaled 2))
+      × ((v -ℤ floor_div scaled 2) ≤ℤ pos (unsigned_abs (high -ℤ floor_div scaled 2)))
   error_bounds v h = let i = inside in (omega (arith, ints), omega (arith, ints))
 
   whole : pos (unsigned_abs (floor_div scaled 2 -ℤ low) + unsigned_abs (high -ℤ floor_div scaled 2)) ≡ high -ℤ low
@@ -98,7 +106,8 @@ module _ (low high scaled : ℤ) (least : (pos 2 *ℤ low) ≤ℤ scaled) (most 
       let p : ℤ = floor_div scaled 2 in
       let w = whole in
       let small : mapped_between low high scaled v ≤ unsigned_abs (p -ℤ low) + unsigned_abs (high -ℤ p) =
-      small_number _ (unsigned_abs (p -ℤ low)) (unsigned_abs (high -ℤ p)) 0 (mapped_between low high scaled v) (v -ℤ p) _ refl (error_bounds v h).0 (error_bounds v h).1
+      small_number _ (unsigned_abs (p -ℤ low)) (unsigned_abs (high -ℤ p)) 0 (mapped_between low high scaled v) (v -ℤ p) _ refl (error_bounds v h).0
+      (error_bounds v h).1
       (number_cases (theta_between low high p) (unsigned_abs (v -ℤ p)) (mapped_between low high scaled v) (agrees scaled (v -ℤ p)) refl) in
       omega (arith, ints)
 
@@ -106,7 +115,8 @@ module _ (low high scaled : ℤ) (least : (pos 2 *ℤ low) ≤ℤ scaled) (most 
   unfolding mapped_between unmapped_between
   sample_back w h =
       let p : ℤ = floor_div scaled 2 in
-      let e = error_back (unsigned_abs (p -ℤ low)) (unsigned_abs (high -ℤ p)) (unsigned_abs scaled) (mapped_between low high scaled w) (w -ℤ p) (agrees scaled (w -ℤ p)) (error_bounds w h).0 (error_bounds w h).1 (agrees_cases scaled (w -ℤ p) _ refl) refl in
+      let e = error_back (unsigned_abs (p -ℤ low)) (unsigned_abs (high -ℤ p)) (unsigned_abs scaled) (mapped_between low high scaled w)
+      (w -ℤ p) (agrees scaled (w -ℤ p)) (error_bounds w h).0 (error_bounds w h).1 (agrees_cases scaled (w -ℤ p) _ refl) refl in
       rw e (omega (arith, ints))
 
   pub sample_in : (n : ℕ) → pos n ≤ℤ (high -ℤ low) → Between low high (unmapped_between low high scaled n)
@@ -115,7 +125,8 @@ module _ (low high scaled : ℤ) (least : (pos 2 *ℤ low) ≤ℤ scaled) (most 
       let p : ℤ = floor_div scaled 2 in
       let w = whole in
       let i = inside in
-      let s = small_error (theta_between low high p) (unsigned_abs (p -ℤ low)) (unsigned_abs (high -ℤ p)) (unsigned_abs scaled) n _ refl (omega (arith, ints)) (error_cases (theta_between low high p) (unsigned_abs (p -ℤ low)) (unsigned_abs scaled) n _ refl) in
+      let s = small_error (theta_between low high p) (unsigned_abs (p -ℤ low)) (unsigned_abs (high -ℤ p)) (unsigned_abs scaled) n _ refl
+      (omega (arith, ints)) (error_cases (theta_between low high p) (unsigned_abs (p -ℤ low)) (unsigned_abs scaled) n _ refl) in
       (omega (arith, ints), omega (arith, ints))
 
   pub number_back : (n : ℕ) → pos n ≤ℤ (high -ℤ low) → mapped_between low high scaled (unmapped_between low high scaled n) ≡ n
@@ -126,7 +137,8 @@ module _ (low high scaled : ℤ) (least : (pos 2 *ℤ low) ≤ℤ scaled) (most 
       let e : ℤ = error_of (theta_between low high p) (unsigned_abs (p -ℤ low)) (unsigned_abs scaled) n in
       let same : (p +ℤ e) -ℤ p ≡ e = back p e in
       rw same
-      (same_number (theta_between low high p) (unsigned_abs (p -ℤ low)) (unsigned_abs (high -ℤ p)) (unsigned_abs scaled) n _ e (agrees scaled e) refl (omega (arith, ints))
+      (same_number (theta_between low high p) (unsigned_abs (p -ℤ low)) (unsigned_abs (high -ℤ p)) (unsigned_abs scaled) n _ e (agrees scaled e) refl
+      (omega (arith, ints))
       (error_cases (theta_between low high p) (unsigned_abs (p -ℤ low)) (unsigned_abs scaled) n e refl) (agrees_cases scaled e _ refl)
       (number_cases (theta_between low high p) (unsigned_abs e) _ (agrees scaled e) refl))
 
@@ -147,7 +159,8 @@ one_sample_lem k scaled h s =
       ),
     )
 
-pub unmapped_is : (low high scaled p e : ℤ) (theta below parity n : ℕ) → p ≡ floor_div scaled 2 → theta ≡ theta_between low high p → below ≡ unsigned_abs (p -ℤ low) → parity ≡ unsigned_abs scaled
+pub unmapped_is : (low high scaled p e : ℤ) (theta below parity n : ℕ) → p ≡ floor_div scaled 2 → theta ≡ theta_between low high p
+    → below ≡ unsigned_abs (p -ℤ low) → parity ≡ unsigned_abs scaled
     → e ≡ error_of theta below parity n → p +ℤ e ≡ unmapped_between low high scaled n
 unfolding unmapped_between
 unmapped_is low high scaled p e theta below parity n a b c d f = rw (f, b, c, d, a) refl

@@ -1,5 +1,6 @@
 -- Weights and differences in a room whose rest is 0.
-use Rattle.std.proofs.Common.{◌≡◌, ◌≢◌, ◌⊎◌, ◌-◌, ◌≤◌, ℕ, zero, suc, ℤ, pos, ◌+ℤ◌, ◌-ℤ◌, ◌*ℤ◌, Bool, true, false, List, [], ◌∷◌, ◌++◌, length, take, replicate, arith, refl, ◌∙◌, sym, ap}
+use Rattle.std.proofs.Common.{◌≡◌, ◌≢◌, ◌⊎◌, ◌-◌, ◌≤◌, ℕ, zero, suc, ℤ, pos, ◌+ℤ◌, ◌-ℤ◌, ◌*ℤ◌, Bool, true, false, List, [], ◌∷◌, ◌++◌, length, take, replicate}
+use Rattle.std.proofs.Common.{arith, refl, ◌∙◌, sym, ap}
 use Rattle.std.proofs.lemmas.Int.{ints}
 use Rattle.std.proofs.lemmas.Bool.Decides.{nat_tests}
 use Rattle.cube_core.specs.Kind.{SampleKind, smid}
@@ -49,7 +50,8 @@ vector_length p c z y x = by_mode p.reduced refl
         let d = directional_length p c z y x in
         let s = spectral_length p c z y x (previous_bands p z) in
         let k = full_count p z e in
-        ap length (full_vector_is p c z y x e) ∙ length-append (directional_differences p c z y x) (spectral_differences p c z y x (previous_bands p z)) ∙ omega (arith, d, s, k)
+        ap length (full_vector_is p c z y x e) ∙ length-append (directional_differences p c z y x) (spectral_differences p c z y x (previous_bands p z))
+        ∙ omega (arith, d, s, k)
 
 pub scaled_there_is : (p : Predictor) (c : Image) (k : SampleKind) (z y x : ℕ) (sum scaled : ℤ) (ws : List ℤ) → c.kind ≡ k → sum ≡ local_sum p c z y x
     → scaled ≡ scaled_by p k sum ws (difference_vector p c z y x) → scaled ≡ scaled_there p c z y x ws

@@ -1,5 +1,6 @@
 -- Products and updates of the first weights and differences of a room.
-use Rattle.std.proofs.Common.{◌≡◌, ℕ, zero, suc, ◌+◌, ◌-◌, ◌<◌, ◌≤◌, List, [], ◌∷◌, ◌++◌, length, take, drop, set, get_or, replicate, ℤ, pos, ◌+ℤ◌, ◌*ℤ◌, Bool, refl, sym, ap, ◌∙◌, arith, add-one, drop-cons, subst}
+use Rattle.std.proofs.Common.{◌≡◌, ℕ, zero, suc, ◌+◌, ◌-◌, ◌<◌, ◌≤◌, List, [], ◌∷◌, ◌++◌, length, take, drop, set, get_or, replicate, ℤ, pos, ◌+ℤ◌, ◌*ℤ◌, Bool}
+use Rattle.std.proofs.Common.{refl, sym, ap, ◌∙◌, arith, add-one, drop-cons, subst}
 use Rattle.std.proofs.lemmas.Int.{ints}
 use Rattle.std.proofs.lemmas.List.{length-take-le, take-replicate}
 use Rattle.std.proofs.Math.Seq.{take-suc-set, take-suc, take-append-add}
@@ -31,7 +32,13 @@ same_length i ws us h k = length-take-le i ws (omega arith) ∙ sym (length-take
 pub product_next : (ws us : List ℤ) (i : ℕ) (sum : ℤ) → i < length ws → i < length us → sum ≡ inner_product (take i ws) (take i us)
     → sum +ℤ get_or ws i (pos 0) *ℤ get_or us i (pos 0) ≡ inner_product (take (i + 1) ws) (take (i + 1) us)
 product_next ws us i sum h k e =
-    rw (add-one, take-suc ws i (pos 0) h, take-suc us i (pos 0) k, product_more (take i ws) (take i us) (get_or ws i (pos 0)) (get_or us i (pos 0)) (same_length i ws us h k), ← e) refl
+    rw (
+      add-one,
+      take-suc ws i (pos 0) h,
+      take-suc us i (pos 0) k,
+      product_more (take i ws) (take i us) (get_or ws i (pos 0)) (get_or us i (pos 0)) (same_length i ws us h k),
+      ← e,
+    ) refl
 
 pub product_none : (ws us : List ℤ) → pos 0 ≡ inner_product (take 0 ws) (take 0 us)
 unfolding inner_product
@@ -81,7 +88,8 @@ take_padded us n m k e h l =
     subst (λ j. take j (us ++ replicate k (pos 0)) ≡ us ++ replicate (m - n) (pos 0)) s
     (take-append-add us (replicate k (pos 0)) (m - n) ∙ ap (λ ys. us ++ ys) (take-replicate (m - n) k (pos 0) (omega (arith, e))))
 
-pub product_in_use : (ws us : List ℤ) (n m k : ℕ) (r : ℤ) → length us ≡ n → n ≤ m → m ≤ n + k → r ≡ inner_product (take m ws) (take m (us ++ replicate k (pos 0)))
+pub product_in_use : (ws us : List ℤ) (n m k : ℕ) (r : ℤ) → length us ≡ n → n ≤ m → m ≤ n + k
+    → r ≡ inner_product (take m ws) (take m (us ++ replicate k (pos 0)))
     → r ≡ inner_product (take n ws) us
 product_in_use ws us n m k r e h l a =
     a ∙ ap (inner_product (take m ws)) (take_padded us n m k e h l) ∙ padded_product (take m ws) us (m - n)

@@ -1,5 +1,6 @@
 -- Products and steps of weights.
-use Rattle.std.proofs.Common.{◌≡◌, ℕ, suc, ◌+◌, ◌*◌, ◌^◌, ◌<◌, ◌≤◌, List, ◌∷◌, length, drop, get_or, ℤ, pos, ◌+ℤ◌, ◌*ℤ◌, unsigned_abs, sym, ◌∙◌, arith, w32, w64, SFits, to_z, of_z, to_z-of_z, drop-cons, add-one, set, lt-suc_self, length-set, inl, inr, ◌⊎◌, subst}
+use Rattle.std.proofs.Common.{◌≡◌, ℕ, suc, ◌+◌, ◌*◌, ◌^◌, ◌<◌, ◌≤◌, List, ◌∷◌, length, drop, get_or, ℤ, pos, ◌+ℤ◌, ◌*ℤ◌, unsigned_abs, sym, ◌∙◌, arith, w32}
+use Rattle.std.proofs.Common.{w64, SFits, to_z, of_z, to_z-of_z, drop-cons, add-one, set, lt-suc_self, length-set, inl, inr, ◌⊎◌, subst}
 use Rattle.std.proofs.lemmas.Int.{ints, fits_signed_from_abs, unsigned_abs-mul}
 use Rattle.std.proofs.lemmas.Nat.{mul-le}
 use Rattle.std.proofs.lemmas.List.{drop-set-lt, get_or-set_other, get_or-set_same}
@@ -39,7 +40,8 @@ same_heads a b xs ys e = (cc, cc)
 
 pub step_kept : (old now : List ℤ) (i : ℕ) (v : ℤ) → i < length now → i < length old → drop i now ≡ drop i old → drop (i + 1) (set now i v) ≡ drop (i + 1) old
 step_kept old now i v h k e =
-    let s : (get_or now i (pos 0) ∷ drop (suc i) now) ≡ (get_or old i (pos 0) ∷ drop (suc i) old) = sym (drop-cons now i (pos 0) h) ∙ e ∙ drop-cons old i (pos 0) k in
+    let s : (get_or now i (pos 0) ∷ drop (suc i) now) ≡ (get_or old i (pos 0) ∷ drop (suc i) old) =
+    sym (drop-cons now i (pos 0) h) ∙ e ∙ drop-cons old i (pos 0) k in
     rw add-one (drop-set-lt (suc i) now i v (lt-suc_self i) ∙ (same_heads _ _ _ _ s).1)
 
 pub step_bound : (n : ℕ) (now : List ℤ) (i : ℕ) (v : ℤ) → AllWithin n now → unsigned_abs v ≤ n → AllWithin n (set now i v)

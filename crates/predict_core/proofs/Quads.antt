@@ -1,5 +1,6 @@
 -- Components in quads of four.
-use Rattle.std.proofs.Common.{◌≡◌, ◌≢◌, ℕ, zero, suc, ◌+◌, ◌-◌, ◌*◌, ◌<◌, ◌≤◌, ◌||◌, ◌==◌, ℤ, pos, Bool, true, false, List, [], ◌∷◌, ◌++◌, map, take, drop, set, get_or, length, replicate, if◌then◌else◌, arith, refl, sym, ap, inl, inr, ap₂, ◌∙◌, add-one, append_assoc, append-nil}
+use Rattle.std.proofs.Common.{◌≡◌, ◌≢◌, ℕ, zero, suc, ◌+◌, ◌-◌, ◌*◌, ◌<◌, ◌≤◌, ◌||◌, ◌==◌, ℤ, pos, Bool, true, false, List, [], ◌∷◌, ◌++◌, map, take, drop, set}
+use Rattle.std.proofs.Common.{get_or, length, replicate, if◌then◌else◌, arith, refl, sym, ap, inl, inr, ap₂, ◌∙◌, add-one, append_assoc, append-nil}
 use Rattle.std.proofs.Math.Seq.{take-suc-set}
 use Rattle.std.proofs.lemmas.List.Concat.{flat_map-append}
 use Rattle.std.proofs.lemmas.List.{get_or-replicate, get_or_past, length-map, length-replicate}
@@ -17,11 +18,13 @@ use Rattle.predict_core.specs.Rooms.{components_at, quads_of, lower_difference, 
 use Rattle.predict_core.proofs.Directions.{directional_first, reduced_vector_is, full_vector_is, reduced_count, full_count}
 
 -- one quad more
-pub components_more : (n : ℕ) (quads : List Quad) (q : Quad) (i : ℕ) → n < length quads → components_at (n + 1) (set quads n q) i ≡ components_at n quads i ++ get_or q.places i []
+pub components_more : (n : ℕ) (quads : List Quad) (q : Quad) (i : ℕ) → n < length quads
+    → components_at (n + 1) (set quads n q) i ≡ components_at n quads i ++ get_or q.places i []
 unfolding components_at
 components_more n quads q i h =
     rw (add-one, take-suc-set quads n q h)
-    (flat_map-append (λ (q : Quad). get_or q.places i []) (take n quads) (q ∷ []) ∙ ap (λ xs. components_at n quads i ++ xs) (append-nil (get_or q.places i [])))
+    (flat_map-append (λ (q : Quad). get_or q.places i []) (take n quads) (q ∷ [])
+    ∙ ap (λ xs. components_at n quads i ++ xs) (append-nil (get_or q.places i [])))
 
 pub components_none : (quads : List Quad) (i : ℕ) → components_at 0 quads i ≡ []
 unfolding components_at
@@ -42,7 +45,8 @@ module _ (p : Predictor) (c : Image) (z y x : ℕ) where
   unfolding lower_differences
   lower_append k m n = from_append (lower_difference p c z y x) k m n
 
-  pub lower_four : (k : ℕ) → lower_difference p c z y x k ∷ lower_difference p c z y x (k + 1) ∷ lower_difference p c z y x (k + 2) ∷ lower_difference p c z y x (k + 3) ∷ [] ≡ lower_differences p c z y x k 4
+  pub lower_four : (k : ℕ) → lower_difference p c z y x k ∷ lower_difference p c z y x (k + 1) ∷ lower_difference p c z y x (k + 2)
+      ∷ lower_difference p c z y x (k + 3) ∷ [] ≡ lower_differences p c z y x k 4
   unfolding lower_differences
   lower_four k =
       let a : k + 1 ≡ suc k = omega arith in
@@ -54,7 +58,8 @@ module _ (p : Predictor) (c : Image) (z y x : ℕ) where
   unfolding lower_difference
   lower_none k h = grind (arith, nat_tests)
 
-  pub lower_two : (k : ℕ) → previous_bands p z ≤ k + 1 → lower_difference p c z y x k ∷ lower_difference p c z y x (k + 1) ∷ pos 0 ∷ pos 0 ∷ [] ≡ lower_differences p c z y x k 4
+  pub lower_two : (k : ℕ) → previous_bands p z ≤ k + 1
+      → lower_difference p c z y x k ∷ lower_difference p c z y x (k + 1) ∷ pos 0 ∷ pos 0 ∷ [] ≡ lower_differences p c z y x k 4
   lower_two k h =
       let third = lower_none (k + 2) (omega (arith, h)) in
       let fourth = lower_none (k + 3) (omega (arith, h)) in
@@ -80,16 +85,20 @@ module _ (p : Predictor) (c : Image) (z y x : ℕ) where
       let e : suc n ≡ n + 1 = omega arith in
       let d : 1 + n ≡ suc n = omega arith in
       ap (λ m. lower_differences p c z y x 1 m) e ∙ lower_append 1 n 1
-      ∙ ap₂ (λ us vs. us ++ vs) (lower_spectral n (omega (arith, h))) (ap (λ k. lower_differences p c z y x k 1) d ∙ lower_one (suc n) ∙ ap (λ v. v ∷ []) (lower_is (suc n) h))
+      ∙ ap₂ (λ us vs. us ++ vs) (lower_spectral n (omega (arith, h))) (ap (λ k. lower_differences p c z y x k 1) d ∙ lower_one (suc n)
+      ∙ ap (λ v. v ∷ []) (lower_is (suc n) h))
 
   -- all bands that are looked at, and zeros
-  pub lower_padded : (n : ℕ) → previous_bands p z ≤ n → lower_differences p c z y x 1 n ≡ spectral_differences p c z y x (previous_bands p z) ++ replicate (n - previous_bands p z) (pos 0)
+  pub lower_padded : (n : ℕ) → previous_bands p z ≤ n
+      → lower_differences p c z y x 1 n ≡ spectral_differences p c z y x (previous_bands p z) ++ replicate (n - previous_bands p z) (pos 0)
   lower_padded n h =
       let e : n ≡ previous_bands p z + (n - previous_bands p z) = omega (arith, h) in
       ap (λ m. lower_differences p c z y x 1 m) e ∙ lower_append 1 (previous_bands p z) (n - previous_bands p z)
-      ∙ ap₂ (λ us vs. us ++ vs) (lower_spectral (previous_bands p z) (omega arith)) (lower_zeros (1 + previous_bands p z) (n - previous_bands p z) (omega arith))
+      ∙ ap₂ (λ us vs. us ++ vs) (lower_spectral (previous_bands p z) (omega arith))
+      (lower_zeros (1 + previous_bands p z) (n - previous_bands p z) (omega arith))
 
-  pub reduced_components : (count : ℕ) (xs : List ℤ) → p.reduced ≡ true → count ≡ component_count p z → xs ≡ lower_differences p c z y x 1 (4 * (quads_of count - 0))
+  pub reduced_components : (count : ℕ) (xs : List ℤ) → p.reduced ≡ true → count ≡ component_count p z
+      → xs ≡ lower_differences p c z y x 1 (4 * (quads_of count - 0))
       → xs ≡ difference_vector p c z y x ++ replicate (4 * quads_of count - count) (pos 0)
   reduced_components count xs r e h =
       let n : count ≡ previous_bands p z = e ∙ reduced_count p z r in
@@ -104,22 +113,26 @@ module _ (p : Predictor) (c : Image) (z y x : ℕ) where
       let n : count ≡ 3 + previous_bands p z = e ∙ full_count p z r in
       let m : 4 * quads_of count - count ≡ 1 + 4 * (quads_of count - 1) - previous_bands p z = omega (arith, n) in
       h ∙ append_assoc (directional_differences p c z y x) (lower_differences p c z y x 1 1) (lower_differences p c z y x 2 (4 * (quads_of count - 1)))
-      ∙ ap (λ vs. directional_differences p c z y x ++ vs) (sym (lower_append 1 1 (4 * (quads_of count - 1))) ∙ lower_padded (1 + 4 * (quads_of count - 1)) (omega (arith, n)))
-      ∙ sym (append_assoc (directional_differences p c z y x) (spectral_differences p c z y x (previous_bands p z)) (replicate (1 + 4 * (quads_of count - 1) - previous_bands p z) (pos 0)))
+      ∙ ap (λ vs. directional_differences p c z y x ++ vs) (sym (lower_append 1 1 (4 * (quads_of count - 1)))
+      ∙ lower_padded (1 + 4 * (quads_of count - 1)) (omega (arith, n)))
+      ∙ sym (append_assoc (directional_differences p c z y x) (spectral_differences p c z y x (previous_bands p z))
+      (replicate (1 + 4 * (quads_of count - 1) - previous_bands p z) (pos 0)))
       ∙ ap₂ (λ us k. us ++ replicate k (pos 0)) (sym (full_vector_is p c z y x r)) (sym m)
 
   length-lower : (k n : ℕ) → length (lower_differences p c z y x k n) ≡ n
   unfolding lower_differences
   length-lower k n = length-map (from k n) _ ∙ length-from k n
 
-  pub reduced_part : (count : ℕ) (xs : List ℤ) → p.reduced ≡ true → count ≡ component_count p z → xs ≡ lower_differences p c z y x 1 (4 * (quads_of count - 0)) → IsLowerPart p c z y x count xs
+  pub reduced_part : (count : ℕ) (xs : List ℤ) → p.reduced ≡ true → count ≡ component_count p z → xs ≡ lower_differences p c z y x 1 (4 * (quads_of count - 0))
+      → IsLowerPart p c z y x count xs
   reduced_part count xs r e h =
       let n : count ≡ previous_bands p z = e ∙ reduced_count p z r in
       let s : 4 * (quads_of count - 0) ≡ 4 * quads_of count = omega arith in
       let padded = h ∙ ap (λ m. lower_differences p c z y x 1 m) s ∙ lower_padded (4 * quads_of count) (omega (arith, n)) in
       record {
         long = ap length h ∙ length-lower 1 (4 * (quads_of count - 0)) ∙ s;
-        lower = ap (λ (b : Bool). drop (if b then 0 else 3) xs) r ∙ padded ∙ ap (λ m. spectral_differences p c z y x (previous_bands p z) ++ replicate (4 * quads_of count - m) (pos 0)) (sym n);
+        lower = ap (λ (b : Bool). drop (if b then 0 else 3) xs) r ∙ padded
+            ∙ ap (λ m. spectral_differences p c z y x (previous_bands p z) ++ replicate (4 * quads_of count - m) (pos 0)) (sym n);
       }
 
   -- with zeros for the directions
@@ -147,7 +160,8 @@ zero_at n i =
     ]
 
 -- the difference of empty lines
-pub empty_difference : (column : Bool) (current upper : List ℕ) (i : ℕ) → current ≡ replicate 66 0 → upper ≡ replicate 66 0 → line_difference column current upper i ≡ pos 0
+pub empty_difference : (column : Bool) (current upper : List ℕ) (i : ℕ) → current ≡ replicate 66 0 → upper ≡ replicate 66 0
+    → line_difference column current upper i ≡ pos 0
 empty_difference true current upper i a b = rw (a, b, zero_at 66 (i + 1)) refl
 empty_difference false current upper i a b = rw (a, b, zero_at 66 i, zero_at 66 (i + 1), zero_at 66 (i + 2)) refl
 
@@ -162,7 +176,8 @@ quads_next p c z y x first nearest q i heads quads v l h a b =
     ∙ append_assoc heads (lower_differences p c z y x nearest (4 * (q - first))) (lower_differences p c z y x (nearest + 4 * (q - first)) 4)
     ∙ ap (λ vs. heads ++ vs) (sym (lower_append p c z y x nearest (4 * (q - first)) 4) ∙ ap (λ n. lower_differences p c z y x nearest n) (sym e))
 
-pub quads_begun : (p : Predictor) (c : Image) (z y x first nearest : ℕ) (heads : List ℤ) → heads ≡ heads ++ lower_differences p c z y x nearest (4 * (first - first))
+pub quads_begun : (p : Predictor) (c : Image) (z y x first nearest : ℕ) (heads : List ℤ)
+    → heads ≡ heads ++ lower_differences p c z y x nearest (4 * (first - first))
 unfolding lower_differences
 quads_begun p c z y x first nearest heads = let e : 4 * (first - first) ≡ 0 = omega arith in rw e (sym (append-nil heads))
 
@@ -174,8 +189,10 @@ under_top column y h = grind (arith, nat_tests)
 
 -- the first quad, from what its loop wrote: in the first row, at its left end, and inside
 module _ (p : Predictor) (c : Image) (z y x : ℕ) (a b d e : ℤ) (out : List ℤ) (below : e ≡ lower_difference p c z y x 1) where
-  pub first_at_top : y ≡ 0 → a ≡ pos 0 → b ≡ pos 0 → d ≡ pos 0 → out ≡ a ∷ b ∷ d ∷ e ∷ [] → out ≡ directional_differences p c z y x ++ lower_differences p c z y x 1 1
+  pub first_at_top : y ≡ 0 → a ≡ pos 0 → b ≡ pos 0 → d ≡ pos 0 → out ≡ a ∷ b ∷ d ∷ e ∷ []
+      → out ≡ directional_differences p c z y x ++ lower_differences p c z y x 1 1
   first_at_top top f g k h = h ∙ rw (f, g, k, below, directional_first p c z y x top, lower_one p c z y x 1) refl
 
-  pub first_under : directional_differences p c z y x ≡ a ∷ b ∷ d ∷ [] → out ≡ a ∷ b ∷ d ∷ e ∷ [] → out ≡ directional_differences p c z y x ++ lower_differences p c z y x 1 1
+  pub first_under : directional_differences p c z y x ≡ a ∷ b ∷ d ∷ [] → out ≡ a ∷ b ∷ d ∷ e ∷ []
+      → out ≡ directional_differences p c z y x ++ lower_differences p c z y x 1 1
   first_under f h = h ∙ rw (below, f, lower_one p c z y x 1) refl

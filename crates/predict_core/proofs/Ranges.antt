@@ -1,5 +1,6 @@
 -- How large the differences of a cube's samples can be.
-use Rattle.std.proofs.Common.{◌≡◌, ◌≢◌, ◌+◌, ◌-◌, ◌*◌, ◌^◌, ◌<◌, ◌≤◌, ℕ, zero, suc, ℤ, pos, ◌+ℤ◌, ◌-ℤ◌, ◌*ℤ◌, unsigned_abs, Bool, true, false, List, [], ◌∷◌, ◌++◌, replicate, inl, inr, arith, refl, sym, subst}
+use Rattle.std.proofs.Common.{◌≡◌, ◌≢◌, ◌+◌, ◌-◌, ◌*◌, ◌^◌, ◌<◌, ◌≤◌, ℕ, zero, suc, ℤ, pos, ◌+ℤ◌, ◌-ℤ◌, ◌*ℤ◌, unsigned_abs, Bool, true, false, List, [], ◌∷◌}
+use Rattle.std.proofs.Common.{◌++◌, replicate, inl, inr, arith, refl, sym, subst}
 use Rattle.std.proofs.lemmas.Int.{ints}
 use Rattle.std.proofs.lemmas.Bool.{cases_eq}
 use Rattle.cube_core.specs.Kind.{smin, smax, IsSample}
@@ -42,16 +43,19 @@ two low high a b h k = (omega (arith, ints, h.0, h.1, k.0, k.1), omega (arith, i
 three : (low high a b d : ℤ) → Between low high a → Between low high b → Between low high d → Between (pos 4 *ℤ low) (pos 4 *ℤ high) (a +ℤ b +ℤ pos 2 *ℤ d)
 three low high a b d h k l = (omega (arith, ints, h.0, h.1, k.0, k.1, l.0, l.1), omega (arith, ints, h.0, h.1, k.0, k.1, l.0, l.1))
 
-all : (low high a b d u : ℤ) → Between low high a → Between low high b → Between low high d → Between low high u → Between (pos 4 *ℤ low) (pos 4 *ℤ high) (a +ℤ b +ℤ d +ℤ u)
+all : (low high a b d u : ℤ) → Between low high a → Between low high b → Between low high d → Between low high u
+    → Between (pos 4 *ℤ low) (pos 4 *ℤ high) (a +ℤ b +ℤ d +ℤ u)
 all low high a b d u h k l m = (omega (arith, ints, h.0, h.1, k.0, k.1, l.0, l.1, m.0, m.1), omega (arith, ints, h.0, h.1, k.0, k.1, l.0, l.1, m.0, m.1))
 
-pub apart : (low high a s : ℤ) (power : ℕ) → high -ℤ low ≡ pos power -ℤ pos 1 → Between low high a → Between (pos 4 *ℤ low) (pos 4 *ℤ high) s → unsigned_abs (pos 4 *ℤ a -ℤ s) ≤ 4 * power
+pub apart : (low high a s : ℤ) (power : ℕ) → high -ℤ low ≡ pos power -ℤ pos 1 → Between low high a → Between (pos 4 *ℤ low) (pos 4 *ℤ high) s
+    → unsigned_abs (pos 4 *ℤ a -ℤ s) ≤ 4 * power
 apart low high a s power e h k = omega (arith, ints, e, h.0, h.1, k.0, k.1)
 
 pub sample_within : (c : Image) → IsCube c → (z y x : ℕ) → IsPlace c.shape z y x → IsSample c.kind (sample_at c z y x)
 unfolding sample_at
 sample_within c cube z y x q =
-    cube.range (index_in c.shape.columns c.shape.rows z y x) (rw cube.whole (index_below c.shape.columns c.shape.rows c.shape.bands z y x q.band q.row q.column))
+    cube.range (index_in c.shape.columns c.shape.rows z y x)
+    (rw cube.whole (index_below c.shape.columns c.shape.rows c.shape.bands z y x q.band q.row q.column))
 
 module _ (p : Predictor) (c : Image) (cube : IsCube c) (y x : ℕ) (later : 0 < y + x) (wide : p.column ≡ false → 2 ≤ c.shape.columns) where
   module _ (z : ℕ) (place : IsPlace c.shape z y x) where
@@ -75,7 +79,8 @@ module _ (p : Predictor) (c : Image) (cube : IsCube c) (y x : ℕ) (later : 0 < 
           | inl h ↦ rw (sum_at_left p c z y x n e h) (two (smin c.kind) (smax c.kind) _ _ (up x column) (up (x + 1) (omega arith)))
           | inr h ↦ elim (cases_eq (x + 1) c.shape.columns) [
             | inl r ↦ rw (sum_at_right p c z y x n e h r) (three (smin c.kind) (smax c.kind) _ _ _ left (up (x - 1) before) (up x column))
-            | inr r ↦ rw (sum_inside p c z y x n e h r) (all (smin c.kind) (smax c.kind) _ _ _ _ left (up (x - 1) before) (up x column) (up (x + 1) (let q = column in omega arith)))
+            | inr r ↦ rw (sum_inside p c z y x n e h r)
+                (all (smin c.kind) (smax c.kind) _ _ _ _ left (up (x - 1) before) (up x column) (up (x + 1) (let q = column in omega arith)))
           ]
         ]
 
@@ -95,7 +100,8 @@ module _ (p : Predictor) (c : Image) (cube : IsCube c) (y x : ℕ) (later : 0 < 
           | inl e ↦ rw (directional_first p c z y x e) (within_three (4 * 2 ^ c.kind.bits) (pos 0) (pos 0) (pos 0) (omega arith) (omega arith) (omega arith))
           | inr n ↦ elim (cases_eq x 0) [
             | inl h ↦ (let d = difference_within _ (up x column) in rw (directional_left p c z y x n h) (within_three (4 * 2 ^ c.kind.bits) _ _ _ d d d))
-            | inr h ↦ rw (directional_inside p c z y x n h) (within_three (4 * 2 ^ c.kind.bits) _ _ _ (difference_within _ (up x column)) (difference_within _ left) (difference_within _ (up (x - 1) before)))
+            | inr h ↦ rw (directional_inside p c z y x n h) (within_three (4 * 2 ^ c.kind.bits) _ _ _ (difference_within _ (up x column))
+                (difference_within _ left) (difference_within _ (up (x - 1) before)))
           ]
         ]
 
@@ -105,7 +111,8 @@ module _ (p : Predictor) (c : Image) (cube : IsCube c) (y x : ℕ) (later : 0 < 
     spectral_within zero h = within_none (4 * 2 ^ c.kind.bits)
     spectral_within (suc n) h =
         within_append (4 * 2 ^ c.kind.bits) (spectral_differences p c z y x n) (central_difference p c (z - suc n) y x ∷ []) (spectral_within n (omega arith))
-        (within_one (4 * 2 ^ c.kind.bits) _ (central_within (z - suc n) (record { band = (let b = place.band in omega arith); row = place.row; column = place.column })))
+        (within_one (4 * 2 ^ c.kind.bits) _
+        (central_within (z - suc n) (record { band = (let b = place.band in omega arith); row = place.row; column = place.column })))
 
     pub vector_within : AllWithin (4 * 2 ^ c.kind.bits) (difference_vector p c z y x)
     vector_within = by_mode p.reduced refl
@@ -114,7 +121,9 @@ module _ (p : Predictor) (c : Image) (cube : IsCube c) (y x : ℕ) (later : 0 < 
         by_mode true e = subst (AllWithin (4 * 2 ^ c.kind.bits)) (sym (reduced_vector_is p c z y x e)) (spectral_within (previous_bands p z) (omega arith))
         by_mode false e =
             subst (AllWithin (4 * 2 ^ c.kind.bits)) (sym (full_vector_is p c z y x e))
-            (within_append (4 * 2 ^ c.kind.bits) (directional_differences p c z y x) (spectral_differences p c z y x (previous_bands p z)) (directional_within z place) (spectral_within (previous_bands p z) (omega arith)))
+            (within_append (4 * 2 ^ c.kind.bits) (directional_differences p c z y x) (spectral_differences p c z y x (previous_bands p z))
+            (directional_within z place) (spectral_within (previous_bands p z) (omega arith)))
 
     pub padded_within : (m : ℕ) → AllWithin (4 * 2 ^ c.kind.bits) (difference_vector p c z y x ++ replicate m (pos 0))
-    padded_within m = within_append (4 * 2 ^ c.kind.bits) (difference_vector p c z y x) (replicate m (pos 0)) vector_within (zeros_within (4 * 2 ^ c.kind.bits) m)
+    padded_within m =
+        within_append (4 * 2 ^ c.kind.bits) (difference_vector p c z y x) (replicate m (pos 0)) vector_within (zeros_within (4 * 2 ^ c.kind.bits) m)

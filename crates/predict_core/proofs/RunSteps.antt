@@ -1,5 +1,6 @@
 -- Residuals of a run, one behind another.
-use Rattle.std.proofs.Common.{◌≡◌, ℕ, zero, suc, ◌+◌, ◌<◌, List, [], ◌∷◌, ◌++◌, map, length, take, get_or, set, arith, refl, sym, ap, ◌∙◌, add-one, inl, inr, get_or-set_same, get_or-set_other}
+use Rattle.std.proofs.Common.{◌≡◌, ℕ, zero, suc, ◌+◌, ◌<◌, List, [], ◌∷◌, ◌++◌, map, length, take, get_or, set, arith, refl, sym, ap, ◌∙◌, add-one, inl, inr}
+use Rattle.std.proofs.Common.{get_or-set_same, get_or-set_other}
 use Rattle.std.proofs.Math.Seq.{take-suc-set}
 use Rattle.std.proofs.lemmas.Bool.{cases_eq}
 use Rattle.cube_core.specs.Image.{Image}
@@ -12,11 +13,13 @@ pub one_more : (f : ℕ → ℕ) (a n : ℕ) → map f (from a (suc n)) ≡ map 
 one_more f a zero = ap (λ k. f k ∷ []) (omega arith)
 one_more f a (suc n) = ap (λ ks. f a ∷ ks) (one_more f (suc a) n ∙ ap (λ k. map f (from (suc a) n) ++ f k ∷ []) (omega arith))
 
-pub run_next : (p : Params) (c : Image) (z t i : ℕ) (rs : List ℕ) (r : ℕ) → i < length rs → r ≡ mapped_residual p c z (t + i) → take i rs ≡ run_residuals p c z t i
+pub run_next : (p : Params) (c : Image) (z t i : ℕ) (rs : List ℕ) (r : ℕ) → i < length rs → r ≡ mapped_residual p c z (t + i)
+    → take i rs ≡ run_residuals p c z t i
     → take (i + 1) (set rs i r) ≡ run_residuals p c z t (i + 1)
 run_next p c z t i rs r h e b = rw (add-one, take-suc-set rs i r h, b, e) (sym (one_more (mapped_residual p c z) t i))
 
-pub bound_next : (n i : ℕ) (rs : List ℕ) (r : ℕ) → i < length rs → r < n → ((k : ℕ) → k < i → get_or rs k 0 < n) → (k : ℕ) → k < i + 1 → get_or (set rs i r) k 0 < n
+pub bound_next : (n i : ℕ) (rs : List ℕ) (r : ℕ) → i < length rs → r < n → ((k : ℕ) → k < i → get_or rs k 0 < n) → (k : ℕ) → k < i + 1
+    → get_or (set rs i r) k 0 < n
 bound_next n i rs r h l b k m =
     elim (cases_eq k i) [ inl e ↦ rw (e, get_or-set_same rs i r 0 h) l | inr d ↦ rw (get_or-set_other rs i k r 0 d) (b k (omega arith)) ]
 
@@ -24,4 +27,10 @@ pub moved_none : (b : Learner) → MovesBy 0 b b
 moved_none b = record { predictor = refl; shape = refl; kind = refl; band = refl; place = omega arith }
 
 pub moved_next : (i : ℕ) (a b d : Learner) → MovesBy i a b → MovesOn b d → MovesBy (i + 1) a d
-moved_next i a b d m n = record { predictor = n.predictor ∙ m.predictor; shape = n.shape ∙ m.shape; kind = n.kind ∙ m.kind; band = n.band ∙ m.band; place = omega (arith, m.place, n.place) }
+moved_next i a b d m n = record {
+  predictor = n.predictor ∙ m.predictor;
+  shape = n.shape ∙ m.shape;
+  kind = n.kind ∙ m.kind;
+  band = n.band ∙ m.band;
+  place = omega (arith, m.place, n.place);
+}

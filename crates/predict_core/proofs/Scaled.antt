@@ -29,7 +29,8 @@ pub growth_is : (p : Predictor) (columns t : ℕ) (intervals r : ℤ) → interv
 unfolding growth
 growth_is p columns t intervals r a b = b ∙ rw a refl
 
-pub exponent_is : (p : Predictor) (columns bits t : ℕ) (grown r : ℤ) → grown ≡ growth p columns t → r ≡ grown +ℤ pos bits -ℤ pos p.fraction → r ≡ step_exponent p columns bits t
+pub exponent_is : (p : Predictor) (columns bits t : ℕ) (grown r : ℤ) → grown ≡ growth p columns t → r ≡ grown +ℤ pos bits -ℤ pos p.fraction
+    → r ≡ step_exponent p columns bits t
 unfolding step_exponent
 exponent_is p columns bits t grown r a e = e ∙ rw a refl
 

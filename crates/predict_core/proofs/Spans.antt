@@ -7,8 +7,10 @@ pub doubled : (bits : ℕ) → 1 ≤ bits → 2 ^ bits ≡ 2 * 2 ^ (bits - 1)
 doubled zero h = absurd (omega arith)
 doubled (suc n) h = let e : suc n - 1 ≡ n = omega arith in rw (e, pow-suc 2 n) (omega arith)
 
-span_by : (signed : Bool) (bits : ℕ) → 2 ≤ bits → smax (record { signed = signed; bits = bits }) -ℤ smin (record { signed = signed; bits = bits }) ≡ pos (2 ^ bits) -ℤ pos 1
-span_by true bits h = let e : 2 ^ bits ≡ 2 * 2 ^ (bits - 1) = doubled bits (omega arith) in let p : 0 < 2 ^ (bits - 1) = pow_pos (bits - 1) in omega (arith, ints)
+span_by : (signed : Bool) (bits : ℕ) → 2 ≤ bits
+    → smax (record { signed = signed; bits = bits }) -ℤ smin (record { signed = signed; bits = bits }) ≡ pos (2 ^ bits) -ℤ pos 1
+span_by true bits h = let e : 2 ^ bits ≡ 2 * 2 ^ (bits - 1) = doubled bits (omega arith) in let p : 0 < 2 ^ (bits - 1) = pow_pos (bits - 1) in
+    omega (arith, ints)
 span_by false bits h = let p : 0 < 2 ^ bits = pow_pos bits in omega (arith, ints)
 
 -- from the least sample to the greatest

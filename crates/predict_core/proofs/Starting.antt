@@ -1,5 +1,6 @@
 -- The weights that a band starts from, written one after another.
-use Rattle.std.proofs.Common.{◌≡◌, ◌+◌, ◌-◌, ◌*◌, ◌^◌, ◌<◌, ◌≤◌, ℕ, zero, suc, ℤ, pos, unsigned_abs, SFits, w32, Bool, true, false, List, ◌++◌, length, take, drop, set, replicate, arith, refl, ◌∙◌, sym, ap, add-one, append_assoc, append-nil, pow_mono, to_z, ◌%◌, if◌then◌else◌}
+use Rattle.std.proofs.Common.{◌≡◌, ◌+◌, ◌-◌, ◌*◌, ◌^◌, ◌<◌, ◌≤◌, ℕ, zero, suc, ℤ, pos, unsigned_abs, SFits, w32, Bool, true, false, List, ◌++◌, length, take}
+use Rattle.std.proofs.Common.{drop, set, replicate, arith, refl, ◌∙◌, sym, ap, add-one, append_assoc, append-nil, pow_mono, to_z, ◌%◌, if◌then◌else◌}
 use Rattle.std.proofs.Math.Seq.{take-suc-set}
 use Rattle.std.proofs.Math.Pow.{pow-add}
 use Rattle.std.proofs.lemmas.List.{take-replicate, take-append-drop}
@@ -22,7 +23,8 @@ eighths_length w zero = refl
 eighths_length w (suc n) = ap suc (eighths_length (floor_div w 8) n)
 
 -- one weight moves from what is left to what is written
-pub eighths_next : (w v : ℤ) (i n : ℕ) (ws all : List ℤ) → i < length ws → 0 < n → v ≡ floor_div w 8 → take i ws ++ eighths w n ≡ all → take (i + 1) (set ws i w) ++ eighths v (n - 1) ≡ all
+pub eighths_next : (w v : ℤ) (i n : ℕ) (ws all : List ℤ) → i < length ws → 0 < n → v ≡ floor_div w 8 → take i ws ++ eighths w n ≡ all
+    → take (i + 1) (set ws i w) ++ eighths v (n - 1) ≡ all
 unfolding eighths
 eighths_next w v i zero ws all l h e a = absurd (omega arith)
 eighths_next w v i (suc n) ws all l h e a =
@@ -47,7 +49,8 @@ module _ (made : Predictor) (z : ℕ) (weights : List ℤ) where
   unfolding default_weights
   full_usual h = rw h refl
 
-  pub reduced_start : made.reduced ≡ true → (k : ℕ) → weights ≡ replicate 0 (pos 0) ++ eighths (pos (7 * 2 ^ (made.fraction - 3))) (previous_bands made z) ++ replicate k (pos 0)
+  pub reduced_start : made.reduced ≡ true → (k : ℕ)
+      → weights ≡ replicate 0 (pos 0) ++ eighths (pos (7 * 2 ^ (made.fraction - 3))) (previous_bands made z) ++ replicate k (pos 0)
       → take (component_count made z) weights ≡ default_weights made z
   reduced_start h k e =
       let n = eighths_length (pos (7 * 2 ^ (made.fraction - 3))) (previous_bands made z) in
@@ -55,16 +58,20 @@ module _ (made : Predictor) (z : ℕ) (weights : List ℤ) where
       rw e (heads_taken (eighths (pos (7 * 2 ^ (made.fraction - 3))) (previous_bands made z)) (replicate k (pos 0)) (previous_bands made z) n) in
       ap (λ j. take j weights) (reduced_count made z h) ∙ t ∙ sym (reduced_usual h)
 
-  pub full_start : made.reduced ≡ false → (k : ℕ) → weights ≡ replicate 3 (pos 0) ++ eighths (pos (7 * 2 ^ (made.fraction - 3))) (previous_bands made z) ++ replicate k (pos 0)
+  pub full_start : made.reduced ≡ false → (k : ℕ)
+      → weights ≡ replicate 3 (pos 0) ++ eighths (pos (7 * 2 ^ (made.fraction - 3))) (previous_bands made z) ++ replicate k (pos 0)
       → take (component_count made z) weights ≡ default_weights made z
   full_start h k e =
       let n = eighths_length (pos (7 * 2 ^ (made.fraction - 3))) (previous_bands made z) in
-      let l : length (replicate 3 (pos 0) ++ eighths (pos (7 * 2 ^ (made.fraction - 3))) (previous_bands made z)) ≡ 3 + previous_bands made z = omega (arith, n) in
+      let l : length (replicate 3 (pos 0) ++ eighths (pos (7 * 2 ^ (made.fraction - 3))) (previous_bands made z)) ≡ 3 + previous_bands made z =
+      omega (arith, n) in
       let t : take (3 + previous_bands made z) weights ≡ replicate 3 (pos 0) ++ eighths (pos (7 * 2 ^ (made.fraction - 3))) (previous_bands made z) =
-      rw e (heads_taken (replicate 3 (pos 0) ++ eighths (pos (7 * 2 ^ (made.fraction - 3))) (previous_bands made z)) (replicate k (pos 0)) (3 + previous_bands made z) l) in
+      rw e (heads_taken (replicate 3 (pos 0) ++ eighths (pos (7 * 2 ^ (made.fraction - 3))) (previous_bands made z)) (replicate k (pos 0))
+      (3 + previous_bands made z) l) in
       ap (λ j. take j weights) (full_count made z h) ∙ t ∙ sym (full_usual h)
 
-  pub start_is : (first k : ℕ) → first ≡ (if made.reduced then 0 else 3) → weights ≡ replicate first (pos 0) ++ eighths (pos (7 * 2 ^ (made.fraction - 3))) (previous_bands made z) ++ replicate k (pos 0)
+  pub start_is : (first k : ℕ) → first ≡ (if made.reduced then 0 else 3)
+      → weights ≡ replicate first (pos 0) ++ eighths (pos (7 * 2 ^ (made.fraction - 3))) (previous_bands made z) ++ replicate k (pos 0)
       → take (first + previous_bands made z) weights ≡ default_weights made z
   start_is first k f e = by_mode made.reduced refl
     where
@@ -93,11 +100,13 @@ first_weight k h =
     rw (remainder_is (7 * 2 ^ k) (2 ^ 32) 0 (7 * 2 ^ k) (omega (arith, s)) (omega arith)) (to_z_pos w32 (7 * 2 ^ k) (omega (arith, s)))
 
 module _ (fraction first count : ℕ) (least : 4 ≤ fraction) (most : fraction ≤ 19) (room : first + count ≤ 18) where
-  pub begun_first : take (first + 0) (replicate 18 (pos 0)) ++ eighths (to_z w32 ((7 * 2 ^ (fraction - 3)) % 2 ^ 32)) (count - 0) ≡ replicate first (pos 0) ++ eighths (pos (7 * 2 ^ (fraction - 3))) count
+  pub begun_first : take (first + 0) (replicate 18 (pos 0)) ++ eighths (to_z w32 ((7 * 2 ^ (fraction - 3)) % 2 ^ 32)) (count - 0)
+      ≡ replicate first (pos 0) ++ eighths (pos (7 * 2 ^ (fraction - 3))) count
   begun_first =
       let a : first + 0 ≡ first = omega arith in
       let b : count - 0 ≡ count = omega arith in
-      rw (a, b, first_weight (fraction - 3) (omega arith)) (ap (λ xs. xs ++ eighths (pos (7 * 2 ^ (fraction - 3))) count) (take-replicate first 18 (pos 0) (omega arith)))
+      rw (a, b, first_weight (fraction - 3) (omega arith))
+      (ap (λ xs. xs ++ eighths (pos (7 * 2 ^ (fraction - 3))) count) (take-replicate first 18 (pos 0) (omega arith)))
 
   pub small_first : unsigned_abs (to_z w32 ((7 * 2 ^ (fraction - 3)) % 2 ^ 32)) ≤ 1048576
   small_first = let s = seven_fits (fraction - 3) (omega arith) in rw (first_weight (fraction - 3) (omega arith)) (omega (arith, s))
@@ -114,8 +123,10 @@ unfolding weight_vector
 start_told p c z weights n e = e
 
 -- the usual weights are those that the parameters tell
-pub default_told : (p : Params) (z : ℕ) → p.start ≡ Usual → (first near : ℕ) (weights : List ℤ) → first ≡ (if p.reduced then 0 else 3) → near ≡ previous_bands (predictor_of p) z
-    → weights ≡ replicate first (pos 0) ++ eighths (pos (7 * 2 ^ (p.omega - 3))) near ++ replicate (18 - first - near) (pos 0) → take (first + near) weights ≡ start_weights p z
+pub default_told : (p : Params) (z : ℕ) → p.start ≡ Usual → (first near : ℕ) (weights : List ℤ) → first ≡ (if p.reduced then 0 else 3)
+    → near ≡ previous_bands (predictor_of p) z
+    → weights ≡ replicate first (pos 0) ++ eighths (pos (7 * 2 ^ (p.omega - 3))) near ++ replicate (18 - first - near) (pos 0)
+    → take (first + near) weights ≡ start_weights p z
 unfolding weights_by
 default_told p z usual first near weights f n e =
     rw (n, usual) (start_is (predictor_of p) z weights first (18 - first - previous_bands (predictor_of p) z) f (rw n at e))

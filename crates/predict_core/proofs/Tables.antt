@@ -1,5 +1,7 @@
 -- The weights that a table tells, and where those of a band stand.
-use Rattle.std.proofs.Common.{◌≡◌, ◌+◌, ◌-◌, ◌*◌, ◌/◌, ◌%◌, ◌^◌, ◌<◌, ◌≤◌, ℕ, zero, suc, ℤ, pos, negsuc, neg_ℤ, ◌+ℤ◌, ◌-ℤ◌, ◌*ℤ◌, ◌≤ℤ◌, unsigned_abs, SFits, w32, to_z, of_z, to_z-of_z, Bool, true, false, List, [], ◌∷◌, length, take, drop, map, min, nat_le, nat_lt, get_or, set, ◌++◌, length-take, length-drop, add-one, arith, refl, ◌∙◌, sym, ap, pow_mono, if◌then◌else◌}
+use Rattle.std.proofs.Common.{◌≡◌, ◌+◌, ◌-◌, ◌*◌, ◌/◌, ◌%◌, ◌^◌, ◌<◌, ◌≤◌, ℕ, zero, suc, ℤ, pos, negsuc, neg_ℤ, ◌+ℤ◌, ◌-ℤ◌, ◌*ℤ◌, ◌≤ℤ◌, unsigned_abs, SFits}
+use Rattle.std.proofs.Common.{w32, to_z, of_z, to_z-of_z, Bool, true, false, List, [], ◌∷◌, length, take, drop, map, min, nat_le, nat_lt, get_or, set, ◌++◌}
+use Rattle.std.proofs.Common.{length-take, length-drop, add-one, arith, refl, ◌∙◌, sym, ap, pow_mono, if◌then◌else◌}
 use Rattle.std.proofs.Math.Pow.{pow-add}
 use Rattle.std.proofs.Math.Seq.{take-suc}
 use Rattle.std.proofs.lemmas.List.{take_more_set, map-append}
@@ -46,7 +48,8 @@ product_small scale half e h = rw (unsigned_abs-mul (pos scale) e) (mul-le scale
 signed_small : (q : ℕ) (e : ℤ) → IsSigned q e → unsigned_abs e ≤ 2 ^ (q - 1)
 signed_small q e h = let low = h.0 in let high = h.1 in omega (arith, ints, low, high)
 
-sum_small : (scale half ones : ℕ) (e : ℤ) → e ≤ℤ (pos half -ℤ pos 1) → neg_ℤ (pos half) ≤ℤ e → ones + 1 ≤ scale → unsigned_abs (pos scale *ℤ e +ℤ pos ones) ≤ scale * half
+sum_small : (scale half ones : ℕ) (e : ℤ) → e ≤ℤ (pos half -ℤ pos 1) → neg_ℤ (pos half) ≤ℤ e → ones + 1 ≤ scale
+    → unsigned_abs (pos scale *ℤ e +ℤ pos ones) ≤ scale * half
 sum_small scale half ones (pos n) high low small =
     let m : scale * (n + 1) ≤ scale * half = mul-le scale (n + 1) scale half (omega arith) (omega (arith, ints, high)) in
     omega (arith, ints, m, small)
@@ -90,11 +93,13 @@ pub ones_fit : (f q : ℕ) → f ≤ 19 → SFits w32 (pos (ones_below f q))
 ones_fit f q h = by_test (nat_le q (f + 2)) refl
   where
     by_test : (b : Bool) → nat_le q (f + 2) ≡ b → SFits w32 (pos (ones_below f q))
-    by_test true e = let p : 2 ^ (f + 2 - q) ≤ 2 ^ 21 = pow_mono {j = 21} (omega (arith, h)) in rw e (fits_signed_from_abs w32 (pos (2 ^ (f + 2 - q) - 1)) (omega (arith, p)))
+    by_test true e = let p : 2 ^ (f + 2 - q) ≤ 2 ^ 21 = pow_mono {j = 21} (omega (arith, h)) in
+        rw e (fits_signed_from_abs w32 (pos (2 ^ (f + 2 - q) - 1)) (omega (arith, p)))
     by_test false e = rw e (fits_signed_from_abs w32 (pos 0) (omega arith))
 
 -- one weight more is written
-pub told_next : (f q i : ℕ) (ws entries : List ℤ) (w : ℤ) → i < length ws → i < length entries → w ≡ table_weight f q (get_or entries i (pos 0)) → take i ws ≡ map (table_weight f q) (take i entries)
+pub told_next : (f q i : ℕ) (ws entries : List ℤ) (w : ℤ) → i < length ws → i < length entries → w ≡ table_weight f q (get_or entries i (pos 0))
+    → take i ws ≡ map (table_weight f q) (take i entries)
     → take (i + 1) (set ws i w) ≡ map (table_weight f q) (take (i + 1) entries)
 told_next f q i ws entries w l m is told =
     let a : take (i + 1) entries ≡ take i entries ++ get_or entries i (pos 0) ∷ [] = rw add-one (take-suc entries i (pos 0) m) in
@@ -111,7 +116,8 @@ entry_signed q [] i all l = absurd (omega (arith, l))
 entry_signed q (e ∷ es) zero all l = all.0
 entry_signed q (e ∷ es) (suc i) all l = entry_signed q es i all.1 (omega (arith, l))
 
-pub read_entry : (f q : ℕ) (es : List ℤ) (i : ℕ) → f ≤ 19 → q ≤ f + 3 → AllByRecursion (IsSigned q) es → i < length es → to_z w32 (of_z w32 (get_or es i (pos 0))) ≡ get_or es i (pos 0)
+pub read_entry : (f q : ℕ) (es : List ℤ) (i : ℕ) → f ≤ 19 → q ≤ f + 3 → AllByRecursion (IsSigned q) es → i < length es
+    → to_z w32 (of_z w32 (get_or es i (pos 0))) ≡ get_or es i (pos 0)
 read_entry f q es i h l all m = to_z-of_z (entry_fits f q (get_or es i (pos 0)) h l (entry_signed q es i all m))
 
 -- ---- where the entries of a band stand
@@ -140,7 +146,8 @@ in_front_is p first f (suc z) =
     let count : first + min z p.previous ≡ component_count p z = count_is p z first f in
     by_order (nat_lt z p.previous) refl before count
   where
-    by_order : (b : Bool) → nat_lt z p.previous ≡ b → in_front first p.previous z ≡ entries_before p z → first + min z p.previous ≡ component_count p z → in_front first p.previous (suc z) ≡ entries_before p z + component_count p z
+    by_order : (b : Bool) → nat_lt z p.previous ≡ b → in_front first p.previous z ≡ entries_before p z → first + min z p.previous ≡ component_count p z
+        → in_front first p.previous (suc z) ≡ entries_before p z + component_count p z
     by_order true e before count =
         let close : z < p.previous = grind (arith, nat_tests, e) in
         let near : min z p.previous ≡ z = omega (arith, close) in
@@ -164,7 +171,8 @@ unfolding entries_before weight_count
 counts_agree p zero = refl
 counts_agree p (suc z) = by_mode p.reduced refl (counts_agree p z)
   where
-    by_mode : (b : Bool) → p.reduced ≡ b → entries_before (predictor_of p) z ≡ weight_count p.previous p.reduced z → entries_before (predictor_of p) (suc z) ≡ weight_count p.previous p.reduced (suc z)
+    by_mode : (b : Bool) → p.reduced ≡ b → entries_before (predictor_of p) z ≡ weight_count p.previous p.reduced z
+        → entries_before (predictor_of p) (suc z) ≡ weight_count p.previous p.reduced (suc z)
     by_mode true e before =
         let count = reduced_count (predictor_of p) z e in
         let none : ◌≡◌ {A = ℕ} (if p.reduced then 0 else 3) 0 = rw e refl in
@@ -180,7 +188,8 @@ counts_grow previous reduced z zero = let e : 0 + z ≡ z = omega arith in rw e 
 counts_grow previous reduced z (suc n) = let g = counts_grow previous reduced z n in let e : suc n + z ≡ suc (n + z) = omega arith in rw e (omega (arith, g))
 
 -- the entries of a band are there
-pub entries_there : (p : Params) (z : ℕ) → z < p.shape.bands → entries_before (predictor_of p) z + component_count (predictor_of p) z ≤ weight_count p.previous p.reduced p.shape.bands
+pub entries_there : (p : Params) (z : ℕ) → z < p.shape.bands
+    → entries_before (predictor_of p) z + component_count (predictor_of p) z ≤ weight_count p.previous p.reduced p.shape.bands
 unfolding entries_before
 entries_there p z l =
     let g = counts_grow p.previous p.reduced (suc z) (p.shape.bands - suc z) in
@@ -211,10 +220,12 @@ tables_within f q (e ∷ es) l h all = one_more (tables_within f q es l h all.1)
     one_more rest (suc i) m = rest i (omega (arith, m))
 
 -- lawful weights to start from are small, from a table too
-pub table_within : (p : Params) (q : ℕ) (values : List ℤ) (z : ℕ) → 3 ≤ q → q ≤ p.omega + 3 → AllByRecursion (IsSigned q) values → AllWithin (2 ^ (p.omega + 2)) (table_weights (predictor_of p) q values z)
+pub table_within : (p : Params) (q : ℕ) (values : List ℤ) (z : ℕ) → 3 ≤ q → q ≤ p.omega + 3 → AllByRecursion (IsSigned q) values
+    → AllWithin (2 ^ (p.omega + 2)) (table_weights (predictor_of p) q values z)
 unfolding table_weights
 table_within p q values z l h all =
-    tables_within p.omega q (take (component_count (predictor_of p) z) (drop (entries_before (predictor_of p) z) values)) l h (signed_between q (entries_before (predictor_of p) z) (component_count (predictor_of p) z) values all)
+    tables_within p.omega q (take (component_count (predictor_of p) z) (drop (entries_before (predictor_of p) z) values)) l h
+    (signed_between q (entries_before (predictor_of p) z) (component_count (predictor_of p) z) values all)
 
 module _ (p : Params) (lawful : IsLawful p) (z : ℕ) (band : z < p.shape.bands) (q : ℕ) (values : List ℤ) (table : p.start ≡ Table q values) where
   is_start : IsWeightStart p (Table q values)
@@ -230,7 +241,8 @@ module _ (p : Params) (lawful : IsLawful p) (z : ℕ) (band : z < p.shape.bands)
   table_long = let there = entries_there p z band in rw is_start.1 there
 
 -- the weights that the entries of a band tell are those that the parameters tell
-pub table_told : (p : Params) (z : ℕ) (q : ℕ) (values : List ℤ) → p.start ≡ Table q values → (first near from : ℕ) (entries weights : List ℤ) → first + near ≡ component_count (predictor_of p) z
+pub table_told : (p : Params) (z : ℕ) (q : ℕ) (values : List ℤ) → p.start ≡ Table q values → (first near from : ℕ) (entries weights : List ℤ)
+    → first + near ≡ component_count (predictor_of p) z
     → from ≡ entries_before (predictor_of p) z → entries ≡ take (first + near) (drop from values) → from + (first + near) ≤ length values
     → take (length entries) weights ≡ map (table_weight p.omega q) entries → take (first + near) weights ≡ start_weights p z
 unfolding weights_by table_weights

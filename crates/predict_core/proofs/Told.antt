@@ -1,5 +1,6 @@
 -- What lines of a band and quads of its components tell of a run.
-use Rattle.std.proofs.Common.{◌≡◌, ℕ, ◌+◌, ◌-◌, ◌*◌, ◌^◌, ◌<◌, ◌≤◌, ◌||◌, ◌==◌, ℤ, pos, ◌+ℤ◌, ◌-ℤ◌, ◌*ℤ◌, ◌≤ℤ◌, false, List, ◌++◌, get_or, replicate, unsigned_abs, arith, sym, ap, ◌∙◌, subst}
+use Rattle.std.proofs.Common.{◌≡◌, ℕ, ◌+◌, ◌-◌, ◌*◌, ◌^◌, ◌<◌, ◌≤◌, ◌||◌, ◌==◌, ℤ, pos, ◌+ℤ◌, ◌-ℤ◌, ◌*ℤ◌, ◌≤ℤ◌, false, List, ◌++◌, get_or, replicate}
+use Rattle.std.proofs.Common.{unsigned_abs, arith, sym, ap, ◌∙◌, subst}
 use Rattle.std.proofs.lemmas.Int.{ints}
 use Rattle.std.proofs.Math.Pow.{pow_mono}
 use Rattle.cube_core.specs.Kind.{smin, smax}
@@ -16,15 +17,18 @@ use Rattle.predict_core.proofs.Ranges.{sum_within, central_within, padded_within
 use Rattle.predict_core.proofs.Spans.{span}
 
 -- a sum of offsets is at most four times the greatest of them
-offset_sum_most : (low high s sum : ℤ) (power : ℕ) → high -ℤ low ≡ pos power -ℤ pos 1 → power ≤ 65536 → Between (pos 4 *ℤ low) (pos 4 *ℤ high) s → pos 4 *ℤ low +ℤ sum ≡ s
+offset_sum_most : (low high s sum : ℤ) (power : ℕ) → high -ℤ low ≡ pos power -ℤ pos 1 → power ≤ 65536 → Between (pos 4 *ℤ low) (pos 4 *ℤ high) s
+    → pos 4 *ℤ low +ℤ sum ≡ s
     → (pos 0 ≤ℤ sum) × (sum ≤ℤ pos 262140)
 offset_sum_most low high s sum power e l h f = (omega (arith, ints, e, l, h.0, h.1, f), omega (arith, ints, e, l, h.0, h.1, f))
 
-module _ (p : Predictor) (c : Image) (z y x count components : ℕ) (current upper : List ℕ) (sums own : List ℤ) (quads : List Quad) (cube : IsCube c) (place : IsPlace c.shape z y x) (inside : x + count ≤ c.shape.columns) (wide : p.column ≡ false → 2 ≤ c.shape.columns)
+module _ (p : Predictor) (c : Image) (z y x count components : ℕ) (current upper : List ℕ) (sums own : List ℤ) (quads : List Quad) (cube : IsCube c)
+    (place : IsPlace c.shape z y x) (inside : x + count ≤ c.shape.columns) (wide : p.column ≡ false → 2 ≤ c.shape.columns)
     (few : count ≤ 64) (lines : AreBandLines p c z y x count current upper)
     (sums_are : (i : ℕ) → i < 64 → get_or sums i (pos 0) ≡ pos (line_sum (p.column || y == 0) current upper i))
     (own_are : (i : ℕ) → i < 64 → get_or own i (pos 0) ≡ line_difference (p.column || y == 0) current upper i)
-    (vectors : (i : ℕ) → i < count → 0 < y + (x + i) → components_at (quads_of components) quads i ≡ difference_vector p c z y (x + i) ++ replicate (4 * quads_of components - components) (pos 0)) where
+    (vectors : (i : ℕ) → i < count → 0 < y + (x + i)
+    → components_at (quads_of components) quads i ≡ difference_vector p c z y (x + i) ++ replicate (4 * quads_of components - components) (pos 0)) where
   along : (i : ℕ) → i < count → IsPlace c.shape z y (x + i)
   along i l = record { band = place.band; row = place.row; column = omega arith }
 
@@ -38,7 +42,8 @@ module _ (p : Predictor) (c : Image) (z y x count components : ℕ) (current upp
   sum_in i l h =
       let bits = cube.bits in
       let power : 2 ^ c.kind.bits ≤ 2 ^ 16 = pow_mono (bits.1) in
-      offset_sum_most (smin c.kind) (smax c.kind) (local_sum p c z y (x + i)) (get_or sums i (pos 0)) (2 ^ c.kind.bits) (span c.kind bits) power (sum_within p c cube y (x + i) h wide z (along i l)) (sum i l h)
+      offset_sum_most (smin c.kind) (smax c.kind) (local_sum p c z y (x + i)) (get_or sums i (pos 0)) (2 ^ c.kind.bits) (span c.kind bits) power
+      (sum_within p c cube y (x + i) h wide z (along i l)) (sum i l h)
 
   pub room_told : IsRoom p c z y x count components sums own quads
   room_told = record {
@@ -48,5 +53,6 @@ module _ (p : Predictor) (c : Image) (z y x count components : ℕ) (current upp
     sum_least = λ i l h. (sum_in i l h).0;
     sum_most = λ i l h. (sum_in i l h).1;
     central_in = λ i l h. subst (λ d. unsigned_abs d ≤ 4 * 2 ^ c.kind.bits) (sym (central i l h)) (central_within p c cube y (x + i) h wide z (along i l));
-    vector_in = λ i l h. subst (AllWithin (4 * 2 ^ c.kind.bits)) (sym (vectors i l h)) (padded_within p c cube y (x + i) h wide z (along i l) (4 * quads_of components - components));
+    vector_in = λ i l h. subst (AllWithin (4 * 2 ^ c.kind.bits)) (sym (vectors i l h))
+        (padded_within p c cube y (x + i) h wide z (along i l) (4 * quads_of components - components));
   }

@@ -1,6 +1,7 @@
 -- The sign of an error as a word of 32 bits: all ones, or 0.
 use lib.Bits.{and_zero_r}
-use Rattle.std.proofs.Common.{◌≡◌, ℕ, zero, suc, ◌-◌, ◌^◌, ◌%◌, ◌≤◌, ℤ, pos, negsuc, ◌-ℤ◌, ◌≤ℤ◌, int_lt, int_le, unsigned_abs, arith, w32, to_z, of_z, SFits, to_z-of_z, ◌+ℤ◌, if◌then◌else◌, Bool, true, false}
+use Rattle.std.proofs.Common.{◌≡◌, ℕ, zero, suc, ◌-◌, ◌^◌, ◌%◌, ◌≤◌, ℤ, pos, negsuc, ◌-ℤ◌, ◌≤ℤ◌, int_lt, int_le, unsigned_abs, arith, w32, to_z, of_z, SFits}
+use Rattle.std.proofs.Common.{to_z-of_z, ◌+ℤ◌, if◌then◌else◌, Bool, true, false}
 use Rattle.std.specs.Int.Bits.{bit_and}
 use Rattle.std.proofs.lemmas.Int.{ints, fits_signed_from_abs}
 use Rattle.std.proofs.lemmas.Nat.{and_mask}
@@ -9,7 +10,8 @@ use Rattle.predict_core.specs.Arithmetic.{floor_div}
 -- a word whose bits are all kept
 kept : (d : ℤ) → unsigned_abs d ≤ 2 ^ 22 → bit_and (of_z w32 d) 4294967295 ≡ of_z w32 d
 kept (pos n) h = let masked : bit_and n 4294967295 ≡ n % 4294967296 = and_mask n 32 in omega (arith, masked, h)
-kept (negsuc n) h = let masked : bit_and (2 ^ 32 - suc n) 4294967295 ≡ (2 ^ 32 - suc n) % 4294967296 = and_mask (2 ^ 32 - suc n) 32 in omega (arith, ints, masked, h)
+kept (negsuc n) h = let masked : bit_and (2 ^ 32 - suc n) 4294967295 ≡ (2 ^ 32 - suc n) % 4294967296 = and_mask (2 ^ 32 - suc n) 32 in
+    omega (arith, ints, masked, h)
 
 -- one of two numbers, by such a word
 pub chosen_is : (turn a b : ℤ) → negsuc 0 ≤ℤ turn → turn ≤ℤ pos 0 → unsigned_abs a ≤ 2 ^ 21 → unsigned_abs b ≤ 2 ^ 21
@@ -30,7 +32,8 @@ either_within limit true a b s t = t
 either_within limit false a b s t = s
 
 -- the sign of a number below 2 ^ 31, by a shift
-pub sign_shifted : (a : ℤ) → unsigned_abs a ≤ 2 ^ 30 → (int_lt (floor_div a 2147483648) (pos 0) ≡ int_lt a (pos 0)) × (negsuc 0 ≤ℤ floor_div a 2147483648) × (floor_div a 2147483648 ≤ℤ pos 0)
+pub sign_shifted : (a : ℤ) → unsigned_abs a ≤ 2 ^ 30
+    → (int_lt (floor_div a 2147483648) (pos 0) ≡ int_lt a (pos 0)) × (negsuc 0 ≤ℤ floor_div a 2147483648) × (floor_div a 2147483648 ≤ℤ pos 0)
 sign_shifted (pos a) h = (grind (arith, ints), omega (arith, ints, h), omega (arith, ints, h))
 sign_shifted (negsuc a) h = (grind (arith, ints), omega (arith, ints, h), omega (arith, ints, h))
 

@@ -1,5 +1,7 @@
 -- A register of r bits, by two shifts of a 64-bit number.
-use Rattle.std.proofs.Common.{◌≡◌, ℕ, suc, ◌+◌, ◌-◌, ◌*◌, ◌/◌, ◌%◌, ◌^◌, ◌<◌, ◌≤◌, ℤ, pos, negsuc, ◌+ℤ◌, ◌-ℤ◌, ltb, refl, sym, ap, ◌∙◌, arith, w64, SFits, to_z, of_z, inl, inr, lt-ltb, mul-le-mul_right, mul_comm, le-ltb, true, false, pow-suc, pow_pos, lt_of_le_of_lt, mul-lt-mul_of_pos_right, div-add-mod'}
+use Rattle.std.proofs.Common.{◌≡◌, ℕ, suc, ◌+◌, ◌-◌, ◌*◌, ◌/◌, ◌%◌, ◌^◌, ◌<◌, ◌≤◌, ℤ, pos, negsuc, ◌+ℤ◌, ◌-ℤ◌, ltb, refl, sym, ap, ◌∙◌, arith, w64, SFits, to_z}
+use Rattle.std.proofs.Common.{of_z, inl, inr, lt-ltb, mul-le-mul_right, mul_comm, le-ltb, true, false, pow-suc, pow_pos, lt_of_le_of_lt}
+use Rattle.std.proofs.Common.{mul-lt-mul_of_pos_right, div-add-mod'}
 use Rattle.std.proofs.Math.Arith.{digits_mod, digits_div}
 use Rattle.std.proofs.Math.Pow.{pow-add}
 use Rattle.std.proofs.Math.Nat.{mul-div_cancel, mod-lt, mod-add-mod}
@@ -17,7 +19,8 @@ pub quotient_is : (n d q r : ℕ) → r < d → n ≡ q * d + r → n / d ≡ q
 quotient_is n d q r h e = rw e (digits_div q h)
 
 -- the two shifts of the low bits q, put below the top of 64 bits, give q as a signed number
-shifted_back : (H K q : ℕ) → 0 < K → q < H + H → shr_z (sel (ltb (q * K) (H * K)) (pos (q * K)) (negsuc ((H + H) * K - suc (q * K)))) K ≡ pos ((q + H) % (H + H)) -ℤ pos H
+shifted_back : (H K q : ℕ) → 0 < K → q < H + H
+    → shr_z (sel (ltb (q * K) (H * K)) (pos (q * K)) (negsuc ((H + H) * K - suc (q * K)))) K ≡ pos ((q + H) % (H + H)) -ℤ pos H
 shifted_back H K q k b = elim (cases_lt q H) [ inl h ↦ low h | inr h ↦ high h ]
   where
     low : q < H → shr_z (sel (ltb (q * K) (H * K)) (pos (q * K)) (negsuc ((H + H) * K - suc (q * K)))) K ≡ pos ((q + H) % (H + H)) -ℤ pos H
@@ -63,7 +66,8 @@ by_shifts r v f low high =
     let q : ℕ = u % (H + H) in
     let below : q < H + H = mod-lt u (omega arith) in
     let cut : (u * K) % 2 ^ 64 ≡ q * K =
-    rw (← all) (remainder_is (u * K) ((H + H) * K) (u / (H + H)) (q * K) (mul-lt-mul_of_pos_right below k) (ap (λ n. n * K) (sym (div-add-mod' u (H + H))) ∙ omega arith)) in
+    rw (← all) (remainder_is (u * K) ((H + H) * K) (u / (H + H)) (q * K) (mul-lt-mul_of_pos_right below k)
+    (ap (λ n. n * K) (sym (div-add-mod' u (H + H))) ∙ omega arith)) in
     let same : (q + H) % (H + H) ≡ (u + H) % (H + H) = mod-add-mod u (H + H) H in
     rw double (rw (bits_of_z H K v all (omega arith) f, ← same, cut) (rw (← top, ← all) (shifted_back H K q k below)))
 

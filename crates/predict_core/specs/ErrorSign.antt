@@ -24,7 +24,8 @@ pub record IsLaterPlace (p : Params) (c : Image) (z y x : ℕ) : Type 0 where
   pub place : IsPlace c.shape z y x
   pub later : 0 < y + x
 
--- In a register of 46 bits or more, which nothing wraps, the scaled prediction is twice the middle, moved by half of the predicted difference and the local sum.
+-- In a register of 46 bits or more, which nothing wraps, the scaled prediction is twice the middle,
+-- moved by half of the predicted difference and the local sum.
 abbrev pub UnwrappedPrediction : Type 0
 UnwrappedPrediction =
     (p : Params) (c : Image) (z y x : ℕ) → IsLaterPlace p c z y x → 46 ≤ p.register

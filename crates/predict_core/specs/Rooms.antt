@@ -1,5 +1,6 @@
 -- What the samples tell of a run of places, before its weights are known.
-use Rattle.std.specs.Prelude.{ℕ, ◌≡◌, ◌+◌, ◌-◌, ◌*◌, ◌/◌, ◌^◌, ◌<◌, ◌≤◌, nat_le, ℤ, pos, ◌+ℤ◌, ◌*ℤ◌, ◌≤ℤ◌, unsigned_abs, List, [], ◌++◌, map, take, drop, length}
+use Rattle.std.specs.Prelude.{ℕ, ◌≡◌, ◌+◌, ◌-◌, ◌*◌, ◌/◌, ◌^◌, ◌<◌, ◌≤◌, nat_le, ℤ, pos, ◌+ℤ◌, ◌*ℤ◌, ◌≤ℤ◌, unsigned_abs, List, [], ◌++◌, map, take, drop}
+use Rattle.std.specs.Prelude.{length}
 use Rattle.std.specs.Prelude.{replicate, slice_index_or, if◌then◌else◌}
 use Rattle.std.specs.List.{flat_map}
 use Rattle.cube_core.specs.Kind.{smin}
@@ -44,7 +45,8 @@ pub record IsRoom (p : Predictor) (c : Image) (z y x count components : ℕ) (su
 -- the components of a place but for the directions, which come first in full mode: the differences of the bands below, and zeros
 pub record IsLowerPart (p : Predictor) (c : Image) (z y x count : ℕ) (components : List ℤ) : Type 0 where
   pub long : length components ≡ 4 * quads_of count
-  pub lower : drop (if p.reduced then 0 else 3) components ≡ spectral_differences p c z y x (previous_bands p z) ++ replicate (4 * quads_of count - count) (pos 0)
+  pub lower : drop (if p.reduced then 0 else 3) components
+      ≡ spectral_differences p c z y x (previous_bands p z) ++ replicate (4 * quads_of count - count) (pos 0)
 
 -- the number of an offset from the least sample, by a predicted difference and a local sum of offsets
 unfoldable pub offset_number : ℤ → ℤ → ℤ → ℕ → ℕ

@@ -1,5 +1,6 @@
 -- Bodies, word after word.
-use Rattle.std.proofs.Common.{◌≡◌, ℕ, suc, ◌^◌, ◌<◌, ◌≤◌, Bool, true, false, cond, eqb, List, [], ◌∷◌, ◌++◌, length, Ok, refl, sym, ap, subst, ◌∙◌, append_assoc, arith}
+use Rattle.std.proofs.Common.{◌≡◌, ℕ, suc, ◌^◌, ◌<◌, ◌≤◌, Bool, true, false, cond, eqb, List, [], ◌∷◌, ◌++◌, length, Ok, refl, sym, ap, subst, ◌∙◌}
+use Rattle.std.proofs.Common.{append_assoc, arith}
 use Rattle.std.proofs.lemmas.List.{append-nil}
 use Rattle.std.proofs.Math.Pow.{pow_mono}
 use Rattle.cube_core.specs.declared.order.Place.{Place}
@@ -27,7 +28,8 @@ below_code c z numbers n lt = rw (code_bits c z numbers) at lt
 -- ---- reading
 
 pub words_again : (count : ℕ) (c : CoderSettings) (gone : List Place) (before : List ℕ) (places : List Place) (numbers : List ℕ) (rest : List Bool)
-    → length numbers ≡ length places → AreNumbers c.bits numbers → words_at count c gone before places (words_after c gone before places numbers ++ rest) ≡ Ok (numbers, rest)
+    → length numbers ≡ length places → AreNumbers c.bits numbers
+    → words_at count c gone before places (words_after c gone before places numbers ++ rest) ≡ Ok (numbers, rest)
 unfolding words_at words_after
 words_again count c gone before [] [] rest len h = refl
 words_again count c gone before [] (n ∷ ns) rest len h = absurd (omega arith)
@@ -36,7 +38,11 @@ words_again count c gone before (p ∷ ps) (n ∷ ns) rest len h =
     let code : Code = code_at c p.z (band_numbers p.z gone before) in
     let after : List Bool = words_after c (gone ++ p ∷ []) (before ++ n ∷ []) ps ns in
     let fits : n < 2 ^ code.bits = rw (code_bits c p.z (band_numbers p.z gone before)) h.0 in
-    rw (append_assoc (code_word code n) after rest, word_again count (length before) code n (after ++ rest) fits, words_again count c (gone ++ p ∷ []) (before ++ n ∷ []) ps ns rest (omega arith) h.1) refl
+    rw (
+      append_assoc (code_word code n) after rest,
+      word_again count (length before) code n (after ++ rest) fits,
+      words_again count c (gone ++ p ∷ []) (before ++ n ∷ []) ps ns rest (omega arith) h.1,
+    ) refl
 
 -- numbers of a list of places, each of at most D bits, whose words stand next
 pub record AreWords (c : CoderSettings) (gone : List Place) (before : List ℕ) (places : List Place) (bits : List Bool) (x : List ℕ × List Bool) : Type 0 where
@@ -44,12 +50,14 @@ pub record AreWords (c : CoderSettings) (gone : List Place) (before : List ℕ) 
   pub numbers : AreNumbers c.bits x.0
   pub text : bits ≡ words_after c gone before places x.0 ++ x.1
 
-pub words_takes : (count : ℕ) (c : CoderSettings) (gone : List Place) (before : List ℕ) (places : List Place) (bits : List Bool) (x : List ℕ × List Bool) → words_at count c gone before places bits ≡ Ok x → AreWords c gone before places bits x
+pub words_takes : (count : ℕ) (c : CoderSettings) (gone : List Place) (before : List ℕ) (places : List Place) (bits : List Bool) (x : List ℕ × List Bool)
+    → words_at count c gone before places bits ≡ Ok x → AreWords c gone before places bits x
 unfolding words_at words_after
 words_takes count c gone before [] bits x e = subst (AreWords c gone before [] bits) (ok_is ([], bits) x e) (record { count = refl; numbers = tt; text = refl })
 words_takes count c gone before (p ∷ ps) bits x e =
     let code : Code = code_at c p.z (band_numbers p.z gone before) in
-    let a = bind_ok (word_at count (length before) code bits) (λ n. words_at count c (gone ++ p ∷ []) (before ++ n.0 ∷ []) ps n.1 >>= λ ns. Ok (n.0 ∷ ns.0, ns.1)) x e in
+    let a = bind_ok (word_at count (length before) code bits)
+    (λ n. words_at count c (gone ++ p ∷ []) (before ++ n.0 ∷ []) ps n.1 >>= λ ns. Ok (n.0 ∷ ns.0, ns.1)) x e in
     let b = bind_ok (words_at count c (gone ++ p ∷ []) (before ++ a.0.0 ∷ []) ps a.0.1) (λ ns. Ok (a.0.0 ∷ ns.0, ns.1)) x a.2 in
     let first = word_takes count (length before) code bits a.0 a.1 in
     let others = words_takes count c (gone ++ p ∷ []) (before ++ a.0.0 ∷ []) ps a.0.1 b.0 b.1 in
@@ -58,7 +66,8 @@ words_takes count c gone before (p ∷ ps) bits x e =
     (record {
       count = ap suc others.count;
       numbers = (fits, others.numbers);
-      text = first.1 ∙ ap (λ (bs : List Bool). code_word code a.0.0 ++ bs) others.text ∙ sym (append_assoc (code_word code a.0.0) (words_after c (gone ++ p ∷ []) (before ++ a.0.0 ∷ []) ps b.0.0) b.0.1);
+      text = first.1 ∙ ap (λ (bs : List Bool). code_word code a.0.0 ++ bs) others.text
+          ∙ sym (append_assoc (code_word code a.0.0) (words_after c (gone ++ p ∷ []) (before ++ a.0.0 ∷ []) ps b.0.0) b.0.1);
     })
 
 pub body_is_read : BodyIsRead
@@ -71,13 +80,16 @@ body_is_read count c places ns bits rest len = (
 pub one_body : OneBody
 unfolding sample_body
 one_body c places ms ns x y hm hn p q e =
-    let same = ok_is (ms, x) (ns, y) (sym (words_again 0 c [] [] places ms x hm p) ∙ ap (λ (bits : List Bool). words_at 0 c [] [] places bits) e ∙ words_again 0 c [] [] places ns y hn q) in
+    let same = ok_is (ms, x) (ns, y) (sym (words_again 0 c [] [] places ms x hm p) ∙ ap (λ (bits : List Bool). words_at 0 c [] [] places bits) e
+    ∙ words_again 0 c [] [] places ns y hn q) in
     (ap (λ (r : List ℕ × List Bool). r.0) same, ap (λ (r : List ℕ × List Bool). r.1) same)
 
 -- ---- one number more
 
-pub words_push : (c : CoderSettings) (gone : List Place) (before : List ℕ) (places : List Place) (numbers : List ℕ) (p : Place) (n : ℕ) → length numbers ≡ length places
-    → words_after c gone before (places ++ p ∷ []) (numbers ++ n ∷ []) ≡ words_after c gone before places numbers ++ code_word (code_at c p.z (band_numbers p.z (gone ++ places) (before ++ numbers))) n
+pub words_push : (c : CoderSettings) (gone : List Place) (before : List ℕ) (places : List Place) (numbers : List ℕ) (p : Place) (n : ℕ)
+    → length numbers ≡ length places
+    → words_after c gone before (places ++ p ∷ []) (numbers ++ n ∷ [])
+    ≡ words_after c gone before places numbers ++ code_word (code_at c p.z (band_numbers p.z (gone ++ places) (before ++ numbers))) n
 unfolding words_after
 words_push c gone before [] [] p n len = rw (append-nil gone, append-nil before) (append-nil (code_word (code_at c p.z (band_numbers p.z gone before)) n))
 words_push c gone before [] (m ∷ ms) p n len = absurd (omega arith)
@@ -88,7 +100,8 @@ words_push c gone before (q ∷ qs) (m ∷ ms) p n len =
     let places-are : (gone ++ q ∷ []) ++ qs ≡ gone ++ q ∷ qs = append_assoc gone (q ∷ []) qs in
     let numbers-are : (before ++ m ∷ []) ++ ms ≡ before ++ m ∷ ms = append_assoc before (m ∷ []) ms in
     ap (λ (bs : List Bool). word ++ bs) (rw (places-are, numbers-are) at more)
-    ∙ sym (append_assoc word (words_after c (gone ++ q ∷ []) (before ++ m ∷ []) qs ms) (code_word (code_at c p.z (band_numbers p.z (gone ++ q ∷ qs) (before ++ m ∷ ms))) n))
+    ∙ sym (append_assoc word (words_after c (gone ++ q ∷ []) (before ++ m ∷ []) qs ms)
+    (code_word (code_at c p.z (band_numbers p.z (gone ++ q ∷ qs) (before ++ m ∷ ms))) n))
 
 -- the body of one number more
 pub body_push : (c : CoderSettings) (places : List Place) (numbers : List ℕ) (p : Place) (n : ℕ) → length numbers ≡ length places
@@ -105,31 +118,36 @@ band_push z [] (m ∷ ms) p n len = absurd (omega arith)
 band_push z (q ∷ qs) [] p n len = absurd (omega arith)
 band_push z (q ∷ qs) (m ∷ ms) p n len = rw (band_push z qs ms p n (omega arith)) (go (eqb q.z z) (eqb p.z z) (band_numbers z qs ms))
   where
-    go : (b d : Bool) (ns : List ℕ) → cond b (m ∷ cond d (ns ++ n ∷ []) ns) (cond d (ns ++ n ∷ []) ns) ≡ cond d (cond b (m ∷ ns) ns ++ n ∷ []) (cond b (m ∷ ns) ns)
+    go : (b d : Bool) (ns : List ℕ)
+        → cond b (m ∷ cond d (ns ++ n ∷ []) ns) (cond d (ns ++ n ∷ []) ns) ≡ cond d (cond b (m ∷ ns) ns ++ n ∷ []) (cond b (m ∷ ns) ns)
     go true true ns = refl
     go true false ns = refl
     go false true ns = refl
     go false false ns = refl
 
-pub from_push : (gamma_star : ℕ) (s : Statistics) (numbers : List ℕ) (n : ℕ) → statistics_from gamma_star s (numbers ++ n ∷ []) ≡ next_statistics gamma_star (statistics_from gamma_star s numbers) n
+pub from_push : (gamma_star : ℕ) (s : Statistics) (numbers : List ℕ) (n : ℕ)
+    → statistics_from gamma_star s (numbers ++ n ∷ []) ≡ next_statistics gamma_star (statistics_from gamma_star s numbers) n
 unfolding statistics_from
 from_push gamma_star s [] n = refl
 from_push gamma_star s (m ∷ ms) n = from_push gamma_star (next_statistics gamma_star s m) ms n
 
 -- ---- the bound
 
-from_in_range : (bits gamma_star : ℕ) (s : Statistics) (numbers : List ℕ) → bits ≤ 16 → 1 ≤ gamma_star → AreStatistics gamma_star s → AreNumbers bits numbers → AreStatistics gamma_star (statistics_from gamma_star s numbers)
+from_in_range : (bits gamma_star : ℕ) (s : Statistics) (numbers : List ℕ) → bits ≤ 16 → 1 ≤ gamma_star → AreStatistics gamma_star s → AreNumbers bits numbers
+    → AreStatistics gamma_star (statistics_from gamma_star s numbers)
 unfolding statistics_from
 from_in_range bits gamma_star s [] small least h all = h
 from_in_range bits gamma_star s (n ∷ ns) small least h all =
     let power : 2 ^ bits ≤ 2 ^ 16 = pow_mono small in
     from_in_range bits gamma_star (next_statistics gamma_star s n) ns small least (next_in_range gamma_star s n least h (omega (arith, all.0))) all.1
 
-pub in_range : (c : CoderSettings) (z : ℕ) (numbers : List ℕ) → AreSettings c z → AreNumbers c.bits numbers → AreStatistics c.gamma_star (statistics c z numbers)
+pub in_range : (c : CoderSettings) (z : ℕ) (numbers : List ℕ) → AreSettings c z → AreNumbers c.bits numbers
+    → AreStatistics c.gamma_star (statistics c z numbers)
 unfolding statistics
 in_range c z [] h all = start_in_range c.gamma_star c.gamma_zero _ h.gamma_star.0 h.gamma_zero.1 (omega (arith, h.constant, h.bits))
 in_range c z (n ∷ ns) h all =
-    from_in_range c.bits c.gamma_star (first_statistics c z) ns h.bits (omega (arith, h.gamma_star)) (start_in_range c.gamma_star c.gamma_zero _ h.gamma_star.0 h.gamma_zero.1 (omega (arith, h.constant, h.bits))) all.1
+    from_in_range c.bits c.gamma_star (first_statistics c z) ns h.bits
+    (omega (arith, h.gamma_star)) (start_in_range c.gamma_star c.gamma_zero _ h.gamma_star.0 h.gamma_zero.1 (omega (arith, h.constant, h.bits))) all.1
 
 pub accumulator_bound : AccumulatorBound
 accumulator_bound c z numbers h all = (in_range c z numbers h all).bound

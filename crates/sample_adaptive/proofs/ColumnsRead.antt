@@ -1,5 +1,6 @@
 -- A column: one number each of bands one above another, read one after another.
-use Rattle.std.proofs.Common.{◌≡◌, ◌+◌, ◌<◌, ◌≤◌, ℕ, suc, Bool, false, cond, eqb, List, [], ◌∷◌, ◌++◌, length, take, drop, set, Result, Ok, Err, IfOk, refl, sym, ap, subst, ◌∙◌, append_assoc, append-nil, length-append, length-drop, take-append-drop, add-one, arith}
+use Rattle.std.proofs.Common.{◌≡◌, ◌+◌, ◌<◌, ◌≤◌, ℕ, suc, Bool, false, cond, eqb, List, [], ◌∷◌, ◌++◌, length, take, drop, set, Result, Ok, Err, IfOk, refl}
+use Rattle.std.proofs.Common.{sym, ap, subst, ◌∙◌, append_assoc, append-nil, length-append, length-drop, take-append-drop, add-one, arith}
 use Rattle.std.proofs.lemmas.Bool.{ne_eqb}
 use Rattle.std.proofs.lemmas.List.{take_all}
 use Rattle.std.proofs.Math.Seq.{take-suc-set}
@@ -18,13 +19,16 @@ use Rattle.sample_adaptive.proofs.Bodies.{band_push}
 use Rattle.sample_adaptive.proofs.Taking.{taken_along, code_is, taken_more}
 
 -- a number of another band is none of its own
-band_beside : (z : ℕ) (gone : List Place) (before : List ℕ) (p : Place) (number : ℕ) → length before ≡ length gone → (p.z ≡ z → ⊥) → length (band_numbers z (gone ++ p ∷ []) (before ++ number ∷ [])) ≡ length (band_numbers z gone before)
+band_beside : (z : ℕ) (gone : List Place) (before : List ℕ) (p : Place) (number : ℕ) → length before ≡ length gone → (p.z ≡ z → ⊥)
+    → length (band_numbers z (gone ++ p ∷ []) (before ++ number ∷ [])) ≡ length (band_numbers z gone before)
 band_beside z gone before p number e apart =
     let other : eqb p.z z ≡ false = ne_eqb p.z z apart in
-    ap length (band_push z gone before p number e ∙ ap (λ (own : Bool). cond own (band_numbers z gone before ++ number ∷ []) (band_numbers z gone before)) other)
+    ap length (band_push z gone before p number e
+    ∙ ap (λ (own : Bool). cond own (band_numbers z gone before ++ number ∷ []) (band_numbers z gone before)) other)
 
 -- numbers of bands below it are none of its own
-pub bands_beside : (z b : ℕ) (ps : List Place) (xs : List ℕ) (gone : List Place) (before : List ℕ) → length before ≡ length gone → length xs ≡ length ps → AreUpFrom z ps → z + length ps ≤ b
+pub bands_beside : (z b : ℕ) (ps : List Place) (xs : List ℕ) (gone : List Place) (before : List ℕ) → length before ≡ length gone → length xs ≡ length ps
+    → AreUpFrom z ps → z + length ps ≤ b
     → length (band_numbers b (gone ++ ps) (before ++ xs)) ≡ length (band_numbers b gone before)
 bands_beside z b [] [] gone before e f up le = rw (append-nil gone, append-nil before) refl
 bands_beside z b [] (x ∷ xs) gone before e f up le = absurd (omega (arith, f))
@@ -35,11 +39,15 @@ bands_beside z b (p ∷ ps) (x ∷ xs) gone before e f up le =
     (rw (append_assoc gone (p ∷ []) ps, append_assoc before (x ∷ []) xs) at more) ∙ band_beside b gone before p x e (λ k. omega (arith, k, up.0, le))
 
 -- the code word that stands next, by the earlier numbers of its band
-there : (z t place : ℕ) (old : Counts) (unread : Unread) (r : Result (ℕ × List Bool) Fault) (c : CoderSettings) (gone : List Place) (before : List ℕ) (p : Place) → z < length old.bands → word_at unread.count place (code_by old z t) unread.left ≡ r → p.z ≡ z
-    → HasTaken c old (λ b. band_numbers b gone before) → t ≡ length (band_numbers z gone before) → place ≡ length before → word_at unread.count (length before) (code_at c p.z (band_numbers p.z gone before)) unread.left ≡ r
+there : (z t place : ℕ) (old : Counts) (unread : Unread) (r : Result (ℕ × List Bool) Fault) (c : CoderSettings) (gone : List Place) (before : List ℕ)
+    (p : Place) → z < length old.bands → word_at unread.count place (code_by old z t) unread.left ≡ r → p.z ≡ z
+    → HasTaken c old (λ b. band_numbers b gone before) → t ≡ length (band_numbers z gone before) → place ≡ length before
+    → word_at unread.count (length before) (code_at c p.z (band_numbers p.z gone before)) unread.left ≡ r
 there z t place old unread r c gone before p lt read own taken is at =
-    let code : code_by old z t ≡ code_at c p.z (band_numbers p.z gone before) = code_is c old (λ b. band_numbers b gone before) z t taken lt is ∙ ap (λ (b : ℕ). code_at c b (band_numbers b gone before)) (sym own) in
-    ap (λ (k : ℕ). word_at unread.count k (code_at c p.z (band_numbers p.z gone before)) unread.left) (sym at) ∙ ap (λ (k : Code). word_at unread.count place k unread.left) (sym code) ∙ read
+    let code : code_by old z t ≡ code_at c p.z (band_numbers p.z gone before) =
+    code_is c old (λ b. band_numbers b gone before) z t taken lt is ∙ ap (λ (b : ℕ). code_at c b (band_numbers b gone before)) (sym own) in
+    ap (λ (k : ℕ). word_at unread.count k (code_at c p.z (band_numbers p.z gone before)) unread.left) (sym at)
+    ∙ ap (λ (k : Code). word_at unread.count place k unread.left) (sym code) ∙ read
 
 pub column_none : (z t place : ℕ) (v : Counts) (unread : Unread) → GetsColumn z t place (Ok tt) v unread v unread.left []
 unfolding words_at
@@ -47,15 +55,19 @@ column_none z t place v unread c gone [] before e f h taken is at = (refl, rw (a
 column_none z t place v unread c gone (p ∷ ps) before e f h taken is at = absurd (omega (arith, f))
 
 -- what comes behind the first number
-behind : (z t place number : ℕ) (r : Result (Unit {0}) Fault) (old new : Counts) (now : Unread) (left : List Bool) (ys : List ℕ) (c : CoderSettings) (gone : List Place) (p : Place) (ps : List Place) (before : List ℕ) → z < length old.bands
-    → GetsColumn (z + 1) t (place + 1) r (counted old z t number) now new left ys → length before ≡ length gone → length ys ≡ length ps → p.z ≡ z → AreUpFrom (suc z) ps → HasTaken c old (λ b. band_numbers b gone before)
+behind : (z t place number : ℕ) (r : Result (Unit {0}) Fault) (old new : Counts) (now : Unread) (left : List Bool) (ys : List ℕ) (c : CoderSettings)
+    (gone : List Place) (p : Place) (ps : List Place) (before : List ℕ) → z < length old.bands
+    → GetsColumn (z + 1) t (place + 1) r (counted old z t number) now new left ys → length before ≡ length gone → length ys ≡ length ps → p.z ≡ z
+    → AreUpFrom (suc z) ps → HasTaken c old (λ b. band_numbers b gone before)
     → ((b : ℕ) → z ≤ b → b < z + suc (length ys) → t ≡ length (band_numbers b gone before)) → place ≡ length before
-    → Reads (λ _. ys) r left (words_at now.count c (gone ++ p ∷ []) (before ++ number ∷ []) ps now.left) × IfOk r (λ _. HasTaken c new (λ b. band_numbers b ((gone ++ p ∷ []) ++ ps) ((before ++ number ∷ []) ++ ys)))
+    → Reads (λ _. ys) r left (words_at now.count c (gone ++ p ∷ []) (before ++ number ∷ []) ps now.left)
+    × IfOk r (λ _. HasTaken c new (λ b. band_numbers b ((gone ++ p ∷ []) ++ ps) ((before ++ number ∷ []) ++ ys)))
 behind z t place number r old new now left ys c gone p ps before lt rest e f here up taken is at =
     let own : t ≡ length (band_numbers z gone before) = is z (omega arith) (omega arith) in
     let more = taken_more c old (λ b. band_numbers b gone before) z t number taken lt own in
     let along : HasTaken c (counted old z t number) (λ b. band_numbers b (gone ++ p ∷ []) (before ++ number ∷ [])) =
-    taken_along c (counted old z t number) gone before p number e (subst (λ (b : ℕ). HasTaken c (counted old z t number) (with_number (λ d. band_numbers d gone before) b number)) (sym here) more) in
+    taken_along c (counted old z t number) gone before p number e
+    (subst (λ (b : ℕ). HasTaken c (counted old z t number) (with_number (λ d. band_numbers d gone before) b number)) (sym here) more) in
     let long : length (before ++ number ∷ []) ≡ length (gone ++ p ∷ []) = omega (arith, length-append before (number ∷ []), length-append gone (p ∷ []), e) in
     let higher : AreUpFrom (z + 1) ps = subst (λ (b : ℕ). AreUpFrom b ps) (let e2 : suc z ≡ z + 1 = omega arith in e2) up in
     let times : (b : ℕ) → z + 1 ≤ b → b < z + 1 + length ys → t ≡ length (band_numbers b (gone ++ p ∷ []) (before ++ number ∷ [])) = λ b ge below.
@@ -63,8 +75,10 @@ behind z t place number r old new now left ys c gone p ps before lt rest e f her
     rest c (gone ++ p ∷ []) ps (before ++ number ∷ []) long f higher along times (omega (arith, at, length-append before (number ∷ [])))
 
 -- a number, and those of the bands above its own
-pub column_cons : (z t place number : ℕ) (r : Result (Unit {0}) Fault) (old new : Counts) (unread now : Unread) (left : List Bool) (ys : List ℕ) → z < length old.bands → word_at unread.count place (code_by old z t) unread.left ≡ Ok (number, now.left)
-    → now.count ≡ unread.count → GetsColumn (z + 1) t (place + 1) r (counted old z t number) now new left ys → GetsColumn z t place r old unread new left (number ∷ ys)
+pub column_cons : (z t place number : ℕ) (r : Result (Unit {0}) Fault) (old new : Counts) (unread now : Unread) (left : List Bool) (ys : List ℕ)
+    → z < length old.bands → word_at unread.count place (code_by old z t) unread.left ≡ Ok (number, now.left)
+    → now.count ≡ unread.count → GetsColumn (z + 1) t (place + 1) r (counted old z t number) now new left ys
+    → GetsColumn z t place r old unread new left (number ∷ ys)
 unfolding words_at
 column_cons z t place number r old new unread now left ys lt read same rest c gone [] before e f h taken is at = absurd (omega (arith, f))
 column_cons z t place number (Ok u) old new unread now left ys lt read same rest c gone (p ∷ ps) before e f h taken is at =
@@ -78,7 +92,8 @@ column_cons z t place number (Err fault) old new unread now left ys lt read same
     let more : words_at unread.count c (gone ++ p ∷ []) (before ++ number ∷ []) ps now.left ≡ Err fault = rw same at did.0 in
     (rw (word, more) refl, tt)
 
-pub column_refused : (z t place : ℕ) (fault : Fault) (old new : Counts) (unread : Unread) (left : List Bool) (numbers : List ℕ) → z < length old.bands → word_at unread.count place (code_by old z t) unread.left ≡ Err fault → 0 < length numbers
+pub column_refused : (z t place : ℕ) (fault : Fault) (old new : Counts) (unread : Unread) (left : List Bool) (numbers : List ℕ) → z < length old.bands
+    → word_at unread.count place (code_by old z t) unread.left ≡ Err fault → 0 < length numbers
     → GetsColumn z t place (Err fault) old unread new left numbers
 unfolding words_at
 column_refused z t place fault old new unread left numbers lt read some c gone [] before e f h taken is at = absurd (omega (arith, f, some))
@@ -91,34 +106,46 @@ column_refused z t place fault old new unread left numbers lt read some c gone (
 -- whatever comes behind the first i numbers, is a column with them
 abbrev pub Reaches : ℕ → ℕ → ℕ → ℕ → Counts → List Statistics → Unread → Unread → List ℕ → Type 0
 Reaches z t place i v bands first now numbers =
-    (r : Result (Unit {0}) Fault) (new : Counts) (left : List Bool) (ys : List ℕ) → GetsColumn (z + i) t (place + i) r (record v { bands = bands }) now new left ys → GetsColumn z t place r v first new left (take i numbers ++ ys)
+    (r : Result (Unit {0}) Fault) (new : Counts) (left : List Bool) (ys : List ℕ)
+    → GetsColumn (z + i) t (place + i) r (record v { bands = bands }) now new left ys → GetsColumn z t place r v first new left (take i numbers ++ ys)
 
-pub column_starts : (z t place : ℕ) (v : Counts) (bands : List Statistics) (first : Unread) (numbers : List ℕ) → v.bands ≡ bands → Reaches z t place 0 v bands first first numbers
+pub column_starts : (z t place : ℕ) (v : Counts) (bands : List Statistics) (first : Unread) (numbers : List ℕ) → v.bands ≡ bands
+    → Reaches z t place 0 v bands first first numbers
 column_starts z t place v bands first numbers is r new left ys rest =
     let here : z + 0 ≡ z = omega arith in
     let there : place + 0 ≡ place = omega arith in
     let none : take 0 numbers ++ ys ≡ ys = refl in
     rw (here, there, ← is) at rest
 
-pub column_steps : (z t place i number : ℕ) (v : Counts) (bands : List Statistics) (s : Statistics) (first was now : Unread) (numbers : List ℕ) → z + i < length bands → i < length numbers → Reaches z t place i v bands first was numbers
-    → word_at was.count (place + i) (code_by (record v { bands = bands }) (z + i) t) was.left ≡ Ok (number, now.left) → now.count ≡ was.count → counted (record v { bands = bands }) (z + i) t number ≡ with_band (record v { bands = bands }) (z + i) s
+pub column_steps : (z t place i number : ℕ) (v : Counts) (bands : List Statistics) (s : Statistics) (first was now : Unread) (numbers : List ℕ)
+    → z + i < length bands → i < length numbers → Reaches z t place i v bands first was numbers
+    → word_at was.count (place + i) (code_by (record v { bands = bands }) (z + i) t) was.left ≡ Ok (number, now.left) → now.count ≡ was.count
+    → counted (record v { bands = bands }) (z + i) t number ≡ with_band (record v { bands = bands }) (z + i) s
     → Reaches z t place (i + 1) v (set bands (z + i) s) first now (set numbers i number)
 column_steps z t place i number v bands s first was now numbers inside lt reaches read same counts r new left ys rest =
     let here : z + (i + 1) ≡ z + i + 1 = omega arith in
     let there : place + (i + 1) ≡ place + i + 1 = omega arith in
-    let behind : GetsColumn (z + i + 1) t (place + i + 1) r (counted (record v { bands = bands }) (z + i) t number) now new left ys = rw counts (rw (here, there) at rest) in
-    let all = reaches r new left (number ∷ ys) (column_cons (z + i) t (place + i) number r (record v { bands = bands }) new was now left ys inside read same behind) in
+    let behind : GetsColumn (z + i + 1) t (place + i + 1) r (counted (record v { bands = bands }) (z + i) t number) now new left ys =
+    rw counts (rw (here, there) at rest) in
+    let all = reaches r new left
+    (number ∷ ys) (column_cons (z + i) t (place + i) number r (record v { bands = bands }) new was now left ys inside read same behind) in
     let cut : take (i + 1) (set numbers i number) ≡ take i numbers ++ number ∷ [] = rw (add-one i) (take-suc-set numbers i number lt) in
-    subst (λ (ns : List ℕ). GetsColumn z t place r v first new left ns) (sym (ap (λ (ns : List ℕ). ns ++ ys) cut ∙ append_assoc (take i numbers) (number ∷ []) ys)) all
+    subst (λ (ns : List ℕ). GetsColumn z t place r v first new left ns)
+    (sym (ap (λ (ns : List ℕ). ns ++ ys) cut ∙ append_assoc (take i numbers) (number ∷ []) ys)) all
 
-pub column_stops : (z t place i : ℕ) (fault : Fault) (v new : Counts) (bands : List Statistics) (first was : Unread) (left : List Bool) (numbers : List ℕ) → z + i < length bands → i < length numbers → Reaches z t place i v bands first was numbers
-    → word_at was.count (place + i) (code_by (record v { bands = bands }) (z + i) t) was.left ≡ Err fault → GetsColumn z t place (Err fault) v first new left numbers
+pub column_stops : (z t place i : ℕ) (fault : Fault) (v new : Counts) (bands : List Statistics) (first was : Unread) (left : List Bool) (numbers : List ℕ)
+    → z + i < length bands → i < length numbers → Reaches z t place i v bands first was numbers
+    → word_at was.count (place + i) (code_by (record v { bands = bands }) (z + i) t) was.left ≡ Err fault
+    → GetsColumn z t place (Err fault) v first new left numbers
 column_stops z t place i fault v new bands first was left numbers inside lt reaches read =
     let enough : 0 < length (drop i numbers) = omega (arith, lt, length-drop i numbers) in
     subst (λ (ns : List ℕ). GetsColumn z t place (Err fault) v first new left ns) (take-append-drop i numbers)
-    (reaches (Err fault) new left (drop i numbers) (column_refused (z + i) t (place + i) fault (record v { bands = bands }) new was left (drop i numbers) inside read enough))
+    (reaches (Err fault) new left (drop i numbers)
+    (column_refused (z + i) t (place + i) fault (record v { bands = bands }) new was left (drop i numbers) inside read enough))
 
-pub column_ends : (z t place i : ℕ) (v : Counts) (bands : List Statistics) (first now : Unread) (numbers : List ℕ) → length numbers ≤ i → Reaches z t place i v bands first now numbers → GetsColumn z t place (Ok tt) v first (record v { bands = bands }) now.left numbers
+pub column_ends : (z t place i : ℕ) (v : Counts) (bands : List Statistics) (first now : Unread) (numbers : List ℕ) → length numbers ≤ i
+    → Reaches z t place i v bands first now numbers → GetsColumn z t place (Ok tt) v first (record v { bands = bands }) now.left numbers
 column_ends z t place i v bands first now numbers le reaches =
     let all : take i numbers ++ [] ≡ numbers = append-nil (take i numbers) ∙ take_all i numbers le in
-    subst (λ (ns : List ℕ). GetsColumn z t place (Ok tt) v first (record v { bands = bands }) now.left ns) all (reaches (Ok tt) (record v { bands = bands }) now.left [] (column_none (z + i) t (place + i) (record v { bands = bands }) now))
+    subst (λ (ns : List ℕ). GetsColumn z t place (Ok tt) v first (record v { bands = bands }) now.left ns) all
+    (reaches (Ok tt) (record v { bands = bands }) now.left [] (column_none (z + i) t (place + i) (record v { bands = bands }) now))

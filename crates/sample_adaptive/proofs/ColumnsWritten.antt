@@ -9,7 +9,8 @@ use Rattle.sample_adaptive.specs.Taken.{Counts, PutsNumber, PutsColumn, code_by,
 use Rattle.sample_adaptive.proofs.Taking.{code_is, taken_more}
 
 -- a number whose code word was appended is put
-puts_number : (z t number : ℕ) (v : Counts) (written now : List Bool) → z < length v.bands → now ≡ written ++ code_word (code_by v z t) number → PutsNumber z t number v written (counted v z t number) now
+puts_number : (z t number : ℕ) (v : Counts) (written now : List Bool) → z < length v.bands → now ≡ written ++ code_word (code_by v z t) number
+    → PutsNumber z t number v written (counted v z t number) now
 puts_number z t number v written now lt text c taken h is = (
   text ∙ ap (λ (k : Code). written ++ code_word k number) (code_is c v taken z t h lt is),
   taken_more c v taken z t number h lt is,
@@ -18,13 +19,17 @@ puts_number z t number v written now lt text c taken h is = (
 -- whatever puts the numbers behind the first i, puts the column
 abbrev pub PutsTo : ℕ → ℕ → ℕ → Counts → List Statistics → List ℕ → List Bool → List Bool → Type 0
 PutsTo z t i v bands numbers written now =
-    (new : Counts) (later : List Bool) → PutsColumn (z + i) t (drop i numbers) (record v { bands = bands }) now new later → PutsColumn z t numbers v written new later
+    (new : Counts) (later : List Bool) → PutsColumn (z + i) t (drop i numbers) (record v { bands = bands }) now new later
+    → PutsColumn z t numbers v written new later
 
-pub puts_start : (z t : ℕ) (v : Counts) (bands : List Statistics) (numbers : List ℕ) (written : List Bool) → v.bands ≡ bands → PutsTo z t 0 v bands numbers written written
+pub puts_start : (z t : ℕ) (v : Counts) (bands : List Statistics) (numbers : List ℕ) (written : List Bool) → v.bands ≡ bands
+    → PutsTo z t 0 v bands numbers written written
 puts_start z t v bands numbers written is new later rest = let here : z + 0 ≡ z = omega arith in rw (here, ← is) at rest
 
-pub puts_step : (z t i number : ℕ) (v : Counts) (bands : List Statistics) (s : Statistics) (numbers : List ℕ) (written was now : List Bool) → z + i < length bands → i < length numbers → number ≡ get_or numbers i 0
-    → now ≡ was ++ code_word (code_by (record v { bands = bands }) (z + i) t) number → counted (record v { bands = bands }) (z + i) t number ≡ with_band (record v { bands = bands }) (z + i) s
+pub puts_step : (z t i number : ℕ) (v : Counts) (bands : List Statistics) (s : Statistics) (numbers : List ℕ) (written was now : List Bool)
+    → z + i < length bands → i < length numbers → number ≡ get_or numbers i 0
+    → now ≡ was ++ code_word (code_by (record v { bands = bands }) (z + i) t) number
+    → counted (record v { bands = bands }) (z + i) t number ≡ with_band (record v { bands = bands }) (z + i) s
     → PutsTo z t i v bands numbers written was → PutsTo z t (i + 1) v (set bands (z + i) s) numbers written now
 puts_step z t i number v bands s numbers written was now inside lt there text counts puts new later rest =
     let old : Counts = record v { bands = bands } in
@@ -32,9 +37,13 @@ puts_step z t i number v bands s numbers written was now inside lt there text co
     let above : z + (i + 1) ≡ suc (z + i) = omega arith in
     let next : i + 1 ≡ suc i = omega arith in
     let cut : number ∷ drop (suc i) numbers ≡ drop i numbers = ap (λ n. n ∷ drop (suc i) numbers) there ∙ sym (drop-cons numbers i 0 lt) in
-    let one : PutsNumber (z + i) t number old was mid now = subst (λ (w : Counts). PutsNumber (z + i) t number old was w now) counts (puts_number (z + i) t number old was now inside text) in
-    puts new later (subst (λ (ns : List ℕ). PutsColumn (z + i) t ns old was new later) cut (mid, now, length-set bands (z + i) s, refl, one, (rw (above, next) at rest)))
+    let one : PutsNumber (z + i) t number old was mid now =
+    subst (λ (w : Counts). PutsNumber (z + i) t number old was w now) counts (puts_number (z + i) t number old was now inside text) in
+    puts new later
+    (subst (λ (ns : List ℕ). PutsColumn (z + i) t ns old was new later) cut (mid, now, length-set bands (z + i) s, refl, one, (rw (above, next) at rest)))
 
-pub puts_end : (z t i : ℕ) (v : Counts) (bands : List Statistics) (numbers : List ℕ) (written now : List Bool) → length numbers ≤ i → PutsTo z t i v bands numbers written now → PutsColumn z t numbers v written (record v { bands = bands }) now
+pub puts_end : (z t i : ℕ) (v : Counts) (bands : List Statistics) (numbers : List ℕ) (written now : List Bool) → length numbers ≤ i
+    → PutsTo z t i v bands numbers written now → PutsColumn z t numbers v written (record v { bands = bands }) now
 puts_end z t i v bands numbers written now le puts =
-    puts (record v { bands = bands }) now (subst (λ (ns : List ℕ). PutsColumn (z + i) t ns (record v { bands = bands }) now (record v { bands = bands }) now) (sym (drop_all i numbers le)) (refl, refl))
+    puts (record v { bands = bands }) now (subst (λ (ns : List ℕ). PutsColumn (z + i) t ns (record v { bands = bands }) now (record v { bands = bands }) now)
+    (sym (drop_all i numbers le)) (refl, refl))

@@ -30,7 +30,8 @@ start_whole k le = mod-eq_of_lt (omega (arith, most_power k le))
 pub start_count : (gamma : ℕ) → gamma ≤ 8 → 1 * 2 ^ gamma % 4294967296 ≡ 2 ^ gamma
 start_count gamma le = let e : 1 * 2 ^ gamma ≡ 2 ^ gamma = omega arith in rw e (mod-eq_of_lt (omega (arith, start_counter gamma le)))
 
-pub start_in_range : (gamma_star gamma_zero k : ℕ) → gamma_zero + 1 ≤ gamma_star → gamma_zero ≤ 8 → k ≤ 14 → AreStatistics gamma_star (start_statistics gamma_zero k)
+pub start_in_range : (gamma_star gamma_zero k : ℕ) → gamma_zero + 1 ≤ gamma_star → gamma_zero ≤ 8 → k ≤ 14
+    → AreStatistics gamma_star (start_statistics gamma_zero k)
 unfolding start_statistics
 start_in_range gamma_star gamma_zero k order p q =
     let larger : 2 ^ (gamma_zero + 1) ≤ 2 ^ gamma_star = pow_mono order in
@@ -41,7 +42,8 @@ start_in_range gamma_star gamma_zero k order p q =
 
 -- ---- the next statistics
 
-pub halved_in_range : (gamma_star : ℕ) (s : Statistics) (number : ℕ) → 1 ≤ gamma_star → AreStatistics gamma_star s → number < 65536 → 2 ^ gamma_star - 1 ≤ s.counter
+pub halved_in_range : (gamma_star : ℕ) (s : Statistics) (number : ℕ) → 1 ≤ gamma_star → AreStatistics gamma_star s → number < 65536
+    → 2 ^ gamma_star - 1 ≤ s.counter
     → AreStatistics gamma_star (record { counter = (s.counter + 1) / 2; accumulator = (s.accumulator + number + 1) / 2 })
 halved_in_range gamma_star s number least h small full =
     let e : suc (gamma_star - 1) ≡ gamma_star = omega arith in
@@ -49,7 +51,8 @@ halved_in_range gamma_star s number least h small full =
     let some = pow_pos (gamma_star - 1) in
     record { least = omega (arith, h.most); most = omega (arith, h.most); bound = omega (arith, h.most, h.bound) }
 
-pub next_in_range : (gamma_star : ℕ) (s : Statistics) (number : ℕ) → 1 ≤ gamma_star → AreStatistics gamma_star s → number < 65536 → AreStatistics gamma_star (next_statistics gamma_star s number)
+pub next_in_range : (gamma_star : ℕ) (s : Statistics) (number : ℕ) → 1 ≤ gamma_star → AreStatistics gamma_star s → number < 65536
+    → AreStatistics gamma_star (next_statistics gamma_star s number)
 unfolding next_statistics
 next_in_range gamma_star s number least h small =
     elim (cases_lt s.counter (2 ^ gamma_star - 1)) [
@@ -78,13 +81,15 @@ greatest_is f (suc n) k up down =
 twice_power : (counter k : ℕ) → counter * 2 ^ (k + 1) ≡ 2 * (counter * 2 ^ k)
 twice_power counter k = let e : 2 ^ (k + 1) ≡ 2 * 2 ^ k = (let e : k + 1 ≡ suc k = omega arith in rw e (pow-succ' 2 k)) in rw e (grind arith)
 
-pub code_parameter_is : (bits : ℕ) (s : Statistics) (k : ℕ) → 2 * s.counter ≤ level s → s.counter * 2 ^ k ≤ level s → level s < 2 * (s.counter * 2 ^ k) → code_parameter bits s ≡ min k (bits - 2)
+pub code_parameter_is : (bits : ℕ) (s : Statistics) (k : ℕ) → 2 * s.counter ≤ level s → s.counter * 2 ^ k ≤ level s → level s < 2 * (s.counter * 2 ^ k)
+    → code_parameter bits s ≡ min k (bits - 2)
 unfolding code_parameter
 code_parameter_is bits s k large fits passes =
     rw (le-ltb _ _ large)
     (greatest_is (λ j. leb (s.counter * 2 ^ j) (level s)) (bits - 2) k
     (λ j le. le-leb _ _ (let p = mul-le s.counter (2 ^ j) s.counter (2 ^ k) (omega arith) (pow_mono le) in omega arith))
-    (λ j lt. lt-leb _ _ (let p = mul-le s.counter (2 ^ (k + 1)) s.counter (2 ^ j) (omega arith) (pow_mono (omega arith)) in omega (arith, twice_power s.counter k))))
+    (λ j lt. lt-leb _ _ (let p = mul-le s.counter (2 ^ (k + 1)) s.counter (2 ^ j) (omega arith) (pow_mono (omega arith)) in
+    omega (arith, twice_power s.counter k))))
 
 pub code_parameter_small : (bits : ℕ) (s : Statistics) → level s < 2 * s.counter → 0 ≡ code_parameter bits s
 unfolding code_parameter
@@ -92,7 +97,8 @@ code_parameter_small bits s small = rw (lt-ltb _ _ small) refl
 
 -- how far a number has to be shifted to be as long as a larger one
 -- a parameter whose product with the counter still fits, but not twice, is still the greatest
-pub parameter_stays : (bits : ℕ) (s : Statistics) (k : ℕ) → k + 2 ≤ bits → s.counter * 2 ^ k ≤ level s → level s < 2 * (s.counter * 2 ^ k) → k ≡ code_parameter bits s
+pub parameter_stays : (bits : ℕ) (s : Statistics) (k : ℕ) → k + 2 ≤ bits → s.counter * 2 ^ k ≤ level s → level s < 2 * (s.counter * 2 ^ k)
+    → k ≡ code_parameter bits s
 parameter_stays bits s k few fits passes =
     elim (cases_lt (level s) (2 * s.counter)) [
       | inl small ↦ none_fits k small fits
@@ -118,7 +124,8 @@ logs_order counter level a b le low high =
       | inr ge ↦ ge
     ]
 
-pub shift_is : (counter level a b : ℕ) → counter ≤ level → level < 2 ^ 31 → 2 ^ a ≤ counter → counter < 2 * 2 ^ a → 2 ^ b ≤ level → level < 2 * 2 ^ b → IsShift counter level (b - a)
+pub shift_is : (counter level a b : ℕ) → counter ≤ level → level < 2 ^ 31 → 2 ^ a ≤ counter → counter < 2 * 2 ^ a → 2 ^ b ≤ level → level < 2 * 2 ^ b
+    → IsShift counter level (b - a)
 shift_is counter level a b le fits low_counter high_counter low_level high_level =
     let order = logs_order counter level a b le low_counter high_level in
     let shift : ℕ = b - a in
@@ -131,10 +138,12 @@ shift_is counter level a b le fits low_counter high_counter low_level high_level
     record { whole = omega arith; enough = omega arith; close = omega arith }
 
 -- the code parameter, where the shifted counter is within the level, and where it is beyond
-pub parameter_within : (bits : ℕ) (s : Statistics) (shift : ℕ) → 2 * s.counter ≤ level s → IsShift s.counter (level s) shift → s.counter * 2 ^ shift % 4294967296 ≤ level s → code_parameter bits s ≡ min shift (bits - 2)
+pub parameter_within : (bits : ℕ) (s : Statistics) (shift : ℕ) → 2 * s.counter ≤ level s → IsShift s.counter (level s) shift
+    → s.counter * 2 ^ shift % 4294967296 ≤ level s → code_parameter bits s ≡ min shift (bits - 2)
 parameter_within bits s shift large h le = code_parameter_is bits s shift large (rw (mod-eq_of_lt h.whole) at le) h.enough
 
-pub parameter_beyond : (bits : ℕ) (s : Statistics) (shift : ℕ) → 2 * s.counter ≤ level s → IsShift s.counter (level s) shift → level s < s.counter * 2 ^ shift % 4294967296 → code_parameter bits s ≡ min (shift - 1) (bits - 2)
+pub parameter_beyond : (bits : ℕ) (s : Statistics) (shift : ℕ) → 2 * s.counter ≤ level s → IsShift s.counter (level s) shift
+    → level s < s.counter * 2 ^ shift % 4294967296 → code_parameter bits s ≡ min (shift - 1) (bits - 2)
 parameter_beyond bits s zero large h lt = let beyond : level s < s.counter * 2 ^ 0 = rw (mod-eq_of_lt h.whole) at lt in absurd (omega arith)
 parameter_beyond bits s (suc k) large h lt =
     let beyond : level s < s.counter * 2 ^ suc k = rw (mod-eq_of_lt h.whole) at lt in
@@ -187,7 +196,8 @@ pub parameter_is_greatest : ParameterIsGreatest
 unfolding code_parameter
 parameter_is_greatest bits s =
     elim (cases_lt (level s) (2 * s.counter)) [
-      | inl small ↦ rw (lt-ltb _ _ small) (record { within = omega arith; none = λ p. refl; fits = λ p. absurd (omega arith); greatest = λ large. absurd (omega arith) })
+      | inl small ↦ rw (lt-ltb _ _ small)
+          (record { within = omega arith; none = λ p. refl; fits = λ p. absurd (omega arith); greatest = λ large. absurd (omega arith) })
       | inr large ↦
           (let f : ℕ → Bool = λ k. leb (s.counter * 2 ^ k) (level s) in
           let h = greatest_holds f (bits - 2) in

@@ -1,5 +1,6 @@
 -- Code words as numbers, and that no form begins another.
-use Rattle.std.proofs.Common.{◌≡◌, ℕ, zero, suc, ◌+◌, ◌*◌, ◌/◌, ◌%◌, ◌^◌, ◌<◌, ◌≤◌, Bool, true, false, List, [], ◌∷◌, ◌++◌, replicate, refl, sym, ap, ◌∙◌, append_assoc, arith, inl, inr}
+use Rattle.std.proofs.Common.{◌≡◌, ℕ, zero, suc, ◌+◌, ◌*◌, ◌/◌, ◌%◌, ◌^◌, ◌<◌, ◌≤◌, Bool, true, false, List, [], ◌∷◌, ◌++◌, replicate, refl, sym, ap, ◌∙◌}
+use Rattle.std.proofs.Common.{append_assoc, arith, inl, inr}
 use Rattle.std.proofs.lemmas.List.{append_cancel_left}
 use Rattle.std.proofs.lemmas.Bool.{cases_lt, lt-ltb, le-ltb}
 use Rattle.std.proofs.lemmas.Nat.{pow_pos, pow-add, mul-le, shr_split}
@@ -17,7 +18,8 @@ plain_bits : (q k j : ℕ) → bits_of (q + 1 + k) (2 ^ k + j % 2 ^ k) ≡ repli
 plain_bits q k j =
     let e : 2 ^ k + j % 2 ^ k ≡ 1 * 2 ^ k + j % 2 ^ k = omega arith in
     let low : j % 2 ^ k < 2 ^ k = mod-lt j (pow_pos k) in
-    rw e (bits_of-join (q + 1) k 1 (j % 2 ^ k) low ∙ rw (bits_of_one q, bits_of-mod k k j (omega arith)) (append_assoc (replicate q false) (true ∷ []) (bits_of k j)))
+    rw e (bits_of-join (q + 1) k 1 (j % 2 ^ k) low
+    ∙ rw (bits_of_one q, bits_of-mod k k j (omega arith)) (append_assoc (replicate q false) (true ∷ []) (bits_of k j)))
 
 pub plain_word : (c : Code) (n : ℕ) → n / 2 ^ c.low < c.limit → bits_of (n / 2 ^ c.low + 1 + c.low) (2 ^ c.low + n % 2 ^ c.low) ≡ code_word c n
 unfolding form_text form_of
@@ -73,7 +75,8 @@ same_number n v w x y p q e =
     let b = taken_is n w (bits_of n v ++ x) y q e in
     (a.0 ∙ sym b.0, a.1 ∙ sym b.1)
 
-pub plain_text : (c : Code) (quotient low : ℕ) (x : List Bool) → form_text c (Plain quotient low) ++ x ≡ replicate quotient false ++ true ∷ (bits_of c.low low ++ x)
+pub plain_text : (c : Code) (quotient low : ℕ) (x : List Bool)
+    → form_text c (Plain quotient low) ++ x ≡ replicate quotient false ++ true ∷ (bits_of c.low low ++ x)
 unfolding form_text
 plain_text c quotient low x = append_assoc (replicate quotient false) (true ∷ bits_of c.low low) x
 

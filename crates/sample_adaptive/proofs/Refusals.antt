@@ -1,5 +1,6 @@
 -- What is read as a code word, and what is refused.
-use Rattle.std.proofs.Common.{◌≡◌, ℕ, ◌+◌, ◌*◌, ◌/◌, ◌^◌, ◌<◌, Bool, true, false, cond, ltb, List, [], ◌∷◌, ◌++◌, replicate, Result, Ok, Err, refl, sym, ap, subst, ◌∙◌, append_assoc, arith, inl, inr}
+use Rattle.std.proofs.Common.{◌≡◌, ℕ, ◌+◌, ◌*◌, ◌/◌, ◌^◌, ◌<◌, Bool, true, false, cond, ltb, List, [], ◌∷◌, ◌++◌, replicate, Result, Ok, Err, refl, sym, ap}
+use Rattle.std.proofs.Common.{subst, ◌∙◌, append_assoc, arith, inl, inr}
 use Rattle.std.proofs.lemmas.Bool.{cases_lt, lt-ltb, le-ltb, ltb-true}
 use Rattle.std.proofs.lemmas.Nat.{shr_split, div-mul-add, mod-mul-add}
 use Rattle.cube_core.specs.declared.fault.Fault.{Fault}
@@ -24,12 +25,24 @@ form_read place c (Escape number) rest = cond (ltb (number / 2 ^ c.low) c.limit)
 front : (m : ℕ) (x : List Bool) → replicate m false ++ true ∷ x ≡ fundamental m ++ x
 front m x = sym (append_assoc (replicate m false) (true ∷ []) x) ∙ ap (λ (bs : List Bool). bs ++ x) (sym (fundamental_is m))
 
-pub form_again : (count place : ℕ) (c : Code) (f : Form) (rest : List Bool) → IsForm c f → word_at count place c (form_text c f ++ rest) ≡ form_read place c f rest
+pub form_again : (count place : ℕ) (c : Code) (f : Form) (rest : List Bool) → IsForm c f
+    → word_at count place c (form_text c f ++ rest) ≡ form_read place c f rest
 unfolding word_at plain_at escape_at
 form_again count place c (Plain quotient low) rest h =
-    rw (plain_text c quotient low rest, front quotient (bits_of c.low low ++ rest), zeros_again count quotient c.limit (bits_of c.low low ++ rest) h.0, lt-ltb quotient c.limit h.0, number_again count c.low low rest h.1) refl
+    rw (
+      plain_text c quotient low rest,
+      front quotient (bits_of c.low low ++ rest),
+      zeros_again count quotient c.limit (bits_of c.low low ++ rest) h.0,
+      lt-ltb quotient c.limit h.0,
+      number_again count c.low low rest h.1,
+    ) refl
 form_again count place c (Escape number) rest h =
-    rw (escape_text c number rest, zeros_full count c.limit (bits_of c.bits number ++ rest), le-ltb c.limit c.limit (omega arith), number_again count c.bits number rest h) refl
+    rw (
+      escape_text c number rest,
+      zeros_full count c.limit (bits_of c.bits number ++ rest),
+      le-ltb c.limit c.limit (omega arith),
+      number_again count c.bits number rest h,
+    ) refl
 
 -- a number's own form is read as the number
 form_of-read : (place : ℕ) (c : Code) (n : ℕ) (rest : List Bool) → n < 2 ^ c.bits → form_read place c (form_of c n) rest ≡ Ok (n, rest)
@@ -56,23 +69,28 @@ stop_ok false d x y e = (refl, ok_is x y e)
 abbrev IsWord : Code → List Bool → ℕ × List Bool → Type 0
 IsWord c bits x = (x.0 < 2 ^ c.bits) × (bits ≡ code_word c x.0 ++ x.1)
 
-plain_takes : (count place : ℕ) (c : Code) (quotient : ℕ) (bits after : List Bool) (x : ℕ × List Bool) → quotient < c.limit → bits ≡ fundamental quotient ++ after → plain_at count place c quotient after ≡ Ok x → IsWord c bits x
+plain_takes : (count place : ℕ) (c : Code) (quotient : ℕ) (bits after : List Bool) (x : ℕ × List Bool) → quotient < c.limit
+    → bits ≡ fundamental quotient ++ after → plain_at count place c quotient after ≡ Ok x → IsWord c bits x
 unfolding plain_at form_of
 plain_takes count place c quotient bits after x few text e =
-    let a = bind_ok (number_at count c.low after) (λ low. cond (ltb (quotient * 2 ^ c.low + low.0) (2 ^ c.bits)) (Ok (quotient * 2 ^ c.low + low.0, low.1)) (Err (BadCode place))) x e in
+    let a = bind_ok (number_at count c.low after)
+    (λ low. cond (ltb (quotient * 2 ^ c.low + low.0) (2 ^ c.bits)) (Ok (quotient * 2 ^ c.low + low.0, low.1)) (Err (BadCode place))) x e in
     let g = pass_ok (ltb (quotient * 2 ^ c.low + a.0.0) (2 ^ c.bits)) (BadCode place) (quotient * 2 ^ c.low + a.0.0, a.0.1) x a.2 in
     let low = number_takes count c.low after a.0 a.1 in
-    let whole : bits ≡ form_text c (Plain quotient a.0.0) ++ a.0.1 = text ∙ ap (λ (bs : List Bool). fundamental quotient ++ bs) low.0 ∙ sym (front quotient (bits_of c.low a.0.0 ++ a.0.1)) ∙ sym (plain_text c quotient a.0.0 a.0.1) in
+    let whole : bits ≡ form_text c (Plain quotient a.0.0) ++ a.0.1 = text ∙ ap (λ (bs : List Bool). fundamental quotient ++ bs) low.0
+    ∙ sym (front quotient (bits_of c.low a.0.0 ++ a.0.1)) ∙ sym (plain_text c quotient a.0.0 a.0.1) in
     subst (IsWord c bits) g.1
     (ltb-true _ _ g.0, rw (div-mul-add quotient (2 ^ c.low) a.0.0 low.1, lt-ltb quotient c.limit few, mod-mul-add quotient (2 ^ c.low) a.0.0 low.1) whole)
 
-escape_takes : (count place : ℕ) (c : Code) (bits after : List Bool) (x : ℕ × List Bool) → bits ≡ replicate c.limit false ++ after → escape_at count place c after ≡ Ok x → IsWord c bits x
+escape_takes : (count place : ℕ) (c : Code) (bits after : List Bool) (x : ℕ × List Bool) → bits ≡ replicate c.limit false ++ after
+    → escape_at count place c after ≡ Ok x → IsWord c bits x
 unfolding escape_at form_of
 escape_takes count place c bits after x text e =
     let a = bind_ok (number_at count c.bits after) (λ number. cond (ltb (number.0 / 2 ^ c.low) c.limit) (Err (BadCode place)) (Ok (number.0, number.1))) x e in
     let g = stop_ok (ltb (a.0.0 / 2 ^ c.low) c.limit) (BadCode place) (a.0.0, a.0.1) x a.2 in
     let number = number_takes count c.bits after a.0 a.1 in
-    let whole : bits ≡ form_text c (Escape a.0.0) ++ a.0.1 = text ∙ ap (λ (bs : List Bool). replicate c.limit false ++ bs) number.0 ∙ sym (escape_text c a.0.0 a.0.1) in
+    let whole : bits ≡ form_text c (Escape a.0.0) ++ a.0.1 =
+    text ∙ ap (λ (bs : List Bool). replicate c.limit false ++ bs) number.0 ∙ sym (escape_text c a.0.0 a.0.1) in
     subst (IsWord c bits) g.1 (number.1, rw g.0 whole)
 
 pub word_takes : (count place : ℕ) (c : Code) (bits : List Bool) (x : ℕ × List Bool) → word_at count place c bits ≡ Ok x → IsWord c bits x
@@ -112,17 +130,21 @@ not_both : (x : ℕ × List Bool) (e : Fault) → done x ≡ Err e → ⊥
 not_both x e h = cc
 
 -- a form that is read as a bad code is no number's
-no_word : (count place : ℕ) (c : Code) (bits rest : List Bool) (f : Form) → word_at count place c bits ≡ Err (BadCode place) → Begins c f bits rest → (n : ℕ) → n < 2 ^ c.bits → form_of c n ≡ f → ⊥
+no_word : (count place : ℕ) (c : Code) (bits rest : List Bool) (f : Form) → word_at count place c bits ≡ Err (BadCode place) → Begins c f bits rest → (n : ℕ)
+    → n < 2 ^ c.bits → form_of c n ≡ f → ⊥
 no_word count place c bits rest f e h n lt is =
-    not_both (n, rest) (BadCode place) (sym (word_again count place c n rest lt) ∙ ap (λ (g : Form). word_at count place c (form_text c g ++ rest)) is ∙ ap (λ (bs : List Bool). word_at count place c bs) (sym h.text) ∙ e)
+    not_both (n, rest) (BadCode place) (sym (word_again count place c n rest lt) ∙ ap (λ (g : Form). word_at count place c (form_text c g ++ rest)) is
+    ∙ ap (λ (bs : List Bool). word_at count place c bs) (sym h.text) ∙ e)
 
 abbrev SomeForm : Code → List Bool → Type 0
 SomeForm c bits = (f : Form) × (rest : List Bool) × Begins c f bits rest
 
-plain_stands : (count place : ℕ) (c : Code) (quotient : ℕ) (bits after : List Bool) → quotient < c.limit → bits ≡ fundamental quotient ++ after → plain_at count place c quotient after ≡ Err (BadCode place) → SomeForm c bits
+plain_stands : (count place : ℕ) (c : Code) (quotient : ℕ) (bits after : List Bool) → quotient < c.limit → bits ≡ fundamental quotient ++ after
+    → plain_at count place c quotient after ≡ Err (BadCode place) → SomeForm c bits
 unfolding plain_at
 plain_stands count place c quotient bits after few text e =
-    elim (bind_err (number_at count c.low after) (λ low. cond (ltb (quotient * 2 ^ c.low + low.0) (2 ^ c.bits)) (Ok (quotient * 2 ^ c.low + low.0, low.1)) (Err (BadCode place))) (BadCode place) e) [
+    elim (bind_err (number_at count c.low after)
+    (λ low. cond (ltb (quotient * 2 ^ c.low + low.0) (2 ^ c.bits)) (Ok (quotient * 2 ^ c.low + low.0, low.1)) (Err (BadCode place))) (BadCode place) e) [
       | inl short ↦ absurd (clash count place (number_fault count c.low after (BadCode place) short))
       | inr a ↦
           (let low = number_takes count c.low after a.0 a.1 in (
@@ -130,25 +152,32 @@ plain_stands count place c quotient bits after few text e =
             a.0.1,
             record {
               form = (few, low.1);
-              text = text ∙ ap (λ (bs : List Bool). fundamental quotient ++ bs) low.0 ∙ sym (front quotient (bits_of c.low a.0.0 ++ a.0.1)) ∙ sym (plain_text c quotient a.0.0 a.0.1);
+              text = text ∙ ap (λ (bs : List Bool). fundamental quotient ++ bs) low.0 ∙ sym (front quotient (bits_of c.low a.0.0 ++ a.0.1))
+                  ∙ sym (plain_text c quotient a.0.0 a.0.1);
             },
           ))
     ]
 
-escape_stands : (count place : ℕ) (c : Code) (bits after : List Bool) → bits ≡ replicate c.limit false ++ after → escape_at count place c after ≡ Err (BadCode place) → SomeForm c bits
+escape_stands : (count place : ℕ) (c : Code) (bits after : List Bool) → bits ≡ replicate c.limit false ++ after
+    → escape_at count place c after ≡ Err (BadCode place) → SomeForm c bits
 unfolding escape_at
 escape_stands count place c bits after text e =
-    elim (bind_err (number_at count c.bits after) (λ number. cond (ltb (number.0 / 2 ^ c.low) c.limit) (Err (BadCode place)) (Ok (number.0, number.1))) (BadCode place) e) [
+    elim (bind_err (number_at count c.bits after)
+    (λ number. cond (ltb (number.0 / 2 ^ c.low) c.limit) (Err (BadCode place)) (Ok (number.0, number.1))) (BadCode place) e) [
       | inl short ↦ absurd (clash count place (number_fault count c.bits after (BadCode place) short))
       | inr a ↦
-          (let number = number_takes count c.bits after a.0 a.1 in
-          (Escape a.0.0, a.0.1, record { form = number.1; text = text ∙ ap (λ (bs : List Bool). replicate c.limit false ++ bs) number.0 ∙ sym (escape_text c a.0.0 a.0.1) }))
+          (let number = number_takes count c.bits after a.0 a.1 in (
+            Escape a.0.0,
+            a.0.1,
+            record { form = number.1; text = text ∙ ap (λ (bs : List Bool). replicate c.limit false ++ bs) number.0 ∙ sym (escape_text c a.0.0 a.0.1) },
+          ))
     ]
 
 form_stands : (count place : ℕ) (c : Code) (bits : List Bool) → word_at count place c bits ≡ Err (BadCode place) → SomeForm c bits
 unfolding word_at
 form_stands count place c bits e =
-    elim (bind_err (zeros_at count c.limit bits) (λ z. cond (ltb z.0 c.limit) (plain_at count place c z.0 z.1) (escape_at count place c z.1)) (BadCode place) e) [
+    let cause = bind_err (zeros_at count c.limit bits) (λ z. cond (ltb z.0 c.limit) (plain_at count place c z.0 z.1) (escape_at count place c z.1)) _ e in
+    elim cause [
       | inl short ↦ absurd (clash count place (zeros_fault count c.limit bits (BadCode place) short))
       | inr a ↦ elim (zeros_takes count c.limit bits a.0 a.1) [
         | inl h ↦ plain_stands count place c a.0.0 bits a.0.1 h.0 h.1 (rw (lt-ltb a.0.0 c.limit h.0) at a.2)

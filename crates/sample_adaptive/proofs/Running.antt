@@ -1,5 +1,6 @@
 -- A run of one band's numbers, taken one after another.
-use Rattle.std.proofs.Common.{◌≡◌, ◌+◌, ◌<◌, ℕ, zero, suc, Bool, true, false, cond, eqb, List, [], ◌∷◌, ◌++◌, length, take, drop, get_or, set, refl, sym, ap, ap₂, subst, ◌∙◌, append_assoc, append-nil, length-append, length-take, length-drop, take-append-drop, arith, eq-eqb}
+use Rattle.std.proofs.Common.{◌≡◌, ◌+◌, ◌<◌, ℕ, zero, suc, Bool, true, false, cond, eqb, List, [], ◌∷◌, ◌++◌, length, take, drop, get_or, set, refl, sym, ap}
+use Rattle.std.proofs.Common.{ap₂, subst, ◌∙◌, append_assoc, append-nil, length-append, length-take, length-drop, take-append-drop, arith, eq-eqb}
 use Rattle.std.proofs.lemmas.Bool.{ne_eqb}
 use Rattle.std.proofs.lemmas.List.{get_or-set_same, length-set, set-set, set-get_or, take_more}
 use Rattle.std.specs.List.{AllByRecursion}
@@ -14,7 +15,8 @@ use Rattle.sample_adaptive.proofs.Taking.{taken_along, code_is, taken_more}
 
 -- ---- how many numbers its band has
 
-pub band_long : (z : ℕ) (gone places : List Place) (before numbers : List ℕ) → length before ≡ length gone → length numbers ≡ length places → AllByRecursion (λ p. p.z ≡ z) places
+pub band_long : (z : ℕ) (gone places : List Place) (before numbers : List ℕ) → length before ≡ length gone → length numbers ≡ length places
+    → AllByRecursion (λ p. p.z ≡ z) places
     → length (band_numbers z (gone ++ places) (before ++ numbers)) ≡ length (band_numbers z gone before) + length numbers
 unfolding band_numbers
 band_long z [] [] [] [] e f h = refl
@@ -26,7 +28,8 @@ band_long z (q ∷ qs) places [] numbers e f h = absurd (omega (arith, e))
 band_long z (q ∷ qs) places (b ∷ bs) numbers e f h = by_band (eqb q.z z) (band_long z qs places bs numbers (omega (arith, e)) f h)
   where
     by_band : (own : Bool) → length (band_numbers z (qs ++ places) (bs ++ numbers)) ≡ length (band_numbers z qs bs) + length numbers
-        → length (cond own (b ∷ band_numbers z (qs ++ places) (bs ++ numbers)) (band_numbers z (qs ++ places) (bs ++ numbers))) ≡ length (cond own (b ∷ band_numbers z qs bs) (band_numbers z qs bs)) + length numbers
+        → length (cond own (b ∷ band_numbers z (qs ++ places) (bs ++ numbers)) (band_numbers z (qs ++ places) (bs ++ numbers)))
+        ≡ length (cond own (b ∷ band_numbers z qs bs) (band_numbers z qs bs)) + length numbers
     by_band true h = ap suc h ∙ omega arith
     by_band false h = h
 
@@ -43,10 +46,12 @@ words_append c gone before (p ∷ ps) qs (m ∷ ms) ns e =
     let more = words_append c (gone ++ p ∷ []) (before ++ m ∷ []) ps qs ms ns (omega (arith, e)) in
     let places-are : (gone ++ p ∷ []) ++ ps ≡ gone ++ (p ∷ ps) = append_assoc gone (p ∷ []) ps in
     let numbers-are : (before ++ m ∷ []) ++ ms ≡ before ++ (m ∷ ms) = append_assoc before (m ∷ []) ms in
-    ap (λ (bs : List Bool). word ++ bs) (rw (places-are, numbers-are) at more) ∙ sym (append_assoc word (words_after c (gone ++ p ∷ []) (before ++ m ∷ []) ps ms) (words_after c (gone ++ (p ∷ ps)) (before ++ (m ∷ ms)) qs ns))
+    ap (λ (bs : List Bool). word ++ bs) (rw (places-are, numbers-are) at more)
+    ∙ sym (append_assoc word (words_after c (gone ++ p ∷ []) (before ++ m ∷ []) ps ms) (words_after c (gone ++ (p ∷ ps)) (before ++ (m ∷ ms)) qs ns))
 
 -- the body of a run more
-pub body_run : (c : CoderSettings) (gone ps : List Place) (before ms : List ℕ) → length before ≡ length gone → sample_body c (gone ++ ps) (before ++ ms) ≡ sample_body c gone before ++ words_after c gone before ps ms
+pub body_run : (c : CoderSettings) (gone ps : List Place) (before ms : List ℕ) → length before ≡ length gone
+    → sample_body c (gone ++ ps) (before ++ ms) ≡ sample_body c gone before ++ words_after c gone before ps ms
 unfolding sample_body
 body_run c gone ps before ms e = words_append c [] [] gone ps before ms e
 
@@ -67,16 +72,20 @@ unfolding words_after
 run_none z t v written c gone [] before e f h taken is = rw (append-nil gone, append-nil before) (sym (append-nil written), taken)
 run_none z t v written c gone (p ∷ ps) before e f h taken is = absurd (omega (arith, f))
 
-pub run_one : (z t number : ℕ) (old new : Counts) (written written_now : List Bool) → PutsNumber z t number old written new written_now → PutsRun z t (number ∷ []) old written new written_now
+pub run_one : (z t number : ℕ) (old new : Counts) (written written_now : List Bool) → PutsNumber z t number old written new written_now
+    → PutsRun z t (number ∷ []) old written new written_now
 unfolding words_after
 run_one z t number old new written written_now puts c gone [] before e f h taken is = absurd (omega (arith, f))
 run_one z t number old new written written_now puts c gone (p ∷ []) before e f h taken is =
     let here : PutsNumber p.z t number old written new written_now = subst (λ b. PutsNumber b t number old written new written_now) (sym h.0) puts in
-    let did = here c (λ b. band_numbers b gone before) taken (is ∙ ap (λ b. length (band_numbers b gone before)) (sym h.0)) in
-    (did.0 ∙ ap (λ (bits : List Bool). written ++ bits) (sym (append-nil (code_word (code_at c p.z (band_numbers p.z gone before)) number))), taken_along c new gone before p number e did.1)
+    let did = here c (λ b. band_numbers b gone before) taken (is ∙ ap (λ b. length (band_numbers b gone before)) (sym h.0)) in (
+      did.0 ∙ ap (λ (bits : List Bool). written ++ bits) (sym (append-nil (code_word (code_at c p.z (band_numbers p.z gone before)) number))),
+      taken_along c new gone before p number e did.1,
+    )
 run_one z t number old new written written_now puts c gone (p ∷ q ∷ ps) before e f h taken is = absurd (omega (arith, f))
 
-pub run_behind : (z t : ℕ) (xs ys : List ℕ) (old mid new : Counts) (written written_mid written_now : List Bool) → PutsRun z t xs old written mid written_mid → PutsRun z (t + length xs) ys mid written_mid new written_now
+pub run_behind : (z t : ℕ) (xs ys : List ℕ) (old mid new : Counts) (written written_mid written_now : List Bool) → PutsRun z t xs old written mid written_mid
+    → PutsRun z (t + length xs) ys mid written_mid new written_now
     → PutsRun z t (xs ++ ys) old written new written_now
 run_behind z t xs ys old mid new written written_mid written_now first second c gone places before e f h taken is =
     let n : ℕ = length xs in
@@ -85,19 +94,25 @@ run_behind z t xs ys old mid new written written_mid written_now first second c 
     let rest : length ys ≡ length (drop (length xs) places) = omega (arith, f, length-append xs ys, length-drop (length xs) places) in
     let own = all_take (λ p. p.z ≡ z) (length xs) places h in
     let a = first c gone (take (length xs) places) before e few own taken is in
-    let long : length (before ++ xs) ≡ length (gone ++ take (length xs) places) = omega (arith, length-append before xs, length-append gone (take (length xs) places), e, few) in
-    let time : t + length xs ≡ length (band_numbers z (gone ++ take (length xs) places) (before ++ xs)) = omega (arith, is, band_long z gone (take (length xs) places) before xs e few own) in
-    let b = second c (gone ++ take (length xs) places) (drop (length xs) places) (before ++ xs) long rest (all_drop (λ p. p.z ≡ z) (length xs) places h) a.1 time in
+    let long : length (before ++ xs) ≡ length (gone ++ take (length xs) places) =
+    omega (arith, length-append before xs, length-append gone (take (length xs) places), e, few) in
+    let time : t + length xs ≡ length (band_numbers z (gone ++ take (length xs) places) (before ++ xs)) =
+    omega (arith, is, band_long z gone (take (length xs) places) before xs e few own) in
+    let b =
+    second c (gone ++ take (length xs) places) (drop (length xs) places) (before ++ xs) long rest (all_drop (λ p. p.z ≡ z) (length xs) places h) a.1 time in
     let text = b.0 ∙ ap (λ (bits : List Bool). bits ++ words_after c (gone ++ take (length xs) places) (before ++ xs) (drop (length xs) places) ys) a.0
-    ∙ append_assoc written (words_after c gone before (take (length xs) places) xs) (words_after c (gone ++ take (length xs) places) (before ++ xs) (drop (length xs) places) ys)
+    ∙ append_assoc written (words_after c gone before (take (length xs) places) xs)
+    (words_after c (gone ++ take (length xs) places) (before ++ xs) (drop (length xs) places) ys)
     ∙ ap (λ (bits : List Bool). written ++ bits) (sym (words_append c gone before (take (length xs) places) (drop (length xs) places) xs ys few)) in
-    let gone-are : (gone ++ take (length xs) places) ++ drop (length xs) places ≡ gone ++ places = append_assoc gone (take (length xs) places) (drop (length xs) places) ∙ ap (λ (qs : List Place). gone ++ qs) cut in
+    let gone-are : (gone ++ take (length xs) places) ++ drop (length xs) places ≡ gone ++ places =
+    append_assoc gone (take (length xs) places) (drop (length xs) places) ∙ ap (λ (qs : List Place). gone ++ qs) cut in
     let before-are : (before ++ xs) ++ ys ≡ before ++ (xs ++ ys) = append_assoc before xs ys in
     (rw cut at text, rw (gone-are, before-are) at b.1)
 
 -- ---- a number behind the first of its band
 
-pub run_later : (z t number : ℕ) (v : Counts) (s : Statistics) (written written_now : List Bool) → z < length v.bands → 0 < t → written_now ≡ written ++ code_word (record { limit = v.umax; low = code_parameter v.bits s; bits = v.bits }) number
+pub run_later : (z t number : ℕ) (v : Counts) (s : Statistics) (written written_now : List Bool) → z < length v.bands → 0 < t
+    → written_now ≡ written ++ code_word (record { limit = v.umax; low = code_parameter v.bits s; bits = v.bits }) number
     → PutsRun z t (number ∷ []) (with_band v z s) written (with_band v z (next_statistics v.gamma_star s number)) written_now
 run_later z t number v s written written_now lt some text =
     run_one z t number (with_band v z s) (with_band v z (next_statistics v.gamma_star s number)) written written_now (λ c taken h is.
@@ -110,14 +125,18 @@ run_later z t number v s written written_now lt some text =
       subst (λ (w : Counts). HasTaken c w (with_number taken z number)) counts (taken_more c (with_band v z s) taken z t number h inside is),
     ))
 
-pub run_step : (z t i number : ℕ) (v : Counts) (s next : Statistics) (numbers : List ℕ) (written was now : List Bool) → z < length v.bands → 0 < t → i < length numbers → number ≡ get_or numbers i 0
-    → now ≡ was ++ code_word (record { limit = v.umax; low = code_parameter v.bits s; bits = v.bits }) number → next ≡ next_statistics v.gamma_star s number → PutsRun z t (take i numbers) v written (with_band v z s) was
+pub run_step : (z t i number : ℕ) (v : Counts) (s next : Statistics) (numbers : List ℕ) (written was now : List Bool) → z < length v.bands → 0 < t
+    → i < length numbers → number ≡ get_or numbers i 0
+    → now ≡ was ++ code_word (record { limit = v.umax; low = code_parameter v.bits s; bits = v.bits }) number → next ≡ next_statistics v.gamma_star s number
+    → PutsRun z t (take i numbers) v written (with_band v z s) was
     → PutsRun z t (take (i + 1) numbers) v written (with_band v z next) now
 run_step z t i number v s next numbers written was now lt some within there text counts run =
     let one = run_later z (t + length (take i numbers)) number v s was now lt (omega (arith, some)) text in
-    let both = run_behind z t (take i numbers) (number ∷ []) v (with_band v z s) (with_band v z (next_statistics v.gamma_star s number)) written was now run one in
+    let both =
+    run_behind z t (take i numbers) (number ∷ []) v (with_band v z s) (with_band v z (next_statistics v.gamma_star s number)) written was now run one in
     let cut : take i numbers ++ number ∷ [] ≡ take (i + 1) numbers = ap (λ n. take i numbers ++ n ∷ []) there ∙ sym (take_more numbers i 0 within) in
-    subst (λ (ns : List ℕ). PutsRun z t ns v written (with_band v z next) now) cut (subst (λ (d : Statistics). PutsRun z t (take i numbers ++ number ∷ []) v written (with_band v z d) now) (sym counts) both)
+    subst (λ (ns : List ℕ). PutsRun z t ns v written (with_band v z next) now) cut
+    (subst (λ (d : Statistics). PutsRun z t (take i numbers ++ number ∷ []) v written (with_band v z d) now) (sym counts) both)
 
 pub same_band : (v : Counts) (z : ℕ) (s : Statistics) → s ≡ of_band v.bands z → with_band v z s ≡ v
 same_band v z s e = rw (e, set-get_or) refl

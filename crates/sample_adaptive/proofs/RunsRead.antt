@@ -1,5 +1,6 @@
 -- A run of one band's numbers, read one after another.
-use Rattle.std.proofs.Common.{◌≡◌, ◌+◌, ◌^◌, ◌<◌, ℕ, Bool, false, eqb, List, [], ◌∷◌, ◌++◌, length, take, drop, Result, Ok, Err, refl, sym, ap, subst, ◌∙◌, inl, inr, append_assoc, append-nil, length-append, length-take, length-drop, take-append-drop, arith}
+use Rattle.std.proofs.Common.{◌≡◌, ◌+◌, ◌^◌, ◌<◌, ℕ, Bool, false, eqb, List, [], ◌∷◌, ◌++◌, length, take, drop, Result, Ok, Err, refl, sym, ap, subst, ◌∙◌, inl}
+use Rattle.std.proofs.Common.{inr, append_assoc, append-nil, length-append, length-take, length-drop, take-append-drop, arith}
 use Rattle.std.specs.List.{AllByRecursion}
 use Rattle.std.proofs.lemmas.Bool.{ne_eqb}
 use Rattle.std.proofs.lemmas.List.{get_or-set_same, length-set, set-set}
@@ -27,20 +28,25 @@ all_both bits [] ys h k = k
 all_both bits (x ∷ xs) ys h k = (h.0, all_both bits xs ys h.1 k)
 
 -- numbers that are read one list behind the other are read as one
-words_joined : (count : ℕ) (c : CoderSettings) (gone : List Place) (before : List ℕ) (ps qs : List Place) (xs ys : List ℕ) (bits mid left : List Bool) → words_at count c gone before ps bits ≡ Ok (xs, mid)
+words_joined : (count : ℕ) (c : CoderSettings) (gone : List Place) (before : List ℕ) (ps qs : List Place) (xs ys : List ℕ) (bits mid left : List Bool)
+    → words_at count c gone before ps bits ≡ Ok (xs, mid)
     → words_at count c (gone ++ ps) (before ++ xs) qs mid ≡ Ok (ys, left) → words_at count c gone before (ps ++ qs) bits ≡ Ok (xs ++ ys, left)
 words_joined count c gone before ps qs xs ys bits mid left first second =
     let a = words_takes count c gone before ps bits (xs, mid) first in
     let b = words_takes count c (gone ++ ps) (before ++ xs) qs mid (ys, left) second in
     let text : bits ≡ words_after c gone before (ps ++ qs) (xs ++ ys) ++ left =
-    a.text ∙ ap (λ (bs : List Bool). words_after c gone before ps xs ++ bs) b.text ∙ sym (append_assoc (words_after c gone before ps xs) (words_after c (gone ++ ps) (before ++ xs) qs ys) left)
+    a.text ∙ ap (λ (bs : List Bool). words_after c gone before ps xs ++ bs) b.text
+    ∙ sym (append_assoc (words_after c gone before ps xs) (words_after c (gone ++ ps) (before ++ xs) qs ys) left)
     ∙ ap (λ (bs : List Bool). bs ++ left) (sym (words_append c gone before ps qs xs ys a.count)) in
     let long : length (xs ++ ys) ≡ length (ps ++ qs) = omega (arith, length-append xs ys, length-append ps qs, a.count, b.count) in
-    ap (λ (bs : List Bool). words_at count c gone before (ps ++ qs) bs) text ∙ words_again count c gone before (ps ++ qs) (xs ++ ys) left long (all_both c.bits xs ys a.numbers b.numbers)
+    ap (λ (bs : List Bool). words_at count c gone before (ps ++ qs) bs) text
+    ∙ words_again count c gone before (ps ++ qs) (xs ++ ys) left long (all_both c.bits xs ys a.numbers b.numbers)
 
 -- words of numbers, and then a refusal
-pub words_behind : (count : ℕ) (c : CoderSettings) (gone : List Place) (before : List ℕ) (ps : List Place) (numbers : List ℕ) (qs : List Place) (left : List Bool) (e : Fault) → length numbers ≡ length ps → AreNumbers c.bits numbers
-    → words_at count c (gone ++ ps) (before ++ numbers) qs left ≡ Err e → words_at count c gone before (ps ++ qs) (words_after c gone before ps numbers ++ left) ≡ Err e
+pub words_behind : (count : ℕ) (c : CoderSettings) (gone : List Place) (before : List ℕ) (ps : List Place) (numbers : List ℕ) (qs : List Place)
+    (left : List Bool) (e : Fault) → length numbers ≡ length ps → AreNumbers c.bits numbers
+    → words_at count c (gone ++ ps) (before ++ numbers) qs left ≡ Err e
+    → words_at count c gone before (ps ++ qs) (words_after c gone before ps numbers ++ left) ≡ Err e
 unfolding words_at words_after
 words_behind count c gone before [] [] qs left e long h bad = rw (append-nil gone, append-nil before) at bad
 words_behind count c gone before [] (n ∷ ns) qs left e long h bad = absurd (omega arith)
@@ -54,7 +60,8 @@ words_behind count c gone before (p ∷ ps) (n ∷ ns) qs left e long h bad =
     let rest = words_behind count c (gone ++ p ∷ []) (before ++ n ∷ []) ps ns qs left e (omega arith) h.1 (rw (places-are, numbers-are) bad) in
     rw (append_assoc (code_word code n) after left, word_again count (length before) code n (after ++ left) fits, rest) refl
 
-words_stopped : (count : ℕ) (c : CoderSettings) (gone : List Place) (before : List ℕ) (ps qs : List Place) (xs : List ℕ) (bits mid : List Bool) (e : Fault) → words_at count c gone before ps bits ≡ Ok (xs, mid)
+words_stopped : (count : ℕ) (c : CoderSettings) (gone : List Place) (before : List ℕ) (ps qs : List Place) (xs : List ℕ) (bits mid : List Bool) (e : Fault)
+    → words_at count c gone before ps bits ≡ Ok (xs, mid)
     → words_at count c (gone ++ ps) (before ++ xs) qs mid ≡ Err e → words_at count c gone before (ps ++ qs) bits ≡ Err e
 words_stopped count c gone before ps qs xs bits mid e first second =
     let a = words_takes count c gone before ps bits (xs, mid) first in
@@ -64,7 +71,8 @@ not_read : (x : List ℕ × List Bool) (e : Fault) → Ok x ≡ Err e → ⊥
 not_read x e h = cc
 
 -- what is refused is refused whatever places come behind
-pub words_longer : (count : ℕ) (c : CoderSettings) (gone : List Place) (before : List ℕ) (ps more : List Place) (bits : List Bool) (e : Fault) → words_at count c gone before ps bits ≡ Err e → words_at count c gone before (ps ++ more) bits ≡ Err e
+pub words_longer : (count : ℕ) (c : CoderSettings) (gone : List Place) (before : List ℕ) (ps more : List Place) (bits : List Bool) (e : Fault)
+    → words_at count c gone before ps bits ≡ Err e → words_at count c gone before (ps ++ more) bits ≡ Err e
 unfolding words_at
 words_longer count c gone before [] more bits e h = absurd (not_read ([], bits) e h)
 words_longer count c gone before (p ∷ ps) more bits e h =
@@ -84,23 +92,32 @@ gets_none z t place v unread c gone [] before e f h taken is at = (refl, rw (app
 gets_none z t place v unread c gone (p ∷ ps) before e f h taken is at = absurd (omega (arith, f))
 
 -- the number that stands next, by the earlier numbers of its band
-there : (z t place : ℕ) (old : Counts) (unread : Unread) (r : Result (ℕ × List Bool) Fault) (c : CoderSettings) (gone : List Place) (before : List ℕ) (p : Place) → z < length old.bands → word_at unread.count place (code_by old z t) unread.left ≡ r → p.z ≡ z
-    → HasTaken c old (λ b. band_numbers b gone before) → t ≡ length (band_numbers z gone before) → place ≡ length before → word_at unread.count (length before) (code_at c p.z (band_numbers p.z gone before)) unread.left ≡ r
+there : (z t place : ℕ) (old : Counts) (unread : Unread) (r : Result (ℕ × List Bool) Fault) (c : CoderSettings) (gone : List Place) (before : List ℕ)
+    (p : Place) → z < length old.bands → word_at unread.count place (code_by old z t) unread.left ≡ r → p.z ≡ z
+    → HasTaken c old (λ b. band_numbers b gone before) → t ≡ length (band_numbers z gone before) → place ≡ length before
+    → word_at unread.count (length before) (code_at c p.z (band_numbers p.z gone before)) unread.left ≡ r
 there z t place old unread r c gone before p lt read own taken is at =
-    let code : code_by old z t ≡ code_at c p.z (band_numbers p.z gone before) = code_is c old (λ b. band_numbers b gone before) z t taken lt is ∙ ap (λ (b : ℕ). code_at c b (band_numbers b gone before)) (sym own) in
-    ap (λ (k : ℕ). word_at unread.count k (code_at c p.z (band_numbers p.z gone before)) unread.left) (sym at) ∙ ap (λ (k : Code). word_at unread.count place k unread.left) (sym code) ∙ read
+    let code : code_by old z t ≡ code_at c p.z (band_numbers p.z gone before) =
+    code_is c old (λ b. band_numbers b gone before) z t taken lt is ∙ ap (λ (b : ℕ). code_at c b (band_numbers b gone before)) (sym own) in
+    ap (λ (k : ℕ). word_at unread.count k (code_at c p.z (band_numbers p.z gone before)) unread.left) (sym at)
+    ∙ ap (λ (k : Code). word_at unread.count place k unread.left) (sym code) ∙ read
 
-pub gets_one : (z t place number : ℕ) (old : Counts) (unread : Unread) (left : List Bool) → z < length old.bands → word_at unread.count place (code_by old z t) unread.left ≡ Ok (number, left)
+pub gets_one : (z t place number : ℕ) (old : Counts) (unread : Unread) (left : List Bool) → z < length old.bands
+    → word_at unread.count place (code_by old z t) unread.left ≡ Ok (number, left)
     → GetsRun z t place (Ok tt) old unread (counted old z t number) left (number ∷ [])
 unfolding words_at
 gets_one z t place number old unread left lt read c gone [] before e f h taken is at = absurd (omega (arith, f))
 gets_one z t place number old unread left lt read c gone (p ∷ []) before e f h taken is at =
     let word = there z t place old unread (Ok (number, left)) c gone before p lt read h.0 taken is at in
-    let more = taken_more c old (λ b. band_numbers b gone before) z t number taken lt is in
-    (rw word refl, taken_along c (counted old z t number) gone before p number e (subst (λ (b : ℕ). HasTaken c (counted old z t number) (with_number (λ d. band_numbers d gone before) b number)) (sym h.0) more))
+    let more = taken_more c old (λ b. band_numbers b gone before) z t number taken lt is in (
+      rw word refl,
+      taken_along c (counted old z t number) gone before p number e
+          (subst (λ (b : ℕ). HasTaken c (counted old z t number) (with_number (λ d. band_numbers d gone before) b number)) (sym h.0) more),
+    )
 gets_one z t place number old unread left lt read c gone (p ∷ q ∷ ps) before e f h taken is at = absurd (omega (arith, f))
 
-pub gets_refused : (z t place : ℕ) (fault : Fault) (old new : Counts) (unread : Unread) (left : List Bool) (numbers : List ℕ) → z < length old.bands → word_at unread.count place (code_by old z t) unread.left ≡ Err fault → 0 < length numbers
+pub gets_refused : (z t place : ℕ) (fault : Fault) (old new : Counts) (unread : Unread) (left : List Bool) (numbers : List ℕ) → z < length old.bands
+    → word_at unread.count place (code_by old z t) unread.left ≡ Err fault → 0 < length numbers
     → GetsRun z t place (Err fault) old unread new left numbers
 unfolding words_at
 gets_refused z t place fault old new unread left numbers lt read some c gone [] before e f h taken is at = absurd (omega (arith, f, some))
@@ -109,11 +126,14 @@ gets_refused z t place fault old new unread left numbers lt read some c gone (p 
     (rw word refl, tt)
 
 -- a refusal tells nothing of what is left
-pub gets_fault : (z t place : ℕ) (fault : Fault) (old mid new : Counts) (unread : Unread) (mid_left left : List Bool) (numbers : List ℕ) → GetsRun z t place (Err fault) old unread mid mid_left numbers → GetsRun z t place (Err fault) old unread new left numbers
-gets_fault z t place fault old mid new unread mid_left left numbers gets c gone places before e f h taken is at = ((gets c gone places before e f h taken is at).0, tt)
+pub gets_fault : (z t place : ℕ) (fault : Fault) (old mid new : Counts) (unread : Unread) (mid_left left : List Bool) (numbers : List ℕ)
+    → GetsRun z t place (Err fault) old unread mid mid_left numbers → GetsRun z t place (Err fault) old unread new left numbers
+gets_fault z t place fault old mid new unread mid_left left numbers gets c gone places before e f h taken is at =
+    ((gets c gone places before e f h taken is at).0, tt)
 
 -- how a list of places is parted where numbers are
-record Parted (z t place : ℕ) (old mid : Counts) (unread : Unread) (mid_left : List Bool) (xs ys : List ℕ) (c : CoderSettings) (gone places : List Place) (before : List ℕ) : Type 0 where
+record Parted (z t place : ℕ) (old mid : Counts) (unread : Unread) (mid_left : List Bool) (xs ys : List ℕ) (c : CoderSettings) (gone places : List Place)
+    (before : List ℕ) : Type 0 where
   first : words_at unread.count c gone before (take (length xs) places) unread.left ≡ Ok (xs, mid_left)
   taken : HasTaken c mid (λ b. band_numbers b (gone ++ take (length xs) places) (before ++ xs))
   long : length (before ++ xs) ≡ length (gone ++ take (length xs) places)
@@ -122,8 +142,10 @@ record Parted (z t place : ℕ) (old mid : Counts) (unread : Unread) (mid_left :
   time : t + length xs ≡ length (band_numbers z (gone ++ take (length xs) places) (before ++ xs))
   at : place + length xs ≡ length (before ++ xs)
 
-parted : (z t place : ℕ) (xs ys : List ℕ) (old mid : Counts) (unread : Unread) (mid_left : List Bool) (c : CoderSettings) (gone places : List Place) (before : List ℕ) → GetsRun z t place (Ok tt) old unread mid mid_left xs
-    → length before ≡ length gone → length (xs ++ ys) ≡ length places → AllByRecursion (λ p. p.z ≡ z) places → HasTaken c old (λ b. band_numbers b gone before) → t ≡ length (band_numbers z gone before) → place ≡ length before
+parted : (z t place : ℕ) (xs ys : List ℕ) (old mid : Counts) (unread : Unread) (mid_left : List Bool) (c : CoderSettings) (gone places : List Place)
+    (before : List ℕ) → GetsRun z t place (Ok tt) old unread mid mid_left xs
+    → length before ≡ length gone → length (xs ++ ys) ≡ length places → AllByRecursion (λ p. p.z ≡ z) places → HasTaken c old (λ b. band_numbers b gone before)
+    → t ≡ length (band_numbers z gone before) → place ≡ length before
     → Parted z t place old mid unread mid_left xs ys c gone places before
 parted z t place xs ys old mid unread mid_left c gone places before first e f h taken is at =
     let few : length xs ≡ length (take (length xs) places) = omega (arith, f, length-append xs ys, length-take (length xs) places) in
@@ -139,7 +161,8 @@ parted z t place xs ys old mid unread mid_left c gone places before first e f h 
       at = omega (arith, at, length-append before xs);
     }
 
-pub gets_behind : (z t place : ℕ) (r : Result (Unit {0}) Fault) (xs ys : List ℕ) (old mid new : Counts) (unread now : Unread) (left : List Bool) → now.count ≡ unread.count → GetsRun z t place (Ok tt) old unread mid now.left xs
+pub gets_behind : (z t place : ℕ) (r : Result (Unit {0}) Fault) (xs ys : List ℕ) (old mid new : Counts) (unread now : Unread) (left : List Bool)
+    → now.count ≡ unread.count → GetsRun z t place (Ok tt) old unread mid now.left xs
     → GetsRun z (t + length xs) (place + length xs) r mid now new left ys → GetsRun z t place r old unread new left (xs ++ ys)
 gets_behind z t place (Ok u) xs ys old mid new unread now left same first second c gone places before e f h taken is at =
     let n : ℕ = length xs in
@@ -148,7 +171,8 @@ gets_behind z t place (Ok u) xs ys old mid new unread now left same first second
     let b = second c (gone ++ take (length xs) places) (drop (length xs) places) (before ++ xs) a.long a.rest a.own a.taken a.time a.at in
     let read : words_at unread.count c (gone ++ take (length xs) places) (before ++ xs) (drop (length xs) places) now.left ≡ Ok (ys, left) = rw same at b.0 in
     let whole = words_joined unread.count c gone before (take (length xs) places) (drop (length xs) places) xs ys unread.left now.left left a.first read in
-    let gone-are : (gone ++ take (length xs) places) ++ drop (length xs) places ≡ gone ++ places = append_assoc gone (take (length xs) places) (drop (length xs) places) ∙ ap (λ (qs : List Place). gone ++ qs) cut in
+    let gone-are : (gone ++ take (length xs) places) ++ drop (length xs) places ≡ gone ++ places =
+    append_assoc gone (take (length xs) places) (drop (length xs) places) ∙ ap (λ (qs : List Place). gone ++ qs) cut in
     let before-are : (before ++ xs) ++ ys ≡ before ++ (xs ++ ys) = append_assoc before xs ys in
     (rw cut at whole, rw (gone-are, before-are) at b.1)
 gets_behind z t place (Err fault) xs ys old mid new unread now left same first second c gone places before e f h taken is at =
@@ -161,7 +185,8 @@ gets_behind z t place (Err fault) xs ys old mid new unread now left same first s
 
 -- ---- a number behind the first of its band
 
-later_code : (z t : ℕ) (v : Counts) (s : Statistics) → z < length v.bands → 0 < t → code_by (with_band v z s) z t ≡ record { limit = v.umax; low = code_parameter v.bits s; bits = v.bits }
+later_code : (z t : ℕ) (v : Counts) (s : Statistics) → z < length v.bands → 0 < t
+    → code_by (with_band v z s) z t ≡ record { limit = v.umax; low = code_parameter v.bits s; bits = v.bits }
 later_code z t v s lt some =
     let own : of_band (with_band v z s).bands z ≡ s = get_or-set_same v.bands z s no_statistics lt in
     let not_first : eqb t 0 ≡ false = ne_eqb t 0 (λ e. omega (arith, some, e)) in
@@ -177,11 +202,16 @@ gets_later z t place number v s unread left lt some read =
     let own : of_band (with_band v z s).bands z ≡ s = get_or-set_same v.bands z s no_statistics lt in
     let not_first : eqb t 0 ≡ false = ne_eqb t 0 (λ e. omega (arith, some, e)) in
     let counts : counted (with_band v z s) z t number ≡ with_band v z (next_statistics v.gamma_star s number) = rw (not_first, own, set-set) refl in
-    let word : word_at unread.count place (code_by (with_band v z s) z t) unread.left ≡ Ok (number, left) = ap (λ (k : Code). word_at unread.count place k unread.left) (later_code z t v s lt some) ∙ read in
-    subst (λ (w : Counts). GetsRun z t place (Ok tt) (with_band v z s) unread w left (number ∷ [])) counts (gets_one z t place number (with_band v z s) unread left (inside z v s lt) word)
+    let word : word_at unread.count place (code_by (with_band v z s) z t) unread.left ≡ Ok (number, left) =
+    ap (λ (k : Code). word_at unread.count place k unread.left) (later_code z t v s lt some) ∙ read in
+    subst (λ (w : Counts). GetsRun z t place (Ok tt) (with_band v z s) unread w left (number ∷ [])) counts
+    (gets_one z t place number (with_band v z s) unread left (inside z v s lt) word)
 
-pub later_refused : (z t place : ℕ) (fault : Fault) (v new : Counts) (s : Statistics) (unread : Unread) (left : List Bool) (numbers : List ℕ) → z < length v.bands → 0 < t
-    → word_at unread.count place (record { limit = v.umax; low = code_parameter v.bits s; bits = v.bits }) unread.left ≡ Err fault → 0 < length numbers → GetsRun z t place (Err fault) (with_band v z s) unread new left numbers
+pub later_refused : (z t place : ℕ) (fault : Fault) (v new : Counts) (s : Statistics) (unread : Unread) (left : List Bool) (numbers : List ℕ)
+    → z < length v.bands → 0 < t
+    → word_at unread.count place (record { limit = v.umax; low = code_parameter v.bits s; bits = v.bits }) unread.left ≡ Err fault → 0 < length numbers
+    → GetsRun z t place (Err fault) (with_band v z s) unread new left numbers
 later_refused z t place fault v new s unread left numbers lt some read enough =
-    let word : word_at unread.count place (code_by (with_band v z s) z t) unread.left ≡ Err fault = ap (λ (k : Code). word_at unread.count place k unread.left) (later_code z t v s lt some) ∙ read in
+    let word : word_at unread.count place (code_by (with_band v z s) z t) unread.left ≡ Err fault =
+    ap (λ (k : Code). word_at unread.count place k unread.left) (later_code z t v s lt some) ∙ read in
     gets_refused z t place fault (with_band v z s) new unread left numbers (inside z v s lt) word enough

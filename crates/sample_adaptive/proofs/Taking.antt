@@ -21,12 +21,15 @@ ne-eqb a b h = grind (arith, nat_tests)
 
 -- ---- the code of the next number
 
-code_by_list : (c : CoderSettings) (v : Counts) (z t : ℕ) (numbers : List ℕ) → v.bits ≡ c.bits → v.umax ≡ c.umax → of_band v.bands z ≡ statistics c z numbers → t ≡ length numbers → code_by v z t ≡ code_at c z numbers
+code_by_list : (c : CoderSettings) (v : Counts) (z t : ℕ) (numbers : List ℕ) → v.bits ≡ c.bits → v.umax ≡ c.umax → of_band v.bands z ≡ statistics c z numbers
+    → t ≡ length numbers → code_by v z t ≡ code_at c z numbers
 unfolding code_at
 code_by_list c v z t [] bits umax band e = rw (e, bits) refl
-code_by_list c v z t (first ∷ later) bits umax band e = (let not_first : eqb t 0 ≡ false = ne-eqb t 0 (λ k. omega arith) in rw (not_first, bits, umax, band) refl)
+code_by_list c v z t (first ∷ later) bits umax band e =
+    (let not_first : eqb t 0 ≡ false = ne-eqb t 0 (λ k. omega arith) in rw (not_first, bits, umax, band) refl)
 
-pub code_is : (c : CoderSettings) (v : Counts) (taken : ℕ → List ℕ) (z t : ℕ) → HasTaken c v taken → z < length v.bands → t ≡ length (taken z) → code_by v z t ≡ code_at c z (taken z)
+pub code_is : (c : CoderSettings) (v : Counts) (taken : ℕ → List ℕ) (z t : ℕ) → HasTaken c v taken → z < length v.bands → t ≡ length (taken z)
+    → code_by v z t ≡ code_at c z (taken z)
 code_is c v taken z t h lt e = code_by_list c v z t (taken z) h.bits h.umax (h.bands z lt) e
 
 -- ---- one number more
@@ -35,7 +38,8 @@ first_only : (c : CoderSettings) (z number : ℕ) → statistics c z (number ∷
 unfolding statistics statistics_from
 first_only c z number = refl
 
-one_later : (c : CoderSettings) (z first number : ℕ) (later : List ℕ) → statistics c z (first ∷ (later ++ number ∷ [])) ≡ next_statistics c.gamma_star (statistics c z (first ∷ later)) number
+one_later : (c : CoderSettings) (z first number : ℕ) (later : List ℕ)
+    → statistics c z (first ∷ (later ++ number ∷ [])) ≡ next_statistics c.gamma_star (statistics c z (first ∷ later)) number
 unfolding statistics
 one_later c z first number later = from_push c.gamma_star (first_statistics c z) later number
 
@@ -50,19 +54,23 @@ abbrev BandIs : CoderSettings → List Statistics → (ℕ → List ℕ) → ℕ
 BandIs c bands taken b = of_band bands b ≡ statistics c b (taken b)
 
 -- the first number leaves the statistics
-band_after_first : (c : CoderSettings) (bands : List Statistics) (taken : ℕ → List ℕ) (z number : ℕ) → taken z ≡ [] → ((b : ℕ) → b < length bands → BandIs c bands taken b) → (b : ℕ) → b < length bands → BandIs c bands (with_number taken z number) b
+band_after_first : (c : CoderSettings) (bands : List Statistics) (taken : ℕ → List ℕ) (z number : ℕ) → taken z ≡ []
+    → ((b : ℕ) → b < length bands → BandIs c bands taken b) → (b : ℕ) → b < length bands → BandIs c bands (with_number taken z number) b
 band_after_first c bands taken z number none h b lt =
     elim (cases_eq b z) [
       | inl same ↦
-          (let now : with_number taken z number b ≡ number ∷ [] = ap (with_number taken z number) same ∙ this_grows taken z number ∙ ap (λ (ns : List ℕ). ns ++ number ∷ []) none in
+          (let now : with_number taken z number b ≡ number ∷ [] =
+          ap (with_number taken z number) same ∙ this_grows taken z number ∙ ap (λ (ns : List ℕ). ns ++ number ∷ []) none in
           let before : taken b ≡ [] = ap taken same ∙ none in
           h b lt ∙ ap (statistics c b) before ∙ sym (first_only c b number) ∙ ap (statistics c b) (sym now))
       | inr other ↦ h b lt ∙ ap (statistics c b) (sym (others_stay taken z number b other))
     ]
 
 -- a later one is counted
-band_after_later : (c : CoderSettings) (bands : List Statistics) (taken : ℕ → List ℕ) (z number first : ℕ) (later : List ℕ) → taken z ≡ first ∷ later → z < length bands → ((b : ℕ) → b < length bands → BandIs c bands taken b)
-    → (b : ℕ) → b < length (set bands z (next_statistics c.gamma_star (of_band bands z) number)) → BandIs c (set bands z (next_statistics c.gamma_star (of_band bands z) number)) (with_number taken z number) b
+band_after_later : (c : CoderSettings) (bands : List Statistics) (taken : ℕ → List ℕ) (z number first : ℕ) (later : List ℕ) → taken z ≡ first ∷ later
+    → z < length bands → ((b : ℕ) → b < length bands → BandIs c bands taken b)
+    → (b : ℕ) → b < length (set bands z (next_statistics c.gamma_star (of_band bands z) number))
+    → BandIs c (set bands z (next_statistics c.gamma_star (of_band bands z) number)) (with_number taken z number) b
 band_after_later c bands taken z number first later some in_bands h b lt =
     let next : Statistics = next_statistics c.gamma_star (of_band bands z) number in
     let inside : b < length bands = omega (arith, length-set bands z next) in
@@ -77,14 +85,22 @@ band_after_later c bands taken z number first later some in_bands h b lt =
       | inr other ↦ get_or-set_other bands z b next no_statistics other ∙ h b inside ∙ ap (statistics c b) (sym (others_stay taken z number b other))
     ]
 
-taken_by_list : (c : CoderSettings) (v : Counts) (taken : ℕ → List ℕ) (z t number : ℕ) (numbers : List ℕ) → taken z ≡ numbers → HasTaken c v taken → z < length v.bands → t ≡ length numbers → HasTaken c (counted v z t number) (with_number taken z number)
+taken_by_list : (c : CoderSettings) (v : Counts) (taken : ℕ → List ℕ) (z t number : ℕ) (numbers : List ℕ) → taken z ≡ numbers → HasTaken c v taken
+    → z < length v.bands → t ≡ length numbers → HasTaken c (counted v z t number) (with_number taken z number)
 taken_by_list c v taken z t number [] is h lt e =
     rw e (record { bits = h.bits; umax = h.umax; gamma_star = h.gamma_star; bands = band_after_first c v.bands taken z number is h.bands; working = h.working })
 taken_by_list c v taken z t number (first ∷ later) is h lt e =
     let not_first : eqb t 0 ≡ false = ne-eqb t 0 (λ k. omega arith) in
-    rw (not_first, h.gamma_star) (record { bits = h.bits; umax = h.umax; gamma_star = refl; bands = band_after_later c v.bands taken z number first later is lt h.bands; working = h.working })
+    rw (not_first, h.gamma_star) (record {
+      bits = h.bits;
+      umax = h.umax;
+      gamma_star = refl;
+      bands = band_after_later c v.bands taken z number first later is lt h.bands;
+      working = h.working;
+    })
 
-pub taken_more : (c : CoderSettings) (v : Counts) (taken : ℕ → List ℕ) (z t number : ℕ) → HasTaken c v taken → z < length v.bands → t ≡ length (taken z) → HasTaken c (counted v z t number) (with_number taken z number)
+pub taken_more : (c : CoderSettings) (v : Counts) (taken : ℕ → List ℕ) (z t number : ℕ) → HasTaken c v taken → z < length v.bands → t ≡ length (taken z)
+    → HasTaken c (counted v z t number) (with_number taken z number)
 taken_more c v taken z t number h lt e = taken_by_list c v taken z t number (taken z) refl h lt e
 
 -- the same numbers, told otherwise
@@ -99,12 +115,15 @@ taken_alike c v taken told same h = record {
 
 -- numbers along places, and one more
 pub taken_along : (c : CoderSettings) (v : Counts) (places : List Place) (numbers : List ℕ) (p : Place) (number : ℕ) → length numbers ≡ length places
-    → HasTaken c v (with_number (λ z. band_numbers z places numbers) p.z number) → HasTaken c v (λ z. band_numbers z (places ++ p ∷ []) (numbers ++ number ∷ []))
+    → HasTaken c v (with_number (λ z. band_numbers z places numbers) p.z number)
+    → HasTaken c v (λ z. band_numbers z (places ++ p ∷ []) (numbers ++ number ∷ []))
 taken_along c v places numbers p number len h =
     taken_alike c v (with_number (λ z. band_numbers z places numbers) p.z number) (λ z. band_numbers z (places ++ p ∷ []) (numbers ++ number ∷ []))
     (λ z. turned z (eqb z p.z) (eqb p.z z) refl refl ∙ sym (band_push z places numbers p number len)) h
   where
-    turned : (z : ℕ) (b d : Bool) → eqb z p.z ≡ b → eqb p.z z ≡ d → cond (eqb z p.z) (band_numbers z places numbers ++ number ∷ []) (band_numbers z places numbers) ≡ cond (eqb p.z z) (band_numbers z places numbers ++ number ∷ []) (band_numbers z places numbers)
+    turned : (z : ℕ) (b d : Bool) → eqb z p.z ≡ b → eqb p.z z ≡ d
+        → cond (eqb z p.z) (band_numbers z places numbers ++ number ∷ []) (band_numbers z places numbers)
+        ≡ cond (eqb p.z z) (band_numbers z places numbers ++ number ∷ []) (band_numbers z places numbers)
     turned z b d e f =
         let same : eqb z p.z ≡ eqb p.z z = grind (arith, nat_tests) in
         rw same refl
@@ -130,7 +149,8 @@ new_in_range n c bands h len first = record {
   gamma_star = (omega (arith, h.gamma_star.0), omega (arith, h.gamma_star.1));
   bands = λ z lt.
       let inside : z < n = omega (arith, len) in
-      rw (first z inside) (start_in_range c.gamma_star c.gamma_zero (constant_of c.start z) h.order h.gamma_zero.1 (omega (arith, h.constants z inside, h.bits.1)));
+      rw (first z inside)
+      (start_in_range c.gamma_star c.gamma_zero (constant_of c.start z) h.order h.gamma_zero.1 (omega (arith, h.constants z inside, h.bits.1)));
 }
 
 pub new_has_taken : (n : ℕ) (c : CoderSettings) (bands : List Statistics) → length bands ≡ n → AreFirst c n bands

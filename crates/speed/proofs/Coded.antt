@@ -1,5 +1,6 @@
 -- Numbers that the coders have written.
-use Rattle.std.proofs.Common.{◌≡◌, ◌<◌, ◌≤◌, ◌^◌, ℕ, slice_index, Vec, Global, Result, Ok, Err, IfOk, zero, suc, Bool, List, [], ◌∷◌, ◌++◌, length, replicate, refl, sym, ap, ◌∙◌, subst, arith}
+use Rattle.std.proofs.Common.{◌≡◌, ◌<◌, ◌≤◌, ◌^◌, ℕ, slice_index, Vec, Global, Result, Ok, Err, IfOk, zero, suc, Bool, List, [], ◌∷◌, ◌++◌, length, replicate}
+use Rattle.std.proofs.Common.{refl, sym, ap, ◌∙◌, subst, arith}
 use Rattle.std.proofs.lemmas.List.{length-append, length-replicate}
 use Rattle.cube_core.specs.declared.fault.Fault.{Fault}
 use Rattle.cube_core.specs.declared.order.Place.{Place}
@@ -41,7 +42,8 @@ replicate_more : (n : ℕ) (p : Place) → replicate (suc n) p ≡ replicate n p
 replicate_more zero p = refl
 replicate_more (suc n) p = ap (λ (ps : List Place). p ∷ ps) (replicate_more n p)
 
-pub coded_more : (p : Params) (old new : Counts) (t number : ℕ) (numbers : List ℕ) (bits now : List Bool) → AreCoded p old numbers bits → PutsNumber 0 t number old bits new now → t ≡ length numbers → AreCoded p new (numbers ++ number ∷ []) now
+pub coded_more : (p : Params) (old new : Counts) (t number : ℕ) (numbers : List ℕ) (bits now : List Bool) → AreCoded p old numbers bits
+    → PutsNumber 0 t number old bits new now → t ≡ length numbers → AreCoded p new (numbers ++ number ∷ []) now
 coded_more p old new t number numbers bits now known puts is =
     let gone : List Place = replicate (length numbers) first_place in
     let long : length numbers ≡ length (replicate (length numbers) first_place) = sym (length-replicate (length numbers) first_place) in
@@ -51,7 +53,8 @@ coded_more p old new t number numbers bits now known puts is =
     let next : replicate (length (numbers ++ number ∷ [])) first_place ≡ replicate (length numbers) first_place ++ first_place ∷ [] =
     ap (λ (n : ℕ). replicate n first_place) grown ∙ replicate_more (length numbers) first_place in
     record {
-      taken = subst (λ (ps : List Place). HasTaken (settings p) new (λ z. band_numbers z ps (numbers ++ number ∷ []))) (sym next) (taken_along (settings p) new gone numbers first_place number long did.1);
+      taken = subst (λ (ps : List Place). HasTaken (settings p) new (λ z. band_numbers z ps (numbers ++ number ∷ []))) (sym next)
+          (taken_along (settings p) new gone numbers first_place number long did.1);
       text = did.0
           ∙ ap (λ (x : List Bool). x ++ word) known.text
           ∙ sym (body_push (settings p) gone numbers first_place number long)
@@ -61,7 +64,8 @@ coded_more p old new t number numbers bits now known puts is =
 -- ---- by blocks
 
 -- all numbers were taken, and the body is ended
-pub blocks_ended : (p : Params) (v : Packed) (numbers : List ℕ) (bits now : List Bool) → AreForBlocks p → v.cut ≡ cut_by p → IsCutOf (sample_count p.shape) v.cut → length numbers ≡ sample_count p.shape → HaveTaken v numbers bits → EndsBody v bits now → now ≡ body_of p numbers
+pub blocks_ended : (p : Params) (v : Packed) (numbers : List ℕ) (bits now : List Bool) → AreForBlocks p → v.cut ≡ cut_by p
+    → IsCutOf (sample_count p.shape) v.cut → length numbers ≡ sample_count p.shape → HaveTaken v numbers bits → EndsBody v bits now → now ≡ body_of p numbers
 blocks_ended p v numbers bits now lawful cut room long taken ends =
     let count : block_count v.cut.size (length numbers) ≡ v.cut.count = ap (block_count v.cut.size) long ∙ sym room.blocks in
     let did = ends numbers bits taken count in
@@ -70,7 +74,8 @@ blocks_ended p v numbers bits now lawful cut room long taken ends =
 -- ---- whole bytes
 
 -- where the bits of a writer are a text, its whole bytes are that text, filled
-pub whole_text : (r : Result (Vec ℕ Global) Fault) (P : Type 0) (bits text : List Bool) → IfOk r (λ bytes. bits_of_bytes bytes.items ≡ filled 1 bits) → (P → bits ≡ text) → IfOk r (λ bytes. P → bits_of_bytes bytes.items ≡ filled 1 text)
+pub whole_text : (r : Result (Vec ℕ Global) Fault) (P : Type 0) (bits text : List Bool) → IfOk r (λ bytes. bits_of_bytes bytes.items ≡ filled 1 bits)
+    → (P → bits ≡ text) → IfOk r (λ bytes. P → bits_of_bytes bytes.items ≡ filled 1 text)
 whole_text (Ok bytes) P bits text e f = λ h. e ∙ ap (filled 1) (f h)
 whole_text (Err fault) P bits text e f = tt
 

@@ -1,5 +1,6 @@
 -- Numbers that are drawn one after another.
-use Rattle.std.proofs.Common.{◌≡◌, ◌≢◌, ◌+◌, ◌*◌, ◌/◌, ◌%◌, ◌^◌, ◌<◌, ◌≤◌, ℕ, zero, suc, List, [], ◌∷◌, ◌++◌, length, map, bit_and, bit_or, refl, sym, ap, ◌∙◌, add-one, append-nil, Bool, true, false, cond, eqb, get_or, subst, lit<, arith}
+use Rattle.std.proofs.Common.{◌≡◌, ◌≢◌, ◌+◌, ◌*◌, ◌/◌, ◌%◌, ◌^◌, ◌<◌, ◌≤◌, ℕ, zero, suc, List, [], ◌∷◌, ◌++◌, length, map, bit_and, bit_or, refl, sym, ap, ◌∙◌}
+use Rattle.std.proofs.Common.{add-one, append-nil, Bool, true, false, cond, eqb, get_or, subst, lit<, arith}
 use Rattle.std.specs.Int.{w16, leading_zeros}
 use Rattle.std.proofs.lemmas.List.{map-append, length-map, get_or-map}
 use Rattle.std.specs.List.{flat_map}
@@ -53,27 +54,31 @@ halved few k lt =
 -- bits below a multiple of 16 are added to it
 low_bits_added : (high low : ℕ) → low < 16 → bit_or (16 * high) low ≡ 16 * high + low
 low_bits_added high low lt =
-    let block : bit_and (high * 2 ^ 4 + 0) (0 * 2 ^ 4 + low) ≡ bit_and high 0 * 2 ^ 4 + bit_and 0 low = and_block 4 high 0 0 low (omega arith) (omega (arith, lt)) in
+    let block : bit_and (high * 2 ^ 4 + 0) (0 * 2 ^ 4 + low) ≡ bit_and high 0 * 2 ^ 4 + bit_and 0 low =
+    and_block 4 high 0 0 low (omega arith) (omega (arith, lt)) in
     let left : high * 2 ^ 4 + 0 ≡ 16 * high = omega arith in
     let right : 0 * 2 ^ 4 + low ≡ low = omega arith in
     let apart : bit_and (16 * high) low ≡ 0 = rw (← left, ← right) (omega (arith, block, and_le_r high 0, and_le_l 0 low)) in
     or_disjoint (16 * high) low apart
 
-pub spoken_residual : (i word few : ℕ) → few < 32 → i / 4096 % 8 ≢ 7 → bit_or (leading_zeros w16 word * 16 % 4294967296) (few / 2 ^ (i / 4096 % 4 + 1)) ≡ residual_of i word few
+pub spoken_residual : (i word few : ℕ) → few < 32 → i / 4096 % 8 ≢ 7
+    → bit_or (leading_zeros w16 word * 16 % 4294967296) (few / 2 ^ (i / 4096 % 4 + 1)) ≡ residual_of i word few
 spoken_residual i word few lt apart =
     let most : leading_zeros w16 word ≤ 16 = leading_le 16 word in
     let high : leading_zeros w16 word * 16 % 4294967296 ≡ 16 * leading_zeros w16 word = omega (arith, most) in
     let low : few / 2 ^ (i / 4096 % 4 + 1) < 16 = halved few (i / 4096 % 4) lt in
     rw (high, ne_eqb (i / 4096 % 8) 7 apart) (low_bits_added (leading_zeros w16 word) (few / 2 ^ (i / 4096 % 4 + 1)) low)
 
-pub residual_is : (i word few : ℕ) → word ≡ highest 16 (state_behind (2 * i + 1)) → few ≡ highest 5 (state_behind (2 * i + 2)) → residual_of i word few ≡ synthetic_residual i
+pub residual_is : (i word few : ℕ) → word ≡ highest 16 (state_behind (2 * i + 1)) → few ≡ highest 5 (state_behind (2 * i + 2))
+    → residual_of i word few ≡ synthetic_residual i
 unfolding synthetic_residual
 residual_is i word few e f = ap (λ (n : ℕ). residual_of i n few) e ∙ ap (residual_of i (highest 16 (state_behind (2 * i + 1)))) f
 
 -- ---- residuals are of twelve bits
 
 state_in_word : (n : ℕ) → state_behind (n + 1) < 2 ^ 64
-state_in_word n = subst (λ (state : ℕ). state < 2 ^ 64) (sym (one_behind n)) (mod_below (6364136223846793005 * state_behind n + 1442695040888963407) (2 ^ 64) (lit< tt))
+state_in_word n =
+    subst (λ (state : ℕ). state < 2 ^ 64) (sym (one_behind n)) (mod_below (6364136223846793005 * state_behind n + 1442695040888963407) (2 ^ 64) (lit< tt))
 
 below_twelve_bits : (b : Bool) (number : ℕ) → number < 2 ^ 12 → cond b 0 number < 2 ^ 12
 below_twelve_bits true number lt = lit< tt

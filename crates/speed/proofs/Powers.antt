@@ -17,5 +17,6 @@ rest_fits number bits h =
     rw (power_is bits h) (let lt : number % 2 ^ bits < 2 ^ bits = mod_below number (2 ^ bits) some in omega (arith, lt, most))
 
 -- the values of a function at one more of the numbers
-pub mapped_front : (f : ℕ → ℕ) (numbers : List ℕ) (n : ℕ) → n < length numbers → map f (take (n + 1) numbers) ≡ map f (take n numbers) ++ f (get_or numbers n 0) ∷ []
+pub mapped_front : (f : ℕ → ℕ) (numbers : List ℕ) (n : ℕ) → n < length numbers
+    → map f (take (n + 1) numbers) ≡ map f (take n numbers) ++ f (get_or numbers n 0) ∷ []
 mapped_front f numbers n lt = ap (map f) (take_more numbers n 0 lt) ∙ map-append f (take n numbers) (get_or numbers n 0 ∷ [])

@@ -1,5 +1,6 @@
 -- A cube that is filled, and one that is read, in the order of its bands, rows and columns.
-use Rattle.std.proofs.Common.{◌≡◌, ◌+◌, ◌*◌, ◌%◌, ◌^◌, ◌<◌, ◌≤◌, ℕ, ℤ, pos, ◌+ℤ◌, ◌-ℤ◌, List, [], ◌∷◌, ◌++◌, length, take, get_or, set, map, replicate, refl, sym, ap, ◌∙◌, arith}
+use Rattle.std.proofs.Common.{◌≡◌, ◌+◌, ◌*◌, ◌%◌, ◌^◌, ◌<◌, ◌≤◌, ℕ, ℤ, pos, ◌+ℤ◌, ◌-ℤ◌, List, [], ◌∷◌, ◌++◌, length, take, get_or, set, map, replicate, refl}
+use Rattle.std.proofs.Common.{sym, ap, ◌∙◌, arith}
 use Rattle.std.specs.Prelude.{unsigned_abs}
 use Rattle.std.proofs.Math.Arith.{digits_lt}
 use Rattle.std.proofs.Math.IntN.{+ℤ_comm, +ℤ-neg_ℤ_cancel}
@@ -27,7 +28,8 @@ length-synthetic : (s : Sizes) (k : SampleKind) → length (synthetic_samples s 
 unfolding synthetic_samples
 length-synthetic s k = length-map (places s Bsq) _ ∙ length-places s Bsq tt
 
-sample_there : (s : Sizes) (k : SampleKind) (p : Place) (d : ℤ) → IsPlaceOf s p → get_or (synthetic_samples s k) (index_in s.columns s.rows p.z p.y p.x) d ≡ sample_of k (synthetic_offset s k p)
+sample_there : (s : Sizes) (k : SampleKind) (p : Place) (d : ℤ) → IsPlaceOf s p
+    → get_or (synthetic_samples s k) (index_in s.columns s.rows p.z p.y p.x) d ≡ sample_of k (synthetic_offset s k p)
 unfolding synthetic_samples
 sample_there s k p d place =
     let index = sequential_index s p in
@@ -44,7 +46,8 @@ pub record IsBegun (s : Sizes) (k : SampleKind) (n : ℕ) (c : Image) (state : �
   pub made : take n c.samples ≡ take n (synthetic_samples s k)
   pub drawn : state ≡ state_behind n
 
-pub begun_first : (s : Sizes) (k : SampleKind) (c : Image) (state : ℕ) → c ≡ record { shape = s; kind = k; samples = replicate (sample_count s) (pos 0) } → state ≡ first_state → IsBegun s k 0 c state
+pub begun_first : (s : Sizes) (k : SampleKind) (c : Image) (state : ℕ) → c ≡ record { shape = s; kind = k; samples = replicate (sample_count s) (pos 0) }
+    → state ≡ first_state → IsBegun s k 0 c state
 begun_first s k c state e f =
     record {
       shape = ap (λ (i : Image). i.shape) e;
@@ -54,12 +57,15 @@ begun_first s k c state e f =
       drawn = f ∙ sym none_behind;
     }
 
-pub begun_more : (s : Sizes) (k : SampleKind) (p : Place) (c : Image) (state : ℕ) (v : ℤ) → IsPlaceOf s p → IsBegun s k (index_in s.columns s.rows p.z p.y p.x) c state
-    → v ≡ sample_of k ((16 * p.z + 4 * p.y + 2 * p.x + highest 6 (next_state state)) % 2 ^ k.bits) → IsBegun s k (index_in s.columns s.rows p.z p.y p.x + 1) (put c p.z p.y p.x v) (next_state state)
+pub begun_more : (s : Sizes) (k : SampleKind) (p : Place) (c : Image) (state : ℕ) (v : ℤ) → IsPlaceOf s p
+    → IsBegun s k (index_in s.columns s.rows p.z p.y p.x) c state
+    → v ≡ sample_of k ((16 * p.z + 4 * p.y + 2 * p.x + highest 6 (next_state state)) % 2 ^ k.bits)
+    → IsBegun s k (index_in s.columns s.rows p.z p.y p.x + 1) (put c p.z p.y p.x v) (next_state state)
 begun_more s k p c state v place known value =
     let i : ℕ = index_in s.columns s.rows p.z p.y p.x in
     let lt : index_in s.columns s.rows p.z p.y p.x < sample_count s = inside s p.z p.y p.x place in
-    let at : index_in c.shape.columns c.shape.rows p.z p.y p.x ≡ index_in s.columns s.rows p.z p.y p.x = ap (λ (t : Sizes). index_in t.columns t.rows p.z p.y p.x) known.shape in
+    let at : index_in c.shape.columns c.shape.rows p.z p.y p.x ≡ index_in s.columns s.rows p.z p.y p.x =
+    ap (λ (t : Sizes). index_in t.columns t.rows p.z p.y p.x) known.shape in
     let drawn : next_state state ≡ state_behind (index_in s.columns s.rows p.z p.y p.x + 1) = ap next_state known.drawn ∙ sym (one_behind i) in
     let noise : next_state state ≡ state_behind (place_index s Bsq p + 1) = drawn ∙ ap (λ (j : ℕ). state_behind (j + 1)) (sym (sequential_index s p)) in
     let sample : v ≡ get_or (synthetic_samples s k) (index_in s.columns s.rows p.z p.y p.x) (pos 0) =
@@ -85,7 +91,8 @@ image_is c s k vs e f g =
 pub begun_whole : (s : Sizes) (k : SampleKind) (n : ℕ) (c : Image) (state : ℕ) → sample_count s ≤ n → IsBegun s k n c state → c ≡ synthetic_image s k
 begun_whole s k n c state most known =
     image_is c s k (synthetic_samples s k) known.shape known.kind
-    (sym (take_all n c.samples (omega (arith, most, known.whole))) ∙ known.made ∙ take_all n (synthetic_samples s k) (omega (arith, most, length-synthetic s k)))
+    (sym (take_all n c.samples (omega (arith, most, known.whole))) ∙ known.made
+    ∙ take_all n (synthetic_samples s k) (omega (arith, most, length-synthetic s k)))
 
 -- ---- a cube that is read
 
@@ -95,10 +102,12 @@ above_least low offset = ap (λ (v : ℤ). unsigned_abs (v -ℤ low)) (+ℤ_comm
 pub length-offsets : (c : Image) → IsCube c → length (offsets_of c) ≡ sample_count c.shape
 length-offsets c cube = length-map c.samples _ ∙ cube.whole
 
-offset_there : (c : Image) (z y x : ℕ) (row : List ℕ) → IsCube c → IsPlace c.shape z y x → AreRowOffsets c z y row → get_or (offsets_of c) (index_in c.shape.columns c.shape.rows z y x) 0 ≡ get_or row x 0
+offset_there : (c : Image) (z y x : ℕ) (row : List ℕ) → IsCube c → IsPlace c.shape z y x → AreRowOffsets c z y row
+    → get_or (offsets_of c) (index_in c.shape.columns c.shape.rows z y x) 0 ≡ get_or row x 0
 unfolding sample_at
 offset_there c z y x row cube place offsets =
-    get_or-map (λ v. unsigned_abs (v -ℤ smin c.kind)) c.samples (index_in c.shape.columns c.shape.rows z y x) (pos 0) 0 (omega (arith, inside c.shape z y x place, cube.whole))
+    get_or-map (λ v. unsigned_abs (v -ℤ smin c.kind)) c.samples (index_in c.shape.columns c.shape.rows z y x) (pos 0) 0
+    (omega (arith, inside c.shape z y x place, cube.whole))
     ∙ ap (λ (v : ℤ). unsigned_abs (v -ℤ smin c.kind)) (offsets x place.column).1
     ∙ above_least (smin c.kind) (get_or row x 0)
 
@@ -106,7 +115,8 @@ offset_there c z y x row cube place offsets =
 abbrev pub checksum_before : Image → ℕ → ℕ → ℕ → ℕ
 checksum_before c z y x = checksum (take (index_in c.shape.columns c.shape.rows z y x) (offsets_of c))
 
-pub checksum_more : (c : Image) (z y x : ℕ) (row : List ℕ) → IsCube c → IsPlace c.shape z y x → AreRowOffsets c z y row → mixed (checksum_before c z y x) (get_or row x 0) ≡ checksum_before c z y (x + 1)
+pub checksum_more : (c : Image) (z y x : ℕ) (row : List ℕ) → IsCube c → IsPlace c.shape z y x → AreRowOffsets c z y row
+    → mixed (checksum_before c z y x) (get_or row x 0) ≡ checksum_before c z y (x + 1)
 checksum_more c z y x row cube place offsets =
     let lt : index_in c.shape.columns c.shape.rows z y x < length (offsets_of c) = omega (arith, inside c.shape z y x place, length-offsets c cube) in
     let next : index_in c.shape.columns c.shape.rows z y x + 1 ≡ index_in c.shape.columns c.shape.rows z y (x + 1) = omega arith in

@@ -26,19 +26,23 @@ none_yet p c numbers lawful =
     record { count = sym none; gone = rw none refl }
 
 -- all places have gone by
-pub all_residuals : (p : Params) (c : Image) (i : ℕ) (numbers : List ℕ) → IsOrder p.shape p.order → c.shape ≡ p.shape → length numbers ≡ sample_count p.shape → AreResiduals p c [] i numbers → residuals p c ≡ numbers
-all_residuals p c i numbers lawful shape long known = sym (residuals_whole p c lawful shape) ∙ known.gone ∙ take_all i numbers (omega (arith, known.count, long))
+pub all_residuals : (p : Params) (c : Image) (i : ℕ) (numbers : List ℕ) → IsOrder p.shape p.order → c.shape ≡ p.shape → length numbers ≡ sample_count p.shape
+    → AreResiduals p c [] i numbers → residuals p c ≡ numbers
+all_residuals p c i numbers lawful shape long known =
+    sym (residuals_whole p c lawful shape) ∙ known.gone ∙ take_all i numbers (omega (arith, known.count, long))
 
 -- ---- there: the next residual is written
 
 pub written_more : (p : Params) (c : Image) (left rest : List Place) (bands : List Learner) (q : Place) (b : Learner) (numbers : List ℕ) (i number : ℕ)
-    → IsOrder p.shape p.order → c.shape ≡ p.shape → IsOnWalk p c left bands → left ≡ q ∷ rest → slice_get bands q.z ≡ Some b → AreResiduals p c left i numbers → i < length numbers
+    → IsOrder p.shape p.order → c.shape ≡ p.shape → IsOnWalk p c left bands → left ≡ q ∷ rest → slice_get bands q.z ≡ Some b → AreResiduals p c left i numbers
+    → i < length numbers
     → number ≡ mapped_residual p c b.band b.place → AreResiduals p c rest (i + 1) (set numbers i number)
 written_more p c left rest bands q b numbers i number lawful shape walk is band known lt value =
     let next = next_goes p q left rest lawful walk.rest is in
     let here = band_here p c (gone_by p left) bands q b lawful walk.known next.stands band in
     let place : b.place ≡ q.y * c.shape.columns + q.x = here.1 ∙ ap (λ (s : Sizes). q.y * s.columns + q.x) (sym shape) in
-    let there : number ≡ mapped_residual p c q.z (q.y * c.shape.columns + q.x) = value ∙ ap (λ z. mapped_residual p c z b.place) here.0.band ∙ ap (mapped_residual p c q.z) place in
+    let there : number ≡ mapped_residual p c q.z (q.y * c.shape.columns + q.x) =
+    value ∙ ap (λ z. mapped_residual p c z b.place) here.0.band ∙ ap (mapped_residual p c q.z) place in
     record {
       count = omega (arith, known.count, next.index);
       gone = ap (residuals_at p c) next.gone
@@ -49,24 +53,28 @@ written_more p c left rest bands q b numbers i number lawful shape walk is band 
     }
 
 -- numbers below a bound are so with one more
-pub below_more : (n : ℕ) (xs : List ℕ) (i x : ℕ) → i < length xs → ((k : ℕ) → k < i → slice_index xs k < n) → x < n → (k : ℕ) → k < i + 1 → slice_index (set xs i x) k < n
+pub below_more : (n : ℕ) (xs : List ℕ) (i x : ℕ) → i < length xs → ((k : ℕ) → k < i → slice_index xs k < n) → x < n → (k : ℕ) → k < i + 1
+    → slice_index (set xs i x) k < n
 below_more n [] i x some all lt k h = absurd (omega (arith, some))
 below_more n (y ∷ ys) zero x some all lt zero h = lt
 below_more n (y ∷ ys) zero x some all lt (suc k) h = absurd (omega (arith, h))
 below_more n (y ∷ ys) (suc i) x some all lt zero h = all zero (omega arith)
-below_more n (y ∷ ys) (suc i) x some all lt (suc k) h = below_more n ys i x (omega (arith, some)) (λ j g. all (suc j) (omega (arith, g))) lt k (omega (arith, h))
+below_more n (y ∷ ys) (suc i) x some all lt (suc k) h =
+    below_more n ys i x (omega (arith, some)) (λ j g. all (suc j) (omega (arith, g))) lt k (omega (arith, h))
 
 -- ---- back: the sample of the next residual is put
 
 pub read_more : (p : Params) (c : Image) (left rest : List Place) (bands : List Learner) (q : Place) (b : Learner) (numbers : List ℕ) (i : ℕ) (v : ℤ)
-    → IsLawful p → c.shape ≡ p.shape → IsOnWalk p c left bands → left ≡ q ∷ rest → slice_get bands q.z ≡ Some b → AreResiduals p c left i numbers → i < length numbers
+    → IsLawful p → c.shape ≡ p.shape → IsOnWalk p c left bands → left ≡ q ∷ rest → slice_get bands q.z ≡ Some b → AreResiduals p c left i numbers
+    → i < length numbers
     → mapped_residual p (put c q.z q.y q.x v) q.z b.place ≡ get_or numbers i 0 → AreResiduals p (put c q.z q.y q.x v) rest (i + 1) numbers
 read_more p c left rest bands q b numbers i v lawful shape walk is band known lt value =
     let next = next_goes p q left rest lawful.order walk.rest is in
     let mine = band_here p c (gone_by p left) bands q b lawful.order walk.known next.stands band in
     let place : b.place ≡ q.y * c.shape.columns + q.x = mine.1 ∙ ap (λ (s : Sizes). q.y * s.columns + q.x) (sym shape) in
     let stands : StandsAt p.shape p.order q (gone_count p left) = subst (λ (k : ℕ). StandsAt p.shape p.order q k) next.count next.stands in
-    let last : mapped_residual p (put c q.z q.y q.x v) q.z (q.y * c.shape.columns + q.x) ≡ get_or numbers i 0 = ap (mapped_residual p (put c q.z q.y q.x v) q.z) (sym place) ∙ value in
+    let last : mapped_residual p (put c q.z q.y q.x v) q.z (q.y * c.shape.columns + q.x) ≡ get_or numbers i 0 =
+    ap (mapped_residual p (put c q.z q.y q.x v) q.z) (sym place) ∙ value in
     record {
       count = omega (arith, known.count, next.index);
       gone = ap (residuals_at p (put c q.z q.y q.x v)) next.gone

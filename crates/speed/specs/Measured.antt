@@ -1,5 +1,5 @@
 -- The parameters of the measurements.
-use Rattle.std.specs.Prelude.{ℕ, Bool, true, false, pos, negsuc, if◌then◌else◌, Result, Ok}
+use Rattle.std.specs.Prelude.{ℕ, Bool, true, false, if◌then◌else◌, Result, Ok}
 use Rattle.cube_core.specs.declared.fault.Fault.{Fault}
 use Rattle.cube_core.specs.declared.order.Order.{Order}
 use Rattle.cube_core.specs.declared.order.Order.TheVariants.{Bsq}
@@ -8,9 +8,7 @@ use Rattle.cube_core.specs.Kind.{SampleKind}
 use Rattle.cube_core.specs.Steps.{◌>>◌}
 use Rattle.header_bits.specs.declared.params.Params.{Params}
 use Rattle.header_bits.specs.declared.params.Coder.{Coder}
-use Rattle.header_bits.specs.declared.params.Coder.TheVariants.{Sample}
-use Rattle.header_bits.specs.declared.params.CountStart.TheVariants.{Constant}
-use Rattle.header_bits.specs.declared.params.WeightStart.TheVariants.{Usual, Table}
+use Rattle.header_bits.specs.declared.params.WeightStart.TheVariants.{Table}
 use Rattle.header_bits.specs.Lawful.{params_fault}
 use Rattle.header_bits.specs.Plain.{plain}
 use Rattle.header_bits.specs.TableParts.{weight_count}

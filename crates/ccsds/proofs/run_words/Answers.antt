@@ -2,7 +2,8 @@ use Rattle.std.proofs.Common.{◌⊎◌, Result, Ok, Err, IfErr, inr}
 use Rattle.ccsds.proofs.run_words.Goals as goal
 
 -- what is refused by these settings is refused by some that were asked for
-refused_by : {T E S : Type 0} (r : Result T E) (Before Between : E → Type 0) (Asked : S → Type 0) (Refused : S → E → Type 0) (s : S) → Asked s → IfErr r (Refused s) → IfErr r (λ e. Before e ⊎ (Between e ⊎ ((x : S) × Asked x × Refused x e)))
+refused_by : {T E S : Type 0} (r : Result T E) (Before Between : E → Type 0) (Asked : S → Type 0) (Refused : S → E → Type 0) (s : S) → Asked s
+    → IfErr r (Refused s) → IfErr r (λ e. Before e ⊎ (Between e ⊎ ((x : S) × Asked x × Refused x e)))
 refused_by (Ok v) Before Between Asked Refused s asked h = tt
 refused_by (Err e) Before Between Asked Refused s asked h = inr (inr (s, asked, h))
 

@@ -32,7 +32,8 @@ returns-in-Compress-2-clause-done g c = rw c.in-Compress-2.is c.run_piped.ensure
 
 pub returns-in-Compress-2-clause-refused : goal.returns-in-Compress-2-clause-refused
 unfolding IsPipedFault
-returns-in-Compress-2-clause-refused g c = rw c.in-Compress-2.is (with_some _ _ _ _ c.run_piped.result (ap predictors (sym c.in-Compress.is ∙ c.in-Compress-2.is)) c.if-settings-eq0.false c.run_piped.ensures.refused)
+returns-in-Compress-2-clause-refused g c = rw c.in-Compress-2.is
+    (with_some _ _ _ _ c.run_piped.result (ap predictors (sym c.in-Compress.is ∙ c.in-Compress-2.is)) c.if-settings-eq0.false c.run_piped.ensures.refused)
 
 pub returns-in-Expand-clause-done : goal.returns-in-Expand-clause-done
 returns-in-Expand-clause-done g c = rw c.in-Expand.is c.run_expand.ensures.expanded

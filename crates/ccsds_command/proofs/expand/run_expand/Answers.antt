@@ -9,13 +9,15 @@ use Rattle.ccsds_command.proofs.expand.run_expand.Goals as goal
 pub returns-clause-expanded : goal.returns-clause-expanded
 unfolding Expands
 returns-clause-expanded g c =
-    gained c.write_all.result (HasRaw c.args.layout.now (g.S.Source.left c.args.source.now)) (Took (g.K.Sink.taken c.args.sink.now) (g.K.Sink.taken c.write_all.new.sink)) c.in_ok-raw.raw.items c.in_ok-raw.ensures.raw (rw c.deref.ensures.value at c.write_all.ensures.whole)
+    gained c.write_all.result (HasRaw c.args.layout.now (g.S.Source.left c.args.source.now)) (Took (g.K.Sink.taken c.args.sink.now)
+    (g.K.Sink.taken c.write_all.new.sink)) c.in_ok-raw.raw.items c.in_ok-raw.ensures.raw (rw c.deref.ensures.value at c.write_all.ensures.whole)
 
 pub returns-clause-refused : goal.returns-clause-refused
 unfolding IsExpandFault
 returns-clause-refused g c =
     cut_short c.write_all.result _ (HasRaw c.args.layout.now (g.S.Source.left c.args.source.now))
-    (IsCutShort (g.K.Sink.taken c.args.sink.now) (g.K.Sink.taken c.write_all.new.sink) (g.K.Sink.failures c.args.sink.now) (g.K.Sink.failures c.write_all.new.sink) (g.K.Sink.stalls c.args.sink.now) (g.K.Sink.stalls c.write_all.new.sink))
+    (IsCutShort (g.K.Sink.taken c.args.sink.now) (g.K.Sink.taken c.write_all.new.sink) (g.K.Sink.failures c.args.sink.now)
+    (g.K.Sink.failures c.write_all.new.sink) (g.K.Sink.stalls c.args.sink.now) (g.K.Sink.stalls c.write_all.new.sink))
     c.in_ok-raw.raw.items c.in_ok-raw.ensures.raw (rw c.deref.ensures.value at c.write_all.ensures.cut)
 
 pub returns-in_err-raw-clause-refused : goal.returns-in_err-raw-clause-refused

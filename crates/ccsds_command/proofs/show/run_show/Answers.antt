@@ -15,5 +15,6 @@ pub returns-clause-refused : goal.returns-clause-refused
 unfolding IsShowFault
 returns-clause-refused g c =
     cut_short c.write_all.result _ (IsShown (g.S.Source.left c.args.source.now))
-    (IsCutShort (g.K.Sink.taken c.args.sink.now) (g.K.Sink.taken c.write_all.new.sink) (g.K.Sink.failures c.args.sink.now) (g.K.Sink.failures c.write_all.new.sink) (g.K.Sink.stalls c.args.sink.now) (g.K.Sink.stalls c.write_all.new.sink))
+    (IsCutShort (g.K.Sink.taken c.args.sink.now) (g.K.Sink.taken c.write_all.new.sink) (g.K.Sink.failures c.args.sink.now)
+    (g.K.Sink.failures c.write_all.new.sink) (g.K.Sink.stalls c.args.sink.now) (g.K.Sink.stalls c.write_all.new.sink))
     c.in_ok-text.text.items c.in_ok-text.ensures.shown (rw c.deref.ensures.value at c.write_all.ensures.cut)

@@ -14,5 +14,6 @@ returns-in-Err-clause-refused c =
     elim c.in-Err.ensures.refused [
       | inl h ↦ absurd (c.in-Err.ensures.length.0 (ap (λ (f : Fault). Err f) h) (omega (arith, c.if-raw-sample_count.false, c.sample_count.ensures.value)))
       | inr (inl h) ↦ inl h
-      | inr (inr h) ↦ absurd (bytes_are_samples c.args.raw.now c.in-Err.fault (λ i. omega (arith, c.type_inv.raw i)) (subst (λ (k : SampleKind). IsBadSample k shown_layout c.args.raw.now c.in-Err.fault) (eight c.unwrap-kind.result (sym c.unwrap-kind.ensures ∙ c.new.ensures.value)) h))
+      | inr (inr h) ↦ absurd (bytes_are_samples c.args.raw.now c.in-Err.fault (λ i. omega (arith, c.type_inv.raw i)) (subst (λ (k : SampleKind).
+          IsBadSample k shown_layout c.args.raw.now c.in-Err.fault) (eight c.unwrap-kind.result (sym c.unwrap-kind.ensures ∙ c.new.ensures.value)) h))
     ]

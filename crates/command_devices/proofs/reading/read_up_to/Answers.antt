@@ -9,11 +9,14 @@ pub loop-had-preserved : goal.loop-had-preserved
 loop-had-preserved g c =
     let had : ℕ = c.loop-had.had in
     let kept : take had c.if-had-len.bytes.items ≡ take had c.loop-had.bytes.items = elim c.if-had-len.branch [
-      | then-had-len+in_ok-grow w ↦ rw w.bytes-is (front_kept had c.loop-had.bytes.items _ (omega (arith, c.loop-had.invariant.within)) w.in_ok-grow.ensures.kept)
+      | then-had-len+in_ok-grow w ↦ rw w.bytes-is
+          (front_kept had c.loop-had.bytes.items _ (omega (arith, c.loop-had.invariant.within)) w.in_ok-grow.ensures.kept)
       | else-had-len w ↦ rw w.bytes-is refl
     ] in
-    let whole : (with_items c.if-had-len.bytes c.read_behind.new.bytes).items ≡ c.read_behind.new.bytes = with_items_is c.if-had-len.bytes c.read_behind.new.bytes (omega (arith, c.read_behind.auto.bytes, c.deref_mut.ensures.len)) in
-    let before : take had c.read_behind.new.bytes ≡ take had c.loop-had.bytes.items = c.in-Ok.ensures.kept ∙ ap (λ (x : List ℕ). take had x) c.deref_mut.ensures.value ∙ kept in
+    let whole : (with_items c.if-had-len.bytes c.read_behind.new.bytes).items ≡ c.read_behind.new.bytes =
+    with_items_is c.if-had-len.bytes c.read_behind.new.bytes (omega (arith, c.read_behind.auto.bytes, c.deref_mut.ensures.len)) in
+    let before : take had c.read_behind.new.bytes ≡ take had c.loop-had.bytes.items =
+    c.in-Ok.ensures.kept ∙ ap (λ (x : List ℕ). take had x) c.deref_mut.ensures.value ∙ kept in
     let more : take (had + c.in-Ok.n) c.read_behind.new.bytes ≡ take had c.loop-had.bytes.items ++ drop had (take (had + c.in-Ok.n) c.read_behind.new.bytes) =
     read_more had c.in-Ok.n c.loop-had.bytes.items c.read_behind.new.bytes (omega (arith, c.read_behind.auto.bytes, c.in-Ok.ensures.within)) before in
     record {

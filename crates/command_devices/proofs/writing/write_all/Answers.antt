@@ -6,7 +6,8 @@ use Rattle.command_devices.proofs.writing.write_all.Goals.{In-Ok}
 pub loop-written-preserved : goal.loop-written-preserved
 loop-written-preserved g c =
     let rest = rest_is c.loop-written.written c.args.bytes.now in
-    let took = took_more _ _ _ (take c.loop-written.written c.args.bytes.now) (take c.in-Ok.n (drop c.loop-written.written c.args.bytes.now)) c.loop-written.invariant.took (rw rest at c.in-Ok.ensures.took) in
+    let took = took_more _ _ _ (take c.loop-written.written c.args.bytes.now)
+    (take c.in-Ok.n (drop c.loop-written.written c.args.bytes.now)) c.loop-written.invariant.took (rw rest at c.in-Ok.ensures.took) in
     let within : c.in-Ok.n ≤ length (drop c.loop-written.written c.args.bytes.now) = rw rest at c.in-Ok.ensures.within in
     record {
       within = omega (arith, within, length-drop c.loop-written.written c.args.bytes.now);
@@ -20,10 +21,16 @@ returns-in_default-clause-cut g c =
     let none : c.in-Ok.n ≡ 0 = omega (arith, c.if-n-gt0.false) in
     let rest = rest_is c.loop-written.written c.args.bytes.now in
     let took = took_more _ _ _ (take c.loop-written.written c.args.bytes.now) [] c.loop-written.invariant.took (rw none at c.in-Ok.ensures.took) in
-    let rises = stall_rises c.in-Ok.n _ _ _ (omega arith) (omega (arith, length-drop c.loop-written.written c.args.bytes.now, ap (λ (x : List ℕ). length x) rest)) c.in-Ok.ensures.stalled in
+    let rises = stall_rises c.in-Ok.n _ _ _ (omega arith)
+    (omega (arith, length-drop c.loop-written.written c.args.bytes.now, ap (λ (x : List ℕ). length x) rest)) c.in-Ok.ensures.stalled in
     (c.loop-written.written, refl, omega arith, rw append-nil at took, inr (rises_is_rose _ _ (rw c.loop-written.invariant.stalls at rises)))
 
 pub returns-in_default-2-clause-cut : goal.returns-in_default-2-clause-cut
 returns-in_default-2-clause-cut g c =
-    let took = took_more _ _ _ (take c.loop-written.written c.args.bytes.now) [] c.loop-written.invariant.took c.in_default.ensures.same in
-    (c.loop-written.written, refl, omega arith, rw append-nil at took, inl (rises_is_rose _ _ (rw c.loop-written.invariant.failures at c.in_default.ensures.failed.0)))
+    let took = took_more _ _ _ (take c.loop-written.written c.args.bytes.now) [] c.loop-written.invariant.took c.in_default.ensures.same in (
+      c.loop-written.written,
+      refl,
+      omega arith,
+      rw append-nil at took,
+      inl (rises_is_rose _ _ (rw c.loop-written.invariant.failures at c.in_default.ensures.failed.0)),
+    )

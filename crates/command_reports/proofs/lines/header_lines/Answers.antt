@@ -6,4 +6,6 @@ pub returns-clause-lines : goal.returns-clause-lines
 unfolding lines_of
 returns-clause-lines c =
     let header = c.in_ok-put_line.ensures.line (decimal c.args.size) refl in
-    rw c.into_bytes.ensures.value (rw (header, c.in_ok-put_coder.ensures.lines, c.in_ok-put_predictor.ensures.lines, c.in_ok-put_image.ensures.lines, c.new-text.ensures.bytes) (simp append_assoc))
+    rw c.into_bytes.ensures.value
+    (rw (header, c.in_ok-put_coder.ensures.lines, c.in_ok-put_predictor.ensures.lines, c.in_ok-put_image.ensures.lines, c.new-text.ensures.bytes)
+    (simp append_assoc))

@@ -19,7 +19,23 @@ returns-clause-lines c =
     let bands = named (codes "bands") (decimal c.bands.result) _ _ c.in_ok-put_number-4.ensures.line in
     let sample = named (codes "sample") (choice c.is_signed.result (codes "signed") (codes "unsigned")) _ _ c.in_ok-put_flag.ensures.line in
     let bits = named (codes "bits") (decimal c.bits.result) _ _ c.in_ok-put_number-5.ensures.line in
-    let order = named (codes "order") (order_text p.order) _ _ (c.in_ok-put_line.ensures.line (order_text p.order) (shown _ _ c.in_ok-order_text.ensures.text)) in
+    let order =
+    named (codes "order") (order_text p.order) _ _ (c.in_ok-put_line.ensures.line (order_text p.order) (shown _ _ c.in_ok-order_text.ensures.text)) in
     let word = named (codes "word") (decimal p.word) _ _ c.in_ok-put_number-6.ensures.line in
     let coder = named (codes "coder") (coder_text p.coder) _ _ (c.in_ok-put_line-2.ensures.line (coder_text p.coder) (shown _ _ c.coder_text.ensures)) in
-    rw (coder, word, order, bits, c.bits.ensures.value, sample, c.is_signed.ensures, bands, c.bands.ensures.value, rows, c.rows.ensures.value, columns, c.columns.ensures.value, user) (simp append_assoc)
+    rw (
+      coder,
+      word,
+      order,
+      bits,
+      c.bits.ensures.value,
+      sample,
+      c.is_signed.ensures,
+      bands,
+      c.bands.ensures.value,
+      rows,
+      c.rows.ensures.value,
+      columns,
+      c.columns.ensures.value,
+      user,
+    ) (simp append_assoc)

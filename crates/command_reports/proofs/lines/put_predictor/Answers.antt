@@ -23,7 +23,9 @@ returns-clause-lines c =
     let interval = named (codes "interval") (decimal c.interval.result) _ _ c.in_ok-put_number-4.ensures.line in
     let least : SFits w32 p.vmin = omega (arith, ints, c.requires.vmin) in
     let greatest : SFits w32 p.vmax = omega (arith, ints, c.requires.vmax) in
-    let vmin = named (codes "vmin") (signed_decimal p.vmin) _ _ (c.in_ok-put_line.ensures.line (signed_decimal p.vmin) (shown _ _ (simp (to_z-of_z least) at c.in_ok-signed_text.ensures.text))) in
-    let vmax = named (codes "vmax") (signed_decimal p.vmax) _ _ (c.in_ok-put_line-2.ensures.line (signed_decimal p.vmax) (shown _ _ (simp (to_z-of_z greatest) at c.in_ok-signed_text-2.ensures.text))) in
+    let vmin = named (codes "vmin") (signed_decimal p.vmin) _ _
+    (c.in_ok-put_line.ensures.line (signed_decimal p.vmin) (shown _ _ (simp (to_z-of_z least) at c.in_ok-signed_text.ensures.text))) in
+    let vmax = named (codes "vmax") (signed_decimal p.vmax) _ _
+    (c.in_ok-put_line-2.ensures.line (signed_decimal p.vmax) (shown _ _ (simp (to_z-of_z greatest) at c.in_ok-signed_text-2.ensures.text))) in
     let start = named (codes "start") (start_text p.start) _ _ (c.in_ok-put_line-3.ensures.line (start_text p.start) (shown _ _ c.in_ok-start.ensures.text)) in
     rw (start, vmax, vmin, interval, c.interval.ensures, omega_line, register, sums, mode, previous) (simp append_assoc)

@@ -5,10 +5,12 @@ use Rattle.command_words.proofs.command_line.texts_of.Goals as goal
 
 -- one word more, on both sides
 push_word : (told : List (Bor (List ℕ))) (word : Bor (List ℕ)) (words : List (String Global)) (i : ℕ) (item : String Global)
-    → texts told ≡ map string_bytes (take i words) → map string_bytes (take (i + 1) words) ≡ map string_bytes (take i words) ++ string_bytes (get_or words i item) ∷ []
+    → texts told ≡ map string_bytes (take i words)
+    → map string_bytes (take (i + 1) words) ≡ map string_bytes (take i words) ++ string_bytes (get_or words i item) ∷ []
     → item ≡ get_or words i item → word.now ≡ string_bytes item → texts (told ++ word ∷ []) ≡ map string_bytes (take (i + 1) words)
 push_word told word words i item e more is same =
-    map_push (λ w. w.now) told word ∙ ap (λ l. l ++ word.now ∷ []) e ∙ ap (λ b. map string_bytes (take i words) ++ b ∷ []) (same ∙ ap string_bytes is) ∙ sym more
+    map_push (λ w. w.now) told word ∙ ap (λ l. l ++ word.now ∷ []) e
+    ∙ ap (λ b. map string_bytes (take i words) ++ b ∷ []) (same ∙ ap string_bytes is) ∙ sym more
 
 pub loop-word-preserved : goal.loop-word-preserved
 loop-word-preserved c =

@@ -9,4 +9,5 @@ returns-in_err-size-clause-refused c =
 
 pub returns-in_err-number-clause-refused : goal.returns-in_err-number-clause-refused
 returns-in_err-number-clause-refused c =
-    passed _ _ _ c.from_residual-in_err-number.ensures.1 (c.in_err-number.ensures.refused.0, no_reference (rows_of (found_of c.args.matches.now)) c.in_err-number.ensures.refused.1)
+    passed _ _ _ c.from_residual-in_err-number.ensures.1
+    (c.in_err-number.ensures.refused.0, no_reference (rows_of (found_of c.args.matches.now)) c.in_err-number.ensures.refused.1)

@@ -15,7 +15,8 @@ pub returns-in_err-matches-clause-refused : goal.returns-in_err-matches-clause-r
 returns-in_err-matches-clause-refused c =
     let app = c.in_ok-expand_command.ensures in
     passed_for _ _ _ _ c.from_residual-in_err-matches.ensures.1
-    (λ untaken. expand_none (texts c.args.words.now) c.requires (λ l from to taken asked range. untaken (ap is_simple_and_free app ∙ expand_is_free) (subst (λ a. AreTaken a (texts c.args.words.now)) (sym app) taken)))
+    (λ untaken. expand_none (texts c.args.words.now) c.requires (λ l from to taken asked range.
+    untaken (ap is_simple_and_free app ∙ expand_is_free) (subst (λ a. AreTaken a (texts c.args.words.now)) (sym app) taken)))
     c.in_err-matches.ensures.refused
 
 rows : (c : In_ok-matches) → rows_of (found_of c.in_ok-matches.matches) ≡ matches_of expand_app (texts c.args.words.now)
@@ -27,7 +28,10 @@ pub returns-in_err-layout-clause-refused : goal.returns-in_err-layout-clause-ref
 returns-in_err-layout-clause-refused c =
     let found = rows (goal.at.returns-in_err-layout-clause-refused c).In_ok-matches in
     passed _ _ _ c.from_residual-in_err-layout.ensures.1
-    (inl (c.in_err-layout.ensures.refused.0, expand_none (texts c.args.words.now) c.requires (λ l from to taken asked range. c.in_err-layout.ensures.refused.1 l (rw found asked.0) range.0)))
+    (inl (
+      c.in_err-layout.ensures.refused.0,
+      expand_none (texts c.args.words.now) c.requires (λ l from to taken asked range. c.in_err-layout.ensures.refused.1 l (rw found asked.0) range.0),
+    ))
 
 pub returns-in_err-from-clause-refused : goal.returns-in_err-from-clause-refused
 returns-in_err-from-clause-refused c =

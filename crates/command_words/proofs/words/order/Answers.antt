@@ -4,4 +4,5 @@ use Rattle.command_words.proofs.Refused.{passed, no_order}
 use Rattle.command_words.proofs.words.order.Goals as goal
 
 pub returns-in_err-depth-clause-refused : goal.returns-in_err-depth-clause-refused
-returns-in_err-depth-clause-refused c = passed _ _ _ c.from_residual.ensures.1 (c.in_err-depth.ensures.refused.0, no_order (rows_of (found_of c.args.matches.now)) c.in_err-depth.ensures.refused.1)
+returns-in_err-depth-clause-refused c =
+    passed _ _ _ c.from_residual.ensures.1 (c.in_err-depth.ensures.refused.0, no_order (rows_of (found_of c.args.matches.now)) c.in_err-depth.ensures.refused.1)

@@ -8,40 +8,52 @@ use Rattle.command_words.proofs.Refused.{passed}
 use Rattle.command_words.proofs.words.params.Goals as goal
 
 pub returns-in_err-shape-clause-refused : goal.returns-in_err-shape-clause-refused
-returns-in_err-shape-clause-refused c = passed _ _ _ c.from_residual.ensures.1 (c.in_err-shape.ensures.refused.0, λ p of ranges. c.in_err-shape.ensures.refused.1 p.shape of.shape ranges.sizes)
+returns-in_err-shape-clause-refused c =
+    passed _ _ _ c.from_residual.ensures.1 (c.in_err-shape.ensures.refused.0, λ p of ranges. c.in_err-shape.ensures.refused.1 p.shape of.shape ranges.sizes)
 
 pub returns-in_err-kind-clause-refused : goal.returns-in_err-kind-clause-refused
-returns-in_err-kind-clause-refused c = passed _ _ _ c.from_residual-in_err-kind.ensures.1 (c.in_err-kind.ensures.refused.0, λ p of ranges. c.in_err-kind.ensures.refused.1 p.kind of.kind ranges.kind)
+returns-in_err-kind-clause-refused c = passed _ _ _ c.from_residual-in_err-kind.ensures.1
+    (c.in_err-kind.ensures.refused.0, λ p of ranges. c.in_err-kind.ensures.refused.1 p.kind of.kind ranges.kind)
 
 pub returns-in_err-order-clause-refused : goal.returns-in_err-order-clause-refused
-returns-in_err-order-clause-refused c = passed _ _ _ c.from_residual-in_err-order.ensures.1 (c.in_err-order.ensures.refused.0, λ p of ranges. c.in_err-order.ensures.refused.1 p.order of.order ranges.depth)
+returns-in_err-order-clause-refused c = passed _ _ _ c.from_residual-in_err-order.ensures.1
+    (c.in_err-order.ensures.refused.0, λ p of ranges. c.in_err-order.ensures.refused.1 p.order of.order ranges.depth)
 
 pub returns-in_err-number-clause-refused : goal.returns-in_err-number-clause-refused
-returns-in_err-number-clause-refused c = passed _ _ _ c.from_residual-in_err-number.ensures.1 (c.in_err-number.ensures.refused.0, λ p of ranges. c.in_err-number.ensures.refused.1 p.user of.user (omega arith, ranges.user))
+returns-in_err-number-clause-refused c = passed _ _ _ c.from_residual-in_err-number.ensures.1
+    (c.in_err-number.ensures.refused.0, λ p of ranges. c.in_err-number.ensures.refused.1 p.user of.user (omega arith, ranges.user))
 
 pub returns-in_err-number-2-clause-refused : goal.returns-in_err-number-2-clause-refused
-returns-in_err-number-2-clause-refused c = passed _ _ _ c.from_residual-in_err-number-2.ensures.1 (c.in_err-number-2.ensures.refused.0, λ p of ranges. c.in_err-number-2.ensures.refused.1 p.word of.word ranges.word)
+returns-in_err-number-2-clause-refused c = passed _ _ _ c.from_residual-in_err-number-2.ensures.1
+    (c.in_err-number-2.ensures.refused.0, λ p of ranges. c.in_err-number-2.ensures.refused.1 p.word of.word ranges.word)
 
 pub returns-in_err-number-3-clause-refused : goal.returns-in_err-number-3-clause-refused
-returns-in_err-number-3-clause-refused c = passed _ _ _ c.from_residual-in_err-number-3.ensures.1 (c.in_err-number-3.ensures.refused.0, λ p of ranges. c.in_err-number-3.ensures.refused.1 p.previous of.previous (omega arith, ranges.previous))
+returns-in_err-number-3-clause-refused c = passed _ _ _ c.from_residual-in_err-number-3.ensures.1
+    (c.in_err-number-3.ensures.refused.0, λ p of ranges. c.in_err-number-3.ensures.refused.1 p.previous of.previous (omega arith, ranges.previous))
 
 pub returns-in_err-number-4-clause-refused : goal.returns-in_err-number-4-clause-refused
-returns-in_err-number-4-clause-refused c = passed _ _ _ c.from_residual-in_err-number-4.ensures.1 (c.in_err-number-4.ensures.refused.0, λ p of ranges. c.in_err-number-4.ensures.refused.1 p.register of.register ranges.register)
+returns-in_err-number-4-clause-refused c = passed _ _ _ c.from_residual-in_err-number-4.ensures.1
+    (c.in_err-number-4.ensures.refused.0, λ p of ranges. c.in_err-number-4.ensures.refused.1 p.register of.register ranges.register)
 
 pub returns-in_err-number-5-clause-refused : goal.returns-in_err-number-5-clause-refused
-returns-in_err-number-5-clause-refused c = passed _ _ _ c.from_residual-in_err-number-5.ensures.1 (c.in_err-number-5.ensures.refused.0, λ p of ranges. c.in_err-number-5.ensures.refused.1 p.omega of.omega ranges.omega)
+returns-in_err-number-5-clause-refused c = passed _ _ _ c.from_residual-in_err-number-5.ensures.1
+    (c.in_err-number-5.ensures.refused.0, λ p of ranges. c.in_err-number-5.ensures.refused.1 p.omega of.omega ranges.omega)
 
 pub returns-in_err-number_in-clause-refused : goal.returns-in_err-number_in-clause-refused
-returns-in_err-number_in-clause-refused c = passed _ _ _ c.from_residual-in_err-number_in.ensures.1 (c.in_err-number_in.ensures.refused.0, λ p of ranges. c.in_err-number_in.ensures.refused.1 p.interval_log of.interval ranges.interval)
+returns-in_err-number_in-clause-refused c = passed _ _ _ c.from_residual-in_err-number_in.ensures.1
+    (c.in_err-number_in.ensures.refused.0, λ p of ranges. c.in_err-number_in.ensures.refused.1 p.interval_log of.interval ranges.interval)
 
 pub returns-in_err-exponent-clause-refused : goal.returns-in_err-exponent-clause-refused
-returns-in_err-exponent-clause-refused c = passed _ _ _ c.from_residual-in_err-exponent.ensures.1 (c.in_err-exponent.ensures.refused.0, λ p of ranges. c.in_err-exponent.ensures.refused.1 p.vmin of.vmin ranges.vmin)
+returns-in_err-exponent-clause-refused c = passed _ _ _ c.from_residual-in_err-exponent.ensures.1
+    (c.in_err-exponent.ensures.refused.0, λ p of ranges. c.in_err-exponent.ensures.refused.1 p.vmin of.vmin ranges.vmin)
 
 pub returns-in_err-exponent-2-clause-refused : goal.returns-in_err-exponent-2-clause-refused
-returns-in_err-exponent-2-clause-refused c = passed _ _ _ c.from_residual-in_err-exponent-2.ensures.1 (c.in_err-exponent-2.ensures.refused.0, λ p of ranges. c.in_err-exponent-2.ensures.refused.1 p.vmax of.vmax ranges.vmax)
+returns-in_err-exponent-2-clause-refused c = passed _ _ _ c.from_residual-in_err-exponent-2.ensures.1
+    (c.in_err-exponent-2.ensures.refused.0, λ p of ranges. c.in_err-exponent-2.ensures.refused.1 p.vmax of.vmax ranges.vmax)
 
 pub returns-in_err-coder-clause-refused : goal.returns-in_err-coder-clause-refused
-returns-in_err-coder-clause-refused c = passed _ _ _ c.from_residual-in_err-coder.ensures.1 (c.in_err-coder.ensures.refused.0, λ p of ranges. c.in_err-coder.ensures.refused.1 p.coder of.coder)
+returns-in_err-coder-clause-refused c =
+    passed _ _ _ c.from_residual-in_err-coder.ensures.1 (c.in_err-coder.ensures.refused.0, λ p of ranges. c.in_err-coder.ensures.refused.1 p.coder of.coder)
 
 -- an exponent is kept as a word of 32 bits
 as_word : (rows : List Row) (name : Text) (v : ℤ) → IsExponent v → HasExponent rows name v → HasExponent rows name (to_z w32 (of_z w32 v))
@@ -62,7 +74,9 @@ returns-clause-read c = record {
   register = c.in_ok-number-4.ensures.read;
   omega = c.in_ok-number-5.ensures.read;
   interval = c.in_ok-number_in.ensures.read;
-  vmin = as_word (rows_of (found_of c.args.matches.now)) (codes "vmin-code") c.in_ok-exponent.field-0 c.in_ok-exponent.ensures.range c.in_ok-exponent.ensures.read;
-  vmax = as_word (rows_of (found_of c.args.matches.now)) (codes "vmax-code") c.in_ok-exponent-2.field-0 c.in_ok-exponent-2.ensures.range c.in_ok-exponent-2.ensures.read;
+  vmin =
+      as_word (rows_of (found_of c.args.matches.now)) (codes "vmin-code") c.in_ok-exponent.field-0 c.in_ok-exponent.ensures.range c.in_ok-exponent.ensures.read;
+  vmax = as_word (rows_of (found_of c.args.matches.now))
+      (codes "vmax-code") c.in_ok-exponent-2.field-0 c.in_ok-exponent-2.ensures.range c.in_ok-exponent-2.ensures.read;
   coder = c.in_ok-coder.ensures.read;
 }

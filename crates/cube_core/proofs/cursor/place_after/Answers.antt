@@ -15,4 +15,4 @@ returns-else-y-rows-clause-place c =
     record { band = band_follows c.args.shape c.args.place last lowest c.requires.more; row = omega arith; column = omega arith }
 
 pub returns-else-y-rows-clause-next : goal.returns-else-y-rows-clause-next
-returns-else-y-rows-clause-next c = next_band c.args.shape c.args.place (omega (arith, c.columns.ensures.value, c.requires.place.column)) (omega (arith, c.rows.ensures.value, c.requires.place.row))
+returns-else-y-rows-clause-next c = next_band _ _ (omega arith) (omega arith)

@@ -2,7 +2,9 @@ use Rattle.cube_core.proofs.Orders.{item_from_index}
 use Rattle.cube_core.proofs.order.place_at.Goals as goal
 
 pub returns-in-Bsq-clause-item : goal.returns-in-Bsq-clause-item
-returns-in-Bsq-clause-item c = item_from_index c.args.shape.now c.args.order c.sequential_place.result c.args.i c.requires.order c.sequential_place.ensures.place (rw c.in-Bsq.is c.sequential_place.ensures.index) c.requires.within
+returns-in-Bsq-clause-item c =
+    item_from_index _ _ _ _ c.requires.order c.sequential_place.ensures.place (rw c.in-Bsq.is c.sequential_place.ensures.index) c.requires.within
 
 pub returns-in-Bi-clause-item : goal.returns-in-Bi-clause-item
-returns-in-Bi-clause-item c = item_from_index c.args.shape.now c.args.order c.interleaved_place.result c.args.i c.requires.order c.interleaved_place.ensures.place (rw c.in-Bi.is c.interleaved_place.ensures.index) c.requires.within
+returns-in-Bi-clause-item c =
+    item_from_index _ _ _ _ c.requires.order c.interleaved_place.ensures.place (rw c.in-Bi.is c.interleaved_place.ensures.index) c.requires.within

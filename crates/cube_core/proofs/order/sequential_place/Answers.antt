@@ -5,4 +5,4 @@ use Rattle.cube_core.proofs.order.sequential_place.Goals as goal
 pub returns-clause-index : goal.returns-clause-index
 returns-clause-index c =
     rw (c.from-columns.ensures ∙ c.columns.ensures.value, c.from-rows.ensures ∙ c.rows.ensures.value)
-    (sequential_place_is c.args.shape c.args.i (omega (arith, c.columns.ensures.value, c.columns.ensures.range)) (omega (arith, c.rows.ensures.value, c.rows.ensures.range)) c.requires).index
+    (sequential_place_is _ _ (omega arith) (omega arith) c.requires).index

@@ -11,8 +11,10 @@ record Found (k : SampleKind) (l : Layout) (width offset rebased number : ℕ) :
   fits : (rebased < 2 ^ (8 * width)) ↔ HasBytes k l (sample_of k offset)
   code : rebased < 2 ^ (8 * width) → raw_code l.bytes (sample_of k offset) ≡ number
 
-found : (k : SampleKind) (l : Layout) (bytes width offset rebased number : ℕ) → bytes ≡ width → l.bytes ≡ width → (rebased < 2 ^ (8 * bytes)) ↔ IsSample (record { signed = k.signed; bits = 8 * bytes }) (sample_of k offset)
-    → (rebased < 2 ^ (8 * bytes) → raw_code bytes (sample_of k offset) ≡ number_of_rebased k.signed bytes rebased) → number ≡ number_of_rebased k.signed width rebased → Found k l width offset rebased number
+found : (k : SampleKind) (l : Layout) (bytes width offset rebased number : ℕ) → bytes ≡ width → l.bytes ≡ width
+    → (rebased < 2 ^ (8 * bytes)) ↔ IsSample (record { signed = k.signed; bits = 8 * bytes }) (sample_of k offset)
+    → (rebased < 2 ^ (8 * bytes) → raw_code bytes (sample_of k offset) ≡ number_of_rebased k.signed bytes rebased)
+    → number ≡ number_of_rebased k.signed width rebased → Found k l width offset rebased number
 found k l bytes width offset rebased number e f fits code n = record { fits = rw f (rw e at fits); code = λ lt. rw (f, n) (rw e at code lt) }
 
 pub loop-x-preserved : goal.loop-x-preserved
@@ -22,11 +24,15 @@ loop-x-preserved g c =
     let hs = c.args.offsets.now in
     let p = c.args.piece in
     let x = c.loop-x.x in
-    let f = found k l c.args.scale.now.bytes g.row.BYTES (get_or hs (p.at + x) 0) c.rebased-rebased.result c.number-number.result c.requires.scale c.requires.form c.rebased-rebased.ensures.fits c.rebased-rebased.ensures.code c.number-number.ensures.value in
-    let here : SpellOffset c.args.scale.now.kind c.args.layout (get_or c.args.offsets.now (c.args.piece.at + c.loop-x.x) 0) (bytes_at c.args.layout c.put_number.new.bytes (c.args.piece.first + c.loop-x.x * c.args.piece.step)) = λ h. c.put_number.ensures.there _ (f.code (f.fits.1 h)) in
+    let f = found k l _ g.row.BYTES (get_or hs (p.at + x) 0) _ _ c.requires.scale c.requires.form c.rebased-rebased.ensures.fits c.rebased-rebased.ensures.code
+    c.number-number.ensures.value in
+    let here : SpellOffset c.args.scale.now.kind c.args.layout (get_or c.args.offsets.now (c.args.piece.at + c.loop-x.x) 0)
+    (bytes_at c.args.layout c.put_number.new.bytes (c.args.piece.first + c.loop-x.x * c.args.piece.step)) =
+    λ h. c.put_number.ensures.there _ (f.code (f.fits.1 h)) in
     record {
-      given = given_more k l hs c.loop-x.bytes c.put_number.new.bytes p.at p.first p.step x c.requires.apart here c.put_number.ensures.others c.loop-x.invariant.given;
+      given = given_more k l hs _ _ p.at p.first p.step x c.requires.apart here c.put_number.ensures.others c.loop-x.invariant.given;
       others = others_more l c.args.bytes.now c.loop-x.bytes c.put_number.new.bytes p.first p.step x c.put_number.ensures.others c.loop-x.invariant.others;
-      greatest = λ small. each_more (λ j. HasBytes k l (sample_of k (get_or hs (p.at + j) 0))) x (f.fits.0 (omega arith)) (c.loop-x.invariant.greatest (omega arith));
+      greatest =
+          λ small. each_more (λ j. HasBytes k l (sample_of k (get_or hs (p.at + j) 0))) x (f.fits.0 (omega arith)) (c.loop-x.invariant.greatest (omega arith));
       reached = λ all. omega (arith, f.fits.1 (all x (omega arith)), c.loop-x.invariant.reached (λ j lt. all j (omega arith)));
     }

@@ -27,28 +27,32 @@ pub returns-then-this-ne0-clause-there : goal.returns-then-this-ne0-clause-there
 returns-then-this-ne0-clause-there g c =
     let two = two_wide _ _ c.requires.form c.requires.width c.if-this-eq1.false in
     let fits = room c.args.i _ _ (length c.args.bytes.now) c.requires.form two c.requires.there in
-    let long : length c.write_u16.new.buf ≡ 2 = ap length c.write_u16.ensures ∙ ap (λ (xs : List ℕ). suc (suc (length xs))) (no_more c.args.bytes.now (2 * c.args.i) fits) in
+    let long : length c.write_u16.new.buf ≡ 2 = ap length c.write_u16.ensures ∙ ap (λ (xs : List ℕ). suc (suc (length xs))) (no_more _ (2 * c.args.i) fits) in
     let end : c.args.layout.little ≡ true = c.requires.end (sym c.requires.form ∙ two) ∙ ap not (ne_eqb _ _ c.if-this-ne0.true) in
-    λ v code. rw two (pair_put c.args.bytes.now c.write_u16.new.buf c.args.i _ fits long) ∙ c.write_u16.ensures ∙ rw (no_more c.args.bytes.now (2 * c.args.i) fits) (little_first c.args.layout v c.args.number two end (sym code) (omega arith))
+    λ v code. rw two (pair_put _ _ _ _ fits long) ∙ c.write_u16.ensures
+    ∙ rw (no_more c.args.bytes.now (2 * c.args.i) fits) (little_first _ v _ two end (sym code) (omega arith))
 
 pub returns-then-this-ne0-clause-others : goal.returns-then-this-ne0-clause-others
 returns-then-this-ne0-clause-others g c =
     let two = two_wide _ _ c.requires.form c.requires.width c.if-this-eq1.false in
     let fits = room c.args.i _ _ (length c.args.bytes.now) c.requires.form two c.requires.there in
-    let long : length c.write_u16.new.buf ≡ 2 = ap length c.write_u16.ensures ∙ ap (λ (xs : List ℕ). suc (suc (length xs))) (no_more c.args.bytes.now (2 * c.args.i) fits) in
+    let long : length c.write_u16.new.buf ≡ 2 = ap length c.write_u16.ensures ∙ ap (λ (xs : List ℕ). suc (suc (length xs))) (no_more _ (2 * c.args.i) fits) in
     λ j other. rw two (pair_kept c.args.bytes.now c.write_u16.new.buf c.args.i _ j fits long (omega arith) other)
 
 pub returns-else-this-ne0-clause-there : goal.returns-else-this-ne0-clause-there
 returns-else-this-ne0-clause-there g c =
     let two = two_wide _ _ c.requires.form c.requires.width c.if-this-eq1.false in
     let fits = room c.args.i _ _ (length c.args.bytes.now) c.requires.form two c.requires.there in
-    let long : length c.write_u16-else-this-ne0.new.buf ≡ 2 = ap length c.write_u16-else-this-ne0.ensures ∙ ap (λ (xs : List ℕ). suc (suc (length xs))) (no_more c.args.bytes.now (2 * c.args.i) fits) in
+    let long : length c.write_u16-else-this-ne0.new.buf ≡ 2 =
+    ap length c.write_u16-else-this-ne0.ensures ∙ ap (λ (xs : List ℕ). suc (suc (length xs))) (no_more _ (2 * c.args.i) fits) in
     let end : c.args.layout.little ≡ false = c.requires.end (sym c.requires.form ∙ two) ∙ ap not (eq-eqb _ _ c.if-this-ne0.false) in
-    λ v code. rw two (pair_put c.args.bytes.now c.write_u16-else-this-ne0.new.buf c.args.i _ fits long) ∙ c.write_u16-else-this-ne0.ensures ∙ rw (no_more c.args.bytes.now (2 * c.args.i) fits) (big_first c.args.layout v c.args.number two end (sym code) (omega arith))
+    λ v code. rw two (pair_put _ _ _ _ fits long) ∙ c.write_u16-else-this-ne0.ensures
+    ∙ rw (no_more c.args.bytes.now (2 * c.args.i) fits) (big_first _ v _ two end (sym code) (omega arith))
 
 pub returns-else-this-ne0-clause-others : goal.returns-else-this-ne0-clause-others
 returns-else-this-ne0-clause-others g c =
     let two = two_wide _ _ c.requires.form c.requires.width c.if-this-eq1.false in
     let fits = room c.args.i _ _ (length c.args.bytes.now) c.requires.form two c.requires.there in
-    let long : length c.write_u16-else-this-ne0.new.buf ≡ 2 = ap length c.write_u16-else-this-ne0.ensures ∙ ap (λ (xs : List ℕ). suc (suc (length xs))) (no_more c.args.bytes.now (2 * c.args.i) fits) in
+    let long : length c.write_u16-else-this-ne0.new.buf ≡ 2 =
+    ap length c.write_u16-else-this-ne0.ensures ∙ ap (λ (xs : List ℕ). suc (suc (length xs))) (no_more _ (2 * c.args.i) fits) in
     λ j other. rw two (pair_kept c.args.bytes.now c.write_u16-else-this-ne0.new.buf c.args.i _ j fits long (omega arith) other)

@@ -2,7 +2,9 @@ use Rattle.cube_core.proofs.Pieces.{all_given, all_fit}
 use Rattle.cube_core.proofs.pour.pour_bands.Goals as goal
 
 pub returns-clause-poured : goal.returns-clause-poured
-returns-clause-poured c = λ t. all_given c.args.shape c.args.kind c.args.layout c.args.offsets.now c.give_piece.new.bytes c.sample_count.result c.requires.order c.sample_count.ensures.value (rw c.new.ensures.0 at c.give_piece.ensures.given) (rw c.new.ensures.0 at (c.give_piece.ensures.good.0 t))
+returns-clause-poured c = λ t. all_given _ _ _ _ _ _ c.requires.order c.sample_count.ensures.value (rw c.new.ensures.0 at c.give_piece.ensures.given)
+    (rw c.new.ensures.0 at (c.give_piece.ensures.good.0 t))
 
 pub returns-clause-good : goal.returns-clause-good
-returns-clause-good c = λ all. c.give_piece.ensures.good.1 (rw c.new.ensures.0 (all_fit c.args.shape c.args.kind c.args.layout c.args.offsets.now c.sample_count.result c.sample_count.ensures.value all))
+returns-clause-good c = λ all. c.give_piece.ensures.good.1 (rw c.new.ensures.0
+    (all_fit c.args.shape c.args.kind c.args.layout c.args.offsets.now c.sample_count.result c.sample_count.ensures.value all))

@@ -11,8 +11,11 @@ use Rattle.cube_core.proofs.pour.pour_lines.Goals.{After-new-piece}
 lawful : (c : After-new-piece) → IsOrder c.args.shape (order_of c.args.layout.order c.args.shape)
 lawful c = lawful_order c.args.layout.order c.args.shape (omega (arith, c.sample_count-count.ensures.value, c.sample_count-count.ensures.range))
 
-there : (c : After-new-piece) → (j : ℕ) → j < c.new-piece.result.count → (c.new-piece.result.first + j * c.new-piece.result.step + 1) * c.args.layout.bytes ≤ length c.loop-z.bytes
-there c j lt = (piece_there c.args.shape c.args.layout c.loop-z.z c.loop-y.y c.loop-x.x c.min-count.result c.new-piece.result.first c.new-piece.result.step (length c.loop-z.bytes) c.requires.layout (lawful c) (omega (arith, c.bands-z-end.ensures.value)) (omega (arith, c.rows-y-end.ensures.value)) (omega (arith, c.columns-columns.ensures.value)) c.new-piece.ensures.items (omega (arith, c.requires.whole)) j (omega (arith, c.new-piece.ensures.count))).1
+there : (c : After-new-piece) → (j : ℕ) → j < c.new-piece.result.count
+    → (c.new-piece.result.first + j * c.new-piece.result.step + 1) * c.args.layout.bytes ≤ length c.loop-z.bytes
+there c j lt = (piece_there c.args.shape c.args.layout c.loop-z.z c.loop-y.y c.loop-x.x c.min-count.result c.new-piece.result.first c.new-piece.result.step
+    (length c.loop-z.bytes) c.requires.layout (lawful c) (omega (arith, c.bands-z-end.ensures.value)) (omega (arith, c.rows-y-end.ensures.value))
+    (omega (arith, c.columns-columns.ensures.value)) c.new-piece.ensures.items (omega (arith, c.requires.whole)) j (omega (arith, c.new-piece.ensures.count))).1
 
 pub give_piece-requires-clause-there : goal.give_piece-requires-clause-there
 give_piece-requires-clause-there c = there (goal.at.give_piece-requires-clause-there c).After-new-piece
@@ -20,7 +23,9 @@ give_piece-requires-clause-there c = there (goal.at.give_piece-requires-clause-t
 pub returns-then-not-give_piece-clause-good : goal.returns-then-not-give_piece-clause-good
 returns-then-not-give_piece-clause-good c = λ all.
     let p = c.new-piece.result in
-    let good = piece_fits c.args.shape c.args.kind c.args.layout c.args.offsets.now c.loop-z.z c.loop-y.y c.loop-x.x p.at p.count (omega (arith, c.bands-z-end.ensures.value)) (omega (arith, c.rows-y-end.ensures.value)) (omega (arith, c.columns-columns.ensures.value, c.new-piece.ensures.count)) c.new-piece.ensures.at all in
+    let good = piece_fits c.args.shape c.args.kind c.args.layout c.args.offsets.now c.loop-z.z c.loop-y.y c.loop-x.x p.at p.count
+    (omega (arith, c.bands-z-end.ensures.value)) (omega (arith, c.rows-y-end.ensures.value))
+    (omega (arith, c.columns-columns.ensures.value, c.new-piece.ensures.count)) c.new-piece.ensures.at all in
     c.if-not-give_piece.ensures.good.1 (rw c.new-scale.ensures.0 good)
 
 pub loop-z-preserved : goal.loop-z-preserved
@@ -29,7 +34,8 @@ loop-z-preserved c =
     let s = c.args.shape in
     let counted : c.min-count.result ≡ c.new-piece.result.count = sym c.new-piece.ensures.count in
     let t : IsTrue true = search rules in
-    let given : IsGiven c.args.shape c.args.kind c.args.layout c.args.offsets.now c.loop-z.bytes c.give_piece.new.bytes c.loop-z.z c.loop-y.y c.loop-x.x p.at c.min-count.result p.first p.step = record {
+    let given : IsGiven c.args.shape c.args.kind c.args.layout c.args.offsets.now c.loop-z.bytes c.give_piece.new.bytes c.loop-z.z c.loop-y.y c.loop-x.x p.at
+    c.min-count.result p.first p.step = record {
       band = omega (arith, c.bands-z-end.ensures.value);
       row = omega (arith, c.rows-y-end.ensures.value);
       columns = omega (arith, c.columns-columns.ensures.value);
@@ -39,8 +45,10 @@ loop-z-preserved c =
       good = rw (counted, ← c.new-scale.ensures.0) (c.if-not-give_piece.ensures.good.0 t);
       others = rw counted c.give_piece.ensures.others;
     } in
-    band_more s (IsPoured s c.args.kind c.args.layout c.args.offsets.now c.loop-z.bytes) (IsPoured s c.args.kind c.args.layout c.args.offsets.now c.give_piece.new.bytes) c.loop-y.y c.loop-x.x c.min-count.result c.loop-z.z
-    (λ (q : Place) place known. poured_there s c.args.kind c.args.layout c.args.offsets.now c.loop-z.bytes c.give_piece.new.bytes c.loop-z.z c.loop-y.y c.loop-x.x p.at c.min-count.result p.first p.step q (lawful (goal.at.loop-z-preserved c).After-new-piece) given place known) c.loop-z.invariant
+    band_more s (IsPoured s c.args.kind c.args.layout c.args.offsets.now c.loop-z.bytes)
+    (IsPoured s c.args.kind c.args.layout c.args.offsets.now c.give_piece.new.bytes) _ _ _ _
+    (λ (q : Place) place known. poured_there s c.args.kind c.args.layout c.args.offsets.now c.loop-z.bytes c.give_piece.new.bytes c.loop-z.z c.loop-y.y
+    c.loop-x.x p.at c.min-count.result p.first p.step q (lawful (goal.at.loop-z-preserved c).After-new-piece) given place known) c.loop-z.invariant
 
 pub loop-x-preserved : goal.loop-x-preserved
-loop-x-preserved c = block_ends c.args.shape (IsPoured c.args.shape c.args.kind c.args.layout c.args.offsets.now c.loop-z.bytes) c.loop-y.y c.loop-x.x c.min-count.result c.loop-z.z (omega (arith, c.bands-z-end.ensures.value)) c.loop-z.invariant
+loop-x-preserved c = block_ends _ (IsPoured c.args.shape c.args.kind c.args.layout c.args.offsets.now c.loop-z.bytes) _ _ _ _ (omega arith) c.loop-z.invariant

@@ -7,8 +7,13 @@ use Rattle.cube_core.proofs.Raws.{lawful_order}
 use Rattle.cube_core.proofs.raw.fill_lines.Goals as goal
 use Rattle.cube_core.proofs.raw.fill_lines.Goals.{After-new-piece}
 
-there : (c : After-new-piece) → (j : ℕ) → j < c.new-piece.result.count → (c.new-piece.result.first + j * c.new-piece.result.step < sample_count c.args.shape) × ((c.new-piece.result.first + j * c.new-piece.result.step + 1) * c.args.layout.bytes ≤ length c.args.bytes.now)
-there c j lt = piece_there c.args.shape c.args.layout c.loop-z.z c.loop-y.y c.loop-x.x c.min-count.result c.new-piece.result.first c.new-piece.result.step (length c.args.bytes.now) c.requires.layout (lawful_order c.args.layout.order c.args.shape (omega (arith, c.sample_count-count.ensures.value, c.sample_count-count.ensures.range))) (omega (arith, c.bands-z-end.ensures.value)) (omega (arith, c.rows-y-end.ensures.value)) (omega (arith, c.columns-columns.ensures.value)) c.new-piece.ensures.items c.requires.whole j (omega (arith, c.new-piece.ensures.count))
+there : (c : After-new-piece) → (j : ℕ) → j < c.new-piece.result.count → (c.new-piece.result.first + j * c.new-piece.result.step < sample_count c.args.shape)
+    × ((c.new-piece.result.first + j * c.new-piece.result.step + 1) * c.args.layout.bytes ≤ length c.args.bytes.now)
+there c j lt = piece_there c.args.shape c.args.layout c.loop-z.z c.loop-y.y c.loop-x.x c.min-count.result c.new-piece.result.first c.new-piece.result.step
+    (length c.args.bytes.now) c.requires.layout (lawful_order c.args.layout.order c.args.shape
+    (omega (arith, c.sample_count-count.ensures.value, c.sample_count-count.ensures.range))) (omega (arith, c.bands-z-end.ensures.value))
+    (omega (arith, c.rows-y-end.ensures.value)) (omega (arith, c.columns-columns.ensures.value)) c.new-piece.ensures.items c.requires.whole j
+    (omega (arith, c.new-piece.ensures.count))
 
 pub take_piece-requires-clause-there : goal.take_piece-requires-clause-there
 take_piece-requires-clause-there c = λ j lt. (there (goal.at.take_piece-requires-clause-there c).After-new-piece j lt).1
@@ -16,7 +21,8 @@ take_piece-requires-clause-there c = λ j lt. (there (goal.at.take_piece-require
 pub returns-then-not-take_piece-clause-good : goal.returns-then-not-take_piece-clause-good
 returns-then-not-take_piece-clause-good c = λ all.
     let p = c.new-piece.result in
-    let good = piece_good c.args.kind c.args.layout c.args.bytes.now c.take_piece.new.offsets p.at p.count p.first p.step (sample_count c.args.shape) (λ j lt. (there (goal.at.returns-then-not-take_piece-clause-good c).After-new-piece j lt).0) (rw c.new-scale.ensures.0 at c.take_piece.ensures.taken) all in
+    let good = piece_good _ _ _ _ p.at p.count p.first p.step (sample_count c.args.shape) (λ j lt.
+    (there (goal.at.returns-then-not-take_piece-clause-good c).After-new-piece j lt).0) (rw c.new-scale.ensures.0 at c.take_piece.ensures.taken) all in
     c.if-not-take_piece.ensures.good.1 (rw c.new-scale.ensures.0 good)
 
 pub loop-z-preserved : goal.loop-z-preserved
@@ -25,7 +31,8 @@ loop-z-preserved c =
     let s = c.args.shape in
     let counted : c.min-count.result ≡ c.new-piece.result.count = sym c.new-piece.ensures.count in
     let t : IsTrue true = search rules in
-    let taken : IsTaken c.args.shape c.args.kind c.args.layout c.args.bytes.now c.loop-z.offsets c.take_piece.new.offsets c.loop-z.z c.loop-y.y c.loop-x.x p.at c.min-count.result p.first p.step = record {
+    let taken : IsTaken c.args.shape c.args.kind c.args.layout c.args.bytes.now c.loop-z.offsets c.take_piece.new.offsets c.loop-z.z c.loop-y.y c.loop-x.x p.at
+    c.min-count.result p.first p.step = record {
       band = omega (arith, c.bands-z-end.ensures.value);
       row = omega (arith, c.rows-y-end.ensures.value);
       columns = omega (arith, c.columns-columns.ensures.value);
@@ -35,5 +42,7 @@ loop-z-preserved c =
       good = rw (counted, ← c.new-scale.ensures.0) (c.if-not-take_piece.ensures.good.0 t);
       others = rw counted c.take_piece.ensures.others;
     } in
-    band_more s (IsOffsetOf s c.args.kind c.args.layout c.args.bytes.now c.loop-z.offsets) (IsOffsetOf s c.args.kind c.args.layout c.args.bytes.now c.take_piece.new.offsets) c.loop-y.y c.loop-x.x c.min-count.result c.loop-z.z
-    (λ (q : Place) place known. offset_there s c.args.kind c.args.layout c.args.bytes.now c.loop-z.offsets c.take_piece.new.offsets c.loop-z.z c.loop-y.y c.loop-x.x p.at c.min-count.result p.first p.step q taken place known) c.loop-z.invariant
+    band_more s (IsOffsetOf s c.args.kind c.args.layout c.args.bytes.now c.loop-z.offsets)
+    (IsOffsetOf s c.args.kind c.args.layout c.args.bytes.now c.take_piece.new.offsets) _ _ _ _
+    (λ (q : Place) place known. offset_there s c.args.kind c.args.layout c.args.bytes.now c.loop-z.offsets c.take_piece.new.offsets c.loop-z.z c.loop-y.y
+    c.loop-x.x p.at c.min-count.result p.first p.step q taken place known) c.loop-z.invariant

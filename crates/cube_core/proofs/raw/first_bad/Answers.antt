@@ -19,7 +19,7 @@ returns-then-not-has c =
     let g = narrow d in
     let no : IsTrue false → ⊥ = search rules in
     let there = bytes_there c.args.layout c.loop-i.i c.args.count c.requires.layout c.loop-i-test.true in
-    record { there = omega (arith, there, c.requires.whole); bad = λ h. no (c.if-not-has.ensures.1 (rw (to_z-of_z g, value_is d) h)); first = c.loop-i.invariant }
+    record { there = omega (arith, there); bad = λ h. no (c.if-not-has.ensures.1 (rw (to_z-of_z g, value_is d) h)); first = c.loop-i.invariant }
 
 pub loop-i-preserved : goal.loop-i-preserved
 loop-i-preserved c =

@@ -6,7 +6,4 @@ use Rattle.cube_predictors.specs.Sends.{AreAt, bands_of}
 use Rattle.cube_predictors.proofs.cube_feed.own_bands.Given as goal
 
 abbrev pub invariant-loop-z : goal.invariant-loop-z
-invariant-loop-z l = record {
-  own : bands_of l.bands.items ≡ own l.predictor l.plan.deal (upto l.z);
-  at : (c : Image) → AreAt l.plan.params c 0 l.bands.items;
-}
+invariant-loop-z l = record { own : bands_of l.bands.items ≡ own l.predictor l.plan.deal (upto l.z); at : (c : Image) → AreAt l.plan.params c 0 l.bands.items }

@@ -6,9 +6,8 @@ use Rattle.cube_predictors.proofs.pieces.gather.Goals as goal
 pub loop-k-preserved : goal.loop-k-preserved
 loop-k-preserved c =
     let was = c.loop-k.invariant in
-    let lt : c.loop-k.k < length c.loop-k.residuals = omega (arith, was.long, c.loop-k.auto.k-end, c.loop-k-test.true) in
-    let more =
-    next_held c.args.bands.now c.args.i c.loop-k.k _ _ (omega (arith, c.loop-k.auto.k-end, c.loop-k-test.true)) c.index-bands-k.is c.piece_residual.ensures in
+    let lt : c.loop-k.k < length c.loop-k.residuals = omega (arith, was.long) in
+    let more = next_held _ _ _ _ _ (omega arith) c.index-bands-k.is c.piece_residual.ensures in
     record {
       long = length-set c.loop-k.residuals c.loop-k.k c.piece_residual.result ∙ was.long;
       done = rw (take_more_set c.loop-k.residuals c.loop-k.k c.piece_residual.result lt, was.done) (sym more);

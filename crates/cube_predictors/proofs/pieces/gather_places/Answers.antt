@@ -10,7 +10,7 @@ loop-k-preserved c =
     let k = c.loop-k.k in
     let numbers = c.gather.new.residuals in
     let long : length numbers ≡ many = omega (arith, c.gather.auto.residuals) in
-    let most = mul-le (k + 1) many c.args.count many (omega (arith, c.loop-k-test.true)) (omega arith) in
+    let most = mul-le (k + 1) many c.args.count many (omega arith) (omega arith) in
     let next : (k + 1) * many ≡ k * many + many = grind arith in
     let within : k * many + many ≤ length c.loop-k.residuals = omega (arith, most, next, c.loop-k.invariant.long) in
     record {

@@ -9,6 +9,6 @@ loop-i-preserved c =
     let told = c.predict_piece.ensures in
     let p = c.args.params.now in
     let b = c.index-bands-i.result in
-    let within : c.loop-i.i < length c.loop-i.bands = omega (arith, c.loop-i.auto.bands, c.loop-i-test.true) in
-    let step = past_step p _ _ c.args.count c.loop-i.i c.loop-i.bands b _ within was.done was.left told.moved (told.follows p) (told.residuals p) in
-    record { done = step.0; left = step.1; same = map-set_same (λ r. r.band) c.loop-i.bands c.loop-i.i _ b told.moved.band ∙ was.same }
+    let within : c.loop-i.i < length c.loop-i.bands = omega arith in
+    let step = past_step p _ _ _ _ _ b _ within was.done was.left told.moved (told.follows p) (told.residuals p) in
+    record { done = step.0; left = step.1; same = map-set_same (λ r. r.band) _ _ _ b told.moved.band ∙ was.same }

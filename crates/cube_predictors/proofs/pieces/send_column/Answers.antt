@@ -13,7 +13,7 @@ module _ (g : Over) (c : After-gather g) where
 
   run : take c.min-count.result (c.gather.new.residuals ++ drop c.min-count.result c.loop-first.room)
       ≡ take c.min-count.result (drop c.loop-first.first (held_at c.args.bands.now c.args.i))
-  run = gathered c.args.bands.now c.args.i c.loop-first.first c.min-count.result _ c.gather.new.residuals _ within (omega arith) c.gather.ensures
+  run = gathered _ _ _ _ _ _ _ within (omega arith) c.gather.ensures
 
 pub loop-first-init : goal.loop-first-init
 loop-first-init g c = record { within = omega arith; sent = none_yet g.met.T.Taker.laws c.requires.may }

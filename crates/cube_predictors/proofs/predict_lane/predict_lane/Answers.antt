@@ -19,7 +19,7 @@ module _ (g : Over) (c : After-deal-deal g) where
   same = ap₂ (λ p deal. own_residuals p c.args.cube.now c.args.predictor deal p.order) c.params-params.ensures c.deal-deal.ensures
 
   few : length mine ≤ 2 ^ 48
-  few = own_few c.args.plan.now.params c.args.cube.now c.args.predictor c.args.plan.now.deal (2 ^ 48) c.requires.image c.prove_is_plan.ensures.lawful.order
+  few = own_few _ _ _ _ (2 ^ 48) c.requires.image c.prove_is_plan.ensures.lawful.order
       (rw (c.sample_count-count.ensures.value, c.shape.ensures) at c.sample_count-count.ensures.range.1)
 
 pub send_own-all-requires-clause-may : goal.send_own-all-requires-clause-may
@@ -33,8 +33,8 @@ returns g c =
     let d = (goal.at.returns g c).After-deal-deal in
     let told = c.send_own-all.ensures in
     let keeps =
-    keeps_part (g.G.Gate.may_stop c.args.gate.now) c.args.predictor c.new-sender.result c.send_own-all.new.taker c.send_own-all.result _ _ c.end.result
+    keeps_part (g.G.Gate.may_stop c.args.gate.now) _ _ _ _ _ _ _
     (none g d) told
     (rw (told.gate, told.predictor, told.lane, c.new-sender.ensures) at c.end.ensures.keeps) c.end.ensures.stopped in
-    let whole = same g d ∙ sym (own_is_part c.args.plan.now.params c.args.cube.now c.args.predictor c.args.plan.now.deal c.requires.image.shape) in
+    let whole = same g d ∙ sym (own_is_part _ _ _ _ c.requires.image.shape) in
     subst (λ items. Keeps (g.G.Gate.may_stop c.args.gate.now) c.args.predictor items c.args.sender.lane c.end.result) whole keeps

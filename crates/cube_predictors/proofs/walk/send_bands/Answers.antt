@@ -1,9 +1,8 @@
-use Rattle.std.proofs.Common.{◌≡◌, ◌+◌, ◌-◌, ◌<◌, ◌++◌, ◌∷◌, [], ℕ, List, true, refl, length, take, drop, get_or, arith}
-use Rattle.std.specs.List.{flat_map}
+use Rattle.std.proofs.Common.{◌≡◌, ◌+◌, ◌-◌, ◌<◌, ◌∷◌, [], ℕ, List, true, refl, length, take, drop, get_or, arith}
 use Rattle.std.proofs.lemmas.List.{length-map}
 use Rattle.cube_predictors.specs.Own.{rows_of}
 use Rattle.cube_predictors.specs.Sends.{bands_of}
-use Rattle.cube_predictors.proofs.Sending.{Pieces, none_yet, piece_fits, piece_cut, take_rest, band_there, bands_put, left_put}
+use Rattle.cube_predictors.proofs.Sending.{IsNext, none_yet, piece_fits, piece_cut, take_rest, band_there, bands_put, left_put}
 use Rattle.cube_predictors.proofs.walk.send_bands.Goals as goal
 use Rattle.cube_predictors.proofs.walk.send_bands.Goals.{In-loop-i}
 use Rattle.cube_predictors.proofs.walk.send_bands.Given.{Over}
@@ -16,13 +15,10 @@ module _ (g : Over) (c : In-loop-i g) where
   within = omega (arith, c.loop-i.auto.bands, c.loop-i-test.true)
 
   there : bands_of (take (c.loop-i.i + 1 - c.loop-i.i) (drop c.loop-i.i c.loop-i.bands)) ≡ get_or (bands_of c.args.bands.now) c.loop-i.i 0 ∷ []
-  there = band_there c.loop-i.bands c.args.bands.now c.loop-i.i (c.loop-i.i + 1 - c.loop-i.i) (omega arith) within c.loop-i.invariant.same
+  there = band_there _ _ _ (c.loop-i.i + 1 - c.loop-i.i) (omega arith) within c.loop-i.invariant.same
 
-  split : (flat_map rows (take (c.loop-i.i + 1) (bands_of c.args.bands.now)) ≡ flat_map rows (take c.loop-i.i (bands_of c.args.bands.now)) ++ rows
-      (get_or (bands_of c.args.bands.now) c.loop-i.i 0))
-      × Pieces (flat_map rows (bands_of c.args.bands.now)) (flat_map rows (take c.loop-i.i (bands_of c.args.bands.now)))
-      (rows (get_or (bands_of c.args.bands.now) c.loop-i.i 0))
-  split = take_rest rows (bands_of c.args.bands.now) c.loop-i.i (omega (arith, c.loop-i-test.true, length-map c.args.bands.now (λ b. b.band)))
+  split : IsNext rows (bands_of c.args.bands.now) c.loop-i.i
+  split = take_rest rows (bands_of c.args.bands.now) _ (omega (arith, length-map c.args.bands.now (λ b. b.band)))
 
 pub send_rows-requires-clause-may : goal.send_rows-requires-clause-may
 send_rows-requires-clause-may g c =
@@ -39,8 +35,7 @@ loop-i-preserved g c =
     let d = (goal.at.loop-i-preserved g c).In-loop-i in
     let was = c.loop-i.invariant in
     record {
-      left = left_put _ _ 0 c.loop-i.i (c.loop-i.i + 1 - c.loop-i.i) (c.loop-i.i + 1) c.loop-i.bands c.send_rows.new.bands (omega arith)
-          (omega (arith, within g d)) c.send_rows.auto.bands was.left;
+      left = left_put _ _ 0 _ (c.loop-i.i + 1 - c.loop-i.i) (c.loop-i.i + 1) _ _ (omega arith) (omega (arith, within g d)) c.send_rows.auto.bands was.left;
       same = bands_put c.loop-i.bands _ _ c.loop-i.i _ was.same c.send_rows.ensures.same;
       sent = rw (split g d).0 (g.met.T.Taker.laws.behind _ _ _ true _ _ was.sent (rw (there g d, c.if-not-send_rows.false) at c.send_rows.ensures.sent));
     }

@@ -1,4 +1,4 @@
-use Rattle.std.proofs.Common.{rules, ◌≡◌, ◌+◌, ◌-◌, ◌/◌, ◌<◌, ◌≤◌, ℕ, List, true, refl, ap, sym, subst, length, take, drop, arith, ◌∙◌}
+use Rattle.std.proofs.Common.{rules, ◌≡◌, ◌+◌, ◌-◌, ◌/◌, ◌<◌, ◌≤◌, ℕ, List, true, refl, ap, sym, length, take, drop, arith, ◌∙◌}
 use Rattle.std.specs.List.{flat_map}
 use Rattle.std.proofs.lemmas.List.{length-map}
 use Rattle.cube_core.specs.Order.{upto, group, group_count}
@@ -25,7 +25,7 @@ module _ (g : Over) (c : After-count_own-count g) where
 
   there : IsGroup c.args.predictor c.args.deal.now c.args.cube.now.shape c.args.depth c.loop-i.i c.min-end.result c.loop-i.slot c.count_own-count.result
   there =
-      is_group _ _ _ c.args.depth c.loop-i.i c.loop-i.first c.min-end.result _ _ c.requires.depth.0 in_order c.loop-i.invariant.first
+      is_group _ _ _ _ _ _ _ _ _ c.requires.depth.0 in_order c.loop-i.invariant.first
       (rw bands_are at c.min-end.ensures) c.loop-i.invariant.slot c.count_own-count.ensures
 
   long : length c.loop-i.bands ≡ length (own c.args.predictor c.args.deal.now (upto c.args.cube.now.shape.bands))
@@ -35,10 +35,10 @@ module _ (g : Over) (c : After-count_own-count g) where
   within = omega (arith, long, there.fits)
 
   few : length c.loop-i.bands ≤ 65536
-  few = omega (arith, long, own_few c.args.predictor c.args.deal.now 0 c.args.cube.now.shape.bands, c.bands-total.ensures.range, bands_are)
+  few = omega (arith, long, own_few c.args.predictor c.args.deal.now 0 c.args.cube.now.shape.bands, bands_are)
 
   own_bands : bands_of (take (c.loop-i.slot + c.count_own-count.result - c.loop-i.slot) (drop c.loop-i.slot c.loop-i.bands)) ≡ mine c.loop-i.i
-  own_bands = group_there _ _ _ _ _ _ c.loop-i.slot _ _ c.loop-i.bands c.args.bands.now there (omega arith) c.loop-i.invariant.same c.requires.own
+  own_bands = group_there _ _ _ _ _ _ _ _ _ _ _ there (omega arith) c.loop-i.invariant.same c.requires.own
 
   pieces : Pieces (line_of c.args.params.now c.args.cube.now c.args.predictor c.args.deal.now c.args.depth c.args.y) (flat_map run (upto c.loop-i.i))
       (run c.loop-i.i)
@@ -65,7 +65,7 @@ returns-then-not-send_row-clause-sent g c =
     piece_cut g.met.T.Taker.laws c.loop-i.invariant.sent (pieces g d) (rw (own_bands g d, c.if-not-send_row.true) at c.send_row.ensures.sent)
 
 pub returns-then-not-send_row-clause-same : goal.returns-then-not-send_row-clause-same
-returns-then-not-send_row-clause-same g c = bands_put c.loop-i.bands _ _ c.loop-i.slot _ c.loop-i.invariant.same c.send_row.ensures.same
+returns-then-not-send_row-clause-same g c = bands_put _ _ _ _ _ c.loop-i.invariant.same c.send_row.ensures.same
 
 pub loop-i-preserved : goal.loop-i-preserved
 loop-i-preserved g c =
@@ -75,19 +75,16 @@ loop-i-preserved g c =
     record {
       first = (there g d).next;
       slot = (there g d).more;
-      done = done_put _ _ _ c.loop-i.slot n _ c.loop-i.bands _ (omega arith) (within g d) c.send_row.auto.bands was.done
-          (c.send_row.ensures.at c.if-not-send_row.false);
-      left = left_put _ _ _ c.loop-i.slot n _ c.loop-i.bands _ (omega arith) (within g d) c.send_row.auto.bands was.left;
+      done = done_put _ _ _ _ n _ _ _ (omega arith) (within g d) c.send_row.auto.bands was.done (c.send_row.ensures.at c.if-not-send_row.false);
+      left = left_put _ _ _ _ n _ _ _ (omega arith) (within g d) c.send_row.auto.bands was.left;
       same = bands_put c.loop-i.bands _ _ c.loop-i.slot n was.same c.send_row.ensures.same;
       sent = rw upto_more (g.met.T.Taker.laws.behind _ _ _ true _ _ was.sent (rw (own_bands g d, c.if-not-send_row.false) at c.send_row.ensures.sent));
     }
 
-module _ (g : Over) (c : After-loop-i g) where
-  all_bands : c.bands-total.result ≡ c.args.cube.now.shape.bands
-  all_bands = c.bands-total.ensures.value ∙ ap (λ s. s.bands) c.shape.ensures
-
-  last : c.loop-i.i ≡ group_count c.args.cube.now.shape c.args.depth
-  last = subst (λ n. c.loop-i.i ≡ (n + c.args.depth - 1) / c.args.depth) all_bands (omega (arith, c.loop-i-test.false, c.loop-i.auto.i-end))
+last : (g : Over) (c : After-loop-i g) → c.loop-i.i ≡ group_count c.args.cube.now.shape c.args.depth
+last g c =
+    let end : c.loop-i.i ≡ (c.bands-total.result + c.args.depth - 1) / c.args.depth = omega arith in
+    rw (c.bands-total.ensures.value, c.shape.ensures) at end
 
 pub returns-clause-sent : goal.returns-clause-sent
 unfolding line_of

@@ -16,7 +16,7 @@ module _ (g : Over) (c : After-predict_pieces g) where
   column x = column_of c.args.params.now c.args.cube.now (bands_of c.args.bands.now) c.args.y x
 
   within : c.loop-x.x + c.min-count.result ≤ c.args.cube.now.shape.columns
-  within = omega (arith, c.loop-x-test.true, c.min-count.ensures, c.columns-columns.ensures.value, ap (λ s. s.columns) c.shape.ensures)
+  within = omega (arith, ap (λ s. s.columns) c.shape.ensures)
 
   pieces : Pieces (row_of c.args.params.now c.args.cube.now (bands_of c.args.bands.now) c.args.y) (flat_map column (upto c.loop-x.x))
       (flat_map column (from c.loop-x.x c.min-count.result))
@@ -25,13 +25,13 @@ module _ (g : Over) (c : After-predict_pieces g) where
 
   held : held_of c.predict_pieces.new.bands c.min-count.result ≡ flat_map column (from c.loop-x.x c.min-count.result)
   held =
-      held_is _ _ c.args.y c.loop-x.x c.min-count.result c.predict_pieces.new.bands c.predict_pieces.ensures.past
+      held_is _ _ _ _ _ _ c.predict_pieces.ensures.past
       ∙ ap (λ zs. flat_map (λ x. column_of c.args.params.now c.args.cube.now zs c.args.y x) (from c.loop-x.x c.min-count.result))
       (c.predict_pieces.ensures.same ∙ c.loop-x.invariant.same)
 
 pub returns-then-is_empty-clause-sent : goal.returns-then-is_empty-clause-sent
 returns-then-is_empty-clause-sent g c =
-    let none = row_of_none c.args.params.now c.args.cube.now c.args.bands.now c.args.y (eqb-true _ 0 (sym c.is_empty.ensures ∙ c.if-is_empty.true)) in
+    let none = row_of_none _ _ _ _ (eqb-true _ 0 (sym c.is_empty.ensures ∙ c.if-is_empty.true)) in
     subst (g.T.Taker.takes c.args.taker.now c.args.taker.now true) (sym none) (none_yet g.met.T.Taker.laws c.requires.may)
 
 pub send_pieces-requires-clause-may : goal.send_pieces-requires-clause-may
@@ -58,8 +58,7 @@ loop-x-preserved g c =
 pub returns-clause-sent : goal.returns-clause-sent
 unfolding row_of
 returns-clause-sent g c =
-    let all : c.loop-x.x ≡ c.args.cube.now.shape.columns =
-    omega (arith, c.loop-x-test.false, c.loop-x.invariant.within, c.columns-columns.ensures.value, ap (λ s. s.columns) c.shape.ensures) in
+    let all : c.loop-x.x ≡ c.args.cube.now.shape.columns = omega (arith, ap (λ s. s.columns) c.shape.ensures) in
     rw all at c.loop-x.invariant.sent
 
 pub loop-x-init : goal.loop-x-init

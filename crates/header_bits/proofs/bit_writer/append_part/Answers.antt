@@ -9,7 +9,8 @@ pub returns-then-held-gt0 : goal.returns-then-held-gt0
 returns-then-held-gt0 c =
     let items = rw c.unwrap.ensures at c.extend_from_slice.ensures.items in
     ap bits_of_bytes items ∙ bits_of_bytes-append c.args.bytes.now.items (take (c.args.held / 8) c.to_be_bytes-word.result)
-    ∙ ap (λ (x : List Bool). bits_of_bytes c.args.bytes.now.items ++ x) (ap (λ x. bits_of_bytes (take (c.args.held / 8) x)) c.to_be_bytes-word.ensures ∙ part_shifted c.args.held c.args.part c.requires.held c.requires.whole)
+    ∙ ap (λ (x : List Bool). bits_of_bytes c.args.bytes.now.items ++ x) (ap (λ x. bits_of_bytes (take (c.args.held / 8) x)) c.to_be_bytes-word.ensures
+    ∙ part_shifted _ _ c.requires.held c.requires.whole)
 
 pub returns-else-held-gt0 : goal.returns-else-held-gt0
 returns-else-held-gt0 c = nothing_behind c.args.bytes.now.items c.args.held c.args.part (omega arith)

@@ -10,4 +10,5 @@ returns-then-held-eq0 c = none_held c.args.held c.args.part c.args.bits c.if-hel
 pub returns-else-held-eq0 : goal.returns-else-held-eq0
 returns-else-held-eq0 c =
     let size : c.args.held + (64 - c.args.held) ≡ 64 = omega arith in
-    ap (λ (k : ℕ). bits_of k (bit_or (c.args.part * 2 ^ (64 - c.args.held) % 2 ^ 64) c.args.bits)) (sym size) ∙ pushed_behind c.args.held (64 - c.args.held) c.args.part c.args.bits c.requires.below (omega arith)
+    ap (λ (k : ℕ). bits_of k (bit_or (c.args.part * 2 ^ (64 - c.args.held) % 2 ^ 64) c.args.bits)) (sym size)
+    ∙ pushed_behind _ (64 - c.args.held) _ _ c.requires.below (omega arith)

@@ -15,6 +15,10 @@ returns c =
     let wide : SFits w64 c.from.result = omega (arith, ints, value, weight) in
     let refused = simp (to_z-of_z wide) at c.refuse_if.ensures in
     elim c.if-bound-weight.branch [
-      | then-bound-weight w ↦ (let is = simp (to_z-of_z weight, to_z-of_z at_bound, to_z-of_z high) at w.refuse_if-is in let test = simp (to_z-of_z weight, to_z-of_z at_bound, to_z-of_z low) at w.if-bound-weight.true in judged_above c.args.bits c.args.weight c.from.result bound c.if-bound-weight.refuse_if c.refuse_if.result c.power_of_two-bound.ensures.value value test is refused)
-      | else-bound-weight w ↦ (let is = simp (to_z-of_z weight, to_z-of_z at_bound, to_z-of_z low) at w.refuse_if-is in let test = simp (to_z-of_z weight, to_z-of_z at_bound, to_z-of_z low) at w.if-bound-weight.false in judged_below c.args.bits c.args.weight c.from.result bound c.if-bound-weight.refuse_if c.refuse_if.result c.power_of_two-bound.ensures.value value test (is ∙ test) refused)
+      | then-bound-weight w ↦ (let is = simp (to_z-of_z weight, to_z-of_z at_bound, to_z-of_z high) at w.refuse_if-is in
+          let test = simp (to_z-of_z weight, to_z-of_z at_bound, to_z-of_z low) at w.if-bound-weight.true in
+          judged_above _ _ _ bound _ _ c.power_of_two-bound.ensures.value value test is refused)
+      | else-bound-weight w ↦ (let is = simp (to_z-of_z weight, to_z-of_z at_bound, to_z-of_z low) at w.refuse_if-is in
+          let test = simp (to_z-of_z weight, to_z-of_z at_bound, to_z-of_z low) at w.if-bound-weight.false in
+          judged_below _ _ _ bound _ _ c.power_of_two-bound.ensures.value value test (is ∙ test) refused)
     ]

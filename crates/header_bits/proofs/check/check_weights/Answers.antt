@@ -8,7 +8,7 @@ returns-in_err-check_weight c =
     let p = err_from_is_err_and c.from_residual.result c.from_residual.ensures.1 in
     let fits : SFits w32 (get_or c.args.weights.now c.loop-weight.weight-index (pos 0)) = search rules in
     let bad = simp (to_z-of_z fits) at c.in_err-check_weight.ensures in
-    rw (p.1, p.2) (sym (entry_refused c.args.bits c.loop-weight.weight-index c.args.weights.now _ c.in_err-check_weight.field-0.0 c.loop-weight-test.true c.loop-weight.invariant (sym bad)))
+    rw (p.1, p.2) (sym (entry_refused _ _ _ _ _ c.loop-weight-test.true c.loop-weight.invariant (sym bad)))
 
 pub loop-weight-preserved : goal.loop-weight-preserved
 loop-weight-preserved c =

@@ -10,4 +10,5 @@ pub returns-in-Each-clause-value : goal.returns-in-Each-clause-value
 returns-in-Each-clause-value c =
     let is = c.in-Sample.is ∙ ap (λ (s : CountStart). Sample c.in-Sample.umax c.in-Sample.gamma_star c.in-Sample.gamma_zero s) c.in-Each.is in
     let size = rw c.as_slice.ensures at c.table_bits.ensures.total in
-    size ∙ sym (constants_length c.in-Sample.umax c.in-Sample.gamma_star c.in-Sample.gamma_zero c.in-Each.table) ∙ ap (λ (x : Coder). length (constant_bits x)) (sym is)
+    size ∙ sym (constants_length c.in-Sample.umax c.in-Sample.gamma_star c.in-Sample.gamma_zero c.in-Each.table)
+    ∙ ap (λ (x : Coder). length (constant_bits x)) (sym is)

@@ -6,32 +6,43 @@ use Rattle.header_bits.proofs.TablePassing.{constants_absent, constants_short, c
 use Rattle.header_bits.proofs.constant_part.pass.Goals as goal
 
 pub returns-then-not-has_table : goal.returns-then-not-has_table
-returns-then-not-has_table c = constants_absent c.args.at c.args.image.now c.args.coder.now c.args.reader.now.left (sym c.has_table.ensures ∙ c.if-not-has_table.true)
+returns-then-not-has_table c = constants_absent _ _ _ _ (sym c.has_table.ensures ∙ c.if-not-has_table.true)
 
 pub returns-then-left-table_bits : goal.returns-then-left-table_bits
 returns-then-left-table_bits c =
     let size = rw c.bands-bands.ensures.value at c.table_bits.ensures.total in
-    constants_short c.args.at c.args.image.now c.args.coder.now c.args.reader.now.left (sym c.has_table.ensures ∙ c.if-not-has_table.false) (omega (arith, size, c.left.ensures, c.if-left-table_bits.true))
+    constants_short _ _ _ _ (sym c.has_table.ensures ∙ c.if-not-has_table.false) (omega (arith, size))
 
 pub pass_constants-requires : goal.pass_constants-requires
-pass_constants-requires c = record { whole = omega (arith, c.table_bits.ensures.total, total_table c.bands-bands.result 4, c.left.ensures, c.if-left-table_bits.false) }
+pass_constants-requires c = record { whole = omega (arith, total_table c.bands-bands.result 4) }
 
 pub returns-in_err-pass_constants : goal.returns-in_err-pass_constants
 returns-in_err-pass_constants c =
     let p = err_from_is_err_and c.from_residual.result c.from_residual.ensures.1 in
     let size = rw c.bands-bands.ensures.value at c.table_bits.ensures.total in
     let bad = rw (c.bands-bands.ensures.value, c.bits.ensures.value) at c.in_err-pass_constants.ensures.test in
-    rw (p.1, p.2) (constants_entry c.args.at c.args.image.now c.args.coder.now c.in_err-pass_constants.field-0.0 c.args.reader.now.left (sym c.has_table.ensures ∙ c.if-not-has_table.false) (omega (arith, size, c.left.ensures, c.if-left-table_bits.false)) (sym bad))
+    rw (p.1, p.2) (constants_entry _ _ _ _ _ (sym c.has_table.ensures ∙ c.if-not-has_table.false) (omega (arith, size)) (sym bad))
 
 pub pass_fill-requires-clause-whole : goal.pass_fill-requires-clause-whole
 pass_fill-requires-clause-whole c =
     let fill = rw c.number_bits-bits.ensures.value at c.fill_of.ensures.value in
-    rw c.in_ok-pass_constants.ensures.left (omega (arith, length-drop (c.bands-bands.result * 4) c.args.reader.now.left, c.table_bits.ensures.total, total_table c.bands-bands.result 4, fill, c.left.ensures, c.if-left-table_bits.false))
+    rw c.in_ok-pass_constants.ensures.left
+    (omega (arith, length-drop (c.bands-bands.result * 4) c.args.reader.now.left, total_table c.bands-bands.result 4, fill))
 
 pub returns : goal.returns
 returns c =
     let size = rw c.bands-bands.ensures.value at c.table_bits.ensures.total in
     let good = rw (c.bands-bands.ensures.value, c.bits.ensures.value) at c.in_ok-pass_constants.ensures.test in
-    let test = rw (c.fill_of.ensures.value, c.in_ok-pass_constants.ensures.left, c.number_bits-bits.ensures.value, c.bands-bands.ensures.value) at c.pass_fill.ensures.test in
-    let end = rw (c.fill_of.ensures.value, c.in_ok-pass_constants.ensures.left, c.number_bits-bits.ensures.value, c.bands-bands.ensures.value) at c.pass_fill.ensures.left in
-    constants_passed c.args.at c.args.image.now c.args.coder.now c.pass_fill.result c.args.reader.now.left c.pass_fill.new.reader.left (sym c.has_table.ensures ∙ c.if-not-has_table.false) (omega (arith, size, c.left.ensures, c.if-left-table_bits.false)) (sym good) test end
+    let test = rw (
+      c.fill_of.ensures.value,
+      c.in_ok-pass_constants.ensures.left,
+      c.number_bits-bits.ensures.value,
+      c.bands-bands.ensures.value,
+    ) at c.pass_fill.ensures.test in
+    let end = rw (
+      c.fill_of.ensures.value,
+      c.in_ok-pass_constants.ensures.left,
+      c.number_bits-bits.ensures.value,
+      c.bands-bands.ensures.value,
+    ) at c.pass_fill.ensures.left in
+    constants_passed _ _ _ _ _ _ (sym c.has_table.ensures ∙ c.if-not-has_table.false) (omega (arith, size)) (sym good) test end

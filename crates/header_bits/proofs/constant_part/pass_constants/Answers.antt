@@ -6,16 +6,18 @@ use Rattle.header_bits.proofs.Entries.{above_first, above_later, above_nothing}
 use Rattle.header_bits.proofs.constant_part.pass_constants.Goals as goal
 
 pub unwrap-constant-requires : goal.unwrap-constant-requires
-unwrap-constant-requires c = c.take.ensures.enough.1 (number_enough (c.args.count - c.loop.counter) (c.args.count - (c.loop.counter + 1)) 4 c.loop.reader.left (omega (arith, c.loop-test.true)) c.loop.invariant.whole)
+unwrap-constant-requires c =
+    c.take.ensures.enough.1 (number_enough (c.args.count - c.loop.counter) (c.args.count - (c.loop.counter + 1)) 4 _ (omega arith) c.loop.invariant.whole)
 
 pub returns-then-from-constant-clause-test : goal.returns-then-from-constant-clause-test
 returns-then-from-constant-clause-test c =
     let left : c.args.count - c.loop.counter ≡ suc (c.args.count - (c.loop.counter + 1)) = omega (arith, c.loop-test.true) in
     let below = rw c.unwrap-constant.ensures at c.take.ensures.below in
     let taken = rw c.unwrap-constant.ensures at c.take.ensures.taken in
-    let next = number_next (c.args.count - c.loop.counter) (c.args.count - (c.loop.counter + 1)) 4 c.unwrap-constant.result c.loop.reader.left c.take.new.self.left left below taken in
-    let over = above_first c.args.most c.unwrap-constant.result (values (number_fields (c.args.count - (c.loop.counter + 1)) 4) c.take.new.self.left) (omega (arith, c.from.ensures, c.if-from-constant.true)) in
-    let found : some_above c.args.most (values (number_fields c.args.count 4) c.args.reader.now.left) ≡ true = sym c.loop.invariant.above ∙ ap (some_above c.args.most) next ∙ over in
+    let next = number_next (c.args.count - c.loop.counter) (c.args.count - (c.loop.counter + 1)) 4 _ _ _ left below taken in
+    let over = above_first _ _ (values (number_fields (c.args.count - (c.loop.counter + 1)) 4) c.take.new.self.left) (omega arith) in
+    let found : some_above c.args.most (values (number_fields c.args.count 4) c.args.reader.now.left) ≡ true =
+    sym c.loop.invariant.above ∙ ap (some_above c.args.most) next ∙ over in
     rw found refl
 
 pub loop-preserved : goal.loop-preserved
@@ -23,16 +25,17 @@ loop-preserved c =
     let left : c.args.count - c.loop.counter ≡ suc (c.args.count - (c.loop.counter + 1)) = omega (arith, c.loop-test.true) in
     let below = rw c.unwrap-constant.ensures at c.take.ensures.below in
     let taken = rw c.unwrap-constant.ensures at c.take.ensures.taken in
-    let next = number_next (c.args.count - c.loop.counter) (c.args.count - (c.loop.counter + 1)) 4 c.unwrap-constant.result c.loop.reader.left c.take.new.self.left left below taken in
-    let later = above_later c.args.most c.unwrap-constant.result (values (number_fields (c.args.count - (c.loop.counter + 1)) 4) c.take.new.self.left) (omega (arith, c.from.ensures, c.if-from-constant.false)) in
+    let next = number_next (c.args.count - c.loop.counter) (c.args.count - (c.loop.counter + 1)) 4 _ _ _ left below taken in
+    let later = above_later _ _ (values (number_fields (c.args.count - (c.loop.counter + 1)) 4) c.take.new.self.left) (omega arith) in
     record {
       above = sym (ap (some_above c.args.most) next ∙ later) ∙ c.loop.invariant.above;
-      rest = number_rest (c.args.count - c.loop.counter) (c.args.count - (c.loop.counter + 1)) 4 c.unwrap-constant.result c.loop.reader.left c.take.new.self.left left below taken ∙ c.loop.invariant.rest;
-      whole = number_whole (c.args.count - c.loop.counter) (c.args.count - (c.loop.counter + 1)) 4 c.unwrap-constant.result c.loop.reader.left c.take.new.self.left left c.loop.invariant.whole taken;
+      rest = number_rest (c.args.count - c.loop.counter) (c.args.count - (c.loop.counter + 1)) 4 _ _ _ left below taken ∙ c.loop.invariant.rest;
+      whole = number_whole (c.args.count - c.loop.counter) (c.args.count - (c.loop.counter + 1)) 4 _ _ _ left c.loop.invariant.whole taken;
     }
 
 pub returns-clause-test : goal.returns-clause-test
 returns-clause-test c =
     let none = numbers_none (c.args.count - c.loop.counter) 4 c.loop.reader.left (omega (arith, c.loop-test.false)) in
-    let clear : some_above c.args.most (values (number_fields c.args.count 4) c.args.reader.now.left) ≡ false = sym c.loop.invariant.above ∙ ap (some_above c.args.most) none ∙ above_nothing c.args.most in
+    let clear : some_above c.args.most (values (number_fields c.args.count 4) c.args.reader.now.left) ≡ false =
+    sym c.loop.invariant.above ∙ ap (some_above c.args.most) none ∙ above_nothing c.args.most in
     rw clear refl

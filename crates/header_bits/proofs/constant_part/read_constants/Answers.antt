@@ -6,20 +6,23 @@ use Rattle.header_bits.proofs.TableNumbers.{number_next, number_enough, number_w
 use Rattle.header_bits.proofs.constant_part.read_constants.Goals as goal
 
 pub unwrap-constant-requires : goal.unwrap-constant-requires
-unwrap-constant-requires c = c.take.ensures.enough.1 (number_enough (c.args.count - c.loop.counter) (c.args.count - (c.loop.counter + 1)) 4 c.loop.reader.left (omega (arith, c.loop-test.true)) c.loop.invariant.whole)
+unwrap-constant-requires c =
+    c.take.ensures.enough.1 (number_enough (c.args.count - c.loop.counter) (c.args.count - (c.loop.counter + 1)) 4 _ (omega arith) c.loop.invariant.whole)
 
 pub loop-preserved : goal.loop-preserved
 loop-preserved c =
     let left : c.args.count - c.loop.counter ≡ suc (c.args.count - (c.loop.counter + 1)) = omega (arith, c.loop-test.true) in
     let below = rw c.unwrap-constant.ensures at c.take.ensures.below in
     let taken = rw c.unwrap-constant.ensures at c.take.ensures.taken in
-    let next = number_next (c.args.count - c.loop.counter) (c.args.count - (c.loop.counter + 1)) 4 c.unwrap-constant.result c.loop.reader.left c.take.new.self.left left below taken in
+    let next = number_next (c.args.count - c.loop.counter) (c.args.count - (c.loop.counter + 1)) 4 _ _ _ left below taken in
     let later : List ℕ = values (number_fields (c.args.count - (c.loop.counter + 1)) 4) c.take.new.self.left in
     record {
-      read = ap (λ (x : List ℕ). x ++ later) c.in_ok-push.ensures.items ∙ append_assoc c.loop.constants.items (c.unwrap-constant.result ∷ []) later ∙ ap (λ (x : List ℕ). c.loop.constants.items ++ x) (sym next) ∙ c.loop.invariant.read;
-      whole = number_whole (c.args.count - c.loop.counter) (c.args.count - (c.loop.counter + 1)) 4 c.unwrap-constant.result c.loop.reader.left c.take.new.self.left left c.loop.invariant.whole taken;
+      read = ap (λ (x : List ℕ). x ++ later) c.in_ok-push.ensures.items ∙ append_assoc _ (c.unwrap-constant.result ∷ []) later
+          ∙ ap (λ (x : List ℕ). c.loop.constants.items ++ x) (sym next) ∙ c.loop.invariant.read;
+      whole = number_whole (c.args.count - c.loop.counter) (c.args.count - (c.loop.counter + 1)) 4 _ _ _ left c.loop.invariant.whole taken;
     }
 
 pub returns-clause-constants : goal.returns-clause-constants
 returns-clause-constants c =
-    sym (append-nil c.loop.constants.items) ∙ ap (λ (x : List ℕ). c.loop.constants.items ++ x) (sym (numbers_none (c.args.count - c.loop.counter) 4 c.loop.reader.left (omega (arith, c.loop-test.false)))) ∙ c.loop.invariant.read
+    sym (append-nil c.loop.constants.items)
+    ∙ ap (λ (x : List ℕ). c.loop.constants.items ++ x) (sym (numbers_none (c.args.count - c.loop.counter) 4 _ (omega arith))) ∙ c.loop.invariant.read

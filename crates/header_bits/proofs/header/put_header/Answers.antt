@@ -12,7 +12,7 @@ pub write_values-requires-clause-values : goal.write_values-requires-clause-valu
 write_values-requires-clause-values c = rw (c.numbers-image.ensures, c.of.ensures) (image_held c.args.params.now c.requires)
 
 pub unwrap-requires : goal.unwrap-requires
-unwrap-requires c = c.write_values.ensures.within (omega (arith, c.in_ok-reserve.ensures.room, c.header_bits.ensures, header_length c.args.params.now c.requires, image_total))
+unwrap-requires c = c.write_values.ensures.within (omega (arith, c.in_ok-reserve.ensures.room, header_length c.args.params.now c.requires, image_total))
 
 pub write_values-requires-2-clause-values : goal.write_values-requires-2-clause-values
 write_values-requires-2-clause-values c = rw (c.numbers-predictor.ensures, c.of-2.ensures) (predictor_held c.args.params.now c.requires)
@@ -20,7 +20,8 @@ write_values-requires-2-clause-values c = rw (c.numbers-predictor.ensures, c.of-
 pub unwrap-requires-2 : goal.unwrap-requires-2
 unwrap-requires-2 c =
     let first = rw c.unwrap.ensures at c.write_values.ensures.room in
-    c.write_values-2.ensures.within (omega (arith, c.in_ok-reserve.ensures.room, c.header_bits.ensures, header_length c.args.params.now c.requires, first, image_total, predictor_total))
+    c.write_values-2.ensures.within
+    (omega (arith, c.in_ok-reserve.ensures.room, header_length c.args.params.now c.requires, first, image_total, predictor_total))
 
 pub put-requires-clause-room : goal.put-requires-clause-room
 put-requires-clause-room c =
@@ -32,14 +33,15 @@ pub unwrap-requires-3 : goal.unwrap-requires-3
 unwrap-requires-3 c =
     let first = rw c.unwrap.ensures at c.write_values.ensures.room in
     let second = rw c.unwrap-2.ensures at c.write_values-2.ensures.room in
-    c.put_coder.ensures.within (omega (arith, c.in_ok-reserve.ensures.room, c.header_bits.ensures, header_length c.args.params.now c.requires, first, second, c.put.ensures.room, image_total, predictor_total))
+    c.put_coder.ensures.within
+    (omega (arith, c.in_ok-reserve.ensures.room, header_length c.args.params.now c.requires, first, second, image_total, predictor_total))
 
 pub put-requires-2-clause-room : goal.put-requires-2-clause-room
 put-requires-2-clause-room c =
     let first = rw c.unwrap.ensures at c.write_values.ensures.room in
     let second = rw c.unwrap-2.ensures at c.write_values-2.ensures.room in
     let fourth = rw c.unwrap-3.ensures at c.put_coder.ensures.room in
-    omega (arith, c.in_ok-reserve.ensures.room, c.header_bits.ensures, header_length c.args.params.now c.requires, first, second, c.put.ensures.room, fourth, image_total, predictor_total)
+    omega (arith, c.in_ok-reserve.ensures.room, header_length c.args.params.now c.requires, first, second, fourth, image_total, predictor_total)
 
 pub returns-clause-appended : goal.returns-clause-appended
 returns-clause-appended c =
@@ -56,4 +58,4 @@ returns-clause-room c =
     let first = rw c.unwrap.ensures at c.write_values.ensures.room in
     let second = rw c.unwrap-2.ensures at c.write_values-2.ensures.room in
     let fourth = rw c.unwrap-3.ensures at c.put_coder.ensures.room in
-    omega (arith, c.reserve.ensures.kept, c.header_bits.ensures, header_length c.args.params.now c.requires, first, second, c.put.ensures.room, fourth, c.put-2.ensures.room, image_total, predictor_total)
+    omega (arith, header_length c.args.params.now c.requires, first, second, fourth, image_total, predictor_total)

@@ -18,12 +18,12 @@ loop-i-preserved c =
     let below = rw (c.unwrap-code.ensures, c.width.ensures) at c.take.ensures.below in
     let taken = rw (c.unwrap-code.ensures, c.width.ensures) at c.take.ensures.taken in
     record {
-      read = has_read_more c.args.slots.now c.args.reader.now.left c.loop-i.i c.loop-i.out c.loop-i.reader.left c.take.new.self.left c.unwrap-code.result c.value.result c.loop-i-test.true c.loop-i.invariant.read below taken c.value.ensures;
+      read = has_read_more _ _ _ _ _ _ _ _ c.loop-i-test.true c.loop-i.invariant.read below taken c.value.ensures;
       count = c.take.ensures.count ∙ c.loop-i.invariant.count;
     }
 
 pub returns-clause-values : goal.returns-clause-values
-returns-clause-values c = (has_read_all c.args.slots.now c.args.reader.now.left c.loop-i.i c.loop-i.out c.loop-i.reader.left c.loop-i-test.false c.loop-i.invariant.read).0
+returns-clause-values c = (has_read_all _ _ _ _ _ c.loop-i-test.false c.loop-i.invariant.read).0
 
 pub returns-clause-left : goal.returns-clause-left
-returns-clause-left c = (has_read_all c.args.slots.now c.args.reader.now.left c.loop-i.i c.loop-i.out c.loop-i.reader.left c.loop-i-test.false c.loop-i.invariant.read).1
+returns-clause-left c = (has_read_all _ _ _ _ _ c.loop-i-test.false c.loop-i.invariant.read).1

@@ -4,8 +4,8 @@ use Rattle.header_bits.proofs.layout.total_bits.Goals as goal
 
 pub loop-slot-preserved : goal.loop-slot-preserved
 loop-slot-preserved c = record {
-  so_far = omega (arith, c.loop-slot.invariant.so_far, c.width.ensures, c.from-bits.ensures, total_left c.args.slots.now c.loop-slot.slot-index c.loop-slot-test.true);
-  most = omega (arith, c.loop-slot.invariant.most, c.width.ensures, c.from-bits.ensures, narrow_width c.args.slots.now c.loop-slot.slot-index c.loop-slot-test.true c.requires.narrow);
+  so_far = omega (arith, total_left c.args.slots.now c.loop-slot.slot-index c.loop-slot-test.true);
+  most = omega (arith, narrow_width c.args.slots.now c.loop-slot.slot-index c.loop-slot-test.true c.requires.narrow);
 }
 
 pub returns-clause-total : goal.returns-clause-total

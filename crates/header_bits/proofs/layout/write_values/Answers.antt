@@ -8,7 +8,7 @@ loop-i-preserved c =
     let pushed = rw (c.code.ensures.code, c.width.ensures) at c.in_ok-push.ensures.appended in
     record {
       fit = (next_fits c.args.slots.now c.args.values.now c.loop-i.i c.loop-i-test.true in_values c.loop-i.invariant.fit).1;
-      written = written_more c.args.slots.now c.args.values.now c.loop-i.i _ c.loop-i.writer.bits c.push.new.self.bits c.loop-i-test.true in_values c.loop-i.invariant.written pushed;
+      written = written_more _ _ _ _ _ _ c.loop-i-test.true in_values c.loop-i.invariant.written pushed;
       room = omega (arith, c.loop-i.invariant.room, c.in_ok-push.ensures.room, c.width.ensures, total_left c.args.slots.now c.loop-i.i c.loop-i-test.true);
     }
 
@@ -17,5 +17,5 @@ returns-clause-bits c = written_all c.args.slots.now c.args.values.now c.loop-i.
 
 pub returns-in_err-push-clause-within : goal.returns-in_err-push-clause-within
 returns-in_err-push-clause-within c = λ h.
-    let never = c.in_err-push.ensures.within (omega (arith, h, c.loop-i.invariant.room, c.width.ensures, total_left c.args.slots.now c.loop-i.i c.loop-i-test.true)) in
+    let never = c.in_err-push.ensures.within (omega (arith, h, total_left c.args.slots.now c.loop-i.i c.loop-i-test.true)) in
     absurd cc

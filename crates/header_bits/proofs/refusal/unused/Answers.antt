@@ -4,7 +4,8 @@ use Rattle.header_bits.proofs.Unused.{unused_next, unused_found, unused_done}
 use Rattle.header_bits.proofs.refusal.unused.Goals as goal
 
 pub returns-then-value-n-ne0 : goal.returns-then-value-n-ne0
-returns-then-value-n-ne0 c = ap (λ (k : ℕ). Err (Reserved (c.args.at + k))) c.from.ensures ∙ sym (unused_found c.args.at c.args.n c.loop-i.i c.args.value _ c.loop-i-test.true c.loop-i.invariant c.if-value-n-ne0.true)
+returns-then-value-n-ne0 c =
+    ap (λ (k : ℕ). Err (Reserved (c.args.at + k))) c.from.ensures ∙ sym (unused_found _ _ _ _ _ c.loop-i-test.true c.loop-i.invariant c.if-value-n-ne0.true)
 
 pub loop-i-preserved : goal.loop-i-preserved
 loop-i-preserved c = unused_next c.args.at c.args.n c.loop-i.i c.args.value _ c.loop-i-test.true c.loop-i.invariant c.if-value-n-ne0.false

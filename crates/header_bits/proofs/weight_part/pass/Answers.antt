@@ -10,19 +10,27 @@ returns-then-not-predictor c = weights_absent c.args.image.now c.args.predictor.
 pub returns-then-left-table_bits : goal.returns-then-left-table_bits
 returns-then-left-table_bits c =
     let size = rw c.count_for-count.ensures.count at c.table_bits.ensures.total in
-    weights_short c.args.image.now c.args.predictor.now c.args.reader.now.left c.if-not-predictor.false (omega (arith, size, c.left.ensures, c.if-left-table_bits.true))
+    weights_short c.args.image.now c.args.predictor.now c.args.reader.now.left c.if-not-predictor.false (omega (arith, size))
 
 pub skip-requires : goal.skip-requires
-skip-requires c = omega (arith, c.table_bits.ensures.total, total_table c.count_for-count.result c.args.predictor.now.resolution, c.number_bits-bits.ensures.value, c.left.ensures, c.if-left-table_bits.false)
+skip-requires c = omega (arith, total_table c.count_for-count.result c.args.predictor.now.resolution)
 
 pub pass_fill-requires-clause-whole : goal.pass_fill-requires-clause-whole
 pass_fill-requires-clause-whole c =
     let fill = rw c.number_bits-bits.ensures.value at c.fill_of.ensures.value in
-    rw c.skip.ensures.left (omega (arith, length-drop c.number_bits-bits.result c.args.reader.now.left, c.table_bits.ensures.total, total_table c.count_for-count.result c.args.predictor.now.resolution, fill, c.number_bits-bits.ensures.value, c.left.ensures, c.if-left-table_bits.false))
+    rw c.skip.ensures.left (omega
+    (arith, length-drop c.number_bits-bits.result c.args.reader.now.left, total_table c.count_for-count.result c.args.predictor.now.resolution, fill))
 
 pub returns : goal.returns
 returns c =
     let size = rw c.count_for-count.ensures.count at c.table_bits.ensures.total in
-    let test = rw (c.predictor_end.ensures, c.fill_of.ensures.value, c.skip.ensures.left, c.number_bits-bits.ensures.value, c.count_for-count.ensures.count) at c.pass_fill.ensures.test in
-    let end = rw (c.fill_of.ensures.value, c.skip.ensures.left, c.number_bits-bits.ensures.value, c.count_for-count.ensures.count) at c.pass_fill.ensures.left in
-    weights_passed c.args.image.now c.args.predictor.now c.pass_fill.result c.args.reader.now.left c.pass_fill.new.reader.left c.if-not-predictor.false (omega (arith, size, c.left.ensures, c.if-left-table_bits.false)) test end
+    let test = rw (
+      c.predictor_end.ensures,
+      c.fill_of.ensures.value,
+      c.skip.ensures.left,
+      c.number_bits-bits.ensures.value,
+      c.count_for-count.ensures.count,
+    ) at c.pass_fill.ensures.test in
+    let end =
+    rw (c.fill_of.ensures.value, c.skip.ensures.left, c.number_bits-bits.ensures.value, c.count_for-count.ensures.count) at c.pass_fill.ensures.left in
+    weights_passed _ _ _ _ _ c.if-not-predictor.false (omega (arith, size)) test end

@@ -5,10 +5,11 @@ use Rattle.header_bits.proofs.TableWriting.{weights_lawful, start_text, start_le
 use Rattle.header_bits.proofs.weight_part.put.Goals as goal
 
 pub put_weights-requires-clause-room : goal.put_weights-requires-clause-room
-put_weights-requires-clause-room c = rw c.as_slice-weights.ensures (omega (arith, c.requires.room, start_length c.in-Table.q c.in-Table.values c.args.params.now.start c.in-Table.is))
+put_weights-requires-clause-room c =
+    rw c.as_slice-weights.ensures (omega (arith, start_length c.in-Table.q c.in-Table.values c.args.params.now.start c.in-Table.is))
 
 pub number_bits-requires-clause-count : goal.number_bits-requires-clause-count
-number_bits-requires-clause-count c = rw c.as_slice-weights.ensures (weights_lawful c.args.params.now c.in-Table.q c.in-Table.values c.requires.lawful c.in-Table.is).count
+number_bits-requires-clause-count c = rw c.as_slice-weights.ensures (weights_lawful _ _ _ c.requires.lawful c.in-Table.is).count
 
 pub put_fill-requires : goal.put_fill-requires
 put_fill-requires c =
@@ -22,7 +23,7 @@ returns-in-Table-clause-bits c =
     let numbers = rw c.as_slice-weights.ensures at c.put_weights.ensures.bits in
     let fill = rw size at c.put_fill.ensures.bits in
     let zeros : List Bool = bits_of (fill_of (length c.in-Table.values * c.in-Table.q)) 0 in
-    fill ∙ ap (λ (x : List Bool). x ++ zeros) numbers ∙ append_assoc c.args.writer.now.bits (numbers_text c.in-Table.q (map (signed_code c.in-Table.q) c.in-Table.values)) zeros
+    fill ∙ ap (λ (x : List Bool). x ++ zeros) numbers ∙ append_assoc _ (numbers_text c.in-Table.q (map (signed_code c.in-Table.q) c.in-Table.values)) zeros
     ∙ ap (λ (x : List Bool). c.args.writer.now.bits ++ x) (sym (start_text c.in-Table.q c.in-Table.values c.args.params.now.start c.in-Table.is))
 
 pub returns-in-Table-clause-room : goal.returns-in-Table-clause-room

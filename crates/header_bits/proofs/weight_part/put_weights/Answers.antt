@@ -10,17 +10,17 @@ signed_code-requires-clause-signed c =
 
 pub unwrap-requires : goal.unwrap-requires
 unwrap-requires c =
-    c.push.ensures.within (writing_enough c.args.bits _ _ _ _ c.args.writer.now c.loop-weight.writer (code_left c.args.bits c.args.weights.now c.loop-weight.weight-index c.loop-weight-test.true) c.requires.room c.loop-weight.invariant)
+    c.push.ensures.within (writing_enough _ _ _ _ _ _ _ (code_left _ _ _ c.loop-weight-test.true) c.requires.room c.loop-weight.invariant)
 
 pub loop-weight-preserved : goal.loop-weight-preserved
 loop-weight-preserved c =
     let fits : SFits w32 (get_or c.args.weights.now c.loop-weight.weight-index (pos 0)) = search rules in
     let appended = rw (c.unwrap.ensures, c.signed_code.ensures.code, to_z-of_z fits) at c.push.ensures.appended in
     let room = rw c.unwrap.ensures at c.push.ensures.room in
-    writing_next c.args.bits _ _ _ _ c.args.writer.now c.loop-weight.writer c.push.new.self (code_left c.args.bits c.args.weights.now c.loop-weight.weight-index c.loop-weight-test.true) c.loop-weight.invariant appended room
+    writing_next _ _ _ _ _ _ _ _ (code_left _ _ _ c.loop-weight-test.true) c.loop-weight.invariant appended room
 
 pub returns-clause-bits : goal.returns-clause-bits
-returns-clause-bits c = (writing_end c.args.bits _ _ c.args.writer.now c.loop-weight.writer (no_code_left c.args.bits c.args.weights.now c.loop-weight.weight-index c.loop-weight-test.false) c.loop-weight.invariant).0
+returns-clause-bits c = (writing_end _ _ _ _ _ (no_code_left _ _ _ c.loop-weight-test.false) c.loop-weight.invariant).0
 
 pub returns-clause-room : goal.returns-clause-room
-returns-clause-room c = (writing_end c.args.bits _ _ c.args.writer.now c.loop-weight.writer (no_code_left c.args.bits c.args.weights.now c.loop-weight.weight-index c.loop-weight-test.false) c.loop-weight.invariant).1
+returns-clause-room c = (writing_end _ _ _ _ _ (no_code_left _ _ _ c.loop-weight-test.false) c.loop-weight.invariant).1

@@ -6,23 +6,26 @@ use Rattle.header_bits.proofs.TableNumbers.{number_next, number_enough, number_w
 use Rattle.header_bits.proofs.weight_part.read_weights.Goals as goal
 
 pub unwrap-code-requires : goal.unwrap-code-requires
-unwrap-code-requires c = c.take.ensures.enough.1 (number_enough (c.args.count - c.loop.counter) (c.args.count - (c.loop.counter + 1)) c.args.bits c.loop.reader.left (omega (arith, c.loop-test.true)) c.loop.invariant.whole)
+unwrap-code-requires c =
+    c.take.ensures.enough.1 (number_enough (c.args.count - c.loop.counter) (c.args.count - (c.loop.counter + 1)) _ _ (omega arith) c.loop.invariant.whole)
 
 pub loop-preserved : goal.loop-preserved
 loop-preserved c =
     let left : c.args.count - c.loop.counter ≡ suc (c.args.count - (c.loop.counter + 1)) = omega (arith, c.loop-test.true) in
     let below = rw c.unwrap-code.ensures at c.take.ensures.below in
     let taken = rw c.unwrap-code.ensures at c.take.ensures.taken in
-    let next = number_next (c.args.count - c.loop.counter) (c.args.count - (c.loop.counter + 1)) c.args.bits c.unwrap-code.result c.loop.reader.left c.take.new.self.left left below taken in
+    let next = number_next (c.args.count - c.loop.counter) (c.args.count - (c.loop.counter + 1)) _ _ _ _ left below taken in
     let later : List ℤ = map (signed_of c.args.bits) (values (number_fields (c.args.count - (c.loop.counter + 1)) c.args.bits) c.take.new.self.left) in
     let fits : SFits w32 c.signed_of.result = search rules in
     let pushed = rw (to_z-of_z fits) at c.in_ok-push.ensures.items in
     record {
-      read = ap (λ (x : List ℤ). x ++ later) pushed ∙ append_assoc c.loop.weights.items (c.signed_of.result ∷ []) later ∙ ap (λ (v : ℤ). c.loop.weights.items ++ v ∷ later) c.signed_of.ensures
+      read = ap (λ (x : List ℤ). x ++ later) pushed ∙ append_assoc _ (c.signed_of.result ∷ []) later
+          ∙ ap (λ (v : ℤ). c.loop.weights.items ++ v ∷ later) c.signed_of.ensures
           ∙ ap (λ (x : List ℕ). c.loop.weights.items ++ map (signed_of c.args.bits) x) (sym next) ∙ c.loop.invariant.read;
-      whole = number_whole (c.args.count - c.loop.counter) (c.args.count - (c.loop.counter + 1)) c.args.bits c.unwrap-code.result c.loop.reader.left c.take.new.self.left left c.loop.invariant.whole taken;
+      whole = number_whole (c.args.count - c.loop.counter) (c.args.count - (c.loop.counter + 1)) _ _ _ _ left c.loop.invariant.whole taken;
     }
 
 pub returns-clause-weights : goal.returns-clause-weights
 returns-clause-weights c =
-    sym (append-nil c.loop.weights.items) ∙ ap (λ (x : List ℕ). c.loop.weights.items ++ map (signed_of c.args.bits) x) (sym (numbers_none (c.args.count - c.loop.counter) c.args.bits c.loop.reader.left (omega (arith, c.loop-test.false)))) ∙ c.loop.invariant.read
+    sym (append-nil c.loop.weights.items) ∙ ap (λ (x : List ℕ). c.loop.weights.items ++ map (signed_of c.args.bits) x)
+    (sym (numbers_none (c.args.count - c.loop.counter) _ _ (omega arith))) ∙ c.loop.invariant.read

@@ -6,4 +6,4 @@ loop-sender-preserved g c =
     let long = ap length c.send_run.ensures.taken in
     let new = length-append c.send_run.new.sender.sent c.send_run.new.waiting in
     let old = length-append c.loop-sender.sender.sent c.loop-sender.waiting in
-    (c.send_run.ensures.lane ∙ c.loop-sender.invariant.0, c.send_run.ensures.taken ∙ c.loop-sender.invariant.1, omega (arith, long, new, old, c.loop-sender.invariant.2))
+    (c.send_run.ensures.lane ∙ c.loop-sender.invariant.0, c.send_run.ensures.taken ∙ c.loop-sender.invariant.1, omega (arith, long, new, old))

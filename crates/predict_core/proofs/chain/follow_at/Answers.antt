@@ -1,4 +1,5 @@
-use Rattle.std.proofs.Common.{◌≡◌, ◌≤◌, ◌-◌, ◌^◌, ℤ, pos, negsuc, ◌≤ℤ◌, ◌+ℤ◌, ◌*ℤ◌, List, false, ap, sym, ◌∙◌, int_le, take, SFits, w32, to_z, of_z, to_z-of_z, rules, arith, pow_mono}
+use Rattle.std.proofs.Common.{◌≡◌, ◌≤◌, ◌-◌, ◌^◌, ℤ, pos, negsuc, ◌≤ℤ◌, ◌+ℤ◌, ◌*ℤ◌, List, false, ap, sym, ◌∙◌, int_le, take, SFits, w32, to_z, of_z, to_z-of_z}
+use Rattle.std.proofs.Common.{rules, arith, pow_mono}
 use Rattle.std.proofs.lemmas.Int.{ints}
 use Rattle.cube_core.specs.Kind.{SampleKind, smin}
 use Rattle.predict_core.specs.declared.predictor.Predictor.{Predictor}
@@ -20,7 +21,8 @@ reckoned low sum h k = let a = h.0 in let b = h.1 in let d = k.0 in let e = k.1 
 
 -- a scaled prediction that is found by the range, and by a band's local sum
 found : (p : Predictor) (made k : SampleKind) (low sum whole v : ℤ) (ws us : List ℤ) → k ≡ made → low ≡ smin made → pos 4 *ℤ smin k +ℤ sum ≡ whole
-    → scaled_by p made (pos 4 *ℤ low +ℤ sum) ws us ≡ scaled_by_difference made v (pos 4 *ℤ low +ℤ sum) → scaled_by p k whole ws us ≡ scaled_by_difference k v whole
+    → scaled_by p made (pos 4 *ℤ low +ℤ sum) ws us ≡ scaled_by_difference made v (pos 4 *ℤ low +ℤ sum)
+    → scaled_by p k whole ws us ≡ scaled_by_difference k v whole
 found p made k low sum whole v ws us a b e h =
     let same : pos 4 *ℤ low +ℤ sum ≡ whole = ap (λ l. pos 4 *ℤ l +ℤ sum) (b ∙ ap smin (sym a)) ∙ e in
     rw (a, ← same) h
@@ -34,7 +36,7 @@ predicted_difference-predicted-requires-clause-differences_in g c =
     let s = c.args.settings.now in
     let bits : c.args.cube.now.kind.bits ≤ 16 = c.prove_is_cube.ensures.bits.1 in
     within_most c.args.cube.now.kind.bits c.args.differences.now bits
-    (rw c.requires.differences_are (padded_within s.predictor c.args.cube.now c.prove_is_cube.ensures c.args.y c.args.x c.requires.later (wide g d) s.band c.requires.place (18 - s.count)))
+    (rw c.requires.differences_are (padded_within s.predictor _ c.prove_is_cube.ensures _ _ c.requires.later (wide g d) s.band c.requires.place (18 - s.count)))
 
 pub follow-requires-clause-own_in : goal.follow-requires-clause-own_in
 follow-requires-clause-own_in g c =
@@ -53,13 +55,17 @@ follow-requires-clause-differences_in g c =
 
 -- the scaled prediction comes from the predicted difference
 module _ (g : given.Over) (c : After-predicted_difference-predicted g) where
-  from_difference : scaled_by c.args.settings.now.predictor c.args.cube.now.kind (local_sum c.args.settings.now.predictor c.args.cube.now c.args.settings.now.band c.args.y c.args.x) (take g.row.N c.args.weights.now) (take g.row.N c.args.differences.now)
-      ≡ scaled_by_difference c.args.cube.now.kind c.predicted_difference-predicted.result (local_sum c.args.settings.now.predictor c.args.cube.now c.args.settings.now.band c.args.y c.args.x)
+  from_difference : scaled_by c.args.settings.now.predictor c.args.cube.now.kind (local_sum c.args.settings.now.predictor c.args.cube.now
+      c.args.settings.now.band c.args.y c.args.x) (take g.row.N c.args.weights.now) (take g.row.N c.args.differences.now)
+      ≡ scaled_by_difference c.args.cube.now.kind c.predicted_difference-predicted.result
+      (local_sum c.args.settings.now.predictor c.args.cube.now c.args.settings.now.band c.args.y c.args.x)
   from_difference =
       let s = c.args.settings.now in
       let r = s.range in
       let fits : SFits w32 c.predicted_difference-predicted.result = search rules in
-      found s.predictor r.kind c.args.cube.now.kind r.smin c.args.sum (local_sum s.predictor c.args.cube.now s.band c.args.y c.args.x) c.predicted_difference-predicted.result (take g.row.N c.args.weights.now) (take g.row.N c.args.differences.now) c.requires.kind r.smin_is c.requires.sum_is
+      found s.predictor r.kind c.args.cube.now.kind r.smin c.args.sum
+      (local_sum s.predictor c.args.cube.now s.band c.args.y c.args.x) c.predicted_difference-predicted.result (take g.row.N c.args.weights.now)
+      (take g.row.N c.args.differences.now) c.requires.kind r.smin_is c.requires.sum_is
       (rw (reckoned r.smin c.args.sum r.low c.requires.sum_in) at c.predicted_difference-predicted.ensures.scaled)
 
 pub returns-clause-scaled : goal.returns-clause-scaled
@@ -68,12 +74,16 @@ returns-clause-scaled g c =
     let s = c.args.settings.now in
     let fits : SFits w32 c.predicted_difference-predicted.result = search rules in
     rw (to_z-of_z fits)
-    (scaled_from_room s.predictor c.args.cube.now s.band c.args.y c.args.x s.count g.row.N c.args.weights.now c.args.differences.now c.prove_is_cube.ensures c.requires.place s.count_is c.requires.enough c.requires.few c.requires.differences_are c.predicted_difference-predicted.result (from_difference g d))
+    (scaled_from_room s.predictor c.args.cube.now s.band c.args.y c.args.x s.count g.row.N c.args.weights.now c.args.differences.now c.prove_is_cube.ensures
+    c.requires.place s.count_is c.requires.enough c.requires.few c.requires.differences_are c.predicted_difference-predicted.result (from_difference g d))
 
 pub returns-clause-weights : goal.returns-clause-weights
 returns-clause-weights g c =
     let d = (goal.at.returns-clause-weights g c).After-predicted_difference-predicted in
     let s = c.args.settings.now in
     let fits : SFits w32 c.predicted_difference-predicted.result = search rules in
-    let moved = (simp (to_z-of_z c.ranges.own, to_z-of_z fits) at c.follow.ensures.weights) ∙ ap (λ f. updated_weights f c.args.steps.exponent (int_le c.args.own c.predicted_difference-predicted.result) (take g.row.N c.args.weights.now) (take g.row.N c.args.differences.now)) c.requires.fraction in
-    next_from_room s.predictor c.args.cube.now s.band c.args.y c.args.x s.count g.row.N c.args.weights.now c.args.differences.now c.prove_is_cube.ensures c.requires.place s.count_is c.requires.enough c.requires.few c.requires.differences_are c.predicted_difference-predicted.result (from_difference g d) c.follow.new.weights c.args.own c.args.steps.exponent c.requires.own_is c.requires.exponent moved
+    let moved = (simp (to_z-of_z c.ranges.own, to_z-of_z fits) at c.follow.ensures.weights)
+    ∙ ap (λ f. updated_weights f c.args.steps.exponent (int_le c.args.own c.predicted_difference-predicted.result) (take g.row.N c.args.weights.now)
+    (take g.row.N c.args.differences.now)) c.requires.fraction in
+    next_from_room s.predictor _ s.band _ _ s.count g.row.N _ _ c.prove_is_cube.ensures c.requires.place s.count_is c.requires.enough c.requires.few
+    c.requires.differences_are _ (from_difference g d) _ _ _ c.requires.own_is c.requires.exponent moved

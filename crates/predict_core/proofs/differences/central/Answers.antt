@@ -7,4 +7,5 @@ returns-clause-value c =
     let fits : SFits w32 c.central_of.result = search rules in
     let upper = rw c.saturating_sub.ensures at c.row-above.ensures.samples in
     rw (to_z-of_z fits)
-    (c.central_of.ensures.value ∙ sym (central_of_offsets c.args.predictor.now c.args.cube.now c.args.z c.args.y c.args.x c.row-row.result.now c.row-above.result.now c.requires.place.column c.row-row.ensures.len c.row-row.ensures.samples upper c.requires.later c.requires.wide))
+    (c.central_of.ensures.value
+    ∙ sym (central_of_offsets _ _ _ _ _ _ _ c.requires.place.column c.row-row.ensures.len c.row-row.ensures.samples upper c.requires.later c.requires.wide))

@@ -18,7 +18,7 @@ loop-i-preserved c =
     let heads : c.args.first ≡ length (take c.args.first c.args.out.now) = sym (length-take-le c.args.first c.args.out.now (omega arith)) in
     rw (to_z-of_z fits)
     (record {
-      filled = filled_next c.args.predictor.now c.args.cube.now c.args.z c.args.y c.args.x c.args.first c.loop-i.i (take c.args.first c.args.out.now) c.loop-i.out c.central.result heads (omega arith) c.central.ensures.value c.loop-i.invariant.filled;
+      filled = filled_next _ _ _ _ _ _ _ (take c.args.first c.args.out.now) _ _ heads (omega arith) c.central.ensures.value c.loop-i.invariant.filled;
       bound = step_bound 262144 c.loop-i.out _ c.central.result c.loop-i.invariant.bound c.central.ensures.bound;
       long = rw length-set c.loop-i.invariant.long;
     })
@@ -26,4 +26,5 @@ loop-i-preserved c =
 pub returns-clause-value : goal.returns-clause-value
 returns-clause-value c =
     let done : c.loop-i.i ≡ c.args.count = omega arith in
-    subst (λ n. c.loop-i.out ≡ take c.args.first c.args.out.now ++ spectral_differences c.args.predictor.now c.args.cube.now c.args.z c.args.y c.args.x n ++ replicate (18 - c.args.first - n) (pos 0)) done c.loop-i.invariant.filled
+    subst (λ n. c.loop-i.out ≡ take c.args.first c.args.out.now ++ spectral_differences c.args.predictor.now c.args.cube.now c.args.z c.args.y c.args.x n
+    ++ replicate (18 - c.args.first - n) (pos 0)) done c.loop-i.invariant.filled

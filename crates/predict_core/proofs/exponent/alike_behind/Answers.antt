@@ -17,5 +17,6 @@ returns-then-predictor-intervals-clause-alike c k l =
     let top : p.vmax ≤ℤ (p.vmin +ℤ pos c.intervals_in-intervals.result) = omega (arith, ints, least, greatest, order, small) in
     let most : p.vmax ≤ℤ (p.vmin +ℤ pos (c.args.t / 2 ^ p.interval_log)) = rw value at top in
     let grows : c.args.t / 2 ^ p.interval_log ≤ (c.args.t + k) / 2 ^ p.interval_log =
-    le-div (c.args.t / 2 ^ p.interval_log) (c.args.t + k) (2 ^ p.interval_log) (pow_pos p.interval_log) (le_trans (div-mul-le_self c.args.t (2 ^ p.interval_log)) (omega arith)) in
+    le-div (c.args.t / 2 ^ p.interval_log) (c.args.t + k) (2 ^ p.interval_log) (pow_pos p.interval_log)
+    (le_trans (div-mul-le_self c.args.t (2 ^ p.interval_log)) (omega arith)) in
     alike_at_most p.vmin p.vmax (c.args.t / 2 ^ p.interval_log) ((c.args.t + k) / 2 ^ p.interval_log) order most grows

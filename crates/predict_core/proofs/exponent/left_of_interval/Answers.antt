@@ -3,7 +3,7 @@ use Rattle.predict_core.proofs.Intervals.{interval_end}
 use Rattle.predict_core.proofs.exponent.left_of_interval.Goals as goal
 
 pub overflow_sub-result : goal.overflow_sub-result
-overflow_sub-result c = let e = interval_end c.args.interval_log c.args.t c.args.intervals c.requires.interval_in c.requires.t_in c.requires.intervals_are in omega (arith, e)
+overflow_sub-result c = let e = interval_end _ _ _ c.requires.interval_in c.requires.t_in c.requires.intervals_are in omega (arith, e)
 
 pub returns-clause-some : goal.returns-clause-some
-returns-clause-some c = let e = interval_end c.args.interval_log c.args.t c.args.intervals c.requires.interval_in c.requires.t_in c.requires.intervals_are in omega (arith, e)
+returns-clause-some c = let e = interval_end _ _ _ c.requires.interval_in c.requires.t_in c.requires.intervals_are in omega (arith, e)

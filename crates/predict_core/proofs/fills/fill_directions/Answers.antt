@@ -23,9 +23,10 @@ loop-i-preserved c =
     let own_inside : c.loop-i.i < length c.loop-i.own = omega (arith, kept.own_long, c.loop-i-test.true) in
     let inside : c.loop-i.i < length c.loop-i.out = omega (arith, kept.long, c.loop-i-test.true) in
     record {
-      sums = written_next (pos 0) (λ k. pos (line_sum c.args.column c.args.lines.now.current c.args.lines.now.above k)) c.loop-i.sums c.loop-i.i _ sums_inside sum kept.sums;
-      own = written_next (pos 0) (line_difference c.args.column c.args.lines.now.current c.args.lines.now.above) c.loop-i.own c.loop-i.i _ own_inside own kept.own;
-      done = written_next [] (λ k. line_directions c.args.column c.args.lines.now.current c.args.lines.now.above k ++ line_difference c.args.column c.args.below.now.current c.args.below.now.above k ∷ []) c.loop-i.out c.loop-i.i _ inside (rw (north, west, north_west, below) refl) kept.done;
+      sums = written_next (pos 0) (λ k. pos (line_sum c.args.column c.args.lines.now.current c.args.lines.now.above k)) _ _ _ sums_inside sum kept.sums;
+      own = written_next (pos 0) (line_difference c.args.column c.args.lines.now.current c.args.lines.now.above) _ _ _ own_inside own kept.own;
+      done = written_next [] (λ k. line_directions c.args.column c.args.lines.now.current c.args.lines.now.above k ++ line_difference c.args.column
+          c.args.below.now.current c.args.below.now.above k ∷ []) _ _ _ inside (rw (north, west, north_west, below) refl) kept.done;
       sums_long = rw length-set kept.sums_long;
       own_long = rw length-set kept.own_long;
       long = rw length-set kept.long;

@@ -4,6 +4,7 @@ use Rattle.predict_core.proofs.fills.fill_four.Given as goal
 
 abbrev pub invariant-loop-i : goal.invariant-loop-i
 invariant-loop-i l = record {
-  done : (k : ℕ) → k < l.i → slice_index_or l.out k [] ≡ line_difference l.column l.first.current l.first.above k ∷ line_difference l.column l.second.current l.second.above k ∷ line_difference l.column l.third.current l.third.above k ∷ line_difference l.column l.fourth.current l.fourth.above k ∷ [];
+  done : (k : ℕ) → k < l.i → slice_index_or l.out k [] ≡ line_difference l.column l.first.current l.first.above k ∷ line_difference l.column l.second.current
+      l.second.above k ∷ line_difference l.column l.third.current l.third.above k ∷ line_difference l.column l.fourth.current l.fourth.above k ∷ [];
   long : length l.out ≡ 64;
 }

@@ -9,6 +9,7 @@ loop-i-preserved c =
     let fits : SFits w32 c.central_at.result = search rules in
     let inside : c.loop-i.i < length c.loop-i.out = omega (arith, kept.long, c.loop-i-test.true) in
     record {
-      done = written_next [] (λ k. pos 0 ∷ pos 0 ∷ pos 0 ∷ line_difference c.args.column c.args.last.now.current c.args.last.now.above k ∷ []) c.loop-i.out c.loop-i.i _ inside (rw (to_z-of_z fits, c.central_at.ensures.value) refl) kept.done;
+      done = written_next [] (λ k. pos 0 ∷ pos 0 ∷ pos 0 ∷ line_difference c.args.column c.args.last.now.current c.args.last.now.above k ∷ []) _ _ _ inside
+          (rw (to_z-of_z fits, c.central_at.ensures.value) refl) kept.done;
       long = rw length-set kept.long;
     }

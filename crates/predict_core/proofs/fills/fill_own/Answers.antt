@@ -14,8 +14,8 @@ loop-i-preserved c =
     let sums_inside : c.loop-i.i < length c.loop-i.sums = omega (arith, kept.sums_long, c.loop-i-test.true) in
     let own_inside : c.loop-i.i < length c.loop-i.own = omega (arith, kept.own_long, c.loop-i-test.true) in
     record {
-      sums = written_next (pos 0) (λ k. pos (line_sum c.args.column c.args.lines.now.current c.args.lines.now.above k)) c.loop-i.sums c.loop-i.i _ sums_inside sum kept.sums;
-      own = written_next (pos 0) (line_difference c.args.column c.args.lines.now.current c.args.lines.now.above) c.loop-i.own c.loop-i.i _ own_inside own kept.own;
+      sums = written_next (pos 0) (λ k. pos (line_sum c.args.column c.args.lines.now.current c.args.lines.now.above k)) _ _ _ sums_inside sum kept.sums;
+      own = written_next (pos 0) (line_difference c.args.column c.args.lines.now.current c.args.lines.now.above) _ _ _ own_inside own kept.own;
       sums_long = rw length-set kept.sums_long;
       own_long = rw length-set kept.own_long;
     }

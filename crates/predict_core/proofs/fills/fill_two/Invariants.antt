@@ -4,6 +4,7 @@ use Rattle.predict_core.proofs.fills.fill_two.Given as goal
 
 abbrev pub invariant-loop-i : goal.invariant-loop-i
 invariant-loop-i l = record {
-  done : (k : ℕ) → k < l.i → slice_index_or l.out k [] ≡ line_difference l.column l.first.current l.first.above k ∷ line_difference l.column l.second.current l.second.above k ∷ pos 0 ∷ pos 0 ∷ [];
+  done : (k : ℕ) → k < l.i → slice_index_or l.out k []
+      ≡ line_difference l.column l.first.current l.first.above k ∷ line_difference l.column l.second.current l.second.above k ∷ pos 0 ∷ pos 0 ∷ [];
   long : length l.out ≡ 64;
 }

@@ -5,4 +5,4 @@ use Rattle.predict_core.proofs.lines.fill_line.Goals as goal
 pub returns-else-x-ge1 : goal.returns-else-x-ge1
 returns-else-x-ge1 c =
     let long = c.copy_places.auto.line in
-    ends_written c.copy_places.new.line c.args.row.now c.args.x c.args.count c.args.before c.args.after c.offset_at.result c.offset_at-else-x-ge1.result (omega arith) c.requires.inside c.copy_places.ensures c.offset_at.ensures c.offset_at-else-x-ge1.ensures
+    ends_written _ _ _ _ _ _ _ _ (omega arith) c.requires.inside c.copy_places.ensures c.offset_at.ensures c.offset_at-else-x-ge1.ensures

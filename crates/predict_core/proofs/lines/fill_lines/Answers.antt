@@ -6,4 +6,4 @@ pub returns-else-column : goal.returns-else-column
 returns-else-column c =
     let wide : 2 ≤ length c.args.row.now = c.requires.wide c.if-column.false in
     rw c.if-column.false
-    (four_lines c.args.y c.args.row.now c.args.above.now c.args.x c.args.count _ c.fill_line.new.line c.fill_line-else-column.new.line c.if-y-eq0.false c.requires.inside c.requires.same wide c.fill_line.ensures c.fill_line-else-column.ensures)
+    (four_lines _ _ _ _ _ _ _ _ c.if-y-eq0.false c.requires.inside c.requires.same wide c.fill_line.ensures c.fill_line-else-column.ensures)

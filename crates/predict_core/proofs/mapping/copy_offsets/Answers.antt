@@ -11,5 +11,6 @@ behind xs ys n k e h f =
 
 pub returns-else-count-eq64-clause-rest : goal.returns-else-count-eq64-clause-rest
 returns-else-count-eq64-clause-rest c k l =
-    let long : length c.copy_from_slice-else-count-eq64.new.self ≡ c.args.count = c.copy_from_slice-else-count-eq64.ensures.len ∙ length-take-le c.args.count c.args.offsets.now (omega (arith, c.told-offsets)) in
+    let long : length c.copy_from_slice-else-count-eq64.new.self ≡ c.args.count =
+    c.copy_from_slice-else-count-eq64.ensures.len ∙ length-take-le _ _ (omega arith) in
     behind c.copy_from_slice-else-count-eq64.new.self c.args.offsets.now c.args.count k long l c.requires.clear

@@ -6,5 +6,7 @@ abbrev pub invariant-loop-i : goal.invariant-loop-i
 invariant-loop-i l = record {
   long : length l.out ≡ 64;
   bound : (k : ℕ) → k < l.i → pos (slice_index l.out k) ≤ℤ l.greatest;
-  values : (k : ℕ) → k < l.i → unsigned_abs (slice_index_or l.parts k (pos 0)) ≤ 18 * 2 ^ 20 → pos 0 ≤ℤ slice_index_or l.sums k (pos 0) → slice_index_or l.sums k (pos 0) ≤ℤ pos 262140 → slice_index l.out k ≡ offset_number l.greatest (slice_index_or l.parts k (pos 0)) (slice_index_or l.sums k (pos 0)) (slice_index l.offsets k);
+  values : (k : ℕ) → k < l.i → unsigned_abs (slice_index_or l.parts k (pos 0)) ≤ 18 * 2 ^ 20 → pos 0 ≤ℤ slice_index_or l.sums k (pos 0)
+      → slice_index_or l.sums k (pos 0) ≤ℤ pos 262140
+      → slice_index l.out k ≡ offset_number l.greatest (slice_index_or l.parts k (pos 0)) (slice_index_or l.sums k (pos 0)) (slice_index l.offsets k);
 }

@@ -19,7 +19,8 @@ in_power width h power e l = omega (arith, ints, e, l)
 
 -- from the least offset to the greatest
 module _ (c : After-copy_offsets) where
-  width : to_z w32 (of_z w32 (to_z w32 (of_z w32 c.args.settings.now.range.smax) -ℤ to_z w32 (of_z w32 c.args.settings.now.range.smin))) ≡ smax c.args.cube.now.kind -ℤ smin c.args.cube.now.kind
+  width : to_z w32 (of_z w32 (to_z w32 (of_z w32 c.args.settings.now.range.smax) -ℤ to_z w32 (of_z w32 c.args.settings.now.range.smin)))
+      ≡ smax c.args.cube.now.kind -ℤ smin c.args.cube.now.kind
   width =
       let r = c.args.settings.now.range in
       let low = r.low in
@@ -35,7 +36,7 @@ pub map_places-requires-clause-offsets_in : goal.map_places-requires-clause-offs
 map_places-requires-clause-offsets_in c i l =
     let d = (goal.at.map_places-requires-clause-offsets_in c).After-copy_offsets in
     rw (width d) (elim (cases_lt i (length c.args.residuals.now)) [
-      | inl h ↦ rw (c.copy_offsets.ensures.written i h) (below_span _ _ _ (powers d) (c.row-row.ensures.samples (c.args.x + i) (omega (arith, h, c.requires.inside))).0)
+      | inl h ↦ rw (c.copy_offsets.ensures.written i h) (below_span _ _ _ (powers d) (c.row-row.ensures.samples (c.args.x + i) (omega (arith, h))).0)
       | inr h ↦ rw (c.copy_offsets.ensures.rest i h) (below_span _ 0 _ (powers d) (pow_pos c.args.cube.now.kind.bits))
     ])
 
@@ -65,8 +66,10 @@ returns-clause-values c i l h =
     let few = c.requires.few in
     let part : ℤ = get_or c.args.parts.now i (pos 0) in
     let sum : ℤ = get_or c.args.sums.now i (pos 0) in
-    let number = rw (width d) at (c.map_places.ensures.values i (omega arith) (c.requires.parts_in i within h) (c.requires.sum_least i within h) (c.requires.sum_most i within h)) in
+    let number = rw (width d) at (c.map_places.ensures.values i (omega arith) (c.requires.parts_in i within h) (c.requires.sum_least i within h)
+    (c.requires.sum_most i within h)) in
     let sample = (c.row-row.ensures.samples (c.args.x + i) (omega (arith, within, c.requires.inside))).1 in
     written e i l ∙ rw (c.copy_offsets.ensures.written i within) at number
-    ∙ offset_mapped (smin k) (smid k) (smax k) part sum (local_sum s.predictor c.args.cube.now s.band c.args.y (c.args.x + i)) (get_or c.row-row.result.now (c.args.x + i) 0) (c.requires.sum i within h)
+    ∙ offset_mapped (smin k) (smid k) (smax k) part sum (local_sum s.predictor _ s.band _ (c.args.x + i)) (get_or c.row-row.result.now (c.args.x + i) 0)
+    (c.requires.sum i within h)
     ∙ ap (mapped_between (smin k) (smax k) _) (sym sample)

@@ -7,7 +7,8 @@ use Rattle.predict_core.proofs.mapping.number_at.Goals as goal
 use Rattle.predict_core.proofs.mapping.number_at.Goals.{After-min}
 
 -- twice the error, less the parity, as the code computes it
-far_is : (g t h : ℤ) → pos 0 ≤ℤ t → t ≤ℤ (pos 2 *ℤ g +ℤ pos 1) → g ≤ℤ pos 65535 → pos 0 ≤ℤ h → h ≤ℤ g → to_z w32 (of_z w32 (to_z w32 (of_z w32 (pos 2 *ℤ to_z w32 (of_z w32 h))) -ℤ to_z w32 (of_z w32 t))) ≡ pos 2 *ℤ h -ℤ t
+far_is : (g t h : ℤ) → pos 0 ≤ℤ t → t ≤ℤ (pos 2 *ℤ g +ℤ pos 1) → g ≤ℤ pos 65535 → pos 0 ≤ℤ h → h ≤ℤ g
+    → to_z w32 (of_z w32 (to_z w32 (of_z w32 (pos 2 *ℤ to_z w32 (of_z w32 h))) -ℤ to_z w32 (of_z w32 t))) ≡ pos 2 *ℤ h -ℤ t
 far_is g t h a b d e f = omega (arith, ints)
 
 beyond_is : (a b : ℤ) → unsigned_abs a ≤ 131070 → unsigned_abs b ≤ 65535 → to_z w32 (of_z w32 (to_z w32 (of_z w32 a) +ℤ to_z w32 (of_z w32 b))) ≡ a +ℤ b
@@ -18,10 +19,12 @@ overflow_sub-offset c =
     let t = c.requires.twice_in in
     let h = c.requires.offset_in in
     let g = c.requires.greatest_in in
-    fits_signed_from_abs w32 (to_z w32 (of_z w32 (pos 2 *ℤ to_z w32 (of_z w32 c.args.offset))) -ℤ to_z w32 (of_z w32 c.args.twice)) (omega (arith, ints, t.0, t.1, h.0, h.1, g.0, g.1))
+    fits_signed_from_abs w32 (to_z w32 (of_z w32 (pos 2 *ℤ to_z w32 (of_z w32 c.args.offset))) -ℤ to_z w32 (of_z w32 c.args.twice))
+    (omega (arith, ints, t.0, t.1, h.0, h.1, g.0, g.1))
 
 pub by_turns-requires : goal.by_turns-requires
-by_turns-requires c = let t = c.requires.twice_in in let h = c.requires.offset_in in let g = c.requires.greatest_in in omega (arith, ints, t.0, t.1, h.0, h.1, g.0, g.1)
+by_turns-requires c = let t = c.requires.twice_in in let h = c.requires.offset_in in let g = c.requires.greatest_in in
+    omega (arith, ints, t.0, t.1, h.0, h.1, g.0, g.1)
 
 value : (c : After-min) → to_z w32 (of_z w32 c.min.result) ≡ pos (mapped_between (pos 0) c.args.greatest c.args.twice c.args.offset)
 value c =
@@ -37,7 +40,7 @@ value c =
     let size = rw half at (simp (to_z-of_z c.ranges.offset, to_z-of_z half_fits) at c.apart.ensures.value) in
     let near = rw half at (simp (to_z-of_z c.ranges.greatest, to_z-of_z half_fits) at c.nearer.ensures.value) in
     let least = rw (to_z-of_z turned_fits, beyond, size, near) at c.min.ensures.value in
-    to_z-of_z min_fits ∙ least ∙ number_is c.args.greatest c.args.twice c.args.offset c.by_turns.result t.0 (rw far at c.by_turns.ensures.above) (rw far at c.by_turns.ensures.below)
+    to_z-of_z min_fits ∙ least ∙ number_is _ _ _ _ t.0 (rw far at c.by_turns.ensures.above) (rw far at c.by_turns.ensures.below)
 
 pub returns-clause-value : goal.returns-clause-value
 returns-clause-value c = value (goal.at.returns-clause-value c).After-min

@@ -10,8 +10,13 @@ abbrev pub invariant-loop-at : goal.invariant-loop-at
 invariant-loop-at g l = record {
   begun : l.first ≤ l.at;
   within : l.at ≤ l.last;
-  weights : (p : Params) → AreWeightsAt p l.settings.predictor l.cube l.settings.band (l.y * l.cube.shape.columns + (l.x + l.first)) (take l.settings.count l.initial.weights) → take l.settings.count l.weights ≡ weight_vector p l.cube l.settings.band (l.y * l.cube.shape.columns + (l.x + l.at));
-  parts : (p : Params) → AreWeightsAt p l.settings.predictor l.cube l.settings.band (l.y * l.cube.shape.columns + (l.x + l.first)) (take l.settings.count l.initial.weights) → (k : ℕ) → l.first ≤ k → k < l.at → scaled_prediction p l.cube l.settings.band (l.y * l.cube.shape.columns + (l.x + k)) ≡ scaled_by_difference l.cube.kind (slice_index_or l.parts k (pos 0)) (local_sum l.settings.predictor l.cube l.settings.band l.y (l.x + k));
+  weights : (p : Params)
+      → AreWeightsAt p l.settings.predictor l.cube l.settings.band (l.y * l.cube.shape.columns + (l.x + l.first)) (take l.settings.count l.initial.weights)
+      → take l.settings.count l.weights ≡ weight_vector p l.cube l.settings.band (l.y * l.cube.shape.columns + (l.x + l.at));
+  parts : (p : Params)
+      → AreWeightsAt p l.settings.predictor l.cube l.settings.band (l.y * l.cube.shape.columns + (l.x + l.first)) (take l.settings.count l.initial.weights)
+      → (k : ℕ) → l.first ≤ k → k < l.at → scaled_prediction p l.cube l.settings.band (l.y * l.cube.shape.columns + (l.x + k))
+      ≡ scaled_by_difference l.cube.kind (slice_index_or l.parts k (pos 0)) (local_sum l.settings.predictor l.cube l.settings.band l.y (l.x + k));
   small : (k : ℕ) → l.first ≤ k → k < l.at → unsigned_abs (slice_index_or l.parts k (pos 0)) ≤ 18 * 2 ^ 20;
   bound : AllWithin (2 ^ (l.settings.predictor.fraction + 2)) l.weights;
 }

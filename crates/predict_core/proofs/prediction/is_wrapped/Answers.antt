@@ -11,8 +11,10 @@ middle_fits : (g : given.Over) (c : After-register_of-register g) → SFits w32 
 middle_fits g c = let h = c.args.range.now.mid in search (rules, ints)
 
 -- what the register takes
-taken : (g : given.Over) (c : After-register_of-register g) → c.register_of-register.result ≡ c.args.product +ℤ pos (2 ^ c.args.predictor.now.fraction) *ℤ (c.args.sum -ℤ pos 4 *ℤ smid c.args.range.now.kind)
-taken g c = rw (← c.args.range.now.smid_is) (simp (to_z-of_z c.ranges.product, to_z-of_z c.ranges.sum, to_z-of_z (middle_fits g c)) at c.register_of-register.ensures.value)
+taken : (g : given.Over) (c : After-register_of-register g)
+    → c.register_of-register.result ≡ c.args.product +ℤ pos (2 ^ c.args.predictor.now.fraction) *ℤ (c.args.sum -ℤ pos 4 *ℤ smid c.args.range.now.kind)
+taken g c = rw (← c.args.range.now.smid_is)
+    (simp (to_z-of_z c.ranges.product, to_z-of_z c.ranges.sum, to_z-of_z (middle_fits g c)) at c.register_of-register.ensures.value)
 
 pub returns-then-this-ne0 : goal.returns-then-this-ne0
 returns-then-this-ne0 g c = record {

@@ -4,14 +4,16 @@ use Rattle.predict_core.proofs.Predicted.{of_product}
 use Rattle.predict_core.proofs.prediction.predicted_difference.Goals as goal
 
 pub product_of_first-product-requires-clause-weights_in : goal.product_of_first-product-requires-clause-weights_in
-product_of_first-product-requires-clause-weights_in g c = λ i l. le_trans (c.requires.weights_in i l) (limit_within c.args.predictor.now.fraction c.requires.lawful.fraction.1)
+product_of_first-product-requires-clause-weights_in g c =
+    λ i l. le_trans (c.requires.weights_in i l) (limit_within c.args.predictor.now.fraction c.requires.lawful.fraction.1)
 
 pub returns-then-is_wrapped-clause-scaled : goal.returns-then-is_wrapped-clause-scaled
 returns-then-is_wrapped-clause-scaled g c =
     let product_fits : SFits w64 c.product_of_first-product.result = search rules in
     let result_fits : SFits w32 c.wrapped_difference.result = search rules in
     rw (to_z-of_z result_fits)
-    (simp (to_z-of_z c.ranges.sum) at (c.wrapped_difference.ensures.scaled (take g.row.N c.args.weights.now) (take g.row.N c.args.differences.now) (rw (to_z-of_z product_fits) c.product_of_first-product.ensures.value)))
+    (simp (to_z-of_z c.ranges.sum) at (c.wrapped_difference.ensures.scaled (take g.row.N c.args.weights.now) (take g.row.N c.args.differences.now)
+    (rw (to_z-of_z product_fits) c.product_of_first-product.ensures.value)))
 
 pub returns-else-is_wrapped-clause-scaled : goal.returns-else-is_wrapped-clause-scaled
 returns-else-is_wrapped-clause-scaled g c =

@@ -25,7 +25,7 @@ returns-clause-value c ws us same =
     let d = simp (to_z-of_z register_fits) at c.floor_shift-upper.ensures.value in
     let e = simp (to_z-of_z (low_fits at), to_z-of_z (high_fits at), to_z-of_z (middle_fits at), to_z-of_z upper_fits) at c.scaled_from.ensures.value in
     rw (to_z-of_z result_fits)
-    (scaled_is c.args.predictor.now c.args.range.now.kind c.args.sum ws us _ _ _ _ _ _ _ same c.args.range.now.smid_is b d c.args.range.now.smin_is c.args.range.now.smax_is e)
+    (scaled_is _ _ _ ws us _ _ _ _ _ _ _ same c.args.range.now.smid_is b d c.args.range.now.smin_is c.args.range.now.smax_is e)
 
 pub returns-clause-scaled : goal.returns-clause-scaled
 returns-clause-scaled c =

@@ -18,7 +18,8 @@ returns-clause-value c =
     let center_wide : SFits w64 c.center_of-center.result = search rules in
     let a : to_z w64 (of_z w64 (to_z w32 (of_z w32 (pos 2 *ℤ to_z w32 (of_z w32 c.args.low))))) ≡ pos 2 *ℤ c.args.low = omega (arith, ints) in
     let b : to_z w64 (of_z w64 c.center_of-center.result) ≡ c.args.upper +ℤ pos 2 *ℤ c.args.middle +ℤ pos 1 = omega (arith, ints) in
-    let d : to_z w64 (of_z w64 (to_z w32 (of_z w32 (to_z w32 (of_z w32 (pos 2 *ℤ to_z w32 (of_z w32 c.args.high))) +ℤ pos 1)))) ≡ pos 2 *ℤ c.args.high +ℤ pos 1 = omega (arith, ints) in
+    let d : to_z w64 (of_z w64 (to_z w32 (of_z w32 (to_z w32 (of_z w32 (pos 2 *ℤ to_z w32 (of_z w32 c.args.high))) +ℤ pos 1))))
+    ≡ pos 2 *ℤ c.args.high +ℤ pos 1 = omega (arith, ints) in
     rw (to_z-of_z wide, to_z-of_z (narrow (goal.at.returns-clause-value c).After-clamp)) (simp (a, b, d) at c.clamp.ensures.value)
 
 pub returns-clause-low_end : goal.returns-clause-low_end

@@ -4,7 +4,8 @@ use Rattle.predict_core.proofs.Raising.{SFits-div}
 use Rattle.predict_core.proofs.register.floor_shift.Goals as goal
 
 pub returns-clause-bound : goal.returns-clause-bound
-returns-clause-bound c h = rw (to_z-of_z c.ranges.value, to_z-of_z (SFits-div c.args.value (2 ^ c.args.by) c.ranges.value)) (halved_bound c.args.value c.args.by c.ranges.value h)
+returns-clause-bound c h = rw (to_z-of_z c.ranges.value, to_z-of_z (SFits-div c.args.value (2 ^ c.args.by) c.ranges.value)) (halved_bound _ _ c.ranges.value h)
 
 pub returns-clause-shrinks : goal.returns-clause-shrinks
-returns-clause-shrinks c = rw (to_z-of_z c.ranges.value, to_z-of_z (SFits-div c.args.value (2 ^ c.args.by) c.ranges.value)) (halved_shrinks c.args.value (2 ^ c.args.by))
+returns-clause-shrinks c =
+    rw (to_z-of_z c.ranges.value, to_z-of_z (SFits-div c.args.value (2 ^ c.args.by) c.ranges.value)) (halved_shrinks c.args.value (2 ^ c.args.by))

@@ -30,10 +30,11 @@ sign_is c = simp (to_z-of_z c.ranges.v, to_z-of_z c.ranges.scaled, to_z-of_z (pr
 
 pub map_error-requires-clause-fits : goal.map_error-requires-clause-fits
 map_error-requires-clause-fits c =
-    size_fits c.args.low c.args.high c.prediction_of-predicted.result c.args.v _ _ c.requires.high_in (inside c).0 (inside c).1 c.requires.v_low c.requires.v_high (theta_is c) (size_is c)
+    size_fits _ _ _ _ _ _ c.requires.high_in (inside c).0 (inside c).1 c.requires.v_low c.requires.v_high (theta_is c) (size_is c)
 
 pub map_error-requires-clause-zero : goal.map_error-requires-clause-zero
-map_error-requires-clause-zero c h = subst IsTrue (sym (sign_is c)) (zero_agrees c.args.scaled (c.args.v -ℤ c.prediction_of-predicted.result) (sym (size_is c) ∙ h))
+map_error-requires-clause-zero c h =
+    subst IsTrue (sym (sign_is c)) (zero_agrees c.args.scaled (c.args.v -ℤ c.prediction_of-predicted.result) (sym (size_is c) ∙ h))
 
 pub returns : goal.returns
 returns c =

@@ -17,7 +17,8 @@ inside c =
     within c.args.low c.args.high c.args.scaled c.prediction_of-predicted.result c.requires.scaled_low c.requires.scaled_high
     (simp (to_z-of_z c.ranges.scaled) at c.prediction_of-predicted.ensures.low) (simp (to_z-of_z c.ranges.scaled) at c.prediction_of-predicted.ensures.high)
 
-sample_is : (c : After-unmap_error) → c.prediction_of-predicted.result +ℤ c.unmap_error.result ≡ unmapped_between c.args.low c.args.high c.args.scaled c.args.delta
+sample_is : (c : After-unmap_error)
+    → c.prediction_of-predicted.result +ℤ c.unmap_error.result ≡ unmapped_between c.args.low c.args.high c.args.scaled c.args.delta
 sample_is c =
     unmapped_is c.args.low c.args.high c.args.scaled c.prediction_of-predicted.result c.unmap_error.result _ _ _ c.args.delta
     (simp (to_z-of_z c.ranges.scaled) at c.prediction_of-predicted.ensures.value)
@@ -27,7 +28,7 @@ sample_is c =
     c.unmap_error.ensures
 
 in_range : (c : After-unmap_error) → Between c.args.low c.args.high (c.prediction_of-predicted.result +ℤ c.unmap_error.result)
-in_range c = subst (Between c.args.low c.args.high) (sym (sample_is c)) (sample_in c.args.low c.args.high c.args.scaled c.requires.scaled_low c.requires.scaled_high c.args.delta c.requires.delta_in)
+in_range c = subst (Between c.args.low c.args.high) (sym (sample_is c)) (sample_in _ _ _ c.requires.scaled_low c.requires.scaled_high _ c.requires.delta_in)
 
 result_fits : (c : After-unmap_error) → SFits w32 (c.prediction_of-predicted.result +ℤ c.unmap_error.result)
 result_fits c = let i = in_range c in fits_signed_from_abs w32 (c.prediction_of-predicted.result +ℤ c.unmap_error.result) (omega (arith, ints))

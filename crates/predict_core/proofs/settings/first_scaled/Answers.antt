@@ -7,7 +7,8 @@ use Rattle.predict_core.proofs.settings.first_scaled.Goals as goal
 pub returns-then-band-eq0-clause-value : goal.returns-then-band-eq0-clause-value
 returns-then-band-eq0-clause-value c =
     let mid = c.args.settings.now.range.mid in
-    let is : smid c.args.cube.now.kind ≡ c.args.settings.now.range.smid = ap (λ (k : SampleKind). smid k) c.requires.kind ∙ sym c.args.settings.now.range.smid_is in
+    let is : smid c.args.cube.now.kind ≡ c.args.settings.now.range.smid =
+    ap (λ (k : SampleKind). smid k) c.requires.kind ∙ sym c.args.settings.now.range.smid_is in
     rw (first_from_middle c.args.settings.now.predictor c.args.cube.now c.args.settings.now.band c.if-band-eq0.either, is) (omega (arith, ints, mid.0, mid.1))
 
 pub returns-then-band-eq0-clause-scaled : goal.returns-then-band-eq0-clause-scaled
@@ -22,4 +23,7 @@ returns-then-band-eq0-clause-scaled c =
 
 pub returns-else-band-eq0-clause-value : goal.returns-else-band-eq0-clause-value
 returns-else-band-eq0-clause-value c =
-    rw (first_from_below c.args.settings.now.predictor c.args.cube.now c.args.settings.now.band c.if-band-eq0.false.0 c.if-band-eq0.false.1, ← c.sample.ensures.value) (omega (arith, ints))
+    rw (
+      first_from_below c.args.settings.now.predictor c.args.cube.now c.args.settings.now.band c.if-band-eq0.false.0 c.if-band-eq0.false.1,
+      ← c.sample.ensures.value,
+    ) (omega (arith, ints))

@@ -17,7 +17,7 @@ returns-clause-value c =
     let padded = rw (← s.count_is) at c.fill_differences.ensures.value in
     let e = rw (whole_sum r.smin c.sum_at-sum.result r.low c.sum_at-sum.ensures.bound) at c.scaled_by-scaled.ensures.value us long padded in
     rw (to_z-of_z fits, ← s.count_is)
-    (scaled_there_is s.predictor c.args.cube.now r.kind s.band c.args.y c.args.x _ _ (take s.count c.args.weights.now) c.requires.kind (sym (rw low at c.sum_at-sum.ensures.value)) e)
+    (scaled_there_is s.predictor _ r.kind s.band _ _ _ _ (take s.count c.args.weights.now) c.requires.kind (sym (rw low at c.sum_at-sum.ensures.value)) e)
 
 pub returns-clause-bound : goal.returns-clause-bound
 returns-clause-bound c =

@@ -42,5 +42,7 @@ loop-i-preserved c =
 pub returns-clause-value : goal.returns-clause-value
 returns-clause-value c =
     let room : 18 - (c.args.first + c.loop-i.i) ≡ 18 - c.args.first - c.args.count = omega arith in
-    let rest : drop (c.args.first + c.loop-i.i) c.loop-i.weights ≡ replicate (18 - c.args.first - c.args.count) (pos 0) = c.loop-i.invariant.rest ∙ rw (drop-replicate (c.args.first + c.loop-i.i) 18 (pos 0), room) refl in
-    eighths_last (c.loop-i.weight) (c.args.first + c.loop-i.i) (c.args.count - c.loop-i.i) 0 c.loop-i.weights _ _ (omega arith) (rw c.loop-i.weight-is at c.loop-i.invariant.begun) rest
+    let rest : drop (c.args.first + c.loop-i.i) c.loop-i.weights ≡ replicate (18 - c.args.first - c.args.count) (pos 0) =
+    c.loop-i.invariant.rest ∙ rw (drop-replicate (c.args.first + c.loop-i.i) 18 (pos 0), room) refl in
+    eighths_last (c.loop-i.weight) (c.args.first + c.loop-i.i) (c.args.count - c.loop-i.i) 0 _ _ _ (omega arith)
+    (rw c.loop-i.weight-is at c.loop-i.invariant.begun) rest

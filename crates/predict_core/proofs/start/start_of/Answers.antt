@@ -15,7 +15,8 @@ entries_from-entries-requires c =
 
 pub returns-in-Usual-clause-value : goal.returns-in-Usual-clause-value
 returns-in-Usual-clause-value c =
-    default_told c.args.params.now c.args.z c.in-Usual.is c.args.first c.args.near c.default_weights.result c.requires.directions c.requires.below c.default_weights.ensures.value
+    default_told c.args.params.now c.args.z c.in-Usual.is c.args.first c.args.near c.default_weights.result c.requires.directions c.requires.below
+    c.default_weights.ensures.value
 
 pub returns-in-Table-clause-value : goal.returns-in-Table-clause-value
 returns-in-Table-clause-value c =
@@ -26,5 +27,5 @@ returns-in-Table-clause-value c =
     let all_of : c.args.first + c.args.near ≡ component_count (predictor_of p) z = rw c.requires.below count in
     let from = c.entries_before-from.ensures (predictor_of p) refl c.requires.directions in
     let entries = rw c.as_slice.ensures at c.entries_from-entries.ensures in
-    table_told p z c.in-Table.q c.in-Table.values c.in-Table.is c.args.first c.args.near c.entries_before-from.result c.entries_from-entries.result.now c.table_start.result all_of from entries (rw (from, all_of) long)
+    table_told p z _ _ c.in-Table.is _ _ _ _ _ all_of from entries (rw (from, all_of) long)
     c.table_start.ensures.value

@@ -13,8 +13,10 @@ loop-i-preserved c =
     let long = c.loop-i.invariant.long in
     let inside : i < length c.loop-i.weights = omega (arith, long, c.requires.few, c.loop-i-test.true) in
     let is : c.table_weight.result ≡ table_weight f q (get_or entries i (pos 0)) =
-    c.table_weight.ensures.value ∙ ap (table_weight f q) (read_entry f q entries i c.requires.fraction_in.1 c.requires.bits.1 c.requires.signed c.loop-i-test.true) in
-    let fits : SFits w32 c.table_weight.result = rw is (weight_fits f q (get_or entries i (pos 0)) c.requires.fraction_in.1 c.requires.bits.0 c.requires.bits.1 (entry_signed q entries i c.requires.signed c.loop-i-test.true)) in
+    c.table_weight.ensures.value
+    ∙ ap (table_weight f q) (read_entry f q entries i c.requires.fraction_in.1 c.requires.bits.1 c.requires.signed c.loop-i-test.true) in
+    let fits : SFits w32 c.table_weight.result = rw is (weight_fits f q (get_or entries i (pos 0)) c.requires.fraction_in.1 c.requires.bits.0 c.requires.bits.1
+    (entry_signed q entries i c.requires.signed c.loop-i-test.true)) in
     rw (to_z-of_z fits)
     (record {
       told = told_next f q i c.loop-i.weights entries c.table_weight.result inside c.loop-i-test.true is c.loop-i.invariant.told;

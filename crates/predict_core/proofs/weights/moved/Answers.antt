@@ -13,7 +13,7 @@ pub overflow_sub-difference : goal.overflow_sub-difference
 overflow_sub-difference c = rw (to_z-of_z c.ranges.difference) (turned (goal.at.overflow_sub-difference c).Start)
 
 pub stepped-requires-2 : goal.stepped-requires-2
-stepped-requires-2 c = rw (to_z-of_z c.ranges.difference, to_z-of_z (turned (goal.at.stepped-requires-2 c).Start)) (omega (arith, ints, c.requires.difference_in))
+stepped-requires-2 c = rw (to_z-of_z c.ranges.difference, to_z-of_z (turned (goal.at.stepped-requires-2 c).Start)) (omega (arith, ints))
 
 pub chosen-requires-clause-raised_in : goal.chosen-requires-clause-raised_in
 chosen-requires-clause-raised_in c =
@@ -35,12 +35,14 @@ returns-clause-value c =
     let fits : SFits w32 c.chosen.result = search rules in
     let steps = c.requires.steps in
     let back : pos 0 -ℤ c.args.difference ≡ neg_ℤ c.args.difference = omega (arith, ints) in
-    let raised = moved_is c.args.fraction c.args.exponent false c.args.weight c.args.difference c.args.difference c.stepped.result c.clip_weight-raised.result refl
-    ((simp (to_z-of_z c.ranges.difference) at c.stepped.ensures.value) ∙ steps c.args.difference) (simp (to_z-of_z c.ranges.weight, to_z-of_z up_fits) at c.clip_weight-raised.ensures.value) in
-    let lowered = moved_is c.args.fraction c.args.exponent true c.args.weight c.args.difference (pos 0 -ℤ c.args.difference) c.stepped-2.result c.clip_weight-lowered.result back
-    ((simp (to_z-of_z c.ranges.difference, to_z-of_z (turned s)) at c.stepped-2.ensures.value) ∙ steps (pos 0 -ℤ c.args.difference)) (simp (to_z-of_z c.ranges.weight, to_z-of_z down_fits) at c.clip_weight-lowered.ensures.value) in
+    let raised = moved_is _ _ false _ _ _ _ _ refl
+    ((simp (to_z-of_z c.ranges.difference) at c.stepped.ensures.value) ∙ steps c.args.difference)
+    (simp (to_z-of_z c.ranges.weight, to_z-of_z up_fits) at c.clip_weight-raised.ensures.value) in
+    let lowered = moved_is _ _ true _ _ (pos 0 -ℤ c.args.difference) _ _ back
+    ((simp (to_z-of_z c.ranges.difference, to_z-of_z (turned s)) at c.stepped-2.ensures.value)
+    ∙ steps (pos 0 -ℤ c.args.difference)) (simp (to_z-of_z c.ranges.weight, to_z-of_z down_fits) at c.clip_weight-lowered.ensures.value) in
     rw (to_z-of_z fits)
-    (chosen_weight c.args.fraction c.args.exponent (int_lt c.args.turn (pos 0)) c.args.weight c.args.difference c.clip_weight-raised.result c.clip_weight-lowered.result c.chosen.result raised lowered
+    (chosen_weight _ _ (int_lt c.args.turn (pos 0)) _ _ _ _ _ raised lowered
     (simp (to_z-of_z c.ranges.turn, to_z-of_z raised_fits, to_z-of_z lowered_fits) at c.chosen.ensures))
 
 pub returns-clause-bound : goal.returns-clause-bound
@@ -49,4 +51,5 @@ returns-clause-bound c =
     let lowered_fits : SFits w32 c.clip_weight-lowered.result = search rules in
     let fits : SFits w32 c.chosen.result = search rules in
     let is = simp (to_z-of_z c.ranges.turn, to_z-of_z raised_fits, to_z-of_z lowered_fits) at c.chosen.ensures in
-    rw (to_z-of_z fits, is) (either_within (2 ^ (c.args.fraction + 2)) (int_lt c.args.turn (pos 0)) c.clip_weight-raised.result c.clip_weight-lowered.result c.clip_weight-raised.ensures.bound c.clip_weight-lowered.ensures.bound)
+    rw (to_z-of_z fits, is) (either_within (2 ^ (c.args.fraction + 2)) (int_lt c.args.turn (pos 0)) _ _ c.clip_weight-raised.ensures.bound
+    c.clip_weight-lowered.ensures.bound)

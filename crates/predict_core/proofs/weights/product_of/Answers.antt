@@ -9,10 +9,10 @@ pub returns-then-count-le8-clause-value : goal.returns-then-count-le8-clause-val
 returns-then-count-le8-clause-value c us l e =
     let fits : SFits w64 c.product_of_first.result = search rules in
     rw (to_z-of_z fits)
-    (product_in_use c.args.weights.now us c.args.count 8 (18 - c.args.count) c.product_of_first.result l (omega arith) (omega arith) (rw e at c.product_of_first.ensures.value))
+    (product_in_use _ us _ 8 (18 - c.args.count) _ l (omega arith) (omega arith) (rw e at c.product_of_first.ensures.value))
 
 pub returns-else-count-le8-clause-value : goal.returns-else-count-le8-clause-value
 returns-else-count-le8-clause-value c us l e =
     let fits : SFits w64 c.product_of_first-else-count-le8.result = search rules in
     rw (to_z-of_z fits)
-    (product_in_use c.args.weights.now us c.args.count 18 (18 - c.args.count) c.product_of_first-else-count-le8.result l (omega arith) (omega arith) (rw e at c.product_of_first-else-count-le8.ensures.value))
+    (product_in_use _ us _ 18 (18 - c.args.count) _ l (omega arith) (omega arith) (rw e at c.product_of_first-else-count-le8.ensures.value))

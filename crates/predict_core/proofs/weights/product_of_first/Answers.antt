@@ -35,7 +35,8 @@ loop-i-preserved g c =
 pub returns-clause-value : goal.returns-clause-value
 returns-clause-value g c =
     let done : c.loop-i.i ≡ g.row.N = omega arith in
-    rw c.loop-i.sum-is (subst (λ n. c.loop-i.sum ≡ inner_product (take n c.args.weights.now) (take n c.args.differences.now)) done (rw c.loop-i.sum-is at c.loop-i.invariant.begun))
+    rw c.loop-i.sum-is (subst (λ n. c.loop-i.sum ≡ inner_product (take n c.args.weights.now) (take n c.args.differences.now)) done
+    (rw c.loop-i.sum-is at c.loop-i.invariant.begun))
 
 pub returns-clause-bound : goal.returns-clause-bound
 returns-clause-bound g c = omega (arith, c.loop-i.invariant.bound)
@@ -44,5 +45,6 @@ pub returns-clause-bound_by : goal.returns-clause-bound_by
 returns-clause-bound_by g c n within =
     let done : c.loop-i.i ≡ g.row.N = omega arith in
     let sum : c.loop-i.sum ≡ inner_product (take g.row.N c.args.weights.now) (take g.row.N c.args.differences.now) =
-    subst (λ n. c.loop-i.sum ≡ inner_product (take n c.args.weights.now) (take n c.args.differences.now)) done (rw c.loop-i.sum-is at c.loop-i.invariant.begun) in
+    subst (λ n. c.loop-i.sum ≡ inner_product (take n c.args.weights.now) (take n c.args.differences.now)) done
+    (rw c.loop-i.sum-is at c.loop-i.invariant.begun) in
     rw (c.loop-i.sum-is, sum) (first_within n g.row.N c.args.weights.now c.args.differences.now c.requires.few within c.requires.differences_in)

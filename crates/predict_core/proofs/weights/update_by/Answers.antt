@@ -1,4 +1,5 @@
-use Rattle.std.proofs.Common.{int_lt, ◌≡◌, ◌+◌, ◌<◌, ◌^◌, le_trans, ◌≤◌, unsigned_abs, ℤ, ℕ, List, pos, take, length, get_or, SFits, to_z-of_z, w32, arith, refl, rules, length-set, subst}
+use Rattle.std.proofs.Common.{int_lt, ◌≡◌, ◌+◌, ◌<◌, ◌^◌, le_trans, ◌≤◌, unsigned_abs, ℤ, ℕ, List, pos, take, length, get_or, SFits, to_z-of_z, w32, arith}
+use Rattle.std.proofs.Common.{refl, rules, length-set, subst}
 use Rattle.std.proofs.lemmas.Int.{ints}
 use Rattle.predict_core.specs.Weights.{updated_weights}
 use Rattle.predict_core.proofs.Products.{step_kept, step_bound, SFits-small}
@@ -16,7 +17,8 @@ loop-i-init g c = rw (to_z-of_z c.ranges.turn, to_z-of_z c.ranges.exponent) (rec
 
 pub moved-requires-clause-weight_in : goal.moved-requires-clause-weight_in
 moved-requires-clause-weight_in g c =
-    let b : unsigned_abs (get_or c.loop-i.weights c.loop-i.i (pos 0)) ≤ 2 ^ 21 = le_trans (c.loop-i.invariant.bound c.loop-i.i (omega arith)) (limit_within c.args.fraction c.requires.fraction_in) in
+    let b : unsigned_abs (get_or c.loop-i.weights c.loop-i.i (pos 0)) ≤ 2 ^ 21 =
+    le_trans (c.loop-i.invariant.bound c.loop-i.i (omega arith)) (limit_within c.args.fraction c.requires.fraction_in) in
     omega (arith, ints, b)
 
 pub loop-i-preserved : goal.loop-i-preserved
@@ -29,8 +31,10 @@ loop-i-preserved g c =
     let old_long : i < length old = omega arith in
     let us_long : i < length us = omega arith in
     let fits : SFits w32 c.moved.result = search rules in
-    let weight_fits : SFits w32 (get_or now i (pos 0)) = SFits-small (get_or now i (pos 0)) (le_trans (c.loop-i.invariant.bound i now_long) (limit_within c.args.fraction c.requires.fraction_in)) in
-    let difference_fits : SFits w32 (get_or us i (pos 0)) = (let r = room_word c.args.form.up in let u = c.requires.differences_in i us_long in SFits-26 (get_or us i (pos 0)) (omega (arith, r, u))) in
+    let weight_fits : SFits w32 (get_or now i (pos 0)) =
+    SFits-small (get_or now i (pos 0)) (le_trans (c.loop-i.invariant.bound i now_long) (limit_within c.args.fraction c.requires.fraction_in)) in
+    let difference_fits : SFits w32 (get_or us i (pos 0)) =
+    (let r = room_word c.args.form.up in let u = c.requires.differences_in i us_long in SFits-26 (get_or us i (pos 0)) (omega (arith, r, u))) in
     let e = simp (to_z-of_z c.ranges.turn, to_z-of_z c.ranges.exponent, to_z-of_z weight_fits, to_z-of_z difference_fits) at c.moved.ensures.value in
     let done = rw (to_z-of_z c.ranges.turn, to_z-of_z c.ranges.exponent) at c.loop-i.invariant.done in
     rw (to_z-of_z fits, to_z-of_z c.ranges.turn, to_z-of_z c.ranges.exponent)
@@ -44,4 +48,5 @@ loop-i-preserved g c =
 pub returns-clause-value : goal.returns-clause-value
 returns-clause-value g c =
     let done : c.loop-i.i ≡ g.row.N = omega arith in
-    subst (λ n. take n c.loop-i.weights ≡ updated_weights c.args.fraction c.args.exponent (int_lt c.args.turn (pos 0)) (take n c.args.weights.now) (take n c.args.differences.now)) done (rw (to_z-of_z c.ranges.turn, to_z-of_z c.ranges.exponent) at c.loop-i.invariant.done)
+    subst (λ n. take n c.loop-i.weights ≡ updated_weights c.args.fraction c.args.exponent (int_lt c.args.turn (pos 0)) (take n c.args.weights.now)
+    (take n c.args.differences.now)) done (rw (to_z-of_z c.ranges.turn, to_z-of_z c.ranges.exponent) at c.loop-i.invariant.done)

@@ -6,18 +6,19 @@ use Rattle.sample_adaptive.proofs.code_word.push_both.Goals as goal
 
 pub overflow_add-both : goal.overflow_add-both
 overflow_add-both c =
-    let whole = both_whole c.args.first.length c.args.second.length c.args.first.bits c.args.second.bits c.if-length-le64.true c.requires.first.0 c.requires.second.0 in
+    let whole = both_whole _ _ _ _ c.if-length-le64.true c.requires.first.0 c.requires.second.0 in
     rw whole.0 (record { fits = whole.1 })
 
 pub push_reserved-requires-clause-below : goal.push_reserved-requires-clause-below
 push_reserved-requires-clause-below c =
-    let whole = both_whole c.args.first.length c.args.second.length c.args.first.bits c.args.second.bits c.if-length-le64.true c.requires.first.0 c.requires.second.0 in
+    let whole = both_whole _ _ _ _ c.if-length-le64.true c.requires.first.0 c.requires.second.0 in
     rw whole.0 (both_below c.args.first.length c.args.second.length c.args.first.bits c.args.second.bits c.requires.first.0 c.requires.second.0)
 
 pub returns-then-length-le64-clause-appended : goal.returns-then-length-le64-clause-appended
 returns-then-length-le64-clause-appended c =
-    let whole = both_whole c.args.first.length c.args.second.length c.args.first.bits c.args.second.bits c.if-length-le64.true c.requires.first.0 c.requires.second.0 in
-    let joined : bits_of (c.args.first.length + c.args.second.length) (c.args.first.bits * 2 ^ c.args.second.length % 18446744073709551616 + c.args.second.bits) ≡ bits_of c.args.first.length c.args.first.bits ++ bits_of c.args.second.length c.args.second.bits =
+    let whole = both_whole _ _ _ _ c.if-length-le64.true c.requires.first.0 c.requires.second.0 in
+    let joined : bits_of (c.args.first.length + c.args.second.length) (c.args.first.bits * 2 ^ c.args.second.length % 18446744073709551616 + c.args.second.bits)
+    ≡ bits_of c.args.first.length c.args.first.bits ++ bits_of c.args.second.length c.args.second.bits =
     rw whole.0 (bits_of-join c.args.first.length c.args.second.length c.args.first.bits c.args.second.bits c.requires.second.0) in
     c.push_reserved.ensures.appended ∙ ap (λ (bits : List Bool). c.args.writer.now.bits ++ bits) joined
     ∙ sym (append_assoc c.args.writer.now.bits (bits_of c.args.first.length c.args.first.bits) (bits_of c.args.second.length c.args.second.bits))

@@ -5,36 +5,38 @@ use Rattle.sample_adaptive.proofs.code_word.take_from.Goals as goal
 
 pub skip-requires : goal.skip-requires
 skip-requires c =
-    omega (arith, ahead_length 57 c.args.reader.now.left c.args.word c.requires.ahead, c.from-then-zeros-code.ensures, c.if-zeros-code.true, c.requires.code.limit, c.requires.code.low, c.requires.code.bits)
+    omega (arith, ahead_length 57 c.args.reader.now.left c.args.word c.requires.ahead)
 
 pub skip-requires-else-zeros-code : goal.skip-requires-else-zeros-code
 skip-requires-else-zeros-code c =
-    omega (arith, ahead_length 57 c.args.reader.now.left c.args.word c.requires.ahead, c.from-else-zeros-code.ensures, c.requires.code.limit, c.requires.code.bits)
+    omega (arith, ahead_length 57 c.args.reader.now.left c.args.word c.requires.ahead)
 
 pub returns-in_ok-number-clause-reads : goal.returns-in_ok-number-clause-reads
 returns-in_ok-number-clause-reads c =
     let few : c.from.result < c.args.code.limit = omega (arith, c.from.ensures, c.if-zeros-code.true) in
     let fits : c.in_ok-number.number < 2 ^ c.args.code.bits = rw c.in_ok-number.ensures.value (c.in_ok-number.ensures.below.0 refl) in
     rw c.skip.ensures.left
-    (plain_taken c.args.reader.now.count c.args.place c.args.code c.args.reader.now.left c.args.word c.from.result c.bits_behind-low.result c.in_ok-number.number c.from-then-zeros-code.result c.requires.code c.ranges.word.fits c.requires.ahead c.from.ensures few
+    (plain_taken _ _ _ _ _ _ _ _ _ c.requires.code c.ranges.word.fits c.requires.ahead c.from.ensures few
     (rw c.from.ensures c.bits_behind-low.ensures) c.in_ok-number.ensures.value fits (omega (arith, c.from.ensures, c.from-then-zeros-code.ensures)))
 
 pub returns-in_err-number-clause-reads : goal.returns-in_err-number-clause-reads
 returns-in_err-number-clause-reads c =
     let few : c.from.result < c.args.code.limit = omega (arith, c.from.ensures, c.if-zeros-code.true) in
     let read =
-    plain_refused c.args.reader.now.count c.args.place c.args.code c.args.reader.now.left c.args.word c.from.result c.bits_behind-low.result c.requires.code c.ranges.word.fits c.requires.ahead c.from.ensures few
+    plain_refused c.args.reader.now.count c.args.place c.args.code c.args.reader.now.left c.args.word c.from.result c.bits_behind-low.result c.requires.code
+    c.ranges.word.fits c.requires.ahead c.from.ensures few
     (rw c.from.ensures c.bits_behind-low.ensures) c.in_err-number.ensures.below.1 in
     search rules
 
 pub returns-in_ok-number-2-clause-reads : goal.returns-in_ok-number-2-clause-reads
 returns-in_ok-number-2-clause-reads c =
     rw (c.skip-else-zeros-code.ensures.left, c.in_ok-number-2.ensures.value)
-    (escape_taken c.args.reader.now.count c.args.place c.args.code c.args.reader.now.left c.args.word c.bits_behind.result c.from-else-zeros-code.result c.requires.code c.ranges.word.fits c.requires.ahead c.if-zeros-code.false c.bits_behind.ensures
+    (escape_taken _ _ _ _ _ _ _ c.requires.code c.ranges.word.fits c.requires.ahead c.if-zeros-code.false c.bits_behind.ensures
     (c.in_ok-number-2.ensures.needed.0 refl) c.from-else-zeros-code.ensures)
 
 pub returns-in_err-number-2-clause-reads : goal.returns-in_err-number-2-clause-reads
 returns-in_err-number-2-clause-reads c =
     let read =
-    escape_refused c.args.reader.now.count c.args.place c.args.code c.args.reader.now.left c.args.word c.bits_behind.result c.requires.code c.ranges.word.fits c.requires.ahead c.if-zeros-code.false c.bits_behind.ensures c.in_err-number-2.ensures.needed.1 in
+    escape_refused c.args.reader.now.count c.args.place c.args.code c.args.reader.now.left c.args.word c.bits_behind.result c.requires.code c.ranges.word.fits
+    c.requires.ahead c.if-zeros-code.false c.bits_behind.ensures c.in_err-number-2.ensures.needed.1 in
     search rules

@@ -6,12 +6,12 @@ use Rattle.sample_adaptive.proofs.code_word.word_of.Goals as goal
 pub returns-then-quotient-code-clause-word : goal.returns-then-quotient-code-clause-word
 returns-then-quotient-code-clause-word c =
     let few : c.args.number / 2 ^ c.args.code.low < c.args.code.limit = rw c.from.ensures at c.if-quotient-code.true in
-    let one : 1 * 2 ^ c.args.code.low % 18446744073709551616 ≡ 2 ^ c.args.code.low = one_shl c.args.code.low 64 (omega (arith, c.requires.code.low, c.requires.code.bits)) in
+    let one : 1 * 2 ^ c.args.code.low % 18446744073709551616 ≡ 2 ^ c.args.code.low = one_shl _ 64 (omega arith) in
     rw (c.from.ensures, c.from-then-quotient-code.ensures, one, and_mask) (plain_word c.args.code c.args.number few)
 
 pub returns-then-quotient-code-clause-below : goal.returns-then-quotient-code-clause-below
 returns-then-quotient-code-clause-below c =
-    let one : 1 * 2 ^ c.args.code.low % 18446744073709551616 ≡ 2 ^ c.args.code.low = one_shl c.args.code.low 64 (omega (arith, c.requires.code.low, c.requires.code.bits)) in
+    let one : 1 * 2 ^ c.args.code.low % 18446744073709551616 ≡ 2 ^ c.args.code.low = one_shl _ 64 (omega arith) in
     rw (c.from.ensures, c.from-then-quotient-code.ensures, one, and_mask) (plain_below (c.args.number / 2 ^ c.args.code.low) c.args.code.low c.args.number)
 
 pub returns-else-quotient-code-clause-word : goal.returns-else-quotient-code-clause-word
@@ -20,4 +20,4 @@ returns-else-quotient-code-clause-word c =
     rw c.from-else-quotient-code.ensures (escape_word c.args.code c.args.number many c.requires.number)
 
 pub returns-else-quotient-code-clause-below : goal.returns-else-quotient-code-clause-below
-returns-else-quotient-code-clause-below c = rw c.from-else-quotient-code.ensures (escape_below c.args.code.limit c.args.code.bits c.args.number c.requires.number)
+returns-else-quotient-code-clause-below c = rw c.from-else-quotient-code.ensures (escape_below _ _ _ c.requires.number)

@@ -21,9 +21,11 @@ returns-in-Err-clause-taken c = λ v t is same settings.
     let was = c.loop-i.invariant in
     let within : c.loop-i.i < length c.loop-i.numbers = omega (arith, c.loop-i-test.true, was.long) in
     let inside : c.args.z + c.loop-i.i < length c.loop-i.bands = omega (arith, c.loop-i-test.true, was.bands, c.requires.inside) in
-    let here : HasSettings (record v { bands = c.loop-i.bands }) c.args.run.bits c.args.run.limit c.args.run.rescaling.size = record { bits_are = settings.bits_are; umax_is = settings.umax_is; size_is = settings.size_is } in
+    let here : HasSettings (record v { bands = c.loop-i.bands }) c.args.run.bits c.args.run.limit c.args.run.rescaling.size =
+    record { bits_are = settings.bits_are; umax_is = settings.umax_is; size_is = settings.size_is } in
     let read = c.in-Err.ensures.reads (record v { bands = c.loop-i.bands }) (c.args.z + c.loop-i.i) t is here refl in
-    column_stops c.args.z t c.args.place c.loop-i.i c.in-Err.fault v v c.loop-i.bands c.args.reader.now c.loop-i.reader c.loop-i.reader.left c.loop-i.numbers inside within (was.taken v t is same settings) read
+    column_stops c.args.z t c.args.place c.loop-i.i c.in-Err.fault v v c.loop-i.bands c.args.reader.now c.loop-i.reader c.loop-i.reader.left c.loop-i.numbers
+    inside within (was.taken v t is same settings) read
 
 pub loop-i-preserved : goal.loop-i-preserved
 loop-i-preserved c =
@@ -32,15 +34,18 @@ loop-i-preserved c =
     let inside : c.args.z + c.loop-i.i < length c.loop-i.bands = omega (arith, c.loop-i-test.true, was.bands, c.requires.inside) in
     record {
       taken = λ v t is same settings.
-          let here : HasSettings (record v { bands = c.loop-i.bands }) c.args.run.bits c.args.run.limit c.args.run.rescaling.size = record { bits_are = settings.bits_are; umax_is = settings.umax_is; size_is = settings.size_is } in
+          let here : HasSettings (record v { bands = c.loop-i.bands }) c.args.run.bits c.args.run.limit c.args.run.rescaling.size =
+          record { bits_are = settings.bits_are; umax_is = settings.umax_is; size_is = settings.size_is } in
           let read = c.in-Ok.ensures.reads (record v { bands = c.loop-i.bands }) (c.args.z + c.loop-i.i) t is here refl in
           let counts = c.in-Ok.ensures.counts (record v { bands = c.loop-i.bands }) (c.args.z + c.loop-i.i) t is here refl in
-          column_steps c.args.z t c.args.place c.loop-i.i c.in-Ok.number v c.loop-i.bands c.take_number.new.statistics c.args.reader.now c.loop-i.reader c.take_number.new.reader c.loop-i.numbers inside within (was.taken v t is same settings) read c.in-Ok.ensures.count counts;
+          column_steps _ t _ _ _ v _ _ _ _ _ _ inside within (was.taken v t is same settings) read c.in-Ok.ensures.count counts;
       statistics = λ b lt.
           elim (cases_eq b (c.args.z + c.loop-i.i)) [
-            | inl e ↦ subst (λ (k : ℕ). AreStatistics c.args.run.rescaling.size (of_band (set c.loop-i.bands (c.args.z + c.loop-i.i) c.take_number.new.statistics) k)) (sym e)
-                (subst (AreStatistics c.args.run.rescaling.size) (sym (get_or-set_same c.loop-i.bands (c.args.z + c.loop-i.i) c.take_number.new.statistics no_statistics inside)) c.in-Ok.ensures.statistics)
-            | inr other ↦ subst (AreStatistics c.args.run.rescaling.size) (sym (get_or-set_other c.loop-i.bands (c.args.z + c.loop-i.i) b c.take_number.new.statistics no_statistics other))
+            | inl e ↦ subst (λ (k : ℕ). AreStatistics c.args.run.rescaling.size
+                (of_band (set c.loop-i.bands (c.args.z + c.loop-i.i) c.take_number.new.statistics) k)) (sym e)
+                (subst (AreStatistics c.args.run.rescaling.size)
+                (sym (get_or-set_same _ (c.args.z + c.loop-i.i) _ no_statistics inside)) c.in-Ok.ensures.statistics)
+            | inr other ↦ subst (AreStatistics c.args.run.rescaling.size) (sym (get_or-set_other _ (c.args.z + c.loop-i.i) b _ no_statistics other))
                 (was.statistics b (omega (arith, lt, length-set c.loop-i.bands (c.args.z + c.loop-i.i) c.take_number.new.statistics)))
           ];
       count = c.in-Ok.ensures.count ∙ was.count;
@@ -50,4 +55,4 @@ loop-i-preserved c =
 
 pub returns-clause-taken : goal.returns-clause-taken
 returns-clause-taken c = λ v t is same settings.
-    column_ends c.args.z t c.args.place c.loop-i.i v c.loop-i.bands c.args.reader.now c.loop-i.reader c.loop-i.numbers (omega (arith, c.loop-i-test.false, c.loop-i.invariant.long)) (c.loop-i.invariant.taken v t is same settings)
+    column_ends _ t _ _ v _ _ _ _ (omega arith) (c.loop-i.invariant.taken v t is same settings)

@@ -5,4 +5,4 @@ pub parameter-requires-clause-counter : goal.parameter-requires-clause-counter
 parameter-requires-clause-counter c = counter_range c.args.run.rescaling.size c.args.statistics.now (c.args.run.rescaling.size_in).1 c.requires.statistics
 
 pub parameter-requires-clause-accumulator : goal.parameter-requires-clause-accumulator
-parameter-requires-clause-accumulator c = accumulator_range c.args.run.rescaling.size c.args.statistics.now (c.args.run.rescaling.size_in).1 c.requires.statistics
+parameter-requires-clause-accumulator c = accumulator_range _ _ (c.args.run.rescaling.size_in).1 c.requires.statistics

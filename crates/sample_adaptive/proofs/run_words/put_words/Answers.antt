@@ -11,8 +11,9 @@ use Rattle.sample_adaptive.proofs.run_words.put_words.Goals as goal
 pub loop-i-init : goal.loop-i-init
 loop-i-init c =
     record {
-      run = λ v z t within settings own some. subst (λ (s : Statistics). PutsRun z t [] v c.args.writer.bits (with_band v z s) c.args.writer.bits) (sym c.of-tracked.ensures.statistics)
-          (subst (λ (w : Counts). PutsRun z t [] v c.args.writer.bits w c.args.writer.bits) (sym (same_band v z c.args.run.statistics (sym own))) (run_none z t v c.args.writer.bits));
+      run = λ v z t within settings own some.
+          subst (λ (s : Statistics). PutsRun z t [] v c.args.writer.bits (with_band v z s) c.args.writer.bits) (sym c.of-tracked.ensures.statistics)
+          (subst (λ (w : Counts). PutsRun z t [] v c.args.writer.bits w c.args.writer.bits) (sym (same_band v z _ (sym own))) (run_none z t v _));
       statistics = rw c.of-tracked.ensures.statistics c.requires.statistics;
       low = c.of-tracked.ensures.most;
       room = omega (arith, c.requires.room);
@@ -23,7 +24,7 @@ pub of-tracked-requires-clause-counter : goal.of-tracked-requires-clause-counter
 of-tracked-requires-clause-counter c = counter_range c.args.run.rescaling.size c.args.run.statistics (c.args.run.rescaling.size_in).1 c.requires.statistics
 
 pub of-tracked-requires-clause-accumulator : goal.of-tracked-requires-clause-accumulator
-of-tracked-requires-clause-accumulator c = accumulator_range c.args.run.rescaling.size c.args.run.statistics (c.args.run.rescaling.size_in).1 c.requires.statistics
+of-tracked-requires-clause-accumulator c = accumulator_range _ _ (c.args.run.rescaling.size_in).1 c.requires.statistics
 
 pub loop-i-preserved : goal.loop-i-preserved
 loop-i-preserved c =
@@ -32,12 +33,17 @@ loop-i-preserved c =
     let numbers = c.args.run.numbers.now in
     let i = c.loop-i.i in
     let next : i + 1 + 1 ≡ i + 2 = omega arith in
-    let words = two_words c.loop-i.writer.bits c.push_both.new.writer.bits _ _ _ _ c.push_both.ensures.appended c.word_within-first.ensures.word c.word_within-second.ensures.word in
+    let words = two_words c.loop-i.writer.bits c.push_both.new.writer.bits _ _ _ _ c.push_both.ensures.appended c.word_within-first.ensures.word
+    c.word_within-second.ensures.word in
     record {
       run = λ v z t within settings own some.
-          let first = run_step z t i (get_or numbers i 0) v s c.word_within-first.result.1.statistics numbers c.args.writer.bits c.loop-i.writer.bits (c.loop-i.writer.bits ++ code_word (record { limit = c.args.run.limit; low = code_parameter c.args.run.bits s; bits = c.args.run.bits }) (get_or numbers i 0))
-          within some (omega (arith, c.loop-i-test.true)) refl (rw (settings.umax_is, settings.bits_are) refl) (rw settings.size_is c.word_within-first.ensures.next) (was.run v z t within settings own some) in
-          let both = run_step z t (i + 1) (get_or numbers (i + 1) 0) v c.word_within-first.result.1.statistics c.word_within-second.result.1.statistics numbers c.args.writer.bits _ c.push_both.new.writer.bits
+          let first = run_step z t i (get_or numbers i 0) v s c.word_within-first.result.1.statistics numbers c.args.writer.bits
+          c.loop-i.writer.bits (c.loop-i.writer.bits
+          ++ code_word (record { limit = c.args.run.limit; low = code_parameter c.args.run.bits s; bits = c.args.run.bits }) (get_or numbers i 0))
+          within some (omega (arith, c.loop-i-test.true)) refl (rw (settings.umax_is, settings.bits_are) refl)
+          (rw settings.size_is c.word_within-first.ensures.next) (was.run v z t within settings own some) in
+          let both = run_step z t (i + 1) (get_or numbers (i + 1) 0) v c.word_within-first.result.1.statistics c.word_within-second.result.1.statistics numbers
+          c.args.writer.bits _ c.push_both.new.writer.bits
           within some c.loop-i-test.true refl (rw (settings.umax_is, settings.bits_are) words) (rw settings.size_is c.word_within-second.ensures.next) first in
           rw next at both;
       statistics = c.word_within-second.ensures.statistics;
@@ -48,8 +54,9 @@ loop-i-preserved c =
 
 pub returns-then-i-numbers-clause-taken : goal.returns-then-i-numbers-clause-taken
 returns-then-i-numbers-clause-taken c = λ v z t within settings own some.
-    let all : take c.loop-i.i c.args.run.numbers.now ≡ c.args.run.numbers.now = take_all c.loop-i.i c.args.run.numbers.now (omega (arith, c.if-i-numbers.true)) in
-    subst (λ (ns : List ℕ). PutsRun z t ns v c.args.writer.bits (with_band v z c.loop-i.tracked.statistics) c.loop-i.writer.bits) all (c.loop-i.invariant.run v z t within settings own some)
+    let all : take c.loop-i.i c.args.run.numbers.now ≡ c.args.run.numbers.now = take_all _ _ (omega arith) in
+    subst (λ (ns : List ℕ). PutsRun z t ns v c.args.writer.bits (with_band v z c.loop-i.tracked.statistics) c.loop-i.writer.bits) all
+    (c.loop-i.invariant.run v z t within settings own some)
 
 pub returns-clause-taken : goal.returns-clause-taken
 returns-clause-taken c = λ v z t within settings own some.
@@ -57,6 +64,7 @@ returns-clause-taken c = λ v z t within settings own some.
     let lt : c.loop-i.i < length numbers = omega (arith, c.loop-i.invariant.within, c.if-i-numbers.false) in
     let all : take (c.loop-i.i + 1) numbers ≡ numbers = take_all (c.loop-i.i + 1) numbers (omega (arith, c.loop-i-test.false)) in
     let text = c.push_reserved.ensures.appended ∙ ap (λ (bits : List Bool). c.loop-i.writer.bits ++ bits) c.word_within-last.ensures.word in
-    let last = run_step z t c.loop-i.i (get_or numbers c.loop-i.i 0) v c.loop-i.tracked.statistics c.word_within-last.result.1.statistics numbers c.args.writer.bits c.loop-i.writer.bits c.push_reserved.new.self.bits
-    within some lt refl (rw (settings.umax_is, settings.bits_are) text) (rw settings.size_is c.word_within-last.ensures.next) (c.loop-i.invariant.run v z t within settings own some) in
+    let last = run_step z t _ (get_or numbers c.loop-i.i 0) v _ _ numbers _ _ _
+    within some lt refl (rw (settings.umax_is, settings.bits_are) text) (rw settings.size_is c.word_within-last.ensures.next)
+    (c.loop-i.invariant.run v z t within settings own some) in
     subst (λ (ns : List ℕ). PutsRun z t ns v c.args.writer.bits (with_band v z c.word_within-last.result.1.statistics) c.push_reserved.new.self.bits) all last

@@ -5,4 +5,4 @@ pub parameter_of-requires-clause-counter : goal.parameter_of-requires-clause-cou
 parameter_of-requires-clause-counter c = counter_range c.args.run.rescaling.size c.args.statistics.now (c.args.run.rescaling.size_in).1 c.requires.statistics
 
 pub parameter_of-requires-clause-accumulator : goal.parameter_of-requires-clause-accumulator
-parameter_of-requires-clause-accumulator c = accumulator_range c.args.run.rescaling.size c.args.statistics.now (c.args.run.rescaling.size_in).1 c.requires.statistics
+parameter_of-requires-clause-accumulator c = accumulator_range _ _ (c.args.run.rescaling.size_in).1 c.requires.statistics

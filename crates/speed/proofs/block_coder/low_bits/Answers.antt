@@ -14,7 +14,8 @@ loop-number-preserved c =
     c.in_ok-push.ensures.items
     ∙ ap (λ (n : ℕ). c.loop-number.low.items ++ n % (1 * 2 ^ c.bits-bits.result % 4294967296) ∷ []) c.from.ensures
     ∙ ap (λ (ns : List ℕ). ns ++ number % (1 * 2 ^ c.bits-bits.result % 4294967296) ∷ []) c.loop-number.invariant
-    ∙ ap (λ (power : ℕ). map (λ n. n % 2 ^ c.bits-bits.result) (take c.loop-number.number-index c.args.numbers.now) ++ number % power ∷ []) (power_is c.bits-bits.result c.bits-bits.ensures.range.1)
+    ∙ ap (λ (power : ℕ). map (λ n. n % 2 ^ c.bits-bits.result) (take c.loop-number.number-index c.args.numbers.now)
+    ++ number % power ∷ []) (power_is c.bits-bits.result c.bits-bits.ensures.range.1)
     ∙ sym (mapped_front (λ n. n % 2 ^ c.bits-bits.result) c.args.numbers.now c.loop-number.number-index c.loop-number-test.true)
 
 pub returns : goal.returns

@@ -5,7 +5,8 @@ use Rattle.speed.specs.Formats.{format_bits, number_bytes, synthetic_bytes}
 use Rattle.speed.specs.Numbers.{next_state, state_behind, highest}
 use Rattle.speed.proofs.Draws.{none_behind, one_behind, pieces_more}
 use Rattle.speed.proofs.cube.raw_bytes.Goals as goal
-use Rattle.speed.proofs.cube.raw_bytes.Goals.{Joined-format, in-Little+in_ok-extend_from_slice-in-Little, in-Big+in_ok-extend_from_slice-in-Big, in-Byte+in_ok-push-in-Byte}
+use Rattle.speed.proofs.cube.raw_bytes.Goals.{Joined-format, in-Little+in_ok-extend_from_slice-in-Little, in-Big+in_ok-extend_from_slice-in-Big}
+use Rattle.speed.proofs.cube.raw_bytes.Goals.{in-Byte+in_ok-push-in-Byte}
 
 pub loop-sample-init : goal.loop-sample-init
 loop-sample-init c = record { state = c.new-generator.ensures ∙ sym none_behind; value = c.new-bytes.ensures.items }
@@ -14,18 +15,24 @@ drawn : (c : Joined-format) → c.number-number.new.self ≡ state_behind (c.loo
 drawn c = c.number-number.ensures.state ∙ ap next_state c.loop-sample.invariant.state ∙ sym (one_behind c.loop-sample._sample)
 
 number_is : (c : Joined-format) → c.number-number.result ≡ highest (format_bits c.args.format) (state_behind (c.loop-sample._sample + 1))
-number_is c = c.number-number.ensures.number ∙ ap (λ (n : ℕ). highest n c.number-number.new.self) c.bits.ensures.value ∙ ap (highest (format_bits c.args.format)) (drawn c)
+number_is c = c.number-number.ensures.number ∙ ap (λ (n : ℕ). highest n c.number-number.new.self) c.bits.ensures.value
+    ∙ ap (highest (format_bits c.args.format)) (drawn c)
 
 -- the bytes grow by those of the number
-grown : (c : Joined-format) (bytes : List ℕ) (format : Format) → c.match-format.bytes.items ≡ c.loop-sample.bytes.items ++ bytes → bytes ≡ number_bytes format c.number-number.result → c.args.format ≡ format
+grown : (c : Joined-format) (bytes : List ℕ) (format : Format) → c.match-format.bytes.items ≡ c.loop-sample.bytes.items ++ bytes
+    → bytes ≡ number_bytes format c.number-number.result → c.args.format ≡ format
     → c.match-format.bytes.items ≡ c.loop-sample.bytes.items ++ number_bytes c.args.format c.number-number.result
-grown c bytes format more value is = more ∙ ap (λ (ns : List ℕ). c.loop-sample.bytes.items ++ ns) (value ∙ ap (λ (f : Format). number_bytes f c.number-number.result) (sym is))
+grown c bytes format more value is =
+    more ∙ ap (λ (ns : List ℕ). c.loop-sample.bytes.items ++ ns) (value ∙ ap (λ (f : Format). number_bytes f c.number-number.result) (sym is))
 
 bytes_are : (c : Joined-format) → c.match-format.bytes.items ≡ c.loop-sample.bytes.items ++ number_bytes c.args.format c.number-number.result
 bytes_are c = elim c.match-format.branch [
-  | in-Little+in_ok-extend_from_slice-in-Little w ↦ grown c w.to_le_bytes.result Little (ap (λ (v : Vec ℕ Global). v.items) w.bytes-is ∙ w.in_ok-extend_from_slice-in-Little.ensures.items) w.to_le_bytes.ensures w.in-Little.is
-  | in-Big+in_ok-extend_from_slice-in-Big w ↦ grown c w.to_be_bytes.result Big (ap (λ (v : Vec ℕ Global). v.items) w.bytes-is ∙ w.in_ok-extend_from_slice-in-Big.ensures.items) w.to_be_bytes.ensures w.in-Big.is
-  | in-Byte+in_ok-push-in-Byte w ↦ grown c (c.number-number.result ∷ []) Byte (ap (λ (v : Vec ℕ Global). v.items) w.bytes-is ∙ w.in_ok-push-in-Byte.ensures.items) refl w.in-Byte.is
+  | in-Little+in_ok-extend_from_slice-in-Little w ↦ grown c w.to_le_bytes.result Little
+      (ap (λ (v : Vec ℕ Global). v.items) w.bytes-is ∙ w.in_ok-extend_from_slice-in-Little.ensures.items) w.to_le_bytes.ensures w.in-Little.is
+  | in-Big+in_ok-extend_from_slice-in-Big w ↦ grown c w.to_be_bytes.result Big
+      (ap (λ (v : Vec ℕ Global). v.items) w.bytes-is ∙ w.in_ok-extend_from_slice-in-Big.ensures.items) w.to_be_bytes.ensures w.in-Big.is
+  | in-Byte+in_ok-push-in-Byte w ↦
+      grown c (c.number-number.result ∷ []) Byte (ap (λ (v : Vec ℕ Global). v.items) w.bytes-is ∙ w.in_ok-push-in-Byte.ensures.items) refl w.in-Byte.is
 ]
 
 pub loop-sample-preserved : goal.loop-sample-preserved

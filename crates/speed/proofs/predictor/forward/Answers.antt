@@ -12,7 +12,8 @@ use Rattle.speed.proofs.predictor.forward.Goals.{In-Some, After-index_mut}
 
 pub loop-place-init : goal.loop-place-init
 loop-place-init c =
-    let known = walked_none c.args.params.now c.args.cube.now c.in_ok-bands.bands.items (omega (arith, c.in_ok-bands.ensures.len, c.in_ok-bands.bands.ok.0)) (c.in_ok-bands.ensures.along c.args.cube.now) c.in_ok-bands.ensures.first in
+    let known = walked_none c.args.params.now c.args.cube.now c.in_ok-bands.bands.items
+    (omega (arith, c.in_ok-bands.ensures.len, c.in_ok-bands.bands.ok.0)) (c.in_ok-bands.ensures.along c.args.cube.now) c.in_ok-bands.ensures.first in
     rw c.new-places.ensures (record {
       room = c.requires.room;
       walk = on_walk_first c.args.params.now c.args.cube.now c.in_ok-bands.bands.items c.requires.lawful.order known;
@@ -21,7 +22,8 @@ loop-place-init c =
     })
 
 goes : (c : In-Some) → NextGoes c.args.params.now c.in-Some.place c.loop-place.places c.next.new.self
-goes c = next_goes c.args.params.now c.in-Some.place c.loop-place.places c.next.new.self c.requires.lawful.order c.loop-place.invariant.walk.rest c.in-Some.ensures.steps
+goes c = next_goes c.args.params.now c.in-Some.place c.loop-place.places c.next.new.self c.requires.lawful.order c.loop-place.invariant.walk.rest
+    c.in-Some.ensures.steps
 
 inside : (c : In-Some) → c.loop-place.i < length c.loop-place.residuals
 inside c = let g = goes c in omega (arith, g.below, g.count, c.loop-place.invariant.written.count, c.loop-place.invariant.room)
@@ -31,11 +33,16 @@ index_mut-requires c = let g = goes (goal.at.index_mut-requires c).In-Some in om
 
 band_is : (c : After-index_mut) → slice_get c.loop-place.bands.items c.in-Some.place.z ≡ Some c.index_mut.result.now
 band_is c =
-    let g = next_goes c.args.params.now c.in-Some.place c.loop-place.places c.next.new.self c.requires.lawful.order c.loop-place.invariant.walk.rest c.in-Some.ensures.steps in
-    slice_get-get_or c.loop-place.bands.items c.in-Some.place.z c.index_mut.result.now (omega (arith, g.stands.place.band, c.loop-place.invariant.walk.known.many)) ∙ ap (λ (b : Learner). Some b) (sym c.index_mut.ensures.value)
+    let g = next_goes c.args.params.now c.in-Some.place c.loop-place.places c.next.new.self c.requires.lawful.order c.loop-place.invariant.walk.rest
+    c.in-Some.ensures.steps in
+    slice_get-get_or c.loop-place.bands.items c.in-Some.place.z c.index_mut.result.now
+    (omega (arith, g.stands.place.band, c.loop-place.invariant.walk.known.many)) ∙ ap (λ (b : Learner). Some b) (sym c.index_mut.ensures.value)
 
-here : (c : After-index_mut) → IsAlong c.args.params.now c.args.cube.now (length (gone_by c.args.params.now c.loop-place.places)) c.in-Some.place.z c.index_mut.result.now × (c.index_mut.result.now.place ≡ time_of c.args.params.now.shape c.in-Some.place)
-here c = band_here c.args.params.now c.args.cube.now (gone_by c.args.params.now c.loop-place.places) c.loop-place.bands.items c.in-Some.place c.index_mut.result.now c.requires.lawful.order c.loop-place.invariant.walk.known (next_goes c.args.params.now c.in-Some.place c.loop-place.places c.next.new.self c.requires.lawful.order c.loop-place.invariant.walk.rest c.in-Some.ensures.steps).stands (band_is c)
+here : (c : After-index_mut) → IsAlong c.args.params.now c.args.cube.now (length (gone_by c.args.params.now c.loop-place.places)) c.in-Some.place.z
+    c.index_mut.result.now × (c.index_mut.result.now.place ≡ time_of c.args.params.now.shape c.in-Some.place)
+here c = band_here c.args.params.now c.args.cube.now (gone_by c.args.params.now c.loop-place.places) c.loop-place.bands.items c.in-Some.place
+    c.index_mut.result.now c.requires.lawful.order c.loop-place.invariant.walk.known (next_goes c.args.params.now c.in-Some.place c.loop-place.places
+    c.next.new.self c.requires.lawful.order c.loop-place.invariant.walk.rest c.in-Some.ensures.steps).stands (band_is c)
 
 pub forward-delta-requires-clause-shape : goal.forward-delta-requires-clause-shape
 forward-delta-requires-clause-shape c = c.requires.shape ∙ sym (here (goal.at.forward-delta-requires-clause-shape c).After-index_mut).0.follows.made.shape
@@ -53,7 +60,8 @@ pub forward-delta-requires-clause-next : goal.forward-delta-requires-clause-next
 forward-delta-requires-clause-next c = rw c.requires.shape (here (goal.at.forward-delta-requires-clause-next c).After-index_mut).1
 
 pub offset_bounds-residuals-i : goal.offset_bounds-residuals-i
-offset_bounds-residuals-i c = let lt = inside (goal.at.offset_bounds-residuals-i c).In-Some in omega (arith, lt, c.loop-place.invariant.room, c.requires.lawful.sizes)
+offset_bounds-residuals-i c = let lt = inside (goal.at.offset_bounds-residuals-i c).In-Some in
+    omega (arith, lt, c.loop-place.invariant.room, c.requires.lawful.sizes)
 
 pub bounds-residuals-i : goal.bounds-residuals-i
 bounds-residuals-i c = inside (goal.at.bounds-residuals-i c).In-Some
@@ -70,21 +78,28 @@ loop-place-preserved c =
     let bits = ap (λ (k : SampleKind). k.bits) c.requires.kind in
     record {
       room = length-set c.loop-place.residuals c.loop-place.i c.forward-delta.result ∙ known.room;
-      walk = on_walk_more c.args.params.now c.args.cube.now c.args.cube.now c.loop-place.places c.next.new.self c.loop-place.bands.items c.in-Some.place c.index_mut.result.now c.forward-delta.new.self
-          c.requires.lawful.order known.walk c.in-Some.ensures.steps (band_is d) c.forward-delta.ensures.moved (c.forward-delta.ensures.follows c.args.params.now h.0.follows) (λ z f within apart along. along.follows);
-      written = written_more c.args.params.now c.args.cube.now c.loop-place.places c.next.new.self c.loop-place.bands.items c.in-Some.place c.index_mut.result.now c.loop-place.residuals c.loop-place.i c.forward-delta.result
-          c.requires.lawful.order c.requires.shape known.walk c.in-Some.ensures.steps (band_is d) known.written lt (c.forward-delta.ensures.residual c.args.params.now h.0.follows);
-      below = below_more (2 ^ c.args.params.now.kind.bits) c.loop-place.residuals c.loop-place.i c.forward-delta.result lt known.below (rw (← bits) c.forward-delta.ensures.bound);
+      walk = on_walk_more c.args.params.now c.args.cube.now c.args.cube.now c.loop-place.places c.next.new.self c.loop-place.bands.items c.in-Some.place
+          c.index_mut.result.now c.forward-delta.new.self
+          c.requires.lawful.order known.walk c.in-Some.ensures.steps (band_is d) c.forward-delta.ensures.moved
+          (c.forward-delta.ensures.follows c.args.params.now h.0.follows) (λ z f within apart along. along.follows);
+      written = written_more c.args.params.now c.args.cube.now c.loop-place.places c.next.new.self c.loop-place.bands.items c.in-Some.place
+          c.index_mut.result.now c.loop-place.residuals c.loop-place.i c.forward-delta.result
+          c.requires.lawful.order c.requires.shape known.walk c.in-Some.ensures.steps (band_is d) known.written lt
+          (c.forward-delta.ensures.residual c.args.params.now h.0.follows);
+      below = below_more (2 ^ c.args.params.now.kind.bits) c.loop-place.residuals c.loop-place.i c.forward-delta.result lt known.below
+          (rw (← bits) c.forward-delta.ensures.bound);
     }
 
 pub returns-clause-residuals : goal.returns-clause-residuals
 returns-clause-residuals c =
     let known = c.loop-place.invariant in
-    let written : AreResiduals c.args.params.now c.args.cube.now [] c.loop-place.i c.loop-place.residuals = rw c.in_default.ensures.steps.0 at c.loop-place.invariant.written in
+    let written : AreResiduals c.args.params.now c.args.cube.now [] c.loop-place.i c.loop-place.residuals =
+    rw c.in_default.ensures.steps.0 at c.loop-place.invariant.written in
     sym (all_residuals c.args.params.now c.args.cube.now c.loop-place.i c.loop-place.residuals c.requires.lawful.order c.requires.shape known.room written)
 
 pub returns-clause-below : goal.returns-clause-below
 returns-clause-below c =
     let known = c.loop-place.invariant in
-    let written : AreResiduals c.args.params.now c.args.cube.now [] c.loop-place.i c.loop-place.residuals = rw c.in_default.ensures.steps.0 at c.loop-place.invariant.written in
+    let written : AreResiduals c.args.params.now c.args.cube.now [] c.loop-place.i c.loop-place.residuals =
+    rw c.in_default.ensures.steps.0 at c.loop-place.invariant.written in
     λ k h. known.below k (omega (arith, h, written.count, known.room))

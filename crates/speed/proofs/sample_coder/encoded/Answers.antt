@@ -15,22 +15,26 @@ loop-t-init c = record {
 
 pub loop-t-preserved : goal.loop-t-preserved
 loop-t-preserved c =
-    let more : take (c.loop-t.t + 1) c.args.numbers.now ≡ take c.loop-t.t c.args.numbers.now ++ get_or c.args.numbers.now c.loop-t.t 0 ∷ [] = take_more c.args.numbers.now c.loop-t.t 0 c.loop-t-test.true in
+    let more : take (c.loop-t.t + 1) c.args.numbers.now ≡ take c.loop-t.t c.args.numbers.now ++ get_or c.args.numbers.now c.loop-t.t 0 ∷ [] =
+    take_more c.args.numbers.now c.loop-t.t 0 c.loop-t-test.true in
     let long : c.loop-t.t ≡ length (take c.loop-t.t c.args.numbers.now) = omega (arith, length-take c.loop-t.t c.args.numbers.now, c.loop-t-test.true) in
     record {
       bands = omega (arith, c.in_ok-put.ensures.bands.0, c.loop-t.invariant.bands);
       bits = c.in_ok-put.ensures.bands.1 ∙ c.loop-t.invariant.bits;
-      coded = rw more (coded_more c.args.params.now c.loop-t.stats c.put.new.self c.loop-t.t (get_or c.args.numbers.now c.loop-t.t 0) (take c.loop-t.t c.args.numbers.now) c.loop-t.writer.bits c.put.new.writer.bits c.loop-t.invariant.coded c.in_ok-put.ensures.taken long);
+      coded = rw more (coded_more c.args.params.now c.loop-t.stats c.put.new.self c.loop-t.t (get_or c.args.numbers.now c.loop-t.t 0)
+          (take c.loop-t.t c.args.numbers.now) c.loop-t.writer.bits c.put.new.writer.bits c.loop-t.invariant.coded c.in_ok-put.ensures.taken long);
     }
 
 -- where no number is greater all were taken
 all_taken : (c : After-drop-stats-inside-2) → AreOfBits 12 c.args.numbers.now → take c.loop-t.t c.args.numbers.now ≡ c.args.numbers.now
 all_taken c small = elim c.loop-t-test.branch [
   | else-loop-t-test w ↦ take_all c.loop-t.t c.args.numbers.now w.loop-t-test.false
-  | then-loop-t-test+then-number-gt-MOST w ↦ absurd (none_greater 12 c.args.numbers.now c.loop-t.t small w.loop-t-test.true (omega (arith, w.if-number-gt-MOST.true)))
+  | then-loop-t-test+then-number-gt-MOST w ↦
+      absurd (none_greater 12 c.args.numbers.now c.loop-t.t small w.loop-t-test.true (omega (arith, w.if-number-gt-MOST.true)))
 ]
 
 pub returns-clause-body : goal.returns-clause-body
 returns-clause-body c =
-    whole_text c.whole_bytes.result (AreOfBits 12 c.args.numbers.now) c.loop-t.writer.bits (one_band_body c.args.params.now c.args.numbers.now) c.whole_bytes.ensures.filled
+    whole_text c.whole_bytes.result (AreOfBits 12 c.args.numbers.now) c.loop-t.writer.bits
+    (one_band_body c.args.params.now c.args.numbers.now) c.whole_bytes.ensures.filled
     (λ small. c.loop-t.invariant.coded.text ∙ ap (one_band_body c.args.params.now) (all_taken c small))

@@ -18,4 +18,5 @@ pub into_bytes-requires : goal.into_bytes-requires
 into_bytes-requires c = whole c.bit_count.result c.args.writer.bits c.push.new.self.bits c.bit_count.ensures.count c.in_ok-push.ensures.appended
 
 pub returns-clause-filled : goal.returns-clause-filled
-returns-clause-filled c = c.into_bytes.ensures ∙ fills c.bit_count.result c.args.writer.bits c.push.new.self.bits c.bit_count.ensures.count c.in_ok-push.ensures.appended
+returns-clause-filled c =
+    c.into_bytes.ensures ∙ fills c.bit_count.result c.args.writer.bits c.push.new.self.bits c.bit_count.ensures.count c.in_ok-push.ensures.appended

@@ -20,7 +20,9 @@ number_is : (c : In_ok-push) → c.if-i-eq7.push ≡ synthetic_residual c.loop-i
 number_is c = (elim c.if-i-eq7.branch [
   | then-i-eq7 w ↦ w.push-is ∙ silent_residual c.loop-i.i c.number-quotient.result c.number.result w.if-i-eq7.true
   | else-i-eq7 w ↦ w.push-is ∙ spoken_residual c.loop-i.i c.number-quotient.result c.number.result (omega (arith, c.number.ensures.bound)) w.if-i-eq7.false
-]) ∙ residual_is c.loop-i.i c.number-quotient.result c.number.result (c.number-quotient.ensures.number ∙ ap (highest 16) (word_state c)) (c.number.ensures.number ∙ ap (highest 5) (few_state c))
+])
+    ∙ residual_is c.loop-i.i c.number-quotient.result c.number.result (c.number-quotient.ensures.number ∙ ap (highest 16) (word_state c))
+    (c.number.ensures.number ∙ ap (highest 5) (few_state c))
 
 pub loop-i-preserved : goal.loop-i-preserved
 loop-i-preserved c =

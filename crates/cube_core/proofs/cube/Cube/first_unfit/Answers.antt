@@ -1,4 +1,5 @@
-use Rattle.std.proofs.Common.{◌≡◌, ◌+◌, ◌<◌, ◌≤◌, ◌∙◌, sym, arith, ap, drop, length, length-drop, SFits, w32, to_z-of_z, rules, IsTrue, true, false, ℕ, pos, slice_index_or}
+use Rattle.std.proofs.Common.{◌≡◌, ◌+◌, ◌<◌, ◌≤◌, ◌∙◌, sym, arith, ap, drop, length, length-drop, SFits, w32, to_z-of_z, rules, IsTrue, true, false, ℕ, pos}
+use Rattle.std.proofs.Common.{slice_index_or}
 use Rattle.cube_core.specs.Shape.{Sizes, sample_count}
 use Rattle.cube_core.specs.Order.{IsOrder, places}
 use Rattle.cube_core.specs.declared.layout.RawOrder.{RawOrder}
@@ -15,12 +16,19 @@ count_is s t n e h = rw e at h
 lawful : (o : RawOrder) (s t : Sizes) (n : ℕ) → s ≡ t → n ≡ sample_count s → 1 ≤ n → IsOrder t (order_of o t)
 lawful o s t n e h some = lawful_order o t (omega (arith, count_is s t n e h))
 
-stands : (c : In-Some) → (c.loop-place.i < sample_count c.args.self.now.shape) × StandsAt c.args.self.now.shape (order_of c.args.layout.order c.args.self.now.shape) c.in-Some.place c.loop-place.i × (c.next.new.self ≡ drop (c.loop-place.i + 1) (places c.args.self.now.shape (order_of c.args.layout.order c.args.self.now.shape)))
-stands c = next_stands c.args.self.now.shape (order_of c.args.layout.order c.args.self.now.shape) c.loop-place.i c.in-Some.place c.next.new.self (lawful c.args.layout.order _ _ _ c.shape-shape.ensures c.sample_count-count.ensures.value c.sample_count-count.ensures.range.0) (sym c.loop-place.invariant.left ∙ c.in-Some.ensures.steps)
+stands : (c : In-Some) → (c.loop-place.i < sample_count c.args.self.now.shape)
+    × StandsAt c.args.self.now.shape (order_of c.args.layout.order c.args.self.now.shape) c.in-Some.place c.loop-place.i
+    × (c.next.new.self ≡ drop (c.loop-place.i + 1) (places c.args.self.now.shape (order_of c.args.layout.order c.args.self.now.shape)))
+stands c = next_stands _ (order_of c.args.layout.order c.args.self.now.shape) _ _ _ (lawful _ _ _ _ c.shape-shape.ensures c.sample_count-count.ensures.value
+    c.sample_count-count.ensures.range.0) (sym c.loop-place.invariant.left ∙ c.in-Some.ensures.steps)
 
 -- the sample is the i-th
-sample_is : (c : After-sample-sample) → c.loop-place.i < sample_count c.args.self.now.shape → StandsAt c.args.self.now.shape (order_of c.args.layout.order c.args.self.now.shape) c.in-Some.place c.loop-place.i → slice_index_or (samples_in c.args.self.now c.args.layout) c.loop-place.i (pos 0) ≡ c.sample-sample.result
-sample_is c lt there = sample_there c.args.self.now c.args.layout c.in-Some.place c.loop-place.i (lawful c.args.layout.order _ _ _ c.shape-shape.ensures c.sample_count-count.ensures.value c.sample_count-count.ensures.range.0) lt there ∙ sym c.sample-sample.ensures.value
+sample_is : (c : After-sample-sample) → c.loop-place.i < sample_count c.args.self.now.shape
+    → StandsAt c.args.self.now.shape (order_of c.args.layout.order c.args.self.now.shape) c.in-Some.place c.loop-place.i
+    → slice_index_or (samples_in c.args.self.now c.args.layout) c.loop-place.i (pos 0) ≡ c.sample-sample.result
+sample_is c lt there =
+    sample_there _ _ _ _ (lawful _ _ _ _ c.shape-shape.ensures c.sample_count-count.ensures.value c.sample_count-count.ensures.range.0) lt there
+    ∙ sym c.sample-sample.ensures.value
 
 narrow : (c : After-sample-sample) → SFits w32 c.sample-sample.result
 narrow c = search rules
@@ -38,7 +46,12 @@ returns-then-not-has c =
     let g = narrow d in
     let no : IsTrue false → ⊥ = search rules in
     let spelled = simp (to_z-of_z g, c.in_bytes-spelled.ensures, c.kind-kind.ensures) at c.if-not-has.ensures.1 in
-    record { there = rw (length-samples_in c.args.self.now c.args.layout (lawful c.args.layout.order _ _ _ c.shape-shape.ensures c.sample_count-count.ensures.value c.sample_count-count.ensures.range.0)) s.0; unfit = λ h. no (spelled (rw (sample_is d s.0 s.1) at h)); first = c.loop-place.invariant.fit }
+    record {
+      there = rw (length-samples_in c.args.self.now c.args.layout
+          (lawful c.args.layout.order _ _ _ c.shape-shape.ensures c.sample_count-count.ensures.value c.sample_count-count.ensures.range.0)) s.0;
+      unfit = λ h. no (spelled (rw (sample_is d s.0 s.1) at h));
+      first = c.loop-place.invariant.fit;
+    }
 
 pub overflow_add-i : goal.overflow_add-i
 overflow_add-i c =
@@ -60,4 +73,10 @@ unreachable-requires c =
     let s = c.args.self.now.shape in
     let o = order_of c.args.layout.order s in
     let none : length (drop c.loop-place.i (places s o)) ≡ 0 = ap length (sym c.loop-place.invariant.left ∙ c.in_default.ensures.steps.0) in
-    c.requires.some (λ j lt. c.loop-place.invariant.fit j (omega (arith, none, lt, length-drop c.loop-place.i (places s o), length-places s o (lawful c.args.layout.order _ _ _ c.shape-shape.ensures c.sample_count-count.ensures.value c.sample_count-count.ensures.range.0))))
+    c.requires.some (λ j lt. c.loop-place.invariant.fit j (omega (
+      arith,
+      none,
+      lt,
+      length-drop c.loop-place.i (places s o),
+      length-places s o (lawful c.args.layout.order _ _ _ c.shape-shape.ensures c.sample_count-count.ensures.value c.sample_count-count.ensures.range.0),
+    )))

@@ -15,16 +15,21 @@ items c = with_items_is c.in_ok-offsets.offsets c.fill.new.offsets (omega (arith
 
 pub invariant_of-result : goal.invariant_of-result
 invariant_of-result c =
-    rw (items c) (are_offsets c.args.shape c.args.kind c.args.layout c.args.bytes.now c.fill.new.offsets (omega (arith, c.sample_count.ensures.value, c.sample_count.ensures.range)) (full c) c.in_ok-fill.ensures.filled)
+    rw (items c) (are_offsets _ _ _ _ _ (omega arith) (full c) c.in_ok-fill.ensures.filled)
 
 pub returns-clause-cube : goal.returns-clause-cube
-returns-clause-cube c =
-    (refl, refl, rw (items c) (raw_bytes_again c.args.shape c.args.kind c.args.layout c.args.bytes.now c.fill.new.offsets c.requires (omega (arith, c.sample_count.ensures.value, c.sample_count.ensures.range)) (omega (arith, c.if-had-wanted.false, c.length-wanted.ensures)) (λ i. omega (arith, c.type_inv.bytes i)) (full c) c.in_ok-fill.ensures.filled))
+returns-clause-cube c = (
+  refl,
+  refl,
+  rw (items c)
+      (raw_bytes_again _ _ _ _ _ c.requires (omega arith) (omega arith) (λ i. omega (arith, c.type_inv.bytes i)) (full c) c.in_ok-fill.ensures.filled),
+)
 
 pub returns-clause-whole : goal.returns-clause-whole
 returns-clause-whole c =
-    rw (items c) (is_cube c.args.shape c.args.kind c.fill.new.offsets c.sample_count.ensures.sizes (rw c.bits-bits.ensures.value at c.bits-bits.ensures.range) (are_offsets c.args.shape c.args.kind c.args.layout c.args.bytes.now c.fill.new.offsets (omega (arith, c.sample_count.ensures.value, c.sample_count.ensures.range)) (full c) c.in_ok-fill.ensures.filled))
+    rw (items c) (is_cube _ _ _ c.sample_count.ensures.sizes (rw c.bits-bits.ensures.value at c.bits-bits.ensures.range)
+    (are_offsets _ _ _ _ _ (omega arith) (full c) c.in_ok-fill.ensures.filled))
 
 pub returns-clause-fits : goal.returns-clause-fits
 returns-clause-fits c =
-    rw (items c) (have_bytes_again c.args.shape c.args.kind c.args.layout c.args.bytes.now c.fill.new.offsets c.requires (omega (arith, c.sample_count.ensures.value, c.sample_count.ensures.range)) (λ i. omega (arith, c.type_inv.bytes i)) (full c) c.in_ok-fill.ensures.filled)
+    rw (items c) (have_bytes_again _ _ _ _ _ c.requires (omega arith) (λ i. omega (arith, c.type_inv.bytes i)) (full c) c.in_ok-fill.ensures.filled)

@@ -7,4 +7,4 @@ pub returns-clause-value : goal.returns-clause-value
 returns-clause-value c =
     let fits : SFits w32 c.sample_of.result = search rules in
     let read = get_or_read c.self.inside.offsets.items _ _ (omega (arith, c.self.invariant.whole)) c.index.ensures 0 in
-    rw (to_z-of_z fits, c.sample_of.ensures.value, read) (sym (sample_at_offset c.args.self.now c.self.inside.shape c.self.inside.kind c.self.inside.offsets.items c.args.z c.args.y c.args.x c.index_at-at.result c.self.view_is c.index_at-at.ensures.value (omega (arith, c.self.invariant.whole))))
+    rw (to_z-of_z fits, c.sample_of.ensures.value, read) (sym (sample_at_offset _ _ _ _ _ _ _ _ c.self.view_is c.index_at-at.ensures.value (omega arith)))

@@ -12,7 +12,8 @@ use Rattle.cube_core.proofs.cube.Cube.to_raw.Goals.{After-pour}
 shape_is : (c : After-pour) → c.self.inside.shape ≡ c.shape-shape.result
 shape_is c = ap (λ (i : Image). i.shape) c.self.view_is ∙ sym c.shape-shape.ensures
 
-image_is : (c : After-pour) → record { shape = c.shape-shape.result; kind = c.self.inside.kind; samples = samples_of c.self.inside.kind c.self.inside.offsets.items } ≡ c.args.self.now
+image_is : (c : After-pour)
+    → record { shape = c.shape-shape.result; kind = c.self.inside.kind; samples = samples_of c.self.inside.kind c.self.inside.offsets.items } ≡ c.args.self.now
 image_is c = rw (← shape_is c) c.self.view_is
 
 full : (c : After-pour) → length c.self.inside.offsets.items ≡ sample_count c.shape-shape.result
@@ -28,19 +29,22 @@ pub first_unfit-requires-clause-some : goal.first_unfit-requires-clause-some
 first_unfit-requires-clause-some c = λ have.
     let d = (goal.at.first_unfit-requires-clause-some c).After-pour in
     let no : IsTrue false → ⊥ = search rules in
-    let can = can_be_poured c.args.self.now c.shape-shape.result c.self.inside.kind c.args.layout c.self.inside.offsets.items (image_is d) (some d) (full d) have in
+    let can = can_be_poured _ _ _ _ _ (image_is d) (some d) (full d) have in
     no (c.if-pour.ensures.good (rw c.deref.ensures.value can))
 
-poured : (c : After-pour) → (IsTrue true → ArePoured c.shape-shape.result c.self.inside.kind c.args.layout c.deref.result.now c.pour.new.bytes) → ArePoured c.shape-shape.result c.self.inside.kind c.args.layout c.self.inside.offsets.items c.pour.new.bytes
+poured : (c : After-pour) → (IsTrue true → ArePoured c.shape-shape.result c.self.inside.kind c.args.layout c.deref.result.now c.pour.new.bytes)
+    → ArePoured c.shape-shape.result c.self.inside.kind c.args.layout c.self.inside.offsets.items c.pour.new.bytes
 poured c h = let yes : IsTrue true = search rules in rw c.deref.ensures.value at (h yes)
 
 pub returns-then-pour-clause-bytes : goal.returns-then-pour-clause-bytes
 returns-then-pour-clause-bytes c =
     let d = (goal.at.returns-then-pour-clause-bytes c).After-pour in
-    let items : (with_items c.in_ok-bytes.bytes c.pour.new.bytes).items ≡ c.pour.new.bytes = with_items_is c.in_ok-bytes.bytes c.pour.new.bytes (omega (arith, c.pour.auto.bytes, c.deref_mut.ensures.len)) in
-    items ∙ raw_bytes_poured c.args.self.now c.shape-shape.result c.self.inside.kind c.args.layout c.self.inside.offsets.items c.pour.new.bytes (image_is d) (some d) (long d) (full d) (poured d c.if-pour.ensures.poured)
+    let items : (with_items c.in_ok-bytes.bytes c.pour.new.bytes).items ≡ c.pour.new.bytes =
+    with_items_is c.in_ok-bytes.bytes c.pour.new.bytes (omega (arith, c.pour.auto.bytes, c.deref_mut.ensures.len)) in
+    items ∙ raw_bytes_poured c.args.self.now c.shape-shape.result c.self.inside.kind c.args.layout c.self.inside.offsets.items c.pour.new.bytes (image_is d)
+    (some d) (long d) (full d) (poured d c.if-pour.ensures.poured)
 
 pub returns-then-pour-clause-fits : goal.returns-then-pour-clause-fits
 returns-then-pour-clause-fits c =
     let d = (goal.at.returns-then-pour-clause-fits c).After-pour in
-    have_bytes_poured c.args.self.now c.shape-shape.result c.self.inside.kind c.args.layout c.self.inside.offsets.items c.pour.new.bytes (image_is d) (some d) (full d) (poured d c.if-pour.ensures.poured)
+    have_bytes_poured _ _ _ _ _ _ (image_is d) (some d) (full d) (poured d c.if-pour.ensures.poured)

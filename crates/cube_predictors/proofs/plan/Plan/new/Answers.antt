@@ -6,7 +6,7 @@ use Rattle.cube_predictors.proofs.plan.Plan.new.Goals as goal
 use Rattle.cube_predictors.proofs.plan.Plan.new.Goals.{In_ok-test_plan}
 
 may : (c : In_ok-test_plan) → MayPlan c.args.predictors c.args.slots c.args.params.now.shape.bands c.args.deal.now
-may c = (plan_fault_is_exact _ _ _ c.args.deal.now).0 (rw c.bands.ensures.value at (sym c.in_ok-test_plan.ensures))
+may c = (plan_fault_is_exact _ _ _ _).0 (rw c.bands.ensures.value at (sym c.in_ok-test_plan.ensures))
 
 pub made-requires-clause-may : goal.made-requires-clause-may
 made-requires-clause-may c = may (goal.at.made-requires-clause-may c).In_ok-test_plan

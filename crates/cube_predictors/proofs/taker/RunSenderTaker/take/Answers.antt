@@ -10,15 +10,8 @@ use Rattle.cube_predictors.proofs.taker.RunSenderTaker.take.Goals as goal
 sent_some : {G : Type 0} {old new : RunSending G} {result : Bool} {ns : List ℕ}
     → (new.lane ≡ old.lane) × (new.predictor ≡ old.predictor) × (new.gate ≡ old.gate) → new.taken ≡ old.taken ++ ns → (IsTrue result → IsTrue new.ready)
     → (IsFalse result → IsTrue new.stopped) → Sends old new result ns
-sent_some {new = new} same taken ready stopped = record {
-  lane = same.0;
-  predictor = same.1;
-  gate = same.2;
-  rest = [];
-  taken = rw (append-nil new.taken) (sym taken);
-  whole = λ h. (refl, ready h);
-  stopped = stopped;
-}
+sent_some same taken ready stopped =
+    record { lane = same.0; predictor = same.1; gate = same.2; rest = []; taken = rw append-nil (sym taken); whole = λ h. (refl, ready h); stopped = stopped }
 
 pub returns-then-not-goes_on : goal.returns-then-not-goes_on
 returns-then-not-goes_on g c =
@@ -31,7 +24,7 @@ loop-first-preserved g c =
     let told = c.send_some-first.ensures in
     let some = λ (h : IsTrue true). told.ready (c.goes_on.ensures.open c.if-not-goes_on.false) in
     record {
-      within = omega (arith, told.within, c.loop-first.invariant.within, length-drop c.loop-first.first c.args.numbers.now);
+      within = omega (arith, told.within, length-drop c.loop-first.first c.args.numbers.now);
       sent = rw take-add (sendings_are.behind _ _ _ true _ _ c.loop-first.invariant.sent
           (sent_some told.same (rw take_rest at told.taken) some (λ h. absurd (cc))));
     }

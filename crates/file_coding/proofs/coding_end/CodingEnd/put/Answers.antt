@@ -5,16 +5,16 @@ use Rattle.file_coding.proofs.Endings.{may_take, coded_more}
 use Rattle.file_coding.proofs.coding_end.CodingEnd.put.Goals as goal
 
 pub put-requires : goal.put-requires
-put-requires c = rw (← c.self.view_is) at (may_take c.args.self.now c.args.place c.args.delta c.requires.next c.requires.may)
+put-requires c = rw (← c.self.view_is) at (may_take _ _ _ c.requires.next c.requires.may)
 
 pub returns-clause-coded : goal.returns-clause-coded
 returns-clause-coded c =
     let moved : c.args.self.now.left ≡ c.args.place ∷ c.next.new.self = search rules in
     let time = ap₂ (λ y x. y * c.self.inside.columns + x) c.from.ensures c.from-2.ensures in
-    rw (← c.self.view_is) (coded_more _ _ c.args.place _ c.args.delta (rw (← c.self.view_is) at moved) time refl refl c.in_ok-put.ensures.taken)
+    rw (← c.self.view_is) (coded_more _ _ _ _ _ (rw (← c.self.view_is) at moved) time refl refl c.in_ok-put.ensures.taken)
 
 pub invariant_of-self-2 : goal.invariant_of-self-2
 invariant_of-self-2 c =
     let moved : c.self.inside.places ≡ c.args.place ∷ c.next.new.self = search rules in
     let rows = subst (AreByRows c.self.inside.columns) moved in
-    (c.self.invariant.0, λ by. rows_shift c.self.inside.columns c.args.place c.next.new.self (rows (c.self.invariant.1 by)))
+    (c.self.invariant.0, λ by. rows_shift _ _ _ (rows (c.self.invariant.1 by)))

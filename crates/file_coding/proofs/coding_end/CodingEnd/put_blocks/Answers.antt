@@ -5,20 +5,18 @@ use Rattle.file_coding.proofs.Columns.{may_put_blocks, coded_blocks}
 use Rattle.file_coding.proofs.coding_end.CodingEnd.put_blocks.Goals as goal
 
 pub put_blocks-taken-requires : goal.put_blocks-taken-requires
-put_blocks-taken-requires c = may_put_blocks _ c.args.residuals.now (rw (← c.self.view_is) at c.requires.may) (rw (← c.self.view_is) at c.requires.blocks)
+put_blocks-taken-requires c = may_put_blocks _ _ (rw (← c.self.view_is) at c.requires.may) (rw (← c.self.view_is) at c.requires.blocks)
 
 pub invariant_of-self : goal.invariant_of-self
-invariant_of-self c =
-    (c.self.invariant.0, λ by. rows_behind c.self.inside.columns c.put_blocks-taken.result c.self.inside.places _ c.go_by.ensures (c.self.invariant.1 by))
+invariant_of-self c = (c.self.invariant.0, λ by. rows_behind _ _ _ _ c.go_by.ensures (c.self.invariant.1 by))
 
 pub invariant_of-self-2 : goal.invariant_of-self-2
-invariant_of-self-2 c =
-    (c.self.invariant.0, λ by. rows_behind c.self.inside.columns c.put_blocks-taken.result c.self.inside.places _ c.go_by.ensures (c.self.invariant.1 by))
+invariant_of-self-2 c = (c.self.invariant.0, λ by. rows_behind _ _ _ _ c.go_by.ensures (c.self.invariant.1 by))
 
 pub returns-then-taken-residuals-clause-some : goal.returns-then-taken-residuals-clause-some
 returns-then-taken-residuals-clause-some c =
     let told = c.put_blocks-taken.ensures in
-    let some = coded_blocks _ _ _ c.put_blocks-taken.result (rw (← c.self.view_is) at c.requires.may) told.most c.go_by.ensures refl refl told.taken in
+    let some = coded_blocks _ _ _ _ (rw (← c.self.view_is) at c.requires.may) told.most c.go_by.ensures refl refl told.taken in
     (c.put_blocks-taken.result, c.if-taken-residuals.true, rw (← c.self.view_is) some)
 
 pub returns-clause-coded : goal.returns-clause-coded
@@ -26,4 +24,4 @@ returns-clause-coded c =
     let some =
     coded_blocks _ _ _ c.put_blocks-taken.result
     (rw (← c.self.view_is) at c.requires.may) c.put_blocks-taken.ensures.most c.go_by.ensures refl refl c.put_blocks-taken.ensures.taken in
-    rw (← c.self.view_is) (rw (take_all c.put_blocks-taken.result c.args.residuals.now (omega (arith, c.if-taken-residuals.false))) at some)
+    rw (← c.self.view_is) (rw (take_all c.put_blocks-taken.result c.args.residuals.now (omega arith)) at some)

@@ -13,18 +13,18 @@ loop-first-init c = record { coded = codes_none c.args.self.now; within = omega 
 
 pub unreachable-requires : goal.unreachable-requires
 unreachable-requires c =
-    place_comes c.loop-first.self (get_or c.args.residuals.now c.loop-first.first 0) (may_one c.args.self.now c.loop-first.self c.args.residuals.now c.loop-first.first c.requires.may c.loop-first.invariant.coded c.loop-first-test.true)
+    place_comes _ (get_or c.args.residuals.now c.loop-first.first 0) (may_one _ _ _ _ c.requires.may c.loop-first.invariant.coded c.loop-first-test.true)
     (sym c.in_default.is ∙ c.place.ensures)
 
 pub put_column-requires : goal.put_column-requires
 put_column-requires c =
     let count : c.loop-first.first + c.min-count.result - c.loop-first.first ≡ c.min-count.result = omega arith in
     let part : List ℕ = take c.min-count.result (drop c.loop-first.first c.args.residuals.now) in
-    let few : length part ≤ c.column.result = omega (arith, c.min-count.ensures, c.min-column.ensures, length-take c.min-count.result (drop c.loop-first.first c.args.residuals.now)) in
+    let few : length part ≤ c.column.result = omega (arith, length-take c.min-count.result (drop c.loop-first.first c.args.residuals.now)) in
     let next = sym c.place.ensures ∙ c.in-Some.is in
     let left = ap (λ (e : Ending). e.left) c.self.view_is in
-    rw count (may_column c.args.self.now c.loop-first.self c.args.residuals.now c.loop-first.first c.min-count.result c.in-Some.place c.requires.may c.requires.samples c.loop-first.invariant.coded
-    (omega (arith, c.min-count.ensures, c.loop-first.invariant.within)) next (column_part c.in-Some.place c.column.result c.loop-first.self.left part (rw left at c.column.ensures.along) next few))
+    rw count (may_column _ _ _ _ _ _ c.requires.may c.requires.samples c.loop-first.invariant.coded
+    (omega arith) next (column_part _ _ _ part (rw left at c.column.ensures.along) next few))
 
 some_taken : (r : Result (Unit {0}) Fault) (P : Type 0) → P → OnErr r P
 some_taken (Ok u) P h = tt
@@ -32,19 +32,25 @@ some_taken (Err e) P h = h
 
 pub returns-in_err-put_column-clause-some : goal.returns-in_err-put_column-clause-some
 returns-in_err-put_column-clause-some c =
-    some_taken c.from_residual.result _
-    (c.loop-first.first, c.loop-first-test.true, subst (λ (e : Ending). CodesAll c.args.self.now e (take c.loop-first.first c.args.residuals.now)) (sym c.in_err-put_column.ensures.same) c.loop-first.invariant.coded)
+    some_taken c.from_residual.result _ (
+      c.loop-first.first,
+      c.loop-first-test.true,
+      subst (λ (e : Ending). CodesAll c.args.self.now e (take c.loop-first.first c.args.residuals.now))
+          (sym c.in_err-put_column.ensures.same) c.loop-first.invariant.coded,
+    )
 
 pub loop-first-preserved : goal.loop-first-preserved
 loop-first-preserved c =
     let was = c.loop-first.invariant in
     let count : c.loop-first.first + c.min-count.result - c.loop-first.first ≡ c.min-count.result = omega arith in
-    let column : CodesAll c.loop-first.self c.put_column.new.self (take c.min-count.result (drop c.loop-first.first c.args.residuals.now)) = rw count at c.in_ok-put_column.ensures.coded in
+    let column : CodesAll c.loop-first.self c.put_column.new.self (take c.min-count.result (drop c.loop-first.first c.args.residuals.now)) =
+    rw count at c.in_ok-put_column.ensures.coded in
     record {
       coded = subst (CodesAll c.args.self.now c.put_column.new.self) (sym (take-add c.loop-first.first c.min-count.result c.args.residuals.now))
-          (codes_behind c.args.self.now c.loop-first.self c.put_column.new.self (take c.loop-first.first c.args.residuals.now) (take c.min-count.result (drop c.loop-first.first c.args.residuals.now)) was.coded column);
+          (codes_behind _ _ _ (take c.loop-first.first c.args.residuals.now)
+          (take c.min-count.result (drop c.loop-first.first c.args.residuals.now)) was.coded column);
       within = omega (arith, c.min-count.ensures, was.within);
     }
 
 pub returns-clause-coded : goal.returns-clause-coded
-returns-clause-coded c = subst (CodesAll c.args.self.now c.loop-first.self) (take_all c.loop-first.first c.args.residuals.now (omega (arith, c.loop-first-test.false))) c.loop-first.invariant.coded
+returns-clause-coded c = subst (CodesAll c.args.self.now c.loop-first.self) (take_all _ _ (omega arith)) c.loop-first.invariant.coded

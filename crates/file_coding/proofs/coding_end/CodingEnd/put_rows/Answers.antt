@@ -11,7 +11,7 @@ use Rattle.file_coding.proofs.coding_end.CodingEnd.put_rows.Goals.{After-from}
 pub unreachable-requires : goal.unreachable-requires
 unreachable-requires c =
     place_comes c.loop-first.self (get_or c.args.residuals.now c.loop-first.first 0)
-    (may_one _ _ _ c.loop-first.first c.requires.may c.loop-first.invariant.coded c.loop-first-test.true)
+    (may_one _ _ _ _ c.requires.may c.loop-first.invariant.coded c.loop-first-test.true)
     (sym c.in_default.is ∙ c.place.ensures)
 
 module _ (c : After-from) where
@@ -20,7 +20,7 @@ module _ (c : After-from) where
 
   inside : c.in-Some.place.x < c.self.inside.columns
   inside =
-      let none = may_part _ _ _ c.loop-first.first 0 c.requires.may c.loop-first.invariant.coded (omega (arith, c.loop-first.invariant.within)) in
+      let none = may_part _ _ _ _ 0 c.requires.may c.loop-first.invariant.coded (omega arith) in
       omega (arith, column_within _ _ _ none next, ap (λ (e : Ending). e.columns) c.self.view_is)
 
 pub overflow_sub-row : goal.overflow_sub-row
@@ -30,15 +30,13 @@ pub put_run-requires : goal.put_run-requires
 put_run-requires c =
     let d = (goal.at.put_run-requires c).After-from in
     let count : c.loop-first.first + c.min-count.result - c.loop-first.first ≡ c.min-count.result = omega arith in
-    let row : c.in-Some.place.x + c.min-count.result ≤ c.loop-first.self.columns =
-    omega (arith, inside d, c.min-count.ensures, c.from.ensures, ap (λ (e : Ending). e.columns) c.self.view_is) in
-    let fits : c.loop-first.first + c.min-count.result ≤ length c.args.residuals.now = omega (arith, c.min-count.ensures, c.loop-first.invariant.within) in
-    rw count (may_run _ _ _ c.loop-first.first c.min-count.result _ c.requires.may c.requires.samples
+    let row : c.in-Some.place.x + c.min-count.result ≤ c.loop-first.self.columns = omega (arith, inside d, ap (λ (e : Ending). e.columns) c.self.view_is) in
+    let fits : c.loop-first.first + c.min-count.result ≤ length c.args.residuals.now = omega arith in
+    rw count (may_run _ _ _ _ _ _ c.requires.may c.requires.samples
     c.loop-first.invariant.coded c.loop-first.invariant.rows fits (next d) row)
 
 pub loop-first-smaller : goal.loop-first-smaller
-loop-first-smaller c =
-    omega (arith, inside (goal.at.loop-first-smaller c).After-from, c.from.ensures, c.min-count.ensures, c.loop-first-test.true)
+loop-first-smaller c = omega (arith, inside (goal.at.loop-first-smaller c).After-from)
 
 pub returns-in_err-put_run-clause-some : goal.returns-in_err-put_run-clause-some
 returns-in_err-put_run-clause-some c =

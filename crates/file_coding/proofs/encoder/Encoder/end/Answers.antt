@@ -6,4 +6,4 @@ pub returns-in-Samples-clause-ended : goal.returns-in-Samples-clause-ended
 returns-in-Samples-clause-ended c = rw c.in-Samples.is (samples_end c.in-Samples.field-0 c.args.writer.now.bits)
 
 pub returns-in-Blocks-clause-ended : goal.returns-in-Blocks-clause-ended
-returns-in-Blocks-clause-ended c = rw c.in-Blocks.is (on_ok_weaker c.end.result (blocks_end _ c.args.writer.now.bits c.end.new.writer.bits) c.end.ensures.ended)
+returns-in-Blocks-clause-ended c = rw c.in-Blocks.is (on_ok_weaker _ (blocks_end _ _ _) c.end.ensures.ended)

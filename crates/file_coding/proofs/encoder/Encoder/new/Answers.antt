@@ -6,5 +6,4 @@ pub new-requires : goal.new-requires
 new-requires c = for_samples c.args.params.now c.requires (rw c.in-Sample.is tt)
 
 pub returns-in_ok-new-in-Sample-clause-taken : goal.returns-in_ok-new-in-Sample-clause-taken
-returns-in_ok-new-in-Sample-clause-taken c =
-    samples_none c.args.params.now c.in_ok-new-in-Sample.field-0 (rw c.in-Sample.is tt) c.in_ok-new-in-Sample.ensures.bands c.in_ok-new-in-Sample.ensures.taken
+returns-in_ok-new-in-Sample-clause-taken c = samples_none _ _ (rw c.in-Sample.is tt) c.in_ok-new-in-Sample.ensures.bands c.in_ok-new-in-Sample.ensures.taken

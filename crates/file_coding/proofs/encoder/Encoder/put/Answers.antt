@@ -20,4 +20,4 @@ returns-in-Samples-clause-taken c =
 pub returns-in-Blocks-clause-taken : goal.returns-in-Blocks-clause-taken
 returns-in-Blocks-clause-taken c =
     let told = c.put-in-Blocks.ensures in
-    rw c.in-Blocks.is (by_blocks c.put-in-Blocks.result c.args.z c.args.t c.args.delta _ _ _ _ told.cut told.counted told.taken)
+    rw c.in-Blocks.is (by_blocks _ _ _ _ _ _ _ _ told.cut told.counted told.taken)

@@ -8,4 +8,4 @@ returns-clause-taken c =
     let told = c.put_all.ensures in
     let list = take c.put_all.result c.args.residuals.now in
     let counted : taken_count c.put_all.new.self ≡ taken_count c.in-Blocks.blocks + length list = rw length-take (omega (arith, told.counted, told.most)) in
-    rw c.in-Blocks.is (blocks_put_all list _ _ c.args.writer.now.bits c.put_all.new.writer.bits told.taken told.cut counted)
+    rw c.in-Blocks.is (blocks_put_all list _ _ _ _ told.taken told.cut counted)

@@ -22,17 +22,18 @@ invariant_of-self c =
 
 pub returns-then-zeros-most-clause-reads : goal.returns-then-zeros-most-clause-reads
 returns-then-zeros-most-clause-reads c =
-    ends_at c.args.self.now.count c.args.limit c.zeros_ahead-zeros.result c.self.inside.at (bits_of_bytes c.self.inside.bytes.now) c.args.self.now.left (omega (arith, c.min-most.ensures)) (ap (λ w. w.left) c.self.view_is) c.zeros_ahead-zeros.ensures.zeros
+    ends_at _ _ _ _ (bits_of_bytes c.self.inside.bytes.now) _ (omega arith) (ap (λ w. w.left) c.self.view_is) c.zeros_ahead-zeros.ensures.zeros
     (c.zeros_ahead-zeros.ensures.one c.if-zeros-most.true)
 
 pub returns-then-zeros-most-clause-short : goal.returns-then-zeros-most-clause-short
 returns-then-zeros-most-clause-short c =
-    let one = c.zeros_ahead-zeros.ensures.zeros ∙ ap (λ (x : List Bool). replicate c.zeros_ahead-zeros.result false ++ x) (c.zeros_ahead-zeros.ensures.one c.if-zeros-most.true) in
+    let one = c.zeros_ahead-zeros.ensures.zeros
+    ∙ ap (λ (x : List Bool). replicate c.zeros_ahead-zeros.result false ++ x) (c.zeros_ahead-zeros.ensures.one c.if-zeros-most.true) in
     (λ h. absurd cc, λ h. absurd (no_one (length c.args.self.now.left) c.zeros_ahead-zeros.result _ (sym h.1 ∙ sym (ap (λ w. w.left) c.self.view_is) ∙ one)))
 
 pub returns-then-most-limit-clause-reads : goal.returns-then-most-limit-clause-reads
 returns-then-most-limit-clause-reads c =
-    short_at c.args.self.now.count c.args.limit c.zeros_ahead-zeros.result c.self.inside.at (bits_of_bytes c.self.inside.bytes.now) c.args.self.now.left (omega (arith, c.min-most.ensures, c.left.ensures, c.zeros_ahead-zeros.ensures.within)) (omega (arith, c.zeros_ahead-zeros.ensures.within)) (ap (λ w. w.left) c.self.view_is) c.zeros_ahead-zeros.ensures.zeros
+    short_at _ _ _ _ (bits_of_bytes c.self.inside.bytes.now) _ (omega arith) (omega arith) (ap (λ w. w.left) c.self.view_is) c.zeros_ahead-zeros.ensures.zeros
     ∙ ap (λ k. Err (Truncated k)) (sym c.count.ensures)
 
 pub overflow_add-self-2 : goal.overflow_add-self-2
@@ -47,4 +48,4 @@ invariant_of-self-2 c =
 
 pub returns-clause-reads : goal.returns-clause-reads
 returns-clause-reads c =
-    full_at c.args.self.now.count c.args.limit c.zeros_ahead-zeros.result c.self.inside.at (bits_of_bytes c.self.inside.bytes.now) c.args.self.now.left (omega (arith, c.min-most.ensures, c.zeros_ahead-zeros.ensures.within)) (ap (λ w. w.left) c.self.view_is) c.zeros_ahead-zeros.ensures.zeros
+    full_at _ _ _ _ (bits_of_bytes c.self.inside.bytes.now) _ (omega arith) (ap (λ w. w.left) c.self.view_is) c.zeros_ahead-zeros.ensures.zeros

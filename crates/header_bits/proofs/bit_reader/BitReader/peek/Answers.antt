@@ -11,7 +11,8 @@ whole_tail bytes i = take_all (length bytes - i) (drop i bytes) (omega (arith, l
 tail_length : (bytes : List ℕ) (i : ℕ) → length (take (length bytes - i) (drop i bytes)) ≡ length bytes - i
 tail_length bytes i = rw (whole_tail bytes i) (length-drop i bytes)
 
-eight_there : (bytes eight : List ℕ) (at : ℕ) → at ≤ 8 * length bytes → IsFirstChunk (take (length bytes - at / 8) (drop (at / 8) bytes)) eight 8 → at + 57 ≤ 8 * length bytes
+eight_there : (bytes eight : List ℕ) (at : ℕ) → at ≤ 8 * length bytes → IsFirstChunk (take (length bytes - at / 8) (drop (at / 8) bytes)) eight 8
+    → at + 57 ≤ 8 * length bytes
 eight_there bytes eight at within h = omega (arith, tail_length bytes (at / 8), h.enough)
 
 eight_missing : (bytes : List ℕ) (at : ℕ) → at ≤ 8 * length bytes → length (take (length bytes - at / 8) (drop (at / 8) bytes)) < 8 → 8 * length bytes < at + 57
@@ -35,6 +36,6 @@ returns-clause-enough c =
 pub returns-clause-bits : goal.returns-clause-bits
 returns-clause-bits c =
     let chunk = c.in_ok-eight.ensures.cases in
-    let whole = rw (whole_tail c.self.inside.bytes.now (c.self.inside.at / 8)) at (front_of_more _ _ c.word_of_eight.result c.word_of_eight.ensures.bits chunk.same) in
-    window_ahead c.self.inside.bytes.now c.self.inside.at _ c.args.self.now.left (ap (λ w. w.left) c.self.view_is) (eight_there c.self.inside.bytes.now _ c.self.inside.at c.self.invariant.0 chunk)
+    let whole = rw (whole_tail c.self.inside.bytes.now (c.self.inside.at / 8)) at (front_of_more _ _ _ c.word_of_eight.ensures.bits chunk.same) in
+    window_ahead _ _ _ _ (ap (λ w. w.left) c.self.view_is) (eight_there _ _ _ c.self.invariant.0 chunk)
     (window_shifted c.self.inside.bytes.now c.self.inside.at c.word_of_eight.result c.self.invariant.0 whole)

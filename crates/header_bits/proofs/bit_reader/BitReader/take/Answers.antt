@@ -8,7 +8,7 @@ use Rattle.header_bits.proofs.bit_reader.BitReader.take.Goals as goal
 
 pub returns-then-left-from-clause-reads : goal.returns-then-left-from-clause-reads
 returns-then-left-from-clause-reads c =
-    number_short c.args.self.now.count c.args.n c.args.self.now.left (omega (arith, c.if-left-from.true, c.left.ensures, c.from.ensures)) ∙ ap (λ k. Err (Truncated k)) (sym c.count.ensures)
+    number_short c.args.self.now.count c.args.n c.args.self.now.left (omega arith) ∙ ap (λ k. Err (Truncated k)) (sym c.count.ensures)
 
 pub number_of_bits-number-requires-clause-enough : goal.number_of_bits-number-requires-clause-enough
 number_of_bits-number-requires-clause-enough c =
@@ -23,6 +23,7 @@ invariant_of-self c =
 pub returns-clause-reads : goal.returns-clause-reads
 returns-clause-reads c =
     let after : List Bool = drop (c.self.inside.at + c.args.n) (bits_of_bytes c.self.inside.bytes.now) in
-    let front : c.args.self.now.left ≡ bits_of c.args.n c.number_of_bits-number.result ++ after = sym (ap (λ w. w.left) c.self.view_is) ∙ c.number_of_bits-number.ensures.bits in
-    ap (number_at c.args.self.now.count c.args.n) front ∙ number_again c.args.self.now.count c.args.n c.number_of_bits-number.result after c.number_of_bits-number.ensures.below
+    let front : c.args.self.now.left ≡ bits_of c.args.n c.number_of_bits-number.result ++ after =
+    sym (ap (λ w. w.left) c.self.view_is) ∙ c.number_of_bits-number.ensures.bits in
+    ap (number_at c.args.self.now.count c.args.n) front ∙ number_again _ _ _ after c.number_of_bits-number.ensures.below
     ∙ ap (λ (k : ℕ). Ok (c.number_of_bits-number.result, drop (c.self.inside.at + k) (bits_of_bytes c.self.inside.bytes.now))) (sym c.from-2.ensures)

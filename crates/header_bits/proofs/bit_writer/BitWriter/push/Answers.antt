@@ -5,4 +5,4 @@ use Rattle.header_bits.proofs.bit_writer.BitWriter.push.Goals as goal
 pub returns-then-self-n-clause-appended : goal.returns-then-self-n-clause-appended
 returns-then-self-n-clause-appended c =
     let few : c.self.inside.held + c.args.n ≤ 64 = grind arith in
-    part_pushed c.self.inside.bytes.items c.self.inside.held c.self.inside.part c.args.n c.args.bits c.args.self.now.bits c.requires.below few (ap (λ w. w.bits) c.self.view_is)
+    part_pushed _ _ _ _ _ _ c.requires.below few (ap (λ w. w.bits) c.self.view_is)

@@ -11,8 +11,8 @@ filled-word-requires-clause-below c =
 
 pub returns-then-n-free-clause-appended : goal.returns-then-n-free-clause-appended
 returns-then-n-free-clause-appended c =
-    part_pushed c.self.inside.bytes.items c.self.inside.held c.self.inside.part c.args.n c.args.bits c.args.self.now.bits c.requires.below (omega arith) (ap (λ w. w.bits) c.self.view_is)
+    part_pushed _ _ _ _ _ _ c.requires.below (omega arith) (ap (λ w. w.bits) c.self.view_is)
 
 pub returns-else-n-free-clause-appended : goal.returns-else-n-free-clause-appended
 returns-else-n-free-clause-appended c =
-    word_pushed c.self.inside.bytes.items c.self.inside.held c.self.inside.part c.args.n c.args.bits c.filled-word.result c.args.self.now.bits _ c.self.invariant.0 (omega arith) (ap (λ w. w.bits) c.self.view_is) c.filled-word.ensures c.append_word.ensures.bits
+    word_pushed _ _ _ _ _ _ _ _ c.self.invariant.0 (omega arith) (ap (λ w. w.bits) c.self.view_is) c.filled-word.ensures c.append_word.ensures.bits

@@ -5,23 +5,23 @@ use Rattle.header_bits.proofs.PartReading.{part_short, part_refused, part_said, 
 use Rattle.header_bits.proofs.image_part.ImagePart.read.Goals as goal
 
 pub returns-then-left-image_end : goal.returns-then-left-image_end
-returns-then-left-image_end c = part_short image c.args.reader.now.left (omega (arith, c.left.ensures, c.image_end.ensures, c.if-left-image_end.true, image_size))
+returns-then-left-image_end c = part_short image c.args.reader.now.left (omega (arith, image_size))
 
 pub read_values-requires-clause-whole : goal.read_values-requires-clause-whole
 unfolding image
-read_values-requires-clause-whole c = omega (arith, c.left.ensures, c.image_end.ensures, c.if-left-image_end.false, image_size)
+read_values-requires-clause-whole c = omega (arith, image_size)
 
 pub returns-in_err-test : goal.returns-in_err-test
 unfolding image
 returns-in_err-test c =
     let p = err_from_is_err_and c.from_residual.result c.from_residual.ensures.1 in
-    rw (p.1, p.2) (part_refused image c.args.reader.now.left c.read_values.new.out c.in_err-test.field-0.0 (omega (arith, c.left.ensures, c.image_end.ensures, c.if-left-image_end.false, image_size)) c.read_values.ensures.values (sym c.in_err-test.ensures))
+    rw (p.1, p.2) (part_refused image c.args.reader.now.left _ _ (omega (arith, image_size)) c.read_values.ensures.values (sym c.in_err-test.ensures))
 
 pub said-requires-clause-held : goal.said-requires-clause-held
 unfolding image
-said-requires-clause-held c = values_held image c.args.reader.now.left c.read_values.new.out (omega (arith, c.left.ensures, c.image_end.ensures, c.if-left-image_end.false, image_size)) c.read_values.ensures.values
+said-requires-clause-held c = values_held image c.args.reader.now.left _ (omega (arith, image_size)) c.read_values.ensures.values
 
 pub returns : goal.returns
 unfolding image
-returns c = part_said image c.args.reader.now.left c.read_values.new.out c.said.result (omega (arith, c.left.ensures, c.image_end.ensures, c.if-left-image_end.false, image_size)) c.read_values.ensures.values (sym c.in_ok-test.ensures) c.said.ensures
+returns c = part_said image c.args.reader.now.left _ _ (omega (arith, image_size)) c.read_values.ensures.values (sym c.in_ok-test.ensures) c.said.ensures
     ∙ ap (λ x. Ok (c.said.result, x)) (sym c.read_values.ensures.left)

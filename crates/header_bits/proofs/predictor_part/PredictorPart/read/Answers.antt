@@ -5,27 +5,29 @@ use Rattle.header_bits.proofs.PartReading.{part_short, part_refused, part_said, 
 use Rattle.header_bits.proofs.predictor_part.PredictorPart.read.Goals as goal
 
 pub returns-then-left-predictor_bits : goal.returns-then-left-predictor_bits
-returns-then-left-predictor_bits c = part_short (predictor c.args.image.now) c.args.reader.now.left (omega (arith, c.left.ensures, c.predictor_bits.ensures, c.if-left-predictor_bits.true, predictor_size c.args.image.now))
+returns-then-left-predictor_bits c = part_short (predictor c.args.image.now) c.args.reader.now.left (omega (arith, predictor_size c.args.image.now))
 
 pub read_values-requires-clause-whole : goal.read_values-requires-clause-whole
 unfolding predictor
-read_values-requires-clause-whole c = omega (arith, c.left.ensures, c.predictor_bits.ensures, c.if-left-predictor_bits.false, predictor_size c.args.image.now)
+read_values-requires-clause-whole c = omega (arith, predictor_size c.args.image.now)
 
 pub test-requires : goal.test-requires
 unfolding predictor
-test-requires c = values_held (predictor c.args.image.now) c.args.reader.now.left c.read_values.new.out (omega (arith, c.left.ensures, c.predictor_bits.ensures, c.if-left-predictor_bits.false, predictor_size c.args.image.now)) c.read_values.ensures.values
+test-requires c = values_held (predictor c.args.image.now) _ _ (omega (arith, predictor_size c.args.image.now)) c.read_values.ensures.values
 
 pub returns-in_err-test : goal.returns-in_err-test
 unfolding predictor
 returns-in_err-test c =
     let p = err_from_is_err_and c.from_residual.result c.from_residual.ensures.1 in
-    rw (p.1, p.2) (part_refused (predictor c.args.image.now) c.args.reader.now.left c.read_values.new.out c.in_err-test.field-0.0 (omega (arith, c.left.ensures, c.predictor_bits.ensures, c.if-left-predictor_bits.false, predictor_size c.args.image.now)) c.read_values.ensures.values (sym c.in_err-test.ensures))
+    rw (p.1, p.2) (part_refused (predictor c.args.image.now) _ _ _ (omega (arith, predictor_size c.args.image.now)) c.read_values.ensures.values
+    (sym c.in_err-test.ensures))
 
 pub said-requires : goal.said-requires
 unfolding predictor
-said-requires c = values_held (predictor c.args.image.now) c.args.reader.now.left c.read_values.new.out (omega (arith, c.left.ensures, c.predictor_bits.ensures, c.if-left-predictor_bits.false, predictor_size c.args.image.now)) c.read_values.ensures.values
+said-requires c = values_held (predictor c.args.image.now) _ _ (omega (arith, predictor_size c.args.image.now)) c.read_values.ensures.values
 
 pub returns : goal.returns
 unfolding predictor
-returns c = part_said (predictor c.args.image.now) c.args.reader.now.left c.read_values.new.out c.said.result (omega (arith, c.left.ensures, c.predictor_bits.ensures, c.if-left-predictor_bits.false, predictor_size c.args.image.now)) c.read_values.ensures.values (sym c.in_ok-test.ensures) c.said.ensures
+returns c = part_said (predictor c.args.image.now) _ _ _ (omega (arith, predictor_size c.args.image.now)) c.read_values.ensures.values
+    (sym c.in_ok-test.ensures) c.said.ensures
     ∙ ap (λ x. Ok (c.said.result, x)) (sym c.read_values.ensures.left)

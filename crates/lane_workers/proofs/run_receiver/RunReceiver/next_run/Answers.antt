@@ -10,4 +10,4 @@ invariant_of-self-2 c =
     let nothing : c.self.inside.room ≡ [] = c.next_run-count.ensures.none (omega (arith, c.if-count-gt0.false)) c.requires in
     let whole : c.self.inside.receiver.received ≡ front = c.self.invariant ∙ ap (λ ns. front ++ ns) nothing ∙ append-nil front in
     let all = c.fill.ensures.received ∙ ap (λ ns. ns ++ c.fill.new.self) whole in
-    (before_run c.fill.new.receiver.received front c.fill.new.self (take c.next_run.result c.next_run.new.run) c.next_run.new.self all c.next_run.ensures.handed).1
+    (before_run _ front _ (take c.next_run.result c.next_run.new.run) _ all c.next_run.ensures.handed).1

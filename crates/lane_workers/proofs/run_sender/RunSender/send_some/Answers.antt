@@ -14,5 +14,9 @@ invariant_of-self g c =
     let parts = length-append c.self.inside.waiting (take c.min-count.result c.args.numbers.now) in
     let taken = length-append c.self.inside.sender.sent c.self.inside.waiting in
     let view = ap (λ v. length v.taken) c.self.view_is in
-    let part = length-take c.min-count.result c.args.numbers.now in
-    (c.self.invariant.0, c.self.invariant.1, omega (arith, sent, new, old, pushed, parts, taken, view, part, c.requires.few), λ h. c.send_run.ensures.stopped (not_true c.send_run.result h))
+    let part = length-take c.min-count.result c.args.numbers.now in (
+      c.self.invariant.0,
+      c.self.invariant.1,
+      omega (arith, sent, new, old, pushed, parts, taken, view, part),
+      λ h. c.send_run.ensures.stopped (not_true c.send_run.result h),
+    )

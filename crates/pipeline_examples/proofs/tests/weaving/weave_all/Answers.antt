@@ -8,11 +8,21 @@ use Rattle.pipeline_examples.proofs.tests.weaving.weave_all.Goals as goal
 pub loop-place-preserved : goal.loop-place-preserved
 loop-place-preserved g c =
     let was = c.loop-place.invariant in
-    let number = c.next_of-residual.result in
-    (was.0 ++ number ∷ [], c.in_ok-take.ensures.woven c.args.plan.now.params c.args.plan.now.deal was.0 was.1, length-append was.0 (number ∷ []) ∙ ap (λ n. n + 1) was.2)
+    let number = c.next_of-residual.result in (
+      was.0 ++ number ∷ [],
+      c.in_ok-take.ensures.woven c.args.plan.now.params c.args.plan.now.deal was.0 was.1,
+      length-append was.0 (number ∷ []) ∙ ap (λ n. n + 1) was.2,
+    )
 
 pub finish-requires : goal.finish-requires
 finish-requires g c =
     let was = c.loop-place.invariant in
     let p = c.args.plan.now.params in
-    was.1.coded.left ∙ drop_of_length-le (places p.shape p.order) (omega (arith, was.2, length-places p.shape p.order c.prove_is_plan.ensures.lawful.order, c.loop-place-test.false, c.sample_count-place-end.ensures.value, ap (λ q. sample_count q.shape) c.params-2.ensures))
+    was.1.coded.left ∙ drop_of_length-le (places p.shape p.order) (omega (
+      arith,
+      was.2,
+      length-places p.shape p.order c.prove_is_plan.ensures.lawful.order,
+      c.loop-place-test.false,
+      c.sample_count-place-end.ensures.value,
+      ap (λ q. sample_count q.shape) c.params-2.ensures,
+    ))

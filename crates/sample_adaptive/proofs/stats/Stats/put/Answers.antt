@@ -23,6 +23,7 @@ returns-then-t-eq0-clause-taken c =
 pub returns-clause-taken : goal.returns-clause-taken
 returns-clause-taken c = λ settings taken h next.
     let code = c.code-2.ensures.value ∙ code_is settings c.args.self.now taken c.args.z c.args.t h c.requires.band next in (
-      c.in_ok-push.ensures.appended ∙ ap (λ (bits : List Bool). c.args.writer.now.bits ++ bits) (c.word_of-word-2.ensures.word ∙ ap (λ (k : Code). code_word k c.args.delta) code),
+      c.in_ok-push.ensures.appended
+          ∙ ap (λ (bits : List Bool). c.args.writer.now.bits ++ bits) (c.word_of-word-2.ensures.word ∙ ap (λ (k : Code). code_word k c.args.delta) code),
       rw c.count.ensures (taken_more settings c.args.self.now taken c.args.z c.args.t c.args.delta h c.requires.band next),
     )

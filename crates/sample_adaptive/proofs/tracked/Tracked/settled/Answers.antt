@@ -6,4 +6,4 @@ pub returns-then-level-self-clause-value : goal.returns-then-level-self-clause-v
 returns-then-level-self-clause-value c =
     let scaled = c.args.self.scaled_is in
     let level = c.level-level.ensures in
-    parameter_stays c.args.bits c.args.self.statistics c.args.self.low (omega arith) (omega (arith, scaled, level, c.if-self-level.true)) (omega (arith, scaled, level, c.if-level-self.true))
+    parameter_stays _ _ _ (omega arith) (omega (arith, scaled, level)) (omega (arith, scaled, level))
