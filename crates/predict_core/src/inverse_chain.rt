@@ -1,9 +1,9 @@
 //! The chain of a run whose samples aren't known yet: each sample from its mapped residual, and the weights
 //! after it.
 //!
-//! The differences alone give the sign of an error.
+//! Parities give the sign of an error before its sample is known.
 
-ghost use Rattle.std.specs.Prelude.{◌≡◌, ◌+◌, ◌-◌, ◌*◌, ◌^◌, ◌<◌, ◌≤◌, false, ℕ, pos, ◌+ℤ◌, ◌-ℤ◌, ◌*ℤ◌, unsigned_abs, take, drop, length, ◌++◌, replicate};
+ghost use Rattle.std.specs.Prelude.{◌≡◌, ◌+◌, ◌-◌, ◌*◌, ◌^◌, ◌<◌, ◌≤◌, false, ℕ, pos, ◌+ℤ◌, ◌-ℤ◌, ◌*ℤ◌, negsuc, ◌≤ℤ◌, int_lt, int_le, unsigned_abs, take, drop, length, ◌++◌, replicate};
 ghost use Rattle.std.specs.Prelude.{slice_index, if◌then◌else◌};
 ghost use Rattle.cube_core.specs.Kind.{IsSample, smin};
 ghost use Rattle.cube_core.specs.Image.{IsPlace, put};
@@ -21,13 +21,13 @@ ghost use Rattle.predict_core.specs.OffsetSum.{IsWest};
 ghost use Rattle.predict_core.specs.Steps.{AreSteps};
 ghost use Rattle.predict_core.specs.Weights.{step_exponent};
 
-use crate::chain::{differences_at, turn_of_error};
+use crate::chain::differences_at;
 use crate::differences::{put_own_directions, sum_by_west, west_of};
 use crate::exponent::{exponent_at, places_alike};
 use crate::mapping::scaled_offset;
 use crate::prediction::predicted_difference;
 use crate::range::Range;
-use crate::residual::unmap_between;
+use crate::residual::{turn_between, unmap_between};
 use crate::room::Quad;
 use crate::settings::{Settings, form_at};
 use crate::weights::{Form, update_by};
@@ -231,7 +231,6 @@ fn sample_there<const N: usize, const WRAPS: bool>(
     let whole = 4 * range.smin + sum as i32;
     let part = predicted_difference::<N, WRAPS>(predictor, range, whole, weights, &differences);
     let found = sample_by_part(range, part, sum, delta);
-    let own = difference_there(range, found, sum);
     // The exponent is for proofs: the form tells all of it.
     let exponent = exponent_at(predictor, settings.columns, range.bits, t);
     update_by::<N>(
@@ -240,26 +239,31 @@ fn sample_there<const N: usize, const WRAPS: bool>(
         predictor.fraction,
         exponent,
         form,
-        turn_of_error(own, part),
+        found.1,
     );
-    found
+    found.0
 }
 
 /// Returns the sample of a mapped residual, from the predicted central difference and the local sum of the
-/// offsets.
+/// offsets; and all ones where its error is negative, else 0.
 ///
-/// It is computed as an offset, whose least value is 0, so that the ends of the range cost nothing.
+/// Both are computed from its offset, whose least value is 0, so that the ends of the range cost nothing.
 #[inline(always)]
-fn sample_by_part(range: &Range, part: i32, sum: u32, delta: u16) -> i32
+fn sample_by_part(range: &Range, part: i32, sum: u32, delta: u16) -> (i32, i32)
     requires part_in { unsigned_abs part ≤ 18 * 2 ^ 20 }
     requires sum_in { sum ≤ 262140 }
     requires residual { delta < 2 ^ range.now.kind.bits }
-    ensures range { IsSample range.now.kind result }
-    ensures inverse { mapped range.now.kind (scaled_by_difference range.now.kind part (pos 4 *ℤ smin range.now.kind +ℤ pos sum)) result ≡ delta }
+    ensures range { IsSample range.now.kind result.0 }
+    ensures inverse { mapped range.now.kind (scaled_by_difference range.now.kind part (pos 4 *ℤ smin range.now.kind +ℤ pos sum)) result.0 ≡ delta }
+    ensures turn { int_lt result.1 (pos 0) ≡ int_le (pos 4 *ℤ result.0 -ℤ (pos 4 *ℤ smin range.now.kind +ℤ pos sum)) part }
+    ensures least { negsuc 0 ≤ℤ result.1 }
+    ensures most { result.1 ≤ℤ pos 0 }
 {
     let greatest = range.smax - range.smin;
     let scaled = scaled_offset(greatest, part, sum as i32);
-    range.smin + unmap_between(0, greatest, scaled, delta)
+    let offset = unmap_between(0, greatest, scaled, delta);
+    let turn = turn_between(0, greatest, scaled, delta);
+    (range.smin + offset, turn)
 }
 
 /// Returns how far a sample is above the least one.
@@ -269,15 +273,4 @@ fn offset_of(range: &Range, sample: i32) -> u16
     ensures { sample ≡ smin range.now.kind +ℤ pos result }
 {
     (sample - range.smin) as u16
-}
-
-/// Returns the central difference of a sample where the local sum of the offsets is `sum`.
-#[inline(always)]
-fn difference_there(range: &Range, sample: i32, sum: u32) -> i32
-    requires sample_in { IsSample range.now.kind sample }
-    requires sum_in { sum ≤ 262140 }
-    ensures value { result ≡ pos 4 *ℤ sample -ℤ (pos 4 *ℤ smin range.now.kind +ℤ pos sum) }
-    ensures bound { unsigned_abs result ≤ 262144 }
-{
-    4 * sample - (4 * range.smin + sum as i32)
 }

@@ -1,6 +1,6 @@
 //! From a sample to its mapped residual, and back.
 
-ghost use Rattle.std.specs.Prelude.{◌≡◌, ◌+◌, ◌*◌, ◌^◌, ◌<◌, ◌≤◌, pos, negsuc, ◌≤ℤ◌, ◌+ℤ◌, ◌-ℤ◌, ◌*ℤ◌, min, IsTrue, unsigned_abs};
+ghost use Rattle.std.specs.Prelude.{◌≡◌, ◌+◌, ◌*◌, ◌^◌, ◌<◌, ◌≤◌, pos, negsuc, ◌≤ℤ◌, ◌+ℤ◌, ◌-ℤ◌, ◌*ℤ◌, min, IsTrue, unsigned_abs, int_lt, ◌%◌};
 ghost use Rattle.cube_core.specs.Kind.{IsSample};
 ghost use Rattle.predict_core.specs.Arithmetic.{floor_div};
 ghost use Rattle.predict_core.specs.Residual.{theta_between, agrees, number_of, mapped_between, mapped};
@@ -71,6 +71,26 @@ pub(crate) fn unmap_between(low: i32, high: i32, scaled: i32, delta: u16) -> i32
     let theta = theta_of(low, high, predicted);
     let below = span_of(low, predicted);
     predicted + unmap_error(theta, below, scaled.unsigned_abs(), delta as u32)
+}
+
+/// Returns all ones where the sample of the mapped residual `delta` is less than its prediction, else 0.
+///
+/// Parities tell it before the sample is found.
+#[inline(always)]
+pub(crate) fn turn_between(low: i32, high: i32, scaled: i32, delta: u16) -> i32
+    requires low_in { negsuc 32767 ≤ℤ low }
+    requires high_in { high ≤ℤ (low +ℤ pos 65535) }
+    requires high_top { high ≤ℤ pos 65535 }
+    requires scaled_low { (pos 2 *ℤ low) ≤ℤ scaled }
+    requires scaled_high { scaled ≤ℤ (pos 2 *ℤ high +ℤ pos 1) }
+    ensures value { int_lt result (pos 0) ≡ int_lt (pos 2 *ℤ unmapped_between low high scaled delta -ℤ scaled) (pos 0) }
+    ensures least { negsuc 0 ≤ℤ result }
+    ensures most { result ≤ℤ pos 0 }
+{
+    let predicted = prediction_of(scaled);
+    let theta = theta_of(low, high, predicted);
+    let below = span_of(low, predicted);
+    turn_of_number(theta, below, scaled.unsigned_abs(), delta as u32)
 }
 
 /// Returns half of a scaled prediction, rounded down.
@@ -160,5 +180,24 @@ fn unmap_error(theta: u32, below: u32, parity: u32, number: u32) -> i32
         } else {
             -size
         }
+    }
+}
+
+/// Returns all ones where twice the error that is mapped to `number` is less than the scaled prediction's parity, else 0.
+///
+/// `below` and `parity` are as for [`unmap_error`].
+#[inline(always)]
+fn turn_of_number(theta: u32, below: u32, parity: u32, number: u32) -> i32
+    requires theta_in { theta ≤ 65535 }
+    requires number_in { number ≤ 65535 }
+    requires parity_in { parity ≤ 131072 }
+    ensures value { int_lt result (pos 0) ≡ int_lt (pos 2 *ℤ error_of theta below parity number -ℤ pos (parity % 2)) (pos 0) }
+    ensures least { negsuc 0 ≤ℤ result }
+    ensures most { result ≤ℤ pos 0 }
+{
+    if 2 * theta < number {
+        if theta < below { -1 } else { 0 }
+    } else {
+        -(((number + parity) % 2) as i32)
     }
 }

@@ -1,12 +1,13 @@
-use Rattle.std.proofs.Common.{◌≡◌, ◌^◌, ◌<◌, ◌≤◌, ℕ, ℤ, pos, negsuc, ◌+ℤ◌, ◌-ℤ◌, ◌*ℤ◌, ◌≤ℤ◌, ap, ◌∙◌, SFits, w32, to_z, of_z, to_z-of_z, rules, arith}
+use Rattle.std.proofs.Common.{◌≡◌, ◌^◌, ◌<◌, ◌≤◌, ℕ, ℤ, pos, negsuc, ◌+ℤ◌, ◌-ℤ◌, ◌*ℤ◌, ◌≤ℤ◌, int_lt, int_le, ap, ◌∙◌, SFits, w32, to_z, of_z, to_z-of_z, rules, arith}
 use Rattle.std.proofs.lemmas.Int.{ints}
 use Rattle.cube_core.specs.Kind.{SampleKind, smin, smid, smax}
 use Rattle.predict_core.specs.Arithmetic.{floor_div, clip}
 use Rattle.predict_core.specs.Residual.{mapped_between}
+use Rattle.predict_core.proofs.Floors.{sign_of_center, sign_of_part}
 use Rattle.predict_core.proofs.Numbers.{shifted, scaled_up}
 use Rattle.predict_core.proofs.Spans.{span}
 use Rattle.predict_core.proofs.inverse_chain.sample_by_part.Goals as goal
-use Rattle.predict_core.proofs.inverse_chain.sample_by_part.Goals.{After-scaled_offset-scaled, After-unmap_between}
+use Rattle.predict_core.proofs.inverse_chain.sample_by_part.Goals.{After-scaled_offset-scaled, After-unmap_between-offset}
 
 below_span : (width : ℤ) (n power : ℕ) → width ≡ pos power -ℤ pos 1 → n < power → pos n ≤ℤ (width -ℤ pos 0)
 below_span width n power e l = omega (arith, ints, e, l)
@@ -23,9 +24,9 @@ module _ (c : After-scaled_offset-scaled) where
   powers : smax c.args.range.now.kind -ℤ smin c.args.range.now.kind ≡ pos (2 ^ c.args.range.now.kind.bits) -ℤ pos 1
   powers = span c.args.range.now.kind c.args.range.now.lawful
 
-pub unmap_between-requires-clause-delta_in : goal.unmap_between-requires-clause-delta_in
-unmap_between-requires-clause-delta_in c =
-    let d = (goal.at.unmap_between-requires-clause-delta_in c).After-scaled_offset-scaled in
+pub unmap_between-offset-requires-clause-delta_in : goal.unmap_between-offset-requires-clause-delta_in
+unmap_between-offset-requires-clause-delta_in c =
+    let d = (goal.at.unmap_between-offset-requires-clause-delta_in c).After-scaled_offset-scaled in
     rw (width d) (below_span _ _ _ (powers d) c.requires.residual)
 
 cast_sum : (sum : ℕ) → sum ≤ 262140 → to_z w32 sum ≡ pos sum
@@ -39,6 +40,43 @@ back_from_offset : (low middle high part sum scaled offset : ℤ) (delta : ℕ) 
     → mapped_between low high (clip (floor_div (part +ℤ ((pos 4 *ℤ low +ℤ sum) -ℤ pos 4 *ℤ middle)) 2 +ℤ pos 2 *ℤ middle +ℤ pos 1) (pos 2 *ℤ low) (pos 2 *ℤ high +ℤ pos 1)) (low +ℤ offset) ≡ delta
 back_from_offset low middle high part sum scaled offset delta s e = rw (scaled_up low middle high part sum, ← s) (shifted low high scaled offset ∙ e)
 
+-- an error is negative exactly where the central difference is at most the predicted one
+told : (low part sum offset greatest scaled : ℤ) → pos 0 ≤ℤ offset → offset ≤ℤ greatest → scaled ≡ clip (floor_div (part +ℤ sum) 2 +ℤ pos 1) (pos 0) (pos 2 *ℤ greatest +ℤ pos 1)
+    → int_lt (pos 2 *ℤ offset -ℤ scaled) (pos 0) ≡ int_le (pos 4 *ℤ (low +ℤ offset) -ℤ (pos 4 *ℤ low +ℤ sum)) part
+told low part sum offset greatest scaled a b e =
+    sign_of_center (pos 0) greatest offset (floor_div (part +ℤ sum) 2 +ℤ pos 1) scaled a b e
+    ∙ ap (int_lt (pos 2 *ℤ offset)) center ∙ sign_of_part offset sum (pos 0) part ∙ ap (λ v. int_le v part) own
+  where
+    same : part +ℤ sum ≡ part +ℤ (sum -ℤ pos 4 *ℤ pos 0)
+    same = omega (arith, ints)
+
+    plus : (n : ℤ) → n +ℤ pos 1 ≡ n +ℤ pos 2 *ℤ pos 0 +ℤ pos 1
+    plus n = omega (arith, ints)
+
+    center : floor_div (part +ℤ sum) 2 +ℤ pos 1 ≡ floor_div (part +ℤ (sum -ℤ pos 4 *ℤ pos 0)) 2 +ℤ pos 2 *ℤ pos 0 +ℤ pos 1
+    center = plus (floor_div (part +ℤ sum) 2) ∙ ap (λ n. floor_div n 2 +ℤ pos 2 *ℤ pos 0 +ℤ pos 1) same
+
+    own : pos 4 *ℤ offset -ℤ sum ≡ pos 4 *ℤ (low +ℤ offset) -ℤ (pos 4 *ℤ low +ℤ sum)
+    own = omega (arith, ints)
+
+pub returns-clause-turn : goal.returns-clause-turn
+returns-clause-turn c =
+    let d = (goal.at.returns-clause-turn c).After-scaled_offset-scaled in
+    let r = c.args.range.now in
+    let k : SampleKind = r.kind in
+    let scaled_fits : SFits w32 c.scaled_offset-scaled.result = search rules in
+    let turn_fits : SFits w32 c.turn_between-turn.result = search rules in
+    let sum_is = cast_sum c.args.sum c.requires.sum_in in
+    let value = rw (width d, sum_is) at (simp (to_z-of_z c.ranges.part) at c.scaled_offset-scaled.ensures.value) in
+    let scaled = value c.requires.part_in (omega (arith, ints)) (omega (arith, ints, c.requires.sum_in)) in
+    let within = rw (width d) at c.unmap_between-offset.ensures.range in
+    let offset = rw (width d) at (simp (to_z-of_z scaled_fits) at c.unmap_between-offset.ensures.value) in
+    let turn = rw (width d, ← offset) at (simp (to_z-of_z scaled_fits) at c.turn_between-turn.ensures.value) in
+    let low = r.low in
+    let high = r.high in
+    let result = sample_is r.smin (smax k) c.unmap_between-offset.result low.0 low.1 within.0 (rw r.smin_is within.1) (rw (← r.smax_is) high.1) ∙ ap (λ v. v +ℤ c.unmap_between-offset.result) r.smin_is in
+    rw (to_z-of_z turn_fits, result) (turn ∙ told (smin k) c.args.part (pos c.args.sum) c.unmap_between-offset.result (smax k -ℤ smin k) c.scaled_offset-scaled.result within.0 within.1 scaled)
+
 pub returns-clause-inverse : goal.returns-clause-inverse
 returns-clause-inverse c =
     let d = (goal.at.returns-clause-inverse c).After-scaled_offset-scaled in
@@ -48,9 +86,9 @@ returns-clause-inverse c =
     let sum_is = cast_sum c.args.sum c.requires.sum_in in
     let value = rw (width d, sum_is) at (simp (to_z-of_z c.ranges.part) at c.scaled_offset-scaled.ensures.value) in
     let scaled = value c.requires.part_in (omega (arith, ints)) (omega (arith, ints, c.requires.sum_in)) in
-    let e = rw (width d) at (simp (to_z-of_z scaled_fits) at c.unmap_between.ensures.inverse) in
-    let within = rw (width d) at c.unmap_between.ensures.range in
+    let e = rw (width d) at (simp (to_z-of_z scaled_fits) at c.unmap_between-offset.ensures.inverse) in
+    let within = rw (width d) at c.unmap_between-offset.ensures.range in
     let low = r.low in
     let high = r.high in
-    let result = sample_is r.smin (smax k) c.unmap_between.result low.0 low.1 within.0 (rw r.smin_is within.1) (rw (← r.smax_is) high.1) ∙ ap (λ v. v +ℤ c.unmap_between.result) r.smin_is in
-    rw result (back_from_offset (smin k) (smid k) (smax k) c.args.part (pos c.args.sum) c.scaled_offset-scaled.result c.unmap_between.result c.args.delta scaled e)
+    let result = sample_is r.smin (smax k) c.unmap_between-offset.result low.0 low.1 within.0 (rw r.smin_is within.1) (rw (← r.smax_is) high.1) ∙ ap (λ v. v +ℤ c.unmap_between-offset.result) r.smin_is in
+    rw result (back_from_offset (smin k) (smid k) (smax k) c.args.part (pos c.args.sum) c.scaled_offset-scaled.result c.unmap_between-offset.result c.args.delta scaled e)

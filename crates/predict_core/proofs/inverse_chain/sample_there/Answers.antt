@@ -97,12 +97,12 @@ pub returns-clause-inverse : goal.returns-clause-inverse
 returns-clause-inverse g c =
     let d = (goal.at.returns-clause-inverse g c).After-sample_by_part-found in
     let s = c.args.settings.now in
-    let fits : SFits w32 c.sample_by_part-found.result = search rules in
+    let fits : SFits w32 c.sample_by_part-found.result.0 = search rules in
     let part_fits : SFits w32 c.predicted_difference-part.result = search rules in
     let e = rw (← c.requires.kind, ← c.requires.sum_is, scaled_is g d) at (simp (to_z-of_z part_fits) at c.sample_by_part-found.ensures.inverse) in
     rw (
       to_z-of_z fits,
-      ← scaled_put c.args.cube.now s.band c.args.y c.args.x c.sample_by_part-found.result c.requires.place c.prove_is_cube.ensures.whole s.predictor (broad g d) (after g d) (take s.count c.args.weights.now),
+      ← scaled_put c.args.cube.now s.band c.args.y c.args.x c.sample_by_part-found.result.0 c.requires.place c.prove_is_cube.ensures.whole s.predictor (broad g d) (after g d) (take s.count c.args.weights.now),
     )
     e
 
@@ -110,20 +110,19 @@ pub returns-clause-weights : goal.returns-clause-weights
 returns-clause-weights g c =
     let d = (goal.at.returns-clause-weights g c).After-sample_by_part-found in
     let s = c.args.settings.now in
-    let found = c.sample_by_part-found.result in
-    let fits : SFits w32 c.sample_by_part-found.result = search rules in
+    let found = c.sample_by_part-found.result.0 in
+    let fits : SFits w32 c.sample_by_part-found.result.0 = search rules in
     let part_fits : SFits w32 c.predicted_difference-part.result = search rules in
     let exponent_fits : SFits w32 c.exponent_at-exponent.result = search rules in
-    let turn_fits : SFits w32 c.turn_of_error.result = search rules in
+    let turn_fits : SFits w32 c.sample_by_part-found.result.1 = search rules in
     let bits : s.range.bits ≡ c.args.cube.now.kind.bits = s.range.bits_is ∙ ap (λ (k : SampleKind). k.bits) (sym c.requires.kind) in
-    let own_fits : SFits w32 c.difference_there-own.result = search rules in
-    let own = rw (← s.range.smin_is) at (simp (to_z-of_z fits) at c.difference_there-own.ensures.value) in
-    let turn = simp (to_z-of_z own_fits, to_z-of_z part_fits) at c.turn_of_error.ensures.value in
+    let low : smin s.range.kind ≡ s.range.smin = sym s.range.smin_is in
+    let turn = rw low at (simp (to_z-of_z fits, to_z-of_z part_fits, to_z-of_z turn_fits) at c.sample_by_part-found.ensures.turn) in
     let moved = rw turn at (simp (to_z-of_z exponent_fits, to_z-of_z turn_fits) at c.update_by.ensures.value) in
     let exponent = rw (bits, ← c.requires.columns) at c.exponent_at-exponent.ensures.value in
     let range = rw (← c.requires.kind) at c.sample_by_part-found.ensures.range in
     let m = moved_from_room s.predictor c.args.cube.now s.band c.args.y c.args.x s.count g.row.N c.args.weights.now c.put_own_directions.new.out c.prove_is_cube.ensures c.requires.place s.count_is c.requires.enough c.requires.few (vector_is g d) c.predicted_difference-part.result (from_difference g d)
-    c.update_by.new.weights found c.difference_there-own.result c.exponent_at-exponent.result range (own ∙ ap (λ v. pos 4 *ℤ found -ℤ v) (sum_is g d)) exponent moved in
+    c.update_by.new.weights found (pos 4 *ℤ found -ℤ (pos 4 *ℤ s.range.smin +ℤ pos c.args.sum)) c.exponent_at-exponent.result range (ap (λ v. pos 4 *ℤ found -ℤ v) (sum_is g d)) exponent moved in
     rw (to_z-of_z fits)
     (moved_put c.args.cube.now s.band c.args.y c.args.x found c.requires.place c.prove_is_cube.ensures.whole s.predictor (broad g d) (c.args.y * c.args.cube.now.shape.columns + c.args.x) (take s.count c.args.weights.now) (take s.count c.update_by.new.weights)
     (scaled_there s.predictor c.args.cube.now s.band c.args.y c.args.x (take s.count c.args.weights.now)) (after g d) refl refl m)
