@@ -14,7 +14,7 @@ use Rattle.sample_adaptive.specs.Statistics.{CoderSettings}
 use Rattle.sample_adaptive.specs.Words.{code_at}
 use Rattle.sample_adaptive.specs.Body.{band_numbers}
 use Rattle.sample_adaptive.specs.Reading.{word_at, words_at}
-use Rattle.sample_adaptive.specs.Taken.{Counts, HasTaken, GetsColumn, AreUpFrom, code_by, counted, with_band, with_number}
+use Rattle.sample_adaptive.specs.Taken.{Counts, HasTaken, GetsColumn, Reaches, AreUpFrom, code_by, counted, with_band, with_number}
 use Rattle.sample_adaptive.proofs.Bodies.{band_push}
 use Rattle.sample_adaptive.proofs.Taking.{taken_along, code_is, taken_more}
 
@@ -102,12 +102,6 @@ column_refused z t place fault old new unread left numbers lt read some c gone (
     (rw word refl, tt)
 
 -- ---- the first numbers of a column
-
--- whatever comes behind the first i numbers, is a column with them
-abbrev pub Reaches : ℕ → ℕ → ℕ → ℕ → Counts → List Statistics → Unread → Unread → List ℕ → Type 0
-Reaches z t place i v bands first now numbers =
-    (r : Result (Unit {0}) Fault) (new : Counts) (left : List Bool) (ys : List ℕ)
-    → GetsColumn (z + i) t (place + i) r (record v { bands = bands }) now new left ys → GetsColumn z t place r v first new left (take i numbers ++ ys)
 
 pub column_starts : (z t place : ℕ) (v : Counts) (bands : List Statistics) (first : Unread) (numbers : List ℕ) → v.bands ≡ bands
     → Reaches z t place 0 v bands first first numbers

@@ -1,8 +1,10 @@
 -- A run of one band's numbers, taken one after another.
-use Rattle.std.proofs.Common.{◌≡◌, ◌+◌, ◌<◌, ℕ, zero, suc, Bool, true, false, cond, eqb, List, [], ◌∷◌, ◌++◌, length, take, drop, get_or, set, refl, sym, ap}
+use borrow.Rule.Slice.PartMut.{put_mid, same_len_mid}
+use Rattle.std.proofs.Common.{◌≡◌, ◌+◌, ◌-◌, ◌<◌, ◌≤◌, ℕ, zero, suc, Bool, true, false, cond, eqb, List, [], ◌∷◌, ◌++◌, length, take, drop, get_or, set, refl, sym, ap}
 use Rattle.std.proofs.Common.{ap₂, subst, ◌∙◌, append_assoc, append-nil, length-append, length-take, length-drop, take-append-drop, arith, eq-eqb}
 use Rattle.std.proofs.lemmas.Bool.{ne_eqb}
-use Rattle.std.proofs.lemmas.List.{get_or-set_same, length-set, set-set, set-get_or, take_more}
+use Rattle.std.proofs.lemmas.List.{get_or-set_same, length-set, set-set, set-get_or, take_more, take_all}
+use Rattle.std.proofs.lemmas.Slice.{take-put_mid}
 use Rattle.std.specs.List.{AllByRecursion}
 use Rattle.cube_core.specs.declared.order.Place.{Place}
 use Rattle.sample_adaptive.specs.declared.code_word.Code.{Code}
@@ -144,3 +146,11 @@ same_band v z s e = rw (e, set-get_or) refl
 -- two words behind what was written
 pub two_words : (was now a b v w : List Bool) → now ≡ was ++ a ++ b → a ≡ v → b ≡ w → now ≡ was ++ v ++ w
 two_words was now a b v w text e f = text ∙ ap₂ (λ (p q : List Bool). was ++ p ++ q) e f
+
+-- a list whose end was written anew, behind its first numbers
+pub behind_first : (first rest : List ℕ) (n : ℕ) → n ≤ length first → length rest ≡ length (take (length first - n) (drop n first))
+    → put_mid n (length first - n) first rest ≡ take n first ++ rest
+behind_first first rest n within long =
+    let part : length rest ≡ length first - n = omega (arith, long, length-take (length first - n) (drop n first), length-drop n first) in
+    let all = same_len_mid n (length first - n) first rest long in
+    sym (take_all (n + length rest) _ (omega (arith, all, part, within))) ∙ take-put_mid n (length first - n) first rest (n + length rest) refl within

@@ -1,6 +1,6 @@
 -- What a coder of one image keeps, and which numbers it has taken.
 use Rattle.std.specs.Prelude.{ℕ, suc, ◌≡◌, ◌+◌, ◌<◌, ◌≤◌, ◌==◌, Bool, if◌then◌else◌, List, [], ◌∷◌, ◌++◌, length, slice_index_or, slice_set, Option, None}
-use Rattle.std.specs.Prelude.{Result, IfOk}
+use Rattle.std.specs.Prelude.{Result, IfOk, take}
 use Rattle.std.specs.List.{AllByRecursion}
 use Rattle.cube_core.specs.declared.fault.Fault.{Fault}
 use Rattle.cube_core.specs.declared.order.Place.{Place}
@@ -123,3 +123,9 @@ GetsColumn z t place result old unread new left numbers =
     → ((b : ℕ) → z ≤ b → b < z + length numbers → t ≡ length (band_numbers b gone before)) → place ≡ length before
     → Reads (λ _. numbers) result left (words_at unread.count c gone before places unread.left)
     × IfOk result (λ _. HasTaken c new (λ b. band_numbers b (gone ++ places) (before ++ numbers)))
+
+-- whatever comes behind the first i numbers, is a column with them
+abbrev pub Reaches : ℕ → ℕ → ℕ → ℕ → Counts → List Statistics → Unread → Unread → List ℕ → Type 0
+Reaches z t place i v bands first now numbers =
+    (r : Result (Unit {0}) Fault) (new : Counts) (left : List Bool) (ys : List ℕ)
+    → GetsColumn (z + i) t (place + i) r (record v { bands = bands }) now new left ys → GetsColumn z t place r v first new left (take i numbers ++ ys)

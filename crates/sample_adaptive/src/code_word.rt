@@ -104,7 +104,12 @@ pub(crate) fn take_word(code: Code, place: u64, reader: &mut BitReader) -> Resul
 
 /// Reads the number whose code word the next 57 bits begin with. No code word is longer.
 #[inline(always)]
-fn take_from(code: Code, place: u64, word: u64, reader: &mut BitReader) -> Result<u16, Fault>
+pub(crate) fn take_from(
+    code: Code,
+    place: u64,
+    word: u64,
+    reader: &mut BitReader,
+) -> Result<u16, Fault>
     requires code { IsCode code }
     requires ahead { IsAhead 57 reader.old.left word }
     ensures reads { Reads (λ number. number) result reader.new.left (word_at reader.old.count place code reader.old.left) }

@@ -5,9 +5,10 @@ ghost use Rattle.cube_core.specs.declared.fault.Fault.{Fault};
 ghost use Rattle.sample_adaptive.specs.Statistics.{AreStatistics};
 ghost use Rattle.sample_adaptive.specs.Reading.{word_at};
 ghost use Rattle.header_bits.specs.Reading.{Reads};
-ghost use Rattle.sample_adaptive.specs.Taken.{Counts, HasSettings, GetsColumn, code_by, counted, of_band, with_band};
+ghost use Rattle.header_bits.specs.Windows.{IsAhead};
+ghost use Rattle.sample_adaptive.specs.Taken.{Counts, HasSettings, GetsColumn, Reaches, code_by, counted, of_band, with_band};
 
-use crate::code_word::{Code, take_word};
+use crate::code_word::{Code, take_from, take_word};
 use crate::run_words::RunCodes;
 use crate::statistics::{Statistics, next, parameter};
 use crate::stats::Stats;
@@ -51,7 +52,15 @@ impl Stats {
         };
         // A copy goes ahead: it stays in registers, and a refusal leaves what it was made of.
         let mut ahead = reader.fork();
-        match take_column(run, z, t, place, &mut self.bands, &mut ahead, numbers) {
+        match take_column(
+            run,
+            z as usize,
+            t,
+            place,
+            &mut self.bands,
+            &mut ahead,
+            numbers,
+        ) {
             Ok(()) => {
                 *reader = ahead;
                 Ok(())
@@ -70,7 +79,7 @@ impl Stats {
 #[inline(always)]
 fn take_column(
     run: RunCodes,
-    z: u32,
+    z: usize,
     t: u64,
     place: u64,
     bands: &mut [Statistics],
@@ -89,19 +98,103 @@ fn take_column(
     ensures long { length numbers.new ≡ length numbers.old }
     ensures bands { length bands.new ≡ length bands.old }
 {
-    // Two loops, in each of which the compiler knows whether the numbers are the first.
     if t == 0 {
-        take_each(run, z, true, place, bands, reader, numbers)
-    } else {
-        take_each(run, z, false, place, bands, reader, numbers)
+        return take_each(run, z, true, place, bands, reader, numbers);
     }
+    let done = take_ready(run, z, place, bands, reader, numbers);
+    if done == numbers.len() {
+        return Ok(());
+    }
+    take_each(
+        run,
+        z + done,
+        false,
+        place + done as u64,
+        bands,
+        reader,
+        &mut numbers[done..],
+    )
+}
+
+/// Reads one number of each band, none of which is its first, as long as 57 bits are left and begin with a code word. Returns
+/// how many, and updates their statistics.
+///
+/// A loop that refuses nothing keeps all that it changes in registers.
+#[inline(always)]
+fn take_ready(
+    run: RunCodes,
+    z: usize,
+    place: u64,
+    bands: &mut [Statistics],
+    reader: &mut BitReader,
+    numbers: &mut [u16],
+) -> usize
+    requires bits { (2 ≤ run.bits) × (run.bits ≤ 16) }
+    requires limit { run.limit ≤ 32 }
+    requires statistics { (b : ℕ) → b < length bands.old → AreStatistics run.rescaling.size (of_band bands.old b) }
+    requires inside { z + length numbers.old ≤ length bands.old }
+    requires long { (length numbers.old ≤ 2 ^ 16) × (place < 2 ^ 48) }
+    ensures taken { (v : Counts) (t : ℕ) → 0 < t → v.bands ≡ bands.old → HasSettings v run.bits run.limit run.rescaling.size
+        → Reaches z t place result v bands.new reader.old reader.new numbers.new }
+    ensures statistics { (b : ℕ) → b < length bands.new → AreStatistics run.rescaling.size (of_band bands.new b) }
+    ensures within { result ≤ length numbers.new }
+    ensures count { reader.new.count ≡ reader.old.count }
+    ensures long { length numbers.new ≡ length numbers.old }
+    ensures bands { length bands.new ≡ length bands.old }
+{
+    let mut ahead = reader.fork();
+    let mut i = 0;
+    while i < numbers.len() {
+        let Some(word) = ahead.peek() else { break };
+        let band = &mut bands[z + i];
+        let Ok(number) = take_known(run, place + i as u64, word, band, &mut ahead) else {
+            break;
+        };
+        numbers[i] = number;
+        i += 1;
+    }
+    *reader = ahead;
+    i
+}
+
+/// Reads a band's number, not its first, whose code word the next 57 bits begin with, and updates the statistics. Where a
+/// number is refused, nothing is changed.
+#[inline(always)]
+fn take_known(
+    run: RunCodes,
+    place: u64,
+    word: u64,
+    statistics: &mut Statistics,
+    reader: &mut BitReader,
+) -> Result<u16, Fault>
+    requires bits { (2 ≤ run.bits) × (run.bits ≤ 16) }
+    requires limit { run.limit ≤ 32 }
+    requires statistics { AreStatistics run.rescaling.size statistics.old }
+    requires ahead { IsAhead 57 reader.old.left word }
+    ensures reads { (v : Counts) (z t : ℕ) → 0 < t → HasSettings v run.bits run.limit run.rescaling.size → of_band v.bands z ≡ statistics.old
+        → Reads (λ number. number) result reader.new.left (word_at reader.old.count place (code_by v z t) reader.old.left) }
+    ensures counts { IfOk result (λ number. (v : Counts) (z t : ℕ) → 0 < t → HasSettings v run.bits run.limit run.rescaling.size
+        → of_band v.bands z ≡ statistics.old → counted v z t number ≡ with_band v z statistics.new) }
+    ensures statistics { AreStatistics run.rescaling.size statistics.new }
+    ensures count { reader.new.count ≡ reader.old.count }
+    ensures same { OnErr result ((reader.new ≡ reader.old) × (statistics.new ≡ statistics.old)) }
+{
+    let before = *statistics;
+    let code = Code {
+        limit: run.limit,
+        low: parameter(run.bits, before),
+        bits: run.bits,
+    };
+    let number = take_from(code, place, word, reader)?;
+    *statistics = next(run.rescaling, before, number);
+    Ok(number)
 }
 
 /// Does the same, where all numbers are the first of their bands or none is.
 #[inline(always)]
 fn take_each(
     run: RunCodes,
-    z: u32,
+    z: usize,
     first: bool,
     place: u64,
     bands: &mut [Statistics],
@@ -112,7 +205,7 @@ fn take_each(
     requires limit { run.limit ≤ 32 }
     requires statistics { (b : ℕ) → b < length bands.old → AreStatistics run.rescaling.size (of_band bands.old b) }
     requires inside { z + length numbers.old ≤ length bands.old }
-    requires long { (length numbers.old ≤ 2 ^ 16) × (place < 2 ^ 48) }
+    requires long { (length numbers.old ≤ 2 ^ 16) × (place < 2 ^ 49) }
     ensures taken { (v : Counts) (t : ℕ) → first ≡ (t == 0) → v.bands ≡ bands.old → HasSettings v run.bits run.limit run.rescaling.size
         → GetsColumn z t place result v reader.old (record v { bands = bands.new }) reader.new.left numbers.new }
     ensures statistics { (b : ℕ) → b < length bands.new → AreStatistics run.rescaling.size (of_band bands.new b) }
@@ -121,7 +214,7 @@ fn take_each(
     ensures bands { length bands.new ≡ length bands.old }
 {
     for i in 0..numbers.len() {
-        let statistics = &mut bands[z as usize + i];
+        let statistics = &mut bands[z + i];
         match take_number(run, first, place + i as u64, statistics, reader) {
             Ok(number) => numbers[i] = number,
             Err(fault) => return Err(fault),

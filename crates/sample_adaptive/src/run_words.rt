@@ -1,6 +1,6 @@
 //! Runs of one band's code words: written, and read back.
 
-ghost use Rattle.std.specs.Prelude.{◌≡◌, ◌+◌, ◌*◌, ◌^◌, ◌<◌, ◌≤◌, length, max, IsOk, IfErr, OnOk, ℕ};
+ghost use Rattle.std.specs.Prelude.{◌≡◌, ◌+◌, ◌*◌, ◌^◌, ◌<◌, ◌≤◌, length, take, Ok, max, IsOk, IfErr, OnOk, ℕ};
 ghost use Rattle.std.specs.List.{AllByRecursion};
 ghost use Rattle.cube_core.specs.declared.fault.Fault.TheVariants.{WantOfMemory};
 ghost use Rattle.sample_adaptive.specs.Statistics.{AreStatistics, next_statistics, code_parameter};
@@ -8,7 +8,7 @@ ghost use Rattle.header_bits.specs.Bits.{bits_of};
 ghost use Rattle.sample_adaptive.specs.Words.{code_word};
 ghost use Rattle.sample_adaptive.specs.Taken.{Counts, HasSettings, PutsRun, GetsRun, of_band, with_band};
 
-use crate::code_word::{Code, Word, push_both, take_word, word_of};
+use crate::code_word::{Code, Word, push_both, take_from, take_word, word_of};
 use crate::statistics::{Rescaling, Statistics};
 use crate::tracked::Tracked;
 use cube_core::fault::Fault;
@@ -160,6 +160,84 @@ fn take_later(
     requires limit { run.limit ≤ 32 }
     requires statistics { AreStatistics run.rescaling.size statistics.old }
     requires long { (length numbers.old ≤ 2 ^ 16) × (place ≤ 2 ^ 48) }
+    ensures taken { (v : Counts) (z t : ℕ) → z < length v.bands → HasSettings v run.bits run.limit run.rescaling.size → of_band v.bands z ≡ statistics.old
+        → 0 < t → GetsRun z t place result v reader.old (with_band v z statistics.new) reader.new.left numbers.new }
+    ensures statistics { AreStatistics run.rescaling.size statistics.new }
+    ensures count { reader.new.count ≡ reader.old.count }
+    ensures long { length numbers.new ≡ length numbers.old }
+{
+    let done = take_ready(run, place, statistics, reader, numbers);
+    if done == numbers.len() {
+        return Ok(());
+    }
+    take_rest(
+        run,
+        place + done as u64,
+        statistics,
+        reader,
+        &mut numbers[done..],
+    )
+}
+
+/// Reads numbers of a band, none of which is its first, as long as 57 bits are left and begin with a code word. Returns how
+/// many, and updates the statistics.
+///
+/// A loop that refuses nothing keeps all that it changes in registers.
+#[inline(always)]
+fn take_ready(
+    run: RunCodes,
+    place: u64,
+    statistics: &mut Statistics,
+    reader: &mut BitReader,
+    numbers: &mut [u16],
+) -> usize
+    requires bits { (2 ≤ run.bits) × (run.bits ≤ 16) }
+    requires limit { run.limit ≤ 32 }
+    requires statistics { AreStatistics run.rescaling.size statistics.old }
+    requires long { (length numbers.old ≤ 2 ^ 16) × (place ≤ 2 ^ 48) }
+    ensures taken { (v : Counts) (z t : ℕ) → z < length v.bands → HasSettings v run.bits run.limit run.rescaling.size → of_band v.bands z ≡ statistics.old
+        → 0 < t → GetsRun z t place (Ok tt) v reader.old (with_band v z statistics.new) reader.new.left (take result numbers.new) }
+    ensures statistics { AreStatistics run.rescaling.size statistics.new }
+    ensures within { result ≤ length numbers.new }
+    ensures count { reader.new.count ≡ reader.old.count }
+    ensures long { length numbers.new ≡ length numbers.old }
+{
+    let mut tracked = Tracked::of(run.bits, *statistics);
+    let mut ahead = reader.fork();
+    let mut i = 0;
+    while i < numbers.len() {
+        let Some(word) = ahead.peek() else { break };
+        let settled = tracked.settled(run.bits);
+        let code = Code {
+            limit: run.limit,
+            low: settled.low,
+            bits: run.bits,
+        };
+        let Ok(number) = take_from(code, place + i as u64, word, &mut ahead) else {
+            break
+        };
+        numbers[i] = number;
+        tracked = settled.next(run.rescaling, number);
+        i += 1;
+    }
+    *reader = ahead;
+    *statistics = tracked.statistics;
+    i
+}
+
+/// Does what `take_later` does, where fewer bits are left or a number is refused.
+#[inline(never)]
+fn take_rest(
+    run: RunCodes,
+    place: u64,
+    statistics: &mut Statistics,
+    reader: &mut BitReader,
+    numbers: &mut [u16],
+) -> Result<(), Fault>
+    requires bits { (2 ≤ run.bits) × (run.bits ≤ 16) }
+    requires limit { run.limit ≤ 32 }
+    requires statistics { AreStatistics run.rescaling.size statistics.old }
+    requires long { (length numbers.old ≤ 2 ^ 16) × (place ≤ 2 ^ 49) }
     ensures taken { (v : Counts) (z t : ℕ) → z < length v.bands → HasSettings v run.bits run.limit run.rescaling.size → of_band v.bands z ≡ statistics.old
         → 0 < t → GetsRun z t place result v reader.old (with_band v z statistics.new) reader.new.left numbers.new }
     ensures statistics { AreStatistics run.rescaling.size statistics.new }

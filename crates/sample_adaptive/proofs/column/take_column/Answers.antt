@@ -1,9 +1,27 @@
-use Rattle.std.proofs.Common.{eq-eqb, sym}
+use Rattle.std.proofs.Common.{List, ℕ, refl, sym, subst, eq-eqb, arith}
 use Rattle.std.proofs.lemmas.Bool.{ne_eqb}
+use Rattle.sample_adaptive.specs.Taken.{HasSettings, GetsColumn}
+use Rattle.sample_adaptive.proofs.ColumnsRead.{column_ends}
+use Rattle.sample_adaptive.proofs.Running.{behind_first}
 use Rattle.sample_adaptive.proofs.column.take_column.Goals as goal
 
 pub returns-then-t-eq0-clause-taken : goal.returns-then-t-eq0-clause-taken
 returns-then-t-eq0-clause-taken c = λ v same settings. c.take_each.ensures.taken v c.args.t (sym (eq-eqb c.args.t 0 c.if-t-eq0.true)) same settings
 
-pub returns-else-t-eq0-clause-taken : goal.returns-else-t-eq0-clause-taken
-returns-else-t-eq0-clause-taken c = λ v same settings. c.take_each-else-t-eq0.ensures.taken v c.args.t (sym (ne_eqb c.args.t 0 c.if-t-eq0.false)) same settings
+pub returns-then-done-numbers-clause-taken : goal.returns-then-done-numbers-clause-taken
+returns-then-done-numbers-clause-taken c = λ v same settings.
+    column_ends _ c.args.t _ _ v _ _ _ _ (omega (arith, c.if-done-numbers.true))
+    (c.take_ready-done.ensures.taken v c.args.t (omega (arith, c.if-t-eq0.false)) same settings)
+
+-- the rest is taken behind them
+pub returns-clause-taken : goal.returns-clause-taken
+returns-clause-taken c = λ v same settings.
+    let e = c.take_ready-done.ensures in
+    let known : HasSettings (record v { bands = c.take_ready-done.new.bands }) c.args.run.bits c.args.run.limit c.args.run.rescaling.size =
+    record { bits_are = settings.bits_are; umax_is = settings.umax_is; size_is = settings.size_is } in
+    let later = sym (ne_eqb c.args.t 0 c.if-t-eq0.false) in
+    let rest = c.take_each-2.ensures.taken (record v { bands = c.take_ready-done.new.bands }) c.args.t later refl known in
+    let behind = e.taken v c.args.t (omega (arith, c.if-t-eq0.false)) same settings _ _ _ _ rest in
+    subst (λ (ns : List ℕ). GetsColumn c.args.z c.args.t c.args.place c.take_each-2.result v c.args.reader.now
+    (record v { bands = c.take_each-2.new.bands }) c.take_each-2.new.reader.left ns)
+    (sym (behind_first c.take_ready-done.new.numbers c.take_each-2.new.numbers c.take_ready-done.result e.within c.take_each-2.ensures.long)) behind

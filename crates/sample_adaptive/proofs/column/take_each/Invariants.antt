@@ -1,7 +1,6 @@
 use Rattle.std.proofs.Common.{◌≡◌, ◌<◌, ℕ, eqb, length}
 use Rattle.sample_adaptive.specs.Statistics.{AreStatistics}
-use Rattle.sample_adaptive.specs.Taken.{Counts, HasSettings, of_band}
-use Rattle.sample_adaptive.proofs.ColumnsRead.{Reaches}
+use Rattle.sample_adaptive.specs.Taken.{Counts, HasSettings, Reaches, of_band}
 use Rattle.sample_adaptive.proofs.column.take_each.Given as goal
 
 abbrev pub invariant-loop-i : goal.invariant-loop-i
