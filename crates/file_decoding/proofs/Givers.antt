@@ -194,7 +194,7 @@ blocks_given (Err fault) z t place old new unread left gives kept counted inside
 pub blocks_run : (r : Result (Unit {0}) Fault) (zs ts : ℕ → ℕ) (place : ℕ) (old new : Unpacked) (unread : Unread) (left : List Bool) (was list : List ℕ)
     → length list ≡ length was → GivesRun old unread r new left list
     → new.cut ≡ old.cut → IfOk r (λ _. given_count new ≡ given_count old + length was) → new.block ≤ new.cut.count
-        → GivesEach zs ts place r (Blocks old) unread (Blocks new) left list
+    → GivesEach zs ts place r (Blocks old) unread (Blocks new) left list
 blocks_run (Ok x) zs ts place old new unread left was list long gives kept counted inside p numbers bits lawful h ask at =
     let did = gives numbers bits h.given in
     let there : new.cut ≡ cut_by p = kept ∙ h.cut in
