@@ -13,13 +13,15 @@ use Rattle.predict_core.specs.Prediction.{scaled_prediction}
 use Rattle.predict_core.specs.Precedence.{Agree, IsEarlier}
 use Rattle.predict_core.specs.Residual.{mapped, mapped_residual, run_residuals}
 use Rattle.predict_core.specs.RunPlaces.{AreAlikeBeside}
-use Rattle.predict_core.specs.Rooms.{IsLowerPart, quads_of}
-use Rattle.predict_core.proofs.Directions.{reduced_vector_is, full_vector_is, reduced_count, full_count, heads_dropped}
+use Rattle.predict_core.specs.Rooms.{quads_of}
+use Rattle.predict_core.specs.OpenPart.{IsOpenPart, open_sum, open_directions}
+use Rattle.predict_core.proofs.Directions.{reduced_vector_is, full_vector_is, reduced_count, full_count, heads_dropped, heads_taken}
 use Rattle.predict_core.proofs.Filling.{spectral_length}
 use Rattle.predict_core.proofs.Following.{row_is, column_is}
 use Rattle.predict_core.proofs.Frame.{local_sum_same, scaled_same}
 use Rattle.predict_core.proofs.Inverting.{sample_put_beside, agree_put}
 use Rattle.predict_core.proofs.RunSteps.{one_more}
+use Rattle.predict_core.proofs.Opening.{open_sum_same, open_directions_same}
 use Rattle.predict_core.proofs.Runs.{gathered_is}
 
 pub beside_none : (c : Image) (z y x : ℕ) → AreAlikeBeside c c z y x 0
@@ -89,7 +91,7 @@ residuals_next p d z y x i v deltas place whole wide l before e =
 
 -- ---- the bands below stay
 
-module _ (q : Predictor) (c d : Image) (z y first n x : ℕ) (place : IsPlace c.shape z y x) (later : 0 < y + x) (wide : q.column ≡ false → 2 ≤ c.shape.columns) (a : AreAlikeBeside c d z y first n) where
+module _ (q : Predictor) (c d : Image) (z y first n x : ℕ) (place : IsPlace c.shape z y x) (below : 0 < y) (wide : q.column ≡ false → 2 ≤ c.shape.columns) (a : AreAlikeBeside c d z y first n) where
   under : (z' y' x' : ℕ) → z' < z → x' < c.shape.columns → y' ≤ y → sample_at c z' y' x' ≡ sample_at d z' y' x'
   under z' y' x' b h k =
       a.samples z' y' x' (record { band = (let r = place.band in omega arith); row = (let r = place.row in omega arith); column = h }) (λ e f l. absurd (omega (arith, e, b)))
@@ -98,7 +100,7 @@ module _ (q : Predictor) (c d : Image) (z y first n x : ℕ) (place : IsPlace c.
   unfolding central_difference
   central_below z' b =
       let s = under z' y x b place.column (omega arith) in
-      let m = local_sum_same q c d (ap (λ (s : Sizes). s.columns) a.alike.shape) z' y x later wide place.column (λ y' x' h l k. under z' y' x' b h k) in
+      let m = local_sum_same q c d (ap (λ (s : Sizes). s.columns) a.alike.shape) z' y x (omega (arith, below)) wide place.column (λ y' x' h l k. under z' y' x' b h k) in
       rw (s, m) refl
 
   pub spectral_below : (k : ℕ) → k ≤ z → spectral_differences q c z y x k ≡ spectral_differences q d z y x k
@@ -122,14 +124,40 @@ module _ (q : Predictor) (c d : Image) (z y first n x : ℕ) (place : IsPlace c.
       ∙ heads_dropped heads (lower ++ replicate (18 - count) (pos 0)) k heads_long
       ∙ ap (λ us. us ++ replicate (18 - count) (pos 0)) (spectral_below (previous_bands q z) (omega arith))
 
-  pub lower_kept : (count : ℕ) (components room : List ℤ) → count ≡ component_count q z → count ≤ 18 → IsLowerPart q c z y x count components → room ≡ take 18 (components ++ replicate 18 (pos 0))
-      → drop (if q.reduced then 0 else 3) room ≡ spectral_differences q d z y x (previous_bands q z) ++ replicate (18 - count) (pos 0)
-  lower_kept count components room e few part g = by_mode q.reduced refl part.lower
-    where
-      by_mode : (b : Bool) → q.reduced ≡ b → drop (if b then 0 else 3) components ≡ spectral_differences q c z y x (previous_bands q z) ++ replicate (4 * quads_of count - count) (pos 0)
-          → drop (if b then 0 else 3) room ≡ spectral_differences q d z y x (previous_bands q z) ++ replicate (18 - count) (pos 0)
-      by_mode true r h = lower_from 0 count (4 * quads_of count - count) components room (let n = reduced_count q z r in omega (arith, e, n)) few (omega arith) h g
-      by_mode false r h = let three = e ∙ full_count q z r in lower_from 3 count (4 * quads_of count - count) components room three few (omega (arith, part.long, three)) h g
+  above : (k : ℕ) → k < c.shape.columns → sample_at c z (y - 1) k ≡ sample_at d z (y - 1) k
+  above k h = a.samples z (y - 1) k (record { band = place.band; row = (let r = place.row in omega arith); column = h }) (λ e f l. absurd (omega (arith, f, below)))
+
+  heads_from : (count m : ℕ) (components room : List ℤ) → count ≡ 3 + previous_bands q z → count ≤ 18 → 3 ≤ length components → drop 3 components ≡ spectral_differences q c z y x (previous_bands q z) ++ replicate m (pos 0)
+      → room ≡ take 18 (components ++ replicate 18 (pos 0)) → take 3 room ≡ take 3 components
+  heads_from count m components room e few le h g =
+      let heads : List ℤ = take 3 components in
+      let lower : List ℤ = spectral_differences q c z y x (previous_bands q z) in
+      let heads_long : length (take 3 components) ≡ 3 = omega (arith, le, length-take 3 components) in
+      let all : components ≡ (take 3 components ++ lower) ++ replicate m (pos 0) = sym (take-append-drop 3 components) ∙ ap (λ us. take 3 components ++ us) h ∙ sym (append_assoc heads lower (replicate m (pos 0))) in
+      let long : length (take 3 components ++ lower) ≡ count = omega (arith, length-append heads lower, heads_long, spectral_length q c z y x (previous_bands q z), e) in
+      ap (take 3) (gathered_is (take 3 components ++ lower) components room count m long few all g ∙ append_assoc heads lower (replicate (18 - count) (pos 0)))
+      ∙ heads_taken heads (lower ++ replicate (18 - count) (pos 0)) 3 heads_long
+
+  module _ (count : ℕ) (sum : ℤ) (components room : List ℤ) (e : count ≡ component_count q z) (few : count ≤ 18) (part : IsOpenPart q c z y x count sum components)
+      (g : room ≡ take 18 (components ++ replicate 18 (pos 0))) where
+    pub sum_kept : sum ≡ open_sum q d z y x
+    sum_kept = part.sum_is ∙ open_sum_same q c d z y x place.column wide (ap (λ (s : Sizes). s.columns) a.alike.shape) a.alike.kind above
+
+    pub directions_kept : q.reduced ≡ false → take 3 room ≡ open_directions q d z y x
+    directions_kept r =
+        let three = e ∙ full_count q z r in
+        let lower : drop 3 components ≡ spectral_differences q c z y x (previous_bands q z) ++ replicate (4 * quads_of count - count) (pos 0) =
+        ap (λ (b : Bool). drop (if b then 0 else 3) components) (sym r) ∙ part.lower in
+        heads_from count (4 * quads_of count - count) components room three few (omega (arith, part.long, three)) lower g
+        ∙ part.directions r ∙ open_directions_same q c d z y x place.column wide (ap (λ (s : Sizes). s.columns) a.alike.shape) a.alike.kind above
+
+    pub lower_kept : drop (if q.reduced then 0 else 3) room ≡ spectral_differences q d z y x (previous_bands q z) ++ replicate (18 - count) (pos 0)
+    lower_kept = by_mode q.reduced refl part.lower
+      where
+        by_mode : (b : Bool) → q.reduced ≡ b → drop (if b then 0 else 3) components ≡ spectral_differences q c z y x (previous_bands q z) ++ replicate (4 * quads_of count - count) (pos 0)
+            → drop (if b then 0 else 3) room ≡ spectral_differences q d z y x (previous_bands q z) ++ replicate (18 - count) (pos 0)
+        by_mode true r h = lower_from 0 count (4 * quads_of count - count) components room (let n = reduced_count q z r in omega (arith, e, n)) few (omega arith) h g
+        by_mode false r h = let three = e ∙ full_count q z r in lower_from 3 count (4 * quads_of count - count) components room three few (omega (arith, part.long, three)) h g
 
 -- with the directions of the place, they are all its differences
 pub vector_filled : (q : Predictor) (c : Image) (z y x m : ℕ) (lower new : List ℤ) → drop (if q.reduced then 0 else 3) lower ≡ spectral_differences q c z y x (previous_bands q z) ++ replicate m (pos 0)

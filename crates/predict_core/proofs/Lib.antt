@@ -10,6 +10,9 @@ pub mod Moves
 pub mod Gathered
 pub mod Numbers
 pub mod OneSample
+pub mod Opening
+pub mod OpenRanges
+pub mod OpenLines
 pub mod Padding
 pub mod Prefixes
 pub mod Products

@@ -25,7 +25,7 @@ within_one : (n : ℕ) (x : ℤ) → unsigned_abs x ≤ n → AllWithin n (x ∷
 within_one n x h zero l = h
 within_one n x h (suc i) l = absurd (omega (arith, l))
 
-within_three : (n : ℕ) (a b d : ℤ) → unsigned_abs a ≤ n → unsigned_abs b ≤ n → unsigned_abs d ≤ n → AllWithin n (a ∷ b ∷ d ∷ [])
+pub within_three : (n : ℕ) (a b d : ℤ) → unsigned_abs a ≤ n → unsigned_abs b ≤ n → unsigned_abs d ≤ n → AllWithin n (a ∷ b ∷ d ∷ [])
 within_three n a b d h k l zero m = h
 within_three n a b d h k l (suc zero) m = k
 within_three n a b d h k l (suc (suc zero)) m = l
@@ -94,7 +94,7 @@ module _ (p : Predictor) (c : Image) (cube : IsCube c) (y x : ℕ) (later : 0 < 
     unfolding central_difference
     central_within = difference_within (sample_at c z y x) (sample_within c cube z y x place)
 
-    directional_within : AllWithin (4 * 2 ^ c.kind.bits) (directional_differences p c z y x)
+    pub directional_within : AllWithin (4 * 2 ^ c.kind.bits) (directional_differences p c z y x)
     directional_within =
         elim (cases_eq y 0) [
           | inl e ↦ rw (directional_first p c z y x e) (within_three (4 * 2 ^ c.kind.bits) (pos 0) (pos 0) (pos 0) (omega arith) (omega arith) (omega arith))
@@ -106,7 +106,7 @@ module _ (p : Predictor) (c : Image) (cube : IsCube c) (y x : ℕ) (later : 0 < 
         ]
 
   module _ (z : ℕ) (place : IsPlace c.shape z y x) where
-    spectral_within : (n : ℕ) → n ≤ z → AllWithin (4 * 2 ^ c.kind.bits) (spectral_differences p c z y x n)
+    pub spectral_within : (n : ℕ) → n ≤ z → AllWithin (4 * 2 ^ c.kind.bits) (spectral_differences p c z y x n)
     unfolding spectral_differences
     spectral_within zero h = within_none (4 * 2 ^ c.kind.bits)
     spectral_within (suc n) h =

@@ -17,7 +17,7 @@ use Rattle.predict_core.proofs.Ranges.{sum_within, central_within, padded_within
 use Rattle.predict_core.proofs.Spans.{span}
 
 -- a sum of offsets is at most four times the greatest of them
-offset_sum_most : (low high s sum : ℤ) (power : ℕ) → high -ℤ low ≡ pos power -ℤ pos 1 → power ≤ 65536 → Between (pos 4 *ℤ low) (pos 4 *ℤ high) s
+pub offset_sum_most : (low high s sum : ℤ) (power : ℕ) → high -ℤ low ≡ pos power -ℤ pos 1 → power ≤ 65536 → Between (pos 4 *ℤ low) (pos 4 *ℤ high) s
     → pos 4 *ℤ low +ℤ sum ≡ s
     → (pos 0 ≤ℤ sum) × (sum ≤ℤ pos 262140)
 offset_sum_most low high s sum power e l h f = (omega (arith, ints, e, l, h.0, h.1, f), omega (arith, ints, e, l, h.0, h.1, f))

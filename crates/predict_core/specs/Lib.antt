@@ -4,6 +4,7 @@ pub mod Chain
 pub mod Differences
 pub mod Following
 pub mod OffsetSum
+pub mod OpenPart
 pub mod Largest
 pub mod ErrorSign
 pub mod Learner

@@ -1,5 +1,5 @@
 -- The offsets of a run of places, in lines of fixed length with one place more on each side.
-use Rattle.std.specs.Prelude.{ℕ, ◌≡◌, ◌+◌, ◌-◌, ◌*◌, ◌<◌, ◌==◌, ◌||◌, List, [], ◌∷◌, ◌++◌, replicate, slice_index, ℤ, pos, ◌+ℤ◌, ◌*ℤ◌, Bool, if◌then◌else◌}
+use Rattle.std.specs.Prelude.{ℕ, ◌≡◌, ◌+◌, ◌-◌, ◌*◌, ◌<◌, ◌==◌, ◌||◌, List, [], ◌∷◌, ◌++◌, replicate, length, slice_index, ℤ, pos, ◌+ℤ◌, ◌*ℤ◌, Bool, if◌then◌else◌}
 use Rattle.cube_core.specs.Kind.{smin}
 use Rattle.cube_core.specs.Image.{Image}
 use Rattle.predict_core.specs.declared.predictor.Predictor.{Predictor}
@@ -30,6 +30,12 @@ abbrev pub line_directions : Bool → List ℕ → List ℕ → ℕ → List ℤ
 line_directions column current above i =
     line_north column current above i ∷ offset_difference (slice_index current i) (line_sum column current above i) ∷ offset_difference
     (slice_index above i) (line_sum column current above i) ∷ []
+
+-- the row above with its ends: where it ends a neighbour stands that makes the sum of all four right
+abbrev pub bordered_above : Bool → List ℕ → List ℕ
+bordered_above column above =
+    if column then bordered (slice_index above 0) above (slice_index above 0)
+    else bordered (slice_index above 1) above (slice_index above (length above - 1))
 
 -- two lines tell the neighbours of the places from column x on: place i stands behind one that is west of it
 pub record AreLines (column : Bool) (y : ℕ) (row above : List ℕ) (x count : ℕ) (current upper : List ℕ) : Type 0 where

@@ -1,6 +1,5 @@
 -- What the samples tell of a run of places, before its weights are known.
-use Rattle.std.specs.Prelude.{ℕ, ◌≡◌, ◌+◌, ◌-◌, ◌*◌, ◌/◌, ◌^◌, ◌<◌, ◌≤◌, nat_le, ℤ, pos, ◌+ℤ◌, ◌*ℤ◌, ◌≤ℤ◌, unsigned_abs, List, [], ◌++◌, map, take, drop}
-use Rattle.std.specs.Prelude.{length}
+use Rattle.std.specs.Prelude.{ℕ, ◌≡◌, ◌+◌, ◌-◌, ◌*◌, ◌/◌, ◌^◌, ◌<◌, ◌≤◌, nat_le, ℤ, pos, ◌+ℤ◌, ◌*ℤ◌, ◌≤ℤ◌, unsigned_abs, List, [], ◌++◌, map, take}
 use Rattle.std.specs.Prelude.{replicate, slice_index_or, if◌then◌else◌}
 use Rattle.std.specs.List.{flat_map}
 use Rattle.cube_core.specs.Kind.{smin}
@@ -10,7 +9,7 @@ use Rattle.predict_core.specs.declared.predictor.Predictor.{Predictor}
 use Rattle.predict_core.specs.declared.room.Quad.{Quad}
 use Rattle.predict_core.specs.Predictor.{previous_bands}
 use Rattle.predict_core.specs.LocalSum.{local_sum}
-use Rattle.predict_core.specs.Differences.{central_difference, spectral_differences, difference_vector}
+use Rattle.predict_core.specs.Differences.{central_difference, difference_vector}
 use Rattle.predict_core.specs.Bounds.{AllWithin}
 use Rattle.predict_core.specs.Arithmetic.{floor_div, clip}
 use Rattle.predict_core.specs.Residual.{mapped_between}
@@ -41,12 +40,6 @@ pub record IsRoom (p : Predictor) (c : Image) (z y x count components : ℕ) (su
   pub sum_most : (i : ℕ) → i < count → 0 < y + (x + i) → slice_index_or sums i (pos 0) ≤ℤ pos 262140
   pub central_in : (i : ℕ) → i < count → 0 < y + (x + i) → unsigned_abs (slice_index_or own i (pos 0)) ≤ 4 * 2 ^ c.kind.bits
   pub vector_in : (i : ℕ) → i < count → 0 < y + (x + i) → AllWithin (4 * 2 ^ c.kind.bits) (components_at (quads_of components) quads i)
-
--- the components of a place but for the directions, which come first in full mode: the differences of the bands below, and zeros
-pub record IsLowerPart (p : Predictor) (c : Image) (z y x count : ℕ) (components : List ℤ) : Type 0 where
-  pub long : length components ≡ 4 * quads_of count
-  pub lower : drop (if p.reduced then 0 else 3) components
-      ≡ spectral_differences p c z y x (previous_bands p z) ++ replicate (4 * quads_of count - count) (pos 0)
 
 -- the number of an offset from the least sample, by a predicted difference and a local sum of offsets
 unfoldable pub offset_number : ℤ → ℤ → ℤ → ℕ → ℕ

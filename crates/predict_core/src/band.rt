@@ -15,6 +15,7 @@ use crate::predictor::Predictor;
 use crate::range::Range;
 use crate::settings::{Settings, first_scaled, learn, predict};
 use crate::start::start_of;
+use crate::west::WestMasks;
 use cube_core::cube::Cube;
 use cube_core::fault::Fault;
 use cube_core::shape::Shape;
@@ -78,6 +79,7 @@ impl Band {
             band: z,
             near: previous,
             count: first + previous,
+            west: WestMasks::of(params.reduced, params.column),
         };
         Ok(Band {
             settings,

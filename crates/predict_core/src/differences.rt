@@ -10,7 +10,7 @@ ghost use Rattle.predict_core.specs.Differences.{central_difference, spectral_di
 ghost use Rattle.predict_core.specs.OffsetSum.{IsWest};
 ghost use Rattle.predict_core.specs.Bounds.{AllWithin, IsPredictor};
 
-use crate::neighbourhood::{central_of, difference_of, sum_beside, sum_of};
+use crate::neighbourhood::{central_of, difference_of, sum_of};
 use crate::predictor::Predictor;
 use cube_core::cube::Cube;
 
@@ -63,30 +63,6 @@ pub(crate) fn sum_at(predictor: &Predictor, cube: &Cube, z: u32, y: u32, x: u32)
     sum_of(predictor.column, y, row, above, x as usize)
 }
 
-/// Returns the same at a place that is not in the first row, where `west` is the offset to the west.
-///
-/// So a sample that was just found isn't read back from memory.
-#[inline(always)]
-pub(crate) fn sum_by_west(
-    predictor: &Predictor,
-    cube: &Cube,
-    z: u32,
-    y: u32,
-    x: u32,
-    west: u16,
-) -> u32
-    requires place { IsPlace cube.now.shape z y x }
-    requires later { 0 < y }
-    requires wide { predictor.now.column ≡ false → 2 ≤ cube.now.shape.columns }
-    requires west { IsWest cube.now z y x west }
-    ensures value { local_sum predictor.now cube.now z y x ≡ pos 4 *ℤ smin cube.now.kind +ℤ pos result }
-    ensures bound { result ≤ 262140 }
-{
-    let row = cube.row(z, y);
-    let above = cube.row(z, y.saturating_sub(1));
-    sum_beside(predictor.column, y, row, above, x as usize, west)
-}
-
 /// Returns the offset of the sample to the west of a place below the first row; in the first column, of the one
 /// to the north.
 #[inline(always)]
@@ -125,34 +101,6 @@ fn fill_directional(
     }
     let west = west_of(cube, z, y, x);
     put_neighbours(predictor, cube, z, y, x, sum, west, out);
-}
-
-/// Writes the directional differences in full mode to the front of an array that holds those of the bands
-/// below.
-///
-/// The place is not in the first row, and `west` is the offset to the west.
-#[inline(always)]
-pub(crate) fn put_own_directions(
-    predictor: &Predictor,
-    cube: &Cube,
-    z: u32,
-    y: u32,
-    x: u32,
-    sum: u32,
-    west: u16,
-    out: &mut [i32; 18],
-)
-    requires place { IsPlace cube.now.shape z y x }
-    requires later { 0 < y }
-    requires sum_is { local_sum predictor.now cube.now z y x ≡ pos 4 *ℤ smin cube.now.kind +ℤ pos sum }
-    requires sum_in { sum ≤ 262140 }
-    requires west { IsWest cube.now z y x west }
-    ensures reduced { predictor.now.reduced ≡ true → out.new ≡ out.old }
-    ensures full { predictor.now.reduced ≡ false → out.new ≡ directional_differences predictor.now cube.now z y x ++ drop 3 out.old }
-{
-    if !predictor.reduced {
-        put_neighbours(predictor, cube, z, y, x, sum, west, out);
-    }
 }
 
 /// Writes the directional differences below the first row to the front of an array.

@@ -44,15 +44,6 @@ pub(crate) fn fill_four(
     }
 }
 
-/// Writes zeros and the central difference of one band at each place, which comes last.
-pub(crate) fn fill_last(column: bool, last: &Lines, out: &mut [[i32; 4]; 64])
-    ensures { (i : ℕ) → i < 64 → slice_index_or out.new i [] ≡ pos 0 ∷ pos 0 ∷ pos 0 ∷ line_difference column last.now.current last.now.above i ∷ [] }
-{
-    for i in 0..64usize {
-        out[i] = [0, 0, 0, central_at(column, last, i)];
-    }
-}
-
 /// Writes the central differences of two bands at each place, followed by zeros.
 pub(crate) fn fill_two(column: bool, first: &Lines, second: &Lines, out: &mut [[i32; 4]; 64])
     ensures { (i : ℕ) → i < 64 → slice_index_or out.new i [] ≡ line_difference column first.now.current first.now.above i ∷ line_difference column

@@ -4,7 +4,7 @@
 //! Parities give the sign of an error before its sample is known.
 
 ghost use Rattle.std.specs.Prelude.{◌≡◌, ◌+◌, ◌-◌, ◌*◌, ◌^◌, ◌<◌, ◌≤◌, false, ℕ, pos, ◌+ℤ◌, ◌-ℤ◌, ◌*ℤ◌, negsuc, ◌≤ℤ◌, int_lt, int_le, unsigned_abs, take, drop, length, ◌++◌, replicate};
-ghost use Rattle.std.specs.Prelude.{slice_index, if◌then◌else◌};
+ghost use Rattle.std.specs.Prelude.{slice_index, slice_index_or, if◌then◌else◌};
 ghost use Rattle.cube_core.specs.Kind.{IsSample, smin};
 ghost use Rattle.cube_core.specs.Image.{IsPlace, put};
 ghost use Rattle.header_bits.specs.declared.params.Params.{Params as Parameters};
@@ -15,14 +15,15 @@ ghost use Rattle.predict_core.specs.LocalSum.{local_sum};
 ghost use Rattle.predict_core.specs.Differences.{spectral_differences, difference_vector};
 ghost use Rattle.predict_core.specs.Prediction.{scaled_there, next_weights, weight_vector};
 ghost use Rattle.predict_core.specs.Residual.{mapped, run_residuals};
-ghost use Rattle.predict_core.specs.Rooms.{components_at, quads_of, IsLowerPart};
+ghost use Rattle.predict_core.specs.Rooms.{components_at, quads_of};
+ghost use Rattle.predict_core.specs.OpenPart.{IsOpenPart, open_directions};
 ghost use Rattle.predict_core.specs.RunPlaces.{AreAlikeBeside};
 ghost use Rattle.predict_core.specs.OffsetSum.{IsWest};
 ghost use Rattle.predict_core.specs.Steps.{AreSteps};
 ghost use Rattle.predict_core.specs.Weights.{step_exponent};
 
 use crate::chain::differences_at;
-use crate::differences::{put_own_directions, sum_by_west, west_of};
+use crate::differences::west_of;
 use crate::exponent::{exponent_at, places_alike};
 use crate::mapping::scaled_offset;
 use crate::prediction::predicted_difference;
@@ -31,17 +32,17 @@ use crate::residual::{turn_between, unmap_between};
 use crate::room::Quad;
 use crate::settings::{Settings, form_at};
 use crate::weights::{Form, update_by};
+use crate::west::{put_west, sum_with_west};
 use cube_core::cube::Cube;
 
-/// A run below the first row whose samples aren't known yet: its first place, the components of its places, the
-/// weights there, and its mapped residuals.
-///
-/// Of the quads only the differences of the bands below are read.
+/// A run below the first row whose samples aren't known yet: its first place, the local sums and components of its
+/// places as far as the samples before tell them, the weights there, and its mapped residuals.
 #[derive(Clone, Copy)]
 pub(crate) struct OpenRun<'a, const Q: usize> {
     pub settings: &'a Settings,
     pub y: u32,
     pub x: u32,
+    pub sums: &'a [i32; 64],
     pub quads: &'a [Quad; Q],
     pub weights: [i32; 18],
     pub deltas: &'a [u16],
@@ -66,8 +67,8 @@ pub(crate) fn invert_places<const Q: usize, const N: usize, const WRAPS: bool>(
     requires few { length run.deltas.now ≤ 64 }
     requires inside { run.x + length run.deltas.now ≤ cube.shape.columns }
     requires residuals_in { (i : ℕ) → i < length run.deltas.now → slice_index run.deltas.now i < 2 ^ cube.kind.bits }
-    requires lower { (i : ℕ) → i < length run.deltas.now → IsLowerPart run.settings.now.predictor cube run.settings.now.band run.y (run.x + i)
-        run.settings.now.count (components_at (quads_of run.settings.now.count) run.quads.now i) }
+    requires parts { (i : ℕ) → i < length run.deltas.now → IsOpenPart run.settings.now.predictor cube run.settings.now.band run.y (run.x + i)
+        run.settings.now.count (slice_index_or run.sums.now i (pos 0)) (components_at (quads_of run.settings.now.count) run.quads.now i) }
     requires weights_in { AllWithin (2 ^ (run.settings.now.predictor.fraction + 2)) run.weights }
     ensures beside { AreAlikeBeside cube result.0 run.entry.settings.now.band run.entry.y run.entry.x (length run.entry.deltas.now) }
     ensures residuals { (p : Parameters) → AreWeightsAt p run.entry.settings.now.predictor cube run.entry.settings.now.band (run.entry.y * cube.shape.columns + run.entry.x)
@@ -82,6 +83,7 @@ pub(crate) fn invert_places<const Q: usize, const N: usize, const WRAPS: bool>(
     let OpenRun {
         y,
         x,
+        sums,
         quads,
         mut weights,
         deltas,
@@ -97,8 +99,8 @@ pub(crate) fn invert_places<const Q: usize, const N: usize, const WRAPS: bool>(
     for i in 0..deltas.len() {
         let column = x + i as u32;
         stretch = stretch_at(&settings, y, x, i, deltas.len(), stretch);
-        let sum = sum_by_west(&settings.predictor, &cube, settings.band, y, column, west);
-        let lower = differences_at::<Q>(quads, i);
+        let sum = sum_with_west(&settings, &cube, y, column, sums[i], west);
+        let components = differences_at::<Q>(quads, i);
         let sample = sample_there::<N, WRAPS>(
             &settings,
             &cube,
@@ -108,7 +110,7 @@ pub(crate) fn invert_places<const Q: usize, const N: usize, const WRAPS: bool>(
             west,
             stretch.form,
             &mut weights,
-            &lower,
+            &components,
             deltas[i],
         );
         cube.set(settings.band, y, column, sample);
@@ -176,7 +178,7 @@ fn next_stretch(settings: &Settings, y: u32, x: u32, i: usize, count: usize) -> 
 /// Returns the sample of a mapped residual at a place below the first row, and updates the weights.
 ///
 /// `sum` is the local sum of the offsets there, `west` the offset to the west, and `form` the form of the steps.
-/// Of `lower` only the differences of the bands below are read.
+/// `components` are those of the place as if that offset were 0.
 #[inline(always)]
 fn sample_there<const N: usize, const WRAPS: bool>(
     settings: &Settings,
@@ -187,7 +189,7 @@ fn sample_there<const N: usize, const WRAPS: bool>(
     west: u16,
     form: Form,
     weights: &mut [i32; 18],
-    lower: &[i32; 18],
+    components: &[i32; 18],
     delta: u16,
 ) -> i32
     requires few { N ≤ 18 }
@@ -201,7 +203,8 @@ fn sample_there<const N: usize, const WRAPS: bool>(
     requires sum_in { sum ≤ 262140 }
     requires west { IsWest cube.now settings.now.band y x west }
     requires weights_in { AllWithin (2 ^ (settings.now.predictor.fraction + 2)) weights.old }
-    requires lower { drop (if settings.now.predictor.reduced then 0 else 3) lower.now ≡ spectral_differences settings.now.predictor cube.now
+    requires directions { settings.now.predictor.reduced ≡ false → take 3 components.now ≡ open_directions settings.now.predictor cube.now settings.now.band y x }
+    requires lower { drop (if settings.now.predictor.reduced then 0 else 3) components.now ≡ spectral_differences settings.now.predictor cube.now
         settings.now.band y x (previous_bands settings.now.predictor settings.now.band) ++ replicate (18 - settings.now.count) (pos 0) }
     requires residual { delta < 2 ^ cube.now.kind.bits }
     requires steps { AreSteps form cube.now.kind.bits (step_exponent settings.now.predictor cube.now.shape.columns cube.now.kind.bits
@@ -217,17 +220,8 @@ fn sample_there<const N: usize, const WRAPS: bool>(
     let predictor = &settings.predictor;
     let range = &settings.range;
     let t = y as u64 * settings.columns as u64 + x as u64;
-    let mut differences = *lower;
-    put_own_directions(
-        predictor,
-        cube,
-        settings.band,
-        y,
-        x,
-        sum,
-        west,
-        &mut differences,
-    );
+    let mut differences = *components;
+    put_west(settings, cube, y, x, west, &mut differences);
     let whole = 4 * range.smin + sum as i32;
     let part = predicted_difference::<N, WRAPS>(predictor, range, whole, weights, &differences);
     let found = sample_by_part(range, part, sum, delta);

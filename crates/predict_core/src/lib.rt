@@ -25,4 +25,5 @@ mod run_inverse;
 mod settings;
 mod start;
 mod weights;
+mod west;
 pub mod worked;

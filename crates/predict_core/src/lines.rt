@@ -4,7 +4,7 @@
 //! its neighbours at the same distances, and a loop over all 64 needs no test.
 
 ghost use Rattle.std.specs.Prelude.{◌≡◌, ◌+◌, ◌-◌, ◌*◌, ◌<◌, ◌≤◌, ℕ, false, ◌||◌, ◌==◌, length, replicate, slice_index};
-ghost use Rattle.predict_core.specs.Lines.{bordered, line_sum, AreLines, AreBandLines};
+ghost use Rattle.predict_core.specs.Lines.{bordered, bordered_above, line_sum, AreLines, AreBandLines};
 ghost use Rattle.cube_core.specs.Image.{IsPlace};
 
 use crate::predictor::Predictor;
@@ -59,6 +59,21 @@ pub(crate) fn fill_band_lines(
         &mut lines.current,
         &mut lines.above,
     );
+}
+
+/// Writes the neighbours of `count` places from column `x` on that are in the row above them.
+pub(crate) fn fill_line_above(column: bool, above: &[u16], x: usize, count: usize, upper: &mut [u16; 66])
+    requires few { count ≤ 64 }
+    requires inside { x + count ≤ length above.now }
+    requires some { 1 ≤ length above.now }
+    requires wide { column ≡ false → 2 ≤ length above.now }
+    ensures { (k : ℕ) → k < count + 2 → slice_index upper.new k ≡ slice_index (bordered_above column above.now) (x + k) }
+{
+    if column {
+        fill_line(above, x, count, above[0], above[0], upper);
+    } else {
+        fill_line(above, x, count, above[1], above[above.len() - 1], upper);
+    }
 }
 
 /// Writes the neighbours of `count` places of a row from column `x` on: to `current` those in the row itself,

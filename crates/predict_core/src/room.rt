@@ -6,11 +6,12 @@ ghost use Rattle.std.specs.Prelude.{◌≡◌, ◌+◌, ◌-◌, ◌<◌, ◌≤
 ghost use Rattle.cube_core.specs.Image.{IsPlace};
 ghost use Rattle.predict_core.specs.Differences.{directional_differences};
 ghost use Rattle.predict_core.specs.Lines.{line_sum, line_difference, AreBandLines};
-ghost use Rattle.predict_core.specs.Rooms.{IsRoom, IsLowerPart, components_at, quads_of, lower_differences};
+ghost use Rattle.predict_core.specs.Rooms.{IsRoom, components_at, quads_of, lower_differences};
+ghost use Rattle.predict_core.specs.OpenPart.{IsOpenPart};
 
 use crate::below::{fill_below, fill_spectral};
-use crate::fills::{fill_directions, fill_four, fill_last, fill_own};
-use crate::lines::{Lines, fill_band_lines, is_column};
+use crate::fills::{fill_directions, fill_four, fill_own};
+use crate::lines::{Lines, fill_band_lines, fill_line_above, is_column};
 use crate::settings::Settings;
 use cube_core::cube::Cube;
 
@@ -65,36 +66,57 @@ pub(crate) fn fill_run<const Q: usize>(
     }
 }
 
-/// Writes what the bands below tell of the components of `count` places from row `y`, column `x` on.
+/// Writes what the row above and the bands below tell of `count` places from row `y`, column `x` on: the local sums of
+/// offsets and the components as if each offset to the west were 0.
 ///
-/// It is written where `fill_run` writes it. The three directions, which come first in full mode, are left to the
-/// caller; zeros stand in their place.
-pub(crate) fn fill_lower_part<const Q: usize>(
+/// The row is below the first one. It is all written where `fill_run` writes it.
+pub(crate) fn fill_open_part<const Q: usize>(
     settings: &Settings,
     cube: &Cube,
     y: u32,
     x: u32,
     count: usize,
+    sums: &mut [i32; 64],
     quads: &mut [Quad; Q],
 )
     requires place { IsPlace cube.now.shape settings.now.band y x }
     requires columns { cube.now.shape.columns ≡ settings.now.columns }
+    requires later { 0 < y }
     requires some { 1 ≤ count }
     requires few { count ≤ 64 }
     requires inside { x + count ≤ cube.now.shape.columns }
     requires enough { quads_of settings.now.count ≤ Q }
-    ensures { (i : ℕ) → i < count → 0 < y + (x + i) → IsLowerPart settings.now.predictor cube.now settings.now.band y (x + i) settings.now.count
-        (components_at (quads_of settings.now.count) quads.new i) }
+    ensures { (i : ℕ) → i < count → IsOpenPart settings.now.predictor cube.now settings.now.band y (x + i) settings.now.count
+        (slice_index_or sums.new i (pos 0)) (components_at (quads_of settings.now.count) quads.new i) }
 {
+    let column = settings.predictor.column;
+    let mut lines = Lines::empty();
+    let above = cube.row(settings.band, y - 1);
+    fill_line_above(column, above, x as usize, count, &mut lines.above);
+    let mut own = [0i32; 64];
     if settings.predictor.reduced {
+        fill_own(column, &lines, sums, &mut own);
         fill_spectral::<Q>(settings, cube, y, x, count, 0, 1, quads);
     } else {
         let mut below = Lines::empty();
         fill_below(settings, cube, y, x, count, 1, &mut below);
-        let column = is_column(settings.predictor.column, y);
-        fill_last(column, &below, &mut quads[0].places);
+        let first = &mut quads[0].places;
+        fill_directions(column, &lines, &below, sums, &mut own, first);
+        if x == 0 {
+            put_north_first(first);
+        }
         fill_spectral::<Q>(settings, cube, y, x, count, 1, 2, quads);
     }
+}
+
+/// Writes the northern difference of the first place in place of the one to the north-west.
+fn put_north_first(out: &mut [[i32; 4]; 64])
+    ensures first { (north west north_west below : ℤ) → slice_index_or out.old 0 [] ≡ north ∷ west ∷ north_west ∷ below ∷ []
+        → slice_index_or out.new 0 [] ≡ north ∷ west ∷ north ∷ below ∷ [] }
+    ensures others { (k : ℕ) → 0 < k → slice_index_or out.new k [] ≡ slice_index_or out.old k [] }
+{
+    let first = out[0];
+    out[0] = [first[0], first[1], first[0], first[3]];
 }
 
 /// Writes the sums, the central differences and the first quad in full mode: the three directions, and the

@@ -13,7 +13,7 @@ ghost use Rattle.predict_core.specs.Following.{Follows, MovesOn, MovesBy};
 
 use crate::band::Band;
 use crate::inverse_chain::{OpenRun, invert_places};
-use crate::room::{Quad, fill_lower_part};
+use crate::room::{Quad, fill_open_part};
 use crate::run::LEAST;
 use crate::settings::Settings;
 use core::mem::replace_with;
@@ -149,8 +149,8 @@ fn invert_run<const WRAPS: bool>(
 
 /// Does the same with `N` weights, whose differences take `Q` quads.
 ///
-/// What depends on the bands below is computed first, for all places at once. The directional differences of a
-/// place wait for the sample to the west.
+/// What the row above and the bands below tell is computed first, for all places at once. Each place then waits for
+/// the sample to the west.
 // One for each number of weights, so that each keeps its registers.
 #[inline(never)]
 fn invert_by<const Q: usize, const N: usize, const WRAPS: bool>(
@@ -188,11 +188,13 @@ fn invert_by<const Q: usize, const N: usize, const WRAPS: bool>(
         places: [[0; 4]; 64],
     };
     let mut quads = [quad; Q];
-    fill_lower_part::<Q>(settings, cube, y, x, count, &mut quads);
+    let mut sums = [0i32; 64];
+    fill_open_part::<Q>(settings, cube, y, x, count, &mut sums, &mut quads);
     let run = OpenRun {
         settings,
         y,
         x,
+        sums: &sums,
         quads: &quads,
         weights: *weights,
         deltas,

@@ -10,6 +10,7 @@ ghost use Rattle.predict_core.specs.Prediction.{scaled_there, first_scaled as fi
 ghost use Rattle.predict_core.specs.Mapping.{IsScaled};
 ghost use Rattle.predict_core.specs.Bounds.{AllWithin, IsPredictor};
 ghost use Rattle.predict_core.specs.Steps.{AreSteps};
+ghost use Rattle.predict_core.specs.OpenPart.{AreWestMasks};
 
 use crate::differences::{fill_differences, sum_at};
 use crate::exponent::exponent_at;
@@ -17,6 +18,7 @@ use crate::prediction::scaled_by;
 use crate::predictor::Predictor;
 use crate::range::Range;
 use crate::weights::{Form, form_of, update};
+use crate::west::WestMasks;
 use cube_core::cube::Cube;
 
 /// The parameters of a band's predictor, and what follows from them for all its samples.
@@ -30,11 +32,14 @@ pub(crate) struct Settings {
     pub near: usize,
     /// How many weights are in use.
     pub count: usize,
+    /// Where the offset to the west is added.
+    pub west: WestMasks,
     pub ghost lawful: { IsPredictor predictor },
     pub ghost columns_in: { InRange 1 65536 columns },
     pub ghost near_is: { near ≡ previous_bands predictor band },
     pub ghost count_is: { count ≡ component_count predictor band },
     pub ghost few: { count ≤ 18 },
+    pub ghost west_is: { AreWestMasks predictor.reduced predictor.column west },
     pub ghost wide: { predictor.column ≡ false → 2 ≤ columns },
 }
 

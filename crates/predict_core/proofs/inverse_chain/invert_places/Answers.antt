@@ -10,11 +10,16 @@ use Rattle.predict_core.specs.Prediction.{weight_vector}
 use Rattle.predict_core.specs.Residual.{mapped_residual, run_residuals}
 use Rattle.predict_core.specs.Rooms.{components_at, quads_of}
 use Rattle.predict_core.specs.RunPlaces.{AreAlikeBeside}
-use Rattle.predict_core.proofs.InverseRuns.{beside_none, beside_next, residuals_next, lower_kept}
+use Rattle.std.proofs.lemmas.Int.{ints, fits_signed_from_abs}
+use Rattle.predict_core.specs.OpenPart.{IsOpenPart}
+use Rattle.predict_core.proofs.InverseRuns.{beside_none, beside_next, residuals_next, sum_kept, directions_kept, lower_kept}
+use Rattle.predict_core.proofs.OpenRanges.{sum_in}
 use Rattle.predict_core.proofs.Directions.{is_west}
 use Rattle.predict_core.proofs.Inverting.{residual_put, sample_put, weights_put}
 use Rattle.predict_core.proofs.Runs.{later_place}
+use Rattle.predict_core.proofs.inverse_chain.invert_places.Given as given
 use Rattle.predict_core.proofs.inverse_chain.invert_places.Goals as goal
+use Rattle.predict_core.proofs.inverse_chain.invert_places.Goals.{In-loop-i}
 
 pub loop-i-init : goal.loop-i-init
 loop-i-init g c = record {
@@ -27,16 +32,53 @@ loop-i-init g c = record {
   whole = c.prove_is_cube.ensures.whole;
 }
 
+-- what is told of a place, in the image so far
+module _ (g : given.Over) (c : In-loop-i g) where
+  place : IsPlace c.args.cube.shape c.args.run.settings.now.band c.args.run.y (c.args.run.x + c.loop-i.i)
+  place = record { band = c.requires.place.band; row = c.requires.place.row; column = omega (arith, c.requires.inside, c.loop-i-test.true) }
+
+  wide : c.args.run.settings.now.predictor.column ≡ false → 2 ≤ c.args.cube.shape.columns
+  wide h = let w = c.args.run.settings.now.wide h in omega (arith, w, c.requires.columns)
+
+  part : IsOpenPart c.args.run.settings.now.predictor c.args.cube c.args.run.settings.now.band c.args.run.y (c.args.run.x + c.loop-i.i) c.args.run.settings.now.count
+      (get_or c.args.run.sums.now c.loop-i.i (pos 0)) (components_at (quads_of c.args.run.settings.now.count) c.args.run.quads.now c.loop-i.i)
+  part = c.requires.parts c.loop-i.i c.loop-i-test.true
+
+  sum_fits : SFits w32 (get_or c.args.run.sums.now c.loop-i.i (pos 0))
+  sum_fits =
+      let s = c.args.run.settings.now in
+      let b = sum_in s.predictor c.args.cube c.prove_is_cube.ensures s.band c.args.run.y (c.args.run.x + c.loop-i.i) c.requires.later wide place in
+      rw part.sum_is (fits_signed_from_abs w32 _ (omega (arith, ints, b.0, b.1)))
+
+pub sum_with_west-sum-requires-clause-sum : goal.sum_with_west-sum-requires-clause-sum
+sum_with_west-sum-requires-clause-sum g c =
+    let d = (goal.at.sum_with_west-sum-requires-clause-sum g c).In-loop-i in
+    let s = c.args.run.settings.now in
+    rw (to_z-of_z (sum_fits g d))
+    (sum_kept s.predictor c.args.cube c.loop-i.cube s.band c.args.run.y c.args.run.x c.loop-i.i (c.args.run.x + c.loop-i.i) (place g d) c.requires.later (wide g d) c.loop-i.invariant.beside
+    s.count _ _ _ s.count_is s.few (part g d) refl)
+
+pub sample_there-sample-requires-clause-directions : goal.sample_there-sample-requires-clause-directions
+sample_there-sample-requires-clause-directions g c =
+    let d = (goal.at.sample_there-sample-requires-clause-directions g c).In-loop-i in
+    let s = c.args.run.settings.now in
+    let gathered = rw c.requires.quads at c.differences_at-components.ensures in
+    directions_kept s.predictor c.args.cube c.loop-i.cube s.band c.args.run.y c.args.run.x c.loop-i.i (c.args.run.x + c.loop-i.i) (place g d) c.requires.later (wide g d) c.loop-i.invariant.beside
+    s.count _ _ _ s.count_is s.few (part g d) gathered
+
 pub sample_there-sample-requires-clause-lower : goal.sample_there-sample-requires-clause-lower
 sample_there-sample-requires-clause-lower g c =
+    let d = (goal.at.sample_there-sample-requires-clause-lower g c).In-loop-i in
+    let s = c.args.run.settings.now in
+    let gathered = rw c.requires.quads at c.differences_at-components.ensures in
+    lower_kept s.predictor c.args.cube c.loop-i.cube s.band c.args.run.y c.args.run.x c.loop-i.i (c.args.run.x + c.loop-i.i) (place g d) c.requires.later (wide g d) c.loop-i.invariant.beside
+    s.count _ _ _ s.count_is s.few (part g d) gathered
+
+pub sample_there-sample-requires-clause-residual : goal.sample_there-sample-requires-clause-residual
+sample_there-sample-requires-clause-residual g c =
     let kept = c.loop-i.invariant in
     let s = c.args.run.settings.now in
-    let column : c.args.run.x + c.loop-i.i < c.args.cube.shape.columns = omega (arith, c.requires.inside, c.loop-i-test.true) in
-    let wide : s.predictor.column ≡ false → 2 ≤ c.args.cube.shape.columns = λ h. let w = s.wide h in omega (arith, w, c.requires.columns) in
-    let part = c.requires.lower c.loop-i.i c.loop-i-test.true in
-    let gathered = rw c.requires.quads at c.differences_at-lower.ensures in
-    lower_kept s.predictor c.args.cube c.loop-i.cube s.band c.args.run.y c.args.run.x c.loop-i.i (c.args.run.x + c.loop-i.i) (record { band = c.requires.place.band; row = c.requires.place.row; column = column }) (omega (arith, c.requires.later)) wide kept.beside
-    s.count (components_at (quads_of s.count) c.args.run.quads.now c.loop-i.i) c.differences_at-lower.result s.count_is s.few part gathered
+    rw (ap (λ (k : SampleKind). k.bits) (sym kept.beside.alike.kind)) (c.requires.residuals_in c.loop-i.i c.loop-i-test.true)
 
 pub sample_there-sample-requires-clause-steps : goal.sample_there-sample-requires-clause-steps
 sample_there-sample-requires-clause-steps g c =

@@ -1,0 +1,50 @@
+-- What the row above and the bands below tell of a place below the first row, before the sample to the west is known.
+use Rattle.std.specs.Prelude.{ℕ, ◌≡◌, ◌+◌, ◌-◌, ◌*◌, ◌<◌, ◌≤◌, ◌==◌, ◌||◌, Bool, false, ℤ, pos, negsuc, ◌+ℤ◌, ◌-ℤ◌, ◌*ℤ◌, List, [], ◌∷◌, ◌++◌, take, drop, replicate, length, if◌then◌else◌}
+use Rattle.cube_core.specs.Kind.{smin}
+use Rattle.cube_core.specs.Image.{Image, sample_at}
+use Rattle.predict_core.specs.declared.predictor.Predictor.{Predictor}
+use Rattle.predict_core.specs.declared.west.WestMasks.{WestMasks}
+use Rattle.predict_core.specs.Predictor.{previous_bands}
+use Rattle.predict_core.specs.Differences.{spectral_differences}
+use Rattle.predict_core.specs.Rooms.{quads_of}
+
+-- the offset of a sample of the row above
+abbrev pub offset_above : Image → ℕ → ℕ → ℕ → ℤ
+offset_above c z y x = sample_at c z (y - 1) x -ℤ smin c.kind
+
+-- the local sum of offsets but for the one to the west; in the first column but for one to the north, which stands for it
+unfoldable pub open_sum : Predictor → Image → ℕ → ℕ → ℕ → ℤ
+open_sum p c z y x =
+    if p.column then pos 4 *ℤ offset_above c z y x
+    else if x == 0 then offset_above c z y x +ℤ pos 2 *ℤ offset_above c z y (x + 1)
+    else if x + 1 == c.shape.columns then offset_above c z y (x - 1) +ℤ pos 2 *ℤ offset_above c z y x
+    else offset_above c z y (x - 1) +ℤ offset_above c z y x +ℤ offset_above c z y (x + 1)
+
+-- the directional differences, as if the offset to the west were 0
+unfoldable pub open_directions : Predictor → Image → ℕ → ℕ → ℕ → List ℤ
+open_directions p c z y x =
+    (pos 4 *ℤ offset_above c z y x -ℤ open_sum p c z y x) ∷ (pos 0 -ℤ open_sum p c z y x) ∷ (pos 4 *ℤ offset_above c z y (x - 1) -ℤ open_sum p c z y x) ∷ []
+
+-- the local sum and the components of a place, but for what the sample to the west adds
+pub record IsOpenPart (p : Predictor) (c : Image) (z y x count : ℕ) (sum : ℤ) (components : List ℤ) : Type 0 where
+  pub sum_is : sum ≡ open_sum p c z y x
+  pub long : length components ≡ 4 * quads_of count
+  pub directions : p.reduced ≡ false → take 3 components ≡ open_directions p c z y x
+  pub lower : drop (if p.reduced then 0 else 3) components
+      ≡ spectral_differences p c z y x (previous_bands p z) ++ replicate (4 * quads_of count - count) (pos 0)
+
+-- all ones, or 0 where something doesn't hold
+abbrev pub unless : Bool → ℤ
+unless b = if b then pos 0 else negsuc 0
+
+-- the masks by which the offset to the west is added
+pub record AreWestMasks (reduced column : Bool) (m : WestMasks) : Type 0 where
+  pub sum : m.sum ≡ unless column
+  pub once_north : m.once.north ≡ unless (reduced || column)
+  pub once_west : m.once.west ≡ unless (reduced || column)
+  pub once_north_west : m.once.north_west ≡ unless (reduced || column)
+  pub once_below : m.once.below ≡ pos 0
+  pub four_north : m.four.north ≡ pos 0
+  pub four_west : m.four.west ≡ unless reduced
+  pub four_north_west : m.four.north_west ≡ pos 0
+  pub four_below : m.four.below ≡ pos 0
