@@ -1,5 +1,5 @@
 -- Lines of offsets, and the sums that they tell.
-use Rattle.std.proofs.Common.{◌≡◌, ◌≢◌, ℕ, zero, suc, ◌+◌, ◌-◌, ◌<◌, ◌≤◌, false, ◌||◌, ◌==◌, List, [], ◌∷◌, length, get_or, set, arith, refl, sym, ap, ◌∙◌, inl}
+use Rattle.std.proofs.Common.{◌≡◌, ◌≢◌, ℕ, zero, suc, ◌+◌, ◌-◌, ◌<◌, ◌≤◌, true, false, ◌||◌, ◌==◌, List, [], ◌∷◌, length, get_or, set, arith, refl, sym, ap, ◌∙◌, inl}
 use Rattle.std.proofs.Common.{inr, get_or-set_same, get_or-set_other, length-set}
 use Rattle.std.proofs.lemmas.Bool.{cases_eq}
 use Rattle.std.proofs.lemmas.Bool.Decides.{nat_tests}
@@ -7,7 +7,7 @@ use Rattle.std.proofs.lemmas.List.{get_or-append-add}
 use lib.ListN.{get_or-append}
 use Rattle.predict_core.specs.OffsetSum.{offset_sum}
 use Rattle.predict_core.specs.Lines.{bordered, line_sum, AreLines}
-use Rattle.predict_core.proofs.LocalSums.{offsets_at_left, offsets_at_right, offsets_inside}
+use Rattle.predict_core.proofs.LocalSums.{offsets_by_column, offsets_at_left, offsets_at_right, offsets_inside}
 
 -- ---- a row with a border
 
@@ -107,3 +107,24 @@ module _ (y : ℕ) (row above : List ℕ) (x count after : ℕ) (current upper :
     where
       by_row : (i : ℕ) → i < count → line_sum (false || y == 0) current upper i ≡ offset_sum false y row above (x + i)
       by_row i l = let e : (false || y == 0) ≡ false = grind (arith, nat_tests) in ap (λ b. line_sum b current upper i) e ∙ four i l
+
+-- ---- sums of the northern neighbour alone
+
+module _ (y : ℕ) (row above : List ℕ) (x count before after : ℕ) (current upper : List ℕ) (later : y ≢ 0) (inside : x + count ≤ length row)
+    (same : length above ≡ length row)
+    (near : (k : ℕ) → k < count + 2 → get_or current k 0 ≡ get_or (bordered (get_or above 0 0) row after) (x + k) 0)
+    (far : (k : ℕ) → k < count + 2 → get_or upper k 0 ≡ get_or (bordered before above before) (x + k) 0) where
+  over : (i : ℕ) → i < count → get_or upper (i + 1) 0 ≡ get_or above (x + i) 0
+  over i l =
+      far (i + 1) (omega arith) ∙ border_inside before above before (x + (i + 1)) (omega arith) (omega arith) ∙ ap (λ n. get_or above n 0) (omega arith)
+
+  pub column_lines : AreLines true y row above x count current upper
+  column_lines = record {
+    own = λ i l. near (i + 1) (omega arith) ∙ border_inside (get_or above 0 0) row after (x + (i + 1)) (omega arith) (omega arith)
+        ∙ ap (λ n. get_or row n 0) (omega arith);
+    west = λ i l h. near i (omega arith) ∙ border_inside (get_or above 0 0) row after (x + i) h (omega arith);
+    north = λ i l h. over i l;
+    north_west = λ i l h k. far i (omega arith) ∙ border_inside before above before (x + i) k (omega arith);
+    beside_first = λ h e. near 0 (omega arith) ∙ border_before (get_or above 0 0) row after (x + 0) (omega arith);
+    sum = λ i l h. let o = over i l in let s = offsets_by_column true y row above (x + i) later refl in omega (arith, o, s);
+  }

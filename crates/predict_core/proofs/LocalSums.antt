@@ -42,7 +42,7 @@ sum_inside p c z y x a b d e = grind (arith, nat_tests)
 offsets_in_first_row : (column : Bool) (y : ℕ) (row above : List ℕ) (x : ℕ) → y ≡ 0 → offset_sum column y row above x ≡ 4 * get_or row (x - 1) 0
 offsets_in_first_row column y row above x e = grind (arith, nat_tests)
 
-offsets_by_column : (column : Bool) (y : ℕ) (row above : List ℕ) (x : ℕ) → y ≢ 0 → column ≡ true → offset_sum column y row above x ≡ 4 * get_or above x 0
+pub offsets_by_column : (column : Bool) (y : ℕ) (row above : List ℕ) (x : ℕ) → y ≢ 0 → column ≡ true → offset_sum column y row above x ≡ 4 * get_or above x 0
 offsets_by_column column y row above x a b = grind (arith, nat_tests)
 
 pub offsets_at_left : (column : Bool) (y : ℕ) (row above : List ℕ) (x : ℕ) → y ≢ 0 → column ≡ false → x ≡ 0

@@ -99,8 +99,13 @@ module _ (p : Predictor) (c d : Image) (z y x : ℕ) (column : x < c.shape.colum
             | inl h ↦ rw (open_at_left p c z y x e h, open_at_left p d z y x e h, offset_same x column, offset_same (x + 1) (omega arith)) refl
             | inr n ↦ elim (cases_eq (x + 1) c.shape.columns) [
               | inl r ↦ rw (open_at_right p c z y x e n r, open_at_right p d z y x e n (r ∙ columns), offset_same x column, offset_same (x - 1) (omega arith)) refl
-              | inr m ↦ rw (open_inside p c z y x e n m, open_inside p d z y x e n (λ r. m (r ∙ sym columns)), offset_same x column, offset_same (x - 1) (omega arith),
-                  offset_same (x + 1) (omega arith)) refl
+              | inr m ↦ rw (
+                open_inside p c z y x e n m,
+                open_inside p d z y x e n (λ r. m (r ∙ sym columns)),
+                offset_same x column,
+                offset_same (x - 1) (omega arith),
+                offset_same (x + 1) (omega arith),
+              ) refl
             ]
           ]
 

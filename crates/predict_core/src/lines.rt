@@ -62,7 +62,13 @@ pub(crate) fn fill_band_lines(
 }
 
 /// Writes the neighbours of `count` places from column `x` on that are in the row above them.
-pub(crate) fn fill_line_above(column: bool, above: &[u16], x: usize, count: usize, upper: &mut [u16; 66])
+pub(crate) fn fill_line_above(
+    column: bool,
+    above: &[u16],
+    x: usize,
+    count: usize,
+    upper: &mut [u16; 66],
+)
     requires few { count ≤ 64 }
     requires inside { x + count ≤ length above.now }
     requires some { 1 ≤ length above.now }
@@ -103,10 +109,8 @@ fn fill_lines(
     fill_line(row, x, count, north, north, current);
     if y == 0 {
         upper[1..count + 1].copy_from_slice(&current[..count]);
-    } else if column {
-        fill_line(above, x, count, north, north, upper);
     } else {
-        fill_line(above, x, count, above[1], above[above.len() - 1], upper);
+        fill_line_above(column, above, x, count, upper);
     }
 }
 
