@@ -8,6 +8,7 @@ pub mod InverseRuns
 pub mod LocalSums
 pub mod Moves
 pub mod Gathered
+pub mod NearSamples
 pub mod Numbers
 pub mod OneSample
 pub mod Opening

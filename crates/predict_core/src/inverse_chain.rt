@@ -28,7 +28,7 @@ use crate::exponent::{exponent_at, places_alike};
 use crate::mapping::scaled_offset;
 use crate::prediction::predicted_difference;
 use crate::range::Range;
-use crate::residual::{turn_between, unmap_between};
+use crate::residual::unmap_with_turn;
 use crate::room::Quad;
 use crate::settings::{Settings, form_at};
 use crate::weights::{Form, update_by};
@@ -255,8 +255,7 @@ fn sample_by_part(range: &Range, part: i32, sum: u32, delta: u16) -> (i32, i32)
 {
     let greatest = range.smax - range.smin;
     let scaled = scaled_offset(greatest, part, sum as i32);
-    let offset = unmap_between(0, greatest, scaled, delta);
-    let turn = turn_between(0, greatest, scaled, delta);
+    let (offset, turn) = unmap_with_turn(0, greatest, scaled, delta);
     (range.smin + offset, turn)
 }
 

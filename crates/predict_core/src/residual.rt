@@ -77,7 +77,7 @@ pub(crate) fn unmap_between(low: i32, high: i32, scaled: i32, delta: u16) -> i32
 ///
 /// Parities tell it before the sample is found.
 #[inline(always)]
-pub(crate) fn turn_between(low: i32, high: i32, scaled: i32, delta: u16) -> i32
+fn turn_between(low: i32, high: i32, scaled: i32, delta: u16) -> i32
     requires low_in { negsuc 32767 ≤ℤ low }
     requires high_in { high ≤ℤ (low +ℤ pos 65535) }
     requires high_top { high ≤ℤ pos 65535 }
@@ -91,6 +91,59 @@ pub(crate) fn turn_between(low: i32, high: i32, scaled: i32, delta: u16) -> i32
     let theta = theta_of(low, high, predicted);
     let below = span_of(low, predicted);
     turn_of_number(theta, below, scaled.unsigned_abs(), delta as u32)
+}
+
+/// Returns both: the sample of the mapped residual `delta`, and all ones where it is less than its prediction, else 0.
+///
+/// Where half of `delta` is no farther than either end of the range, as it mostly is, they take a few steps from both sides
+/// of the prediction.
+#[inline(always)]
+pub(crate) fn unmap_with_turn(low: i32, high: i32, scaled: i32, delta: u16) -> (i32, i32)
+    requires low_in { negsuc 32767 ≤ℤ low }
+    requires high_in { high ≤ℤ (low +ℤ pos 65535) }
+    requires high_top { high ≤ℤ pos 65535 }
+    requires scaled_low { (pos 2 *ℤ low) ≤ℤ scaled }
+    requires scaled_high { scaled ≤ℤ (pos 2 *ℤ high +ℤ pos 1) }
+    requires delta_in { pos delta ≤ℤ (high -ℤ low) }
+    ensures value { result.0 ≡ unmapped_between low high scaled delta }
+    ensures range { Between low high result.0 }
+    ensures inverse { mapped_between low high scaled result.0 ≡ delta }
+    ensures turn { int_lt result.1 (pos 0) ≡ int_lt (pos 2 *ℤ unmapped_between low high scaled delta -ℤ scaled) (pos 0) }
+    ensures least { negsuc 0 ≤ℤ result.1 }
+    ensures most { result.1 ≤ℤ pos 0 }
+{
+    let predicted = prediction_of(scaled);
+    let half = (delta as u32 + 1) / 2;
+    let below = predicted - half as i32;
+    let above = predicted + half as i32;
+    if below < low || high < above {
+        return unmap_far(low, high, scaled, delta);
+    }
+    if (delta as u32 + scaled.unsigned_abs()) % 2 == 0 {
+        (above, 0)
+    } else {
+        (below, -1)
+    }
+}
+
+/// Returns the same, wherever the sample is.
+#[cold]
+fn unmap_far(low: i32, high: i32, scaled: i32, delta: u16) -> (i32, i32)
+    requires low_in { negsuc 32767 ≤ℤ low }
+    requires high_in { high ≤ℤ (low +ℤ pos 65535) }
+    requires high_top { high ≤ℤ pos 65535 }
+    requires scaled_low { (pos 2 *ℤ low) ≤ℤ scaled }
+    requires scaled_high { scaled ≤ℤ (pos 2 *ℤ high +ℤ pos 1) }
+    requires delta_in { pos delta ≤ℤ (high -ℤ low) }
+    ensures value { result.0 ≡ unmapped_between low high scaled delta }
+    ensures range { Between low high result.0 }
+    ensures inverse { mapped_between low high scaled result.0 ≡ delta }
+    ensures turn { int_lt result.1 (pos 0) ≡ int_lt (pos 2 *ℤ unmapped_between low high scaled delta -ℤ scaled) (pos 0) }
+    ensures least { negsuc 0 ≤ℤ result.1 }
+    ensures most { result.1 ≤ℤ pos 0 }
+{
+    let sample = unmap_between(low, high, scaled, delta);
+    (sample, turn_between(low, high, scaled, delta))
 }
 
 /// Returns half of a scaled prediction, rounded down.

@@ -7,7 +7,7 @@ use Rattle.predict_core.proofs.Floors.{sign_of_center, sign_of_part}
 use Rattle.predict_core.proofs.Numbers.{shifted, scaled_up}
 use Rattle.predict_core.proofs.Spans.{span}
 use Rattle.predict_core.proofs.inverse_chain.sample_by_part.Goals as goal
-use Rattle.predict_core.proofs.inverse_chain.sample_by_part.Goals.{After-scaled_offset-scaled, After-unmap_between-offset}
+use Rattle.predict_core.proofs.inverse_chain.sample_by_part.Goals.{After-scaled_offset-scaled}
 
 below_span : (width : ℤ) (n power : ℕ) → width ≡ pos power -ℤ pos 1 → n < power → pos n ≤ℤ (width -ℤ pos 0)
 below_span width n power e l = omega (arith, ints, e, l)
@@ -24,9 +24,9 @@ module _ (c : After-scaled_offset-scaled) where
   powers : smax c.args.range.now.kind -ℤ smin c.args.range.now.kind ≡ pos (2 ^ c.args.range.now.kind.bits) -ℤ pos 1
   powers = span c.args.range.now.kind c.args.range.now.lawful
 
-pub unmap_between-offset-requires-clause-delta_in : goal.unmap_between-offset-requires-clause-delta_in
-unmap_between-offset-requires-clause-delta_in c =
-    let d = (goal.at.unmap_between-offset-requires-clause-delta_in c).After-scaled_offset-scaled in
+pub unmap_with_turn-offset-requires-clause-delta_in : goal.unmap_with_turn-offset-requires-clause-delta_in
+unmap_with_turn-offset-requires-clause-delta_in c =
+    let d = (goal.at.unmap_with_turn-offset-requires-clause-delta_in c).After-scaled_offset-scaled in
     rw (width d) (below_span _ _ _ (powers d) c.requires.residual)
 
 cast_sum : (sum : ℕ) → sum ≤ 262140 → to_z w32 sum ≡ pos sum
@@ -65,17 +65,17 @@ returns-clause-turn c =
     let r = c.args.range.now in
     let k : SampleKind = r.kind in
     let scaled_fits : SFits w32 c.scaled_offset-scaled.result = search rules in
-    let turn_fits : SFits w32 c.turn_between-turn.result = search rules in
+    let turn_fits : SFits w32 c.unmap_with_turn-offset.result.1 = search rules in
     let sum_is = cast_sum c.args.sum c.requires.sum_in in
     let value = rw (width d, sum_is) at (simp (to_z-of_z c.ranges.part) at c.scaled_offset-scaled.ensures.value) in
     let scaled = value c.requires.part_in (omega (arith, ints)) (omega (arith, ints, c.requires.sum_in)) in
-    let within = rw (width d) at c.unmap_between-offset.ensures.range in
-    let offset = rw (width d) at (simp (to_z-of_z scaled_fits) at c.unmap_between-offset.ensures.value) in
-    let turn = rw (width d, ← offset) at (simp (to_z-of_z scaled_fits) at c.turn_between-turn.ensures.value) in
+    let within = rw (width d) at c.unmap_with_turn-offset.ensures.range in
+    let offset = rw (width d) at (simp (to_z-of_z scaled_fits) at c.unmap_with_turn-offset.ensures.value) in
+    let turn = rw (width d, ← offset) at (simp (to_z-of_z scaled_fits) at c.unmap_with_turn-offset.ensures.turn) in
     let low = r.low in
     let high = r.high in
-    let result = sample_is r.smin (smax k) c.unmap_between-offset.result low.0 low.1 within.0 (rw r.smin_is within.1) (rw (← r.smax_is) high.1) ∙ ap (λ v. v +ℤ c.unmap_between-offset.result) r.smin_is in
-    rw (to_z-of_z turn_fits, result) (turn ∙ told (smin k) c.args.part (pos c.args.sum) c.unmap_between-offset.result (smax k -ℤ smin k) c.scaled_offset-scaled.result within.0 within.1 scaled)
+    let result = sample_is r.smin (smax k) c.unmap_with_turn-offset.result.0 low.0 low.1 within.0 (rw r.smin_is within.1) (rw (← r.smax_is) high.1) ∙ ap (λ v. v +ℤ c.unmap_with_turn-offset.result.0) r.smin_is in
+    rw (to_z-of_z turn_fits, result) (turn ∙ told (smin k) c.args.part (pos c.args.sum) c.unmap_with_turn-offset.result.0 (smax k -ℤ smin k) c.scaled_offset-scaled.result within.0 within.1 scaled)
 
 pub returns-clause-inverse : goal.returns-clause-inverse
 returns-clause-inverse c =
@@ -86,9 +86,9 @@ returns-clause-inverse c =
     let sum_is = cast_sum c.args.sum c.requires.sum_in in
     let value = rw (width d, sum_is) at (simp (to_z-of_z c.ranges.part) at c.scaled_offset-scaled.ensures.value) in
     let scaled = value c.requires.part_in (omega (arith, ints)) (omega (arith, ints, c.requires.sum_in)) in
-    let e = rw (width d) at (simp (to_z-of_z scaled_fits) at c.unmap_between-offset.ensures.inverse) in
-    let within = rw (width d) at c.unmap_between-offset.ensures.range in
+    let e = rw (width d) at (simp (to_z-of_z scaled_fits) at c.unmap_with_turn-offset.ensures.inverse) in
+    let within = rw (width d) at c.unmap_with_turn-offset.ensures.range in
     let low = r.low in
     let high = r.high in
-    let result = sample_is r.smin (smax k) c.unmap_between-offset.result low.0 low.1 within.0 (rw r.smin_is within.1) (rw (← r.smax_is) high.1) ∙ ap (λ v. v +ℤ c.unmap_between-offset.result) r.smin_is in
-    rw result (back_from_offset (smin k) (smid k) (smax k) c.args.part (pos c.args.sum) c.scaled_offset-scaled.result c.unmap_between-offset.result c.args.delta scaled e)
+    let result = sample_is r.smin (smax k) c.unmap_with_turn-offset.result.0 low.0 low.1 within.0 (rw r.smin_is within.1) (rw (← r.smax_is) high.1) ∙ ap (λ v. v +ℤ c.unmap_with_turn-offset.result.0) r.smin_is in
+    rw result (back_from_offset (smin k) (smid k) (smax k) c.args.part (pos c.args.sum) c.scaled_offset-scaled.result c.unmap_with_turn-offset.result.0 c.args.delta scaled e)

@@ -2,13 +2,9 @@ use Rattle.std.proofs.Common.{◌≡◌, ◌%◌, ℤ, pos, negsuc, ◌+ℤ◌, 
 use Rattle.std.proofs.lemmas.Int.{ints}
 use Rattle.predict_core.specs.Arithmetic.{floor_div}
 use Rattle.predict_core.specs.Mapping.{unmapped_between, error_of}
+use Rattle.predict_core.proofs.NearSamples.{with_parity}
 use Rattle.predict_core.proofs.OneSample.{unmapped_is}
 use Rattle.predict_core.proofs.residual.turn_between.Goals as goal
-
--- a scaled prediction is twice the prediction, and its parity
-with_parity : (scaled predicted : ℤ) → predicted ≡ floor_div scaled 2 → scaled ≡ pos 2 *ℤ predicted +ℤ pos (unsigned_abs scaled % 2)
-with_parity (pos a) predicted e = omega (arith, ints, e)
-with_parity (negsuc a) predicted e = omega (arith, ints, e)
 
 -- what is left of both, once twice the prediction is taken from them
 left : (scaled predicted error sample parity : ℤ) → scaled ≡ pos 2 *ℤ predicted +ℤ parity → predicted +ℤ error ≡ sample → pos 2 *ℤ error -ℤ parity ≡ pos 2 *ℤ sample -ℤ scaled
