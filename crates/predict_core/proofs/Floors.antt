@@ -1,6 +1,6 @@
 -- Quotients rounded down, and the sign of an error that they tell.
 use Rattle.std.proofs.Common.{◌≡◌, ℕ, zero, suc, ◌+◌, ◌-◌, ◌*◌, ◌%◌, ◌^◌, ◌<◌, ◌≤◌, ℤ, pos, negsuc, ◌+ℤ◌, ◌-ℤ◌, ◌*ℤ◌, ◌≤ℤ◌, int_lt, int_le, unsigned_abs, Bool}
-use Rattle.std.proofs.Common.{true, false, arith, refl, sym, ap, ◌∙◌, pow_pos, pow-suc}
+use Rattle.std.proofs.Common.{true, false, arith, refl, sym, ap, ◌∙◌, pow_pos, pow-suc, mul_comm, mul-le-mul_left}
 use Rattle.std.proofs.lemmas.Int.{ints, clamps, int_rem_euclid_is}
 use Rattle.std.proofs.lemmas.Nat.{shr-shr, div-add-mod', div_below}
 use Rattle.std.proofs.Math.Nat.{mod-lt}
@@ -19,6 +19,10 @@ times_difference n a b =
     let f : (a -ℤ b) +ℤ b ≡ a = omega (arith, ints) in
     let g : pos n *ℤ ((a -ℤ b) +ℤ b) ≡ pos n *ℤ a = ap (λ v. pos n *ℤ v) f in
     omega (arith, ints, e, g)
+
+times_size : (n : ℕ) (a : ℤ) → unsigned_abs (pos n *ℤ a) ≡ n * unsigned_abs a
+times_size n (pos a) = refl
+times_size n (negsuc a) = omega (arith, ints)
 
 -- a number lies at its quotient rounded down, or less than a divisor above it
 pub floor_low : (a : ℤ) (n : ℕ) → 0 < n → (pos n *ℤ floor_div a n) ≤ℤ a
@@ -136,3 +140,16 @@ floor_within (negsuc a) m n some h = div_below a n m some (omega arith)
 -- what lies below a power of two lies below a greater one
 pub below_power : (i j : ℕ) (a : ℤ) → i ≤ j → unsigned_abs a < 2 ^ i → unsigned_abs a < 2 ^ j
 below_power i j a h l = let p : 2 ^ i ≤ 2 ^ j = pow_mono h in omega arith
+
+-- a product whose quotient is less than a limit stays below the limit's multiple, with a multiple of the divisor added
+pub sum_below : (product distance : ℤ) (limit n top : ℕ) → 0 < n → unsigned_abs (floor_div product n +ℤ distance) < limit → limit * n ≤ top
+    → unsigned_abs (product +ℤ pos n *ℤ distance) < top
+sum_below product distance limit n top some small fits =
+    let under = floor_low product n some in
+    let over = floor_high product n some in
+    let e = times_sum n (floor_div product n) distance in
+    let size : unsigned_abs (pos n *ℤ (floor_div product n +ℤ distance)) ≡ n * unsigned_abs (floor_div product n +ℤ distance) = times_size n (floor_div product n +ℤ distance) in
+    let room : n * (unsigned_abs (floor_div product n +ℤ distance) + 1) ≤ n * limit = mul-le-mul_left n (omega (arith, small)) in
+    let split : n * (unsigned_abs (floor_div product n +ℤ distance) + 1) ≡ n * unsigned_abs (floor_div product n +ℤ distance) + n = omega arith in
+    let turn : n * limit ≡ limit * n = mul_comm n limit in
+    omega (arith, ints, under, over, e, size, room, split, turn, fits)

@@ -1,12 +1,11 @@
 -- The line above a run tells its local sums and directional differences but for the offsets to the west.
-use Rattle.std.proofs.Common.{◌≡◌, ◌≢◌, ℕ, ◌+◌, ◌-◌, ◌*◌, ◌<◌, ◌≤◌, ℤ, pos, ◌+ℤ◌, ◌-ℤ◌, ◌*ℤ◌, Bool, true, false, List, [], ◌∷◌, length, get_or, replicate, arith, refl, sym, ap, ap₂, ◌∙◌, inl, inr}
+use Rattle.std.proofs.Common.{◌≡◌, ◌≢◌, ℕ, ◌+◌, ◌-◌, ◌*◌, ◌<◌, ◌≤◌, pos, ◌-ℤ◌, ◌*ℤ◌, Bool, true, false, List, [], ◌∷◌, length, get_or, replicate, arith, refl, sym, ap, ap₂, ◌∙◌, inl, inr}
 use Rattle.std.proofs.lemmas.Int.{ints}
 use Rattle.std.proofs.lemmas.Bool.{cases_eq}
-use Rattle.cube_core.specs.Kind.{smin}
-use Rattle.cube_core.specs.Image.{Image, sample_at}
+use Rattle.cube_core.specs.Image.{Image}
 use Rattle.cube_core.specs.Offsets.{AreRowOffsets}
 use Rattle.predict_core.specs.declared.predictor.Predictor.{Predictor}
-use Rattle.predict_core.specs.Lines.{bordered, bordered_above, line_sum, line_north, line_directions}
+use Rattle.predict_core.specs.Lines.{bordered_above, line_sum, line_north, line_directions}
 use Rattle.predict_core.specs.OpenPart.{offset_above, open_sum, open_directions}
 use Rattle.predict_core.proofs.Borders.{border_inside, border_after, border_before}
 use Rattle.predict_core.proofs.Opening.{open_by_column, open_at_left, open_at_right, open_inside}

@@ -1,10 +1,9 @@
 -- How large the components of a place are without the offset to the west.
-use Rattle.std.proofs.Common.{◌≡◌, ◌≢◌, ◌+◌, ◌-◌, ◌*◌, ◌^◌, ◌<◌, ◌≤◌, ℕ, ℤ, pos, ◌+ℤ◌, ◌-ℤ◌, ◌*ℤ◌, ◌≤ℤ◌, Bool, true, false, List, ◌++◌, take, drop, replicate, inl, inr, if◌then◌else◌, arith, refl, sym, ap, ap₂, ◌∙◌, le_trans}
+use Rattle.std.proofs.Common.{◌≡◌, ◌+◌, ◌-◌, ◌*◌, ◌^◌, ◌<◌, ◌≤◌, ℕ, ℤ, pos, ◌≤ℤ◌, Bool, true, false, List, ◌++◌, take, drop, replicate, inl, inr, if◌then◌else◌, arith, refl, sym, le_trans}
 use Rattle.std.proofs.lemmas.Int.{ints}
 use Rattle.std.proofs.lemmas.Bool.{cases_eq}
 use Rattle.std.proofs.lemmas.List.{take-append-drop}
 use Rattle.std.proofs.Math.Pow.{pow_mono}
-use Rattle.cube_core.specs.Kind.{smin, smax}
 use Rattle.cube_core.specs.Image.{Image, IsCube, IsPlace}
 use Rattle.predict_core.specs.declared.predictor.Predictor.{Predictor}
 use Rattle.predict_core.specs.Predictor.{previous_bands}

@@ -1,21 +1,17 @@
 -- The row above tells a place's local sum and directional differences but for what the sample to the west adds.
-use Rattle.std.proofs.Common.{◌≡◌, ◌≢◌, ◌+◌, ◌-◌, ◌*◌, ◌<◌, ◌≤◌, ℕ, ℤ, pos, ◌+ℤ◌, ◌-ℤ◌, ◌*ℤ◌, Bool, true, false, List, [], ◌∷◌, length, get_or, set, take, drop, inl, inr, if◌then◌else◌, replicate, negsuc, ◌≤ℤ◌, ◌||◌, int_lt, SFits, w32, arith, refl, sym, ap, ap₂, ◌∙◌}
+use Rattle.std.proofs.Common.{◌≡◌, ◌≢◌, ◌+◌, ◌-◌, ◌<◌, ◌≤◌, ℕ, ℤ, pos, ◌+ℤ◌, ◌-ℤ◌, ◌*ℤ◌, Bool, true, false, List, [], ◌∷◌, length, get_or, set, take, drop, inl, inr, if◌then◌else◌, negsuc, ◌≤ℤ◌, ◌||◌, int_lt, SFits, w32, arith, refl, sym, ap, ap₂, ◌∙◌}
 use Rattle.std.proofs.lemmas.Int.{ints, fits_signed_from_abs}
 use Rattle.std.proofs.lemmas.Bool.{cases_eq}
 use Rattle.std.proofs.lemmas.Bool.Decides.{nat_tests}
 use Rattle.cube_core.specs.Kind.{smin}
 use Rattle.cube_core.specs.Image.{Image, sample_at}
-use Rattle.cube_core.specs.Offsets.{AreRowOffsets}
 use Rattle.predict_core.specs.declared.predictor.Predictor.{Predictor}
 use Rattle.predict_core.specs.LocalSum.{local_sum}
 use Rattle.predict_core.specs.Differences.{directional_differences}
 use Rattle.predict_core.specs.OffsetSum.{IsWest}
 use Rattle.predict_core.specs.OpenPart.{offset_above, open_sum, open_directions, unless}
-use Rattle.predict_core.specs.Lines.{line_sum, line_directions, bordered, bordered_above}
-use Rattle.predict_core.proofs.Borders.{border_inside, border_after, border_before}
 use Rattle.predict_core.proofs.Directions.{directional_left, directional_inside, west_left, west_inside}
 use Rattle.predict_core.proofs.LocalSums.{sum_by_column, sum_at_left, sum_at_right, sum_inside}
-use Rattle.predict_core.proofs.Quads.{zero_at}
 
 -- ---- case by case
 

@@ -61,7 +61,7 @@ fn scaled_by_product(predictor: &Predictor, range: &Range, sum: i32, product: i6
 /// Where nothing wraps in the register, it is the sum of the products, without the weights' fraction, rounded
 /// down. Where something does, it is the difference that leads to the same scaled prediction.
 #[inline(always)]
-pub(crate) fn predicted_difference<const N: usize, const WRAPS: bool>(
+pub(crate) fn predicted_difference<const N: usize>(
     predictor: &Predictor,
     range: &Range,
     sum: i32,
@@ -70,7 +70,6 @@ pub(crate) fn predicted_difference<const N: usize, const WRAPS: bool>(
 ) -> i32
     requires few { N ≤ 18 }
     requires lawful { IsPredictor predictor.now }
-    requires register { WRAPS ≡ false → 46 ≤ predictor.now.register }
     requires weights_in { AllWithin (2 ^ (predictor.now.fraction + 2)) weights.now }
     requires differences_in { AllWithin (2 ^ 18) differences.now }
     requires sum_in { (negsuc 131071 ≤ℤ sum) × (sum ≤ℤ pos 262140) }
@@ -78,32 +77,38 @@ pub(crate) fn predicted_difference<const N: usize, const WRAPS: bool>(
     ensures bound { unsigned_abs result ≤ 18 * 2 ^ 20 }
 {
     let product = product_of_first::<N>(weights, differences);
-    if is_wrapped::<WRAPS>(predictor, range, sum, product) {
+    let part = whole_product(predictor.fraction, product);
+    if may_wrap(predictor, range, sum, product, part) {
         wrapped_difference(predictor, range, sum, product)
     } else {
-        whole_product(predictor.fraction, product)
+        part
     }
 }
 
-/// Returns whether the register wraps what it takes, for the sum of products `product` and the local sum `sum`.
+/// Returns whether the register may wrap what it takes, for the sum of products `product`, which is `part` without the
+/// weights' fraction, and the local sum `sum`.
 ///
-/// It seldom does, so the weights needn't wait for the answer.
+/// Without the fraction it fits in a word of 32 bits. The register seldom wraps, so the weights needn't wait for the answer.
 #[inline(always)]
-fn is_wrapped<const WRAPS: bool>(
-    predictor: &Predictor,
-    range: &Range,
-    sum: i32,
-    product: i64,
-) -> bool
+fn may_wrap(predictor: &Predictor, range: &Range, sum: i32, product: i64, part: i32) -> bool
     requires lawful { IsPredictor predictor.now }
-    requires register { WRAPS ≡ false → 46 ≤ predictor.now.register }
-    requires product_in { unsigned_abs product ≤ 2 ^ 44 }
+    requires part_is { part ≡ floor_div product (2 ^ predictor.now.fraction) }
+    requires part_in { unsigned_abs part ≤ 18 * 2 ^ 20 }
     requires sum_in { (negsuc 131071 ≤ℤ sum) × (sum ≤ℤ pos 262140) }
     ensures kept { result ≡ false → wrapped predictor.now.register (product +ℤ pos (2 ^ predictor.now.fraction) *ℤ (sum -ℤ pos 4 *ℤ smid range.now.kind))
         ≡ product +ℤ pos (2 ^ predictor.now.fraction) *ℤ (sum -ℤ pos 4 *ℤ smid range.now.kind) }
 {
-    let register = register_of(predictor.fraction, product, sum, range.smid);
-    WRAPS && wrapped_value(predictor.register, register) != register
+    let upper = part + (sum - 4 * range.smid);
+    register_limit(predictor) <= upper.unsigned_abs()
+}
+
+/// Returns a power of two that fits in the register with the weights' fraction behind it, of either sign.
+#[inline(always)]
+fn register_limit(predictor: &Predictor) -> u32
+    requires { IsPredictor predictor.now }
+    ensures { result * 2 ^ predictor.now.fraction ≤ 2 ^ (predictor.now.register - 1) }
+{
+    1 << (predictor.register - 1 - predictor.fraction).min(30)
 }
 
 /// Returns the predicted central difference where the register wraps, from the sum of the products.

@@ -1,4 +1,4 @@
-use Rattle.std.proofs.Common.{◌≡◌, ◌≤◌, ◌<◌, ◌+◌, ℕ, Bool, true, false, length, get_or, refl}
+use Rattle.std.proofs.Common.{◌≡◌, ◌<◌, ◌+◌, ℕ, Bool, true, false, get_or, refl}
 use Rattle.predict_core.specs.Lines.{bordered_above, AreLines}
 use Rattle.predict_core.proofs.Borders.{column_lines, four_lines}
 use Rattle.predict_core.proofs.lines.fill_lines.Goals as goal

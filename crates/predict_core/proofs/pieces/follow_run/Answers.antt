@@ -22,37 +22,34 @@ follow_places-requires g c =
           (
             c.requires.quads,
             (
-              c.requires.register,
+              c.requires.place,
               (
-                c.requires.place,
+                c.requires.columns,
                 (
-                  c.requires.columns,
+                  c.requires.kind,
                   (
-                    c.requires.kind,
+                    omega (arith, few, some),
                     (
-                      omega (arith, few, some),
+                      omega arith,
                       (
-                        omega arith,
+                        omega (arith, few, some),
                         (
-                          omega (arith, few, some),
+                          omega (arith, kept.begun),
                           (
-                            omega (arith, kept.begun),
+                            refl,
                             (
                               refl,
                               (
-                                refl,
+                                same_exponent,
                                 (
-                                  same_exponent,
+                                  (λ i l m. c.requires.sums_are i (omega (arith, l, kept.begun)) (omega (arith, m, few, some))),
                                   (
-                                    (λ i l m. c.requires.sums_are i (omega (arith, l, kept.begun)) (omega (arith, m, few, some))),
+                                    (λ i l m. c.requires.sum_least i (omega (arith, l, kept.begun)) (omega (arith, m, few, some))),
                                     (
-                                      (λ i l m. c.requires.sum_least i (omega (arith, l, kept.begun)) (omega (arith, m, few, some))),
+                                      (λ i l m. c.requires.sum_most i (omega (arith, l, kept.begun)) (omega (arith, m, few, some))),
                                       (
-                                        (λ i l m. c.requires.sum_most i (omega (arith, l, kept.begun)) (omega (arith, m, few, some))),
-                                        (
-                                          (λ i l m. c.requires.own_is i (omega (arith, l, kept.begun)) (omega (arith, m, few, some))),
-                                          ((λ i l m. c.requires.components i (omega (arith, l, kept.begun)) (omega (arith, m, few, some))), kept.bound),
-                                        ),
+                                        (λ i l m. c.requires.own_is i (omega (arith, l, kept.begun)) (omega (arith, m, few, some))),
+                                        ((λ i l m. c.requires.components i (omega (arith, l, kept.begun)) (omega (arith, m, few, some))), kept.bound),
                                       ),
                                     ),
                                   ),

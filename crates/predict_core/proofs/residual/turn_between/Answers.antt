@@ -1,6 +1,5 @@
-use Rattle.std.proofs.Common.{◌≡◌, ◌%◌, ℤ, pos, negsuc, ◌+ℤ◌, ◌-ℤ◌, ◌*ℤ◌, int_lt, unsigned_abs, SFits, w32, to_z-of_z, refl, sym, ap, ◌∙◌, arith, rules}
+use Rattle.std.proofs.Common.{◌≡◌, ◌%◌, ℤ, pos, ◌+ℤ◌, ◌-ℤ◌, ◌*ℤ◌, int_lt, SFits, w32, to_z-of_z, refl, sym, ap, ◌∙◌, arith, rules}
 use Rattle.std.proofs.lemmas.Int.{ints}
-use Rattle.predict_core.specs.Arithmetic.{floor_div}
 use Rattle.predict_core.specs.Mapping.{unmapped_between, error_of}
 use Rattle.predict_core.proofs.NearSamples.{with_parity}
 use Rattle.predict_core.proofs.OneSample.{unmapped_is}

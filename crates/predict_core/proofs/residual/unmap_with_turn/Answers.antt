@@ -1,5 +1,5 @@
-use Rattle.std.proofs.Common.{◌≡◌, ◌≤◌, ◌+◌, ◌/◌, ◌%◌, ℕ, ℤ, negsuc, pos, ◌+ℤ◌, ◌-ℤ◌, ◌*ℤ◌, ◌≤ℤ◌, int_lt, unsigned_abs, false, SFits, w32, to_z, of_z, to_z-of_z, rules, arith, sym, ap, ◌∙◌, subst}
-use Rattle.std.proofs.lemmas.Int.{ints, to_z_pos}
+use Rattle.std.proofs.Common.{◌≡◌, ◌≤◌, ◌+◌, ◌/◌, ℕ, ℤ, negsuc, pos, ◌+ℤ◌, ◌-ℤ◌, ◌≤ℤ◌, int_lt, unsigned_abs, false, w32, to_z, of_z, to_z-of_z, arith, sym, ap, ◌∙◌, subst}
+use Rattle.std.proofs.lemmas.Int.{ints}
 use Rattle.predict_core.specs.Arithmetic.{floor_div}
 use Rattle.predict_core.specs.Mapping.{Between, unmapped_between}
 use Rattle.predict_core.specs.Residual.{mapped_between}

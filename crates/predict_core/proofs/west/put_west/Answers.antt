@@ -1,7 +1,7 @@
-use Rattle.std.proofs.Common.{◌≡◌, ◌≤◌, ◌<◌, ◌+◌, ◌^◌, ◌*◌, ◌-◌, ◌+ℤ◌, ◌-ℤ◌, ◌*ℤ◌, ◌≤ℤ◌, ℕ, ℤ, List, [], ◌∷◌, pos, Bool, true, false, SFits, w32, to_z, of_z, to_z-of_z, get_or, length, drop, ap, ap₂, ◌∙◌, refl, sym, subst, arith, rules, ◌||◌}
+use Rattle.std.proofs.Common.{◌≡◌, ◌≤◌, ◌<◌, ◌^◌, ◌+ℤ◌, ◌-ℤ◌, ◌*ℤ◌, ℕ, ℤ, [], ◌∷◌, pos, Bool, true, false, SFits, w32, to_z, to_z-of_z, get_or, length, drop, ap₂, ◌∙◌, refl, arith, rules, ◌||◌}
 use Rattle.std.proofs.lemmas.Int.{ints, fits_signed_from_abs, to_z_pos}
 use Rattle.std.proofs.Math.Pow.{pow_mono}
-use Rattle.predict_core.specs.OpenPart.{open_sum, open_directions, offset_above, unless}
+use Rattle.predict_core.specs.OpenPart.{open_directions, unless}
 use Rattle.predict_core.specs.Bounds.{AllWithin}
 use Rattle.predict_core.specs.Differences.{directional_differences}
 use Rattle.predict_core.proofs.Opening.{closed_directions, west_part, unless_in, unless_fits, three_heads, three_over_four, four_kept, lane, lane_kept}

@@ -1,0 +1,29 @@
+use Rattle.std.proofs.Common.{◌≡◌, ◌-◌, ◌*◌, ◌^◌, ◌<◌, ◌≤◌, ℤ, pos, negsuc, ◌+ℤ◌, ◌-ℤ◌, ◌*ℤ◌, ◌≤ℤ◌, unsigned_abs, w32, to_z, of_z, pow_pos, leb-false, arith}
+use Rattle.std.proofs.lemmas.Int.{ints}
+use Rattle.predict_core.specs.Arithmetic.{floor_div}
+use Rattle.cube_core.specs.Kind.{smid}
+use Rattle.predict_core.proofs.Floors.{sum_below, kept}
+use Rattle.predict_core.proofs.prediction.may_wrap.Goals as goal
+
+-- the upper part of the register, as the code computes it
+upper_is : (part sum middle : ℤ) → unsigned_abs part ≤ 18 * 2 ^ 20 → negsuc 131071 ≤ℤ sum → sum ≤ℤ pos 262140 → pos 0 ≤ℤ middle → middle ≤ℤ pos 32768
+    → to_z w32 (of_z w32 (to_z w32 (of_z w32 part) +ℤ to_z w32 (of_z w32 (to_z w32 (of_z w32 sum) -ℤ to_z w32 (of_z w32 (pos 4 *ℤ to_z w32 (of_z w32 middle)))))))
+    ≡ part +ℤ (sum -ℤ pos 4 *ℤ middle)
+upper_is part sum middle a b d e f = omega (arith, ints, a, b, d, e, f)
+
+pub returns : goal.returns
+returns c = record {
+  kept = λ h.
+      let p = c.args.predictor.now in
+      let r = c.args.range.now in
+      let mid = r.mid in
+      let sum = c.requires.sum_in in
+      let upper = upper_is c.args.part c.args.sum r.smid c.requires.part_in sum.0 sum.1 mid.0 mid.1 in
+      let size : c.unsigned_abs.result ≡ unsigned_abs (floor_div c.args.product (2 ^ p.fraction) +ℤ (c.args.sum -ℤ pos 4 *ℤ smid r.kind)) =
+      rw (upper, r.smid_is, c.requires.part_is) at c.unsigned_abs.ensures.value in
+      let small : c.unsigned_abs.result < c.register_limit.result = leb-false _ _ h in
+      let some = c.requires.lawful.register in
+      kept p.register _ (omega (arith, some))
+      (sum_below c.args.product (c.args.sum -ℤ pos 4 *ℤ smid r.kind) c.register_limit.result (2 ^ p.fraction) (2 ^ (p.register - 1)) (pow_pos p.fraction)
+      (rw size at small) c.register_limit.ensures);
+}
