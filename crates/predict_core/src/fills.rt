@@ -3,10 +3,10 @@
 //! Each loop goes over all 64 places of arrays of fixed length, so that it has no test and no tail, and the
 //! compiler vectorizes it. What is written after the last place of a shorter run isn't read.
 
-ghost use Rattle.std.specs.Prelude.{◌≡◌, ◌<◌, ◌≤◌, ℕ, pos, [], ◌∷◌, ◌++◌, slice_index_or, unsigned_abs};
+ghost use Rattle.std.specs.Prelude.{◌≡◌, ◌<◌, ◌≤◌, ℕ, pos, [], ◌∷◌, ◌++◌, slice_index_or, unsigned_abs, replicate};
 ghost use Rattle.predict_core.specs.Lines.{line_sum, line_difference, line_directions};
 
-use crate::lines::{Lines, sum_of_lines};
+use crate::lines::{Lines, sum_above, sum_of_lines};
 use crate::neighbourhood::difference_of;
 
 /// Writes the local sum of offsets and the central difference of each place.
@@ -82,6 +82,37 @@ pub(crate) fn fill_directions(
         let west = difference_of(lines.current[i], sum);
         let north_west = difference_of(lines.above[i], sum);
         out[i] = [north, west, north_west, central_at(column, below, i)];
+    }
+}
+
+/// Writes the same of a line `above` alone, as if each offset to the west were 0.
+pub(crate) fn fill_open_directions(
+    column: bool,
+    above: &[u16; 66],
+    below: &Lines,
+    sums: &mut [i32; 64],
+    out: &mut [[i32; 4]; 64],
+)
+    ensures sums { (i : ℕ) → i < 64 → slice_index_or sums.new i (pos 0) ≡ pos (line_sum column (replicate 66 0) above.now i) }
+    ensures quads { (i : ℕ) → i < 64 → slice_index_or out.new i [] ≡ line_directions column (replicate 66 0) above.now i ++ line_difference column
+        below.now.current below.now.above i ∷ [] }
+{
+    for i in 0..64usize {
+        let sum = sum_above(column, above, i);
+        sums[i] = sum as i32;
+        let north = difference_of(above[i + 1], sum);
+        let west = difference_of(0, sum);
+        let north_west = difference_of(above[i], sum);
+        out[i] = [north, west, north_west, central_at(column, below, i)];
+    }
+}
+
+/// Writes the local sum of offsets of each place as if the offset to the west were 0.
+pub(crate) fn fill_open_sums(column: bool, above: &[u16; 66], sums: &mut [i32; 64])
+    ensures { (i : ℕ) → i < 64 → slice_index_or sums.new i (pos 0) ≡ pos (line_sum column (replicate 66 0) above.now i) }
+{
+    for i in 0..64usize {
+        sums[i] = sum_above(column, above, i) as i32;
     }
 }
 

@@ -194,3 +194,17 @@ pub(crate) fn sum_of_lines(column: bool, current: &[u16; 66], upper: &[u16; 66],
         current[i] as u32 + upper[i] as u32 + upper[i + 1] as u32 + upper[i + 2] as u32
     }
 }
+
+/// Returns the same of the line above alone, as if the offset to the west were 0.
+#[inline(always)]
+pub(crate) fn sum_above(column: bool, above: &[u16; 66], i: usize) -> u32
+    requires { i < 64 }
+    ensures value { result ≡ line_sum column (replicate 66 0) above.now i }
+    ensures bound { result ≤ 262140 }
+{
+    if column {
+        4 * above[i + 1] as u32
+    } else {
+        above[i] as u32 + above[i + 1] as u32 + above[i + 2] as u32
+    }
+}

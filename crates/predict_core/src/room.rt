@@ -10,7 +10,7 @@ ghost use Rattle.predict_core.specs.Rooms.{IsRoom, components_at, quads_of, lowe
 ghost use Rattle.predict_core.specs.OpenPart.{IsOpenPart};
 
 use crate::below::{fill_below, fill_spectral};
-use crate::fills::{fill_directions, fill_four, fill_own};
+use crate::fills::{fill_directions, fill_four, fill_open_directions, fill_open_sums, fill_own};
 use crate::lines::{Lines, fill_band_lines, fill_line_above, is_column};
 use crate::settings::Settings;
 use cube_core::cube::Cube;
@@ -90,18 +90,17 @@ pub(crate) fn fill_open_part<const Q: usize>(
         (slice_index_or sums.new i (pos 0)) (components_at (quads_of settings.now.count) quads.new i) }
 {
     let column = settings.predictor.column;
-    let mut lines = Lines::empty();
+    let mut line = [0u16; 66];
     let above = cube.row(settings.band, y - 1);
-    fill_line_above(column, above, x as usize, count, &mut lines.above);
-    let mut own = [0i32; 64];
+    fill_line_above(column, above, x as usize, count, &mut line);
     if settings.predictor.reduced {
-        fill_own(column, &lines, sums, &mut own);
+        fill_open_sums(column, &line, sums);
         fill_spectral::<Q>(settings, cube, y, x, count, 0, 1, quads);
     } else {
         let mut below = Lines::empty();
         fill_below(settings, cube, y, x, count, 1, &mut below);
         let first = &mut quads[0].places;
-        fill_directions(column, &lines, &below, sums, &mut own, first);
+        fill_open_directions(column, &line, &below, sums, first);
         if x == 0 {
             put_north_first(first);
         }
