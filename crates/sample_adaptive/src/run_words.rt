@@ -144,8 +144,9 @@ fn take_later(
 ) -> Result<(), Fault>
     requires tracked { IsTracked run tracked.old }
     requires long { (length numbers.old ≤ 2 ^ 16) × (place ≤ 2 ^ 48) }
-    ensures taken { (v : Counts) (z t : ℕ) → z < length v.bands → HasSettings v run.bits run.limit run.rescaling.size → of_band v.bands z ≡ tracked.old.statistics
-        → 0 < t → GetsRun z t place result v reader.old (with_band v z tracked.new.statistics) reader.new.left numbers.new }
+    ensures taken { (v : Counts) (z t : ℕ) → z < length v.bands → HasSettings v run.bits run.limit run.rescaling.size
+        → of_band v.bands z ≡ tracked.old.statistics → 0 < t
+        → GetsRun z t place result v reader.old (with_band v z tracked.new.statistics) reader.new.left numbers.new }
     ensures tracked { IsTracked run tracked.new }
     ensures count { reader.new.count ≡ reader.old.count }
     ensures long { length numbers.new ≡ length numbers.old }
@@ -177,8 +178,9 @@ fn take_ready(
 ) -> usize
     requires tracked { IsTracked run tracked.old }
     requires long { (length numbers.old ≤ 2 ^ 16) × (place ≤ 2 ^ 48) }
-    ensures taken { (v : Counts) (z t : ℕ) → z < length v.bands → HasSettings v run.bits run.limit run.rescaling.size → of_band v.bands z ≡ tracked.old.statistics
-        → 0 < t → GetsRun z t place (Ok tt) v reader.old (with_band v z tracked.new.statistics) reader.new.left (take result numbers.new) }
+    ensures taken { (v : Counts) (z t : ℕ) → z < length v.bands → HasSettings v run.bits run.limit run.rescaling.size
+        → of_band v.bands z ≡ tracked.old.statistics → 0 < t
+        → GetsRun z t place (Ok tt) v reader.old (with_band v z tracked.new.statistics) reader.new.left (take result numbers.new) }
     ensures tracked { IsTracked run tracked.new }
     ensures within { result ≤ length numbers.new }
     ensures count { reader.new.count ≡ reader.old.count }
@@ -219,8 +221,9 @@ fn take_rest(
 ) -> Result<(), Fault>
     requires tracked { IsTracked run tracked.old }
     requires long { (length numbers.old ≤ 2 ^ 16) × (place ≤ 2 ^ 49) }
-    ensures taken { (v : Counts) (z t : ℕ) → z < length v.bands → HasSettings v run.bits run.limit run.rescaling.size → of_band v.bands z ≡ tracked.old.statistics
-        → 0 < t → GetsRun z t place result v reader.old (with_band v z tracked.new.statistics) reader.new.left numbers.new }
+    ensures taken { (v : Counts) (z t : ℕ) → z < length v.bands → HasSettings v run.bits run.limit run.rescaling.size
+        → of_band v.bands z ≡ tracked.old.statistics → 0 < t
+        → GetsRun z t place result v reader.old (with_band v z tracked.new.statistics) reader.new.left numbers.new }
     ensures tracked { IsTracked run tracked.new }
     ensures count { reader.new.count ≡ reader.old.count }
     ensures long { length numbers.new ≡ length numbers.old }

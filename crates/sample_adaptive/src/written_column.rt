@@ -125,8 +125,8 @@ pub(crate) fn next_word(run: RunCodes, first: bool, tracked: &mut Tracked, numbe
         → bits_of result.length result.bits ≡ code_word (code_by v z t) number }
     ensures below { result.bits < 2 ^ result.length }
     ensures few { result.length ≤ 48 }
-    ensures counts { (v : Counts) (z t : ℕ) → first ≡ (t == 0) → HasSettings v run.bits run.limit run.rescaling.size → of_band v.bands z ≡ tracked.old.statistics
-        → counted v z t number ≡ with_band v z tracked.new.statistics }
+    ensures counts { (v : Counts) (z t : ℕ) → first ≡ (t == 0) → HasSettings v run.bits run.limit run.rescaling.size
+        → of_band v.bands z ≡ tracked.old.statistics → counted v z t number ≡ with_band v z tracked.new.statistics }
     ensures tracked { IsTracked run tracked.new }
 {
     if first {

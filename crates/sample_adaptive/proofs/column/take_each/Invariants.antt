@@ -6,7 +6,8 @@ use Rattle.sample_adaptive.proofs.column.take_each.Given as goal
 abbrev pub invariant-loop-i : goal.invariant-loop-i
 invariant-loop-i l =
     record {
-      taken : (v : Counts) (t : ℕ) → l.fn.first ≡ eqb t 0 → v.bands ≡ statistics_of l.initial.bands → HasSettings v l.fn.run.bits l.fn.run.limit l.fn.run.rescaling.size
+      taken : (v : Counts) (t : ℕ) → l.fn.first ≡ eqb t 0 → v.bands ≡ statistics_of l.initial.bands
+          → HasSettings v l.fn.run.bits l.fn.run.limit l.fn.run.rescaling.size
           → Reaches l.fn.z t l.fn.place l.i v (statistics_of l.bands) l.initial.reader l.reader l.numbers;
       tracked : AreTracked l.fn.run l.bands;
       count : l.reader.count ≡ l.initial.reader.count;

@@ -20,6 +20,7 @@ pub loop-i-preserved : goal.loop-i-preserved
 loop-i-preserved c =
     let was = c.loop-i.invariant in
     let s = c.loop-i.tracked.statistics in
+    let codes = c.args.run.codes in
     let numbers = c.args.run.numbers.now in
     let i = c.loop-i.i in
     let next : i + 1 + 1 ≡ i + 2 = omega arith in
@@ -29,7 +30,7 @@ loop-i-preserved c =
       run = λ v z t within settings own some.
           let first = run_step z t i (get_or numbers i 0) v s c.word_within-first.result.1.statistics numbers c.args.writer.bits
           c.loop-i.writer.bits (c.loop-i.writer.bits
-          ++ code_word (record { limit = c.args.run.codes.limit; low = code_parameter c.args.run.codes.bits s; bits = c.args.run.codes.bits }) (get_or numbers i 0))
+          ++ code_word (record { limit = codes.limit; low = code_parameter codes.bits s; bits = codes.bits }) (get_or numbers i 0))
           within some (omega (arith, c.loop-i-test.true)) refl (rw (settings.umax_is, settings.bits_are) refl)
           (rw settings.size_is c.word_within-first.ensures.next) (was.run v z t within settings own some) in
           let both = run_step z t (i + 1) (get_or numbers (i + 1) 0) v c.word_within-first.result.1.statistics c.word_within-second.result.1.statistics numbers

@@ -16,8 +16,8 @@ returns-in_err-first-in-Some-clause-taken c = λ v z within settings own.
     let read : word_at c.args.reader.now.count c.args.place (code_by v z c.args.t) c.args.reader.now.left ≡ Err c.in_err-first-in-Some.field-0.0 =
     rw (none, settings.bits_are) c.in_err-first-in-Some.ensures.reads in
     rw (told.1, told.2)
-    (gets_refused z c.args.t c.args.place c.in_err-first-in-Some.field-0.0 v (with_band v z c.args.tracked.now.statistics) c.args.reader.now c.take_word.new.reader.left
-    (c.in-Some.first.now ∷ c.in-Some.later.now) within read (omega arith))
+    (gets_refused z c.args.t c.args.place c.in_err-first-in-Some.field-0.0 v (with_band v z c.args.tracked.now.statistics) c.args.reader.now
+    c.take_word.new.reader.left (c.in-Some.first.now ∷ c.in-Some.later.now) within read (omega arith))
 
 pub returns-in_ok-first-in-Some-clause-taken : goal.returns-in_ok-first-in-Some-clause-taken
 returns-in_ok-first-in-Some-clause-taken c = λ v z within settings own.

@@ -7,7 +7,8 @@ use Rattle.sample_adaptive.proofs.written_column.put_each.Given as goal
 abbrev pub invariant-loop-i : goal.invariant-loop-i
 invariant-loop-i l =
     record {
-      puts : (v : Counts) (t : ℕ) → l.fn.first ≡ eqb t 0 → v.bands ≡ statistics_of l.initial.bands → HasSettings v l.fn.run.bits l.fn.run.limit l.fn.run.rescaling.size
+      puts : (v : Counts) (t : ℕ) → l.fn.first ≡ eqb t 0 → v.bands ≡ statistics_of l.initial.bands
+          → HasSettings v l.fn.run.bits l.fn.run.limit l.fn.run.rescaling.size
           → PutsTo l.fn.z t l.i v (statistics_of l.bands) l.numbers l.initial.writer.bits l.writer.bits;
       tracked : AreTracked l.fn.run l.bands;
       room : 48 * (length l.numbers - l.i) ≤ l.writer.room;

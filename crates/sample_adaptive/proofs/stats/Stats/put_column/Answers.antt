@@ -2,18 +2,14 @@ use Rattle.std.proofs.Common.{◌≡◌, List, Bool, length, ap, sym, subst, ◌
 use Rattle.std.proofs.lemmas.List.{take_at}
 use Rattle.header_bits.specs.Bits.{Written}
 use Rattle.sample_adaptive.specs.declared.tracked.Tracked.{Tracked}
-use Rattle.sample_adaptive.specs.Taken.{Counts, HasSettings, PutsColumn}
+use Rattle.sample_adaptive.specs.Taken.{Counts, PutsColumn}
 use Rattle.sample_adaptive.specs.Tracked.{statistics_of}
+use Rattle.sample_adaptive.proofs.Tracking.{settings_seen}
 use Rattle.sample_adaptive.proofs.stats.Stats.put_column.Goals as goal
 
 pub returns-clause-taken : goal.returns-clause-taken
 returns-clause-taken c =
-    let settings : HasSettings c.args.self.now c.self.inside.codes.bits c.self.inside.codes.limit c.self.inside.codes.rescaling.size =
-    record {
-      bits_are = ap (λ (v : Counts). v.bits) (sym c.self.view_is);
-      umax_is = ap (λ (v : Counts). v.umax) (sym c.self.view_is);
-      size_is = ap (λ (v : Counts). v.gamma_star) (sym c.self.view_is);
-    } in
+    let settings = settings_seen c.args.self.now _ c.self.view_is in
     let same : c.args.self.now.bands ≡ statistics_of c.deref_mut.result.now =
     ap (λ (v : Counts). v.bands) (sym c.self.view_is) ∙ ap statistics_of (sym c.deref_mut.ensures.value) in
     let column = c.put_words_of.ensures.taken c.args.self.now same settings in
