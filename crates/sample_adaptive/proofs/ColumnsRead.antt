@@ -10,13 +10,16 @@ use Rattle.header_bits.specs.Bits.{Unread}
 use Rattle.header_bits.specs.Reading.{Reads}
 use Rattle.sample_adaptive.specs.declared.code_word.Code.{Code}
 use Rattle.sample_adaptive.specs.declared.statistics.Statistics.{Statistics}
+use Rattle.sample_adaptive.specs.declared.tracked.Tracked.{Tracked}
 use Rattle.sample_adaptive.specs.Statistics.{CoderSettings}
 use Rattle.sample_adaptive.specs.Words.{code_at}
 use Rattle.sample_adaptive.specs.Body.{band_numbers}
 use Rattle.sample_adaptive.specs.Reading.{word_at, words_at}
 use Rattle.sample_adaptive.specs.Taken.{Counts, HasTaken, GetsColumn, Reaches, AreUpFrom, code_by, counted, with_band, with_number}
+use Rattle.sample_adaptive.specs.Tracked.{statistics_of}
 use Rattle.sample_adaptive.proofs.Bodies.{band_push}
 use Rattle.sample_adaptive.proofs.Taking.{taken_along, code_is, taken_more}
+use Rattle.sample_adaptive.proofs.Tracking.{statistics_count, statistics_set}
 
 -- a number of another band is none of its own
 band_beside : (z : ℕ) (gone : List Place) (before : List ℕ) (p : Place) (number : ℕ) → length before ≡ length gone → (p.z ≡ z → ⊥)
@@ -111,31 +114,33 @@ column_starts z t place v bands first numbers is r new left ys rest =
     let none : take 0 numbers ++ ys ≡ ys = refl in
     rw (here, there, ← is) at rest
 
-pub column_steps : (z t place i number : ℕ) (v : Counts) (bands : List Statistics) (s : Statistics) (first was now : Unread) (numbers : List ℕ)
-    → z + i < length bands → i < length numbers → Reaches z t place i v bands first was numbers
-    → word_at was.count (place + i) (code_by (record v { bands = bands }) (z + i) t) was.left ≡ Ok (number, now.left) → now.count ≡ was.count
-    → counted (record v { bands = bands }) (z + i) t number ≡ with_band (record v { bands = bands }) (z + i) s
-    → Reaches z t place (i + 1) v (set bands (z + i) s) first now (set numbers i number)
-column_steps z t place i number v bands s first was now numbers inside lt reaches read same counts r new left ys rest =
+pub column_steps : (z t place i number : ℕ) (v : Counts) (bands : List Tracked) (kept : Tracked) (first was now : Unread) (numbers : List ℕ)
+    → z + i < length bands → i < length numbers → Reaches z t place i v (statistics_of bands) first was numbers
+    → word_at was.count (place + i) (code_by (record v { bands = statistics_of bands }) (z + i) t) was.left ≡ Ok (number, now.left) → now.count ≡ was.count
+    → counted (record v { bands = statistics_of bands }) (z + i) t number ≡ with_band (record v { bands = statistics_of bands }) (z + i) kept.statistics
+    → Reaches z t place (i + 1) v (statistics_of (set bands (z + i) kept)) first now (set numbers i number)
+column_steps z t place i number v bands kept first was now numbers inside lt reaches read same counts r new left ys rest =
+    let old : Counts = record v { bands = statistics_of bands } in
     let here : z + (i + 1) ≡ z + i + 1 = omega arith in
     let there : place + (i + 1) ≡ place + i + 1 = omega arith in
-    let behind : GetsColumn (z + i + 1) t (place + i + 1) r (counted (record v { bands = bands }) (z + i) t number) now new left ys =
-    rw counts (rw (here, there) at rest) in
-    let all = reaches r new left
-    (number ∷ ys) (column_cons (z + i) t (place + i) number r (record v { bands = bands }) new was now left ys inside read same behind) in
+    let behind : GetsColumn (z + i + 1) t (place + i + 1) r (counted old (z + i) t number) now new left ys =
+    rw counts (rw (here, there, statistics_set bands (z + i) kept) at rest) in
+    let within : z + i < length (statistics_of bands) = omega (arith, inside, statistics_count bands) in
+    let all = reaches r new left (number ∷ ys) (column_cons (z + i) t (place + i) number r old new was now left ys within read same behind) in
     let cut : take (i + 1) (set numbers i number) ≡ take i numbers ++ number ∷ [] = rw (add-one i) (take-suc-set numbers i number lt) in
     subst (λ (ns : List ℕ). GetsColumn z t place r v first new left ns)
     (sym (ap (λ (ns : List ℕ). ns ++ ys) cut ∙ append_assoc (take i numbers) (number ∷ []) ys)) all
 
-pub column_stops : (z t place i : ℕ) (fault : Fault) (v new : Counts) (bands : List Statistics) (first was : Unread) (left : List Bool) (numbers : List ℕ)
-    → z + i < length bands → i < length numbers → Reaches z t place i v bands first was numbers
-    → word_at was.count (place + i) (code_by (record v { bands = bands }) (z + i) t) was.left ≡ Err fault
+pub column_stops : (z t place i : ℕ) (fault : Fault) (v new : Counts) (bands : List Tracked) (first was : Unread) (left : List Bool) (numbers : List ℕ)
+    → z + i < length bands → i < length numbers → Reaches z t place i v (statistics_of bands) first was numbers
+    → word_at was.count (place + i) (code_by (record v { bands = statistics_of bands }) (z + i) t) was.left ≡ Err fault
     → GetsColumn z t place (Err fault) v first new left numbers
 column_stops z t place i fault v new bands first was left numbers inside lt reaches read =
+    let within : z + i < length (statistics_of bands) = omega (arith, inside, statistics_count bands) in
     let enough : 0 < length (drop i numbers) = omega (arith, lt, length-drop i numbers) in
     subst (λ (ns : List ℕ). GetsColumn z t place (Err fault) v first new left ns) (take-append-drop i numbers)
     (reaches (Err fault) new left (drop i numbers)
-    (column_refused (z + i) t (place + i) fault (record v { bands = bands }) new was left (drop i numbers) inside read enough))
+    (column_refused (z + i) t (place + i) fault (record v { bands = statistics_of bands }) new was left (drop i numbers) within read enough))
 
 pub column_ends : (z t place i : ℕ) (v : Counts) (bands : List Statistics) (first now : Unread) (numbers : List ℕ) → length numbers ≤ i
     → Reaches z t place i v bands first now numbers → GetsColumn z t place (Ok tt) v first (record v { bands = bands }) now.left numbers

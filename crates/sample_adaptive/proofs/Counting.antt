@@ -95,7 +95,6 @@ pub code_parameter_small : (bits : ℕ) (s : Statistics) → level s < 2 * s.cou
 unfolding code_parameter
 code_parameter_small bits s small = rw (lt-ltb _ _ small) refl
 
--- how far a number has to be shifted to be as long as a larger one
 -- a parameter whose product with the counter still fits, but not twice, is still the greatest
 pub parameter_stays : (bits : ℕ) (s : Statistics) (k : ℕ) → k + 2 ≤ bits → s.counter * 2 ^ k ≤ level s → level s < 2 * (s.counter * 2 ^ k)
     → k ≡ code_parameter bits s
@@ -112,6 +111,7 @@ parameter_stays bits s k few fits passes =
         let product = mul-le s.counter 2 s.counter (2 ^ suc j) (omega arith) (omega (arith, two)) in
         absurd (omega (arith, product, small, fits))
 
+-- how far a number has to be shifted to be as long as a larger one
 pub record IsShift (counter level shift : ℕ) : Type 0 where
   pub whole : counter * 2 ^ shift < 2 ^ 32
   pub enough : level < 2 * (counter * 2 ^ shift)
@@ -162,6 +162,12 @@ pub accumulator_range : (gamma_star : ℕ) (s : Statistics) → gamma_star ≤ 9
 accumulator_range gamma_star s le h =
     let power : 2 ^ gamma_star ≤ 2 ^ 9 = pow_mono le in
     omega (arith, h.most, h.bound)
+
+-- a counter's product with the power of a code parameter
+pub product_whole : (counter low : ℕ) → counter < 512 → low ≤ 14 → counter * 2 ^ low % 4294967296 ≡ counter * 2 ^ low
+product_whole counter low few le =
+    let power : 2 ^ low ≤ 2 ^ 14 = pow_mono le in
+    mod-eq_of_lt (omega (arith, mul-le counter (2 ^ low) 512 16384 (omega arith) (omega (arith, power))))
 
 -- ---- the greatest that passes
 

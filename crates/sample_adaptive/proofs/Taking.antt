@@ -12,8 +12,7 @@ use Rattle.sample_adaptive.specs.Statistics.{CoderSettings, constant_of, start_s
 use Rattle.sample_adaptive.specs.Words.{code_at}
 use Rattle.sample_adaptive.specs.Body.{band_numbers}
 use Rattle.sample_adaptive.specs.Settings.{settings, AreForSamples, AreLawful}
-use Rattle.sample_adaptive.specs.Taken.{Counts, AreCounts, HasTaken, code_by, counted, of_band, no_statistics, with_number}
-use Rattle.sample_adaptive.proofs.Counting.{start_in_range}
+use Rattle.sample_adaptive.specs.Taken.{Counts, HasTaken, code_by, counted, of_band, no_statistics, with_number}
 use Rattle.sample_adaptive.proofs.Bodies.{band_push, from_push}
 
 ne-eqb : (a b : ℕ) → (a ≡ b → ⊥) → eqb a b ≡ false
@@ -140,18 +139,6 @@ settings_of p umax gamma_star gamma_zero start e = rw e refl
 
 abbrev pub AreFirst : CoderSettings → ℕ → List Statistics → Type 0
 AreFirst c n bands = (z : ℕ) → z < n → of_band bands z ≡ start_statistics c.gamma_zero (constant_of c.start z)
-
-pub new_in_range : (n : ℕ) (c : CoderSettings) (bands : List Statistics) → AreLawful n c → length bands ≡ n → AreFirst c n bands
-    → AreCounts (record { bits = c.bits; umax = c.umax; gamma_star = c.gamma_star; bands = bands; refused = None })
-new_in_range n c bands h len first = record {
-  bits = (omega (arith, h.bits.0), omega (arith, h.bits.1));
-  umax = omega (arith, h.umax.1);
-  gamma_star = (omega (arith, h.gamma_star.0), omega (arith, h.gamma_star.1));
-  bands = λ z lt.
-      let inside : z < n = omega (arith, len) in
-      rw (first z inside)
-      (start_in_range c.gamma_star c.gamma_zero (constant_of c.start z) h.order h.gamma_zero.1 (omega (arith, h.constants z inside, h.bits.1)));
-}
 
 pub new_has_taken : (n : ℕ) (c : CoderSettings) (bands : List Statistics) → length bands ≡ n → AreFirst c n bands
     → HasTaken c (record { bits = c.bits; umax = c.umax; gamma_star = c.gamma_star; bands = bands; refused = None }) (λ z. [])

@@ -6,4 +6,5 @@ pub mod Rows
 pub mod Settings
 pub mod Statistics
 pub mod Taken
+pub mod Tracked
 pub mod Words

@@ -8,7 +8,7 @@ use Rattle.header_bits.specs.Bits.{Unread}
 use Rattle.header_bits.specs.Reading.{Reads}
 use Rattle.sample_adaptive.specs.declared.code_word.Code.{Code}
 use Rattle.sample_adaptive.specs.declared.statistics.Statistics.{Statistics}
-use Rattle.sample_adaptive.specs.Statistics.{CoderSettings, AreStatistics, statistics, next_statistics, code_parameter}
+use Rattle.sample_adaptive.specs.Statistics.{CoderSettings, statistics, next_statistics, code_parameter}
 use Rattle.sample_adaptive.specs.Words.{code_word, code_at}
 use Rattle.sample_adaptive.specs.Body.{band_numbers, words_after}
 use Rattle.sample_adaptive.specs.Reading.{word_at, words_at}
@@ -28,13 +28,6 @@ no_statistics = record { counter = 0; accumulator = 0 }
 -- the statistics of a band
 abbrev pub of_band : List Statistics → ℕ → Statistics
 of_band bands z = slice_index_or bands z no_statistics
-
--- parameters are in range, and so are the statistics of each band
-pub record AreCounts (v : Counts) : Type 0 where
-  pub bits : (2 ≤ v.bits) × (v.bits ≤ 16)
-  pub umax : v.umax ≤ 32
-  pub gamma_star : (1 ≤ v.gamma_star) × (v.gamma_star ≤ 9)
-  pub bands : (z : ℕ) → z < length v.bands → AreStatistics v.gamma_star (of_band v.bands z)
 
 -- D, the unary length limit and the rescaling counter size are these
 pub record HasSettings (v : Counts) (bits umax gamma_star : ℕ) : Type 0 where

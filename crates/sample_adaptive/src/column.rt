@@ -2,16 +2,16 @@
 
 ghost use Rattle.std.specs.Prelude.{◌≡◌, ◌+◌, ◌^◌, ◌<◌, ◌≤◌, ◌==◌, length, Some, IfOk, IfErr, OnErr, ℕ};
 ghost use Rattle.cube_core.specs.declared.fault.Fault.{Fault};
-ghost use Rattle.sample_adaptive.specs.Statistics.{AreStatistics};
 ghost use Rattle.sample_adaptive.specs.Reading.{word_at};
 ghost use Rattle.header_bits.specs.Reading.{Reads};
 ghost use Rattle.header_bits.specs.Windows.{IsAhead};
 ghost use Rattle.sample_adaptive.specs.Taken.{Counts, HasSettings, GetsColumn, Reaches, code_by, counted, of_band, with_band};
+ghost use Rattle.sample_adaptive.specs.Tracked.{IsTracked, AreTracked, statistics_of};
 
 use crate::code_word::{Code, take_from, take_word};
-use crate::run_words::RunCodes;
-use crate::statistics::{Statistics, next, parameter};
+use crate::run_codes::RunCodes;
 use crate::stats::Stats;
+use crate::tracked::Tracked;
 use cube_core::fault::Fault;
 use header_bits::bit_reader::BitReader;
 
@@ -45,15 +45,10 @@ impl Stats {
         if let Some(fault) = self.refused {
             return Err(fault);
         }
-        let run = RunCodes {
-            limit: self.umax,
-            bits: self.bits,
-            rescaling: self.rescaling,
-        };
         // A copy goes ahead: it stays in registers, and a refusal leaves what it was made of.
         let mut ahead = reader.fork();
         match take_column(
-            run,
+            self.codes,
             z as usize,
             t,
             place,
@@ -73,27 +68,25 @@ impl Stats {
     }
 }
 
-/// Reads one number of each band from band `z` on, whose code words stand next, and updates their statistics.
+/// Reads one number of each band from band `z` on, whose code words stand next, and updates what is kept of them.
 ///
-/// After a refusal the reader's position and the statistics are unspecified.
+/// After a refusal the reader's position and what is kept are unspecified.
 #[inline(always)]
 fn take_column(
     run: RunCodes,
     z: usize,
     t: u64,
     place: u64,
-    bands: &mut [Statistics],
+    bands: &mut [Tracked],
     reader: &mut BitReader,
     numbers: &mut [u16],
 ) -> Result<(), Fault>
-    requires bits { (2 ≤ run.bits) × (run.bits ≤ 16) }
-    requires limit { run.limit ≤ 32 }
-    requires statistics { (b : ℕ) → b < length bands.old → AreStatistics run.rescaling.size (of_band bands.old b) }
+    requires tracked { AreTracked run bands.old }
     requires inside { z + length numbers.old ≤ length bands.old }
     requires long { (length numbers.old ≤ 2 ^ 16) × (place < 2 ^ 48) }
-    ensures taken { (v : Counts) → v.bands ≡ bands.old → HasSettings v run.bits run.limit run.rescaling.size
-        → GetsColumn z t place result v reader.old (record v { bands = bands.new }) reader.new.left numbers.new }
-    ensures statistics { (b : ℕ) → b < length bands.new → AreStatistics run.rescaling.size (of_band bands.new b) }
+    ensures taken { (v : Counts) → v.bands ≡ statistics_of bands.old → HasSettings v run.bits run.limit run.rescaling.size
+        → GetsColumn z t place result v reader.old (record v { bands = statistics_of bands.new }) reader.new.left numbers.new }
+    ensures tracked { AreTracked run bands.new }
     ensures count { reader.new.count ≡ reader.old.count }
     ensures long { length numbers.new ≡ length numbers.old }
     ensures bands { length bands.new ≡ length bands.old }
@@ -117,7 +110,7 @@ fn take_column(
 }
 
 /// Reads one number of each band, none of which is its first, as long as 57 bits are left and begin with a code word. Returns
-/// how many, and updates their statistics.
+/// how many, and updates what is kept of them.
 ///
 /// A loop that refuses nothing keeps all that it changes in registers.
 #[inline(always)]
@@ -125,18 +118,16 @@ fn take_ready(
     run: RunCodes,
     z: usize,
     place: u64,
-    bands: &mut [Statistics],
+    bands: &mut [Tracked],
     reader: &mut BitReader,
     numbers: &mut [u16],
 ) -> usize
-    requires bits { (2 ≤ run.bits) × (run.bits ≤ 16) }
-    requires limit { run.limit ≤ 32 }
-    requires statistics { (b : ℕ) → b < length bands.old → AreStatistics run.rescaling.size (of_band bands.old b) }
+    requires tracked { AreTracked run bands.old }
     requires inside { z + length numbers.old ≤ length bands.old }
     requires long { (length numbers.old ≤ 2 ^ 16) × (place < 2 ^ 48) }
-    ensures taken { (v : Counts) (t : ℕ) → 0 < t → v.bands ≡ bands.old → HasSettings v run.bits run.limit run.rescaling.size
-        → Reaches z t place result v bands.new reader.old reader.new numbers.new }
-    ensures statistics { (b : ℕ) → b < length bands.new → AreStatistics run.rescaling.size (of_band bands.new b) }
+    ensures taken { (v : Counts) (t : ℕ) → 0 < t → v.bands ≡ statistics_of bands.old → HasSettings v run.bits run.limit run.rescaling.size
+        → Reaches z t place result v (statistics_of bands.new) reader.old reader.new numbers.new }
+    ensures tracked { AreTracked run bands.new }
     ensures within { result ≤ length numbers.new }
     ensures count { reader.new.count ≡ reader.old.count }
     ensures long { length numbers.new ≡ length numbers.old }
@@ -157,36 +148,34 @@ fn take_ready(
     i
 }
 
-/// Reads a band's number, not its first, whose code word the next 57 bits begin with, and updates the statistics. Where a
-/// number is refused, nothing is changed.
+/// Reads a band's number, not its first, whose code word the next 57 bits begin with, and updates what is kept of the band.
+/// Where a number is refused, nothing is changed.
 #[inline(always)]
 fn take_known(
     run: RunCodes,
     place: u64,
     word: u64,
-    statistics: &mut Statistics,
+    tracked: &mut Tracked,
     reader: &mut BitReader,
 ) -> Result<u16, Fault>
-    requires bits { (2 ≤ run.bits) × (run.bits ≤ 16) }
-    requires limit { run.limit ≤ 32 }
-    requires statistics { AreStatistics run.rescaling.size statistics.old }
+    requires tracked { IsTracked run tracked.old }
     requires ahead { IsAhead 57 reader.old.left word }
-    ensures reads { (v : Counts) (z t : ℕ) → 0 < t → HasSettings v run.bits run.limit run.rescaling.size → of_band v.bands z ≡ statistics.old
+    ensures reads { (v : Counts) (z t : ℕ) → 0 < t → HasSettings v run.bits run.limit run.rescaling.size → of_band v.bands z ≡ tracked.old.statistics
         → Reads (λ number. number) result reader.new.left (word_at reader.old.count place (code_by v z t) reader.old.left) }
     ensures counts { IfOk result (λ number. (v : Counts) (z t : ℕ) → 0 < t → HasSettings v run.bits run.limit run.rescaling.size
-        → of_band v.bands z ≡ statistics.old → counted v z t number ≡ with_band v z statistics.new) }
-    ensures statistics { AreStatistics run.rescaling.size statistics.new }
+        → of_band v.bands z ≡ tracked.old.statistics → counted v z t number ≡ with_band v z tracked.new.statistics) }
+    ensures tracked { IsTracked run tracked.new }
     ensures count { reader.new.count ≡ reader.old.count }
-    ensures same { OnErr result ((reader.new ≡ reader.old) × (statistics.new ≡ statistics.old)) }
+    ensures same { OnErr result ((reader.new ≡ reader.old) × (tracked.new ≡ tracked.old)) }
 {
-    let before = *statistics;
+    let settled = tracked.settled(run);
     let code = Code {
         limit: run.limit,
-        low: parameter(run.bits, before),
+        low: settled.low,
         bits: run.bits,
     };
     let number = take_from(code, place, word, reader)?;
-    *statistics = next(run.rescaling, before, number);
+    *tracked = settled.next(run, number);
     Ok(number)
 }
 
@@ -197,25 +186,23 @@ fn take_each(
     z: usize,
     first: bool,
     place: u64,
-    bands: &mut [Statistics],
+    bands: &mut [Tracked],
     reader: &mut BitReader,
     numbers: &mut [u16],
 ) -> Result<(), Fault>
-    requires bits { (2 ≤ run.bits) × (run.bits ≤ 16) }
-    requires limit { run.limit ≤ 32 }
-    requires statistics { (b : ℕ) → b < length bands.old → AreStatistics run.rescaling.size (of_band bands.old b) }
+    requires tracked { AreTracked run bands.old }
     requires inside { z + length numbers.old ≤ length bands.old }
     requires long { (length numbers.old ≤ 2 ^ 16) × (place < 2 ^ 49) }
-    ensures taken { (v : Counts) (t : ℕ) → first ≡ (t == 0) → v.bands ≡ bands.old → HasSettings v run.bits run.limit run.rescaling.size
-        → GetsColumn z t place result v reader.old (record v { bands = bands.new }) reader.new.left numbers.new }
-    ensures statistics { (b : ℕ) → b < length bands.new → AreStatistics run.rescaling.size (of_band bands.new b) }
+    ensures taken { (v : Counts) (t : ℕ) → first ≡ (t == 0) → v.bands ≡ statistics_of bands.old → HasSettings v run.bits run.limit run.rescaling.size
+        → GetsColumn z t place result v reader.old (record v { bands = statistics_of bands.new }) reader.new.left numbers.new }
+    ensures tracked { AreTracked run bands.new }
     ensures count { reader.new.count ≡ reader.old.count }
     ensures long { length numbers.new ≡ length numbers.old }
     ensures bands { length bands.new ≡ length bands.old }
 {
     for i in 0..numbers.len() {
-        let statistics = &mut bands[z + i];
-        match take_number(run, first, place + i as u64, statistics, reader) {
+        let tracked = &mut bands[z + i];
+        match take_number(run, first, place + i as u64, tracked, reader) {
             Ok(number) => numbers[i] = number,
             Err(fault) => return Err(fault),
         }
@@ -223,24 +210,24 @@ fn take_each(
     Ok(())
 }
 
-/// Reads a band's number, whose code word stands next, and updates the statistics unless it is the band's first.
+/// Reads a band's number, whose code word stands next, and updates what is kept of the band unless the number is its first.
 #[inline(always)]
-fn take_number(
+pub(crate) fn take_number(
     run: RunCodes,
     first: bool,
     place: u64,
-    statistics: &mut Statistics,
+    tracked: &mut Tracked,
     reader: &mut BitReader,
 ) -> Result<u16, Fault>
-    requires bits { (2 ≤ run.bits) × (run.bits ≤ 16) }
-    requires limit { run.limit ≤ 32 }
-    requires statistics { AreStatistics run.rescaling.size statistics.old }
-    ensures reads { (v : Counts) (z t : ℕ) → first ≡ (t == 0) → HasSettings v run.bits run.limit run.rescaling.size → of_band v.bands z ≡ statistics.old
+    requires tracked { IsTracked run tracked.old }
+    ensures reads { (v : Counts) (z t : ℕ) → first ≡ (t == 0) → HasSettings v run.bits run.limit run.rescaling.size → of_band v.bands z ≡ tracked.old.statistics
         → Reads (λ number. number) result reader.new.left (word_at reader.old.count place (code_by v z t) reader.old.left) }
     ensures counts { IfOk result (λ number. (v : Counts) (z t : ℕ) → first ≡ (t == 0) → HasSettings v run.bits run.limit run.rescaling.size
-        → of_band v.bands z ≡ statistics.old → counted v z t number ≡ with_band v z statistics.new) }
-    ensures statistics { AreStatistics run.rescaling.size statistics.new }
+        → of_band v.bands z ≡ tracked.old.statistics → counted v z t number ≡ with_band v z tracked.new.statistics) }
+    ensures tracked { IsTracked run tracked.new }
+    ensures below { IfOk result (λ number. number < 2 ^ run.bits) }
     ensures count { reader.new.count ≡ reader.old.count }
+    ensures same { OnErr result (reader.new ≡ reader.old) }
 {
     if first {
         let code = Code {
@@ -250,12 +237,13 @@ fn take_number(
         };
         return take_word(code, place, reader);
     }
+    *tracked = tracked.settled(run);
     let code = Code {
         limit: run.limit,
-        low: parameter(run.bits, *statistics),
+        low: tracked.low,
         bits: run.bits,
     };
     let number = take_word(code, place, reader)?;
-    *statistics = next(run.rescaling, *statistics, number);
+    *tracked = tracked.next(run, number);
     Ok(number)
 }

@@ -4,7 +4,7 @@
 pub mod code_word;
 pub mod column;
 pub mod laws;
-mod measure;
+mod run_codes;
 pub mod run_words;
 pub mod statistics;
 pub mod stats;

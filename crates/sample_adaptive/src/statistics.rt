@@ -1,9 +1,7 @@
 //! The counter and the accumulator of a band, and the code parameter that they give.
 
 ghost use Rattle.std.specs.Prelude.{◌≡◌, ◌+◌, ◌-◌, ◌*◌, ◌/◌, ◌^◌, ◌<◌, ◌≤◌};
-ghost use Rattle.sample_adaptive.specs.Statistics.{AreStatistics, start_statistics, next_statistics, level as level_of, code_parameter};
-
-use crate::measure::Measure;
+ghost use Rattle.sample_adaptive.specs.Statistics.{start_statistics, level as level_of, code_parameter};
 
 /// A band's statistics, by which its next number is coded (CCSDS 123.0-B-1, "Adaptive code selection statistics").
 #[derive(Clone, Copy, Debug, PartialEq, Eq)]
@@ -53,20 +51,6 @@ pub(crate) fn first(gamma_zero: u32, constant: u32) -> Statistics
     }
 }
 
-/// Returns the statistics after one more number. Where the counter is the greatest, both are halved.
-#[tactic(auto, unfolding(crate::specs::Statistics::next_statistics))]
-pub(crate) fn next(rescaling: Rescaling, s: Statistics, number: u16) -> Statistics
-    requires statistics { AreStatistics rescaling.size s }
-    ensures value { result ≡ next_statistics rescaling.size s number }
-    ensures statistics { AreStatistics rescaling.size result }
-{
-    if s.counter < rescaling.greatest {
-        counted(s, number)
-    } else {
-        halved(s, number)
-    }
-}
-
 /// Returns the statistics with one more number.
 pub(crate) fn counted(s: Statistics, number: u16) -> Statistics
     requires { (s.counter < 2 ^ 31) × (s.accumulator < 2 ^ 31) }
@@ -98,6 +82,8 @@ pub(crate) fn level(s: Statistics) -> u32
 }
 
 /// Returns k, how many low bits of the next number its code word has as they are: at most D - 2.
+///
+/// The greatest k with counter·2^k at most the level is found from the lengths of the two numbers, without trying each k.
 pub(crate) fn parameter(bits: u32, s: Statistics) -> u32
     requires bits { (2 ≤ bits) × (bits ≤ 16) }
     requires counter { (1 ≤ s.counter) × (s.counter < 2 ^ 9) }
@@ -105,5 +91,12 @@ pub(crate) fn parameter(bits: u32, s: Statistics) -> u32
     ensures value { result ≡ code_parameter bits s }
     ensures most { result + 2 ≤ bits }
 {
-    Measure::of(s.counter).parameter(bits, s.accumulator)
+    let level = level(s);
+    if level < 2 * s.counter {
+        return 0;
+    }
+    let shift = level.ilog2() - s.counter.ilog2();
+    // The comparison is a number, since it comes out either way as often, and a branch on it would be guessed.
+    let less = u32::from(s.counter << shift > level);
+    (shift - less).min(bits - 2)
 }

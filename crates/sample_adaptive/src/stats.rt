@@ -5,13 +5,16 @@ ghost use Rattle.std.specs.List.{AllByRecursion};
 ghost use Rattle.cube_core.specs.declared.fault.Fault.{Fault};
 ghost use Rattle.cube_core.specs.declared.fault.Fault.TheVariants.{WantOfMemory};
 ghost use Rattle.sample_adaptive.specs.Settings.{AreForSamples, HasEntries, settings};
-ghost use Rattle.sample_adaptive.specs.Statistics.{AreStatistics, constant_of, start_statistics};
-ghost use Rattle.sample_adaptive.specs.Words.{IsCode};
-ghost use Rattle.sample_adaptive.specs.Taken.{Counts, HasTaken, HasSettings, PutsNumber, PutsRun, GetsNumber, GetsRun, code_by, counted, of_band};
+ghost use Rattle.sample_adaptive.specs.Statistics.{constant_of, start_statistics};
+ghost use Rattle.sample_adaptive.specs.Taken.{Counts, HasTaken, HasSettings, PutsNumber, PutsRun, GetsNumber, GetsRun, of_band};
+ghost use Rattle.sample_adaptive.specs.Tracked.{AreTracked, statistics_of};
 
-use crate::code_word::{Code, take_word, word_of};
-use crate::run_words::{LaterRun, RunCodes, make_room, put_words, take_words};
-use crate::statistics::{Rescaling, Statistics, first, next, parameter};
+use crate::column::take_number;
+use crate::run_codes::RunCodes;
+use crate::run_words::{LaterRun, make_room, put_words, take_words};
+use crate::statistics::{Rescaling, first};
+use crate::tracked::Tracked;
+use crate::written_column::next_word;
 use core::mem::replace_with;
 use cube_core::fault::Fault;
 use header_bits::bit_reader::BitReader;
@@ -23,22 +26,27 @@ use std::marker::Model;
 /// The sample-adaptive coder of one image, which takes the numbers of each band in turn.
 #[derive(Drop)]
 pub struct Stats {
-    pub(crate) bits: u32,
-    pub(crate) umax: u32,
-    pub(crate) rescaling: Rescaling,
-    pub(crate) bands: Vec<Statistics>,
+    pub(crate) codes: RunCodes,
+    pub(crate) bands: Vec<Tracked>,
     /// The fault for which a `get` was refused, if one was: every later one is refused for the same.
     pub(crate) refused: Option<Fault>,
 }
 
 impl Model for Stats {
-    ghost use Rattle.sample_adaptive.specs.Taken.{Counts, AreCounts};
+    ghost use Rattle.sample_adaptive.specs.Taken.{Counts};
+    ghost use Rattle.sample_adaptive.specs.Tracked.{AreTracked, statistics_of};
 
     ghost Value = { Counts };
 
-    ghost view = { λ s. record { bits = s.bits; umax = s.umax; gamma_star = s.rescaling.size; bands = s.bands.items; refused = s.refused } };
+    ghost view = { λ s. record {
+      bits = s.codes.bits;
+      umax = s.codes.limit;
+      gamma_star = s.codes.rescaling.size;
+      bands = statistics_of s.bands.items;
+      refused = s.refused;
+    } };
 
-    ghost invariant = { λ s. AreCounts (record { bits = s.bits; umax = s.umax; gamma_star = s.rescaling.size; bands = s.bands.items; refused = s.refused }) };
+    ghost invariant = { λ s. AreTracked s.codes s.bands.items };
 }
 
 impl Stats {
@@ -59,11 +67,14 @@ impl Stats {
                 gamma_zero,
                 start,
             } => {
-                let bands = first_of_all(alloc, *gamma_zero, start, params.shape.bands())?;
-                Ok(Stats {
+                let codes = RunCodes {
+                    limit: *umax,
                     bits: params.kind.bits(),
-                    umax: *umax,
                     rescaling: Rescaling::of(*gamma_star),
+                };
+                let bands = first_of_all(alloc, codes, *gamma_zero, start, params.shape.bands())?;
+                Ok(Stats {
+                    codes,
                     bands,
                     refused: None,
                 })
@@ -87,14 +98,10 @@ impl Stats {
         ensures refused { IfErr result (λ e. e ≡ WantOfMemory) }
         ensures bands { (length self.new.bands ≡ length self.old.bands) × (self.new.bits ≡ self.old.bits) }
     {
-        // The first number stands apart, so that `t` is looked at once.
-        if t == 0 {
-            let word = word_of(self.code(z, 0), delta);
-            return writer.push(word.bits, word.length);
-        }
-        let word = word_of(self.code(z, t), delta);
+        let mut band = self.bands[z as usize];
+        let word = next_word(self.codes, t == 0, &mut band, delta);
         writer.push(word.bits, word.length)?;
-        self.count(z, t, delta);
+        self.bands[z as usize] = band;
         Ok(())
     }
 
@@ -142,10 +149,8 @@ impl Stats {
         ensures bands { (length self.new.bands ≡ length self.old.bands) × (self.new.bits ≡ self.old.bits) }
     {
         let run = LaterRun {
-            limit: self.umax,
-            bits: self.bits,
-            rescaling: self.rescaling,
-            statistics: self.bands[z as usize],
+            codes: self.codes,
+            tracked: self.bands[z as usize],
             numbers,
         };
         self.bands[z as usize] = replace_with(writer, run, put_words);
@@ -171,9 +176,10 @@ impl Stats {
         if let Some(fault) = self.refused {
             return Err(fault);
         }
-        match take_word(self.code(z, t), t, reader) {
+        let mut tracked = self.bands[z as usize];
+        match take_number(self.codes, t == 0, t, &mut tracked, reader) {
             Ok(number) => {
-                self.count(z, t, number);
+                self.bands[z as usize] = tracked;
                 Ok(number)
             }
             Err(fault) => {
@@ -212,17 +218,12 @@ impl Stats {
         if let Some(fault) = self.refused {
             return Err(fault);
         }
-        let run = RunCodes {
-            limit: self.umax,
-            bits: self.bits,
-            rescaling: self.rescaling,
-        };
         // Copies go ahead: they stay in registers, and a refusal leaves what they were made of.
-        let mut statistics = self.bands[z as usize];
+        let mut band = self.bands[z as usize];
         let mut ahead = reader.fork();
-        match take_words(run, t, place, &mut statistics, &mut ahead, numbers) {
+        match take_words(self.codes, t, place, &mut band, &mut ahead, numbers) {
             Ok(()) => {
-                self.bands[z as usize] = statistics;
+                self.bands[z as usize] = band;
                 *reader = ahead;
                 Ok(())
             }
@@ -232,57 +233,28 @@ impl Stats {
             }
         }
     }
-
-    /// Returns how number `t` of band `z` is written.
-    fn code(&self, z: u32, t: u64) -> Code
-        requires { z < length self.now.bands }
-        ensures value { result ≡ code_by self.now z t }
-        ensures code { IsCode result }
-    {
-        if t == 0 {
-            Code {
-                limit: 0,
-                low: 0,
-                bits: self.bits,
-            }
-        } else {
-            Code {
-                limit: self.umax,
-                low: parameter(self.bits, self.bands[z as usize]),
-                bits: self.bits,
-            }
-        }
-    }
-
-    /// Updates the statistics of band `z` by its number `t`; the first one changes nothing.
-    fn count(&mut self, z: u32, t: u64, number: u16)
-        requires { z < length self.old.bands }
-        ensures { self.new ≡ counted self.old z t number }
-    {
-        if t > 0 {
-            let band = self.bands[z as usize];
-            self.bands[z as usize] = next(self.rescaling, band, number);
-        }
-    }
 }
 
-/// Returns the statistics that `count` bands start from.
+/// Returns what is kept of `count` bands before their first numbers.
 fn first_of_all(
     alloc: Global,
+    codes: RunCodes,
     gamma_zero: u32,
     start: &CountStart,
     count: u32,
-) -> Result<Vec<Statistics>, Fault>
-    requires exponent { gamma_zero ≤ 8 }
+) -> Result<Vec<Tracked>, Fault>
+    requires exponent { (gamma_zero ≤ 8) × (gamma_zero + 1 ≤ codes.rescaling.size) }
     requires entries { HasEntries count start.now }
     requires constants { (z : ℕ) → z < count → constant_of start.now z ≤ 14 }
     ensures count { IfOk result (λ v. length v.items ≡ count) }
-    ensures first { IfOk result (λ v. (z : ℕ) → z < count → of_band v.items z ≡ start_statistics gamma_zero (constant_of start.now z)) }
+    ensures first { IfOk result (λ v. (z : ℕ) → z < count → of_band (statistics_of v.items) z ≡ start_statistics gamma_zero (constant_of start.now z)) }
+    ensures tracked { IfOk result (λ v. AreTracked codes v.items) }
     ensures refused { IfErr result (λ e. e ≡ WantOfMemory) }
 {
     let mut bands = Vec::with_capacity(alloc, count as usize)?;
     for z in 0..count {
-        bands.push(first(gamma_zero, constant(start, z)))?;
+        let statistics = first(gamma_zero, constant(start, z));
+        bands.push(Tracked::of(codes, statistics))?;
     }
     Ok(bands)
 }

@@ -1,9 +1,11 @@
-//! A band's statistics on the way through a run, and the code parameter beside them.
+//! What the coder keeps of each band: its statistics, and a code parameter beside them.
 
-ghost use Rattle.std.specs.Prelude.{◌≡◌, ◌+◌, ◌*◌, ◌^◌, ◌<◌, ◌≤◌};
+ghost use Rattle.std.specs.Prelude.{◌≡◌};
 ghost use Rattle.sample_adaptive.specs.Statistics.{AreStatistics, next_statistics, code_parameter};
+ghost use Rattle.sample_adaptive.specs.Tracked.{IsTracked};
 
-use crate::statistics::{Rescaling, Statistics, counted, halved, level, parameter};
+use crate::run_codes::RunCodes;
+use crate::statistics::{Statistics, counted, halved, level, parameter};
 
 /// Statistics, and the code parameter of the number before, which most numbers leave as it was.
 ///
@@ -14,26 +16,21 @@ pub(crate) struct Tracked {
     /// k, the code parameter of the number before.
     pub low: u32,
     /// 2^k.
-    one: u32,
+    pub one: u32,
     /// Γ·2^k.
-    scaled: u32,
-    pub ghost low_in: { low ≤ 14 },
-    pub ghost one_is: { one ≡ 2 ^ low },
-    pub ghost scaled_is: { scaled ≡ statistics.counter * 2 ^ low },
+    pub scaled: u32,
 }
 
 impl Tracked {
     /// Returns statistics, and the code parameter that they give.
     #[inline(always)]
-    pub(crate) fn of(bits: u32, statistics: Statistics) -> Tracked
-        requires bits { (2 ≤ bits) × (bits ≤ 16) }
-        requires counter { (1 ≤ statistics.counter) × (statistics.counter < 2 ^ 9) }
-        requires accumulator { statistics.accumulator < 2 ^ 25 }
+    pub(crate) fn of(run: RunCodes, statistics: Statistics) -> Tracked
+        requires { AreStatistics run.rescaling.size statistics }
         ensures statistics { result.statistics ≡ statistics }
-        ensures value { result.low ≡ code_parameter bits statistics }
-        ensures most { result.low + 2 ≤ bits }
+        ensures value { result.low ≡ code_parameter run.bits statistics }
+        ensures tracked { IsTracked run result }
     {
-        let low = parameter(bits, statistics);
+        let low = parameter(run.bits, statistics);
         Tracked {
             statistics,
             low,
@@ -44,29 +41,26 @@ impl Tracked {
 
     /// Returns the same statistics, and the code parameter that they give.
     #[inline(always)]
-    pub(crate) fn settled(self, bits: u32) -> Tracked
-        requires bits { (2 ≤ bits) × (bits ≤ 16) × (self.low + 2 ≤ bits) }
-        requires counter { (1 ≤ self.statistics.counter) × (self.statistics.counter < 2 ^ 9) }
-        requires accumulator { self.statistics.accumulator < 2 ^ 25 }
+    pub(crate) fn settled(self, run: RunCodes) -> Tracked
+        requires { IsTracked run self }
         ensures statistics { result.statistics ≡ self.statistics }
-        ensures value { result.low ≡ code_parameter bits self.statistics }
-        ensures most { result.low + 2 ≤ bits }
+        ensures value { result.low ≡ code_parameter run.bits self.statistics }
+        ensures tracked { IsTracked run result }
     {
         let level = level(self.statistics);
         if self.scaled <= level && level < 2 * self.scaled {
             return self;
         }
-        Tracked::of(bits, self.statistics)
+        Tracked::of(run, self.statistics)
     }
 
     /// Returns the statistics after one more number. The code parameter is still the one before.
     #[inline(always)]
     #[tactic(auto, unfolding(crate::specs::Statistics::next_statistics))]
-    pub(crate) fn next(self, rescaling: Rescaling, number: u16) -> Tracked
-        requires statistics { AreStatistics rescaling.size self.statistics }
-        ensures value { result.statistics ≡ next_statistics rescaling.size self.statistics number }
-        ensures statistics { AreStatistics rescaling.size result.statistics }
-        ensures low { result.low ≡ self.low }
+    pub(crate) fn next(self, run: RunCodes, number: u16) -> Tracked
+        requires { IsTracked run self }
+        ensures value { result.statistics ≡ next_statistics run.rescaling.size self.statistics number }
+        ensures tracked { IsTracked run result }
     {
         let Tracked {
             statistics,
@@ -74,7 +68,7 @@ impl Tracked {
             one,
             scaled,
         } = self;
-        if statistics.counter < rescaling.greatest {
+        if statistics.counter < run.rescaling.greatest {
             return Tracked {
                 statistics: counted(statistics, number),
                 low,

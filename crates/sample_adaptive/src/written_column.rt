@@ -4,15 +4,15 @@ ghost use Rattle.std.specs.Prelude.{◌≡◌, ◌+◌, ◌*◌, ◌^◌, ◌<�
 ghost use Rattle.std.specs.List.{AllByRecursion};
 ghost use Rattle.cube_core.specs.declared.fault.Fault.TheVariants.{WantOfMemory};
 ghost use Rattle.header_bits.specs.Bits.{bits_of};
-ghost use Rattle.sample_adaptive.specs.Statistics.{AreStatistics};
 ghost use Rattle.sample_adaptive.specs.Words.{code_word};
 ghost use Rattle.sample_adaptive.specs.Taken.{Counts, HasSettings, PutsColumn, code_by, counted, of_band, with_band};
+ghost use Rattle.sample_adaptive.specs.Tracked.{IsTracked, AreTracked, statistics_of};
 
 use crate::code_word::{Code, Word, push_both, word_of};
-use crate::measure::Measure;
-use crate::run_words::{RunCodes, make_room};
-use crate::statistics::{Statistics, next};
+use crate::run_codes::RunCodes;
+use crate::run_words::make_room;
 use crate::stats::Stats;
+use crate::tracked::Tracked;
 use core::mem::replace;
 use cube_core::fault::Fault;
 use header_bits::bit_writer::BitWriter;
@@ -42,41 +42,34 @@ impl Stats {
         ensures bands { (length self.new.bands ≡ length self.old.bands) × (self.new.bits ≡ self.old.bits) }
     {
         make_room(numbers.len(), writer)?;
-        let run = RunCodes {
-            limit: self.umax,
-            bits: self.bits,
-            rescaling: self.rescaling,
-        };
         // The writer is taken out for as long, so that it stays in registers.
         let nothing = BitWriter::new(*self.bands.allocator());
         let mut ahead = replace(writer, nothing);
-        put_words_of(run, z, t, &mut self.bands, numbers, &mut ahead);
+        put_words_of(self.codes, z, t, &mut self.bands, numbers, &mut ahead);
         *writer = ahead;
         Ok(())
     }
 }
 
-/// Appends the code word of one number of each band from band `z` on, and updates their statistics. The writer has room
+/// Appends the code word of one number of each band from band `z` on, and updates what is kept of them. The writer has room
 /// for them.
 #[inline(always)]
 fn put_words_of(
     run: RunCodes,
     z: u32,
     t: u64,
-    bands: &mut [Statistics],
+    bands: &mut [Tracked],
     numbers: &[u16],
     writer: &mut BitWriter,
 )
-    requires bits { (2 ≤ run.bits) × (run.bits ≤ 16) }
-    requires limit { run.limit ≤ 32 }
-    requires statistics { (b : ℕ) → b < length bands.old → AreStatistics run.rescaling.size (of_band bands.old b) }
+    requires tracked { AreTracked run bands.old }
     requires inside { z + length numbers.now ≤ length bands.old }
     requires few { length numbers.now ≤ 2 ^ 16 }
     requires numbers { AllByRecursion (λ n. n < 2 ^ run.bits) numbers.now }
     requires room { 48 * length numbers.now ≤ writer.old.room }
-    ensures taken { (v : Counts) → v.bands ≡ bands.old → HasSettings v run.bits run.limit run.rescaling.size
-        → PutsColumn z t numbers.now v writer.old.bits (record v { bands = bands.new }) writer.new.bits }
-    ensures statistics { (b : ℕ) → b < length bands.new → AreStatistics run.rescaling.size (of_band bands.new b) }
+    ensures taken { (v : Counts) → v.bands ≡ statistics_of bands.old → HasSettings v run.bits run.limit run.rescaling.size
+        → PutsColumn z t numbers.now v writer.old.bits (record v { bands = statistics_of bands.new }) writer.new.bits }
+    ensures tracked { AreTracked run bands.new }
     ensures bands { length bands.new ≡ length bands.old }
 {
     // Two loops, in each of which the compiler knows whether the numbers are the first.
@@ -93,31 +86,25 @@ fn put_each(
     run: RunCodes,
     z: u32,
     first: bool,
-    bands: &mut [Statistics],
+    bands: &mut [Tracked],
     numbers: &[u16],
     writer: &mut BitWriter,
 )
-    requires bits { (2 ≤ run.bits) × (run.bits ≤ 16) }
-    requires limit { run.limit ≤ 32 }
-    requires statistics { (b : ℕ) → b < length bands.old → AreStatistics run.rescaling.size (of_band bands.old b) }
+    requires tracked { AreTracked run bands.old }
     requires inside { z + length numbers.now ≤ length bands.old }
     requires few { length numbers.now ≤ 2 ^ 16 }
     requires numbers { AllByRecursion (λ n. n < 2 ^ run.bits) numbers.now }
     requires room { 48 * length numbers.now ≤ writer.old.room }
-    ensures taken { (v : Counts) (t : ℕ) → first ≡ (t == 0) → v.bands ≡ bands.old → HasSettings v run.bits run.limit run.rescaling.size
-        → PutsColumn z t numbers.now v writer.old.bits (record v { bands = bands.new }) writer.new.bits }
-    ensures statistics { (b : ℕ) → b < length bands.new → AreStatistics run.rescaling.size (of_band bands.new b) }
+    ensures taken { (v : Counts) (t : ℕ) → first ≡ (t == 0) → v.bands ≡ statistics_of bands.old → HasSettings v run.bits run.limit run.rescaling.size
+        → PutsColumn z t numbers.now v writer.old.bits (record v { bands = statistics_of bands.new }) writer.new.bits }
+    ensures tracked { AreTracked run bands.new }
     ensures bands { length bands.new ≡ length bands.old }
 {
-    if numbers.is_empty() {
-        return;
-    }
-    let measure = Measure::of(bands[z as usize].counter);
     let mut i = 0;
     while i + 1 < numbers.len() {
         let at = z as usize + i;
-        let one = next_word(run, first, measure, &mut bands[at], numbers[i]);
-        let two = next_word(run, first, measure, &mut bands[at + 1], numbers[i + 1]);
+        let one = next_word(run, first, &mut bands[at], numbers[i]);
+        let two = next_word(run, first, &mut bands[at + 1], numbers[i + 1]);
         push_both(one, two, writer);
         i += 2;
     }
@@ -125,30 +112,22 @@ fn put_each(
         return;
     }
     let at = z as usize + i;
-    let last = next_word(run, first, measure, &mut bands[at], numbers[i]);
+    let last = next_word(run, first, &mut bands[at], numbers[i]);
     writer.push_reserved(last.bits, last.length);
 }
 
-/// Returns the code word of a band's next number, and updates its statistics unless the number is the band's first.
+/// Returns the code word of a band's next number, and updates what is kept of the band unless the number is its first.
 #[inline(always)]
-fn next_word(
-    run: RunCodes,
-    first: bool,
-    measure: Measure,
-    statistics: &mut Statistics,
-    number: u16,
-) -> Word
-    requires bits { (2 ≤ run.bits) × (run.bits ≤ 16) }
-    requires limit { run.limit ≤ 32 }
-    requires statistics { AreStatistics run.rescaling.size statistics.old }
+pub(crate) fn next_word(run: RunCodes, first: bool, tracked: &mut Tracked, number: u16) -> Word
+    requires tracked { IsTracked run tracked.old }
     requires number { number < 2 ^ run.bits }
-    ensures word { (v : Counts) (z t : ℕ) → first ≡ (t == 0) → HasSettings v run.bits run.limit run.rescaling.size → of_band v.bands z ≡ statistics.old
+    ensures word { (v : Counts) (z t : ℕ) → first ≡ (t == 0) → HasSettings v run.bits run.limit run.rescaling.size → of_band v.bands z ≡ tracked.old.statistics
         → bits_of result.length result.bits ≡ code_word (code_by v z t) number }
     ensures below { result.bits < 2 ^ result.length }
     ensures few { result.length ≤ 48 }
-    ensures counts { (v : Counts) (z t : ℕ) → first ≡ (t == 0) → HasSettings v run.bits run.limit run.rescaling.size → of_band v.bands z ≡ statistics.old
-        → counted v z t number ≡ with_band v z statistics.new }
-    ensures statistics { AreStatistics run.rescaling.size statistics.new }
+    ensures counts { (v : Counts) (z t : ℕ) → first ≡ (t == 0) → HasSettings v run.bits run.limit run.rescaling.size
+        → of_band v.bands z ≡ tracked.old.statistics → counted v z t number ≡ with_band v z tracked.new.statistics }
+    ensures tracked { IsTracked run tracked.new }
 {
     if first {
         let code = Code {
@@ -158,11 +137,12 @@ fn next_word(
         };
         return word_of(code, number);
     }
+    let settled = tracked.settled(run);
     let code = Code {
         limit: run.limit,
-        low: measure.parameter_of(run.bits, *statistics),
+        low: settled.low,
         bits: run.bits,
     };
-    *statistics = next(run.rescaling, *statistics, number);
+    *tracked = settled.next(run, number);
     word_of(code, number)
 }

@@ -1,17 +1,18 @@
-use Rattle.std.proofs.Common.{◌+◌, ◌<◌, ℕ, length, set, refl, sym, ap, subst, ◌∙◌, inl, inr, arith}
-use Rattle.std.proofs.lemmas.Bool.{cases_eq}
-use Rattle.std.proofs.lemmas.List.{get_or-set_same, get_or-set_other, set-get_or, length-set}
+use Rattle.std.proofs.Common.{◌+◌, ◌<◌, length, refl, ap, ◌∙◌, arith}
+use Rattle.std.proofs.lemmas.List.{set-get_or, length-set}
 use Rattle.header_bits.specs.Bits.{Unread}
-use Rattle.sample_adaptive.specs.Statistics.{AreStatistics}
-use Rattle.sample_adaptive.specs.Taken.{HasSettings, of_band, no_statistics}
+use Rattle.sample_adaptive.specs.Taken.{HasSettings}
+use Rattle.sample_adaptive.specs.Tracked.{statistics_of}
 use Rattle.sample_adaptive.proofs.ColumnsRead.{column_starts, column_steps}
+use Rattle.sample_adaptive.proofs.Tracking.{statistics_at, tracked_set}
 use Rattle.sample_adaptive.proofs.column.take_ready.Goals as goal
 
 pub loop-i-init : goal.loop-i-init
 loop-i-init c =
     record {
-      taken = λ v t some same settings. rw c.fork-ahead.ensures (column_starts c.args.z t c.args.place v c.args.bands.now c.args.reader.now c.args.numbers.now same);
-      statistics = c.requires.statistics;
+      taken = λ v t some same settings. rw c.fork-ahead.ensures
+          (column_starts c.args.z t c.args.place v (statistics_of c.args.bands.now) c.args.reader.now c.args.numbers.now same);
+      tracked = c.requires.tracked;
       count = ap (λ (u : Unread). u.count) c.fork-ahead.ensures;
       long = refl;
       inside = omega arith;
@@ -21,28 +22,22 @@ loop-i-init c =
 pub loop-i-preserved : goal.loop-i-preserved
 loop-i-preserved c =
     let was = c.loop-i.invariant in
+    let bands = c.loop-i.bands in
     let within : c.loop-i.i < length c.loop-i.numbers = omega (arith, c.loop-i-test.true, was.long) in
-    let inside : c.args.z + c.loop-i.i < length c.loop-i.bands = omega (arith, c.loop-i-test.true, was.bands, c.requires.inside) in
+    let inside : c.args.z + c.loop-i.i < length bands = omega (arith, c.loop-i-test.true, was.bands, c.requires.inside) in
     record {
       taken = λ v t some same settings.
-          let here : HasSettings (record v { bands = c.loop-i.bands }) c.args.run.bits c.args.run.limit c.args.run.rescaling.size =
+          let here : HasSettings (record v { bands = statistics_of bands }) c.args.run.bits c.args.run.limit c.args.run.rescaling.size =
           record { bits_are = settings.bits_are; umax_is = settings.umax_is; size_is = settings.size_is } in
-          let read = c.in-Ok.ensures.reads (record v { bands = c.loop-i.bands }) (c.args.z + c.loop-i.i) t some here refl in
-          let counts = c.in-Ok.ensures.counts (record v { bands = c.loop-i.bands }) (c.args.z + c.loop-i.i) t some here refl in
-          column_steps _ t _ _ _ v _ _ _ _ _ _ inside within (was.taken v t some same settings) read c.in-Ok.ensures.count counts;
-      statistics = λ b lt.
-          elim (cases_eq b (c.args.z + c.loop-i.i)) [
-            | inl e ↦ subst (λ (k : ℕ). AreStatistics c.args.run.rescaling.size
-                (of_band (set c.loop-i.bands (c.args.z + c.loop-i.i) c.take_known.new.statistics) k)) (sym e)
-                (subst (AreStatistics c.args.run.rescaling.size)
-                (sym (get_or-set_same _ (c.args.z + c.loop-i.i) _ no_statistics inside)) c.in-Ok.ensures.statistics)
-            | inr other ↦ subst (AreStatistics c.args.run.rescaling.size) (sym (get_or-set_other _ (c.args.z + c.loop-i.i) b _ no_statistics other))
-                (was.statistics b (omega (arith, lt, length-set c.loop-i.bands (c.args.z + c.loop-i.i) c.take_known.new.statistics)))
-          ];
+          let own = statistics_at bands (c.args.z + c.loop-i.i) inside in
+          let read = c.in-Ok.ensures.reads (record v { bands = statistics_of bands }) (c.args.z + c.loop-i.i) t some here own in
+          let counts = c.in-Ok.ensures.counts (record v { bands = statistics_of bands }) (c.args.z + c.loop-i.i) t some here own in
+          column_steps _ t _ _ _ v bands _ _ _ _ _ inside within (was.taken v t some same settings) read c.in-Ok.ensures.count counts;
+      tracked = tracked_set c.args.run bands _ _ inside c.in-Ok.ensures.tracked was.tracked;
       count = c.in-Ok.ensures.count ∙ was.count;
       long = length-set c.loop-i.numbers c.loop-i.i c.in-Ok.number ∙ was.long;
       inside = omega (arith, within, length-set c.loop-i.numbers c.loop-i.i c.in-Ok.number);
-      bands = length-set c.loop-i.bands (c.args.z + c.loop-i.i) c.take_known.new.statistics ∙ was.bands;
+      bands = length-set bands (c.args.z + c.loop-i.i) c.take_known.new.tracked ∙ was.bands;
     }
 
 pub returns-in_default-take_known-clause-taken : goal.returns-in_default-take_known-clause-taken

@@ -1,10 +1,8 @@
 use Rattle.std.proofs.Common.{◌≡◌, ◌+◌, ◌<◌, ◌++◌, [], List, Bool, ℕ, length, take, get_or, refl, sym, ap, subst, ◌∙◌, arith}
 use Rattle.std.proofs.lemmas.List.{take_all}
-use Rattle.sample_adaptive.specs.declared.statistics.Statistics.{Statistics}
 use Rattle.sample_adaptive.specs.Statistics.{code_parameter}
 use Rattle.sample_adaptive.specs.Words.{code_word}
 use Rattle.sample_adaptive.specs.Taken.{Counts, PutsRun, with_band}
-use Rattle.sample_adaptive.proofs.Counting.{counter_range, accumulator_range}
 use Rattle.sample_adaptive.proofs.Running.{run_none, run_step, same_band, two_words}
 use Rattle.sample_adaptive.proofs.run_words.put_words.Goals as goal
 
@@ -12,24 +10,17 @@ pub loop-i-init : goal.loop-i-init
 loop-i-init c =
     record {
       run = λ v z t within settings own some.
-          subst (λ (s : Statistics). PutsRun z t [] v c.args.writer.bits (with_band v z s) c.args.writer.bits) (sym c.of-tracked.ensures.statistics)
-          (subst (λ (w : Counts). PutsRun z t [] v c.args.writer.bits w c.args.writer.bits) (sym (same_band v z _ (sym own))) (run_none z t v _));
-      statistics = rw c.of-tracked.ensures.statistics c.requires.statistics;
-      low = c.of-tracked.ensures.most;
+          subst (λ (w : Counts). PutsRun z t [] v c.args.writer.bits w c.args.writer.bits) (sym (same_band v z _ (sym own))) (run_none z t v _);
+      tracked = c.requires.tracked;
       room = omega (arith, c.requires.room);
       within = omega arith;
     }
-
-pub of-tracked-requires-clause-counter : goal.of-tracked-requires-clause-counter
-of-tracked-requires-clause-counter c = counter_range c.args.run.rescaling.size c.args.run.statistics (c.args.run.rescaling.size_in).1 c.requires.statistics
-
-pub of-tracked-requires-clause-accumulator : goal.of-tracked-requires-clause-accumulator
-of-tracked-requires-clause-accumulator c = accumulator_range _ _ (c.args.run.rescaling.size_in).1 c.requires.statistics
 
 pub loop-i-preserved : goal.loop-i-preserved
 loop-i-preserved c =
     let was = c.loop-i.invariant in
     let s = c.loop-i.tracked.statistics in
+    let codes = c.args.run.codes in
     let numbers = c.args.run.numbers.now in
     let i = c.loop-i.i in
     let next : i + 1 + 1 ≡ i + 2 = omega arith in
@@ -39,15 +30,14 @@ loop-i-preserved c =
       run = λ v z t within settings own some.
           let first = run_step z t i (get_or numbers i 0) v s c.word_within-first.result.1.statistics numbers c.args.writer.bits
           c.loop-i.writer.bits (c.loop-i.writer.bits
-          ++ code_word (record { limit = c.args.run.limit; low = code_parameter c.args.run.bits s; bits = c.args.run.bits }) (get_or numbers i 0))
+          ++ code_word (record { limit = codes.limit; low = code_parameter codes.bits s; bits = codes.bits }) (get_or numbers i 0))
           within some (omega (arith, c.loop-i-test.true)) refl (rw (settings.umax_is, settings.bits_are) refl)
           (rw settings.size_is c.word_within-first.ensures.next) (was.run v z t within settings own some) in
           let both = run_step z t (i + 1) (get_or numbers (i + 1) 0) v c.word_within-first.result.1.statistics c.word_within-second.result.1.statistics numbers
           c.args.writer.bits _ c.push_both.new.writer.bits
           within some c.loop-i-test.true refl (rw (settings.umax_is, settings.bits_are) words) (rw settings.size_is c.word_within-second.ensures.next) first in
           rw next at both;
-      statistics = c.word_within-second.ensures.statistics;
-      low = c.word_within-second.ensures.low;
+      tracked = c.word_within-second.ensures.tracked;
       room = omega (arith, was.room, c.push_both.ensures.room, c.word_within-first.ensures.few, c.word_within-second.ensures.few, c.loop-i-test.true);
       within = omega (arith, c.loop-i-test.true);
     }

@@ -9,7 +9,7 @@ use Rattle.sample_adaptive.proofs.run_words.take_later.Goals as goal
 pub returns-then-done-numbers-clause-taken : goal.returns-then-done-numbers-clause-taken
 returns-then-done-numbers-clause-taken c = λ v z t within settings own some.
     let all = take_all c.take_ready-done.result c.take_ready-done.new.numbers (omega (arith, c.if-done-numbers.true)) in
-    subst (λ (ns : List ℕ). GetsRun z t c.args.place (Ok tt) v c.args.reader.now (with_band v z c.take_ready-done.new.statistics)
+    subst (λ (ns : List ℕ). GetsRun z t c.args.place (Ok tt) v c.args.reader.now (with_band v z c.take_ready-done.new.tracked.statistics)
     c.take_ready-done.new.reader.left ns) all
     (c.take_ready-done.ensures.taken v z t within settings own some)
 
@@ -17,7 +17,7 @@ returns-then-done-numbers-clause-taken c = λ v z t within settings own some.
 pub returns-clause-taken : goal.returns-clause-taken
 returns-clause-taken c = λ v z t within settings own some.
     let e = c.take_ready-done.ensures in
-    let s = c.take_ready-done.new.statistics in
+    let s = c.take_ready-done.new.tracked.statistics in
     let long : length (take c.take_ready-done.result c.take_ready-done.new.numbers) ≡ c.take_ready-done.result =
     omega (arith, e.within, length-take c.take_ready-done.result c.take_ready-done.new.numbers) in
     let there : z < length (with_band v z s).bands = omega (arith, within, length-set v.bands z s) in
@@ -26,8 +26,8 @@ returns-clause-taken c = λ v z t within settings own some.
     let band : of_band (with_band v z s).bands z ≡ s = get_or-set_same v.bands z s no_statistics within in
     let rest = rw set-set at (c.take_rest.ensures.taken (with_band v z s) z (t + c.take_ready-done.result) there known band (omega (arith, some))) in
     let behind = gets_behind z t c.args.place c.take_rest.result (take c.take_ready-done.result c.take_ready-done.new.numbers) c.take_rest.new.numbers
-    v (with_band v z s) (with_band v z c.take_rest.new.statistics) c.args.reader.now c.take_ready-done.new.reader c.take_rest.new.reader.left
+    v (with_band v z s) (with_band v z c.take_rest.new.tracked.statistics) c.args.reader.now c.take_ready-done.new.reader c.take_rest.new.reader.left
     e.count (e.taken v z t within settings own some) (rw long rest) in
-    subst (λ (ns : List ℕ). GetsRun z t c.args.place c.take_rest.result v c.args.reader.now (with_band v z c.take_rest.new.statistics)
+    subst (λ (ns : List ℕ). GetsRun z t c.args.place c.take_rest.result v c.args.reader.now (with_band v z c.take_rest.new.tracked.statistics)
     c.take_rest.new.reader.left ns)
     (sym (behind_first c.take_ready-done.new.numbers c.take_rest.new.numbers c.take_ready-done.result e.within c.take_rest.ensures.long)) behind

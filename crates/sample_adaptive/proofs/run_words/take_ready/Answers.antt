@@ -6,38 +6,22 @@ use Rattle.sample_adaptive.specs.declared.statistics.Statistics.{Statistics}
 use Rattle.sample_adaptive.specs.Statistics.{next_statistics, code_parameter}
 use Rattle.sample_adaptive.specs.Reading.{word_at}
 use Rattle.sample_adaptive.specs.Taken.{Counts, GetsRun, with_band}
-use Rattle.sample_adaptive.proofs.Counting.{counter_range, accumulator_range}
 use Rattle.sample_adaptive.proofs.Running.{same_band}
 use Rattle.sample_adaptive.proofs.RunsRead.{gets_none, gets_later, gets_behind}
 use Rattle.sample_adaptive.proofs.run_words.take_ready.Goals as goal
-use Rattle.sample_adaptive.proofs.run_words.take_ready.Goals.{else-loop-i-test, then-loop-i-test+in_default, then-loop-i-test+in-Some+in_default-take_from}
 
 pub loop-i-init : goal.loop-i-init
 loop-i-init c =
     let same = c.fork-ahead.ensures in
     rw same (record {
-      taken = λ v z t within settings own some. subst (λ (s : Statistics).
-          GetsRun z t c.args.place (Ok tt) v c.args.reader.now (with_band v z s) c.args.reader.now.left []) (sym c.of-tracked.ensures.statistics)
-          (subst (λ (w : Counts). GetsRun z t c.args.place (Ok tt) v c.args.reader.now w c.args.reader.now.left []) (sym (same_band v z _ (sym own)))
-          (gets_none z t _ v _));
-      statistics = rw c.of-tracked.ensures.statistics c.requires.statistics;
-      low = c.of-tracked.ensures.most;
+      taken = λ v z t within settings own some.
+          subst (λ (w : Counts). GetsRun z t c.args.place (Ok tt) v c.args.reader.now w c.args.reader.now.left []) (sym (same_band v z _ (sym own)))
+          (gets_none z t _ v _);
+      tracked = c.requires.tracked;
       count = refl;
       long = refl;
       inside = omega arith;
     })
-
-pub of-tracked-requires-clause-counter : goal.of-tracked-requires-clause-counter
-of-tracked-requires-clause-counter c = counter_range c.args.run.rescaling.size c.args.statistics.now (c.args.run.rescaling.size_in).1 c.requires.statistics
-
-pub of-tracked-requires-clause-accumulator : goal.of-tracked-requires-clause-accumulator
-of-tracked-requires-clause-accumulator c = accumulator_range _ _ (c.args.run.rescaling.size_in).1 c.requires.statistics
-
-pub settled-settled-requires-clause-counter : goal.settled-settled-requires-clause-counter
-settled-settled-requires-clause-counter c = counter_range _ _ (c.args.run.rescaling.size_in).1 c.loop-i.invariant.statistics
-
-pub settled-settled-requires-clause-accumulator : goal.settled-settled-requires-clause-accumulator
-settled-settled-requires-clause-accumulator c = accumulator_range _ _ (c.args.run.rescaling.size_in).1 c.loop-i.invariant.statistics
 
 pub loop-i-preserved : goal.loop-i-preserved
 loop-i-preserved c =
@@ -49,32 +33,26 @@ loop-i-preserved c =
     record {
       taken = λ v z t within settings own some.
           let read : word_at c.loop-i.ahead.count (c.args.place + length (take c.loop-i.i c.loop-i.numbers))
-          (record { limit = v.umax; low = code_parameter v.bits c.loop-i.tracked.statistics; bits = v.bits }) c.loop-i.ahead.left
+          (record { limit = v.umax; low = code_parameter v.bits c.loop-i.band.statistics; bits = v.bits }) c.loop-i.ahead.left
           ≡ Ok (c.in-Ok.number, c.take_from.new.reader.left) =
-          rw (settings.umax_is, settings.bits_are, long, sym c.settled-settled.ensures.value) c.in-Ok.ensures.reads in
+          rw (settings.umax_is, settings.bits_are, long, sym c.settled-band.ensures.value) c.in-Ok.ensures.reads in
           let one = gets_later z (t + length (take c.loop-i.i c.loop-i.numbers)) (c.args.place + length (take c.loop-i.i c.loop-i.numbers)) _ v _ _ _ within
           (omega (arith, some)) read in
           let both = gets_behind z t _ (Ok tt) (take c.loop-i.i c.loop-i.numbers) (c.in-Ok.number ∷ []) v (with_band v z _)
-          (with_band v z (next_statistics v.gamma_star c.loop-i.tracked.statistics c.in-Ok.number)) _ _ _ was.count
+          (with_band v z (next_statistics v.gamma_star c.loop-i.band.statistics c.in-Ok.number)) _ _ _ was.count
           (was.taken v z t within settings own some) one in
-          let next : next_statistics v.gamma_star c.loop-i.tracked.statistics c.in-Ok.number ≡ c.next-tracked.result.statistics =
-          rw (settings.size_is, sym c.settled-settled.ensures.statistics) (sym c.next-tracked.ensures.value) in
+          let next : next_statistics v.gamma_star c.loop-i.band.statistics c.in-Ok.number ≡ c.next-band.result.statistics =
+          rw (settings.size_is, sym c.settled-band.ensures.statistics) (sym c.next-band.ensures.value) in
           subst (λ (ns : List ℕ). GetsRun z t c.args.place (Ok tt) v c.args.reader.now
-          (with_band v z c.next-tracked.result.statistics) c.take_from.new.reader.left ns) (sym cut)
+          (with_band v z c.next-band.result.statistics) c.take_from.new.reader.left ns) (sym cut)
           (subst (λ (s : Statistics). GetsRun z t c.args.place (Ok tt) v c.args.reader.now (with_band v z s) c.take_from.new.reader.left
           (take c.loop-i.i c.loop-i.numbers ++ c.in-Ok.number ∷ [])) next both);
-      statistics = c.next-tracked.ensures.statistics;
-      low = omega (arith, c.next-tracked.ensures.low, c.settled-settled.ensures.most);
+      tracked = c.next-band.ensures.tracked;
       count = c.in-Ok.ensures.count ∙ was.count;
       long = length-set c.loop-i.numbers c.loop-i.i c.in-Ok.number ∙ was.long;
       inside = omega (arith, lt, length-set c.loop-i.numbers c.loop-i.i c.in-Ok.number);
     }
 
-pub returns-clause-taken : goal.returns-clause-taken
-returns-clause-taken c = λ v z t within settings own some.
-    let same : c.loop-i-test.ahead ≡ c.loop-i.ahead = elim c.loop-i-test.branch [
-      | else-loop-i-test w ↦ w.ahead-is
-      | then-loop-i-test+in_default w ↦ w.ahead-is
-      | then-loop-i-test+in-Some+in_default-take_from w ↦ w.ahead-is ∙ w.in_default-take_from.ensures.same
-    ] in
-    rw same (c.loop-i.invariant.taken v z t within settings own some)
+pub returns-in_default-take_from-clause-taken : goal.returns-in_default-take_from-clause-taken
+returns-in_default-take_from-clause-taken c = λ v z t within settings own some.
+    rw (c.in_default-take_from.ensures.same, c.settled-band.ensures.statistics) (c.loop-i.invariant.taken v z t within settings own some)

@@ -6,7 +6,6 @@ use Rattle.sample_adaptive.specs.declared.statistics.Statistics.{Statistics}
 use Rattle.sample_adaptive.specs.Statistics.{next_statistics, code_parameter}
 use Rattle.sample_adaptive.specs.Reading.{word_at}
 use Rattle.sample_adaptive.specs.Taken.{Counts, GetsRun, with_band}
-use Rattle.sample_adaptive.proofs.Counting.{counter_range, accumulator_range}
 use Rattle.sample_adaptive.proofs.Running.{same_band}
 use Rattle.sample_adaptive.proofs.RunsRead.{gets_none, gets_later, gets_behind, later_refused}
 use Rattle.sample_adaptive.proofs.run_words.take_rest.Goals as goal
@@ -14,27 +13,13 @@ use Rattle.sample_adaptive.proofs.run_words.take_rest.Goals as goal
 pub loop-i-init : goal.loop-i-init
 loop-i-init c =
     record {
-      taken = λ v z t within settings own some. subst (λ (s : Statistics).
-          GetsRun z t c.args.place (Ok tt) v c.args.reader.now (with_band v z s) c.args.reader.now.left []) (sym c.of-tracked.ensures.statistics)
-          (subst (λ (w : Counts). GetsRun z t c.args.place (Ok tt) v c.args.reader.now w c.args.reader.now.left []) (sym (same_band v z _ (sym own)))
-          (gets_none z t _ v _));
-      statistics = rw c.of-tracked.ensures.statistics c.requires.statistics;
-      low = c.of-tracked.ensures.most;
+      taken = λ v z t within settings own some.
+          subst (λ (w : Counts). GetsRun z t c.args.place (Ok tt) v c.args.reader.now w c.args.reader.now.left []) (sym (same_band v z _ (sym own)))
+          (gets_none z t _ v _);
+      tracked = c.requires.tracked;
       count = refl;
       long = refl;
     }
-
-pub of-tracked-requires-clause-counter : goal.of-tracked-requires-clause-counter
-of-tracked-requires-clause-counter c = counter_range c.args.run.rescaling.size c.args.statistics.now (c.args.run.rescaling.size_in).1 c.requires.statistics
-
-pub of-tracked-requires-clause-accumulator : goal.of-tracked-requires-clause-accumulator
-of-tracked-requires-clause-accumulator c = accumulator_range _ _ (c.args.run.rescaling.size_in).1 c.requires.statistics
-
-pub settled-tracked-requires-clause-counter : goal.settled-tracked-requires-clause-counter
-settled-tracked-requires-clause-counter c = counter_range _ _ (c.args.run.rescaling.size_in).1 c.loop-i.invariant.statistics
-
-pub settled-tracked-requires-clause-accumulator : goal.settled-tracked-requires-clause-accumulator
-settled-tracked-requires-clause-accumulator c = accumulator_range _ _ (c.args.run.rescaling.size_in).1 c.loop-i.invariant.statistics
 
 pub returns-in-Err-clause-taken : goal.returns-in-Err-clause-taken
 returns-in-Err-clause-taken c = λ v z t within settings own some.
@@ -44,7 +29,7 @@ returns-in-Err-clause-taken c = λ v z t within settings own some.
     let enough : 0 < length (drop c.loop-i.i c.loop-i.numbers) = omega (arith, lt, length-drop c.loop-i.i c.loop-i.numbers) in
     let read : word_at c.loop-i.reader.count (c.args.place + length (take c.loop-i.i c.loop-i.numbers))
     (record { limit = v.umax; low = code_parameter v.bits c.loop-i.tracked.statistics; bits = v.bits }) c.loop-i.reader.left ≡ Err c.in-Err.fault =
-    rw (settings.umax_is, settings.bits_are, long, sym c.settled-tracked.ensures.value) c.in-Err.ensures.reads in
+    rw (settings.umax_is, settings.bits_are, long, sym c.settled-settled.ensures.value) c.in-Err.ensures.reads in
     let refused = later_refused z (t + length (take c.loop-i.i c.loop-i.numbers)) (c.args.place + length (take c.loop-i.i c.loop-i.numbers)) c.in-Err.fault v
     (with_band v z c.loop-i.tracked.statistics) c.loop-i.tracked.statistics c.loop-i.reader c.take_word.new.reader.left (drop c.loop-i.i c.loop-i.numbers)
     within (omega (arith, some)) read enough in
@@ -66,20 +51,19 @@ loop-i-preserved c =
           let read : word_at c.loop-i.reader.count (c.args.place + length (take c.loop-i.i c.loop-i.numbers))
           (record { limit = v.umax; low = code_parameter v.bits c.loop-i.tracked.statistics; bits = v.bits }) c.loop-i.reader.left
           ≡ Ok (c.in-Ok.number, c.take_word.new.reader.left) =
-          rw (settings.umax_is, settings.bits_are, long, sym c.settled-tracked.ensures.value) c.in-Ok.ensures.reads in
+          rw (settings.umax_is, settings.bits_are, long, sym c.settled-settled.ensures.value) c.in-Ok.ensures.reads in
           let one = gets_later z (t + length (take c.loop-i.i c.loop-i.numbers)) (c.args.place + length (take c.loop-i.i c.loop-i.numbers)) _ v _ _ _ within
           (omega (arith, some)) read in
           let both = gets_behind z t _ (Ok tt) (take c.loop-i.i c.loop-i.numbers) (c.in-Ok.number ∷ []) v (with_band v z _)
           (with_band v z (next_statistics v.gamma_star c.loop-i.tracked.statistics c.in-Ok.number)) _ _ _ was.count
           (was.taken v z t within settings own some) one in
-          let next : next_statistics v.gamma_star c.loop-i.tracked.statistics c.in-Ok.number ≡ c.next-tracked.result.statistics =
-          rw (settings.size_is, sym c.settled-tracked.ensures.statistics) (sym c.next-tracked.ensures.value) in
+          let next : next_statistics v.gamma_star c.loop-i.tracked.statistics c.in-Ok.number ≡ c.next.result.statistics =
+          rw (settings.size_is, sym c.settled-settled.ensures.statistics) (sym c.next.ensures.value) in
           subst (λ (ns : List ℕ). GetsRun z t c.args.place (Ok tt) v c.args.reader.now
-          (with_band v z c.next-tracked.result.statistics) c.take_word.new.reader.left ns) (sym cut)
+          (with_band v z c.next.result.statistics) c.take_word.new.reader.left ns) (sym cut)
           (subst (λ (s : Statistics). GetsRun z t c.args.place (Ok tt) v c.args.reader.now (with_band v z s) c.take_word.new.reader.left
           (take c.loop-i.i c.loop-i.numbers ++ c.in-Ok.number ∷ [])) next both);
-      statistics = c.next-tracked.ensures.statistics;
-      low = omega (arith, c.next-tracked.ensures.low, c.settled-tracked.ensures.most);
+      tracked = c.next.ensures.tracked;
       count = c.in-Ok.ensures.count ∙ was.count;
       long = length-set c.loop-i.numbers c.loop-i.i c.in-Ok.number ∙ was.long;
     }

@@ -1,16 +1,15 @@
-use Rattle.std.proofs.Common.{◌≡◌, ◌+◌, ◌<◌, ◌≤◌, ℕ, length, take, Ok}
-use Rattle.sample_adaptive.specs.Statistics.{AreStatistics}
+use Rattle.std.proofs.Common.{◌≡◌, ◌<◌, ℕ, length, take, Ok}
 use Rattle.sample_adaptive.specs.Taken.{Counts, HasSettings, GetsRun, of_band, with_band}
+use Rattle.sample_adaptive.specs.Tracked.{IsTracked}
 use Rattle.sample_adaptive.proofs.run_words.take_rest.Given as goal
 
 abbrev pub invariant-loop-i : goal.invariant-loop-i
 invariant-loop-i l =
     record {
       taken : (v : Counts) (z t : ℕ) → z < length v.bands → HasSettings v l.fn.run.bits l.fn.run.limit l.fn.run.rescaling.size
-          → of_band v.bands z ≡ l.initial.statistics → 0 < t
+          → of_band v.bands z ≡ l.initial.tracked.statistics → 0 < t
           → GetsRun z t l.fn.place (Ok tt) v l.initial.reader (with_band v z l.tracked.statistics) l.reader.left (take l.i l.numbers);
-      statistics : AreStatistics l.fn.run.rescaling.size l.tracked.statistics;
-      low : l.tracked.low + 2 ≤ l.fn.run.bits;
+      tracked : IsTracked l.fn.run l.tracked;
       count : l.reader.count ≡ l.initial.reader.count;
       long : length l.numbers ≡ length l.initial.numbers;
     }

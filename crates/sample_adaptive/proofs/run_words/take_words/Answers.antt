@@ -16,8 +16,8 @@ returns-in_err-first-in-Some-clause-taken c = λ v z within settings own.
     let read : word_at c.args.reader.now.count c.args.place (code_by v z c.args.t) c.args.reader.now.left ≡ Err c.in_err-first-in-Some.field-0.0 =
     rw (none, settings.bits_are) c.in_err-first-in-Some.ensures.reads in
     rw (told.1, told.2)
-    (gets_refused z c.args.t c.args.place c.in_err-first-in-Some.field-0.0 v (with_band v z c.args.statistics.now) c.args.reader.now c.take_word.new.reader.left
-    (c.in-Some.first.now ∷ c.in-Some.later.now) within read (omega arith))
+    (gets_refused z c.args.t c.args.place c.in_err-first-in-Some.field-0.0 v (with_band v z c.args.tracked.now.statistics) c.args.reader.now
+    c.take_word.new.reader.left (c.in-Some.first.now ∷ c.in-Some.later.now) within read (omega arith))
 
 pub returns-in_ok-first-in-Some-clause-taken : goal.returns-in_ok-first-in-Some-clause-taken
 returns-in_ok-first-in-Some-clause-taken c = λ v z within settings own.
@@ -26,7 +26,7 @@ returns-in_ok-first-in-Some-clause-taken c = λ v z within settings own.
     ≡ Ok (c.in_ok-first-in-Some.field-0, c.take_word.new.reader.left) = rw settings.bits_are c.in_ok-first-in-Some.ensures.reads in
     let one = gets_one z 0 c.args.place c.in_ok-first-in-Some.field-0 v c.args.reader.now c.take_word.new.reader.left within read in
     let rest = c.take_later-in-Some.ensures.taken v z 1 within settings own (omega arith) in
-    subst (λ (t : ℕ). GetsRun z t c.args.place c.take_later-in-Some.result v c.args.reader.now (with_band v z c.take_later-in-Some.new.statistics)
+    subst (λ (t : ℕ). GetsRun z t c.args.place c.take_later-in-Some.result v c.args.reader.now (with_band v z c.take_later-in-Some.new.tracked.statistics)
     c.take_later-in-Some.new.reader.left (c.in_ok-first-in-Some.field-0 ∷ c.take_later-in-Some.new.numbers)) (sym none)
     (gets_behind z 0 _ _ (c.in_ok-first-in-Some.field-0 ∷ []) _ v v (with_band v z _) _ _ _
     c.in_ok-first-in-Some.ensures.count one rest)
@@ -37,7 +37,7 @@ empty_is (n ∷ ns) e = absurd (omega (arith, e))
 
 pub returns-in-None-clause-taken : goal.returns-in-None-clause-taken
 returns-in-None-clause-taken c = λ v z within settings own.
-    subst (λ (ns : List ℕ). GetsRun z c.args.t c.args.place (Ok tt) v c.args.reader.now (with_band v z c.args.statistics.now) c.args.reader.now.left ns)
+    subst (λ (ns : List ℕ). GetsRun z c.args.t c.args.place (Ok tt) v c.args.reader.now (with_band v z c.args.tracked.now.statistics) c.args.reader.now.left ns)
     (sym (empty_is c.args.numbers.now (omega (arith, c.in-None.ensures.cases))))
     (subst (λ (w : Counts). GetsRun z c.args.t c.args.place (Ok tt) v c.args.reader.now w c.args.reader.now.left []) (sym (same_band v z _ (sym own)))
     (gets_none z _ _ v _))

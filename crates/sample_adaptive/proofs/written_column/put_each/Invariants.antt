@@ -1,15 +1,16 @@
-use Rattle.std.proofs.Common.{◌≡◌, ◌-◌, ◌*◌, ◌<◌, ◌≤◌, ℕ, eqb, length}
-use Rattle.sample_adaptive.specs.Statistics.{AreStatistics}
-use Rattle.sample_adaptive.specs.Taken.{Counts, HasSettings, of_band}
+use Rattle.std.proofs.Common.{◌≡◌, ◌-◌, ◌*◌, ◌≤◌, ℕ, eqb, length}
+use Rattle.sample_adaptive.specs.Taken.{Counts, HasSettings}
+use Rattle.sample_adaptive.specs.Tracked.{AreTracked, statistics_of}
 use Rattle.sample_adaptive.proofs.ColumnsWritten.{PutsTo}
 use Rattle.sample_adaptive.proofs.written_column.put_each.Given as goal
 
 abbrev pub invariant-loop-i : goal.invariant-loop-i
 invariant-loop-i l =
     record {
-      puts : (v : Counts) (t : ℕ) → l.fn.first ≡ eqb t 0 → v.bands ≡ l.initial.bands → HasSettings v l.fn.run.bits l.fn.run.limit l.fn.run.rescaling.size
-          → PutsTo l.fn.z t l.i v l.bands l.numbers l.initial.writer.bits l.writer.bits;
-      statistics : (b : ℕ) → b < length l.bands → AreStatistics l.fn.run.rescaling.size (of_band l.bands b);
+      puts : (v : Counts) (t : ℕ) → l.fn.first ≡ eqb t 0 → v.bands ≡ statistics_of l.initial.bands
+          → HasSettings v l.fn.run.bits l.fn.run.limit l.fn.run.rescaling.size
+          → PutsTo l.fn.z t l.i v (statistics_of l.bands) l.numbers l.initial.writer.bits l.writer.bits;
+      tracked : AreTracked l.fn.run l.bands;
       room : 48 * (length l.numbers - l.i) ≤ l.writer.room;
       within : l.i ≤ length l.numbers;
       bands : length l.bands ≡ length l.initial.bands;

@@ -1,29 +1,22 @@
-use Rattle.std.proofs.Common.{Bool, List, ◌++◌, Result, Ok, Err, OnOk, ap, sym, ◌∙◌}
-use Rattle.cube_core.specs.declared.fault.Fault.{Fault}
-use Rattle.sample_adaptive.specs.declared.code_word.Code.{Code}
-use Rattle.sample_adaptive.specs.Words.{code_word}
-use Rattle.sample_adaptive.proofs.Taking.{code_is, taken_more}
+use Rattle.std.proofs.Common.{◌≡◌, List, Bool, ◌++◌, refl, ap, sym, subst, ◌∙◌}
+use Rattle.sample_adaptive.specs.Taken.{Counts, PutsNumber, with_band}
+use Rattle.sample_adaptive.specs.Tracked.{statistics_of}
+use Rattle.sample_adaptive.proofs.ColumnsWritten.{puts_number}
+use Rattle.sample_adaptive.proofs.Tracking.{settings_seen, band_own, statistics_set}
 use Rattle.sample_adaptive.proofs.stats.Stats.put.Goals as goal
 
-on_ok : (r : Result (Unit {0}) Fault) (P Q : Type 0) → (P → Q) → OnOk r P → OnOk r Q
-on_ok (Ok u) P Q f h = f h
-on_ok (Err e) P Q f h = tt
-
-pub returns-then-t-eq0-clause-taken : goal.returns-then-t-eq0-clause-taken
-returns-then-t-eq0-clause-taken c =
-    on_ok c.push.result _ _
-    (λ appended settings taken h next.
-    let first = sym c.if-t-eq0.true ∙ next in
-    let code = c.code.ensures.value ∙ code_is settings c.args.self.now taken c.args.z 0 h c.requires.band first in (
-      appended ∙ ap (λ (bits : List Bool). c.args.writer.now.bits ++ bits) (c.word_of-word.ensures.word ∙ ap (λ (k : Code). code_word k c.args.delta) code),
-      taken_more settings c.args.self.now taken c.args.z 0 c.args.delta h c.requires.band first,
-    ))
-    c.push.ensures.appended
-
 pub returns-clause-taken : goal.returns-clause-taken
-returns-clause-taken c = λ settings taken h next.
-    let code = c.code-2.ensures.value ∙ code_is settings c.args.self.now taken c.args.z c.args.t h c.requires.band next in (
-      c.in_ok-push.ensures.appended
-          ∙ ap (λ (bits : List Bool). c.args.writer.now.bits ++ bits) (c.word_of-word-2.ensures.word ∙ ap (λ (k : Code). code_word k c.args.delta) code),
-      rw c.count.ensures (taken_more settings c.args.self.now taken c.args.z c.args.t c.args.delta h c.requires.band next),
-    )
+returns-clause-taken c =
+    let v = c.args.self.now in
+    let items = c.self.inside.bands.items in
+    let kept = c.next_word-word.new.tracked in
+    let same : statistics_of items ≡ v.bands = ap (λ (w : Counts). w.bands) c.self.view_is in
+    let known = settings_seen v _ c.self.view_is in
+    let own = band_own v items same c.args.z c.requires.band c.index.result.now c.index.ensures in
+    let text = c.in_ok-push.ensures.appended
+    ∙ ap (λ (bits : List Bool). c.args.writer.now.bits ++ bits) (c.next_word-word.ensures.word v c.args.z c.args.t refl known own) in
+    let counts = c.next_word-word.ensures.counts v c.args.z c.args.t refl known own in
+    rw (statistics_set items c.args.z kept)
+    (subst (λ (w : Counts). PutsNumber c.args.z c.args.t c.args.delta v c.args.writer.now.bits w c.push.new.self.bits)
+    (counts ∙ ap (λ (w : Counts). with_band w c.args.z kept.statistics) (sym c.self.view_is))
+    (puts_number c.args.z c.args.t c.args.delta v _ _ c.requires.band text))

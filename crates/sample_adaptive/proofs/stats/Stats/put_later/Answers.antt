@@ -1,19 +1,16 @@
-use Rattle.std.proofs.Common.{◌≡◌, ◌<◌, length, ap, sym, subst, ◌∙◌}
-use Rattle.std.proofs.lemmas.List.{get_or_default}
-use Rattle.sample_adaptive.specs.Taken.{Counts, HasSettings, PutsRun, of_band, with_band, no_statistics}
+use Rattle.std.proofs.Common.{◌≡◌, ap, sym, subst}
+use Rattle.sample_adaptive.specs.Taken.{Counts, PutsRun, with_band}
+use Rattle.sample_adaptive.specs.Tracked.{statistics_of}
+use Rattle.sample_adaptive.proofs.Tracking.{settings_seen, band_own, statistics_set}
 use Rattle.sample_adaptive.proofs.stats.Stats.put_later.Goals as goal
 
 pub returns-clause-taken : goal.returns-clause-taken
 returns-clause-taken c = λ t some.
-    let within : c.args.z < length c.self.inside.bands.items = rw (← c.self.view_is) at c.requires.band in
-    let is : c.index.result.now ≡ of_band c.self.inside.bands.items c.args.z = c.index.ensures ∙ get_or_default _ _ _ no_statistics within in
-    let own : of_band c.args.self.now.bands c.args.z ≡ c.index.result.now = sym (is ∙ ap (λ (v : Counts). of_band v.bands c.args.z) c.self.view_is) in
-    let settings : HasSettings c.args.self.now c.self.inside.bits c.self.inside.umax c.self.inside.rescaling.size =
-    record {
-      bits_are = ap (λ (v : Counts). v.bits) (sym c.self.view_is);
-      umax_is = ap (λ (v : Counts). v.umax) (sym c.self.view_is);
-      size_is = ap (λ (v : Counts). v.gamma_star) (sym c.self.view_is);
-    } in
-    let run = c.replace_with.ensures.0 c.args.self.now c.args.z t c.requires.band settings own some in
-    subst (λ (v : Counts). PutsRun c.args.z t c.args.numbers.now c.args.self.now c.args.writer.now.bits v c.replace_with.new.dest.bits)
-    (ap (λ (v : Counts). with_band v c.args.z c.replace_with.result) (sym c.self.view_is)) run
+    let v = c.args.self.now in
+    let items = c.self.inside.bands.items in
+    let same : statistics_of items ≡ v.bands = ap (λ (w : Counts). w.bands) c.self.view_is in
+    let own = band_own v items same c.args.z c.requires.band c.index.result.now c.index.ensures in
+    let run = c.replace_with.ensures.0 v c.args.z t c.requires.band (settings_seen v _ c.self.view_is) own some in
+    rw (statistics_set items c.args.z c.replace_with.result)
+    (subst (λ (w : Counts). PutsRun c.args.z t c.args.numbers.now v c.args.writer.now.bits w c.replace_with.new.dest.bits)
+    (ap (λ (w : Counts). with_band w c.args.z c.replace_with.result.statistics) (sym c.self.view_is)) run)

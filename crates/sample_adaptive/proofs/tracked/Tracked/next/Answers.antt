@@ -1,8 +1,17 @@
 use Rattle.std.proofs.Common.{arith}
-use Rattle.sample_adaptive.proofs.Counting.{halved_in_range}
+use Rattle.sample_adaptive.specs.Statistics.{AreStatistics}
+use Rattle.sample_adaptive.proofs.Counting.{counter_range, halved_in_range, product_whole}
 use Rattle.sample_adaptive.proofs.tracked.Tracked.next.Goals as goal
 
-pub returns-clause-statistics : goal.returns-clause-statistics
-returns-clause-statistics c = rw c.halved-statistics.ensures
-    (halved_in_range c.args.rescaling.size c.args.self.statistics c.args.number c.args.rescaling.size_in.0 c.requires.statistics (omega arith)
-    (omega (arith, c.if-statistics-rescaling.false, c.args.rescaling.greatest_is)))
+pub returns-clause-tracked : goal.returns-clause-tracked
+returns-clause-tracked c =
+    let rescaling = c.args.run.rescaling in
+    let halved : AreStatistics rescaling.size c.halved-statistics.result =
+    rw c.halved-statistics.ensures (halved_in_range rescaling.size c.args.self.statistics c.args.number rescaling.size_in.0 c.requires.statistics (omega arith)
+    (omega (arith, c.if-statistics-run.false, rescaling.greatest_is))) in
+    record {
+      statistics = halved;
+      low = c.requires.low;
+      one = c.requires.one;
+      scaled = product_whole _ _ (counter_range _ _ rescaling.size_in.1 halved).1 (omega (arith, c.requires.low, c.args.run.bits_in));
+    }
