@@ -8,6 +8,7 @@ ghost use Rattle.std.specs.Prelude.{slice_index, slice_index_or, if◌then◌els
 ghost use Rattle.cube_core.specs.Kind.{IsSample, smin};
 ghost use Rattle.cube_core.specs.Image.{IsPlace, put};
 ghost use Rattle.header_bits.specs.declared.params.Params.{Params as Parameters};
+ghost use Rattle.predict_core.specs.Arithmetic.{floor_div};
 ghost use Rattle.predict_core.specs.Bounds.{AllWithin};
 ghost use Rattle.predict_core.specs.Chain.{AreWeightsAt, scaled_by_difference};
 ghost use Rattle.predict_core.specs.Predictor.{previous_bands};
@@ -25,10 +26,9 @@ ghost use Rattle.predict_core.specs.Weights.{step_exponent};
 use crate::chain::differences_at;
 use crate::differences::west_of;
 use crate::exponent::{exponent_at, places_alike};
-use crate::mapping::scaled_offset;
 use crate::prediction::predicted_difference;
 use crate::range::Range;
-use crate::residual::unmap_with_turn;
+use crate::residual::{prediction_of, unmap_by_center};
 use crate::room::Quad;
 use crate::settings::{Settings, form_at};
 use crate::weights::{Form, update_by};
@@ -252,9 +252,20 @@ fn sample_by_part(range: &Range, part: i32, sum: u32, delta: u16) -> (i32, i32)
     ensures most { result.1 ≤ℤ pos 0 }
 {
     let greatest = range.smax - range.smin;
-    let scaled = scaled_offset(greatest, part, sum as i32);
-    let (offset, turn) = unmap_with_turn(0, greatest, scaled, delta);
+    let center = center_of(part, sum);
+    let (offset, turn) = unmap_by_center(0, greatest, center, delta);
     (range.smin + offset, turn)
+}
+
+/// Returns the scaled prediction of an offset before it is clipped.
+#[inline(always)]
+fn center_of(part: i32, sum: u32) -> i32
+    requires part_in { unsigned_abs part ≤ 18 * 2 ^ 20 }
+    requires sum_in { sum ≤ 262140 }
+    ensures value { result ≡ floor_div (part +ℤ pos sum) 2 +ℤ pos 1 }
+    ensures bound { unsigned_abs result ≤ 2 ^ 26 }
+{
+    prediction_of(part + (sum as i32 + 2))
 }
 
 /// Returns how far a sample is above the least one.

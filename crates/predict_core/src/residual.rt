@@ -2,7 +2,7 @@
 
 ghost use Rattle.std.specs.Prelude.{◌≡◌, ◌+◌, ◌*◌, ◌^◌, ◌<◌, ◌≤◌, pos, negsuc, ◌≤ℤ◌, ◌+ℤ◌, ◌-ℤ◌, ◌*ℤ◌, min, IsTrue, unsigned_abs, int_lt, ◌%◌};
 ghost use Rattle.cube_core.specs.Kind.{IsSample};
-ghost use Rattle.predict_core.specs.Arithmetic.{floor_div};
+ghost use Rattle.predict_core.specs.Arithmetic.{floor_div, clip};
 ghost use Rattle.predict_core.specs.Residual.{theta_between, agrees, number_of, mapped_between, mapped};
 ghost use Rattle.predict_core.specs.Mapping.{error_of, unmapped_between, Between, IsScaled};
 
@@ -95,38 +95,50 @@ fn turn_between(low: i32, high: i32, scaled: i32, delta: u16) -> i32
 
 /// Returns both: the sample of the mapped residual `delta`, and all ones where it is less than its prediction, else 0.
 ///
-/// Where half of `delta` is no farther than either end of the range, as it mostly is, they take a few steps from both sides
-/// of the prediction.
+/// The scaled prediction is `center`, clipped. Where half of `delta` is no farther than either end of the range, as it
+/// mostly is, nothing was clipped, and both take a few steps.
 #[inline(always)]
-pub(crate) fn unmap_with_turn(low: i32, high: i32, scaled: i32, delta: u16) -> (i32, i32)
+pub(crate) fn unmap_by_center(low: i32, high: i32, center: i32, delta: u16) -> (i32, i32)
     requires low_in { negsuc 32767 ≤ℤ low }
+    requires order { low ≤ℤ high }
     requires high_in { high ≤ℤ (low +ℤ pos 65535) }
     requires high_top { high ≤ℤ pos 65535 }
-    requires scaled_low { (pos 2 *ℤ low) ≤ℤ scaled }
-    requires scaled_high { scaled ≤ℤ (pos 2 *ℤ high +ℤ pos 1) }
+    requires center_in { unsigned_abs center ≤ 2 ^ 26 }
     requires delta_in { pos delta ≤ℤ (high -ℤ low) }
-    ensures value { result.0 ≡ unmapped_between low high scaled delta }
+    ensures value { result.0 ≡ unmapped_between low high (clip center (pos 2 *ℤ low) (pos 2 *ℤ high +ℤ pos 1)) delta }
     ensures range { Between low high result.0 }
-    ensures inverse { mapped_between low high scaled result.0 ≡ delta }
-    ensures turn { int_lt result.1 (pos 0) ≡ int_lt (pos 2 *ℤ unmapped_between low high scaled delta -ℤ scaled) (pos 0) }
+    ensures inverse { mapped_between low high (clip center (pos 2 *ℤ low) (pos 2 *ℤ high +ℤ pos 1)) result.0 ≡ delta }
+    ensures turn { int_lt result.1 (pos 0) ≡ int_lt (pos 2 *ℤ result.0 -ℤ clip center (pos 2 *ℤ low) (pos 2 *ℤ high +ℤ pos 1)) (pos 0) }
     ensures least { negsuc 0 ≤ℤ result.1 }
     ensures most { result.1 ≤ℤ pos 0 }
 {
-    let predicted = prediction_of(scaled);
+    let predicted = prediction_of(center);
     let half = (delta as u32 + 1) / 2;
     let below = predicted - half as i32;
     let above = predicted + half as i32;
     if below < low || high < above {
-        return unmap_far(low, high, scaled, delta);
+        return unmap_far(low, high, clipped(low, high, center), delta);
     }
-    if (delta as u32 + scaled.unsigned_abs()) % 2 == 0 {
+    if (delta as u32 + center.unsigned_abs()) % 2 == 0 {
         (above, 0)
     } else {
         (below, -1)
     }
 }
 
-/// Returns the same, wherever the sample is.
+/// Returns the scaled prediction, which is a number clipped to its range.
+fn clipped(low: i32, high: i32, center: i32) -> i32
+    requires low_in { negsuc 32767 ≤ℤ low }
+    requires order { low ≤ℤ high }
+    requires high_top { high ≤ℤ pos 65535 }
+    ensures value { result ≡ clip center (pos 2 *ℤ low) (pos 2 *ℤ high +ℤ pos 1) }
+    ensures least { (pos 2 *ℤ low) ≤ℤ result }
+    ensures most { result ≤ℤ (pos 2 *ℤ high +ℤ pos 1) }
+{
+    center.min(2 * high + 1).max(2 * low)
+}
+
+/// Returns the same for a scaled prediction, wherever the sample is.
 #[cold]
 fn unmap_far(low: i32, high: i32, scaled: i32, delta: u16) -> (i32, i32)
     requires low_in { negsuc 32767 ≤ℤ low }

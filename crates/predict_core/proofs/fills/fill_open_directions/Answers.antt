@@ -1,4 +1,4 @@
-use Rattle.std.proofs.Common.{◌≡◌, ◌<◌, ◌*◌, pos, [], ◌∷◌, ◌++◌, ◌-ℤ◌, length, replicate, get_or, to_z, w32, SFits, to_z-of_z, rules, arith, refl, sym, ap, ◌∙◌, length-set}
+use Rattle.std.proofs.Common.{◌≡◌, ◌<◌, pos, [], ◌∷◌, ◌++◌, length, replicate, to_z, w32, SFits, to_z-of_z, rules, arith, refl, sym, ap, ◌∙◌, length-set}
 use Rattle.std.proofs.lemmas.Int.{to_z_pos}
 use Rattle.predict_core.specs.Lines.{line_sum, line_difference, line_directions}
 use Rattle.predict_core.specs.OffsetSum.{offset_difference}

@@ -1,4 +1,4 @@
-use Rattle.std.proofs.Common.{◌≡◌, ◌^◌, ◌<◌, ◌≤◌, ℕ, ℤ, pos, negsuc, ◌+ℤ◌, ◌-ℤ◌, ◌*ℤ◌, ◌≤ℤ◌, int_lt, int_le, ap, ◌∙◌, SFits, w32, to_z, of_z, to_z-of_z, rules, arith}
+use Rattle.std.proofs.Common.{◌≡◌, ◌^◌, ◌<◌, ℕ, ℤ, pos, negsuc, ◌+ℤ◌, ◌-ℤ◌, ◌*ℤ◌, ◌≤ℤ◌, int_lt, int_le, ap, ◌∙◌, SFits, w32, to_z, of_z, to_z-of_z, rules, arith, refl}
 use Rattle.std.proofs.lemmas.Int.{ints}
 use Rattle.cube_core.specs.Kind.{SampleKind, smin, smid, smax}
 use Rattle.predict_core.specs.Arithmetic.{floor_div, clip}
@@ -7,12 +7,12 @@ use Rattle.predict_core.proofs.Floors.{sign_of_center, sign_of_part}
 use Rattle.predict_core.proofs.Numbers.{shifted, scaled_up}
 use Rattle.predict_core.proofs.Spans.{span}
 use Rattle.predict_core.proofs.inverse_chain.sample_by_part.Goals as goal
-use Rattle.predict_core.proofs.inverse_chain.sample_by_part.Goals.{After-scaled_offset-scaled}
+use Rattle.predict_core.proofs.inverse_chain.sample_by_part.Goals.{After-center_of-center}
 
 below_span : (width : ℤ) (n power : ℕ) → width ≡ pos power -ℤ pos 1 → n < power → pos n ≤ℤ (width -ℤ pos 0)
 below_span width n power e l = omega (arith, ints, e, l)
 
-module _ (c : After-scaled_offset-scaled) where
+module _ (c : After-center_of-center) where
   -- from the least offset to the greatest
   width : to_z w32 (of_z w32 (to_z w32 (of_z w32 c.args.range.now.smax) -ℤ to_z w32 (of_z w32 c.args.range.now.smin))) ≡ smax c.args.range.now.kind -ℤ smin c.args.range.now.kind
   width =
@@ -24,13 +24,10 @@ module _ (c : After-scaled_offset-scaled) where
   powers : smax c.args.range.now.kind -ℤ smin c.args.range.now.kind ≡ pos (2 ^ c.args.range.now.kind.bits) -ℤ pos 1
   powers = span c.args.range.now.kind c.args.range.now.lawful
 
-pub unmap_with_turn-offset-requires-clause-delta_in : goal.unmap_with_turn-offset-requires-clause-delta_in
-unmap_with_turn-offset-requires-clause-delta_in c =
-    let d = (goal.at.unmap_with_turn-offset-requires-clause-delta_in c).After-scaled_offset-scaled in
+pub unmap_by_center-offset-requires-clause-delta_in : goal.unmap_by_center-offset-requires-clause-delta_in
+unmap_by_center-offset-requires-clause-delta_in c =
+    let d = (goal.at.unmap_by_center-offset-requires-clause-delta_in c).After-center_of-center in
     rw (width d) (below_span _ _ _ (powers d) c.requires.residual)
-
-cast_sum : (sum : ℕ) → sum ≤ 262140 → to_z w32 sum ≡ pos sum
-cast_sum sum h = omega (arith, ints)
 
 -- the sample of an offset, as the code computes it
 sample_is : (low high v : ℤ) → negsuc 32767 ≤ℤ low → low ≤ℤ pos 0 → pos 0 ≤ℤ v → v ≤ℤ (high -ℤ low) → high ≤ℤ pos 65535 → to_z w32 (of_z w32 (to_z w32 (of_z w32 low) +ℤ to_z w32 (of_z w32 v))) ≡ low +ℤ v
@@ -61,34 +58,29 @@ told low part sum offset greatest scaled a b e =
 
 pub returns-clause-turn : goal.returns-clause-turn
 returns-clause-turn c =
-    let d = (goal.at.returns-clause-turn c).After-scaled_offset-scaled in
+    let d = (goal.at.returns-clause-turn c).After-center_of-center in
     let r = c.args.range.now in
     let k : SampleKind = r.kind in
-    let scaled_fits : SFits w32 c.scaled_offset-scaled.result = search rules in
-    let turn_fits : SFits w32 c.unmap_with_turn-offset.result.1 = search rules in
-    let sum_is = cast_sum c.args.sum c.requires.sum_in in
-    let value = rw (width d, sum_is) at (simp (to_z-of_z c.ranges.part) at c.scaled_offset-scaled.ensures.value) in
-    let scaled = value c.requires.part_in (omega (arith, ints)) (omega (arith, ints, c.requires.sum_in)) in
-    let within = rw (width d) at c.unmap_with_turn-offset.ensures.range in
-    let offset = rw (width d) at (simp (to_z-of_z scaled_fits) at c.unmap_with_turn-offset.ensures.value) in
-    let turn = rw (width d, ← offset) at (simp (to_z-of_z scaled_fits) at c.unmap_with_turn-offset.ensures.turn) in
+    let center_fits : SFits w32 c.center_of-center.result = search rules in
+    let center = simp (to_z-of_z c.ranges.part) at c.center_of-center.ensures.value in
+    let turn_fits : SFits w32 c.unmap_by_center-offset.result.1 = search rules in
+    let within = rw (width d) at c.unmap_by_center-offset.ensures.range in
+    let turn = rw (width d, center) at (simp (to_z-of_z center_fits) at c.unmap_by_center-offset.ensures.turn) in
     let low = r.low in
     let high = r.high in
-    let result = sample_is r.smin (smax k) c.unmap_with_turn-offset.result.0 low.0 low.1 within.0 (rw r.smin_is within.1) (rw (← r.smax_is) high.1) ∙ ap (λ v. v +ℤ c.unmap_with_turn-offset.result.0) r.smin_is in
-    rw (to_z-of_z turn_fits, result) (turn ∙ told (smin k) c.args.part (pos c.args.sum) c.unmap_with_turn-offset.result.0 (smax k -ℤ smin k) c.scaled_offset-scaled.result within.0 within.1 scaled)
+    let result = sample_is r.smin (smax k) c.unmap_by_center-offset.result.0 low.0 low.1 within.0 (rw r.smin_is within.1) (rw (← r.smax_is) high.1) ∙ ap (λ v. v +ℤ c.unmap_by_center-offset.result.0) r.smin_is in
+    rw (to_z-of_z turn_fits, result) (turn ∙ told (smin k) c.args.part (pos c.args.sum) c.unmap_by_center-offset.result.0 (smax k -ℤ smin k) _ within.0 within.1 refl)
 
 pub returns-clause-inverse : goal.returns-clause-inverse
 returns-clause-inverse c =
-    let d = (goal.at.returns-clause-inverse c).After-scaled_offset-scaled in
+    let d = (goal.at.returns-clause-inverse c).After-center_of-center in
     let r = c.args.range.now in
     let k : SampleKind = r.kind in
-    let scaled_fits : SFits w32 c.scaled_offset-scaled.result = search rules in
-    let sum_is = cast_sum c.args.sum c.requires.sum_in in
-    let value = rw (width d, sum_is) at (simp (to_z-of_z c.ranges.part) at c.scaled_offset-scaled.ensures.value) in
-    let scaled = value c.requires.part_in (omega (arith, ints)) (omega (arith, ints, c.requires.sum_in)) in
-    let e = rw (width d) at (simp (to_z-of_z scaled_fits) at c.unmap_with_turn-offset.ensures.inverse) in
-    let within = rw (width d) at c.unmap_with_turn-offset.ensures.range in
+    let center_fits : SFits w32 c.center_of-center.result = search rules in
+    let center = simp (to_z-of_z c.ranges.part) at c.center_of-center.ensures.value in
+    let e = rw (width d, center) at (simp (to_z-of_z center_fits) at c.unmap_by_center-offset.ensures.inverse) in
+    let within = rw (width d) at c.unmap_by_center-offset.ensures.range in
     let low = r.low in
     let high = r.high in
-    let result = sample_is r.smin (smax k) c.unmap_with_turn-offset.result.0 low.0 low.1 within.0 (rw r.smin_is within.1) (rw (← r.smax_is) high.1) ∙ ap (λ v. v +ℤ c.unmap_with_turn-offset.result.0) r.smin_is in
-    rw result (back_from_offset (smin k) (smid k) (smax k) c.args.part (pos c.args.sum) c.scaled_offset-scaled.result c.unmap_with_turn-offset.result.0 c.args.delta scaled e)
+    let result = sample_is r.smin (smax k) c.unmap_by_center-offset.result.0 low.0 low.1 within.0 (rw r.smin_is within.1) (rw (← r.smax_is) high.1) ∙ ap (λ v. v +ℤ c.unmap_by_center-offset.result.0) r.smin_is in
+    rw result (back_from_offset (smin k) (smid k) (smax k) c.args.part (pos c.args.sum) _ c.unmap_by_center-offset.result.0 c.args.delta refl e)
