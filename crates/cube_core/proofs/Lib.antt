@@ -7,6 +7,7 @@ pub mod Orders
 pub mod RawBytes
 pub mod Pieces
 pub mod Poured
+pub mod Putting
 pub mod Raws
 pub mod Scales
 pub mod Spelled
