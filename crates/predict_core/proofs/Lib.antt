@@ -2,6 +2,7 @@ pub mod Chains
 pub mod Directions
 pub mod Filling
 pub mod Following
+pub mod Earlier
 pub mod Frame
 pub mod Inverting
 pub mod InverseRuns
