@@ -1,10 +1,12 @@
 pub mod Bounds
+pub mod Come
 pub mod Fitting
 pub mod Offsets
 pub mod Keys
 pub mod Lists
 pub mod Orders
 pub mod RawBytes
+pub mod Rows
 pub mod Pieces
 pub mod Poured
 pub mod Putting

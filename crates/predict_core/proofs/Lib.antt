@@ -38,3 +38,4 @@ pub mod Links
 pub mod Runs
 pub mod Intervals
 pub mod WholeRuns
+pub mod Walking

@@ -20,3 +20,4 @@ pub mod Steps
 pub mod Weights
 pub mod Rows
 pub mod Everything
+pub mod Walked
