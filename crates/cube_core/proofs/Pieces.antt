@@ -130,29 +130,10 @@ IsPast p y x count z = (p.y < y) ⊎ ((p.y ≡ y) × ((p.x < x) ⊎ ((p.x < x + 
 abbrev pub EachPast : Sizes → (Place → Type 0) → ℕ → ℕ → ℕ → ℕ → Type 0
 EachPast s P y x count z = (p : Place) → IsPlaceOf s p → IsPast p y x count z → P p
 
-pub none_past : (s : Sizes) (P : Place → Type 0) → EachPast s P 0 0 0 0
-none_past s P p place (inl low) = absurd (omega (arith, low))
-none_past s P p place (inr (_, inl low)) = absurd (omega (arith, low))
-none_past s P p place (inr (_, inr (_, low))) = absurd (omega (arith, low))
-
-pub block_begins : (s : Sizes) (P : Place → Type 0) (y x count : ℕ) → EachPast s P y x 0 0 → EachPast s P y x count 0
-block_begins s P y x count h p place (inl low) = h p place (inl low)
-block_begins s P y x count h p place (inr (row, inl low)) = h p place (inr (row, inl low))
-block_begins s P y x count h p place (inr (row, inr (_, low))) = absurd (omega (arith, low))
-
 pub block_ends : (s : Sizes) (P : Place → Type 0) (y x count z : ℕ) → s.bands ≤ z → EachPast s P y x count z → EachPast s P y (x + count) 0 0
 block_ends s P y x count z all h p place (inl low) = h p place (inl low)
 block_ends s P y x count z all h p place (inr (row, inl low)) = h p place (inr (row, inr (low, omega (arith, place.band))))
 block_ends s P y x count z all h p place (inr (row, inr (_, low))) = absurd (omega (arith, low))
-
-pub row_ends : (s : Sizes) (P : Place → Type 0) (y x : ℕ) → s.columns ≤ x → EachPast s P y x 0 0 → EachPast s P (y + 1) 0 0 0
-row_ends s P y x all h p place (inl low) =
-    elim (cases_lt p.y y) [
-      | inl above ↦ h p place (inl above)
-      | inr here ↦ h p place (inr (omega arith, inl (omega (arith, place.column))))
-    ]
-row_ends s P y x all h p place (inr (row, inl low)) = absurd (omega (arith, low))
-row_ends s P y x all h p place (inr (row, inr (_, low))) = absurd (omega (arith, low))
 
 -- one more band of a block
 pub band_more : (s : Sizes) (P Q : Place → Type 0) (y x count z : ℕ) → ((p : Place) → IsPlaceOf s p → P p ⊎ IsIn p z y x count → Q p) → EachPast s P y x count z

@@ -1,5 +1,5 @@
 -- Numbers put down among bytes, and the pieces of a row that are poured there.
-use Rattle.std.proofs.Common.{◌≡◌, ◌≢◌, ◌⊎◌, ◌+◌, ◌*◌, ◌-◌, ◌<◌, ◌≤◌, ◌^◌, ℕ, suc, List, [], ◌∷◌, length, take, drop, drop-cons, length-take, get_or}
+use Rattle.std.proofs.Common.{◌≡◌, ◌≢◌, ◌⊎◌, ◌+◌, ◌*◌, ◌-◌, ◌<◌, ◌≤◌, ℕ, suc, List, [], ◌∷◌, length, take, drop, drop-cons, length-take, get_or}
 use Rattle.std.proofs.Common.{set, refl, sym, ap, ◌∙◌, subst, arith, inl, inr}
 use borrow.Rule.Slice.PartMut.{put_mid}
 use Rattle.std.proofs.lemmas.List.{get_or-set_same, get_or-set_other, length-set, drop_all, drop-take, length-take-le}
@@ -17,7 +17,6 @@ use Rattle.cube_core.specs.Image.{index_in}
 use Rattle.cube_core.specs.Order.{IsOrder, IsPlaceOf, place_index}
 use Rattle.cube_core.specs.Layout.{HasBytes, order_of, bytes_at}
 use Rattle.cube_core.specs.Pieces.{LieEvenly, IsPoured, ArePoured, CanBePoured}
-use Rattle.cube_core.specs.Offsets.{AreOffsets}
 use Rattle.cube_core.specs.Scale.{SpellOffset}
 use Rattle.cube_core.proofs.Bounds.{index_below}
 use Rattle.cube_core.proofs.Raws.{same_place, place_of}
@@ -158,13 +157,6 @@ pub piece_fits : (s : Sizes) (k : SampleKind) (l : Layout) (offsets : List ℕ) 
 piece_fits s k l offsets z y x at count band row columns at_is all j lt =
     let there : index_in s.columns s.rows z y (x + j) ≡ at + j = omega (arith, at_is) in
     rw there at (all (record { z = z; y = y; x = x + j }) (record { band = band; row = row; column = omega arith }))
-
--- the offsets of a piece are there, and in range
-pub piece_offsets : (s : Sizes) (k : SampleKind) (offsets : List ℕ) (z y x at count : ℕ) → z < s.bands → y < s.rows → x + count ≤ s.columns
-    → at ≡ index_in s.columns s.rows z y x → AreOffsets s k offsets → (j : ℕ) → j < count → (at + j < length offsets) × (get_or offsets (at + j) 0 < 2 ^ k.bits)
-piece_offsets s k offsets z y x at count band row columns at_is h j lt =
-    let below : at + j < length offsets = omega (arith, at_is, h.whole, index_below s.columns s.rows s.bands z y (x + j) band row (omega arith)) in
-    (below, h.range (at + j) below)
 
 -- the bytes of all samples, where they follow one another as in the cube
 pub all_given : (s : Sizes) (k : SampleKind) (l : Layout) (offsets new : List ℕ) (count : ℕ) → l.order ≡ raw.Bsq → count ≡ sample_count s
