@@ -78,7 +78,8 @@ pub coded_blocks : (old new : Ending) (list : List ℕ) (n : ℕ) → MayCodeAll
 coded_blocks old new list n may le moved columns word puts p numbers h =
     let long : length (take n list) ≡ n = omega (arith, le, length-take n list) in
     let did = puts p numbers h.written h.taken in
-    coded_behind old new (take n list) p numbers h (omega (arith, fits_behind old list may p numbers h, long, le)) (rw long moved) columns word did.0 did.1 did.2
+    let fits = fits_behind old list may p numbers h in
+    coded_behind old new (take n list) p numbers h (omega (arith, fits, long, le)) (rw long moved) columns word did.0 did.1 did.2
 
 -- ---- row by row
 

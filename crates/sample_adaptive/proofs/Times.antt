@@ -1,5 +1,6 @@
 -- Which number of its band stands at a place.
-use Rattle.std.proofs.Common.{◌≡◌, ◌<◌, ◌≤◌, ℕ, suc, zero, List, length, take, get_or, Some, refl, sym, inl, inr, length-append, length-take, eq-eqb, add-one, arith}
+use Rattle.std.proofs.Common.{◌≡◌, ◌<◌, ◌≤◌, ℕ, suc, zero, List, length, take, get_or, Some, refl, sym, inl, inr, length-append, length-take}
+use Rattle.std.proofs.Common.{eq-eqb, add-one, arith}
 use Rattle.std.proofs.lemmas.Bool.{cases_eq, ne_eqb}
 use Rattle.std.proofs.lemmas.List.{take_more, take_all}
 use Rattle.std.specs.List.{slice_get}
