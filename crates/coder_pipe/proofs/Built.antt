@@ -16,8 +16,8 @@ use Rattle.header_bits.specs.Lawful.{IsLawful}
 use Rattle.predict_core.specs.Prediction.{scaled_prediction}
 use Rattle.predict_core.specs.Residual.{mapped, mapped_residual, residuals}
 use Rattle.predict_core.proofs.OneSample.{one_sample_lem}
-use Rattle.file_coding.specs.Walked.{residuals_at}
-use Rattle.file_coding.proofs.Walking.{next_goes, gone_by, gone_count, residuals_push, residuals_whole}
+use Rattle.predict_core.specs.Walked.{residuals_at}
+use Rattle.predict_core.proofs.Walking.{next_goes, gone_by, gone_count, residuals_push, residuals_whole}
 use Rattle.file_decoding.specs.Files.{IsCubeOf}
 use Rattle.file_decoding.proofs.Alike.{agree_at, mapped_at, scaled_alike}
 use Rattle.file_decoding.proofs.Kept.{wide_of, put_alike, put_same, residuals_kept}
@@ -87,11 +87,10 @@ pushed : (p : Params) (c : Image) (q : Place) (left : List Place) (n : ℕ) → 
     → residuals_at p (put c q.z q.y q.x h.sample) (gone_by p left) ≡ residuals_at p c (gone_by p (q ∷ left)) ++ n ∷ []
 pushed p c q left n lawful shape is h =
     let goes = next_goes p q (q ∷ left) left lawful.order is refl in
-    let stands = rw goes.count at goes.stands in
     let d : Image = put c q.z q.y q.x h.sample in
     ap (residuals_at p d) goes.gone ∙ residuals_push p d (gone_by p (q ∷ left)) q
     ∙ ap (λ (k : ℕ). residuals_at p d (gone_by p (q ∷ left)) ++ k ∷ []) h.residual
-    ∙ ap (λ (ns : List ℕ). ns ++ n ∷ []) (sym (residuals_kept p c q h.sample (q ∷ left) lawful shape stands))
+    ∙ ap (λ (ns : List ℕ). ns ++ n ∷ []) (sym (residuals_kept p c q h.sample (q ∷ left) lawful shape goes.stands))
 
 build : (p : Params) → IsLawful p → (left : List Place) (c : Image) (rest : List ℕ) → left ≡ drop (gone_count p left) (places p.shape p.order) → IsCubeOf p c
     → length rest ≡ length left → AllByRecursion (λ n. n < 2 ^ p.kind.bits) rest → Built p (residuals_at p c (gone_by p left) ++ rest)
@@ -101,10 +100,10 @@ build p lawful [] c (n ∷ ns) is cube long range = absurd (omega arith)
 build p lawful (q ∷ left) c [] is cube long range = absurd (omega arith)
 build p lawful (q ∷ left) c (n ∷ ns) is cube long range =
     let goes = next_goes p q (q ∷ left) left lawful.order is refl in
-    let stands : StandsAt c.shape p.order q (length (gone_by p (q ∷ left))) = rw cube.shape goes.stands in
+    let stands : StandsAt c.shape p.order q (gone_count p (q ∷ left)) = rw cube.shape goes.stands in
     let order : IsOrder c.shape p.order = rw cube.shape lawful.order in
     let below : n < 2 ^ c.kind.bits = rw cube.kind range.0 in
-    let h = has_residual p c q n (length (gone_by p (q ∷ left))) order (wide_of p c lawful cube.shape) cube.cube stands below in
+    let h = has_residual p c q n (gone_count p (q ∷ left)) order (wide_of p c lawful cube.shape) cube.cube stands below in
     let after : IsCubeOf p (put c q.z q.y q.x h.sample) = record { cube = put_cube c q h.sample cube.cube h.inside; shape = cube.shape; kind = cube.kind } in
     let others = build p lawful left (put c q.z q.y q.x h.sample) ns goes.others after (omega arith) range.1 in
     subst (Built p) (ap (λ (x : List ℕ). x ++ ns) (pushed p c q left n lawful cube.shape is h)

@@ -14,7 +14,7 @@ use Rattle.header_bits.specs.Lawful.{IsLawful}
 use Rattle.predict_core.specs.Following.{Learner}
 use Rattle.predict_core.specs.Residual.{residuals}
 use Rattle.file_coding.specs.Ends.{Ending, HasCoded, MayCodeAll}
-use Rattle.file_coding.specs.Walked.{IsAlong, AreAlong}
+use Rattle.predict_core.specs.Walked.{IsAlong, AreAlong}
 use Rattle.file_decoding.proofs.OneCube.{residuals_inside}
 use Rattle.cube_predictors.specs.Own.{own, own_residuals}
 use Rattle.cube_predictors.specs.Sends.{IsSeen, IsAt, AreAt, AreFresh, bands_of}

@@ -35,7 +35,7 @@ use Rattle.block_adaptive.specs.Reading.{block_body_at}
 use Rattle.block_adaptive.proofs.Bodies as blocks
 use Rattle.block_adaptive.proofs.Calls.{told_length}
 use Rattle.block_adaptive.proofs.Handed.{size_halved, size_least}
-use Rattle.file_coding.proofs.Coders.{settings_bits}
+use Rattle.sample_adaptive.proofs.ForSamples.{settings_bits}
 use Rattle.file_decoding.specs.Files.{IsBodyBy, IsBody, IsCubeOf, IsFile, behind_by, behind_body, fill_test, body_test, head_at, file_test}
 use Rattle.file_decoding.specs.Least.{least_test}
 use Rattle.file_decoding.specs.Laws.{FineIsFile}

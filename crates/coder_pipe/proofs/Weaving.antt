@@ -11,7 +11,7 @@ use Rattle.cube_core.specs.declared.order.Order.{Order}
 use Rattle.cube_core.specs.declared.order.Place.{Place}
 use Rattle.cube_core.specs.Shape.{Sizes}
 use Rattle.cube_core.specs.Order.{IsPlaceOf, goes_along_rows, place_index, places}
-use Rattle.cube_core.proofs.Lists.{get-drop as first-drop}
+use Rattle.cube_core.proofs.Lists.{get_drop}
 use Rattle.cube_core.proofs.Keys.{order_is_by_key, index_of_item}
 use Rattle.cube_core.proofs.Orders.{item_from_index, place_index_below}
 use Rattle.cube_core.proofs.Walks.{columns_along}
@@ -20,16 +20,13 @@ use Rattle.file_coding.specs.Ends.{Ending, HasCoded, MayCodeAll, CodesAll}
 use Rattle.cube_predictors.specs.Weave.{owners, owners_of}
 use Rattle.coder_pipe.specs.Woven.{Weaving, IsAlong, HasWoven, WeavesAll, AreOfOne, AreOwnersFrom}
 
-get-drop : {A : Type 0} (xs : List A) (n i : ℕ) → slice_get (drop n xs) i ≡ slice_get xs (n + i)
-get-drop xs n i = sym (first-drop (drop n xs) i) ∙ ap (λ ys. slice_get ys 0) (drop-drop i n xs) ∙ first-drop xs (n + i)
-
 -- the owners of the places that come next
 pub wanted : (p : Params) (deal numbers : List ℕ) (e : Ending) (i : ℕ) → HasCoded p e numbers
     → slice_get (owners deal p) (length numbers + i) ≡ option_map (λ q. get_or deal q.z 0) (slice_get e.left i)
 unfolding owners_of
 wanted p deal numbers e i h = rw h.left (
     slice_get-map (λ q. get_or deal q.z 0) (places p.shape p.order) (length numbers + i)
-    ∙ ap (option_map (λ q. get_or deal q.z 0)) (sym (get-drop (places p.shape p.order) (length numbers) i)))
+    ∙ ap (option_map (λ q. get_or deal q.z 0)) (sym (get_drop (places p.shape p.order) (length numbers) i)))
 
 wanted_first : (p : Params) (deal numbers : List ℕ) (e : Ending) → HasCoded p e numbers
     → slice_get (owners deal p) (length numbers) ≡ option_map (λ q. get_or deal q.z 0) (slice_get e.left 0)
@@ -43,7 +40,7 @@ wants_none w none p deal numbers h = rw (wanted_first p deal numbers w.end h.cod
 -- where a place that comes stands
 place_item : (s : Sizes) (o : Order) (w : Weaving) (i : ℕ) (place : Place) (h : IsAlong s o w) → Some place ≡ slice_get w.end.left i
     → slice_get (places s o) (h.gone + i) ≡ Some place
-place_item s o w i place h next = sym (get-drop (places s o) h.gone i) ∙ ap (λ left. slice_get left i) (sym h.left) ∙ sym next
+place_item s o w i place h next = sym (get_drop (places s o) h.gone i) ∙ ap (λ left. slice_get left i) (sym h.left) ∙ sym next
 
 -- it is one of the image's, of a band that is dealt
 pub place_within : (s : Sizes) (o : Order) (w : Weaving) (i : ℕ) (place : Place) → IsAlong s o w → Some place ≡ slice_get w.end.left i
@@ -72,7 +69,7 @@ row_next s o w place i h along next more =
     let on = columns_along s o place i along there in
     let behind : IsPlaceOf s q = record { band = there.band; row = there.row; column = more } in
     let below = place_index_below s o q h.order behind in
-    ap (λ left. slice_get left i) h.left ∙ get-drop (places s o) h.gone i
+    ap (λ left. slice_get left i) h.left ∙ get_drop (places s o) h.gone i
     ∙ item_from_index s o q (h.gone + i) h.order behind (on ∙ omega (arith, at)) (omega (arith, at, on, below))
 
 pub row_owned : (s : Sizes) (o : Order) (w : Weaving) (place : Place) (count : ℕ) → IsAlong s o w → goes_along_rows o ≡ true

@@ -1,6 +1,8 @@
--- Lists of lists of numbers from a first one on.
-use Rattle.std.proofs.Common.{◌≡◌, ◌+◌, ◌*◌, ◌<◌, ◌≤◌, ℕ, suc, zero, List, [], ◌∷◌, length, drop, get_or, refl, ap, ◌∙◌, arith}
-use Rattle.std.proofs.lemmas.List.{get_or-append-add, get_or_append_left, length-append}
+-- Items of lists, and lists of lists of numbers from a first one on.
+use Rattle.std.proofs.Common.{◌≡◌, ◌≢◌, ◌⊎◌, ◌+◌, ◌*◌, ◌<◌, ◌≤◌, ℕ, suc, zero, List, [], ◌∷◌, ◌++◌, length, take, drop, set, get_or, Some, None, refl, ap}
+use Rattle.std.proofs.Common.{◌∙◌, inl, inr, arith}
+use Rattle.std.proofs.lemmas.List.{get_or-append-add, get_or_append_left, length-append, take_more}
+use Rattle.std.proofs.lemmas.Option.{slice_get_within, get_or_from_slice_get}
 use Rattle.std.specs.List.{flat_map, slice_get}
 use Rattle.cube_core.specs.Order.{from}
 
@@ -36,9 +38,41 @@ get_or-pieces f a (suc n) w (suc i) j d same lt in_piece =
     let rest = get_or-pieces f (suc a) n w i j d (λ k low high. same k (omega arith) (omega arith)) (omega arith) (rw e at in_piece) in
     rw (z, e) (get_or-append-add (f a) (flat_map f (from (suc a) n)) (i * w + j) d ∙ rest)
 
--- what stands first behind so many
+-- an item behind so many
+pub get_drop : {A : Type 0} (xs : List A) (n i : ℕ) → slice_get (drop n xs) i ≡ slice_get xs (n + i)
+get_drop [] zero i = refl
+get_drop [] (suc n) i = refl
+get_drop (x ∷ xs) zero i = let e : 0 + i ≡ i = omega arith in rw e refl
+get_drop (x ∷ xs) (suc n) i = let e : suc n + i ≡ suc (n + i) = omega arith in rw e (get_drop xs n i)
+
 pub get-drop : {A : Type 0} (xs : List A) (n : ℕ) → slice_get (drop n xs) 0 ≡ slice_get xs n
-get-drop [] zero = refl
-get-drop [] (suc n) = refl
-get-drop (x ∷ xs) zero = refl
-get-drop (x ∷ xs) (suc n) = get-drop xs n
+get-drop xs n = let e : n + 0 ≡ n = omega arith in get_drop xs n 0 ∙ rw e refl
+
+-- the items before an item and the item
+pub take_next : {A : Type 0} (xs : List A) (i : ℕ) (x : A) → slice_get xs i ≡ Some x → (i < length xs) × (take (i + 1) xs ≡ take i xs ++ x ∷ [])
+take_next {A = A} xs i x e =
+    let lt : i < length xs = slice_get_within xs i x e in
+    (lt, take_more xs i x lt ∙ ap (λ (y : A). take i xs ++ y ∷ []) (get_or_from_slice_get xs i x x e))
+
+-- the first item, and those behind it
+pub first_of : {A : Type 0} (xs : List A) (x : A) → slice_get xs 0 ≡ Some x → (rest : List A) × (xs ≡ x ∷ rest)
+first_of [] x e = absurd (cc)
+first_of (y ∷ rest) x e = (rest, cc)
+
+pub none_first : {A : Type 0} (xs : List A) → slice_get xs 0 ≡ None → xs ≡ []
+none_first [] e = refl
+none_first (x ∷ rest) e = absurd (cc)
+
+-- an item of a list in which one was set, or behind which one was put
+pub get_set : {A : Type 0} (xs : List A) (i k : ℕ) (x y : A) → slice_get (set xs i x) k ≡ Some y → ((k ≡ i) × (y ≡ x)) ⊎ ((k ≢ i) × (slice_get xs k ≡ Some y))
+get_set [] i k x y e = absurd (cc)
+get_set (z ∷ zs) zero zero x y e = inl (refl, cc)
+get_set (z ∷ zs) zero (suc k) x y e = inr ((λ h. absurd (omega arith)), e)
+get_set (z ∷ zs) (suc i) zero x y e = inr ((λ h. absurd (omega arith)), e)
+get_set (z ∷ zs) (suc i) (suc k) x y e = elim (get_set zs i k x y e) [ inl (h, g) ↦ inl (ap suc h, g) | inr (h, g) ↦ inr ((λ f. h (omega arith)), g) ]
+
+pub get_push : {A : Type 0} (xs : List A) (x y : A) (k : ℕ) → slice_get (xs ++ x ∷ []) k ≡ Some y → (slice_get xs k ≡ Some y) ⊎ ((k ≡ length xs) × (y ≡ x))
+get_push [] x y zero e = inr (refl, cc)
+get_push [] x y (suc k) e = absurd (cc)
+get_push (z ∷ zs) x y zero e = inl e
+get_push (z ∷ zs) x y (suc k) e = elim (get_push zs x y k e) [ inl h ↦ inl h | inr (h, g) ↦ inr (ap suc h, g) ]

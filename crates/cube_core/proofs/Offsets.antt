@@ -1,9 +1,9 @@
 -- Samples kept as offsets from the least one.
-use Rattle.std.proofs.Common.{◌≡◌, ◌+◌, ◌*◌, ◌<◌, ◌≤◌, ◌-◌, ◌^◌, ℕ, suc, zero, Bool, true, false, ℤ, pos, ◌-ℤ◌, unsigned_abs, List, length, map, get_or, set}
+use Rattle.std.proofs.Common.{◌≡◌, ◌+◌, ◌*◌, ◌<◌, ◌≤◌, ◌-◌, ◌^◌, ℕ, suc, zero, Bool, true, false, ℤ, pos, List, length, map, get_or, set}
 use Rattle.std.proofs.Common.{take, drop, refl, sym, ap, ◌∙◌, subst, arith, pow-suc}
 use Rattle.std.proofs.lemmas.Int.{ints}
 use Rattle.std.proofs.lemmas.List.{get_or-map, map-set, get_or-take, get_or-drop}
-use Rattle.cube_core.specs.Kind.{SampleKind, IsKind, IsSample, sample_of, smin}
+use Rattle.cube_core.specs.Kind.{SampleKind, IsKind, IsSample, sample_of}
 use Rattle.cube_core.specs.Image.{Image, sample_at, index_in, put}
 use Rattle.cube_core.specs.Shape.{Sizes}
 use Rattle.cube_core.specs.Offsets.{samples_of, AreOffsets, AreRowOffsets}
@@ -20,12 +20,6 @@ in_kind false bits offset a b = (omega (arith, ints), omega (arith, ints))
 
 pub offset_is_sample : (k : SampleKind) (offset : ℕ) → IsKind k → offset < 2 ^ k.bits → IsSample k (sample_of k offset)
 offset_is_sample k offset h b = in_kind k.signed k.bits offset h.0 b
-
--- the offset of a sample of the kind
-offset_below : (signed : Bool) (bits : ℕ) (v : ℤ) → 2 ≤ bits → IsSample (record { signed = signed; bits = bits }) v
-    → unsigned_abs (v -ℤ smin (record { signed = signed; bits = bits })) < 2 ^ bits
-offset_below true bits v a b = let e : 2 ^ bits ≡ 2 * 2 ^ (bits - 1) = doubled bits (omega arith) in omega (arith, ints, b.0, b.1)
-offset_below false bits v a b = omega (arith, ints, b.0, b.1)
 
 pub sample_read : (k : SampleKind) (offsets : List ℕ) (i : ℕ) → i < length offsets → get_or (samples_of k offsets) i (pos 0) ≡ sample_of k (get_or offsets i 0)
 unfolding samples_of

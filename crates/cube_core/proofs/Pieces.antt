@@ -1,28 +1,24 @@
 -- Pieces of a row, one sample after another.
-use Rattle.std.proofs.Common.{◌≡◌, ◌≢◌, ◌⊎◌, ◌+◌, ◌*◌, ◌/◌, ◌-◌, ◌<◌, ◌≤◌, ◌^◌, ℕ, suc, min, List, [], ◌∷◌, length, take, drop, drop-cons, length-take, get_or}
-use Rattle.std.proofs.Common.{set, refl, sym, ap, ◌∙◌, subst, arith, inl, inr}
-use borrow.Rule.Slice.PartMut.{put_mid}
-use Rattle.std.proofs.lemmas.List.{get_or-set_same, get_or-set_other, length-set, drop_all, drop-take, length-take-le}
-use Rattle.std.proofs.lemmas.Slice.{take-put_mid, take-put_mid_below, drop-put_mid}
-use Rattle.std.proofs.Math.Seq.{drop-append_seam}
+use Rattle.std.proofs.Common.{◌≡◌, ◌≢◌, ◌⊎◌, ◌+◌, ◌*◌, ◌/◌, ◌-◌, ◌<◌, ◌≤◌, ◌^◌, ℕ, min, List, length, get_or}
+use Rattle.std.proofs.Common.{set, sym, ap, ◌∙◌, arith, inl, inr}
+use Rattle.std.proofs.lemmas.List.{get_or-set_same, get_or-set_other}
 use Rattle.std.proofs.lemmas.Bool.{cases_eq, cases_lt}
-use Rattle.std.proofs.lemmas.Nat.{div-mul-add, mul-le}
+use Rattle.std.proofs.lemmas.Nat.{div-mul-add}
 use Rattle.cube_core.specs.declared.order.Order.TheVariants.{Bsq, Bi}
 use Rattle.cube_core.specs.declared.order.Place.{Place}
 use Rattle.cube_core.specs.declared.layout.Layout.{Layout}
 use Rattle.cube_core.specs.declared.layout.RawOrder.TheVariants as raw
 use Rattle.cube_core.specs.Shape.{Sizes, sample_count}
-use Rattle.cube_core.specs.Kind.{SampleKind, sample_of}
+use Rattle.cube_core.specs.Kind.{SampleKind}
 use Rattle.cube_core.specs.Image.{index_in}
 use Rattle.cube_core.specs.Order.{IsOrder, IsPlaceOf, place_index}
-use Rattle.cube_core.specs.Layout.{IsLayout, HasBytes, order_of, bytes_at}
-use Rattle.cube_core.specs.Pieces.{LieEvenly, IsPoured, ArePoured, CanBePoured}
-use Rattle.cube_core.specs.Offsets.{AreOffsets}
+use Rattle.cube_core.specs.Layout.{IsLayout, order_of}
+use Rattle.cube_core.specs.Pieces.{LieEvenly}
 use Rattle.cube_core.specs.Raw.{IsOffsetOf, AreOffsetsOf, AreSamples}
-use Rattle.cube_core.specs.Scale.{StandsFor, SpellOffset}
+use Rattle.cube_core.specs.Scale.{StandsFor}
 use Rattle.cube_core.proofs.Bounds.{index_below}
 use Rattle.cube_core.proofs.Orders.{place_index_below}
-use Rattle.cube_core.proofs.Raws.{same_place, place_of, bytes_there}
+use Rattle.cube_core.proofs.Raws.{same_place, bytes_there}
 use Rattle.cube_core.proofs.Walks.{sequential_index, index_in_group}
 
 -- one more item of a piece that begins at a place of a list
@@ -134,29 +130,10 @@ IsPast p y x count z = (p.y < y) ⊎ ((p.y ≡ y) × ((p.x < x) ⊎ ((p.x < x + 
 abbrev pub EachPast : Sizes → (Place → Type 0) → ℕ → ℕ → ℕ → ℕ → Type 0
 EachPast s P y x count z = (p : Place) → IsPlaceOf s p → IsPast p y x count z → P p
 
-pub none_past : (s : Sizes) (P : Place → Type 0) → EachPast s P 0 0 0 0
-none_past s P p place (inl low) = absurd (omega (arith, low))
-none_past s P p place (inr (_, inl low)) = absurd (omega (arith, low))
-none_past s P p place (inr (_, inr (_, low))) = absurd (omega (arith, low))
-
-pub block_begins : (s : Sizes) (P : Place → Type 0) (y x count : ℕ) → EachPast s P y x 0 0 → EachPast s P y x count 0
-block_begins s P y x count h p place (inl low) = h p place (inl low)
-block_begins s P y x count h p place (inr (row, inl low)) = h p place (inr (row, inl low))
-block_begins s P y x count h p place (inr (row, inr (_, low))) = absurd (omega (arith, low))
-
 pub block_ends : (s : Sizes) (P : Place → Type 0) (y x count z : ℕ) → s.bands ≤ z → EachPast s P y x count z → EachPast s P y (x + count) 0 0
 block_ends s P y x count z all h p place (inl low) = h p place (inl low)
 block_ends s P y x count z all h p place (inr (row, inl low)) = h p place (inr (row, inr (low, omega (arith, place.band))))
 block_ends s P y x count z all h p place (inr (row, inr (_, low))) = absurd (omega (arith, low))
-
-pub row_ends : (s : Sizes) (P : Place → Type 0) (y x : ℕ) → s.columns ≤ x → EachPast s P y x 0 0 → EachPast s P (y + 1) 0 0 0
-row_ends s P y x all h p place (inl low) =
-    elim (cases_lt p.y y) [
-      | inl above ↦ h p place (inl above)
-      | inr here ↦ h p place (inr (omega arith, inl (omega (arith, place.column))))
-    ]
-row_ends s P y x all h p place (inr (row, inl low)) = absurd (omega (arith, low))
-row_ends s P y x all h p place (inr (row, inr (_, low))) = absurd (omega (arith, low))
 
 -- one more band of a block
 pub band_more : (s : Sizes) (P Q : Place → Type 0) (y x count z : ℕ) → ((p : Place) → IsPlaceOf s p → P p ⊎ IsIn p z y x count → Q p) → EachPast s P y x count z
@@ -199,166 +176,3 @@ all_there s k l bytes new count e n taken good p place =
     let here : 0 + index_in s.columns s.rows p.z p.y p.x ≡ index_in s.columns s.rows p.z p.y p.x = omega arith in
     let below = good (index_in s.columns s.rows p.z p.y p.x) lt in
     record { below = rw here at below; value = rw item (rw here at ((taken (index_in s.columns s.rows p.z p.y p.x) lt).value below)) }
-
--- ---- numbers put down among bytes
-
-single : (xs : List ℕ) (i : ℕ) → i < length xs → take 1 (drop i xs) ≡ get_or xs i 0 ∷ []
-single xs i lt = rw (drop-cons xs i 0 lt) refl
-
--- one byte is put down, and no other
-pub byte_put : (xs : List ℕ) (i v : ℕ) → i < length xs → take 1 (drop (i * 1) (set xs i v)) ≡ v ∷ []
-byte_put xs i v lt = let e : i * 1 ≡ i = omega arith in rw (e, single (set xs i v) i (rw (length-set {A = ℕ}) lt), get_or-set_same xs i v 0 lt) refl
-
-pub byte_kept : (xs : List ℕ) (i v j : ℕ) → j ≢ i → take 1 (drop (j * 1) (set xs i v)) ≡ take 1 (drop (j * 1) xs)
-byte_kept xs i v j other = let e : j * 1 ≡ j = omega arith in rw e (elim (cases_lt j (length xs)) [
-  | inl lt ↦ single (set xs i v) j (rw (length-set {A = ℕ}) lt) ∙ rw (get_or-set_other xs i j v 0 other) (sym (single xs j lt))
-  | inr past ↦ rw (drop_all j xs past, drop_all j (set xs i v) (rw (length-set {A = ℕ}) past)) refl
-])
-
--- two bytes are put down, and no others
-pub pair_put : (xs ys : List ℕ) (i k : ℕ) → 2 * i + 2 ≤ length xs → length ys ≡ 2 → take 2 (drop (i * 2) (put_mid (2 * i) k xs ys)) ≡ ys
-pair_put xs ys i k fits two =
-    let e : i * 2 ≡ 2 * i = omega arith in
-    let before : length (take (2 * i) xs) ≡ 2 * i = length-take-le (2 * i) xs (omega arith) in
-    rw (e, ← drop-take (2 * i) 2 (put_mid (2 * i) k xs ys), take-put_mid (2 * i) k xs ys (2 * i + 2) (omega arith) (omega arith))
-    (rw before at (drop-append_seam (take (2 * i) xs) ys))
-
-pub pair_kept : (xs ys : List ℕ) (i k j : ℕ) → 2 * i + 2 ≤ length xs → length ys ≡ 2 → k ≡ 2 → j ≢ i
-    → take 2 (drop (j * 2) (put_mid (2 * i) k xs ys)) ≡ take 2 (drop (j * 2) xs)
-pair_kept xs ys i k j fits two e other =
-    elim (cases_lt j i) [
-      | inl low ↦ rw (
-        ← drop-take (j * 2) 2 (put_mid (2 * i) k xs ys),
-        ← drop-take (j * 2) 2 xs,
-        take-put_mid_below (2 * i) k xs ys (j * 2 + 2) (omega arith) (omega arith),
-      ) refl
-      | inr high ↦ rw (drop-put_mid (2 * i) k xs ys (j * 2) (omega arith) (omega arith) (two ∙ sym e)) refl
-    ]
-
--- two samples of a piece stand apart
-pub apart_by_step : (first step x y : ℕ) → 1 ≤ step → x ≢ y → first + x * step ≢ first + y * step
-apart_by_step first step x y some other e =
-    elim (cases_lt x y) [
-      | inl lt ↦ let p : suc x * step ≤ y * step = mul-le (suc x) step y step lt (omega arith) in omega arith
-      | inr le ↦ let lt : suc y ≤ x = omega arith in let p : suc y * step ≤ x * step = mul-le (suc y) step x step lt (omega arith) in omega arith
-    ]
-
--- one more number of a piece is put down
-pub given_more : (k : SampleKind) (l : Layout) (hs old new : List ℕ) (at first step x : ℕ) → 1 ≤ step
-    → SpellOffset k l (get_or hs (at + x) 0) (bytes_at l new (first + x * step)) → ((i : ℕ) → i ≢ first + x * step → bytes_at l new i ≡ bytes_at l old i)
-    → ((j : ℕ) → j < x → SpellOffset k l (get_or hs (at + j) 0) (bytes_at l old (first + j * step))) → (j : ℕ) → j < x + 1
-    → SpellOffset k l (get_or hs (at + j) 0) (bytes_at l new (first + j * step))
-given_more k l hs old new at first step x some here others before j lt =
-    elim (cases_eq j x) [
-      | inl e ↦ rw e here
-      | inr other ↦ λ fits. others (first + j * step) (apart_by_step first step j x some other) ∙ before j (omega arith) fits
-    ]
-
-pub others_more : (l : Layout) (start old new : List ℕ) (first step x : ℕ) → ((i : ℕ) → i ≢ first + x * step → bytes_at l new i ≡ bytes_at l old i)
-    → ((i : ℕ) → ((j : ℕ) → j < x → i ≢ first + j * step) → bytes_at l old i ≡ bytes_at l start i)
-    → (i : ℕ) → ((j : ℕ) → j < x + 1 → i ≢ first + j * step) → bytes_at l new i ≡ bytes_at l start i
-others_more l start old new first step x others before i out = others i (out x (omega arith)) ∙ before i (λ j lt. out j (omega arith))
-
--- a fact of one more item
-pub each_more : (P : ℕ → Type 0) (x : ℕ) → P x → ((j : ℕ) → j < x → P j) → (j : ℕ) → j < x + 1 → P j
-each_more P x here before j lt = elim (cases_eq j x) [ inl e ↦ subst P (sym e) here | inr other ↦ before j (omega arith) ]
-
--- two bytes of a list, which are written over
-pub no_more : (xs : List ℕ) (a : ℕ) → a + 2 ≤ length xs → drop 2 (take (a + 2 - a) (drop a xs)) ≡ []
-no_more xs a h = drop_all 2 (take (a + 2 - a) (drop a xs)) (omega (arith, length-take (a + 2 - a) (drop a xs)))
-
--- what was given of a piece
-pub record IsGiven (s : Sizes) (k : SampleKind) (l : Layout) (offsets old new : List ℕ) (z y x at count first step : ℕ) : Type 0 where
-  pub band : z < s.bands
-  pub row : y < s.rows
-  pub columns : x + count ≤ s.columns
-  pub at_is : at ≡ index_in s.columns s.rows z y x
-  pub items : LieEvenly s (order_of l.order s) z y x count first step
-  pub given : (j : ℕ) → j < count → SpellOffset k l (get_or offsets (at + j) 0) (bytes_at l new (first + j * step))
-  pub others : (i : ℕ) → ((j : ℕ) → j < count → i ≢ first + j * step) → bytes_at l new i ≡ bytes_at l old i
-  pub good : (j : ℕ) → j < count → HasBytes k l (sample_of k (get_or offsets (at + j) 0))
-
--- a place is that of some sample of the piece, or of none
-in_or_out : (p : Place) (z y x count : ℕ) → IsIn p z y x count ⊎ (IsIn p z y x count → ⊥)
-in_or_out p z y x count =
-    elim (cases_eq p.z z) [
-      | inr other ↦ inr (λ h. other h.band)
-      | inl band ↦ elim (cases_eq p.y y) [
-        | inr other ↦ inr (λ h. other h.row)
-        | inl row ↦ elim (cases_lt p.x x) [
-          | inl before ↦ inr (λ h. omega (arith, h.low))
-          | inr low ↦ elim (cases_lt p.x (x + count)) [
-            | inl high ↦ inl (record { band = band; row = row; low = low; high = high })
-            | inr past ↦ inr (λ h. omega (arith, h.high))
-          ]
-        ]
-      ]
-    ]
-
--- the bytes of a sample of the piece are there, and elsewhere bytes stay
-pub poured_there : (s : Sizes) (k : SampleKind) (l : Layout) (offsets old new : List ℕ) (z y x at count first step : ℕ) (p : Place)
-    → IsOrder s (order_of l.order s) → IsGiven s k l offsets old new z y x at count first step → IsPlaceOf s p
-    → IsPoured s k l offsets old p ⊎ IsIn p z y x count → IsPoured s k l offsets new p
-poured_there s k l offsets old new z y x at count first step p lawful h place known =
-    elim (in_or_out p z y x count) [
-      | inl inside ↦ fresh inside
-      | inr out ↦ kept out known
-    ]
-  where
-    fresh : IsIn p z y x count → IsPoured s k l offsets new p
-    fresh inside =
-        let lt : p.x - x < count = omega (arith, inside.low, inside.high) in
-        let column : x + (p.x - x) ≡ p.x = omega (arith, inside.low) in
-        let item : place_index s (order_of l.order s) p ≡ first + (p.x - x) * step = rw (← inside.band, ← inside.row, column) at (h.items (p.x - x) lt) in
-        let offset : index_in s.columns s.rows p.z p.y p.x ≡ at + (p.x - x) = rw (inside.band, inside.row) (omega (arith, h.at_is, inside.low)) in
-        let fits = h.good (p.x - x) lt in
-        record { fits = rw offset fits; there = rw (item, offset) (h.given (p.x - x) lt fits) }
-
-    kept : (IsIn p z y x count → ⊥) → IsPoured s k l offsets old p ⊎ IsIn p z y x count → IsPoured s k l offsets new p
-    kept out (inr inside) = absurd (out inside)
-    kept out (inl was) = record { fits = was.fits; there = h.others (place_index s (order_of l.order s) p) apart ∙ was.there }
-      where
-        apart : (j : ℕ) → j < count → place_index s (order_of l.order s) p ≢ first + j * step
-        apart j lt e =
-            let place_j : IsPlaceOf s (record { z = z; y = y; x = x + j }) = record { band = h.band; row = h.row; column = omega (arith, h.columns) } in
-            let same : p ≡ record { z = z; y = y; x = x + j } =
-            same_place s (order_of l.order s) p (record { z = z; y = y; x = x + j }) lawful place place_j (e ∙ sym (h.items j lt)) in
-            out (record {
-              band = ap (λ (q : Place). q.z) same;
-              row = ap (λ (q : Place). q.y) same;
-              low = omega (arith, ap (λ (q : Place). q.x) same);
-              high = omega (arith, ap (λ (q : Place). q.x) same);
-            })
-
--- where all samples have their bytes, so have those of a piece
-pub piece_fits : (s : Sizes) (k : SampleKind) (l : Layout) (offsets : List ℕ) (z y x at count : ℕ) → z < s.bands → y < s.rows → x + count ≤ s.columns
-    → at ≡ index_in s.columns s.rows z y x → CanBePoured s k l offsets → (j : ℕ) → j < count → HasBytes k l (sample_of k (get_or offsets (at + j) 0))
-piece_fits s k l offsets z y x at count band row columns at_is all j lt =
-    let there : index_in s.columns s.rows z y (x + j) ≡ at + j = omega (arith, at_is) in
-    rw there at (all (record { z = z; y = y; x = x + j }) (record { band = band; row = row; column = omega arith }))
-
--- the offsets of a piece are there, and in range
-pub piece_offsets : (s : Sizes) (k : SampleKind) (offsets : List ℕ) (z y x at count : ℕ) → z < s.bands → y < s.rows → x + count ≤ s.columns
-    → at ≡ index_in s.columns s.rows z y x → AreOffsets s k offsets → (j : ℕ) → j < count → (at + j < length offsets) × (get_or offsets (at + j) 0 < 2 ^ k.bits)
-piece_offsets s k offsets z y x at count band row columns at_is h j lt =
-    let below : at + j < length offsets = omega (arith, at_is, h.whole, index_below s.columns s.rows s.bands z y (x + j) band row (omega arith)) in
-    (below, h.range (at + j) below)
-
--- the bytes of all samples, where they follow one another as in the cube
-pub all_given : (s : Sizes) (k : SampleKind) (l : Layout) (offsets new : List ℕ) (count : ℕ) → l.order ≡ raw.Bsq → count ≡ sample_count s
-    → ((j : ℕ) → j < count → SpellOffset k l (get_or offsets (0 + j) 0) (bytes_at l new (0 + j * 1)))
-    → ((j : ℕ) → j < count → HasBytes k l (sample_of k (get_or offsets (0 + j) 0))) → ArePoured s k l offsets new
-all_given s k l offsets new count e n given good p place =
-    let lt : index_in s.columns s.rows p.z p.y p.x < count = rw n (index_below s.columns s.rows s.bands p.z p.y p.x place.band place.row place.column) in
-    let item : place_index s (order_of l.order s) p ≡ 0 + index_in s.columns s.rows p.z p.y p.x * 1 = rw e (sequential_index s p ∙ omega arith) in
-    let here : 0 + index_in s.columns s.rows p.z p.y p.x ≡ index_in s.columns s.rows p.z p.y p.x = omega arith in
-    let fits = good (index_in s.columns s.rows p.z p.y p.x) lt in
-    record { fits = rw here at fits; there = rw item (rw here at (given (index_in s.columns s.rows p.z p.y p.x) lt fits)) }
-
--- where all samples have their bytes, each of the first ones has
-pub all_fit : (s : Sizes) (k : SampleKind) (l : Layout) (offsets : List ℕ) (count : ℕ) → count ≡ sample_count s → CanBePoured s k l offsets → (j : ℕ)
-    → j < count → HasBytes k l (sample_of k (get_or offsets (0 + j) 0))
-all_fit s k l offsets count n all j lt =
-    let there = place_of s Bsq j tt (omega arith) in
-    let here : index_in s.columns s.rows there.0.z there.0.y there.0.x ≡ 0 + j = sym (sequential_index s there.0) ∙ there.1.index ∙ omega arith in
-    rw here at (all there.0 there.1.place)

@@ -1,3 +1,4 @@
+pub mod Along
 pub mod Cursor
 pub mod Everything
 pub mod Offsets

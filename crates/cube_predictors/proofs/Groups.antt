@@ -8,7 +8,7 @@ use Rattle.std.proofs.lemmas.List.{take-map, drop-map}
 use Rattle.std.proofs.lemmas.List.Elements.{filter-append}
 use Rattle.std.proofs.lemmas.List.Sums.{length-filter, count_by-le-length}
 use Rattle.cube_core.proofs.Lists.{length-from}
-use Rattle.std.proofs.Math.Nat.{div-mul-le_self, lt-div-mul-add}
+use Rattle.std.proofs.Math.Nat.{div-mul-le_self}
 use Rattle.std.proofs.Math.Seq.{take-append_seam, drop-append_seam}
 use Rattle.cube_core.specs.Shape.{Sizes}
 use Rattle.cube_core.specs.Order.{from, upto, group, group_count}
@@ -73,13 +73,6 @@ is_group q deal s depth i first end slot count some lt first_is end_is slot_is c
           (ap (own q deal) (rw size (ap (λ k. from k (min depth (s.bands - i * depth))) start)));
       more = more;
     }
-
--- behind the last group
-pub all_groups : (s : Sizes) (depth i : ℕ) → 1 ≤ depth → group_count s depth ≤ i → min (i * depth) s.bands ≡ s.bands
-all_groups s depth i some ge =
-    let high : s.bands + depth - 1 < (s.bands + depth - 1) / depth * depth + depth = lt-div-mul-add some in
-    let far : (s.bands + depth - 1) / depth * depth ≤ i * depth = mul-le ((s.bands + depth - 1) / depth) depth i depth ge (omega arith) in
-    omega (arith, high, far)
 
 -- the bands of the group, out of the bands that are the predictor's
 pub group_there : (q : ℕ) (deal : List ℕ) (s : Sizes) (depth i end slot count n : ℕ) (bands was : List Learner) → IsGroup q deal s depth i end slot count

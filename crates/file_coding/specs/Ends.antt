@@ -1,7 +1,8 @@
 -- The coding end of an image: what it has written once it has taken the first residuals.
-use Rattle.std.specs.Prelude.{ℕ, suc, ◌≡◌, ◌+◌, ◌^◌, ◌<◌, ◌≤◌, Bool, List, ◌++◌, length, drop, slice_get, Some}
+use Rattle.std.specs.Prelude.{ℕ, ◌≡◌, ◌+◌, ◌^◌, ◌<◌, ◌≤◌, Bool, List, ◌++◌, length, drop, slice_get, Some}
 use Rattle.std.specs.List.{AllByRecursion}
 use Rattle.cube_core.specs.declared.order.Place.{Place}
+use Rattle.cube_core.specs.Along.{AreByRows}
 use Rattle.cube_core.specs.Shape.{sample_count}
 use Rattle.cube_core.specs.Order.{IsOrder, places}
 use Rattle.header_bits.specs.declared.params.Params.{Params}
@@ -50,11 +51,6 @@ pub record MayCodeAll (e : Ending) (list : List ℕ) : Type 0 where
 -- whatever numbers it had taken, it has taken these behind them
 abbrev pub CodesAll : Ending → Ending → List ℕ → Type 0
 CodesAll old new list = (p : Params) (numbers : List ℕ) → HasCoded p old numbers → HasCoded p new (numbers ++ list)
-
--- each place that isn't the last of its row is followed by the next place of the row
-abbrev pub AreByRows : ℕ → List Place → Type 0
-AreByRows columns ps = (i : ℕ) (q : Place) → slice_get ps i ≡ Some q → q.x + 1 < columns
-    → slice_get ps (suc i) ≡ Some (record { z = q.z; y = q.y; x = q.x + 1 })
 
 -- the first places, so many, are of one row and column, from the band of a place on
 abbrev pub AreOfColumn : Place → ℕ → List Place → Type 0

@@ -1,4 +1,3 @@
 pub mod Coding
 pub mod Ends
 pub mod File
-pub mod Walked

@@ -5,7 +5,7 @@ ghost use Rattle.cube_core.specs.declared.fault.Fault.TheVariants.{WantOfMemory}
 ghost use Rattle.cube_core.specs.Image.{Image};
 ghost use Rattle.header_bits.specs.Lawful.{IsLawful};
 ghost use Rattle.predict_core.specs.Following.{Learner};
-ghost use Rattle.file_coding.specs.Walked.{AreAlong};
+ghost use Rattle.predict_core.specs.Walked.{AreAlong};
 
 use cube_core::fault::Fault;
 use header_bits::params::Params;

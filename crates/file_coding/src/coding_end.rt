@@ -9,7 +9,8 @@ ghost use Rattle.header_bits.specs.Bits.{bits_of_bytes};
 ghost use Rattle.header_bits.specs.Lawful.{IsLawful};
 ghost use Rattle.cube_core.specs.declared.order.Order.TheVariants.{Bsq, Bi};
 ghost use Rattle.file_coding.specs.Coding.{IsBySamples, IsByBlocks};
-ghost use Rattle.file_coding.specs.Ends.{HasCoded, MayCode, MayCodeAll, MayCodeRun, MayCodeColumn, CodesAll, AreByRows};
+ghost use Rattle.file_coding.specs.Ends.{HasCoded, MayCode, MayCodeAll, MayCodeRun, MayCodeColumn, CodesAll};
+ghost use Rattle.cube_core.specs.Along.{AreByRows};
 ghost use Rattle.file_coding.specs.File.{filled, packed, file_of_residuals};
 
 use crate::encoder::Encoder;
@@ -37,7 +38,8 @@ pub struct CodingEnd {
 impl Model for CodingEnd {
     ghost use Rattle.cube_core.specs.Shape.{InRange};
     ghost use Rattle.std.specs.Prelude.{IsTrue};
-    ghost use Rattle.file_coding.specs.Ends.{Ending, AreByRows};
+    ghost use Rattle.file_coding.specs.Ends.{Ending};
+    ghost use Rattle.cube_core.specs.Along.{AreByRows};
 
     ghost Value = { Ending };
 

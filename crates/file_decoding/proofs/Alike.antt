@@ -16,8 +16,9 @@ use Rattle.predict_core.specs.Predictor.{predictor_of}
 use Rattle.predict_core.specs.Precedence.{AreAlike, Agree, IsEarlier}
 use Rattle.predict_core.specs.Residual.{mapped, mapped_residual}
 use Rattle.predict_core.proofs.Following.{row_is, column_is}
-use Rattle.predict_core.proofs.Frame.{before_is, weights_same, scaled_same, place_same, scaled_there_same, exponent_same}
-use Rattle.file_coding.proofs.Come.{time_of}
+use Rattle.predict_core.proofs.Frame.{weights_same, scaled_same, place_same, scaled_there_same, exponent_same}
+use Rattle.predict_core.proofs.Earlier.{before_is}
+use Rattle.cube_core.proofs.Come.{time_of}
 use Rattle.file_decoding.specs.Tiles.{SameBefore}
 
 -- ---- earlier places

@@ -7,8 +7,8 @@ use Rattle.cube_core.specs.Order.{IsOrder, places}
 use Rattle.cube_core.proofs.Orders.{length-places}
 use Rattle.header_bits.specs.declared.params.Params.{Params}
 use Rattle.header_bits.specs.Lawful.{IsLawful}
-use Rattle.file_coding.specs.Walked.{residuals_at}
-use Rattle.file_coding.proofs.Walking.{gone_by, gone_count, gone_all, residuals_whole, length-residuals_at}
+use Rattle.predict_core.specs.Walked.{residuals_at}
+use Rattle.predict_core.proofs.Walking.{gone_by, gone_count, gone_all, residuals_whole, length-residuals_at}
 use Rattle.file_decoding.specs.declared.decoder.Decoder.{Decoder}
 use Rattle.file_decoding.specs.Decoding.{HasGiven, TakesCube}
 use Rattle.file_decoding.specs.Files.{IsCubeOf}

@@ -34,7 +34,7 @@ use Rattle.block_adaptive.specs.declared.options.CodeSet.{CodeSet}
 use Rattle.block_adaptive.specs.Segments.{block_count}
 use Rattle.block_adaptive.specs.Settings.{IsSize}
 use Rattle.file_coding.specs.File.{body_of, body_by, fill_length, filled, packed_from, packed, file_bits, file_of_residuals, file_of}
-use Rattle.file_coding.proofs.Coders.{settings_bits}
+use Rattle.sample_adaptive.proofs.ForSamples.{settings_bits}
 use Rattle.file_coding.proofs.Packed.{filled_whole}
 use Rattle.file_decoding.specs.Files.{IsBodyBy, IsBody, IsCubeOf, IsFile, behind_by, behind_body, some_one, fill_test, body_test, head_at, file_test}
 use Rattle.file_decoding.specs.Laws.{ChosenIsFile, FileIsFine, NoShorterFile, OneFile}

@@ -15,8 +15,9 @@ use Rattle.predict_core.specs.Precedence.{AreAlike, Agree, IsEarlier}
 use Rattle.predict_core.specs.Prediction.{weight_vector}
 use Rattle.predict_core.specs.Residual.{mapped_residual, run_residuals}
 use Rattle.predict_core.specs.RunPlaces.{AreAlikeBeside, IsBeside}
-use Rattle.file_coding.specs.Walked.{HasCome, IsAlong, AreAlong}
-use Rattle.file_coding.proofs.Come.{time_of}
+use Rattle.predict_core.specs.Walked.{IsAlong, AreAlong}
+use Rattle.cube_core.specs.Along.{HasCome}
+use Rattle.cube_core.proofs.Come.{time_of}
 use Rattle.file_decoding.specs.declared.tile.Tile.{Tile}
 use Rattle.file_decoding.specs.Tiles.{IsTile, IsReady, AreReady, SameBefore, HasResiduals, place_in}
 use Rattle.file_decoding.proofs.Alike.{residual_same, weights_behind}

@@ -32,7 +32,9 @@ use Rattle.block_adaptive.specs.DataSets.{Cut, cut_of, blocks_told, values_of}
 use Rattle.block_adaptive.specs.Given.{Unpacked, given_count, GivesNext, GivesRun, HasGiven as HaveGiven}
 use Rattle.block_adaptive.specs.Reading.{data_sets_at, block_body_at}
 use Rattle.file_coding.specs.Coding.{places_of, of_band, IsNumber}
-use Rattle.file_coding.proofs.Coders.{take_next, places_long, places_whole, samples_more, settings_bits, cut_bits}
+use Rattle.file_coding.proofs.Coders.{places_long, places_whole, samples_more, cut_bits}
+use Rattle.sample_adaptive.proofs.ForSamples.{settings_bits}
+use Rattle.cube_core.proofs.Lists.{take_next}
 use Rattle.file_decoding.specs.declared.decoder.Decoder.{Decoder}
 use Rattle.file_decoding.specs.declared.decoder.Decoder.TheVariants.{Samples, Blocks}
 use Rattle.file_decoding.specs.Decoding.{HasGiven, MayAsk, GivesMore, GivesNumber, GivesEach}

@@ -19,9 +19,10 @@ use Rattle.predict_core.specs.Following.{Learner, Follows}
 use Rattle.predict_core.specs.Precedence.{AreAlike}
 use Rattle.predict_core.specs.Prediction.{weight_vector}
 use Rattle.predict_core.specs.Residual.{mapped_residual}
-use Rattle.file_coding.specs.Walked.{HasCome, IsAlong, residuals_at}
-use Rattle.file_coding.proofs.Come.{time_of}
-use Rattle.file_coding.proofs.Walking.{gone_by, gone_count}
+use Rattle.predict_core.specs.Walked.{IsAlong, residuals_at}
+use Rattle.cube_core.specs.Along.{HasCome}
+use Rattle.cube_core.proofs.Come.{time_of}
+use Rattle.predict_core.proofs.Walking.{gone_by, gone_count}
 use Rattle.file_decoding.specs.Tiles.{SameBefore}
 use Rattle.file_decoding.proofs.Alike.{agree_at, residual_same, weights_behind}
 

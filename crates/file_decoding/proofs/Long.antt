@@ -21,7 +21,7 @@ use Rattle.sample_adaptive.proofs.Bodies.{code_bits}
 use Rattle.block_adaptive.specs.Segments.{segment_count}
 use Rattle.block_adaptive.proofs.Handed.{size_least}
 use Rattle.block_adaptive.proofs.Segmented.{no_shorter_body}
-use Rattle.file_coding.proofs.Coders.{settings_bits}
+use Rattle.sample_adaptive.proofs.ForSamples.{settings_bits}
 use Rattle.file_decoding.specs.Files.{IsBodyBy, IsBody}
 use Rattle.file_decoding.specs.Least.{least_by, least_length, least_test}
 

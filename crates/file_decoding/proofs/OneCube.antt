@@ -25,7 +25,7 @@ use Rattle.predict_core.specs.Residual.{mapped, mapped_residual, residuals}
 use Rattle.predict_core.proofs.OneSample.{one_sample_lem}
 use Rattle.predict_core.proofs.Padding.{first_from_middle, first_from_below}
 use Rattle.predict_core.specs.declared.predictor.Predictor.{Predictor}
-use Rattle.file_coding.proofs.Come.{time_of}
+use Rattle.cube_core.proofs.Come.{time_of}
 use Rattle.file_decoding.specs.Laws.{OneCube}
 use Rattle.file_decoding.specs.Tiles.{SameBefore}
 use Rattle.file_decoding.proofs.Alike.{agree_at, mapped_at, scaled_alike}

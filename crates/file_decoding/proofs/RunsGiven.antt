@@ -13,8 +13,8 @@ use Rattle.sample_adaptive.specs.Taken.{Counts, GetsRun}
 use Rattle.sample_adaptive.proofs.Bodies.{words_takes}
 use Rattle.sample_adaptive.proofs.RunsRead.{words_longer}
 use Rattle.file_coding.specs.Coding.{places_of, places_behind, IsRun}
-use Rattle.file_coding.proofs.Coders.{places_long, settings_bits}
-use Rattle.file_coding.proofs.Runs.{run_count, samples_more_run}
+use Rattle.file_coding.proofs.Coders.{places_long, run_count, samples_more_run}
+use Rattle.sample_adaptive.proofs.ForSamples.{settings_bits}
 use Rattle.file_decoding.specs.declared.decoder.Decoder.TheVariants.{Samples}
 use Rattle.file_decoding.specs.Decoding.{AreNumbers, GivesRun}
 use Rattle.file_decoding.proofs.Givers.{rest_refused}

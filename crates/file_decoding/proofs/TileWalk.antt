@@ -15,10 +15,11 @@ use Rattle.header_bits.specs.Lawful.{IsLawful}
 use Rattle.predict_core.specs.Following.{Learner}
 use Rattle.predict_core.specs.Precedence.{AreAlike}
 use Rattle.predict_core.specs.Residual.{mapped_residual}
-use Rattle.file_coding.specs.Walked.{HasCome, AreAlong, residuals_at}
-use Rattle.file_coding.proofs.Come.{time_of, come_here}
-use Rattle.file_coding.proofs.Endings.{first_of}
-use Rattle.file_coding.proofs.Walking.{gone_by, gone_count}
+use Rattle.predict_core.specs.Walked.{AreAlong, residuals_at}
+use Rattle.cube_core.specs.Along.{HasCome}
+use Rattle.cube_core.proofs.Come.{time_of, come_here}
+use Rattle.cube_core.proofs.Lists.{first_of}
+use Rattle.predict_core.proofs.Walking.{gone_by, gone_count}
 use Rattle.file_decoding.specs.declared.decoder.Decoder.{Decoder}
 use Rattle.file_decoding.specs.declared.tile.Tile.{Tile}
 use Rattle.file_decoding.specs.Decoding.{HasGiven, GivesAll}

@@ -13,9 +13,9 @@ use Rattle.cube_core.proofs.Orders.{item_from_index, place_index_below}
 use Rattle.cube_core.proofs.Raws.{same_place}
 use Rattle.cube_core.proofs.Walks.{columns_on, index_in_group, group_kept, sequential_index}
 use Rattle.header_bits.specs.declared.params.Params.{Params}
-use Rattle.file_coding.specs.Walked.{HasCome}
-use Rattle.file_coding.proofs.Come.{time_of}
-use Rattle.file_coding.proofs.Times.{time_of_place}
+use Rattle.cube_core.specs.Along.{HasCome}
+use Rattle.cube_core.proofs.Come.{time_of}
+use Rattle.file_coding.proofs.Endings.{time_of_place}
 use Rattle.file_decoding.specs.declared.tile.Tile.{Tile}
 use Rattle.file_decoding.specs.Decoding.{AreEach}
 use Rattle.file_decoding.specs.Tiles.{IsTile, most_bands, place_in, band_in, time_in}

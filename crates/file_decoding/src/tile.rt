@@ -5,7 +5,7 @@ ghost use Rattle.cube_core.specs.Order.{IsPlaceOf, place_index};
 ghost use Rattle.header_bits.specs.declared.params.Params.{Params as Parameters};
 ghost use Rattle.header_bits.specs.Lawful.{IsLawful};
 ghost use Rattle.predict_core.specs.Precedence.{AreAlike};
-ghost use Rattle.file_coding.specs.Walked.{AreAlong};
+ghost use Rattle.predict_core.specs.Walked.{AreAlong};
 ghost use Rattle.file_decoding.specs.Decoding.{MayAskEach, GivesEach};
 ghost use Rattle.file_decoding.specs.Tiles.{IsTile, AreReady, SameBefore, HasResiduals, band_in, time_in, most_bands as bands_of_group};
 

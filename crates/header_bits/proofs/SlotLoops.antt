@@ -119,9 +119,3 @@ narrow_width slots i lt h = by_kind (get_or slots i (Unused 0)) (slot_narrow slo
     by_kind (Unused n) h = h
     by_kind (Plain n least) h = h.0
     by_kind (Modulo n) h = h
-
--- nor is one of the first slots
-pub first_narrow : (slots : List Slot) (i : ℕ) → AreNarrow slots → AreNarrow (take i slots)
-first_narrow slots zero h = tt
-first_narrow [] (suc i) h = tt
-first_narrow (s ∷ slots) (suc i) h = (h.0, first_narrow slots i h.1)

@@ -1,5 +1,5 @@
 -- The numbers of a table, written one after another.
-use Rattle.std.proofs.Common.{◌≡◌, ℕ, zero, suc, ◌+◌, ◌-◌, ◌*◌, ◌^◌, ◌<◌, ◌≤◌, Bool, List, [], ◌∷◌, ◌++◌, length, map, drop, get_or, ℤ, pos, sym, ap, ◌∙◌}
+use Rattle.std.proofs.Common.{◌≡◌, ℕ, zero, suc, ◌+◌, ◌*◌, ◌^◌, ◌<◌, ◌≤◌, Bool, List, [], ◌∷◌, ◌++◌, length, map, drop, get_or, ℤ, pos, sym, ap, ◌∙◌}
 use Rattle.std.proofs.Common.{append_assoc, length-append, arith}
 use Rattle.std.specs.List.{AllByRecursion}
 use Rattle.std.proofs.lemmas.List.{drop_more, drop_all, append-nil}
@@ -12,7 +12,7 @@ use Rattle.header_bits.specs.declared.params.CountStart.TheVariants.{Each}
 use Rattle.header_bits.specs.Bits.{bits_of, Written}
 use Rattle.header_bits.specs.Layout.{spelled}
 use Rattle.header_bits.specs.TableParts.{fill_of, numbers_text, signed_code}
-use Rattle.header_bits.specs.Lawful.{IsLawful, IsSigned, IsWeightStart, IsCoder}
+use Rattle.header_bits.specs.Lawful.{IsLawful, IsSigned, IsWeightStart}
 use Rattle.header_bits.proofs.Numbers.{length-bits_of}
 use Rattle.header_bits.proofs.TableNumbers.{numbers_text_next}
 use Rattle.header_bits.specs.Header.{weight_bits, constant_bits}
@@ -102,17 +102,3 @@ weights_lawful p q values h e =
     let t = table_lawful p p.start q values e h.start in
     let bound = weight_bound p.previous p.reduced p.shape.bands h.previous in
     record { least = omega (arith, t.0); most = omega (arith, t.0, h.fraction); count = omega (arith, t.1, bound, h.sizes.bands); signed = t.2 }
-
-each_lawful : (p : Params) (c : Coder) (umax gamma_star gamma_zero : ℕ) (values : List ℕ) → c ≡ Sample umax gamma_star gamma_zero (Each values) → IsCoder p c
-    → IsCoder p (Sample umax gamma_star gamma_zero (Each values))
-each_lawful p c umax gamma_star gamma_zero values e h = rw e at h
-
-small_entries : (most : ℕ) (vs : List ℕ) → most < 2 ^ 4 → AllByRecursion (λ v. v ≤ most) vs → AllByRecursion (λ k. k < 2 ^ 4) vs
-small_entries most [] lt h = tt
-small_entries most (v ∷ vs) lt h = (omega (arith, h.0), small_entries most vs lt h.1)
-
-pub constants_lawful : (p : Params) (umax gamma_star gamma_zero : ℕ) (values : List ℕ) → IsLawful p → p.coder ≡ Sample umax gamma_star gamma_zero (Each values)
-    → (length values ≤ 2 ^ 21) × AllByRecursion (λ k. k < 2 ^ 4) values
-constants_lawful p umax gamma_star gamma_zero values h e =
-    let t = (each_lawful p p.coder umax gamma_star gamma_zero values e h.coder).4 in
-    (omega (arith, t.0, h.sizes.bands), small_entries (p.kind.bits - 2) values (omega (arith, h.kind)) t.1)

@@ -1,19 +1,15 @@
 -- What is read at a place is earlier.
-use Rattle.std.proofs.Common.{◌≡◌, ◌≢◌, ◌⊎◌, inl, inr, ◌+◌, ◌-◌, ◌*◌, ◌/◌, ◌%◌, ◌<◌, ◌≤◌, ℕ, zero, suc, ℤ, pos, ◌+ℤ◌, ◌*ℤ◌, Bool, true, false, List, [], ◌∷◌}
-use Rattle.std.proofs.Common.{arith, refl, ◌∙◌, sym, ap, ap₂, subst, div-add-mod', mul-le-mul_right, le_antisymm}
-use Rattle.std.proofs.Math.Nat.{mod-lt, div-mul-le_self, div-zero}
+use Rattle.std.proofs.Common.{◌≡◌, ◌≢◌, ◌⊎◌, inl, inr, ◌+◌, ◌-◌, ◌*◌, ◌/◌, ◌%◌, ◌<◌, ◌≤◌, ℕ, zero, suc, ℤ, pos, ◌+ℤ◌, ◌*ℤ◌, Bool, true, false, List}
+use Rattle.std.proofs.Common.{arith, refl, ◌∙◌, sym, ap, ap₂, subst, div-add-mod'}
+use Rattle.std.proofs.Math.Nat.{mod-lt}
 use Rattle.std.proofs.Math.Arith.{digits_lt}
-use Rattle.std.proofs.lemmas.Nat.{div_below, le-div}
-use Rattle.std.proofs.lemmas.Bool.{cases_eq, cases_lt, cases_order}
+use Rattle.std.proofs.lemmas.Nat.{div_below}
+use Rattle.std.proofs.lemmas.Bool.{cases_eq, cases_lt}
 use Rattle.std.proofs.lemmas.Bool.Decides.{nat_tests}
 use Rattle.header_bits.specs.declared.params.Params.{Params}
 use Rattle.cube_core.specs.Shape.{Sizes}
 use Rattle.cube_core.specs.Kind.{SampleKind, smid}
 use Rattle.cube_core.specs.Image.{Image, IsPlace, sample_at}
-use Rattle.cube_core.specs.Order.{place_key, IsBefore}
-use Rattle.cube_core.specs.declared.order.Order.{Order}
-use Rattle.cube_core.specs.declared.order.Order.TheVariants.{Bsq, Bi}
-use Rattle.cube_core.specs.declared.order.Place.{Place}
 use Rattle.predict_core.specs.declared.predictor.Predictor.{Predictor}
 use Rattle.predict_core.specs.Predictor.{predictor_of, previous_bands}
 use Rattle.predict_core.specs.LocalSum.{local_sum}
@@ -24,6 +20,7 @@ use Rattle.predict_core.specs.Precedence.{AreAlike, Agree, IsEarlier, PlacesPrec
 use Rattle.predict_core.proofs.LocalSums.{sum_at_left, sum_at_right, sum_inside}
 use Rattle.predict_core.proofs.Padding.{first_from_middle, first_from_below}
 use Rattle.predict_core.proofs.Directions.{directional_first, directional_left, directional_inside}
+use Rattle.predict_core.proofs.Earlier.{before_is}
 
 row_more : (a b k : ℕ) → suc a ≡ b → a * k + k ≡ b * k
 row_more a b k e = let f : a * k + k ≡ suc a * k = omega arith in f ∙ ap (λ n. n * k) e
@@ -240,56 +237,6 @@ module _ (p : Params) (c d : Image) (z : ℕ) (band : z < c.shape.bands) (some :
       let w = weights_same (suc t) (omega arith) a in
       let s = scaled_there_same (predictor_of p) c d z (suc t / c.shape.columns) (suc t % c.shape.columns) (weight_vector p c z (suc t)) a.alike.kind r.1 r.0 in
       rw (row_same (predictor_of p) c d z band some wide (suc t) a, column_same (predictor_of p) c d z band some wide (suc t) a, s, w) refl
-
--- ---- earlier is before, in each order
-
-row_order : (columns y x y' x' : ℕ) → x < columns → x' < columns → y' * columns + x' ≤ y * columns + x → (y' < y) ⊎ ((y' ≡ y) × (x' ≤ x))
-row_order columns y x y' x' h k l = elim (cases_order y' y) [ inl e ↦ inr (e, same e) | inr s ↦ elim s [ inl a ↦ inl a | inr a ↦ absurd (not_above a) ] ]
-  where
-    same : y' ≡ y → x' ≤ x
-    same e = let f : y' * columns ≡ y * columns = ap (λ n. n * columns) e in omega (arith, f)
-
-    not_above : y < y' → ⊥
-    not_above a =
-        let f : suc y * columns ≤ y' * columns = mul-le-mul_right columns a in
-        omega (arith, f)
-
-div_le : (a b k : ℕ) → a ≤ b → a / k ≤ b / k
-div_le a b k h = elim (cases_lt 0 k) [ inl l ↦ le-div (a / k) b k l (omega (arith, div-mul-le_self a k)) | inr l ↦ none (omega arith) ]
-  where
-    none : k ≡ 0 → a / k ≤ b / k
-    none e = rw (e, div-zero a) (omega arith)
-
-same_row : (columns y x y' x' : ℕ) → y' ≡ y → y' * columns + x' < y * columns + x → x' < x
-same_row columns y x y' x' e l = let f : y' * columns ≡ y * columns = ap (λ n. n * columns) e in omega (arith, f)
-
-by_bands : (columns z y x z' y' x' : ℕ) → x < columns → x' < columns → IsEarlier z (y * columns + x) z' (y' * columns + x')
-    → IsBefore (z' ∷ y' ∷ x' ∷ []) (z ∷ y ∷ x ∷ [])
-by_bands columns z y x z' y' x' h k (inl (b, l)) = inl b
-by_bands columns z y x z' y' x' h k (inr (b, l)) =
-    inr (b, elim (row_order columns y x y' x' h k (omega arith)) [ inl a ↦ inl a | inr q ↦ inr (q.0, inl (same_row columns y x y' x' q.0 l)) ])
-
--- z' is not above z: then its group is not above z's
-by_groups : (m columns z y x z' y' x' : ℕ) → x < columns → x' < columns → IsEarlier z (y * columns + x) z' (y' * columns + x')
-    → IsBefore (y' ∷ z' / m ∷ x' ∷ z' ∷ []) (y ∷ z / m ∷ x ∷ z ∷ [])
-by_groups m columns z y x z' y' x' h k (inl (b, l)) =
-    elim (row_order columns y x y' x' h k l) [
-      | inl a ↦ inl a
-      | inr q ↦ inr (
-        q.0,
-        elim (cases_lt (z' / m) (z / m)) [
-          | inl a ↦ inl a
-          | inr a ↦ inr (le_antisymm (div_le z' z m (omega arith)) a, elim (cases_lt x' x) [ inl g ↦ inl g | inr g ↦ inr (le_antisymm q.1 g, inl b) ])
-        ],
-      )
-    ]
-by_groups m columns z y x z' y' x' h k (inr (b, l)) =
-    elim (row_order columns y x y' x' h k (omega arith)) [ inl a ↦ inl a | inr q ↦ inr (q.0, inr (ap (λ n. n / m) b, inl (same_row columns y x y' x' q.0 l))) ]
-
-pub before_is : (order : Order) (columns : ℕ) (place earlier : Place) → place.x < columns → earlier.x < columns
-    → IsEarlier place.z (place.y * columns + place.x) earlier.z (earlier.y * columns + earlier.x) → IsBefore (place_key order earlier) (place_key order place)
-before_is Bsq columns place earlier h k e = by_bands columns place.z place.y place.x earlier.z earlier.y earlier.x h k e
-before_is (Bi depth) columns place earlier h k e = by_groups depth columns place.z place.y place.x earlier.z earlier.y earlier.x h k e
 
 pub later_place : (columns y x : ℕ) → 0 < y * columns + x → 0 < y + x
 later_place columns zero x l = omega (arith, l)

@@ -2,6 +2,7 @@ pub mod Chains
 pub mod Directions
 pub mod Filling
 pub mod Following
+pub mod Earlier
 pub mod Frame
 pub mod Inverting
 pub mod InverseRuns
@@ -41,3 +42,4 @@ pub mod Links
 pub mod Runs
 pub mod Intervals
 pub mod WholeRuns
+pub mod Walking

@@ -50,6 +50,3 @@ step_bound n now i v h b = λ k l. by_place k (rw length-set at l) (cases_eq k i
     by_place : (k : ℕ) → k < length now → (k ≡ i) ⊎ (k ≡ i → ⊥) → unsigned_abs (get_or (set now i v) k (pos 0)) ≤ n
     by_place k l (inl e) = rw (e, get_or-set_same now i v (pos 0) (subst (λ j. j < length now) e l)) b
     by_place k l (inr e) = rw (get_or-set_other now i k v (pos 0) e) (h k l)
-
-pub small_is : (z : ℤ) → unsigned_abs z ≤ 2 ^ 18 → SFits w32 z
-small_is z h = fits_signed_from_abs w32 z (omega arith)

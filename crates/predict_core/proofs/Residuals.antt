@@ -4,9 +4,6 @@ use Rattle.std.proofs.lemmas.Int.{ints, fits_signed_from_abs}
 use Rattle.predict_core.specs.Arithmetic.{floor_div}
 use Rattle.predict_core.specs.Residual.{mapped_between, theta_between, agrees, number_of}
 
-pub SFits-apart : (a b : ℤ) → a ≤ℤ b → b ≤ℤ (a +ℤ pos 65535) → SFits w32 (b -ℤ a)
-SFits-apart a b h k = fits_signed_from_abs w32 (b -ℤ a) (omega (arith, ints))
-
 pub SFits-near : (a b : ℤ) → a ≤ℤ (b +ℤ pos 65535) → b ≤ℤ (a +ℤ pos 65535) → SFits w32 (b -ℤ a)
 SFits-near a b h k = fits_signed_from_abs w32 (b -ℤ a) (omega (arith, ints))
 

@@ -1,11 +1,10 @@
 -- The sign of an error as a word of 32 bits: all ones, or 0.
 use lib.Bits.{and_zero_r}
-use Rattle.std.proofs.Common.{◌≡◌, ℕ, zero, suc, ◌-◌, ◌^◌, ◌%◌, ◌≤◌, ℤ, pos, negsuc, ◌-ℤ◌, ◌≤ℤ◌, int_lt, int_le, unsigned_abs, arith, w32, to_z, of_z, SFits}
+use Rattle.std.proofs.Common.{◌≡◌, ℕ, zero, suc, ◌-◌, ◌^◌, ◌%◌, ◌≤◌, ℤ, pos, negsuc, ◌-ℤ◌, ◌≤ℤ◌, int_lt, unsigned_abs, arith, w32, to_z, of_z, SFits}
 use Rattle.std.proofs.Common.{to_z-of_z, ◌+ℤ◌, if◌then◌else◌, Bool, true, false}
 use Rattle.std.specs.Int.Bits.{bit_and}
 use Rattle.std.proofs.lemmas.Int.{ints, fits_signed_from_abs}
 use Rattle.std.proofs.lemmas.Nat.{and_mask}
-use Rattle.predict_core.specs.Arithmetic.{floor_div}
 
 -- a word whose bits are all kept
 kept : (d : ℤ) → unsigned_abs d ≤ 2 ^ 22 → bit_and (of_z w32 d) 4294967295 ≡ of_z w32 d
@@ -48,13 +47,3 @@ either_fits false a b s t = fits_signed_from_abs w32 a (omega (arith, s))
 pub either_within : (limit : ℕ) (negative : Bool) (a b : ℤ) → unsigned_abs a ≤ limit → unsigned_abs b ≤ limit → unsigned_abs (if negative then b else a) ≤ limit
 either_within limit true a b s t = t
 either_within limit false a b s t = s
-
--- the sign of a number below 2 ^ 31, by a shift
-pub sign_shifted : (a : ℤ) → unsigned_abs a ≤ 2 ^ 30
-    → (int_lt (floor_div a 2147483648) (pos 0) ≡ int_lt a (pos 0)) × (negsuc 0 ≤ℤ floor_div a 2147483648) × (floor_div a 2147483648 ≤ℤ pos 0)
-sign_shifted (pos a) h = (grind (arith, ints), omega (arith, ints, h), omega (arith, ints, h))
-sign_shifted (negsuc a) h = (grind (arith, ints), omega (arith, ints, h), omega (arith, ints, h))
-
--- a number at most another is less than it plus one
-pub at_most_is : (a b : ℤ) → int_lt ((a -ℤ pos 1) -ℤ b) (pos 0) ≡ int_le a b
-at_most_is a b = grind (arith, ints)

@@ -21,3 +21,4 @@ pub mod Steps
 pub mod Weights
 pub mod Rows
 pub mod Everything
+pub mod Walked

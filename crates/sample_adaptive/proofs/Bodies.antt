@@ -1,7 +1,6 @@
 -- Bodies, word after word.
 use Rattle.std.proofs.Common.{◌≡◌, ℕ, suc, ◌^◌, ◌<◌, ◌≤◌, Bool, true, false, cond, eqb, List, [], ◌∷◌, ◌++◌, length, Ok, refl, sym, ap, subst, ◌∙◌}
 use Rattle.std.proofs.Common.{append_assoc, arith}
-use Rattle.std.proofs.lemmas.List.{append-nil}
 use Rattle.std.proofs.Math.Pow.{pow_mono}
 use Rattle.cube_core.specs.declared.order.Place.{Place}
 use Rattle.cube_core.specs.Steps.{◌>>=◌}
@@ -85,29 +84,6 @@ one_body c places ms ns x y hm hn p q e =
     (ap (λ (r : List ℕ × List Bool). r.0) same, ap (λ (r : List ℕ × List Bool). r.1) same)
 
 -- ---- one number more
-
-pub words_push : (c : CoderSettings) (gone : List Place) (before : List ℕ) (places : List Place) (numbers : List ℕ) (p : Place) (n : ℕ)
-    → length numbers ≡ length places
-    → words_after c gone before (places ++ p ∷ []) (numbers ++ n ∷ [])
-    ≡ words_after c gone before places numbers ++ code_word (code_at c p.z (band_numbers p.z (gone ++ places) (before ++ numbers))) n
-unfolding words_after
-words_push c gone before [] [] p n len = rw (append-nil gone, append-nil before) (append-nil (code_word (code_at c p.z (band_numbers p.z gone before)) n))
-words_push c gone before [] (m ∷ ms) p n len = absurd (omega arith)
-words_push c gone before (q ∷ qs) [] p n len = absurd (omega arith)
-words_push c gone before (q ∷ qs) (m ∷ ms) p n len =
-    let word : List Bool = code_word (code_at c q.z (band_numbers q.z gone before)) m in
-    let more = words_push c (gone ++ q ∷ []) (before ++ m ∷ []) qs ms p n (omega arith) in
-    let places-are : (gone ++ q ∷ []) ++ qs ≡ gone ++ q ∷ qs = append_assoc gone (q ∷ []) qs in
-    let numbers-are : (before ++ m ∷ []) ++ ms ≡ before ++ m ∷ ms = append_assoc before (m ∷ []) ms in
-    ap (λ (bs : List Bool). word ++ bs) (rw (places-are, numbers-are) at more)
-    ∙ sym (append_assoc word (words_after c (gone ++ q ∷ []) (before ++ m ∷ []) qs ms)
-    (code_word (code_at c p.z (band_numbers p.z (gone ++ q ∷ qs) (before ++ m ∷ ms))) n))
-
--- the body of one number more
-pub body_push : (c : CoderSettings) (places : List Place) (numbers : List ℕ) (p : Place) (n : ℕ) → length numbers ≡ length places
-    → sample_body c (places ++ p ∷ []) (numbers ++ n ∷ []) ≡ sample_body c places numbers ++ code_word (code_at c p.z (band_numbers p.z places numbers)) n
-unfolding sample_body
-body_push c places numbers p n len = words_push c [] [] places numbers p n len
 
 -- the numbers of a band, after one number more
 pub band_push : (z : ℕ) (places : List Place) (numbers : List ℕ) (p : Place) (n : ℕ) → length numbers ≡ length places

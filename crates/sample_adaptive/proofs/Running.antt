@@ -58,6 +58,12 @@ pub body_run : (c : CoderSettings) (gone ps : List Place) (before ms : List ℕ)
 unfolding sample_body
 body_run c gone ps before ms e = words_append c [] [] gone ps before ms e
 
+-- the body of one number more
+pub body_push : (c : CoderSettings) (places : List Place) (numbers : List ℕ) (p : Place) (n : ℕ) → length numbers ≡ length places
+    → sample_body c (places ++ p ∷ []) (numbers ++ n ∷ []) ≡ sample_body c places numbers ++ code_word (code_at c p.z (band_numbers p.z places numbers)) n
+unfolding words_after
+body_push c places numbers p n e = body_run c places (p ∷ []) numbers (n ∷ []) e ∙ ap (λ (bits : List Bool). sample_body c places numbers ++ bits) (append-nil _)
+
 -- ---- runs one behind another
 
 pub all_take : {A : Type 0} (P : A → Type 0) (n : ℕ) (xs : List A) → AllByRecursion P xs → AllByRecursion P (take n xs)

@@ -10,7 +10,7 @@ use Rattle.sample_adaptive.specs.Settings.{settings}
 use Rattle.sample_adaptive.specs.Body.{sample_body, words_after, band_numbers}
 use Rattle.sample_adaptive.specs.Taken.{Counts, HasTaken, PutsNumber}
 use Rattle.sample_adaptive.specs.Words.{code_word, code_at}
-use Rattle.sample_adaptive.proofs.Bodies.{body_push}
+use Rattle.sample_adaptive.proofs.Running.{body_push}
 use Rattle.sample_adaptive.proofs.Taking.{taken_along}
 use Rattle.block_adaptive.specs.Settings.{AreForBlocks, IsCutOf, cut_by}
 use Rattle.block_adaptive.specs.Segments.{block_count}

@@ -1,18 +1,18 @@
 -- The walk along the encoding order, there and back: numbers that are the residuals of the places gone by.
-use Rattle.std.proofs.Common.{◌≡◌, ◌+◌, ◌*◌, ◌<◌, ℕ, suc, zero, ℤ, List, [], ◌∷◌, ◌++◌, length, take, get_or, set, Some, refl, sym, ap, ◌∙◌, subst, arith}
+use Rattle.std.proofs.Common.{◌≡◌, ◌+◌, ◌*◌, ◌<◌, ℕ, suc, zero, ℤ, List, [], ◌∷◌, ◌++◌, length, take, get_or, set, Some, refl, sym, ap, ◌∙◌, arith}
 use Rattle.std.proofs.lemmas.List.{take_more, take_more_set, take_all}
 use Rattle.std.specs.List.{slice_get, slice_index}
 use Rattle.cube_core.specs.declared.order.Place.{Place}
 use Rattle.cube_core.specs.Shape.{Sizes, sample_count}
 use Rattle.cube_core.specs.Image.{Image, put}
 use Rattle.cube_core.specs.Order.{IsOrder, places}
-use Rattle.cube_core.proofs.Orders.{StandsAt, length-places}
+use Rattle.cube_core.proofs.Orders.{length-places}
 use Rattle.header_bits.specs.declared.params.Params.{Params}
 use Rattle.header_bits.specs.Lawful.{IsLawful}
 use Rattle.predict_core.specs.Following.{Learner}
 use Rattle.predict_core.specs.Residual.{mapped_residual, residuals}
-use Rattle.file_coding.specs.Walked.{residuals_at}
-use Rattle.file_coding.proofs.Walking.{IsOnWalk, next_goes, band_here, gone_by, gone_count, residuals_push, residuals_whole}
+use Rattle.predict_core.specs.Walked.{residuals_at}
+use Rattle.predict_core.proofs.Walking.{IsOnWalk, next_goes, band_here, gone_by, gone_count, residuals_push, residuals_whole}
 use Rattle.file_decoding.proofs.Kept.{residuals_kept}
 
 -- the first i numbers are the residuals of the places gone by
@@ -39,12 +39,12 @@ pub written_more : (p : Params) (c : Image) (left rest : List Place) (bands : Li
     → number ≡ mapped_residual p c b.band b.place → AreResiduals p c rest (i + 1) (set numbers i number)
 written_more p c left rest bands q b numbers i number lawful shape walk is band known lt value =
     let next = next_goes p q left rest lawful walk.rest is in
-    let here = band_here p c (gone_by p left) bands q b lawful walk.known next.stands band in
+    let here = band_here p c (gone_count p left) bands q b lawful walk.along next.stands band in
     let place : b.place ≡ q.y * c.shape.columns + q.x = here.1 ∙ ap (λ (s : Sizes). q.y * s.columns + q.x) (sym shape) in
     let there : number ≡ mapped_residual p c q.z (q.y * c.shape.columns + q.x) =
     value ∙ ap (λ z. mapped_residual p c z b.place) here.0.band ∙ ap (mapped_residual p c q.z) place in
     record {
-      count = omega (arith, known.count, next.index);
+      count = omega (arith, known.count, next.count);
       gone = ap (residuals_at p c) next.gone
           ∙ residuals_push p c (gone_by p left) q
           ∙ ap (λ (n : ℕ). residuals_at p c (gone_by p left) ++ n ∷ []) (sym there)
@@ -70,16 +70,15 @@ pub read_more : (p : Params) (c : Image) (left rest : List Place) (bands : List 
     → mapped_residual p (put c q.z q.y q.x v) q.z b.place ≡ get_or numbers i 0 → AreResiduals p (put c q.z q.y q.x v) rest (i + 1) numbers
 read_more p c left rest bands q b numbers i v lawful shape walk is band known lt value =
     let next = next_goes p q left rest lawful.order walk.rest is in
-    let mine = band_here p c (gone_by p left) bands q b lawful.order walk.known next.stands band in
+    let mine = band_here p c (gone_count p left) bands q b lawful.order walk.along next.stands band in
     let place : b.place ≡ q.y * c.shape.columns + q.x = mine.1 ∙ ap (λ (s : Sizes). q.y * s.columns + q.x) (sym shape) in
-    let stands : StandsAt p.shape p.order q (gone_count p left) = subst (λ (k : ℕ). StandsAt p.shape p.order q k) next.count next.stands in
     let last : mapped_residual p (put c q.z q.y q.x v) q.z (q.y * c.shape.columns + q.x) ≡ get_or numbers i 0 =
     ap (mapped_residual p (put c q.z q.y q.x v) q.z) (sym place) ∙ value in
     record {
-      count = omega (arith, known.count, next.index);
+      count = omega (arith, known.count, next.count);
       gone = ap (residuals_at p (put c q.z q.y q.x v)) next.gone
           ∙ residuals_push p (put c q.z q.y q.x v) (gone_by p left) q
           ∙ ap (λ (n : ℕ). residuals_at p (put c q.z q.y q.x v) (gone_by p left) ++ n ∷ []) last
-          ∙ ap (λ (ns : List ℕ). ns ++ get_or numbers i 0 ∷ []) (sym (residuals_kept p c q v left lawful shape stands) ∙ known.gone)
+          ∙ ap (λ (ns : List ℕ). ns ++ get_or numbers i 0 ∷ []) (sym (residuals_kept p c q v left lawful shape next.stands) ∙ known.gone)
           ∙ sym (take_more numbers i 0 lt);
     }

@@ -1,4 +1,4 @@
-use Rattle.file_coding.proofs.Times.{time_of_place}
+use Rattle.file_coding.proofs.Endings.{time_of_place}
 use Rattle.coder_pipe.proofs.laws.time_of_place.Goals as goal
 
 pub returns : goal.returns

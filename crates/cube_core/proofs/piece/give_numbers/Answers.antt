@@ -3,7 +3,7 @@ use Rattle.cube_core.specs.declared.layout.Layout.{Layout}
 use Rattle.cube_core.specs.Kind.{SampleKind, IsSample, sample_of}
 use Rattle.cube_core.specs.Layout.{HasBytes, bytes_at, raw_code}
 use Rattle.cube_core.specs.Scale.{SpellOffset, number_of_rebased}
-use Rattle.cube_core.proofs.Pieces.{given_more, others_more, each_more}
+use Rattle.cube_core.proofs.Putting.{given_more, others_more, each_more}
 use Rattle.cube_core.proofs.piece.give_numbers.Goals as goal
 
 -- what was found of one offset

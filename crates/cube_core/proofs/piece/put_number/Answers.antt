@@ -1,7 +1,7 @@
 use Rattle.std.proofs.Common.{◌≡◌, ◌≢◌, ◌⊎◌, ◌+◌, ◌*◌, ◌≤◌, ◌∙◌, ℕ, suc, List, true, false, length, arith, sym, ap, inl, inr}
 use Rattle.std.proofs.lemmas.Bool.{ne_eqb, eq-eqb}
 use Rattle.std.specs.Prelude.{not}
-use Rattle.cube_core.proofs.Pieces.{byte_put, byte_kept, pair_put, pair_kept, no_more}
+use Rattle.cube_core.proofs.Putting.{byte_put, byte_kept, pair_put, pair_kept, no_more}
 use Rattle.cube_core.proofs.Spelled.{one_byte, little_first, big_first}
 use Rattle.cube_core.proofs.piece.put_number.Goals as goal
 

@@ -1,4 +1,4 @@
-use Rattle.cube_core.proofs.Pieces.{all_given, all_fit}
+use Rattle.cube_core.proofs.Putting.{all_given, all_fit}
 use Rattle.cube_core.proofs.pour.pour_bands.Goals as goal
 
 pub returns-clause-poured : goal.returns-clause-poured

@@ -3,7 +3,8 @@ use Rattle.cube_core.specs.declared.order.Place.{Place}
 use Rattle.cube_core.specs.Order.{IsOrder}
 use Rattle.cube_core.specs.Layout.{order_of}
 use Rattle.cube_core.specs.Pieces.{IsPoured}
-use Rattle.cube_core.proofs.Pieces.{IsGiven, poured_there, band_more, block_ends, piece_there, piece_fits}
+use Rattle.cube_core.proofs.Pieces.{band_more, block_ends, piece_there}
+use Rattle.cube_core.proofs.Putting.{IsGiven, poured_there, piece_fits}
 use Rattle.cube_core.proofs.Raws.{lawful_order}
 use Rattle.cube_core.proofs.pour.pour_lines.Goals as goal
 use Rattle.cube_core.proofs.pour.pour_lines.Goals.{After-new-piece}

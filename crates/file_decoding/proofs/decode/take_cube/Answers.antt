@@ -7,9 +7,9 @@ use Rattle.cube_core.specs.declared.order.Place.{Place}
 use Rattle.cube_core.specs.Image.{Image}
 use Rattle.cube_core.specs.Order.{place_index, places}
 use Rattle.cube_core.proofs.Orders.{length-places}
-use Rattle.file_coding.specs.Walked.{AreAlong, residuals_at}
-use Rattle.file_coding.proofs.Endings.{none_first}
-use Rattle.file_coding.proofs.Walking.{gone_by, gone_count, length-residuals_at}
+use Rattle.predict_core.specs.Walked.{AreAlong, residuals_at}
+use Rattle.cube_core.proofs.Lists.{none_first}
+use Rattle.predict_core.proofs.Walking.{gone_by, gone_count, length-residuals_at}
 use Rattle.file_decoding.specs.Decoding.{AreEach, GivesAll}
 use Rattle.file_decoding.specs.Files.{behind_body}
 use Rattle.file_decoding.specs.Tiles.{SameBefore, band_in, time_in}

@@ -1,7 +1,7 @@
 use Rattle.std.proofs.Common.{◌≡◌, ◌*◌, length, drop}
 use Rattle.cube_core.specs.Order.{places}
-use Rattle.file_coding.specs.Walked.{AreAlong}
-use Rattle.file_coding.proofs.Walking.{gone_count}
+use Rattle.predict_core.specs.Walked.{AreAlong}
+use Rattle.predict_core.proofs.Walking.{gone_count}
 use Rattle.file_decoding.specs.Tiles.{most_bands}
 use Rattle.file_decoding.proofs.Decoded.{IsDecoded}
 use Rattle.file_decoding.proofs.decode.take_cube.Given as goal

@@ -3,20 +3,19 @@ use Rattle.std.specs.List.{slice_get}
 use Rattle.std.proofs.lemmas.Option.{slice_get-get_or}
 use Rattle.cube_core.specs.Kind.{SampleKind}
 use Rattle.predict_core.specs.Following.{Learner}
-use Rattle.file_coding.specs.Walked.{IsAlong}
-use Rattle.file_coding.proofs.Come.{time_of}
-use Rattle.file_coding.proofs.Walking.{NextGoes, next_goes, band_here, gone_by, walked_none, on_walk_first, on_walk_more}
+use Rattle.predict_core.specs.Walked.{IsAlong}
+use Rattle.cube_core.proofs.Come.{time_of}
+use Rattle.predict_core.proofs.Walking.{NextGoes, next_goes, band_here, gone_count, on_walk_first, on_walk_more}
 use Rattle.speed.proofs.Walk.{AreResiduals, none_yet, all_residuals, written_more, below_more}
 use Rattle.speed.proofs.predictor.forward.Goals as goal
 use Rattle.speed.proofs.predictor.forward.Goals.{In-Some, After-index_mut}
 
 pub loop-place-init : goal.loop-place-init
 loop-place-init c =
-    let known = walked_none c.args.params.now c.args.cube.now c.in_ok-bands.bands.items
-    (omega (arith, c.in_ok-bands.ensures.len, c.in_ok-bands.bands.ok.0)) (c.in_ok-bands.ensures.along c.args.cube.now) c.in_ok-bands.ensures.first in
     rw c.new-places.ensures (record {
       room = c.requires.room;
-      walk = on_walk_first c.args.params.now c.args.cube.now c.in_ok-bands.bands.items c.requires.lawful.order known;
+      walk = on_walk_first c.args.params.now c.args.cube.now c.in_ok-bands.bands.items c.requires.lawful.order
+          (omega (arith, c.in_ok-bands.ensures.len, c.in_ok-bands.bands.ok.0)) (c.in_ok-bands.ensures.along c.args.cube.now);
       written = none_yet c.args.params.now c.args.cube.now c.args.residuals.now c.requires.lawful.order;
       below = λ k h. absurd (omega (arith, h));
     })
@@ -26,22 +25,22 @@ goes c = next_goes c.args.params.now c.in-Some.place c.loop-place.places c.next.
     c.in-Some.ensures.steps
 
 inside : (c : In-Some) → c.loop-place.i < length c.loop-place.residuals
-inside c = let g = goes c in omega (arith, g.below, g.count, c.loop-place.invariant.written.count, c.loop-place.invariant.room)
+inside c = let g = goes c in omega (arith, g.below, c.loop-place.invariant.written.count, c.loop-place.invariant.room)
 
 pub index_mut-requires : goal.index_mut-requires
-index_mut-requires c = let g = goes (goal.at.index_mut-requires c).In-Some in omega (arith, g.stands.place.band, c.loop-place.invariant.walk.known.many)
+index_mut-requires c = let g = goes (goal.at.index_mut-requires c).In-Some in omega (arith, g.stands.place.band, c.loop-place.invariant.walk.many)
 
 band_is : (c : After-index_mut) → slice_get c.loop-place.bands.items c.in-Some.place.z ≡ Some c.index_mut.result.now
 band_is c =
     let g = next_goes c.args.params.now c.in-Some.place c.loop-place.places c.next.new.self c.requires.lawful.order c.loop-place.invariant.walk.rest
     c.in-Some.ensures.steps in
     slice_get-get_or c.loop-place.bands.items c.in-Some.place.z c.index_mut.result.now
-    (omega (arith, g.stands.place.band, c.loop-place.invariant.walk.known.many)) ∙ ap (λ (b : Learner). Some b) (sym c.index_mut.ensures.value)
+    (omega (arith, g.stands.place.band, c.loop-place.invariant.walk.many)) ∙ ap (λ (b : Learner). Some b) (sym c.index_mut.ensures.value)
 
-here : (c : After-index_mut) → IsAlong c.args.params.now c.args.cube.now (length (gone_by c.args.params.now c.loop-place.places)) c.in-Some.place.z
+here : (c : After-index_mut) → IsAlong c.args.params.now c.args.cube.now (gone_count c.args.params.now c.loop-place.places) c.in-Some.place.z
     c.index_mut.result.now × (c.index_mut.result.now.place ≡ time_of c.args.params.now.shape c.in-Some.place)
-here c = band_here c.args.params.now c.args.cube.now (gone_by c.args.params.now c.loop-place.places) c.loop-place.bands.items c.in-Some.place
-    c.index_mut.result.now c.requires.lawful.order c.loop-place.invariant.walk.known (next_goes c.args.params.now c.in-Some.place c.loop-place.places
+here c = band_here c.args.params.now c.args.cube.now (gone_count c.args.params.now c.loop-place.places) c.loop-place.bands.items c.in-Some.place
+    c.index_mut.result.now c.requires.lawful.order c.loop-place.invariant.walk.along (next_goes c.args.params.now c.in-Some.place c.loop-place.places
     c.next.new.self c.requires.lawful.order c.loop-place.invariant.walk.rest c.in-Some.ensures.steps).stands (band_is c)
 
 pub forward-delta-requires-clause-shape : goal.forward-delta-requires-clause-shape

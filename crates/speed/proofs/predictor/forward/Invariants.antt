@@ -1,6 +1,6 @@
 use Rattle.std.proofs.Common.{◌≡◌, ◌<◌, ◌^◌, ℕ, length, slice_index}
 use Rattle.cube_core.specs.Shape.{sample_count}
-use Rattle.file_coding.proofs.Walking.{IsOnWalk}
+use Rattle.predict_core.proofs.Walking.{IsOnWalk}
 use Rattle.speed.proofs.Walk.{AreResiduals}
 use Rattle.speed.proofs.predictor.forward.Given as goal
 

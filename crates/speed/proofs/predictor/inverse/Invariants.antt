@@ -1,5 +1,5 @@
 use Rattle.std.proofs.Common.{◌≡◌, length}
-use Rattle.file_coding.proofs.Walking.{IsOnWalk}
+use Rattle.predict_core.proofs.Walking.{IsOnWalk}
 use Rattle.speed.proofs.Walk.{AreResiduals}
 use Rattle.speed.proofs.predictor.inverse.Given as goal
 

@@ -1,6 +1,6 @@
 use Rattle.std.proofs.Common.{◌≡◌, ◌+◌, ◌∷◌, ◌++◌, [], get_or, take, length, ap, ◌∙◌, arith}
 use Rattle.std.proofs.lemmas.List.{length-take, take_more, take_all}
-use Rattle.file_coding.proofs.Coders.{settings_bits}
+use Rattle.sample_adaptive.proofs.ForSamples.{settings_bits}
 use Rattle.speed.specs.Bodies.{AreOfBits, one_band_body}
 use Rattle.speed.proofs.Coded.{coded_none, coded_more, whole_text, none_greater}
 use Rattle.speed.proofs.sample_coder.encoded.Goals as goal

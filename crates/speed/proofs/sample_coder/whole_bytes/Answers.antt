@@ -1,9 +1,8 @@
 use Rattle.std.proofs.Common.{◌≡◌, ◌-◌, ◌%◌, ◌++◌, ℕ, Bool, false, List, length, replicate, ap, ◌∙◌, arith}
 use Rattle.std.proofs.lemmas.List.{length-append}
 use Rattle.header_bits.specs.Bits.{bits_of}
-use Rattle.header_bits.proofs.Numbers.{length-bits_of}
+use Rattle.header_bits.proofs.Numbers.{length-bits_of, bits_of_zero}
 use Rattle.file_coding.specs.File.{filled}
-use Rattle.file_coding.proofs.Packed.{zeros_are}
 use Rattle.speed.proofs.sample_coder.whole_bytes.Goals as goal
 
 whole : (n : ℕ) (old new : List Bool) → n ≡ length old → new ≡ old ++ bits_of ((8 - n % 8) % 8) 0 → length new % 8 ≡ 0
@@ -12,7 +11,7 @@ whole n old new long e =
     omega (arith, both, long, length-bits_of ((8 - n % 8) % 8) 0)
 
 fills : (n : ℕ) (old new : List Bool) → n ≡ length old → new ≡ old ++ bits_of ((8 - n % 8) % 8) 0 → new ≡ filled 1 old
-fills n old new long e = e ∙ ap (λ (x : List Bool). old ++ x) (zeros_are ((8 - n % 8) % 8) ∙ ap (λ (k : ℕ). replicate ((8 - k % 8) % 8) false) long)
+fills n old new long e = e ∙ ap (λ (x : List Bool). old ++ x) (bits_of_zero ((8 - n % 8) % 8) ∙ ap (λ (k : ℕ). replicate ((8 - k % 8) % 8) false) long)
 
 pub into_bytes-requires : goal.into_bytes-requires
 into_bytes-requires c = whole c.bit_count.result c.args.writer.bits c.push.new.self.bits c.bit_count.ensures.count c.in_ok-push.ensures.appended

@@ -1,7 +1,7 @@
 use Rattle.std.proofs.Common.{refl, arith}
 use Rattle.std.proofs.lemmas.List.{take_all}
-use Rattle.file_coding.proofs.Runs.{rows_behind}
-use Rattle.file_coding.proofs.Columns.{may_put_blocks, coded_blocks}
+use Rattle.cube_core.proofs.Rows.{rows_behind}
+use Rattle.file_coding.proofs.Runs.{may_put_blocks, coded_blocks}
 use Rattle.file_coding.proofs.coding_end.CodingEnd.put_blocks.Goals as goal
 
 pub put_blocks-taken-requires : goal.put_blocks-taken-requires
@@ -21,7 +21,6 @@ returns-then-taken-residuals-clause-some c =
 
 pub returns-clause-coded : goal.returns-clause-coded
 returns-clause-coded c =
-    let some =
-    coded_blocks _ _ _ c.put_blocks-taken.result
-    (rw (← c.self.view_is) at c.requires.may) c.put_blocks-taken.ensures.most c.go_by.ensures refl refl c.put_blocks-taken.ensures.taken in
-    rw (← c.self.view_is) (rw (take_all c.put_blocks-taken.result c.args.residuals.now (omega arith)) at some)
+    let told = c.put_blocks-taken.ensures in
+    let all = coded_blocks _ _ _ _ (rw (← c.self.view_is) at c.requires.may) told.most c.go_by.ensures refl refl told.taken in
+    rw (← c.self.view_is) (rw (take_all c.put_blocks-taken.result c.args.residuals.now (omega arith)) at all)

@@ -1,5 +1,6 @@
 use Rattle.std.proofs.Common.{◌≤◌, ◌-◌, length, take}
-use Rattle.file_coding.specs.Ends.{CodesAll, AreByRows}
+use Rattle.file_coding.specs.Ends.{CodesAll}
+use Rattle.cube_core.specs.Along.{AreByRows}
 use Rattle.file_coding.proofs.coding_end.CodingEnd.put_rows.Given as goal
 
 abbrev pub invariant-loop-first : goal.invariant-loop-first

@@ -1,4 +1,4 @@
-use Rattle.file_coding.proofs.ForSamples.{for_samples}
+use Rattle.sample_adaptive.proofs.ForSamples.{for_samples}
 use Rattle.file_coding.proofs.Coders.{samples_none}
 use Rattle.file_coding.proofs.encoder.Encoder.new.Goals as goal
 

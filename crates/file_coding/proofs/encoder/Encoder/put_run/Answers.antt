@@ -1,5 +1,5 @@
 use Rattle.std.proofs.lemmas.Result.{on_ok_weaker}
-use Rattle.file_coding.proofs.Runs.{samples_run}
+use Rattle.file_coding.proofs.Coders.{samples_run}
 use Rattle.file_coding.proofs.encoder.Encoder.put_run.Goals as goal
 
 pub returns-clause-taken : goal.returns-clause-taken

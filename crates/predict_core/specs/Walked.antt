@@ -1,17 +1,11 @@
 -- How far a coder has come along the encoding order.
-use Rattle.std.specs.Prelude.{ℕ, ◌≡◌, ◌+◌, ◌*◌, ◌<◌, ◌≤◌, ◌↔◌, List, map, slice_get, Some}
-use Rattle.cube_core.specs.declared.order.Order.{Order}
+use Rattle.std.specs.Prelude.{ℕ, ◌≡◌, ◌+◌, ◌*◌, ◌<◌, ◌≤◌, List, map, slice_get, Some}
 use Rattle.cube_core.specs.declared.order.Place.{Place}
-use Rattle.cube_core.specs.Shape.{Sizes}
 use Rattle.cube_core.specs.Image.{Image}
-use Rattle.cube_core.specs.Order.{IsPlaceOf, place_index}
+use Rattle.cube_core.specs.Along.{HasCome}
 use Rattle.header_bits.specs.declared.params.Params.{Params}
 use Rattle.predict_core.specs.Following.{Learner, Follows}
 use Rattle.predict_core.specs.Residual.{mapped_residual}
-
--- a band has come to a place that the walk has come to: its places behind it are those of a lesser index
-abbrev pub HasCome : Sizes → Order → ℕ → ℕ → ℕ → Type 0
-HasCome s o z i t = (p : Place) → IsPlaceOf s p → p.z ≡ z → (place_index s o p < i) ↔ (p.y * s.columns + p.x < t)
 
 -- band z of a predictor follows the cube to where the walk has come
 pub record IsAlong (p : Params) (c : Image) (i z : ℕ) (b : Learner) : Type 0 where

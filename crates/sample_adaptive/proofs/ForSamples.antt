@@ -1,5 +1,5 @@
 -- Lawful parameters are lawful for the sample-adaptive coder.
-use Rattle.std.proofs.Common.{◌+◌, ◌-◌, ◌<◌, ◌≤◌, ℕ, arith}
+use Rattle.std.proofs.Common.{◌≡◌, ◌+◌, ◌-◌, ◌<◌, ◌≤◌, ℕ, refl, arith}
 use Rattle.std.specs.List.{slice_index}
 use Rattle.header_bits.specs.declared.params.Params.{Params}
 use Rattle.header_bits.specs.declared.params.Coder.{Coder}
@@ -10,7 +10,7 @@ use Rattle.header_bits.specs.Lawful.{IsLawful, IsCoder, IsCountStart}
 use Rattle.cube_core.specs.Shape.{InRange}
 use Rattle.header_bits.proofs.TableWriting.{all_at}
 use Rattle.sample_adaptive.specs.Statistics.{constant_of}
-use Rattle.sample_adaptive.specs.Settings.{IsSample, HasEntries, AreLawful, AreForSamples, coder_settings}
+use Rattle.sample_adaptive.specs.Settings.{IsSample, HasEntries, AreLawful, AreForSamples, coder_settings, settings}
 
 entries : (p : Params) (start : CountStart) → IsCountStart p start → HasEntries p.shape.bands start
 entries p (Constant k) h = tt
@@ -30,3 +30,7 @@ by_coder p (Block size restricted reference) b h s = absurd s
 
 pub for_samples : (p : Params) → IsLawful p → IsSample p.coder → AreForSamples p
 for_samples p h s = record { coder = s; lawful = by_coder p p.coder h.kind h.coder s }
+
+pub settings_bits : (p : Params) → (settings p).bits ≡ p.kind.bits
+settings_bits p =
+    elim p.coder as (λ k. (coder_settings p.kind.bits k).bits ≡ p.kind.bits) [ Sample umax star zero start ↦ refl | Block size restricted reference ↦ refl ]

@@ -10,7 +10,7 @@ use Rattle.cube_core.specs.Order.{IsOrder, IsPlaceOf, IsBefore, place_index, pla
 use Rattle.cube_core.proofs.Keys.{item_of_index, order_is_by_key}
 use Rattle.cube_core.proofs.Orders.{StandsAt}
 use Rattle.cube_core.proofs.Raws.{same_place}
-use Rattle.file_coding.specs.Walked.{HasCome}
+use Rattle.cube_core.specs.Along.{HasCome}
 
 -- where a place stands in its band
 abbrev pub time_of : Sizes → Place → ℕ

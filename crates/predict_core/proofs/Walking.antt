@@ -1,0 +1,126 @@
+-- One step of the walk along the encoding order.
+use Rattle.std.proofs.Common.{◌≡◌, ◌≢◌, ◌+◌, ◌*◌, ◌-◌, ◌<◌, ℕ, List, [], ◌∷◌, ◌++◌, length, take, drop, set, Some, refl, sym, ap, ◌∙◌, subst, inl, inr}
+use Rattle.std.proofs.Common.{length-drop, arith}
+use Rattle.std.proofs.lemmas.List.{length-set, length-map, map-append, take_all}
+use Rattle.std.proofs.Math.Arith.{digits_lt}
+use Rattle.std.specs.List.{slice_get}
+use Rattle.cube_core.specs.declared.order.Place.{Place}
+use Rattle.cube_core.specs.Shape.{Sizes, sample_count}
+use Rattle.cube_core.specs.Image.{Image}
+use Rattle.cube_core.specs.Order.{IsOrder, places}
+use Rattle.cube_core.proofs.Lists.{get_set, take_next}
+use Rattle.cube_core.proofs.Orders.{StandsAt, length-places, item_from_index}
+use Rattle.cube_core.proofs.Raws.{next_stands}
+use Rattle.cube_core.proofs.Come.{time_of, come_start, come_here, come_step, come_other}
+use Rattle.header_bits.specs.declared.params.Params.{Params}
+use Rattle.predict_core.specs.Following.{Learner, Follows, MovesOn}
+use Rattle.predict_core.specs.Residual.{mapped_residual, residuals}
+use Rattle.predict_core.specs.Walked.{IsAlong, AreAlong, residuals_at}
+
+pub residuals_push : (p : Params) (c : Image) (gone : List Place) (q : Place)
+    → residuals_at p c (gone ++ q ∷ []) ≡ residuals_at p c gone ++ mapped_residual p c q.z (q.y * c.shape.columns + q.x) ∷ []
+residuals_push p c gone q = map-append _ gone (q ∷ [])
+
+pub length-residuals_at : (p : Params) (c : Image) (gone : List Place) → length (residuals_at p c gone) ≡ length gone
+length-residuals_at p c gone = length-map gone _
+
+-- ---- the bands
+
+-- a band at its first place
+pub along_first : (p : Params) (c : Image) (z : ℕ) (b : Learner) → b.band ≡ z → b.place ≡ 0 → Follows p b c → IsAlong p c 0 z b
+along_first p c z b band first follows =
+    record { band = band; inside = omega (arith, first); follows = follows; come = rw first (come_start p.shape p.order z) }
+
+-- what is known of the band that comes next
+pub band_here : (p : Params) (c : Image) (i : ℕ) (bands : List Learner) (q : Place) (b : Learner) → IsOrder p.shape p.order → AreAlong p c i bands
+    → StandsAt p.shape p.order q i → slice_get bands q.z ≡ Some b → IsAlong p c i q.z b × (b.place ≡ time_of p.shape q)
+band_here p c i bands q b lawful all stands e =
+    let along = all q.z stands.place.band b e in
+    (along, sym (come_here p.shape p.order q.z i b.place q lawful along.come stands refl))
+
+-- one place more, and with it another image, which the other bands follow as well
+along_more : (p : Params) (c e : Image) (i : ℕ) (bands : List Learner) (q : Place) (b d : Learner)
+    → IsOrder p.shape p.order → AreAlong p c i bands → StandsAt p.shape p.order q i → slice_get bands q.z ≡ Some b → MovesOn b d → Follows p d e
+    → ((z : ℕ) (f : Learner) → z < p.shape.bands → z ≢ q.z → IsAlong p c i z f → Follows p f e) → AreAlong p e (i + 1) (set bands q.z d)
+along_more p c e i bands q b d lawful all stands at moves follows others-follow z lt f g =
+    elim (get_set bands q.z z d f g) [ inl (h, k) ↦ rw (h, k) own | inr (h, k) ↦ other h (all z lt f k) ]
+  where
+    own : IsAlong p e (i + 1) q.z d
+    own =
+        let here = band_here p c i bands q b lawful all stands at in
+        let within : q.y * p.shape.columns + q.x < p.shape.rows * p.shape.columns = digits_lt stands.place.row stands.place.column in
+        record {
+          band = moves.band ∙ here.0.band;
+          inside = omega (arith, moves.place, here.1, within);
+          follows = follows;
+          come = rw moves.place (come_step p.shape p.order q.z i b.place q lawful here.0.come stands refl);
+        }
+
+    other : z ≢ q.z → IsAlong p c i z f → IsAlong p e (i + 1) z f
+    other h before = record {
+      band = before.band;
+      inside = before.inside;
+      follows = others-follow z f lt h before;
+      come = come_other p.shape p.order z i f.place q lawful before.come stands (λ r. h (sym r));
+    }
+
+-- ---- along the places that are left
+
+-- how many places have gone by
+abbrev pub gone_count : Params → List Place → ℕ
+gone_count p left = sample_count p.shape - length left
+
+abbrev pub gone_by : Params → List Place → List Place
+gone_by p left = take (gone_count p left) (places p.shape p.order)
+
+-- the places left are the last of the order, and each band follows the image, behind its own of the others
+pub record IsOnWalk (p : Params) (c : Image) (left : List Place) (bands : List Learner) : Type 0 where
+  pub rest : left ≡ drop (gone_count p left) (places p.shape p.order)
+  pub many : length bands ≡ p.shape.bands
+  pub along : AreAlong p c (gone_count p left) bands
+
+pub record NextGoes (p : Params) (q : Place) (left rest : List Place) : Type 0 where
+  pub stands : StandsAt p.shape p.order q (gone_count p left)
+  pub below : gone_count p left < sample_count p.shape
+  pub count : gone_count p rest ≡ gone_count p left + 1
+  pub gone : gone_by p rest ≡ gone_by p left ++ q ∷ []
+  pub others : rest ≡ drop (gone_count p rest) (places p.shape p.order)
+
+pub next_goes : (p : Params) (q : Place) (left rest : List Place) → IsOrder p.shape p.order → left ≡ drop (gone_count p left) (places p.shape p.order)
+    → left ≡ q ∷ rest → NextGoes p q left rest
+next_goes p q left rest lawful is e =
+    let all : List Place = places p.shape p.order in
+    let i : ℕ = gone_count p left in
+    let next = next_stands p.shape p.order i q rest lawful (sym is ∙ e) in
+    let long : length rest ≡ length all - (i + 1) = rw (next.2, length-drop) refl in
+    let count : gone_count p rest ≡ i + 1 = omega (arith, next.0, length-places p.shape p.order lawful, long) in
+    let item = item_from_index p.shape p.order q i lawful next.1.place next.1.index next.0 in
+    record { stands = next.1; below = next.0; count = count; gone = rw count (take_next all i q item).1; others = rw count next.2 }
+
+-- one step of the walk
+pub on_walk_more : (p : Params) (c e : Image) (left rest : List Place) (bands : List Learner) (q : Place) (b d : Learner)
+    → IsOrder p.shape p.order → IsOnWalk p c left bands → left ≡ q ∷ rest → slice_get bands q.z ≡ Some b → MovesOn b d → Follows p d e
+    → ((z : ℕ) (f : Learner) → z < p.shape.bands → z ≢ q.z → IsAlong p c (gone_count p left) z f → Follows p f e) → IsOnWalk p e rest (set bands q.z d)
+on_walk_more p c e left rest bands q b d lawful walk is band moves follows others =
+    let next = next_goes p q left rest lawful walk.rest is in
+    record {
+      rest = next.others;
+      many = length-set bands q.z d ∙ walk.many;
+      along = subst (λ i. AreAlong p e i (set bands q.z d)) (sym next.count)
+          (along_more p c e (gone_count p left) bands q b d lawful walk.along next.stands band moves follows others);
+    }
+
+pub on_walk_first : (p : Params) (c : Image) (bands : List Learner) → IsOrder p.shape p.order → length bands ≡ p.shape.bands → AreAlong p c 0 bands
+    → IsOnWalk p c (places p.shape p.order) bands
+on_walk_first p c bands lawful many along =
+    let none : gone_count p (places p.shape p.order) ≡ 0 = omega (arith, length-places p.shape p.order lawful) in
+    record { rest = rw none refl; many = many; along = subst (λ i. AreAlong p c i bands) (sym none) along }
+
+-- all places have gone by
+pub gone_all : (p : Params) → IsOrder p.shape p.order → gone_by p [] ≡ places p.shape p.order
+gone_all p lawful = take_all (gone_count p []) (places p.shape p.order) (omega (arith, length-places p.shape p.order lawful))
+
+-- the residuals of all places
+pub residuals_whole : (p : Params) (c : Image) → IsOrder p.shape p.order → c.shape ≡ p.shape → residuals_at p c (gone_by p []) ≡ residuals p c
+unfolding residuals
+residuals_whole p c lawful shape = ap (residuals_at p c) (gone_all p lawful ∙ ap (λ (s : Sizes). places s p.order) (sym shape))
