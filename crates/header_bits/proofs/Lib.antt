@@ -24,3 +24,5 @@ pub mod Windows
 pub mod Words
 pub mod Later
 pub mod TableTexts
+pub mod Each
+pub mod Items
