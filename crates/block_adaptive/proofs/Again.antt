@@ -12,8 +12,9 @@ use Rattle.block_adaptive.specs.Reading.{Site, run_at, data_set_at, pairs_at, wo
 use Rattle.header_bits.proofs.Reading.{ok_is}
 use Rattle.header_bits.proofs.Reading.{number_again}
 use Rattle.header_bits.proofs.Fronts.{zeros_again, zeros_front, ones_front, bit_front}
-use Rattle.block_adaptive.proofs.Codes.{words_again, split_again, weaker}
+use Rattle.block_adaptive.proofs.Codes.{words_again, split_again}
 use Rattle.block_adaptive.proofs.Triangles.{pairs_again}
+use Rattle.header_bits.proofs.Items.{all_weaker}
 
 pub run_again : (site : Site) (left n : ℕ) (rest : List Bool) → 1 ≤ n → n ≤ left → run_at site left (run_code n ++ rest) ≡ Ok (Run n, rest)
 unfolding run_at run_code
@@ -70,7 +71,7 @@ block_again site s half left Uncoded vs rest h =
     let b : eqb (2 ^ width s - 1) (2 ^ width s - 1) ≡ true = eq-eqb (2 ^ width s - 1) (2 ^ width s - 1) refl in
     rw (append_assoc, ones_front site.count (width s) (low_groups s.bits vs ++ rest), a, b, words) refl
 block_again site s half left Second vs rest h =
-    let pairs : pairs_at site (greatest_value s) half (pair_codes vs ++ rest) ≡ Ok (vs, rest) = pairs_again site (greatest_value s) half vs rest h.whole (weaker (λ v. v < 2 ^ s.bits) (λ v. v ≤ greatest_value s) (λ v lt. omega arith) vs h.range) in
+    let pairs : pairs_at site (greatest_value s) half (pair_codes vs ++ rest) ≡ Ok (vs, rest) = pairs_again site (greatest_value s) half vs rest h.whole (all_weaker _ _ (λ v lt. omega arith) vs h.range) in
     let e : 2 * half / 2 ≡ half = omega arith in
     rw (append_assoc, append_assoc, zeros_front site.count (width s) (true ∷ (pair_codes vs ++ rest)), bit_front site.count true (pair_codes vs ++ rest), e, pairs) refl
 block_again site s half left (Split k) vs rest h =

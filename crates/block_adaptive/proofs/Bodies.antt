@@ -19,6 +19,7 @@ use Rattle.block_adaptive.specs.Reading.{Site, data_set_at, data_sets_at, block_
 use Rattle.block_adaptive.specs.Laws.{OneBody, ChosenIsBody, BodyIsRead, AreBlocks}
 use Rattle.block_adaptive.proofs.Again.{data_set_again}
 use Rattle.block_adaptive.proofs.Lawful.{chosen_is_lawful, rest_least}
+use Rattle.header_bits.proofs.Items.{all_take, all_drop}
 
 -- a lawful data set stands for a block or more
 pub data_set_some : (s : CodeSet) (size left : ℕ) (t : CodedDataSet) → IsCodedDataSet s size left t → 1 ≤ blocks_in left t
@@ -72,16 +73,6 @@ unfolding first_blocks
 length-first_blocks size zero numbers = refl
 length-first_blocks size (suc n) numbers = ap suc (length-first_blocks size n (drop size numbers))
 
-range_take : (limit n : ℕ) (vs : List ℕ) → AllByRecursion (λ v. v < limit) vs → AllByRecursion (λ v. v < limit) (take n vs)
-range_take limit zero vs h = tt
-range_take limit (suc n) [] h = tt
-range_take limit (suc n) (v ∷ vs) h = (h.0, range_take limit n vs h.1)
-
-range_drop : (limit n : ℕ) (vs : List ℕ) → AllByRecursion (λ v. v < limit) vs → AllByRecursion (λ v. v < limit) (drop n vs)
-range_drop limit zero vs h = h
-range_drop limit (suc n) [] h = tt
-range_drop limit (suc n) (v ∷ vs) h = range_drop limit n vs h.1
-
 filled_length : (size : ℕ) (v : List ℕ) → length v ≤ size → length (filled size v) ≡ size
 filled_length size v le = omega (arith, length-append v (replicate (size - length v) 0), length-replicate {A = ℕ} (size - length v) 0)
 
@@ -89,8 +80,8 @@ first_are_blocks : (s : CodeSet) (size n : ℕ) (numbers : List ℕ) → AllByRe
 unfolding first_blocks
 first_are_blocks s size zero numbers h = tt
 first_are_blocks s size (suc n) numbers h = (
-  (filled_length size (take size numbers) (omega (arith, length-take size numbers)), range_filled (2 ^ s.bits) size (take size numbers) (pow_pos s.bits) (range_take (2 ^ s.bits) size numbers h)),
-  first_are_blocks s size n (drop size numbers) (range_drop (2 ^ s.bits) size numbers h),
+  (filled_length size (take size numbers) (omega (arith, length-take size numbers)), range_filled (2 ^ s.bits) size (take size numbers) (pow_pos s.bits) (all_take _ size numbers h)),
+  first_are_blocks s size n (drop size numbers) (all_drop _ size numbers h),
 )
 
 filled_whole : (size : ℕ) (b : List ℕ) → length b ≡ size → filled size b ≡ b

@@ -40,7 +40,7 @@ second_behind s vs sum first longer h e =
 -- no later k is shorter, since the sum of the values is small
 pub ended : (s : CodeSet) (vs : List ℕ) (sum first k : ℕ) (longer : Bool) (o : Choice) → IsSearch s vs sum first longer → LeadsTried s vs longer first k o → k ≤ splits s → (k < splits s → k ≡ first + 3) → o ≡ chosen_option s vs
 ended s vs sum first k longer o h leads few last =
-    leads_all s vs longer first k o leads few h.within (below_first s vs sum first longer h) (second_behind s vs sum first longer h) (λ j from in_set.
+    leads_all leads few h.within (below_first s vs sum first longer h) (second_behind s vs sum first longer h) (λ j from in_set.
     let end : k ≡ first + 3 = last (omega arith) in
     let behind : j - (first + 2) + (first + 2) ≡ j = omega arith in
     let tried = lead_cost _ _ _ _ (leads.leads (Split (first + 2)) (omega arith, omega arith)) in
@@ -57,7 +57,7 @@ plain_short s vs k small some =
 -- no k above 0 is shorter
 pub ended_at_plain : (s : CodeSet) (vs : List ℕ) (k : ℕ) (o : Choice) → (0 < splits s → sum vs < length vs) → LeadsTried s vs false 0 k o → k ≤ splits s → (k < splits s → k ≡ 1) → o ≡ chosen_option s vs
 ended_at_plain s vs k o small leads few last =
-    leads_all s vs false 0 k o leads few (λ some. some) (λ j lt. absurd (omega arith)) (λ e. absurd cc) (λ j from in_set.
+    leads_all leads few (λ some. some) (λ j lt. absurd (omega arith)) (λ e. absurd cc) (λ j from in_set.
     let end : k ≡ 1 = last (omega arith) in
     let tried = lead_cost _ _ _ _ (leads.leads (Split 0) (omega arith, omega arith)) in
     omega (arith, tried, plain_short s vs j (small (omega arith)) (omega arith)))

@@ -18,8 +18,9 @@ use Rattle.block_adaptive.specs.Prefixes.{TakenIsPrefix}
 use Rattle.block_adaptive.proofs.Again.{data_set_again}
 use Rattle.block_adaptive.proofs.Bodies.{length-first_blocks, data_set_some, data_sets_few}
 use Rattle.block_adaptive.proofs.Counts.{data_set_left}
-use Rattle.block_adaptive.proofs.Handed.{size_least, size_halved, values_append}
+use Rattle.block_adaptive.proofs.Handed.{size_least, size_halved}
 use Rattle.block_adaptive.proofs.Packing.{values_length, first_of_blocks}
+use Rattle.std.proofs.lemmas.Grind.{flat_map-append}
 
 -- ---- data sets and the blocks that they stand for
 
@@ -40,7 +41,7 @@ told_length c i j (t ∷ data_sets) h =
     let here = data_set_blocks c.set c.size (left_at c i) t h.0 in
     let rest = told_length c (i + k) j data_sets h.1 in
     let both : length (values_of (blocks_of c.size (left_at c i) t ++ blocks_told c (i + k) data_sets)) ≡ length (values_of (blocks_of c.size (left_at c i) t)) + length (values_of (blocks_told c (i + k) data_sets)) =
-    ap length (values_append (blocks_of c.size (left_at c i) t) (blocks_told c (i + k) data_sets)) ∙ length-append (values_of (blocks_of c.size (left_at c i) t)) (values_of (blocks_told c (i + k) data_sets)) in
+    ap length (flat_map-append (λ b. b) (blocks_of c.size (left_at c i) t) (blocks_told c (i + k) data_sets)) ∙ length-append (values_of (blocks_of c.size (left_at c i) t)) (values_of (blocks_told c (i + k) data_sets)) in
     let spread : (i + k) * c.size ≡ i * c.size + k * c.size = omega arith in
     omega arith
 

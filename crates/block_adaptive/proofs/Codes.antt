@@ -9,6 +9,7 @@ use Rattle.block_adaptive.specs.Options.{quotient_codes, low_groups}
 use Rattle.block_adaptive.specs.Reading.{Site, fundamental_at, quotients_at, low_at, lows_at, split_at, words_at}
 use Rattle.header_bits.proofs.Fronts.{zeros_again}
 use Rattle.header_bits.proofs.Reading.{number_again, number_low}
+use Rattle.header_bits.proofs.Items.{all_weaker}
 
 pub fundamental_again : (site : Site) (most m : ℕ) (rest : List Bool) → m ≤ most → fundamental_at site most (fundamental m ++ rest) ≡ Ok (m, rest)
 unfolding fundamental_at
@@ -40,14 +41,10 @@ words_again site depth [] rest h = refl
 words_again site depth (v ∷ vs) rest h =
     rw (append_assoc, number_again site.count depth v (low_groups depth vs ++ rest) h.0, words_again site depth vs rest h.1) refl
 
-pub weaker : (P Q : ℕ → Type 0) → ((v : ℕ) → P v → Q v) → (vs : List ℕ) → AllByRecursion P vs → AllByRecursion Q vs
-weaker P Q f [] h = tt
-weaker P Q f (v ∷ vs) h = (f v h.0, weaker P Q f vs h.1)
-
 pub split_again : (site : Site) (depth k : ℕ) (vs : List ℕ) (rest : List Bool) → AllByRecursion (λ v. v < 2 ^ depth) vs → split_at site k (2 ^ depth - 1) (length vs) ((quotient_codes k vs ++ low_groups k vs) ++ rest) ≡ Ok (vs, rest)
 unfolding split_at
 split_again site depth k vs rest h =
     let most : ℕ = 2 ^ depth - 1 in
-    let small = weaker (λ v. v < 2 ^ depth) (λ v. v ≤ most) (λ v lt. omega arith) vs h in
-    let quotients = weaker (λ v. v ≤ most) (λ v. v / 2 ^ k ≤ most / 2 ^ k) (λ v le. le-div (v / 2 ^ k) most (2 ^ k) (pow_pos k) (omega (arith, div-mul-le_self v (2 ^ k)))) vs small in
+    let small = all_weaker (λ v. v < 2 ^ depth) (λ v. v ≤ most) (λ v lt. omega arith) vs h in
+    let quotients = all_weaker (λ v. v ≤ most) (λ v. v / 2 ^ k ≤ most / 2 ^ k) (λ v le. le-div (v / 2 ^ k) most (2 ^ k) (pow_pos k) (omega (arith, div-mul-le_self v (2 ^ k)))) vs small in
     rw (append_assoc, quotients_again site (most / 2 ^ k) k vs (low_groups k vs ++ rest) quotients) (lows_again site k most vs rest small)

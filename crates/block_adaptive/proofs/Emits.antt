@@ -1,53 +1,14 @@
 -- Writing texts, part after part.
-use Rattle.std.proofs.Common.{◌≡◌, ℕ, zero, suc, ◌+◌, ◌-◌, ◌*◌, ◌/◌, ◌%◌, ◌^◌, ◌<◌, ◌≤◌, Bool, false, List, [], ◌∷◌, ◌++◌, length, drop, replicate, get_or, Result, Ok, Err, refl, sym, ap, ◌∙◌, arith, append_assoc, add-one, drop-cons}
-use Rattle.std.specs.Prelude.{IsOk, OnOk}
+use Rattle.std.proofs.Common.{◌≡◌, ℕ, zero, suc, ◌+◌, ◌-◌, ◌*◌, ◌/◌, ◌%◌, ◌^◌, ◌<◌, ◌≤◌, Bool, false, List, [], ◌∷◌, ◌++◌, length, drop, replicate, get_or, refl, sym, ap, ◌∙◌, arith, add-one, drop-cons}
 use Rattle.std.proofs.lemmas.List.{append-nil, length-append, drop_all}
-use Rattle.header_bits.specs.Bits.{Written, bits_of, fundamental}
+use Rattle.header_bits.specs.Bits.{bits_of, fundamental}
 use Rattle.header_bits.proofs.Numbers.{length-bits_of, bits_of_zero, bits_of_one, bits_of-fundamental, bits_of-mod}
 use Rattle.header_bits.proofs.Fronts.{bits_of_ones}
 use Rattle.block_adaptive.specs.declared.options.CodeSet.{CodeSet}
 use Rattle.block_adaptive.specs.declared.options.Choice.TheVariants.{Uncoded, Second, Split}
 use Rattle.block_adaptive.specs.Options.{width, zero_identifier, identifier, quotient_codes, low_groups, pair_codes, pair_number}
 use Rattle.block_adaptive.specs.DataSets.{run_text}
-use Rattle.block_adaptive.specs.Taken.{Writes}
 use Rattle.block_adaptive.proofs.Costs.{length-fundamental}
-
-pub on_ok : {A E : Type 0} (r : Result A E) (P : Type 0) → IsOk r → OnOk r P → P
-on_ok (Ok x) P ok h = h
-on_ok (Err e) P ok h = absurd cc
-
--- of a whole text some was written, and some is left
-pub record Remains (old now : Written) (whole left : List Bool) : Type 0 where
-  pub text : now.bits ++ left ≡ old.bits ++ whole
-  pub room : old.room + length left ≤ now.room + length whole
-
-pub remains_start : (old : Written) (whole : List Bool) → Remains old old whole whole
-remains_start old whole = record { text = refl; room = omega arith }
-
-pub remains_room : (old now : Written) (whole left text rest : List Bool) → length whole ≤ old.room → left ≡ text ++ rest → Remains old now whole left → length text ≤ now.room
-remains_room old now whole left text rest enough is h =
-    let size : length left ≡ length text + length rest = ap length is ∙ length-append text rest in
-    omega (arith, h.room)
-
-pub remains_step : (old now next : Written) (whole left text rest : List Bool) → left ≡ text ++ rest → Remains old now whole left → Writes now next text → Remains old next whole rest
-remains_step old now next whole left text rest is h w =
-    let size : length left ≡ length text + length rest = ap length is ∙ length-append text rest in
-    record {
-      text = ap (λ (bs : List Bool). bs ++ rest) w.appended ∙ append_assoc now.bits text rest ∙ ap (λ (bs : List Bool). now.bits ++ bs) (sym is) ∙ h.text;
-      room = omega (arith, h.room, w.spent);
-    }
-
-pub remains_end : (old now : Written) (whole left : List Bool) → left ≡ [] → Remains old now whole left → Writes old now whole
-remains_end old now whole left is h = record {
-  appended = sym (append-nil now.bits) ∙ ap (λ (bs : List Bool). now.bits ++ bs) (sym is) ∙ h.text;
-  spent = omega (arith, h.room, ap length is);
-}
-
-pub writes_both : (a b c : Written) (x y : List Bool) → Writes a b x → Writes b c y → Writes a c (x ++ y)
-writes_both a b c x y p q = record {
-  appended = q.appended ∙ ap (λ (bs : List Bool). bs ++ y) p.appended ∙ append_assoc a.bits x y;
-  spent = omega (arith, p.spent, q.spent, length-append x y);
-}
 
 -- ---- fundamental sequences
 

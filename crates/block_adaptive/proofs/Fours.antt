@@ -1,23 +1,19 @@
 -- The low bits of values, four values at a time.
-use Rattle.std.proofs.Common.{◌≡◌, ℕ, zero, suc, ◌+◌, ◌-◌, ◌*◌, ◌/◌, ◌%◌, ◌^◌, ◌<◌, ◌≤◌, Bool, false, ltb, List, [], ◌∷◌, ◌++◌, length, take, drop, set, get_or, Result, Ok, Err, refl, sym, ap, subst, ◌∙◌, inl, inr, arith, append_assoc, pow_pos, lit<}
+use Rattle.std.proofs.Common.{◌≡◌, ℕ, ◌+◌, ◌-◌, ◌*◌, ◌/◌, ◌%◌, ◌^◌, ◌<◌, ◌≤◌, Bool, false, ltb, List, [], ◌∷◌, ◌++◌, length, take, drop, set, get_or, Ok, refl, sym, ap, subst, ◌∙◌, arith, append_assoc, pow_pos, lit<}
 use Rattle.std.specs.List.{AllByRecursion}
 use Rattle.std.proofs.lemmas.Bool.{le-ltb}
-use Rattle.std.proofs.lemmas.List.{append-nil, drop_all, drop_at, length-append, length-take, take_all, take-append-drop, take_at}
+use Rattle.std.proofs.lemmas.List.{drop_at, length-append, length-take}
 use Rattle.std.proofs.lemmas.Nat.{mul-le, shr-shr}
 use Rattle.std.proofs.Math.Nat.{div-mul-le_self, mod-eq_of_lt, mod-lt, pow-le-pow_right}
-use Rattle.cube_core.specs.declared.fault.Fault.{Fault}
-use Rattle.cube_core.specs.Steps.{◌>>=◌}
 use Rattle.header_bits.specs.Windows.{IsAhead as IsFront}
 use Rattle.header_bits.proofs.Ahead.{number_ahead}
-use Rattle.header_bits.proofs.Fronts.{bind_ok, bind_err}
-use Rattle.header_bits.proofs.Reading.{ok_is}
 use Rattle.header_bits.proofs.Windows.{two_shifts}
 use Rattle.block_adaptive.specs.Ahead.{joined_four}
 use Rattle.block_adaptive.specs.Reading.{Site, quotients_at, low_at, lows_at, split_at}
-use Rattle.block_adaptive.proofs.Codes.{low_again, weaker}
+use Rattle.block_adaptive.proofs.Codes.{low_again}
 use Rattle.block_adaptive.proofs.Takes.{quotients_takes}
 use Rattle.header_bits.proofs.Numbers.{no_bits}
-use Rattle.block_adaptive.proofs.Each.{with_front, front_none}
+use Rattle.header_bits.proofs.Items.{all_weaker, all_drop}
 
 -- ---- small numbers
 
@@ -49,21 +45,8 @@ Within k limit qs = AllByRecursion (λ q. (q + 1) * 2 ^ k ≤ limit) qs
 -- all do, where the greatest does
 pub all_within : (k greatest limit : ℕ) (qs : List ℕ) → (greatest + 1) * 2 ^ k ≤ limit → AllByRecursion (λ q. q ≤ greatest) qs → Within k limit qs
 all_within k greatest limit qs within h =
-    weaker (λ q. q ≤ greatest) (λ q. (q + 1) * 2 ^ k ≤ limit)
+    all_weaker _ _
     (λ q le. (let p = mul-le (q + 1) (2 ^ k) (greatest + 1) (2 ^ k) (omega arith) (omega arith) in omega arith)) qs h
-
-pub within_more : (k least limit : ℕ) (qs : List ℕ) → least ≤ limit → Within k least qs → Within k limit qs
-within_more k least limit qs le h = weaker (λ q. (q + 1) * 2 ^ k ≤ least) (λ q. (q + 1) * 2 ^ k ≤ limit) (λ q small. omega arith) qs h
-
-pub within_front : (k limit n : ℕ) (qs : List ℕ) → Within k limit qs → Within k limit (take n qs)
-within_front k limit zero qs h = tt
-within_front k limit (suc n) [] h = tt
-within_front k limit (suc n) (q ∷ qs) h = (h.0, within_front k limit n qs h.1)
-
-pub within_behind : (k limit n : ℕ) (qs : List ℕ) → Within k limit qs → Within k limit (drop n qs)
-within_behind k limit zero qs h = h
-within_behind k limit (suc n) [] h = tt
-within_behind k limit (suc n) (q ∷ qs) h = within_behind k limit n qs h.1
 
 -- each of four does, though those before it are written over
 pub four_within : (k limit : ℕ) (xs : List ℕ) (r s t : ℕ) → length xs ≡ 4 → Within k limit xs
@@ -123,49 +106,6 @@ four_read site k most (a ∷ b ∷ c ∷ d ∷ []) new bits word h le len within
     ) refl
 four_read site k most (a ∷ b ∷ c ∷ d ∷ e ∷ xs) new bits word h le len within are = absurd (omega arith)
 
--- ---- some values, and then others
-
-front_cons : (v : ℕ) (front : List ℕ) (read : Result (List ℕ × List Bool) Fault)
-    → (with_front front read >>= λ x. Ok (v ∷ x.0, x.1)) ≡ with_front (v ∷ front) read
-front_cons v front (Ok x) = refl
-front_cons v front (Err e) = refl
-
-front_both : (a b : List ℕ) (read : Result (List ℕ × List Bool) Fault) → with_front a (with_front b read) ≡ with_front (a ++ b) read
-front_both a b (Ok x) = ap (λ (vs : List ℕ). Ok (vs, x.1)) (sym (append_assoc a b x.0))
-front_both a b (Err e) = refl
-
-lows_some : (site : Site) (k most : ℕ) (xs ys : List ℕ) (bits : List Bool) (x : List ℕ × List Bool) → lows_at site k most xs bits ≡ Ok x
-    → lows_at site k most (xs ++ ys) bits ≡ with_front x.0 (lows_at site k most ys x.1)
-unfolding lows_at
-lows_some site k most [] ys bits x e =
-    subst (λ (y : List ℕ × List Bool). lows_at site k most ys bits ≡ with_front y.0 (lows_at site k most ys y.1)) (ok_is ([], bits) x e)
-    (sym (front_none (lows_at site k most ys bits)))
-lows_some site k most (q ∷ qs) ys bits x e =
-    let a = bind_ok (low_at site k most q bits) (λ v. lows_at site k most qs v.1 >>= λ vs. Ok (v.0 ∷ vs.0, vs.1)) x e in
-    let b = bind_ok (lows_at site k most qs a.0.1) (λ vs. Ok (a.0.0 ∷ vs.0, vs.1)) x a.2 in
-    subst (λ (y : List ℕ × List Bool). lows_at site k most (q ∷ (qs ++ ys)) bits ≡ with_front y.0 (lows_at site k most ys y.1))
-    (ok_is (a.0.0 ∷ b.0.0, b.0.1) x b.2)
-    (ap (λ (r : Result (ℕ × List Bool) Fault). r >>= λ v. lows_at site k most (qs ++ ys) v.1 >>= λ vs. Ok (v.0 ∷ vs.0, vs.1)) a.1
-    ∙ ap (λ (r : Result (List ℕ × List Bool) Fault). r >>= λ vs. Ok (a.0.0 ∷ vs.0, vs.1)) (lows_some site k most qs ys a.0.1 b.0 b.1)
-    ∙ front_cons a.0.0 b.0.0 (lows_at site k most ys b.0.1))
-
-lows_none : (site : Site) (k most : ℕ) (xs ys : List ℕ) (bits : List Bool) (e : Fault) → lows_at site k most xs bits ≡ Err e
-    → lows_at site k most (xs ++ ys) bits ≡ Err e
-unfolding lows_at
-lows_none site k most [] ys bits e h = absurd (cc)
-lows_none site k most (q ∷ qs) ys bits e h =
-    elim (bind_err (low_at site k most q bits) (λ v. lows_at site k most qs v.1 >>= λ vs. Ok (v.0 ∷ vs.0, vs.1)) e h) [
-      | inl bad ↦ rw bad refl
-      | inr (a, well, m) ↦
-          elim (bind_err (lows_at site k most qs a.1) (λ vs. Ok (a.0 ∷ vs.0, vs.1)) e m) [
-            | inl bad ↦ rw (well, lows_none site k most qs ys a.1 e bad) refl
-            | inr (b, fine, n) ↦ absurd (not_both (a.0 ∷ b.0, b.1) e n)
-          ]
-    ]
-  where
-    not_both : (x : List ℕ × List Bool) (e : Fault) → Ok x ≡ Err e → ⊥
-    not_both x e h = cc
-
 -- ---- no low bits
 
 low_none : (site : Site) (most q : ℕ) (bits : List Bool) → q ≤ most → low_at site 0 most q bits ≡ Ok (q, bits)
@@ -191,37 +131,6 @@ split_none site k most n bits left qs none read =
     subst (λ (m : ℕ). lows_at site m most qs left ≡ Ok (qs, left)) (sym none) (all_none site most qs left small) in
     rw read here
 
--- ---- a loop that reads four at a time
-
-pub fours_start : (site : Site) (k most : ℕ) (vs : List ℕ) (bits : List Bool)
-    → with_front (take 0 vs) (lows_at site k most (drop 0 vs) bits) ≡ lows_at site k most vs bits
-fours_start site k most vs bits = front_none (lows_at site k most vs bits)
-
-pub fours_more : (site : Site) (k most i n : ℕ) (vs new : List ℕ) (bits after : List Bool) (total : Result (List ℕ × List Bool) Fault) → i + n ≤ length vs
-    → length new ≡ n → lows_at site k most (take n (drop i vs)) bits ≡ Ok (new, after)
-    → with_front (take i vs) (lows_at site k most (drop i vs) bits) ≡ total
-    → with_front (take (i + n) (take i vs ++ (new ++ drop n (drop i vs)))) (lows_at site k most (drop (i + n) (take i vs ++ (new ++ drop n (drop i vs)))) after)
-    ≡ total
-fours_more site k most i n vs new bits after total le long read so_far =
-    let behind : List ℕ = drop n (drop i vs) in
-    let split : lows_at site k most (drop i vs) bits ≡ with_front new (lows_at site k most behind after) =
-    ap (λ (xs : List ℕ). lows_at site k most xs bits) (sym (take-append-drop n (drop i vs)))
-    ∙ lows_some site k most (take n (drop i vs)) behind bits (new, after) read in
-    let whole : (take i vs ++ new) ++ behind ≡ take i vs ++ (new ++ behind) = append_assoc (take i vs) new behind in
-    let size : length (take i vs ++ new) ≡ i + n = omega (arith, length-append (take i vs) new, length-take i vs) in
-    let front : take (i + n) (take i vs ++ (new ++ behind)) ≡ take i vs ++ new = ap (take (i + n)) (sym whole)
-    ∙ take_at (take i vs ++ new) behind (i + n) size in
-    let rest : drop (i + n) (take i vs ++ (new ++ behind)) ≡ behind = ap (drop (i + n)) (sym whole) ∙ drop_at (take i vs ++ new) behind (i + n) size in
-    rw (front, rest) (sym (ap (with_front (take i vs)) split ∙ front_both (take i vs) new (lows_at site k most behind after)) ∙ so_far)
-
-pub fours_end : (site : Site) (k most i n : ℕ) (vs : List ℕ) (bits : List Bool) (e : Fault) (total : Result (List ℕ × List Bool) Fault)
-    → lows_at site k most (take n (drop i vs)) bits ≡ Err e
-    → with_front (take i vs) (lows_at site k most (drop i vs) bits) ≡ total → total ≡ Err e
-fours_end site k most i n vs bits e total bad so_far =
-    let all : lows_at site k most (drop i vs) bits ≡ Err e = ap (λ (xs : List ℕ). lows_at site k most xs bits) (sym (take-append-drop n (drop i vs)))
-    ∙ lows_none site k most (take n (drop i vs)) (drop n (drop i vs)) bits e bad in
-    sym so_far ∙ ap (with_front (take i vs)) all
-
 pub fours_behind : (k limit i n : ℕ) (vs new : List ℕ) → i + n ≤ length vs → length new ≡ n → Within k limit (drop i vs)
     → Within k limit (drop (i + n) (take i vs ++ (new ++ drop n (drop i vs))))
 fours_behind k limit i n vs new le long h =
@@ -229,13 +138,4 @@ fours_behind k limit i n vs new le long h =
     let size : length (take i vs ++ new) ≡ i + n = omega (arith, length-append (take i vs) new, length-take i vs) in
     let rest : drop (i + n) (take i vs ++ (new ++ behind)) ≡ behind = ap (drop (i + n)) (sym (append_assoc (take i vs) new behind))
     ∙ drop_at (take i vs ++ new) behind (i + n) size in
-    rw rest (within_behind k limit n (drop i vs) h)
-
-pub fours_done : (site : Site) (k most i : ℕ) (vs : List ℕ) (bits : List Bool) (total : Result (List ℕ × List Bool) Fault) → i ≡ length vs
-    → with_front (take i vs) (lows_at site k most (drop i vs) bits) ≡ total → total ≡ Ok (vs, bits)
-unfolding lows_at
-fours_done site k most i vs bits total same so_far =
-    let none : drop i vs ≡ [] = drop_all i vs (omega arith) in
-    let one : with_front (take i vs) (lows_at site k most (drop i vs) bits) ≡ Ok (vs, bits) =
-    rw (none, take_all i vs (omega arith)) (ap (λ (xs : List ℕ). Ok (xs, bits)) (append-nil vs)) in
-    sym so_far ∙ one
+    rw rest (all_drop _ n (drop i vs) h)

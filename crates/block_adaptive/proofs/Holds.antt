@@ -10,8 +10,8 @@ use Rattle.block_adaptive.specs.DataSets.{Cut}
 use Rattle.block_adaptive.specs.Holding.{AreStored}
 use Rattle.block_adaptive.specs.Taken.{Packed, HasTaken, PutsNumber, PutsAll, taken_count}
 use Rattle.block_adaptive.proofs.Packing.{values_held}
-use Rattle.block_adaptive.proofs.Ranges.{range_append}
 use Rattle.block_adaptive.proofs.Sums.{sum_append, sum_cons}
+use Rattle.header_bits.proofs.Items.{all_append}
 
 -- ---- the values held
 
@@ -32,7 +32,7 @@ stored_more c i counted total held list h range few more = record {
     | inr none ↦ h.more (omega (arith, some, none, length-append held list))
   ];
   few = omega (arith, few, length-append held list);
-  range = range_append (2 ^ c.set.bits) held list h.range range;
+  range = all_append _ held list h.range range;
   added = omega (arith, h.added, sum_append held list);
 }
 

@@ -9,7 +9,8 @@ use Rattle.block_adaptive.specs.Segments.{segment_rest}
 use Rattle.block_adaptive.specs.DataSets.{CodedDataSet, Block, Run, RestOfSegment, Cut, IsCodedDataSet, blocks_in, blocks_of, AreCodedDataSets, blocks_told}
 use Rattle.block_adaptive.specs.Chosen.{chosen_option, is_zero, zero_blocks, data_set_of, chosen_from}
 use Rattle.block_adaptive.specs.Laws.{AreBlocks, ChosenIsLawful}
-use Rattle.block_adaptive.proofs.Least.{option_is_least}
+use Rattle.block_adaptive.proofs.Tried.{option_is_least}
+use Rattle.header_bits.proofs.Items.{all_drop}
 
 -- ---- runs
 
@@ -74,11 +75,6 @@ pub rest_least : (r n i : ℕ) → 1 ≤ r → i < n → 1 ≤ segment_rest r n 
 unfolding segment_rest
 rest_least r n i hr hi = omega (arith, mod-lt (i % r) {m = 64} (lit< tt), mod_below i r hr)
 
-blocks_drop : (s : CodeSet) (size k : ℕ) (bs : List (List ℕ)) → AreBlocks s size bs → AreBlocks s size (drop k bs)
-blocks_drop s size zero bs h = h
-blocks_drop s size (suc k) [] h = h
-blocks_drop s size (suc k) (b ∷ bs) h = blocks_drop s size k bs h.1
-
 from_lawful : (c : Cut) (n i : ℕ) (bs : List (List ℕ)) → length bs ≤ n → i + length bs ≡ c.count → 1 ≤ c.reference → AreBlocks c.set c.size bs
     → AreCodedDataSets c i (chosen_from c n i bs) c.count × (blocks_told c i (chosen_from c n i bs) ≡ bs)
 unfolding AreCodedDataSets chosen_from blocks_told
@@ -91,7 +87,7 @@ from_lawful c (suc n) i (b ∷ bs) few all pos h =
     let k : ℕ = blocks_in left t in
     let fine = data_set_is_fine c.set c.size left b bs (rest_least c.reference c.count i pos (omega arith)) h in
     let len = length-drop k (b ∷ bs) in
-    let others = from_lawful c n (i + k) (drop k (b ∷ bs)) (omega (arith, fine.least, fine.most)) (omega (arith, fine.least, fine.most)) pos (blocks_drop c.set c.size k (b ∷ bs) h) in
+    let others = from_lawful c n (i + k) (drop k (b ∷ bs)) (omega (arith, fine.least, fine.most)) (omega (arith, fine.least, fine.most)) pos (all_drop _ k (b ∷ bs) h) in
     ((fine.lawful, others.0), rw (others.1, fine.told) (take-append-drop k (b ∷ bs)))
 
 pub chosen_is_lawful : ChosenIsLawful

@@ -3,7 +3,7 @@ use Rattle.std.proofs.Common.{◌≡◌, ℕ, zero, suc, ◌+◌, ◌-◌, ◌*�
 use Rattle.std.specs.List.{AllByRecursion}
 use Rattle.std.specs.Prelude.{Result, Ok, Err, OnOk}
 use Rattle.std.proofs.lemmas.Bool.{cases_lt, eqb-true, eqb-false, ne_eqb}
-use Rattle.std.proofs.lemmas.List.{append-nil, length-append, length-replicate, take_at, drop_at, take_all, take-set-le}
+use Rattle.std.proofs.lemmas.List.{append-nil, length-append, length-replicate, take_at, drop_at, take_all, take-set-le, replicate_more}
 use Rattle.std.proofs.Math.Seq.{take-suc-set}
 use Rattle.std.proofs.lemmas.Nat.{div-mul-add}
 use Rattle.block_adaptive.specs.declared.options.CodeSet.{CodeSet}
@@ -15,14 +15,14 @@ use Rattle.block_adaptive.specs.Settings.{IsCut}
 use Rattle.block_adaptive.specs.Taken.{Packed, HasTaken, PutsAll, EndsBody, rest_of, run_and_block, data_sets_after, zeros_after, packed, data_sets_packed}
 use Rattle.block_adaptive.proofs.Lawful.{rest_least, zeros_of}
 use Rattle.block_adaptive.proofs.Streaming.{enough, block_next, run_next, run_to_end}
-use Rattle.block_adaptive.proofs.Ranges.{range_append, range_zeros}
-use Rattle.block_adaptive.proofs.Handed.{zeros, values_append, rest_most, size_least}
+use Rattle.block_adaptive.proofs.Handed.{zeros, rest_most, size_least}
+use Rattle.header_bits.proofs.Items.{all_append, all_replicate}
+use Rattle.std.proofs.lemmas.Grind.{flat_map-append}
 
 -- ---- one block more, in the chosen data sets
 
 one_more : (n : ℕ) (z : List ℕ) (bs : List (List ℕ)) → replicate n z ++ z ∷ bs ≡ replicate (n + 1) z ++ bs
-one_more zero z bs = refl
-one_more (suc n) z bs = (let e : suc n + 1 ≡ suc (n + 1) = omega arith in rw (e, one_more n z bs) refl)
+one_more n z bs = sym (append_assoc (replicate n z) (z ∷ []) bs) ∙ ap (λ (l : List (List ℕ)). l ++ bs) (replicate_more n z)
 
 held_length : (n size : ℕ) (b : List ℕ) (bs : List (List ℕ)) → length (replicate n (zeros size) ++ b ∷ bs) ≡ n + 1 + length bs
 held_length n size b bs = omega (arith, length-append (replicate n (zeros size)) (b ∷ bs), length-replicate n (zeros size))
@@ -91,14 +91,6 @@ after_start c start held b = go (is_zero b) (eqb (held + 1) (left_at c start))
     go true false p = omega arith
     go false e p = absurd (omega arith)
 
-pub spelling_append : (s : CodeSet) (a b : List CodedDataSet) → spelling s (a ++ b) ≡ spelling s a ++ spelling s b
-spelling_append s [] b = refl
-spelling_append s (t ∷ a) b = ap (λ (bs : List Bool). spelled s t ++ bs) (spelling_append s a b) ∙ sym (append_assoc (spelled s t) (spelling s a) (spelling s b))
-
-pub blocks_push : (s : CodeSet) (size : ℕ) (bs : List (List ℕ)) (b : List ℕ) → AreBlocks s size bs → length b ≡ size → AllByRecursion (λ v. v < 2 ^ s.bits) b → AreBlocks s size (bs ++ b ∷ [])
-blocks_push s size [] b h len range = ((len, range), tt)
-blocks_push s size (x ∷ bs) b h len range = (h.0, blocks_push s size bs b h.1 len range)
-
 -- ---- values that are held, and one block more
 
 pub values_taken : (v : Packed) (taken : List ℕ) (bits : List Bool) (xs : List ℕ) → HasTaken v taken bits → HasTaken (record v { held = v.held ++ xs }) (taken ++ xs) bits
@@ -122,7 +114,7 @@ block_taken v taken told bits b cut more len range h is =
     let range_after = after_in_range left v.zeros b inside in
     record {
       blocks = h.blocks ++ b ∷ [];
-      whole = blocks_push c.set c.size h.blocks b h.whole len range;
+      whole = all_append _ h.blocks (b ∷ []) h.whole ((len, range), tt);
       numbers = is ∙ sym (append-nil (values_of (h.blocks ++ b ∷ [])));
       place = omega (arith, length-append h.blocks (b ∷ []), h.place, range_after.0);
       inside = λ held. subst (λ (i : ℕ). after < left_at c i) (sym (after_start c v.start v.zeros b held)) (range_after.1 held);
@@ -134,7 +126,7 @@ block_taken v taken told bits b cut more len range h is =
           let behind : List CodedDataSet = chosen_from c c.count (v.start + (v.zeros + 1 - after)) (replicate after (zeros c.size) ++ future) in
           ap (λ (bs : List (List ℕ)). spelling c.set (chosen_from c c.count 0 bs)) (append_assoc h.blocks (b ∷ []) future) ∙ told-so
           ∙ ap (λ (ts : List CodedDataSet). bits ++ spelling c.set ts) next
-          ∙ ap (λ (bs : List Bool). bits ++ bs) (spelling_append c.set (data_sets_after c.set left v.zeros b) behind)
+          ∙ ap (λ (bs : List Bool). bits ++ bs) (flat_map-append (spelled c.set) (data_sets_after c.set left v.zeros b) behind)
           ∙ sym (append_assoc bits (data_sets_packed v b) (spelling c.set behind));
     }
 
@@ -242,13 +234,13 @@ pub values_packed : (v new : Packed) (written now : List Bool) (xs : List ℕ) �
 values_packed v new written now xs cut more len range data_sets is = λ taken bits h.
     let told : taken ++ xs ≡ values_of (h.blocks ++ (v.held ++ xs) ∷ []) =
     ap (λ (ns : List ℕ). ns ++ xs) h.numbers ∙ append_assoc (values_of h.blocks) v.held xs
-    ∙ ap (λ (ns : List ℕ). values_of h.blocks ++ ns) (sym (append-nil (v.held ++ xs))) ∙ sym (values_append h.blocks ((v.held ++ xs) ∷ [])) in
+    ∙ ap (λ (ns : List ℕ). values_of h.blocks ++ ns) (sym (append-nil (v.held ++ xs))) ∙ sym (flat_map-append (λ b. b) h.blocks ((v.held ++ xs) ∷ [])) in
     (data_sets_packed v (v.held ++ xs), data_sets, rw is (block_taken v taken (taken ++ xs) bits (v.held ++ xs) cut more len range h told))
 
 -- ---- the values held
 
 pub range_filled : (limit size : ℕ) (held : List ℕ) → 0 < limit → AllByRecursion (λ v. v < limit) held → AllByRecursion (λ v. v < limit) (filled size held)
-range_filled limit size held pos h = range_append limit held (zeros (size - length held)) h (range_zeros limit (size - length held) pos)
+range_filled limit size held pos h = all_append _ held (zeros (size - length held)) h (all_replicate _ (size - length held) 0 pos)
 
 -- one value more in the array
 pub held_more : (values : List ℕ) (i x : ℕ) → i < length values → take (i + 1) (set values i x) ≡ take i values ++ x ∷ []

@@ -1,5 +1,5 @@
 -- Several numbers that a reader gives at once.
-use Rattle.std.proofs.Common.{◌≡◌, ℕ, ◌+◌, ◌-◌, ◌^◌, ◌<◌, ◌≤◌, Bool, List, [], ◌∷◌, ◌++◌, length, take, drop, Ok, Err, refl, sym, ap, subst, ◌∙◌, arith, append_assoc}
+use Rattle.std.proofs.Common.{◌≡◌, ℕ, ◌+◌, ◌-◌, ◌^◌, ◌<◌, ◌≤◌, Bool, List, [], ◌∷◌, ◌++◌, length, take, drop, Ok, Err, refl, sym, ap, subst, ◌∙◌, arith, append_assoc, ◌*◌, pow_pos, replicate}
 use Rattle.std.specs.List.{AllByRecursion}
 use Rattle.std.proofs.lemmas.List.{append-nil, drop-drop, drop-take, drop_at, length-take, take-append-drop, take-append-le, take-take, take_at, replicate-append-replicate}
 use Rattle.std.proofs.Math.Seq.{take-add}
@@ -8,27 +8,37 @@ use Rattle.header_bits.specs.Bits.{Unread}
 use Rattle.header_bits.proofs.Reading.{ok_is}
 use Rattle.header_bits.proofs.Fronts.{bind_ok}
 use Rattle.block_adaptive.specs.Settings.{IsCut}
-use Rattle.block_adaptive.specs.DataSets.{Cut, left_at, spelled}
 use Rattle.block_adaptive.specs.Reading.{site_of, data_set_at, data_sets_at}
-use Rattle.block_adaptive.specs.Given.{Unpacked, HasGiven, GivesFront, GivesAll, holding, next_data_set}
-use Rattle.block_adaptive.proofs.Handed.{data_set_given, nothing_behind, zeros}
-use Rattle.block_adaptive.proofs.InRange.{told_range}
-use Rattle.block_adaptive.proofs.Ranges.{range_append}
+use Rattle.block_adaptive.specs.Given.{Unpacked, HasGiven, GivesFront, GivesAll, holding, next_data_set, GivesNext}
+use Rattle.block_adaptive.proofs.Handed.{data_set_given, nothing_behind, zeros, values_of_zeros}
+use Rattle.header_bits.proofs.Items.{all_append, all_first, all_last, all_replicate}
+use Rattle.std.proofs.lemmas.Grind.{flat_map-append}
+use Rattle.block_adaptive.specs.declared.options.CodeSet.{CodeSet}
+use Rattle.block_adaptive.specs.DataSets.{CodedDataSet, Block as Whole, Run, RestOfSegment, Cut, left_at, IsCodedDataSet, AreCodedDataSets, blocks_of, blocks_told, values_of, spelled, blocks_in}
 
 -- ---- in range
 
-range_first : (limit : ℕ) (xs ys : List ℕ) → AllByRecursion (λ v. v < limit) (xs ++ ys) → AllByRecursion (λ v. v < limit) xs
-range_first limit [] ys h = tt
-range_first limit (x ∷ xs) ys h = (h.0, range_first limit xs ys h.1)
+zeros_range : (limit n size : ℕ) → 0 < limit → AllByRecursion (λ v. v < limit) (values_of (replicate n (zeros size)))
+zeros_range limit n size pos = rw (values_of_zeros n size) (all_replicate (λ v. v < limit) (n * size) 0 pos)
 
-range_last : (limit : ℕ) (xs ys : List ℕ) → AllByRecursion (λ v. v < limit) (xs ++ ys) → AllByRecursion (λ v. v < limit) ys
-range_last limit [] ys h = h
-range_last limit (x ∷ xs) ys h = range_last limit xs ys h.1
+data_set_range : (s : CodeSet) (size left : ℕ) (t : CodedDataSet) → IsCodedDataSet s size left t
+    → AllByRecursion (λ v. v < 2 ^ s.bits) (values_of (blocks_of size left t))
+data_set_range s size left (Whole o vs) h = rw (append-nil vs) h.range
+data_set_range s size left (Run n) h = zeros_range (2 ^ s.bits) n size (pow_pos s.bits)
+data_set_range s size left RestOfSegment h = zeros_range (2 ^ s.bits) left size (pow_pos s.bits)
+
+pub told_range : (c : Cut) (i j : ℕ) (data_sets : List CodedDataSet) → AreCodedDataSets c i data_sets j
+    → AllByRecursion (λ v. v < 2 ^ c.set.bits) (values_of (blocks_told c i data_sets))
+unfolding AreCodedDataSets blocks_told
+told_range c i j [] h = tt
+told_range c i j (t ∷ data_sets) h =
+    rw flat_map-append (all_append _ (values_of (blocks_of c.size (left_at c i) t)) _ (data_set_range c.set c.size (left_at c i) t h.0)
+    (told_range c (i + blocks_in (left_at c i) t) j data_sets h.1))
 
 list_range : (v : Unpacked) (given list : List ℕ) (bits : List Bool) → HasGiven v (given ++ list) bits → AllByRecursion (λ n. n < 2 ^ v.cut.set.bits) list
 list_range v given list bits h =
     let all = subst (λ (vs : List ℕ). AllByRecursion (λ n. n < 2 ^ v.cut.set.bits) vs) h.told (told_range v.cut 0 v.block h.data_sets h.lawful) in
-    range_last (2 ^ v.cut.set.bits) given list (range_first (2 ^ v.cut.set.bits) (given ++ list) v.held all)
+    all_last _ given list (all_first _ (given ++ list) v.held all)
 
 -- ---- the first values in hand
 
@@ -96,6 +106,12 @@ taken_kept v held reader left e =
     e in
     ap (λ (x : Unpacked × List Bool). x.0.refused) (sym (ok_is (holding v a.0.0, a.0.1) (held, left) a.2))
 
+-- one value
+pub gives_next : (old new : Unpacked) (reader : Unread) (value : ℕ) (left : List Bool)
+    → ((given : List ℕ) (bits : List Bool) → HasGiven old given bits → GivesAll old given bits reader.left new left (value ∷ []))
+    → GivesNext old reader (Ok value) new left
+gives_next old new reader value left gives given bits h = (let g = gives given bits h in (g.0.0, g.1, g.2, g.3))
+
 -- ---- one run behind another
 
 -- numbers that were written behind others
@@ -112,7 +128,7 @@ pub runs_joined : (v mid new : Unpacked) (given xs ys : List ℕ) (bits unread n
     → (g : GivesAll v given bits unread mid now xs) → GivesAll mid (given ++ xs) (bits ++ g.1) now new left ys
     → GivesAll v given bits unread new left (xs ++ ys)
 runs_joined v mid new given xs ys bits unread now left same g m = (
-  range_append (2 ^ v.cut.set.bits) xs ys g.0 (subst (λ (c : Cut). AllByRecursion (λ n. n < 2 ^ c.set.bits) ys) same m.0),
+  all_append _ xs ys g.0 (subst (λ (c : Cut). AllByRecursion (λ n. n < 2 ^ c.set.bits) ys) same m.0),
   g.1 ++ m.1,
   g.2 ∙ ap (λ (y : List Bool). g.1 ++ y) m.2 ∙ sym (append_assoc g.1 m.1 left),
   subst (λ (ns : List ℕ). HasGiven new ns (bits ++ (g.1 ++ m.1))) (append_assoc given xs ys)

@@ -20,9 +20,9 @@ use Rattle.header_bits.proofs.Fronts.{bind_ok, guard_ok}
 use Rattle.header_bits.proofs.Numbers.{bits_of_zero}
 use Rattle.header_bits.proofs.Reading.{number_takes}
 use Rattle.header_bits.proofs.Fronts.{bits_of_ones, zeros_takes}
-use Rattle.block_adaptive.proofs.Codes.{weaker}
 use Rattle.block_adaptive.proofs.Takes.{fundamental_takes, TakesList, words_takes, split_takes}
 use Rattle.block_adaptive.proofs.Triangles.{triangle_step}
+use Rattle.header_bits.proofs.Items.{all_weaker}
 
 leb-true : (a b : ℕ) → leb a b ≡ true → a ≤ b
 leb-true a b h = grind (arith, nat_tests)
@@ -126,7 +126,7 @@ block_takes site s size left o bits after read x option front takes e =
     (front ∙ ap (λ (bs : List Bool). identifier s o ++ bs) values.parts ∙ sym (append_assoc (identifier s o) (coded s o y.0) y.1), record { option = option; whole = values.len; range = values.all })
 
 in_range : (s : CodeSet) (spelling : List ℕ → List Bool) (n : ℕ) (bits : List Bool) (y : List ℕ × List Bool) → TakesList spelling n (λ v. v ≤ greatest_value s) bits y → TakesList spelling n (λ v. v < 2 ^ s.bits) bits y
-in_range s spelling n bits y h = record { parts = h.parts; len = h.len; all = weaker (λ v. v ≤ greatest_value s) (λ v. v < 2 ^ s.bits) (λ v le. omega (arith, pow_pos s.bits)) y.0 h.all }
+in_range s spelling n bits y h = record { parts = h.parts; len = h.len; all = all_weaker _ _ (λ v le. omega (arith, pow_pos s.bits)) y.0 h.all }
 
 run_text_takes : (s : CodeSet) (size left : ℕ) (bits after : List Bool) (x : CodedDataSet × List Bool) → 1 ≤ left → bits ≡ zero_identifier s ++ after → TakesRun left after x → Taken s size left bits x
 unfolding spelled

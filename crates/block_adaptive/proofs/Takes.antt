@@ -1,20 +1,21 @@
 -- What is read as a data set was spelled by it.
-use Rattle.std.proofs.Common.{◌≡◌, ℕ, zero, suc, ◌+◌, ◌*◌, ◌/◌, ◌%◌, ◌^◌, ◌<◌, ◌≤◌, Bool, cond, ltb, List, [], ◌∷◌, ◌++◌, length, map, Ok, Err, refl, sym, ap, subst, ◌∙◌, inl, inr, append_assoc, arith}
+use Rattle.std.proofs.Common.{◌≡◌, ℕ, zero, suc, ◌+◌, ◌*◌, ◌/◌, ◌%◌, ◌^◌, ◌<◌, ◌≤◌, Bool, cond, ltb, List, [], ◌∷◌, ◌++◌, length, map, Result, Ok, Err, refl, sym, ap, subst, ◌∙◌, inl, inr, append_assoc, arith}
 use Rattle.std.specs.List.{flat_map, AllByRecursion}
 use Rattle.std.proofs.lemmas.Bool.{ltb-false}
 use Rattle.std.proofs.lemmas.Nat.{div-mul-add, mod-mul-add}
 use Rattle.std.proofs.Math.Nat.{mod-eq_of_lt}
 use Rattle.std.proofs.lemmas.List.{length-map}
+use Rattle.cube_core.specs.declared.fault.Fault.{Fault}
 use Rattle.cube_core.specs.declared.fault.Fault.TheVariants.{BadOption}
 use Rattle.header_bits.specs.Bits.{bits_of, fundamental}
 use Rattle.block_adaptive.specs.Options.{quotient_codes, low_groups}
 use Rattle.cube_core.specs.Steps.{◌>>=◌}
 use Rattle.header_bits.specs.Reading.{number_at, zeros_at}
 use Rattle.block_adaptive.specs.Reading.{Site, fundamental_at, quotients_at, low_at, lows_at, split_at, words_at}
-use Rattle.header_bits.proofs.Reading.{ok_is}
+use Rattle.header_bits.proofs.Each.{each_at, bind_same}
+use Rattle.header_bits.proofs.Reading.{ok_is, number_takes}
 use Rattle.header_bits.proofs.Fronts.{bind_ok, guard_ok, zeros_takes}
 use Rattle.header_bits.proofs.Numbers.{same_bits}
-use Rattle.header_bits.proofs.Reading.{number_takes}
 
 pub fundamental_takes : (site : Site) (most : ℕ) (bits : List Bool) (x : ℕ × List Bool) → fundamental_at site most bits ≡ Ok x → (bits ≡ fundamental x.0 ++ x.1) × (x.0 ≤ most)
 unfolding fundamental_at
@@ -113,3 +114,21 @@ split_takes site k most n bits x e =
       len = sym (length-map x.0 (λ v. v / 2 ^ k)) ∙ ap (λ (vs : List ℕ). length vs) others.quotients ∙ first.len;
       all = others.all;
     }
+
+-- ---- the three lists that are read value after value
+
+pub quotients_each : (site : Site) (most : ℕ) (xs : List ℕ) (bits : List Bool) → quotients_at site most (length xs) bits ≡ each_at (λ _ left. fundamental_at site most left) xs bits
+unfolding quotients_at each_at
+quotients_each site most [] bits = refl
+quotients_each site most (x ∷ xs) bits =
+    bind_same (fundamental_at site most bits) _ _ (λ q. ap (λ (read : Result (List ℕ × List Bool) Fault). read >>= λ qs. Ok (q.0 ∷ qs.0, qs.1)) (quotients_each site most xs q.1))
+
+pub lows_each : (site : Site) (k most : ℕ) (xs : List ℕ) (bits : List Bool) → lows_at site k most xs bits ≡ each_at (low_at site k most) xs bits
+unfolding lows_at each_at
+lows_each site k most xs bits = refl
+
+pub words_each : (count depth : ℕ) (xs : List ℕ) (bits : List Bool) → words_at count depth (length xs) bits ≡ each_at (λ _ left. number_at count depth left) xs bits
+unfolding words_at each_at
+words_each count depth [] bits = refl
+words_each count depth (x ∷ xs) bits =
+    bind_same (number_at count depth bits) _ _ (λ v. ap (λ (read : Result (List ℕ × List Bool) Fault). read >>= λ vs. Ok (v.0 ∷ vs.0, vs.1)) (words_each count depth xs v.1))

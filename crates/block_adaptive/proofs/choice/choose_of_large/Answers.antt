@@ -36,7 +36,7 @@ loop-k-preserved c =
     elim c.if-cost-least.branch [
       | then-cost-least w ↦
           rw (w.best-is, w.least-is) (record {
-            leads = next_leads s vs true first c.loop-k.k c.loop-k.best c.loop-k.invariant.from c.loop-k.invariant.leads (omega (arith, cost-is, c.loop-k.invariant.least, w.if-cost-least.true));
+            leads = next_leads c.loop-k.invariant.from c.loop-k.invariant.leads (omega (arith, cost-is, c.loop-k.invariant.least, w.if-cost-least.true));
             least = cost-is;
             bound = omega (arith, c.loop-k.invariant.bound, w.if-cost-least.true);
             from = omega (arith, c.loop-k.invariant.from);
@@ -45,7 +45,7 @@ loop-k-preserved c =
           })
       | else-cost-least w ↦
           rw (w.best-is, w.least-is) (record {
-            leads = old_leads s vs true first c.loop-k.k c.loop-k.best c.loop-k.invariant.leads (omega (arith, cost-is, c.loop-k.invariant.least, w.if-cost-least.false));
+            leads = old_leads c.loop-k.invariant.leads (omega (arith, cost-is, c.loop-k.invariant.least, w.if-cost-least.false));
             least = c.loop-k.invariant.least;
             bound = c.loop-k.invariant.bound;
             from = omega (arith, c.loop-k.invariant.from);

@@ -17,7 +17,7 @@ returns-then-plain-least-clause-chosen c =
     let lead : LeadsTried s vs false 0 0 best = rw c.without_split-best.ensures.shorter (shorter_leads s vs) in
     let plain : c.split_cost-plain.result ≡ cost s (Split 0) vs = omega (arith, c.split_cost-plain.ensures, c.identifier_width-width.ensures.value, split_cost s 0 vs, plain_length vs, c.requires.total) in
     ended_at_plain s vs 1 (Split 0) small
-    (next_leads s vs false 0 0 best (omega arith) lead (omega (arith, plain, c.without_split-best.ensures.cost, c.if-plain-least.true)))
+    (next_leads (omega arith) lead (omega (arith, plain, c.without_split-best.ensures.cost, c.if-plain-least.true)))
     (some_splits s (omega (arith, c.if-width-gt1.true, c.identifier_width-width.ensures.value))) (λ lt. refl)
 
 pub returns-then-plain-least-clause-cost : goal.returns-then-plain-least-clause-cost
@@ -35,7 +35,7 @@ returns-else-width-gt1-clause-chosen c =
     elim c.else-width-gt1.branch [
       | else-width-gt1-via-then-width-gt1+else-plain-least w ↦
           ended_at_plain s vs 1 best small
-          (old_leads s vs false 0 0 best lead (omega (arith, plain, c.without_split-best.ensures.cost, w.if-plain-least.false)))
+          (old_leads lead (omega (arith, plain, c.without_split-best.ensures.cost, w.if-plain-least.false)))
           (some_splits s (omega (arith, w.if-width-gt1.true, c.identifier_width-width.ensures.value))) (λ lt. refl)
       | else-width-gt1-via-else-width-gt1 w ↦
           (let none = no_splits s (omega (arith, w.if-width-gt1.false, c.identifier_width-width.ensures.value, c.identifier_width-width.ensures.least)) in

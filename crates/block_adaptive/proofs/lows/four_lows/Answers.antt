@@ -1,11 +1,12 @@
-use Rattle.std.proofs.Common.{◌+◌, arith}
+use Rattle.std.proofs.Common.{arith}
 use Rattle.header_bits.proofs.Ahead.{ahead_length}
 use Rattle.block_adaptive.specs.Reading.{site_of}
-use Rattle.block_adaptive.proofs.Fours.{within_more, four_read}
+use Rattle.block_adaptive.proofs.Fours.{four_read}
 use Rattle.block_adaptive.proofs.lows.four_lows.Goals as goal
+use Rattle.header_bits.proofs.Items.{all_weaker}
 
 pub join_lows-requires-clause-within : goal.join_lows-requires-clause-within
-join_lows-requires-clause-within c = within_more c.args.k (c.args.most + 1) 65536 c.args.four.now (omega arith) c.requires.within
+join_lows-requires-clause-within c = all_weaker _ _ (λ q small. omega arith) c.args.four.now c.requires.within
 
 pub skip-requires : goal.skip-requires
 skip-requires c = omega (arith, ahead_length 57 c.args.reader.now.left c.in-Some.word c.in-Some.ensures.bits, c.from.ensures, c.requires.depth)

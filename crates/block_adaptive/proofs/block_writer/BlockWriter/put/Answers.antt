@@ -6,10 +6,10 @@ use Rattle.block_adaptive.specs.Taken.{Packed}
 use Rattle.block_adaptive.specs.contracts.block_writer.BlockWriter.{the_view}
 use Rattle.block_adaptive.proofs.Counts.{ends_block, room_left}
 use Rattle.block_adaptive.proofs.Handed.{size_most}
-use Rattle.block_adaptive.proofs.Ranges.{range_append}
 use Rattle.block_adaptive.proofs.Packing.{values_held, values_packed, held_more, on_ok_both}
 use Rattle.block_adaptive.proofs.Stored.{total_few}
 use Rattle.block_adaptive.proofs.block_writer.BlockWriter.put.Goals as goal
+use Rattle.header_bits.proofs.Items.{all_append}
 
 pub overflow_add-self-then-self : goal.overflow_add-self-then-self
 overflow_add-self-then-self c = record { fits = omega (arith, total_few _ _ _ c.self.inside.total _ c.self.invariant, c.from.ensures, c.ranges.delta.fits) }
@@ -32,7 +32,7 @@ returns-clause-taken c =
     let len : length (c.args.self.now.held ++ c.args.delta ∷ []) ≡ c.args.self.now.cut.size =
     omega (arith, length-append c.args.self.now.held (c.args.delta ∷ []), ap length held-is, length-take c.self.inside.held c.self.inside.values, c.self.told, one, size-is) in
     on_ok_both c.put_last.result _ _ _
-    (λ p q. values_packed c.args.self.now c.put_last.new.self c.args.writer.now.bits c.put_last.new.writer.bits (c.args.delta ∷ []) cut (room_left c.args.self.now c.requires.more) len (range_append (2 ^ c.args.self.now.cut.set.bits) c.args.self.now.held (c.args.delta ∷ []) range (c.requires.number, tt)) p q)
+    (λ p q. values_packed c.args.self.now c.put_last.new.self c.args.writer.now.bits c.put_last.new.writer.bits (c.args.delta ∷ []) cut (room_left c.args.self.now c.requires.more) len (all_append _ c.args.self.now.held (c.args.delta ∷ []) range (c.requires.number, tt)) p q)
     c.put_last.ensures.appended c.put_last.ensures.packed
 
 pub returns-clause-memory : goal.returns-clause-memory

@@ -1,9 +1,9 @@
-use Rattle.std.proofs.Common.{◌≡◌, ◌∙◌, ◌+◌, ◌-◌, ◌^◌, ◌≤◌, length, take, drop, ap, arith}
+use Rattle.std.proofs.Common.{◌≡◌, ◌∙◌, ◌+◌, ◌-◌, ◌≤◌, length, take, drop, ap, arith}
 use Rattle.block_adaptive.specs.Taken.{Packed, taken_count}
 use Rattle.std.proofs.lemmas.List.{length-take}
 use Rattle.block_adaptive.proofs.Holds.{hold_more, block_more, number_more, held_counted, after_refusal}
-use Rattle.block_adaptive.proofs.Ranges.{range_front, range_behind}
 use Rattle.block_adaptive.proofs.block_writer.BlockWriter.put_all.Goals as goal
+use Rattle.header_bits.proofs.Items.{all_take, all_drop}
 
 pub returns-in_default-clause-taken : goal.returns-in_default-clause-taken
 returns-in_default-clause-taken c =
@@ -36,7 +36,7 @@ loop-first-preserved c =
 
 pub hold-requires-clause-numbers : goal.hold-requires-clause-numbers
 hold-requires-clause-numbers c =
-    rw c.loop-first.invariant.cut (range_front (2 ^ c.args.self.now.cut.set.bits) (c.loop-first.first + c.min.result - c.loop-first.first) (drop c.loop-first.first c.args.numbers.now) (range_behind (2 ^ c.args.self.now.cut.set.bits) c.loop-first.first c.args.numbers.now c.requires.numbers))
+    rw c.loop-first.invariant.cut (all_take _ _ _ (all_drop _ _ _ c.requires.numbers))
 
 pub returns-then-taken-size-clause-taken : goal.returns-then-taken-size-clause-taken
 returns-then-taken-size-clause-taken c =

@@ -1,12 +1,12 @@
-use Rattle.std.proofs.Common.{◌≡◌, ◌∙◌, ◌+◌, ◌-◌, ◌^◌, ℕ, List, ◌++◌, length, take, sym, ap, arith}
+use Rattle.std.proofs.Common.{◌≡◌, ◌∙◌, ◌+◌, ◌-◌, ℕ, List, ◌++◌, length, take, sym, ap, arith}
 use Rattle.std.proofs.lemmas.List.{length-take, take_all}
 use Rattle.block_adaptive.specs.Settings.{IsCut}
 use Rattle.block_adaptive.specs.Taken.{Packed}
 use Rattle.block_adaptive.proofs.Counts.{room_left, last_left}
 use Rattle.block_adaptive.proofs.Handed.{size_least, size_most}
-use Rattle.block_adaptive.proofs.Ranges.{range_front}
 use Rattle.block_adaptive.proofs.Packing.{values_held, values_packed}
 use Rattle.block_adaptive.proofs.block_writer.BlockWriter.put_block.Goals as goal
+use Rattle.header_bits.proofs.Items.{all_take}
 
 pub sum_of_eights-requires-clause-few : goal.sum_of_eights-requires-clause-few
 sum_of_eights-requires-clause-few c = (let cut : IsCut c.args.self.now.cut = rw (← c.self.view_is) c.self.invariant.cut in omega (arith, c.requires.whole, size_most c.args.self.now.cut.size cut.size))
@@ -20,7 +20,7 @@ pub overflow_sub-most : goal.overflow_sub-most
 overflow_sub-most c = (let cut : IsCut c.args.self.now.cut = rw (← c.self.view_is) c.self.invariant.cut in omega (arith, c.requires.whole, size_least c.args.self.now.cut.size cut.size))
 
 pub hold-requires-clause-numbers : goal.hold-requires-clause-numbers
-hold-requires-clause-numbers c = rw c.in-Err.ensures.same.0 (range_front (2 ^ c.args.self.now.cut.set.bits) (c.self.inside.size - 1) c.args.block.now c.requires.range)
+hold-requires-clause-numbers c = rw c.in-Err.ensures.same.0 (all_take _ (c.self.inside.size - 1) c.args.block.now c.requires.range)
 
 pub hold-requires-clause-few : goal.hold-requires-clause-few
 hold-requires-clause-few c =

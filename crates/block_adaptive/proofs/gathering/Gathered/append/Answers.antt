@@ -14,9 +14,10 @@ pub push_reserved-requires-clause-room : goal.push_reserved-requires-clause-room
 push_reserved-requires-clause-room c = omega (arith, c.requires.room, ap length c.self.view_is, length-bits_of c.self.inside.held c.self.inside.part)
 
 pub returns-then-n-free : goal.returns-then-n-free
-returns-then-n-free c = appends_part c.args.writer.now c.args.self.now c.self.inside.held c.self.inside.part c.args.n c.args.bits c.requires.below (omega arith) c.self.view_is c.requires.room
+returns-then-n-free c =
+    appends_part c.self.inside.held c.self.inside.part c.args.n c.args.bits c.requires.below (omega arith) c.self.view_is c.requires.room
 
 pub returns-else-n-free : goal.returns-else-n-free
 returns-else-n-free c =
-    appends_word c.args.writer.now c.push_reserved.new.self c.args.self.now c.self.inside.held c.self.inside.part c.args.n c.args.bits c.filled-word.result c.self.invariant (omega arith) c.self.view_is c.requires.room c.filled-word.ensures
-    c.push_reserved.ensures.appended c.push_reserved.ensures.room
+    appends_word c.self.inside.held c.self.inside.part c.args.n c.args.bits c.filled-word.result c.self.invariant (omega arith) c.self.view_is
+    c.requires.room c.filled-word.ensures c.push_reserved.ensures.appended c.push_reserved.ensures.room
