@@ -20,6 +20,7 @@ use Rattle.block_adaptive.specs.Laws.{OneBody, ChosenIsBody, BodyIsRead, AreBloc
 use Rattle.block_adaptive.proofs.Again.{data_set_again}
 use Rattle.block_adaptive.proofs.Lawful.{chosen_is_lawful, rest_least}
 use Rattle.header_bits.proofs.Items.{all_take, all_drop}
+use Rattle.header_bits.proofs.Places.{take_behind}
 
 -- a lawful data set stands for a block or more
 pub data_set_some : (s : CodeSet) (size left : ℕ) (t : CodedDataSet) → IsCodedDataSet s size left t → 1 ≤ blocks_in left t
@@ -86,11 +87,6 @@ first_are_blocks s size (suc n) numbers h = (
 
 filled_whole : (size : ℕ) (b : List ℕ) → length b ≡ size → filled size b ≡ b
 filled_whole size b len = (let e : size - length b ≡ 0 = omega arith in rw e (append-nil b))
-
-take_behind : (a b : List ℕ) (n m : ℕ) → n ≡ length a + m → take n (a ++ b) ≡ a ++ take m b
-take_behind [] b n m e = (let f : n ≡ m = omega arith in rw f refl)
-take_behind (x ∷ a) b zero m e = absurd (omega arith)
-take_behind (x ∷ a) b (suc n) m e = ap (λ (vs : List ℕ). x ∷ vs) (take_behind a b n m (omega arith))
 
 -- the blocks begin with the numbers
 first_values : (size n : ℕ) (numbers : List ℕ) → length numbers ≤ n * size → take (length numbers) (values_of (first_blocks size n numbers)) ≡ numbers

@@ -1,6 +1,6 @@
 -- Writing texts, part after part.
 use Rattle.std.proofs.Common.{◌≡◌, ℕ, zero, suc, ◌+◌, ◌-◌, ◌*◌, ◌/◌, ◌%◌, ◌^◌, ◌<◌, ◌≤◌, Bool, false, List, [], ◌∷◌, ◌++◌, length, drop, replicate, get_or, refl, sym, ap, ◌∙◌, arith, add-one, drop-cons}
-use Rattle.std.proofs.lemmas.List.{append-nil, length-append, drop_all}
+use Rattle.std.proofs.lemmas.List.{length-append, drop_all}
 use Rattle.header_bits.specs.Bits.{bits_of, fundamental}
 use Rattle.header_bits.proofs.Numbers.{length-bits_of, bits_of_zero, bits_of_one, bits_of-fundamental, bits_of-mod}
 use Rattle.header_bits.proofs.Fronts.{bits_of_ones}
@@ -8,22 +8,7 @@ use Rattle.block_adaptive.specs.declared.options.CodeSet.{CodeSet}
 use Rattle.block_adaptive.specs.declared.options.Choice.TheVariants.{Uncoded, Second, Split}
 use Rattle.block_adaptive.specs.Options.{width, zero_identifier, identifier, quotient_codes, low_groups, pair_codes, pair_number}
 use Rattle.block_adaptive.specs.DataSets.{run_text}
-use Rattle.block_adaptive.proofs.Costs.{length-fundamental}
-
--- ---- fundamental sequences
-
-zeros_front : (n m : ℕ) → fundamental (n + m) ≡ replicate n false ++ fundamental m
-unfolding fundamental
-zeros_front zero m = (let e : 0 + m ≡ m = omega arith in rw e refl)
-zeros_front (suc n) m = (let e : suc n + m ≡ suc (n + m) = omega arith in rw (e, zeros_front n m) refl)
-
-pub sixty_four_more : (left : ℕ) → 64 ≤ left → fundamental left ≡ bits_of 64 0 ++ fundamental (left - 64)
-sixty_four_more left le =
-    let e : 64 + (left - 64) ≡ left = omega arith in
-    ap fundamental (sym e) ∙ zeros_front 64 (left - 64) ∙ ap (λ (bs : List Bool). bs ++ fundamental (left - 64)) (sym (bits_of_zero 64))
-
-pub last_zeros : (left : ℕ) → fundamental left ≡ bits_of (left + 1) 1 ++ []
-last_zeros left = sym (append-nil (bits_of (left + 1) 1) ∙ bits_of-fundamental left)
+use Rattle.header_bits.proofs.Zeros.{length-fundamental}
 
 -- ---- parts of a block
 

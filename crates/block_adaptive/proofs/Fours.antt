@@ -1,41 +1,18 @@
 -- The low bits of values, four values at a time.
-use Rattle.std.proofs.Common.{◌≡◌, ℕ, ◌+◌, ◌-◌, ◌*◌, ◌/◌, ◌%◌, ◌^◌, ◌<◌, ◌≤◌, Bool, false, ltb, List, [], ◌∷◌, ◌++◌, length, take, drop, set, get_or, Ok, refl, sym, ap, subst, ◌∙◌, arith, append_assoc, pow_pos, lit<}
+use Rattle.std.proofs.Common.{◌≡◌, ℕ, ◌+◌, ◌-◌, ◌*◌, ◌/◌, ◌%◌, ◌^◌, ◌<◌, ◌≤◌, Bool, false, ltb, List, [], ◌∷◌, ◌++◌, length, take, drop, set, get_or, Ok, refl, sym, ap, subst, ◌∙◌, arith, append_assoc, pow_pos}
 use Rattle.std.specs.List.{AllByRecursion}
 use Rattle.std.proofs.lemmas.Bool.{le-ltb}
 use Rattle.std.proofs.lemmas.List.{drop_at, length-append, length-take}
-use Rattle.std.proofs.lemmas.Nat.{mul-le, shr-shr}
-use Rattle.std.proofs.Math.Nat.{div-mul-le_self, mod-eq_of_lt, mod-lt, pow-le-pow_right}
+use Rattle.std.proofs.lemmas.Nat.{mul-le}
+use Rattle.std.proofs.Math.Nat.{mod-lt}
 use Rattle.header_bits.specs.Windows.{IsAhead as IsFront}
 use Rattle.header_bits.proofs.Ahead.{number_ahead}
-use Rattle.header_bits.proofs.Windows.{two_shifts}
 use Rattle.block_adaptive.specs.Ahead.{joined_four}
 use Rattle.block_adaptive.specs.Reading.{Site, quotients_at, low_at, lows_at, split_at}
 use Rattle.block_adaptive.proofs.Codes.{low_again}
 use Rattle.block_adaptive.proofs.Takes.{quotients_takes}
 use Rattle.header_bits.proofs.Numbers.{no_bits}
 use Rattle.header_bits.proofs.Items.{all_weaker, all_drop}
-
--- ---- small numbers
-
-pow_up : (i j : ℕ) → i ≤ j → 2 ^ i ≤ 2 ^ j
-pow_up i j le = pow-le-pow_right {n = 2} (lit< tt) {i = i} {j = j} le
-
-pub low_few : (low k : ℕ) → low < 2 ^ k → k ≤ 15 → low < 32768
-low_few low k lt le = (let wide : 2 ^ k ≤ 32768 = pow_up k 15 le in omega arith)
-
--- a quotient that is small enough for any low bits: no bit is lost
-pub whole_small : (q k low most : ℕ) → most < 65536 → (q + 1) * 2 ^ k ≤ most + 1 → low < 2 ^ k → (q * 2 ^ k % 65536 ≡ q * 2 ^ k) × (q * 2 ^ k + low ≤ most)
-whole_small q k low most small within lt =
-    let parts : (q + 1) * 2 ^ k ≡ q * 2 ^ k + 2 ^ k = omega arith in
-    (mod-eq_of_lt (omega arith), omega arith)
-
--- nor in a test for the greatest
-pub greatest_shifted : (most k : ℕ) → most < 65536 → k ≤ 15 → (most / 2 ^ k + 1) * 2 ^ k % 4294967296 ≡ (most / 2 ^ k + 1) * 2 ^ k
-greatest_shifted most k small le =
-    let wide : 2 ^ k ≤ 32768 = pow_up k 15 le in
-    let under : most / 2 ^ k * 2 ^ k ≤ most = div-mul-le_self most (2 ^ k) in
-    let parts : (most / 2 ^ k + 1) * 2 ^ k ≡ most / 2 ^ k * 2 ^ k + 2 ^ k = omega arith in
-    mod-eq_of_lt (omega arith)
 
 -- ---- quotients that allow any low bits
 
@@ -60,19 +37,6 @@ four_within k limit (a ∷ b ∷ c ∷ d ∷ []) r s t len h = (h.0, h.1.0, h.1.
 four_within k limit (a ∷ b ∷ c ∷ d ∷ e ∷ xs) r s t len h = absurd (omega arith)
 
 -- ---- low bits among the highest bits of a word
-
--- the word shifted down to the end of the fourth, and from there to the ends of those before
-pub four_shifts : (word k : ℕ) → k ≤ 14
-    → (word / 2 / 2 ^ (63 - 4 * k) ≡ word / 2 ^ (64 - 4 * k)) × (word / 2 / 2 ^ (63 - 4 * k) / 2 ^ k ≡ word / 2 ^ (64 - 3 * k))
-    × (word / 2 / 2 ^ (63 - 4 * k) / 2 ^ k / 2 ^ k ≡ word / 2 ^ (64 - 2 * k)) × (word / 2 / 2 ^ (63 - 4 * k) / 2 ^ k / 2 ^ k / 2 ^ k ≡ word / 2 ^ (64 - k))
-four_shifts word k le =
-    let down : (a b : ℕ) → a + k ≡ b → word / 2 ^ a / 2 ^ k ≡ word / 2 ^ b = λ a b e. shr-shr word a k ∙ ap (λ (n : ℕ). word / 2 ^ n) e in
-    let fourth : word / 2 / 2 ^ (63 - 4 * k) ≡ word / 2 ^ (64 - 4 * k) = two_shifts word (4 * k) (omega arith) in
-    let third : word / 2 / 2 ^ (63 - 4 * k) / 2 ^ k ≡ word / 2 ^ (64 - 3 * k) = ap (λ (n : ℕ). n / 2 ^ k) fourth
-    ∙ down (64 - 4 * k) (64 - 3 * k) (omega arith) in
-    let second : word / 2 / 2 ^ (63 - 4 * k) / 2 ^ k / 2 ^ k ≡ word / 2 ^ (64 - 2 * k) = ap (λ (n : ℕ). n / 2 ^ k) third
-    ∙ down (64 - 3 * k) (64 - 2 * k) (omega arith) in
-    (fourth, third, second, ap (λ (n : ℕ). n / 2 ^ k) second ∙ down (64 - 2 * k) (64 - k) (omega arith))
 
 low_front : (site : Site) (k most q place next : ℕ) (bits : List Bool) (word : ℕ) → IsFront 57 bits word → place + k ≡ next → next ≤ 57
     → (q + 1) * 2 ^ k ≤ most + 1

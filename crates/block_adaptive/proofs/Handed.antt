@@ -1,6 +1,6 @@
 -- What a reader has in hand.
-use Rattle.std.proofs.Common.{◌≡◌, ℕ, zero, suc, ◌+◌, ◌-◌, ◌*◌, ◌<◌, ◌≤◌, Bool, List, [], ◌∷◌, ◌++◌, length, take, drop, replicate, None, Ok, ◌/◌, inl, refl, sym, ap, ◌∙◌, arith, append_assoc, get_or, add-one, drop-cons}
-use Rattle.std.proofs.lemmas.List.{append-nil, get_or-take, length-take, drop_all, replicate-append-replicate}
+use Rattle.std.proofs.Common.{◌≡◌, ℕ, ◌+◌, ◌-◌, ◌*◌, ◌<◌, ◌≤◌, Bool, List, [], ◌∷◌, ◌++◌, take, drop, None, Ok, ◌/◌, inl, refl, sym, ap, ◌∙◌, arith, append_assoc}
+use Rattle.std.proofs.lemmas.List.{append-nil}
 use Rattle.std.proofs.lemmas.Nat.{mul-le}
 use Rattle.header_bits.specs.Bits.{Unread}
 use Rattle.block_adaptive.specs.Segments.{segment_rest}
@@ -12,36 +12,11 @@ use Rattle.block_adaptive.proofs.Taken.{data_set_is_taken}
 use Rattle.block_adaptive.specs.DataSets.{CodedDataSet, Run, RestOfSegment, Cut, IsCodedDataSet, AreCodedDataSets, left_at, blocks_in, blocks_of, blocks_told, values_of, spelled, spelling}
 use Rattle.block_adaptive.specs.Given.{Unpacked, HasGiven, holding, next_data_set}
 use Rattle.std.proofs.lemmas.Grind.{flat_map-append}
-
--- of the values up to the size nothing stands behind them
-pub nothing_behind : (size : ℕ) (values : List ℕ) → drop size (take size values) ≡ []
-nothing_behind size values = drop_all size (take size values) (omega (arith, length-take size values))
+use Rattle.header_bits.proofs.Places.{run_in_hand, zeros}
 
 pub nothing_held : (v : Unpacked) → v.block ≡ 0 → v.held ≡ [] → v.refused ≡ None → HasGiven v [] []
 unfolding AreCodedDataSets blocks_told
 nothing_held v at_start none working = record { data_sets = []; lawful = sym at_start; text = refl; told = sym none; working = working }
-
-abbrev pub zeros : ℕ → List ℕ
-zeros n = replicate n 0
-
--- the values of blocks of zeros
-pub values_of_zeros : (n size : ℕ) → values_of (replicate n (zeros size)) ≡ zeros (n * size)
-values_of_zeros zero size = (let e : 0 * size ≡ 0 = omega arith in rw e refl)
-values_of_zeros (suc n) size =
-    let e : size + n * size ≡ suc n * size = omega arith in
-    ap (λ (vs : List ℕ). zeros size ++ vs) (values_of_zeros n size) ∙ replicate-append-replicate size (n * size) 0 ∙ ap zeros e
-
--- zero blocks in hand
-pub run_in_hand : (n size : ℕ) (values : List ℕ) → values_of (replicate n (zeros size)) ≡ drop size (take size values) ++ zeros (n * size)
-run_in_hand n size values = rw (nothing_behind size values) (values_of_zeros n size)
-
--- ---- one value given
-
-pub first_in_hand : (size i spare : ℕ) (values : List ℕ) → i < size → size ≤ length values → drop i (take size values) ++ zeros spare ≡ get_or values i 0 ∷ (drop (i + 1) (take size values) ++ zeros spare)
-first_in_hand size i spare values lt le =
-    let inside : i < length (take size values) = omega (arith, length-take size values) in
-    let same : get_or (take size values) i 0 ≡ get_or values i 0 = get_or-take size values i 0 lt in
-    ap (λ (vs : List ℕ). vs ++ zeros spare) (drop-cons (take size values) i 0 inside) ∙ rw (add-one, same) refl
 
 -- ---- sizes
 
@@ -53,9 +28,6 @@ size_least size h = grind arith
 
 pub size_halved : (size : ℕ) → IsSize size → 2 * (size / 2) ≡ size
 size_halved size h = grind arith
-
-pub taken_size : (size : ℕ) (values : List ℕ) → size ≤ 64 → length values ≡ 64 → length (take size values) ≡ size
-taken_size size values le len = omega (arith, length-take size values)
 
 pub rest_most : (c : Cut) (i : ℕ) → left_at c i ≤ c.count - i
 unfolding segment_rest
@@ -122,6 +94,3 @@ data_set_given v reader given bits left t cut more none h e =
 
 pub put_back : (v w : Unpacked) (held : List ℕ) → v ≡ w → record v { held = held } ≡ record w { held = held }
 put_back v w held e = ap (λ (u : Unpacked). record u { held = held }) e
-
-pub empty_hand : (size i spare : ℕ) (values : List ℕ) → i ≡ size → spare ≡ 0 → drop i (take size values) ++ zeros spare ≡ []
-empty_hand size i spare values e f = rw (e, f, nothing_behind size values) refl

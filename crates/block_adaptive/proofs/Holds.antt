@@ -1,25 +1,19 @@
 -- What a writer has taken, several numbers at a time.
-use Rattle.std.proofs.Common.{◌≡◌, ℕ, zero, suc, ◌+◌, ◌*◌, ◌-◌, ◌^◌, ◌<◌, ◌≤◌, Bool, List, [], ◌∷◌, ◌++◌, length, take, drop, get_or, sum, refl, sym, ap, subst, ◌∙◌, inl, inr, arith, append_assoc, Fits, w16}
+use Rattle.std.proofs.Common.{◌≡◌, ℕ, ◌+◌, ◌-◌, ◌^◌, ◌<◌, ◌≤◌, Bool, List, [], ◌∷◌, ◌++◌, length, take, drop, get_or, sum, refl, sym, ap, subst, ◌∙◌, inl, inr, arith, append_assoc}
 use Rattle.std.specs.List.{AllByRecursion}
 use Rattle.std.specs.Prelude.{Result, Ok, Err, OnErr}
 use Rattle.std.proofs.Math.Seq.{take-add}
 use Rattle.std.proofs.lemmas.Bool.{cases_lt}
-use Rattle.std.proofs.lemmas.List.{length-append, length-take, length-drop, take_at, take_more, take-take}
+use Rattle.std.proofs.lemmas.List.{length-append, length-take, length-drop, take_more, take-take}
 use Rattle.cube_core.specs.declared.fault.Fault.{Fault}
 use Rattle.block_adaptive.specs.DataSets.{Cut}
 use Rattle.block_adaptive.specs.Holding.{AreStored}
 use Rattle.block_adaptive.specs.Taken.{Packed, HasTaken, PutsNumber, PutsAll, taken_count}
 use Rattle.block_adaptive.proofs.Packing.{values_held}
-use Rattle.block_adaptive.proofs.Sums.{sum_append, sum_cons}
 use Rattle.header_bits.proofs.Items.{all_append}
+use Rattle.header_bits.proofs.Sums.{sum_append}
 
 -- ---- the values held
-
--- numbers that are written behind the values held
-pub held_all : (values list behind : List ℕ) (held : ℕ) → held ≤ length values → take (held + length list) (take held values ++ (list ++ behind)) ≡ take held values ++ list
-held_all values list behind held le =
-    let long : held + length list ≡ length (take held values ++ list) = omega (arith, le, length-append (take held values) list, length-take held values) in
-    ap (λ (x : List ℕ). take (held + length list) x) (sym (append_assoc (take held values) list behind)) ∙ take_at (take held values ++ list) behind (held + length list) (sym long)
 
 pub stored_more : (c : Cut) (i counted total : ℕ) (held list : List ℕ) → AreStored c i counted total held → AllByRecursion (λ v. v < 2 ^ c.set.bits) list → length held + length list < c.size → (1 ≤ length list → i + counted < c.count)
     → AreStored c i counted (total + sum list) (held ++ list)
@@ -77,18 +71,3 @@ pub held_counted : (v new : Packed) (list : List ℕ) (first count : ℕ) → fi
 held_counted v new list first count le is =
     let many : List ℕ = take (first + count - first) (drop first list) in
     ap taken_count is ∙ omega (arith, le, length-append v.held many, length-take (first + count - first) (drop first list), length-drop first list)
-
--- numbers of 16 bits add up to few
-pub sum_small : (list : List ℕ) → ((i : ℕ) → Fits w16 (get_or list i 0)) → sum list ≤ 65536 * length list
-sum_small [] h = omega arith
-sum_small (v ∷ vs) h = omega (arith, sum_cons v vs, (h 0).fits, sum_small vs (λ i. h (suc i)))
-
-pub sum_front : (n : ℕ) (list : List ℕ) → sum (take n list) ≤ sum list
-sum_front zero list = omega arith
-sum_front (suc n) [] = omega arith
-sum_front (suc n) (v ∷ vs) = omega (arith, sum_cons v (take n vs), sum_cons v vs, sum_front n vs)
-
-pub sum_next : (i n : ℕ) (list : List ℕ) → sum (take (i + n) list) ≡ sum (take i list) + sum (take (i + n - i) (drop i list))
-sum_next i n list =
-    let e : i + n - i ≡ n = omega arith in
-    ap sum (take-add i n list) ∙ sum_append (take i list) (take n (drop i list)) ∙ rw e refl

@@ -1,10 +1,8 @@
 -- What a writer has taken, block after block.
-use Rattle.std.proofs.Common.{◌≡◌, ℕ, zero, suc, ◌+◌, ◌-◌, ◌*◌, ◌^◌, ◌<◌, ◌≤◌, Bool, true, false, cond, eqb, List, [], ◌∷◌, ◌++◌, length, take, drop, replicate, set, refl, sym, ap, subst, ◌∙◌, inl, inr, arith, append_assoc, add-one}
+use Rattle.std.proofs.Common.{◌≡◌, ℕ, zero, suc, ◌+◌, ◌-◌, ◌*◌, ◌^◌, ◌<◌, ◌≤◌, Bool, true, false, cond, eqb, List, [], ◌∷◌, ◌++◌, length, take, drop, replicate, refl, sym, ap, subst, ◌∙◌, inl, inr, arith, append_assoc}
 use Rattle.std.specs.List.{AllByRecursion}
-use Rattle.std.specs.Prelude.{Result, Ok, Err, OnOk}
 use Rattle.std.proofs.lemmas.Bool.{cases_lt, eqb-true, eqb-false, ne_eqb}
-use Rattle.std.proofs.lemmas.List.{append-nil, length-append, length-replicate, take_at, drop_at, take_all, take-set-le, replicate_more}
-use Rattle.std.proofs.Math.Seq.{take-suc-set}
+use Rattle.std.proofs.lemmas.List.{append-nil, length-append, length-replicate, take_at, drop_at, take_all, replicate_more}
 use Rattle.std.proofs.lemmas.Nat.{div-mul-add}
 use Rattle.block_adaptive.specs.declared.options.CodeSet.{CodeSet}
 use Rattle.block_adaptive.specs.Segments.{filled, first_blocks, blocks, block_count}
@@ -15,9 +13,10 @@ use Rattle.block_adaptive.specs.Settings.{IsCut}
 use Rattle.block_adaptive.specs.Taken.{Packed, HasTaken, PutsAll, EndsBody, rest_of, run_and_block, data_sets_after, zeros_after, packed, data_sets_packed}
 use Rattle.block_adaptive.proofs.Lawful.{rest_least, zeros_of}
 use Rattle.block_adaptive.proofs.Streaming.{enough, block_next, run_next, run_to_end}
-use Rattle.block_adaptive.proofs.Handed.{zeros, rest_most, size_least}
+use Rattle.block_adaptive.proofs.Handed.{rest_most, size_least}
 use Rattle.header_bits.proofs.Items.{all_append, all_replicate}
 use Rattle.std.proofs.lemmas.Grind.{flat_map-append}
+use Rattle.header_bits.proofs.Places.{zeros}
 
 -- ---- one block more, in the chosen data sets
 
@@ -241,37 +240,3 @@ values_packed v new written now xs cut more len range data_sets is = λ taken bi
 
 pub range_filled : (limit size : ℕ) (held : List ℕ) → 0 < limit → AllByRecursion (λ v. v < limit) held → AllByRecursion (λ v. v < limit) (filled size held)
 range_filled limit size held pos h = all_append _ held (zeros (size - length held)) h (all_replicate _ (size - length held) 0 pos)
-
--- one value more in the array
-pub held_more : (values : List ℕ) (i x : ℕ) → i < length values → take (i + 1) (set values i x) ≡ take i values ++ x ∷ []
-held_more values i x lt = rw (add-one i) (take-suc-set values i x lt)
-
-pub filled_next : (values block : List ℕ) (held i : ℕ) → held ≤ i → i < length block → ((n : ℕ) → held ≤ n → n ≤ i → take n block ≡ take held values ++ zeros (n - held))
-    → (n : ℕ) → held ≤ n → n ≤ i + 1 → take n (set block i 0) ≡ take held values ++ zeros (n - held)
-filled_next values block held i le lt h n least most =
-    elim (cases_lt i n) [
-      | inl above ↦
-          (let e : n ≡ suc i = omega arith in
-          let f : n - held ≡ (i - held) + 1 = omega arith in
-          let more : zeros ((i - held) + 1) ≡ zeros (i - held) ++ 0 ∷ [] = zeros_push (i - held) in
-          rw (f, more, e) (take-suc-set block i 0 lt ∙ ap (λ (ns : List ℕ). ns ++ 0 ∷ []) (h i le (omega arith)) ∙ append_assoc (take held values) (zeros (i - held)) (0 ∷ [])))
-      | inr below ↦ take-set-le n block i 0 below ∙ h n least below
-    ]
-  where
-    zeros_push : (n : ℕ) → zeros (n + 1) ≡ zeros n ++ 0 ∷ []
-    zeros_push zero = refl
-    zeros_push (suc n) = (let e : suc n + 1 ≡ suc (n + 1) = omega arith in rw (e, zeros_push n) refl)
-
-pub filled_start : (values : List ℕ) (held n : ℕ) → held ≤ n → n ≤ held → take n values ≡ take held values ++ zeros (n - held)
-filled_start values held n least most =
-    let e : n ≡ held = omega arith in
-    let f : n - held ≡ 0 = omega arith in
-    rw (f, e) (sym (append-nil (take held values)))
-
-pub on_ok_both : {A E : Type 0} (r : Result A E) (P Q R : Type 0) → (P → Q → R) → OnOk r P → OnOk r Q → OnOk r R
-on_ok_both (Ok x) P Q R f p q = f p q
-on_ok_both (Err e) P Q R f p q = tt
-
-pub on_ok_of : {A E : Type 0} (r : Result A E) (P R : Type 0) → (P → R) → OnOk r P → OnOk r R
-on_ok_of (Ok x) P R f p = f p
-on_ok_of (Err e) P R f p = tt

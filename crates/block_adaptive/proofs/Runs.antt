@@ -1,8 +1,7 @@
 -- Several numbers that a reader gives at once.
-use Rattle.std.proofs.Common.{◌≡◌, ℕ, ◌+◌, ◌-◌, ◌^◌, ◌<◌, ◌≤◌, Bool, List, [], ◌∷◌, ◌++◌, length, take, drop, Ok, Err, refl, sym, ap, subst, ◌∙◌, arith, append_assoc, ◌*◌, pow_pos, replicate}
+use Rattle.std.proofs.Common.{◌≡◌, ℕ, ◌+◌, ◌^◌, ◌<◌, Bool, List, [], ◌∷◌, ◌++◌, Ok, Err, refl, sym, ap, subst, ◌∙◌, append_assoc, ◌*◌, pow_pos, replicate}
 use Rattle.std.specs.List.{AllByRecursion}
-use Rattle.std.proofs.lemmas.List.{append-nil, drop-drop, drop-take, drop_at, length-take, take-append-drop, take-append-le, take-take, take_at, replicate-append-replicate}
-use Rattle.std.proofs.Math.Seq.{take-add}
+use Rattle.std.proofs.lemmas.List.{append-nil}
 use Rattle.cube_core.specs.declared.fault.Fault.{Fault}
 use Rattle.header_bits.specs.Bits.{Unread}
 use Rattle.header_bits.proofs.Reading.{ok_is}
@@ -10,11 +9,12 @@ use Rattle.header_bits.proofs.Fronts.{bind_ok}
 use Rattle.block_adaptive.specs.Settings.{IsCut}
 use Rattle.block_adaptive.specs.Reading.{site_of, data_set_at, data_sets_at}
 use Rattle.block_adaptive.specs.Given.{Unpacked, HasGiven, GivesFront, GivesAll, holding, next_data_set, GivesNext}
-use Rattle.block_adaptive.proofs.Handed.{data_set_given, nothing_behind, zeros, values_of_zeros}
+use Rattle.block_adaptive.proofs.Handed.{data_set_given}
 use Rattle.header_bits.proofs.Items.{all_append, all_first, all_last, all_replicate}
 use Rattle.std.proofs.lemmas.Grind.{flat_map-append}
 use Rattle.block_adaptive.specs.declared.options.CodeSet.{CodeSet}
 use Rattle.block_adaptive.specs.DataSets.{CodedDataSet, Block as Whole, Run, RestOfSegment, Cut, left_at, IsCodedDataSet, AreCodedDataSets, blocks_of, blocks_told, values_of, spelled, blocks_in}
+use Rattle.header_bits.proofs.Places.{values_of_zeros, zeros}
 
 -- ---- in range
 
@@ -39,29 +39,6 @@ list_range : (v : Unpacked) (given list : List ℕ) (bits : List Bool) → HasGi
 list_range v given list bits h =
     let all = subst (λ (vs : List ℕ). AllByRecursion (λ n. n < 2 ^ v.cut.set.bits) vs) h.told (told_range v.cut 0 v.block h.data_sets h.lawful) in
     all_last _ given list (all_first _ (given ++ list) v.held all)
-
--- ---- the first values in hand
-
-pub first_of_hand : (size at count spare : ℕ) (values copied behind : List ℕ) → at + count ≤ size → length copied ≡ count → copied ≡ take count (drop at values)
-    → drop at (take size values) ++ zeros spare ≡ take count (copied ++ behind) ++ (drop (at + count) (take size values) ++ zeros spare)
-first_of_hand size at count spare values copied behind le long same =
-    let here : List ℕ = drop at (take size values) in
-    let more : at + (size - at) ≡ size = omega arith in
-    let inner : here ≡ take (size - at) (drop at values) = ap (λ n. drop at (take n values)) (sym more) ∙ drop-take at (size - at) values in
-    let front : take count here ≡ take count (copied ++ behind) = ap (take count) inner ∙ take-take count (size - at) (drop at values) (omega arith) ∙ sym same
-    ∙ sym (take_at copied behind count long) in
-    let split : here ≡ take count (copied ++ behind) ++ drop (at + count) (take size values) =
-    sym (take-append-drop count here) ∙ ap (λ (vs : List ℕ). vs ++ drop count here) front
-    ∙ ap (λ (vs : List ℕ). take count (copied ++ behind) ++ vs) (drop-drop count at (take size values)) in
-    ap (λ (vs : List ℕ). vs ++ zeros spare) split ∙ append_assoc (take count (copied ++ behind)) (drop (at + count) (take size values)) (zeros spare)
-
-pub zeros_of_hand : (size at count spare : ℕ) (values filled behind : List ℕ) → at ≡ size → count ≤ spare → length filled ≡ count → filled ≡ zeros count
-    → drop at (take size values) ++ zeros spare ≡ take count (filled ++ behind) ++ (drop at (take size values) ++ zeros (spare - count))
-zeros_of_hand size at count spare values filled behind same le long are =
-    let none : drop at (take size values) ≡ [] = ap (λ n. drop n (take size values)) same ∙ nothing_behind size values in
-    let front : take count (filled ++ behind) ≡ zeros count = take_at filled behind count long ∙ are in
-    let parts : count + (spare - count) ≡ spare = omega arith in
-    rw (none, front) (ap zeros (sym parts) ∙ sym (replicate-append-replicate count (spare - count) 0))
 
 -- ---- what was given
 
@@ -113,16 +90,6 @@ pub gives_next : (old new : Unpacked) (reader : Unread) (value : ℕ) (left : Li
 gives_next old new reader value left gives given bits h = (let g = gives given bits h in (g.0.0, g.1, g.2, g.3))
 
 -- ---- one run behind another
-
--- numbers that were written behind others
-pub written_more : (at count : ℕ) (xs ys behind : List ℕ) → at ≤ length xs → count ≤ length ys
-    → take (at + count) (take at xs ++ (ys ++ behind)) ≡ take at xs ++ take count ys
-written_more at count xs ys behind first second =
-    let long : length (take at xs) ≡ at = omega (arith, length-take at xs) in
-    take-add at count (take at xs ++ (ys ++ behind))
-    ∙ ap (λ (vs : List ℕ). vs ++ take count (drop at (take at xs ++ (ys ++ behind)))) (take_at (take at xs) (ys ++ behind) at long)
-    ∙ ap (λ (vs : List ℕ). take at xs ++ take count vs) (drop_at (take at xs) (ys ++ behind) at long)
-    ∙ ap (λ (vs : List ℕ). take at xs ++ vs) (take-append-le count ys behind second)
 
 pub runs_joined : (v mid new : Unpacked) (given xs ys : List ℕ) (bits unread now left : List Bool) → mid.cut ≡ v.cut
     → (g : GivesAll v given bits unread mid now xs) → GivesAll mid (given ++ xs) (bits ++ g.1) now new left ys

@@ -2,7 +2,7 @@
 use Rattle.std.proofs.Common.{◌≡◌, ℕ, min, cond, add-zero, zero, suc, ◌+◌, ◌-◌, ◌*◌, ◌/◌, ◌%◌, ◌<◌, ◌≤◌, true, false, leb, List, [], ◌∷◌, ◌++◌, length, replicate, sum, refl, sym, ap, subst, ◌∙◌, inl, inr, arith}
 use Rattle.std.proofs.lemmas.Bool.{cases_lt, le-leb, lt-leb}
 use Rattle.std.proofs.lemmas.List.{length-append, length-replicate}
-use Rattle.std.proofs.lemmas.Nat.{div-mul-add, mod-mul-add, div-add-mod', mod_below, mul-le}
+use Rattle.std.proofs.lemmas.Nat.{mod-mul-add, div-add-mod', mod_below, mul-le}
 use Rattle.header_bits.specs.Bits.{fundamental}
 use Rattle.block_adaptive.specs.declared.options.CodeSet.{CodeSet}
 use Rattle.block_adaptive.specs.declared.options.Choice.TheVariants.{Uncoded, Second, Split}
@@ -11,42 +11,15 @@ use Rattle.block_adaptive.specs.Segments.{block_count, segment_rest, segments_fr
 use Rattle.block_adaptive.specs.DataSets.{CodedDataSet, Block, Run, RestOfSegment, Cut, cut_of, left_at, IsCodedDataSet, AreCodedDataSets, blocks_in, spelled, spelling, run_code, rest_code}
 use Rattle.block_adaptive.specs.Laws.{SegmentsAreCounted, NoShorterBody}
 use Rattle.block_adaptive.proofs.Bodies.{data_set_most, data_sets_few, data_set_some}
-use Rattle.block_adaptive.proofs.Costs.{uncoded_cost, second_cost, split_cost, quotients_least, pairs_more, length-fundamental}
+use Rattle.block_adaptive.proofs.Costs.{uncoded_cost, second_cost, split_cost, quotients_least, pairs_more}
 use Rattle.block_adaptive.proofs.Again.{width_least}
 use Rattle.block_adaptive.proofs.Bounded.{no_splits}
 use Rattle.block_adaptive.proofs.Lawful.{rest_least}
-use Rattle.block_adaptive.proofs.Sums.{sum_cons}
-
--- ---- segments begun before a block
-
--- how many segments begin before block i
-abbrev pub begun : ℕ → ℕ → ℕ
-begun r i = i / r * ((r + 63) / 64) + (i % r + 63) / 64
-
--- an interval's border, or none, is met by k blocks from place m of interval q on
-begun_at : (r q m : ℕ) → m < r → begun r (q * r + m) ≡ q * ((r + 63) / 64) + (m + 63) / 64
-begun_at r q m lt = rw (div-mul-add q r m lt, mod-mul-add q r m lt) refl
-
-begun_end : (r q : ℕ) → 1 ≤ r → begun r (q * r + r) ≡ q * ((r + 63) / 64) + (r + 63) / 64
-begun_end r q pos =
-    let next : q * r + r ≡ (q + 1) * r + 0 = omega arith in
-    rw next (begun_at r (q + 1) 0 pos ∙ omega arith)
-
--- from place m of interval q on, up to k blocks, of which none passes the next border
-begun_on : (r q m k : ℕ) → m + k ≤ r → 1 ≤ r → begun r (q * r + m + k) ≡ q * ((r + 63) / 64) + (m + k + 63) / 64
-begun_on r q m k le pos =
-    elim (cases_lt (m + k) r) [
-      | inl lt ↦ (let e : q * r + m + k ≡ q * r + (m + k) = omega arith in rw e (begun_at r q (m + k) lt))
-      | inr ge ↦ (let e : q * r + m + k ≡ q * r + r = omega arith in let f : m + k ≡ r = omega arith in rw (e, f) (begun_end r q pos))
-    ]
+use Rattle.header_bits.proofs.Sums.{sum_cons}
+use Rattle.header_bits.proofs.Intervals.{begun, begun_none, begun_on, few_at, one_at}
+use Rattle.header_bits.proofs.Zeros.{length-fundamental}
 
 -- ---- a segment's length from a place on
-
-few_at : (m k : ℕ) → k ≤ 64 - m % 64 → (m + k + 63) / 64 ≤ (m + 63) / 64 + 1
-few_at m k le = omega arith
-
-one_at : (m k : ℕ) → m % 64 ≡ 0 → 1 ≤ k → k ≤ 64 → (m + k + 63) / 64 ≡ (m + 63) / 64 + 1
-one_at m k border some most = omega arith
 
 -- blocks of one segment begin one segment at most
 begun_few : (r n i k : ℕ) → 1 ≤ r → k ≤ segment_rest r n i → begun r (i + k) ≤ begun r i + 1
@@ -95,12 +68,6 @@ border_next r n i pos lt border more =
     ]
 
 -- ---- segments one after another
-
-begun_none : (r : ℕ) → 1 ≤ r → begun r 0 ≡ 0
-begun_none r pos =
-    let zero_times : 0 * r + 0 ≡ 0 = omega arith in
-    let none : 0 * ((r + 63) / 64) + (0 + 63) / 64 ≡ 0 = omega arith in
-    ap (begun r) (sym zero_times) ∙ begun_at r 0 0 pos ∙ none
 
 rest_few : (r n i : ℕ) → segment_rest r n i ≤ n - i
 unfolding segment_rest

@@ -1,37 +1,14 @@
 -- How the cost of split-sample falls and rises along k.
-use Rattle.std.proofs.Common.{◌≡◌, ℕ, zero, suc, ◌+◌, ◌*◌, ◌/◌, ◌^◌, ◌<◌, ◌≤◌, List, [], ◌∷◌, length, sym, ap, ◌∙◌, subst, inl, inr, arith, lit<}
+use Rattle.std.proofs.Common.{◌≡◌, ℕ, zero, suc, ◌+◌, ◌*◌, ◌/◌, ◌^◌, ◌<◌, ◌≤◌, List, [], ◌∷◌, length, subst, inl, inr, arith, lit<}
 use Rattle.std.proofs.lemmas.Bool.{cases_lt}
-use Rattle.std.proofs.lemmas.Nat.{mul-le, shr-shr, pow_pos, pow-add}
-use Rattle.std.proofs.Math.Nat.{lt-div-mul-add, div-mul-le_self, pow-succ', pow-le-pow_right}
+use Rattle.std.proofs.lemmas.Nat.{mul-le, pow_pos}
+use Rattle.std.proofs.Math.Nat.{pow-succ', pow-le-pow_right}
 use Rattle.block_adaptive.specs.declared.options.CodeSet.{CodeSet}
 use Rattle.block_adaptive.specs.declared.options.Choice.TheVariants.{Second, Split}
 use Rattle.block_adaptive.specs.Options.{quotient_codes, pair_codes, pair_number, cost}
-use Rattle.block_adaptive.proofs.Costs.{quotients_cons, pairs_more, length-fundamental, second_cost, split_cost}
-
--- a quotient, and the next: half of it
-halves : (v k : ℕ) → (2 * (v / 2 ^ suc k) ≤ v / 2 ^ k) × (v / 2 ^ k ≤ 2 * (v / 2 ^ suc k) + 1)
-halves v k =
-    let size : k + 1 ≡ suc k = omega arith in
-    let half : v / 2 ^ k / 2 ≡ v / 2 ^ suc k = subst (λ (n : ℕ). v / 2 ^ k / 2 ≡ v / 2 ^ n) size (shr-shr v k 1) in
-    (omega arith, omega arith)
-
-falls_one : (v k : ℕ) → v + 1 + 2 * 2 ^ k * (v / 2 ^ suc k) ≤ 2 * 2 ^ k * (v / 2 ^ k) + 2 * 2 ^ k
-falls_one v k =
-    let h : ℕ = 2 ^ k in
-    let x : ℕ = v / 2 ^ k in
-    let y : ℕ = v / 2 ^ suc k in
-    let top : v < y * (2 * h) + 2 * h = subst (λ (p : ℕ). v < y * p + p) (pow-succ' 2 k) (lt-div-mul-add {a = v} {b = 2 ^ suc k} (pow_pos (suc k))) in
-    let twice : h * (2 * y) ≤ h * x = mul-le h (2 * y) h x (omega arith) (halves v k).0 in
-    omega arith
-
-rises_one : (v k : ℕ) → 2 * 2 ^ k * (v / 2 ^ k) ≤ 2 * 2 ^ k * (v / 2 ^ suc k) + v + 2 ^ k
-rises_one v k =
-    let h : ℕ = 2 ^ k in
-    let x : ℕ = v / 2 ^ k in
-    let y : ℕ = v / 2 ^ suc k in
-    let under : x * h ≤ v = div-mul-le_self v h in
-    let next : h * x ≤ h * (2 * y + 1) = mul-le h x h (2 * y + 1) (omega arith) (halves v k).1 in
-    omega arith
+use Rattle.block_adaptive.proofs.Costs.{quotients_cons, pairs_more, second_cost, split_cost}
+use Rattle.header_bits.proofs.Powers.{falls_one, rises_one}
+use Rattle.header_bits.proofs.Zeros.{length-fundamental}
 
 -- ---- the quotients of a block
 
@@ -95,19 +72,6 @@ rises_from s (suc more) k sum vs whole small =
     let all : length vs * 2 ^ k ≤ length vs * 2 ^ (more + k) = mul-le (length vs) (2 ^ k) (length vs) (2 ^ (more + k)) (omega arith) wide in
     let last = rises s (more + k) sum vs whole (omega arith) in
     rw e (omega (arith, last, rises_from s more k sum vs whole small))
-
--- a k that is so far below the sum's digits lies where it falls
-pub near_falls : (sum len a b first : ℕ) → 2 ^ a ≤ sum → len < 2 * 2 ^ b → first + (b + 2) ≤ a → len * 2 ^ (first + 1) < sum
-near_falls sum len a b first least most le =
-    let p : ℕ = 2 ^ (first + 1) in
-    let size : b + 1 + (first + 1) ≡ first + (b + 2) = omega arith in
-    let e : b + 1 ≡ suc b = omega arith in
-    let double : 2 ^ (b + 1) ≡ 2 * 2 ^ b = ap (λ (n : ℕ). 2 ^ n) e ∙ pow-succ' 2 b in
-    let whole : 2 ^ (first + (b + 2)) ≡ 2 * 2 ^ b * p = ap (λ (n : ℕ). 2 ^ n) (sym size) ∙ pow-add 2 (b + 1) (first + 1) ∙ ap (λ (n : ℕ). n * p) double in
-    let up : 2 ^ (first + (b + 2)) ≤ 2 ^ a = pow-le-pow_right {n = 2} (lit< tt) {i = first + (b + 2)} {j = a} le in
-    let pos : 1 ≤ p = pow_pos (first + 1) in
-    let under : (len + 1) * p ≤ 2 * 2 ^ b * p = mul-le (len + 1) p (2 * 2 ^ b) p (omega arith) (omega arith) in
-    omega arith
 
 -- ---- the second extension
 

@@ -21,8 +21,8 @@ use Rattle.header_bits.proofs.Numbers.{bits_of_zero}
 use Rattle.header_bits.proofs.Reading.{number_takes}
 use Rattle.header_bits.proofs.Fronts.{bits_of_ones, zeros_takes}
 use Rattle.block_adaptive.proofs.Takes.{fundamental_takes, TakesList, words_takes, split_takes}
-use Rattle.block_adaptive.proofs.Triangles.{triangle_step}
 use Rattle.header_bits.proofs.Items.{all_weaker}
+use Rattle.header_bits.proofs.Sums.{triangle_step}
 
 leb-true : (a b : ℕ) → leb a b ≡ true → a ≤ b
 leb-true a b h = grind (arith, nat_tests)

@@ -2,25 +2,12 @@
 use Rattle.std.proofs.Common.{◌≡◌, ℕ, zero, suc, ◌+◌, ◌-◌, ◌*◌, ◌/◌, ◌<◌, ◌≤◌, Bool, true, false, leb, ltb, List, [], ◌∷◌, ◌++◌, length, Ok, refl, subst, inl, inr, append_assoc, arith, lit<}
 use Rattle.std.specs.List.{AllByRecursion}
 use Rattle.std.proofs.lemmas.Bool.{le-ltb, cases_lt, le-leb, lt-leb}
-use Rattle.std.proofs.Math.Nat.{add-mul-div_right, mul-div_cancel}
+use Rattle.std.proofs.Math.Nat.{mul-div_cancel}
 use Rattle.std.proofs.lemmas.Nat.{mul-le}
 use Rattle.block_adaptive.specs.Options.{pair_number, pair_codes}
 use Rattle.block_adaptive.specs.Reading.{Site, greatest, pair_sum, pair_of, pairs_at}
 use Rattle.block_adaptive.proofs.Codes.{fundamental_again}
-
-pub triangle_step : (s : ℕ) → (s + 1) * (s + 1 + 1) / 2 ≡ s * (s + 1) / 2 + (s + 1)
-triangle_step s =
-    let e : (s + 1) * (s + 1 + 1) ≡ s * (s + 1) + (s + 1) * 2 = omega arith in
-    rw e (add-mul-div_right (s * (s + 1)) (s + 1) (lit< tt))
-
--- what lies below t, by how much
-pub triangle_grows : (d s : ℕ) → s * (s + 1) / 2 + s < (s + 1 + d) * (s + 1 + d + 1) / 2
-triangle_grows zero s =
-    let e : s + 1 + 0 ≡ s + 1 = omega arith in
-    rw e (omega (arith, triangle_step s))
-triangle_grows (suc d) s =
-    let e : s + 1 + suc d ≡ (s + 1 + d) + 1 = omega arith in
-    rw e (omega (arith, triangle_step (s + 1 + d), triangle_grows d s))
+use Rattle.header_bits.proofs.Sums.{double_triangle, triangle_grows, triangle_step}
 
 pub greatest_is : (f : ℕ → Bool) (n limit : ℕ) → n ≤ limit → f n ≡ true → ((m : ℕ) → n < m → f m ≡ false) → greatest f limit ≡ n
 unfolding greatest
@@ -77,12 +64,6 @@ pairs_again site most (suc n) (a ∷ b ∷ vs) rest len h =
     rw (append_assoc, fundamental_again site (2 * most * (most + 1)) (pair_number a b) (pair_codes vs ++ rest) (pair_below most a b h.0 h.1.0), pair_again site most a b (pair_codes vs ++ rest) h.0 h.1.0, pairs_again site most n vs rest (omega arith) h.1.1) refl
 
 -- ---- the sum, by a square root
-
-double_triangle : (s : ℕ) → s * (s + 1) / 2 * 2 ≡ s * (s + 1)
-double_triangle zero = refl
-double_triangle (suc s) =
-    let e : suc s ≡ s + 1 = omega arith in
-    rw e (omega (arith, triangle_step s, double_triangle s))
 
 pub record IsSum (most m s : ℕ) : Type 0 where
   pub is : pair_sum most m ≡ s

@@ -1,7 +1,7 @@
 use Rattle.std.proofs.Common.{arith, ◌∙◌}
 use Rattle.std.proofs.lemmas.List.{length-set}
-use Rattle.block_adaptive.proofs.Packing.{filled_next, filled_start}
 use Rattle.block_adaptive.proofs.block_writer.filled_block.Goals as goal
+use Rattle.header_bits.proofs.Places.{filled_next, filled_start}
 
 pub loop-i-init : goal.loop-i-init
 loop-i-init c = record { filled = λ n least most. filled_start c.args.values.now c.args.held n least most; whole = c.told-values }

@@ -1,8 +1,8 @@
 use Rattle.std.proofs.Common.{get_or, take, arith, ◌∙◌, ap}
 use Rattle.std.proofs.lemmas.List.{take_more, take_all}
 use Rattle.std.specs.Prelude.{sum}
-use Rattle.block_adaptive.proofs.Sums.{sum_push}
 use Rattle.block_adaptive.proofs.block_writer.sum_of.Goals as goal
+use Rattle.header_bits.proofs.Sums.{sum_push}
 
 pub loop-i-preserved : goal.loop-i-preserved
 loop-i-preserved c = record {

@@ -1,7 +1,7 @@
 use Rattle.std.proofs.Common.{◌∙◌, ◌+◌, ap, sum, arith}
 use Rattle.std.proofs.lemmas.List.{take_all}
-use Rattle.block_adaptive.proofs.Holds.{sum_small, sum_front, sum_next}
 use Rattle.block_adaptive.proofs.block_writer.sum_of_eights.Goals as goal
+use Rattle.header_bits.proofs.Sums.{sum_small, sum_front, sum_next}
 
 pub overflow_add-total : goal.overflow_add-total
 overflow_add-total c =

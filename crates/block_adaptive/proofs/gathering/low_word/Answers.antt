@@ -2,8 +2,8 @@ use Rattle.std.proofs.Common.{◌≡◌, ◌*◌, ◌%◌, ◌^◌, get_or, arit
 use Rattle.std.proofs.lemmas.Nat.{one_shl, and_mask, pow_pos}
 use Rattle.std.proofs.Math.Nat.{mod-lt}
 use Rattle.block_adaptive.proofs.Emits.{low_next_masked, low_end}
-use Rattle.block_adaptive.proofs.Gathers.{words_start, words_few, words_joined, words_end, words_below}
 use Rattle.block_adaptive.proofs.gathering.low_word.Goals as goal
+use Rattle.header_bits.proofs.WordTexts.{words_start, words_few, words_joined, words_end, words_below}
 
 pub loop-value-init : goal.loop-value-init
 loop-value-init c = words_start _

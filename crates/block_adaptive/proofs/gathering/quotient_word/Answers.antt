@@ -1,8 +1,8 @@
 use Rattle.std.proofs.Common.{◌+◌, ◌/◌, ◌^◌, ◌≤◌, get_or, arith}
 use Rattle.std.proofs.Math.Pow.{pow_mono}
 use Rattle.block_adaptive.proofs.Emits.{quotient_end, quotient_bits}
-use Rattle.block_adaptive.proofs.Gathers.{words_start, words_few, words_joined, words_end, words_below}
 use Rattle.block_adaptive.proofs.gathering.quotient_word.Goals as goal
+use Rattle.header_bits.proofs.WordTexts.{words_start, words_few, words_joined, words_end, words_below}
 
 pub loop-value-init : goal.loop-value-init
 loop-value-init c = words_start _

@@ -1,6 +1,7 @@
 use Rattle.std.proofs.Common.{◌≡◌, ◌+◌, ◌-◌, ◌*◌, ◌/◌, ◌%◌, ◌^◌, refl}
-use Rattle.block_adaptive.proofs.Fours.{four_within, four_shifts}
+use Rattle.block_adaptive.proofs.Fours.{four_within}
 use Rattle.block_adaptive.proofs.lows.join_lows.Goals as goal
+use Rattle.header_bits.proofs.Powers.{four_shifts}
 
 pub joined-requires-clause-within : goal.joined-requires-clause-within
 joined-requires-clause-within c = (four_within c.args.k 65536 c.args.four.now 0 0 0 c.requires.four c.requires.within).0

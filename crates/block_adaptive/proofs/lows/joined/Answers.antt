@@ -1,8 +1,8 @@
 use Rattle.std.proofs.Common.{◌≡◌, ◌*◌, ◌%◌, ◌^◌, arith, pow_pos, refl}
 use Rattle.std.proofs.lemmas.Nat.{one_shl, and_mask}
 use Rattle.std.proofs.Math.Nat.{mod-lt}
-use Rattle.block_adaptive.proofs.Fours.{low_few, whole_small}
 use Rattle.block_adaptive.proofs.lows.joined.Goals as goal
+use Rattle.header_bits.proofs.Powers.{low_few, whole_small}
 
 pub overflow_sub-low : goal.overflow_sub-low
 overflow_sub-low c = rw (one_shl c.args.k 64 (omega (arith, c.requires.depth))) (omega (arith, pow_pos c.args.k))

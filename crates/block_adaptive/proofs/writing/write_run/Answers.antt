@@ -2,8 +2,8 @@ use Rattle.std.proofs.Common.{length, ap, arith}
 use Rattle.header_bits.specs.Bits.{fundamental}
 use Rattle.block_adaptive.proofs.Emits.{identifier_zero, run_text_cost}
 use Rattle.block_adaptive.proofs.Gathers.{appends_both, appends_end, second_fits}
-use Rattle.block_adaptive.proofs.Costs.{length-fundamental}
 use Rattle.block_adaptive.proofs.writing.write_run.Goals as goal
+use Rattle.header_bits.proofs.Zeros.{length-fundamental}
 
 pub append-requires-clause-room : goal.append-requires-clause-room
 append-requires-clause-room c =

@@ -1,7 +1,8 @@
 use Rattle.std.proofs.Common.{sym, ap, ◌∙◌, arith, ◌≤◌, length}
 use Rattle.block_adaptive.specs.Given.{Unpacked}
-use Rattle.block_adaptive.proofs.Handed.{first_in_hand, put_back}
+use Rattle.block_adaptive.proofs.Handed.{put_back}
 use Rattle.block_adaptive.proofs.block_reader.BlockReader.give.Goals as goal
+use Rattle.header_bits.proofs.Places.{first_in_hand}
 
 pub returns-then-self-clause-first : goal.returns-then-self-clause-first
 returns-then-self-clause-first c =

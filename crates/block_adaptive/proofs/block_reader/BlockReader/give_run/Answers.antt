@@ -1,8 +1,8 @@
 use Rattle.std.proofs.Common.{◌≡◌, ◌+◌, ◌≤◌, ◌∙◌, length, take, drop, sym, ap, arith, rules}
 use Rattle.block_adaptive.specs.Given.{Unpacked}
-use Rattle.block_adaptive.proofs.Handed.{put_back, zeros}
-use Rattle.block_adaptive.proofs.Runs.{first_of_hand, zeros_of_hand}
+use Rattle.block_adaptive.proofs.Handed.{put_back}
 use Rattle.block_adaptive.proofs.block_reader.BlockReader.give_run.Goals as goal
+use Rattle.header_bits.proofs.Places.{zeros, first_of_hand, zeros_of_hand}
 
 pub returns-then-self-clause-front : goal.returns-then-self-clause-front
 returns-then-self-clause-front c =

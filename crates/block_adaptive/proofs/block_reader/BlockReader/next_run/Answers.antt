@@ -2,8 +2,9 @@ use Rattle.std.proofs.Common.{◌≤◌, ◌++◌, ◌∙◌, ℕ, List, length,
 use Rattle.std.proofs.lemmas.List.{take_all}
 use Rattle.std.proofs.lemmas.Result.{err_from_is_err_and}
 use Rattle.block_adaptive.specs.Given.{GivesAll}
-use Rattle.block_adaptive.proofs.Runs.{runs_joined, run_refused, written_more}
+use Rattle.block_adaptive.proofs.Runs.{runs_joined, run_refused}
 use Rattle.block_adaptive.proofs.block_reader.BlockReader.next_run.Goals as goal
+use Rattle.header_bits.proofs.Places.{written_more}
 
 pub returns-in_err-done-clause-given : goal.returns-in_err-done-clause-given
 returns-in_err-done-clause-given c =

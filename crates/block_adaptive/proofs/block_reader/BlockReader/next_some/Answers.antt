@@ -4,10 +4,10 @@ use Rattle.block_adaptive.specs.Settings.{IsCut}
 use Rattle.block_adaptive.specs.Given.{Unpacked}
 use Rattle.block_adaptive.proofs.Calls.{next_refused}
 use Rattle.block_adaptive.proofs.Counts.{data_set_left}
-use Rattle.block_adaptive.proofs.Handed.{empty_hand}
 use Rattle.block_adaptive.proofs.Runs.{taken_run, taken_kept, held_run}
 use Rattle.block_adaptive.proofs.block_reader.BlockReader.next_some.Goals as goal
 use Rattle.block_adaptive.proofs.block_reader.BlockReader.next_some.Goals.{then-self-eq0+then-self+in_ok-take_data_set, else-self-eq0}
+use Rattle.header_bits.proofs.Places.{empty_hand}
 
 pub returns-clause-given : goal.returns-clause-given
 returns-clause-given c =

@@ -2,8 +2,9 @@ use Rattle.std.proofs.Common.{◌≡◌, ◌≤◌, sym, ap, ◌∙◌, arith, l
 use Rattle.std.proofs.lemmas.Nat.{mul-le}
 use Rattle.block_adaptive.specs.Given.{Unpacked, next_data_set}
 use Rattle.block_adaptive.specs.contracts.block_reader.BlockReader.{the_view}
-use Rattle.block_adaptive.proofs.Handed.{run_held, rest_held, run_parts, rest_most, rest_small, taken_size, size_most}
+use Rattle.block_adaptive.proofs.Handed.{run_held, rest_held, run_parts, rest_most, rest_small, size_most}
 use Rattle.block_adaptive.proofs.block_reader.BlockReader.take_data_set.Goals as goal
+use Rattle.header_bits.proofs.Places.{taken_size}
 
 pub overflow_add-self-in-Ok-Run : goal.overflow_add-self-in-Ok-Run
 overflow_add-self-in-Ok-Run c =

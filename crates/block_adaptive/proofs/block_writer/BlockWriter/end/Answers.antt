@@ -7,8 +7,9 @@ use Rattle.block_adaptive.specs.Settings.{IsCut}
 use Rattle.block_adaptive.specs.Taken.{Packed}
 use Rattle.block_adaptive.proofs.Counts.{ends_inside}
 use Rattle.block_adaptive.proofs.Handed.{size_most}
-use Rattle.block_adaptive.proofs.Packing.{nothing_left, last_block, range_filled, on_ok_of}
+use Rattle.block_adaptive.proofs.Packing.{nothing_left, last_block, range_filled}
 use Rattle.block_adaptive.proofs.block_writer.BlockWriter.end.Goals as goal
+use Rattle.header_bits.proofs.Places.{on_ok_of}
 
 pub returns-then-self-eq0-clause-ended : goal.returns-then-self-eq0-clause-ended
 returns-then-self-eq0-clause-ended c =

@@ -4,9 +4,11 @@ use Rattle.block_adaptive.specs.Taken.{Packed}
 use Rattle.block_adaptive.specs.contracts.block_writer.BlockWriter.{the_view}
 use Rattle.block_adaptive.proofs.Counts.{room_left}
 use Rattle.block_adaptive.proofs.Handed.{size_most}
-use Rattle.block_adaptive.proofs.Holds.{held_all, stored_more, sum_small}
+use Rattle.block_adaptive.proofs.Holds.{stored_more}
 use Rattle.block_adaptive.proofs.Stored.{total_few}
 use Rattle.block_adaptive.proofs.block_writer.BlockWriter.hold.Goals as goal
+use Rattle.header_bits.proofs.Sums.{sum_small}
+use Rattle.header_bits.proofs.Places.{held_all}
 
 pub overflow_add-self-2 : goal.overflow_add-self-2
 overflow_add-self-2 c =

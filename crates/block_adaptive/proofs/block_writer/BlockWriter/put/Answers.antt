@@ -6,10 +6,11 @@ use Rattle.block_adaptive.specs.Taken.{Packed}
 use Rattle.block_adaptive.specs.contracts.block_writer.BlockWriter.{the_view}
 use Rattle.block_adaptive.proofs.Counts.{ends_block, room_left}
 use Rattle.block_adaptive.proofs.Handed.{size_most}
-use Rattle.block_adaptive.proofs.Packing.{values_held, values_packed, held_more, on_ok_both}
+use Rattle.block_adaptive.proofs.Packing.{values_held, values_packed}
 use Rattle.block_adaptive.proofs.Stored.{total_few}
 use Rattle.block_adaptive.proofs.block_writer.BlockWriter.put.Goals as goal
 use Rattle.header_bits.proofs.Items.{all_append}
+use Rattle.header_bits.proofs.Places.{held_more, on_ok_both}
 
 pub overflow_add-self-then-self : goal.overflow_add-self-then-self
 overflow_add-self-then-self c = record { fits = omega (arith, total_few _ _ _ c.self.inside.total _ c.self.invariant, c.from.ensures, c.ranges.delta.fits) }
