@@ -1,8 +1,11 @@
 -- A loop that reads numbers into the places of a list, one or a few at a time.
-use Rattle.std.proofs.Common.{◌≡◌, ℕ, ◌+◌, ◌<◌, ◌≤◌, Bool, List, [], ◌∷◌, ◌++◌, length, take, drop, set, get_or, Result, Ok, Err, refl, sym, ap, ◌∙◌, arith, append_assoc}
+use Rattle.std.proofs.Common.{◌≡◌, ℕ, ◌+◌, ◌<◌, ◌≤◌, Bool, List, [], ◌∷◌, ◌++◌, length, take, drop, set, get_or, Result, Ok, Err, refl, sym, ap, ◌∙◌, arith, append_assoc, suc, map, subst}
 use Rattle.std.proofs.lemmas.List.{append-nil, drop_all, drop_at, drop_more, drop-set-lt, length-append, length-take, take_all, take-append-drop, take_at, take_more_set}
 use Rattle.cube_core.specs.declared.fault.Fault.{Fault}
 use Rattle.cube_core.specs.Steps.{◌>>=◌}
+use Rattle.std.specs.List.{flat_map, AllByRecursion}
+use Rattle.header_bits.proofs.Fronts.{bind_ok}
+use Rattle.header_bits.proofs.Reading.{ok_is}
 
 abbrev pub Reader : Type 0
 Reader = ℕ → List Bool → Result (ℕ × List Bool) Fault
@@ -92,3 +95,36 @@ module _ {f : Reader} {old : List ℕ} {start : List Bool} {i : ℕ} {xs : List 
 
   pub some_end : {e : Fault} → (n : ℕ) → AreRead f old start i xs bits → each_at f (take n (drop i xs)) bits ≡ Err e → each_at f old start ≡ Err e
   some_end {e} n h read = each_fails (take n (drop i xs)) (drop n (drop i xs)) e h (sym (take-append-drop n (drop i xs))) read
+
+-- ---- what is read as values was spelled by them
+
+-- a list that was read: its bits, its length, and a bound of its numbers
+pub record TakesList (spelling : List ℕ → List Bool) (n : ℕ) (P : ℕ → Type 0) (bits : List Bool) (x : List ℕ × List Bool) : Type 0 where
+  pub parts : bits ≡ spelling x.0 ++ x.1
+  pub len : length x.0 ≡ n
+  pub all : AllByRecursion P x.0
+
+module _ (f : Reader) (text : ℕ → List Bool) where
+  pub each_takes : (P : ℕ → Type 0) → ((x : ℕ) (left : List Bool) (v : ℕ × List Bool) → f x left ≡ Ok v → (left ≡ text v.0 ++ v.1) × P v.0)
+      → (xs : List ℕ) (bits : List Bool) (y : List ℕ × List Bool) → each_at f xs bits ≡ Ok y → TakesList (flat_map text) (length xs) P bits y
+  unfolding each_at
+  each_takes P h [] bits y e = subst (TakesList (flat_map text) 0 P bits) (ok_is ([], bits) y e) (record { parts = refl; len = refl; all = tt })
+  each_takes P h (x ∷ xs) bits y e =
+      let a = bind_ok (f x bits) (λ v. each_at f xs v.1 >>= λ vs. Ok (v.0 ∷ vs.0, vs.1)) y e in
+      let b = bind_ok (each_at f xs a.0.1) (λ vs. Ok (a.0.0 ∷ vs.0, vs.1)) y a.2 in
+      let first = h x bits a.0 a.1 in
+      let others = each_takes P h xs a.0.1 b.0 b.1 in
+      subst (TakesList (flat_map text) (length (x ∷ xs)) P bits) (ok_is (a.0.0 ∷ b.0.0, b.0.1) y b.2) (record {
+        parts = first.0 ∙ ap (λ bs. text a.0.0 ++ bs) others.parts ∙ sym (append_assoc (text a.0.0) (flat_map text b.0.0) b.0.1);
+        len = ap suc others.len;
+        all = (first.1, others.all);
+      })
+
+pub each_maps : (f : Reader) (g : ℕ → ℕ) → ((x : ℕ) (left : List Bool) (v : ℕ × List Bool) → f x left ≡ Ok v → g v.0 ≡ x) → (xs : List ℕ) (bits : List Bool)
+    (y : List ℕ × List Bool) → each_at f xs bits ≡ Ok y → map g y.0 ≡ xs
+unfolding each_at
+each_maps f g h [] bits y e = subst (λ (z : List ℕ × List Bool). map g z.0 ≡ []) (ok_is ([], bits) y e) refl
+each_maps f g h (x ∷ xs) bits y e =
+    let a = bind_ok (f x bits) (λ v. each_at f xs v.1 >>= λ vs. Ok (v.0 ∷ vs.0, vs.1)) y e in
+    let b = bind_ok (each_at f xs a.0.1) (λ vs. Ok (a.0.0 ∷ vs.0, vs.1)) y a.2 in
+    subst (λ (z : List ℕ × List Bool). map g z.0 ≡ x ∷ xs) (ok_is (a.0.0 ∷ b.0.0, b.0.1) y b.2) (rw (h x bits a.0 a.1, each_maps f g h xs a.0.1 b.0 b.1) refl)

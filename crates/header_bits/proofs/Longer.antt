@@ -23,6 +23,11 @@ pub goes_if : {A : Type 0} (count : ℕ) (more : List Bool) (b : Bool) (r s t u 
 goes_if count more true r s t u h k = h
 goes_if count more false r s t u h k = k
 
+pub goes_guard : {A : Type 0} (count : ℕ) (more : List Bool) (b : Bool) (e : Fault) (r s : Result (A × List Bool) Fault) → Goes count more r s
+    → Goes count more (cond b (Err e) r) (cond b (Err e) s)
+goes_guard count more true e r s h = inr refl
+goes_guard count more false e r s h = h
+
 pub number_goes : (count n : ℕ) (more bits : List Bool) → Goes count more (number_at count n bits) (number_at count n (bits ++ more))
 unfolding number_at
 number_goes count n more bits = by_test (ltb (length bits) n) refl
