@@ -1,5 +1,5 @@
 -- The chosen option, out of the few k that the sum of the values leaves.
-use Rattle.std.proofs.Common.{◌≡◌, ℕ, suc, ◌+◌, ◌-◌, ◌*◌, ◌^◌, ◌<◌, ◌≤◌, Bool, true, false, List, length, sum, ap, subst, inl, inr, arith, lit<}
+use Rattle.std.proofs.Common.{◌≡◌, ℕ, suc, ◌+◌, ◌-◌, ◌*◌, ◌^◌, ◌<◌, ◌≤◌, Bool, true, false, List, length, sum, subst, inl, inr, arith, lit<}
 use Rattle.std.proofs.lemmas.Bool.{cases_lt}
 use Rattle.std.proofs.lemmas.Nat.{mul-le}
 use Rattle.std.proofs.Math.Nat.{pow-le-pow_right}
@@ -21,12 +21,14 @@ pub record IsSearch (s : CodeSet) (vs : List ℕ) (sum first : ℕ) (longer : Bo
   pub rising : first + 1 < splits s → sum ≤ length vs * 2 ^ (first + 2)
   pub second : longer ≡ true → (1 ≤ splits s) × (2 * length vs ≤ length (quotient_codes 0 vs))
 
-below_first : (s : CodeSet) (vs : List ℕ) (sum first : ℕ) (longer : Bool) → IsSearch s vs sum first longer → (j : ℕ) → j < first → cost s (Split first) vs < cost s (Split j) vs
+below_first : (s : CodeSet) (vs : List ℕ) (sum first : ℕ) (longer : Bool) → IsSearch s vs sum first longer → (j : ℕ) → j < first
+    → cost s (Split first) vs < cost s (Split j) vs
 below_first s vs sum first longer h j lt =
     let e : first + 1 ≡ suc first = omega arith in
-    falls_to s first j first sum vs h.whole (rw e at h.falling (omega arith)) (omega arith) lt
+    falls_to _ _ _ _ _ _ h.whole (rw e at h.falling (omega arith)) (omega arith) lt
 
-second_behind : (s : CodeSet) (vs : List ℕ) (sum first : ℕ) (longer : Bool) → IsSearch s vs sum first longer → longer ≡ true → (0 < splits s) × (cost s (Split first) vs < cost s Second vs)
+second_behind : (s : CodeSet) (vs : List ℕ) (sum first : ℕ) (longer : Bool) → IsSearch s vs sum first longer → longer ≡ true
+    → (0 < splits s) × (cost s (Split first) vs < cost s Second vs)
 second_behind s vs sum first longer h e =
     let some = h.second e in
     let start = second_longer s vs some.1 in (
@@ -38,7 +40,8 @@ second_behind s vs sum first longer h e =
     )
 
 -- no later k is shorter, since the sum of the values is small
-pub ended : (s : CodeSet) (vs : List ℕ) (sum first k : ℕ) (longer : Bool) (o : Choice) → IsSearch s vs sum first longer → LeadsTried s vs longer first k o → k ≤ splits s → (k < splits s → k ≡ first + 3) → o ≡ chosen_option s vs
+pub ended : (s : CodeSet) (vs : List ℕ) (sum first k : ℕ) (longer : Bool) (o : Choice) → IsSearch s vs sum first longer → LeadsTried s vs longer first k o
+    → k ≤ splits s → (k < splits s → k ≡ first + 3) → o ≡ chosen_option s vs
 ended s vs sum first k longer o h leads few last =
     leads_all leads few h.within (below_first s vs sum first longer h) (second_behind s vs sum first longer h) (λ j from in_set.
     let end : k ≡ first + 3 = last (omega arith) in
@@ -51,11 +54,12 @@ ended s vs sum first k longer o h leads few last =
 
 plain_short : (s : CodeSet) (vs : List ℕ) (k : ℕ) → sum vs < length vs → 1 ≤ k → cost s (Split 0) vs < cost s (Split k) vs
 plain_short s vs k small some =
-    let low : 1 * length vs ≤ k * length vs = mul-le 1 (length vs) k (length vs) some (omega arith) in
+    let low : 1 * length vs ≤ k * length vs = mul-le _ _ _ _ some (omega arith) in
     omega (arith, split_cost s 0 vs, split_cost s k vs, plain_length vs, quotients_least k vs, low)
 
 -- no k above 0 is shorter
-pub ended_at_plain : (s : CodeSet) (vs : List ℕ) (k : ℕ) (o : Choice) → (0 < splits s → sum vs < length vs) → LeadsTried s vs false 0 k o → k ≤ splits s → (k < splits s → k ≡ 1) → o ≡ chosen_option s vs
+pub ended_at_plain : (s : CodeSet) (vs : List ℕ) (k : ℕ) (o : Choice) → (0 < splits s → sum vs < length vs) → LeadsTried s vs false 0 k o → k ≤ splits s
+    → (k < splits s → k ≡ 1) → o ≡ chosen_option s vs
 ended_at_plain s vs k o small leads few last =
     leads_all leads few (λ some. some) (λ j lt. absurd (omega arith)) (λ e. absurd cc) (λ j from in_set.
     let end : k ≡ 1 = last (omega arith) in
@@ -67,4 +71,4 @@ pub some_splits : (s : CodeSet) → 1 < width s → 1 ≤ splits s
 some_splits s wide = (let most : 2 ^ 2 ≤ 2 ^ width s = pow-le-pow_right {n = 2} (lit< tt) {i = 2} {j = width s} wide in omega arith)
 
 pub no_splits : (s : CodeSet) → width s ≡ 1 → splits s ≡ 0
-no_splits s one = ap (λ (n : ℕ). 2 ^ n - 2) one
+no_splits s one = (λ i. 2 ^ one i - 2)

@@ -1,9 +1,8 @@
 -- Fundamental sequences that are read first, and judged all at once.
-use Rattle.std.proofs.Common.{◌≡◌, ℕ, zero, suc, ◌+◌, ◌<◌, ◌≤◌, Bool, List, [], ◌∷◌, length, take, set, bit_or, Result, Ok, sym, ap, subst, ◌∙◌, arith}
+use Rattle.std.proofs.Common.{◌≡◌, ℕ, zero, suc, ◌+◌, ◌<◌, ◌≤◌, Bool, List, [], ◌∷◌, length, take, set, bit_or, Ok, sym, ap, subst, ◌∙◌, arith}
 use Rattle.std.specs.List.{AllByRecursion}
 use Rattle.std.proofs.lemmas.List.{take_all, take_more_set}
 use Rattle.std.proofs.lemmas.Nat.{le_or_l, le_or_r}
-use Rattle.cube_core.specs.declared.fault.Fault.{Fault}
 use Rattle.cube_core.specs.Steps.{◌>>=◌}
 use Rattle.header_bits.proofs.Fronts.{bind_ok}
 use Rattle.header_bits.proofs.Reading.{ok_is}
@@ -15,8 +14,8 @@ use Rattle.header_bits.proofs.Items.{all_append, all_weaker}
 pub bound_more : (bound q i : ℕ) (vs : List ℕ) → i < length vs → AllByRecursion (λ v. v ≤ bound) (take i vs)
     → AllByRecursion (λ v. v ≤ bit_or bound q) (take (i + 1) (set vs i q))
 bound_more bound q i vs lt h =
-    let before = all_weaker (λ v. v ≤ bound) (λ v. v ≤ bit_or bound q) (λ v le. omega (arith, le_or_l bound q)) (take i vs) h in
-    rw (take_more_set vs i q lt) (all_append _ (take i vs) (q ∷ []) before (le_or_r bound q, tt))
+    let before = all_weaker (λ v. v ≤ bound) (λ v. v ≤ bit_or bound q) (λ v le. omega (arith, le_or_l bound q)) _ h in
+    rw (take_more_set _ _ _ lt) (all_append _ (take i vs) (q ∷ []) before (le_or_r _ _, tt))
 
 pub all_bound : (bound i : ℕ) (vs : List ℕ) → i ≡ length vs → AllByRecursion (λ v. v ≤ bound) (take i vs) → AllByRecursion (λ v. v ≤ bound) vs
 all_bound bound i vs same h = subst (λ (xs : List ℕ). AllByRecursion (λ v. v ≤ bound) xs) (take_all i vs (omega arith)) h
@@ -27,12 +26,11 @@ pub judged_within : (site : Site) (most more n : ℕ) (bits : List Bool) (x : Li
 unfolding quotients_at
 judged_within site most more zero bits x e h = e
 judged_within site most more (suc n) bits x e h =
-    let a = bind_ok (fundamental_at site more bits) (λ q. quotients_at site more n q.1 >>= λ qs. Ok (q.0 ∷ qs.0, qs.1)) x e in
-    let b = bind_ok (quotients_at site more n a.0.1) (λ qs. Ok (a.0.0 ∷ qs.0, qs.1)) x a.2 in
-    let is = ok_is (a.0.0 ∷ b.0.0, b.0.1) x b.2 in
+    let a = bind_ok _ (λ q. quotients_at site more n q.1 >>= λ qs. Ok (q.0 ∷ qs.0, qs.1)) _ e in
+    let b = bind_ok _ _ _ a.2 in
+    let is = ok_is (a.0.0 ∷ b.0.0, b.0.1) _ b.2 in
     let all : AllByRecursion (λ v. v ≤ most) (a.0.0 ∷ b.0.0) = subst (λ (y : List ℕ × List Bool). AllByRecursion (λ v. v ≤ most) y.0) (sym is) h in
-    let first : fundamental_at site most bits ≡ Ok a.0 = ap (fundamental_at site most) (fundamental_takes site more bits a.0 a.1).0
-    ∙ fundamental_again site most a.0.0 a.0.1 all.0 in
+    let first : fundamental_at site most bits ≡ Ok a.0 = ap (fundamental_at site most) (fundamental_takes _ _ _ a.0 a.1).0
+    ∙ fundamental_again _ _ a.0.0 a.0.1 all.0 in
     let others = judged_within site most more n a.0.1 b.0 b.1 all.1 in
-    ap (λ (r : Result (ℕ × List Bool) Fault). r >>= λ q. quotients_at site most n q.1 >>= λ qs. Ok (q.0 ∷ qs.0, qs.1)) first
-    ∙ ap (λ (r : Result (List ℕ × List Bool) Fault). r >>= λ qs. Ok (a.0.0 ∷ qs.0, qs.1)) others ∙ b.2
+    ap (λ r. r >>= λ q. quotients_at site most n q.1 >>= λ qs. Ok (q.0 ∷ qs.0, qs.1)) first ∙ ap (λ r. r >>= λ qs. Ok (a.0.0 ∷ qs.0, qs.1)) others ∙ b.2

@@ -25,7 +25,7 @@ room_left v few = block_left v.cut.size v.cut.count (v.start + v.zeros) (length 
 pub last_left : (v : Packed) → length v.held + 1 ≡ v.cut.size → EndsBlock v
 last_left v last =
     let whole : taken_count v + 1 ≡ (v.start + v.zeros + 1) * v.cut.size = omega (arith, last) in
-    rw whole (mul-mod_left (v.start + v.zeros + 1) v.cut.size)
+    rw whole (mul-mod_left _ _)
 
 pub ends_block : (v : Packed) (r : Result (Unit {0}) Fault) → length v.held + 1 ≡ v.cut.size → IfErr r (λ _. EndsBlock v)
 ends_block v (Ok x) last = tt

@@ -1,5 +1,5 @@
 -- Writing texts, part after part.
-use Rattle.std.proofs.Common.{◌≡◌, ℕ, zero, suc, ◌+◌, ◌-◌, ◌*◌, ◌/◌, ◌%◌, ◌^◌, ◌<◌, ◌≤◌, Bool, false, List, [], ◌∷◌, ◌++◌, length, drop, replicate, get_or, refl, sym, ap, ◌∙◌, arith, add-one, drop-cons}
+use Rattle.std.proofs.Common.{◌≡◌, ℕ, zero, suc, ◌+◌, ◌-◌, ◌*◌, ◌/◌, ◌%◌, ◌^◌, ◌<◌, ◌≤◌, false, List, [], ◌∷◌, ◌++◌, length, drop, replicate, get_or, refl, sym, ap, ◌∙◌, arith, add-one, drop-cons}
 use Rattle.std.proofs.lemmas.List.{length-append, drop_all}
 use Rattle.header_bits.specs.Bits.{bits_of, fundamental}
 use Rattle.header_bits.proofs.Numbers.{length-bits_of, bits_of_zero, bits_of_one, bits_of-fundamental, bits_of-mod}
@@ -12,7 +12,8 @@ use Rattle.header_bits.proofs.Zeros.{length-fundamental}
 
 -- ---- parts of a block
 
-pub quotient_next : (k i : ℕ) (block : List ℕ) → i < length block → quotient_codes k (drop i block) ≡ fundamental (get_or block i 0 / 2 ^ k) ++ quotient_codes k (drop (i + 1) block)
+pub quotient_next : (k i : ℕ) (block : List ℕ) → i < length block → quotient_codes k (drop i block) ≡ fundamental (get_or block i 0 / 2 ^ k) ++ quotient_codes k
+    (drop (i + 1) block)
 unfolding quotient_codes
 quotient_next k i block lt = rw (add-one, drop-cons block i 0 lt) refl
 
@@ -20,7 +21,8 @@ pub low_next : (k i : ℕ) (block : List ℕ) → i < length block → low_group
 unfolding low_groups
 low_next k i block lt = rw (add-one, drop-cons block i 0 lt) refl
 
-pub pair_next : (i : ℕ) (block : List ℕ) → 2 * i + 1 < length block → pair_codes (drop (2 * i) block) ≡ fundamental (pair_number (get_or block (2 * i) 0) (get_or block (2 * i + 1) 0)) ++ pair_codes (drop (2 * (i + 1)) block)
+pub pair_next : (i : ℕ) (block : List ℕ) → 2 * i + 1 < length block → pair_codes (drop (2 * i) block)
+    ≡ fundamental (pair_number (get_or block (2 * i) 0) (get_or block (2 * i + 1) 0)) ++ pair_codes (drop (2 * (i + 1)) block)
 unfolding pair_codes
 pair_next i block lt =
     let e : 2 * (i + 1) ≡ suc (suc (2 * i)) = omega arith in
@@ -29,8 +31,9 @@ pair_next i block lt =
     let first : 2 * i < length block = omega arith in
     rw (e, f, drop-cons block (2 * i) 0 first, drop-cons block (suc (2 * i)) 0 second) refl
 
-pub quotient_bits : (k i : ℕ) (block : List ℕ) → i < length block → quotient_codes k (drop i block) ≡ bits_of (get_or block i 0 / 2 ^ k + 1) 1 ++ quotient_codes k (drop (i + 1) block)
-quotient_bits k i block lt = quotient_next k i block lt ∙ ap (λ (bs : List Bool). bs ++ quotient_codes k (drop (i + 1) block)) (sym (bits_of-fundamental (get_or block i 0 / 2 ^ k)))
+pub quotient_bits : (k i : ℕ) (block : List ℕ) → i < length block → quotient_codes k (drop i block) ≡ bits_of (get_or block i 0 / 2 ^ k + 1) 1 ++ quotient_codes
+    k (drop (i + 1) block)
+quotient_bits k i block lt = quotient_next _ _ _ lt ∙ ap (λ bs. bs ++ quotient_codes k (drop (i + 1) block)) (sym (bits_of-fundamental _))
 
 pub quotient_end : (k i : ℕ) (block : List ℕ) → length block ≤ i → quotient_codes k (drop i block) ≡ []
 unfolding quotient_codes
@@ -60,16 +63,18 @@ identifier_split s k = refl
 
 pub identifier_zero : (s : CodeSet) → bits_of (width s + 1) 0 ≡ zero_identifier s
 unfolding zero_identifier
-identifier_zero s = bits_of_zero (width s + 1) ∙ ends (width s)
+identifier_zero s = bits_of_zero _ ∙ ends _
   where
     ends : (n : ℕ) → replicate (n + 1) false ≡ replicate n false ++ false ∷ []
     ends zero = refl
     ends (suc n) = (let e : suc n + 1 ≡ suc (n + 1) = omega arith in rw (e, ends n) refl)
 
-pub low_next_masked : (k i : ℕ) (block : List ℕ) → i < length block → low_groups k (drop i block) ≡ bits_of k (get_or block i 0 % 2 ^ k) ++ low_groups k (drop (i + 1) block)
-low_next_masked k i block lt = low_next k i block lt ∙ ap (λ (bs : List Bool). bs ++ low_groups k (drop (i + 1) block)) (sym (bits_of-mod k k (get_or block i 0) (omega arith)))
+pub low_next_masked : (k i : ℕ) (block : List ℕ) → i < length block → low_groups k (drop i block) ≡ bits_of k (get_or block i 0 % 2 ^ k) ++ low_groups k
+    (drop (i + 1) block)
+low_next_masked k i block lt = low_next _ _ _ lt ∙ ap (λ bs. bs ++ low_groups k (drop (i + 1) block)) (sym (bits_of-mod _ _ _ (omega arith)))
 
 -- ---- a run
 
 pub run_text_cost : (s : CodeSet) (n : ℕ) → length (run_text s (fundamental n)) ≡ width s + n + 2
-run_text_cost s n = omega (arith, length-append (zero_identifier s) (fundamental n), length-fundamental n, ap length (identifier_zero s), length-bits_of (width s + 1) 0)
+run_text_cost s n =
+    omega (arith, length-append (zero_identifier s) (fundamental n), length-fundamental n, ap length (identifier_zero s), length-bits_of (width s + 1) 0)

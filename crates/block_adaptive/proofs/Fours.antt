@@ -22,8 +22,7 @@ Within k limit qs = AllByRecursion (λ q. (q + 1) * 2 ^ k ≤ limit) qs
 -- all do, where the greatest does
 pub all_within : (k greatest limit : ℕ) (qs : List ℕ) → (greatest + 1) * 2 ^ k ≤ limit → AllByRecursion (λ q. q ≤ greatest) qs → Within k limit qs
 all_within k greatest limit qs within h =
-    all_weaker _ _
-    (λ q le. (let p = mul-le (q + 1) (2 ^ k) (greatest + 1) (2 ^ k) (omega arith) (omega arith) in omega arith)) qs h
+    all_weaker _ _ (λ q le. (let p = mul-le (q + 1) (2 ^ k) (greatest + 1) (2 ^ k) (omega arith) (omega arith) in omega arith)) qs h
 
 -- each of four does, though those before it are written over
 pub four_within : (k limit : ℕ) (xs : List ℕ) (r s t : ℕ) → length xs ≡ 4 → Within k limit xs
@@ -39,30 +38,29 @@ four_within k limit (a ∷ b ∷ c ∷ d ∷ e ∷ xs) r s t len h = absurd (ome
 -- ---- low bits among the highest bits of a word
 
 low_front : (site : Site) (k most q place next : ℕ) (bits : List Bool) (word : ℕ) → IsFront 57 bits word → place + k ≡ next → next ≤ 57
-    → (q + 1) * 2 ^ k ≤ most + 1
-    → low_at site k most q (drop place bits) ≡ Ok (q * 2 ^ k + word / 2 ^ (64 - next) % 2 ^ k, drop next bits)
+    → (q + 1) * 2 ^ k ≤ most + 1 → low_at site k most q (drop place bits) ≡ Ok (q * 2 ^ k + word / 2 ^ (64 - next) % 2 ^ k, drop next bits)
 unfolding low_at
 low_front site k most q place next bits word h e le within =
     let here : ℕ = word / 2 ^ (64 - (place + k)) in
-    let lt : here % 2 ^ k < 2 ^ k = mod-lt here (pow_pos k) in
+    let lt : here % 2 ^ k < 2 ^ k = mod-lt _ (pow_pos _) in
     let parts : (q + 1) * 2 ^ k ≡ q * 2 ^ k + 2 ^ k = omega arith in
     let few : ltb most (q * 2 ^ k + here % 2 ^ k) ≡ false = le-ltb _ _ (omega arith) in
     subst (λ (n : ℕ). low_at site k most q (drop place bits) ≡ Ok (q * 2 ^ k + word / 2 ^ (64 - n) % 2 ^ k, drop n bits)) e
     (rw (number_ahead site.count place k 57 bits word h (omega arith), few) refl)
 
 pub four_read : (site : Site) (k most : ℕ) (old new : List ℕ) (bits : List Bool) (word : ℕ) → IsFront 57 bits word → k ≤ 14 → length old ≡ 4
-    → Within k (most + 1) old
-    → ((a b c d : ℕ) → old ≡ a ∷ b ∷ c ∷ d ∷ [] → new ≡ joined_four k word a b c d) → lows_at site k most old bits ≡ Ok (new, drop (4 * k) bits)
+    → Within k (most + 1) old → ((a b c d : ℕ) → old ≡ a ∷ b ∷ c ∷ d ∷ [] → new ≡ joined_four k word a b c d) → lows_at site k most old bits
+    ≡ Ok (new, drop (4 * k) bits)
 unfolding lows_at
 four_read site k most [] new bits word h le len within are = absurd (omega arith)
 four_read site k most (a ∷ []) new bits word h le len within are = absurd (omega arith)
 four_read site k most (a ∷ b ∷ []) new bits word h le len within are = absurd (omega arith)
 four_read site k most (a ∷ b ∷ c ∷ []) new bits word h le len within are = absurd (omega arith)
 four_read site k most (a ∷ b ∷ c ∷ d ∷ []) new bits word h le len within are =
-    let first : low_at site k most a bits ≡ Ok (a * 2 ^ k + word / 2 ^ (64 - k) % 2 ^ k, drop k bits) =
-    low_front site k most a 0 k bits word h (omega arith) (omega arith) within.0 in
+    let first : low_at site k most a bits ≡ Ok (a * 2 ^ k + word / 2 ^ (64 - k) % 2 ^ k, drop k bits) = low_front site k most a 0 k bits word h (omega arith)
+    (omega arith) within.0 in
     rw (
-      are a b c d refl,
+      are _ _ _ _ refl,
       first,
       low_front site k most b k (2 * k) bits word h (omega arith) (omega arith) within.1.0,
       low_front site k most c (2 * k) (3 * k) bits word h (omega arith) (omega arith) within.1.1.0,
@@ -88,11 +86,11 @@ pub split_none : (site : Site) (k most n : ℕ) (bits left : List Bool) (qs : Li
     → split_at site k most n bits ≡ Ok (qs, left)
 unfolding split_at
 split_none site k most n bits left qs none read =
-    let takes = quotients_takes site (most / 2 ^ k) n bits (qs, left) read in
+    let takes = quotients_takes _ _ _ _ _ read in
     let whole : most / 2 ^ 0 ≡ most = omega arith in
     let small : AllByRecursion (λ q. q ≤ most) qs = rw (none, whole) at takes.all in
-    let here : lows_at site k most qs left ≡ Ok (qs, left) =
-    subst (λ (m : ℕ). lows_at site m most qs left ≡ Ok (qs, left)) (sym none) (all_none site most qs left small) in
+    let here : lows_at site k most qs left ≡ Ok (qs, left) = subst (λ (m : ℕ). lows_at site m most qs left ≡ Ok (qs, left)) (sym none)
+    (all_none _ _ _ _ small) in
     rw read here
 
 pub fours_behind : (k limit i n : ℕ) (vs new : List ℕ) → i + n ≤ length vs → length new ≡ n → Within k limit (drop i vs)
@@ -100,6 +98,5 @@ pub fours_behind : (k limit i n : ℕ) (vs new : List ℕ) → i + n ≤ length 
 fours_behind k limit i n vs new le long h =
     let behind : List ℕ = drop n (drop i vs) in
     let size : length (take i vs ++ new) ≡ i + n = omega (arith, length-append (take i vs) new, length-take i vs) in
-    let rest : drop (i + n) (take i vs ++ (new ++ behind)) ≡ behind = ap (drop (i + n)) (sym (append_assoc (take i vs) new behind))
-    ∙ drop_at (take i vs ++ new) behind (i + n) size in
-    rw rest (all_drop _ n (drop i vs) h)
+    let rest : drop (i + n) (take i vs ++ (new ++ behind)) ≡ behind = ap (drop (i + n)) (sym (append_assoc (take i vs) new behind)) ∙ drop_at _ _ _ size in
+    rw rest (all_drop _ n _ h)

@@ -15,10 +15,10 @@ module _ {w : Written} {was : List Bool} where
   pub appends_part : (held part n bits : ℕ) → bits < 2 ^ n → held + n ≤ 64 → bits_of held part ≡ was → length was + n ≤ w.room
       → Appends w was w (bits_of (held + n) (bit_or (part * 2 ^ n % 2 ^ 64) bits)) (bits_of n bits)
   appends_part held part n bits lt few is room =
-      let joined = pushed_behind held n part bits lt few ∙ ap (λ (x : List Bool). x ++ bits_of n bits) is in
+      let joined = pushed_behind _ _ _ _ lt few ∙ (λ i. is i ++ bits_of n bits) in
       record {
         writes = record {
-          appended = ap (λ (x : List Bool). w.bits ++ x) joined ∙ sym (append_assoc w.bits was (bits_of n bits));
+          appended = (λ i. w.bits ++ joined i) ∙ sym (append_assoc w.bits was (bits_of n bits));
           spent = omega (arith, ap length joined, length-append was (bits_of n bits));
         };
         fits = omega (arith, ap length joined, length-append was (bits_of n bits), length-bits_of n bits);
@@ -31,12 +31,10 @@ module _ {w : Written} {was : List Bool} where
       let rest : List Bool = bits_of (n - (64 - held)) bits in
       let high : List Bool = bits_of (64 - held) (bits / 2 ^ (n - (64 - held))) in
       let long : length was ≡ held = ap length (sym is) ∙ length-bits_of held part in
-      let front : new.bits ≡ (w.bits ++ was) ++ high =
-      pushed ∙ ap (λ (x : List Bool). w.bits ++ x) (filled ∙ ap (λ (x : List Bool). x ++ high) is) ∙ sym (append_assoc w.bits was high) in
+      let front : new.bits ≡ (w.bits ++ was) ++ high = pushed ∙ (λ i. w.bits ++ (filled ∙ ap (λ x. x ++ high) is) i) ∙ sym (append_assoc w.bits was high) in
       record {
         writes = record {
-          appended = ap (λ (x : List Bool). x ++ rest) front ∙ append_assoc (w.bits ++ was) high rest
-              ∙ ap (λ (x : List Bool). (w.bits ++ was) ++ x) (two_parts held n bits lt le);
+          appended = (λ i. front i ++ rest) ∙ append_assoc (w.bits ++ was) high rest ∙ (λ i. (w.bits ++ was) ++ (two_parts held n bits lt le) i);
           spent = omega (arith, spent, room, long, length-bits_of n bits, length-bits_of (n - (64 - held)) bits);
         };
         fits = omega (arith, spent, room, long, length-bits_of (n - (64 - held)) bits);
@@ -48,7 +46,7 @@ module _ {old mid new : Written} {was between now x y : List Bool} where
   pub appends_both : Appends old was mid between x → Appends mid between new now y → Appends old was new now (x ++ y)
   appends_both first second = record {
     writes = record {
-      appended = second.writes.appended ∙ ap (λ (bs : List Bool). bs ++ y) first.writes.appended ∙ append_assoc (old.bits ++ was) x y;
+      appended = second.writes.appended ∙ (λ i. first.writes.appended i ++ y) ∙ append_assoc (old.bits ++ was) x y;
       spent = omega (arith, first.writes.spent, second.writes.spent, length-append x y);
     };
     fits = second.fits;
@@ -65,7 +63,7 @@ first_fits x y n room h = omega (arith, length-append x y)
 module _ {old new last : Written} {now text : List Bool} where
   pub appends_end : Appends old [] new now text → Writes new last now → Writes old last text
   appends_end h w = record {
-    appended = w.appended ∙ h.writes.appended ∙ ap (λ (x : List Bool). x ++ text) (append-nil old.bits);
+    appended = w.appended ∙ h.writes.appended ∙ (λ i. (append-nil old.bits) i ++ text);
     spent = omega (arith, w.spent, h.writes.spent, h.fits);
   }
 
@@ -89,8 +87,7 @@ module _ {old : Written} {was : List Bool} where
     pub goes_step : {next : Written} {after text : List Bool} → (rest : List Bool) → Goes old was now part whole left → left ≡ text ++ rest
         → Appends now part next after text → Goes old was next after whole rest
     goes_step {text = text} rest h is w = record {
-      text = ap (λ (bs : List Bool). bs ++ rest) w.writes.appended ∙ append_assoc (now.bits ++ part) text rest
-          ∙ ap (λ (bs : List Bool). (now.bits ++ part) ++ bs) (sym is) ∙ h.text;
+      text = (λ i. w.writes.appended i ++ rest) ∙ append_assoc (now.bits ++ part) text rest ∙ (λ i. (now.bits ++ part) ++ (sym is) i) ∙ h.text;
       room = omega (arith, h.room, w.writes.spent, ap length is, length-append text rest);
       fits = w.fits;
     }
@@ -98,7 +95,7 @@ module _ {old : Written} {was : List Bool} where
     pub goes_end : Goes old was now part whole left → left ≡ [] → Appends old was now part whole
     goes_end h is = record {
       writes = record {
-        appended = sym (append-nil (now.bits ++ part)) ∙ ap (λ (bs : List Bool). (now.bits ++ part) ++ bs) (sym is) ∙ h.text;
+        appended = sym (append-nil (now.bits ++ part)) ∙ (λ i. (now.bits ++ part) ++ (sym is) i) ∙ h.text;
         spent = omega (arith, h.room, ap length is);
       };
       fits = h.fits;
@@ -109,17 +106,19 @@ module _ {old : Written} {was : List Bool} where
 some_of : (i n : ℕ) (block : List ℕ) → drop i block ≡ take (i + n - i) (drop i block) ++ drop (i + n) block
 some_of i n block =
     let e : i + n - i ≡ n = omega arith in
-    rw e (sym (take-append-drop n (drop i block)) ∙ ap (λ (x : List ℕ). take n (drop i block) ++ x) (drop-drop n i block))
+    rw e (sym (take-append-drop _ _) ∙ (λ j. take n (drop i block) ++ (drop-drop n i block) j))
 
-pub quotients_of_some : (k i n : ℕ) (block : List ℕ) → quotient_codes k (drop i block) ≡ quotient_codes k (take (i + n - i) (drop i block)) ++ quotient_codes k (drop (i + n) block)
+pub quotients_of_some : (k i n : ℕ) (block : List ℕ) → quotient_codes k (drop i block) ≡ quotient_codes k (take (i + n - i) (drop i block)) ++ quotient_codes k
+    (drop (i + n) block)
 unfolding quotient_codes
-quotients_of_some k i n block = ap (quotient_codes k) (some_of i n block) ∙ flat_map-append (λ v. fundamental (v / 2 ^ k)) (take (i + n - i) (drop i block)) (drop (i + n) block)
+quotients_of_some k i n block = ap (quotient_codes k) (some_of i n block) ∙ flat_map-append (λ v. fundamental (v / 2 ^ k)) _ _
 
-pub lows_of_some : (k i n : ℕ) (block : List ℕ) → low_groups k (drop i block) ≡ low_groups k (take (i + n - i) (drop i block)) ++ low_groups k (drop (i + n) block)
+pub lows_of_some : (k i n : ℕ) (block : List ℕ) → low_groups k (drop i block) ≡ low_groups k (take (i + n - i) (drop i block)) ++ low_groups k
+    (drop (i + n) block)
 unfolding low_groups
-lows_of_some k i n block = ap (low_groups k) (some_of i n block) ∙ flat_map-append (λ v. bits_of k v) (take (i + n - i) (drop i block)) (drop (i + n) block)
+lows_of_some k i n block = ap (low_groups k) (some_of i n block) ∙ flat_map-append (λ v. bits_of k v) _ _
 
 pub lows_length : (k i n : ℕ) (block : List ℕ) → i + n ≤ length block → length (low_groups k (take (i + n - i) (drop i block))) ≡ n * k
 lows_length k i n block le =
     let size : length (take (i + n - i) (drop i block)) ≡ n = omega (arith, length-take (i + n - i) (drop i block), length-drop i block) in
-    length-low_groups k (take (i + n - i) (drop i block)) ∙ rw size (omega arith)
+    length-low_groups _ _ ∙ rw size (omega arith)

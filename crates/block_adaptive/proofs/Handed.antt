@@ -1,5 +1,5 @@
 -- What a reader has in hand.
-use Rattle.std.proofs.Common.{◌≡◌, ℕ, ◌+◌, ◌-◌, ◌*◌, ◌<◌, ◌≤◌, Bool, List, [], ◌∷◌, ◌++◌, take, drop, None, Ok, ◌/◌, inl, refl, sym, ap, ◌∙◌, arith, append_assoc}
+use Rattle.std.proofs.Common.{◌≡◌, ℕ, ◌+◌, ◌-◌, ◌*◌, ◌<◌, ◌≤◌, Bool, List, [], ◌∷◌, ◌++◌, take, drop, None, Ok, ◌/◌, inl, refl, sym, ap, ◌∙◌, arith, append_assoc, replicate}
 use Rattle.std.proofs.lemmas.List.{append-nil}
 use Rattle.std.proofs.lemmas.Nat.{mul-le}
 use Rattle.header_bits.specs.Bits.{Unread}
@@ -50,44 +50,49 @@ run_parts c i given counted n h le most = record {
 
 -- ---- data sets in hand
 
-pub run_held : (v : Unpacked) (reader : Unread) (n : ℕ) (values : List ℕ) (left : List Bool) → data_set_at (site_of reader v.block) v.cut.set v.cut.size (left_at v.cut v.block) reader.left ≡ Ok (Run n, left)
+-- n zero blocks
+pub zeros_held : (v : Unpacked) (reader : Unread) (n : ℕ) (t : CodedDataSet) (values : List ℕ) (left : List Bool)
+    → holding v t ≡ record v { block = v.block + n; held = values_of (replicate n (zeros v.cut.size)) }
+    → data_set_at (site_of reader v.block) v.cut.set v.cut.size (left_at v.cut v.block) reader.left ≡ Ok (t, left)
     → next_data_set v reader ≡ Ok (record v { block = v.block + n; held = drop v.cut.size (take v.cut.size values) ++ zeros (n * v.cut.size) }, left)
-run_held v reader n values left e = rw e (ap (λ (held : List ℕ). Ok (record v { block = v.block + n; held = held }, left)) (run_in_hand n v.cut.size values))
-
-pub rest_held : (v : Unpacked) (reader : Unread) (values : List ℕ) (left : List Bool) → data_set_at (site_of reader v.block) v.cut.set v.cut.size (left_at v.cut v.block) reader.left ≡ Ok (RestOfSegment, left)
-    → next_data_set v reader ≡ Ok (record v { block = v.block + left_at v.cut v.block; held = drop v.cut.size (take v.cut.size values) ++ zeros (left_at v.cut v.block * v.cut.size) }, left)
-rest_held v reader values left e = rw e (ap (λ (held : List ℕ). Ok (record v { block = v.block + left_at v.cut v.block; held = held }, left)) (run_in_hand (left_at v.cut v.block) v.cut.size values))
+zeros_held v reader n t values left is e =
+    let held = run_in_hand n v.cut.size values in rw e (λ i. Ok ((is ∙ (λ j. record v { block = v.block + n; held = held j })) i, left))
 
 -- ---- one data set more
 
-pub data_sets_push : (c : Cut) (i j : ℕ) (data_sets : List CodedDataSet) (t : CodedDataSet) → AreCodedDataSets c i data_sets j → IsCodedDataSet c.set c.size (left_at c j) t → AreCodedDataSets c i (data_sets ++ t ∷ []) (j + blocks_in (left_at c j) t)
+pub data_sets_push : (c : Cut) (i j : ℕ) (data_sets : List CodedDataSet) (t : CodedDataSet) → AreCodedDataSets c i data_sets j
+    → IsCodedDataSet c.set c.size (left_at c j) t → AreCodedDataSets c i (data_sets ++ t ∷ []) (j + blocks_in (left_at c j) t)
 unfolding AreCodedDataSets
 data_sets_push c i j [] t h lawful = rw h (lawful, refl)
 data_sets_push c i j (u ∷ data_sets) t h lawful = (h.0, data_sets_push c (i + blocks_in (left_at c i) u) j data_sets t h.1 lawful)
 
-pub told_push : (c : Cut) (i j : ℕ) (data_sets : List CodedDataSet) (t : CodedDataSet) → AreCodedDataSets c i data_sets j → blocks_told c i (data_sets ++ t ∷ []) ≡ blocks_told c i data_sets ++ blocks_of c.size (left_at c j) t
+pub told_push : (c : Cut) (i j : ℕ) (data_sets : List CodedDataSet) (t : CodedDataSet) → AreCodedDataSets c i data_sets j
+    → blocks_told c i (data_sets ++ t ∷ []) ≡ blocks_told c i data_sets ++ blocks_of c.size (left_at c j) t
 unfolding AreCodedDataSets blocks_told
 told_push c i j [] t h = rw h (append-nil (blocks_of c.size (left_at c j) t))
 told_push c i j (u ∷ data_sets) t h =
-    ap (λ (bs : List (List ℕ)). blocks_of c.size (left_at c i) u ++ bs) (told_push c (i + blocks_in (left_at c i) u) j data_sets t h.1)
-    ∙ sym (append_assoc (blocks_of c.size (left_at c i) u) (blocks_told c (i + blocks_in (left_at c i) u) data_sets) (blocks_of c.size (left_at c j) t))
+    (λ m. blocks_of c.size (left_at c i) u ++ (told_push c (i + blocks_in (left_at c i) u) j data_sets t h.1) m)
+    ∙ sym (append_assoc (blocks_of c.size (left_at c i) u) (blocks_told c (i + blocks_in (left_at c i) u) data_sets) _)
 
 -- ---- what was given
 
-pub data_set_given : (v : Unpacked) (reader : Unread) (given : List ℕ) (bits left : List Bool) (t : CodedDataSet) → IsCut v.cut → v.block < v.cut.count → v.held ≡ [] → HasGiven v given bits
-    → data_set_at (site_of reader v.block) v.cut.set v.cut.size (left_at v.cut v.block) reader.left ≡ Ok (t, left) → (reader.left ≡ spelled v.cut.set t ++ left) × HasGiven (holding v t) given (bits ++ spelled v.cut.set t)
+pub data_set_given : (v : Unpacked) (reader : Unread) (given : List ℕ) (bits left : List Bool) (t : CodedDataSet) → IsCut v.cut → v.block < v.cut.count
+    → v.held ≡ [] → HasGiven v given bits
+    → data_set_at (site_of reader v.block) v.cut.set v.cut.size (left_at v.cut v.block) reader.left ≡ Ok (t, left)
+    → (reader.left ≡ spelled v.cut.set t ++ left) × HasGiven (holding v t) given (bits ++ spelled v.cut.set t)
 data_set_given v reader given bits left t cut more none h e =
-    let half = size_halved v.cut.size cut.size in
-    let pos = rest_least v.cut.reference v.cut.count v.block cut.reference.0 more in
+    let half = size_halved _ cut.size in
+    let pos = rest_least _ _ _ cut.reference.0 more in
     let found = data_set_is_taken (site_of reader v.block) v.cut.set (v.cut.size / 2) (left_at v.cut v.block) t reader.left left pos (rw half e) in
     let lawful : IsCodedDataSet v.cut.set v.cut.size (left_at v.cut v.block) t = rw half at found.1 in (
       found.0,
       record {
         data_sets = h.data_sets ++ t ∷ [];
         lawful = data_sets_push v.cut 0 v.block h.data_sets t h.lawful lawful;
-        text = ap (λ (bs : List Bool). bs ++ spelled v.cut.set t) h.text ∙ sym (flat_map-append (spelled v.cut.set) h.data_sets (t ∷ []) ∙ ap (λ (bs : List Bool). spelling v.cut.set h.data_sets ++ bs) (append-nil (spelled v.cut.set t)));
-        told = ap values_of (told_push v.cut 0 v.block h.data_sets t h.lawful) ∙ flat_map-append (λ b. b) (blocks_told v.cut 0 h.data_sets) (blocks_of v.cut.size (left_at v.cut v.block) t)
-            ∙ ap (λ (vs : List ℕ). vs ++ values_of (blocks_of v.cut.size (left_at v.cut v.block) t)) (h.told ∙ ap (λ (held : List ℕ). given ++ held) none ∙ append-nil given);
+        text = ap (λ bs. bs ++ spelled v.cut.set t) h.text
+            ∙ sym (flat_map-append _ h.data_sets _ ∙ ap (λ bs. spelling v.cut.set h.data_sets ++ bs) (append-nil _));
+        told = ap values_of (told_push _ _ _ h.data_sets _ h.lawful) ∙ flat_map-append _ (blocks_told v.cut 0 h.data_sets) _
+            ∙ ap (λ vs. vs ++ values_of (blocks_of v.cut.size (left_at v.cut v.block) t)) (h.told ∙ ap (λ held. given ++ held) none ∙ append-nil _);
         working = h.working;
       },
     )

@@ -18,14 +18,14 @@ uses : (a b : Ahead) (text left : List Bool) → b.peeked ≡ a.peeked → b.kno
     → IsAhead a left → Uses a b text left
 uses a b text left same size is h =
     let behind : List Bool = bits_of b.known b.word ++ drop b.peeked left in
-    let whole : drop (used a) left ≡ text ++ behind = h.bits ∙ ap (λ (x : List Bool). x ++ drop a.peeked left) is
-    ∙ append_assoc text (bits_of b.known b.word) (drop a.peeked left) ∙ ap (λ (n : ℕ). text ++ (bits_of b.known b.word ++ drop n left)) (sym same) in
+    let whole : drop (used a) left ≡ text ++ behind = h.bits ∙ (λ i. is i ++ drop a.peeked left) ∙ append_assoc text (bits_of b.known b.word)
+    (drop a.peeked left) ∙ (λ i. text ++ (bits_of b.known b.word ++ drop ((sym same) i) left)) in
     let place : used a + length text ≡ used b = omega (arith, h.few) in
-    let rest : drop (used b) left ≡ behind = ap (λ (n : ℕ). drop n left) (sym place) ∙ sym (drop-drop (length text) (used a) left)
-    ∙ ap (drop (length text)) whole ∙ drop_at text behind (length text) refl in
+    let rest : drop (used b) left ≡ behind = (λ i. drop ((sym place) i) left) ∙ sym (drop-drop (length text) (used a) left) ∙ ap (drop (length text)) whole
+    ∙ drop_at text _ _ refl in
     record {
       ahead = record { few = omega (arith, h.few); most = omega (arith, h.most); enough = omega (arith, h.enough); bits = rest };
-      text = whole ∙ ap (λ (x : List Bool). text ++ x) (sym rest);
+      text = whole ∙ (λ i. text ++ (sym rest) i);
     }
 
 -- ---- the first one of a word
@@ -38,9 +38,8 @@ code_used a j left top h =
     let size : z + 1 + j ≡ a.known = omega (arith, top.inside) in
     let one : 1 * 2 ^ j ≡ 2 ^ j = omega arith in
     let is : bits_of a.known a.word ≡ fundamental z ++ bits_of j (a.word - 2 ^ j) =
-    subst (λ (p : ℕ). bits_of a.known a.word ≡ fundamental z ++ bits_of j (a.word - p)) one
-    (ap (λ (n : ℕ). bits_of n a.word) (sym size) ∙ parts (z + 1) j 1 a.word (omega (arith, top.least)) (omega (arith, top.most))
-    ∙ ap (λ (x : List Bool). x ++ bits_of j (a.word - 1 * 2 ^ j)) (bits_of-fundamental z)) in
+    subst (λ (p : ℕ). bits_of a.known a.word ≡ fundamental z ++ bits_of j (a.word - p)) one (ap (λ n. bits_of n a.word) (sym size)
+    ∙ parts (z + 1) j 1 a.word (omega (arith, top.least)) (omega (arith, top.most)) ∙ ap (λ x. x ++ bits_of j (a.word - 1 * 2 ^ j)) (bits_of-fundamental _)) in
     uses a (record { peeked = a.peeked; known = j; word = a.word - 2 ^ j }) (fundamental z) left refl (omega (arith, length-fundamental z)) is h
 
 -- and what is ahead behind it
@@ -53,13 +52,8 @@ pub looked : (n word : ℕ) (left after : List Bool) → n ≤ 57 → n ≤ leng
     → IsAhead (record { peeked = n; known = n; word = word }) left
 looked n word left after most enough is =
     let none : n - n ≡ 0 = omega arith in
-    let behind : drop n left ≡ after = ap (drop n) is ∙ drop_at (bits_of n word) after n (length-bits_of n word) in
-    record {
-      few = omega arith;
-      most = most;
-      enough = enough;
-      bits = ap (λ (k : ℕ). drop k left) none ∙ is ∙ ap (λ (x : List Bool). bits_of n word ++ x) (sym behind);
-    }
+    let behind : drop n left ≡ after = ap (drop n) is ∙ drop_at _ _ _ (length-bits_of _ _) in
+    record { few = omega arith; most = most; enough = enough; bits = (λ i. drop (none i) left) ∙ is ∙ (λ i. bits_of n word ++ (sym behind) i) }
 
 pub looked_word : (left : List Bool) (word : ℕ) → word < 2 ^ 64 → IsFront 57 left word → 57 ≤ length left
     → IsAhead (record { peeked = 57; known = 57; word = word / 2 ^ 7 }) left × IsWord (record { peeked = 57; known = 57; word = word / 2 ^ 7 })
@@ -67,7 +61,7 @@ looked_word left word below h enough =
     (looked 57 (word / 2 ^ 7) left (drop 57 left) (omega arith) enough (h 57 (omega arith)), record { few = omega arith; below = shr_below word 57 7 below })
 
 pub looked_nowhere : (left : List Bool) → IsAhead (record { peeked = 0; known = 0; word = 0 }) left
-looked_nowhere left = looked 0 0 left left (omega arith) (omega arith) (ap (λ (x : List Bool). x ++ left) (sym (no_bits 0)))
+looked_nowhere left = looked 0 0 left left (omega arith) (omega arith) ((λ i. (sym (no_bits 0)) i ++ left))
 
 -- ---- what they are read as
 
@@ -83,9 +77,9 @@ Reading = List Bool → Result (ℕ × List Bool) Fault
 -- what is read out of the bits that were looked at anew
 pub read_fresh : (f : Reading) (m : ℕ) (was a b : Ahead) (old left : List Bool) → left ≡ drop (used was) old → used a ≡ 0
     → f (drop (used a) left) ≡ Ok (m, drop (used b) left) → f (drop (used was) old) ≡ Ok (m, drop (used b) left)
-read_fresh f m was a b old left is unused e = ap f (sym is) ∙ ap (λ (n : ℕ). f (drop n left)) (sym unused) ∙ e
+read_fresh f m was a b old left is unused e = ap f (sym is) ∙ (λ i. f (drop ((sym unused) i) left)) ∙ e
 
 -- what is read by itself, before a look at the bits behind it
 pub read_alone : (f : Reading) (m : ℕ) (was b : Ahead) (old left after : List Bool) → left ≡ drop (used was) old → used b ≡ 0 → f left ≡ Ok (m, after)
     → f (drop (used was) old) ≡ Ok (m, drop (used b) after)
-read_alone f m was b old left after is unused e = ap f (sym is) ∙ e ∙ ap (λ (n : ℕ). Ok (m, drop n after)) (sym unused)
+read_alone f m was b old left after is unused e = ap f (sym is) ∙ e ∙ (λ i. Ok (m, drop ((sym unused) i) after))

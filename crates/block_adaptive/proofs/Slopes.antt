@@ -12,12 +12,14 @@ use Rattle.header_bits.proofs.Zeros.{length-fundamental}
 
 -- ---- the quotients of a block
 
-falls_sum : (k : ℕ) (vs : List ℕ) → length (quotient_codes 0 vs) + 2 * 2 ^ k * length (quotient_codes (suc k) vs) ≤ 2 * 2 ^ k * length (quotient_codes k vs) + 2 * 2 ^ k * length vs
+falls_sum : (k : ℕ) (vs : List ℕ) → length (quotient_codes 0 vs) + 2 * 2 ^ k * length (quotient_codes (suc k) vs) ≤ 2 * 2 ^ k * length
+    (quotient_codes k vs) + 2 * 2 ^ k * length vs
 unfolding quotient_codes
 falls_sum k [] = omega arith
 falls_sum k (v ∷ vs) = rw (quotients_cons 0 v vs, quotients_cons k v vs, quotients_cons (suc k) v vs) (omega (arith, falls_one v k, falls_sum k vs))
 
-rises_sum : (k : ℕ) (vs : List ℕ) → 2 * 2 ^ k * length (quotient_codes k vs) + length vs ≤ 2 * 2 ^ k * length (quotient_codes (suc k) vs) + length (quotient_codes 0 vs) + 2 ^ k * length vs
+rises_sum : (k : ℕ) (vs : List ℕ) → 2 * 2 ^ k * length (quotient_codes k vs) + length vs ≤ 2 * 2 ^ k * length (quotient_codes (suc k) vs) + length
+    (quotient_codes 0 vs) + 2 ^ k * length vs
 unfolding quotient_codes
 rises_sum k [] = omega arith
 rises_sum k (v ∷ vs) = rw (quotients_cons 0 v vs, quotients_cons k v vs, quotients_cons (suc k) v vs) (omega (arith, rises_one v k, rises_sum k vs))
@@ -25,23 +27,26 @@ rises_sum k (v ∷ vs) = rw (quotients_cons 0 v vs, quotients_cons k v vs, quoti
 -- ---- the cost
 
 -- up to a k under which the values' sum is great, each next k is shorter
-falls : (s : CodeSet) (k most sum : ℕ) (vs : List ℕ) → length (quotient_codes 0 vs) ≡ sum + length vs → length vs * 2 ^ suc most < sum → suc k ≤ most → cost s (Split (suc k)) vs < cost s (Split k) vs
+falls : (s : CodeSet) (k most sum : ℕ) (vs : List ℕ) → length (quotient_codes 0 vs) ≡ sum + length vs → length vs * 2 ^ suc most < sum → suc k ≤ most
+    → cost s (Split (suc k)) vs < cost s (Split k) vs
 falls s k most sum vs whole great le =
     let h : ℕ = 2 ^ k in
     let q : ℕ = length (quotient_codes k vs) in
     let r : ℕ = length (quotient_codes (suc k) vs) in
-    elim (cases_lt (cost s (Split (suc k)) vs) (cost s (Split k) vs)) [
+    elim (cases_lt (cost s (Split (suc k)) vs) _) [
       | inl lt ↦ lt
       | inr ge ↦
           (let near : q ≤ r + length vs = omega (arith, split_cost s k vs, split_cost s (suc k) vs) in
-          let times : h * q ≤ h * (r + length vs) = mul-le h q h (r + length vs) (omega arith) near in
+          let times : h * q ≤ h * (r + length vs) = mul-le _ _ _ _ (omega arith) near in
           let four : 2 ^ suc (suc k) ≡ 4 * h = (let a = pow-succ' 2 k in let b = pow-succ' 2 (suc k) in omega arith) in
-          let wide : 4 * h ≤ 2 ^ suc most = subst (λ (p : ℕ). p ≤ 2 ^ suc most) four (pow-le-pow_right {n = 2} (lit< tt) {i = suc (suc k)} {j = suc most} (omega arith)) in
-          let all : length vs * (4 * h) ≤ length vs * 2 ^ suc most = mul-le (length vs) (4 * h) (length vs) (2 ^ suc most) (omega arith) wide in
+          let wide : 4 * h ≤ 2 ^ suc most = subst (λ (p : ℕ). p ≤ 2 ^ suc most) four (pow-le-pow_right {n = 2} (lit< tt) {i = suc (suc k)} {j = suc most}
+          (omega arith)) in
+          let all : length vs * (4 * h) ≤ length vs * 2 ^ suc most = mul-le _ _ _ (2 ^ suc most) (omega arith) wide in
           absurd (omega (arith, falls_sum k vs)))
     ]
 
-pub falls_to : (s : CodeSet) (n j most sum : ℕ) (vs : List ℕ) → length (quotient_codes 0 vs) ≡ sum + length vs → length vs * 2 ^ suc most < sum → n ≤ most → j < n → cost s (Split n) vs < cost s (Split j) vs
+pub falls_to : (s : CodeSet) (n j most sum : ℕ) (vs : List ℕ) → length (quotient_codes 0 vs) ≡ sum + length vs → length vs * 2 ^ suc most < sum → n ≤ most
+    → j < n → cost s (Split n) vs < cost s (Split j) vs
 falls_to s zero j most sum vs whole great le lt = absurd (omega arith)
 falls_to s (suc n) j most sum vs whole great le lt =
     let last = falls s n most sum vs whole great le in
@@ -51,7 +56,8 @@ falls_to s (suc n) j most sum vs whole great le lt =
     ]
 
 -- from a k above which the values' sum is small, no next k is shorter
-rises : (s : CodeSet) (k sum : ℕ) (vs : List ℕ) → length (quotient_codes 0 vs) ≡ sum + length vs → sum ≤ length vs * 2 ^ k → cost s (Split k) vs ≤ cost s (Split (suc k)) vs
+rises : (s : CodeSet) (k sum : ℕ) (vs : List ℕ) → length (quotient_codes 0 vs) ≡ sum + length vs → sum ≤ length vs * 2 ^ k
+    → cost s (Split k) vs ≤ cost s (Split (suc k)) vs
 rises s k sum vs whole small =
     let h : ℕ = 2 ^ k in
     let q : ℕ = length (quotient_codes k vs) in
@@ -64,12 +70,13 @@ rises s k sum vs whole small =
       | inr ge ↦ omega (arith, split_cost s k vs, split_cost s (suc k) vs)
     ]
 
-pub rises_from : (s : CodeSet) (more k sum : ℕ) (vs : List ℕ) → length (quotient_codes 0 vs) ≡ sum + length vs → sum ≤ length vs * 2 ^ k → cost s (Split k) vs ≤ cost s (Split (more + k)) vs
+pub rises_from : (s : CodeSet) (more k sum : ℕ) (vs : List ℕ) → length (quotient_codes 0 vs) ≡ sum + length vs → sum ≤ length vs * 2 ^ k
+    → cost s (Split k) vs ≤ cost s (Split (more + k)) vs
 rises_from s zero k sum vs whole small = (let e : 0 + k ≡ k = omega arith in rw e (omega arith))
 rises_from s (suc more) k sum vs whole small =
     let e : suc more + k ≡ suc (more + k) = omega arith in
     let wide : 2 ^ k ≤ 2 ^ (more + k) = pow-le-pow_right {n = 2} (lit< tt) {i = k} {j = more + k} (omega arith) in
-    let all : length vs * 2 ^ k ≤ length vs * 2 ^ (more + k) = mul-le (length vs) (2 ^ k) (length vs) (2 ^ (more + k)) (omega arith) wide in
+    let all : length vs * 2 ^ k ≤ length vs * 2 ^ (more + k) = mul-le _ _ _ _ (omega arith) wide in
     let last = rises s (more + k) sum vs whole (omega arith) in
     rw e (omega (arith, last, rises_from s more k sum vs whole small))
 

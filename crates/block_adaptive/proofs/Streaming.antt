@@ -9,7 +9,8 @@ use Rattle.block_adaptive.specs.Chosen.{chosen_option, is_zero, zero_blocks, dat
 
 -- a data set stands for a block or more
 data_set_least : (s : CodeSet) (left : ℕ) (b : List ℕ) (bs : List (List ℕ)) → 1 ≤ blocks_in left (data_set_of s left b bs)
-data_set_least s left b bs = go (zero_blocks left (b ∷ bs)) (eqb (zero_blocks left (b ∷ bs)) 0) (eqb (zero_blocks left (b ∷ bs)) left) (leb 5 (zero_blocks left (b ∷ bs))) refl refl
+data_set_least s left b bs =
+    go (zero_blocks left (b ∷ bs)) (eqb (zero_blocks left (b ∷ bs)) 0) (eqb (zero_blocks left (b ∷ bs)) left) (leb 5 (zero_blocks left (b ∷ bs))) refl refl
   where
     go : (k : ℕ) (d e f : Bool) → eqb k 0 ≡ d → eqb k left ≡ e → 1 ≤ blocks_in left (cond d (Block (chosen_option s b) b) (cond (e && f) RestOfSegment (Run k)))
     go k true e f p q = omega arith
@@ -31,7 +32,7 @@ enough c (suc n) (suc m) i (b ∷ bs) h k =
     let t : CodedDataSet = data_set_of c.set left b bs in
     let some = data_set_least c.set left b bs in
     let len = length-drop (blocks_in left t) (b ∷ bs) in
-    ap (λ (ts : List CodedDataSet). t ∷ ts) (enough c n m (i + blocks_in left t) (drop (blocks_in left t) (b ∷ bs)) (omega arith) (omega arith))
+    ap (λ ts. t ∷ ts) (enough c n m (i + blocks_in left t) (drop (blocks_in left t) (b ∷ bs)) (omega arith) (omega arith))
 
 pub zero_is : (size : ℕ) → is_zero (replicate size 0) ≡ true
 zero_is zero = refl
@@ -39,7 +40,8 @@ zero_is (suc size) = zero_is size
 
 -- ---- runs
 
-pub run_broken : (size left z : ℕ) (x : List ℕ) (bs : List (List ℕ)) → is_zero x ≡ false → z ≤ left → zero_blocks left (replicate z (replicate size 0) ++ x ∷ bs) ≡ z
+pub run_broken : (size left z : ℕ) (x : List ℕ) (bs : List (List ℕ)) → is_zero x ≡ false → z ≤ left
+    → zero_blocks left (replicate z (replicate size 0) ++ x ∷ bs) ≡ z
 run_broken size zero z x bs h le = omega arith
 run_broken size (suc left) zero x bs h le = rw h refl
 run_broken size (suc left) (suc z) x bs h le = rw (zero_is size, run_broken size left z x bs h (omega arith)) refl
@@ -49,7 +51,8 @@ run_whole size zero bs = refl
 run_whole size (suc left) bs = rw (zero_is size, run_whole size left bs) refl
 
 -- a block that isn't zeros is written at once
-pub block_next : (c : Cut) (n i : ℕ) (x : List ℕ) (bs : List (List ℕ)) → 1 ≤ segment_rest c.reference c.count i → is_zero x ≡ false → chosen_from c (suc n) i (x ∷ bs) ≡ Block (chosen_option c.set x) x ∷ chosen_from c n (i + 1) bs
+pub block_next : (c : Cut) (n i : ℕ) (x : List ℕ) (bs : List (List ℕ)) → 1 ≤ segment_rest c.reference c.count i → is_zero x ≡ false
+    → chosen_from c (suc n) i (x ∷ bs) ≡ Block (chosen_option c.set x) x ∷ chosen_from c n (i + 1) bs
 unfolding chosen_from
 block_next c n i x bs pos h =
     let none : zero_blocks (segment_rest c.reference c.count i) (x ∷ bs) ≡ 0 = run_broken 0 (segment_rest c.reference c.count i) 0 x bs h (omega arith) in
@@ -64,7 +67,7 @@ run_next c n i z x bs lt h =
     let k : zero_blocks left (replicate (suc z) (replicate c.size 0) ++ x ∷ bs) ≡ suc z = run_broken c.size left (suc z) x bs h (omega arith) in
     let a : eqb (suc z) 0 ≡ false = ne_eqb _ _ (λ e. omega arith) in
     let b : eqb (suc z) left ≡ false = ne_eqb _ _ (λ e. omega arith) in
-    rw (k, a, b, drop_at (replicate z (replicate c.size 0)) (x ∷ bs) z (length-replicate z (replicate c.size 0))) refl
+    rw (k, a, b, drop_at (replicate z (replicate c.size 0)) (x ∷ bs) z (length-replicate _ _)) refl
 
 -- zeros up to the segment's end are a run
 pub run_to_end : (c : Cut) (n i z : ℕ) (bs : List (List ℕ)) → segment_rest c.reference c.count i ≡ suc z
@@ -76,6 +79,8 @@ run_to_end c n i z bs is =
     let b : eqb (suc z) (suc z) ≡ true = eq-eqb (suc z) (suc z) refl in
     rw (is, k, a, b) (go (leb 5 (suc z)))
   where
-    go : (f : Bool) → cond f RestOfSegment (Run (suc z)) ∷ chosen_from c n (i + blocks_in (suc z) (cond f RestOfSegment (Run (suc z)))) (drop (blocks_in (suc z) (cond f RestOfSegment (Run (suc z)))) (replicate (suc z) (replicate c.size 0) ++ bs)) ≡ cond f RestOfSegment (Run (suc z)) ∷ chosen_from c n (i + suc z) bs
+    go : (f : Bool) → cond f RestOfSegment (Run (suc z)) ∷ chosen_from c n (i + blocks_in (suc z) (cond f RestOfSegment (Run (suc z))))
+        (drop (blocks_in (suc z) (cond f RestOfSegment (Run (suc z)))) (replicate (suc z) (replicate c.size 0) ++ bs))
+        ≡ cond f RestOfSegment (Run (suc z)) ∷ chosen_from c n (i + suc z) bs
     go true = rw (drop_at (replicate z (replicate c.size 0)) bs z (length-replicate z (replicate c.size 0))) refl
     go false = rw (drop_at (replicate z (replicate c.size 0)) bs z (length-replicate z (replicate c.size 0))) refl

@@ -37,5 +37,5 @@ pub some_block : (vs : List ℕ) (total : ℕ) → total ≡ sum vs → (total �
 some_block [] total is some = absurd (some is)
 some_block (zero ∷ vs) total is some = some_block vs total is some
 some_block (suc v ∷ vs) total is some =
-    let front : eqb (suc v) 0 ≡ false = ne_eqb (suc v) 0 (λ e. absurd (omega arith)) in
+    let front : eqb (suc v) 0 ≡ false = ne_eqb (suc v) _ (λ e. absurd (omega arith)) in
     rw front refl

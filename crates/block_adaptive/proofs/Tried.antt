@@ -73,9 +73,9 @@ module _ {s : CodeSet} {vs : List ℕ} {longer : Bool} {first k : ℕ} {o : Choi
       leads Uncoded t = inl (later _ _ _ _ _ lt (h.leads Uncoded tt))
       leads Second t = inl (later _ _ _ _ _ lt (h.leads Second t))
       leads (Split j) t =
-          elim (cases_lt j k) [
+          elim (cases_lt j _) [
             | inl below ↦ inl (later _ _ _ _ _ lt (h.leads (Split j) (t.0, below)))
-            | inr ge ↦ (let e : k ≡ j = omega (arith, t.1) in inr (ap (λ (m : ℕ). cost s (Split m) vs) e, omega arith))
+            | inr ge ↦ (let e : k ≡ j = omega (arith, t.1) in inr ((λ i. cost s (Split (e i)) vs), omega arith))
           ]
 
   pub old_leads : LeadsTried s vs longer first k o → cost s o vs ≤ cost s (Split k) vs → LeadsTried s vs longer first (k + 1) o
@@ -89,7 +89,7 @@ module _ {s : CodeSet} {vs : List ℕ} {longer : Bool} {first k : ℕ} {o : Choi
             | inl below ↦ h.leads (Split j) (t.0, below)
             | inr ge ↦
                 (let e : k ≡ j = omega (arith, t.1) in
-                let same : cost s (Split k) vs ≡ cost s (Split j) vs = ap (λ (m : ℕ). cost s (Split m) vs) e in
+                let same : cost s (Split k) vs ≡ cost s (Split j) vs = (λ i. cost s (Split (e i)) vs) in
                 either _ _ _ _ (omega arith) (omega (arith, tried_turn longer first k o h.tried)))
           ]
 
@@ -131,18 +131,17 @@ turn_is o p e = absurd (omega arith)
 -- the other options are longer than one that was tried, or not shorter and come later
 module _ {s : CodeSet} {vs : List ℕ} {longer : Bool} {first k : ℕ} {o : Choice} where
   pub leads_all : LeadsTried s vs longer first k o → k ≤ splits s → (0 < splits s → first < splits s)
-      → ((j : ℕ) → j < first → cost s (Split first) vs < cost s (Split j) vs)
-      → (longer ≡ true → (0 < splits s) × (cost s (Split first) vs < cost s Second vs))
+      → ((j : ℕ) → j < first → cost s (Split first) vs < cost s (Split j) vs) → (longer ≡ true → (0 < splits s) × (cost s (Split first) vs < cost s Second vs))
       → ((j : ℕ) → k ≤ j → j < splits s → cost s o vs ≤ cost s (Split j) vs) → o ≡ chosen_option s vs
   leads_all h few inside below second rest =
-      let least = option_is_least s vs in
-      turn_is o (chosen_option s vs) (both_lead _ _ _ _ (leads _ least.0) (least.1 o (tried_option s longer first k o few h.tried)))
+      let least = option_is_least _ _ in
+      turn_is _ _ (both_lead _ _ _ _ (leads _ least.0) (least.1 _ (tried_option s _ _ _ _ few h.tried)))
     where
       anchor : 0 < splits s → cost s o vs ≤ cost s (Split first) vs
       anchor some =
-          elim (cases_lt first k) [
-            | inl lt ↦ lead_cost _ _ _ _ (h.leads (Split first) (omega arith, lt))
-            | inr ge ↦ rest first ge (inside some)
+          elim (cases_lt _ _) [
+            | inl lt ↦ lead_cost _ _ _ _ (h.leads _ (omega arith, lt))
+            | inr ge ↦ rest _ ge (inside some)
           ]
 
       left_out : (b : Bool) → longer ≡ b → Leads s vs o Second

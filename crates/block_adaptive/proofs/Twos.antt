@@ -6,9 +6,9 @@ use Rattle.cube_core.specs.Steps.{◌>>=◌}
 use Rattle.header_bits.proofs.Each.{with_front, front_none}
 use Rattle.block_adaptive.specs.Reading.{Site, fundamental_at, pair_of, pairs_at}
 
-two_more : (front : List ℕ) (a b : ℕ) (read : Result (List ℕ × List Bool) Fault)
-    → with_front front (read >>= λ x. Ok (a ∷ b ∷ x.0, x.1)) ≡ with_front ((front ++ a ∷ []) ++ b ∷ []) read
-two_more front a b (Ok x) = ap (λ (vs : List ℕ). Ok (vs, x.1)) (simp append_assoc)
+two_more : (front : List ℕ) (a b : ℕ) (read : Result (List ℕ × List Bool) Fault) → with_front front (read >>= λ x. Ok (a ∷ b ∷ x.0, x.1))
+    ≡ with_front ((front ++ a ∷ []) ++ b ∷ []) read
+two_more front a b (Ok x) = ap (λ vs. Ok (vs, x.1)) (simp append_assoc)
 two_more front a b (Err e) = refl
 
 -- i pairs were read
@@ -16,7 +16,7 @@ pub record TwosRead (site : Site) (most half : ℕ) (start : List Bool) (i : ℕ
   pub so_far : with_front (take (2 * i) vs) (pairs_at site most (half - i) bits) ≡ pairs_at site most half start
 
 pub twos_start : (site : Site) (most half : ℕ) (vs : List ℕ) (bits : List Bool) → TwosRead site most half bits 0 vs bits
-twos_start site most half vs bits = (let e : half - 0 ≡ half = omega arith in record { so_far = rw e (front_none (pairs_at site most half bits)) })
+twos_start site most half vs bits = (let e : half - 0 ≡ half = omega arith in record { so_far = rw e (front_none _) })
 
 module _ {site : Site} {most half i : ℕ} {start bits : List Bool} {vs : List ℕ} where
   pub twos_more : {m a b : ℕ} {after : List Bool} → TwosRead site most half start i vs bits → 2 * half ≤ length vs → i < half
@@ -25,9 +25,8 @@ module _ {site : Site} {most half i : ℕ} {start bits : List Bool} {vs : List �
   unfolding pairs_at
   twos_more {a = a} {b = b} {after = after} h room lt code pair =
       let n : half - i ≡ suc (half - (i + 1)) = omega arith in
-      let one : with_front (take (2 * i) vs) (pairs_at site most (half - i) bits)
-      ≡ with_front ((take (2 * i) vs ++ a ∷ []) ++ b ∷ []) (pairs_at site most (half - (i + 1)) after) =
-      rw (n, code, pair) (two_more (take (2 * i) vs) a b (pairs_at site most (half - (i + 1)) after)) in
+      let one : with_front (take (2 * i) vs) (pairs_at site most (half - i) bits) ≡ with_front ((take (2 * i) vs ++ a ∷ []) ++ b ∷ [])
+      (pairs_at site most (half - (i + 1)) after) = rw (n, code, pair) (two_more _ a b _) in
       let e : 2 * (i + 1) ≡ 2 * i + 1 + 1 = omega arith in
       let second = take_more_set (set vs (2 * i) a) (2 * i + 1) b (omega (arith, length-set vs (2 * i) a)) in
       record { so_far = rw (e, second, take_more_set vs (2 * i) a (omega arith)) (sym one ∙ h.so_far) }
@@ -46,4 +45,4 @@ module _ {site : Site} {most half i : ℕ} {start bits : List Bool} {vs : List �
   unfolding pairs_at
   twos_done h same len =
       let n : half - i ≡ 0 = omega arith in
-      sym h.so_far ∙ rw (n, take_all (2 * i) vs (omega arith)) (ap (λ (xs : List ℕ). Ok (xs, bits)) (append-nil vs))
+      sym h.so_far ∙ rw (n, take_all (2 * i) vs (omega arith)) ((λ j. Ok (((append-nil vs) j), bits)))

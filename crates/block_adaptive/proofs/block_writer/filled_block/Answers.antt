@@ -8,7 +8,8 @@ loop-i-init c = record { filled = λ n least most. filled_start c.args.values.no
 
 pub loop-i-preserved : goal.loop-i-preserved
 loop-i-preserved c = record {
-  filled = filled_next c.args.values.now c.loop-i.block c.args.held c.loop-i.i c.loop-i.auto.i (omega (arith, c.loop-i.invariant.whole)) c.loop-i.invariant.filled;
+  filled = filled_next c.args.values.now c.loop-i.block c.args.held c.loop-i.i c.loop-i.auto.i (omega (arith, c.loop-i.invariant.whole))
+      c.loop-i.invariant.filled;
   whole = length-set c.loop-i.block c.loop-i.i 0 ∙ c.loop-i.invariant.whole;
 }
 

@@ -11,7 +11,7 @@ loop-value-preserved c =
     let was = c.loop-value.invariant in
     elim c.match-code_ahead.branch [
       | in-Some w ↦
-          (let uses = w.in-Some.ensures.2 c.loop-value.reader.left was.ahead in
+          (let uses = w.in-Some.ensures.2 _ was.ahead in
           rw (w.reader-is, w.values-is, w.bound-is, w.ahead-is) (record {
             ahead = uses.ahead;
             word = w.in-Some.ensures.1;

@@ -16,10 +16,7 @@ returns-in_err-value-clause-read c =
 pub loop-value-preserved : goal.loop-value-preserved
 loop-value-preserved c =
     let one = rw (c.loop-value.invariant.count, c.from.ensures) at c.in_ok-value.ensures.read in
-    record {
-      read = each_more c.loop-value.invariant.read (omega arith) one;
-      count = c.in_ok-value.ensures.count ∙ c.loop-value.invariant.count;
-    }
+    record { read = each_more c.loop-value.invariant.read (omega arith) one; count = c.in_ok-value.ensures.count ∙ c.loop-value.invariant.count }
 
 pub returns-clause-read : goal.returns-clause-read
 returns-clause-read c = quotients_each _ _ _ _ ∙ each_done c.loop-value.invariant.read (omega arith)

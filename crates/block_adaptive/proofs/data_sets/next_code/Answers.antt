@@ -11,9 +11,8 @@ returns-in-Some-clause-found c =
     let one = code_read site 65535 c.in-Some.found.0 c.look_ahead.result c.in-Some.found.1 left (omega (arith, c.in-Some.ensures.0)) uses in (
       c.in-Some.ensures.1,
       uses.ahead,
-      read_fresh (fundamental_at site 65535)
-          c.in-Some.found.0 c.args.ahead c.look_ahead.result c.in-Some.found.1 c.args.reader.now.left left c.take_used.ensures.left c.look_ahead.ensures.unused
-          one,
+      read_fresh (fundamental_at site 65535) _ c.args.ahead c.look_ahead.result c.in-Some.found.1 c.args.reader.now.left _ c.take_used.ensures.left
+          c.look_ahead.ensures.unused one,
     )
 
 pub returns-clause-found : goal.returns-clause-found
@@ -22,6 +21,6 @@ returns-clause-found c =
     let one = rw c.take_used.ensures.count at c.in_ok-quotient.ensures.read in (
       c.look_ahead-2.ensures.word,
       c.look_ahead-2.ensures.ahead,
-      read_alone (fundamental_at site 65535) c.in_ok-quotient.field-0 c.args.ahead c.look_ahead-2.result c.args.reader.now.left c.take_used.new.reader.left
-          c.fundamental.new.reader.left c.take_used.ensures.left c.look_ahead-2.ensures.unused one,
+      read_alone (fundamental_at site 65535) _ c.args.ahead c.look_ahead-2.result c.args.reader.now.left _ _ c.take_used.ensures.left
+          c.look_ahead-2.ensures.unused one,
     )

@@ -1,4 +1,4 @@
-use Rattle.std.proofs.Common.{◌≡◌, ◌*◌, ◌%◌, ◌^◌, get_or, arith}
+use Rattle.std.proofs.Common.{◌≡◌, ◌*◌, ◌%◌, ◌^◌, arith}
 use Rattle.std.proofs.lemmas.Nat.{one_shl, and_mask, pow_pos}
 use Rattle.std.proofs.Math.Nat.{mod-lt}
 use Rattle.block_adaptive.proofs.Emits.{low_next_masked, low_end}
@@ -10,18 +10,18 @@ loop-value-init c = words_start _
 
 pub overflow_add-held : goal.overflow_add-held
 overflow_add-held c =
-    let few = words_few c.args.k _ _ c.loop-value.invariant (low_next_masked c.args.k c.loop-value.value-index c.args.values.now c.loop-value-test.true) in
+    let few = words_few _ _ _ c.loop-value.invariant (low_next_masked _ _ _ c.loop-value-test.true) in
     record { fits = omega (arith, few, c.requires.few) }
 
 pub joined-word-requires-clause-few : goal.joined-word-requires-clause-few
 joined-word-requires-clause-few c =
-    let few = words_few c.args.k _ _ c.loop-value.invariant (low_next_masked c.args.k c.loop-value.value-index c.args.values.now c.loop-value-test.true) in
+    let few = words_few _ _ _ c.loop-value.invariant (low_next_masked _ _ _ c.loop-value-test.true) in
     (omega (arith, c.requires.k), omega (arith, few, c.requires.few))
 
 pub joined-word-requires-clause-below : goal.joined-word-requires-clause-below
 joined-word-requires-clause-below c =
     let one : 1 * 2 ^ c.args.k % 18446744073709551616 ≡ 2 ^ c.args.k = one_shl c.args.k 64 (omega arith) in
-    rw (c.from.ensures, one, and_mask) (mod-lt (get_or c.args.values.now c.loop-value.value-index 0) (pow_pos c.args.k))
+    rw (c.from.ensures, one, and_mask) (mod-lt _ (pow_pos _))
 
 pub loop-value-preserved : goal.loop-value-preserved
 loop-value-preserved c =

@@ -1,4 +1,4 @@
-use Rattle.std.proofs.Common.{◌+◌, ◌/◌, ◌^◌, ◌≤◌, get_or, arith}
+use Rattle.std.proofs.Common.{◌+◌, ◌^◌, ◌≤◌, arith}
 use Rattle.std.proofs.Math.Pow.{pow_mono}
 use Rattle.block_adaptive.proofs.Emits.{quotient_end, quotient_bits}
 use Rattle.block_adaptive.proofs.gathering.quotient_word.Goals as goal
@@ -9,14 +9,12 @@ loop-value-init c = words_start _
 
 pub overflow_add-held : goal.overflow_add-held
 overflow_add-held c =
-    let few = words_few (get_or c.args.values.now c.loop-value.value-index 0 / 2 ^ c.args.k + 1) 1 _ c.loop-value.invariant
-    (quotient_bits _ _ _ c.loop-value-test.true) in
+    let few = words_few _ _ _ c.loop-value.invariant (quotient_bits _ _ _ c.loop-value-test.true) in
     record { fits = omega (arith, few, c.from-n.ensures, c.requires.few) }
 
 pub joined-word-requires-clause-few : goal.joined-word-requires-clause-few
 joined-word-requires-clause-few c =
-    let few = words_few (get_or c.args.values.now c.loop-value.value-index 0 / 2 ^ c.args.k + 1) 1 _ c.loop-value.invariant
-    (quotient_bits _ _ _ c.loop-value-test.true) in
+    let few = words_few _ _ _ c.loop-value.invariant (quotient_bits _ _ _ c.loop-value-test.true) in
     (omega (arith, few, c.from-n.ensures, c.requires.few), omega (arith, few, c.from-n.ensures, c.requires.few))
 
 pub joined-word-requires-clause-below : goal.joined-word-requires-clause-below
@@ -26,8 +24,8 @@ joined-word-requires-clause-below c =
 
 pub loop-value-preserved : goal.loop-value-preserved
 loop-value-preserved c =
-    words_joined (c.from-n.result + 1) 1 _ _ c.loop-value.invariant (rw c.from-n.ensures (quotient_bits c.args.k _ _ c.loop-value-test.true))
-    c.joined-word.ensures.below c.joined-word.ensures.bits
+    words_joined _ _ _ _ c.loop-value.invariant (rw c.from-n.ensures (quotient_bits _ _ _ c.loop-value-test.true)) c.joined-word.ensures.below
+    c.joined-word.ensures.bits
 
 pub returns-clause-bits : goal.returns-clause-bits
 returns-clause-bits c = words_end c.loop-value.invariant (quotient_end c.args.k c.loop-value.value-index c.args.values.now (omega arith))

@@ -26,8 +26,8 @@ loop-first-preserved c =
     let next : first + n ≡ first + 4 = omega arith in
     let room : first + n ≤ length c.loop-first.values = omega (arith, was.fours, was.long, was.inside, c.loop-first-test.true, c.requires.fours) in
     let long : length c.four_lows.new.four ≡ n = search rules in
-    let more = some_more n was.read room long (sym (lows_each _ _ _ _ _) ∙ rw was.count at c.in_ok-four_lows.ensures.read) in
-    let behind = fours_behind c.args.k (c.args.most + 1) first n c.loop-first.values c.four_lows.new.four room long was.within in
+    let more = some_more _ was.read room long (sym (lows_each _ _ _ _ _) ∙ rw was.count at c.in_ok-four_lows.ensures.read) in
+    let behind = fours_behind _ _ _ _ _ _ room long was.within in
     record {
       read = rw next at more;
       within = rw next at behind;

@@ -15,8 +15,7 @@ append_fundamental-requires c =
     omega (arith, room, c.from.ensures, length-fundamental (get_or c.args.values.now c.loop-value.value-index 0 / 2 ^ c.args.k))
 
 pub loop-value-preserved : goal.loop-value-preserved
-loop-value-preserved c =
-    goes_step _ c.loop-value.invariant (quotient_next _ _ _ c.loop-value-test.true) (rw c.from.ensures at c.append_fundamental.ensures)
+loop-value-preserved c = goes_step _ c.loop-value.invariant (quotient_next _ _ _ c.loop-value-test.true) (rw c.from.ensures at c.append_fundamental.ensures)
 
 pub returns : goal.returns
 returns c = goes_end c.loop-value.invariant (quotient_end c.args.k c.loop-value.value-index c.args.values.now (omega arith))

@@ -16,14 +16,14 @@ unfolding option_text coded
 append_lows-requires-clause-room c =
     let width_is = c.identifier_width-width.ensures in
     let one : 1 * 2 ^ width c.args.set.now % 18446744073709551616 ≡ 2 ^ width c.args.set.now = one_shl _ 64 (omega (arith, width_is.value, width_is.most)) in
-    second_fits _ (rw c.in-Uncoded.is at c.requires.room) (rw (width_is.value, one, identifier_uncoded c.args.set.now) at c.append.ensures)
+    second_fits _ (rw c.in-Uncoded.is at c.requires.room) (rw (width_is.value, one, identifier_uncoded _) at c.append.ensures)
 
 pub returns-in-Uncoded : goal.returns-in-Uncoded
 unfolding option_text coded
 returns-in-Uncoded c =
     let width_is = c.identifier_width-width.ensures in
     let one : 1 * 2 ^ width c.args.set.now % 18446744073709551616 ≡ 2 ^ width c.args.set.now = one_shl _ 64 (omega (arith, width_is.value, width_is.most)) in
-    rw c.in-Uncoded.is (appends_both (rw (width_is.value, one, identifier_uncoded c.args.set.now) at c.append.ensures) c.append_lows.ensures)
+    rw c.in-Uncoded.is (appends_both (rw (width_is.value, one, identifier_uncoded _) at c.append.ensures) c.append_lows.ensures)
 
 pub append-requires-in-Second-clause-room : goal.append-requires-in-Second-clause-room
 append-requires-in-Second-clause-room c =
@@ -33,13 +33,12 @@ append-requires-in-Second-clause-room c =
 pub append_pairs-requires-clause-room : goal.append_pairs-requires-clause-room
 unfolding option_text coded
 append_pairs-requires-clause-room c =
-    second_fits _ (rw c.in-Second.is at c.requires.room)
-    (rw (c.identifier_width-width.ensures.value, identifier_second c.args.set.now) at c.append-in-Second.ensures)
+    second_fits _ (rw c.in-Second.is at c.requires.room) (rw (c.identifier_width-width.ensures.value, identifier_second _) at c.append-in-Second.ensures)
 
 pub returns-in-Second : goal.returns-in-Second
 unfolding option_text coded
 returns-in-Second c =
-    let first = rw (c.identifier_width-width.ensures.value, identifier_second c.args.set.now) at c.append-in-Second.ensures in
+    let first = rw (c.identifier_width-width.ensures.value, identifier_second _) at c.append-in-Second.ensures in
     rw c.in-Second.is (appends_both first c.append_pairs.ensures)
 
 pub append-requires-in-Split-clause-room : goal.append-requires-in-Split-clause-room
@@ -50,17 +49,17 @@ append-requires-in-Split-clause-room c =
 pub append_quotients-requires-clause-room : goal.append_quotients-requires-clause-room
 unfolding option_text coded
 append_quotients-requires-clause-room c =
-    let first = rw (c.identifier_width-width.ensures.value, c.from.ensures, identifier_split c.args.set.now c.in-Split.k) at c.append-in-Split.ensures in
+    let first = rw (c.identifier_width-width.ensures.value, c.from.ensures, identifier_split _ _) at c.append-in-Split.ensures in
     first_fits _ (low_groups c.in-Split.k c.args.block.now) _ _ (second_fits _ (rw c.in-Split.is at c.requires.room) first)
 
 pub append_lows-requires-in-Split-clause-room : goal.append_lows-requires-in-Split-clause-room
 unfolding option_text coded
 append_lows-requires-in-Split-clause-room c =
-    let first = rw (c.identifier_width-width.ensures.value, c.from.ensures, identifier_split c.args.set.now c.in-Split.k) at c.append-in-Split.ensures in
+    let first = rw (c.identifier_width-width.ensures.value, c.from.ensures, identifier_split _ _) at c.append-in-Split.ensures in
     second_fits _ (second_fits _ (rw c.in-Split.is at c.requires.room) first) c.append_quotients.ensures
 
 pub returns-in-Split : goal.returns-in-Split
 unfolding option_text coded
 returns-in-Split c =
-    let first = rw (c.identifier_width-width.ensures.value, c.from.ensures, identifier_split c.args.set.now c.in-Split.k) at c.append-in-Split.ensures in
+    let first = rw (c.identifier_width-width.ensures.value, c.from.ensures, identifier_split _ _) at c.append-in-Split.ensures in
     rw c.in-Split.is (appends_both first (appends_both c.append_quotients.ensures c.append_lows-in-Split.ensures))

@@ -11,7 +11,7 @@ append-requires-clause-room c =
 
 pub append_fundamental-requires : goal.append_fundamental-requires
 append_fundamental-requires c =
-    let first = rw (c.identifier_width.ensures.value, identifier_zero c.args.set.now) at c.append.ensures in
+    let first = rw (c.identifier_width.ensures.value, identifier_zero _) at c.append.ensures in
     let behind = second_fits (fundamental c.args.zeros) (omega (arith, c.requires.room, ap length c.new-gathered.ensures)) first in
     omega (arith, behind, length-fundamental c.args.zeros, c.from.ensures)
 
@@ -20,6 +20,6 @@ flush-requires c = c.append_fundamental.ensures.fits
 
 pub returns : goal.returns
 returns c =
-    let first = rw (c.identifier_width.ensures.value, identifier_zero c.args.set.now) at c.append.ensures in
+    let first = rw (c.identifier_width.ensures.value, identifier_zero _) at c.append.ensures in
     let all = appends_both first (rw c.from.ensures at c.append_fundamental.ensures) in
     appends_end (rw c.new-gathered.ensures at all) c.flush.ensures

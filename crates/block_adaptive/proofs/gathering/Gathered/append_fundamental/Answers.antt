@@ -24,7 +24,7 @@ append-requires-2-clause-below c =
 
 pub append-requires-2-clause-room : goal.append-requires-2-clause-room
 append-requires-2-clause-room c =
-    let room = goes_room (bits_of (c.loop-left.left + 1) 1) [] (omega (arith, length-fundamental c.args.zeros)) c.loop-left.invariant (last_zeros _) in
+    let room = goes_room _ [] (omega (arith, length-fundamental c.args.zeros)) c.loop-left.invariant (last_zeros _) in
     omega (arith, room, length-bits_of (c.loop-left.left + 1) 1)
 
 pub returns : goal.returns
