@@ -1,6 +1,8 @@
 -- A loop that reads numbers into the places of a list, one or a few at a time.
-use Rattle.std.proofs.Common.{◌≡◌, ℕ, ◌+◌, ◌<◌, ◌≤◌, Bool, List, [], ◌∷◌, ◌++◌, length, take, drop, set, get_or, Result, Ok, Err, refl, sym, ap, ◌∙◌, arith, append_assoc, suc, map, subst}
-use Rattle.std.proofs.lemmas.List.{append-nil, drop_all, drop_at, drop_more, drop-set-lt, length-append, length-take, take_all, take-append-drop, take_at, take_more_set}
+use Rattle.std.proofs.Common.{◌≡◌, ℕ, ◌+◌, ◌<◌, ◌≤◌, Bool, List, [], ◌∷◌, ◌++◌, length, take, drop, set, get_or, Result, Ok, Err, refl, sym, ap, ◌∙◌, arith}
+use Rattle.std.proofs.Common.{append_assoc, suc, map, subst}
+use Rattle.std.proofs.lemmas.List.{append-nil, drop_all, drop_at, drop_more, drop-set-lt, length-append, length-take, take_all, take-append-drop, take_at}
+use Rattle.std.proofs.lemmas.List.{take_more_set}
 use Rattle.cube_core.specs.declared.fault.Fault.{Fault}
 use Rattle.cube_core.specs.Steps.{◌>>=◌}
 use Rattle.std.specs.List.{flat_map, AllByRecursion}
@@ -34,15 +36,15 @@ unfolding each_at
 each_append f [] ys bits = sym (front_none (each_at f ys bits))
 each_append f (x ∷ xs) ys bits = first (f x bits) (each_append f xs ys)
   where
-    rest : (v : ℕ) (r : Result (List ℕ × List Bool) Fault)
-        → with_front (v ∷ []) (r >>= λ y. with_front y.0 (each_at f ys y.1)) ≡ (with_front (v ∷ []) r >>= λ y. with_front y.0 (each_at f ys y.1))
+    rest : (v : ℕ) (r : Result (List ℕ × List Bool) Fault) → with_front (v ∷ []) (r >>= λ y. with_front y.0 (each_at f ys y.1))
+        ≡ (with_front (v ∷ []) r >>= λ y. with_front y.0 (each_at f ys y.1))
     rest v (Ok y) = front_both (v ∷ []) y.0 (each_at f ys y.1)
     rest v (Err e) = refl
 
     first : (r : Result (ℕ × List Bool) Fault)
         → ((left : List Bool) → each_at f (xs ++ ys) left ≡ (each_at f xs left >>= λ y. with_front y.0 (each_at f ys y.1)))
-        → (r >>= λ v. with_front (v.0 ∷ []) (each_at f (xs ++ ys) v.1))
-        ≡ ((r >>= λ v. with_front (v.0 ∷ []) (each_at f xs v.1)) >>= λ y. with_front y.0 (each_at f ys y.1))
+        → (r >>= λ v. with_front (v.0 ∷ []) (each_at f (xs ++ ys) v.1)) ≡ ((r >>= λ v. with_front (v.0 ∷ []) (each_at f xs v.1)) >>= λ y. with_front y.0
+        (each_at f ys y.1))
     first (Ok v) h = ap (with_front (v.0 ∷ [])) (h v.1) ∙ rest v.0 (each_at f xs v.1)
     first (Err e) h = refl
 
@@ -63,7 +65,8 @@ module _ {f : Reader} {old : List ℕ} {start : List Bool} {i : ℕ} {xs : List 
       record { so_far = rw (front, rest) (sym (ap (with_front (take i xs)) split ∙ front_both (take i xs) new (each_at f b after)) ∙ h.so_far) }
 
   each_fails : (a b : List ℕ) (e : Fault) → AreRead f old start i xs bits → drop i xs ≡ a ++ b → each_at f a bits ≡ Err e → each_at f old start ≡ Err e
-  each_fails a b e h parts read = sym h.so_far ∙ ap (with_front (take i xs)) (ap (λ (l : List ℕ). each_at f l bits) parts ∙ each_append f a b bits
+  each_fails a b e h parts read =
+      sym h.so_far ∙ ap (with_front (take i xs)) (ap (λ (l : List ℕ). each_at f l bits) parts ∙ each_append f a b bits
       ∙ ap (λ (r : Result (List ℕ × List Bool) Fault). r >>= λ x. with_front x.0 (each_at f b x.1)) read)
 
   pub each_done : AreRead f old start i xs bits → length xs ≤ i → each_at f old start ≡ Ok (xs, bits)
@@ -90,8 +93,8 @@ module _ {f : Reader} {old : List ℕ} {start : List Bool} {i : ℕ} {xs : List 
       let whole : (take i xs ++ new) ++ behind ≡ take i xs ++ (new ++ behind) = append_assoc (take i xs) new behind in
       let size : length (take i xs ++ new) ≡ i + n = omega (arith, length-append (take i xs) new, length-take i xs) in
       each_step (take n (drop i xs)) behind new (take i xs ++ (new ++ behind)) (i + n) after h (sym (take-append-drop n (drop i xs))) read
-      (ap (take (i + n)) (sym whole) ∙ take_at (take i xs ++ new) behind (i + n) size)
-      (ap (drop (i + n)) (sym whole) ∙ drop_at (take i xs ++ new) behind (i + n) size)
+      (ap (take (i + n)) (sym whole) ∙ take_at (take i xs ++ new) behind (i + n) size) (ap (drop (i + n)) (sym whole)
+      ∙ drop_at (take i xs ++ new) behind (i + n) size)
 
   pub some_end : {e : Fault} → (n : ℕ) → AreRead f old start i xs bits → each_at f (take n (drop i xs)) bits ≡ Err e → each_at f old start ≡ Err e
   some_end {e} n h read = each_fails (take n (drop i xs)) (drop n (drop i xs)) e h (sym (take-append-drop n (drop i xs))) read

@@ -34,3 +34,4 @@ pub mod Sums
 pub mod Intervals
 pub mod Zeros
 pub mod Places
+pub mod Fours

@@ -1,5 +1,6 @@
 -- Bits behind those that were read change nothing, but for what they end too early.
-use Rattle.std.proofs.Common.{◌≡◌, ◌⊎◌, ◌≤◌, ℕ, zero, suc, Bool, true, false, cond, ltb, List, [], ◌∷◌, ◌++◌, length, take, drop, Result, Ok, Err, refl, inl, inr, arith}
+use Rattle.std.proofs.Common.{◌≡◌, ◌⊎◌, ◌≤◌, ℕ, zero, suc, Bool, true, false, cond, ltb, List, [], ◌∷◌, ◌++◌, length, take, drop, Result, Ok, Err, refl, inl}
+use Rattle.std.proofs.Common.{inr, arith}
 use Rattle.std.proofs.lemmas.Bool.{ltb-false, le-ltb}
 use Rattle.std.proofs.lemmas.List.{take-append-le, drop-append-le, length-append}
 use Rattle.cube_core.specs.declared.fault.Fault.{Fault}
@@ -13,13 +14,14 @@ abbrev pub Goes : {X : Type 0} → ℕ → List Bool → Result (X × List Bool)
 Goes count more (Ok x) later = later ≡ Ok (x.0, x.1 ++ more)
 Goes count more (Err e) later = (e ≡ Truncated count) ⊎ (later ≡ Err e)
 
-pub goes_then : {A B : Type 0} (count : ℕ) (more : List Bool) (r s : Result (A × List Bool) Fault) (f : A × List Bool → Result (B × List Bool) Fault) → Goes count more r s → ((a : A) (rest : List Bool) → Goes count more (f (a, rest)) (f (a, rest ++ more)))
-    → Goes count more (r >>= f) (s >>= f)
+pub goes_then : {A B : Type 0} (count : ℕ) (more : List Bool) (r s : Result (A × List Bool) Fault) (f : A × List Bool → Result (B × List Bool) Fault)
+    → Goes count more r s → ((a : A) (rest : List Bool) → Goes count more (f (a, rest)) (f (a, rest ++ more))) → Goes count more (r >>= f) (s >>= f)
 goes_then count more (Ok x) s f h k = rw h (k x.0 x.1)
 goes_then count more (Err e) s f (inl t) k = inl t
 goes_then count more (Err e) s f (inr h) k = inr (rw h refl)
 
-pub goes_if : {A : Type 0} (count : ℕ) (more : List Bool) (b : Bool) (r s t u : Result (A × List Bool) Fault) → Goes count more r s → Goes count more t u → Goes count more (cond b r t) (cond b s u)
+pub goes_if : {A : Type 0} (count : ℕ) (more : List Bool) (b : Bool) (r s t u : Result (A × List Bool) Fault) → Goes count more r s → Goes count more t u
+    → Goes count more (cond b r t) (cond b s u)
 goes_if count more true r s t u h k = h
 goes_if count more false r s t u h k = k
 
@@ -32,7 +34,8 @@ pub number_goes : (count n : ℕ) (more bits : List Bool) → Goes count more (n
 unfolding number_at
 number_goes count n more bits = by_test (ltb (length bits) n) refl
   where
-    by_test : (b : Bool) → ltb (length bits) n ≡ b → Goes count more (cond b (Err (Truncated count)) (Ok (number_of (take n bits), drop n bits))) (cond (ltb (length (bits ++ more)) n) (Err (Truncated count)) (Ok (number_of (take n (bits ++ more)), drop n (bits ++ more))))
+    by_test : (b : Bool) → ltb (length bits) n ≡ b → Goes count more (cond b (Err (Truncated count)) (Ok (number_of (take n bits), drop n bits)))
+        (cond (ltb (length (bits ++ more)) n) (Err (Truncated count)) (Ok (number_of (take n (bits ++ more)), drop n (bits ++ more))))
     by_test true e = inl refl
     by_test false e =
         let le : n ≤ length bits = ltb-false (length bits) n e in
@@ -44,4 +47,6 @@ unfolding zeros_at
 zeros_goes count zero more bits = refl
 zeros_goes count (suc limit) more [] = inl refl
 zeros_goes count (suc limit) more (true ∷ bits) = refl
-zeros_goes count (suc limit) more (false ∷ bits) = goes_then count more (zeros_at count limit bits) (zeros_at count limit (bits ++ more)) (λ z. Ok (suc z.0, z.1)) (zeros_goes count limit more bits) (λ z rest. refl)
+zeros_goes count (suc limit) more (false ∷ bits) =
+    goes_then count more (zeros_at count limit bits) (zeros_at count limit (bits ++ more)) (λ z. Ok (suc z.0, z.1)) (zeros_goes count limit more bits)
+    (λ z rest. refl)

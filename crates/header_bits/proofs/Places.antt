@@ -1,6 +1,8 @@
 -- Values in the places of a list, and zeros behind them.
-use Rattle.std.proofs.Common.{◌≡◌, ℕ, zero, suc, ◌+◌, ◌-◌, ◌*◌, ◌<◌, ◌≤◌, List, [], ◌∷◌, ◌++◌, length, take, drop, replicate, Ok, inl, refl, sym, ap, ◌∙◌, arith, append_assoc, get_or, add-one, drop-cons, Err, set, inr}
-use Rattle.std.proofs.lemmas.List.{append-nil, get_or-take, length-take, drop_all, replicate-append-replicate, drop-drop, drop-take, drop_at, take-append-drop, take-append-le, take-take, take_at, length-append, take-set-le}
+use Rattle.std.proofs.Common.{◌≡◌, ℕ, zero, suc, ◌+◌, ◌-◌, ◌*◌, ◌<◌, ◌≤◌, List, [], ◌∷◌, ◌++◌, length, take, drop, replicate, Ok, inl, refl, sym, ap, ◌∙◌}
+use Rattle.std.proofs.Common.{arith, append_assoc, get_or, add-one, drop-cons, Err, set, inr}
+use Rattle.std.proofs.lemmas.List.{append-nil, get_or-take, length-take, drop_all, replicate-append-replicate, drop-drop, drop-take, drop_at, take-append-drop}
+use Rattle.std.proofs.lemmas.List.{take-append-le, take-take, take_at, length-append, take-set-le}
 use Rattle.std.specs.List.{flat_map}
 use Rattle.std.proofs.Math.Seq.{take-add, take-suc-set}
 use Rattle.std.specs.Prelude.{Result, OnOk}
@@ -24,7 +26,8 @@ values_of_zeros (suc n) size =
 pub run_in_hand : (n size : ℕ) (values : List ℕ) → flat_map (λ b. b) (replicate n (zeros size)) ≡ drop size (take size values) ++ zeros (n * size)
 run_in_hand n size values = rw (nothing_behind size values) (values_of_zeros n size)
 
-pub first_in_hand : (size i spare : ℕ) (values : List ℕ) → i < size → size ≤ length values → drop i (take size values) ++ zeros spare ≡ get_or values i 0 ∷ (drop (i + 1) (take size values) ++ zeros spare)
+pub first_in_hand : (size i spare : ℕ) (values : List ℕ) → i < size → size ≤ length values → drop i (take size values) ++ zeros spare
+    ≡ get_or values i 0 ∷ (drop (i + 1) (take size values) ++ zeros spare)
 first_in_hand size i spare values lt le =
     let inside : i < length (take size values) = omega (arith, length-take size values) in
     let same : get_or (take size values) i 0 ≡ get_or values i 0 = get_or-take size values i 0 lt in
@@ -44,9 +47,8 @@ first_of_hand size at count spare values copied behind le long same =
     let inner : here ≡ take (size - at) (drop at values) = ap (λ n. drop at (take n values)) (sym more) ∙ drop-take at (size - at) values in
     let front : take count here ≡ take count (copied ++ behind) = ap (take count) inner ∙ take-take count (size - at) (drop at values) (omega arith) ∙ sym same
     ∙ sym (take_at copied behind count long) in
-    let split : here ≡ take count (copied ++ behind) ++ drop (at + count) (take size values) =
-    sym (take-append-drop count here) ∙ ap (λ (vs : List ℕ). vs ++ drop count here) front
-    ∙ ap (λ (vs : List ℕ). take count (copied ++ behind) ++ vs) (drop-drop count at (take size values)) in
+    let split : here ≡ take count (copied ++ behind) ++ drop (at + count) (take size values) = sym (take-append-drop count here)
+    ∙ ap (λ (vs : List ℕ). vs ++ drop count here) front ∙ ap (λ (vs : List ℕ). take count (copied ++ behind) ++ vs) (drop-drop count at (take size values)) in
     ap (λ (vs : List ℕ). vs ++ zeros spare) split ∙ append_assoc (take count (copied ++ behind)) (drop (at + count) (take size values)) (zeros spare)
 
 pub zeros_of_hand : (size at count spare : ℕ) (values filled behind : List ℕ) → at ≡ size → count ≤ spare → length filled ≡ count → filled ≡ zeros count
@@ -58,28 +60,29 @@ zeros_of_hand size at count spare values filled behind same le long are =
     rw (none, front) (ap zeros (sym parts) ∙ sym (replicate-append-replicate count (spare - count) 0))
 
 -- numbers that were written behind others
-pub written_more : (at count : ℕ) (xs ys behind : List ℕ) → at ≤ length xs → count ≤ length ys
-    → take (at + count) (take at xs ++ (ys ++ behind)) ≡ take at xs ++ take count ys
+pub written_more : (at count : ℕ) (xs ys behind : List ℕ) → at ≤ length xs → count ≤ length ys → take (at + count) (take at xs ++ (ys ++ behind))
+    ≡ take at xs ++ take count ys
 written_more at count xs ys behind first second =
     let long : length (take at xs) ≡ at = omega (arith, length-take at xs) in
-    take-add at count (take at xs ++ (ys ++ behind))
-    ∙ ap (λ (vs : List ℕ). vs ++ take count (drop at (take at xs ++ (ys ++ behind)))) (take_at (take at xs) (ys ++ behind) at long)
-    ∙ ap (λ (vs : List ℕ). take at xs ++ take count vs) (drop_at (take at xs) (ys ++ behind) at long)
+    take-add at count (take at xs ++ (ys ++ behind)) ∙ ap (λ (vs : List ℕ). vs ++ take count (drop at (take at xs ++ (ys ++ behind))))
+    (take_at (take at xs) (ys ++ behind) at long) ∙ ap (λ (vs : List ℕ). take at xs ++ take count vs) (drop_at (take at xs) (ys ++ behind) at long)
     ∙ ap (λ (vs : List ℕ). take at xs ++ vs) (take-append-le count ys behind second)
 
 -- one value more in the array
 pub held_more : (values : List ℕ) (i x : ℕ) → i < length values → take (i + 1) (set values i x) ≡ take i values ++ x ∷ []
 held_more values i x lt = rw (add-one i) (take-suc-set values i x lt)
 
-pub filled_next : (values block : List ℕ) (held i : ℕ) → held ≤ i → i < length block → ((n : ℕ) → held ≤ n → n ≤ i → take n block ≡ take held values ++ zeros (n - held))
-    → (n : ℕ) → held ≤ n → n ≤ i + 1 → take n (set block i 0) ≡ take held values ++ zeros (n - held)
+pub filled_next : (values block : List ℕ) (held i : ℕ) → held ≤ i → i < length block
+    → ((n : ℕ) → held ≤ n → n ≤ i → take n block ≡ take held values ++ zeros (n - held)) → (n : ℕ) → held ≤ n → n ≤ i + 1
+    → take n (set block i 0) ≡ take held values ++ zeros (n - held)
 filled_next values block held i le lt h n least most =
     elim (cases_lt i n) [
       | inl above ↦
           (let e : n ≡ suc i = omega arith in
           let f : n - held ≡ (i - held) + 1 = omega arith in
           let more : zeros ((i - held) + 1) ≡ zeros (i - held) ++ 0 ∷ [] = zeros_push (i - held) in
-          rw (f, more, e) (take-suc-set block i 0 lt ∙ ap (λ (ns : List ℕ). ns ++ 0 ∷ []) (h i le (omega arith)) ∙ append_assoc (take held values) (zeros (i - held)) (0 ∷ [])))
+          rw (f, more, e) (take-suc-set block i 0 lt ∙ ap (λ (ns : List ℕ). ns ++ 0 ∷ []) (h i le (omega arith))
+          ∙ append_assoc (take held values) (zeros (i - held)) (0 ∷ [])))
       | inr below ↦ take-set-le n block i 0 below ∙ h n least below
     ]
   where
@@ -102,10 +105,12 @@ on_ok_of (Ok x) P R f p = f p
 on_ok_of (Err e) P R f p = tt
 
 -- numbers that are written behind the values held
-pub held_all : (values list behind : List ℕ) (held : ℕ) → held ≤ length values → take (held + length list) (take held values ++ (list ++ behind)) ≡ take held values ++ list
+pub held_all : (values list behind : List ℕ) (held : ℕ) → held ≤ length values → take (held + length list) (take held values ++ (list ++ behind))
+    ≡ take held values ++ list
 held_all values list behind held le =
     let long : held + length list ≡ length (take held values ++ list) = omega (arith, le, length-append (take held values) list, length-take held values) in
-    ap (λ (x : List ℕ). take (held + length list) x) (sym (append_assoc (take held values) list behind)) ∙ take_at (take held values ++ list) behind (held + length list) (sym long)
+    ap (λ (x : List ℕ). take (held + length list) x) (sym (append_assoc (take held values) list behind)) ∙ take_at (take held values ++ list) behind
+    (held + length list) (sym long)
 
 pub take_behind : (a b : List ℕ) (n m : ℕ) → n ≡ length a + m → take n (a ++ b) ≡ a ++ take m b
 take_behind [] b n m e = (let f : n ≡ m = omega arith in rw f refl)

@@ -1,8 +1,11 @@
 -- Numbers and powers of two.
-use Rattle.std.proofs.Common.{◌≡◌, ℕ, ◌+◌, ◌-◌, ◌*◌, ◌/◌, ◌%◌, ◌^◌, ◌<◌, ◌≤◌, sym, ap, subst, ◌∙◌, arith, pow_pos, lit<, suc}
+use Rattle.std.proofs.Common.{◌≡◌, ℕ, ◌+◌, ◌-◌, ◌*◌, ◌/◌, ◌%◌, ◌^◌, ◌<◌, ◌≤◌, sym, ap, subst, ◌∙◌, arith, pow_pos, lit<, suc, ◌⊎◌, leb, Bool, true, false, ◌&&◌}
+use Rattle.std.proofs.Common.{inl, inr, refl}
 use Rattle.std.proofs.lemmas.Nat.{mul-le, shr-shr, pow-add}
 use Rattle.std.proofs.Math.Nat.{div-mul-le_self, mod-eq_of_lt, pow-le-pow_right, lt-div-mul-add, pow-succ'}
 use Rattle.header_bits.proofs.Windows.{two_shifts}
+use Rattle.std.proofs.lemmas.Bool.{cases_lt}
+use Rattle.std.proofs.lemmas.Bool.Decides.{nat_tests}
 
 pub pow_up : (i j : ℕ) → i ≤ j → 2 ^ i ≤ 2 ^ j
 pow_up i j le = pow-le-pow_right {n = 2} (lit< tt) {i = i} {j = j} le
@@ -25,9 +28,9 @@ greatest_shifted most k small le =
     mod-eq_of_lt (omega arith)
 
 -- the word shifted down to the end of the fourth, and from there to the ends of those before
-pub four_shifts : (word k : ℕ) → k ≤ 14
-    → (word / 2 / 2 ^ (63 - 4 * k) ≡ word / 2 ^ (64 - 4 * k)) × (word / 2 / 2 ^ (63 - 4 * k) / 2 ^ k ≡ word / 2 ^ (64 - 3 * k))
-    × (word / 2 / 2 ^ (63 - 4 * k) / 2 ^ k / 2 ^ k ≡ word / 2 ^ (64 - 2 * k)) × (word / 2 / 2 ^ (63 - 4 * k) / 2 ^ k / 2 ^ k / 2 ^ k ≡ word / 2 ^ (64 - k))
+pub four_shifts : (word k : ℕ) → k ≤ 14 → (word / 2 / 2 ^ (63 - 4 * k) ≡ word / 2 ^ (64 - 4 * k)) × (word / 2 / 2 ^ (63 - 4 * k) / 2 ^ k
+    ≡ word / 2 ^ (64 - 3 * k)) × (word / 2 / 2 ^ (63 - 4 * k) / 2 ^ k / 2 ^ k ≡ word / 2 ^ (64 - 2 * k)) × (word / 2 / 2 ^ (63 - 4 * k) / 2 ^ k / 2 ^ k / 2 ^ k
+    ≡ word / 2 ^ (64 - k))
 four_shifts word k le =
     let down : (a b : ℕ) → a + k ≡ b → word / 2 ^ a / 2 ^ k ≡ word / 2 ^ b = λ a b e. shr-shr word a k ∙ ap (λ (n : ℕ). word / 2 ^ n) e in
     let fourth : word / 2 / 2 ^ (63 - 4 * k) ≡ word / 2 ^ (64 - 4 * k) = two_shifts word (4 * k) (omega arith) in
@@ -74,3 +77,34 @@ near_falls sum len a b first least most le =
     let pos : 1 ≤ p = pow_pos (first + 1) in
     let under : (len + 1) * p ≤ 2 * 2 ^ b * p = mul-le (len + 1) p (2 * 2 ^ b) p (omega arith) (omega arith) in
     omega arith
+
+pub later : (a b c t u : ℕ) → b < a → (a < c) ⊎ ((a ≡ c) × (t ≤ u)) → b < c
+later a b c t u lt h = grind arith
+
+pub either : (a b t u : ℕ) → a ≤ b → t ≤ u → (a < b) ⊎ ((a ≡ b) × (t ≤ u))
+either a b t u le turns = elim (cases_lt a b) [ inl lt ↦ inl lt | inr ge ↦ inr (omega arith, turns) ]
+
+pub both_lead : (a b t u : ℕ) → (a < b) ⊎ ((a ≡ b) × (t ≤ u)) → (b < a) ⊎ ((b ≡ a) × (u ≤ t)) → t ≡ u
+both_lead a b t u p q = grind arith
+
+pub lead_cost : (a b t u : ℕ) → (a < b) ⊎ ((a ≡ b) × (t ≤ u)) → a ≤ b
+lead_cost a b t u h = grind arith
+
+-- where fewer numbers were handled than all blocks have, a block is left
+pub block_left : (size count many held : ℕ) → many * size + held < count * size → many < count
+block_left size count many held few =
+    elim (cases_lt many count) [
+      | inl lt ↦ lt
+      | inr ge ↦ (let p = mul-le count size many size ge (omega arith) in absurd (omega arith))
+    ]
+
+pub leb-true : (a b : ℕ) → leb a b ≡ true → a ≤ b
+leb-true a b h = grind (arith, nat_tests)
+
+pub leb-false : (a b : ℕ) → leb a b ≡ false → b < a
+leb-false a b h = grind (arith, nat_tests)
+
+pub and_true : (a b : Bool) → (a && b) ≡ true → (a ≡ true) × (b ≡ true)
+and_true true true h = (refl, refl)
+and_true true false h = absurd cc
+and_true false b h = absurd cc

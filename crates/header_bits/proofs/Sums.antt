@@ -1,5 +1,6 @@
 -- Sums of numbers, and of the numbers from 1 on.
-use Rattle.std.proofs.Common.{◌≡◌, ℕ, zero, suc, ◌+◌, ◌*◌, ◌/◌, ◌<◌, ◌≤◌, List, [], ◌∷◌, ◌++◌, length, sum, refl, arith, ◌-◌, take, drop, get_or, ap, ◌∙◌, Fits, w16, lit<}
+use Rattle.std.proofs.Common.{◌≡◌, ℕ, zero, suc, ◌+◌, ◌*◌, ◌/◌, ◌<◌, ◌≤◌, List, [], ◌∷◌, ◌++◌, length, sum, refl, arith, ◌-◌, take, drop, get_or, ap, ◌∙◌, Fits}
+use Rattle.std.proofs.Common.{w16, lit<}
 use Rattle.std.specs.List.{AllByRecursion}
 use Rattle.std.proofs.lemmas.List.Sums.{sum_by-cons, sum_by-append, sum_by_push}
 use Rattle.std.proofs.Math.Seq.{take-add}

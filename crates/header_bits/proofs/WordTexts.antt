@@ -29,8 +29,8 @@ module _ {held word : ℕ} {whole rest : List Bool} where
   pub words_joined : (n bits next : ℕ) (after : List Bool) → Words held word whole rest → rest ≡ bits_of n bits ++ after → next < 2 ^ (held + n)
       → bits_of (held + n) next ≡ bits_of held word ++ bits_of n bits → Words (held + n) next whole after
   words_joined n bits next after h is below joined = record {
-    text = ap (λ (x : List Bool). x ++ after) joined ∙ append_assoc (bits_of held word) (bits_of n bits) after
-        ∙ ap (λ (x : List Bool). bits_of held word ++ x) (sym is) ∙ h.text;
+    text = ap (λ (x : List Bool). x ++ after) joined ∙ append_assoc (bits_of held word) (bits_of n bits) after ∙ ap (λ (x : List Bool). bits_of held word ++ x)
+        (sym is) ∙ h.text;
     below = below;
   }
 
