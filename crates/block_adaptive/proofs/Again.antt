@@ -1,5 +1,6 @@
 -- What is spelled by a lawful data set is read as that data set, whatever follows it.
-use Rattle.std.proofs.Common.{◌≡◌, ℕ, suc, ◌+◌, ◌-◌, ◌*◌, ◌/◌, ◌^◌, ◌<◌, ◌≤◌, max, Bool, true, false, cond, eqb, leb, ltb, ◌&&◌, List, ◌∷◌, ◌++◌, Ok, refl, sym, subst, ◌∙◌, inl, inr, append_assoc, arith, eq-eqb}
+use Rattle.std.proofs.Common.{◌≡◌, ℕ, suc, ◌+◌, ◌-◌, ◌*◌, ◌/◌, ◌^◌, ◌<◌, ◌≤◌, max, Bool, true, false, cond, eqb, leb, ltb, ◌&&◌, List, ◌∷◌, ◌++◌, Ok, refl, sym}
+use Rattle.std.proofs.Common.{subst, ◌∙◌, inl, inr, append_assoc, arith, eq-eqb}
 use Rattle.std.proofs.lemmas.Bool.{le-ltb, cases_lt, eq-eqb, le-leb, lt-leb, ne_eqb}
 use Rattle.std.proofs.Math.Pow.{pow_mono}
 use Rattle.block_adaptive.specs.Laws.{OneText}
@@ -9,8 +10,7 @@ use Rattle.block_adaptive.specs.declared.options.Choice.TheVariants.{Uncoded, Se
 use Rattle.block_adaptive.specs.Options.{width, greatest_value, zero_identifier, identifier, coded, option_text, quotient_codes, low_groups, pair_codes}
 use Rattle.block_adaptive.specs.DataSets.{CodedDataSet, Block, Run, RestOfSegment, run_code, rest_code, spelled, IsCodedDataSet, IsBlock}
 use Rattle.block_adaptive.specs.Reading.{Site, run_at, data_set_at, pairs_at, words_at, split_at}
-use Rattle.header_bits.proofs.Reading.{ok_is}
-use Rattle.header_bits.proofs.Reading.{number_again}
+use Rattle.header_bits.proofs.Reading.{ok_is, number_again}
 use Rattle.header_bits.proofs.Fronts.{zeros_again, zeros_front, ones_front, bit_front}
 use Rattle.block_adaptive.proofs.Codes.{words_again, split_again}
 use Rattle.block_adaptive.proofs.Triangles.{pairs_again}

@@ -1,24 +1,12 @@
 -- Fundamental sequences that are read first, and judged all at once.
-use Rattle.std.proofs.Common.{◌≡◌, ℕ, zero, suc, ◌+◌, ◌<◌, ◌≤◌, Bool, List, [], ◌∷◌, length, take, set, bit_or, Ok, sym, ap, subst, ◌∙◌, arith}
+use Rattle.std.proofs.Common.{◌≡◌, ℕ, zero, suc, ◌≤◌, Bool, List, ◌∷◌, Ok, sym, ap, subst, ◌∙◌}
 use Rattle.std.specs.List.{AllByRecursion}
-use Rattle.std.proofs.lemmas.List.{take_all, take_more_set}
-use Rattle.std.proofs.lemmas.Nat.{le_or_l, le_or_r}
 use Rattle.cube_core.specs.Steps.{◌>>=◌}
 use Rattle.header_bits.proofs.Fronts.{bind_ok}
 use Rattle.header_bits.proofs.Reading.{ok_is}
 use Rattle.block_adaptive.specs.Reading.{Site, fundamental_at, quotients_at}
 use Rattle.block_adaptive.proofs.Codes.{fundamental_again}
 use Rattle.block_adaptive.proofs.Takes.{fundamental_takes}
-use Rattle.header_bits.proofs.Items.{all_append, all_weaker}
-
-pub bound_more : (bound q i : ℕ) (vs : List ℕ) → i < length vs → AllByRecursion (λ v. v ≤ bound) (take i vs)
-    → AllByRecursion (λ v. v ≤ bit_or bound q) (take (i + 1) (set vs i q))
-bound_more bound q i vs lt h =
-    let before = all_weaker (λ v. v ≤ bound) (λ v. v ≤ bit_or bound q) (λ v le. omega (arith, le_or_l bound q)) _ h in
-    rw (take_more_set _ _ _ lt) (all_append _ (take i vs) (q ∷ []) before (le_or_r _ _, tt))
-
-pub all_bound : (bound i : ℕ) (vs : List ℕ) → i ≡ length vs → AllByRecursion (λ v. v ≤ bound) (take i vs) → AllByRecursion (λ v. v ≤ bound) vs
-all_bound bound i vs same h = subst (λ (xs : List ℕ). AllByRecursion (λ v. v ≤ bound) xs) (take_all i vs (omega arith)) h
 
 -- what is read with more zeros allowed is read so too where it has few
 pub judged_within : (site : Site) (most more n : ℕ) (bits : List Bool) (x : List ℕ × List Bool) → quotients_at site more n bits ≡ Ok x

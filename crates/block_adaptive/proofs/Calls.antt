@@ -1,15 +1,15 @@
 -- What callers of the reader and the writer of blocks know.
-use Rattle.std.proofs.Common.{◌≡◌, ℕ, zero, suc, ◌+◌, ◌-◌, ◌*◌, ◌/◌, ◌<◌, ◌≤◌, Bool, false, leb, List, [], ◌∷◌, ◌++◌, length, replicate, Ok, Err, refl, sym, ap, subst, ◌∙◌, inl, inr, arith, append_assoc}
-use Rattle.std.proofs.lemmas.Bool.{cases_lt, lt-leb}
-use Rattle.std.proofs.lemmas.Nat.{mul-le}
-use Rattle.std.proofs.Math.Nat.{lt-div-mul-add}
+use Rattle.std.proofs.Common.{◌≡◌, ℕ, zero, suc, ◌+◌, ◌-◌, ◌*◌, ◌<◌, ◌≤◌, Bool, false, leb, List, [], ◌∷◌, ◌++◌, length, replicate, Ok, Err, refl, sym, ap}
+use Rattle.std.proofs.Common.{subst, ◌∙◌, inl, inr, arith, append_assoc}
+use Rattle.std.proofs.lemmas.Bool.{lt-leb}
 use Rattle.std.proofs.lemmas.List.{append-nil, length-append, length-replicate}
 use Rattle.cube_core.specs.declared.fault.Fault.{Fault}
 use Rattle.header_bits.specs.Bits.{Unread}
 use Rattle.header_bits.proofs.Fronts.{bind_err}
 use Rattle.block_adaptive.specs.declared.options.CodeSet.{CodeSet}
 use Rattle.block_adaptive.specs.Segments.{blocks, first_blocks, block_count}
-use Rattle.block_adaptive.specs.DataSets.{CodedDataSet, Block, Run, RestOfSegment, Cut, capacity, left_at, IsCodedDataSet, AreCodedDataSets, blocks_in, blocks_of, blocks_told, values_of, spelled, spelling}
+use Rattle.block_adaptive.specs.DataSets.{CodedDataSet, Block, Run, RestOfSegment, Cut, capacity, left_at, IsCodedDataSet, AreCodedDataSets, blocks_in}
+use Rattle.block_adaptive.specs.DataSets.{blocks_of, blocks_told, values_of, spelled, spelling}
 use Rattle.block_adaptive.specs.Chosen.{chosen_from, chosen_data_sets, chosen_block_body}
 use Rattle.block_adaptive.specs.Reading.{Site, site_of, data_set_at, data_sets_at}
 use Rattle.block_adaptive.specs.Settings.{IsCut}
@@ -21,6 +21,7 @@ use Rattle.block_adaptive.proofs.Counts.{data_set_left}
 use Rattle.block_adaptive.proofs.Handed.{size_least, size_halved}
 use Rattle.block_adaptive.proofs.Packing.{values_length, first_of_blocks}
 use Rattle.std.proofs.lemmas.Grind.{flat_map-append}
+use Rattle.header_bits.proofs.Intervals.{count_least}
 
 -- ---- data sets and the blocks that they stand for
 
@@ -97,18 +98,6 @@ next_refused v reader e cut few none bad given bits h =
     body_refused v given bits reader.left reader.count e cut few none h text
 
 -- ---- what was appended begins the body
-
-count_least : (size many rest : ℕ) → 1 ≤ size → many ≤ block_count size (many * size + rest)
-count_least size many rest pos =
-    let over = lt-div-mul-add {a = many * size + rest + size - 1} {b = size} (omega arith) in
-    block_least size many ((many * size + rest + size - 1) / size) (omega arith)
-  where
-    block_least : (size many q : ℕ) → many * size < (q + 1) * size → many ≤ q
-    block_least size many q lt =
-        elim (cases_lt q many) [
-          | inl below ↦ (let p = mul-le (q + 1) size many size (omega arith) (omega arith) in absurd (omega arith))
-          | inr above ↦ above
-        ]
 
 pub taken_is_prefix : TakenIsPrefix
 unfolding chosen_block_body chosen_data_sets blocks

@@ -1,5 +1,6 @@
 -- Writing texts, part after part.
-use Rattle.std.proofs.Common.{◌≡◌, ℕ, zero, suc, ◌+◌, ◌-◌, ◌*◌, ◌/◌, ◌%◌, ◌^◌, ◌<◌, ◌≤◌, false, List, [], ◌∷◌, ◌++◌, length, drop, replicate, get_or, refl, sym, ap, ◌∙◌, arith, add-one, drop-cons}
+use Rattle.std.proofs.Common.{◌≡◌, ℕ, zero, suc, ◌+◌, ◌-◌, ◌*◌, ◌/◌, ◌%◌, ◌^◌, ◌<◌, ◌≤◌, false, List, [], ◌∷◌, ◌++◌, length, drop, replicate, get_or, refl, sym}
+use Rattle.std.proofs.Common.{ap, ◌∙◌, arith, add-one, drop-cons}
 use Rattle.std.proofs.lemmas.List.{length-append, drop_all}
 use Rattle.header_bits.specs.Bits.{bits_of, fundamental}
 use Rattle.header_bits.proofs.Numbers.{length-bits_of, bits_of_zero, bits_of_one, bits_of-fundamental, bits_of-mod}

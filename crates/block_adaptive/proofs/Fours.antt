@@ -1,9 +1,8 @@
 -- The low bits of values, four values at a time.
-use Rattle.std.proofs.Common.{◌≡◌, ℕ, ◌+◌, ◌-◌, ◌*◌, ◌/◌, ◌%◌, ◌^◌, ◌<◌, ◌≤◌, Bool, false, ltb, List, [], ◌∷◌, ◌++◌, length, take, drop, set, get_or, Ok, refl, sym, ap, subst, ◌∙◌, arith, append_assoc, pow_pos}
+use Rattle.std.proofs.Common.{◌≡◌, ℕ, ◌+◌, ◌-◌, ◌*◌, ◌/◌, ◌%◌, ◌^◌, ◌<◌, ◌≤◌, Bool, false, ltb, List, [], ◌∷◌, length, drop, Ok, refl, sym, subst, arith}
+use Rattle.std.proofs.Common.{pow_pos}
 use Rattle.std.specs.List.{AllByRecursion}
 use Rattle.std.proofs.lemmas.Bool.{le-ltb}
-use Rattle.std.proofs.lemmas.List.{drop_at, length-append, length-take}
-use Rattle.std.proofs.lemmas.Nat.{mul-le}
 use Rattle.std.proofs.Math.Nat.{mod-lt}
 use Rattle.header_bits.specs.Windows.{IsAhead as IsFront}
 use Rattle.header_bits.proofs.Ahead.{number_ahead}
@@ -12,28 +11,7 @@ use Rattle.block_adaptive.specs.Reading.{Site, quotients_at, low_at, lows_at, sp
 use Rattle.block_adaptive.proofs.Codes.{low_again}
 use Rattle.block_adaptive.proofs.Takes.{quotients_takes}
 use Rattle.header_bits.proofs.Numbers.{no_bits}
-use Rattle.header_bits.proofs.Items.{all_weaker, all_drop}
-
--- ---- quotients that allow any low bits
-
-abbrev pub Within : ℕ → ℕ → List ℕ → Type 0
-Within k limit qs = AllByRecursion (λ q. (q + 1) * 2 ^ k ≤ limit) qs
-
--- all do, where the greatest does
-pub all_within : (k greatest limit : ℕ) (qs : List ℕ) → (greatest + 1) * 2 ^ k ≤ limit → AllByRecursion (λ q. q ≤ greatest) qs → Within k limit qs
-all_within k greatest limit qs within h =
-    all_weaker _ _ (λ q le. (let p = mul-le (q + 1) (2 ^ k) (greatest + 1) (2 ^ k) (omega arith) (omega arith) in omega arith)) qs h
-
--- each of four does, though those before it are written over
-pub four_within : (k limit : ℕ) (xs : List ℕ) (r s t : ℕ) → length xs ≡ 4 → Within k limit xs
-    → ((get_or xs 0 0 + 1) * 2 ^ k ≤ limit) × ((get_or (set xs 0 r) 1 0 + 1) * 2 ^ k ≤ limit) × ((get_or (set (set xs 0 r) 1 s) 2 0 + 1) * 2 ^ k ≤ limit) ×
-    ((get_or (set (set (set xs 0 r) 1 s) 2 t) 3 0 + 1) * 2 ^ k ≤ limit)
-four_within k limit [] r s t len h = absurd (omega arith)
-four_within k limit (a ∷ []) r s t len h = absurd (omega arith)
-four_within k limit (a ∷ b ∷ []) r s t len h = absurd (omega arith)
-four_within k limit (a ∷ b ∷ c ∷ []) r s t len h = absurd (omega arith)
-four_within k limit (a ∷ b ∷ c ∷ d ∷ []) r s t len h = (h.0, h.1.0, h.1.1.0, h.1.1.1.0)
-four_within k limit (a ∷ b ∷ c ∷ d ∷ e ∷ xs) r s t len h = absurd (omega arith)
+use Rattle.header_bits.proofs.Fours.{Within}
 
 -- ---- low bits among the highest bits of a word
 
@@ -92,11 +70,3 @@ split_none site k most n bits left qs none read =
     let here : lows_at site k most qs left ≡ Ok (qs, left) = subst (λ (m : ℕ). lows_at site m most qs left ≡ Ok (qs, left)) (sym none)
     (all_none _ _ _ _ small) in
     rw read here
-
-pub fours_behind : (k limit i n : ℕ) (vs new : List ℕ) → i + n ≤ length vs → length new ≡ n → Within k limit (drop i vs)
-    → Within k limit (drop (i + n) (take i vs ++ (new ++ drop n (drop i vs))))
-fours_behind k limit i n vs new le long h =
-    let behind : List ℕ = drop n (drop i vs) in
-    let size : length (take i vs ++ new) ≡ i + n = omega (arith, length-append (take i vs) new, length-take i vs) in
-    let rest : drop (i + n) (take i vs ++ (new ++ behind)) ≡ behind = ap (drop (i + n)) (sym (append_assoc (take i vs) new behind)) ∙ drop_at _ _ _ size in
-    rw rest (all_drop _ n _ h)

@@ -1,5 +1,6 @@
 -- What a reader has in hand.
-use Rattle.std.proofs.Common.{◌≡◌, ℕ, ◌+◌, ◌-◌, ◌*◌, ◌<◌, ◌≤◌, Bool, List, [], ◌∷◌, ◌++◌, take, drop, None, Ok, ◌/◌, inl, refl, sym, ap, ◌∙◌, arith, append_assoc, replicate}
+use Rattle.std.proofs.Common.{◌≡◌, ℕ, ◌+◌, ◌-◌, ◌*◌, ◌<◌, ◌≤◌, Bool, List, [], ◌∷◌, ◌++◌, take, drop, None, Ok, ◌/◌, inl, refl, sym, ap, ◌∙◌, arith}
+use Rattle.std.proofs.Common.{append_assoc, replicate}
 use Rattle.std.proofs.lemmas.List.{append-nil}
 use Rattle.std.proofs.lemmas.Nat.{mul-le}
 use Rattle.header_bits.specs.Bits.{Unread}
@@ -9,7 +10,8 @@ use Rattle.block_adaptive.specs.Holding.{AreParts}
 use Rattle.block_adaptive.specs.Reading.{site_of, data_set_at}
 use Rattle.block_adaptive.proofs.Lawful.{rest_least}
 use Rattle.block_adaptive.proofs.Taken.{data_set_is_taken}
-use Rattle.block_adaptive.specs.DataSets.{CodedDataSet, Run, RestOfSegment, Cut, IsCodedDataSet, AreCodedDataSets, left_at, blocks_in, blocks_of, blocks_told, values_of, spelled, spelling}
+use Rattle.block_adaptive.specs.DataSets.{CodedDataSet, Cut, IsCodedDataSet, AreCodedDataSets, left_at, blocks_in, blocks_of, blocks_told, values_of, spelled}
+use Rattle.block_adaptive.specs.DataSets.{spelling}
 use Rattle.block_adaptive.specs.Given.{Unpacked, HasGiven, holding, next_data_set}
 use Rattle.std.proofs.lemmas.Grind.{flat_map-append}
 use Rattle.header_bits.proofs.Places.{run_in_hand, zeros}
@@ -77,8 +79,7 @@ told_push c i j (u ∷ data_sets) t h =
 -- ---- what was given
 
 pub data_set_given : (v : Unpacked) (reader : Unread) (given : List ℕ) (bits left : List Bool) (t : CodedDataSet) → IsCut v.cut → v.block < v.cut.count
-    → v.held ≡ [] → HasGiven v given bits
-    → data_set_at (site_of reader v.block) v.cut.set v.cut.size (left_at v.cut v.block) reader.left ≡ Ok (t, left)
+    → v.held ≡ [] → HasGiven v given bits → data_set_at (site_of reader v.block) v.cut.set v.cut.size (left_at v.cut v.block) reader.left ≡ Ok (t, left)
     → (reader.left ≡ spelled v.cut.set t ++ left) × HasGiven (holding v t) given (bits ++ spelled v.cut.set t)
 data_set_given v reader given bits left t cut more none h e =
     let half = size_halved _ cut.size in

@@ -1,5 +1,6 @@
 -- What a writer has taken, several numbers at a time.
-use Rattle.std.proofs.Common.{◌≡◌, ℕ, ◌+◌, ◌-◌, ◌^◌, ◌<◌, ◌≤◌, Bool, List, ◌++◌, length, take, drop, get_or, sum, refl, sym, ap, subst, ◌∙◌, inl, inr, arith, append_assoc}
+use Rattle.std.proofs.Common.{◌≡◌, ℕ, ◌+◌, ◌-◌, ◌^◌, ◌<◌, ◌≤◌, Bool, List, ◌++◌, length, take, drop, get_or, sum, refl, ap, ◌∙◌, inl, inr, arith, append_assoc}
+use Rattle.std.proofs.Common.{[], ◌∷◌}
 use Rattle.std.specs.List.{AllByRecursion}
 use Rattle.std.specs.Prelude.{Result, Ok, Err, OnErr}
 use Rattle.std.proofs.Math.Seq.{take-add}
@@ -32,45 +33,45 @@ stored_more c i counted total held list h range few more = record {
 
 -- ---- what was taken
 
-pub puts_behind : (a b : List ℕ) (old mid new : Packed) (written now later : List Bool) → PutsAll a old written mid now → PutsAll b mid now new later
-    → PutsAll (a ++ b) old written new later
-puts_behind a b old mid new written now later first second taken bits h =
-    let one = first taken bits h in
-    let two = second (taken ++ a) (bits ++ one.0) one.2 in (
-      one.0 ++ two.0,
-      two.1 ∙ (λ i. one.1 i ++ two.0) ∙ append_assoc _ one.0 two.0,
-      subst (λ (x : List ℕ). HasTaken new x (bits ++ (one.0 ++ two.0))) (append_assoc taken _ _) (subst (λ (x : List Bool). HasTaken new ((taken ++ a) ++ b) x)
-          (append_assoc bits one.0 two.0) two.2),
-    )
+-- the numbers of a list were put
+pub record Puts (list : List ℕ) (old : Packed) (written : List Bool) (new : Packed) (now : List Bool) : Type 0 where
+  pub puts : PutsAll list old written new now
 
-pub hold_more : (old v new : Packed) (list : List ℕ) (first count : ℕ) (written now : List Bool) → PutsAll (take first list) old written v now
-    → new ≡ record v { held = v.held ++ take (first + count - first) (drop first list) } → PutsAll (take (first + count) list) old written new now
-hold_more old v new list first count written now puts is =
-    let e : first + count - first ≡ count = omega arith in
-    let here : PutsAll (take count (drop first list)) v now new now = values_held _ _ _ _ (is ∙ ap (λ n. record v { held = v.held ++ take n (drop first list) })
-    e) in
-    subst (λ (x : List ℕ). PutsAll x old written new now) (sym (take-add _ _ _)) (puts_behind _ _ _ _ _ _ _ _ puts here)
+module _ {old v new : Packed} {written now later : List Bool} where
+  puts_behind : {a : List ℕ} (b : List ℕ) → Puts a old written v now → PutsAll b v now new later → Puts (a ++ b) old written new later
+  puts_behind {a} b first second = record {
+    puts = λ taken bits h.
+        let one = first.puts taken bits h in
+        let two = second (taken ++ a) (bits ++ one.0) one.2 in
+        let has : HasTaken new (taken ++ (a ++ b)) (bits ++ (one.0 ++ two.0)) = rw (← append_assoc taken a b, ← append_assoc bits one.0 two.0) two.2 in
+        (one.0 ++ two.0, two.1 ∙ (λ i. one.1 i ++ two.0) ∙ append_assoc written one.0 two.0, has);
+  }
 
--- a block's numbers, or the first of them
-pub block_more : (old v new : Packed) (list : List ℕ) (first size count : ℕ) (written now later : List Bool) → count ≤ size
-    → PutsAll (take first list) old written v now → PutsAll (take count (take (first + size - first) (drop first list))) v now new later
-    → PutsAll (take (first + count) list) old written new later
-block_more old v new list first size count written now later le puts more =
-    let e : first + size - first ≡ size = omega arith in
-    let here : PutsAll (take count (drop first list)) v now new later = rw (e, take-take _ _ _ le) at more in
-    subst (λ (x : List ℕ). PutsAll x old written new later) (sym (take-add _ _ _)) (puts_behind _ _ _ _ _ _ _ _ puts here)
+  -- a block's numbers, or the first of them
+  pub block_more : (list : List ℕ) (first size count : ℕ) → count ≤ size → Puts (take first list) old written v now
+      → PutsAll (take count (take (first + size - first) (drop first list))) v now new later → Puts (take (first + count) list) old written new later
+  block_more list first size count le h more =
+      let e : first + size - first ≡ size = omega arith in
+      rw (take-add first count list) (puts_behind _ h (rw (e, take-take count size (drop first list) le) at more))
 
-pub number_more : (old v new : Packed) (list : List ℕ) (n : ℕ) (written now later : List Bool) → PutsAll (take n list) old written v now → n < length list
-    → PutsNumber (get_or list n 0) v now new later → PutsAll (take (n + 1) list) old written new later
-number_more old v new list n written now later puts lt number =
-    subst (λ (x : List ℕ). PutsAll x old written new later) (sym (take_more _ _ _ lt)) (puts_behind _ _ _ _ _ _ _ _ puts number)
+  pub number_more : (list : List ℕ) (n : ℕ) → Puts (take n list) old written v now → n < length list → PutsNumber (get_or list n 0) v now new later
+      → Puts (take (n + 1) list) old written new later
+  number_more list n h lt number = rw (take_more list n 0 lt) (puts_behind (get_or list n 0 ∷ []) h number)
+
+module _ {old v new : Packed} {written now : List Bool} where
+  pub hold_more : (list : List ℕ) (first count : ℕ) → Puts (take first list) old written v now
+      → new ≡ record v { held = v.held ++ take (first + count - first) (drop first list) } → Puts (take (first + count) list) old written new now
+  hold_more list first count h is =
+      let e : first + count - first ≡ count = omega arith in
+      let here = values_held v new now (take count (drop first list)) (is ∙ (λ i. record v { held = v.held ++ take (e i) (drop first list) })) in
+      rw (take-add first count list) (puts_behind _ h here)
 
 -- a refused call leaves what it left before
-pub after_refusal : (r : Result (Unit {0}) Fault) (old v new : Packed) (list : List ℕ) (written now later : List Bool) → ((x : Unit {0}) → r ≡ Ok x → ⊥)
-    → OnErr r ((new ≡ v) × (later ≡ now)) → PutsAll list old written v now → PutsAll list old written new later
-after_refusal (Ok x) old v new list written now later never same puts = absurd (never x refl)
-after_refusal (Err e) old v new list written now later never same puts =
-    subst (λ (w : Packed). PutsAll list old written w later) (sym same.0) (subst (λ (bits : List Bool). PutsAll list old written v bits) (sym same.1) puts)
+module _ {old v : Packed} {list : List ℕ} {written now : List Bool} where
+  pub after_refusal : (r : Result (Unit {0}) Fault) (new : Packed) (later : List Bool) → ((x : Unit {0}) → r ≡ Ok x → ⊥) → OnErr r ((new ≡ v) × (later ≡ now))
+      → Puts list old written v now → PutsAll list old written new later
+  after_refusal (Ok x) new later never same h = absurd (never x refl)
+  after_refusal (Err e) new later never same h = rw (same.0, same.1) h.puts
 
 pub held_counted : (v new : Packed) (list : List ℕ) (first count : ℕ) → first + count ≤ length list
     → new ≡ record v { held = v.held ++ take (first + count - first) (drop first list) } → taken_count new ≡ taken_count v + count

@@ -1,5 +1,6 @@
 -- The chosen data sets are lawful, and stand for the blocks.
-use Rattle.std.proofs.Common.{◌≡◌, ℕ, zero, suc, ◌+◌, ◌%◌, ◌<◌, ◌≤◌, Bool, true, false, cond, eqb, leb, ◌&&◌, List, [], ◌∷◌, length, take, drop, replicate, refl, sym, ◌∙◌, arith, lit<, inl, inr}
+use Rattle.std.proofs.Common.{◌≡◌, ℕ, zero, suc, ◌+◌, ◌%◌, ◌<◌, ◌≤◌, Bool, true, false, cond, eqb, leb, ◌&&◌, List, [], ◌∷◌, length, take, drop, replicate}
+use Rattle.std.proofs.Common.{refl, sym, ◌∙◌, arith, lit<, inl, inr}
 use Rattle.std.proofs.lemmas.Bool.{eqb-true, eqb-false}
 use Rattle.std.proofs.lemmas.List.{take-append-drop, length-drop}
 use Rattle.std.proofs.Math.Nat.{mod-lt}
@@ -12,13 +13,9 @@ use Rattle.block_adaptive.specs.Laws.{AreBlocks, ChosenIsLawful}
 use Rattle.block_adaptive.proofs.Tried.{option_is_least}
 use Rattle.header_bits.proofs.Items.{all_drop}
 use Rattle.header_bits.proofs.Fronts.{by_test}
+use Rattle.header_bits.proofs.Powers.{and_true}
 
 -- ---- runs
-
-and_true : (a b : Bool) → (a && b) ≡ true → (a ≡ true) × (b ≡ true)
-and_true true true h = (refl, refl)
-and_true true false h = absurd cc
-and_true false b h = absurd cc
 
 pub zeros_of : (b : List ℕ) (size : ℕ) → length b ≡ size → is_zero b ≡ true → b ≡ replicate size 0
 zeros_of [] zero e h = refl

@@ -1,9 +1,9 @@
 -- What a writer has taken, block after block.
-use Rattle.std.proofs.Common.{◌≡◌, ℕ, zero, suc, ◌+◌, ◌-◌, ◌*◌, ◌^◌, ◌<◌, ◌≤◌, Bool, true, false, eqb, List, [], ◌∷◌, ◌++◌, length, take, drop, replicate, refl, sym, ap, subst, ◌∙◌, inl, inr, arith, append_assoc}
+use Rattle.std.proofs.Common.{◌≡◌, ℕ, zero, suc, ◌+◌, ◌-◌, ◌*◌, ◌^◌, ◌<◌, ◌≤◌, Bool, true, false, eqb, List, [], ◌∷◌, ◌++◌, length, take, drop, replicate, refl}
+use Rattle.std.proofs.Common.{sym, ap, subst, ◌∙◌, inl, inr, arith, append_assoc}
 use Rattle.std.specs.List.{AllByRecursion}
 use Rattle.std.proofs.lemmas.Bool.{cases_lt, eqb-true, ne_eqb}
 use Rattle.std.proofs.lemmas.List.{append-nil, length-append, length-replicate, take_at, drop_at, take_all, replicate_more}
-use Rattle.std.proofs.lemmas.Nat.{div-mul-add}
 use Rattle.block_adaptive.specs.declared.options.CodeSet.{CodeSet}
 use Rattle.block_adaptive.specs.Segments.{filled, first_blocks, blocks, block_count}
 use Rattle.block_adaptive.specs.DataSets.{CodedDataSet, Cut, left_at, spelled, spelling, values_of}
@@ -19,6 +19,7 @@ use Rattle.std.proofs.lemmas.Grind.{flat_map-append}
 use Rattle.header_bits.proofs.Places.{zeros}
 use Rattle.header_bits.proofs.Fronts.{by_test}
 use Rattle.std.proofs.lemmas.Bool.Decides.{nat_tests}
+use Rattle.header_bits.proofs.Intervals.{count_even, count_odd}
 
 -- ---- one block more, in the chosen data sets
 
@@ -163,18 +164,6 @@ values_length s size [] h = omega arith
 values_length s size (b ∷ bs) h = omega (arith, length-append b (values_of bs), h.0.0, values_length s size bs h.1)
 
 -- ---- the cutting, and the end
-
-count_even : (size n : ℕ) → 1 ≤ size → block_count size (n * size) ≡ n
-count_even size n pos =
-    let below : size - 1 < size = omega arith in
-    let e : n * size + size - 1 ≡ n * size + (size - 1) = omega arith in
-    rw e (div-mul-add _ _ _ below)
-
-count_odd : (size n k : ℕ) → 1 ≤ k → k ≤ size → block_count size (n * size + k) ≡ n + 1
-count_odd size n k least most =
-    let below : k - 1 < size = omega arith in
-    let e : n * size + k + size - 1 ≡ (n + 1) * size + (k - 1) = omega arith in
-    rw e (div-mul-add _ _ _ below)
 
 -- the blocks of numbers of which whole blocks and some values more were taken
 blocks_even : (s : CodeSet) (size : ℕ) (bs : List (List ℕ)) → 1 ≤ size → AreBlocks s size bs → blocks size (values_of bs ++ []) ≡ bs

@@ -13,7 +13,8 @@ use Rattle.block_adaptive.proofs.Handed.{data_set_given}
 use Rattle.header_bits.proofs.Items.{all_append, all_first, all_last, all_replicate}
 use Rattle.std.proofs.lemmas.Grind.{flat_map-append}
 use Rattle.block_adaptive.specs.declared.options.CodeSet.{CodeSet}
-use Rattle.block_adaptive.specs.DataSets.{CodedDataSet, Block as Whole, Run, RestOfSegment, Cut, left_at, IsCodedDataSet, AreCodedDataSets, blocks_of, blocks_told, values_of, spelled, blocks_in}
+use Rattle.block_adaptive.specs.DataSets.{CodedDataSet, Block as Whole, Run, RestOfSegment, Cut, left_at, IsCodedDataSet, AreCodedDataSets, blocks_of}
+use Rattle.block_adaptive.specs.DataSets.{blocks_told, values_of, spelled, blocks_in}
 use Rattle.header_bits.proofs.Places.{values_of_zeros, zeros}
 
 -- ---- in range

@@ -1,5 +1,6 @@
 -- Segments are as many as are counted, and each has a data set of three bits at least.
-use Rattle.std.proofs.Common.{◌≡◌, ℕ, min, cond, add-zero, zero, suc, ◌+◌, ◌-◌, ◌*◌, ◌/◌, ◌%◌, ◌<◌, ◌≤◌, true, false, leb, List, [], ◌∷◌, ◌++◌, length, replicate, sum, refl, sym, ap, subst, ◌∙◌, inl, inr, arith}
+use Rattle.std.proofs.Common.{◌≡◌, ℕ, min, cond, add-zero, zero, suc, ◌+◌, ◌-◌, ◌*◌, ◌/◌, ◌%◌, ◌<◌, ◌≤◌, true, false, leb, List, [], ◌∷◌, ◌++◌, length}
+use Rattle.std.proofs.Common.{replicate, sum, refl, ap, subst, ◌∙◌, inl, inr, arith}
 use Rattle.std.proofs.lemmas.Bool.{cases_lt, le-leb, lt-leb}
 use Rattle.std.proofs.lemmas.List.{length-append, length-replicate}
 use Rattle.std.proofs.lemmas.Nat.{mod-mul-add, div-add-mod', mod_below, mul-le}
@@ -8,7 +9,8 @@ use Rattle.block_adaptive.specs.declared.options.CodeSet.{CodeSet}
 use Rattle.block_adaptive.specs.declared.options.Choice.TheVariants.{Uncoded, Second, Split}
 use Rattle.block_adaptive.specs.Options.{width, splits, pair_codes, pair_number, zero_identifier}
 use Rattle.block_adaptive.specs.Segments.{block_count, segment_rest, segments_from, segments}
-use Rattle.block_adaptive.specs.DataSets.{CodedDataSet, Block, Run, RestOfSegment, Cut, cut_of, left_at, IsCodedDataSet, AreCodedDataSets, blocks_in, spelled, spelling, run_code, rest_code}
+use Rattle.block_adaptive.specs.DataSets.{CodedDataSet, Block, Run, RestOfSegment, Cut, cut_of, left_at, IsCodedDataSet, AreCodedDataSets, blocks_in, spelled}
+use Rattle.block_adaptive.specs.DataSets.{spelling, run_code, rest_code}
 use Rattle.block_adaptive.specs.Laws.{SegmentsAreCounted, NoShorterBody}
 use Rattle.block_adaptive.proofs.Bodies.{data_set_most, data_sets_few, data_set_some}
 use Rattle.block_adaptive.proofs.Costs.{uncoded_cost, second_cost, split_cost, quotients_least, pairs_more}
@@ -16,7 +18,7 @@ use Rattle.block_adaptive.proofs.Again.{width_least}
 use Rattle.block_adaptive.proofs.Bounded.{no_splits}
 use Rattle.block_adaptive.proofs.Lawful.{rest_least}
 use Rattle.header_bits.proofs.Sums.{sum_cons}
-use Rattle.header_bits.proofs.Intervals.{begun, begun_none, begun_on, few_at, one_at}
+use Rattle.header_bits.proofs.Intervals.{begun, begun_none, few_at, one_at, begun_within}
 use Rattle.header_bits.proofs.Zeros.{length-fundamental}
 
 -- ---- a segment's length from a place on
@@ -24,28 +26,14 @@ use Rattle.header_bits.proofs.Zeros.{length-fundamental}
 -- blocks of one segment begin one segment at most
 begun_few : (r n i k : ℕ) → 1 ≤ r → k ≤ segment_rest r n i → begun r (i + k) ≤ begun r i + 1
 unfolding segment_rest
-begun_few r n i k pos le =
-    let whole = div-add-mod' i r in
-    let below = mod_below i _ pos in
-    let to = begun_on _ _ _ _ (omega arith) pos in
-    let at : i / r * r + i % r + k ≡ i + k = omega arith in
-    let step = few_at (i % r) k (omega arith) in
-    let there : begun r (i + k) ≡ i / r * ((r + 63) / 64) + (i % r + k + 63) / 64 = ap (begun r) (sym at) ∙ to in
-    omega (arith, there, step)
+begun_few r n i k pos le = omega (arith, begun_within r i k pos (omega arith), few_at (i % r) k (omega arith))
 
 -- a whole segment begins one
 begun_one : (r n i : ℕ) → 1 ≤ r → i < n → i % r % 64 ≡ 0 → begun r (i + segment_rest r n i) ≡ begun r i + 1
 unfolding segment_rest
 begun_one r n i pos lt border =
-    let whole = div-add-mod' i r in
-    let below = mod_below i _ pos in
     let k : ℕ = min (64 - i % r % 64) (min (r - i % r) (n - i)) in
-    let some : 1 ≤ k = rest_least _ _ _ pos lt in
-    let to = begun_on _ _ _ _ (omega arith) pos in
-    let at : i / r * r + i % r + k ≡ i + k = omega arith in
-    let step = one_at _ _ border some (omega arith) in
-    let there : begun r (i + k) ≡ i / r * ((r + 63) / 64) + (i % r + k + 63) / 64 = ap (begun r) (sym at) ∙ to in
-    omega (arith, there, step)
+    omega (arith, begun_within r i k pos (omega arith), one_at (i % r) k border (rest_least r n i pos lt) (omega arith))
 
 -- and ends at the last block, or where another begins
 border_next : (r n i : ℕ) → 1 ≤ r → i < n → i % r % 64 ≡ 0 → i + segment_rest r n i < n → (i + segment_rest r n i) % r % 64 ≡ 0

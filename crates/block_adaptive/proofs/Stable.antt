@@ -1,5 +1,6 @@
 -- Bits behind those that were read change nothing, but for a data set that they end too early.
-use Rattle.std.proofs.Common.{◌≡◌, ◌⊎◌, ◌+◌, ◌-◌, ◌*◌, ◌/◌, ◌^◌, ℕ, max, cond, eqb, leb, ltb, zero, suc, Bool, List, [], ◌∷◌, ◌++◌, Result, Ok, Err, refl, ap, ◌∙◌, inl, inr}
+use Rattle.std.proofs.Common.{◌≡◌, ◌⊎◌, ◌+◌, ◌-◌, ◌*◌, ◌/◌, ◌^◌, ℕ, max, cond, eqb, leb, ltb, zero, suc, Bool, List, [], ◌∷◌, ◌++◌, Result, Ok, Err, refl, ap}
+use Rattle.std.proofs.Common.{◌∙◌, inl, inr}
 use Rattle.cube_core.specs.declared.fault.Fault.{Fault}
 use Rattle.cube_core.specs.declared.fault.Fault.TheVariants.{Truncated}
 use Rattle.header_bits.proofs.Longer.{Goes, goes_then, goes_if, goes_guard, number_goes, zeros_goes}
@@ -7,7 +8,8 @@ use Rattle.block_adaptive.specs.declared.options.CodeSet.{CodeSet}
 use Rattle.block_adaptive.specs.declared.options.Choice.{Choice}
 use Rattle.block_adaptive.specs.Options.{width, greatest_value}
 use Rattle.block_adaptive.specs.DataSets.{CodedDataSet}
-use Rattle.block_adaptive.specs.Reading.{Site, pair_sum, fundamental_at, quotients_at, low_at, lows_at, split_at, words_at, pair_of, pairs_at, run_at, block_read, data_set_at}
+use Rattle.block_adaptive.specs.Reading.{Site, pair_sum, fundamental_at, quotients_at, low_at, lows_at, split_at, words_at, pair_of, pairs_at, run_at}
+use Rattle.block_adaptive.specs.Reading.{block_read, data_set_at}
 use Rattle.block_adaptive.specs.Laws.{FaultIsNoDataSet}
 use Rattle.block_adaptive.proofs.Again.{data_set_again}
 

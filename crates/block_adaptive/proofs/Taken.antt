@@ -1,7 +1,7 @@
 -- A data set that is read is lawful, and the bits begin with its spelling.
-use Rattle.std.proofs.Common.{◌≡◌, ℕ, zero, suc, ◌+◌, ◌-◌, ◌*◌, ◌/◌, ◌^◌, ◌<◌, ◌≤◌, ◌⊎◌, max, Bool, true, false, cond, eqb, leb, ltb, List, [], ◌∷◌, ◌++◌, replicate, Result, Ok, refl, sym, ap, subst, ◌∙◌, inl, inr, append_assoc, arith}
+use Rattle.std.proofs.Common.{◌≡◌, ℕ, zero, suc, ◌+◌, ◌-◌, ◌*◌, ◌/◌, ◌^◌, ◌<◌, ◌≤◌, ◌⊎◌, max, Bool, true, false, cond, eqb, leb, ltb, List, [], ◌∷◌, ◌++◌}
+use Rattle.std.proofs.Common.{replicate, Result, Ok, refl, sym, ap, subst, ◌∙◌, inl, inr, append_assoc, arith}
 use Rattle.std.proofs.lemmas.Bool.{ltb-false, cases_lt, eqb-true, eqb-false, le-leb, lt-leb}
-use Rattle.std.proofs.lemmas.Bool.Decides.{nat_tests}
 use Rattle.std.proofs.lemmas.Nat.{pow_pos}
 use Rattle.cube_core.specs.declared.fault.Fault.{Fault}
 use Rattle.block_adaptive.specs.declared.options.CodeSet.{CodeSet}
@@ -13,21 +13,14 @@ use Rattle.block_adaptive.specs.DataSets.{CodedDataSet, Block, Run, RestOfSegmen
 use Rattle.header_bits.specs.Reading.{number_at, zeros_at}
 use Rattle.block_adaptive.specs.Reading.{Site, greatest, pair_sum, pair_of, pairs_at, run_at, data_set_at, block_read}
 use Rattle.block_adaptive.specs.Laws.{DataSetIsTaken}
-use Rattle.header_bits.proofs.Reading.{ok_is}
-use Rattle.header_bits.proofs.Fronts.{bind_ok, cond_ok, guard_ok, by_test}
+use Rattle.header_bits.proofs.Reading.{ok_is, number_takes}
+use Rattle.header_bits.proofs.Fronts.{bind_ok, cond_ok, guard_ok, by_test, bits_of_ones, zeros_takes}
 use Rattle.header_bits.proofs.Numbers.{bits_of_zero}
-use Rattle.header_bits.proofs.Reading.{number_takes}
-use Rattle.header_bits.proofs.Fronts.{bits_of_ones, zeros_takes}
 use Rattle.header_bits.proofs.Each.{TakesList}
 use Rattle.block_adaptive.proofs.Takes.{fundamental_takes, words_takes, split_takes}
 use Rattle.header_bits.proofs.Items.{all_weaker}
 use Rattle.header_bits.proofs.Sums.{triangle_step}
-
-leb-true : (a b : ℕ) → leb a b ≡ true → a ≤ b
-leb-true a b h = grind (arith, nat_tests)
-
-leb-false : (a b : ℕ) → leb a b ≡ false → b < a
-leb-false a b h = grind (arith, nat_tests)
+use Rattle.header_bits.proofs.Powers.{leb-false, leb-true}
 
 -- ---- runs
 
@@ -73,8 +66,8 @@ greatest_passes f (suc n) h =
     elim (by_test (f (suc n))) [
       | inl e ↦ rw e (e, omega arith, λ m a b. absurd (omega arith))
       | inr e ↦
-          (let above : (m : ℕ) → greatest f n < m → m ≤ suc n → f m ≡ false = λ m a b.
-          elim (cases_lt m (suc n)) [ inl lt ↦ k.2 m a (omega arith) | inr ge ↦ (let same : m ≡ suc n = omega arith in rw same e) ] in
+          (let above : (m : ℕ) → greatest f n < m → m ≤ suc n → f m ≡ false =
+          λ m a b. elim (cases_lt m (suc n)) [ inl lt ↦ k.2 m a (omega arith) | inr ge ↦ (let same : m ≡ suc n = omega arith in rw same e) ] in
           rw e (k.0, omega (arith, k.1), above))
     ]
 
@@ -125,7 +118,8 @@ Taken s size left bits x = (bits ≡ spelled s x.0 ++ x.1) × IsCodedDataSet s s
 -- a block behind its identifier
 block_takes : (site : Site) (s : CodeSet) (size left : ℕ) (o : Choice) (bits after : List Bool) (read : Result (List ℕ × List Bool) Fault)
     (x : CodedDataSet × List Bool) → IsOption s o → bits ≡ identifier s o ++ after
-    → ((y : List ℕ × List Bool) → read ≡ Ok y → TakesList (coded s o) size (λ v. v < 2 ^ s.bits) after y) → block_read o read ≡ Ok x → Taken s size left bits x
+    → ((y : List ℕ × List Bool) → read ≡ Ok y → TakesList (coded s o) size (λ v. v < 2 ^ s.bits) after y) → block_read o read ≡ Ok x
+    → Taken s size left bits x
 unfolding spelled option_text
 block_takes site s size left o bits after read x option front takes e =
     let a = bind_ok _ (λ vs. Ok (Block o vs.0, vs.1)) _ e in

@@ -7,6 +7,7 @@ use Rattle.block_adaptive.specs.declared.options.Choice.TheVariants.{Uncoded, Se
 use Rattle.block_adaptive.specs.Options.{splits, cost, IsOption}
 use Rattle.block_adaptive.specs.Chosen.{shorter, shortest, chosen_option, turn}
 use Rattle.block_adaptive.specs.Laws.{OptionIsLeast}
+use Rattle.header_bits.proofs.Powers.{both_lead, either, later, lead_cost}
 
 -- it is shorter, or as short and comes first
 abbrev pub Leads : CodeSet → List ℕ → Choice → Choice → Type 0
@@ -21,18 +22,6 @@ IsTried longer first k (Split j) = (first ≤ j) × (j < k)
 pub record LeadsTried (s : CodeSet) (vs : List ℕ) (longer : Bool) (first k : ℕ) (o : Choice) : Type 0 where
   pub tried : IsTried longer first k o
   pub leads : (p : Choice) → IsTried longer first k p → Leads s vs o p
-
-later : (a b c t u : ℕ) → b < a → (a < c) ⊎ ((a ≡ c) × (t ≤ u)) → b < c
-later a b c t u lt h = grind arith
-
-either : (a b t u : ℕ) → a ≤ b → t ≤ u → (a < b) ⊎ ((a ≡ b) × (t ≤ u))
-either a b t u le turns = elim (cases_lt a b) [ inl lt ↦ inl lt | inr ge ↦ inr (omega arith, turns) ]
-
-both_lead : (a b t u : ℕ) → (a < b) ⊎ ((a ≡ b) × (t ≤ u)) → (b < a) ⊎ ((b ≡ a) × (u ≤ t)) → t ≡ u
-both_lead a b t u p q = grind arith
-
-pub lead_cost : (a b t u : ℕ) → (a < b) ⊎ ((a ≡ b) × (t ≤ u)) → a ≤ b
-lead_cost a b t u h = grind arith
 
 tried_turn : (longer : Bool) (first k : ℕ) (o : Choice) → IsTried longer first k o → turn o ≤ k + 2
 tried_turn longer first k Uncoded h = omega arith

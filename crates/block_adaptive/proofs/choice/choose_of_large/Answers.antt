@@ -8,9 +8,6 @@ use Rattle.block_adaptive.proofs.Bounded.{ended}
 use Rattle.block_adaptive.proofs.choice.choose_of_large.Goals as goal
 use Rattle.block_adaptive.proofs.choice.choose_of_large.Goals.{then-cost-least, else-cost-least}
 
-pub overflow_add-first : goal.overflow_add-first
-overflow_add-first c = record { fits = omega (arith, c.first_split-first.ensures.most) }
-
 pub returns-clause-chosen : goal.returns-clause-chosen
 returns-clause-chosen c =
     let shifted = one_shl c.identifier_width-width.result 32 (omega (arith, c.identifier_width-width.ensures.most)) in

@@ -1,11 +1,8 @@
-use Rattle.std.proofs.Common.{◌∙◌, arith, refl}
+use Rattle.std.proofs.Common.{◌∙◌, arith}
 use Rattle.std.proofs.lemmas.Result.{err_from_is_err_and}
-use Rattle.header_bits.proofs.Each.{each_start, each_more, each_ends, each_done}
+use Rattle.header_bits.proofs.Each.{each_more, each_ends, each_done}
 use Rattle.block_adaptive.proofs.Takes.{words_each}
 use Rattle.block_adaptive.proofs.data_sets.words.Goals as goal
-
-pub loop-value-init : goal.loop-value-init
-loop-value-init c = record { read = each_start _ _ _; count = refl }
 
 pub returns-in_err-value-clause-read : goal.returns-in_err-value-clause-read
 returns-in_err-value-clause-read c =

@@ -1,6 +1,5 @@
 use Rattle.std.proofs.Common.{◌≡◌, ◌*◌, ◌%◌, ◌^◌, arith}
-use Rattle.std.proofs.lemmas.Nat.{one_shl, and_mask, pow_pos}
-use Rattle.std.proofs.Math.Nat.{mod-lt}
+use Rattle.std.proofs.lemmas.Nat.{one_shl, and_mask}
 use Rattle.block_adaptive.proofs.Emits.{low_next_masked, low_end}
 use Rattle.block_adaptive.proofs.gathering.low_word.Goals as goal
 use Rattle.header_bits.proofs.WordTexts.{words_start, words_few, words_joined, words_end, words_below}
@@ -17,11 +16,6 @@ pub joined-word-requires-clause-few : goal.joined-word-requires-clause-few
 joined-word-requires-clause-few c =
     let few = words_few _ _ _ c.loop-value.invariant (low_next_masked _ _ _ c.loop-value-test.true) in
     (omega (arith, c.requires.k), omega (arith, few, c.requires.few))
-
-pub joined-word-requires-clause-below : goal.joined-word-requires-clause-below
-joined-word-requires-clause-below c =
-    let one : 1 * 2 ^ c.args.k % 18446744073709551616 ≡ 2 ^ c.args.k = one_shl c.args.k 64 (omega arith) in
-    rw (c.from.ensures, one, and_mask) (mod-lt _ (pow_pos _))
 
 pub loop-value-preserved : goal.loop-value-preserved
 loop-value-preserved c =

@@ -1,19 +1,6 @@
 use Rattle.std.proofs.Common.{◌≡◌, ◌+◌, ◌-◌, ◌*◌, ◌/◌, ◌%◌, ◌^◌, refl}
-use Rattle.block_adaptive.proofs.Fours.{four_within}
 use Rattle.block_adaptive.proofs.lows.join_lows.Goals as goal
 use Rattle.header_bits.proofs.Powers.{four_shifts}
-
-pub joined-requires-clause-within : goal.joined-requires-clause-within
-joined-requires-clause-within c = (four_within c.args.k 65536 c.args.four.now 0 0 0 c.requires.four c.requires.within).0
-
-pub joined-requires-2-clause-within : goal.joined-requires-2-clause-within
-joined-requires-2-clause-within c = (four_within _ _ _ _ 0 0 c.requires.four c.requires.within).1
-
-pub joined-requires-3-clause-within : goal.joined-requires-3-clause-within
-joined-requires-3-clause-within c = (four_within _ _ _ _ _ 0 c.requires.four c.requires.within).2
-
-pub joined-requires-4-clause-within : goal.joined-requires-4-clause-within
-joined-requires-4-clause-within c = (four_within _ _ _ _ _ _ c.requires.four c.requires.within).3
 
 pub returns : goal.returns
 returns c = λ a b x d is.

@@ -1,16 +1,9 @@
-use Rattle.std.proofs.Common.{◌≡◌, ◌+◌, ◌-◌, ◌≤◌, ◌∙◌, ℕ, length, refl, sym, arith, rules}
+use Rattle.std.proofs.Common.{◌≡◌, ◌+◌, ◌-◌, ◌≤◌, ◌∙◌, ℕ, length, sym, arith, rules}
 use Rattle.std.proofs.lemmas.Result.{err_from_is_err_and}
-use Rattle.header_bits.proofs.Each.{each_start, some_more, some_end, each_done}
-use Rattle.block_adaptive.proofs.Fours.{fours_behind}
+use Rattle.header_bits.proofs.Each.{some_more, some_end, each_done}
 use Rattle.block_adaptive.proofs.Takes.{lows_each}
 use Rattle.block_adaptive.proofs.lows.lows_within.Goals as goal
-use Rattle.header_bits.proofs.Items.{all_take}
-
-pub loop-first-init : goal.loop-first-init
-loop-first-init c = record { read = each_start _ _ _; within = c.requires.within; count = refl; inside = omega arith; fours = refl; long = refl }
-
-pub four_lows-requires-clause-within : goal.four_lows-requires-clause-within
-four_lows-requires-clause-within c = all_take _ _ _ c.loop-first.invariant.within
+use Rattle.header_bits.proofs.Fours.{fours_behind}
 
 pub returns-in_err-four_lows-clause-read : goal.returns-in_err-four_lows-clause-read
 returns-in_err-four_lows-clause-read c =

@@ -1,8 +1,8 @@
 use Rattle.std.proofs.Common.{◌≡◌, ◌+◌, ◌-◌, ◌%◌, ◌≤◌, length, drop}
 use Rattle.header_bits.proofs.Each.{AreRead}
 use Rattle.block_adaptive.specs.Reading.{site_of, low_at}
-use Rattle.block_adaptive.proofs.Fours.{Within}
 use Rattle.block_adaptive.proofs.lows.lows_within.Given as goal
+use Rattle.header_bits.proofs.Fours.{Within}
 
 abbrev pub invariant-loop-first : goal.invariant-loop-first
 invariant-loop-first l =

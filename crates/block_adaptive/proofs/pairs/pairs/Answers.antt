@@ -1,10 +1,7 @@
-use Rattle.std.proofs.Common.{◌∙◌, arith, refl}
+use Rattle.std.proofs.Common.{◌∙◌, arith}
 use Rattle.std.proofs.lemmas.Result.{err_from_is_err_and}
-use Rattle.block_adaptive.proofs.Twos.{twos_start, twos_more, code_ends, pair_ends, twos_done}
+use Rattle.block_adaptive.proofs.Twos.{twos_more, code_ends, pair_ends, twos_done}
 use Rattle.block_adaptive.proofs.pairs.pairs.Goals as goal
-
-pub loop-i-init : goal.loop-i-init
-loop-i-init c = record { read = twos_start _ _ _ _ _; count = refl }
 
 pub returns-in_err-number-clause-read : goal.returns-in_err-number-clause-read
 returns-in_err-number-clause-read c =

@@ -1,12 +1,9 @@
 use Rattle.std.proofs.Common.{◌/◌, ◌^◌, get_or, arith}
 use Rattle.header_bits.specs.Bits.{fundamental}
 use Rattle.block_adaptive.proofs.Emits.{quotient_next, quotient_end}
-use Rattle.block_adaptive.proofs.Gathers.{goes_start, goes_room, goes_step, goes_end}
+use Rattle.block_adaptive.proofs.Gathers.{goes_room, goes_step, goes_end}
 use Rattle.block_adaptive.proofs.writing.append_codes.Goals as goal
 use Rattle.header_bits.proofs.Zeros.{length-fundamental}
-
-pub loop-value-init : goal.loop-value-init
-loop-value-init c = goes_start _ c.requires.room
 
 pub append_fundamental-requires : goal.append_fundamental-requires
 append_fundamental-requires c =

@@ -15,9 +15,6 @@ append_fundamental-requires c =
     let behind = second_fits (fundamental c.args.zeros) (omega (arith, c.requires.room, ap length c.new-gathered.ensures)) first in
     omega (arith, behind, length-fundamental c.args.zeros, c.from.ensures)
 
-pub flush-requires : goal.flush-requires
-flush-requires c = c.append_fundamental.ensures.fits
-
 pub returns : goal.returns
 returns c =
     let first = rw (c.identifier_width.ensures.value, identifier_zero _) at c.append.ensures in

@@ -1,6 +1,5 @@
-use Rattle.std.proofs.Common.{◌≡◌, ◌≤◌, sym, ◌∙◌, arith, length, take, refl}
+use Rattle.std.proofs.Common.{◌≤◌, arith, refl}
 use Rattle.std.proofs.lemmas.Nat.{mul-le}
-use Rattle.block_adaptive.specs.Given.{next_data_set}
 use Rattle.block_adaptive.specs.contracts.block_reader.BlockReader.{the_view}
 use Rattle.block_adaptive.proofs.Handed.{zeros_held, run_parts, rest_most, rest_small, size_most}
 use Rattle.block_adaptive.proofs.block_reader.BlockReader.take_data_set.Goals as goal
@@ -43,5 +42,5 @@ pub returns-in-Ok-RestOfSegment-clause-read : goal.returns-in-Ok-RestOfSegment-c
 returns-in-Ok-RestOfSegment-clause-read c =
     let sized = taken_size c.self.inside.size c.self.inside.values (size_most _ c.self.invariant.cut.size) c.self.told in
     let read = rw (c.in-Ok-RestOfSegment.field-0-is, c.fork-ahead.ensures, sized) at c.in-Ok-RestOfSegment.ensures.read in
-    rw (c.from-in-Ok-RestOfSegment.ensures, c.blocks_left-left.ensures.value, ← c.self.view_is)
-    (zeros_held (the_view c.self.inside) c.args.reader.now _ RestOfSegment _ _ refl read)
+    rw (c.from-in-Ok-RestOfSegment.ensures, c.blocks_left-left.ensures.value, ← c.self.view_is) (zeros_held (the_view c.self.inside) c.args.reader.now _
+    RestOfSegment _ _ refl read)

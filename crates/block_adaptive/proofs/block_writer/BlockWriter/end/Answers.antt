@@ -4,7 +4,6 @@ use Rattle.std.proofs.lemmas.Nat.{pow_pos}
 use Rattle.header_bits.proofs.Places.{on_ok_of}
 use Rattle.block_adaptive.specs.Segments.{filled}
 use Rattle.block_adaptive.specs.contracts.block_writer.BlockWriter.{the_view}
-use Rattle.block_adaptive.proofs.Counts.{ends_inside}
 use Rattle.block_adaptive.proofs.Handed.{size_most}
 use Rattle.block_adaptive.proofs.Packing.{nothing_left, last_block, range_filled}
 use Rattle.block_adaptive.proofs.block_writer.BlockWriter.end.Goals as goal
@@ -25,8 +24,3 @@ returns-clause-ended c =
     rw (← c.self.view_is) (on_ok_of c.pack-2.result _ _ (λ p. last_block (the_view c.self.inside) _ _ was.cut (omega (arith, size, c.if-self-eq0.false))
     (omega (arith, was.few)) some (range_filled _ _ _ (pow_pos c.self.inside.set.bits) was.range) p)
     (rw (← c.self.view_is, block-is) at c.pack-2.ensures.appended))
-
-pub returns-clause-memory : goal.returns-clause-memory
-returns-clause-memory c =
-    rw (← c.self.view_is) (ends_inside (the_view c.self.inside) c.pack-2.result
-    (omega (arith, length-take c.self.inside.held c.self.inside.values, c.self.told, c.self.invariant.few, c.if-self-eq0.false)) c.self.invariant.few)

@@ -3,7 +3,7 @@ use Rattle.std.proofs.lemmas.List.{length-append, length-take}
 use Rattle.header_bits.proofs.Items.{all_append}
 use Rattle.header_bits.proofs.Places.{held_more, on_ok_both}
 use Rattle.block_adaptive.specs.contracts.block_writer.BlockWriter.{the_view}
-use Rattle.block_adaptive.proofs.Counts.{ends_block, room_left}
+use Rattle.block_adaptive.proofs.Counts.{room_left}
 use Rattle.block_adaptive.proofs.Handed.{size_most}
 use Rattle.block_adaptive.proofs.Packing.{values_held, values_packed}
 use Rattle.block_adaptive.proofs.Stored.{total_few}
@@ -31,10 +31,3 @@ returns-clause-taken c =
     (rw (← c.self.view_is) at (room_left c.args.self.now c.requires.more)) len (all_append _ held (c.args.delta ∷ []) was.range
     (rw (← c.self.view_is) at c.requires.number, tt)) p q) (rw (← c.self.view_is) at c.put_last.ensures.appended)
     (rw (← c.self.view_is) at c.put_last.ensures.packed))
-
-pub returns-clause-memory : goal.returns-clause-memory
-returns-clause-memory c =
-    let size = length-take c.self.inside.held c.self.inside.values in
-    let few = size_most c.self.inside.size c.self.invariant.cut.size in
-    rw (← c.self.view_is) (ends_block (the_view c.self.inside) c.put_last.result
-    (omega (arith, c.if-self.false, c.self.invariant.few, size, c.self.told, few)))

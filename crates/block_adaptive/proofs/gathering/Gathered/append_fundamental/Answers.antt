@@ -2,12 +2,9 @@ use Rattle.std.proofs.Common.{[], ◌+◌, ◌^◌, ◌≤◌, arith, refl}
 use Rattle.std.proofs.Math.Pow.{pow_mono}
 use Rattle.header_bits.proofs.Numbers.{length-bits_of}
 use Rattle.header_bits.specs.Bits.{bits_of}
-use Rattle.block_adaptive.proofs.Gathers.{goes_start, goes_room, goes_step, goes_end}
+use Rattle.block_adaptive.proofs.Gathers.{goes_room, goes_step, goes_end}
 use Rattle.block_adaptive.proofs.gathering.Gathered.append_fundamental.Goals as goal
 use Rattle.header_bits.proofs.Zeros.{length-fundamental, sixty_four_more, last_zeros}
-
-pub loop-left-init : goal.loop-left-init
-loop-left-init c = goes_start _ (omega (arith, length-fundamental c.args.zeros))
 
 pub append-requires-clause-room : goal.append-requires-clause-room
 append-requires-clause-room c =
