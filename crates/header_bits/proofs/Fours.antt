@@ -1,18 +1,10 @@
 -- Values of which four at a time allow any low bits.
-use Rattle.std.proofs.Common.{◌≡◌, ℕ, ◌+◌, ◌-◌, ◌*◌, ◌/◌, ◌%◌, ◌^◌, ◌<◌, ◌≤◌, Bool, false, ltb, List, [], ◌∷◌, ◌++◌, length, take, drop, set, get_or, Ok, refl}
-use Rattle.std.proofs.Common.{sym, ap, subst, ◌∙◌, arith, append_assoc, pow_pos, zero, suc, bit_or}
+use Rattle.std.proofs.Common.{◌≡◌, ℕ, ◌+◌, ◌*◌, ◌^◌, ◌<◌, ◌≤◌, List, [], ◌∷◌, ◌++◌, length, take, drop, set, get_or}
+use Rattle.std.proofs.Common.{sym, ap, subst, ◌∙◌, arith, append_assoc, bit_or}
 use Rattle.std.specs.List.{AllByRecursion}
-use Rattle.std.proofs.lemmas.Bool.{le-ltb}
 use Rattle.std.proofs.lemmas.List.{drop_at, length-append, length-take, take_all, take_more_set}
 use Rattle.std.proofs.lemmas.Nat.{mul-le, le_or_l, le_or_r}
-use Rattle.std.proofs.Math.Nat.{mod-lt}
-use Rattle.header_bits.specs.Windows.{IsAhead as IsFront}
-use Rattle.header_bits.proofs.Ahead.{number_ahead}
-use Rattle.header_bits.proofs.Numbers.{no_bits}
 use Rattle.header_bits.proofs.Items.{all_weaker, all_drop, all_append}
-use Rattle.cube_core.specs.Steps.{◌>>=◌}
-use Rattle.header_bits.proofs.Fronts.{bind_ok}
-use Rattle.header_bits.proofs.Reading.{ok_is}
 
 abbrev pub Within : ℕ → ℕ → List ℕ → Type 0
 Within k limit qs = AllByRecursion (λ q. (q + 1) * 2 ^ k ≤ limit) qs
