@@ -1,5 +1,5 @@
 -- The chosen data sets, block after block, as a writer sees them.
-use Rattle.std.proofs.Common.{◌≡◌, ℕ, zero, suc, ◌+◌, ◌<◌, ◌≤◌, Bool, true, false, cond, eqb, leb, ◌&&◌, List, [], ◌∷◌, ◌++◌, length, drop, replicate, refl, ap}
+use Rattle.std.proofs.Common.{◌≡◌, ℕ, zero, suc, ◌+◌, ◌<◌, ◌≤◌, Bool, true, false, cond, eqb, leb, ◌&&◌, List, [], ◌∷◌, ◌++◌, length, drop, replicate, refl, ap, inl, inr}
 use Rattle.std.proofs.Common.{arith, eq-eqb}
 use Rattle.std.proofs.lemmas.Bool.{eqb-true, eqb-false, eq-eqb, ne_eqb}
 use Rattle.std.proofs.lemmas.List.{length-drop, length-replicate, drop_at}
@@ -7,16 +7,16 @@ use Rattle.block_adaptive.specs.declared.options.CodeSet.{CodeSet}
 use Rattle.block_adaptive.specs.Segments.{segment_rest}
 use Rattle.block_adaptive.specs.DataSets.{CodedDataSet, Block, Run, RestOfSegment, Cut, blocks_in}
 use Rattle.block_adaptive.specs.Chosen.{chosen_option, is_zero, zero_blocks, data_set_of, chosen_from}
+use Rattle.header_bits.proofs.Fronts.{by_test}
+use Rattle.std.proofs.lemmas.Bool.Decides.{nat_tests}
 
 -- a data set stands for a block or more
 data_set_least : (s : CodeSet) (left : ℕ) (b : List ℕ) (bs : List (List ℕ)) → 1 ≤ blocks_in left (data_set_of s left b bs)
-data_set_least s left b bs =
-    go (zero_blocks left (b ∷ bs)) (eqb (zero_blocks left (b ∷ bs)) 0) (eqb (zero_blocks left (b ∷ bs)) left) (leb 5 (zero_blocks left (b ∷ bs))) refl refl
+data_set_least s left b bs = (let k : ℕ = zero_blocks left (b ∷ bs) in go k (eqb k 0) (eqb k left) (leb 5 k) refl refl)
   where
     go : (k : ℕ) (d e f : Bool) → eqb k 0 ≡ d → eqb k left ≡ e → 1 ≤ blocks_in left (cond d (Block (chosen_option s b) b) (cond (e && f) RestOfSegment (Run k)))
     go k true e f p q = omega arith
-    go k false true true p q = (let h : k ≡ 0 → ⊥ = eqb-false k 0 p in let g : k ≡ left = eqb-true k left q in omega arith)
-    go k false true false p q = (let h : k ≡ 0 → ⊥ = eqb-false k 0 p in omega arith)
+    go k false true f p q = grind (arith, nat_tests)
     go k false false f p q = (let h : k ≡ 0 → ⊥ = eqb-false k 0 p in omega arith)
 
 -- the number of data sets that may come doesn't matter, once it is enough
@@ -78,10 +78,5 @@ run_to_end c n i z bs is =
     let k = run_whole c.size (suc z) bs in
     let a : eqb (suc z) 0 ≡ false = ne_eqb _ _ (λ e. omega arith) in
     let b : eqb (suc z) (suc z) ≡ true = eq-eqb (suc z) (suc z) refl in
-    rw (is, k, a, b) (go (leb 5 (suc z)))
-  where
-    go : (f : Bool) → cond f RestOfSegment (Run (suc z)) ∷ chosen_from c n (i + blocks_in (suc z) (cond f RestOfSegment (Run (suc z))))
-        (drop (blocks_in (suc z) (cond f RestOfSegment (Run (suc z)))) (replicate (suc z) (replicate c.size 0) ++ bs))
-        ≡ cond f RestOfSegment (Run (suc z)) ∷ chosen_from c n (i + suc z) bs
-    go true = rw (drop_at (replicate z (replicate c.size 0)) bs z (length-replicate z (replicate c.size 0))) refl
-    go false = rw (drop_at (replicate z (replicate c.size 0)) bs z (length-replicate z (replicate c.size 0))) refl
+    let behind = drop_at (replicate z (replicate c.size 0)) bs z (length-replicate z (replicate c.size 0)) in
+    rw (is, k, a, b) (elim (by_test (leb 5 (suc z))) [ inl f ↦ rw (f, behind) refl | inr f ↦ rw (f, behind) refl ])
