@@ -6,7 +6,7 @@ use Rattle.std.proofs.lemmas.Bool.{cases_lt, le-leb, lt-leb}
 use Rattle.std.proofs.lemmas.Nat.{pow_pos}
 use Rattle.std.proofs.Math.Nat.{lt-div-mul-add}
 use Rattle.std.proofs.lemmas.List.{append-nil, length-append, length-replicate, take_at, take_all, take-append-drop, length-take, length-drop}
-use Rattle.block_adaptive.proofs.Packing.{range_filled}
+use Rattle.block_adaptive.proofs.Packing.{range_filled, filled_length, filled_whole}
 use Rattle.cube_core.specs.Steps.{◌>>=◌}
 use Rattle.header_bits.proofs.Reading.{ok_is}
 use Rattle.header_bits.proofs.Fronts.{bind_ok}
@@ -78,9 +78,6 @@ unfolding first_blocks
 length-first_blocks size zero numbers = refl
 length-first_blocks size (suc n) numbers = ap suc (length-first_blocks size n (drop size numbers))
 
-filled_length : (size : ℕ) (v : List ℕ) → length v ≤ size → length (filled size v) ≡ size
-filled_length size v le = omega (arith, length-append v (replicate (size - length v) 0), length-replicate {A = ℕ} (size - length v) 0)
-
 first_are_blocks : (s : CodeSet) (size n : ℕ) (numbers : List ℕ) → AllByRecursion (λ v. v < 2 ^ s.bits) numbers → AreBlocks s size (first_blocks size n numbers)
 unfolding first_blocks
 first_are_blocks s size zero numbers h = tt
@@ -88,9 +85,6 @@ first_are_blocks s size (suc n) numbers h = (
   (filled_length size (take size numbers) (omega (arith, length-take size numbers)), range_filled _ _ _ (pow_pos _) (all_take _ size _ h)),
   first_are_blocks s size n (drop size numbers) (all_drop _ size _ h),
 )
-
-filled_whole : (size : ℕ) (b : List ℕ) → length b ≡ size → filled size b ≡ b
-filled_whole size b len = (let e : size - length b ≡ 0 = omega arith in rw e (append-nil b))
 
 -- the blocks begin with the numbers
 first_values : (size n : ℕ) (numbers : List ℕ) → length numbers ≤ n * size → take (length numbers) (values_of (first_blocks size n numbers)) ≡ numbers

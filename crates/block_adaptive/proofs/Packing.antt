@@ -146,7 +146,10 @@ all_taken v taken bits h all =
     rw (none, none_chosen v.cut v.cut.count v.start) refl in
     sym ((λ i. spelling v.cut.set (chosen_from v.cut v.cut.count 0 ((sym (append-nil h.blocks)) i))) ∙ last ∙ (λ i. bits ++ nothing i) ∙ append-nil bits)
 
-filled_whole : (size : ℕ) (b : List ℕ) → length b ≡ size → filled size b ≡ b
+pub filled_length : (size : ℕ) (v : List ℕ) → length v ≤ size → length (filled size v) ≡ size
+filled_length size v le = omega (arith, length-append v (replicate (size - length v) 0), length-replicate {A = ℕ} (size - length v) 0)
+
+pub filled_whole : (size : ℕ) (b : List ℕ) → length b ≡ size → filled size b ≡ b
 filled_whole size b len = (let e : size - length b ≡ 0 = omega arith in rw e (append-nil b))
 
 pub first_of_blocks : (s : CodeSet) (size m : ℕ) (bs : List (List ℕ)) (rest : List ℕ) → AreBlocks s size bs
@@ -206,7 +209,7 @@ unfolding block_taken
 last_block v written now cut least most more range is = λ taken bits h count.
     let c : Cut = v.cut in
     let b : List ℕ = filled c.size v.held in
-    let len : length b ≡ c.size = omega (arith, length-append v.held (zeros (c.size - length v.held)), length-replicate {A = ℕ} (c.size - length v.held) 0) in
+    let len : length b ≡ c.size = filled_length c.size v.held most in
     let after = block_taken _ taken (values_of (h.blocks ++ b ∷ [])) bits _ cut more len range h refl in
     let all : blocks c.size taken ≡ h.blocks ++ b ∷ [] = ap (blocks c.size) h.numbers ∙ blocks_odd c.set _ h.blocks _ least most h.whole in
     let size : length taken ≡ length h.blocks * c.size + length v.held = ap length h.numbers

@@ -96,8 +96,7 @@ runs_joined v mid new given xs ys bits unread now left same g m = (
   all_append _ xs _ g.0 (subst (λ (c : Cut). AllByRecursion (λ n. n < 2 ^ c.set.bits) ys) same m.0),
   g.1 ++ m.1,
   g.2 ∙ (λ i. g.1 ++ m.2 i) ∙ sym (append_assoc _ m.1 _),
-  subst (λ (ns : List ℕ). HasGiven new ns (bits ++ (g.1 ++ m.1))) (append_assoc given xs ys) (subst (λ (bs : List Bool). HasGiven new ((given ++ xs) ++ ys) bs)
-      (append_assoc _ _ m.1) m.3),
+  rw (← append_assoc given xs ys, ← append_assoc bits g.1 m.1) m.3,
 )
 
 -- a refusal behind numbers that were given is that of the body
