@@ -15,6 +15,7 @@ use Rattle.header_bits.proofs.Fronts.{zeros_again, zeros_front, ones_front, bit_
 use Rattle.block_adaptive.proofs.Codes.{words_again, split_again}
 use Rattle.block_adaptive.proofs.Triangles.{pairs_again}
 use Rattle.header_bits.proofs.Items.{all_weaker}
+use Rattle.std.proofs.lemmas.Bool.Decides.{nat_tests}
 
 pub run_again : (site : Site) (left n : ℕ) (rest : List Bool) → 1 ≤ n → n ≤ left → run_at site left (run_code n ++ rest) ≡ Ok (Run n, rest)
 unfolding run_at run_code
@@ -48,14 +49,8 @@ run_text_read : (site : Site) (s : CodeSet) (size left : ℕ) (code rest : List 
 unfolding data_set_at zero_identifier
 run_text_read site s size left code rest t e = rw (append_assoc, append_assoc, zeros_front _ _ (false ∷ (code ++ rest)), bit_front _ false _) e
 
-widths : (a b c : Bool) → (1 ≤ cond a (cond b 1 2) (cond c 3 4)) × (cond a (cond b 1 2) (cond c 3 4) ≤ 4)
-widths true true c = (omega arith, omega arith)
-widths true false c = (omega arith, omega arith)
-widths false b true = (omega arith, omega arith)
-widths false b false = (omega arith, omega arith)
-
 pub width_least : (s : CodeSet) → 1 ≤ width s
-width_least s = (widths (s.restricted && leb s.bits 4) (leb s.bits 2) (leb s.bits 8)).0
+width_least s = grind (arith, nat_tests)
 
 two_below : (n : ℕ) → 1 ≤ n → 2 ≤ 2 ^ n
 two_below n h =

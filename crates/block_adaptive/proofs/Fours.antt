@@ -30,10 +30,6 @@ pub four_read : (site : Site) (k most : ℕ) (old new : List ℕ) (bits : List B
     → Within k (most + 1) old → ((a b c d : ℕ) → old ≡ a ∷ b ∷ c ∷ d ∷ [] → new ≡ joined_four k word a b c d) → lows_at site k most old bits
     ≡ Ok (new, drop (4 * k) bits)
 unfolding lows_at
-four_read site k most [] new bits word h le len within are = absurd (omega arith)
-four_read site k most (a ∷ []) new bits word h le len within are = absurd (omega arith)
-four_read site k most (a ∷ b ∷ []) new bits word h le len within are = absurd (omega arith)
-four_read site k most (a ∷ b ∷ c ∷ []) new bits word h le len within are = absurd (omega arith)
 four_read site k most (a ∷ b ∷ c ∷ d ∷ []) new bits word h le len within are =
     let first : low_at site k most a bits ≡ Ok (a * 2 ^ k + word / 2 ^ (64 - k) % 2 ^ k, drop k bits) = low_front site k most a 0 k bits word h (omega arith)
     (omega arith) within.0 in
@@ -44,7 +40,7 @@ four_read site k most (a ∷ b ∷ c ∷ d ∷ []) new bits word h le len within
       low_front site k most c (2 * k) (3 * k) bits word h (omega arith) (omega arith) within.1.1.0,
       low_front site k most d (3 * k) (4 * k) bits word h (omega arith) (omega arith) within.1.1.1.0,
     ) refl
-four_read site k most (a ∷ b ∷ c ∷ d ∷ e ∷ xs) new bits word h le len within are = absurd (omega arith)
+four_read site k most old new bits word h le len within are = absurd (omega arith)
 
 -- ---- no low bits
 

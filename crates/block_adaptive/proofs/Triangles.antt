@@ -60,12 +60,10 @@ pub pairs_again : (site : Site) (most n : ℕ) (vs : List ℕ) (rest : List Bool
     → pairs_at site most n (pair_codes vs ++ rest) ≡ Ok (vs, rest)
 unfolding pairs_at pair_codes
 pairs_again site most zero [] rest len h = refl
-pairs_again site most zero (a ∷ vs) rest len h = absurd (omega arith)
-pairs_again site most (suc n) [] rest len h = absurd (omega arith)
-pairs_again site most (suc n) (a ∷ []) rest len h = absurd (omega arith)
 pairs_again site most (suc n) (a ∷ b ∷ vs) rest len h =
     let others = pairs_again site most n vs rest (omega arith) h.1.1 in
     rw (append_assoc, fundamental_again _ _ (pair_number a b) _ (pair_below _ a b h.0 h.1.0), pair_again _ _ a b _ h.0 h.1.0, others) refl
+pairs_again site most n vs rest len h = absurd (omega arith)
 
 -- ---- the sum, by a square root
 
