@@ -1,5 +1,5 @@
 -- What is spelled by a lawful data set is read as that data set, whatever follows it.
-use Rattle.std.proofs.Common.{◌≡◌, ℕ, suc, ◌+◌, ◌-◌, ◌*◌, ◌/◌, ◌^◌, ◌<◌, ◌≤◌, max, Bool, true, false, cond, eqb, leb, ltb, ◌&&◌, List, ◌∷◌, ◌++◌, Ok, refl, sym}
+use Rattle.std.proofs.Common.{◌≡◌, ℕ, suc, ◌+◌, ◌-◌, ◌*◌, ◌/◌, ◌^◌, ◌<◌, ◌≤◌, max, Bool, true, false, eqb, leb, ltb, List, ◌∷◌, ◌++◌, Ok, refl, sym}
 use Rattle.std.proofs.Common.{subst, ◌∙◌, inl, inr, append_assoc, arith, eq-eqb}
 use Rattle.std.proofs.lemmas.Bool.{le-ltb, cases_lt, eq-eqb, le-leb, lt-leb, ne_eqb}
 use Rattle.std.proofs.Math.Pow.{pow_mono}

@@ -5,7 +5,7 @@ use Rattle.std.specs.List.{AllByRecursion}
 use Rattle.std.proofs.lemmas.Bool.{cases_lt, le-leb, lt-leb}
 use Rattle.std.proofs.lemmas.Nat.{pow_pos}
 use Rattle.std.proofs.Math.Nat.{lt-div-mul-add}
-use Rattle.std.proofs.lemmas.List.{append-nil, length-append, length-replicate, take_at, take_all, take-append-drop, length-take, length-drop}
+use Rattle.std.proofs.lemmas.List.{take_at, take_all, take-append-drop, length-take, length-drop}
 use Rattle.block_adaptive.proofs.Packing.{range_filled, filled_length, filled_whole}
 use Rattle.cube_core.specs.Steps.{◌>>=◌}
 use Rattle.header_bits.proofs.Reading.{ok_is}
@@ -13,7 +13,7 @@ use Rattle.header_bits.proofs.Fronts.{bind_ok}
 use Rattle.block_adaptive.proofs.Taken.{data_set_is_taken}
 use Rattle.block_adaptive.proofs.Handed.{rest_most}
 use Rattle.block_adaptive.specs.declared.options.CodeSet.{CodeSet}
-use Rattle.block_adaptive.specs.Segments.{filled, first_blocks, blocks, block_count}
+use Rattle.block_adaptive.specs.Segments.{first_blocks, blocks, block_count}
 use Rattle.block_adaptive.specs.DataSets.{CodedDataSet, Block, Run, RestOfSegment, Cut, cut_of, left_at, IsCodedDataSet, AreCodedDataSets, blocks_in}
 use Rattle.block_adaptive.specs.DataSets.{blocks_told, values_of, spelled, spelling}
 use Rattle.block_adaptive.specs.Chosen.{chosen_from, chosen_data_sets, chosen_block_body}

@@ -12,7 +12,7 @@ use Rattle.block_adaptive.specs.Laws.{AreBlocks}
 use Rattle.block_adaptive.specs.Settings.{IsCut}
 use Rattle.block_adaptive.specs.Taken.{Packed, HasTaken, PutsAll, EndsBody, run_and_block, data_sets_after, zeros_after, packed, data_sets_packed}
 use Rattle.block_adaptive.proofs.Lawful.{rest_least, zeros_of}
-use Rattle.block_adaptive.proofs.Streaming.{enough, block_next, run_next, run_to_end}
+use Rattle.block_adaptive.proofs.Streaming.{enough, block_next, run_next, run_to_end, none_chosen}
 use Rattle.block_adaptive.proofs.Handed.{rest_most, size_least}
 use Rattle.header_bits.proofs.Items.{all_append, all_replicate}
 use Rattle.std.proofs.lemmas.Grind.{flat_map-append}
@@ -128,11 +128,6 @@ block_taken v taken told bits b cut more len range h is =
     }
 
 -- ---- all blocks
-
-none_chosen : (c : Cut) (n i : ℕ) → chosen_from c n i [] ≡ []
-unfolding chosen_from
-none_chosen c zero i = refl
-none_chosen c (suc n) i = refl
 
 pub all_taken : (v : Packed) (taken : List ℕ) (bits : List Bool) → (h : HasTaken v taken bits) → length h.blocks ≡ v.cut.count
     → bits ≡ spelling v.cut.set (chosen_from v.cut v.cut.count 0 h.blocks)

@@ -1,7 +1,8 @@
 -- The chosen data sets, block after block, as a writer sees them.
-use Rattle.std.proofs.Common.{◌≡◌, ℕ, zero, suc, ◌+◌, ◌<◌, ◌≤◌, Bool, true, false, cond, eqb, leb, ◌&&◌, List, [], ◌∷◌, ◌++◌, length, drop, replicate, refl, ap, inl, inr}
+use Rattle.std.proofs.Common.{◌≡◌, ℕ, zero, suc, ◌+◌, ◌<◌, ◌≤◌, Bool, true, false, cond, eqb, leb, ◌&&◌, List, [], ◌∷◌, ◌++◌, length, drop, replicate, refl, ap}
+use Rattle.std.proofs.Common.{inl, inr, sym, ◌∙◌}
 use Rattle.std.proofs.Common.{arith, eq-eqb}
-use Rattle.std.proofs.lemmas.Bool.{eqb-true, eqb-false, eq-eqb, ne_eqb}
+use Rattle.std.proofs.lemmas.Bool.{eqb-false, eq-eqb, ne_eqb}
 use Rattle.std.proofs.lemmas.List.{length-drop, length-replicate, drop_at}
 use Rattle.block_adaptive.specs.declared.options.CodeSet.{CodeSet}
 use Rattle.block_adaptive.specs.Segments.{segment_rest}
@@ -19,21 +20,22 @@ data_set_least s left b bs = (let k : ℕ = zero_blocks left (b ∷ bs) in go k 
     go k false true f p q = grind (arith, nat_tests)
     go k false false f p q = (let h : k ≡ 0 → ⊥ = eqb-false k 0 p in omega arith)
 
+pub none_chosen : (c : Cut) (n i : ℕ) → chosen_from c n i [] ≡ []
+unfolding chosen_from
+none_chosen c zero i = refl
+none_chosen c (suc n) i = refl
+
 -- the number of data sets that may come doesn't matter, once it is enough
 pub enough : (c : Cut) (n m i : ℕ) (bs : List (List ℕ)) → length bs ≤ n → length bs ≤ m → chosen_from c n i bs ≡ chosen_from c m i bs
 unfolding chosen_from
-enough c zero zero i bs h k = refl
-enough c zero (suc m) i [] h k = refl
-enough c zero (suc m) i (b ∷ bs) h k = absurd (omega arith)
-enough c (suc n) zero i [] h k = refl
-enough c (suc n) zero i (b ∷ bs) h k = absurd (omega arith)
-enough c (suc n) (suc m) i [] h k = refl
+enough c n m i [] h k = none_chosen c n i ∙ sym (none_chosen c m i)
 enough c (suc n) (suc m) i (b ∷ bs) h k =
     let left : ℕ = segment_rest c.reference c.count i in
     let t : CodedDataSet = data_set_of c.set left b bs in
     let some = data_set_least c.set left b bs in
     let len = length-drop (blocks_in left t) (b ∷ bs) in
     ap (λ ts. t ∷ ts) (enough c n m (i + blocks_in left t) (drop (blocks_in left t) (b ∷ bs)) (omega arith) (omega arith))
+enough c n m i bs h k = absurd (omega arith)
 
 pub zero_is : (size : ℕ) → is_zero (replicate size 0) ≡ true
 zero_is zero = refl
