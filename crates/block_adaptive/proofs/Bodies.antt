@@ -1,24 +1,28 @@
 -- Bodies, data set after data set.
-use Rattle.std.proofs.Common.{◌≡◌, ℕ, zero, suc, ◌+◌, ◌-◌, ◌*◌, ◌/◌, ◌^◌, ◌<◌, ◌≤◌, Bool, true, false, leb, List, [], ◌∷◌, ◌++◌, length, take, drop, replicate, inl, inr, Ok, refl, sym, ap, subst, ◌∙◌, arith, append_assoc}
+use Rattle.std.proofs.Common.{◌≡◌, ℕ, zero, suc, ◌+◌, ◌-◌, ◌*◌, ◌/◌, ◌^◌, ◌<◌, ◌≤◌, Bool, true, false, leb, List, [], ◌∷◌, ◌++◌, length, take, drop, replicate}
+use Rattle.std.proofs.Common.{inl, inr, Ok, refl, sym, ap, subst, ◌∙◌, arith, append_assoc}
 use Rattle.std.specs.List.{AllByRecursion}
 use Rattle.std.proofs.lemmas.Bool.{cases_lt, le-leb, lt-leb}
 use Rattle.std.proofs.lemmas.Nat.{pow_pos}
 use Rattle.std.proofs.Math.Nat.{lt-div-mul-add}
-use Rattle.std.proofs.lemmas.List.{append-nil, length-append, length-replicate, take_at, take_all, take-append-drop, length-take, length-drop}
-use Rattle.block_adaptive.proofs.Packing.{range_filled}
+use Rattle.std.proofs.lemmas.List.{take_at, take_all, take-append-drop, length-take, length-drop}
+use Rattle.block_adaptive.proofs.Packing.{range_filled, filled_length, filled_whole}
 use Rattle.cube_core.specs.Steps.{◌>>=◌}
 use Rattle.header_bits.proofs.Reading.{ok_is}
 use Rattle.header_bits.proofs.Fronts.{bind_ok}
 use Rattle.block_adaptive.proofs.Taken.{data_set_is_taken}
 use Rattle.block_adaptive.proofs.Handed.{rest_most}
 use Rattle.block_adaptive.specs.declared.options.CodeSet.{CodeSet}
-use Rattle.block_adaptive.specs.Segments.{filled, first_blocks, blocks, block_count}
-use Rattle.block_adaptive.specs.DataSets.{CodedDataSet, Block, Run, RestOfSegment, Cut, cut_of, left_at, IsCodedDataSet, AreCodedDataSets, blocks_in, blocks_told, values_of, spelled, spelling}
+use Rattle.block_adaptive.specs.Segments.{first_blocks, blocks, block_count}
+use Rattle.block_adaptive.specs.DataSets.{CodedDataSet, Block, Run, RestOfSegment, Cut, cut_of, left_at, IsCodedDataSet, AreCodedDataSets, blocks_in}
+use Rattle.block_adaptive.specs.DataSets.{blocks_told, values_of, spelled, spelling}
 use Rattle.block_adaptive.specs.Chosen.{chosen_from, chosen_data_sets, chosen_block_body}
 use Rattle.block_adaptive.specs.Reading.{Site, data_set_at, data_sets_at, block_body_at}
 use Rattle.block_adaptive.specs.Laws.{OneBody, ChosenIsBody, BodyIsRead, AreBlocks}
 use Rattle.block_adaptive.proofs.Again.{data_set_again}
 use Rattle.block_adaptive.proofs.Lawful.{chosen_is_lawful, rest_least}
+use Rattle.header_bits.proofs.Items.{all_take, all_drop}
+use Rattle.header_bits.proofs.Places.{take_behind}
 
 -- a lawful data set stands for a block or more
 pub data_set_some : (s : CodeSet) (size left : ℕ) (t : CodedDataSet) → IsCodedDataSet s size left t → 1 ≤ blocks_in left t
@@ -30,11 +34,11 @@ data_set_some s size left RestOfSegment h = h
 pub data_sets_few : (c : Cut) (i j : ℕ) (data_sets : List CodedDataSet) → AreCodedDataSets c i data_sets j → i + length data_sets ≤ j
 unfolding AreCodedDataSets
 data_sets_few c i j [] h = omega (arith, h)
-data_sets_few c i j (t ∷ data_sets) h =
-    omega (arith, data_set_some c.set c.size (left_at c i) t h.0, data_sets_few c (i + blocks_in (left_at c i) t) j data_sets h.1)
+data_sets_few c i j (t ∷ data_sets) h = omega (arith, data_set_some _ _ _ t h.0, data_sets_few c (i + blocks_in (left_at c i) t) j data_sets h.1)
 
 -- lawful data sets are read as they are, whatever follows
-pub data_sets_again : (count half n i : ℕ) (c : Cut) (data_sets : List CodedDataSet) (rest : List Bool) → c.size ≡ 2 * half → length data_sets ≤ n → AreCodedDataSets c i data_sets c.count → data_sets_at count c n i (spelling c.set data_sets ++ rest) ≡ Ok (data_sets, rest)
+pub data_sets_again : (count half n i : ℕ) (c : Cut) (data_sets : List CodedDataSet) (rest : List Bool) → c.size ≡ 2 * half → length data_sets ≤ n
+    → AreCodedDataSets c i data_sets c.count → data_sets_at count c n i (spelling c.set data_sets ++ rest) ≡ Ok (data_sets, rest)
 unfolding data_sets_at AreCodedDataSets
 data_sets_again count half zero i c [] rest even few h = refl
 data_sets_again count half zero i c (t ∷ data_sets) rest even few h = absurd (omega arith)
@@ -42,12 +46,13 @@ data_sets_again count half (suc n) i c [] rest even few h =
     let done : leb c.count i ≡ true = le-leb _ _ (omega (arith, h)) in
     rw done refl
 data_sets_again count half (suc n) i c (t ∷ data_sets) rest even few h =
-    let more : leb c.count i ≡ false = lt-leb _ _ (omega (arith, data_set_some c.set c.size (left_at c i) t h.0, data_sets_few c (i + blocks_in (left_at c i) t) c.count data_sets h.1)) in
+    let more : leb c.count i ≡ false = lt-leb _ _ (omega (arith, data_set_some _ _ _ t h.0, data_sets_few _ (i + blocks_in (left_at c i) t) _ _ h.1)) in
     let site : Site = record { count = count; block = i } in
     let after : List Bool = spelling c.set data_sets ++ rest in
     let one : data_set_at site c.set c.size (left_at c i) (spelled c.set t ++ after) ≡ Ok (t, after) =
-    rw even (data_set_again site c.set half (left_at c i) t after (subst (λ (k : ℕ). IsCodedDataSet c.set k (left_at c i) t) even h.0)) in
-    rw (more, append_assoc (spelled c.set t) (spelling c.set data_sets) rest, one, data_sets_again count half n (i + blocks_in (left_at c i) t) c data_sets rest even (omega arith) h.1) refl
+    rw even (data_set_again _ _ _ _ t _ (subst (λ (k : ℕ). IsCodedDataSet c.set k (left_at c i) t) even h.0)) in
+    rw (more, append_assoc (spelled c.set t) _ _, one, data_sets_again count half n (i + blocks_in (left_at c i) t) c data_sets rest even (omega arith) h.1)
+    refl
 
 pub one_body : OneBody
 one_body s half reference ms ns a b x y pos len p q e =
@@ -55,15 +60,16 @@ one_body s half reference ms ns a b x y pos len p q e =
     let d : Cut = cut_of s (2 * half) reference (length ns) in
     let same-cut : d ≡ c = ap (cut_of s (2 * half) reference) (sym len) in
     let q-lawful : AreCodedDataSets c 0 q.data_sets c.count = subst (λ (k : Cut). AreCodedDataSets k 0 q.data_sets k.count) same-cut q.lawful in
-    let few = data_sets_few c 0 c.count p.data_sets p.lawful in
-    let few-too = data_sets_few c 0 c.count q.data_sets q-lawful in
-    let first = data_sets_again 0 half c.count 0 c p.data_sets x refl (omega arith) p.lawful in
-    let second = data_sets_again 0 half c.count 0 c q.data_sets y refl (omega arith) q-lawful in
-    let bits : spelling s p.data_sets ++ x ≡ spelling s q.data_sets ++ y = ap (λ (bs : List Bool). bs ++ x) (sym p.text) ∙ e ∙ ap (λ (bs : List Bool). bs ++ y) q.text in
-    let same = ok_is (p.data_sets, x) (q.data_sets, y) (sym first ∙ ap (λ (bs : List Bool). data_sets_at 0 c c.count 0 bs) bits ∙ second) in
-    let data_sets : p.data_sets ≡ q.data_sets = ap (λ (r : List CodedDataSet × List Bool). r.0) same in
-    let numbers : take (length ms) (values_of (blocks_told c 0 p.data_sets)) ≡ take (length ns) (values_of (blocks_told d 0 q.data_sets)) = rw (data_sets, len) refl in
-    (sym p.told ∙ numbers ∙ q.told, ap (λ (r : List CodedDataSet × List Bool). r.1) same)
+    let few = data_sets_few _ _ _ p.data_sets p.lawful in
+    let few-too = data_sets_few _ _ _ q.data_sets q-lawful in
+    let first = data_sets_again _ half _ _ _ p.data_sets x refl (omega arith) p.lawful in
+    let second = data_sets_again _ half _ _ _ q.data_sets y refl (omega arith) q-lawful in
+    let bits : spelling s p.data_sets ++ x ≡ spelling s q.data_sets ++ y = (λ i. (sym p.text) i ++ x) ∙ e ∙ (λ i. q.text i ++ y) in
+    let same = ok_is (p.data_sets, x) (q.data_sets, y) (sym first ∙ (λ i. data_sets_at 0 c c.count 0 (bits i)) ∙ second) in
+    let data_sets : p.data_sets ≡ q.data_sets = (λ i. (same i).0) in
+    let numbers : take (length ms) (values_of (blocks_told c 0 p.data_sets)) ≡ take (length ns) (values_of (blocks_told d 0 q.data_sets)) =
+    rw (data_sets, len) refl in
+    (sym p.told ∙ numbers ∙ q.told, (λ i. (same i).1))
 
 -- ---- the chosen body
 
@@ -72,34 +78,13 @@ unfolding first_blocks
 length-first_blocks size zero numbers = refl
 length-first_blocks size (suc n) numbers = ap suc (length-first_blocks size n (drop size numbers))
 
-range_take : (limit n : ℕ) (vs : List ℕ) → AllByRecursion (λ v. v < limit) vs → AllByRecursion (λ v. v < limit) (take n vs)
-range_take limit zero vs h = tt
-range_take limit (suc n) [] h = tt
-range_take limit (suc n) (v ∷ vs) h = (h.0, range_take limit n vs h.1)
-
-range_drop : (limit n : ℕ) (vs : List ℕ) → AllByRecursion (λ v. v < limit) vs → AllByRecursion (λ v. v < limit) (drop n vs)
-range_drop limit zero vs h = h
-range_drop limit (suc n) [] h = tt
-range_drop limit (suc n) (v ∷ vs) h = range_drop limit n vs h.1
-
-filled_length : (size : ℕ) (v : List ℕ) → length v ≤ size → length (filled size v) ≡ size
-filled_length size v le = omega (arith, length-append v (replicate (size - length v) 0), length-replicate {A = ℕ} (size - length v) 0)
-
 first_are_blocks : (s : CodeSet) (size n : ℕ) (numbers : List ℕ) → AllByRecursion (λ v. v < 2 ^ s.bits) numbers → AreBlocks s size (first_blocks size n numbers)
 unfolding first_blocks
 first_are_blocks s size zero numbers h = tt
 first_are_blocks s size (suc n) numbers h = (
-  (filled_length size (take size numbers) (omega (arith, length-take size numbers)), range_filled (2 ^ s.bits) size (take size numbers) (pow_pos s.bits) (range_take (2 ^ s.bits) size numbers h)),
-  first_are_blocks s size n (drop size numbers) (range_drop (2 ^ s.bits) size numbers h),
+  (filled_length size (take size numbers) (omega (arith, length-take size numbers)), range_filled _ _ _ (pow_pos _) (all_take _ size _ h)),
+  first_are_blocks s size n (drop size numbers) (all_drop _ size _ h),
 )
-
-filled_whole : (size : ℕ) (b : List ℕ) → length b ≡ size → filled size b ≡ b
-filled_whole size b len = (let e : size - length b ≡ 0 = omega arith in rw e (append-nil b))
-
-take_behind : (a b : List ℕ) (n m : ℕ) → n ≡ length a + m → take n (a ++ b) ≡ a ++ take m b
-take_behind [] b n m e = (let f : n ≡ m = omega arith in rw f refl)
-take_behind (x ∷ a) b zero m e = absurd (omega arith)
-take_behind (x ∷ a) b (suc n) m e = ap (λ (vs : List ℕ). x ∷ vs) (take_behind a b n m (omega arith))
 
 -- the blocks begin with the numbers
 first_values : (size n : ℕ) (numbers : List ℕ) → length numbers ≤ n * size → take (length numbers) (values_of (first_blocks size n numbers)) ≡ numbers
@@ -112,9 +97,9 @@ first_values size (suc n) numbers h =
           (let whole : length (take size numbers) ≡ size = omega (arith, length-take size numbers) in
           let rest : length (drop size numbers) ≡ length numbers - size = length-drop size numbers in
           let few : length (drop size numbers) ≤ n * size = omega arith in
-          rw (filled_whole size (take size numbers) whole)
-          (take_behind (take size numbers) (values_of (first_blocks size n (drop size numbers))) (length numbers) (length (drop size numbers)) (omega arith)
-          ∙ ap (λ (vs : List ℕ). take size numbers ++ vs) (first_values size n (drop size numbers) few) ∙ take-append-drop size numbers))
+          rw (filled_whole size (take size numbers) whole) (take_behind (take size numbers) (values_of (first_blocks size n (drop size numbers)))
+          (length numbers) (length (drop size numbers)) (omega arith) ∙ (λ i. take size numbers ++ (first_values size n (drop size numbers) few) i)
+          ∙ take-append-drop size numbers))
       | inr few ↦
           (let all : take size numbers ≡ numbers = take_all size numbers few in
           rw (all, append_assoc numbers (replicate (size - length numbers) 0) (values_of (first_blocks size n (drop size numbers))))
@@ -132,12 +117,13 @@ chosen_is_body s size reference numbers pos least range =
     let c : Cut = cut_of s size reference (length numbers) in
     let bs : List (List ℕ) = first_blocks size (block_count size (length numbers)) numbers in
     let len : length bs ≡ c.count = length-first_blocks size (block_count size (length numbers)) numbers in
-    let lawful = chosen_is_lawful c bs len least (first_are_blocks s size (block_count size (length numbers)) numbers range) in
+    let lawful = chosen_is_lawful _ _ len least (first_are_blocks s size (block_count size (length numbers)) numbers range) in
     record {
       data_sets = chosen_from c c.count 0 bs;
       lawful = lawful.0;
-      text = ap (λ (n : ℕ). spelling s (chosen_from c n 0 bs)) len;
-      told = ap (λ (ts : List (List ℕ)). take (length numbers) (values_of ts)) lawful.1 ∙ first_values size (block_count size (length numbers)) numbers (blocks_enough size (length numbers) pos);
+      text = (λ i. spelling s (chosen_from c (len i) 0 bs));
+      told = (λ i. take (length numbers) (values_of (lawful.1 i))) ∙ first_values size (block_count size (length numbers)) numbers
+          (blocks_enough size (length numbers) pos);
     }
 
 -- ---- what is read is lawful
@@ -150,34 +136,36 @@ data_set_most s size left RestOfSegment pos h = omega arith
 abbrev AreTaken : Cut → ℕ → List Bool → List CodedDataSet × List Bool → Type 0
 AreTaken c i bits x = AreCodedDataSets c i x.0 c.count × (bits ≡ spelling c.set x.0 ++ x.1)
 
-pub data_sets_taken : (count half n i : ℕ) (c : Cut) (bits : List Bool) (x : List CodedDataSet × List Bool) → c.size ≡ 2 * half → 1 ≤ c.reference → i ≤ c.count → c.count ≤ n + i → data_sets_at count c n i bits ≡ Ok x → AreTaken c i bits x
+pub data_sets_taken : (count half n i : ℕ) (c : Cut) (bits : List Bool) (x : List CodedDataSet × List Bool) → c.size ≡ 2 * half → 1 ≤ c.reference → i ≤ c.count
+    → c.count ≤ n + i → data_sets_at count c n i bits ≡ Ok x → AreTaken c i bits x
 unfolding data_sets_at AreCodedDataSets
 data_sets_taken count half zero i c bits x even pos le fuel e = subst (AreTaken c i bits) (ok_is ([], bits) x e) (omega arith, refl)
 data_sets_taken count half (suc n) i c bits x even pos le fuel e =
-    elim (cases_lt i c.count) [
+    elim (cases_lt _ _) [
       | inl more ↦
           (let test : leb c.count i ≡ false = lt-leb _ _ more in
           let site : Site = record { count = count; block = i } in
           let left : ℕ = left_at c i in
-          let a = bind_ok (data_set_at site c.set c.size left bits) (λ t. data_sets_at count c n (i + blocks_in left t.0) t.1 >>= λ ts. Ok (t.0 ∷ ts.0, ts.1)) x (rw test at e) in
-          let b = bind_ok (data_sets_at count c n (i + blocks_in left a.0.0) a.0.1) (λ ts. Ok (a.0.0 ∷ ts.0, ts.1)) x a.2 in
-          let some = rest_least c.reference c.count i pos more in
-          let first = data_set_is_taken site c.set half left a.0.0 bits a.0.1 some (subst (λ (k : ℕ). data_set_at site c.set k left bits ≡ Ok (a.0.0, a.0.1)) even a.1) in
+          let a = bind_ok _ (λ t. data_sets_at count c n (i + blocks_in left t.0) t.1 >>= λ ts. Ok (t.0 ∷ ts.0, ts.1)) _ (rw test at e) in
+          let b = bind_ok (data_sets_at count c n (i + blocks_in left a.0.0) a.0.1) (λ ts. Ok (a.0.0 ∷ ts.0, ts.1)) _ a.2 in
+          let some = rest_least _ _ _ pos more in
+          let first = data_set_is_taken _ _ _ _ a.0.0 _ a.0.1 some (subst (λ (k : ℕ). data_set_at site c.set k left bits ≡ Ok (a.0.0, a.0.1)) even a.1) in
           let lawful : IsCodedDataSet c.set c.size left a.0.0 = subst (λ (k : ℕ). IsCodedDataSet c.set k left a.0.0) (sym even) first.1 in
-          let least = data_set_some c.set c.size left a.0.0 lawful in
-          let most = data_set_most c.set c.size left a.0.0 some lawful in
-          let others = data_sets_taken count half n (i + blocks_in left a.0.0) c a.0.1 b.0 even pos (omega (arith, rest_most c i, most)) (omega (arith, least)) b.1 in
-          subst (AreTaken c i bits) (ok_is (a.0.0 ∷ b.0.0, b.0.1) x b.2)
-          ((lawful, others.0), first.0 ∙ ap (λ (bs : List Bool). spelled c.set a.0.0 ++ bs) others.1 ∙ sym (append_assoc (spelled c.set a.0.0) (spelling c.set b.0.0) b.0.1)))
+          let least = data_set_some _ _ _ a.0.0 lawful in
+          let most = data_set_most _ _ _ a.0.0 some lawful in
+          let others = data_sets_taken count half n (i + blocks_in left a.0.0) c a.0.1 b.0 even pos (omega (arith, rest_most c i, most)) (omega (arith, least))
+          b.1 in
+          subst (AreTaken c i bits) (ok_is (a.0.0 ∷ b.0.0, b.0.1) _ b.2)
+          ((lawful, others.0), first.0 ∙ (λ j. spelled c.set a.0.0 ++ others.1 j) ∙ sym (append_assoc (spelled c.set a.0.0) (spelling c.set b.0.0) b.0.1)))
       | inr done ↦
           (let test : leb c.count i ≡ true = le-leb _ _ done in
-          subst (AreTaken c i bits) (ok_is ([], bits) x (rw test at e)) (omega arith, refl))
+          subst (AreTaken c i bits) (ok_is _ _ (rw test at e)) (omega arith, refl))
     ]
 
 pub body_is_read : BodyIsRead
 unfolding block_body_at
 body_is_read count s half reference n data_sets bits rest pos =
     let c : Cut = cut_of s (2 * half) reference n in (
-      λ lawful text. rw text (data_sets_again count half c.count 0 c data_sets rest refl (omega (arith, data_sets_few c 0 c.count data_sets lawful)) lawful),
-      λ e. data_sets_taken count half c.count 0 c bits (data_sets, rest) refl pos (omega arith) (omega arith) e,
+      λ lawful text. rw text (data_sets_again count half _ _ _ data_sets rest refl (omega (arith, data_sets_few _ _ _ data_sets lawful)) lawful),
+      λ e. data_sets_taken count half _ _ _ bits (data_sets, rest) refl pos (omega arith) (omega arith) e,
     )

@@ -1,5 +1,5 @@
 -- The chosen option, out of the few k that the sum of the values leaves.
-use Rattle.std.proofs.Common.{◌≡◌, ℕ, suc, ◌+◌, ◌-◌, ◌*◌, ◌^◌, ◌<◌, ◌≤◌, Bool, true, false, List, length, sum, ap, subst, inl, inr, arith, lit<}
+use Rattle.std.proofs.Common.{◌≡◌, ℕ, suc, ◌+◌, ◌-◌, ◌*◌, ◌^◌, ◌<◌, ◌≤◌, Bool, true, false, List, length, sum, subst, inl, inr, arith, lit<}
 use Rattle.std.proofs.lemmas.Bool.{cases_lt}
 use Rattle.std.proofs.lemmas.Nat.{mul-le}
 use Rattle.std.proofs.Math.Nat.{pow-le-pow_right}
@@ -11,7 +11,8 @@ use Rattle.block_adaptive.specs.Chosen.{chosen_option}
 use Rattle.block_adaptive.proofs.Costs.{split_cost, quotients_least}
 use Rattle.block_adaptive.proofs.Sums.{plain_length}
 use Rattle.block_adaptive.proofs.Slopes.{falls_to, rises_from, second_longer}
-use Rattle.block_adaptive.proofs.Tried.{LeadsTried, leads_all, lead_cost}
+use Rattle.block_adaptive.proofs.Tried.{LeadsTried, leads_all}
+use Rattle.header_bits.proofs.Powers.{lead_cost}
 
 -- the k from which on the search goes, and whether the second extension is left out
 pub record IsSearch (s : CodeSet) (vs : List ℕ) (sum first : ℕ) (longer : Bool) : Type 0 where
@@ -21,12 +22,14 @@ pub record IsSearch (s : CodeSet) (vs : List ℕ) (sum first : ℕ) (longer : Bo
   pub rising : first + 1 < splits s → sum ≤ length vs * 2 ^ (first + 2)
   pub second : longer ≡ true → (1 ≤ splits s) × (2 * length vs ≤ length (quotient_codes 0 vs))
 
-below_first : (s : CodeSet) (vs : List ℕ) (sum first : ℕ) (longer : Bool) → IsSearch s vs sum first longer → (j : ℕ) → j < first → cost s (Split first) vs < cost s (Split j) vs
+below_first : (s : CodeSet) (vs : List ℕ) (sum first : ℕ) (longer : Bool) → IsSearch s vs sum first longer → (j : ℕ) → j < first
+    → cost s (Split first) vs < cost s (Split j) vs
 below_first s vs sum first longer h j lt =
     let e : first + 1 ≡ suc first = omega arith in
-    falls_to s first j first sum vs h.whole (rw e at h.falling (omega arith)) (omega arith) lt
+    falls_to _ _ _ _ _ _ h.whole (rw e at h.falling (omega arith)) (omega arith) lt
 
-second_behind : (s : CodeSet) (vs : List ℕ) (sum first : ℕ) (longer : Bool) → IsSearch s vs sum first longer → longer ≡ true → (0 < splits s) × (cost s (Split first) vs < cost s Second vs)
+second_behind : (s : CodeSet) (vs : List ℕ) (sum first : ℕ) (longer : Bool) → IsSearch s vs sum first longer → longer ≡ true
+    → (0 < splits s) × (cost s (Split first) vs < cost s Second vs)
 second_behind s vs sum first longer h e =
     let some = h.second e in
     let start = second_longer s vs some.1 in (
@@ -38,9 +41,10 @@ second_behind s vs sum first longer h e =
     )
 
 -- no later k is shorter, since the sum of the values is small
-pub ended : (s : CodeSet) (vs : List ℕ) (sum first k : ℕ) (longer : Bool) (o : Choice) → IsSearch s vs sum first longer → LeadsTried s vs longer first k o → k ≤ splits s → (k < splits s → k ≡ first + 3) → o ≡ chosen_option s vs
+pub ended : (s : CodeSet) (vs : List ℕ) (sum first k : ℕ) (longer : Bool) (o : Choice) → IsSearch s vs sum first longer → LeadsTried s vs longer first k o
+    → k ≤ splits s → (k < splits s → k ≡ first + 3) → o ≡ chosen_option s vs
 ended s vs sum first k longer o h leads few last =
-    leads_all s vs longer first k o leads few h.within (below_first s vs sum first longer h) (second_behind s vs sum first longer h) (λ j from in_set.
+    leads_all leads few h.within (below_first s vs sum first longer h) (second_behind s vs sum first longer h) (λ j from in_set.
     let end : k ≡ first + 3 = last (omega arith) in
     let behind : j - (first + 2) + (first + 2) ≡ j = omega arith in
     let tried = lead_cost _ _ _ _ (leads.leads (Split (first + 2)) (omega arith, omega arith)) in
@@ -51,13 +55,14 @@ ended s vs sum first k longer o h leads few last =
 
 plain_short : (s : CodeSet) (vs : List ℕ) (k : ℕ) → sum vs < length vs → 1 ≤ k → cost s (Split 0) vs < cost s (Split k) vs
 plain_short s vs k small some =
-    let low : 1 * length vs ≤ k * length vs = mul-le 1 (length vs) k (length vs) some (omega arith) in
+    let low : 1 * length vs ≤ k * length vs = mul-le _ _ _ _ some (omega arith) in
     omega (arith, split_cost s 0 vs, split_cost s k vs, plain_length vs, quotients_least k vs, low)
 
 -- no k above 0 is shorter
-pub ended_at_plain : (s : CodeSet) (vs : List ℕ) (k : ℕ) (o : Choice) → (0 < splits s → sum vs < length vs) → LeadsTried s vs false 0 k o → k ≤ splits s → (k < splits s → k ≡ 1) → o ≡ chosen_option s vs
+pub ended_at_plain : (s : CodeSet) (vs : List ℕ) (k : ℕ) (o : Choice) → (0 < splits s → sum vs < length vs) → LeadsTried s vs false 0 k o → k ≤ splits s
+    → (k < splits s → k ≡ 1) → o ≡ chosen_option s vs
 ended_at_plain s vs k o small leads few last =
-    leads_all s vs false 0 k o leads few (λ some. some) (λ j lt. absurd (omega arith)) (λ e. absurd cc) (λ j from in_set.
+    leads_all leads few (λ some. some) (λ j lt. absurd (omega arith)) (λ e. absurd cc) (λ j from in_set.
     let end : k ≡ 1 = last (omega arith) in
     let tried = lead_cost _ _ _ _ (leads.leads (Split 0) (omega arith, omega arith)) in
     omega (arith, tried, plain_short s vs j (small (omega arith)) (omega arith)))
@@ -67,4 +72,4 @@ pub some_splits : (s : CodeSet) → 1 < width s → 1 ≤ splits s
 some_splits s wide = (let most : 2 ^ 2 ≤ 2 ^ width s = pow-le-pow_right {n = 2} (lit< tt) {i = 2} {j = width s} wide in omega arith)
 
 pub no_splits : (s : CodeSet) → width s ≡ 1 → splits s ≡ 0
-no_splits s one = ap (λ (n : ℕ). 2 ^ n - 2) one
+no_splits s one = (λ i. 2 ^ one i - 2)

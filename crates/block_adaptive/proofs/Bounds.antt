@@ -1,31 +1,12 @@
 -- Fundamental sequences that are read first, and judged all at once.
-use Rattle.std.proofs.Common.{◌≡◌, ℕ, zero, suc, ◌+◌, ◌<◌, ◌≤◌, Bool, List, [], ◌∷◌, ◌++◌, length, take, set, bit_or, Result, Ok, sym, ap, subst, ◌∙◌, arith}
+use Rattle.std.proofs.Common.{◌≡◌, ℕ, zero, suc, ◌≤◌, Bool, List, ◌∷◌, Ok, sym, ap, subst, ◌∙◌}
 use Rattle.std.specs.List.{AllByRecursion}
-use Rattle.std.proofs.lemmas.List.{take_all, take_more_set}
-use Rattle.std.proofs.lemmas.Nat.{le_or_l, le_or_r}
-use Rattle.cube_core.specs.declared.fault.Fault.{Fault}
 use Rattle.cube_core.specs.Steps.{◌>>=◌}
 use Rattle.header_bits.proofs.Fronts.{bind_ok}
 use Rattle.header_bits.proofs.Reading.{ok_is}
 use Rattle.block_adaptive.specs.Reading.{Site, fundamental_at, quotients_at}
-use Rattle.block_adaptive.proofs.Codes.{fundamental_again, weaker}
+use Rattle.block_adaptive.proofs.Codes.{fundamental_again}
 use Rattle.block_adaptive.proofs.Takes.{fundamental_takes}
-
-all_append : (bound : ℕ) (xs ys : List ℕ) → AllByRecursion (λ q. q ≤ bound) xs → AllByRecursion (λ q. q ≤ bound) ys → AllByRecursion (λ q. q ≤ bound) (xs ++ ys)
-all_append bound [] ys h k = k
-all_append bound (x ∷ xs) ys h k = (h.0, all_append bound xs ys h.1 k)
-
-pub bound_more : (bound q i : ℕ) (vs : List ℕ) → i < length vs → AllByRecursion (λ v. v ≤ bound) (take i vs)
-    → AllByRecursion (λ v. v ≤ bit_or bound q) (take (i + 1) (set vs i q))
-bound_more bound q i vs lt h =
-    let before = weaker (λ v. v ≤ bound) (λ v. v ≤ bit_or bound q) (λ v le. omega (arith, le_or_l bound q)) (take i vs) h in
-    rw (take_more_set vs i q lt) (all_append (bit_or bound q) (take i vs) (q ∷ []) before (le_or_r bound q, tt))
-
-pub all_bound : (bound i : ℕ) (vs : List ℕ) → i ≡ length vs → AllByRecursion (λ v. v ≤ bound) (take i vs) → AllByRecursion (λ v. v ≤ bound) vs
-all_bound bound i vs same h = subst (λ (xs : List ℕ). AllByRecursion (λ v. v ≤ bound) xs) (take_all i vs (omega arith)) h
-
-pub bounded : (bound most : ℕ) (vs : List ℕ) → bound ≤ most → AllByRecursion (λ v. v ≤ bound) vs → AllByRecursion (λ v. v ≤ most) vs
-bounded bound most vs le h = weaker (λ v. v ≤ bound) (λ v. v ≤ most) (λ v small. omega arith) vs h
 
 -- what is read with more zeros allowed is read so too where it has few
 pub judged_within : (site : Site) (most more n : ℕ) (bits : List Bool) (x : List ℕ × List Bool) → quotients_at site more n bits ≡ Ok x
@@ -33,12 +14,11 @@ pub judged_within : (site : Site) (most more n : ℕ) (bits : List Bool) (x : Li
 unfolding quotients_at
 judged_within site most more zero bits x e h = e
 judged_within site most more (suc n) bits x e h =
-    let a = bind_ok (fundamental_at site more bits) (λ q. quotients_at site more n q.1 >>= λ qs. Ok (q.0 ∷ qs.0, qs.1)) x e in
-    let b = bind_ok (quotients_at site more n a.0.1) (λ qs. Ok (a.0.0 ∷ qs.0, qs.1)) x a.2 in
-    let is = ok_is (a.0.0 ∷ b.0.0, b.0.1) x b.2 in
+    let a = bind_ok _ (λ q. quotients_at site more n q.1 >>= λ qs. Ok (q.0 ∷ qs.0, qs.1)) _ e in
+    let b = bind_ok _ _ _ a.2 in
+    let is = ok_is (a.0.0 ∷ b.0.0, b.0.1) _ b.2 in
     let all : AllByRecursion (λ v. v ≤ most) (a.0.0 ∷ b.0.0) = subst (λ (y : List ℕ × List Bool). AllByRecursion (λ v. v ≤ most) y.0) (sym is) h in
-    let first : fundamental_at site most bits ≡ Ok a.0 = ap (fundamental_at site most) (fundamental_takes site more bits a.0 a.1).0
-    ∙ fundamental_again site most a.0.0 a.0.1 all.0 in
+    let first : fundamental_at site most bits ≡ Ok a.0 = ap (fundamental_at site most) (fundamental_takes _ _ _ a.0 a.1).0
+    ∙ fundamental_again _ _ a.0.0 a.0.1 all.0 in
     let others = judged_within site most more n a.0.1 b.0 b.1 all.1 in
-    ap (λ (r : Result (ℕ × List Bool) Fault). r >>= λ q. quotients_at site most n q.1 >>= λ qs. Ok (q.0 ∷ qs.0, qs.1)) first
-    ∙ ap (λ (r : Result (List ℕ × List Bool) Fault). r >>= λ qs. Ok (a.0.0 ∷ qs.0, qs.1)) others ∙ b.2
+    ap (λ r. r >>= λ q. quotients_at site most n q.1 >>= λ qs. Ok (q.0 ∷ qs.0, qs.1)) first ∙ ap (λ r. r >>= λ qs. Ok (a.0.0 ∷ qs.0, qs.1)) others ∙ b.2

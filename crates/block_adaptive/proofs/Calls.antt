@@ -1,15 +1,15 @@
 -- What callers of the reader and the writer of blocks know.
-use Rattle.std.proofs.Common.{◌≡◌, ℕ, zero, suc, ◌+◌, ◌-◌, ◌*◌, ◌/◌, ◌<◌, ◌≤◌, Bool, false, leb, List, [], ◌∷◌, ◌++◌, length, replicate, Ok, Err, refl, sym, ap, subst, ◌∙◌, inl, inr, arith, append_assoc}
-use Rattle.std.proofs.lemmas.Bool.{cases_lt, lt-leb}
-use Rattle.std.proofs.lemmas.Nat.{mul-le}
-use Rattle.std.proofs.Math.Nat.{lt-div-mul-add}
+use Rattle.std.proofs.Common.{◌≡◌, ℕ, zero, suc, ◌+◌, ◌-◌, ◌*◌, ◌<◌, ◌≤◌, Bool, false, leb, List, [], ◌∷◌, ◌++◌, length, replicate, Ok, Err, refl, sym, ap}
+use Rattle.std.proofs.Common.{subst, ◌∙◌, inl, inr, arith, append_assoc}
+use Rattle.std.proofs.lemmas.Bool.{lt-leb}
 use Rattle.std.proofs.lemmas.List.{append-nil, length-append, length-replicate}
 use Rattle.cube_core.specs.declared.fault.Fault.{Fault}
 use Rattle.header_bits.specs.Bits.{Unread}
 use Rattle.header_bits.proofs.Fronts.{bind_err}
 use Rattle.block_adaptive.specs.declared.options.CodeSet.{CodeSet}
 use Rattle.block_adaptive.specs.Segments.{blocks, first_blocks, block_count}
-use Rattle.block_adaptive.specs.DataSets.{CodedDataSet, Block, Run, RestOfSegment, Cut, capacity, left_at, IsCodedDataSet, AreCodedDataSets, blocks_in, blocks_of, blocks_told, values_of, spelled, spelling}
+use Rattle.block_adaptive.specs.DataSets.{CodedDataSet, Block, Run, RestOfSegment, Cut, capacity, left_at, IsCodedDataSet, AreCodedDataSets, blocks_in}
+use Rattle.block_adaptive.specs.DataSets.{blocks_of, blocks_told, values_of, spelled, spelling}
 use Rattle.block_adaptive.specs.Chosen.{chosen_from, chosen_data_sets, chosen_block_body}
 use Rattle.block_adaptive.specs.Reading.{Site, site_of, data_set_at, data_sets_at}
 use Rattle.block_adaptive.specs.Settings.{IsCut}
@@ -18,100 +18,103 @@ use Rattle.block_adaptive.specs.Prefixes.{TakenIsPrefix}
 use Rattle.block_adaptive.proofs.Again.{data_set_again}
 use Rattle.block_adaptive.proofs.Bodies.{length-first_blocks, data_set_some, data_sets_few}
 use Rattle.block_adaptive.proofs.Counts.{data_set_left}
-use Rattle.block_adaptive.proofs.Handed.{size_least, size_halved, values_append}
+use Rattle.block_adaptive.proofs.Handed.{size_least, size_halved}
 use Rattle.block_adaptive.proofs.Packing.{values_length, first_of_blocks}
+use Rattle.std.proofs.lemmas.Grind.{flat_map-append}
+use Rattle.header_bits.proofs.Intervals.{count_least}
 
 -- ---- data sets and the blocks that they stand for
 
 zeros_length : (n size : ℕ) → length (values_of (replicate n (replicate size 0))) ≡ n * size
 zeros_length zero size = omega arith
-zeros_length (suc n) size = omega (arith, length-append (replicate size 0) (values_of (replicate n (replicate size 0))), length-replicate {A = ℕ} size 0, zeros_length n size)
+zeros_length (suc n) size =
+    omega (arith, length-append (replicate size 0) (values_of (replicate n (replicate size 0))), length-replicate {A = ℕ} size 0, zeros_length n size)
 
-data_set_blocks : (s : CodeSet) (size left : ℕ) (t : CodedDataSet) → IsCodedDataSet s size left t → length (values_of (blocks_of size left t)) ≡ blocks_in left t * size
+data_set_blocks : (s : CodeSet) (size left : ℕ) (t : CodedDataSet) → IsCodedDataSet s size left t → length (values_of (blocks_of size left t))
+    ≡ blocks_in left t * size
 data_set_blocks s size left (Block o vs) h = omega (arith, ap length (append-nil vs), h.whole)
 data_set_blocks s size left (Run n) h = zeros_length n size
 data_set_blocks s size left RestOfSegment h = zeros_length left size
 
-pub told_length : (c : Cut) (i j : ℕ) (data_sets : List CodedDataSet) → AreCodedDataSets c i data_sets j → i * c.size + length (values_of (blocks_told c i data_sets)) ≡ j * c.size
+pub told_length : (c : Cut) (i j : ℕ) (data_sets : List CodedDataSet) → AreCodedDataSets c i data_sets j
+    → i * c.size + length (values_of (blocks_told c i data_sets)) ≡ j * c.size
 unfolding AreCodedDataSets blocks_told
 told_length c i j [] h = rw h (omega arith)
 told_length c i j (t ∷ data_sets) h =
     let k : ℕ = blocks_in (left_at c i) t in
     let here = data_set_blocks c.set c.size (left_at c i) t h.0 in
     let rest = told_length c (i + k) j data_sets h.1 in
-    let both : length (values_of (blocks_of c.size (left_at c i) t ++ blocks_told c (i + k) data_sets)) ≡ length (values_of (blocks_of c.size (left_at c i) t)) + length (values_of (blocks_told c (i + k) data_sets)) =
-    ap length (values_append (blocks_of c.size (left_at c i) t) (blocks_told c (i + k) data_sets)) ∙ length-append (values_of (blocks_of c.size (left_at c i) t)) (values_of (blocks_told c (i + k) data_sets)) in
+    let both : length (values_of (blocks_of c.size (left_at c i) t ++ blocks_told c (i + k) data_sets))
+    ≡ length (values_of (blocks_of c.size (left_at c i) t)) + length (values_of (blocks_told c (i + k) data_sets)) =
+    ap length (flat_map-append _ (blocks_of c.size (left_at c i) t) (blocks_told c (i + k) data_sets))
+    ∙ length-append (values_of (blocks_of c.size (left_at c i) t)) (values_of (blocks_told c (i + k) data_sets)) in
     let spread : (i + k) * c.size ≡ i * c.size + k * c.size = omega arith in
     omega arith
 
 -- ---- the whole body
 
 -- lawful data sets, and then a data set that is refused: so is the body
-data_sets_refused : (count half n i j : ℕ) (c : Cut) (data_sets : List CodedDataSet) (left : List Bool) (e : Fault) → c.size ≡ 2 * half → j < c.count → c.count ≤ n + i → AreCodedDataSets c i data_sets j
-    → data_set_at (record { count = count; block = j }) c.set c.size (left_at c j) left ≡ Err e → data_sets_at count c n i (spelling c.set data_sets ++ left) ≡ Err e
+data_sets_refused : (count half n i j : ℕ) (c : Cut) (data_sets : List CodedDataSet) (left : List Bool) (e : Fault) → c.size ≡ 2 * half → j < c.count
+    → c.count ≤ n + i → AreCodedDataSets c i data_sets j → data_set_at (record { count = count; block = j }) c.set c.size (left_at c j) left ≡ Err e
+    → data_sets_at count c n i (spelling c.set data_sets ++ left) ≡ Err e
 unfolding data_sets_at AreCodedDataSets
 data_sets_refused count half zero i j c [] left e even lt fuel h bad = absurd (omega (arith, h))
 data_sets_refused count half zero i j c (t ∷ data_sets) left e even lt fuel h bad =
-    absurd (omega (arith, data_set_some c.set c.size (left_at c i) t h.0, data_sets_few c (i + blocks_in (left_at c i) t) j data_sets h.1))
+    absurd (omega (arith, data_set_some _ _ _ t h.0, data_sets_few _ (i + blocks_in (left_at c i) t) _ _ h.1))
 data_sets_refused count half (suc n) i j c [] left e even lt fuel h bad =
     let more : leb c.count i ≡ false = lt-leb _ _ (omega (arith, h)) in
-    let here : data_set_at (record { count = count; block = i }) c.set c.size (left_at c i) left ≡ Err e = subst (λ (k : ℕ). data_set_at (record { count = count; block = k }) c.set c.size (left_at c k) left ≡ Err e) (sym h) bad in
+    let here : data_set_at (record { count = count; block = i }) c.set c.size (left_at c i) left ≡ Err e =
+    subst (λ (k : ℕ). data_set_at (record { count = count; block = k }) c.set c.size (left_at c k) left ≡ Err e) (sym h) bad in
     rw (more, here) refl
 data_sets_refused count half (suc n) i j c (t ∷ data_sets) left e even lt fuel h bad =
-    let some = data_set_some c.set c.size (left_at c i) t h.0 in
-    let more : leb c.count i ≡ false = lt-leb _ _ (omega (arith, some, data_sets_few c (i + blocks_in (left_at c i) t) j data_sets h.1)) in
+    let some = data_set_some _ _ _ t h.0 in
+    let more : leb c.count i ≡ false = lt-leb _ _ (omega (arith, some, data_sets_few _ (i + blocks_in (left_at c i) t) _ _ h.1)) in
     let site : Site = record { count = count; block = i } in
     let after : List Bool = spelling c.set data_sets ++ left in
     let one : data_set_at site c.set c.size (left_at c i) (spelled c.set t ++ after) ≡ Ok (t, after) =
-    rw even (data_set_again site c.set half (left_at c i) t after (subst (λ (k : ℕ). IsCodedDataSet c.set k (left_at c i) t) even h.0)) in
-    rw (more, append_assoc (spelled c.set t) (spelling c.set data_sets) left, one, data_sets_refused count half n (i + blocks_in (left_at c i) t) j c data_sets left e even lt (omega arith) h.1 bad) refl
+    rw even (data_set_again _ _ _ _ t _ (subst (λ (k : ℕ). IsCodedDataSet c.set k (left_at c i) t) even h.0)) in
+    let others = data_sets_refused count half n (i + blocks_in (left_at c i) t) j c data_sets left e even lt (omega arith) h.1 bad in
+    rw (more, append_assoc (spelled c.set t) _ _, one, others) refl
 
 -- a refusal of the next data set is that of the body, out of which the numbers given were read
-body_refused : (v : Unpacked) (given : List ℕ) (bits left : List Bool) (count : ℕ) (e : Fault) → IsCut v.cut → given_count v < capacity v.cut → v.held ≡ [] → HasGiven v given bits
-    → data_set_at (record { count = count; block = v.block }) v.cut.set v.cut.size (left_at v.cut v.block) left ≡ Err e → data_sets_at count v.cut v.cut.count 0 (bits ++ left) ≡ Err e
+body_refused : (v : Unpacked) (given : List ℕ) (bits left : List Bool) (count : ℕ) (e : Fault) → IsCut v.cut → given_count v < capacity v.cut → v.held ≡ []
+    → HasGiven v given bits → data_set_at (record { count = count; block = v.block }) v.cut.set v.cut.size (left_at v.cut v.block) left ≡ Err e
+    → data_sets_at count v.cut v.cut.count 0 (bits ++ left) ≡ Err e
 body_refused v given bits left count e cut few none h bad =
     let lt : v.block < v.cut.count = data_set_left v few none in
-    ap (λ (bs : List Bool). data_sets_at count v.cut v.cut.count 0 (bs ++ left)) h.text
-    ∙ data_sets_refused count (v.cut.size / 2) v.cut.count 0 v.block v.cut h.data_sets left e (sym (size_halved v.cut.size cut.size)) lt (omega arith) h.lawful bad
+    (λ i. data_sets_at count v.cut v.cut.count 0 (h.text i ++ left)) ∙ data_sets_refused _ _ _ _ _ _ h.data_sets _ _ (sym (size_halved _ cut.size)) lt
+    (omega arith) h.lawful bad
 
 no_step : (x : Unpacked × List Bool) (e : Fault) → Ok x ≡ Err e → ⊥
 no_step x e h = absurd (cc)
 
 -- so is that of a number that would come next
-pub next_refused : (v : Unpacked) (reader : Unread) (e : Fault) → IsCut v.cut → given_count v < capacity v.cut → v.held ≡ [] → next_data_set v reader ≡ Err e → (given : List ℕ) (bits : List Bool) → HasGiven v given bits
-    → data_sets_at reader.count v.cut v.cut.count 0 (bits ++ reader.left) ≡ Err e
+pub next_refused : (v : Unpacked) (reader : Unread) (e : Fault) → IsCut v.cut → given_count v < capacity v.cut → v.held ≡ [] → next_data_set v reader ≡ Err e
+    → (given : List ℕ) (bits : List Bool) → HasGiven v given bits → data_sets_at reader.count v.cut v.cut.count 0 (bits ++ reader.left) ≡ Err e
 next_refused v reader e cut few none bad given bits h =
     let site : Site = site_of reader v.block in
     let text : data_set_at site v.cut.set v.cut.size (left_at v.cut v.block) reader.left ≡ Err e =
-    elim (bind_err (data_set_at site v.cut.set v.cut.size (left_at v.cut v.block) reader.left) (λ x. Ok (holding v x.0, x.1)) e bad) [ inl k ↦ k | inr (x, k, m) ↦ absurd (no_step (holding v x.0, x.1) e m) ] in
+    elim (bind_err _ _ _ bad) [ inl k ↦ k | inr (x, k, m) ↦ absurd (no_step (holding v x.0, x.1) e m) ] in
     body_refused v given bits reader.left reader.count e cut few none h text
 
 -- ---- what was appended begins the body
-
-count_least : (size many rest : ℕ) → 1 ≤ size → many ≤ block_count size (many * size + rest)
-count_least size many rest pos =
-    let over = lt-div-mul-add {a = many * size + rest + size - 1} {b = size} (omega arith) in
-    block_least size many ((many * size + rest + size - 1) / size) (omega arith)
-  where
-    block_least : (size many q : ℕ) → many * size < (q + 1) * size → many ≤ q
-    block_least size many q lt =
-        elim (cases_lt q many) [
-          | inl below ↦ (let p = mul-le (q + 1) size many size (omega arith) (omega arith) in absurd (omega arith))
-          | inr above ↦ above
-        ]
 
 pub taken_is_prefix : TakenIsPrefix
 unfolding chosen_block_body chosen_data_sets blocks
 taken_is_prefix v taken future bits cut count h =
     let c : Cut = v.cut in
     let rest : List ℕ = v.held ++ future in
-    let numbers : taken ++ future ≡ values_of h.blocks ++ rest = ap (λ (ns : List ℕ). ns ++ future) h.numbers ∙ append_assoc (values_of h.blocks) v.held future in
-    let size : length (taken ++ future) ≡ length h.blocks * c.size + length rest = ap length numbers ∙ length-append (values_of h.blocks) rest ∙ ap (λ (k : ℕ). k + length rest) (values_length c.set c.size h.blocks h.whole) in
-    let many : length h.blocks ≤ c.count = subst (λ (k : ℕ). length h.blocks ≤ k) (ap (block_count c.size) (sym size) ∙ count) (count_least c.size (length h.blocks) (length rest) (omega (arith, size_least c.size cut.size))) in
+    let numbers : taken ++ future ≡ values_of h.blocks ++ rest = (λ i. h.numbers i ++ future) ∙ append_assoc (values_of h.blocks) v.held future in
+    let size : length (taken ++ future) ≡ length h.blocks * c.size + length rest = ap length numbers ∙ length-append (values_of h.blocks) _
+    ∙ (λ i. (values_length c.set _ h.blocks h.whole) i + length rest) in
+    let many : length h.blocks ≤ c.count = subst (λ (k : ℕ). length h.blocks ≤ k) (ap (block_count c.size) (sym size) ∙ count)
+    (count_least _ (length h.blocks) _ (omega (arith, size_least _ cut.size))) in
     let m : ℕ = c.count - length h.blocks in
     let whole : length h.blocks + m ≡ c.count = omega arith in
     let cut-so : first_blocks c.size c.count (taken ++ future) ≡ h.blocks ++ first_blocks c.size m rest =
-    ap (λ (n : ℕ). first_blocks c.size n (taken ++ future)) (sym whole) ∙ ap (first_blocks c.size (length h.blocks + m)) numbers ∙ first_of_blocks c.set c.size m h.blocks rest h.whole in
-    let length-so : length (h.blocks ++ first_blocks c.size m rest) ≡ c.count = omega (arith, length-append h.blocks (first_blocks c.size m rest), length-first_blocks c.size m rest) in
-    let goes = h.goes_on (first_blocks c.size m rest) (omega (arith, length-first_blocks c.size m rest)) in
+    (λ i. first_blocks c.size ((sym whole) i) (taken ++ future)) ∙ ap (first_blocks c.size (length h.blocks + m)) numbers
+    ∙ first_of_blocks c.set _ _ h.blocks _ h.whole in
+    let length-so : length (h.blocks ++ first_blocks c.size m rest) ≡ c.count =
+    omega (arith, length-append h.blocks (first_blocks c.size m rest), length-first_blocks c.size m rest) in
+    let goes = h.goes_on _ (omega (arith, length-first_blocks c.size m rest)) in
     (spelling c.set (chosen_from c c.count v.start (replicate v.zeros (replicate c.size 0) ++ first_blocks c.size m rest)), rw (count, cut-so, length-so) goes)

@@ -9,6 +9,7 @@ use Rattle.block_adaptive.specs.Options.{quotient_codes, low_groups}
 use Rattle.block_adaptive.specs.Reading.{Site, fundamental_at, quotients_at, low_at, lows_at, split_at, words_at}
 use Rattle.header_bits.proofs.Fronts.{zeros_again}
 use Rattle.header_bits.proofs.Reading.{number_again, number_low}
+use Rattle.header_bits.proofs.Items.{all_weaker}
 
 pub fundamental_again : (site : Site) (most m : ℕ) (rest : List Bool) → m ≤ most → fundamental_at site most (fundamental m ++ rest) ≡ Ok (m, rest)
 unfolding fundamental_at
@@ -16,38 +17,36 @@ fundamental_again site most m rest le =
     let few : ltb most m ≡ false = le-ltb _ _ le in
     rw (zeros_again site.count m (suc most) rest (omega arith), few) refl
 
-pub quotients_again : (site : Site) (most k : ℕ) (vs : List ℕ) (rest : List Bool) → AllByRecursion (λ v. v / 2 ^ k ≤ most) vs → quotients_at site most (length vs) (quotient_codes k vs ++ rest) ≡ Ok (map (λ v. v / 2 ^ k) vs, rest)
+pub quotients_again : (site : Site) (most k : ℕ) (vs : List ℕ) (rest : List Bool) → AllByRecursion (λ v. v / 2 ^ k ≤ most) vs
+    → quotients_at site most (length vs) (quotient_codes k vs ++ rest) ≡ Ok (map (λ v. v / 2 ^ k) vs, rest)
 unfolding quotients_at quotient_codes
 quotients_again site most k [] rest h = refl
-quotients_again site most k (v ∷ vs) rest h =
-    rw (append_assoc, fundamental_again site most (v / 2 ^ k) (quotient_codes k vs ++ rest) h.0, quotients_again site most k vs rest h.1) refl
+quotients_again site most k (v ∷ vs) rest h = rw (append_assoc, fundamental_again _ _ (v / 2 ^ k) _ h.0, quotients_again site most k vs rest h.1) refl
 
 pub low_again : (site : Site) (k most v : ℕ) (rest : List Bool) → v ≤ most → low_at site k most (v / 2 ^ k) (bits_of k v ++ rest) ≡ Ok (v, rest)
 unfolding low_at
 low_again site k most v rest le =
     let few : ltb most v ≡ false = le-ltb _ _ le in
-    rw (number_low site.count k v rest, shr_split v k, few) refl
+    rw (number_low _ _ _ _, shr_split _ _, few) refl
 
-pub lows_again : (site : Site) (k most : ℕ) (vs : List ℕ) (rest : List Bool) → AllByRecursion (λ v. v ≤ most) vs → lows_at site k most (map (λ v. v / 2 ^ k) vs) (low_groups k vs ++ rest) ≡ Ok (vs, rest)
+pub lows_again : (site : Site) (k most : ℕ) (vs : List ℕ) (rest : List Bool) → AllByRecursion (λ v. v ≤ most) vs
+    → lows_at site k most (map (λ v. v / 2 ^ k) vs) (low_groups k vs ++ rest) ≡ Ok (vs, rest)
 unfolding lows_at low_groups
 lows_again site k most [] rest h = refl
-lows_again site k most (v ∷ vs) rest h =
-    rw (append_assoc, low_again site k most v (low_groups k vs ++ rest) h.0, lows_again site k most vs rest h.1) refl
+lows_again site k most (v ∷ vs) rest h = rw (append_assoc, low_again _ _ _ v _ h.0, lows_again site k most vs rest h.1) refl
 
-pub words_again : (site : Site) (depth : ℕ) (vs : List ℕ) (rest : List Bool) → AllByRecursion (λ v. v < 2 ^ depth) vs → words_at site.count depth (length vs) (low_groups depth vs ++ rest) ≡ Ok (vs, rest)
+pub words_again : (site : Site) (depth : ℕ) (vs : List ℕ) (rest : List Bool) → AllByRecursion (λ v. v < 2 ^ depth) vs
+    → words_at site.count depth (length vs) (low_groups depth vs ++ rest) ≡ Ok (vs, rest)
 unfolding words_at low_groups
 words_again site depth [] rest h = refl
-words_again site depth (v ∷ vs) rest h =
-    rw (append_assoc, number_again site.count depth v (low_groups depth vs ++ rest) h.0, words_again site depth vs rest h.1) refl
+words_again site depth (v ∷ vs) rest h = rw (append_assoc, number_again _ _ v _ h.0, words_again site depth vs rest h.1) refl
 
-pub weaker : (P Q : ℕ → Type 0) → ((v : ℕ) → P v → Q v) → (vs : List ℕ) → AllByRecursion P vs → AllByRecursion Q vs
-weaker P Q f [] h = tt
-weaker P Q f (v ∷ vs) h = (f v h.0, weaker P Q f vs h.1)
-
-pub split_again : (site : Site) (depth k : ℕ) (vs : List ℕ) (rest : List Bool) → AllByRecursion (λ v. v < 2 ^ depth) vs → split_at site k (2 ^ depth - 1) (length vs) ((quotient_codes k vs ++ low_groups k vs) ++ rest) ≡ Ok (vs, rest)
+pub split_again : (site : Site) (depth k : ℕ) (vs : List ℕ) (rest : List Bool) → AllByRecursion (λ v. v < 2 ^ depth) vs
+    → split_at site k (2 ^ depth - 1) (length vs) ((quotient_codes k vs ++ low_groups k vs) ++ rest) ≡ Ok (vs, rest)
 unfolding split_at
 split_again site depth k vs rest h =
     let most : ℕ = 2 ^ depth - 1 in
-    let small = weaker (λ v. v < 2 ^ depth) (λ v. v ≤ most) (λ v lt. omega arith) vs h in
-    let quotients = weaker (λ v. v ≤ most) (λ v. v / 2 ^ k ≤ most / 2 ^ k) (λ v le. le-div (v / 2 ^ k) most (2 ^ k) (pow_pos k) (omega (arith, div-mul-le_self v (2 ^ k)))) vs small in
-    rw (append_assoc, quotients_again site (most / 2 ^ k) k vs (low_groups k vs ++ rest) quotients) (lows_again site k most vs rest small)
+    let small = all_weaker (λ v. v < 2 ^ depth) (λ v. v ≤ most) (λ v lt. omega arith) _ h in
+    let quotients = all_weaker (λ v. v ≤ most) (λ v. v / 2 ^ k ≤ most / 2 ^ k)
+    (λ v le. le-div (v / 2 ^ k) _ _ (pow_pos _) (omega (arith, div-mul-le_self v (2 ^ k)))) _ small in
+    rw (append_assoc, quotients_again _ _ _ _ _ quotients) (lows_again _ _ _ _ _ small)

@@ -1,16 +1,13 @@
 -- The lengths of data sets.
-use Rattle.std.proofs.Common.{◌≡◌, ℕ, zero, suc, ◌+◌, ◌*◌, ◌/◌, ◌^◌, ◌<◌, ◌≤◌, true, false, List, [], ◌∷◌, ◌++◌, length, drop, replicate, get_or, refl, ◌∙◌, arith, add-one, drop-cons}
+use Rattle.std.proofs.Common.{◌≡◌, ℕ, zero, suc, ◌+◌, ◌*◌, ◌/◌, ◌^◌, ◌<◌, ◌≤◌, true, false, List, [], ◌∷◌, ◌++◌, length, drop, replicate, get_or, refl, ◌∙◌}
+use Rattle.std.proofs.Common.{arith, add-one, drop-cons}
 use Rattle.std.proofs.lemmas.List.{length-append, length-replicate}
 use Rattle.block_adaptive.specs.declared.options.CodeSet.{CodeSet}
 use Rattle.block_adaptive.specs.declared.options.Choice.TheVariants.{Uncoded, Second, Split}
 use Rattle.header_bits.specs.Bits.{bits_of, fundamental}
 use Rattle.block_adaptive.specs.Options.{width, quotient_codes, low_groups, pair_codes, pair_number, identifier, coded, option_text, cost}
 use Rattle.header_bits.proofs.Numbers.{length-bits_of}
-
-pub length-fundamental : (m : ℕ) → length (fundamental m) ≡ m + 1
-unfolding fundamental
-length-fundamental zero = refl
-length-fundamental (suc m) = omega (arith, length-fundamental m)
+use Rattle.header_bits.proofs.Zeros.{length-fundamental}
 
 pub length-low_groups : (k : ℕ) (vs : List ℕ) → length (low_groups k vs) ≡ k * length vs
 unfolding low_groups
@@ -21,9 +18,9 @@ pub quotients_cons : (k v : ℕ) (vs : List ℕ) → length (quotient_codes k (v
 unfolding quotient_codes
 quotients_cons k v vs = omega (arith, length-append (fundamental (v / 2 ^ k)) (quotient_codes k vs), length-fundamental (v / 2 ^ k))
 
-pub quotients_more : (k : ℕ) (vs : List ℕ) (i total whole : ℕ) → i < length vs → total + length (quotient_codes k (drop i vs)) ≡ whole → total + (get_or vs i 0 / 2 ^ k + 1) + length (quotient_codes k (drop (i + 1) vs)) ≡ whole
-quotients_more k vs i total whole lt h =
-    rw (add-one i) (omega (arith, quotients_cons k (get_or vs i 0) (drop (suc i) vs), rw (drop-cons vs i 0) at h))
+pub quotients_more : (k : ℕ) (vs : List ℕ) (i total whole : ℕ) → i < length vs → total + length (quotient_codes k (drop i vs)) ≡ whole
+    → total + (get_or vs i 0 / 2 ^ k + 1) + length (quotient_codes k (drop (i + 1) vs)) ≡ whole
+quotients_more k vs i total whole lt h = rw (add-one i) (omega (arith, quotients_cons k (get_or vs i 0) (drop (suc i) vs), rw (drop-cons vs i 0) at h))
 
 drop_past : (vs : List ℕ) (i : ℕ) → length vs ≤ i → drop i vs ≡ []
 drop_past [] zero h = refl
@@ -41,11 +38,12 @@ pairs_more a b vs = omega (arith, length-append (fundamental (pair_number a b)) 
 
 pub uncoded_cost : (s : CodeSet) (vs : List ℕ) → cost s Uncoded vs ≡ width s + s.bits * length vs
 unfolding option_text identifier coded
-uncoded_cost s vs = length-append (replicate (width s) true) (low_groups s.bits vs) ∙ rw (length-replicate (width s) true, length-low_groups s.bits vs) refl
+uncoded_cost s vs = length-append (replicate (width s) true) _ ∙ rw (length-replicate _ true, length-low_groups _ _) refl
 
 pub second_cost : (s : CodeSet) (vs : List ℕ) → cost s Second vs ≡ width s + 1 + length (pair_codes vs)
 unfolding option_text identifier coded
-second_cost s vs = length-append (replicate (width s) false ++ true ∷ []) (pair_codes vs) ∙ rw (length-append (replicate (width s) false) (true ∷ []), length-replicate (width s) false) refl
+second_cost s vs =
+    length-append (replicate (width s) false ++ true ∷ []) _ ∙ rw (length-append (replicate (width s) false) (true ∷ []), length-replicate _ false) refl
 
 pub split_cost : (s : CodeSet) (k : ℕ) (vs : List ℕ) → cost s (Split k) vs ≡ width s + length (quotient_codes k vs) + k * length vs
 unfolding option_text identifier coded
@@ -54,10 +52,12 @@ split_cost s k vs =
     let b = length-append (quotient_codes k vs) (low_groups k vs) in
     omega (arith, a, b, length-bits_of (width s) (k + 1), length-low_groups k vs)
 
-pub pairs_step : (a b total whole : ℕ) (left middle rest : List ℕ) → left ≡ a ∷ middle → middle ≡ b ∷ rest → total + length (pair_codes left) ≡ whole → total + (pair_number a b + 1) + length (pair_codes rest) ≡ whole
+pub pairs_step : (a b total whole : ℕ) (left middle rest : List ℕ) → left ≡ a ∷ middle → middle ≡ b ∷ rest → total + length (pair_codes left) ≡ whole
+    → total + (pair_number a b + 1) + length (pair_codes rest) ≡ whole
 pairs_step a b total whole left middle rest d e h = omega (arith, pairs_more a b rest, rw (d, e) at h)
 
-pub pairs_last : (a total whole : ℕ) (left rest : List ℕ) → left ≡ a ∷ rest → length rest ≡ 0 → total + length (pair_codes left) ≡ whole → total + (pair_number a 0 + 1) ≡ whole
+pub pairs_last : (a total whole : ℕ) (left rest : List ℕ) → left ≡ a ∷ rest → length rest ≡ 0 → total + length (pair_codes left) ≡ whole
+    → total + (pair_number a 0 + 1) ≡ whole
 unfolding pair_codes
 pairs_last a total whole left [] d e h = omega (arith, length-fundamental (pair_number a 0), rw d at h)
 pairs_last a total whole left (b ∷ rest) d e h = absurd (omega arith)

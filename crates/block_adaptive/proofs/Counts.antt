@@ -1,20 +1,12 @@
 -- How many numbers a writer has taken, and how many a reader has given.
-use Rattle.std.proofs.Common.{◌≡◌, ℕ, ◌+◌, ◌*◌, ◌<◌, [], length, Result, Ok, Err, IfErr, ap, inl, inr, arith}
-use Rattle.std.proofs.lemmas.Bool.{cases_lt}
-use Rattle.std.proofs.lemmas.Nat.{mul-le, mod-mul-add}
+use Rattle.std.proofs.Common.{◌≡◌, ◌+◌, ◌*◌, ◌<◌, [], length, Result, Ok, Err, IfErr, ap, arith}
+use Rattle.std.proofs.lemmas.Nat.{mod-mul-add}
 use Rattle.std.proofs.Math.Nat.{mul-mod_left}
 use Rattle.cube_core.specs.declared.fault.Fault.{Fault}
 use Rattle.block_adaptive.specs.DataSets.{capacity}
 use Rattle.block_adaptive.specs.Given.{Unpacked, given_count}
 use Rattle.block_adaptive.specs.Taken.{Packed, EndsBlock, EndsInside, taken_count}
-
--- where fewer numbers were handled than all blocks have, a block is left
-block_left : (size count many held : ℕ) → many * size + held < count * size → many < count
-block_left size count many held few =
-    elim (cases_lt many count) [
-      | inl lt ↦ lt
-      | inr ge ↦ (let p = mul-le count size many size ge (omega arith) in absurd (omega arith))
-    ]
+use Rattle.header_bits.proofs.Powers.{block_left}
 
 -- ---- a writer
 
@@ -25,7 +17,7 @@ room_left v few = block_left v.cut.size v.cut.count (v.start + v.zeros) (length 
 pub last_left : (v : Packed) → length v.held + 1 ≡ v.cut.size → EndsBlock v
 last_left v last =
     let whole : taken_count v + 1 ≡ (v.start + v.zeros + 1) * v.cut.size = omega (arith, last) in
-    rw whole (mul-mod_left (v.start + v.zeros + 1) v.cut.size)
+    rw whole (mul-mod_left _ _)
 
 pub ends_block : (v : Packed) (r : Result (Unit {0}) Fault) → length v.held + 1 ≡ v.cut.size → IfErr r (λ _. EndsBlock v)
 ends_block v (Ok x) last = tt

@@ -1,72 +1,20 @@
 -- Writing texts, part after part.
-use Rattle.std.proofs.Common.{◌≡◌, ℕ, zero, suc, ◌+◌, ◌-◌, ◌*◌, ◌/◌, ◌%◌, ◌^◌, ◌<◌, ◌≤◌, Bool, false, List, [], ◌∷◌, ◌++◌, length, drop, replicate, get_or, Result, Ok, Err, refl, sym, ap, ◌∙◌, arith, append_assoc, add-one, drop-cons}
-use Rattle.std.specs.Prelude.{IsOk, OnOk}
-use Rattle.std.proofs.lemmas.List.{append-nil, length-append, drop_all}
-use Rattle.header_bits.specs.Bits.{Written, bits_of, fundamental}
+use Rattle.std.proofs.Common.{◌≡◌, ℕ, zero, suc, ◌+◌, ◌-◌, ◌*◌, ◌/◌, ◌%◌, ◌^◌, ◌<◌, ◌≤◌, false, List, [], ◌∷◌, ◌++◌, length, drop, replicate, get_or, refl, sym}
+use Rattle.std.proofs.Common.{ap, ◌∙◌, arith, add-one, drop-cons}
+use Rattle.std.proofs.lemmas.List.{length-append, drop_all}
+use Rattle.header_bits.specs.Bits.{bits_of, fundamental}
 use Rattle.header_bits.proofs.Numbers.{length-bits_of, bits_of_zero, bits_of_one, bits_of-fundamental, bits_of-mod}
 use Rattle.header_bits.proofs.Fronts.{bits_of_ones}
 use Rattle.block_adaptive.specs.declared.options.CodeSet.{CodeSet}
 use Rattle.block_adaptive.specs.declared.options.Choice.TheVariants.{Uncoded, Second, Split}
 use Rattle.block_adaptive.specs.Options.{width, zero_identifier, identifier, quotient_codes, low_groups, pair_codes, pair_number}
 use Rattle.block_adaptive.specs.DataSets.{run_text}
-use Rattle.block_adaptive.specs.Taken.{Writes}
-use Rattle.block_adaptive.proofs.Costs.{length-fundamental}
-
-pub on_ok : {A E : Type 0} (r : Result A E) (P : Type 0) → IsOk r → OnOk r P → P
-on_ok (Ok x) P ok h = h
-on_ok (Err e) P ok h = absurd cc
-
--- of a whole text some was written, and some is left
-pub record Remains (old now : Written) (whole left : List Bool) : Type 0 where
-  pub text : now.bits ++ left ≡ old.bits ++ whole
-  pub room : old.room + length left ≤ now.room + length whole
-
-pub remains_start : (old : Written) (whole : List Bool) → Remains old old whole whole
-remains_start old whole = record { text = refl; room = omega arith }
-
-pub remains_room : (old now : Written) (whole left text rest : List Bool) → length whole ≤ old.room → left ≡ text ++ rest → Remains old now whole left → length text ≤ now.room
-remains_room old now whole left text rest enough is h =
-    let size : length left ≡ length text + length rest = ap length is ∙ length-append text rest in
-    omega (arith, h.room)
-
-pub remains_step : (old now next : Written) (whole left text rest : List Bool) → left ≡ text ++ rest → Remains old now whole left → Writes now next text → Remains old next whole rest
-remains_step old now next whole left text rest is h w =
-    let size : length left ≡ length text + length rest = ap length is ∙ length-append text rest in
-    record {
-      text = ap (λ (bs : List Bool). bs ++ rest) w.appended ∙ append_assoc now.bits text rest ∙ ap (λ (bs : List Bool). now.bits ++ bs) (sym is) ∙ h.text;
-      room = omega (arith, h.room, w.spent);
-    }
-
-pub remains_end : (old now : Written) (whole left : List Bool) → left ≡ [] → Remains old now whole left → Writes old now whole
-remains_end old now whole left is h = record {
-  appended = sym (append-nil now.bits) ∙ ap (λ (bs : List Bool). now.bits ++ bs) (sym is) ∙ h.text;
-  spent = omega (arith, h.room, ap length is);
-}
-
-pub writes_both : (a b c : Written) (x y : List Bool) → Writes a b x → Writes b c y → Writes a c (x ++ y)
-writes_both a b c x y p q = record {
-  appended = q.appended ∙ ap (λ (bs : List Bool). bs ++ y) p.appended ∙ append_assoc a.bits x y;
-  spent = omega (arith, p.spent, q.spent, length-append x y);
-}
-
--- ---- fundamental sequences
-
-zeros_front : (n m : ℕ) → fundamental (n + m) ≡ replicate n false ++ fundamental m
-unfolding fundamental
-zeros_front zero m = (let e : 0 + m ≡ m = omega arith in rw e refl)
-zeros_front (suc n) m = (let e : suc n + m ≡ suc (n + m) = omega arith in rw (e, zeros_front n m) refl)
-
-pub sixty_four_more : (left : ℕ) → 64 ≤ left → fundamental left ≡ bits_of 64 0 ++ fundamental (left - 64)
-sixty_four_more left le =
-    let e : 64 + (left - 64) ≡ left = omega arith in
-    ap fundamental (sym e) ∙ zeros_front 64 (left - 64) ∙ ap (λ (bs : List Bool). bs ++ fundamental (left - 64)) (sym (bits_of_zero 64))
-
-pub last_zeros : (left : ℕ) → fundamental left ≡ bits_of (left + 1) 1 ++ []
-last_zeros left = sym (append-nil (bits_of (left + 1) 1) ∙ bits_of-fundamental left)
+use Rattle.header_bits.proofs.Zeros.{length-fundamental}
 
 -- ---- parts of a block
 
-pub quotient_next : (k i : ℕ) (block : List ℕ) → i < length block → quotient_codes k (drop i block) ≡ fundamental (get_or block i 0 / 2 ^ k) ++ quotient_codes k (drop (i + 1) block)
+pub quotient_next : (k i : ℕ) (block : List ℕ) → i < length block → quotient_codes k (drop i block) ≡ fundamental (get_or block i 0 / 2 ^ k) ++ quotient_codes k
+    (drop (i + 1) block)
 unfolding quotient_codes
 quotient_next k i block lt = rw (add-one, drop-cons block i 0 lt) refl
 
@@ -74,7 +22,8 @@ pub low_next : (k i : ℕ) (block : List ℕ) → i < length block → low_group
 unfolding low_groups
 low_next k i block lt = rw (add-one, drop-cons block i 0 lt) refl
 
-pub pair_next : (i : ℕ) (block : List ℕ) → 2 * i + 1 < length block → pair_codes (drop (2 * i) block) ≡ fundamental (pair_number (get_or block (2 * i) 0) (get_or block (2 * i + 1) 0)) ++ pair_codes (drop (2 * (i + 1)) block)
+pub pair_next : (i : ℕ) (block : List ℕ) → 2 * i + 1 < length block → pair_codes (drop (2 * i) block)
+    ≡ fundamental (pair_number (get_or block (2 * i) 0) (get_or block (2 * i + 1) 0)) ++ pair_codes (drop (2 * (i + 1)) block)
 unfolding pair_codes
 pair_next i block lt =
     let e : 2 * (i + 1) ≡ suc (suc (2 * i)) = omega arith in
@@ -83,8 +32,9 @@ pair_next i block lt =
     let first : 2 * i < length block = omega arith in
     rw (e, f, drop-cons block (2 * i) 0 first, drop-cons block (suc (2 * i)) 0 second) refl
 
-pub quotient_bits : (k i : ℕ) (block : List ℕ) → i < length block → quotient_codes k (drop i block) ≡ bits_of (get_or block i 0 / 2 ^ k + 1) 1 ++ quotient_codes k (drop (i + 1) block)
-quotient_bits k i block lt = quotient_next k i block lt ∙ ap (λ (bs : List Bool). bs ++ quotient_codes k (drop (i + 1) block)) (sym (bits_of-fundamental (get_or block i 0 / 2 ^ k)))
+pub quotient_bits : (k i : ℕ) (block : List ℕ) → i < length block → quotient_codes k (drop i block) ≡ bits_of (get_or block i 0 / 2 ^ k + 1) 1 ++ quotient_codes
+    k (drop (i + 1) block)
+quotient_bits k i block lt = quotient_next _ _ _ lt ∙ ap (λ bs. bs ++ quotient_codes k (drop (i + 1) block)) (sym (bits_of-fundamental _))
 
 pub quotient_end : (k i : ℕ) (block : List ℕ) → length block ≤ i → quotient_codes k (drop i block) ≡ []
 unfolding quotient_codes
@@ -114,16 +64,18 @@ identifier_split s k = refl
 
 pub identifier_zero : (s : CodeSet) → bits_of (width s + 1) 0 ≡ zero_identifier s
 unfolding zero_identifier
-identifier_zero s = bits_of_zero (width s + 1) ∙ ends (width s)
+identifier_zero s = bits_of_zero _ ∙ ends _
   where
     ends : (n : ℕ) → replicate (n + 1) false ≡ replicate n false ++ false ∷ []
     ends zero = refl
     ends (suc n) = (let e : suc n + 1 ≡ suc (n + 1) = omega arith in rw (e, ends n) refl)
 
-pub low_next_masked : (k i : ℕ) (block : List ℕ) → i < length block → low_groups k (drop i block) ≡ bits_of k (get_or block i 0 % 2 ^ k) ++ low_groups k (drop (i + 1) block)
-low_next_masked k i block lt = low_next k i block lt ∙ ap (λ (bs : List Bool). bs ++ low_groups k (drop (i + 1) block)) (sym (bits_of-mod k k (get_or block i 0) (omega arith)))
+pub low_next_masked : (k i : ℕ) (block : List ℕ) → i < length block → low_groups k (drop i block) ≡ bits_of k (get_or block i 0 % 2 ^ k) ++ low_groups k
+    (drop (i + 1) block)
+low_next_masked k i block lt = low_next _ _ _ lt ∙ ap (λ bs. bs ++ low_groups k (drop (i + 1) block)) (sym (bits_of-mod _ _ _ (omega arith)))
 
 -- ---- a run
 
 pub run_text_cost : (s : CodeSet) (n : ℕ) → length (run_text s (fundamental n)) ≡ width s + n + 2
-run_text_cost s n = omega (arith, length-append (zero_identifier s) (fundamental n), length-fundamental n, ap length (identifier_zero s), length-bits_of (width s + 1) 0)
+run_text_cost s n =
+    omega (arith, length-append (zero_identifier s) (fundamental n), length-fundamental n, ap length (identifier_zero s), length-bits_of (width s + 1) 0)

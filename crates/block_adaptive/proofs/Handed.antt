@@ -1,76 +1,35 @@
 -- What a reader has in hand.
-use Rattle.std.proofs.Common.{◌≡◌, ℕ, zero, suc, ◌+◌, ◌-◌, ◌*◌, ◌<◌, ◌≤◌, Bool, List, [], ◌∷◌, ◌++◌, length, take, drop, replicate, None, Ok, ◌/◌, inl, inr, refl, sym, ap, ◌∙◌, arith, append_assoc, get_or, add-one, drop-cons}
-use Rattle.std.proofs.lemmas.List.{append-nil, get_or-take, length-take, drop_all}
+use Rattle.std.proofs.Common.{◌≡◌, ℕ, ◌+◌, ◌-◌, ◌*◌, ◌<◌, ◌≤◌, Bool, List, [], ◌∷◌, ◌++◌, take, drop, None, Ok, ◌/◌, inl, refl, sym, ap, ◌∙◌, arith}
+use Rattle.std.proofs.Common.{append_assoc, replicate}
+use Rattle.std.proofs.lemmas.List.{append-nil}
 use Rattle.std.proofs.lemmas.Nat.{mul-le}
 use Rattle.header_bits.specs.Bits.{Unread}
-use Rattle.header_bits.proofs.Reading.{ok_is}
-use Rattle.header_bits.proofs.Fronts.{bind_ok}
-use Rattle.block_adaptive.specs.declared.options.CodeSet.{CodeSet}
 use Rattle.block_adaptive.specs.Segments.{segment_rest}
 use Rattle.block_adaptive.specs.Settings.{IsSize, IsCut}
 use Rattle.block_adaptive.specs.Holding.{AreParts}
 use Rattle.block_adaptive.specs.Reading.{site_of, data_set_at}
 use Rattle.block_adaptive.proofs.Lawful.{rest_least}
 use Rattle.block_adaptive.proofs.Taken.{data_set_is_taken}
-use Rattle.block_adaptive.specs.DataSets.{CodedDataSet, Run, RestOfSegment, Cut, IsCodedDataSet, AreCodedDataSets, left_at, blocks_in, blocks_of, blocks_told, values_of, spelled, spelling}
-use Rattle.block_adaptive.specs.Given.{Unpacked, HasGiven, GivesFirst, holding, next_data_set}
-
--- of the values up to the size nothing stands behind them
-pub nothing_behind : (size : ℕ) (values : List ℕ) → drop size (take size values) ≡ []
-nothing_behind size values = drop_all size (take size values) (omega (arith, length-take size values))
+use Rattle.block_adaptive.specs.DataSets.{CodedDataSet, Cut, IsCodedDataSet, AreCodedDataSets, left_at, blocks_in, blocks_of, blocks_told, values_of, spelled}
+use Rattle.block_adaptive.specs.DataSets.{spelling}
+use Rattle.block_adaptive.specs.Given.{Unpacked, HasGiven, holding, next_data_set}
+use Rattle.std.proofs.lemmas.Grind.{flat_map-append}
+use Rattle.header_bits.proofs.Places.{run_in_hand, zeros}
 
 pub nothing_held : (v : Unpacked) → v.block ≡ 0 → v.held ≡ [] → v.refused ≡ None → HasGiven v [] []
 unfolding AreCodedDataSets blocks_told
 nothing_held v at_start none working = record { data_sets = []; lawful = sym at_start; text = refl; told = sym none; working = working }
 
-abbrev pub zeros : ℕ → List ℕ
-zeros n = replicate n 0
-
-append_zeros : (m n : ℕ) → zeros m ++ zeros n ≡ zeros (m + n)
-append_zeros zero n = (let e : 0 + n ≡ n = omega arith in rw e refl)
-append_zeros (suc m) n = (let e : suc m + n ≡ suc (m + n) = omega arith in rw (e, append_zeros m n) refl)
-
--- the values of blocks of zeros
-pub values_of_zeros : (n size : ℕ) → values_of (replicate n (zeros size)) ≡ zeros (n * size)
-values_of_zeros zero size = (let e : 0 * size ≡ 0 = omega arith in rw e refl)
-values_of_zeros (suc n) size =
-    let e : size + n * size ≡ suc n * size = omega arith in
-    ap (λ (vs : List ℕ). zeros size ++ vs) (values_of_zeros n size) ∙ append_zeros size (n * size) ∙ ap zeros e
-
--- zero blocks in hand
-pub run_in_hand : (n size : ℕ) (values : List ℕ) → values_of (replicate n (zeros size)) ≡ drop size (take size values) ++ zeros (n * size)
-run_in_hand n size values = rw (nothing_behind size values) (values_of_zeros n size)
-
--- ---- one value given
-
-pub first_in_hand : (size i spare : ℕ) (values : List ℕ) → i < size → size ≤ length values → drop i (take size values) ++ zeros spare ≡ get_or values i 0 ∷ (drop (i + 1) (take size values) ++ zeros spare)
-first_in_hand size i spare values lt le =
-    let inside : i < length (take size values) = omega (arith, length-take size values) in
-    let same : get_or (take size values) i 0 ≡ get_or values i 0 = get_or-take size values i 0 lt in
-    ap (λ (vs : List ℕ). vs ++ zeros spare) (drop-cons (take size values) i 0 inside) ∙ rw (add-one, same) refl
-
 -- ---- sizes
 
 pub size_most : (size : ℕ) → IsSize size → size ≤ 64
-size_most size (inl e) = omega arith
-size_most size (inr (inl e)) = omega arith
-size_most size (inr (inr (inl e))) = omega arith
-size_most size (inr (inr (inr e))) = omega arith
+size_most size h = grind arith
 
 pub size_least : (size : ℕ) → IsSize size → 8 ≤ size
-size_least size (inl e) = omega arith
-size_least size (inr (inl e)) = omega arith
-size_least size (inr (inr (inl e))) = omega arith
-size_least size (inr (inr (inr e))) = omega arith
+size_least size h = grind arith
 
 pub size_halved : (size : ℕ) → IsSize size → 2 * (size / 2) ≡ size
-size_halved size (inl e) = omega arith
-size_halved size (inr (inl e)) = omega arith
-size_halved size (inr (inr (inl e))) = omega arith
-size_halved size (inr (inr (inr e))) = omega arith
-
-pub taken_size : (size : ℕ) (values : List ℕ) → size ≤ 64 → length values ≡ 64 → length (take size values) ≡ size
-taken_size size values le len = omega (arith, length-take size values)
+size_halved size h = grind arith
 
 pub rest_most : (c : Cut) (i : ℕ) → left_at c i ≤ c.count - i
 unfolding segment_rest
@@ -93,85 +52,51 @@ run_parts c i given counted n h le most = record {
 
 -- ---- data sets in hand
 
-pub run_held : (v : Unpacked) (reader : Unread) (n : ℕ) (values : List ℕ) (left : List Bool) → data_set_at (site_of reader v.block) v.cut.set v.cut.size (left_at v.cut v.block) reader.left ≡ Ok (Run n, left)
+-- n zero blocks
+pub zeros_held : (v : Unpacked) (reader : Unread) (n : ℕ) (t : CodedDataSet) (values : List ℕ) (left : List Bool)
+    → holding v t ≡ record v { block = v.block + n; held = values_of (replicate n (zeros v.cut.size)) }
+    → data_set_at (site_of reader v.block) v.cut.set v.cut.size (left_at v.cut v.block) reader.left ≡ Ok (t, left)
     → next_data_set v reader ≡ Ok (record v { block = v.block + n; held = drop v.cut.size (take v.cut.size values) ++ zeros (n * v.cut.size) }, left)
-run_held v reader n values left e = rw e (ap (λ (held : List ℕ). Ok (record v { block = v.block + n; held = held }, left)) (run_in_hand n v.cut.size values))
-
-pub rest_held : (v : Unpacked) (reader : Unread) (values : List ℕ) (left : List Bool) → data_set_at (site_of reader v.block) v.cut.set v.cut.size (left_at v.cut v.block) reader.left ≡ Ok (RestOfSegment, left)
-    → next_data_set v reader ≡ Ok (record v { block = v.block + left_at v.cut v.block; held = drop v.cut.size (take v.cut.size values) ++ zeros (left_at v.cut v.block * v.cut.size) }, left)
-rest_held v reader values left e = rw e (ap (λ (held : List ℕ). Ok (record v { block = v.block + left_at v.cut v.block; held = held }, left)) (run_in_hand (left_at v.cut v.block) v.cut.size values))
+zeros_held v reader n t values left is e =
+    let held = run_in_hand n v.cut.size values in rw e (λ i. Ok ((is ∙ (λ j. record v { block = v.block + n; held = held j })) i, left))
 
 -- ---- one data set more
 
-pub data_sets_push : (c : Cut) (i j : ℕ) (data_sets : List CodedDataSet) (t : CodedDataSet) → AreCodedDataSets c i data_sets j → IsCodedDataSet c.set c.size (left_at c j) t → AreCodedDataSets c i (data_sets ++ t ∷ []) (j + blocks_in (left_at c j) t)
+pub data_sets_push : (c : Cut) (i j : ℕ) (data_sets : List CodedDataSet) (t : CodedDataSet) → AreCodedDataSets c i data_sets j
+    → IsCodedDataSet c.set c.size (left_at c j) t → AreCodedDataSets c i (data_sets ++ t ∷ []) (j + blocks_in (left_at c j) t)
 unfolding AreCodedDataSets
 data_sets_push c i j [] t h lawful = rw h (lawful, refl)
 data_sets_push c i j (u ∷ data_sets) t h lawful = (h.0, data_sets_push c (i + blocks_in (left_at c i) u) j data_sets t h.1 lawful)
 
-pub told_push : (c : Cut) (i j : ℕ) (data_sets : List CodedDataSet) (t : CodedDataSet) → AreCodedDataSets c i data_sets j → blocks_told c i (data_sets ++ t ∷ []) ≡ blocks_told c i data_sets ++ blocks_of c.size (left_at c j) t
+pub told_push : (c : Cut) (i j : ℕ) (data_sets : List CodedDataSet) (t : CodedDataSet) → AreCodedDataSets c i data_sets j
+    → blocks_told c i (data_sets ++ t ∷ []) ≡ blocks_told c i data_sets ++ blocks_of c.size (left_at c j) t
 unfolding AreCodedDataSets blocks_told
 told_push c i j [] t h = rw h (append-nil (blocks_of c.size (left_at c j) t))
 told_push c i j (u ∷ data_sets) t h =
-    ap (λ (bs : List (List ℕ)). blocks_of c.size (left_at c i) u ++ bs) (told_push c (i + blocks_in (left_at c i) u) j data_sets t h.1)
-    ∙ sym (append_assoc (blocks_of c.size (left_at c i) u) (blocks_told c (i + blocks_in (left_at c i) u) data_sets) (blocks_of c.size (left_at c j) t))
-
-pub values_append : (a b : List (List ℕ)) → values_of (a ++ b) ≡ values_of a ++ values_of b
-values_append [] b = refl
-values_append (x ∷ a) b = ap (λ (vs : List ℕ). x ++ vs) (values_append a b) ∙ sym (append_assoc x (values_of a) (values_of b))
-
-pub spelling_push : (s : CodeSet) (data_sets : List CodedDataSet) (t : CodedDataSet) → spelling s (data_sets ++ t ∷ []) ≡ spelling s data_sets ++ spelled s t
-spelling_push s [] t = append-nil (spelled s t)
-spelling_push s (u ∷ data_sets) t = ap (λ (bs : List Bool). spelled s u ++ bs) (spelling_push s data_sets t) ∙ sym (append_assoc (spelled s u) (spelling s data_sets) (spelled s t))
+    (λ m. blocks_of c.size (left_at c i) u ++ (told_push c (i + blocks_in (left_at c i) u) j data_sets t h.1) m)
+    ∙ sym (append_assoc (blocks_of c.size (left_at c i) u) (blocks_told c (i + blocks_in (left_at c i) u) data_sets) _)
 
 -- ---- what was given
 
-pub value_given : (v new : Unpacked) (given : List ℕ) (bits : List Bool) (value : ℕ) → HasGiven v given bits → GivesFirst v value new → HasGiven new (given ++ value ∷ []) bits
-value_given v new given bits value h first =
-    let is : given ++ v.held ≡ (given ++ value ∷ []) ++ new.held = ap (λ (held : List ℕ). given ++ held) first.0 ∙ sym (append_assoc given (value ∷ []) new.held) in
-    rw first.1 (record { data_sets = h.data_sets; lawful = h.lawful; text = h.text; told = h.told ∙ is; working = h.working })
-
-pub data_set_given : (v : Unpacked) (reader : Unread) (given : List ℕ) (bits left : List Bool) (t : CodedDataSet) → IsCut v.cut → v.block < v.cut.count → v.held ≡ [] → HasGiven v given bits
-    → data_set_at (site_of reader v.block) v.cut.set v.cut.size (left_at v.cut v.block) reader.left ≡ Ok (t, left) → (reader.left ≡ spelled v.cut.set t ++ left) × HasGiven (holding v t) given (bits ++ spelled v.cut.set t)
+pub data_set_given : (v : Unpacked) (reader : Unread) (given : List ℕ) (bits left : List Bool) (t : CodedDataSet) → IsCut v.cut → v.block < v.cut.count
+    → v.held ≡ [] → HasGiven v given bits → data_set_at (site_of reader v.block) v.cut.set v.cut.size (left_at v.cut v.block) reader.left ≡ Ok (t, left)
+    → (reader.left ≡ spelled v.cut.set t ++ left) × HasGiven (holding v t) given (bits ++ spelled v.cut.set t)
 data_set_given v reader given bits left t cut more none h e =
-    let half = size_halved v.cut.size cut.size in
-    let pos = rest_least v.cut.reference v.cut.count v.block cut.reference.0 more in
+    let half = size_halved _ cut.size in
+    let pos = rest_least _ _ _ cut.reference.0 more in
     let found = data_set_is_taken (site_of reader v.block) v.cut.set (v.cut.size / 2) (left_at v.cut v.block) t reader.left left pos (rw half e) in
     let lawful : IsCodedDataSet v.cut.set v.cut.size (left_at v.cut v.block) t = rw half at found.1 in (
       found.0,
       record {
         data_sets = h.data_sets ++ t ∷ [];
         lawful = data_sets_push v.cut 0 v.block h.data_sets t h.lawful lawful;
-        text = ap (λ (bs : List Bool). bs ++ spelled v.cut.set t) h.text ∙ sym (spelling_push v.cut.set h.data_sets t);
-        told = ap values_of (told_push v.cut 0 v.block h.data_sets t h.lawful) ∙ values_append (blocks_told v.cut 0 h.data_sets) (blocks_of v.cut.size (left_at v.cut v.block) t)
-            ∙ ap (λ (vs : List ℕ). vs ++ values_of (blocks_of v.cut.size (left_at v.cut v.block) t)) (h.told ∙ ap (λ (held : List ℕ). given ++ held) none ∙ append-nil given);
+        text = ap (λ bs. bs ++ spelled v.cut.set t) h.text
+            ∙ sym (flat_map-append _ h.data_sets _ ∙ ap (λ bs. spelling v.cut.set h.data_sets ++ bs) (append-nil _));
+        told = ap values_of (told_push _ _ _ h.data_sets _ h.lawful) ∙ flat_map-append _ (blocks_told v.cut 0 h.data_sets) _
+            ∙ ap (λ vs. vs ++ values_of (blocks_of v.cut.size (left_at v.cut v.block) t)) (h.told ∙ ap (λ held. given ++ held) none ∙ append-nil _);
         working = h.working;
       },
     )
 
--- what was given before, and one number more, of the same cut; the bits between were read
-abbrev pub Gives : Unpacked → Unread → ℕ → Unpacked → List Bool → Type 0
-Gives old reader value new left =
-    (new.cut ≡ old.cut) × ((given : List ℕ) (bits : List Bool) → HasGiven old given bits → (read : List Bool) × (reader.left ≡ read ++ left) × HasGiven new (given ++ value ∷ []) (bits ++ read))
-
--- the next number, where a data set was taken
-pub next_given : (v held new : Unpacked) (reader : Unread) (left : List Bool) (value : ℕ) → IsCut v.cut → v.block < v.cut.count → v.held ≡ [] → next_data_set v reader ≡ Ok (held, left) → GivesFirst held value new → Gives v reader value new left
-next_given v held new reader left value cut more none e first =
-    let a = bind_ok (data_set_at (site_of reader v.block) v.cut.set v.cut.size (left_at v.cut v.block) reader.left) (λ t. Ok (holding v t.0, t.1)) (held, left) e in
-    let same = ok_is (holding v a.0.0, a.0.1) (held, left) a.2 in
-    let is : holding v a.0.0 ≡ held = ap (λ (x : Unpacked × List Bool). x.0) same in
-    let rest : a.0.1 ≡ left = ap (λ (x : Unpacked × List Bool). x.1) same in (
-      ap (λ (u : Unpacked). u.cut) first.1 ∙ sym (ap (λ (u : Unpacked). u.cut) is),
-      λ given bits h.
-          let taken = data_set_given v reader given bits a.0.1 a.0.0 cut more none h a.1 in
-          (spelled v.cut.set a.0.0, taken.0 ∙ ap (λ (bs : List Bool). spelled v.cut.set a.0.0 ++ bs) rest, value_given held new given (bits ++ spelled v.cut.set a.0.0) value (rw is at taken.1) first),
-    )
-
--- the next number, where one was in hand
-pub held_given : (v new : Unpacked) (reader : Unread) (value : ℕ) → GivesFirst v value new → Gives v reader value new reader.left
-held_given v new reader value first = (ap (λ (u : Unpacked). u.cut) first.1, λ given bits h. ([], refl, rw (append-nil bits) (value_given v new given bits value h first)))
-
 pub put_back : (v w : Unpacked) (held : List ℕ) → v ≡ w → record v { held = held } ≡ record w { held = held }
 put_back v w held e = ap (λ (u : Unpacked). record u { held = held }) e
-
-pub empty_hand : (size i spare : ℕ) (values : List ℕ) → i ≡ size → spare ≡ 0 → drop i (take size values) ++ zeros spare ≡ []
-empty_hand size i spare values e f = rw (e, f, nothing_behind size values) refl

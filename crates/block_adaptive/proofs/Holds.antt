@@ -1,28 +1,23 @@
 -- What a writer has taken, several numbers at a time.
-use Rattle.std.proofs.Common.{◌≡◌, ℕ, zero, suc, ◌+◌, ◌*◌, ◌-◌, ◌^◌, ◌<◌, ◌≤◌, Bool, List, [], ◌∷◌, ◌++◌, length, take, drop, get_or, sum, refl, sym, ap, subst, ◌∙◌, inl, inr, arith, append_assoc, Fits, w16}
+use Rattle.std.proofs.Common.{◌≡◌, ℕ, ◌+◌, ◌-◌, ◌^◌, ◌<◌, ◌≤◌, Bool, List, ◌++◌, length, take, drop, get_or, sum, refl, ap, ◌∙◌, inl, inr, arith, append_assoc}
+use Rattle.std.proofs.Common.{[], ◌∷◌}
 use Rattle.std.specs.List.{AllByRecursion}
 use Rattle.std.specs.Prelude.{Result, Ok, Err, OnErr}
 use Rattle.std.proofs.Math.Seq.{take-add}
 use Rattle.std.proofs.lemmas.Bool.{cases_lt}
-use Rattle.std.proofs.lemmas.List.{length-append, length-take, length-drop, take_at, take_more, take-take}
+use Rattle.std.proofs.lemmas.List.{length-append, length-take, length-drop, take_more, take-take}
 use Rattle.cube_core.specs.declared.fault.Fault.{Fault}
 use Rattle.block_adaptive.specs.DataSets.{Cut}
 use Rattle.block_adaptive.specs.Holding.{AreStored}
 use Rattle.block_adaptive.specs.Taken.{Packed, HasTaken, PutsNumber, PutsAll, taken_count}
 use Rattle.block_adaptive.proofs.Packing.{values_held}
-use Rattle.block_adaptive.proofs.Ranges.{range_append}
-use Rattle.block_adaptive.proofs.Sums.{sum_append, sum_cons}
+use Rattle.header_bits.proofs.Items.{all_append}
+use Rattle.header_bits.proofs.Sums.{sum_append}
 
 -- ---- the values held
 
--- numbers that are written behind the values held
-pub held_all : (values list behind : List ℕ) (held : ℕ) → held ≤ length values → take (held + length list) (take held values ++ (list ++ behind)) ≡ take held values ++ list
-held_all values list behind held le =
-    let long : held + length list ≡ length (take held values ++ list) = omega (arith, le, length-append (take held values) list, length-take held values) in
-    ap (λ (x : List ℕ). take (held + length list) x) (sym (append_assoc (take held values) list behind)) ∙ take_at (take held values ++ list) behind (held + length list) (sym long)
-
-pub stored_more : (c : Cut) (i counted total : ℕ) (held list : List ℕ) → AreStored c i counted total held → AllByRecursion (λ v. v < 2 ^ c.set.bits) list → length held + length list < c.size → (1 ≤ length list → i + counted < c.count)
-    → AreStored c i counted (total + sum list) (held ++ list)
+pub stored_more : (c : Cut) (i counted total : ℕ) (held list : List ℕ) → AreStored c i counted total held → AllByRecursion (λ v. v < 2 ^ c.set.bits) list
+    → length held + length list < c.size → (1 ≤ length list → i + counted < c.count) → AreStored c i counted (total + sum list) (held ++ list)
 stored_more c i counted total held list h range few more = record {
   cut = h.cut;
   block = h.block;
@@ -32,63 +27,54 @@ stored_more c i counted total held list h range few more = record {
     | inr none ↦ h.more (omega (arith, some, none, length-append held list))
   ];
   few = omega (arith, few, length-append held list);
-  range = range_append (2 ^ c.set.bits) held list h.range range;
+  range = all_append _ held list h.range range;
   added = omega (arith, h.added, sum_append held list);
 }
 
 -- ---- what was taken
 
-pub puts_behind : (a b : List ℕ) (old mid new : Packed) (written now later : List Bool) → PutsAll a old written mid now → PutsAll b mid now new later → PutsAll (a ++ b) old written new later
-puts_behind a b old mid new written now later first second taken bits h =
-    let one = first taken bits h in
-    let two = second (taken ++ a) (bits ++ one.0) one.2 in (
-      one.0 ++ two.0,
-      two.1 ∙ ap (λ (x : List Bool). x ++ two.0) one.1 ∙ append_assoc written one.0 two.0,
-      subst (λ (x : List ℕ). HasTaken new x (bits ++ (one.0 ++ two.0))) (append_assoc taken a b) (subst (λ (x : List Bool). HasTaken new ((taken ++ a) ++ b) x) (append_assoc bits one.0 two.0) two.2),
-    )
+-- the numbers of a list were put
+pub record Puts (list : List ℕ) (old : Packed) (written : List Bool) (new : Packed) (now : List Bool) : Type 0 where
+  pub puts : PutsAll list old written new now
 
-pub hold_more : (old v new : Packed) (list : List ℕ) (first count : ℕ) (written now : List Bool) → PutsAll (take first list) old written v now → new ≡ record v { held = v.held ++ take (first + count - first) (drop first list) }
-    → PutsAll (take (first + count) list) old written new now
-hold_more old v new list first count written now puts is =
-    let e : first + count - first ≡ count = omega arith in
-    let here : PutsAll (take count (drop first list)) v now new now = values_held v new now (take count (drop first list)) (is ∙ ap (λ (n : ℕ). record v { held = v.held ++ take n (drop first list) }) e) in
-    subst (λ (x : List ℕ). PutsAll x old written new now) (sym (take-add first count list)) (puts_behind (take first list) (take count (drop first list)) old v new written now now puts here)
+module _ {old v new : Packed} {written now later : List Bool} where
+  puts_behind : {a : List ℕ} (b : List ℕ) → Puts a old written v now → PutsAll b v now new later → Puts (a ++ b) old written new later
+  puts_behind {a} b first second = record {
+    puts = λ taken bits h.
+        let one = first.puts taken bits h in
+        let two = second (taken ++ a) (bits ++ one.0) one.2 in
+        let has : HasTaken new (taken ++ (a ++ b)) (bits ++ (one.0 ++ two.0)) = rw (← append_assoc taken a b, ← append_assoc bits one.0 two.0) two.2 in
+        (one.0 ++ two.0, two.1 ∙ (λ i. one.1 i ++ two.0) ∙ append_assoc written one.0 two.0, has);
+  }
 
--- a block's numbers, or the first of them
-pub block_more : (old v new : Packed) (list : List ℕ) (first size count : ℕ) (written now later : List Bool) → count ≤ size → PutsAll (take first list) old written v now → PutsAll (take count (take (first + size - first) (drop first list))) v now new later
-    → PutsAll (take (first + count) list) old written new later
-block_more old v new list first size count written now later le puts more =
-    let e : first + size - first ≡ size = omega arith in
-    let here : PutsAll (take count (drop first list)) v now new later = rw (e, take-take count size (drop first list) le) at more in
-    subst (λ (x : List ℕ). PutsAll x old written new later) (sym (take-add first count list)) (puts_behind (take first list) (take count (drop first list)) old v new written now later puts here)
+  -- a block's numbers, or the first of them
+  pub block_more : (list : List ℕ) (first size count : ℕ) → count ≤ size → Puts (take first list) old written v now
+      → PutsAll (take count (take (first + size - first) (drop first list))) v now new later → Puts (take (first + count) list) old written new later
+  block_more list first size count le h more =
+      let e : first + size - first ≡ size = omega arith in
+      rw (take-add first count list) (puts_behind _ h (rw (e, take-take count size (drop first list) le) at more))
 
-pub number_more : (old v new : Packed) (list : List ℕ) (n : ℕ) (written now later : List Bool) → PutsAll (take n list) old written v now → n < length list → PutsNumber (get_or list n 0) v now new later
-    → PutsAll (take (n + 1) list) old written new later
-number_more old v new list n written now later puts lt number =
-    subst (λ (x : List ℕ). PutsAll x old written new later) (sym (take_more list n 0 lt)) (puts_behind (take n list) (get_or list n 0 ∷ []) old v new written now later puts number)
+  pub number_more : (list : List ℕ) (n : ℕ) → Puts (take n list) old written v now → n < length list → PutsNumber (get_or list n 0) v now new later
+      → Puts (take (n + 1) list) old written new later
+  number_more list n h lt number = rw (take_more list n 0 lt) (puts_behind (get_or list n 0 ∷ []) h number)
+
+module _ {old v new : Packed} {written now : List Bool} where
+  pub hold_more : (list : List ℕ) (first count : ℕ) → Puts (take first list) old written v now
+      → new ≡ record v { held = v.held ++ take (first + count - first) (drop first list) } → Puts (take (first + count) list) old written new now
+  hold_more list first count h is =
+      let e : first + count - first ≡ count = omega arith in
+      let here = values_held v new now (take count (drop first list)) (is ∙ (λ i. record v { held = v.held ++ take (e i) (drop first list) })) in
+      rw (take-add first count list) (puts_behind _ h here)
 
 -- a refused call leaves what it left before
-pub after_refusal : (r : Result (Unit {0}) Fault) (old v new : Packed) (list : List ℕ) (written now later : List Bool) → ((x : Unit {0}) → r ≡ Ok x → ⊥) → OnErr r ((new ≡ v) × (later ≡ now)) → PutsAll list old written v now
-    → PutsAll list old written new later
-after_refusal (Ok x) old v new list written now later never same puts = absurd (never x refl)
-after_refusal (Err e) old v new list written now later never same puts = subst (λ (w : Packed). PutsAll list old written w later) (sym same.0) (subst (λ (bits : List Bool). PutsAll list old written v bits) (sym same.1) puts)
+module _ {old v : Packed} {list : List ℕ} {written now : List Bool} where
+  pub after_refusal : (r : Result (Unit {0}) Fault) (new : Packed) (later : List Bool) → ((x : Unit {0}) → r ≡ Ok x → ⊥) → OnErr r ((new ≡ v) × (later ≡ now))
+      → Puts list old written v now → PutsAll list old written new later
+  after_refusal (Ok x) new later never same h = absurd (never x refl)
+  after_refusal (Err e) new later never same h = rw (same.0, same.1) h.puts
 
-pub held_counted : (v new : Packed) (list : List ℕ) (first count : ℕ) → first + count ≤ length list → new ≡ record v { held = v.held ++ take (first + count - first) (drop first list) } → taken_count new ≡ taken_count v + count
+pub held_counted : (v new : Packed) (list : List ℕ) (first count : ℕ) → first + count ≤ length list
+    → new ≡ record v { held = v.held ++ take (first + count - first) (drop first list) } → taken_count new ≡ taken_count v + count
 held_counted v new list first count le is =
     let many : List ℕ = take (first + count - first) (drop first list) in
     ap taken_count is ∙ omega (arith, le, length-append v.held many, length-take (first + count - first) (drop first list), length-drop first list)
-
--- numbers of 16 bits add up to few
-pub sum_small : (list : List ℕ) → ((i : ℕ) → Fits w16 (get_or list i 0)) → sum list ≤ 65536 * length list
-sum_small [] h = omega arith
-sum_small (v ∷ vs) h = omega (arith, sum_cons v vs, (h 0).fits, sum_small vs (λ i. h (suc i)))
-
-pub sum_front : (n : ℕ) (list : List ℕ) → sum (take n list) ≤ sum list
-sum_front zero list = omega arith
-sum_front (suc n) [] = omega arith
-sum_front (suc n) (v ∷ vs) = omega (arith, sum_cons v (take n vs), sum_cons v vs, sum_front n vs)
-
-pub sum_next : (i n : ℕ) (list : List ℕ) → sum (take (i + n) list) ≡ sum (take i list) + sum (take (i + n - i) (drop i list))
-sum_next i n list =
-    let e : i + n - i ≡ n = omega arith in
-    ap sum (take-add i n list) ∙ sum_append (take i list) (take n (drop i list)) ∙ rw e refl

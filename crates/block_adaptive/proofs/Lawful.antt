@@ -1,5 +1,6 @@
 -- The chosen data sets are lawful, and stand for the blocks.
-use Rattle.std.proofs.Common.{◌≡◌, ℕ, zero, suc, ◌+◌, ◌%◌, ◌<◌, ◌≤◌, Bool, true, false, cond, eqb, leb, ◌&&◌, List, [], ◌∷◌, length, take, drop, replicate, refl, sym, ◌∙◌, arith, lit<}
+use Rattle.std.proofs.Common.{◌≡◌, ℕ, zero, suc, ◌+◌, ◌%◌, ◌<◌, ◌≤◌, Bool, true, false, cond, eqb, leb, ◌&&◌, List, [], ◌∷◌, length, take, drop, replicate}
+use Rattle.std.proofs.Common.{refl, sym, ◌∙◌, arith, lit<, inl, inr}
 use Rattle.std.proofs.lemmas.Bool.{eqb-true, eqb-false}
 use Rattle.std.proofs.lemmas.List.{take-append-drop, length-drop}
 use Rattle.std.proofs.Math.Nat.{mod-lt}
@@ -9,14 +10,12 @@ use Rattle.block_adaptive.specs.Segments.{segment_rest}
 use Rattle.block_adaptive.specs.DataSets.{CodedDataSet, Block, Run, RestOfSegment, Cut, IsCodedDataSet, blocks_in, blocks_of, AreCodedDataSets, blocks_told}
 use Rattle.block_adaptive.specs.Chosen.{chosen_option, is_zero, zero_blocks, data_set_of, chosen_from}
 use Rattle.block_adaptive.specs.Laws.{AreBlocks, ChosenIsLawful}
-use Rattle.block_adaptive.proofs.Least.{option_is_least}
+use Rattle.block_adaptive.proofs.Tried.{option_is_least}
+use Rattle.header_bits.proofs.Items.{all_drop}
+use Rattle.header_bits.proofs.Fronts.{by_test}
+use Rattle.header_bits.proofs.Powers.{and_true}
 
 -- ---- runs
-
-and_true : (a b : Bool) → (a && b) ≡ true → (a ≡ true) × (b ≡ true)
-and_true true true h = (refl, refl)
-and_true true false h = absurd cc
-and_true false b h = absurd cc
 
 pub zeros_of : (b : List ℕ) (size : ℕ) → length b ≡ size → is_zero b ≡ true → b ≡ replicate size 0
 zeros_of [] zero e h = refl
@@ -24,25 +23,21 @@ zeros_of [] (suc size) e h = absurd (omega arith)
 zeros_of (v ∷ vs) zero e h = absurd (omega arith)
 zeros_of (v ∷ vs) (suc size) e h =
     let p = and_true (eqb v 0) (is_zero vs) h in
-    rw (eqb-true v 0 p.0, zeros_of vs size (omega arith) p.1) refl
+    rw (eqb-true v _ p.0, zeros_of vs size (omega arith) p.1) refl
 
 run_at_most : (n : ℕ) (bs : List (List ℕ)) → (zero_blocks n bs ≤ n) × (zero_blocks n bs ≤ length bs)
 run_at_most zero bs = (omega arith, omega arith)
 run_at_most (suc n) [] = (omega arith, omega arith)
-run_at_most (suc n) (b ∷ bs) = go (is_zero b) (run_at_most n bs)
-  where
-    go : (z : Bool) → (zero_blocks n bs ≤ n) × (zero_blocks n bs ≤ length bs) → (cond z (suc (zero_blocks n bs)) 0 ≤ suc n) × (cond z (suc (zero_blocks n bs)) 0 ≤ suc (length bs))
-    go true h = (omega (arith, h.0), omega (arith, h.1))
-    go false h = (omega arith, omega arith)
+run_at_most (suc n) (b ∷ bs) =
+    let others = run_at_most n bs in
+    elim (by_test (is_zero b)) [ inl e ↦ rw e (omega (arith, others.0), omega (arith, others.1)) | inr e ↦ rw e (omega arith, omega arith) ]
 
-run_is_zeros : (s : CodeSet) (size n : ℕ) (bs : List (List ℕ)) → AreBlocks s size bs → take (zero_blocks n bs) bs ≡ replicate (zero_blocks n bs) (replicate size 0)
+run_is_zeros : (s : CodeSet) (size n : ℕ) (bs : List (List ℕ)) → AreBlocks s size bs → take (zero_blocks n bs) bs ≡ replicate (zero_blocks n bs)
+    (replicate size 0)
 run_is_zeros s size zero bs h = refl
 run_is_zeros s size (suc n) [] h = refl
-run_is_zeros s size (suc n) (b ∷ bs) h = go (is_zero b) refl (run_is_zeros s size n bs h.1)
-  where
-    go : (z : Bool) → is_zero b ≡ z → take (zero_blocks n bs) bs ≡ replicate (zero_blocks n bs) (replicate size 0) → take (cond z (suc (zero_blocks n bs)) 0) (b ∷ bs) ≡ replicate (cond z (suc (zero_blocks n bs)) 0) (replicate size 0)
-    go true e others = rw (zeros_of b size h.0.0 e, others) refl
-    go false e others = refl
+run_is_zeros s size (suc n) (b ∷ bs) h =
+    elim (by_test (is_zero b)) [ inl e ↦ rw e (rw (zeros_of b size h.0.0 e, run_is_zeros s size n bs h.1) refl) | inr e ↦ rw e refl ]
 
 -- ---- one data set
 
@@ -52,8 +47,8 @@ record Fine (s : CodeSet) (size left : ℕ) (bs : List (List ℕ)) (t : CodedDat
   most : blocks_in left t ≤ length bs
   told : blocks_of size left t ≡ take (blocks_in left t) bs
 
-pick : (s : CodeSet) (size left : ℕ) (b : List ℕ) (bs : List (List ℕ)) → 1 ≤ left → AreBlocks s size (b ∷ bs) → (k : ℕ) → k ≡ zero_blocks left (b ∷ bs) → (e f : Bool) → eqb k 0 ≡ e → (eqb k left && leb 5 k) ≡ f
-    → Fine s size left (b ∷ bs) (cond e (Block (chosen_option s b) b) (cond f RestOfSegment (Run k)))
+pick : (s : CodeSet) (size left : ℕ) (b : List ℕ) (bs : List (List ℕ)) → 1 ≤ left → AreBlocks s size (b ∷ bs) → (k : ℕ) → k ≡ zero_blocks left (b ∷ bs)
+    → (e f : Bool) → eqb k 0 ≡ e → (eqb k left && leb 5 k) ≡ f → Fine s size left (b ∷ bs) (cond e (Block (chosen_option s b) b) (cond f RestOfSegment (Run k)))
 pick s size left b bs pos h k is true f none test =
     record { lawful = record { option = (option_is_least s b).0; whole = h.0.0; range = h.0.1 }; least = omega arith; most = omega arith; told = refl }
 pick s size left b bs pos h k is false true none test =
@@ -63,9 +58,15 @@ pick s size left b bs pos h k is false true none test =
 pick s size left b bs pos h k is false false none test =
     let some : k ≡ 0 → ⊥ = eqb-false k 0 none in
     let most = run_at_most left (b ∷ bs) in
-    record { lawful = (omega arith, omega (arith, most.0)); least = omega arith; most = omega (arith, most.1); told = rw is (sym (run_is_zeros s size left (b ∷ bs) h)) }
+    record {
+      lawful = (omega arith, omega (arith, most.0));
+      least = omega arith;
+      most = omega (arith, most.1);
+      told = rw is (sym (run_is_zeros s size left (b ∷ bs) h));
+    }
 
-data_set_is_fine : (s : CodeSet) (size left : ℕ) (b : List ℕ) (bs : List (List ℕ)) → 1 ≤ left → AreBlocks s size (b ∷ bs) → Fine s size left (b ∷ bs) (data_set_of s left b bs)
+data_set_is_fine : (s : CodeSet) (size left : ℕ) (b : List ℕ) (bs : List (List ℕ)) → 1 ≤ left → AreBlocks s size (b ∷ bs)
+    → Fine s size left (b ∷ bs) (data_set_of s left b bs)
 data_set_is_fine s size left b bs pos h = pick s size left b bs pos h (zero_blocks left (b ∷ bs)) refl _ _ refl refl
 
 -- ---- all data sets
@@ -73,11 +74,6 @@ data_set_is_fine s size left b bs pos h = pick s size left b bs pos h (zero_bloc
 pub rest_least : (r n i : ℕ) → 1 ≤ r → i < n → 1 ≤ segment_rest r n i
 unfolding segment_rest
 rest_least r n i hr hi = omega (arith, mod-lt (i % r) {m = 64} (lit< tt), mod_below i r hr)
-
-blocks_drop : (s : CodeSet) (size k : ℕ) (bs : List (List ℕ)) → AreBlocks s size bs → AreBlocks s size (drop k bs)
-blocks_drop s size zero bs h = h
-blocks_drop s size (suc k) [] h = h
-blocks_drop s size (suc k) (b ∷ bs) h = blocks_drop s size k bs h.1
 
 from_lawful : (c : Cut) (n i : ℕ) (bs : List (List ℕ)) → length bs ≤ n → i + length bs ≡ c.count → 1 ≤ c.reference → AreBlocks c.set c.size bs
     → AreCodedDataSets c i (chosen_from c n i bs) c.count × (blocks_told c i (chosen_from c n i bs) ≡ bs)
@@ -91,7 +87,8 @@ from_lawful c (suc n) i (b ∷ bs) few all pos h =
     let k : ℕ = blocks_in left t in
     let fine = data_set_is_fine c.set c.size left b bs (rest_least c.reference c.count i pos (omega arith)) h in
     let len = length-drop k (b ∷ bs) in
-    let others = from_lawful c n (i + k) (drop k (b ∷ bs)) (omega (arith, fine.least, fine.most)) (omega (arith, fine.least, fine.most)) pos (blocks_drop c.set c.size k (b ∷ bs) h) in
+    let others = from_lawful c n (i + k) (drop k (b ∷ bs)) (omega (arith, fine.least, fine.most)) (omega (arith, fine.least, fine.most)) pos
+    (all_drop _ k (b ∷ bs) h) in
     ((fine.lawful, others.0), rw (others.1, fine.told) (take-append-drop k (b ∷ bs)))
 
 pub chosen_is_lawful : ChosenIsLawful

@@ -4,11 +4,8 @@ pub mod Again
 pub mod Bodies
 pub mod Calls
 pub mod Counts
-pub mod InRange
 pub mod Costs
 pub mod Sums
-pub mod Ranges
-pub mod Least
 pub mod Slopes
 pub mod Tried
 pub mod Bounded
@@ -17,7 +14,6 @@ pub mod Takes
 pub mod Taken
 pub mod ForBlocks
 pub mod Fronts
-pub mod Each
 pub mod Looking
 pub mod Bounds
 pub mod Fours

@@ -1,28 +1,30 @@
 -- What a writer has taken, block after block.
-use Rattle.std.proofs.Common.{◌≡◌, ℕ, zero, suc, ◌+◌, ◌-◌, ◌*◌, ◌^◌, ◌<◌, ◌≤◌, Bool, true, false, cond, eqb, List, [], ◌∷◌, ◌++◌, length, take, drop, replicate, set, refl, sym, ap, subst, ◌∙◌, inl, inr, arith, append_assoc, add-one}
+use Rattle.std.proofs.Common.{◌≡◌, ℕ, zero, suc, ◌+◌, ◌-◌, ◌*◌, ◌^◌, ◌<◌, ◌≤◌, Bool, true, false, eqb, List, [], ◌∷◌, ◌++◌, length, take, drop, replicate, refl}
+use Rattle.std.proofs.Common.{sym, ap, subst, ◌∙◌, inl, inr, arith, append_assoc}
 use Rattle.std.specs.List.{AllByRecursion}
-use Rattle.std.specs.Prelude.{Result, Ok, Err, OnOk}
-use Rattle.std.proofs.lemmas.Bool.{cases_lt, eqb-true, eqb-false, ne_eqb}
-use Rattle.std.proofs.lemmas.List.{append-nil, length-append, length-replicate, take_at, drop_at, take_all, take-set-le}
-use Rattle.std.proofs.Math.Seq.{take-suc-set}
-use Rattle.std.proofs.lemmas.Nat.{div-mul-add}
+use Rattle.std.proofs.lemmas.Bool.{cases_lt, eqb-true, ne_eqb}
+use Rattle.std.proofs.lemmas.List.{append-nil, length-append, length-replicate, take_at, drop_at, take_all, replicate_more}
 use Rattle.block_adaptive.specs.declared.options.CodeSet.{CodeSet}
 use Rattle.block_adaptive.specs.Segments.{filled, first_blocks, blocks, block_count}
 use Rattle.block_adaptive.specs.DataSets.{CodedDataSet, Cut, left_at, spelled, spelling, values_of}
 use Rattle.block_adaptive.specs.Chosen.{chosen_from, chosen_data_sets, chosen_block_body, is_zero}
 use Rattle.block_adaptive.specs.Laws.{AreBlocks}
 use Rattle.block_adaptive.specs.Settings.{IsCut}
-use Rattle.block_adaptive.specs.Taken.{Packed, HasTaken, PutsAll, EndsBody, rest_of, run_and_block, data_sets_after, zeros_after, packed, data_sets_packed}
+use Rattle.block_adaptive.specs.Taken.{Packed, HasTaken, PutsAll, EndsBody, run_and_block, data_sets_after, zeros_after, packed, data_sets_packed}
 use Rattle.block_adaptive.proofs.Lawful.{rest_least, zeros_of}
-use Rattle.block_adaptive.proofs.Streaming.{enough, block_next, run_next, run_to_end}
-use Rattle.block_adaptive.proofs.Ranges.{range_append, range_zeros}
-use Rattle.block_adaptive.proofs.Handed.{zeros, values_append, rest_most, size_least}
+use Rattle.block_adaptive.proofs.Streaming.{enough, block_next, run_next, run_to_end, none_chosen}
+use Rattle.block_adaptive.proofs.Handed.{rest_most, size_least}
+use Rattle.header_bits.proofs.Items.{all_append, all_replicate}
+use Rattle.std.proofs.lemmas.Grind.{flat_map-append}
+use Rattle.header_bits.proofs.Places.{zeros}
+use Rattle.header_bits.proofs.Fronts.{by_test}
+use Rattle.std.proofs.lemmas.Bool.Decides.{nat_tests}
+use Rattle.header_bits.proofs.Intervals.{count_even, count_odd}
 
 -- ---- one block more, in the chosen data sets
 
 one_more : (n : ℕ) (z : List ℕ) (bs : List (List ℕ)) → replicate n z ++ z ∷ bs ≡ replicate (n + 1) z ++ bs
-one_more zero z bs = refl
-one_more (suc n) z bs = (let e : suc n + 1 ≡ suc (n + 1) = omega arith in rw (e, one_more n z bs) refl)
+one_more n z bs = sym (append_assoc (replicate n z) (z ∷ []) bs) ∙ (λ i. (replicate_more n z) i ++ bs)
 
 held_length : (n size : ℕ) (b : List ℕ) (bs : List (List ℕ)) → length (replicate n (zeros size) ++ b ∷ bs) ≡ n + 1 + length bs
 held_length n size b bs = omega (arith, length-append (replicate n (zeros size)) (b ∷ bs), length-replicate n (zeros size))
@@ -30,28 +32,31 @@ held_length n size b bs = omega (arith, length-append (replicate n (zeros size))
 -- what the data sets from a block on are, once another block is there
 abbrev Step : Cut → ℕ → ℕ → List ℕ → List (List ℕ) → ℕ → Type 0
 Step c start held b future after =
-    chosen_from c c.count start (replicate held (zeros c.size) ++ b ∷ future)
-    ≡ data_sets_after c.set (left_at c start) held b ++ chosen_from c c.count (start + (held + 1 - after)) (replicate after (zeros c.size) ++ future)
+    chosen_from c c.count start (replicate held (zeros c.size) ++ b ∷ future) ≡ data_sets_after c.set (left_at c start) held b ++ chosen_from c c.count
+    (start + (held + 1 - after)) (replicate after (zeros c.size) ++ future)
 
-zero_step : (c : Cut) (start held : ℕ) (b : List ℕ) (future : List (List ℕ)) (end : Bool) → length b ≡ c.size → start + held + 1 + length future ≡ c.count → is_zero b ≡ true → eqb (held + 1) (left_at c start) ≡ end
-    → chosen_from c c.count start (replicate held (zeros c.size) ++ b ∷ future)
-    ≡ cond end (rest_of (left_at c start) ∷ []) [] ++ chosen_from c c.count (start + (held + 1 - cond end 0 (held + 1))) (replicate (cond end 0 (held + 1)) (zeros c.size) ++ future)
-zero_step c start held b future true len all is last =
-    let z : b ≡ zeros c.size = zeros_of b c.size len is in
-    let left : left_at c start ≡ suc held = (let e : held + 1 ≡ left_at c start = eqb-true _ _ last in omega arith) in
-    let e : held + 1 ≡ suc held = omega arith in
-    let whole : replicate held (zeros c.size) ++ b ∷ future ≡ replicate (suc held) (zeros c.size) ++ future = ap (λ (x : List ℕ). replicate held (zeros c.size) ++ x ∷ future) z ∙ one_more held (zeros c.size) future ∙ ap (λ (n : ℕ). replicate n (zeros c.size) ++ future) e in
-    let size : length (replicate (suc held) (zeros c.size) ++ future) ≡ suc held + length future = omega (arith, length-append (replicate (suc held) (zeros c.size)) future, length-replicate (suc held) (zeros c.size)) in
-    let fuel = enough c c.count (suc c.count) start (replicate (suc held) (zeros c.size) ++ future) (omega arith) (omega arith) in
-    let next : start + (held + 1 - 0) ≡ start + suc held = omega arith in
-    rw (whole, fuel, run_to_end c c.count start held future left, next, left) refl
-zero_step c start held b future false len all is last =
-    let z : b ≡ zeros c.size = zeros_of b c.size len is in
-    let next : start + (held + 1 - (held + 1)) ≡ start = omega arith in
-    rw (z, one_more held (zeros c.size) future, next) refl
+zero_step : (c : Cut) (start held : ℕ) (b : List ℕ) (future : List (List ℕ)) → length b ≡ c.size → start + held + 1 + length future ≡ c.count → is_zero b ≡ true
+    → Step c start held b future (zeros_after (left_at c start) held b)
+zero_step c start held b future len all is =
+    let z : b ≡ zeros c.size = zeros_of _ _ len is in
+    elim (by_test (eqb (held + 1) (left_at c start))) [
+      | inl last ↦
+          (let left : left_at c start ≡ suc held = (let e : held + 1 ≡ left_at c start = eqb-true _ _ last in omega arith) in
+          let e : held + 1 ≡ suc held = omega arith in
+          let whole : replicate held (zeros c.size) ++ b ∷ future ≡ replicate (suc held) (zeros c.size) ++ future =
+          (λ i. replicate held (zeros c.size) ++ z i ∷ future) ∙ one_more held (zeros c.size) future ∙ (λ i. replicate (e i) (zeros c.size) ++ future) in
+          let size : length (replicate (suc held) (zeros c.size) ++ future) ≡ suc held + length future =
+          omega (arith, length-append (replicate (suc held) (zeros c.size)) future, length-replicate (suc held) (zeros c.size)) in
+          let fuel = enough c c.count (suc c.count) start (replicate (suc held) (zeros c.size) ++ future) (omega arith) (omega arith) in
+          let next : start + (held + 1 - 0) ≡ start + suc held = omega arith in
+          rw (is, last) (rw (whole, fuel, run_to_end c c.count start held future left, next, left) refl))
+      | inr more ↦
+          (let next : start + (held + 1 - (held + 1)) ≡ start = omega arith in rw (is, more) (rw (z, one_more held (zeros c.size) future, next) refl))
+    ]
 
-block_step : (c : Cut) (start held : ℕ) (b : List ℕ) (future : List (List ℕ)) → 1 ≤ c.reference → start + held + 1 + length future ≡ c.count → is_zero b ≡ false → (1 ≤ held → held < left_at c start)
-    → chosen_from c c.count start (replicate held (zeros c.size) ++ b ∷ future) ≡ run_and_block c.set held b ++ chosen_from c c.count (start + (held + 1 - 0)) future
+block_step : (c : Cut) (start held : ℕ) (b : List ℕ) (future : List (List ℕ)) → 1 ≤ c.reference → start + held + 1 + length future ≡ c.count → is_zero b ≡ false
+    → (1 ≤ held → held < left_at c start) → chosen_from c c.count start (replicate held (zeros c.size) ++ b ∷ future)
+    ≡ run_and_block c.set held b ++ chosen_from c c.count (start + (held + 1 - 0)) future
 block_step c start zero b future pos all is inside =
     let fuel = enough c c.count (suc c.count) start (b ∷ future) (omega arith) (omega arith) in
     let next : start + (0 + 1 - 0) ≡ start + 1 = omega arith in
@@ -61,58 +66,43 @@ block_step c start (suc held) b future pos all is inside =
     let fuel = enough c c.count (suc (suc c.count)) start (replicate (suc held) (zeros c.size) ++ b ∷ future) (omega arith) (omega arith) in
     let next : start + (suc held + 1 - 0) ≡ start + suc held + 1 = omega arith in
     let some : eqb (suc held) 0 ≡ false = ne_eqb _ _ (λ e. omega arith) in
-    rw (fuel, run_next c (suc c.count) start held b future (inside (omega arith)) is, block_next c c.count (start + suc held) b future (rest_least c.reference c.count (start + suc held) pos (omega arith)) is, next, some) refl
+    let last = block_next c c.count (start + suc held) b future (rest_least c.reference c.count (start + suc held) pos (omega arith)) is in
+    rw (fuel, run_next c (suc c.count) start held b future (inside (omega arith)) is, last, next, some) refl
 
-pub step : (c : Cut) (start held : ℕ) (b : List ℕ) (future : List (List ℕ)) → length b ≡ c.size → 1 ≤ c.reference → start + held + 1 + length future ≡ c.count → (1 ≤ held → held < left_at c start) → Step c start held b future (zeros_after (left_at c start) held b)
-step c start held b future len pos all inside = by_test (is_zero b) refl
-  where
-    by_test : (z : Bool) → is_zero b ≡ z
-        → chosen_from c c.count start (replicate held (zeros c.size) ++ b ∷ future)
-        ≡ cond z (cond (eqb (held + 1) (left_at c start)) (rest_of (left_at c start) ∷ []) []) (run_and_block c.set held b)
-        ++ chosen_from c c.count (start + (held + 1 - cond z (cond (eqb (held + 1) (left_at c start)) 0 (held + 1)) 0)) (replicate (cond z (cond (eqb (held + 1) (left_at c start)) 0 (held + 1)) 0) (zeros c.size) ++ future)
-    by_test true is = zero_step c start held b future (eqb (held + 1) (left_at c start)) len all is refl
-    by_test false is = block_step c start held b future pos all is inside
+pub step : (c : Cut) (start held : ℕ) (b : List ℕ) (future : List (List ℕ)) → length b ≡ c.size → 1 ≤ c.reference → start + held + 1 + length future ≡ c.count
+    → (1 ≤ held → held < left_at c start) → Step c start held b future (zeros_after (left_at c start) held b)
+step c start held b future len pos all inside =
+    elim (by_test (is_zero b)) [
+      | inl is ↦ zero_step c start held b future len all is
+      | inr is ↦ rw is (block_step c start held b future pos all is inside)
+    ]
 
 -- how many blocks of zeros are held is in range again
-pub after_in_range : (left held : ℕ) (b : List ℕ) → held < left → (zeros_after left held b ≤ held + 1) × (1 ≤ zeros_after left held b → zeros_after left held b < left)
-after_in_range left held b lt = go (is_zero b) (eqb (held + 1) left) refl
-  where
-    go : (z e : Bool) → eqb (held + 1) left ≡ e → (cond z (cond e 0 (held + 1)) 0 ≤ held + 1) × (1 ≤ cond z (cond e 0 (held + 1)) 0 → cond z (cond e 0 (held + 1)) 0 < left)
-    go true true h = (omega arith, λ p. absurd (omega arith))
-    go true false h = (omega arith, λ p. (let other : held + 1 ≡ left → ⊥ = eqb-false _ _ h in omega arith))
-    go false e h = (omega arith, λ p. absurd (omega arith))
+pub after_in_range : (left held : ℕ) (b : List ℕ) → held < left → (zeros_after left held b ≤ held + 1) × (1 ≤ zeros_after left held b
+    → zeros_after left held b < left)
+after_in_range left held b lt = (grind (arith, nat_tests), λ p. grind (arith, nat_tests))
 
 -- where some are held, no data set ended the run
-pub after_start : (c : Cut) (start held : ℕ) (b : List ℕ) → 1 ≤ zeros_after (left_at c start) held b → start + (held + 1 - zeros_after (left_at c start) held b) ≡ start
-after_start c start held b = go (is_zero b) (eqb (held + 1) (left_at c start))
-  where
-    go : (z e : Bool) → 1 ≤ cond z (cond e 0 (held + 1)) 0 → start + (held + 1 - cond z (cond e 0 (held + 1)) 0) ≡ start
-    go true true p = absurd (omega arith)
-    go true false p = omega arith
-    go false e p = absurd (omega arith)
-
-pub spelling_append : (s : CodeSet) (a b : List CodedDataSet) → spelling s (a ++ b) ≡ spelling s a ++ spelling s b
-spelling_append s [] b = refl
-spelling_append s (t ∷ a) b = ap (λ (bs : List Bool). spelled s t ++ bs) (spelling_append s a b) ∙ sym (append_assoc (spelled s t) (spelling s a) (spelling s b))
-
-pub blocks_push : (s : CodeSet) (size : ℕ) (bs : List (List ℕ)) (b : List ℕ) → AreBlocks s size bs → length b ≡ size → AllByRecursion (λ v. v < 2 ^ s.bits) b → AreBlocks s size (bs ++ b ∷ [])
-blocks_push s size [] b h len range = ((len, range), tt)
-blocks_push s size (x ∷ bs) b h len range = (h.0, blocks_push s size bs b h.1 len range)
+pub after_start : (c : Cut) (start held : ℕ) (b : List ℕ) → 1 ≤ zeros_after (left_at c start) held b → start + (held + 1 - zeros_after (left_at c start) held b)
+    ≡ start
+after_start c start held b p = grind (arith, nat_tests)
 
 -- ---- values that are held, and one block more
 
-pub values_taken : (v : Packed) (taken : List ℕ) (bits : List Bool) (xs : List ℕ) → HasTaken v taken bits → HasTaken (record v { held = v.held ++ xs }) (taken ++ xs) bits
+pub values_taken : (v : Packed) (taken : List ℕ) (bits : List Bool) (xs : List ℕ) → HasTaken v taken bits
+    → HasTaken (record v { held = v.held ++ xs }) (taken ++ xs) bits
 values_taken v taken bits xs h = record {
   blocks = h.blocks;
   whole = h.whole;
-  numbers = ap (λ (ns : List ℕ). ns ++ xs) h.numbers ∙ append_assoc (values_of h.blocks) v.held xs;
+  numbers = (λ i. h.numbers i ++ xs) ∙ append_assoc (values_of h.blocks) v.held xs;
   place = h.place;
   inside = h.inside;
   goes_on = h.goes_on;
 }
 
-unfoldable pub block_taken : (v : Packed) (taken told : List ℕ) (bits : List Bool) (b : List ℕ) → IsCut v.cut → v.start + v.zeros < v.cut.count → length b ≡ v.cut.size → AllByRecursion (λ x. x < 2 ^ v.cut.set.bits) b
-    → (h : HasTaken v taken bits) → told ≡ values_of (h.blocks ++ b ∷ []) → HasTaken (packed v b) told (bits ++ data_sets_packed v b)
+unfoldable pub block_taken : (v : Packed) (taken told : List ℕ) (bits : List Bool) (b : List ℕ) → IsCut v.cut → v.start + v.zeros < v.cut.count
+    → length b ≡ v.cut.size → AllByRecursion (λ x. x < 2 ^ v.cut.set.bits) b → (h : HasTaken v taken bits) → told ≡ values_of (h.blocks ++ b ∷ [])
+    → HasTaken (packed v b) told (bits ++ data_sets_packed v b)
 block_taken v taken told bits b cut more len range h is =
     let c : Cut = v.cut in
     let left : ℕ = left_at c v.start in
@@ -122,7 +112,7 @@ block_taken v taken told bits b cut more len range h is =
     let range_after = after_in_range left v.zeros b inside in
     record {
       blocks = h.blocks ++ b ∷ [];
-      whole = blocks_push c.set c.size h.blocks b h.whole len range;
+      whole = all_append _ h.blocks (b ∷ []) h.whole ((len, range), tt);
       numbers = is ∙ sym (append-nil (values_of (h.blocks ++ b ∷ [])));
       place = omega (arith, length-append h.blocks (b ∷ []), h.place, range_after.0);
       inside = λ held. subst (λ (i : ℕ). after < left_at c i) (sym (after_start c v.start v.zeros b held)) (range_after.1 held);
@@ -132,58 +122,46 @@ block_taken v taken told bits b cut more len range h is =
           let told-so = h.goes_on (b ∷ future) (omega arith) in
           let next = step c v.start v.zeros b future len cut.reference.0 rest h.inside in
           let behind : List CodedDataSet = chosen_from c c.count (v.start + (v.zeros + 1 - after)) (replicate after (zeros c.size) ++ future) in
-          ap (λ (bs : List (List ℕ)). spelling c.set (chosen_from c c.count 0 bs)) (append_assoc h.blocks (b ∷ []) future) ∙ told-so
-          ∙ ap (λ (ts : List CodedDataSet). bits ++ spelling c.set ts) next
-          ∙ ap (λ (bs : List Bool). bits ++ bs) (spelling_append c.set (data_sets_after c.set left v.zeros b) behind)
+          (λ j. spelling c.set (chosen_from c c.count 0 ((append_assoc h.blocks (b ∷ []) future) j))) ∙ told-so ∙ (λ j. bits ++ spelling c.set (next j))
+          ∙ (λ j. bits ++ (flat_map-append (spelled c.set) (data_sets_after c.set left v.zeros b) behind) j)
           ∙ sym (append_assoc bits (data_sets_packed v b) (spelling c.set behind));
     }
 
 -- ---- all blocks
 
-none_chosen : (c : Cut) (n i : ℕ) → chosen_from c n i [] ≡ []
-unfolding chosen_from
-none_chosen c zero i = refl
-none_chosen c (suc n) i = refl
-
-pub all_taken : (v : Packed) (taken : List ℕ) (bits : List Bool) → (h : HasTaken v taken bits) → length h.blocks ≡ v.cut.count → bits ≡ spelling v.cut.set (chosen_from v.cut v.cut.count 0 h.blocks)
+pub all_taken : (v : Packed) (taken : List ℕ) (bits : List Bool) → (h : HasTaken v taken bits) → length h.blocks ≡ v.cut.count
+    → bits ≡ spelling v.cut.set (chosen_from v.cut v.cut.count 0 h.blocks)
 all_taken v taken bits h all =
     let none : v.zeros ≡ 0 = elim (cases_lt 0 v.zeros) [
       | inl lt ↦ absurd (omega (arith, h.inside (omega arith), rest_most v.cut v.start, h.place))
       | inr le ↦ omega arith
     ] in
     let last = h.goes_on [] (omega arith) in
-    let nothing : spelling v.cut.set (chosen_from v.cut v.cut.count v.start (replicate v.zeros (zeros v.cut.size) ++ [])) ≡ [] = rw (none, none_chosen v.cut v.cut.count v.start) refl in
-    sym (ap (λ (bs : List (List ℕ)). spelling v.cut.set (chosen_from v.cut v.cut.count 0 bs)) (sym (append-nil h.blocks)) ∙ last ∙ ap (λ (bs : List Bool). bits ++ bs) nothing ∙ append-nil bits)
+    let nothing : spelling v.cut.set (chosen_from v.cut v.cut.count v.start (replicate v.zeros (zeros v.cut.size) ++ [])) ≡ [] =
+    rw (none, none_chosen v.cut v.cut.count v.start) refl in
+    sym ((λ i. spelling v.cut.set (chosen_from v.cut v.cut.count 0 ((sym (append-nil h.blocks)) i))) ∙ last ∙ (λ i. bits ++ nothing i) ∙ append-nil bits)
 
-filled_whole : (size : ℕ) (b : List ℕ) → length b ≡ size → filled size b ≡ b
+pub filled_length : (size : ℕ) (v : List ℕ) → length v ≤ size → length (filled size v) ≡ size
+filled_length size v le = omega (arith, length-append v (replicate (size - length v) 0), length-replicate {A = ℕ} (size - length v) 0)
+
+pub filled_whole : (size : ℕ) (b : List ℕ) → length b ≡ size → filled size b ≡ b
 filled_whole size b len = (let e : size - length b ≡ 0 = omega arith in rw e (append-nil b))
 
-pub first_of_blocks : (s : CodeSet) (size m : ℕ) (bs : List (List ℕ)) (rest : List ℕ) → AreBlocks s size bs → first_blocks size (length bs + m) (values_of bs ++ rest) ≡ bs ++ first_blocks size m rest
+pub first_of_blocks : (s : CodeSet) (size m : ℕ) (bs : List (List ℕ)) (rest : List ℕ) → AreBlocks s size bs
+    → first_blocks size (length bs + m) (values_of bs ++ rest) ≡ bs ++ first_blocks size m rest
 unfolding first_blocks
 first_of_blocks s size m [] rest h = (let e : 0 + m ≡ m = omega arith in rw e refl)
 first_of_blocks s size m (b ∷ bs) rest h =
     let e : suc (length bs) + m ≡ suc (length bs + m) = omega arith in
-    let front : take size (b ++ (values_of bs ++ rest)) ≡ b = take_at b (values_of bs ++ rest) size h.0.0 in
-    let back : drop size (b ++ (values_of bs ++ rest)) ≡ values_of bs ++ rest = drop_at b (values_of bs ++ rest) size h.0.0 in
-    rw (e, append_assoc b (values_of bs) rest, front, back, filled_whole size b h.0.0, first_of_blocks s size m bs rest h.1) refl
+    let front : take size (b ++ (values_of bs ++ rest)) ≡ b = take_at b _ _ h.0.0 in
+    let back : drop size (b ++ (values_of bs ++ rest)) ≡ values_of bs ++ rest = drop_at b _ _ h.0.0 in
+    rw (e, append_assoc b _ _, front, back, filled_whole _ b h.0.0, first_of_blocks s size m bs rest h.1) refl
 
 pub values_length : (s : CodeSet) (size : ℕ) (bs : List (List ℕ)) → AreBlocks s size bs → length (values_of bs) ≡ length bs * size
 values_length s size [] h = omega arith
 values_length s size (b ∷ bs) h = omega (arith, length-append b (values_of bs), h.0.0, values_length s size bs h.1)
 
 -- ---- the cutting, and the end
-
-count_even : (size n : ℕ) → 1 ≤ size → block_count size (n * size) ≡ n
-count_even size n pos =
-    let below : size - 1 < size = omega arith in
-    let e : n * size + size - 1 ≡ n * size + (size - 1) = omega arith in
-    rw e (div-mul-add n size (size - 1) below)
-
-count_odd : (size n k : ℕ) → 1 ≤ k → k ≤ size → block_count size (n * size + k) ≡ n + 1
-count_odd size n k least most =
-    let below : k - 1 < size = omega arith in
-    let e : n * size + k + size - 1 ≡ (n + 1) * size + (k - 1) = omega arith in
-    rw e (div-mul-add (n + 1) size (k - 1) below)
 
 -- the blocks of numbers of which whole blocks and some values more were taken
 blocks_even : (s : CodeSet) (size : ℕ) (bs : List (List ℕ)) → 1 ≤ size → AreBlocks s size bs → blocks size (values_of bs ++ []) ≡ bs
@@ -194,7 +172,8 @@ blocks_even s size bs pos h =
     let all = first_of_blocks s size 0 bs [] h in
     rw (len, count_even size (length bs) pos) ((rw e at all) ∙ append-nil bs)
 
-blocks_odd : (s : CodeSet) (size : ℕ) (bs : List (List ℕ)) (held : List ℕ) → 1 ≤ length held → length held ≤ size → AreBlocks s size bs → blocks size (values_of bs ++ held) ≡ bs ++ filled size held ∷ []
+blocks_odd : (s : CodeSet) (size : ℕ) (bs : List (List ℕ)) (held : List ℕ) → 1 ≤ length held → length held ≤ size → AreBlocks s size bs
+    → blocks size (values_of bs ++ held) ≡ bs ++ filled size held ∷ []
 unfolding blocks first_blocks
 blocks_odd s size bs held least most h =
     let len : length (values_of bs ++ held) ≡ length bs * size + length held = omega (arith, length-append (values_of bs) held, values_length s size bs h) in
@@ -203,83 +182,52 @@ blocks_odd s size bs held least most h =
     rw (len, count_odd size (length bs) (length held) least most) (rw whole at all)
 
 -- the chosen body of numbers whose blocks are known
-body_of_blocks : (v : Packed) (taken : List ℕ) (bs : List (List ℕ)) → block_count v.cut.size (length taken) ≡ v.cut.count → blocks v.cut.size taken ≡ bs → length bs ≡ v.cut.count
-    → chosen_block_body v.cut.set v.cut.size v.cut.reference taken ≡ spelling v.cut.set (chosen_from v.cut v.cut.count 0 bs)
+body_of_blocks : (v : Packed) (taken : List ℕ) (bs : List (List ℕ)) → block_count v.cut.size (length taken) ≡ v.cut.count → blocks v.cut.size taken ≡ bs
+    → length bs ≡ v.cut.count → chosen_block_body v.cut.set v.cut.size v.cut.reference taken ≡ spelling v.cut.set (chosen_from v.cut v.cut.count 0 bs)
 unfolding chosen_block_body chosen_data_sets
 body_of_blocks v taken bs count is len = rw (is, count, len) refl
 
 pub nothing_left : (v : Packed) (written : List Bool) → IsCut v.cut → v.held ≡ [] → EndsBody v written written
 nothing_left v written cut none = λ taken bits h count.
-    let pos : 1 ≤ v.cut.size = omega (arith, size_least v.cut.size cut.size) in
-    let numbers : taken ≡ values_of h.blocks ++ [] = h.numbers ∙ ap (λ (held : List ℕ). values_of h.blocks ++ held) none in
-    let all : blocks v.cut.size taken ≡ h.blocks = ap (blocks v.cut.size) numbers ∙ blocks_even v.cut.set v.cut.size h.blocks pos h.whole in
-    let size : length taken ≡ length h.blocks * v.cut.size = ap length numbers ∙ ap length (append-nil (values_of h.blocks)) ∙ values_length v.cut.set v.cut.size h.blocks h.whole in
-    let len : length h.blocks ≡ v.cut.count = sym (count_even v.cut.size (length h.blocks) pos) ∙ ap (block_count v.cut.size) (sym size) ∙ count in
-    ([], sym (append-nil written), append-nil bits ∙ all_taken v taken bits h len ∙ sym (body_of_blocks v taken h.blocks count all len))
+    let pos : 1 ≤ v.cut.size = omega (arith, size_least _ cut.size) in
+    let numbers : taken ≡ values_of h.blocks ++ [] = h.numbers ∙ (λ i. values_of h.blocks ++ none i) in
+    let all : blocks v.cut.size taken ≡ h.blocks = ap (blocks v.cut.size) numbers ∙ blocks_even v.cut.set _ h.blocks pos h.whole in
+    let size : length taken ≡ length h.blocks * v.cut.size = ap length numbers ∙ ap length (append-nil (values_of h.blocks))
+    ∙ values_length v.cut.set _ h.blocks h.whole in
+    let len : length h.blocks ≡ v.cut.count = sym (count_even _ (length h.blocks) pos) ∙ ap (block_count v.cut.size) (sym size) ∙ count in
+    ([], sym (append-nil _), append-nil bits ∙ all_taken _ taken bits h len ∙ sym (body_of_blocks v taken h.blocks count all len))
 
-pub last_block : (v : Packed) (written now : List Bool) → IsCut v.cut → 1 ≤ length v.held → length v.held ≤ v.cut.size → v.start + v.zeros < v.cut.count → AllByRecursion (λ x. x < 2 ^ v.cut.set.bits) (filled v.cut.size v.held)
-    → now ≡ written ++ data_sets_packed v (filled v.cut.size v.held) → EndsBody v written now
+pub last_block : (v : Packed) (written now : List Bool) → IsCut v.cut → 1 ≤ length v.held → length v.held ≤ v.cut.size → v.start + v.zeros < v.cut.count
+    → AllByRecursion (λ x. x < 2 ^ v.cut.set.bits) (filled v.cut.size v.held) → now ≡ written ++ data_sets_packed v (filled v.cut.size v.held)
+    → EndsBody v written now
 unfolding block_taken
 last_block v written now cut least most more range is = λ taken bits h count.
     let c : Cut = v.cut in
     let b : List ℕ = filled c.size v.held in
-    let len : length b ≡ c.size = omega (arith, length-append v.held (zeros (c.size - length v.held)), length-replicate {A = ℕ} (c.size - length v.held) 0) in
-    let after = block_taken v taken (values_of (h.blocks ++ b ∷ [])) bits b cut more len range h refl in
-    let all : blocks c.size taken ≡ h.blocks ++ b ∷ [] = ap (blocks c.size) h.numbers ∙ blocks_odd c.set c.size h.blocks v.held least most h.whole in
-    let size : length taken ≡ length h.blocks * c.size + length v.held = ap length h.numbers ∙ omega (arith, length-append (values_of h.blocks) v.held, values_length c.set c.size h.blocks h.whole) in
-    let count-is : length h.blocks + 1 ≡ c.count = sym (count_odd c.size (length h.blocks) (length v.held) least most) ∙ ap (block_count c.size) (sym size) ∙ count in
-    let blocks-are : length (h.blocks ++ b ∷ []) ≡ c.count = length-append h.blocks (b ∷ []) ∙ count-is in
-    (data_sets_packed v b, is, all_taken (packed v b) (values_of (h.blocks ++ b ∷ [])) (bits ++ data_sets_packed v b) after blocks-are ∙ sym (body_of_blocks v taken (h.blocks ++ b ∷ []) count all blocks-are))
+    let len : length b ≡ c.size = filled_length c.size v.held most in
+    let after = block_taken _ taken (values_of (h.blocks ++ b ∷ [])) bits _ cut more len range h refl in
+    let all : blocks c.size taken ≡ h.blocks ++ b ∷ [] = ap (blocks c.size) h.numbers ∙ blocks_odd c.set _ h.blocks _ least most h.whole in
+    let size : length taken ≡ length h.blocks * c.size + length v.held = ap length h.numbers
+    ∙ omega (arith, length-append (values_of h.blocks) v.held, values_length c.set _ h.blocks h.whole) in
+    let count-is : length h.blocks + 1 ≡ c.count = sym (count_odd _ (length h.blocks) _ least most) ∙ ap (block_count c.size) (sym size) ∙ count in
+    let blocks-are : length (h.blocks ++ b ∷ []) ≡ c.count = length-append h.blocks _ ∙ count-is in
+    let body = all_taken _ (values_of (h.blocks ++ b ∷ [])) (bits ++ data_sets_packed v b) after blocks-are
+    ∙ sym (body_of_blocks v taken (h.blocks ++ b ∷ []) count all blocks-are) in (data_sets_packed v b, is, body)
 
 -- ---- numbers more
 
 pub values_held : (v new : Packed) (written : List Bool) (xs : List ℕ) → new ≡ record v { held = v.held ++ xs } → PutsAll xs v written new written
-values_held v new written xs is = λ taken bits h.
-    ([], sym (append-nil written), rw (is, append-nil bits) (values_taken v taken bits xs h))
+values_held v new written xs is = λ taken bits h. ([], sym (append-nil _), rw (is, append-nil bits) (values_taken _ taken bits _ h))
 
-pub values_packed : (v new : Packed) (written now : List Bool) (xs : List ℕ) → IsCut v.cut → v.start + v.zeros < v.cut.count → length (v.held ++ xs) ≡ v.cut.size → AllByRecursion (λ y. y < 2 ^ v.cut.set.bits) (v.held ++ xs)
-    → now ≡ written ++ data_sets_packed v (v.held ++ xs) → new ≡ packed v (v.held ++ xs) → PutsAll xs v written new now
+pub values_packed : (v new : Packed) (written now : List Bool) (xs : List ℕ) → IsCut v.cut → v.start + v.zeros < v.cut.count
+    → length (v.held ++ xs) ≡ v.cut.size → AllByRecursion (λ y. y < 2 ^ v.cut.set.bits) (v.held ++ xs) → now ≡ written ++ data_sets_packed v (v.held ++ xs)
+    → new ≡ packed v (v.held ++ xs) → PutsAll xs v written new now
 values_packed v new written now xs cut more len range data_sets is = λ taken bits h.
-    let told : taken ++ xs ≡ values_of (h.blocks ++ (v.held ++ xs) ∷ []) =
-    ap (λ (ns : List ℕ). ns ++ xs) h.numbers ∙ append_assoc (values_of h.blocks) v.held xs
-    ∙ ap (λ (ns : List ℕ). values_of h.blocks ++ ns) (sym (append-nil (v.held ++ xs))) ∙ sym (values_append h.blocks ((v.held ++ xs) ∷ [])) in
-    (data_sets_packed v (v.held ++ xs), data_sets, rw is (block_taken v taken (taken ++ xs) bits (v.held ++ xs) cut more len range h told))
+    let told : taken ++ xs ≡ values_of (h.blocks ++ (v.held ++ xs) ∷ []) = ap (λ ns. ns ++ xs) h.numbers ∙ append_assoc (values_of h.blocks) _ _
+    ∙ ap (λ ns. values_of h.blocks ++ ns) (sym (append-nil _)) ∙ sym (flat_map-append _ h.blocks _) in
+    (data_sets_packed v (v.held ++ xs), data_sets, rw is (block_taken _ taken (taken ++ xs) bits _ cut more len range h told))
 
 -- ---- the values held
 
 pub range_filled : (limit size : ℕ) (held : List ℕ) → 0 < limit → AllByRecursion (λ v. v < limit) held → AllByRecursion (λ v. v < limit) (filled size held)
-range_filled limit size held pos h = range_append limit held (zeros (size - length held)) h (range_zeros limit (size - length held) pos)
-
--- one value more in the array
-pub held_more : (values : List ℕ) (i x : ℕ) → i < length values → take (i + 1) (set values i x) ≡ take i values ++ x ∷ []
-held_more values i x lt = rw (add-one i) (take-suc-set values i x lt)
-
-pub filled_next : (values block : List ℕ) (held i : ℕ) → held ≤ i → i < length block → ((n : ℕ) → held ≤ n → n ≤ i → take n block ≡ take held values ++ zeros (n - held))
-    → (n : ℕ) → held ≤ n → n ≤ i + 1 → take n (set block i 0) ≡ take held values ++ zeros (n - held)
-filled_next values block held i le lt h n least most =
-    elim (cases_lt i n) [
-      | inl above ↦
-          (let e : n ≡ suc i = omega arith in
-          let f : n - held ≡ (i - held) + 1 = omega arith in
-          let more : zeros ((i - held) + 1) ≡ zeros (i - held) ++ 0 ∷ [] = zeros_push (i - held) in
-          rw (f, more, e) (take-suc-set block i 0 lt ∙ ap (λ (ns : List ℕ). ns ++ 0 ∷ []) (h i le (omega arith)) ∙ append_assoc (take held values) (zeros (i - held)) (0 ∷ [])))
-      | inr below ↦ take-set-le n block i 0 below ∙ h n least below
-    ]
-  where
-    zeros_push : (n : ℕ) → zeros (n + 1) ≡ zeros n ++ 0 ∷ []
-    zeros_push zero = refl
-    zeros_push (suc n) = (let e : suc n + 1 ≡ suc (n + 1) = omega arith in rw (e, zeros_push n) refl)
-
-pub filled_start : (values : List ℕ) (held n : ℕ) → held ≤ n → n ≤ held → take n values ≡ take held values ++ zeros (n - held)
-filled_start values held n least most =
-    let e : n ≡ held = omega arith in
-    let f : n - held ≡ 0 = omega arith in
-    rw (f, e) (sym (append-nil (take held values)))
-
-pub on_ok_both : {A E : Type 0} (r : Result A E) (P Q R : Type 0) → (P → Q → R) → OnOk r P → OnOk r Q → OnOk r R
-on_ok_both (Ok x) P Q R f p q = f p q
-on_ok_both (Err e) P Q R f p q = tt
-
-pub on_ok_of : {A E : Type 0} (r : Result A E) (P R : Type 0) → (P → R) → OnOk r P → OnOk r R
-on_ok_of (Ok x) P R f p = f p
-on_ok_of (Err e) P R f p = tt
+range_filled limit size held pos h = all_append _ held (zeros (size - length held)) h (all_replicate _ (size - length held) 0 pos)

@@ -1,132 +1,110 @@
 -- Several numbers that a reader gives at once.
-use Rattle.std.proofs.Common.{◌≡◌, ℕ, ◌+◌, ◌-◌, ◌^◌, ◌<◌, ◌≤◌, Bool, List, [], ◌∷◌, ◌++◌, length, take, drop, Ok, Err, refl, sym, ap, subst, ◌∙◌, arith, append_assoc}
+use Rattle.std.proofs.Common.{◌≡◌, ℕ, ◌+◌, ◌^◌, ◌<◌, Bool, List, [], ◌∷◌, ◌++◌, Ok, Err, refl, sym, ap, subst, ◌∙◌, append_assoc, ◌*◌, pow_pos, replicate}
 use Rattle.std.specs.List.{AllByRecursion}
-use Rattle.std.proofs.lemmas.List.{append-nil, drop-drop, drop-take, drop_at, length-take, take-append-drop, take-append-le, take-take, take_at, replicate-append-replicate}
-use Rattle.std.proofs.Math.Seq.{take-add}
+use Rattle.std.proofs.lemmas.List.{append-nil}
 use Rattle.cube_core.specs.declared.fault.Fault.{Fault}
 use Rattle.header_bits.specs.Bits.{Unread}
 use Rattle.header_bits.proofs.Reading.{ok_is}
 use Rattle.header_bits.proofs.Fronts.{bind_ok}
 use Rattle.block_adaptive.specs.Settings.{IsCut}
-use Rattle.block_adaptive.specs.DataSets.{Cut, left_at, spelled}
-use Rattle.block_adaptive.specs.Reading.{site_of, data_set_at, data_sets_at}
-use Rattle.block_adaptive.specs.Given.{Unpacked, HasGiven, GivesFront, GivesAll, holding, next_data_set}
-use Rattle.block_adaptive.proofs.Handed.{data_set_given, nothing_behind, zeros}
-use Rattle.block_adaptive.proofs.InRange.{told_range}
-use Rattle.block_adaptive.proofs.Ranges.{range_append}
+use Rattle.block_adaptive.specs.Reading.{data_sets_at}
+use Rattle.block_adaptive.specs.Given.{Unpacked, HasGiven, GivesFront, GivesAll, holding, next_data_set, GivesNext}
+use Rattle.block_adaptive.proofs.Handed.{data_set_given}
+use Rattle.header_bits.proofs.Items.{all_append, all_first, all_last, all_replicate}
+use Rattle.std.proofs.lemmas.Grind.{flat_map-append}
+use Rattle.block_adaptive.specs.declared.options.CodeSet.{CodeSet}
+use Rattle.block_adaptive.specs.DataSets.{CodedDataSet, Block as Whole, Run, RestOfSegment, Cut, left_at, IsCodedDataSet, AreCodedDataSets, blocks_of}
+use Rattle.block_adaptive.specs.DataSets.{blocks_told, values_of, spelled, blocks_in}
+use Rattle.header_bits.proofs.Places.{values_of_zeros, zeros}
 
 -- ---- in range
 
-range_first : (limit : ℕ) (xs ys : List ℕ) → AllByRecursion (λ v. v < limit) (xs ++ ys) → AllByRecursion (λ v. v < limit) xs
-range_first limit [] ys h = tt
-range_first limit (x ∷ xs) ys h = (h.0, range_first limit xs ys h.1)
+zeros_range : (limit n size : ℕ) → 0 < limit → AllByRecursion (λ v. v < limit) (values_of (replicate n (zeros size)))
+zeros_range limit n size pos = rw (values_of_zeros n size) (all_replicate _ (n * size) 0 pos)
 
-range_last : (limit : ℕ) (xs ys : List ℕ) → AllByRecursion (λ v. v < limit) (xs ++ ys) → AllByRecursion (λ v. v < limit) ys
-range_last limit [] ys h = h
-range_last limit (x ∷ xs) ys h = range_last limit xs ys h.1
+data_set_range : (s : CodeSet) (size left : ℕ) (t : CodedDataSet) → IsCodedDataSet s size left t
+    → AllByRecursion (λ v. v < 2 ^ s.bits) (values_of (blocks_of size left t))
+data_set_range s size left (Whole o vs) h = rw (append-nil vs) h.range
+data_set_range s size left (Run n) h = zeros_range (2 ^ s.bits) n size (pow_pos s.bits)
+data_set_range s size left RestOfSegment h = zeros_range (2 ^ s.bits) left size (pow_pos s.bits)
+
+pub told_range : (c : Cut) (i j : ℕ) (data_sets : List CodedDataSet) → AreCodedDataSets c i data_sets j
+    → AllByRecursion (λ v. v < 2 ^ c.set.bits) (values_of (blocks_told c i data_sets))
+unfolding AreCodedDataSets blocks_told
+told_range c i j [] h = tt
+told_range c i j (t ∷ data_sets) h =
+    rw flat_map-append (all_append _ (values_of (blocks_of c.size (left_at c i) t)) _ (data_set_range _ _ _ t h.0)
+    (told_range c (i + blocks_in (left_at c i) t) j data_sets h.1))
 
 list_range : (v : Unpacked) (given list : List ℕ) (bits : List Bool) → HasGiven v (given ++ list) bits → AllByRecursion (λ n. n < 2 ^ v.cut.set.bits) list
 list_range v given list bits h =
-    let all = subst (λ (vs : List ℕ). AllByRecursion (λ n. n < 2 ^ v.cut.set.bits) vs) h.told (told_range v.cut 0 v.block h.data_sets h.lawful) in
-    range_last (2 ^ v.cut.set.bits) given list (range_first (2 ^ v.cut.set.bits) (given ++ list) v.held all)
-
--- ---- the first values in hand
-
-pub first_of_hand : (size at count spare : ℕ) (values copied behind : List ℕ) → at + count ≤ size → length copied ≡ count → copied ≡ take count (drop at values)
-    → drop at (take size values) ++ zeros spare ≡ take count (copied ++ behind) ++ (drop (at + count) (take size values) ++ zeros spare)
-first_of_hand size at count spare values copied behind le long same =
-    let here : List ℕ = drop at (take size values) in
-    let more : at + (size - at) ≡ size = omega arith in
-    let inner : here ≡ take (size - at) (drop at values) = ap (λ n. drop at (take n values)) (sym more) ∙ drop-take at (size - at) values in
-    let front : take count here ≡ take count (copied ++ behind) = ap (take count) inner ∙ take-take count (size - at) (drop at values) (omega arith) ∙ sym same
-    ∙ sym (take_at copied behind count long) in
-    let split : here ≡ take count (copied ++ behind) ++ drop (at + count) (take size values) =
-    sym (take-append-drop count here) ∙ ap (λ (vs : List ℕ). vs ++ drop count here) front
-    ∙ ap (λ (vs : List ℕ). take count (copied ++ behind) ++ vs) (drop-drop count at (take size values)) in
-    ap (λ (vs : List ℕ). vs ++ zeros spare) split ∙ append_assoc (take count (copied ++ behind)) (drop (at + count) (take size values)) (zeros spare)
-
-pub zeros_of_hand : (size at count spare : ℕ) (values filled behind : List ℕ) → at ≡ size → count ≤ spare → length filled ≡ count → filled ≡ zeros count
-    → drop at (take size values) ++ zeros spare ≡ take count (filled ++ behind) ++ (drop at (take size values) ++ zeros (spare - count))
-zeros_of_hand size at count spare values filled behind same le long are =
-    let none : drop at (take size values) ≡ [] = ap (λ n. drop n (take size values)) same ∙ nothing_behind size values in
-    let front : take count (filled ++ behind) ≡ zeros count = take_at filled behind count long ∙ are in
-    let parts : count + (spare - count) ≡ spare = omega arith in
-    rw (none, front) (ap zeros (sym parts) ∙ sym (replicate-append-replicate count (spare - count) 0))
+    let all = subst (λ (vs : List ℕ). AllByRecursion (λ n. n < 2 ^ v.cut.set.bits) vs) h.told (told_range _ _ _ h.data_sets h.lawful) in
+    all_last _ given _ (all_first _ (given ++ list) v.held all)
 
 -- ---- what was given
 
 pub values_given : (v new : Unpacked) (given list : List ℕ) (bits : List Bool) → HasGiven v given bits → GivesFront v list new
     → HasGiven new (given ++ list) bits
 values_given v new given list bits h front =
-    let is : given ++ v.held ≡ (given ++ list) ++ new.held = ap (λ (held : List ℕ). given ++ held) front.0 ∙ sym (append_assoc given list new.held) in
+    let is : given ++ v.held ≡ (given ++ list) ++ new.held = (λ i. given ++ front.0 i) ∙ sym (append_assoc given list new.held) in
     rw front.1 (record { data_sets = h.data_sets; lawful = h.lawful; text = h.text; told = h.told ∙ is; working = h.working })
 
 -- out of what was in hand
 pub held_run : (v new : Unpacked) (list : List ℕ) (unread : List Bool) → GivesFront v list new → (given : List ℕ) (bits : List Bool) → HasGiven v given bits
     → GivesAll v given bits unread new unread list
 held_run v new list unread front given bits h =
-    let has : HasGiven new (given ++ list) bits = values_given v new given list bits h front in
-    let same : new.cut ≡ v.cut = ap (λ (u : Unpacked). u.cut) front.1 in
-    (subst (λ (c : Cut). AllByRecursion (λ n. n < 2 ^ c.set.bits) list) same (list_range new given list bits has), [], refl, rw (append-nil bits) has)
+    let has : HasGiven new (given ++ list) bits = values_given _ _ _ _ _ h front in
+    let same : new.cut ≡ v.cut = (λ i. (front.1 i).cut) in
+    (subst (λ (c : Cut). AllByRecursion (λ n. n < 2 ^ c.set.bits) list) same (list_range _ _ _ _ has), [], refl, rw (append-nil _) has)
 
 -- out of the data set that came next
 pub taken_run : (v held new : Unpacked) (reader : Unread) (left : List Bool) (list : List ℕ) → IsCut v.cut → v.block < v.cut.count → v.held ≡ []
-    → next_data_set v reader ≡ Ok (held, left) → GivesFront held list new
-    → (given : List ℕ) (bits : List Bool) → HasGiven v given bits → GivesAll v given bits reader.left new left list
+    → next_data_set v reader ≡ Ok (held, left) → GivesFront held list new → (given : List ℕ) (bits : List Bool) → HasGiven v given bits
+    → GivesAll v given bits reader.left new left list
 taken_run v held new reader left list cut more none e front given bits h =
-    let a = bind_ok (data_set_at (site_of reader v.block) v.cut.set v.cut.size (left_at v.cut v.block) reader.left) (λ t. Ok (holding v t.0, t.1)) (held, left)
-    e in
-    let same = ok_is (holding v a.0.0, a.0.1) (held, left) a.2 in
-    let is : holding v a.0.0 ≡ held = ap (λ (x : Unpacked × List Bool). x.0) same in
-    let rest : a.0.1 ≡ left = ap (λ (x : Unpacked × List Bool). x.1) same in
-    let taken = data_set_given v reader given bits a.0.1 a.0.0 cut more none h a.1 in
+    let a = bind_ok _ (λ t. Ok (holding v t.0, t.1)) _ e in
+    let same = ok_is (holding v a.0.0, a.0.1) _ a.2 in
+    let is : holding v a.0.0 ≡ held = (λ i. (same i).0) in
+    let rest : a.0.1 ≡ left = (λ i. (same i).1) in
+    let taken = data_set_given _ _ _ _ a.0.1 a.0.0 cut more none h a.1 in
     let read : List Bool = spelled v.cut.set a.0.0 in
-    let has : HasGiven new (given ++ list) (bits ++ read) = values_given held new given list (bits ++ read) (rw is at taken.1) front in
-    let kept : new.cut ≡ v.cut = ap (λ (u : Unpacked). u.cut) front.1 ∙ sym (ap (λ (u : Unpacked). u.cut) is) in (
-      subst (λ (c : Cut). AllByRecursion (λ n. n < 2 ^ c.set.bits) list) kept (list_range new given list (bits ++ read) has),
+    let has : HasGiven new (given ++ list) (bits ++ read) = values_given _ _ _ _ _ (rw is at taken.1) front in
+    let kept : new.cut ≡ v.cut = (λ i. (front.1 i).cut) ∙ sym ((λ i. (is i).cut)) in (
+      subst (λ (c : Cut). AllByRecursion (λ n. n < 2 ^ c.set.bits) list) kept (list_range _ _ _ _ has),
       read,
-      taken.0 ∙ ap (λ (bs : List Bool). read ++ bs) rest,
+      taken.0 ∙ (λ i. read ++ rest i),
       has,
     )
 
 -- the refusal that was met is as before
 pub taken_kept : (v held : Unpacked) (reader : Unread) (left : List Bool) → next_data_set v reader ≡ Ok (held, left) → held.refused ≡ v.refused
 taken_kept v held reader left e =
-    let a = bind_ok (data_set_at (site_of reader v.block) v.cut.set v.cut.size (left_at v.cut v.block) reader.left) (λ t. Ok (holding v t.0, t.1)) (held, left)
-    e in
-    ap (λ (x : Unpacked × List Bool). x.0.refused) (sym (ok_is (holding v a.0.0, a.0.1) (held, left) a.2))
+    let a = bind_ok _ (λ t. Ok (holding v t.0, t.1)) _ e in
+    (λ i. ((sym (ok_is (holding v a.0.0, a.0.1) _ a.2)) i).0.refused)
+
+-- one value
+pub gives_next : (old new : Unpacked) (reader : Unread) (value : ℕ) (left : List Bool) → ((given : List ℕ) (bits : List Bool) → HasGiven old given bits
+    → GivesAll old given bits reader.left new left (value ∷ [])) → GivesNext old reader (Ok value) new left
+gives_next old new reader value left gives given bits h = (let g = gives given bits h in (g.0.0, g.1, g.2, g.3))
 
 -- ---- one run behind another
-
--- numbers that were written behind others
-pub written_more : (at count : ℕ) (xs ys behind : List ℕ) → at ≤ length xs → count ≤ length ys
-    → take (at + count) (take at xs ++ (ys ++ behind)) ≡ take at xs ++ take count ys
-written_more at count xs ys behind first second =
-    let long : length (take at xs) ≡ at = omega (arith, length-take at xs) in
-    take-add at count (take at xs ++ (ys ++ behind))
-    ∙ ap (λ (vs : List ℕ). vs ++ take count (drop at (take at xs ++ (ys ++ behind)))) (take_at (take at xs) (ys ++ behind) at long)
-    ∙ ap (λ (vs : List ℕ). take at xs ++ take count vs) (drop_at (take at xs) (ys ++ behind) at long)
-    ∙ ap (λ (vs : List ℕ). take at xs ++ vs) (take-append-le count ys behind second)
 
 pub runs_joined : (v mid new : Unpacked) (given xs ys : List ℕ) (bits unread now left : List Bool) → mid.cut ≡ v.cut
     → (g : GivesAll v given bits unread mid now xs) → GivesAll mid (given ++ xs) (bits ++ g.1) now new left ys
     → GivesAll v given bits unread new left (xs ++ ys)
 runs_joined v mid new given xs ys bits unread now left same g m = (
-  range_append (2 ^ v.cut.set.bits) xs ys g.0 (subst (λ (c : Cut). AllByRecursion (λ n. n < 2 ^ c.set.bits) ys) same m.0),
+  all_append _ xs _ g.0 (subst (λ (c : Cut). AllByRecursion (λ n. n < 2 ^ c.set.bits) ys) same m.0),
   g.1 ++ m.1,
-  g.2 ∙ ap (λ (y : List Bool). g.1 ++ y) m.2 ∙ sym (append_assoc g.1 m.1 left),
-  subst (λ (ns : List ℕ). HasGiven new ns (bits ++ (g.1 ++ m.1))) (append_assoc given xs ys)
-      (subst (λ (bs : List Bool). HasGiven new ((given ++ xs) ++ ys) bs) (append_assoc bits g.1 m.1) m.3),
+  g.2 ∙ (λ i. g.1 ++ m.2 i) ∙ sym (append_assoc _ m.1 _),
+  rw (← append_assoc given xs ys, ← append_assoc bits g.1 m.1) m.3,
 )
 
 -- a refusal behind numbers that were given is that of the body
 pub run_refused : (v mid : Unpacked) (count now_count : ℕ) (xs given : List ℕ) (bits unread now : List Bool) (e : Fault) → mid.cut ≡ v.cut → now_count ≡ count
-    → (g : GivesAll v given bits unread mid now xs)
-    → ((ns : List ℕ) (bs : List Bool) → HasGiven mid ns bs → data_sets_at now_count mid.cut mid.cut.count 0 (bs ++ now) ≡ Err e)
-    → data_sets_at count v.cut v.cut.count 0 (bits ++ unread) ≡ Err e
+    → (g : GivesAll v given bits unread mid now xs) → ((ns : List ℕ) (bs : List Bool) → HasGiven mid ns bs
+    → data_sets_at now_count mid.cut mid.cut.count 0 (bs ++ now) ≡ Err e) → data_sets_at count v.cut v.cut.count 0 (bits ++ unread) ≡ Err e
 run_refused v mid count now_count xs given bits unread now e same counts g bad =
-    let there = bad (given ++ xs) (bits ++ g.1) g.3 in
-    ap (λ (bs : List Bool). data_sets_at count v.cut v.cut.count 0 (bits ++ bs)) g.2
-    ∙ ap (data_sets_at count v.cut v.cut.count 0) (sym (append_assoc bits g.1 now))
-    ∙ ap (λ (c : Cut). data_sets_at count c c.count 0 ((bits ++ g.1) ++ now)) (sym same)
-    ∙ ap (λ (n : ℕ). data_sets_at n mid.cut mid.cut.count 0 ((bits ++ g.1) ++ now)) (sym counts) ∙ there
+    let there = bad (given ++ xs) _ g.3 in
+    (λ i. data_sets_at count v.cut v.cut.count 0 (bits ++ g.2 i)) ∙ ap (data_sets_at count v.cut v.cut.count 0) (sym (append_assoc bits g.1 now))
+    ∙ ap (λ c. data_sets_at count c c.count 0 ((bits ++ g.1) ++ now)) (sym same)
+    ∙ (λ i. data_sets_at ((sym counts) i) mid.cut mid.cut.count 0 ((bits ++ g.1) ++ now)) ∙ there

@@ -1,46 +1,25 @@
 -- How the cost of split-sample falls and rises along k.
-use Rattle.std.proofs.Common.{◌≡◌, ℕ, zero, suc, ◌+◌, ◌*◌, ◌/◌, ◌^◌, ◌<◌, ◌≤◌, List, [], ◌∷◌, length, sym, ap, ◌∙◌, subst, inl, inr, arith, lit<}
+use Rattle.std.proofs.Common.{◌≡◌, ℕ, zero, suc, ◌+◌, ◌*◌, ◌/◌, ◌^◌, ◌<◌, ◌≤◌, List, [], ◌∷◌, length, subst, inl, inr, arith, lit<}
 use Rattle.std.proofs.lemmas.Bool.{cases_lt}
-use Rattle.std.proofs.lemmas.Nat.{mul-le, shr-shr, pow_pos, pow-add}
-use Rattle.std.proofs.Math.Nat.{lt-div-mul-add, div-mul-le_self, pow-succ', pow-le-pow_right}
+use Rattle.std.proofs.lemmas.Nat.{mul-le, pow_pos}
+use Rattle.std.proofs.Math.Nat.{pow-succ', pow-le-pow_right}
 use Rattle.block_adaptive.specs.declared.options.CodeSet.{CodeSet}
 use Rattle.block_adaptive.specs.declared.options.Choice.TheVariants.{Second, Split}
 use Rattle.block_adaptive.specs.Options.{quotient_codes, pair_codes, pair_number, cost}
-use Rattle.block_adaptive.proofs.Costs.{quotients_cons, pairs_more, length-fundamental, second_cost, split_cost}
-
--- a quotient, and the next: half of it
-halves : (v k : ℕ) → (2 * (v / 2 ^ suc k) ≤ v / 2 ^ k) × (v / 2 ^ k ≤ 2 * (v / 2 ^ suc k) + 1)
-halves v k =
-    let size : k + 1 ≡ suc k = omega arith in
-    let half : v / 2 ^ k / 2 ≡ v / 2 ^ suc k = subst (λ (n : ℕ). v / 2 ^ k / 2 ≡ v / 2 ^ n) size (shr-shr v k 1) in
-    (omega arith, omega arith)
-
-falls_one : (v k : ℕ) → v + 1 + 2 * 2 ^ k * (v / 2 ^ suc k) ≤ 2 * 2 ^ k * (v / 2 ^ k) + 2 * 2 ^ k
-falls_one v k =
-    let h : ℕ = 2 ^ k in
-    let x : ℕ = v / 2 ^ k in
-    let y : ℕ = v / 2 ^ suc k in
-    let top : v < y * (2 * h) + 2 * h = subst (λ (p : ℕ). v < y * p + p) (pow-succ' 2 k) (lt-div-mul-add {a = v} {b = 2 ^ suc k} (pow_pos (suc k))) in
-    let twice : h * (2 * y) ≤ h * x = mul-le h (2 * y) h x (omega arith) (halves v k).0 in
-    omega arith
-
-rises_one : (v k : ℕ) → 2 * 2 ^ k * (v / 2 ^ k) ≤ 2 * 2 ^ k * (v / 2 ^ suc k) + v + 2 ^ k
-rises_one v k =
-    let h : ℕ = 2 ^ k in
-    let x : ℕ = v / 2 ^ k in
-    let y : ℕ = v / 2 ^ suc k in
-    let under : x * h ≤ v = div-mul-le_self v h in
-    let next : h * x ≤ h * (2 * y + 1) = mul-le h x h (2 * y + 1) (omega arith) (halves v k).1 in
-    omega arith
+use Rattle.block_adaptive.proofs.Costs.{quotients_cons, pairs_more, second_cost, split_cost}
+use Rattle.header_bits.proofs.Powers.{falls_one, rises_one}
+use Rattle.header_bits.proofs.Zeros.{length-fundamental}
 
 -- ---- the quotients of a block
 
-falls_sum : (k : ℕ) (vs : List ℕ) → length (quotient_codes 0 vs) + 2 * 2 ^ k * length (quotient_codes (suc k) vs) ≤ 2 * 2 ^ k * length (quotient_codes k vs) + 2 * 2 ^ k * length vs
+falls_sum : (k : ℕ) (vs : List ℕ) → length (quotient_codes 0 vs) + 2 * 2 ^ k * length (quotient_codes (suc k) vs) ≤ 2 * 2 ^ k * length
+    (quotient_codes k vs) + 2 * 2 ^ k * length vs
 unfolding quotient_codes
 falls_sum k [] = omega arith
 falls_sum k (v ∷ vs) = rw (quotients_cons 0 v vs, quotients_cons k v vs, quotients_cons (suc k) v vs) (omega (arith, falls_one v k, falls_sum k vs))
 
-rises_sum : (k : ℕ) (vs : List ℕ) → 2 * 2 ^ k * length (quotient_codes k vs) + length vs ≤ 2 * 2 ^ k * length (quotient_codes (suc k) vs) + length (quotient_codes 0 vs) + 2 ^ k * length vs
+rises_sum : (k : ℕ) (vs : List ℕ) → 2 * 2 ^ k * length (quotient_codes k vs) + length vs ≤ 2 * 2 ^ k * length (quotient_codes (suc k) vs) + length
+    (quotient_codes 0 vs) + 2 ^ k * length vs
 unfolding quotient_codes
 rises_sum k [] = omega arith
 rises_sum k (v ∷ vs) = rw (quotients_cons 0 v vs, quotients_cons k v vs, quotients_cons (suc k) v vs) (omega (arith, rises_one v k, rises_sum k vs))
@@ -48,23 +27,26 @@ rises_sum k (v ∷ vs) = rw (quotients_cons 0 v vs, quotients_cons k v vs, quoti
 -- ---- the cost
 
 -- up to a k under which the values' sum is great, each next k is shorter
-falls : (s : CodeSet) (k most sum : ℕ) (vs : List ℕ) → length (quotient_codes 0 vs) ≡ sum + length vs → length vs * 2 ^ suc most < sum → suc k ≤ most → cost s (Split (suc k)) vs < cost s (Split k) vs
+falls : (s : CodeSet) (k most sum : ℕ) (vs : List ℕ) → length (quotient_codes 0 vs) ≡ sum + length vs → length vs * 2 ^ suc most < sum → suc k ≤ most
+    → cost s (Split (suc k)) vs < cost s (Split k) vs
 falls s k most sum vs whole great le =
     let h : ℕ = 2 ^ k in
     let q : ℕ = length (quotient_codes k vs) in
     let r : ℕ = length (quotient_codes (suc k) vs) in
-    elim (cases_lt (cost s (Split (suc k)) vs) (cost s (Split k) vs)) [
+    elim (cases_lt (cost s (Split (suc k)) vs) _) [
       | inl lt ↦ lt
       | inr ge ↦
           (let near : q ≤ r + length vs = omega (arith, split_cost s k vs, split_cost s (suc k) vs) in
-          let times : h * q ≤ h * (r + length vs) = mul-le h q h (r + length vs) (omega arith) near in
+          let times : h * q ≤ h * (r + length vs) = mul-le _ _ _ _ (omega arith) near in
           let four : 2 ^ suc (suc k) ≡ 4 * h = (let a = pow-succ' 2 k in let b = pow-succ' 2 (suc k) in omega arith) in
-          let wide : 4 * h ≤ 2 ^ suc most = subst (λ (p : ℕ). p ≤ 2 ^ suc most) four (pow-le-pow_right {n = 2} (lit< tt) {i = suc (suc k)} {j = suc most} (omega arith)) in
-          let all : length vs * (4 * h) ≤ length vs * 2 ^ suc most = mul-le (length vs) (4 * h) (length vs) (2 ^ suc most) (omega arith) wide in
+          let wide : 4 * h ≤ 2 ^ suc most = subst (λ (p : ℕ). p ≤ 2 ^ suc most) four (pow-le-pow_right {n = 2} (lit< tt) {i = suc (suc k)} {j = suc most}
+          (omega arith)) in
+          let all : length vs * (4 * h) ≤ length vs * 2 ^ suc most = mul-le _ _ _ (2 ^ suc most) (omega arith) wide in
           absurd (omega (arith, falls_sum k vs)))
     ]
 
-pub falls_to : (s : CodeSet) (n j most sum : ℕ) (vs : List ℕ) → length (quotient_codes 0 vs) ≡ sum + length vs → length vs * 2 ^ suc most < sum → n ≤ most → j < n → cost s (Split n) vs < cost s (Split j) vs
+pub falls_to : (s : CodeSet) (n j most sum : ℕ) (vs : List ℕ) → length (quotient_codes 0 vs) ≡ sum + length vs → length vs * 2 ^ suc most < sum → n ≤ most
+    → j < n → cost s (Split n) vs < cost s (Split j) vs
 falls_to s zero j most sum vs whole great le lt = absurd (omega arith)
 falls_to s (suc n) j most sum vs whole great le lt =
     let last = falls s n most sum vs whole great le in
@@ -74,7 +56,8 @@ falls_to s (suc n) j most sum vs whole great le lt =
     ]
 
 -- from a k above which the values' sum is small, no next k is shorter
-rises : (s : CodeSet) (k sum : ℕ) (vs : List ℕ) → length (quotient_codes 0 vs) ≡ sum + length vs → sum ≤ length vs * 2 ^ k → cost s (Split k) vs ≤ cost s (Split (suc k)) vs
+rises : (s : CodeSet) (k sum : ℕ) (vs : List ℕ) → length (quotient_codes 0 vs) ≡ sum + length vs → sum ≤ length vs * 2 ^ k
+    → cost s (Split k) vs ≤ cost s (Split (suc k)) vs
 rises s k sum vs whole small =
     let h : ℕ = 2 ^ k in
     let q : ℕ = length (quotient_codes k vs) in
@@ -87,27 +70,15 @@ rises s k sum vs whole small =
       | inr ge ↦ omega (arith, split_cost s k vs, split_cost s (suc k) vs)
     ]
 
-pub rises_from : (s : CodeSet) (more k sum : ℕ) (vs : List ℕ) → length (quotient_codes 0 vs) ≡ sum + length vs → sum ≤ length vs * 2 ^ k → cost s (Split k) vs ≤ cost s (Split (more + k)) vs
+pub rises_from : (s : CodeSet) (more k sum : ℕ) (vs : List ℕ) → length (quotient_codes 0 vs) ≡ sum + length vs → sum ≤ length vs * 2 ^ k
+    → cost s (Split k) vs ≤ cost s (Split (more + k)) vs
 rises_from s zero k sum vs whole small = (let e : 0 + k ≡ k = omega arith in rw e (omega arith))
 rises_from s (suc more) k sum vs whole small =
     let e : suc more + k ≡ suc (more + k) = omega arith in
     let wide : 2 ^ k ≤ 2 ^ (more + k) = pow-le-pow_right {n = 2} (lit< tt) {i = k} {j = more + k} (omega arith) in
-    let all : length vs * 2 ^ k ≤ length vs * 2 ^ (more + k) = mul-le (length vs) (2 ^ k) (length vs) (2 ^ (more + k)) (omega arith) wide in
+    let all : length vs * 2 ^ k ≤ length vs * 2 ^ (more + k) = mul-le _ _ _ _ (omega arith) wide in
     let last = rises s (more + k) sum vs whole (omega arith) in
     rw e (omega (arith, last, rises_from s more k sum vs whole small))
-
--- a k that is so far below the sum's digits lies where it falls
-pub near_falls : (sum len a b first : ℕ) → 2 ^ a ≤ sum → len < 2 * 2 ^ b → first + (b + 2) ≤ a → len * 2 ^ (first + 1) < sum
-near_falls sum len a b first least most le =
-    let p : ℕ = 2 ^ (first + 1) in
-    let size : b + 1 + (first + 1) ≡ first + (b + 2) = omega arith in
-    let e : b + 1 ≡ suc b = omega arith in
-    let double : 2 ^ (b + 1) ≡ 2 * 2 ^ b = ap (λ (n : ℕ). 2 ^ n) e ∙ pow-succ' 2 b in
-    let whole : 2 ^ (first + (b + 2)) ≡ 2 * 2 ^ b * p = ap (λ (n : ℕ). 2 ^ n) (sym size) ∙ pow-add 2 (b + 1) (first + 1) ∙ ap (λ (n : ℕ). n * p) double in
-    let up : 2 ^ (first + (b + 2)) ≤ 2 ^ a = pow-le-pow_right {n = 2} (lit< tt) {i = first + (b + 2)} {j = a} le in
-    let pos : 1 ≤ p = pow_pos (first + 1) in
-    let under : (len + 1) * p ≤ 2 * 2 ^ b * p = mul-le (len + 1) p (2 * 2 ^ b) p (omega arith) (omega arith) in
-    omega arith
 
 -- ---- the second extension
 

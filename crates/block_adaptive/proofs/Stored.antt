@@ -9,8 +9,8 @@ use Rattle.block_adaptive.specs.Holding.{AreStored}
 use Rattle.block_adaptive.specs.Taken.{zeros_after}
 use Rattle.block_adaptive.proofs.Lawful.{rest_least}
 use Rattle.block_adaptive.proofs.Handed.{size_least, size_most}
-use Rattle.block_adaptive.proofs.Sums.{sum_most}
 use Rattle.block_adaptive.proofs.Packing.{after_in_range, after_start}
+use Rattle.header_bits.proofs.Sums.{sum_most}
 
 -- the blocks of zeros that are held are fewer than the segment has left
 pub held_inside : (c : Cut) (i zeros total : ℕ) (held : List ℕ) → AreStored c i zeros total held → i + zeros < c.count → zeros < left_at c i
@@ -24,7 +24,8 @@ pub held_few : (c : Cut) (i zeros total : ℕ) (held : List ℕ) → AreStored c
 unfolding segment_rest
 held_few c i zeros total held h more = (let inside = held_inside c i zeros total held h more in omega arith)
 
-pub stored_after : (c : Cut) (i zeros total : ℕ) (held block : List ℕ) → AreStored c i zeros total held → i + zeros < c.count → AreStored c (i + (zeros + 1 - zeros_after (left_at c i) zeros block)) (zeros_after (left_at c i) zeros block) 0 []
+pub stored_after : (c : Cut) (i zeros total : ℕ) (held block : List ℕ) → AreStored c i zeros total held → i + zeros < c.count
+    → AreStored c (i + (zeros + 1 - zeros_after (left_at c i) zeros block)) (zeros_after (left_at c i) zeros block) 0 []
 stored_after c i zeros total held block h more =
     let after : ℕ = zeros_after (left_at c i) zeros block in
     let range = after_in_range (left_at c i) zeros block (held_inside c i zeros total held h more) in
@@ -42,5 +43,6 @@ stored_after c i zeros total held block h more =
 pub total_few : (c : Cut) (i counted total : ℕ) (held : List ℕ) → AreStored c i counted total held → total ≤ 64 * 65536
 total_few c i counted total held h =
     let wide : 2 ^ c.set.bits ≤ 2 ^ 16 = pow-le-pow_right {n = 2} (lit< tt) {i = c.set.bits} {j = 16} h.cut.bits.1 in
-    let times : length held * 2 ^ c.set.bits ≤ 64 * 65536 = mul-le (length held) (2 ^ c.set.bits) 64 65536 (omega (arith, h.few, size_most c.size h.cut.size)) wide in
-    omega (arith, h.added, sum_most (2 ^ c.set.bits) held h.range, times)
+    let times : length held * 2 ^ c.set.bits ≤ 64 * 65536 = mul-le (length held) (2 ^ c.set.bits) 64 65536 (omega (arith, h.few, size_most _ h.cut.size))
+    wide in
+    omega (arith, h.added, sum_most _ _ h.range, times)

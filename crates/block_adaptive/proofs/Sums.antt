@@ -1,16 +1,13 @@
 -- The sum of a block's values, and the sums of their quotients.
-use Rattle.std.proofs.Common.{◌≡◌, ℕ, zero, suc, ◌+◌, ◌*◌, ◌/◌, ◌^◌, ◌<◌, ◌≤◌, true, false, eqb, List, [], ◌∷◌, ◌++◌, length, sum, refl, arith}
-use Rattle.std.specs.List.{AllByRecursion}
-use Rattle.std.proofs.lemmas.List.Sums.{sum_by-cons, sum_by-append, sum_by_push}
+use Rattle.std.proofs.Common.{◌≡◌, ℕ, zero, suc, ◌+◌, ◌*◌, ◌/◌, ◌^◌, true, false, eqb, List, [], ◌∷◌, length, sum, refl, arith}
+use Rattle.std.proofs.lemmas.List.Sums.{sum_by-cons}
 use Rattle.std.proofs.lemmas.Bool.{ne_eqb}
 use Rattle.block_adaptive.specs.declared.options.CodeSet.{CodeSet}
 use Rattle.block_adaptive.specs.declared.options.Choice.TheVariants.{Split}
 use Rattle.block_adaptive.specs.Options.{width, quotient_codes, quotient_sum, cost}
 use Rattle.block_adaptive.specs.Chosen.{is_zero}
 use Rattle.block_adaptive.proofs.Costs.{quotients_cons, split_cost}
-
-pub sum_cons : (v : ℕ) (vs : List ℕ) → sum (v ∷ vs) ≡ v + sum vs
-sum_cons v vs = sum_by-cons (λ (x : ℕ). x) v vs
+use Rattle.header_bits.proofs.Sums.{sum_cons}
 
 -- each quotient has a bit more
 pub quotients_length : (k : ℕ) (vs : List ℕ) → length (quotient_codes k vs) ≡ quotient_sum k vs + length vs
@@ -40,15 +37,5 @@ pub some_block : (vs : List ℕ) (total : ℕ) → total ≡ sum vs → (total �
 some_block [] total is some = absurd (some is)
 some_block (zero ∷ vs) total is some = some_block vs total is some
 some_block (suc v ∷ vs) total is some =
-    let front : eqb (suc v) 0 ≡ false = ne_eqb (suc v) 0 (λ e. absurd (omega arith)) in
+    let front : eqb (suc v) 0 ≡ false = ne_eqb (suc v) _ (λ e. absurd (omega arith)) in
     rw front refl
-
-pub sum_append : (vs ws : List ℕ) → sum (vs ++ ws) ≡ sum vs + sum ws
-sum_append vs ws = sum_by-append (λ (x : ℕ). x) vs ws
-
-pub sum_push : (vs : List ℕ) (v : ℕ) → sum (vs ++ v ∷ []) ≡ sum vs + v
-sum_push vs v = sum_by_push (λ (x : ℕ). x) vs v
-
-pub sum_most : (limit : ℕ) (vs : List ℕ) → AllByRecursion (λ v. v < limit) vs → sum vs ≤ length vs * limit
-sum_most limit [] h = omega arith
-sum_most limit (v ∷ vs) h = omega (arith, sum_cons v vs, h.0, sum_most limit vs h.1)

@@ -1,32 +1,20 @@
 -- A pair is read as the pair that its number stands for.
-use Rattle.std.proofs.Common.{◌≡◌, ℕ, zero, suc, ◌+◌, ◌-◌, ◌*◌, ◌/◌, ◌<◌, ◌≤◌, Bool, true, false, leb, ltb, List, [], ◌∷◌, ◌++◌, length, Ok, refl, subst, inl, inr, append_assoc, arith, lit<}
+use Rattle.std.proofs.Common.{◌≡◌, ℕ, zero, suc, ◌+◌, ◌-◌, ◌*◌, ◌/◌, ◌<◌, ◌≤◌, Bool, true, false, ltb, List, [], ◌∷◌, ◌++◌, length, Ok, refl, subst, inl, inr}
+use Rattle.std.proofs.Common.{append_assoc, arith, lit<}
 use Rattle.std.specs.List.{AllByRecursion}
 use Rattle.std.proofs.lemmas.Bool.{le-ltb, cases_lt, le-leb, lt-leb}
-use Rattle.std.proofs.Math.Nat.{add-mul-div_right, mul-div_cancel}
+use Rattle.std.proofs.Math.Nat.{mul-div_cancel}
 use Rattle.std.proofs.lemmas.Nat.{mul-le}
 use Rattle.block_adaptive.specs.Options.{pair_number, pair_codes}
 use Rattle.block_adaptive.specs.Reading.{Site, greatest, pair_sum, pair_of, pairs_at}
 use Rattle.block_adaptive.proofs.Codes.{fundamental_again}
-
-pub triangle_step : (s : ℕ) → (s + 1) * (s + 1 + 1) / 2 ≡ s * (s + 1) / 2 + (s + 1)
-triangle_step s =
-    let e : (s + 1) * (s + 1 + 1) ≡ s * (s + 1) + (s + 1) * 2 = omega arith in
-    rw e (add-mul-div_right (s * (s + 1)) (s + 1) (lit< tt))
-
--- what lies below t, by how much
-pub triangle_grows : (d s : ℕ) → s * (s + 1) / 2 + s < (s + 1 + d) * (s + 1 + d + 1) / 2
-triangle_grows zero s =
-    let e : s + 1 + 0 ≡ s + 1 = omega arith in
-    rw e (omega (arith, triangle_step s))
-triangle_grows (suc d) s =
-    let e : s + 1 + suc d ≡ (s + 1 + d) + 1 = omega arith in
-    rw e (omega (arith, triangle_step (s + 1 + d), triangle_grows d s))
+use Rattle.header_bits.proofs.Sums.{double_triangle, triangle_grows, triangle_step}
 
 pub greatest_is : (f : ℕ → Bool) (n limit : ℕ) → n ≤ limit → f n ≡ true → ((m : ℕ) → n < m → f m ≡ false) → greatest f limit ≡ n
 unfolding greatest
 greatest_is f n zero le here above = omega arith
 greatest_is f n (suc limit) le here above =
-    elim (cases_lt n (suc limit)) [
+    elim (cases_lt _ (suc limit)) [
       | inl lt ↦ rw (above (suc limit) lt) (greatest_is f n limit (omega arith) here above)
       | inr ge ↦ (let e : suc limit ≡ n = omega arith in rw (e, here) refl)
     ]
@@ -34,23 +22,24 @@ greatest_is f n (suc limit) le here above =
 pub pair_sum_is : (most a b : ℕ) → a ≤ most → b ≤ most → pair_sum most (pair_number a b) ≡ a + b
 unfolding pair_sum
 pair_sum_is most a b ha hb =
-    greatest_is (λ s. leb (s * (s + 1) / 2) (pair_number a b)) (a + b) (2 * most) (omega arith)
-    (le-leb _ _ (omega arith))
-    (λ m lt.
+    greatest_is _ _ _ (omega arith) (le-leb _ _ (omega arith)) (λ m lt.
     let d : ℕ = m - (a + b + 1) in
     let e : a + b + 1 + d ≡ m = omega arith in
-    let grows : (a + b) * (a + b + 1) / 2 + (a + b) < m * (m + 1) / 2 = subst (λ (k : ℕ). (a + b) * (a + b + 1) / 2 + (a + b) < k * (k + 1) / 2) e (triangle_grows d (a + b)) in
+    let grows : (a + b) * (a + b + 1) / 2 + (a + b) < m * (m + 1) / 2 = subst (λ (k : ℕ). (a + b) * (a + b + 1) / 2 + (a + b) < k * (k + 1) / 2) e
+    (triangle_grows _ _) in
     lt-leb _ _ (omega arith))
 
 -- no pair in range has a greater number than the last
 pub pair_below : (most a b : ℕ) → a ≤ most → b ≤ most → pair_number a b ≤ 2 * most * (most + 1)
 pair_below most a b ha hb =
-    let whole : 2 * most * (2 * most + 1) / 2 ≡ most * (2 * most + 1) = (let e : 2 * most * (2 * most + 1) ≡ most * (2 * most + 1) * 2 = omega arith in rw e (mul-div_cancel (most * (2 * most + 1)) (lit< tt))) in
+    let whole : 2 * most * (2 * most + 1) / 2 ≡ most * (2 * most + 1) = (let e : 2 * most * (2 * most + 1) ≡ most * (2 * most + 1) * 2 =
+    omega arith in rw e (mul-div_cancel (most * (2 * most + 1)) (lit< tt))) in
     elim (cases_lt (a + b) (2 * most)) [
       | inl lt ↦
           (let d : ℕ = 2 * most - (a + b + 1) in
           let e : a + b + 1 + d ≡ 2 * most = omega arith in
-          let grows : (a + b) * (a + b + 1) / 2 + (a + b) < 2 * most * (2 * most + 1) / 2 = subst (λ (k : ℕ). (a + b) * (a + b + 1) / 2 + (a + b) < k * (k + 1) / 2) e (triangle_grows d (a + b)) in
+          let grows : (a + b) * (a + b + 1) / 2 + (a + b) < 2 * most * (2 * most + 1) / 2 =
+          subst (λ (k : ℕ). (a + b) * (a + b + 1) / 2 + (a + b) < k * (k + 1) / 2) e (triangle_grows d (a + b)) in
           omega arith)
       | inr ge ↦
           (let e : a + b ≡ 2 * most = omega arith in
@@ -65,24 +54,18 @@ pair_again site most a b rest ha hb =
     let a-is : a + b - b ≡ a = omega arith in
     let b-in : ltb most b ≡ false = le-ltb _ _ hb in
     let a-in : ltb most a ≡ false = le-ltb _ _ ha in
-    rw (pair_sum_is most a b ha hb, b-is, b-in, a-is, a-in) refl
+    rw (pair_sum_is _ _ _ ha hb, b-is, b-in, a-is, a-in) refl
 
-pub pairs_again : (site : Site) (most n : ℕ) (vs : List ℕ) (rest : List Bool) → length vs ≡ 2 * n → AllByRecursion (λ v. v ≤ most) vs → pairs_at site most n (pair_codes vs ++ rest) ≡ Ok (vs, rest)
+pub pairs_again : (site : Site) (most n : ℕ) (vs : List ℕ) (rest : List Bool) → length vs ≡ 2 * n → AllByRecursion (λ v. v ≤ most) vs
+    → pairs_at site most n (pair_codes vs ++ rest) ≡ Ok (vs, rest)
 unfolding pairs_at pair_codes
 pairs_again site most zero [] rest len h = refl
-pairs_again site most zero (a ∷ vs) rest len h = absurd (omega arith)
-pairs_again site most (suc n) [] rest len h = absurd (omega arith)
-pairs_again site most (suc n) (a ∷ []) rest len h = absurd (omega arith)
 pairs_again site most (suc n) (a ∷ b ∷ vs) rest len h =
-    rw (append_assoc, fundamental_again site (2 * most * (most + 1)) (pair_number a b) (pair_codes vs ++ rest) (pair_below most a b h.0 h.1.0), pair_again site most a b (pair_codes vs ++ rest) h.0 h.1.0, pairs_again site most n vs rest (omega arith) h.1.1) refl
+    let others = pairs_again site most n vs rest (omega arith) h.1.1 in
+    rw (append_assoc, fundamental_again _ _ (pair_number a b) _ (pair_below _ a b h.0 h.1.0), pair_again _ _ a b _ h.0 h.1.0, others) refl
+pairs_again site most n vs rest len h = absurd (omega arith)
 
 -- ---- the sum, by a square root
-
-double_triangle : (s : ℕ) → s * (s + 1) / 2 * 2 ≡ s * (s + 1)
-double_triangle zero = refl
-double_triangle (suc s) =
-    let e : suc s ≡ s + 1 = omega arith in
-    rw e (omega (arith, triangle_step s, double_triangle s))
 
 pub record IsSum (most m s : ℕ) : Type 0 where
   pub is : pair_sum most m ≡ s
@@ -96,13 +79,13 @@ sum_between most m s le under over =
       | inl lt ↦
           (let d : ℕ = s - (2 * most + 1) in
           let e : 2 * most + 1 + d ≡ s = omega arith in
-          let grows : 2 * most * (2 * most + 1) / 2 + 2 * most < s * (s + 1) / 2 = subst (λ (k : ℕ). 2 * most * (2 * most + 1) / 2 + 2 * most < k * (k + 1) / 2) e (triangle_grows d (2 * most)) in
+          let grows : 2 * most * (2 * most + 1) / 2 + 2 * most < s * (s + 1) / 2 = subst (λ (k : ℕ). 2 * most * (2 * most + 1) / 2 + 2 * most < k * (k + 1) / 2)
+          e (triangle_grows d (2 * most)) in
           absurd (omega (arith, double_triangle (2 * most))))
       | inr ge ↦ omega arith
     ] in
     record {
-      is = greatest_is (λ k. leb (k * (k + 1) / 2) m) s (2 * most) within (le-leb _ _ under)
-          (λ k lt.
+      is = greatest_is _ s (2 * most) within (le-leb _ _ under) (λ k lt.
           let d : ℕ = k - (s + 1) in
           let e : s + 1 + d ≡ k = omega arith in
           let grows : s * (s + 1) / 2 + s < k * (k + 1) / 2 = subst (λ (j : ℕ). s * (s + 1) / 2 + s < j * (j + 1) / 2) e (triangle_grows d s) in
@@ -117,6 +100,6 @@ sum_of_root most m (suc q) le low high =
     let s : ℕ = (suc q - 1) / 2 in
     let least : 2 * s + 1 ≤ suc q = omega arith in
     let next : suc q + 1 ≤ 2 * s + 3 = omega arith in
-    let small = mul-le (2 * s + 1) (2 * s + 1) (suc q) (suc q) least least in
-    let large = mul-le (suc q + 1) (suc q + 1) (2 * s + 3) (2 * s + 3) next next in
-    sum_between most m s le (omega (arith, small, low, double_triangle s)) (omega (arith, large, high, double_triangle s, triangle_step s))
+    let small = mul-le _ _ (suc q) (suc q) least least in
+    let large = mul-le (suc q + 1) (suc q + 1) _ _ next next in
+    sum_between _ _ _ le (omega (arith, small, low, double_triangle s)) (omega (arith, large, high, double_triangle s, triangle_step s))

@@ -11,7 +11,7 @@ pub fn one_text()
 {}
 
 /// The chosen option is the shortest, and of equally short ones the first.
-#[tactic(auto, using(crate::proofs::Least::option_is_least))]
+#[tactic(auto, using(crate::proofs::Tried::option_is_least))]
 pub fn option_is_least()
     ensures { OptionIsLeast }
 {}

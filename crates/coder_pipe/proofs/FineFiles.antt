@@ -41,7 +41,7 @@ use Rattle.file_decoding.specs.Least.{least_test}
 use Rattle.file_decoding.specs.Laws.{FineIsFile}
 use Rattle.file_decoding.proofs.Fills.{passed}
 use Rattle.coder_pipe.proofs.Built.{built}
-use Rattle.block_adaptive.proofs.InRange.{told_range}
+use Rattle.block_adaptive.proofs.Runs.{told_range}
 
 -- ---- a body that is read is a body
 

@@ -11,6 +11,7 @@ use Rattle.header_bits.specs.Bits.{bits_of, weight_of, number_of, fundamental}
 use Rattle.header_bits.specs.Reading.{one_more, number_at, zeros_at}
 use Rattle.header_bits.proofs.Numbers.{bits_of-number_of, bits_of_zero}
 use Rattle.header_bits.proofs.Reading.{ok_is, number_again}
+use Rattle.std.specs.Prelude.{if◌then◌else◌}
 
 -- ---- steps that went well
 
@@ -24,6 +25,14 @@ bind_ok (Err d) f y e = absurd cc
 pub guard_ok : {A : Type 0} (b : Bool) (d : Fault) (r : Result A Fault) (y : A) → cond b (Err d) r ≡ Ok y → (b ≡ false) × (r ≡ Ok y)
 guard_ok true d r y e = absurd cc
 guard_ok false d r y e = (refl, e)
+
+pub by_test : (b : Bool) → (b ≡ true) ⊎ (b ≡ false)
+by_test true = inl refl
+by_test false = inr refl
+
+pub cond_ok : {A : Type 0} (b : Bool) (r s : Result A Fault) (y : A) → (if b then r else s) ≡ Ok y → ((b ≡ true) × (r ≡ Ok y)) ⊎ ((b ≡ false) × (s ≡ Ok y))
+cond_ok true r s y e = inl (refl, e)
+cond_ok false r s y e = inr (refl, e)
 
 -- ---- steps that failed
 

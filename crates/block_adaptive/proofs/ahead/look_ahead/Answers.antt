@@ -4,14 +4,7 @@ use Rattle.block_adaptive.proofs.Looking.{looked_word, looked_nowhere}
 use Rattle.block_adaptive.proofs.ahead.look_ahead.Goals as goal
 
 pub returns-in-Some-clause-ahead : goal.returns-in-Some-clause-ahead
-returns-in-Some-clause-ahead c =
-    (looked_word c.args.reader.now.left c.in-Some.word (omega arith) c.in-Some.ensures.bits
-    (ahead_length 57 c.args.reader.now.left c.in-Some.word c.in-Some.ensures.bits)).0
-
-pub returns-in-Some-clause-word : goal.returns-in-Some-clause-word
-returns-in-Some-clause-word c =
-    (looked_word c.args.reader.now.left c.in-Some.word (omega arith) c.in-Some.ensures.bits
-    (ahead_length 57 c.args.reader.now.left c.in-Some.word c.in-Some.ensures.bits)).1
+returns-in-Some-clause-ahead c = (looked_word _ _ (omega arith) c.in-Some.ensures.bits (ahead_length _ _ _ c.in-Some.ensures.bits)).0
 
 pub returns-in-None-clause-ahead : goal.returns-in-None-clause-ahead
 returns-in-None-clause-ahead c = looked_nowhere c.args.reader.now.left

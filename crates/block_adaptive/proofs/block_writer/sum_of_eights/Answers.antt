@@ -1,7 +1,6 @@
-use Rattle.std.proofs.Common.{◌∙◌, ◌+◌, ap, sum, arith}
-use Rattle.std.proofs.lemmas.List.{take_all}
-use Rattle.block_adaptive.proofs.Holds.{sum_small, sum_front, sum_next}
+use Rattle.std.proofs.Common.{◌+◌, arith}
 use Rattle.block_adaptive.proofs.block_writer.sum_of_eights.Goals as goal
+use Rattle.header_bits.proofs.Sums.{sum_small, sum_front, sum_next}
 
 pub overflow_add-total : goal.overflow_add-total
 overflow_add-total c =
@@ -24,6 +23,3 @@ loop-first-preserved c =
       eights = omega (arith, c.loop-first.invariant.eights);
       within = omega (arith, c.loop-first.invariant.eights, c.requires.eights, c.loop-first-test.true);
     }
-
-pub returns : goal.returns
-returns c = c.loop-first.invariant.so_far ∙ ap sum (take_all c.loop-first.first c.args.block.now (omega arith))

@@ -15,14 +15,15 @@ returns-then-plain-least-clause-chosen c =
     let best = c.without_split-best.result.0 in
     let small : 0 < splits s → sum vs < length vs = λ some. omega (arith, c.requires.small some, c.requires.total) in
     let lead : LeadsTried s vs false 0 0 best = rw c.without_split-best.ensures.shorter (shorter_leads s vs) in
-    let plain : c.split_cost-plain.result ≡ cost s (Split 0) vs = omega (arith, c.split_cost-plain.ensures, c.identifier_width-width.ensures.value, split_cost s 0 vs, plain_length vs, c.requires.total) in
-    ended_at_plain s vs 1 (Split 0) small
-    (next_leads s vs false 0 0 best (omega arith) lead (omega (arith, plain, c.without_split-best.ensures.cost, c.if-plain-least.true)))
+    let plain : c.split_cost-plain.result ≡ cost s (Split 0) vs =
+    omega (arith, c.split_cost-plain.ensures, c.identifier_width-width.ensures.value, split_cost s 0 vs, plain_length vs, c.requires.total) in
+    ended_at_plain s vs _ _ small (next_leads (omega arith) lead (omega (arith, plain, c.without_split-best.ensures.cost, c.if-plain-least.true)))
     (some_splits s (omega (arith, c.if-width-gt1.true, c.identifier_width-width.ensures.value))) (λ lt. refl)
 
 pub returns-then-plain-least-clause-cost : goal.returns-then-plain-least-clause-cost
 returns-then-plain-least-clause-cost c =
-    omega (arith, c.split_cost-plain.ensures, c.identifier_width-width.ensures.value, split_cost c.args.set.now 0 c.args.block.now, plain_length c.args.block.now, c.requires.total)
+    let plain = split_cost c.args.set.now 0 c.args.block.now in
+    omega (arith, c.split_cost-plain.ensures, c.identifier_width-width.ensures.value, plain, plain_length c.args.block.now, c.requires.total)
 
 pub returns-else-width-gt1-clause-chosen : goal.returns-else-width-gt1-clause-chosen
 returns-else-width-gt1-clause-chosen c =
@@ -31,13 +32,13 @@ returns-else-width-gt1-clause-chosen c =
     let best = c.without_split-best.result.0 in
     let small : 0 < splits s → sum vs < length vs = λ some. omega (arith, c.requires.small some, c.requires.total) in
     let lead : LeadsTried s vs false 0 0 best = rw c.without_split-best.ensures.shorter (shorter_leads s vs) in
-    let plain : c.split_cost-plain.result ≡ cost s (Split 0) vs = omega (arith, c.split_cost-plain.ensures, c.identifier_width-width.ensures.value, split_cost s 0 vs, plain_length vs, c.requires.total) in
+    let plain : c.split_cost-plain.result ≡ cost s (Split 0) vs =
+    omega (arith, c.split_cost-plain.ensures, c.identifier_width-width.ensures.value, split_cost s 0 vs, plain_length vs, c.requires.total) in
     elim c.else-width-gt1.branch [
       | else-width-gt1-via-then-width-gt1+else-plain-least w ↦
-          ended_at_plain s vs 1 best small
-          (old_leads s vs false 0 0 best lead (omega (arith, plain, c.without_split-best.ensures.cost, w.if-plain-least.false)))
+          ended_at_plain s vs _ best small (old_leads lead (omega (arith, plain, c.without_split-best.ensures.cost, w.if-plain-least.false)))
           (some_splits s (omega (arith, w.if-width-gt1.true, c.identifier_width-width.ensures.value))) (λ lt. refl)
       | else-width-gt1-via-else-width-gt1 w ↦
           (let none = no_splits s (omega (arith, w.if-width-gt1.false, c.identifier_width-width.ensures.value, c.identifier_width-width.ensures.least)) in
-          ended_at_plain s vs 0 best small lead (omega arith) (λ lt. absurd (omega (arith, none))))
+          ended_at_plain s vs _ best small lead (omega arith) (λ lt. absurd (omega (arith, none))))
     ]

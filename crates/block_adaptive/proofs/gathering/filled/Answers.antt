@@ -1,4 +1,4 @@
-use Rattle.std.proofs.Common.{◌≡◌, ◌∙◌, ◌+◌, ◌-◌, ◌*◌, ◌%◌, ◌^◌, bit_or, sym, ap, arith}
+use Rattle.std.proofs.Common.{◌≡◌, ◌∙◌, ◌+◌, ◌-◌, ◌*◌, ◌%◌, ◌^◌, bit_or, sym, arith}
 use Rattle.header_bits.specs.Bits.{bits_of}
 use Rattle.header_bits.proofs.Words.{pushed_behind}
 use Rattle.header_bits.proofs.Pushes.{none_held}
@@ -10,4 +10,4 @@ returns-then-held-eq0 c = none_held c.args.held c.args.part c.args.bits c.if-hel
 pub returns-else-held-eq0 : goal.returns-else-held-eq0
 returns-else-held-eq0 c =
     let size : c.args.held + (64 - c.args.held) ≡ 64 = omega arith in
-    ap (λ k. bits_of k (bit_or (c.args.part * 2 ^ (64 - c.args.held) % 2 ^ 64) c.args.bits)) (sym size) ∙ pushed_behind c.args.held (64 - c.args.held) c.args.part c.args.bits c.requires.below (omega arith)
+    (λ i. bits_of ((sym size) i) (bit_or (c.args.part * 2 ^ (64 - c.args.held) % 2 ^ 64) c.args.bits)) ∙ pushed_behind _ _ _ _ c.requires.below (omega arith)

@@ -5,5 +5,4 @@ pub returns-clause-bits : goal.returns-clause-bits
 returns-clause-bits c = pushed_behind c.args.held c.args.n c.args.word c.args.bits c.requires.below c.requires.few.1
 
 pub returns-clause-below : goal.returns-clause-below
-returns-clause-below c =
-    rw (joined_is c.args.word c.args.bits c.args.held c.args.n c.requires.word c.requires.below c.requires.few.1) (joined_below c.args.word c.args.bits c.args.held c.args.n c.requires.word c.requires.below)
+returns-clause-below c = rw (joined_is _ _ _ _ c.requires.word c.requires.below c.requires.few.1) (joined_below _ _ _ _ c.requires.word c.requires.below)

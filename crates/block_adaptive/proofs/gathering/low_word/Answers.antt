@@ -1,37 +1,30 @@
-use Rattle.std.proofs.Common.{◌≡◌, ◌*◌, ◌%◌, ◌^◌, get_or, arith}
-use Rattle.std.proofs.lemmas.Nat.{one_shl, and_mask, pow_pos}
-use Rattle.std.proofs.Math.Nat.{mod-lt}
-use Rattle.block_adaptive.specs.Options.{low_groups}
+use Rattle.std.proofs.Common.{◌≡◌, ◌*◌, ◌%◌, ◌^◌, arith}
+use Rattle.std.proofs.lemmas.Nat.{one_shl, and_mask}
 use Rattle.block_adaptive.proofs.Emits.{low_next_masked, low_end}
-use Rattle.block_adaptive.proofs.Gathers.{words_start, words_few, words_joined, words_end, words_below}
 use Rattle.block_adaptive.proofs.gathering.low_word.Goals as goal
+use Rattle.header_bits.proofs.WordTexts.{words_start, words_few, words_joined, words_end, words_below}
 
 pub loop-value-init : goal.loop-value-init
-loop-value-init c = words_start (low_groups c.args.k c.args.values.now)
+loop-value-init c = words_start _
 
 pub overflow_add-held : goal.overflow_add-held
 overflow_add-held c =
-    let few = words_few c.loop-value.held c.loop-value.word c.args.k (get_or c.args.values.now c.loop-value.value-index 0 % 2 ^ c.args.k) _ _ _ (low_next_masked c.args.k c.loop-value.value-index c.args.values.now c.loop-value-test.true) c.loop-value.invariant in
+    let few = words_few _ _ _ c.loop-value.invariant (low_next_masked _ _ _ c.loop-value-test.true) in
     record { fits = omega (arith, few, c.requires.few) }
 
 pub joined-word-requires-clause-few : goal.joined-word-requires-clause-few
 joined-word-requires-clause-few c =
-    let few = words_few c.loop-value.held c.loop-value.word c.args.k (get_or c.args.values.now c.loop-value.value-index 0 % 2 ^ c.args.k) _ _ _ (low_next_masked c.args.k c.loop-value.value-index c.args.values.now c.loop-value-test.true) c.loop-value.invariant in
+    let few = words_few _ _ _ c.loop-value.invariant (low_next_masked _ _ _ c.loop-value-test.true) in
     (omega (arith, c.requires.k), omega (arith, few, c.requires.few))
-
-pub joined-word-requires-clause-below : goal.joined-word-requires-clause-below
-joined-word-requires-clause-below c =
-    let one : 1 * 2 ^ c.args.k % 18446744073709551616 ≡ 2 ^ c.args.k = one_shl c.args.k 64 (omega arith) in
-    rw (c.from.ensures, one, and_mask) (mod-lt (get_or c.args.values.now c.loop-value.value-index 0) (pow_pos c.args.k))
 
 pub loop-value-preserved : goal.loop-value-preserved
 loop-value-preserved c =
     let one : 1 * 2 ^ c.args.k % 18446744073709551616 ≡ 2 ^ c.args.k = one_shl c.args.k 64 (omega arith) in
-    words_joined c.loop-value.held c.loop-value.word c.args.k (get_or c.args.values.now c.loop-value.value-index 0 % 2 ^ c.args.k) c.joined-word.result _ _ _ (low_next_masked c.args.k c.loop-value.value-index c.args.values.now c.loop-value-test.true) c.joined-word.ensures.below
-    (rw (c.from.ensures, one, and_mask) at c.joined-word.ensures.bits) c.loop-value.invariant
+    words_joined _ _ _ _ c.loop-value.invariant (low_next_masked _ _ _ c.loop-value-test.true) c.joined-word.ensures.below
+    (rw (c.from.ensures, one, and_mask) at c.joined-word.ensures.bits)
 
 pub returns-clause-bits : goal.returns-clause-bits
-returns-clause-bits c = words_end c.loop-value.held c.loop-value.word _ _ (low_end c.args.k c.loop-value.value-index c.args.values.now (omega arith)) c.loop-value.invariant
+returns-clause-bits c = words_end c.loop-value.invariant (low_end c.args.k c.loop-value.value-index c.args.values.now (omega arith))
 
 pub returns-clause-below : goal.returns-clause-below
-returns-clause-below c = words_below c.loop-value.held c.loop-value.word _ _ (low_end c.args.k c.loop-value.value-index c.args.values.now (omega arith)) c.loop-value.invariant
+returns-clause-below c = words_below c.loop-value.invariant (low_end c.args.k c.loop-value.value-index c.args.values.now (omega arith))

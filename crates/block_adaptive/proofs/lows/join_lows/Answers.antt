@@ -1,19 +1,6 @@
 use Rattle.std.proofs.Common.{◌≡◌, ◌+◌, ◌-◌, ◌*◌, ◌/◌, ◌%◌, ◌^◌, refl}
-use Rattle.block_adaptive.proofs.Fours.{four_within, four_shifts}
 use Rattle.block_adaptive.proofs.lows.join_lows.Goals as goal
-
-pub joined-requires-clause-within : goal.joined-requires-clause-within
-joined-requires-clause-within c = (four_within c.args.k 65536 c.args.four.now 0 0 0 c.requires.four c.requires.within).0
-
-pub joined-requires-2-clause-within : goal.joined-requires-2-clause-within
-joined-requires-2-clause-within c = (four_within c.args.k 65536 c.args.four.now c.joined.result 0 0 c.requires.four c.requires.within).1
-
-pub joined-requires-3-clause-within : goal.joined-requires-3-clause-within
-joined-requires-3-clause-within c = (four_within c.args.k 65536 c.args.four.now c.joined.result c.joined-2.result 0 c.requires.four c.requires.within).2
-
-pub joined-requires-4-clause-within : goal.joined-requires-4-clause-within
-joined-requires-4-clause-within c =
-    (four_within c.args.k 65536 c.args.four.now c.joined.result c.joined-2.result c.joined-3.result c.requires.four c.requires.within).3
+use Rattle.header_bits.proofs.Powers.{four_shifts}
 
 pub returns : goal.returns
 returns c = λ a b x d is.

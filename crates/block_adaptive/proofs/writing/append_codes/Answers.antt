@@ -1,23 +1,18 @@
 use Rattle.std.proofs.Common.{◌/◌, ◌^◌, get_or, arith}
 use Rattle.header_bits.specs.Bits.{fundamental}
-use Rattle.block_adaptive.specs.Options.{quotient_codes}
 use Rattle.block_adaptive.proofs.Emits.{quotient_next, quotient_end}
-use Rattle.block_adaptive.proofs.Gathers.{goes_start, goes_room, goes_step, goes_end}
-use Rattle.block_adaptive.proofs.Costs.{length-fundamental}
+use Rattle.block_adaptive.proofs.Gathers.{goes_room, goes_step, goes_end}
 use Rattle.block_adaptive.proofs.writing.append_codes.Goals as goal
-
-pub loop-value-init : goal.loop-value-init
-loop-value-init c = goes_start c.args.writer.now c.args.gathered.now (quotient_codes c.args.k c.args.values.now) c.requires.room
+use Rattle.header_bits.proofs.Zeros.{length-fundamental}
 
 pub append_fundamental-requires : goal.append_fundamental-requires
 append_fundamental-requires c =
-    let room = goes_room c.args.writer.now c.args.gathered.now c.loop-value.writer c.loop-value.gathered _ _ (fundamental (get_or c.args.values.now c.loop-value.value-index 0 / 2 ^ c.args.k)) _ c.requires.room (quotient_next c.args.k c.loop-value.value-index c.args.values.now c.loop-value-test.true) c.loop-value.invariant in
+    let room = goes_room (fundamental (get_or c.args.values.now c.loop-value.value-index 0 / 2 ^ c.args.k)) _ c.requires.room c.loop-value.invariant
+    (quotient_next _ _ _ c.loop-value-test.true) in
     omega (arith, room, c.from.ensures, length-fundamental (get_or c.args.values.now c.loop-value.value-index 0 / 2 ^ c.args.k))
 
 pub loop-value-preserved : goal.loop-value-preserved
-loop-value-preserved c =
-    goes_step c.args.writer.now c.args.gathered.now c.loop-value.writer c.loop-value.gathered c.append_fundamental.new.writer c.append_fundamental.new.self _ _ _ _ (quotient_next c.args.k c.loop-value.value-index c.args.values.now c.loop-value-test.true) c.loop-value.invariant
-    (rw c.from.ensures at c.append_fundamental.ensures)
+loop-value-preserved c = goes_step _ c.loop-value.invariant (quotient_next _ _ _ c.loop-value-test.true) (rw c.from.ensures at c.append_fundamental.ensures)
 
 pub returns : goal.returns
-returns c = goes_end c.args.writer.now c.args.gathered.now c.loop-value.writer c.loop-value.gathered _ _ (quotient_end c.args.k c.loop-value.value-index c.args.values.now (omega arith)) c.loop-value.invariant
+returns c = goes_end c.loop-value.invariant (quotient_end c.args.k c.loop-value.value-index c.args.values.now (omega arith))

@@ -12,17 +12,19 @@ append-requires-clause-below c = rw (lows_length c.args.k c.loop-first.first 4 c
 
 pub append-requires-clause-room : goal.append-requires-clause-room
 append-requires-clause-room c =
-    let room = goes_room c.args.writer.now c.args.gathered.now c.loop-first.writer c.loop-first.gathered _ _ (low_groups c.args.k (take (c.loop-first.first + 4 - c.loop-first.first) (drop c.loop-first.first c.args.block.now))) _ c.requires.room (lows_of_some c.args.k c.loop-first.first 4 c.args.block.now) c.loop-first.invariant.goes in
-    omega (arith, room, lows_length c.args.k c.loop-first.first 4 c.args.block.now (omega arith))
+    let few = lows_length c.args.k c.loop-first.first 4 c.args.block.now (omega arith) in
+    let room = goes_room (low_groups c.args.k (take (c.loop-first.first + 4 - c.loop-first.first) (drop c.loop-first.first c.args.block.now))) _ c.requires.room
+    c.loop-first.invariant.goes (lows_of_some c.args.k c.loop-first.first 4 c.args.block.now) in
+    omega (arith, room, few)
 
 pub loop-first-preserved : goal.loop-first-preserved
 loop-first-preserved c =
     let word = rw (lows_length c.args.k c.loop-first.first 4 c.args.block.now (omega arith)) at c.low_word.ensures.bits in
     record {
-      goes = goes_step c.args.writer.now c.args.gathered.now c.loop-first.writer c.loop-first.gathered c.append.new.writer c.append.new.self _ _ _ _ (lows_of_some c.args.k c.loop-first.first 4 c.args.block.now) c.loop-first.invariant.goes (rw word at c.append.ensures);
+      goes = goes_step _ c.loop-first.invariant.goes (lows_of_some _ c.loop-first.first 4 c.args.block.now) (rw word at c.append.ensures);
       fours = omega (arith, c.loop-first.invariant.fours);
       within = omega (arith, c.loop-first.invariant.fours, c.requires.fours, c.loop-first-test.true);
     }
 
 pub returns : goal.returns
-returns c = goes_end c.args.writer.now c.args.gathered.now c.loop-first.writer c.loop-first.gathered _ _ (low_end c.args.k c.loop-first.first c.args.block.now (omega arith)) c.loop-first.invariant.goes
+returns c = goes_end c.loop-first.invariant.goes (low_end c.args.k c.loop-first.first c.args.block.now (omega arith))

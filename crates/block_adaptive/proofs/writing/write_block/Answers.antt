@@ -1,4 +1,4 @@
-use Rattle.block_adaptive.proofs.Least.{option_is_least}
+use Rattle.block_adaptive.proofs.Tried.{option_is_least}
 use Rattle.block_adaptive.proofs.writing.write_block.Goals as goal
 
 pub write_option-requires-clause-option : goal.write_option-requires-clause-option

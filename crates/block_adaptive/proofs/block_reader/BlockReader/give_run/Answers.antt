@@ -1,17 +1,14 @@
-use Rattle.std.proofs.Common.{◌≡◌, ◌+◌, ◌≤◌, ◌∙◌, length, take, drop, sym, ap, arith, rules}
-use Rattle.block_adaptive.specs.Given.{Unpacked}
-use Rattle.block_adaptive.proofs.Handed.{put_back, zeros}
-use Rattle.block_adaptive.proofs.Runs.{first_of_hand, zeros_of_hand}
+use Rattle.std.proofs.Common.{◌≡◌, ◌+◌, ◌≤◌, ◌∙◌, length, take, drop, sym, arith, rules}
+use Rattle.block_adaptive.proofs.Handed.{put_back}
 use Rattle.block_adaptive.proofs.block_reader.BlockReader.give_run.Goals as goal
+use Rattle.header_bits.proofs.Places.{zeros, first_of_hand, zeros_of_hand}
 
 pub returns-then-self-clause-front : goal.returns-then-self-clause-front
 returns-then-self-clause-front c =
     let le : c.self.inside.at + c.min-count.result ≤ c.self.inside.size = search rules in
     let long : length c.copy_from_slice.new.self ≡ c.min-count.result = search rules in
     let same : c.copy_from_slice.new.self ≡ take c.min-count.result (drop c.self.inside.at c.self.inside.values) = search rules in (
-      ap (λ (v : Unpacked). v.held) (sym c.self.view_is)
-          ∙ first_of_hand c.self.inside.size c.self.inside.at c.min-count.result c.self.inside.zeros c.self.inside.values c.copy_from_slice.new.self
-          (drop c.min-count.result c.args.numbers.now) le long same,
+      (λ i. ((sym c.self.view_is) i).held) ∙ first_of_hand _ _ _ _ _ _ _ le long same,
       put_back _ _ _ c.self.view_is,
     )
 
@@ -21,8 +18,6 @@ returns-else-self-clause-front c =
     let le : c.min-count-else-self.result ≤ c.self.inside.zeros = search rules in
     let long : length c.fill.new.self ≡ c.min-count-else-self.result = search rules in
     let are : c.fill.new.self ≡ zeros c.min-count-else-self.result = search rules in (
-      ap (λ (v : Unpacked). v.held) (sym c.self.view_is)
-          ∙ zeros_of_hand c.self.inside.size c.self.inside.at c.min-count-else-self.result c.self.inside.zeros c.self.inside.values c.fill.new.self
-          (drop c.min-count-else-self.result c.args.numbers.now) at-end le long are,
+      (λ i. ((sym c.self.view_is) i).held) ∙ zeros_of_hand _ _ _ _ _ _ _ at-end le long are,
       put_back _ _ _ c.self.view_is,
     )

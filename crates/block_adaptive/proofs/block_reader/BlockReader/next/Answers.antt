@@ -1,27 +1,29 @@
-use Rattle.std.proofs.Common.{◌≡◌, [], sym, ap, ◌∙◌}
+use Rattle.std.proofs.Common.{◌≡◌, [], sym, ◌∙◌, ◌∷◌}
 use Rattle.std.proofs.lemmas.Result.{err_from_is_err_and}
 use Rattle.block_adaptive.specs.Settings.{IsCut}
-use Rattle.block_adaptive.specs.Given.{Unpacked}
 use Rattle.block_adaptive.proofs.Calls.{next_refused}
 use Rattle.block_adaptive.proofs.Counts.{data_set_left}
-use Rattle.block_adaptive.proofs.Handed.{next_given, held_given, empty_hand}
-use Rattle.block_adaptive.proofs.InRange.{gives_next}
 use Rattle.block_adaptive.proofs.block_reader.BlockReader.next.Goals as goal
-use Rattle.block_adaptive.proofs.block_reader.BlockReader.next.Goals.{then-self+then-self-eq0+in_ok-take_data_set, else-self, else-self-via-then-self+else-self-eq0, else-self-via-else-self}
+use Rattle.block_adaptive.proofs.block_reader.BlockReader.next.Goals.{then-self+then-self-eq0+in_ok-take_data_set, else-self}
+use Rattle.block_adaptive.proofs.block_reader.BlockReader.next.Goals.{else-self-via-then-self+else-self-eq0, else-self-via-else-self}
+use Rattle.block_adaptive.proofs.Runs.{taken_run, held_run, gives_next}
+use Rattle.header_bits.proofs.Places.{empty_hand}
 
 pub returns-clause-given : goal.returns-clause-given
 returns-clause-given c =
     let cut : IsCut c.args.self.now.cut = rw (← c.self.view_is) c.self.invariant.cut in
     elim c.if-self.branch [
       | then-self+then-self-eq0+in_ok-take_data_set w ↦
-          (let none : c.args.self.now.held ≡ [] = ap (λ (v : Unpacked). v.held) (sym c.self.view_is) ∙ empty_hand c.self.inside.size c.self.inside.at c.self.inside.zeros c.self.inside.values w.if-self.true w.if-self-eq0.true in
-          rw w.reader-is (gives_next c.args.self.now c.give.new.self c.args.reader.now c.give.result _ (next_given c.args.self.now w.take_data_set.new.self c.give.new.self c.args.reader.now _ c.give.result cut (data_set_left c.args.self.now c.requires none) none w.in_ok-take_data_set.ensures.read (rw w.self-is at c.give.ensures.first))))
-      | else-self w ↦ rw w.reader-is (gives_next c.args.self.now c.give.new.self c.args.reader.now c.give.result _ (held_given c.args.self.now c.give.new.self c.args.reader.now c.give.result (rw w.self-is at c.give.ensures.first)))
+          (let none : c.args.self.now.held ≡ [] = (λ i. ((sym c.self.view_is) i).held) ∙ empty_hand _ _ _ _ w.if-self.true w.if-self-eq0.true in
+          rw w.reader-is (gives_next _ _ c.args.reader.now _ _ (taken_run _ _ _ _ _ (c.give.result ∷ []) cut (data_set_left c.args.self.now c.requires none)
+          none w.in_ok-take_data_set.ensures.read (rw w.self-is at c.give.ensures.first))))
+      | else-self w ↦ rw w.reader-is (gives_next _ _ c.args.reader.now _ _ (held_run _ _ _ _ (rw w.self-is at c.give.ensures.first)))
     ]
 
 pub returns-in_err-take_data_set-clause-given : goal.returns-in_err-take_data_set-clause-given
 returns-in_err-take_data_set-clause-given c =
     let cut : IsCut c.args.self.now.cut = rw (← c.self.view_is) c.self.invariant.cut in
-    let none : c.args.self.now.held ≡ [] = ap (λ (v : Unpacked). v.held) (sym c.self.view_is) ∙ empty_hand c.self.inside.size c.self.inside.at c.self.inside.zeros c.self.inside.values c.if-self.true c.if-self-eq0.true in
+    let none : c.args.self.now.held ≡ [] = (λ i. ((sym c.self.view_is) i).held) ∙ empty_hand c.self.inside.size c.self.inside.at c.self.inside.zeros
+    c.self.inside.values c.if-self.true c.if-self-eq0.true in
     let p = err_from_is_err_and c.from_residual.result c.from_residual.ensures.1 in
     rw (p.1, p.2) (next_refused c.args.self.now c.args.reader.now c.in_err-take_data_set.field-0.0 cut c.requires none c.in_err-take_data_set.ensures.read)

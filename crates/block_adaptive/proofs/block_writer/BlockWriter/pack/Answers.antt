@@ -15,4 +15,5 @@ overflow_add-self-inside c =
 pub invariant_of-self : goal.invariant_of-self
 invariant_of-self c =
     let more : c.self.inside.start + c.self.inside.zeros < c.self.inside.count = rw (← c.self.view_is) at c.requires.more in
-    rw (c.from.ensures, c.in_ok-zeros.ensures.held) (stored_after _ c.self.inside.start c.self.inside.zeros c.self.inside.total _ c.args.block.now c.self.invariant more)
+    rw (c.from.ensures, c.in_ok-zeros.ensures.held) (stored_after _ c.self.inside.start c.self.inside.zeros c.self.inside.total _ c.args.block.now
+    c.self.invariant more)

@@ -1,13 +1,11 @@
-use Rattle.std.proofs.Common.{◌≡◌, ℕ, ◌+◌, ◌^◌, ◌<◌, List, [], ◌∷◌, ◌++◌, length, take, sym, ap, ◌∙◌, arith}
-use Rattle.std.specs.List.{AllByRecursion}
+use Rattle.std.proofs.Common.{◌≡◌, List, ℕ, [], ◌∷◌, ◌++◌, length, take, ap, arith}
 use Rattle.std.proofs.lemmas.List.{length-append, length-take}
-use Rattle.block_adaptive.specs.Settings.{IsCut}
-use Rattle.block_adaptive.specs.Taken.{Packed}
+use Rattle.header_bits.proofs.Items.{all_append}
+use Rattle.header_bits.proofs.Places.{held_more, on_ok_both}
 use Rattle.block_adaptive.specs.contracts.block_writer.BlockWriter.{the_view}
-use Rattle.block_adaptive.proofs.Counts.{ends_block, room_left}
+use Rattle.block_adaptive.proofs.Counts.{room_left}
 use Rattle.block_adaptive.proofs.Handed.{size_most}
-use Rattle.block_adaptive.proofs.Ranges.{range_append}
-use Rattle.block_adaptive.proofs.Packing.{values_held, values_packed, held_more, on_ok_both}
+use Rattle.block_adaptive.proofs.Packing.{values_held, values_packed}
 use Rattle.block_adaptive.proofs.Stored.{total_few}
 use Rattle.block_adaptive.proofs.block_writer.BlockWriter.put.Goals as goal
 
@@ -16,28 +14,20 @@ overflow_add-self-then-self c = record { fits = omega (arith, total_few _ _ _ c.
 
 pub returns-then-self-clause-taken : goal.returns-then-self-clause-taken
 returns-then-self-clause-taken c =
-    let room : c.self.inside.held < length c.self.inside.values = omega (arith, c.self.told, c.if-self.true, size_most c.self.inside.size c.self.invariant.cut.size) in
-    values_held c.args.self.now _ c.args.writer.now.bits (c.args.delta ∷ [])
-    (ap (λ (held : List ℕ). record (the_view c.self.inside) { held = held }) (held_more c.self.inside.values c.self.inside.held c.args.delta room)
-    ∙ ap (λ (v : Packed). record v { held = v.held ++ c.args.delta ∷ [] }) c.self.view_is)
+    let more = held_more c.self.inside.values c.self.inside.held c.args.delta
+    (omega (arith, c.self.told, c.if-self.true, size_most c.self.inside.size c.self.invariant.cut.size)) in
+    rw (← c.self.view_is) (values_held (the_view c.self.inside) _ _ (c.args.delta ∷ []) (ap (λ (held : List ℕ). record (the_view c.self.inside) { held = held })
+    more))
 
 pub returns-clause-taken : goal.returns-clause-taken
 returns-clause-taken c =
-    let held-is : c.args.self.now.held ≡ take c.self.inside.held c.self.inside.values = ap (λ (v : Packed). v.held) (sym c.self.view_is) in
-    let size-is : c.args.self.now.cut.size ≡ c.self.inside.size = ap (λ (v : Packed). v.cut.size) (sym c.self.view_is) in
-    let few = size_most c.self.inside.size c.self.invariant.cut.size in
-    let range : AllByRecursion (λ x. x < 2 ^ c.args.self.now.cut.set.bits) c.args.self.now.held = rw (← c.self.view_is) c.self.invariant.range in
-    let one : c.self.inside.size ≡ c.self.inside.held + 1 = omega (arith, c.if-self.false, c.self.invariant.few, length-take c.self.inside.held c.self.inside.values, c.self.told) in
-    let cut : IsCut c.args.self.now.cut = rw (← c.self.view_is) c.self.invariant.cut in
-    let len : length (c.args.self.now.held ++ c.args.delta ∷ []) ≡ c.args.self.now.cut.size =
-    omega (arith, length-append c.args.self.now.held (c.args.delta ∷ []), ap length held-is, length-take c.self.inside.held c.self.inside.values, c.self.told, one, size-is) in
-    on_ok_both c.put_last.result _ _ _
-    (λ p q. values_packed c.args.self.now c.put_last.new.self c.args.writer.now.bits c.put_last.new.writer.bits (c.args.delta ∷ []) cut (room_left c.args.self.now c.requires.more) len (range_append (2 ^ c.args.self.now.cut.set.bits) c.args.self.now.held (c.args.delta ∷ []) range (c.requires.number, tt)) p q)
-    c.put_last.ensures.appended c.put_last.ensures.packed
-
-pub returns-clause-memory : goal.returns-clause-memory
-returns-clause-memory c =
-    let held-is : c.args.self.now.held ≡ take c.self.inside.held c.self.inside.values = ap (λ (v : Packed). v.held) (sym c.self.view_is) in
-    let size-is : c.args.self.now.cut.size ≡ c.self.inside.size = ap (λ (v : Packed). v.cut.size) (sym c.self.view_is) in
-    let one : c.self.inside.size ≡ c.self.inside.held + 1 = omega (arith, c.if-self.false, c.self.invariant.few, length-take c.self.inside.held c.self.inside.values, c.self.told) in
-    ends_block c.args.self.now c.put_last.result (omega (arith, ap length held-is, length-take c.self.inside.held c.self.inside.values, c.self.told, one, size-is, size_most c.self.inside.size c.self.invariant.cut.size))
+    let was = c.self.invariant in
+    let held : List ℕ = take c.self.inside.held c.self.inside.values in
+    let size = length-take c.self.inside.held c.self.inside.values in
+    let few = size_most c.self.inside.size was.cut.size in
+    let len : length (held ++ c.args.delta ∷ []) ≡ c.self.inside.size =
+    omega (arith, length-append held (c.args.delta ∷ []), was.few, c.if-self.false, size, c.self.told, few) in
+    rw (← c.self.view_is) (on_ok_both c.put_last.result _ _ _ (λ p q. values_packed (the_view c.self.inside) c.put_last.new.self _ _ (c.args.delta ∷ []) was.cut
+    (rw (← c.self.view_is) at (room_left c.args.self.now c.requires.more)) len (all_append _ held (c.args.delta ∷ []) was.range
+    (rw (← c.self.view_is) at c.requires.number, tt)) p q) (rw (← c.self.view_is) at c.put_last.ensures.appended)
+    (rw (← c.self.view_is) at c.put_last.ensures.packed))

@@ -1,24 +1,22 @@
-use Rattle.std.proofs.Common.{◌≡◌, ◌∙◌, ◌+◌, ◌-◌, ◌^◌, ◌≤◌, length, take, drop, ap, arith}
-use Rattle.block_adaptive.specs.Taken.{Packed, taken_count}
+use Rattle.std.proofs.Common.{◌≡◌, ◌∙◌, ◌+◌, ◌-◌, ◌≤◌, length, drop, arith}
 use Rattle.std.proofs.lemmas.List.{length-take}
 use Rattle.block_adaptive.proofs.Holds.{hold_more, block_more, number_more, held_counted, after_refusal}
-use Rattle.block_adaptive.proofs.Ranges.{range_front, range_behind}
 use Rattle.block_adaptive.proofs.block_writer.BlockWriter.put_all.Goals as goal
 
 pub returns-in_default-clause-taken : goal.returns-in_default-clause-taken
 returns-in_default-clause-taken c =
-    after_refusal c.put.result c.args.self.now c.hold.new.self c.put.new.self (take (c.loop-first.first + c.min.result) c.args.numbers.now) c.args.writer.now.bits c.loop-first.writer.bits c.put.new.writer.bits c.in_default.not-Ok c.put.ensures.same
-    (hold_more c.args.self.now c.loop-first.self c.hold.new.self c.args.numbers.now c.loop-first.first c.min.result c.args.writer.now.bits c.loop-first.writer.bits c.loop-first.invariant.puts c.hold.ensures)
+    after_refusal c.put.result _ _ c.in_default.not-Ok c.put.ensures.same (hold_more c.args.numbers.now c.loop-first.first c.min.result
+    c.loop-first.invariant.puts c.hold.ensures)
 
 pub loop-first-preserved-then-first-numbers : goal.loop-first-preserved-then-first-numbers
 loop-first-preserved-then-first-numbers c =
     let was = c.loop-first.invariant in
-    let held = hold_more c.args.self.now c.loop-first.self c.hold.new.self c.args.numbers.now c.loop-first.first c.min.result c.args.writer.now.bits c.loop-first.writer.bits was.puts c.hold.ensures in
-    let counted : taken_count c.hold.new.self ≡ taken_count c.loop-first.self + c.min.result = held_counted c.loop-first.self c.hold.new.self c.args.numbers.now c.loop-first.first c.min.result (omega (arith, c.min.ensures, was.within)) c.hold.ensures in
+    let held = hold_more c.args.numbers.now c.loop-first.first c.min.result was.puts c.hold.ensures in
+    let counted = held_counted _ _ c.args.numbers.now c.loop-first.first c.min.result (omega (arith, c.min.ensures, was.within)) c.hold.ensures in
     record {
-      puts = number_more c.args.self.now c.hold.new.self c.put.new.self c.args.numbers.now (c.loop-first.first + c.min.result) c.args.writer.now.bits c.loop-first.writer.bits c.put.new.writer.bits held c.if-first-numbers.true c.in-Ok.ensures.taken;
+      puts = number_more c.args.numbers.now (c.loop-first.first + c.min.result) held c.if-first-numbers.true c.in-Ok.ensures.taken;
       counted = omega (arith, counted, was.counted, c.in-Ok.ensures.counted);
-      cut = c.put.ensures.cut ∙ ap (λ (v : Packed). v.cut) c.hold.ensures ∙ was.cut;
+      cut = c.put.ensures.cut ∙ (λ i. (c.hold.ensures i).cut) ∙ was.cut;
       within = omega (arith, c.if-first-numbers.true);
     }
 
@@ -26,28 +24,27 @@ pub loop-first-preserved : goal.loop-first-preserved
 loop-first-preserved c =
     let was = c.loop-first.invariant in
     let within : c.loop-first.first + c.min.result ≤ length c.args.numbers.now = omega (arith, c.min.ensures, was.within) in
-    let counted : taken_count c.hold.new.self ≡ taken_count c.loop-first.self + c.min.result = held_counted c.loop-first.self c.hold.new.self c.args.numbers.now c.loop-first.first c.min.result within c.hold.ensures in
+    let counted = held_counted _ _ c.args.numbers.now c.loop-first.first c.min.result within c.hold.ensures in
     record {
-      puts = hold_more c.args.self.now c.loop-first.self c.hold.new.self c.args.numbers.now c.loop-first.first c.min.result c.args.writer.now.bits c.loop-first.writer.bits was.puts c.hold.ensures;
+      puts = hold_more c.args.numbers.now c.loop-first.first c.min.result was.puts c.hold.ensures;
       counted = omega (arith, counted, was.counted);
-      cut = ap (λ (v : Packed). v.cut) c.hold.ensures ∙ was.cut;
+      cut = (λ i. (c.hold.ensures i).cut) ∙ was.cut;
       within = within;
     }
 
-pub hold-requires-clause-numbers : goal.hold-requires-clause-numbers
-hold-requires-clause-numbers c =
-    rw c.loop-first.invariant.cut (range_front (2 ^ c.args.self.now.cut.set.bits) (c.loop-first.first + c.min.result - c.loop-first.first) (drop c.loop-first.first c.args.numbers.now) (range_behind (2 ^ c.args.self.now.cut.set.bits) c.loop-first.first c.args.numbers.now c.requires.numbers))
-
 pub returns-then-taken-size-clause-taken : goal.returns-then-taken-size-clause-taken
 returns-then-taken-size-clause-taken c =
-    block_more c.args.self.now c.loop-first.self c.put_block-taken.new.self c.args.numbers.now c.loop-first.first c.self.inside.size c.put_block-taken.result c.args.writer.now.bits c.loop-first.writer.bits c.put_block-taken.new.writer.bits (omega (arith, c.if-taken-size.true))
-    c.loop-first.invariant.puts c.put_block-taken.ensures.taken
+    (block_more c.args.numbers.now c.loop-first.first c.self.inside.size c.put_block-taken.result (omega (arith, c.if-taken-size.true))
+    c.loop-first.invariant.puts c.put_block-taken.ensures.taken).puts
 
 pub loop-first-preserved-then-numbers-first : goal.loop-first-preserved-then-numbers-first
 loop-first-preserved-then-numbers-first c =
-    let all : c.put_block-taken.result ≡ c.self.inside.size = omega (arith, c.if-taken-size.false, c.put_block-taken.ensures.most, length-take (c.loop-first.first + c.self.inside.size - c.loop-first.first) (drop c.loop-first.first c.args.numbers.now)) in
+    let all : c.put_block-taken.result ≡ c.self.inside.size =
+    (let long = length-take (c.loop-first.first + c.self.inside.size - c.loop-first.first) (drop c.loop-first.first c.args.numbers.now) in
+    omega (arith, c.if-taken-size.false, c.put_block-taken.ensures.most, long)) in
     record {
-      puts = block_more c.args.self.now c.loop-first.self c.put_block-taken.new.self c.args.numbers.now c.loop-first.first c.self.inside.size c.self.inside.size c.args.writer.now.bits c.loop-first.writer.bits c.put_block-taken.new.writer.bits (omega arith) c.loop-first.invariant.puts (rw all at c.put_block-taken.ensures.taken);
+      puts = block_more c.args.numbers.now c.loop-first.first c.self.inside.size c.self.inside.size (omega arith) c.loop-first.invariant.puts
+          (rw all at c.put_block-taken.ensures.taken);
       counted = omega (arith, all, c.loop-first.invariant.counted, c.put_block-taken.ensures.counted);
       cut = c.put_block-taken.ensures.cut ∙ c.loop-first.invariant.cut;
       within = omega (arith, c.if-numbers-first.true, c.loop-first.invariant.within);

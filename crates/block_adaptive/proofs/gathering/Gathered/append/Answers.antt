@@ -8,15 +8,15 @@ pub filled-word-requires-clause-below : goal.filled-word-requires-clause-below
 filled-word-requires-clause-below c =
     let free : ℕ = 64 - c.self.inside.held in
     let size : c.args.n ≡ free + (c.args.n - free) = omega arith in
-    shr_below c.args.bits free (c.args.n - free) (subst (λ (k : ℕ). c.args.bits < 2 ^ k) size c.requires.below)
+    shr_below _ _ _ (subst (λ (k : ℕ). c.args.bits < 2 ^ k) size c.requires.below)
 
 pub push_reserved-requires-clause-room : goal.push_reserved-requires-clause-room
 push_reserved-requires-clause-room c = omega (arith, c.requires.room, ap length c.self.view_is, length-bits_of c.self.inside.held c.self.inside.part)
 
 pub returns-then-n-free : goal.returns-then-n-free
-returns-then-n-free c = appends_part c.args.writer.now c.args.self.now c.self.inside.held c.self.inside.part c.args.n c.args.bits c.requires.below (omega arith) c.self.view_is c.requires.room
+returns-then-n-free c = appends_part _ _ _ _ c.requires.below (omega arith) c.self.view_is c.requires.room
 
 pub returns-else-n-free : goal.returns-else-n-free
 returns-else-n-free c =
-    appends_word c.args.writer.now c.push_reserved.new.self c.args.self.now c.self.inside.held c.self.inside.part c.args.n c.args.bits c.filled-word.result c.self.invariant (omega arith) c.self.view_is c.requires.room c.filled-word.ensures
-    c.push_reserved.ensures.appended c.push_reserved.ensures.room
+    appends_word _ _ _ _ _ c.self.invariant (omega arith) c.self.view_is c.requires.room c.filled-word.ensures c.push_reserved.ensures.appended
+    c.push_reserved.ensures.room
