@@ -125,7 +125,7 @@ fn four_of(components: &[i32; 4]) -> [i32; 4]
 /// The scaled prediction follows from the difference and the local sum alone, which is that of the offsets and
 /// `sum`. The place is not the first of its band.
 #[inline(always)]
-fn follow_at<const N: usize>(
+fn follow_at<const N: usize, const WRAPS: bool>(
     settings: &Settings,
     cube: &Cube,
     y: u32,
@@ -138,6 +138,7 @@ fn follow_at<const N: usize>(
 ) -> i32
     requires few { N ≤ 18 }
     requires enough { settings.now.count ≤ N }
+    requires register { WRAPS ≡ false → 46 ≤ settings.now.predictor.register }
     requires place { IsPlace cube.now.shape settings.now.band y x }
     requires columns { cube.now.shape.columns ≡ settings.now.columns }
     requires kind { cube.now.kind ≡ settings.now.range.kind }
@@ -159,7 +160,7 @@ fn follow_at<const N: usize>(
     ensures bound { AllWithin (2 ^ (steps.fraction + 2)) weights.new }
 {
     cube.prove_is_cube();
-    let predicted = predicted_difference::<N>(
+    let predicted = predicted_difference::<N, WRAPS>(
         &settings.predictor,
         &settings.range,
         4 * settings.range.smin + sum,
@@ -174,7 +175,7 @@ fn follow_at<const N: usize>(
 ///
 /// The weights are kept in a copy of their own, so that the compiler can keep them in registers.
 #[inline(always)]
-pub(crate) fn follow_places<const Q: usize, const N: usize>(
+pub(crate) fn follow_places<const Q: usize, const N: usize, const WRAPS: bool>(
     settings: &Settings,
     cube: &Cube,
     y: u32,
@@ -191,6 +192,7 @@ pub(crate) fn follow_places<const Q: usize, const N: usize>(
     requires few { N ≤ 18 }
     requires enough { settings.now.count ≤ N }
     requires quads { Q ≡ quads_of settings.now.count }
+    requires register { WRAPS ≡ false → 46 ≤ settings.now.predictor.register }
     requires place { IsPlace cube.now.shape settings.now.band y x }
     requires columns { cube.now.shape.columns ≡ settings.now.columns }
     requires kind { cube.now.kind ≡ settings.now.range.kind }
@@ -227,7 +229,7 @@ pub(crate) fn follow_places<const Q: usize, const N: usize>(
     let mut working = *weights;
     for i in first..last {
         let differences = differences_at::<Q>(quads, i);
-        parts[i] = follow_at::<N>(
+        parts[i] = follow_at::<N, WRAPS>(
             settings,
             cube,
             y,

@@ -52,13 +52,14 @@ pub(crate) struct OpenRun<'a, const Q: usize> {
 ///
 /// The cube is passed by value, so that what it points to stays in registers while samples are written.
 #[inline(always)]
-pub(crate) fn invert_places<const Q: usize, const N: usize>(
+pub(crate) fn invert_places<const Q: usize, const N: usize, const WRAPS: bool>(
     mut cube: Cube,
     run: OpenRun<Q>,
 ) -> (Cube, [i32; 18])
     requires few_weights { N ≤ 18 }
     requires enough { run.settings.now.count ≤ N }
     requires quads { Q ≡ quads_of run.settings.now.count }
+    requires register { WRAPS ≡ false → 46 ≤ run.settings.now.predictor.register }
     requires later { 0 < run.y }
     requires place { IsPlace cube.shape run.settings.now.band run.y run.x }
     requires columns { cube.shape.columns ≡ run.settings.now.columns }
@@ -100,7 +101,7 @@ pub(crate) fn invert_places<const Q: usize, const N: usize>(
         stretch = stretch_at(&settings, y, x, i, deltas.len(), stretch);
         let sum = sum_with_west(&settings, &cube, y, column, sums[i], west);
         let components = differences_at::<Q>(quads, i);
-        let sample = sample_there::<N>(
+        let sample = sample_there::<N, WRAPS>(
             &settings,
             &cube,
             y,
@@ -179,7 +180,7 @@ fn next_stretch(settings: &Settings, y: u32, x: u32, i: usize, count: usize) -> 
 /// `sum` is the local sum of the offsets there, `west` the offset to the west, and `form` the form of the steps.
 /// `components` are those of the place as if that offset were 0.
 #[inline(always)]
-fn sample_there<const N: usize>(
+fn sample_there<const N: usize, const WRAPS: bool>(
     settings: &Settings,
     cube: &Cube,
     y: u32,
@@ -193,6 +194,7 @@ fn sample_there<const N: usize>(
 ) -> i32
     requires few { N ≤ 18 }
     requires enough { settings.now.count ≤ N }
+    requires register { WRAPS ≡ false → 46 ≤ settings.now.predictor.register }
     requires later { 0 < y }
     requires place { IsPlace cube.now.shape settings.now.band y x }
     requires columns { cube.now.shape.columns ≡ settings.now.columns }
@@ -221,7 +223,7 @@ fn sample_there<const N: usize>(
     let mut differences = *components;
     put_west(settings, cube, y, x, west, &mut differences);
     let whole = 4 * range.smin + sum as i32;
-    let part = predicted_difference::<N>(predictor, range, whole, weights, &differences);
+    let part = predicted_difference::<N, WRAPS>(predictor, range, whole, weights, &differences);
     let found = sample_by_part(range, part, sum, delta);
     // The exponent is for proofs: the form tells all of it.
     let exponent = exponent_at(predictor, settings.columns, range.bits, t);

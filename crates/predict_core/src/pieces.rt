@@ -22,7 +22,7 @@ use cube_core::cube::Cube;
 /// The place `first` is not the first of its band. The differences are in `Q` quads, and `N` weights are used
 /// (CCSDS 123.0-B-1, "Weight Update").
 #[inline(always)]
-pub(crate) fn follow_run<const Q: usize, const N: usize>(
+pub(crate) fn follow_run<const Q: usize, const N: usize, const WRAPS: bool>(
     settings: &Settings,
     cube: &Cube,
     y: u32,
@@ -38,6 +38,7 @@ pub(crate) fn follow_run<const Q: usize, const N: usize>(
     requires few { N ≤ 18 }
     requires enough { settings.now.count ≤ N }
     requires quads { Q ≡ quads_of settings.now.count }
+    requires register { WRAPS ≡ false → 46 ≤ settings.now.predictor.register }
     requires place { IsPlace cube.now.shape settings.now.band y x }
     requires columns { cube.now.shape.columns ≡ settings.now.columns }
     requires kind { cube.now.kind ≡ settings.now.range.kind }
@@ -77,7 +78,7 @@ pub(crate) fn follow_run<const Q: usize, const N: usize>(
             bits: settings.range.bits,
             exponent: exponent_at(predictor, settings.columns, settings.range.bits, t),
         };
-        follow_places::<Q, N>(
+        follow_places::<Q, N, WRAPS>(
             settings, cube, y, x, at, next, steps, sums, own, quads, parts, weights,
         );
         at = next;

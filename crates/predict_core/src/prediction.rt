@@ -61,7 +61,7 @@ fn scaled_by_product(predictor: &Predictor, range: &Range, sum: i32, product: i6
 /// Where nothing wraps in the register, it is the sum of the products, without the weights' fraction, rounded
 /// down. Where something does, it is the difference that leads to the same scaled prediction.
 #[inline(always)]
-pub(crate) fn predicted_difference<const N: usize>(
+pub(crate) fn predicted_difference<const N: usize, const WRAPS: bool>(
     predictor: &Predictor,
     range: &Range,
     sum: i32,
@@ -70,6 +70,7 @@ pub(crate) fn predicted_difference<const N: usize>(
 ) -> i32
     requires few { N ≤ 18 }
     requires lawful { IsPredictor predictor.now }
+    requires register { WRAPS ≡ false → 46 ≤ predictor.now.register }
     requires weights_in { AllWithin (2 ^ (predictor.now.fraction + 2)) weights.now }
     requires differences_in { AllWithin (2 ^ 18) differences.now }
     requires sum_in { (negsuc 131071 ≤ℤ sum) × (sum ≤ℤ pos 262140) }
@@ -78,7 +79,7 @@ pub(crate) fn predicted_difference<const N: usize>(
 {
     let product = product_of_first::<N>(weights, differences);
     let part = whole_product(predictor.fraction, product);
-    if may_wrap(predictor, range, sum, product, part) {
+    if may_wrap::<WRAPS>(predictor, range, sum, product, part) {
         wrapped_difference(predictor, range, sum, product)
     } else {
         part
@@ -90,8 +91,15 @@ pub(crate) fn predicted_difference<const N: usize>(
 ///
 /// Without the fraction it fits in a word of 32 bits. The register seldom wraps, so the weights needn't wait for the answer.
 #[inline(always)]
-fn may_wrap(predictor: &Predictor, range: &Range, sum: i32, product: i64, part: i32) -> bool
+fn may_wrap<const WRAPS: bool>(
+    predictor: &Predictor,
+    range: &Range,
+    sum: i32,
+    product: i64,
+    part: i32,
+) -> bool
     requires lawful { IsPredictor predictor.now }
+    requires register { WRAPS ≡ false → 46 ≤ predictor.now.register }
     requires part_is { part ≡ floor_div product (2 ^ predictor.now.fraction) }
     requires part_in { unsigned_abs part ≤ 18 * 2 ^ 20 }
     requires sum_in { (negsuc 131071 ≤ℤ sum) × (sum ≤ℤ pos 262140) }
@@ -99,7 +107,7 @@ fn may_wrap(predictor: &Predictor, range: &Range, sum: i32, product: i64, part: 
         ≡ product +ℤ pos (2 ^ predictor.now.fraction) *ℤ (sum -ℤ pos 4 *ℤ smid range.now.kind) }
 {
     let upper = part + (sum - 4 * range.smid);
-    register_limit(predictor) <= upper.unsigned_abs()
+    WRAPS && register_limit(predictor) <= upper.unsigned_abs()
 }
 
 /// Returns a power of two that fits in the register with the weights' fraction behind it, of either sign.

@@ -47,7 +47,11 @@ impl Band {
             return;
         }
         self.next += count as u64;
-        predict_run(&self.settings, cube, y, x, &mut self.weights, residuals);
+        if self.settings.predictor.register < 46 {
+            predict_run::<true>(&self.settings, cube, y, x, &mut self.weights, residuals);
+        } else {
+            predict_run::<false>(&self.settings, cube, y, x, &mut self.weights, residuals);
+        }
     }
 
     /// Does the same, one place after another.
@@ -71,10 +75,11 @@ impl Band {
     }
 }
 
-/// Writes the mapped residuals of a run, and updates the weights.
+/// Writes the mapped residuals of a run, in a register in which nothing wraps or in any, and updates the
+/// weights.
 ///
 /// The number of weights is found once, so that the compiler knows it in the loops over places.
-fn predict_run(
+fn predict_run<const WRAPS: bool>(
     settings: &Settings,
     cube: &Cube,
     y: u32,
@@ -82,6 +87,7 @@ fn predict_run(
     weights: &mut [i32; 18],
     residuals: &mut [u16],
 )
+    requires register { WRAPS ≡ false → 46 ≤ settings.now.predictor.register }
     requires place { IsPlace cube.now.shape settings.now.band y x }
     requires columns { cube.now.shape.columns ≡ settings.now.columns }
     requires kind { cube.now.kind ≡ settings.now.range.kind }
@@ -100,17 +106,17 @@ fn predict_run(
 {
     let count = settings.count;
     if count == 0 {
-        predict_by::<0, 0>(settings, cube, y, x, weights, residuals);
+        predict_by::<0, 0, WRAPS>(settings, cube, y, x, weights, residuals);
     } else if count <= 4 {
-        predict_by::<1, 4>(settings, cube, y, x, weights, residuals);
+        predict_by::<1, 4, WRAPS>(settings, cube, y, x, weights, residuals);
     } else if count <= 8 {
-        predict_by::<2, 8>(settings, cube, y, x, weights, residuals);
+        predict_by::<2, 8, WRAPS>(settings, cube, y, x, weights, residuals);
     } else if count <= 12 {
-        predict_by::<3, 12>(settings, cube, y, x, weights, residuals);
+        predict_by::<3, 12, WRAPS>(settings, cube, y, x, weights, residuals);
     } else if count <= 16 {
-        predict_by::<4, 16>(settings, cube, y, x, weights, residuals);
+        predict_by::<4, 16, WRAPS>(settings, cube, y, x, weights, residuals);
     } else {
-        predict_by::<5, 18>(settings, cube, y, x, weights, residuals);
+        predict_by::<5, 18, WRAPS>(settings, cube, y, x, weights, residuals);
     }
 }
 
@@ -118,7 +124,7 @@ fn predict_run(
 ///
 /// What depends on the samples alone is computed first, for all places at once; then the predicted differences,
 /// one after another; and then all residuals at once.
-fn predict_by<const Q: usize, const N: usize>(
+fn predict_by<const Q: usize, const N: usize, const WRAPS: bool>(
     settings: &Settings,
     cube: &Cube,
     y: u32,
@@ -129,6 +135,7 @@ fn predict_by<const Q: usize, const N: usize>(
     requires few_weights { N ≤ 18 }
     requires enough { settings.now.count ≤ N }
     requires quads { Q ≡ quads_of settings.now.count }
+    requires register { WRAPS ≡ false → 46 ≤ settings.now.predictor.register }
     requires place { IsPlace cube.now.shape settings.now.band y x }
     requires columns { cube.now.shape.columns ≡ settings.now.columns }
     requires kind { cube.now.kind ≡ settings.now.range.kind }
@@ -155,7 +162,7 @@ fn predict_by<const Q: usize, const N: usize>(
     let mut quads = [quad; Q];
     fill_run::<Q>(settings, cube, y, x, count, &mut sums, &mut own, &mut quads);
     let first = first_later(y, x);
-    follow_run::<Q, N>(
+    follow_run::<Q, N, WRAPS>(
         settings, cube, y, x, first, count, &sums, &own, &quads, &mut parts, weights,
     );
     map_run(settings, cube, y, x, &parts, &sums, residuals);

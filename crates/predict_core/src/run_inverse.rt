@@ -48,7 +48,11 @@ impl Band {
             return;
         }
         self.next += count as u64;
-        invert_run(&self.settings, cube, y, x, &mut self.weights, deltas);
+        if self.settings.predictor.register < 46 {
+            invert_run::<true>(&self.settings, cube, y, x, &mut self.weights, deltas);
+        } else {
+            invert_run::<false>(&self.settings, cube, y, x, &mut self.weights, deltas);
+        }
     }
 
     /// Does the same, one place after another.
@@ -97,10 +101,11 @@ impl Band {
     }
 }
 
-/// Writes the samples of a run below the first row, and updates the weights.
+/// Writes the samples of a run below the first row, in a register in which nothing wraps or in any, and updates
+/// the weights.
 ///
 /// The number of weights is found once, so that the compiler knows it in the loop over places.
-fn invert_run(
+fn invert_run<const WRAPS: bool>(
     settings: &Settings,
     cube: &mut Cube,
     y: u32,
@@ -108,6 +113,7 @@ fn invert_run(
     weights: &mut [i32; 18],
     deltas: &[u16],
 )
+    requires register { WRAPS ≡ false → 46 ≤ settings.now.predictor.register }
     requires later { 0 < y }
     requires place { IsPlace cube.old.shape settings.now.band y x }
     requires columns { cube.old.shape.columns ≡ settings.now.columns }
@@ -127,17 +133,17 @@ fn invert_run(
 {
     let count = settings.count;
     if count == 0 {
-        invert_by::<0, 0>(settings, cube, y, x, weights, deltas);
+        invert_by::<0, 0, WRAPS>(settings, cube, y, x, weights, deltas);
     } else if count <= 4 {
-        invert_by::<1, 4>(settings, cube, y, x, weights, deltas);
+        invert_by::<1, 4, WRAPS>(settings, cube, y, x, weights, deltas);
     } else if count <= 8 {
-        invert_by::<2, 8>(settings, cube, y, x, weights, deltas);
+        invert_by::<2, 8, WRAPS>(settings, cube, y, x, weights, deltas);
     } else if count <= 12 {
-        invert_by::<3, 12>(settings, cube, y, x, weights, deltas);
+        invert_by::<3, 12, WRAPS>(settings, cube, y, x, weights, deltas);
     } else if count <= 16 {
-        invert_by::<4, 16>(settings, cube, y, x, weights, deltas);
+        invert_by::<4, 16, WRAPS>(settings, cube, y, x, weights, deltas);
     } else {
-        invert_by::<5, 18>(settings, cube, y, x, weights, deltas);
+        invert_by::<5, 18, WRAPS>(settings, cube, y, x, weights, deltas);
     }
 }
 
@@ -147,7 +153,7 @@ fn invert_run(
 /// the sample to the west.
 // One for each number of weights, so that each keeps its registers.
 #[inline(never)]
-fn invert_by<const Q: usize, const N: usize>(
+fn invert_by<const Q: usize, const N: usize, const WRAPS: bool>(
     settings: &Settings,
     cube: &mut Cube,
     y: u32,
@@ -158,6 +164,7 @@ fn invert_by<const Q: usize, const N: usize>(
     requires few_weights { N ≤ 18 }
     requires enough { settings.now.count ≤ N }
     requires quads { Q ≡ quads_of settings.now.count }
+    requires register { WRAPS ≡ false → 46 ≤ settings.now.predictor.register }
     requires later { 0 < y }
     requires place { IsPlace cube.old.shape settings.now.band y x }
     requires columns { cube.old.shape.columns ≡ settings.now.columns }
@@ -192,5 +199,5 @@ fn invert_by<const Q: usize, const N: usize>(
         weights: *weights,
         deltas,
     };
-    *weights = replace_with(cube, run, invert_places::<Q, N>);
+    *weights = replace_with(cube, run, invert_places::<Q, N, WRAPS>);
 }

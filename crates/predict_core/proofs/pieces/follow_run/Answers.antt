@@ -22,34 +22,37 @@ follow_places-requires g c =
           (
             c.requires.quads,
             (
-              c.requires.place,
+              c.requires.register,
               (
-                c.requires.columns,
+                c.requires.place,
                 (
-                  c.requires.kind,
+                  c.requires.columns,
                   (
-                    omega (arith, few, some),
+                    c.requires.kind,
                     (
-                      omega arith,
+                      omega (arith, few, some),
                       (
-                        omega (arith, few, some),
+                        omega arith,
                         (
-                          omega (arith, kept.begun),
+                          omega (arith, few, some),
                           (
-                            refl,
+                            omega (arith, kept.begun),
                             (
                               refl,
                               (
-                                same_exponent,
+                                refl,
                                 (
-                                  (λ i l m. c.requires.sums_are i (omega (arith, l, kept.begun)) (omega (arith, m, few, some))),
+                                  same_exponent,
                                   (
-                                    (λ i l m. c.requires.sum_least i (omega (arith, l, kept.begun)) (omega (arith, m, few, some))),
+                                    (λ i l m. c.requires.sums_are i (omega (arith, l, kept.begun)) (omega (arith, m, few, some))),
                                     (
-                                      (λ i l m. c.requires.sum_most i (omega (arith, l, kept.begun)) (omega (arith, m, few, some))),
+                                      (λ i l m. c.requires.sum_least i (omega (arith, l, kept.begun)) (omega (arith, m, few, some))),
                                       (
-                                        (λ i l m. c.requires.own_is i (omega (arith, l, kept.begun)) (omega (arith, m, few, some))),
-                                        ((λ i l m. c.requires.components i (omega (arith, l, kept.begun)) (omega (arith, m, few, some))), kept.bound),
+                                        (λ i l m. c.requires.sum_most i (omega (arith, l, kept.begun)) (omega (arith, m, few, some))),
+                                        (
+                                          (λ i l m. c.requires.own_is i (omega (arith, l, kept.begun)) (omega (arith, m, few, some))),
+                                          ((λ i l m. c.requires.components i (omega (arith, l, kept.begun)) (omega (arith, m, few, some))), kept.bound),
+                                        ),
                                       ),
                                     ),
                                   ),

@@ -1,5 +1,6 @@
-use Rattle.std.proofs.Common.{◌≡◌, ◌-◌, ◌*◌, ◌^◌, ◌<◌, ◌≤◌, ℤ, pos, negsuc, ◌+ℤ◌, ◌-ℤ◌, ◌*ℤ◌, ◌≤ℤ◌, unsigned_abs, w32, to_z, of_z, pow_pos, leb-false, arith}
+use Rattle.std.proofs.Common.{◌≡◌, ◌-◌, ◌*◌, ◌^◌, ◌<◌, ◌≤◌, ℤ, pos, negsuc, ◌+ℤ◌, ◌-ℤ◌, ◌*ℤ◌, ◌≤ℤ◌, unsigned_abs, w32, to_z, of_z, pow_pos, leb-false, refl, arith}
 use Rattle.std.proofs.lemmas.Int.{ints}
+use Rattle.std.proofs.Math.Pow.{pow-add, pow_mono}
 use Rattle.predict_core.specs.Arithmetic.{floor_div}
 use Rattle.cube_core.specs.Kind.{smid}
 use Rattle.predict_core.proofs.Floors.{sum_below, kept}
@@ -11,8 +12,8 @@ upper_is : (part sum middle : ℤ) → unsigned_abs part ≤ 18 * 2 ^ 20 → neg
     ≡ part +ℤ (sum -ℤ pos 4 *ℤ middle)
 upper_is part sum middle a b d e f = omega (arith, ints, a, b, d, e, f)
 
-pub returns : goal.returns
-returns c = record {
+pub returns-then-this-ne0 : goal.returns-then-this-ne0
+returns-then-this-ne0 g c = record {
   kept = λ h.
       let p = c.args.predictor.now in
       let r = c.args.range.now in
@@ -23,7 +24,21 @@ returns c = record {
       rw (upper, r.smid_is, c.requires.part_is) at c.unsigned_abs.ensures.value in
       let small : c.unsigned_abs.result < c.register_limit.result = leb-false _ _ h in
       let some = c.requires.lawful.register in
-      kept p.register _ (omega (arith, some))
-      (sum_below c.args.product (c.args.sum -ℤ pos 4 *ℤ smid r.kind) c.register_limit.result (2 ^ p.fraction) (2 ^ (p.register - 1)) (pow_pos p.fraction)
-      (rw size at small) c.register_limit.ensures);
+      kept p.register _ (omega (arith, some)) (sum_below _ _ _ _ _ (pow_pos p.fraction) (rw size at small) c.register_limit.ensures);
+}
+
+pub returns-else-this-ne0 : goal.returns-else-this-ne0
+returns-else-this-ne0 g c = record {
+  kept = λ h.
+      let p = c.args.predictor.now in
+      let r = c.args.range.now in
+      let mid = r.mid in
+      let sum = c.requires.sum_in in
+      let bits = c.requires.lawful.fraction in
+      let wide : 46 ≤ p.register = c.requires.register (rw c.if-this-ne0.false refl) in
+      let part : unsigned_abs (floor_div c.args.product (2 ^ p.fraction)) ≤ 18 * 2 ^ 20 = rw c.requires.part_is at c.requires.part_in in
+      let small : unsigned_abs (floor_div c.args.product (2 ^ p.fraction) +ℤ (c.args.sum -ℤ pos 4 *ℤ smid r.kind)) < 2 ^ 26 =
+      rw (← r.smid_is) (omega (arith, ints, part, sum.0, sum.1, mid.0, mid.1)) in
+      let room : 2 ^ 26 * 2 ^ p.fraction ≤ 2 ^ (p.register - 1) = rw (← pow-add 2 26 p.fraction) (pow_mono (omega (arith, wide, bits))) in
+      kept p.register _ (omega (arith, wide)) (sum_below _ _ _ _ _ (pow_pos p.fraction) small room);
 }
