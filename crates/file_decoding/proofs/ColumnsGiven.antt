@@ -28,10 +28,10 @@ use Rattle.file_decoding.proofs.RunsGiven.{some_same, none_there}
 -- the first places, so many, are there, and of bands one above another
 all_up : (ps : List Place) (count z : ℕ) → ((i : ℕ) → i < count → (q : Place) × (slice_get ps i ≡ Some q) × (q.z ≡ z + i)) → (count ≤ length ps) × AreUpFrom z (take count ps)
 all_up ps zero z h = (omega arith, tt)
-all_up [] (suc n) z h = let first = h 0 (omega arith) in absurd (none_there first.0 first.1)
+all_up [] (suc n) z h = let first = h 0 (omega arith) in absurd (none_there _ first.1)
 all_up (p ∷ ps) (suc n) z h =
     let first = h 0 (omega arith) in
-    let here : p.z ≡ z = omega (arith, ap (λ (r : Place). r.z) (some_same p first.0 first.1), first.2) in
+    let here : p.z ≡ z = omega (arith, ap (λ (r : Place). r.z) (some_same _ _ first.1), first.2) in
     let rest = all_up ps n (suc z) (λ i lt. let next = h (suc i) (omega (arith, lt)) in (next.0, next.1, omega (arith, next.2))) in
     (omega (arith, rest.0), (here, rest.1))
 
@@ -47,15 +47,15 @@ more_long numbers i = omega (arith, length-append numbers (replicate i 0), lengt
 -- the places of the column, and how far they reach
 placed : (p : Params) (numbers : List ℕ) (z t count n : ℕ) → n ≤ count → AreAbove p (length numbers) z t count → (n ≤ length (drop (length numbers) (places p.shape p.order))) × AreUpFrom z (places_behind p numbers n)
 placed p numbers z t count n le ask =
-    all_up (drop (length numbers) (places p.shape p.order)) n z (λ i lt.
-    let long = more_long numbers i in
+    all_up _ _ _ (λ i lt.
+    let long = more_long _ _ in
     let next = ask i (numbers ++ replicate i 0) (omega (arith, lt, le)) long in
     (next.0, get_drop (places p.shape p.order) (length numbers) i ∙ ap (slice_get (places p.shape p.order)) (sym long) ∙ next.1, next.2))
 
 -- a band that is above so many others has no more numbers by theirs
 time_there : (p : Params) (numbers : List ℕ) (z t count i : ℕ) → i < count → AreAbove p (length numbers) z t count → length numbers + count ≤ length (places p.shape p.order) → t ≡ length (of_band p numbers (z + i))
 time_there p numbers z t count i lt ask fits =
-    let long = more_long numbers i in
+    let long = more_long _ _ in
     let next = ask i (numbers ++ replicate i 0) lt long in
     let up = (placed p numbers z t count i (omega (arith, lt)) ask).1 in
     let few : length numbers + i ≤ length (places p.shape p.order) = omega (arith, lt, fits) in
@@ -80,7 +80,7 @@ is_column p numbers z t count ask some =
 pub column_inside : (p : Params) (numbers : List ℕ) (z t count : ℕ) → IsLawful p → AreAbove p (length numbers) z t count → 0 < count → z + count ≤ p.shape.bands
 column_inside p numbers z t count lawful ask some =
     let last : count - 1 < count = omega (arith, some) in
-    let next = ask (count - 1) (numbers ++ replicate (count - 1) 0) last (more_long numbers (count - 1)) in
+    let next = ask (count - 1) (numbers ++ replicate (count - 1) 0) last (more_long _ _) in
     let there = (order_is_by_key p.shape p.order lawful.order).only (length (numbers ++ replicate (count - 1) 0)) next.0 next.1 in
     omega (arith, there.band, next.2, some)
 
@@ -91,9 +91,9 @@ column_given (Ok u) z t place old new unread left list gets kept some p numbers 
     let behind : List Place = places_behind p numbers (length list) in
     let long : length numbers ≡ length (places_of p numbers) = places_long p numbers (omega (arith, column.fits)) in
     let did = gets (settings p) (places_of p numbers) (places_behind p numbers (length list)) numbers long (run_count p numbers (length list) column.fits) column.bands h.0.taken column.times at in
-    let words = words_takes unread.count (settings p) (places_of p numbers) numbers (places_behind p numbers (length list)) unread.left (list, left) did.0 in
-    let below : AllByRecursion (λ v. v < 2 ^ p.kind.bits) list = rw (settings_bits p) at words.numbers in
-    (below, words_after (settings p) (places_of p numbers) numbers (places_behind p numbers (length list)) list, words.text, (samples_more_run p old new numbers list bits column.fits h.0 kept did.1, range_both (2 ^ p.kind.bits) numbers list h.1 below))
+    let words = words_takes _ _ _ _ _ _ _ did.0 in
+    let below : AllByRecursion (λ v. v < 2 ^ p.kind.bits) list = rw (settings_bits _) at words.numbers in
+    (below, words_after (settings p) (places_of p numbers) numbers (places_behind p numbers (length list)) list, words.text, (samples_more_run _ _ _ _ _ _ column.fits h.0 kept did.1, range_both _ _ _ h.1 below))
 column_given (Err fault) z t place old new unread left list gets kept some p numbers bits lawful h ask at =
     let column = is_column p numbers z t (length list) ask some in
     let long : length numbers ≡ length (places_of p numbers) = places_long p numbers (omega (arith, column.fits)) in

@@ -50,13 +50,13 @@ packed_bits zero [] e = refl
 packed_bits zero (b ∷ bits) e = absurd (omega arith)
 packed_bits (suc n) bits e =
     let eight : length (take 8 bits) ≡ 8 = omega (arith, e, length-take 8 bits) in
-    let byte : bits_of 8 (number_of (take 8 bits)) ≡ take 8 bits = subst (λ (k : ℕ). bits_of k (number_of (take 8 bits)) ≡ take 8 bits) eight (bits_of-number_of (take 8 bits)) in
+    let byte : bits_of 8 (number_of (take 8 bits)) ≡ take 8 bits = subst (λ (k : ℕ). bits_of k (number_of (take 8 bits)) ≡ take 8 bits) eight (bits_of-number_of _) in
     let rest : bits_of_bytes (packed_from n (drop 8 bits)) ≡ drop 8 bits = packed_bits n (drop 8 bits) (omega (arith, e, length-drop 8 bits)) in
     rw (byte, rest) (take-append-drop 8 bits)
 
 packed_again : (bits : List Bool) → length bits % 8 ≡ 0 → bits_of_bytes (packed bits) ≡ bits
 unfolding packed
-packed_again bits e = packed_bits (length bits / 8) bits (omega (arith, e))
+packed_again bits e = packed_bits _ _ (omega (arith, e))
 
 -- ---- residuals of a cube of the parameters
 
@@ -69,30 +69,30 @@ inside p c lawful cube =
 
 pub length-residuals : (p : Params) (c : Image) → IsLawful p → IsCubeOf p c → length (residuals p c) ≡ sample_count p.shape
 unfolding residuals
-length-residuals p c lawful cube = length-map (places c.shape p.order) _ ∙ length-places c.shape p.order (order_of_cube p c lawful cube) ∙ ap sample_count cube.shape
+length-residuals p c lawful cube = length-map (places c.shape p.order) _ ∙ length-places _ _ (order_of_cube _ _ lawful cube) ∙ ap sample_count cube.shape
 
 -- ---- what is written
 
 chosen_body : (p : Params) (numbers : List ℕ) (coder : Coder) → IsCoder p coder → AllByRecursion (λ v. v < 2 ^ p.kind.bits) numbers → IsBodyBy coder p numbers (body_by coder p numbers)
 chosen_body p numbers (Sample umax gamma_star gamma_zero start) lawful range = refl
 chosen_body p numbers (Block size restricted reference) lawful range =
-    blocks.chosen_is_body (record { bits = p.kind.bits; restricted = restricted }) size reference numbers (omega (arith, size_least size lawful.0)) lawful.2.0 range
+    blocks.chosen_is_body (record { bits = p.kind.bits; restricted = restricted }) size reference numbers (omega (arith, size_least _ lawful.0)) lawful.2.0 range
 
 pub chosen_is_file : ChosenIsFile
 unfolding file_of file_of_residuals file_bits body_of
 chosen_is_file p c lawful cube =
-    let bits : List Bool = header_of p ++ body_of p (residuals p c) in
+    let bits : List Bool = header_of p ++ body_of p (residuals _ c) in
     let fill : ℕ = fill_length p.word (length bits) in
     let whole : length (filled p.word bits) % 8 ≡ 0 = filled_whole p.word bits lawful.word.0 in
     record {
       cube = cube;
       header = header_of p;
-      body = body_of p (residuals p c);
+      body = body_of p (residuals _ c);
       fill = fill;
-      spelt = chosen_is_spelt p lawful;
-      coded = chosen_body p (residuals p c) p.coder lawful.coder (inside p c lawful cube);
+      spelt = chosen_is_spelt _ lawful;
+      coded = chosen_body _ _ _ lawful.coder (inside _ _ lawful cube);
       few = mod_below (8 * p.word - length bits % (8 * p.word)) (8 * p.word) (omega (arith, lawful.word.0));
-      text = packed_again (filled p.word bits) whole;
+      text = packed_again _ whole;
     }
 
 -- ---- a body is read again, whatever follows
@@ -107,13 +107,13 @@ even_again count s half reference n numbers body rest least long coded =
 block_again : (count : ℕ) (s : CodeSet) (size reference n : ℕ) (numbers : List ℕ) (body rest : List Bool) → IsSize size → 1 ≤ reference → length numbers ≡ n → IsBlockBody s size reference numbers body
     → (block_body_at count s size reference n (body ++ rest) >>= λ read. Ok read.1) ≡ Ok rest
 block_again count s size reference n numbers body rest sized least long =
-    subst (λ (k : ℕ). IsBlockBody s k reference numbers body → (block_body_at count s k reference n (body ++ rest) >>= λ read. Ok read.1) ≡ Ok rest) (size_halved size sized) (even_again count s (size / 2) reference n numbers body rest least long)
+    subst (λ (k : ℕ). IsBlockBody s k reference numbers body → (block_body_at count s k reference n (body ++ rest) >>= λ read. Ok read.1) ≡ Ok rest) (size_halved _ sized) (even_again _ _ _ _ _ _ _ _ least long)
 
 by_coder_again : (p : Params) (count : ℕ) (coder : Coder) (numbers : List ℕ) (body rest : List Bool) → IsCoder p coder → IsOrder p.shape p.order → AllByRecursion (λ v. v < 2 ^ p.kind.bits) numbers → length numbers ≡ sample_count p.shape
     → IsBodyBy coder p numbers body → behind_by coder count p (body ++ rest) ≡ Ok rest
 by_coder_again p count (Sample umax gamma_star gamma_zero start) numbers body rest lawful order range long coded =
-    let along : length numbers ≡ length (places p.shape p.order) = long ∙ sym (length-places p.shape p.order order) in
-    let numbers-are : AreNumbers (settings p).bits numbers = rw (settings_bits p) range in
+    let along : length numbers ≡ length (places p.shape p.order) = long ∙ sym (length-places _ _ order) in
+    let numbers-are : AreNumbers (settings p).bits numbers = rw (settings_bits _) range in
     let read = (samples.body_is_read count (settings p) (places p.shape p.order) numbers (body ++ rest) rest along).0 numbers-are (ap (λ (x : List Bool). x ++ rest) coded) in
     rw read refl
 by_coder_again p count (Block size restricted reference) numbers body rest lawful order range long coded =
@@ -122,7 +122,7 @@ by_coder_again p count (Block size restricted reference) numbers body rest lawfu
 pub behind_again : (p : Params) (count : ℕ) (numbers : List ℕ) (body rest : List Bool) → IsLawful p → AllByRecursion (λ v. v < 2 ^ p.kind.bits) numbers → length numbers ≡ sample_count p.shape
     → IsBody p numbers body → behind_body count p (body ++ rest) ≡ Ok rest
 unfolding behind_body
-behind_again p count numbers body rest lawful range long coded = by_coder_again p count p.coder numbers body rest lawful.coder lawful.order range long coded
+behind_again p count numbers body rest lawful range long coded = by_coder_again _ _ _ _ _ _ lawful.coder lawful.order range long coded
 
 -- ---- a file has no fault
 
@@ -132,8 +132,8 @@ no_ones (suc n) = no_ones n
 
 pub zeros_pass : (word n : ℕ) → n < 8 * word → fill_test word (replicate n false) ≡ fine
 zeros_pass word n lt =
-    let few : leb (8 * word) (length (replicate n false)) ≡ false = rw (length-replicate n false) (lt-leb (8 * word) n lt) in
-    rw (few, no_ones n) refl
+    let few : leb (8 * word) (length (replicate n false)) ≡ false = rw (length-replicate n false) (lt-leb _ _ lt) in
+    rw (few, no_ones _) refl
   where
     lt-leb : (a b : ℕ) → b < a → leb a b ≡ false
     lt-leb a b h = grind (arith, nat_tests)
@@ -142,7 +142,7 @@ file_text : (bytes : List ℕ) (p : Params) (c : Image) → (f : IsFile bytes p 
 file_text bytes p c f = f.text ∙ append_assoc f.header f.body (replicate f.fill false)
 
 body_of_file_long : (bytes : List ℕ) (p : Params) (c : Image) → IsLawful p → (f : IsFile bytes p c) → least_length p ≤ length f.body
-body_of_file_long bytes p c lawful f = body_long p (residuals p c) f.body lawful (length-residuals p c lawful f.cube) f.coded
+body_of_file_long bytes p c lawful f = body_long _ _ _ lawful (length-residuals _ _ lawful f.cube) f.coded
 
 pub no_shorter_file : NoShorterFile
 no_shorter_file bytes p c lawful f =
@@ -158,7 +158,7 @@ file_is_fine bytes p c lawful f =
     let count : ℕ = length (f.header ++ (f.body ++ rest)) in
     let text = file_text bytes p c f in
     let header = header_exact.again p f.header (f.body ++ rest) f.spelt in
-    let body = behind_again p count (residuals p c) f.body rest lawful (inside p c lawful f.cube) (length-residuals p c lawful f.cube) f.coded in
+    let body = behind_again p count (residuals _ c) f.body rest lawful (inside p c lawful f.cube) (length-residuals p c lawful f.cube) f.coded in
     let enough = least_passes count p (f.body ++ rest) (omega (arith, body_of_file_long bytes p c lawful f, length-append f.body rest)) in
     rw (text, header, enough, body) (zeros_pass p.word f.fill f.few)
 
@@ -168,20 +168,20 @@ file_is_fine bytes p c lawful f =
 same_numbers : (p : Params) (coder : Coder) (ms ns : List ℕ) (a b x y : List Bool) → IsCoder p coder → IsOrder p.shape p.order → AllByRecursion (λ v. v < 2 ^ p.kind.bits) ms → AllByRecursion (λ v. v < 2 ^ p.kind.bits) ns
     → length ms ≡ sample_count p.shape → length ns ≡ sample_count p.shape → IsBodyBy coder p ms a → IsBodyBy coder p ns b → a ++ x ≡ b ++ y → ms ≡ ns
 same_numbers p (Sample umax gamma_star gamma_zero start) ms ns a b x y lawful order rm rn lm ln s t e =
-    let whole = length-places p.shape p.order order in
+    let whole = length-places _ _ order in
     let bodies = ap (λ (w : List Bool). w ++ x) (sym s) ∙ e ∙ ap (λ (w : List Bool). w ++ y) t in
-    (samples.one_body (settings p) (places p.shape p.order) ms ns x y (lm ∙ sym whole) (ln ∙ sym whole) (rw (settings_bits p) rm) (rw (settings_bits p) rn) bodies).0
+    (samples.one_body (settings p) (places p.shape p.order) ms ns x y (lm ∙ sym whole) (ln ∙ sym whole) (rw (settings_bits _) rm) (rw (settings_bits _) rn) bodies).0
 same_numbers p (Block size restricted reference) ms ns a b x y lawful order rm rn lm ln s t e =
     let set : CodeSet = record { bits = p.kind.bits; restricted = restricted } in
-    let half : size ≡ 2 * (size / 2) = sym (size_halved size lawful.0) in
+    let half : size ≡ 2 * (size / 2) = sym (size_halved _ lawful.0) in
     let s' : IsBlockBody (record { bits = p.kind.bits; restricted = restricted }) (2 * (size / 2)) reference ms a = subst (λ (k : ℕ). IsBlockBody (record { bits = p.kind.bits; restricted = restricted }) k reference ms a) half s in
     let t' : IsBlockBody (record { bits = p.kind.bits; restricted = restricted }) (2 * (size / 2)) reference ns b = subst (λ (k : ℕ). IsBlockBody (record { bits = p.kind.bits; restricted = restricted }) k reference ns b) half t in
-    (blocks.one_body (record { bits = p.kind.bits; restricted = restricted }) (size / 2) reference ms ns a b x y (omega (arith, half, size_least size lawful.0)) (lm ∙ sym ln) s' t' e).0
+    (blocks.one_body (record { bits = p.kind.bits; restricted = restricted }) (size / 2) reference ms ns a b x y (omega (arith, half, size_least _ lawful.0)) (lm ∙ sym ln) s' t' e).0
 
 pub one_file : OneFile
 one_file bytes p q c d lawful f g =
     let whole : f.header ++ (f.body ++ replicate f.fill false) ≡ g.header ++ (g.body ++ replicate g.fill false) = sym (file_text bytes p c f) ∙ file_text bytes q d g in
-    let one = one_spelling header_at SpellsHeader header_exact f.header g.header (f.body ++ replicate f.fill false) (g.body ++ replicate g.fill false) p q f.spelt g.spelt whole in
+    let one = one_spelling _ _ header_exact _ _ _ _ _ _ f.spelt g.spelt whole in
     (one.0, same one.0 g (bodies one.1 whole))
   where
     bodies : f.header ≡ g.header → f.header ++ (f.body ++ replicate f.fill false) ≡ g.header ++ (g.body ++ replicate g.fill false) → f.body ++ replicate f.fill false ≡ g.body ++ replicate g.fill false
@@ -190,6 +190,6 @@ one_file bytes p q c d lawful f g =
     same : p ≡ q → (k : IsFile bytes q d) → f.body ++ replicate f.fill false ≡ k.body ++ replicate k.fill false → c ≡ d
     same e k h =
         let cube : IsCubeOf p d = subst (λ (r : Params). IsCubeOf r d) (sym e) k.cube in
-        let coded : IsBody p (residuals p d) k.body = subst (λ (r : Params). IsBody r (residuals r d) k.body) (sym e) k.coded in
-        let numbers = same_numbers p p.coder (residuals p c) (residuals p d) f.body k.body (replicate f.fill false) (replicate k.fill false) lawful.coder lawful.order (inside p c lawful f.cube) (inside p d lawful cube) (length-residuals p c lawful f.cube) (length-residuals p d lawful cube) f.coded coded h in
+        let coded : IsBody p (residuals _ d) k.body = subst (λ (r : Params). IsBody r (residuals r d) k.body) (sym e) k.coded in
+        let numbers = same_numbers _ _ _ _ _ k.body _ _ lawful.coder lawful.order (inside _ _ lawful f.cube) (inside _ _ lawful cube) (length-residuals _ _ lawful f.cube) (length-residuals _ _ lawful cube) f.coded coded h in
         one_cube p c d lawful f.cube cube numbers

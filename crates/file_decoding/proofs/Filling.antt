@@ -75,7 +75,7 @@ outside_before p tile n r is le there lt b below band row column = elim (cases_l
 
 pub same_before : (p : Params) (tile : Tile) (c d : Image) (bands now : List Learner) (deltas : List ℕ) (n : ℕ) → c.shape ≡ p.shape → IsTile p tile → n ≤ tile.bands → AreFilled tile c d bands now deltas n → SameBefore p.order c d (place_index p.shape p.order tile.place)
 same_before p tile c d bands now deltas n shape is le filled r there lt =
-    filled.samples r.z r.y r.x there (outside_before p tile n r is le (subst (λ (s : Sizes). IsPlaceOf s r) shape there) (subst (λ (s : Sizes). place_index s p.order r < place_index p.shape p.order tile.place) shape lt))
+    filled.samples r.z r.y r.x there (outside_before _ _ _ _ is le (subst (λ (s : Sizes). IsPlaceOf s r) shape there) (subst (λ (s : Sizes). place_index s p.order r < place_index p.shape p.order tile.place) shape lt))
 
 -- ---- what lower bands have stays
 
@@ -83,7 +83,7 @@ same_before p tile c d bands now deltas n shape is le filled r there lt =
 below_run : (d e : Image) (z y x n b t : ℕ) → AreAlikeBeside d e z y x n → b < z → Agree d e b t
 below_run d e z y x n b t beside lt = record {
   alike = beside.alike;
-  samples = λ z' y' x' there earlier. beside.samples z' y' x' there (λ band row column. absurd (late z' (y' * d.shape.columns + x') band earlier));
+  samples = λ z' y' x' there earlier. beside.samples z' y' x' there (λ band row column. absurd (late _ _ band earlier));
 }
   where
     late : (z' t' : ℕ) → z' ≡ z → IsEarlier b t z' t' → ⊥
@@ -150,22 +150,22 @@ fills_more p tile c d e bands now deltas run n f g lt inside filled at ready ban
     columns = ap (λ (s : Sizes). s.columns) band.beside.alike.shape
 
     there : (i b : ℕ) → i < tile.columns → b < tile.bands → IsPlaceOf d.shape (place_in tile.place i b)
-    there i b column below = subst (λ (s : Sizes). IsPlaceOf s (place_in tile.place i b)) (sym shape-d) (placed p tile i b is column below)
+    there i b column below = subst (λ (s : Sizes). IsPlaceOf s (place_in tile.place i b)) (sym shape-d) (placed _ _ _ _ is column below)
 
     turn : Follows p f d
-    turn = all_follow p c d (place_index p.shape p.order tile.place) (tile.place.z + n) f lawful shape filled.alike (same_before p tile c d bands now deltas n shape is (omega (arith, lt)) filled) (omega (arith, lt, is.bands)) (along (tile.place.z + n) (omega (arith, lt, is.bands)) f at)
+    turn = all_follow _ _ _ _ _ _ lawful shape filled.alike (same_before _ _ _ _ _ _ _ _ shape is (omega (arith, lt)) filled) (omega (arith, lt, is.bands)) (along _ (omega (arith, lt, is.bands)) f at)
 
     agree : (b t : ℕ) → b < n → Agree d e (tile.place.z + b) t
-    agree b t below = below_run d e (tile.place.z + n) tile.place.y tile.place.x tile.columns (tile.place.z + b) t band.beside (omega (arith, below))
+    agree b t below = below_run _ _ _ _ _ _ _ _ band.beside (omega (arith, below))
 
     same-sample : (i b : ℕ) → b < n → i < tile.columns → sample_at d (tile.place.z + b) tile.place.y (tile.place.x + i) ≡ sample_at e (tile.place.z + b) tile.place.y (tile.place.x + i)
-    same-sample i b below column = below_sample d e (tile.place.z + n) tile.place.y tile.place.x tile.columns (place_in tile.place i b) band.beside (omega (arith, below)) (there i b column (omega (arith, below, lt)))
+    same-sample i b below column = below_sample _ _ _ _ _ _ _ band.beside (omega (arith, below)) (there _ _ column (omega (arith, below, lt)))
 
     kept : (b : ℕ) → b < n → weight_vector p d (tile.place.z + b) (suc (time_of d.shape (place_in tile.place (tile.columns - 1) b))) ≡ weight_vector p e (tile.place.z + b) (suc (time_of d.shape (place_in tile.place (tile.columns - 1) b)))
     kept b below =
         let column : tile.columns - 1 < tile.columns = omega (arith, is.some.0) in
-        weights_behind p d e (place_in tile.place (tile.columns - 1) b) (time_of d.shape (place_in tile.place (tile.columns - 1) b)) (wide_of p d lawful shape-d) (there (tile.columns - 1) b column (omega (arith, below, lt))) refl
-        (agree b (time_of d.shape (place_in tile.place (tile.columns - 1) b)) below) (same-sample (tile.columns - 1) b below column)
+        weights_behind _ _ _ _ _ (wide_of _ d lawful shape-d) (there _ _ column (omega (arith, below, lt))) refl
+        (agree _ _ below) (same-sample _ _ below column)
 
     lower : (b : ℕ) → b < n → (h : Learner) → slice_get now (tile.place.z + b) ≡ Some h → Follows p h e
     lower b below h here =
@@ -178,7 +178,7 @@ fills_more p tile c d e bands now deltas run n f g lt inside filled at ready ban
     follow b below h here = elim (cases_lt b n) [
       | inl less ↦ lower b less h (sym (get_other now (tile.place.z + n) (tile.place.z + b) g (λ k. omega (arith, k, less))) ∙ here)
       | inr not ↦
-          (let same : h ≡ g = one_item h g (sym here ∙ ap (slice_get (set now (tile.place.z + n) g)) (omega (arith, not, below)) ∙ get_first now (tile.place.z + n) g inside) in
+          (let same : h ≡ g = one_item _ _ (sym here ∙ ap (slice_get (set now (tile.place.z + n) g)) (omega (arith, not, below)) ∙ get_first _ _ _ inside) in
           subst (λ (k : Learner). Follows p k e) (sym same) (band.follows p turn))
     ]
 
@@ -186,15 +186,15 @@ fills_more p tile c d e bands now deltas run n f g lt inside filled at ready ban
     own i column =
         let row : tile.place.y * c.shape.columns ≡ tile.place.y * e.shape.columns = ap (λ (k : ℕ). tile.place.y * k) (columns-d ∙ columns) in
         let time : tile.place.y * e.shape.columns + (tile.place.x + i) ≡ f.place + i = omega (arith, ready.place, row) in
-        ap (mapped_residual p e (tile.place.z + n)) time ∙ sym (run_at p e (tile.place.z + n) f.place tile.columns i column) ∙ ap (λ (l : List ℕ). slice_index l i) (band.residuals p turn) ∙ values i column
+        ap (mapped_residual p e (tile.place.z + n)) time ∙ sym (run_at _ _ _ _ _ _ column) ∙ ap (λ (l : List ℕ). slice_index l i) (band.residuals p turn) ∙ values i column
 
     earlier : (i b : ℕ) → i < tile.columns → b < n → mapped_residual p e (tile.place.z + b) (tile.place.y * e.shape.columns + (tile.place.x + i)) ≡ slice_index deltas (i * tile.bands + b)
     earlier i b column below =
-        let same = residual_same p d e (place_in tile.place i b) (time_of d.shape (place_in tile.place i b)) (wide_of p d lawful shape-d) (there i b column (omega (arith, below, lt))) refl (agree b (time_of d.shape (place_in tile.place i b)) below) (same-sample i b below column) in
+        let same = residual_same _ _ _ _ _ (wide_of _ d lawful shape-d) (there _ _ column (omega (arith, below, lt))) refl (agree _ _ below) (same-sample _ _ below column) in
         ap (λ (k : ℕ). mapped_residual p e (tile.place.z + b) (tile.place.y * k + (tile.place.x + i))) (sym columns) ∙ sym same ∙ known.1 i b column below
 
     residuals : (i b : ℕ) → i < tile.columns → b < n + 1 → mapped_residual p e (tile.place.z + b) (tile.place.y * e.shape.columns + (tile.place.x + i)) ≡ slice_index deltas (i * tile.bands + b)
-    residuals i b column below = elim (cases_lt b n) [ inl less ↦ earlier i b column less | inr not ↦ (let is-n : n ≡ b = omega (arith, not, below) in subst (λ (k : ℕ). mapped_residual p e (tile.place.z + k) (tile.place.y * e.shape.columns + (tile.place.x + i)) ≡ slice_index deltas (i * tile.bands + k)) is-n (own i column)) ]
+    residuals i b column below = elim (cases_lt b n) [ inl less ↦ earlier _ _ column less | inr not ↦ (let is-n : n ≡ b = omega (arith, not, below) in subst (λ (k : ℕ). mapped_residual p e (tile.place.z + k) (tile.place.y * e.shape.columns + (tile.place.x + i)) ≡ slice_index deltas (i * tile.bands + k)) is-n (own _ column)) ]
 
 -- one band more is filled
 pub filled_more : (tile : Tile) (c d e : Image) (bands now : List Learner) (deltas run : List ℕ) (n : ℕ) (f g : Learner) → n < tile.bands → tile.place.z + n < length now → AreFilled tile c d bands now deltas n → slice_get bands (tile.place.z + n) ≡ Some f
@@ -205,16 +205,16 @@ filled_more tile c d e bands now deltas run n f g lt inside filled at ready band
   samples = λ z' y' x' there outside.
       let there-d : IsPlace d.shape z' y' x' = subst (λ (s : Sizes). IsPlace s z' y' x') filled.alike.shape there in
       filled.samples z' y' x' there (λ b below. outside b (omega (arith, below))) ∙ band.beside.samples z' y' x' there-d (outside n (omega arith));
-  others = λ z apart. get_other now (tile.place.z + n) z g (apart n (omega arith)) ∙ filled.others z (λ b below. apart b (omega (arith, below)));
+  others = λ z apart. get_other _ _ _ _ (apart n (omega arith)) ∙ filled.others z (λ b below. apart b (omega (arith, below)));
   past = past;
-  fills = λ p. fills_more p tile c d e bands now deltas run n f g lt inside filled at ready band values;
+  fills = λ p. fills_more _ _ _ _ _ _ _ _ _ _ _ _ lt inside filled at ready band values;
 }
   where
     past : (b : ℕ) → b < n + 1 → (h : Learner) → slice_get (set now (tile.place.z + n) g) (tile.place.z + b) ≡ Some h → IsPast c tile b h
     past b below h here = elim (cases_lt b n) [
       | inl less ↦ filled.past b less h (sym (get_other now (tile.place.z + n) (tile.place.z + b) g (λ k. omega (arith, k, less))) ∙ here)
       | inr not ↦
-          (let same : h ≡ g = one_item h g (sym here ∙ ap (slice_get (set now (tile.place.z + n) g)) (omega (arith, not, below)) ∙ get_first now (tile.place.z + n) g inside) in
+          (let same : h ≡ g = one_item _ _ (sym here ∙ ap (slice_get (set now (tile.place.z + n) g)) (omega (arith, not, below)) ∙ get_first _ _ _ inside) in
           let own : IsPast c tile b g = record { band = omega (arith, band.moved.band, ready.band, not, below); place = omega (arith, band.moved.place, ready.place) } in
           subst (IsPast c tile b) (sym same) own)
     ]
@@ -233,7 +233,7 @@ in_tile tile z = elim (cases_lt z tile.place.z) [
 
 pub filled_whole : (p : Params) (tile : Tile) (c d : Image) (bands now : List Learner) (deltas : List ℕ) → AreFilled tile c d bands now deltas tile.bands → length deltas ≡ tile.columns * tile.bands → AreReady c tile bands → IsLawful p → c.shape ≡ p.shape → IsTile p tile
     → AreAlong p c (place_index p.shape p.order tile.place) bands → AreAlong p d (place_index p.shape p.order tile.place + length deltas) now
-filled_whole p tile c d bands now deltas filled long ready lawful shape is along z lt g at = elim (in_tile tile z) [ inl (b, below, e) ↦ own b below e | inr apart ↦ other apart ]
+filled_whole p tile c d bands now deltas filled long ready lawful shape is along z lt g at = elim (in_tile tile z) [ inl (b, below, e) ↦ own _ below e | inr apart ↦ other apart ]
   where
     n : ℕ
     n = place_index p.shape p.order tile.place
@@ -245,9 +245,9 @@ filled_whole p tile c d bands now deltas filled long ready lawful shape is along
     own b below e =
         let here : slice_get now (tile.place.z + b) ≡ Some g = ap (slice_get now) (sym e) ∙ at in
         let past = filled.past b below g here in
-        let first = ready b below in
-        let start = along (tile.place.z + b) (omega (arith, below, is.bands)) first.0 first.1 in
-        let come = come_within p tile b (place_index p.shape p.order tile.place) lawful.order is below refl (subst (λ (t : ℕ). HasCome p.shape p.order (tile.place.z + b) (place_index p.shape p.order tile.place) t) (omega (arith, first.2.place, row)) start.come) in
+        let first = ready _ below in
+        let start = along _ (omega (arith, below, is.bands)) first.0 first.1 in
+        let come = come_within _ _ _ _ lawful.order is below refl (subst (λ (t : ℕ). HasCome p.shape p.order (tile.place.z + b) (place_index p.shape p.order tile.place) t) (omega (arith, first.2.place, row)) start.come) in
         let last : tile.place.y * p.shape.columns + (tile.place.x + tile.columns - 1) < p.shape.rows * p.shape.columns = digits_lt is.place.row (omega (arith, is.columns, is.some.0)) in
         let all : IsAlong p d (place_index p.shape p.order tile.place + tile.columns * tile.bands) (tile.place.z + b) g = record {
           band = past.band;
@@ -259,12 +259,12 @@ filled_whole p tile c d bands now deltas filled long ready lawful shape is along
 
     other : ((b : ℕ) → b < tile.bands → z ≢ tile.place.z + b) → IsAlong p d (place_index p.shape p.order tile.place + length deltas) z g
     other apart =
-        let before = along z lt g (sym (filled.others z apart) ∙ at) in
+        let before = along _ lt g (sym (filled.others z apart) ∙ at) in
         let all : IsAlong p d (place_index p.shape p.order tile.place + tile.columns * tile.bands) z g = record {
           band = before.band;
           inside = before.inside;
-          follows = all_follow p c d (place_index p.shape p.order tile.place) z g lawful shape filled.alike (same_before p tile c d bands now deltas tile.bands shape is (omega arith) filled) lt before;
-          come = come_beside p tile z g.place (place_index p.shape p.order tile.place) lawful.order is apart refl before.come;
+          follows = all_follow _ _ _ _ _ _ lawful shape filled.alike (same_before _ _ _ _ _ _ _ _ shape is (omega arith) filled) lt before;
+          come = come_beside _ _ _ _ _ lawful.order is apart refl before.come;
         } in
         rw long all
 

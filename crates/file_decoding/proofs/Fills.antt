@@ -16,7 +16,7 @@ one_found (suc zeros) new = one_found zeros new
 
 pub fill_bad : (word zeros : ℕ) (left new : List Bool) → length left < 8 * word → left ≡ replicate zeros false ++ true ∷ new → fill_test word left ≡ Err BadFill
 fill_bad word zeros left new few e =
-    let below : leb (8 * word) (length left) ≡ false = few-leb (8 * word) (length left) few in
+    let below : leb (8 * word) (length left) ≡ false = few-leb _ _ few in
     let one : some_one left ≡ true = ap some_one e ∙ one_found zeros new in
     rw (below, one) refl
 
@@ -44,5 +44,5 @@ below-lt a b h = grind (arith, nat_tests)
 
 pub passed : (word : ℕ) (left : List Bool) → fill_test word left ≡ fine → (length left < 8 * word) × (left ≡ replicate (length left) false)
 passed word left h =
-    let p = passes word left (leb (8 * word) (length left)) (some_one left) refl refl h in
-    (below-lt (8 * word) (length left) p.0, all_zeros left p.1)
+    let p = passes _ _ _ _ refl refl h in
+    (below-lt _ _ p.0, all_zeros _ p.1)

@@ -29,7 +29,7 @@ header_left : (bytes : List ℕ) (p : Params) (n : ℕ) (left : List Bool) → h
 header_left bytes p n left header is = header ∙ ap (λ (rest : List Bool). Ok (p, rest)) (sym is)
 
 test_of_all : (bytes : List ℕ) (p : Params) (count : ℕ) (left : List Bool) → count ≡ 8 * length bytes → least_test (length (bits_of_bytes bytes)) p left ≡ least_test count p left
-test_of_all bytes p count left is = ap (λ (n : ℕ). least_test n p left) (length-bits_of_bytes bytes ∙ sym is)
+test_of_all bytes p count left is = ap (λ (n : ℕ). least_test n p left) (length-bits_of_bytes _ ∙ sym is)
 
 pub length_refused : (bytes : List ℕ) (p : Params) (n count : ℕ) (left : List Bool) (e : Fault) → header_at (bits_of_bytes bytes) ≡ Ok (p, drop n (bits_of_bytes bytes)) → count ≡ 8 * length bytes → left ≡ drop n (bits_of_bytes bytes)
     → Err e ≡ least_test count p left → head_at (bits_of_bytes bytes) ≡ Err e
@@ -53,7 +53,7 @@ pub fill_refused : (p : Params) (c : Image) (bits rest left : List Bool) (e : Fa
 unfolding file_test body_test
 fill_refused p c bits rest left e lawful h t f =
     let body : behind_body (length bits) p rest ≡ Ok left =
-    ap (behind_body (length bits) p) t.text ∙ behind_again p (length bits) (residuals p c) t.body left lawful (inside p c lawful t.cube) (length-residuals p c lawful t.cube) t.coded in
+    ap (behind_body (length bits) p) t.text ∙ behind_again _ _ _ _ _ lawful (inside _ _ lawful t.cube) (length-residuals _ _ lawful t.cube) t.coded in
     rw (h, body) f
 
 -- where a head is refused, nothing else is answered
@@ -73,11 +73,11 @@ abbrev IsRefused : {X : Type 0} → Result X Fault → List Bool → Fault → T
 IsRefused r bits e = (r ≡ Err e) ⊎ ((r ≡ Err WantOfMemory) × BeginsWithTable bits)
 
 pub stops_head : {X : Type 0} (bits : List Bool) (e f : Fault) → Stops bits e → head_at bits ≡ Err f → IsRefused {X = X} (Err e) bits f
-stops_head bits e f (inl h) refused = inl (ap (λ (x : Fault). Err x) (one_refusal bits e f (header_refused bits e h) refused))
+stops_head bits e f (inl h) refused = inl (ap (λ (x : Fault). Err x) (one_refusal _ _ _ (header_refused _ _ h) refused))
 stops_head bits e f (inr (w, t)) refused = inr (ap (λ (x : Fault). Err x) w, t)
 
 pub stops_file : (bits : List Bool) (e : Fault) → Stops bits e → (e ≡ WantOfMemory) ⊎ (file_test bits ≡ Err e)
-stops_file bits e (inl h) = inr (head_refused bits e (header_refused bits e h))
+stops_file bits e (inl h) = inr (head_refused _ _ (header_refused _ _ h))
 stops_file bits e (inr (w, t)) = inl w
 
 -- a header with a fault isn't read as one with tables
@@ -90,7 +90,7 @@ fault_first r bits e (inr (w, (x, header, t))) refused = absurd (let both = sym 
 pub found_file : (bytes : List ℕ) (p : Params) (c : Image) (n : ℕ) (left : List Bool) → SpellsHeader p (take n (bits_of_bytes bytes)) → TakesCube p c (drop n (bits_of_bytes bytes)) left → fill_test p.word left ≡ fine → IsFile bytes p c
 found_file bytes p c n left spelt t f =
     let bits : List Bool = bits_of_bytes bytes in
-    let zeros = passed p.word left f in
+    let zeros = passed _ _ f in
     let text : bits_of_bytes bytes ≡ take n (bits_of_bytes bytes) ++ t.body ++ replicate (length left) false =
     sym (take-append-drop n (bits_of_bytes bytes)) ∙ ap (λ (x : List Bool). take n (bits_of_bytes bytes) ++ x) (t.text ∙ ap (λ (x : List Bool). t.body ++ x) zeros.1) ∙ sym (append_assoc (take n (bits_of_bytes bytes)) t.body (replicate (length left) false)) in
     record { cube = t.cube; header = take n (bits_of_bytes bytes); body = t.body; fill = length left; spelt = spelt; coded = t.coded; few = zeros.0; text = text }
@@ -104,14 +104,14 @@ not_fine : (e : Fault) → fine ≡ Err e → ⊥
 not_fine e h = absurd (cc)
 
 no_file : (bytes : List ℕ) (e : Fault) → file_test (bits_of_bytes bytes) ≡ Err e → IsNoFile bytes
-no_file bytes e t p c f = not_fine e (sym (file_is_fine bytes p c (spelt_is_lawful p f.header f.spelt) f) ∙ t)
+no_file bytes e t p c f = not_fine _ (sym (file_is_fine bytes p c (spelt_is_lawful _ _ f.spelt) f) ∙ t)
 
 pub only_one : (bytes : List ℕ) (r : Result (Params × Image) Fault) → IfOk r (λ found. IsLawful found.0) → IfOk r (λ found. IsFile bytes found.0 found.1) → Faulty bytes r → (p : Params) (c : Image) → IsFile bytes p c → AnswersOr r p c
 only_one bytes (Ok found) lawful file fault p c f = one_file bytes found.0 p found.1 c lawful file f
 only_one bytes (Err e) lawful file (inl w) p c f = w
-only_one bytes (Err e) lawful file (inr t) p c f = absurd (no_file bytes e t p c f)
+only_one bytes (Err e) lawful file (inr t) p c f = absurd (no_file _ _ t p c f)
 
 pub none_else : (bytes : List ℕ) (r : Result (Params × Image) Fault) → Faulty bytes r → IfErr r (λ e. (e ≡ WantOfMemory) ⊎ IsNoFile bytes)
 none_else bytes (Ok found) fault = tt
 none_else bytes (Err e) (inl w) = inl w
-none_else bytes (Err e) (inr t) = inr (no_file bytes e t)
+none_else bytes (Err e) (inr t) = inr (no_file _ _ t)

@@ -51,7 +51,7 @@ some_same p q k = cc
 
 next_is : (xs : List Place) (i : ℕ) (x : Place) → slice_get xs i ≡ Some x → drop i xs ≡ x ∷ drop (suc i) xs
 next_is [] i x e = absurd (cc)
-next_is (y ∷ xs) zero x e = ap (λ (z : Place). z ∷ xs) (some_same y x e)
+next_is (y ∷ xs) zero x e = ap (λ (z : Place). z ∷ xs) (some_same _ _ e)
 next_is (y ∷ xs) (suc i) x e = next_is xs i x e
 
 -- ---- how a code word is refused
@@ -62,51 +62,51 @@ WordFault count t e read = ((e ≡ Truncated count) × ((s : ℕ) → read s ≡
 
 passed_or_bad : (b : Bool) (y : ℕ × List Bool) (t : ℕ) (e : Fault) → cond b (Ok y) (Err (BadCode t)) ≡ Err e → (b ≡ false) × (BadCode t ≡ e)
 passed_or_bad true y t e h = absurd (cc)
-passed_or_bad false y t e h = (refl, fault_is (BadCode t) e h)
+passed_or_bad false y t e h = (refl, fault_is _ _ h)
 
 bad_or_passed : (b : Bool) (y : ℕ × List Bool) (t : ℕ) (e : Fault) → cond b (Err (BadCode t)) (Ok y) ≡ Err e → (b ≡ true) × (BadCode t ≡ e)
-bad_or_passed true y t e h = (refl, fault_is (BadCode t) e h)
+bad_or_passed true y t e h = (refl, fault_is _ _ h)
 bad_or_passed false y t e h = absurd (cc)
 
 plain_fault : (count t : ℕ) (c : Code) (quotient : ℕ) (bits : List Bool) (e : Fault) → plain_at count t c quotient bits ≡ Err e → WordFault count t e (λ s. plain_at count s c quotient bits)
 unfolding plain_at
 plain_fault count t c quotient bits e h =
-    elim (bind_err (number_at count c.low bits) _ e h) [
-      | inl k ↦ (let f = number_fault count c.low bits e k in let g : number_at count c.low bits ≡ Err (Truncated count) = k ∙ ap (λ (d : Fault). Err d) (sym f) in inl (sym f, λ s. rw g refl))
-      | inr (x, k, m) ↦ (let g = passed_or_bad _ _ t e m in inr (sym g.1, λ s. rw (k, g.0) refl))
+    elim (bind_err _ _ _ h) [
+      | inl k ↦ (let f = number_fault _ _ _ _ k in let g : number_at count c.low bits ≡ Err (Truncated count) = k ∙ ap (λ (d : Fault). Err d) (sym f) in inl (sym f, λ s. rw g refl))
+      | inr (x, k, m) ↦ (let g = passed_or_bad _ _ _ _ m in inr (sym g.1, λ s. rw (k, g.0) refl))
     ]
 
 escape_fault : (count t : ℕ) (c : Code) (bits : List Bool) (e : Fault) → escape_at count t c bits ≡ Err e → WordFault count t e (λ s. escape_at count s c bits)
 unfolding escape_at
 escape_fault count t c bits e h =
-    elim (bind_err (number_at count c.bits bits) _ e h) [
-      | inl k ↦ (let f = number_fault count c.bits bits e k in let g : number_at count c.bits bits ≡ Err (Truncated count) = k ∙ ap (λ (d : Fault). Err d) (sym f) in inl (sym f, λ s. rw g refl))
-      | inr (x, k, m) ↦ (let g = bad_or_passed _ _ t e m in inr (sym g.1, λ s. rw (k, g.0) refl))
+    elim (bind_err _ _ _ h) [
+      | inl k ↦ (let f = number_fault _ _ _ _ k in let g : number_at count c.bits bits ≡ Err (Truncated count) = k ∙ ap (λ (d : Fault). Err d) (sym f) in inl (sym f, λ s. rw g refl))
+      | inr (x, k, m) ↦ (let g = bad_or_passed _ _ _ _ m in inr (sym g.1, λ s. rw (k, g.0) refl))
     ]
 
 form_fault : (b : Bool) (count t : ℕ) (c : Code) (quotient : ℕ) (bits : List Bool) (e : Fault) → cond b (plain_at count t c quotient bits) (escape_at count t c bits) ≡ Err e → WordFault count t e (λ s. cond b (plain_at count s c quotient bits) (escape_at count s c bits))
-form_fault true count t c quotient bits e h = plain_fault count t c quotient bits e h
-form_fault false count t c quotient bits e h = escape_fault count t c bits e h
+form_fault true count t c quotient bits e h = plain_fault _ _ _ _ _ _ h
+form_fault false count t c quotient bits e h = escape_fault _ _ _ _ _ h
 
 word_fault : (count t : ℕ) (c : Code) (bits : List Bool) (e : Fault) → word_at count t c bits ≡ Err e → WordFault count t e (λ s. word_at count s c bits)
 unfolding word_at
 word_fault count t c bits e h =
-    elim (bind_err (zeros_at count c.limit bits) _ e h) [
-      | inl k ↦ (let f = zeros_fault count c.limit bits e k in let g : zeros_at count c.limit bits ≡ Err (Truncated count) = k ∙ ap (λ (d : Fault). Err d) (sym f) in inl (sym f, λ s. rw g refl))
-      | inr (x, k, m) ↦ elim (form_fault _ count t c x.0 x.1 e m) [ inl (f, g) ↦ inl (f, λ s. rw k (g s)) | inr (f, g) ↦ inr (f, λ s. rw k (g s)) ]
+    elim (bind_err _ _ _ h) [
+      | inl k ↦ (let f = zeros_fault _ _ _ _ k in let g : zeros_at count c.limit bits ≡ Err (Truncated count) = k ∙ ap (λ (d : Fault). Err d) (sym f) in inl (sym f, λ s. rw g refl))
+      | inr (x, k, m) ↦ elim (form_fault _ _ _ _ _ _ _ m) [ inl (f, g) ↦ inl (f, λ s. rw k (g s)) | inr (f, g) ↦ inr (f, λ s. rw k (g s)) ]
     ]
 
 -- the fault as it is told of another place
 pub placed_fault : (count t place : ℕ) (c : Code) (bits : List Bool) (e told : Fault) → ((s : ℕ) → e ≡ BadCode s → told ≡ BadCode place) → ((n : ℕ) → e ≡ Truncated n → told ≡ Truncated n) → word_at count t c bits ≡ Err e → word_at count place c bits ≡ Err told
 placed_fault count t place c bits e told bad ended h =
-    elim (word_fault count t c bits e h) [
+    elim (word_fault _ _ _ _ _ h) [
       | inl (f, g) ↦ g place ∙ ap (λ (d : Fault). Err d) (sym (ended count f))
       | inr (f, g) ↦ g place ∙ ap (λ (d : Fault). Err d) (sym (bad t f))
     ]
 
 sample_behind : (p : Params) (count : ℕ) (bits : List Bool) → IsSample p.coder → behind_body count p bits ≡ (sample_body_at count (settings p) (places p.shape p.order) bits >>= λ read. Ok read.1)
 unfolding behind_body
-sample_behind p count bits coder = by_coder p.coder coder
+sample_behind p count bits coder = by_coder _ coder
   where
     by_coder : (coder : Coder) → IsSample coder → behind_by coder count p bits ≡ (sample_body_at count (settings p) (places p.shape p.order) bits >>= λ read. Ok read.1)
     by_coder (Sample umax gamma_star gamma_zero start) s = refl
@@ -117,19 +117,19 @@ pub rest_refused : (p : Params) (count : ℕ) (numbers : List ℕ) (bits left : 
     → bits ≡ sample_body (settings p) (places_of p numbers) numbers → words_at count (settings p) (places_of p numbers) numbers (drop (length numbers) (places p.shape p.order)) left ≡ Err e → behind_body count p (bits ++ left) ≡ Err e
 unfolding sample_body sample_body_at
 rest_refused p count numbers bits left e coder range fits text bad =
-    let numbers-are : AreNumbers (settings p).bits numbers = rw (settings_bits p) range in
+    let numbers-are : AreNumbers (settings p).bits numbers = rw (settings_bits _) range in
     let words = words_behind count (settings p) [] [] (places_of p numbers) numbers (drop (length numbers) (places p.shape p.order)) left e (places_long p numbers fits) numbers-are bad in
     let body : words_at count (settings p) [] [] (places p.shape p.order) (bits ++ left) ≡ Err e =
     ap (λ (ps : List Place). words_at count (settings p) [] [] ps (bits ++ left)) (sym (take-append-drop (length numbers) (places p.shape p.order)))
     ∙ ap (λ (bs : List Bool). words_at count (settings p) [] [] (places_of p numbers ++ drop (length numbers) (places p.shape p.order)) (bs ++ left)) text ∙ words in
-    sample_behind p count (bits ++ left) coder ∙ rw body refl
+    sample_behind _ _ _ coder ∙ rw body refl
 
 sample_refused : (p : Params) (count : ℕ) (numbers : List ℕ) (bits left : List Bool) (q : Place) (e : Fault) → IsSample p.coder → AllByRecursion (λ v. v < 2 ^ p.kind.bits) numbers → slice_get (places p.shape p.order) (length numbers) ≡ Some q
     → bits ≡ sample_body (settings p) (places_of p numbers) numbers → word_at count (length numbers) (code_at (settings p) q.z (of_band p numbers q.z)) left ≡ Err e → behind_body count p (bits ++ left) ≡ Err e
 unfolding words_at
 sample_refused p count numbers bits left q e coder range at text bad =
     let one : words_at count (settings p) (places_of p numbers) numbers (q ∷ drop (suc (length numbers)) (places p.shape p.order)) left ≡ Err e = rw bad refl in
-    let all = ap (λ (ps : List Place). words_at count (settings p) (places_of p numbers) numbers ps left) (next_is (places p.shape p.order) (length numbers) q at) ∙ one in
+    let all = ap (λ (ps : List Place). words_at count (settings p) (places_of p numbers) numbers ps left) (next_is (places p.shape p.order) (length numbers) _ at) ∙ one in
     rest_refused p count numbers bits left e coder range (omega (arith, (take_next (places p.shape p.order) (length numbers) q at).0)) text all
 
 -- ---- by samples
@@ -143,15 +143,15 @@ samples_given z t number old new unread left gets kept p numbers bits h next =
     let this : GetsNumber q.z t (Ok number) old unread new left = subst (λ (b : ℕ). GetsNumber b t (Ok number) old unread new left) (sym same) gets in
     let did = this (settings p) (of_band p numbers) h.0.taken t-is in
     let code : Code = code_at (settings p) q.z (of_band p numbers q.z) in
-    let word = word_takes unread.count t code unread.left (number, left) did.0 in
-    let below : number < 2 ^ p.kind.bits = rw (code_bits (settings p) q.z (of_band p numbers q.z), settings_bits p) at word.0 in
+    let word = word_takes _ _ _ _ _ did.0 in
+    let below : number < 2 ^ p.kind.bits = rw (code_bits _ _ _, settings_bits _) at word.0 in
     let long : length numbers ≡ length (places_of p numbers) = places_long p numbers (omega (arith, (take_next (places p.shape p.order) (length numbers) q next.1).0)) in (
       below,
-      code_word code number,
+      code_word _ _,
       word.1,
       (
-        samples_more p old new numbers bits q number next.1 h.0 kept (taken_along (settings p) new (places_of p numbers) numbers q number long did.1),
-        range_more (2 ^ p.kind.bits) numbers number h.1 below,
+        samples_more _ _ _ _ _ _ _ next.1 h.0 kept (taken_along _ _ _ _ _ _ long did.1),
+        range_more _ _ _ h.1 below,
       ),
     )
 
@@ -165,14 +165,14 @@ samples_refused z t place fault told old new unread left gets bad ended p number
     let this : GetsNumber q.z t (Err fault) old unread new left = subst (λ (b : ℕ). GetsNumber b t (Err fault) old unread new left) (sym same) gets in
     let did = this (settings p) (of_band p numbers) h.0.taken t-is in
     let code : Code = code_at (settings p) q.z (of_band p numbers q.z) in
-    let moved = placed_fault unread.count t place code unread.left fault told bad ended did.0 in
-    sample_refused p unread.count numbers bits unread.left q told h.0.coder h.1 next.1 h.0.text (subst (λ (k : ℕ). word_at unread.count k code unread.left ≡ Err told) at moved)
+    let moved = placed_fault _ _ _ _ _ _ _ bad ended did.0 in
+    sample_refused _ _ _ _ _ _ _ h.0.coder h.1 next.1 h.0.text (subst (λ (k : ℕ). word_at unread.count k code unread.left ≡ Err told) at moved)
 
 -- ---- by blocks
 
 block_behind : (p : Params) (v : Cut) (count : ℕ) (bits : List Bool) → IsBlock p.coder → v ≡ cut_by p → behind_body count p bits ≡ (data_sets_at count v v.count 0 bits >>= λ read. Ok read.1)
 unfolding behind_body block_body_at
-block_behind p v count bits coder e = rw e (by_coder p.coder coder)
+block_behind p v count bits coder e = rw e (by_coder _ coder)
   where
     by_coder : (coder : Coder) → IsBlock coder → behind_by coder count p bits ≡ (data_sets_at count (coder_cut p.kind.bits (sample_count p.shape) coder) (coder_cut p.kind.bits (sample_count p.shape) coder).count 0 bits >>= λ read. Ok read.1)
     by_coder (Block size restricted reference) s = refl
@@ -181,7 +181,7 @@ block_behind p v count bits coder e = rw e (by_coder p.coder coder)
 pub blocks_given : (r : Result ℕ Fault) (z t place : ℕ) (old new : Unpacked) (unread : Unread) (left : List Bool) → GivesNext old unread r new left → new.cut ≡ old.cut
     → IfOk r (λ _. given_count new ≡ given_count old + 1) → new.block ≤ new.cut.count → GivesNumber z t place r (Blocks old) unread (Blocks new) left
 blocks_given (Ok value) z t place old new unread left gives kept counted inside p numbers bits lawful h next at =
-    let did = gives numbers bits h.given in
+    let did = gives _ bits h.given in
     let there : new.cut ≡ cut_by p = kept ∙ h.cut in
     let room : IsCutOf (sample_count p.shape) new.cut = rw kept h.room in
     let count : given_count new ≡ length (numbers ++ value ∷ []) = omega (arith, counted, h.count, length-append numbers (value ∷ [])) in (
@@ -191,14 +191,14 @@ blocks_given (Ok value) z t place old new unread left gives kept counted inside 
       record { coder = h.coder; cut = there; room = room; inside = inside; given = did.3; count = count },
     )
 blocks_given (Err fault) z t place old new unread left gives kept counted inside p numbers bits lawful h next at =
-    block_behind p old.cut unread.count (bits ++ unread.left) h.coder h.cut ∙ rw (gives numbers bits h.given) refl
+    block_behind _ _ _ _ h.coder h.cut ∙ rw (gives _ bits h.given) refl
 
 pub blocks_run : (r : Result (Unit {0}) Fault) (zs ts : ℕ → ℕ) (place : ℕ) (old new : Unpacked) (unread : Unread) (left : List Bool) (was list : List ℕ)
     → length list ≡ length was → GivesRun old unread r new left list
     → new.cut ≡ old.cut → IfOk r (λ _. given_count new ≡ given_count old + length was) → new.block ≤ new.cut.count
     → GivesEach zs ts place r (Blocks old) unread (Blocks new) left list
 blocks_run (Ok x) zs ts place old new unread left was list long gives kept counted inside p numbers bits lawful h ask at =
-    let did = gives numbers bits h.given in
+    let did = gives _ bits h.given in
     let there : new.cut ≡ cut_by p = kept ∙ h.cut in
     let room : IsCutOf (sample_count p.shape) new.cut = rw kept h.room in
     let count : given_count new ≡ length (numbers ++ list) = omega (arith, counted, h.count, length-append numbers list) in (
@@ -208,7 +208,7 @@ blocks_run (Ok x) zs ts place old new unread left was list long gives kept count
       record { coder = h.coder; cut = there; room = room; inside = inside; given = did.3; count = count },
     )
 blocks_run (Err fault) zs ts place old new unread left was list long gives kept counted inside p numbers bits lawful h ask at =
-    block_behind p old.cut unread.count (bits ++ unread.left) h.coder h.cut ∙ rw (gives numbers bits h.given) refl
+    block_behind _ _ _ _ h.coder h.cut ∙ rw (gives _ bits h.given) refl
 
 -- ---- by either
 
@@ -243,4 +243,4 @@ pub given_whole : (p : Params) (d : Decoder) (numbers : List ℕ) (bits : List B
 given_whole p (Samples v) numbers bits lawful h long =
     whole_sample p p.coder numbers bits h.0.coder (h.0.text ∙ ap (λ (ps : List Place). sample_body (settings p) ps numbers) (places_whole p numbers lawful.order long))
 given_whole p (Blocks v) numbers bits lawful h long =
-    whole_blocks p p.coder v numbers bits h.coder h.room h.cut h.inside long h.count h.given
+    whole_blocks _ _ _ _ _ h.coder h.room h.cut h.inside long h.count h.given

@@ -32,7 +32,7 @@ wide_of p c lawful shape h = omega (arith, lawful.sums h, ap (λ (s : Sizes). s.
 kept_residual : (p : Params) (c d : Image) (r : Place) (i : ℕ) → IsOrder c.shape p.order → (p.column ≡ false → 2 ≤ c.shape.columns) → AreAlike c d → SameBefore p.order c d i → IsPlaceOf c.shape r → place_index c.shape p.order r < i
     → mapped_residual p c r.z (time_of c.shape r) ≡ mapped_residual p d r.z (time_of c.shape r)
 kept_residual p c d r i lawful wide alike same there lt =
-    residual_same p c d r (time_of c.shape r) wide there refl (agree_at p.order c d i r (time_of c.shape r) lawful alike same there refl (omega (arith, lt))) (same r there lt)
+    residual_same _ _ _ _ _ wide there refl (agree_at _ _ _ _ _ _ lawful alike same there refl (omega (arith, lt))) (same r there lt)
 
 kept_weights : (p : Params) (c d : Image) (i z t : ℕ) → IsLawful p → c.shape ≡ p.shape → AreAlike c d → SameBefore p.order c d i → z < c.shape.bands → t ≤ c.shape.rows * c.shape.columns → HasCome c.shape p.order z i t → weight_vector p c z t ≡ weight_vector p d z t
 unfolding weight_vector
@@ -52,7 +52,7 @@ all_follow p c d i z f lawful shape alike same band along =
     let bands : z < c.shape.bands = omega (arith, band, ap (λ (s : Sizes). s.bands) shape) in
     let within : f.place ≤ c.shape.rows * c.shape.columns = subst (λ (s : Sizes). f.place ≤ s.rows * s.columns) (sym shape) along.inside in
     let come : HasCome c.shape p.order z i f.place = subst (λ (s : Sizes). HasCome s p.order z i f.place) (sym shape) along.come in
-    let kept = kept_weights p c d i z f.place lawful shape alike same bands within come in
+    let kept = kept_weights _ _ _ _ _ _ lawful shape alike same bands within come in
     record {
       made = along.follows.made;
       weights = along.follows.weights ∙ ap (λ (b : ℕ). weight_vector p c b f.place) along.band ∙ kept ∙ ap (λ (b : ℕ). weight_vector p d b f.place) (sym along.band);
@@ -66,7 +66,7 @@ map_take_same f g (suc i) (p ∷ ps) h =
 
 pub residuals_same : (p : Params) (c d : Image) (left : List Place) → IsLawful p → c.shape ≡ p.shape → AreAlike c d → SameBefore p.order c d (gone_count p left) → residuals_at p c (gone_by p left) ≡ residuals_at p d (gone_by p left)
 residuals_same p c d left lawful shape alike same =
-    map_take_same (λ r. mapped_residual p c r.z (r.y * c.shape.columns + r.x)) (λ r. mapped_residual p d r.z (r.y * d.shape.columns + r.x)) (gone_count p left) (places p.shape p.order)
+    map_take_same (λ r. mapped_residual p c r.z (r.y * c.shape.columns + r.x)) (λ r. mapped_residual p d r.z (r.y * d.shape.columns + r.x)) _ _
     (λ j r lt e.
     let order : IsOrder c.shape p.order = subst (λ (s : Sizes). IsOrder s p.order) (sym shape) lawful.order in
     let place : IsPlaceOf c.shape r = subst (λ (s : Sizes). IsPlaceOf s r) (sym shape) ((order_is_by_key p.shape p.order lawful.order).only j r e) in
@@ -80,23 +80,23 @@ put_alike c q v = record { shape = refl; kind = refl }
 
 -- places with one index in the list of samples are one
 other_index : (s : Sizes) (q r : Place) → IsPlaceOf s q → IsPlaceOf s r → (q ≡ r → ⊥) → index_in s.columns s.rows r.z r.y r.x ≢ index_in s.columns s.rows q.z q.y q.x
-other_index s q r a b apart e = apart (same_place s Bsq q r tt a b (sequential_index s q ∙ sym e ∙ sym (sequential_index s r)))
+other_index s q r a b apart e = apart (same_place _ _ _ _ tt a b (sequential_index _ _ ∙ sym e ∙ sym (sequential_index _ _)))
 
 pub put_other : (c : Image) (q r : Place) (v : ℤ) → IsPlaceOf c.shape q → IsPlaceOf c.shape r → (q ≡ r → ⊥) → sample_at c r.z r.y r.x ≡ sample_at (put c q.z q.y q.x v) r.z r.y r.x
 unfolding sample_at
-put_other c q r v a b apart = sym (get_or-set_other c.samples (index_in c.shape.columns c.shape.rows q.z q.y q.x) (index_in c.shape.columns c.shape.rows r.z r.y r.x) v (pos 0) (other_index c.shape q r a b apart))
+put_other c q r v a b apart = sym (get_or-set_other c.samples (index_in c.shape.columns c.shape.rows q.z q.y q.x) (index_in c.shape.columns c.shape.rows r.z r.y r.x) v (pos 0) (other_index _ _ _ a b apart))
 
 -- the places before it stay
 pub put_same : (o : Order) (c : Image) (q : Place) (v : ℤ) (i : ℕ) → IsPlaceOf c.shape q → place_index c.shape o q ≡ i → SameBefore o c (put c q.z q.y q.x v) i
-put_same o c q v i place e r there lt = put_other c q r v place there (λ h. omega (arith, lt, e, ap (place_index c.shape o) h))
+put_same o c q v i place e r there lt = put_other _ _ _ _ place there (λ h. omega (arith, lt, e, ap (place_index c.shape o) h))
 
 pub residuals_kept : (p : Params) (c : Image) (q : Place) (v : ℤ) (left : List Place) → IsLawful p → c.shape ≡ p.shape → StandsAt p.shape p.order q (gone_count p left) → residuals_at p c (gone_by p left) ≡ residuals_at p (put c q.z q.y q.x v) (gone_by p left)
 residuals_kept p c q v left lawful shape stands =
     let there : StandsAt c.shape p.order q (gone_count p left) = subst (λ (s : Sizes). StandsAt s p.order q (gone_count p left)) (sym shape) stands in
-    residuals_same p c (put c q.z q.y q.x v) left lawful shape (put_alike c q v) (put_same p.order c q v (gone_count p left) there.place there.index)
+    residuals_same _ _ _ _ lawful shape (put_alike _ _ _) (put_same _ _ _ _ _ there.place there.index)
 
 -- a band that isn't at its turn follows it, too
 pub others_follow : (p : Params) (c : Image) (q : Place) (v : ℤ) (i z : ℕ) (f : Learner) → IsLawful p → c.shape ≡ p.shape → StandsAt p.shape p.order q i → z < p.shape.bands → IsAlong p c i z f → Follows p f (put c q.z q.y q.x v)
 others_follow p c q v i z f lawful shape stands band along =
     let there : StandsAt c.shape p.order q i = subst (λ (s : Sizes). StandsAt s p.order q i) (sym shape) stands in
-    all_follow p c (put c q.z q.y q.x v) i z f lawful shape (put_alike c q v) (put_same p.order c q v i there.place there.index) band along
+    all_follow _ _ _ _ _ _ lawful shape (put_alike _ _ _) (put_same _ _ _ _ _ there.place there.index) band along

@@ -50,12 +50,12 @@ by_coder_long p (Sample umax gamma_star gamma_zero start) numbers body deep lawf
     let words = words_long (settings p) [] [] (places p.shape p.order) numbers some (long ∙ sym (length-places p.shape p.order order)) in
     omega (arith, words, ap length coded)
 by_coder_long p (Block size restricted reference) numbers body deep lawful order long coded =
-    let least = no_shorter_body (record { bits = p.kind.bits; restricted = restricted }) size reference numbers body (omega arith) (omega (arith, size_least size lawful.0)) lawful.2.0 coded in
+    let least = no_shorter_body (record { bits = p.kind.bits; restricted = restricted }) size reference numbers body (omega arith) (omega (arith, size_least _ lawful.0)) lawful.2.0 coded in
     subst (λ (n : ℕ). 3 * segment_count n size reference ≤ length body) long least
 
 -- a body of as many numbers as there are samples is no shorter than the least length
 pub body_long : (p : Params) (numbers : List ℕ) (body : List Bool) → IsLawful p → length numbers ≡ sample_count p.shape → IsBody p numbers body → least_length p ≤ length body
-body_long p numbers body lawful long coded = by_coder_long p p.coder numbers body lawful.kind.0 lawful.coder lawful.order long coded
+body_long p numbers body lawful long coded = by_coder_long _ _ _ _ lawful.kind.0 lawful.coder lawful.order long coded
 
 pub least_passes : (count : ℕ) (p : Params) (bits : List Bool) → least_length p ≤ length bits → least_test count p bits ≡ fine
 least_passes count p bits le = (let enough : ltb (length bits) (least_length p) ≡ false = le-ltb (length bits) (least_length p) le in rw enough refl)

@@ -35,10 +35,10 @@ use Rattle.file_decoding.proofs.Alike.{agree_at, mapped_at, scaled_alike}
 pub sample_inside : (c : Image) (q : Place) → IsCube c → IsPlaceOf c.shape q → IsSample c.kind (sample_at c q.z q.y q.x)
 unfolding sample_at
 sample_inside c q cube place =
-    cube.range (index_in c.shape.columns c.shape.rows q.z q.y q.x) (omega (arith, cube.whole, index_below c.shape.columns c.shape.rows c.shape.bands q.z q.y q.x place.band place.row place.column))
+    cube.range (index_in c.shape.columns c.shape.rows q.z q.y q.x) (omega (arith, cube.whole, index_below _ _ _ _ _ _ place.band place.row place.column))
 
 pub least_inside : (k : SampleKind) → IsKind k → smin k ≤ℤ smid k
-least_inside k h = by_sign k.signed
+least_inside k h = by_sign _
   where
     by_sign : (signed : Bool) → smin (record { signed = signed; bits = k.bits }) ≤ℤ smid (record { signed = signed; bits = k.bits })
     by_sign true = omega (arith, ints)
@@ -70,15 +70,15 @@ there_inside p c z y x ws cube =
 
 pub scaled_inside : (p : Params) (c : Image) (z t : ℕ) → IsCube c → z < c.shape.bands → IsScaled c.kind (scaled_prediction p c z t)
 unfolding scaled_prediction
-scaled_inside p c z zero cube band = first_inside (predictor_of p) c z cube band
-scaled_inside p c z (suc t) cube band = there_inside (predictor_of p) c z _ _ _ cube
+scaled_inside p c z zero cube band = first_inside _ _ _ cube band
+scaled_inside p c z (suc t) cube band = there_inside _ _ _ _ _ _ cube
 
 -- ---- so are residuals
 
 pub residual_inside : (p : Params) (c : Image) (q : Place) → IsCube c → IsPlaceOf c.shape q → mapped_residual p c q.z (q.y * c.shape.columns + q.x) < 2 ^ c.kind.bits
 residual_inside p c q cube place =
     rw (mapped_at p c q (q.y * c.shape.columns + q.x) refl place.column)
-    ((one_sample_lem c.kind (scaled_prediction p c q.z (q.y * c.shape.columns + q.x)) cube.bits (scaled_inside p c q.z (q.y * c.shape.columns + q.x) cube place.band)).0 (sample_at c q.z q.y q.x) (sample_inside c q cube place))
+    ((one_sample_lem c.kind (scaled_prediction p c q.z (q.y * c.shape.columns + q.x)) cube.bits (scaled_inside _ _ _ _ cube place.band)).0 (sample_at c q.z q.y q.x) (sample_inside _ _ cube place))
 
 all_inside : (f : Place → ℕ) (limit : ℕ) (ps : List Place) → ((i : ℕ) (q : Place) → slice_get ps i ≡ Some q → f q < limit) → AllByRecursion (λ v. v < limit) (map f ps)
 all_inside f limit [] h = tt
@@ -87,8 +87,8 @@ all_inside f limit (p ∷ ps) h = (h 0 p refl, all_inside f limit ps (λ i q e. 
 pub residuals_inside : (p : Params) (c : Image) → IsOrder c.shape p.order → IsCube c → AllByRecursion (λ v. v < 2 ^ c.kind.bits) (residuals p c)
 unfolding residuals
 residuals_inside p c lawful cube =
-    all_inside (λ q. mapped_residual p c q.z (q.y * c.shape.columns + q.x)) (2 ^ c.kind.bits) (places c.shape p.order)
-    (λ i q e. residual_inside p c q cube ((order_is_by_key c.shape p.order lawful).only i q e))
+    all_inside (λ q. mapped_residual p c q.z (q.y * c.shape.columns + q.x)) _ _
+    (λ i q e. residual_inside _ _ _ cube ((order_is_by_key c.shape p.order lawful).only i q e))
 
 -- ---- one cube
 
@@ -103,8 +103,8 @@ some_same p q k = cc
 
 map_same : (f g : Place → ℕ) (ps : List Place) (i : ℕ) (q : Place) → map f ps ≡ map g ps → slice_get ps i ≡ Some q → f q ≡ g q
 map_same f g [] i q e h = absurd (cc)
-map_same f g (p ∷ ps) zero q e h = subst (λ (r : Place). f r ≡ g r) (some_same p q h) (first_same (f p) (g p) (map f ps) (map g ps) e)
-map_same f g (p ∷ ps) (suc i) q e h = map_same f g ps i q (rest_same (f p) (g p) (map f ps) (map g ps) e) h
+map_same f g (p ∷ ps) zero q e h = subst (λ (r : Place). f r ≡ g r) (some_same _ _ h) (first_same _ _ _ _ e)
+map_same f g (p ∷ ps) (suc i) q e h = map_same f g ps i q (rest_same _ _ _ _ e) h
 
 image_same : (c d : Image) → c.shape ≡ d.shape → c.kind ≡ d.kind → c.samples ≡ d.samples → c ≡ d
 image_same c d shape kind samples =
@@ -164,5 +164,5 @@ one_cube p c d lawful a b e =
     let lists : map (λ q. mapped_residual p c q.z (q.y * c.shape.columns + q.x)) (places c.shape p.order) ≡ map (λ q. mapped_residual p d q.z (q.y * c.shape.columns + q.x)) (places c.shape p.order) =
     e ∙ ap (λ (s : Sizes). map (λ q. mapped_residual p d q.z (q.y * s.columns + q.x)) (places s p.order)) (sym shape) in
     let same : (q : Place) → IsPlaceOf c.shape q → mapped_residual p c q.z (time_of c.shape q) ≡ mapped_residual p d q.z (time_of c.shape q) =
-    λ q place. map_same (λ r. mapped_residual p c r.z (r.y * c.shape.columns + r.x)) (λ r. mapped_residual p d r.z (r.y * c.shape.columns + r.x)) (places c.shape p.order) (place_index c.shape p.order q) q lists (item_of_index c.shape p.order q order place) in
+    λ q place. map_same (λ r. mapped_residual p c r.z (r.y * c.shape.columns + r.x)) (λ r. mapped_residual p d r.z (r.y * c.shape.columns + r.x)) _ _ _ lists (item_of_index c.shape p.order q order place) in
     image_same c d shape kind (samples_same p c d order wide (record { shape = shape; kind = kind }) a.cube b.cube same)

@@ -19,7 +19,7 @@ use Rattle.file_decoding.proofs.Givers.{range_more, may_ask}
 pub gives_more : (p : Params) (mid new : Decoder) (numbers : List ℕ) (bits unread now left : List Bool) (list : List ℕ) (x : ℕ) → (g : GivesAll p mid numbers bits unread now list) → GivesMore p new (numbers ++ list) (bits ++ g.1) now left x
     → GivesAll p new numbers bits unread left (list ++ x ∷ [])
 gives_more p mid new numbers bits unread now left list x g m = (
-  range_more (2 ^ p.kind.bits) list x g.0 m.0,
+  range_more _ _ _ g.0 m.0,
   g.1 ++ m.1,
   g.2 ∙ ap (λ (y : List Bool). g.1 ++ y) m.2 ∙ sym (append_assoc g.1 m.1 left),
   subst (λ (ns : List ℕ). HasGiven p new ns (bits ++ (g.1 ++ m.1))) (append_assoc numbers list (x ∷ [])) (subst (λ (bs : List Bool). HasGiven p new ((numbers ++ list) ++ x ∷ []) bs) (append_assoc bits g.1 m.1) m.3),
@@ -53,7 +53,7 @@ range_both limit (x ∷ xs) ys h k = (h.0, range_both limit xs ys h.1 k)
 pub gives_both : (p : Params) (mid new : Decoder) (numbers : List ℕ) (bits unread now left : List Bool) (xs ys : List ℕ) → (g : GivesAll p mid numbers bits unread now xs) → GivesAll p new (numbers ++ xs) (bits ++ g.1) now left ys
     → GivesAll p new numbers bits unread left (xs ++ ys)
 gives_both p mid new numbers bits unread now left xs ys g m = (
-  range_both (2 ^ p.kind.bits) xs ys g.0 m.0,
+  range_both _ _ _ g.0 m.0,
   g.1 ++ m.1,
   g.2 ∙ ap (λ (y : List Bool). g.1 ++ y) m.2 ∙ sym (append_assoc g.1 m.1 left),
   subst (λ (ns : List ℕ). HasGiven p new ns (bits ++ (g.1 ++ m.1))) (append_assoc numbers xs ys) (subst (λ (bs : List Bool). HasGiven p new ((numbers ++ xs) ++ ys) bs) (append_assoc bits g.1 m.1) m.3),

@@ -29,16 +29,16 @@ none_there q e = cc
 -- the first places, so many, are there, and of one band
 all_first : (ps : List Place) (count z : ℕ) → ((i : ℕ) → i < count → (q : Place) × (slice_get ps i ≡ Some q) × (q.z ≡ z)) → (count ≤ length ps) × AllByRecursion (λ q. q.z ≡ z) (take count ps)
 all_first ps zero z h = (omega arith, tt)
-all_first [] (suc n) z h = let first = h 0 (omega arith) in absurd (none_there first.0 first.1)
+all_first [] (suc n) z h = let first = h 0 (omega arith) in absurd (none_there _ first.1)
 all_first (p ∷ ps) (suc n) z h =
     let first = h 0 (omega arith) in
     let rest = all_first ps n z (λ i lt. h (suc i) (omega (arith, lt))) in
-    (omega (arith, rest.0), (ap (λ (r : Place). r.z) (some_same p first.0 first.1) ∙ first.2, rest.1))
+    (omega (arith, rest.0), (ap (λ (r : Place). r.z) (some_same _ _ first.1) ∙ first.2, rest.1))
 
 -- numbers that follow one another in a band are a run of it
 pub is_run : (p : Params) (numbers : List ℕ) (z t count : ℕ) → AreNumbers p (length numbers) z t count → 0 < count → IsRun p numbers z t count
 is_run p numbers z t count ask some =
-    let there = all_first (drop (length numbers) (places p.shape p.order)) count z (λ i lt.
+    let there = all_first _ _ _ (λ i lt.
     let more : List ℕ = numbers ++ replicate i 0 in
     let long : length (numbers ++ replicate i 0) ≡ length numbers + i = omega (arith, length-append numbers (replicate i 0), length-replicate {A = ℕ} i 0) in
     let next = ask i (numbers ++ replicate i 0) lt long in
@@ -56,9 +56,9 @@ samples_given (Ok u) z t place old new unread left list gets kept some p numbers
     let behind : List Place = places_behind p numbers (length list) in
     let long : length numbers ≡ length (places_of p numbers) = places_long p numbers (omega (arith, run.fits)) in
     let did = gets (settings p) (places_of p numbers) (places_behind p numbers (length list)) numbers long (run_count p numbers (length list) run.fits) run.band h.0.taken run.time at in
-    let words = words_takes unread.count (settings p) (places_of p numbers) numbers (places_behind p numbers (length list)) unread.left (list, left) did.0 in
-    let below : AllByRecursion (λ v. v < 2 ^ p.kind.bits) list = rw (settings_bits p) at words.numbers in
-    (below, words_after (settings p) (places_of p numbers) numbers (places_behind p numbers (length list)) list, words.text, (samples_more_run p old new numbers list bits run.fits h.0 kept did.1, range_both (2 ^ p.kind.bits) numbers list h.1 below))
+    let words = words_takes _ _ _ _ _ _ _ did.0 in
+    let below : AllByRecursion (λ v. v < 2 ^ p.kind.bits) list = rw (settings_bits _) at words.numbers in
+    (below, words_after (settings p) (places_of p numbers) numbers (places_behind p numbers (length list)) list, words.text, (samples_more_run _ _ _ _ _ _ run.fits h.0 kept did.1, range_both _ _ _ h.1 below))
 samples_given (Err fault) z t place old new unread left list gets kept some p numbers bits lawful h ask at =
     let run = is_run p numbers z t (length list) ask some in
     let long : length numbers ≡ length (places_of p numbers) = places_long p numbers (omega (arith, run.fits)) in

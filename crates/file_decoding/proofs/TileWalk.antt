@@ -39,8 +39,8 @@ pub record ComesFirst (p : Params) (left : List Place) (q : Place) : Type 0 wher
 
 pub comes_first : (p : Params) (left : List Place) (q : Place) → IsOrder p.shape p.order → left ≡ drop (gone_count p left) (places p.shape p.order) → slice_get left 0 ≡ Some q → ComesFirst p left q
 comes_first p left q lawful rest first =
-    let next = first_of left q first in
-    let stands = next_stands p.shape p.order (gone_count p left) q next.0 lawful (sym rest ∙ next.1) in
+    let next = first_of _ _ first in
+    let stands = next_stands _ _ _ _ _ lawful (sym rest ∙ next.1) in
     let some : 1 ≤ length left = let long = ap length next.1 in omega (arith, long) in
     let all = ap length rest in
     record {
@@ -78,7 +78,7 @@ time_at p tile b n t lawful is lt at come =
     let r : Place = place_in tile.place 0 b in
     let index = is.index 0 b (omega (arith, is.some.0)) lt in
     let stands : StandsAt p.shape p.order (place_in tile.place 0 b) (n + b) = record { place = placed p tile 0 b is (omega (arith, is.some.0)) lt; index = omega (arith, index, at) } in
-    let time = come_here p.shape p.order (tile.place.z + b) (n + b) t (place_in tile.place 0 b) lawful (come_up p tile b n t lawful is lt at come) stands refl in
+    let time = come_here _ _ _ _ _ _ lawful (come_up _ _ _ _ _ lawful is lt at come) stands refl in
     omega (arith, time)
 
 band_there : (bands : List Learner) (z : ℕ) → z < length bands → (f : Learner) × (slice_get bands z ≡ Some f)
@@ -89,14 +89,14 @@ band_there (f ∷ bands) (suc z) lt = band_there bands z (omega (arith, lt))
 pub bands_ready : (p : Params) (c : Image) (tile : Tile) (bands : List Learner) (n : ℕ) → IsOrder p.shape p.order → c.shape ≡ p.shape → c.kind ≡ p.kind → length bands ≡ p.shape.bands → IsTile p tile → n ≡ place_index p.shape p.order tile.place → AreAlong p c n bands → AreReady c tile bands
 bands_ready p c tile bands n lawful shape kind many is at along b lt =
     let band = band_there bands (tile.place.z + b) (omega (arith, lt, is.bands, many)) in
-    let here = along (tile.place.z + b) (omega (arith, lt, is.bands)) band.0 band.1 in (
+    let here = along _ (omega (arith, lt, is.bands)) band.0 band.1 in (
       band.0,
       band.1,
       record {
         shape = shape ∙ sym here.follows.made.shape;
         kind = kind ∙ sym here.follows.made.kind;
         band = here.band;
-        place = sym (time_at p tile b n band.0.place lawful is lt at here.come) ∙ ap (λ (s : Sizes). tile.place.y * s.columns + tile.place.x) (sym shape);
+        place = sym (time_at _ _ _ _ _ lawful is lt at here.come) ∙ ap (λ (s : Sizes). tile.place.y * s.columns + tile.place.x) (sym shape);
       },
     )
 
@@ -123,9 +123,9 @@ decoded_more p c d left tile old new start now next deltas lawful shape alike sa
 
     value : (k : ℕ) → k < length deltas → (q : Place) × (slice_get left k ≡ Some q) × (residual q ≡ slice_index deltas k)
     value k lt =
-        let w = within tile k is.some.1 (omega (arith, lt, long)) in
+        let w = within tile _ is.some.1 (omega (arith, lt, long)) in
         let item : slice_get left k ≡ Some (place_in tile.place (k / tile.bands) (k % tile.bands)) =
-        ap (λ (ps : List Place). slice_get ps k) rest ∙ get_drop (places p.shape p.order) (gone_count p left) k ∙ ap (λ (n : ℕ). slice_get (places p.shape p.order) (n + k)) at ∙ item_in p tile k lawful.order is (omega (arith, lt, long)) in
+        ap (λ (ps : List Place). slice_get ps k) rest ∙ get_drop _ (gone_count p left) _ ∙ ap (λ (n : ℕ). slice_get (places p.shape p.order) (n + k)) at ∙ item_in _ _ _ lawful.order is (omega (arith, lt, long)) in
         (place_in tile.place (k / tile.bands) (k % tile.bands), item, has (k / tile.bands) (k % tile.bands) w.column w.band ∙ ap (slice_index deltas) w.split)
 
     gone_by_more : gone_by p (drop (length deltas) left) ≡ gone_by p left ++ take (length deltas) left
@@ -136,8 +136,8 @@ decoded_more p c d left tile old new start now next deltas lawful shape alike sa
     all : residuals_at p d (gone_by p (drop (length deltas) left)) ≡ residuals_at p c (gone_by p left) ++ deltas
     all =
         ap (residuals_at p d) gone_by_more ∙ map-append residual (gone_by p left) (take (length deltas) left)
-        ∙ ap (λ (ns : List ℕ). ns ++ map residual (take (length deltas) left)) (sym (residuals_same p c d left lawful shape alike same))
-        ∙ ap (λ (ns : List ℕ). residuals_at p c (gone_by p left) ++ ns) (map_first residual left deltas value)
+        ∙ ap (λ (ns : List ℕ). ns ++ map residual (take (length deltas) left)) (sym (residuals_same _ _ _ _ lawful shape alike same))
+        ∙ ap (λ (ns : List ℕ). residuals_at p c (gone_by p left) ++ ns) (map_first _ _ _ value)
 
 -- ---- rooms
 

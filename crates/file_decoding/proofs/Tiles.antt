@@ -25,7 +25,7 @@ use Rattle.file_decoding.specs.Tiles.{IsTile, most_bands, place_in, band_in, tim
 pub index_in_bsq : (s : Sizes) (q : Place) (i b : ℕ) → b < 1 → place_index s Bsq (place_in q i b) ≡ place_index s Bsq q + (i * 1 + b)
 index_in_bsq s q i zero lt =
     let z : q.z + 0 ≡ q.z = omega arith in
-    ap (λ (k : ℕ). place_index s Bsq (record { z = k; y = q.y; x = q.x + i })) z ∙ columns_on s q i ∙ omega arith
+    ap (λ (k : ℕ). place_index s Bsq (record { z = k; y = q.y; x = q.x + i })) z ∙ columns_on _ _ _ ∙ omega arith
 index_in_bsq s q i (suc b) lt = absurd (omega (arith, lt))
 
 -- whole columns of a group, or a part of one
@@ -50,10 +50,10 @@ index_in_tile : (s : Sizes) (o : Order) (q : Place) (columns bands : ℕ) → Is
 index_in_tile s Bsq q columns bands lawful place is case i b column band =
     let whole : q.z / 1 ≡ q.z = div-one q.z in
     let one : bands ≡ 1 = omega (arith, is, whole, place.band) in
-    rw one (index_in_bsq s q i b (omega (arith, band, one)))
+    rw one (index_in_bsq _ _ _ _ (omega (arith, band, one)))
 index_in_tile s (Bi depth) q columns bands lawful place is case i b column band =
     let low : q.z / depth * depth ≤ q.z = div-mul-le_self q.z depth in
-    index_in_bi s depth q i b bands lawful.0 low (omega (arith, is, band)) (elim case [ inl one ↦ inl (omega (arith, one, column)) | inr start ↦ inr (start, omega (arith, is, start, low)) ])
+    index_in_bi _ _ _ _ _ _ lawful.0 low (omega (arith, is, band)) (elim case [ inl one ↦ inl (omega (arith, one, column)) | inr start ↦ inr (start, omega (arith, is, start, low)) ])
 
 some_bands : (s : Sizes) (o : Order) → IsOrder s o → 1 ≤ most_bands o
 some_bands s Bsq lawful = omega arith
@@ -71,7 +71,7 @@ is_tile p q columns bands lawful place some few fits is case =
       few = (few, omega (arith, is, low));
       columns = fits;
       bands = omega (arith, is, high, place.band);
-      index = index_in_tile p.shape p.order q columns bands lawful place is case;
+      index = index_in_tile _ _ _ _ _ lawful place is case;
     }
 
 -- ---- the k-th of them
@@ -100,7 +100,7 @@ pub found_in : (p : Params) (tile : Tile) (r : Place) → IsOrder p.shape p.orde
     → place_index p.shape p.order r < place_index p.shape p.order tile.place + tile.columns * tile.bands → (k : ℕ) × Within tile k × (r ≡ place_in tile.place (k / tile.bands) (k % tile.bands))
 found_in p tile r lawful is there low high =
     let k : ℕ = place_index p.shape p.order r - place_index p.shape p.order tile.place in
-    let w = within tile (place_index p.shape p.order r - place_index p.shape p.order tile.place) is.some.1 (omega (arith, low, high)) in
+    let w = within _ _ is.some.1 (omega (arith, low, high)) in
     let index = is.index (k / tile.bands) (k % tile.bands) w.column w.band in
     (k, w, same_place p.shape p.order r (place_in tile.place (k / tile.bands) (k % tile.bands)) lawful there (placed p tile (k / tile.bands) (k % tile.bands) is w.column w.band) (omega (arith, index, w.split, low)))
 
@@ -108,12 +108,12 @@ found_in p tile r lawful is there low high =
 pub item_in : (p : Params) (tile : Tile) (k : ℕ) → IsOrder p.shape p.order → IsTile p tile → k < tile.columns * tile.bands
     → slice_get (places p.shape p.order) (place_index p.shape p.order tile.place + k) ≡ Some (place_in tile.place (k / tile.bands) (k % tile.bands))
 item_in p tile k lawful is lt =
-    let w = within tile k is.some.1 lt in
+    let w = within tile _ is.some.1 lt in
     let q : Place = place_in tile.place (k / tile.bands) (k % tile.bands) in
     let there : IsPlaceOf p.shape (place_in tile.place (k / tile.bands) (k % tile.bands)) = placed p tile (k / tile.bands) (k % tile.bands) is w.column w.band in
     let index = is.index (k / tile.bands) (k % tile.bands) w.column w.band in
-    let below = place_index_below p.shape p.order (place_in tile.place (k / tile.bands) (k % tile.bands)) lawful there in
-    item_from_index p.shape p.order q (place_index p.shape p.order tile.place + k) lawful there (omega (arith, index, w.split)) (omega (arith, index, w.split, below))
+    let below = place_index_below _ _ _ lawful there in
+    item_from_index _ _ _ _ lawful there (omega (arith, index, w.split)) (omega (arith, index, w.split, below))
 
 -- so many places are left where a tile comes
 pub room_for : (p : Params) (tile : Tile) → IsOrder p.shape p.order → IsTile p tile → place_index p.shape p.order tile.place + tile.columns * tile.bands ≤ sample_count p.shape
@@ -127,7 +127,7 @@ room_for p tile lawful is =
 pub numbers_in : (p : Params) (tile : Tile) (t n : ℕ) → IsOrder p.shape p.order → IsTile p tile → n ≡ place_index p.shape p.order tile.place → t ≡ time_of p.shape tile.place → AreEach p n (band_in tile) (time_in tile t) (tile.columns * tile.bands)
 numbers_in p tile t n lawful is at time k numbers lt long =
     let q : Place = place_in tile.place (k / tile.bands) (k % tile.bands) in
-    let item : slice_get (places p.shape p.order) (length numbers) ≡ Some q = ap (slice_get (places p.shape p.order)) (long ∙ ap (λ (m : ℕ). m + k) at) ∙ item_in p tile k lawful is lt in
+    let item : slice_get (places p.shape p.order) (length numbers) ≡ Some q = ap (slice_get (places p.shape p.order)) (long ∙ ap (λ (m : ℕ). m + k) at) ∙ item_in _ _ _ lawful is lt in
     (q, item, refl, omega (arith, time, time_of_place p numbers q lawful item))
 
 -- of one band: those of a run
@@ -160,7 +160,7 @@ come_within p tile b n lawful is lt at come r there e = (forth, back)
     forth : place_index p.shape p.order r < n + tile.columns * tile.bands → time_of p.shape r < time_of p.shape tile.place + tile.columns
     forth h = elim (cases_lt (place_index p.shape p.order r) n) [
       | inl before ↦ (let g = (come r there e).0 before in omega (arith, g))
-      | inr behind ↦ (let f = found_in p tile r lawful is there (omega (arith, at, behind)) (omega (arith, at, h)) in let time = ap (time_of p.shape) f.2 in omega (arith, time, f.1.column))
+      | inr behind ↦ (let f = found_in _ _ _ lawful is there (omega (arith, at, behind)) (omega (arith, at, h)) in let time = ap (time_of p.shape) f.2 in omega (arith, time, f.1.column))
     ]
 
     back : time_of p.shape r < time_of p.shape tile.place + tile.columns → place_index p.shape p.order r < n + tile.columns * tile.bands
@@ -184,7 +184,7 @@ come_beside p tile z t n lawful is apart at come r there e = (forth, back)
     forth : place_index p.shape p.order r < n + tile.columns * tile.bands → time_of p.shape r < t
     forth h = elim (cases_lt (place_index p.shape p.order r) n) [
       | inl before ↦ (come r there e).0 before
-      | inr behind ↦ (let f = found_in p tile r lawful is there (omega (arith, at, behind)) (omega (arith, at, h)) in absurd (apart (f.0 % tile.bands) f.1.band (sym e ∙ ap (λ (q : Place). q.z) f.2)))
+      | inr behind ↦ (let f = found_in _ _ _ lawful is there (omega (arith, at, behind)) (omega (arith, at, h)) in absurd (apart (f.0 % tile.bands) f.1.band (sym e ∙ ap (λ (q : Place). q.z) f.2)))
     ]
 
     back : time_of p.shape r < t → place_index p.shape p.order r < n + tile.columns * tile.bands
@@ -197,7 +197,7 @@ map_first f ps [] h = refl
 map_first f [] (n ∷ ns) h = absurd (let none = (h 0 (omega arith)).1 in cc)
 map_first f (p ∷ ps) (n ∷ ns) h =
     let first = h 0 (omega arith) in
-    let here : p ≡ first.0 = one p first.0 first.1 in
+    let here : p ≡ first.0 = one _ _ first.1 in
     ap₂ (λ (m : ℕ) (ms : List ℕ). m ∷ ms) (ap f here ∙ first.2) (map_first f ps ns (λ k lt. h (suc k) (omega (arith, lt))))
   where
     one : (p q : Place) → Some p ≡ Some q → p ≡ q

@@ -31,12 +31,12 @@ loop-place-init c =
       rest = rw none c.new-places.ensures;
       many = omega (arith, c.in_ok-bands.ensures.len, c.in_ok-bands.bands.ok.0);
       along = rw none (c.in_ok-bands.ensures.along c.in_ok-cube.cube);
-      decoded = rw c.new-places.ensures (decoded_first c.args.params.now c.in_ok-cube.cube c.in_ok-decoder.decoder c.args.reader.now.left c.requires.order c.in_ok-decoder.ensures.given);
+      decoded = rw c.new-places.ensures (decoded_first _ _ _ _ c.requires.order c.in_ok-decoder.ensures.given);
     }
 
 -- the place that comes next
 first : (c : In-Some) → ComesFirst c.args.params.now c.loop-place.places c.in-Some.place
-first c = comes_first c.args.params.now c.loop-place.places c.in-Some.place c.requires.order c.loop-place.invariant.rest (sym c.peek.ensures ∙ c.in-Some.is)
+first c = comes_first _ _ _ c.requires.order c.loop-place.invariant.rest (sym c.peek.ensures ∙ c.in-Some.is)
 
 pub at-tile-requires-clause-place : goal.at-tile-requires-clause-place
 at-tile-requires-clause-place c = (first c).place
@@ -47,7 +47,7 @@ overflow_sub-index c = let f = first (goal.at.overflow_sub-index c).In-Some in o
 -- ---- its tile
 
 first_at : (c : After-read-arg-in-Some-1) → ComesFirst c.args.params.now c.loop-place.places c.in-Some.place
-first_at c = comes_first c.args.params.now c.loop-place.places c.in-Some.place c.requires.order c.loop-place.invariant.rest (sym c.peek.ensures ∙ c.in-Some.is)
+first_at c = comes_first _ _ _ c.requires.order c.loop-place.invariant.rest (sym c.peek.ensures ∙ c.in-Some.is)
 
 at : (c : After-read-arg-in-Some-1) → gone_count c.args.params.now c.loop-place.places ≡ place_index c.args.params.now.shape c.args.params.now.order c.at-tile.result.place
 at c = sym (first_at c).index ∙ ap (place_index c.args.params.now.shape c.args.params.now.order) (sym c.at-tile.ensures.place)
@@ -159,6 +159,6 @@ loop-place-preserved c =
 pub returns-clause-taken : goal.returns-clause-taken
 returns-clause-taken c =
     let known = c.loop-place.invariant in
-    let none : c.loop-place.places ≡ [] = none_first c.loop-place.places (sym c.peek.ensures ∙ c.in_default.is) in
+    let none : c.loop-place.places ≡ [] = none_first _ (sym c.peek.ensures ∙ c.in_default.is) in
     let decoded : IsDecoded c.args.params.now c.loop-place.cube [] c.loop-place.decoder c.args.reader.now.left c.loop-place.reader.left = rw none at known.decoded in
     decoded_whole c.args.params.now c.loop-place.cube c.loop-place.decoder c.args.reader.now.left c.loop-place.reader.left c.requires (record { cube = c.prove_is_cube.ensures; shape = known.shape; kind = known.kind }) decoded

@@ -17,7 +17,7 @@ within c =
 
 before : (c : After-run-1) → slice_get c.args.bands.now (c.args.self.now.place.z + c.loop-b.b) ≡ Some c.index-bands-z.result
 before c =
-    sym (at_turn c.args.self.now c.args.cube.now c.loop-b.cube c.args.bands.now c.loop-b.bands c.args.deltas.now c.loop-b.b c.loop-b.invariant)
+    sym (at_turn _ _ _ _ _ _ _ c.loop-b.invariant)
     ∙ slice_get-get_or c.loop-b.bands (c.args.self.now.place.z + c.loop-b.b) c.index-bands-z.result (within c) ∙ ap (λ (f : Learner). Some f) (sym c.index-bands-z.is)
 
 ready : (c : After-run-1) → IsReady c.args.cube.now c.args.self.now c.loop-b.b c.index-bands-z.result
@@ -34,7 +34,7 @@ inverse_run-requires-clause-kind c = rw (← c.index-bands-z.is) (sym c.loop-b.i
 pub inverse_run-requires-clause-place : goal.inverse_run-requires-clause-place
 inverse_run-requires-clause-place c =
     let place : IsPlace c.args.cube.now.shape (c.args.self.now.place.z + c.loop-b.b) c.args.self.now.place.y c.args.self.now.place.x = record { band = omega (arith, c.loop-b-test.true, c.requires.inside); row = c.requires.place.1.row; column = c.requires.place.1.column } in
-    rw (← c.index-bands-z.is, (ready c).band) (subst (λ (s : Sizes). IsPlace s (c.args.self.now.place.z + c.loop-b.b) c.args.self.now.place.y c.args.self.now.place.x) c.loop-b.invariant.alike.shape place)
+    rw (← c.index-bands-z.is, (ready _).band) (subst (λ (s : Sizes). IsPlace s (c.args.self.now.place.z + c.loop-b.b) c.args.self.now.place.y c.args.self.now.place.x) c.loop-b.invariant.alike.shape place)
 
 pub inverse_run-requires-clause-next : goal.inverse_run-requires-clause-next
 inverse_run-requires-clause-next c = rw (← c.index-bands-z.is) ((ready c).place ∙ ap (λ (s : Sizes). c.args.self.now.place.y * s.columns + c.args.self.now.place.x) c.loop-b.invariant.alike.shape)
@@ -52,13 +52,13 @@ loop-b-preserved c =
       follows = rw (← c.index-bands-z.is) at c.inverse_run.ensures.follows;
     } in
     filled_more c.args.self.now c.args.cube.now c.loop-b.cube c.inverse_run.new.cube c.args.bands.now c.loop-b.bands c.args.deltas.now (take c.args.self.now.columns c.run_of-run.result) c.loop-b.b c.index-bands-z.result c.inverse_run.new.self c.loop-b-test.true (within d) c.loop-b.invariant (before d) r band
-    (λ i lt. item_taken c.args.self.now.columns c.run_of-run.result i lt (omega (arith, c.run_of-run.ensures.long, c.requires.few.0)) ∙ c.run_of-run.ensures.copied i lt)
+    (λ i lt. item_taken _ _ _ lt (omega (arith, c.run_of-run.ensures.long, c.requires.few.0)) ∙ c.run_of-run.ensures.copied i lt)
 
 pub returns-clause-filled : goal.returns-clause-filled
 returns-clause-filled c p lawful shape is along =
     let done : c.loop-b.b ≡ c.args.self.now.bands = omega (arith, c.loop-b-test.false, c.loop-b.auto.b-end) in
     let filled : AreFilled c.args.self.now c.args.cube.now c.loop-b.cube c.args.bands.now c.loop-b.bands c.args.deltas.now c.args.self.now.bands = subst (λ (n : ℕ). AreFilled c.args.self.now c.args.cube.now c.loop-b.cube c.args.bands.now c.loop-b.bands c.args.deltas.now n) done c.loop-b.invariant in (
-      same_before p c.args.self.now c.args.cube.now c.loop-b.cube c.args.bands.now c.loop-b.bands c.args.deltas.now c.args.self.now.bands shape is (omega arith) filled,
-      filled_residuals p c.args.self.now c.args.cube.now c.loop-b.cube c.args.bands.now c.loop-b.bands c.args.deltas.now filled lawful shape is along,
-      filled_whole p c.args.self.now c.args.cube.now c.loop-b.cube c.args.bands.now c.loop-b.bands c.args.deltas.now filled c.requires.whole c.requires.ready lawful shape is along,
+      same_before _ _ _ _ _ _ _ _ shape is (omega arith) filled,
+      filled_residuals _ _ _ _ _ _ _ filled lawful shape is along,
+      filled_whole _ _ _ _ _ _ _ filled c.requires.whole c.requires.ready lawful shape is along,
     )

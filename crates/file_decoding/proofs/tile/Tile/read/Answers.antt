@@ -78,7 +78,7 @@ returns-in_err-next_column-clause-given c = λ p numbers bits lawful has ask sta
     let here = c.loop-i.invariant.given p numbers bits lawful has ask' stands in
     let bad = c.in_err-next_column.ensures.given p (numbers ++ take (c.loop-i.i * c.args.self.now.bands) c.loop-i.deltas) (bits ++ here.1) lawful here.3 (asked d p numbers (length c.next_column.new.deltas) (long ∙ column d) ask') (omega (arith, stands, before d numbers)) in
     let told = err_from_is_err_and c.from_residual.result c.from_residual.ensures.1 in
-    rw (told.1, told.2) (refused_behind p c.args.reader.now.count c.loop-i.reader.count bits here.1 c.args.reader.now.left c.loop-i.reader.left c.in_err-next_column.field-0.0 c.loop-i.invariant.count here.2 bad)
+    rw (told.1, told.2) (refused_behind _ _ _ _ _ _ _ _ c.loop-i.invariant.count here.2 bad)
 
 pub loop-i-preserved : goal.loop-i-preserved
 loop-i-preserved c =
