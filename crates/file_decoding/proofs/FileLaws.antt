@@ -1,5 +1,6 @@
 -- Files: what is written is one, a file has no fault, and is a file of one cube alone.
-use Rattle.std.proofs.Common.{◌≡◌, ◌*◌, ◌/◌, ◌%◌, ◌-◌, ◌<◌, ◌≤◌, ◌^◌, ◌+◌, ℕ, zero, suc, Bool, false, leb, List, [], ◌∷◌, ◌++◌, length, take, drop, replicate, Ok, refl, sym, ap, subst, ◌∙◌, append_assoc, length-append, arith}
+use Rattle.std.proofs.Common.{◌≡◌, ◌*◌, ◌/◌, ◌%◌, ◌-◌, ◌<◌, ◌≤◌, ◌^◌, ◌+◌, ℕ, zero, suc, Bool, false, leb, List, [], ◌∷◌, ◌++◌, length, take, drop, replicate}
+use Rattle.std.proofs.Common.{Ok, refl, sym, ap, subst, ◌∙◌, append_assoc, length-append, arith}
 use Rattle.std.specs.List.{AllByRecursion}
 use Rattle.std.proofs.lemmas.List.{append_cancel_left, length-replicate, length-map, take-append-drop, length-take, length-drop}
 use Rattle.std.proofs.lemmas.Nat.{mod_below}
@@ -16,7 +17,7 @@ use Rattle.header_bits.specs.declared.params.Coder.TheVariants.{Sample, Block}
 use Rattle.header_bits.specs.Bits.{bits_of, bits_of_bytes, number_of}
 use Rattle.header_bits.specs.Parts.{fine}
 use Rattle.header_bits.specs.Lawful.{IsLawful, IsCoder}
-use Rattle.header_bits.specs.Header.{header_at, header_of, SpellsHeader}
+use Rattle.header_bits.specs.Header.{header_of}
 use Rattle.header_bits.proofs.Bytes.{length-bits_of_bytes}
 use Rattle.header_bits.proofs.Numbers.{bits_of-number_of}
 use Rattle.header_bits.proofs.Exact.{one_spelling}

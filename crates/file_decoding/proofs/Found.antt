@@ -1,5 +1,6 @@
 -- What a decoder finds, read as a file or as its first fault.
-use Rattle.std.proofs.Common.{◌≡◌, ◌⊎◌, ◌*◌, ℕ, false, Bool, List, ◌++◌, length, take, drop, replicate, Result, Ok, Err, IfOk, IfErr, refl, sym, ap, ◌∙◌, inl, inr, append_assoc}
+use Rattle.std.proofs.Common.{◌≡◌, ◌⊎◌, ◌*◌, ℕ, false, Bool, List, ◌++◌, length, take, drop, replicate, Result, Ok, Err, IfOk, IfErr, refl, sym, ap, ◌∙◌, inl}
+use Rattle.std.proofs.Common.{inr, append_assoc}
 use Rattle.std.proofs.lemmas.List.{take-append-drop}
 use Rattle.cube_core.specs.declared.fault.Fault.{Fault}
 use Rattle.cube_core.specs.declared.fault.Fault.TheVariants.{WantOfMemory}
@@ -11,7 +12,6 @@ use Rattle.header_bits.specs.Lawful.{IsLawful}
 use Rattle.header_bits.specs.Header.{header_at, SpellsHeader, BeginsWithTable}
 use Rattle.header_bits.proofs.Bytes.{length-bits_of_bytes}
 use Rattle.header_bits.proofs.SpeltLawful.{spelt_is_lawful}
-use Rattle.predict_core.specs.Residual.{residuals}
 use Rattle.file_decoding.specs.Decoding.{TakesCube, AnswersOr, IsNoFile}
 use Rattle.file_decoding.specs.Files.{IsFile, behind_body, fill_test, body_test, head_at, file_test}
 use Rattle.file_decoding.specs.Least.{least_test}

@@ -1,14 +1,14 @@
 -- What stays for images that are one before a place of the order: residuals, weights, and what bands follow.
-use Rattle.std.proofs.Common.{◌≡◌, ◌≢◌, ◌*◌, ◌/◌, ◌%◌, ◌+◌, ◌<◌, ◌≤◌, ℕ, suc, zero, ℤ, pos, false, List, map, take, Some, refl, sym, ap, ◌∙◌, subst, arith, ◌∷◌, []}
+use Rattle.std.proofs.Common.{◌≡◌, ◌≢◌, ◌*◌, ◌/◌, ◌%◌, ◌+◌, ◌<◌, ◌≤◌, ℕ, suc, zero, ℤ, pos, false, List, map, take, Some, refl, sym, ap, ◌∙◌, subst, arith, ◌∷◌}
+use Rattle.std.proofs.Common.{[]}
 use Rattle.std.specs.List.{slice_get}
 use Rattle.std.proofs.lemmas.List.{get_or-set_other}
 use Rattle.std.proofs.lemmas.Nat.{div_below, mod_below, div-add-mod'}
 use Rattle.cube_core.specs.declared.order.Order.{Order}
-use Rattle.cube_core.specs.declared.order.Order.TheVariants.{Bsq}
 use Rattle.cube_core.specs.declared.order.Place.{Place}
 use Rattle.cube_core.specs.Shape.{Sizes}
 use Rattle.cube_core.specs.Image.{Image, sample_at, index_in, put}
-use Rattle.cube_core.specs.Order.{IsOrder, IsPlaceOf, places, place_index}
+use Rattle.cube_core.specs.Order.{IsOrder, IsPlaceOf, place_index}
 use Rattle.cube_core.proofs.Keys.{order_is_by_key, index_of_item}
 use Rattle.cube_core.proofs.Orders.{StandsAt}
 use Rattle.cube_core.proofs.Raws.{same_place}

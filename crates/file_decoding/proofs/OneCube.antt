@@ -1,5 +1,6 @@
 -- A cube's residuals are in range, and no other cube has them.
-use Rattle.std.proofs.Common.{◌≡◌, ◌≢◌, ◌⊎◌, ◌+◌, ◌*◌, ◌<◌, ◌≤◌, ◌^◌, ◌-◌, ℕ, suc, zero, ℤ, pos, ◌≤ℤ◌, ◌*ℤ◌, ◌+ℤ◌, Bool, true, false, List, [], ◌∷◌, map, Some, refl, sym, ap, ◌∙◌, subst, inl, inr, arith}
+use Rattle.std.proofs.Common.{◌≡◌, ◌≢◌, ◌⊎◌, ◌+◌, ◌*◌, ◌<◌, ◌≤◌, ◌^◌, ◌-◌, ℕ, suc, zero, ℤ, pos, ◌≤ℤ◌, ◌*ℤ◌, ◌+ℤ◌, Bool, true, false, List, [], ◌∷◌, map, Some}
+use Rattle.std.proofs.Common.{refl, sym, ap, ◌∙◌, subst, inl, inr, arith}
 use Rattle.std.specs.List.{slice_get, AllByRecursion}
 use Rattle.std.proofs.lemmas.Int.{ints, int_max_is, int_min_is}
 use Rattle.std.specs.Int.{int_max, int_min}
@@ -17,7 +18,6 @@ use Rattle.cube_core.proofs.Raws.{place_of}
 use Rattle.cube_core.proofs.Orders.{place_index_below}
 use Rattle.cube_core.proofs.Walks.{sequential_index}
 use Rattle.header_bits.specs.declared.params.Params.{Params}
-use Rattle.predict_core.specs.Predictor.{predictor_of}
 use Rattle.predict_core.specs.Precedence.{AreAlike}
 use Rattle.predict_core.specs.Prediction.{scaled_prediction, scaled_there, scaled_by, first_scaled}
 use Rattle.predict_core.specs.Mapping.{IsScaled}

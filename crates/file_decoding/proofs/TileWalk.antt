@@ -1,6 +1,7 @@
 -- The walk from tile to tile: what comes next, and what is known behind a tile.
 use mathlib.Core.List.{map-append}
-use Rattle.std.proofs.Common.{◌≡◌, ◌+◌, ◌*◌, ◌/◌, ◌%◌, ◌<◌, ◌≤◌, ℕ, zero, suc, Bool, List, [], ◌∷◌, ◌++◌, length, map, take, drop, Some, refl, sym, ap, ◌∙◌, subst, arith, append_assoc, length-append, length-take, length-drop}
+use Rattle.std.proofs.Common.{◌≡◌, ◌+◌, ◌*◌, ◌/◌, ◌%◌, ◌<◌, ◌≤◌, ℕ, zero, suc, Bool, List, [], ◌∷◌, ◌++◌, length, map, take, drop, Some, refl, sym, ap, ◌∙◌}
+use Rattle.std.proofs.Common.{subst, arith, append_assoc, length-append, length-take, length-drop}
 use Rattle.std.specs.List.{slice_get, slice_index}
 use Rattle.std.proofs.lemmas.List.{drop-drop}
 use Rattle.std.proofs.Math.Seq.{take-add}
@@ -18,7 +19,7 @@ use Rattle.predict_core.specs.Residual.{mapped_residual}
 use Rattle.predict_core.specs.Walked.{AreAlong, residuals_at}
 use Rattle.cube_core.specs.Along.{HasCome}
 use Rattle.cube_core.proofs.Come.{time_of, come_here}
-use Rattle.cube_core.proofs.Lists.{first_of}
+use Rattle.cube_core.proofs.Lists.{first_of, get_drop}
 use Rattle.predict_core.proofs.Walking.{gone_by, gone_count}
 use Rattle.file_decoding.specs.declared.decoder.Decoder.{Decoder}
 use Rattle.file_decoding.specs.declared.tile.Tile.{Tile}
@@ -26,7 +27,6 @@ use Rattle.file_decoding.specs.Decoding.{HasGiven, GivesAll}
 use Rattle.file_decoding.specs.Tiles.{IsTile, AreReady, SameBefore, HasResiduals, place_in}
 use Rattle.file_decoding.proofs.Decoded.{IsDecoded}
 use Rattle.file_decoding.proofs.Kept.{residuals_same}
-use Rattle.file_decoding.proofs.Runs.{get_drop}
 use Rattle.file_decoding.proofs.Tiles.{within, placed, item_in, come_beside, map_first}
 
 -- ---- the place that comes next

@@ -1,4 +1,3 @@
-use Rattle.header_bits.specs.Bits.{bits_of_bytes}
 use Rattle.file_decoding.proofs.Found.{header_refused, fault_first, only_one, none_else}
 use Rattle.file_decoding.proofs.decode.decode.Goals as goal
 

@@ -6,7 +6,8 @@ use Rattle.header_bits.specs.declared.params.Params.{Params}
 use Rattle.header_bits.specs.Bits.{bits_of_bytes}
 use Rattle.header_bits.proofs.Bytes.{length-bits_of_bytes}
 use Rattle.file_decoding.specs.Files.{behind_body, head_at, file_test}
-use Rattle.file_decoding.proofs.Found.{stops_head, stops_file, length_refused, head_taken, head_refused, body_refused, fill_refused, no_head, one_refusal, found_file}
+use Rattle.file_decoding.proofs.Found.{stops_head, stops_file, length_refused, head_taken, head_refused, body_refused, fill_refused, no_head, one_refusal}
+use Rattle.file_decoding.proofs.Found.{found_file}
 use Rattle.file_decoding.proofs.decode.read_file.Goals as goal
 use Rattle.file_decoding.proofs.decode.read_file.Goals.{In_ok-test_length, In_err-test_length}
 

@@ -10,7 +10,7 @@ get_column-requires-clause-inside c =
     let may = c.requires.may in
     let some : 0 < length c.args.deltas.now = omega (arith, c.requires.small) in
     let given : HasGiven may.params (Samples c.in-Samples.stats) may.numbers may.bits = rw c.in-Samples.is at may.given in
-    omega (arith, given.0.bands, column_inside _ _ _ _ _ may.lawful may.ask some)
+    omega (arith, given.0.bands, column_inside _ _ _ _ _ may.ask may.lawful some)
 
 pub next_of_blocks-requires : goal.next_of_blocks-requires
 next_of_blocks-requires c =
