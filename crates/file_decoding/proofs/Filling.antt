@@ -135,7 +135,7 @@ module _ {tile : Tile} {c d e : Image} {bands now : List Learner} {deltas run : 
       turn : Follows p f d
       turn =
           let in-image : tile.place.z + n < p.shape.bands = omega (arith, lt, is.bands) in
-          all_follow _ _ _ _ _ _ lawful shape filled.alike (same_before shape is (omega (arith, lt)) filled) in-image (along _ in-image f at)
+          all_follow lawful shape filled.alike (same_before shape is (omega (arith, lt)) filled) in-image (along _ in-image f at)
 
       -- images that are one beside a run of a band are one at all places of lower bands
       agree : (b t : ℕ) → b < n → Agree d e (tile.place.z + b) t
@@ -241,6 +241,6 @@ module _ {p : Params} {tile : Tile} {c d : Image} {bands now : List Learner} {de
           record {
             band = before.band;
             inside = before.inside;
-            follows = all_follow _ _ _ _ _ _ lawful shape filled.alike (same_before shape is (omega arith) filled) lt before;
+            follows = all_follow lawful shape filled.alike (same_before shape is (omega arith) filled) lt before;
             come = come_beside _ _ _ _ _ lawful.order is apart refl before.come;
           }

@@ -29,6 +29,7 @@ use Rattle.cube_core.proofs.Come.{time_of}
 use Rattle.file_decoding.specs.Laws.{OneCube}
 use Rattle.file_decoding.specs.Tiles.{SameBefore}
 use Rattle.file_decoding.proofs.Alike.{agree_at, mapped_at, scaled_alike}
+use Rattle.file_decoding.proofs.Kept.{wide_of}
 
 -- ---- predictions are in range
 
@@ -58,8 +59,9 @@ first_inside p c z cube band = elim (cases_eq p.previous 0) [ inl e ↦ middle (
 
     below : p.previous ≢ 0 → z ≢ 0 → IsScaled c.kind (first_scaled p c z)
     below n m =
-        let place : IsPlaceOf c.shape (record { z = z - 1; y = 0; x = 0 }) = record { band = omega (arith, band); row = omega (arith, cube.sizes.rows.0); column = omega (arith, cube.sizes.columns.0) } in
-        rw (first_from_below p c z n m) (twice_inside c.kind (sample_at c (z - 1) 0 0) (sample_inside c (record { z = z - 1; y = 0; x = 0 }) cube place))
+        let place : IsPlaceOf c.shape (record { z = z - 1; y = 0; x = 0 }) =
+        record { band = omega (arith, band); row = omega (arith, cube.sizes.rows.0); column = omega (arith, cube.sizes.columns.0) } in
+        rw (first_from_below p c z n m) (twice_inside c.kind _ (sample_inside c _ cube place))
 
 there_inside : (p : Predictor) (c : Image) (z y x : ℕ) (ws : List ℤ) → IsCube c → IsScaled c.kind (scaled_there p c z y x ws)
 unfolding scaled_there scaled_by
@@ -92,19 +94,10 @@ residuals_inside p c lawful cube =
 
 -- ---- one cube
 
-first_same : (a b : ℕ) (xs ys : List ℕ) → a ∷ xs ≡ b ∷ ys → a ≡ b
-first_same a b xs ys k = cc
-
-rest_same : (a b : ℕ) (xs ys : List ℕ) → a ∷ xs ≡ b ∷ ys → xs ≡ ys
-rest_same a b xs ys k = cc
-
-some_same : (p q : Place) → Some p ≡ Some q → p ≡ q
-some_same p q k = cc
-
 map_same : (f g : Place → ℕ) (ps : List Place) (i : ℕ) (q : Place) → map f ps ≡ map g ps → slice_get ps i ≡ Some q → f q ≡ g q
 map_same f g [] i q e h = absurd (cc)
-map_same f g (p ∷ ps) zero q e h = subst (λ (r : Place). f r ≡ g r) (some_same _ _ h) (first_same _ _ _ _ e)
-map_same f g (p ∷ ps) (suc i) q e h = map_same f g ps i q (rest_same _ _ _ _ e) h
+map_same f g (p ∷ ps) zero q e h = (let here : p ≡ q = cc in let first : f p ≡ g p = cc in rw here at first)
+map_same f g (p ∷ ps) (suc i) q e h = (let rest : map f ps ≡ map g ps = cc in map_same f g ps i q rest h)
 
 image_same : (c d : Image) → c.shape ≡ d.shape → c.kind ≡ d.kind → c.samples ≡ d.samples → c ≡ d
 image_same c d shape kind samples =
@@ -117,22 +110,19 @@ module _ (p : Params) (c d : Image) (lawful : IsOrder c.shape p.order) (wide : p
   -- where all places before it are the same, a place is
   next_same : (q : Place) → IsPlaceOf c.shape q → SameBefore p.order c d (place_index c.shape p.order q) → sample_at c q.z q.y q.x ≡ sample_at d q.z q.y q.x
   next_same q place before =
-      let t : ℕ = q.y * c.shape.columns + q.x in
+      let t : ℕ = time_of c.shape q in
       let columns : c.shape.columns ≡ d.shape.columns = ap (λ (s : Sizes). s.columns) alike.shape in
-      let there : q.y * c.shape.columns + q.x ≡ q.y * d.shape.columns + q.x = ap (λ (n : ℕ). q.y * n + q.x) columns in
-      let agree = agree_at p.order c d (place_index c.shape p.order q) q (q.y * c.shape.columns + q.x) lawful alike before place refl (omega arith) in
-      let scaled = scaled_alike p c d q (q.y * c.shape.columns + q.x) wide place refl agree in
-      let inside = scaled_inside p c q.z (q.y * c.shape.columns + q.x) one place.band in
-      let law = one_sample_lem c.kind (scaled_prediction p c q.z (q.y * c.shape.columns + q.x)) one.bits inside in
+      let agree = agree_at p.order c d _ q t lawful alike before place refl (omega arith) in
+      let scaled = scaled_alike p c d q t wide place refl agree in
+      let value : ℤ = scaled_prediction p c q.z t in
+      let law = one_sample_lem c.kind value one.bits (scaled_inside p c q.z t one place.band) in
       let mine = sample_inside c q one place in
-      let yours : IsSample c.kind (sample_at d q.z q.y q.x) = subst (λ (k : SampleKind). IsSample k (sample_at d q.z q.y q.x)) (sym alike.kind) (sample_inside d q other (subst (λ (s : Sizes). IsPlaceOf s q) alike.shape place)) in
-      let number : mapped c.kind (scaled_prediction p c q.z (q.y * c.shape.columns + q.x)) (sample_at d q.z q.y q.x) ≡ mapped c.kind (scaled_prediction p c q.z (q.y * c.shape.columns + q.x)) (sample_at c q.z q.y q.x) =
-      ap (λ (k : SampleKind). mapped k (scaled_prediction p c q.z (q.y * c.shape.columns + q.x)) (sample_at d q.z q.y q.x)) alike.kind
-      ∙ ap (λ (v : ℤ). mapped d.kind v (sample_at d q.z q.y q.x)) scaled
-      ∙ sym (mapped_at p d q (q.y * c.shape.columns + q.x) there (omega (arith, columns, place.column)))
-      ∙ sym (same q place)
-      ∙ mapped_at p c q (q.y * c.shape.columns + q.x) refl place.column in
-      let found = law.1 (mapped c.kind (scaled_prediction p c q.z (q.y * c.shape.columns + q.x)) (sample_at c q.z q.y q.x)) (law.0 (sample_at c q.z q.y q.x) mine) in
+      let yours : IsSample c.kind (sample_at d q.z q.y q.x) = rw alike.kind (sample_inside d q other (rw alike.shape at place)) in
+      let number : mapped c.kind value (sample_at d q.z q.y q.x) ≡ mapped c.kind value (sample_at c q.z q.y q.x) =
+      ap (λ (k : SampleKind). mapped k value (sample_at d q.z q.y q.x)) alike.kind ∙ ap (λ (v : ℤ). mapped d.kind v (sample_at d q.z q.y q.x)) scaled
+      ∙ sym (mapped_at p d q t (ap (λ (n : ℕ). q.y * n + q.x) columns) (omega (arith, columns, place.column)))
+      ∙ sym (same q place) ∙ mapped_at p c q t refl place.column in
+      let found = law.1 (mapped c.kind value (sample_at c q.z q.y q.x)) (law.0 (sample_at c q.z q.y q.x) mine) in
       found.3 (sample_at c q.z q.y q.x) mine refl ∙ sym (found.3 (sample_at d q.z q.y q.x) yours number)
 
   all_same : (i : ℕ) → SameBefore p.order c d i
@@ -159,10 +149,9 @@ unfolding residuals
 one_cube p c d lawful a b e =
     let shape : c.shape ≡ d.shape = a.shape ∙ sym b.shape in
     let kind : c.kind ≡ d.kind = a.kind ∙ sym b.kind in
-    let order : IsOrder c.shape p.order = subst (λ (s : Sizes). IsOrder s p.order) (sym a.shape) lawful.order in
-    let wide : p.column ≡ false → 2 ≤ c.shape.columns = λ h. omega (arith, lawful.sums h, ap (λ (s : Sizes). s.columns) a.shape) in
-    let lists : map (λ q. mapped_residual p c q.z (q.y * c.shape.columns + q.x)) (places c.shape p.order) ≡ map (λ q. mapped_residual p d q.z (q.y * c.shape.columns + q.x)) (places c.shape p.order) =
-    e ∙ ap (λ (s : Sizes). map (λ q. mapped_residual p d q.z (q.y * s.columns + q.x)) (places s p.order)) (sym shape) in
+    let order : IsOrder c.shape p.order = rw a.shape lawful.order in
+    let lists = e ∙ ap (λ (s : Sizes). map (λ q. mapped_residual p d q.z (q.y * s.columns + q.x)) (places s p.order)) (sym shape) in
     let same : (q : Place) → IsPlaceOf c.shape q → mapped_residual p c q.z (time_of c.shape q) ≡ mapped_residual p d q.z (time_of c.shape q) =
-    λ q place. map_same (λ r. mapped_residual p c r.z (r.y * c.shape.columns + r.x)) (λ r. mapped_residual p d r.z (r.y * c.shape.columns + r.x)) _ _ _ lists (item_of_index c.shape p.order q order place) in
-    image_same c d shape kind (samples_same p c d order wide (record { shape = shape; kind = kind }) a.cube b.cube same)
+    λ q place. map_same (λ r. mapped_residual p c r.z (time_of c.shape r)) (λ r. mapped_residual p d r.z (time_of c.shape r)) (places c.shape p.order)
+    (place_index c.shape p.order q) q lists (item_of_index c.shape p.order q order place) in
+    image_same c d shape kind (samples_same p c d order (wide_of p c lawful a.shape) (record { shape = shape; kind = kind }) a.cube b.cube same)

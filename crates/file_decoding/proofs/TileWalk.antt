@@ -1,7 +1,7 @@
 -- The walk from tile to tile: what comes next, and what is known behind a tile.
 use mathlib.Core.List.{map-append}
-use Rattle.std.proofs.Common.{◌≡◌, ◌+◌, ◌*◌, ◌/◌, ◌%◌, ◌<◌, ◌≤◌, ℕ, zero, suc, Bool, List, [], ◌∷◌, ◌++◌, length, map, take, drop, Some, refl, sym, ap, ◌∙◌}
-use Rattle.std.proofs.Common.{subst, arith, append_assoc, length-append, length-take, length-drop}
+use Rattle.std.proofs.Common.{ap₂, ◌≡◌, ◌+◌, ◌*◌, ◌/◌, ◌%◌, ◌<◌, ◌≤◌, ℕ, zero, suc, Bool, List, [], ◌∷◌, ◌++◌, length, take, drop, Some, refl, sym, ap, ◌∙◌}
+use Rattle.std.proofs.Common.{arith, append_assoc, length-append, length-take, length-drop}
 use Rattle.std.specs.List.{slice_get, slice_index}
 use Rattle.std.proofs.lemmas.List.{drop-drop}
 use Rattle.std.proofs.Math.Seq.{take-add}
@@ -23,7 +23,7 @@ use Rattle.cube_core.proofs.Lists.{first_of, get_drop}
 use Rattle.predict_core.proofs.Walking.{gone_by, gone_count}
 use Rattle.file_decoding.specs.declared.decoder.Decoder.{Decoder}
 use Rattle.file_decoding.specs.declared.tile.Tile.{Tile}
-use Rattle.file_decoding.specs.Decoding.{HasGiven, GivesAll}
+use Rattle.file_decoding.specs.Decoding.{GivesAll}
 use Rattle.file_decoding.specs.Tiles.{IsTile, AreReady, SameBefore, HasResiduals, place_in}
 use Rattle.file_decoding.proofs.Decoded.{IsDecoded}
 use Rattle.file_decoding.proofs.Kept.{residuals_same}
@@ -109,35 +109,34 @@ pub rest_more : (p : Params) (left : List Place) (count : ℕ) → left ≡ drop
 rest_more p left count rest gone = ap (drop count) rest ∙ drop-drop count (gone_count p left) (places p.shape p.order) ∙ ap (λ (n : ℕ). drop n (places p.shape p.order)) (omega (arith, gone))
 
 -- the residuals of a tile were given: the image with its samples has them
-pub decoded_more : (p : Params) (c d : Image) (left : List Place) (tile : Tile) (old new : Decoder) (start now next : List Bool) (deltas : List ℕ) → IsLawful p → c.shape ≡ p.shape → AreAlike c d → SameBefore p.order c d (gone_count p left)
-    → left ≡ drop (gone_count p left) (places p.shape p.order) → gone_count p (drop (length deltas) left) ≡ gone_count p left + length deltas → gone_count p left ≡ place_index p.shape p.order tile.place → IsTile p tile → length deltas ≡ tile.columns * tile.bands
-    → (decoded : IsDecoded p c left old start now) → GivesAll p new (residuals_at p c (gone_by p left)) decoded.read now next deltas → HasResiduals p d tile deltas → IsDecoded p d (drop (length deltas) left) new start next
-decoded_more p c d left tile old new start now next deltas lawful shape alike same rest gone at is long decoded gives has = record {
-  read = decoded.read ++ gives.1;
-  text = decoded.text ∙ ap (λ (x : List Bool). decoded.read ++ x) gives.2 ∙ sym (append_assoc decoded.read gives.1 next);
-  given = subst (λ (ns : List ℕ). HasGiven p new ns (decoded.read ++ gives.1)) (sym all) gives.3;
-}
-  where
-    residual : Place → ℕ
-    residual q = mapped_residual p d q.z (q.y * d.shape.columns + q.x)
+module _ {p : Params} {c d : Image} {left : List Place} {tile : Tile} {old : Decoder} {start now next : List Bool} (new : Decoder) (deltas : List ℕ)
+    (lawful : IsLawful p) (shape : c.shape ≡ p.shape) (alike : AreAlike c d) (same : SameBefore p.order c d (gone_count p left))
+    (rest : left ≡ drop (gone_count p left) (places p.shape p.order)) (gone : gone_count p (drop (length deltas) left) ≡ gone_count p left + length deltas)
+    (at : gone_count p left ≡ place_index p.shape p.order tile.place) (is : IsTile p tile) (long : length deltas ≡ tile.columns * tile.bands)
+    (decoded : IsDecoded p c left old start now) (gives : GivesAll p new (residuals_at p c (gone_by p left)) decoded.read now next deltas)
+    (has : HasResiduals p d tile deltas) where
+  value : (k : ℕ) → k < length deltas
+      → (q : Place) × (slice_get left k ≡ Some q) × (mapped_residual p d q.z (q.y * d.shape.columns + q.x) ≡ slice_index deltas k)
+  value k lt =
+      let w = within tile k is.some.1 (omega (arith, lt, long)) in
+      let item = ap (λ (ps : List Place). slice_get ps k) rest ∙ get_drop (places p.shape p.order) (gone_count p left) k
+      ∙ ap (λ (n : ℕ). slice_get (places p.shape p.order) (n + k)) at ∙ item_in p tile k lawful.order is (omega (arith, lt, long)) in
+      (place_in tile.place (k / tile.bands) (k % tile.bands), item, has _ _ w.column w.band ∙ ap (slice_index deltas) w.split)
 
-    value : (k : ℕ) → k < length deltas → (q : Place) × (slice_get left k ≡ Some q) × (residual q ≡ slice_index deltas k)
-    value k lt =
-        let w = within tile _ is.some.1 (omega (arith, lt, long)) in
-        let item : slice_get left k ≡ Some (place_in tile.place (k / tile.bands) (k % tile.bands)) =
-        ap (λ (ps : List Place). slice_get ps k) rest ∙ get_drop _ (gone_count p left) _ ∙ ap (λ (n : ℕ). slice_get (places p.shape p.order) (n + k)) at ∙ item_in _ _ _ lawful.order is (omega (arith, lt, long)) in
-        (place_in tile.place (k / tile.bands) (k % tile.bands), item, has (k / tile.bands) (k % tile.bands) w.column w.band ∙ ap (slice_index deltas) w.split)
+  all : residuals_at p d (gone_by p (drop (length deltas) left)) ≡ residuals_at p c (gone_by p left) ++ deltas
+  all =
+      let whole : gone_by p (drop (length deltas) left) ≡ gone_by p left ++ take (length deltas) left =
+      ap (λ (n : ℕ). take n (places p.shape p.order)) gone ∙ take-add (gone_count p left) (length deltas) (places p.shape p.order)
+      ∙ ap (λ (ps : List Place). gone_by p left ++ take (length deltas) ps) (sym rest) in
+      ap (residuals_at p d) whole ∙ map-append _ (gone_by p left) (take (length deltas) left)
+      ∙ ap₂ (λ (ms ns : List ℕ). ms ++ ns) (sym (residuals_same lawful shape alike _ same)) (map_first _ _ _ value)
 
-    gone_by_more : gone_by p (drop (length deltas) left) ≡ gone_by p left ++ take (length deltas) left
-    gone_by_more =
-        ap (λ (n : ℕ). take n (places p.shape p.order)) gone ∙ take-add (gone_count p left) (length deltas) (places p.shape p.order)
-        ∙ ap (λ (ps : List Place). gone_by p left ++ take (length deltas) ps) (sym rest)
-
-    all : residuals_at p d (gone_by p (drop (length deltas) left)) ≡ residuals_at p c (gone_by p left) ++ deltas
-    all =
-        ap (residuals_at p d) gone_by_more ∙ map-append residual (gone_by p left) (take (length deltas) left)
-        ∙ ap (λ (ns : List ℕ). ns ++ map residual (take (length deltas) left)) (sym (residuals_same _ _ _ _ lawful shape alike same))
-        ∙ ap (λ (ns : List ℕ). residuals_at p c (gone_by p left) ++ ns) (map_first _ _ _ value)
+  pub decoded_more : IsDecoded p d (drop (length deltas) left) new start next
+  decoded_more = record {
+    read = decoded.read ++ gives.1;
+    text = decoded.text ∙ ap (λ (x : List Bool). decoded.read ++ x) gives.2 ∙ sym (append_assoc decoded.read gives.1 next);
+    given = rw all gives.3;
+  }
 
 -- ---- rooms
 
