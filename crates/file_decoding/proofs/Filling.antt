@@ -130,7 +130,7 @@ module _ {tile : Tile} {c d e : Image} {bands now : List Learner} {deltas run : 
       shape-d = sym filled.alike.shape ∙ shape
 
       there : (i b : ℕ) → i < tile.columns → b < n → IsPlaceOf d.shape (place_in tile.place i b)
-      there i b column below = rw shape-d (placed _ _ _ _ is column (omega (arith, below, lt)))
+      there i b column below = rw shape-d (placed is _ _ column (omega (arith, below, lt)))
 
       turn : Follows p f d
       turn =
@@ -224,7 +224,7 @@ module _ {p : Params} {tile : Tile} {c d : Image} {bands now : List Learner} {de
           let first = ready _ below in
           let start = along _ (omega (arith, below, is.bands)) first.0 first.1 in
           let place : first.0.place ≡ time_of p.shape tile.place = omega (arith, first.2.place, row) in
-          let come = come_within _ _ _ _ lawful.order is below refl (rw place at start.come) in
+          let come = come_within lawful.order is _ _ below refl (rw place at start.come) in
           let last : tile.place.y * p.shape.columns + (tile.place.x + tile.columns - 1) < p.shape.rows * p.shape.columns =
           digits_lt is.place.row (omega (arith, is.columns, is.some.0)) in
           let gone : g.place ≡ time_of p.shape tile.place + tile.columns = omega (arith, past.place, row) in
@@ -242,5 +242,5 @@ module _ {p : Params} {tile : Tile} {c d : Image} {bands now : List Learner} {de
             band = before.band;
             inside = before.inside;
             follows = all_follow lawful shape filled.alike (same_before shape is (omega arith) filled) lt before;
-            come = come_beside _ _ _ _ _ lawful.order is apart refl before.come;
+            come = come_beside lawful.order is _ _ _ apart refl before.come;
           }

@@ -57,7 +57,7 @@ at c = sym (first_at c).index ∙ ap (place_index c.args.params.now.shape c.args
 
 -- the places of the tile are to come
 fits : (c : After-read-arg-in-Some-1) → c.at-tile.result.columns * c.at-tile.result.bands ≤ length c.loop-place.places
-fits c = omega (arith, room_for c.args.params.now c.at-tile.result c.requires.order c.at-tile.ensures.tile, at c, (first_at c).whole)
+fits c = omega (arith, room_for c.requires.order c.at-tile.ensures.tile, at c, (first_at c).whole)
 
 -- the room has a number for each
 long : (c : After-read-arg-in-Some-1) → length (take c.count.result c.deref_mut.result.now) ≡ c.at-tile.result.columns * c.at-tile.result.bands
@@ -83,7 +83,7 @@ asked : (c : After-read-arg-in-Some-1) (n : ℕ) → n ≡ c.at-tile.result.colu
     → AreEach c.args.params.now (length (given c)) (band_in c.at-tile.result) (time_in c.at-tile.result c.time_of.result) n
 asked c n e =
     let time = c.time_of.ensures ∙ ap (λ (q : Place). q.y * c.args.params.now.shape.columns + q.x) (sym c.at-tile.ensures.place) in
-    rw e (numbers_in c.args.params.now c.at-tile.result c.time_of.result _ c.requires.order c.at-tile.ensures.tile (sym (given_count c) ∙ at c) time)
+    rw e (numbers_in c.requires.order c.at-tile.ensures.tile c.time_of.result _ (sym (given_count c) ∙ at c) time)
 
 pub read-requires-clause-small : goal.read-requires-clause-small
 read-requires-clause-small c =
@@ -132,8 +132,8 @@ pub fill-requires-clause-ready : goal.fill-requires-clause-ready
 fill-requires-clause-ready c =
     let d = (goal.at.fill-requires-clause-ready c).After-read-arg-in-Some-1 in
     let known = c.loop-place.invariant in
-    bands_ready c.args.params.now c.loop-place.cube c.at-tile.result c.deref_mut-in-Some.result.now _ c.requires.order known.shape known.kind
-    (ap length c.deref_mut-in-Some.ensures.value ∙ known.many) c.at-tile.ensures.tile (at d) (along c)
+    bands_ready c.requires.order c.at-tile.ensures.tile _ (at d) c.loop-place.cube c.deref_mut-in-Some.result.now known.shape known.kind
+    (ap length c.deref_mut-in-Some.ensures.value ∙ known.many) (along c)
 
 pub fill-requires-clause-residuals_in : goal.fill-requires-clause-residuals_in
 fill-requires-clause-residuals_in c k lt = rw c.loop-place.invariant.kind (each_below (2 ^ c.args.params.now.kind.bits) c.read.new.deltas (gives c).0 k lt)
