@@ -1,6 +1,6 @@
 -- Columns of bands that a coder gives at once.
-use Rattle.std.proofs.Common.{◌≡◌, ◌+◌, ◌-◌, ◌<◌, ◌≤◌, ℕ, zero, suc, Bool, List, [], ◌∷◌, ◌++◌, length, take, drop, replicate, Some, Result}
-use Rattle.std.proofs.Common.{◌∙◌, length-append, length-drop, arith}
+use Rattle.std.proofs.Common.{◌≡◌, ◌+◌, ◌-◌, ◌<◌, ◌≤◌, ℕ, zero, suc, Bool, List, [], ◌∷◌, ◌++◌, length, take, drop, replicate, Some, Result, ◌∙◌, length-append}
+use Rattle.std.proofs.Common.{length-drop, arith}
 use Rattle.std.specs.List.{slice_get}
 use Rattle.std.proofs.Math.Seq.{take-add}
 use Rattle.std.proofs.lemmas.List.{length-replicate}
@@ -53,14 +53,15 @@ module _ (p : Params) (numbers : List ℕ) (z t count : ℕ) (ask : AreAbove p (
       let many = run_count p numbers i (omega (arith, lt, fits)) in
       let whole : places_of p (numbers ++ replicate i 0) ≡ places_of p numbers ++ places_behind p numbers i =
       rw long (take-add (length numbers) i (places p.shape p.order)) in
+      let up = (placed i (omega (arith, lt))).1 in
       let beside = bands_beside z (z + i) (places_behind p numbers i) (replicate i 0) (places_of p numbers) numbers
-      (places_long p numbers (omega (arith, lt, fits))) (omega (arith, length-replicate {A = ℕ} i 0, many)) (placed i (omega (arith, lt))).1 (omega (arith, many)) in
+      (places_long p numbers (omega (arith, lt, fits))) (omega (arith, length-replicate {A = ℕ} i 0, many)) up (omega (arith, many)) in
       rw whole at next.3 ∙ beside
 
   pub is_column : 0 < count → IsColumn p numbers z t count
   is_column some =
       let there = placed count (omega arith) in
-      let fits : length numbers + count ≤ length (places p.shape p.order) = omega (arith, there.0, some, length-drop (length numbers) (places p.shape p.order)) in
+      let fits : length numbers + count ≤ length (places p.shape p.order) = omega (arith, there.0, some, length-drop {A = Place}) in
       record {
         fits = fits;
         bands = there.1;

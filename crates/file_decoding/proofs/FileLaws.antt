@@ -1,6 +1,6 @@
 -- Files: what is written is one, a file has no fault, and is a file of one cube alone.
-use Rattle.std.proofs.Common.{◌≡◌, ◌*◌, ◌/◌, ◌%◌, ◌-◌, ◌<◌, ◌≤◌, ◌^◌, ℕ, zero, suc, Bool, false, leb, List, [], ◌∷◌, ◌++◌, length, take, drop, replicate}
-use Rattle.std.proofs.Common.{Ok, refl, sym, ap, ◌∙◌, append_assoc, length-append, arith}
+use Rattle.std.proofs.Common.{◌≡◌, ◌*◌, ◌/◌, ◌%◌, ◌-◌, ◌<◌, ◌≤◌, ◌^◌, ℕ, zero, suc, Bool, false, leb, List, [], ◌∷◌, ◌++◌, length, take, drop, replicate, Ok}
+use Rattle.std.proofs.Common.{refl, sym, ap, ◌∙◌, append_assoc, length-append, arith, subst}
 use Rattle.std.specs.List.{AllByRecursion}
 use Rattle.std.proofs.lemmas.List.{append_cancel_left, length-replicate, length-map, take-append-drop, length-take, length-drop}
 use Rattle.std.proofs.lemmas.Nat.{mod_below}
@@ -8,7 +8,6 @@ use Rattle.std.proofs.lemmas.Bool.Decides.{nat_tests}
 use Rattle.cube_core.specs.Steps.{◌>>=◌}
 use Rattle.cube_core.specs.Shape.{sample_count}
 use Rattle.cube_core.specs.Kind.{SampleKind}
-use Rattle.std.proofs.Common.{subst}
 use Rattle.cube_core.specs.Image.{Image}
 use Rattle.cube_core.specs.Order.{IsOrder, places}
 use Rattle.cube_core.proofs.Orders.{length-places}
@@ -76,7 +75,7 @@ chosen_body : (p : Params) (numbers : List ℕ) (coder : Coder) → IsCoder p co
     → IsBodyBy coder p numbers (body_by coder p numbers)
 chosen_body p numbers (Sample umax gamma_star gamma_zero start) lawful range = refl
 chosen_body p numbers (Block size restricted reference) lawful range =
-    blocks.chosen_is_body (record { bits = p.kind.bits; restricted = restricted }) size reference numbers (omega (arith, size_least _ lawful.0)) lawful.2.0 range
+    blocks.chosen_is_body _ size reference numbers (omega (arith, size_least _ lawful.0)) lawful.2.0 range
 
 pub chosen_is_file : ChosenIsFile
 unfolding file_of file_of_residuals file_bits body_of
@@ -163,11 +162,11 @@ same_numbers : (p : Params) (coder : Coder) (ms ns : List ℕ) (a b x y : List B
     → length ns ≡ sample_count p.shape → IsBodyBy coder p ms a → IsBodyBy coder p ns b → a ++ x ≡ b ++ y → ms ≡ ns
 same_numbers p (Sample umax gamma_star gamma_zero start) ms ns a b x y lawful order rm rn lm ln s t e =
     let whole = length-places _ _ order in
-    (samples.one_body (settings p) (places p.shape p.order) ms ns x y (lm ∙ sym whole) (ln ∙ sym whole) (rw (settings_bits _) rm) (rw (settings_bits _) rn) (rw (s, t) at e)).0
+    (samples.one_body (settings p) (places p.shape p.order) ms ns x y (lm ∙ sym whole) (ln ∙ sym whole) (rw (settings_bits _) rm) (rw (settings_bits _) rn)
+    (rw (s, t) at e)).0
 same_numbers p (Block size restricted reference) ms ns a b x y lawful order rm rn lm ln s t e =
     let half : size ≡ 2 * (size / 2) = sym (size_halved _ lawful.0) in
-    (blocks.one_body (record { bits = p.kind.bits; restricted = restricted }) (size / 2) reference ms ns a b x y (omega (arith, half, size_least _ lawful.0)) (lm ∙ sym ln)
-    (rw half at s) (rw half at t) e).0
+    (blocks.one_body _ (size / 2) reference ms ns a b x y (omega (arith, half, size_least _ lawful.0)) (lm ∙ sym ln) (rw half at s) (rw half at t) e).0
 
 pub one_file : OneFile
 one_file bytes p q c d lawful f g =

@@ -173,7 +173,8 @@ module _ {tile : Tile} {c d e : Image} {bands now : List Learner} {deltas run : 
 
       earlier : (i b : ℕ) → i < tile.columns → b < n → HasOne p e tile deltas i b
       earlier i b column below =
-          let same = residual_same p d e (place_in tile.place i b) _ (wide_of p d lawful shape-d) (there _ _ column below) refl (agree b _ below) (same-sample _ _ below column) in
+          let here = same-sample _ _ below column in
+          let same = residual_same p d e (place_in tile.place i b) _ (wide_of p d lawful shape-d) (there _ _ column below) refl (agree b _ below) here in
           ap (λ (s : Sizes). mapped_residual p e (tile.place.z + b) (tile.place.y * s.columns + (tile.place.x + i))) (sym band.beside.alike.shape)
           ∙ sym same ∙ known.1 i b column below
 
@@ -213,7 +214,8 @@ in_tile tile z = elim (cases_lt z tile.place.z) [
 
 module _ {p : Params} {tile : Tile} {c d : Image} {bands now : List Learner} {deltas : List ℕ} (filled : AreFilled tile c d bands now deltas tile.bands)
     (lawful : IsLawful p) (shape : c.shape ≡ p.shape) (is : IsTile p tile) (along : AreAlong p c (place_index p.shape p.order tile.place) bands) where
-  pub filled_whole : length deltas ≡ tile.columns * tile.bands → AreReady c tile bands → AreAlong p d (place_index p.shape p.order tile.place + length deltas) now
+  pub filled_whole : length deltas ≡ tile.columns * tile.bands → AreReady c tile bands
+      → AreAlong p d (place_index p.shape p.order tile.place + length deltas) now
   filled_whole long ready z lt g at = elim (in_tile tile z) [ inl (b, below, e) ↦ rw (e, long) (own b below (rw e at at)) | inr apart ↦ rw long (other apart) ]
     where
       own : (b : ℕ) → b < tile.bands → slice_get now (tile.place.z + b) ≡ Some g

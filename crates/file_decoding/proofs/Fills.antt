@@ -23,7 +23,7 @@ fill_bad word zeros left new few e =
 
 none_behind : (n : ℕ) (left new : List Bool) → n ≡ length left → left ≡ replicate n false ++ new → left ≡ replicate n false
 none_behind n left [] long e = e ∙ append-nil (replicate n false)
-none_behind n left (b ∷ new) long e = absurd (omega (arith, long, ap (λ (x : List Bool). length x) e, length-append (replicate n false) (b ∷ new), length-replicate n false))
+none_behind n left (b ∷ new) long e = absurd (omega (arith, long, ap (λ (x : List Bool). length x) e, length-append {A = Bool}, length-replicate n false))
 
 pub fill_good : (word n : ℕ) (left new : List Bool) → length left < 8 * word → n ≡ length left → left ≡ replicate n false ++ new → fill_test word left ≡ fine
 fill_good word n left new few long e = ap (fill_test word) (none_behind n left new long e) ∙ zeros_pass word n (omega (arith, few, long))
@@ -35,7 +35,8 @@ all_zeros [] h = refl
 all_zeros (true ∷ left) h = absurd (cc)
 all_zeros (false ∷ left) h = ap (λ (bs : List Bool). false ∷ bs) (all_zeros left h)
 
-passes : (word : ℕ) (left : List Bool) (long one : Bool) → leb (8 * word) (length left) ≡ long → some_one left ≡ one → fill_test word left ≡ fine → (long ≡ false) × (one ≡ false)
+passes : (word : ℕ) (left : List Bool) (long one : Bool) → leb (8 * word) (length left) ≡ long → some_one left ≡ one → fill_test word left ≡ fine
+    → (long ≡ false) × (one ≡ false)
 passes word left true one e f h = absurd (let g = rw e at h in cc)
 passes word left false true e f h = absurd (let g = rw (e, f) at h in cc)
 passes word left false false e f h = (refl, refl)

@@ -1,6 +1,6 @@
 -- What the reading end has given, number after number, and how it refuses.
-use Rattle.std.proofs.Common.{◌≡◌, ◌⊎◌, ◌+◌, ◌^◌, ◌<◌, ◌≤◌, ℕ, zero, suc, Bool, true, false, cond, List, [], ◌∷◌, ◌++◌, length, take, drop, Some, Result}
-use Rattle.std.proofs.Common.{Ok, Err, IfOk, refl, sym, ap, ◌∙◌, inl, inr, length-append, take-append-drop, arith}
+use Rattle.std.proofs.Common.{◌≡◌, ◌⊎◌, ◌+◌, ◌^◌, ◌<◌, ◌≤◌, ℕ, zero, suc, Bool, true, false, cond, List, [], ◌∷◌, ◌++◌, length, take, drop, Some, Result, Ok}
+use Rattle.std.proofs.Common.{Err, IfOk, refl, sym, ap, ◌∙◌, inl, inr, length-append, take-append-drop, arith}
 use Rattle.std.specs.List.{slice_get, AllByRecursion}
 use Rattle.std.proofs.lemmas.List.{take_at}
 use Rattle.cube_core.specs.declared.fault.Fault.{Fault}
@@ -97,7 +97,8 @@ module _ (count t : ℕ) (c : Code) (e : Fault) where
       elim (word_fault bits h) [ inl (f, g) ↦ rw (ended count f) (g place) | inr (f, g) ↦ rw (bad t f) (g place) ]
 
 module _ (p : Params) (count : ℕ) where
-  sample_behind : (bits : List Bool) → IsSample p.coder → behind_body count p bits ≡ (sample_body_at count (settings p) (places p.shape p.order) bits >>= λ read. Ok read.1)
+  sample_behind : (bits : List Bool) → IsSample p.coder
+      → behind_body count p bits ≡ (sample_body_at count (settings p) (places p.shape p.order) bits >>= λ read. Ok read.1)
   unfolding behind_body
   sample_behind bits coder = by_coder _ coder
     where
@@ -135,7 +136,8 @@ module _ (p : Params) (count : ℕ) where
       → word_at count (length numbers) (code_at (settings p) q.z (of_band p numbers q.z)) left ≡ Err e → behind_body count p (bits ++ left) ≡ Err e
   unfolding words_at
   sample_refused numbers bits left q e coder range at text bad =
-      let one : words_at count (settings p) (places_of p numbers) numbers (q ∷ drop (suc (length numbers)) (places p.shape p.order)) left ≡ Err e = rw bad refl in
+      let rest : List Place = drop (suc (length numbers)) (places p.shape p.order) in
+      let one : words_at count (settings p) (places_of p numbers) numbers (q ∷ rest) left ≡ Err e = rw bad refl in
       let few = (take_next (places p.shape p.order) _ q at).0 in
       rest_refused numbers bits left e coder range (omega (arith, few)) text (rw (next_is (places p.shape p.order) _ _ at) one)
 

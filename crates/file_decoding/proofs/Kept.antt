@@ -1,6 +1,5 @@
 -- What stays for images that are one before a place of the order: residuals, weights, and what bands follow.
-use Rattle.std.proofs.Common.{ap₂, ◌≡◌, ◌*◌, ◌/◌, ◌%◌, ◌+◌, ◌<◌, ◌≤◌, ℕ, suc, zero, ℤ, pos, false, List, map, take, Some, refl, sym, ap, ◌∙◌, arith, ◌∷◌}
-use Rattle.std.proofs.Common.{[]}
+use Rattle.std.proofs.Common.{ap₂, ◌≡◌, ◌*◌, ◌/◌, ◌%◌, ◌+◌, ◌<◌, ◌≤◌, ℕ, suc, zero, ℤ, pos, false, List, map, take, Some, refl, sym, ap, ◌∙◌, arith, ◌∷◌, []}
 use Rattle.std.specs.List.{slice_get}
 use Rattle.std.proofs.lemmas.List.{get_or-set_other}
 use Rattle.std.proofs.lemmas.Nat.{div_below, mod_below, div-add-mod'}

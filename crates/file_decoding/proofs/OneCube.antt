@@ -49,10 +49,11 @@ twice_inside : (k : SampleKind) (v : ℤ) → IsSample k v → IsScaled k (pos 2
 twice_inside k v h = (omega (arith, ints, h.0), omega (arith, ints, h.1))
 
 clip_inside : (low high a : ℤ) → low ≤ℤ high → (low ≤ℤ int_max low (int_min a high)) × (int_max low (int_min a high) ≤ℤ high)
-clip_inside low high a h = (omega (arith, ints, int_max_is low (int_min a high), int_min_is a high), omega (arith, ints, int_max_is low (int_min a high), int_min_is a high))
+clip_inside low high a h = (let most = int_max_is low (int_min a high) in let least = int_min_is a high in (omega (arith, ints), omega (arith, ints)))
 
 first_inside : (p : Predictor) (c : Image) (z : ℕ) → IsCube c → z < c.shape.bands → IsScaled c.kind (first_scaled p c z)
-first_inside p c z cube band = elim (cases_eq p.previous 0) [ inl e ↦ middle (inl e) | inr n ↦ elim (cases_eq z 0) [ inl e ↦ middle (inr (n, e)) | inr m ↦ below n m ] ]
+first_inside p c z cube band =
+    elim (cases_eq p.previous 0) [ inl e ↦ middle (inl e) | inr n ↦ elim (cases_eq z 0) [ inl e ↦ middle (inr (n, e)) | inr m ↦ below n m ] ]
   where
     middle : (p.previous ≡ 0) ⊎ ((p.previous ≡ 0 → ⊥) × (z ≡ 0)) → IsScaled c.kind (first_scaled p c z)
     middle h = rw (first_from_middle p c z h) (twice_inside c.kind (smid c.kind) (least_inside c.kind cube.bits, middle_inside c.kind cube.bits))
@@ -77,12 +78,14 @@ scaled_inside p c z (suc t) cube band = there_inside _ _ _ _ _ _ cube
 
 -- ---- so are residuals
 
-pub residual_inside : (p : Params) (c : Image) (q : Place) → IsCube c → IsPlaceOf c.shape q → mapped_residual p c q.z (q.y * c.shape.columns + q.x) < 2 ^ c.kind.bits
+pub residual_inside : (p : Params) (c : Image) (q : Place) → IsCube c → IsPlaceOf c.shape q
+    → mapped_residual p c q.z (q.y * c.shape.columns + q.x) < 2 ^ c.kind.bits
 residual_inside p c q cube place =
     rw (mapped_at p c q (q.y * c.shape.columns + q.x) refl place.column)
-    ((one_sample_lem c.kind (scaled_prediction p c q.z (q.y * c.shape.columns + q.x)) cube.bits (scaled_inside _ _ _ _ cube place.band)).0 (sample_at c q.z q.y q.x) (sample_inside _ _ cube place))
+    ((one_sample_lem c.kind (scaled_prediction p c q.z _) cube.bits (scaled_inside _ _ _ _ cube place.band)).0 _ (sample_inside _ _ cube place))
 
-all_inside : (f : Place → ℕ) (limit : ℕ) (ps : List Place) → ((i : ℕ) (q : Place) → slice_get ps i ≡ Some q → f q < limit) → AllByRecursion (λ v. v < limit) (map f ps)
+all_inside : (f : Place → ℕ) (limit : ℕ) (ps : List Place) → ((i : ℕ) (q : Place) → slice_get ps i ≡ Some q → f q < limit)
+    → AllByRecursion (λ v. v < limit) (map f ps)
 all_inside f limit [] h = tt
 all_inside f limit (p ∷ ps) h = (h 0 p refl, all_inside f limit ps (λ i q e. h (suc i) q e))
 
@@ -105,7 +108,8 @@ image_same c d shape kind samples =
     ∙ ap (λ (k : SampleKind). record { shape = d.shape; kind = k; samples = c.samples }) kind
     ∙ ap (λ (vs : List ℤ). record { shape = d.shape; kind = d.kind; samples = vs }) samples
 
-module _ (p : Params) (c d : Image) (lawful : IsOrder c.shape p.order) (wide : p.column ≡ false → 2 ≤ c.shape.columns) (alike : AreAlike c d) (one : IsCube c) (other : IsCube d)
+module _ (p : Params) (c d : Image) (lawful : IsOrder c.shape p.order) (wide : p.column ≡ false → 2 ≤ c.shape.columns) (alike : AreAlike c d)
+    (one : IsCube c) (other : IsCube d)
     (same : (q : Place) → IsPlaceOf c.shape q → mapped_residual p c q.z (time_of c.shape q) ≡ mapped_residual p d q.z (time_of c.shape q)) where
   -- where all places before it are the same, a place is
   next_same : (q : Place) → IsPlaceOf c.shape q → SameBefore p.order c d (place_index c.shape p.order q) → sample_at c q.z q.y q.x ≡ sample_at d q.z q.y q.x
@@ -140,7 +144,7 @@ module _ (p : Params) (c d : Image) (lawful : IsOrder c.shape p.order) (wide : p
       (λ i lt.
       let place = place_of c.shape Bsq i tt (omega (arith, lt, one.whole)) in
       let at : index_in c.shape.columns c.shape.rows place.0.z place.0.y place.0.x ≡ i = sym (sequential_index c.shape place.0) ∙ place.1.index in
-      let there : index_in d.shape.columns d.shape.rows place.0.z place.0.y place.0.x ≡ i = ap (λ (s : Sizes). index_in s.columns s.rows place.0.z place.0.y place.0.x) (sym alike.shape) ∙ at in
+      let there = ap (λ (s : Sizes). index_in s.columns s.rows place.0.z place.0.y place.0.x) (sym alike.shape) ∙ at in
       let e = all_same (sample_count c.shape) place.0 place.1.place (place_index_below c.shape p.order place.0 lawful place.1.place) in
       rw (at, there) at e)
 

@@ -1,8 +1,7 @@
 -- Runs that a coder gives at once.
 use Rattle.std.proofs.Common.{◌≡◌, ◌+◌, ◌<◌, ◌≤◌, ◌^◌, ℕ, zero, suc, Bool, List, [], ◌∷◌, ◌++◌, length, take, drop, replicate, Some, Result, Ok, Err, IfOk, sym}
-use Rattle.std.proofs.Common.{ap, ◌∙◌}
+use Rattle.std.proofs.Common.{ap, ◌∙◌, length-append, length-drop, take-append-drop, arith}
 use Rattle.std.specs.Prelude.{MatchResult}
-use Rattle.std.proofs.Common.{length-append, length-drop, take-append-drop, arith}
 use Rattle.std.specs.List.{AllByRecursion, slice_get}
 use Rattle.std.proofs.lemmas.List.{length-replicate}
 use Rattle.cube_core.specs.declared.fault.Fault.{Fault}

@@ -13,7 +13,9 @@ use Rattle.file_decoding.proofs.decode.read_file.Goals.{In_ok-test_length, In_er
 
 -- behind a header, with room for a body
 behind : (c : In_ok-test_length) → head_at (bits_of_bytes c.args.bytes.now) ≡ Ok (c.in_ok-params.params, c.reader_behind-reader.result.left)
-behind c = head_taken _ _ _ _ _ c.in_ok-params.ensures.reads c.reader_behind-reader.ensures.count c.reader_behind-reader.ensures.left c.in_ok-test_length.ensures
+behind c =
+    let reader = c.reader_behind-reader.ensures in
+    head_taken _ _ _ _ _ c.in_ok-params.ensures.reads reader.count reader.left c.in_ok-test_length.ensures
 
 pub returns-in_err-params-clause-head : goal.returns-in_err-params-clause-head
 returns-in_err-params-clause-head c =

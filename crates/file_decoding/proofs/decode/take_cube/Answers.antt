@@ -74,7 +74,7 @@ given_count : (c : After-read-arg-in-Some-1) → gone_count c.args.params.now c.
 given_count c =
     let gone = length-residuals_at c.args.params.now c.loop-place.cube (gone_by c.args.params.now c.loop-place.places) in
     let all = length-places c.args.params.now.shape c.args.params.now.order c.requires.order in
-    omega (arith, gone, (first_at c).whole, length-take (gone_count c.args.params.now c.loop-place.places) (places c.args.params.now.shape c.args.params.now.order), all)
+    omega (arith, gone, (first_at c).whole, length-take {A = Place}, all)
 
 stands : (c : After-read-arg-in-Some-1) → c.sample_count-count.result - c.left.result ≡ length (given c)
 stands c = omega (arith, (first_at c).whole, c.left.ensures, c.sample_count-count.ensures.value, given_count c)
@@ -167,8 +167,9 @@ loop-place-preserved c =
       room = room ∙ omega (arith, c.loop-place.room.ok.0, known.room);
       rest = rest_more c.args.params.now c.loop-place.places (length c.read.new.deltas) known.rest gone;
       many = omega (arith, c.fill.ensures.many, ap length c.deref_mut-in-Some.ensures.value, known.many);
-      along = subst (λ (n : ℕ). AreAlong c.args.params.now c.fill.new.cube n c.fill.new.bands) (sym (gone ∙ ap (λ (n : ℕ). n + length c.read.new.deltas) (at d))) filled.2;
-      decoded = decoded_more c.read.new.decoder c.read.new.deltas c.requires known.shape c.fill.ensures.alike same known.rest gone (at d) c.at-tile.ensures.tile count known.decoded (gives e) filled.1;
+      along = rw (gone, at d) filled.2;
+      decoded = decoded_more c.read.new.decoder c.read.new.deltas c.requires known.shape c.fill.ensures.alike same known.rest gone (at d)
+          c.at-tile.ensures.tile count known.decoded (gives e) filled.1;
     })
 
 pub returns-clause-taken : goal.returns-clause-taken

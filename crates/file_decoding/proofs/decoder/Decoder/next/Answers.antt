@@ -9,8 +9,10 @@ returns-in-Ok-clause-given c = λ p numbers bits lawful given next at.
 
 pub returns-in-Err-clause-given : goal.returns-in-Err-clause-given
 returns-in-Err-clause-given c = λ p numbers bits lawful given next at.
-    samples_refused _ _ _ _ _ _ c.get.new.self _ c.get.new.reader.left c.in-Err.ensures.taken (λ s e. c.placed.ensures ∙ ap (placed_at c.args.place) e) (λ n e. c.placed.ensures ∙ ap (placed_at c.args.place) e) _ _ _ (rw c.in-Samples.is at given) next at
+    samples_refused _ _ _ _ _ _ c.get.new.self _ c.get.new.reader.left c.in-Err.ensures.taken (λ s e. c.placed.ensures ∙ ap (placed_at c.args.place) e)
+    (λ n e. c.placed.ensures ∙ ap (placed_at c.args.place) e) _ _ _ (rw c.in-Samples.is at given) next at
 
 pub returns-in-Blocks-clause-given : goal.returns-in-Blocks-clause-given
 returns-in-Blocks-clause-given c = λ p numbers bits lawful given next at.
-    blocks_given _ _ _ _ _ _ _ _ c.next.ensures.given c.next.ensures.cut c.next.ensures.counted c.next.ensures.inside p numbers bits lawful (rw c.in-Blocks.is at given) next at
+    let did = c.next.ensures in
+    blocks_given _ _ _ _ _ _ _ _ did.given did.cut did.counted did.inside p numbers bits lawful (rw c.in-Blocks.is at given) next at

@@ -26,4 +26,5 @@ returns-in-Samples-clause-given c = λ p numbers bits lawful given ask at.
     column_given _ _ _ _ _ _ _ _ _ c.get_column.ensures.taken c.get_column.ensures.bands some p numbers bits lawful (rw c.in-Samples.is at given) ask at
 
 pub returns-in-Blocks-clause-given : goal.returns-in-Blocks-clause-given
-returns-in-Blocks-clause-given c = λ p numbers bits lawful given ask at. c.next_of_blocks.ensures.given (λ i. c.args.z + i) (λ i. c.args.t) c.args.place p numbers bits lawful (rw c.in-Blocks.is at given) ask at
+returns-in-Blocks-clause-given c = λ p numbers bits lawful given ask at.
+    c.next_of_blocks.ensures.given (λ i. c.args.z + i) (λ i. c.args.t) c.args.place p numbers bits lawful (rw c.in-Blocks.is at given) ask at

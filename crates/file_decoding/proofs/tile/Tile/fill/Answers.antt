@@ -11,7 +11,8 @@ use Rattle.file_decoding.proofs.tile.Tile.fill.Goals.{After-run-1}
 before : (c : After-run-1) → slice_get c.args.bands.now (c.args.self.now.place.z + c.loop-b.b) ≡ Some c.index-bands-z.result
 before c =
     let first = c.requires.ready c.loop-b.b c.loop-b-test.true in
-    let within : c.args.self.now.place.z + c.loop-b.b < length c.loop-b.bands = omega (arith, slice_get_within c.args.bands.now _ first.0 first.1, c.loop-b.auto.bands) in
+    let there = slice_get_within c.args.bands.now _ first.0 first.1 in
+    let within : c.args.self.now.place.z + c.loop-b.b < length c.loop-b.bands = omega (arith, there, c.loop-b.auto.bands) in
     sym (at_turn c.loop-b.invariant) ∙ slice_get-get_or _ _ c.index-bands-z.result within ∙ ap (λ (f : Learner). Some f) (sym c.index-bands-z.is)
 
 ready : (c : After-run-1) → IsReady c.args.cube.now c.args.self.now c.loop-b.b c.index-bands-z.result
@@ -41,7 +42,8 @@ loop-b-preserved c =
     let long : length (take c.args.self.now.columns c.run_of-run.result) ≡ c.args.self.now.columns =
     omega (arith, length-take {A = ℕ}, c.run_of-run.ensures.long, c.requires.few.0) in
     let told = rw (← c.index-bands-z.is) at c.inverse_run.ensures.residuals in
-    let band : FillsBand c.args.self.now c.loop-b.cube c.inverse_run.new.cube c.loop-b.b c.index-bands-z.result c.inverse_run.new.self (take c.args.self.now.columns c.run_of-run.result) =
+    let band : FillsBand c.args.self.now c.loop-b.cube c.inverse_run.new.cube c.loop-b.b c.index-bands-z.result c.inverse_run.new.self
+    (take c.args.self.now.columns c.run_of-run.result) =
     record {
       beside = rw (← c.index-bands-z.is, r.band, long) at c.inverse_run.ensures.beside;
       moved = rw (← c.index-bands-z.is, long) at c.inverse_run.ensures.moved;
@@ -55,4 +57,5 @@ pub returns-clause-filled : goal.returns-clause-filled
 returns-clause-filled c p lawful shape is along =
     let done : c.loop-b.b ≡ c.args.self.now.bands = omega (arith, c.loop-b-test.false, c.loop-b.auto.b-end) in
     let filled = rw done at c.loop-b.invariant in
-    (same_before shape is (omega arith) filled, (filled.fills p lawful shape is along).1, filled_whole filled lawful shape is along c.requires.whole c.requires.ready)
+    let all = filled_whole filled lawful shape is along c.requires.whole c.requires.ready in
+    (same_before shape is (omega arith) filled, (filled.fills p lawful shape is along).1, all)

@@ -33,7 +33,9 @@ returns-then-self-eq1-clause-given c = λ p numbers bits lawful has ask stands.
 
 -- a column within those of the tile
 inside : (c : In-loop-i) → c.loop-i.i * c.args.self.now.bands + c.args.self.now.bands ≤ length c.loop-i.deltas
-inside c = omega (arith, row_fits _ c.args.self.now.bands c.args.self.now.columns c.args.self.now.bands c.loop-i-test.true (omega arith), c.loop-i.invariant.long, c.requires.whole)
+inside c =
+    let row = row_fits _ c.args.self.now.bands c.args.self.now.columns c.args.self.now.bands c.loop-i-test.true (omega arith) in
+    omega (arith, row, c.loop-i.invariant.long, c.requires.whole)
 
 -- its numbers
 column : (c : In-loop-i) → (let first : ℕ = c.loop-i.i * c.args.self.now.bands in
@@ -47,8 +49,10 @@ before c numbers = omega (arith, inside c, length-append {A = ℕ}, length-take 
 
 asked : (c : In-loop-i) (p : Params) (numbers : List ℕ) (count : ℕ) → count ≡ c.args.self.now.bands
     → AreEach p (length numbers) (band_in c.args.self.now) (time_in c.args.self.now c.args.t) (length c.args.deltas.now)
-    → AreEach p (length (numbers ++ take (c.loop-i.i * c.args.self.now.bands) c.loop-i.deltas)) (λ j. c.args.self.now.place.z + j) (λ j. c.args.t + c.loop-i.i) count
-asked c p numbers count whole ask = column_asked p c.args.self.now c.args.t c.loop-i.i _ _ _ c.loop-i-test.true (before c numbers) whole (rw c.requires.whole at ask)
+    → AreEach p (length (numbers ++ take (c.loop-i.i * c.args.self.now.bands) c.loop-i.deltas)) (λ j. c.args.self.now.place.z + j)
+    (λ j. c.args.t + c.loop-i.i) count
+asked c p numbers count whole ask =
+    column_asked p c.args.self.now c.args.t c.loop-i.i _ _ _ c.loop-i-test.true (before c numbers) whole (rw c.requires.whole at ask)
 
 pub next_column-requires-clause-may : goal.next_column-requires-clause-may
 next_column-requires-clause-may c =
@@ -91,9 +95,10 @@ loop-i-preserved c =
     record {
       given = λ p numbers bits lawful has ask stands.
           let here = c.loop-i.invariant.given p numbers bits lawful has ask stands in
-          let more = c.in_ok-next_column.ensures.given p _ _ lawful here.3 (asked d p numbers _ (long ∙ column d) ask) (omega (arith, stands, before d numbers)) in
-          let cut = take-put_mid first (first + c.args.self.now.bands - first) c.loop-i.deltas c.next_column.new.deltas ((c.loop-i.i + 1) * c.args.self.now.bands)
-          (omega (arith, long, column d)) (omega (arith, inside d)) in
+          let next = asked d p numbers _ (long ∙ column d) ask in
+          let more = c.in_ok-next_column.ensures.given p _ _ lawful here.3 next (omega (arith, stands, before d numbers)) in
+          let cut = take-put_mid first (first + c.args.self.now.bands - first) c.loop-i.deltas c.next_column.new.deltas
+          ((c.loop-i.i + 1) * c.args.self.now.bands) (omega (arith, long, column d)) (omega (arith, inside d)) in
           rw cut (gives_both p c.loop-i.decoder _ numbers bits _ c.loop-i.reader.left _ _ _ here more);
       count = c.in_ok-next_column.ensures.count ∙ c.loop-i.invariant.count;
       long = same_len_mid first (first + c.args.self.now.bands - first) c.loop-i.deltas c.next_column.new.deltas long ∙ c.loop-i.invariant.long;
@@ -102,5 +107,6 @@ loop-i-preserved c =
 pub returns-clause-given : goal.returns-clause-given
 returns-clause-given c = λ p numbers bits lawful has ask stands.
     let here = c.loop-i.invariant.given p numbers bits lawful has (rw c.loop-i.invariant.long at ask) stands in
-    let e = ap (λ (k : ℕ). k * c.args.self.now.bands) (let done : c.loop-i.i ≡ c.args.self.now.columns = omega (arith, c.loop-i-test.false, c.loop-i.auto.i-end) in done) in
+    let done : c.loop-i.i ≡ c.args.self.now.columns = omega (arith, c.loop-i-test.false, c.loop-i.auto.i-end) in
+    let e = ap (λ (k : ℕ). k * c.args.self.now.bands) done in
     rw (take_all (c.loop-i.i * c.args.self.now.bands) c.loop-i.deltas (omega (arith, e, c.loop-i.invariant.long, c.requires.whole))) at here
