@@ -86,8 +86,7 @@ module _ (p : Params) (c d : Image) (q : Place) (t : ℕ) (wide : p.column ≡ f
 
 -- the weights behind a place, of images that are one there and before
 pub weights_behind : (p : Params) (c d : Image) (q : Place) (t : ℕ) → (p.column ≡ false → 2 ≤ c.shape.columns) → IsPlaceOf c.shape q → t ≡ time_of c.shape q
-    → Agree c d q.z t → sample_at c q.z q.y q.x ≡ sample_at d q.z q.y q.x
-    → weight_vector p c q.z (suc t) ≡ weight_vector p d q.z (suc t)
+    → Agree c d q.z t → sample_at c q.z q.y q.x ≡ sample_at d q.z q.y q.x → weight_vector p c q.z (suc t) ≡ weight_vector p d q.z (suc t)
 unfolding weight_vector next_weights
 weights_behind p c d q zero wide place e agree sample = refl
 weights_behind p c d q (suc t) wide place e agree sample =

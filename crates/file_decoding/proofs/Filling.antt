@@ -95,9 +95,6 @@ get_other (x ∷ xs) zero (suc z) g apart = refl
 get_other (x ∷ xs) (suc i) zero g apart = refl
 get_other (x ∷ xs) (suc i) (suc z) g apart = get_other xs i z g (λ e. apart (ap suc e))
 
-pub one_item : (f g : Learner) → Some f ≡ Some g → f ≡ g
-one_item f g e = cc
-
 pub item_taken : (n : ℕ) (ns : List ℕ) (i : ℕ) → i < n → n ≤ length ns → slice_index (take n ns) i ≡ slice_index ns i
 item_taken zero ns i lt le = absurd (omega (arith, lt))
 item_taken (suc n) [] i lt le = absurd (omega (arith, le))

@@ -93,8 +93,7 @@ module _ (count t : ℕ) (c : Code) (e : Fault) where
   -- the fault as it is told of another place
   placed_fault : (place : ℕ) (bits : List Bool) (told : Fault) → ((s : ℕ) → e ≡ BadCode s → told ≡ BadCode place)
       → ((n : ℕ) → e ≡ Truncated n → told ≡ Truncated n) → word_at count t c bits ≡ Err e → word_at count place c bits ≡ Err told
-  placed_fault place bits told bad ended h =
-      elim (word_fault bits h) [ inl (f, g) ↦ rw (ended count f) (g place) | inr (f, g) ↦ rw (bad t f) (g place) ]
+  placed_fault place bits told bad ended h = elim (word_fault bits h) [ inl (f, g) ↦ rw (ended count f) (g place) | inr (f, g) ↦ rw (bad t f) (g place) ]
 
 module _ (p : Params) (count : ℕ) where
   sample_behind : (bits : List Bool) → IsSample p.coder

@@ -84,8 +84,7 @@ put_other c q r v a b apart =
     (λ e. apart (same_place _ _ _ _ tt a b (sequential_index _ _ ∙ sym e ∙ sym (sequential_index _ _)))))
 
 -- the places before it stay
-pub put_same : (o : Order) (c : Image) (q : Place) (v : ℤ) (i : ℕ) → IsPlaceOf c.shape q → place_index c.shape o q ≡ i
-    → SameBefore o c (put c q.z q.y q.x v) i
+pub put_same : (o : Order) (c : Image) (q : Place) (v : ℤ) (i : ℕ) → IsPlaceOf c.shape q → place_index c.shape o q ≡ i → SameBefore o c (put c q.z q.y q.x v) i
 put_same o c q v i place e r there lt = put_other _ _ _ _ place there (λ h. omega (arith, lt, e, ap (place_index c.shape o) h))
 
 pub residuals_kept : (p : Params) (c : Image) (q : Place) (v : ℤ) (left : List Place) → IsLawful p → c.shape ≡ p.shape

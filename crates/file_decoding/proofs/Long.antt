@@ -45,8 +45,7 @@ words_long c gone before (p ∷ ps) (n ∷ ns) some long =
     omega (arith, one, rest, length-append {A = Bool})
 
 by_coder_long : (p : Params) (coder : Coder) (numbers : List ℕ) (body : List Bool) → 2 ≤ p.kind.bits → IsCoder p coder → IsOrder p.shape p.order
-    → length numbers ≡ sample_count p.shape → IsBodyBy coder p numbers body
-    → least_by coder (sample_count p.shape) ≤ length body
+    → length numbers ≡ sample_count p.shape → IsBodyBy coder p numbers body → least_by coder (sample_count p.shape) ≤ length body
 unfolding sample_body
 by_coder_long p (Sample umax gamma_star gamma_zero start) numbers body deep lawful order long coded =
     let some : 1 ≤ (settings p).bits = omega (arith, settings_bits p) in

@@ -81,11 +81,7 @@ pub record Within (tile : Tile) (k : ℕ) : Type 0 where
   pub split : k / tile.bands * tile.bands + k % tile.bands ≡ k
 
 pub within : (tile : Tile) (k : ℕ) → 1 ≤ tile.bands → k < tile.columns * tile.bands → Within tile k
-within tile k some lt = record {
-  column = div_below k tile.bands tile.columns some lt;
-  band = mod_below k tile.bands some;
-  split = div-add-mod' k tile.bands;
-}
+within tile k some lt = record { column = div_below k tile.bands tile.columns some lt; band = mod_below k tile.bands some; split = div-add-mod' k tile.bands }
 
 abbrev pub nth : Tile → ℕ → Place
 nth tile k = place_in tile.place (k / tile.bands) (k % tile.bands)
@@ -111,8 +107,7 @@ module _ {p : Params} {tile : Tile} (lawful : IsOrder p.shape p.order) (is : IsT
       (k, s.0, same_place _ _ _ _ lawful there s.1 (omega (arith, s.2, low)))
 
   -- they follow one another in the list of all places
-  pub item_in : (k : ℕ) → k < tile.columns * tile.bands
-      → slice_get (places p.shape p.order) (place_index p.shape p.order tile.place + k) ≡ Some (nth tile k)
+  pub item_in : (k : ℕ) → k < tile.columns * tile.bands → slice_get (places p.shape p.order) (place_index p.shape p.order tile.place + k) ≡ Some (nth tile k)
   item_in k lt =
       let s = stands is k lt in
       let below = place_index_below _ _ _ lawful s.1 in

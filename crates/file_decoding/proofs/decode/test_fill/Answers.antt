@@ -12,4 +12,5 @@ pub returns : goal.returns
 returns c =
     let zeros = rw (c.unwrap.ensures, c.fork.ensures) at c.count_zeros.ensures.taken in
     let all : c.unwrap.result ≡ length c.args.reader.now.left = omega (arith, c.if-unwrap-bits.false, c.left-bits.ensures, zeros.within) in
-    sym (fill_good _ _ _ c.count_zeros.new.self.left (omega (arith, c.if-bits-from.false, c.left-bits.ensures, c.from.ensures)) all (zeros.full (omega (arith, c.left-bits.ensures))))
+    sym (fill_good _ _ _ c.count_zeros.new.self.left
+    (omega (arith, c.if-bits-from.false, c.left-bits.ensures, c.from.ensures)) all (zeros.full (omega (arith, c.left-bits.ensures))))
