@@ -1,5 +1,5 @@
 -- Columns of bands that a coder gives at once.
-use Rattle.std.proofs.Common.{◌≡◌, ◌+◌, ◌-◌, ◌<◌, ◌≤◌, ℕ, zero, suc, Bool, List, [], ◌∷◌, ◌++◌, length, take, drop, replicate, Some, Result, ◌∙◌, length-append}
+use Rattle.std.proofs.Common.{◌≡◌, ◌+◌, ◌-◌, ◌<◌, ◌≤◌, ℕ, zero, suc, Bool, List, [], ◌∷◌, ◌++◌, length, take, drop, replicate, Some, Result, ◌∙◌}
 use Rattle.std.proofs.Common.{length-drop, arith}
 use Rattle.std.specs.List.{slice_get}
 use Rattle.std.proofs.Math.Seq.{take-add}
@@ -18,7 +18,7 @@ use Rattle.file_coding.specs.Coding.{places_of, places_behind, of_band}
 use Rattle.file_coding.proofs.Coders.{places_long, run_count}
 use Rattle.file_decoding.specs.declared.decoder.Decoder.TheVariants.{Samples}
 use Rattle.file_decoding.specs.Decoding.{AreAbove, GivesColumn}
-use Rattle.file_decoding.proofs.RunsGiven.{asked_at, words_given}
+use Rattle.file_decoding.proofs.RunsGiven.{more_long, asked_at, words_given}
 
 -- the first places, so many, are there, and of bands one above another
 all_up : (ps : List Place) (count z : ℕ) → ((i : ℕ) → i < count → (q : Place) × (slice_get ps i ≡ Some q) × (q.z ≡ z + i))
@@ -36,9 +36,6 @@ pub record IsColumn (p : Params) (numbers : List ℕ) (z t count : ℕ) : Type 0
   pub fits : length numbers + count ≤ length (places p.shape p.order)
   pub bands : AreUpFrom z (places_behind p numbers count)
   pub times : (b : ℕ) → z ≤ b → b < z + count → t ≡ length (of_band p numbers b)
-
-more_long : (numbers : List ℕ) (i : ℕ) → length (numbers ++ replicate i 0) ≡ length numbers + i
-more_long numbers i = omega (arith, length-append numbers (replicate i 0), length-replicate {A = ℕ} i 0)
 
 module _ (p : Params) (numbers : List ℕ) (z t count : ℕ) (ask : AreAbove p (length numbers) z t count) where
   -- the places of the column, and how far they reach

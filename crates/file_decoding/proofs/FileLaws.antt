@@ -4,7 +4,7 @@ use Rattle.std.proofs.Common.{refl, sym, ap, ◌∙◌, append_assoc, length-app
 use Rattle.std.specs.List.{AllByRecursion}
 use Rattle.std.proofs.lemmas.List.{append_cancel_left, length-replicate, length-map, take-append-drop, length-take, length-drop}
 use Rattle.std.proofs.lemmas.Nat.{mod_below}
-use Rattle.std.proofs.lemmas.Bool.Decides.{nat_tests}
+use Rattle.std.proofs.lemmas.Bool.{lt-leb}
 use Rattle.cube_core.specs.Steps.{◌>>=◌}
 use Rattle.cube_core.specs.Shape.{sample_count}
 use Rattle.cube_core.specs.Kind.{SampleKind}
@@ -129,9 +129,6 @@ pub zeros_pass : (word n : ℕ) → n < 8 * word → fill_test word (replicate n
 zeros_pass word n lt =
     let few : leb (8 * word) (length (replicate n false)) ≡ false = rw (length-replicate n false) (lt-leb _ _ lt) in
     rw (few, no_ones _) refl
-  where
-    lt-leb : (a b : ℕ) → b < a → leb a b ≡ false
-    lt-leb a b h = grind (arith, nat_tests)
 
 file_text : (bytes : List ℕ) (p : Params) (c : Image) → (f : IsFile bytes p c) → bits_of_bytes bytes ≡ f.header ++ (f.body ++ replicate f.fill false)
 file_text bytes p c f = f.text ∙ append_assoc f.header f.body (replicate f.fill false)

@@ -2,24 +2,18 @@
 use Rattle.std.proofs.Common.{◌≡◌, ◌*◌, ◌<◌, ℕ, zero, suc, Bool, true, false, leb, List, [], ◌∷◌, ◌++◌, length, replicate, Err, refl, ap, ◌∙◌, length-append}
 use Rattle.std.proofs.Common.{append-nil, arith}
 use Rattle.std.proofs.lemmas.List.{length-replicate}
-use Rattle.std.proofs.lemmas.Bool.Decides.{nat_tests}
+use Rattle.std.proofs.lemmas.Bool.{leb-false, lt-leb}
 use Rattle.cube_core.specs.declared.fault.Fault.TheVariants.{BadFill}
 use Rattle.header_bits.specs.Parts.{fine}
 use Rattle.file_decoding.specs.Files.{some_one, fill_test}
 use Rattle.file_decoding.proofs.FileLaws.{zeros_pass}
-
-few-leb : (a b : ℕ) → b < a → leb a b ≡ false
-few-leb a b h = grind (arith, nat_tests)
 
 one_found : (zeros : ℕ) (new : List Bool) → some_one (replicate zeros false ++ true ∷ new) ≡ true
 one_found zero new = refl
 one_found (suc zeros) new = one_found zeros new
 
 pub fill_bad : (word zeros : ℕ) (left new : List Bool) → length left < 8 * word → left ≡ replicate zeros false ++ true ∷ new → fill_test word left ≡ Err BadFill
-fill_bad word zeros left new few e =
-    let below : leb (8 * word) (length left) ≡ false = few-leb _ _ few in
-    let one : some_one left ≡ true = ap some_one e ∙ one_found zeros new in
-    rw (below, one) refl
+fill_bad word zeros left new few e = rw (lt-leb (8 * word) (length left) few, ap some_one e ∙ one_found zeros new) refl
 
 none_behind : (n : ℕ) (left new : List Bool) → n ≡ length left → left ≡ replicate n false ++ new → left ≡ replicate n false
 none_behind n left [] long e = e ∙ append-nil (replicate n false)
@@ -41,10 +35,7 @@ passes word left true one e f h = absurd (let g = rw e at h in cc)
 passes word left false true e f h = absurd (let g = rw (e, f) at h in cc)
 passes word left false false e f h = (refl, refl)
 
-below-lt : (a b : ℕ) → leb a b ≡ false → b < a
-below-lt a b h = grind (arith, nat_tests)
-
 pub passed : (word : ℕ) (left : List Bool) → fill_test word left ≡ fine → (length left < 8 * word) × (left ≡ replicate (length left) false)
 passed word left h =
     let p = passes _ _ _ _ refl refl h in
-    (below-lt _ _ p.0, all_zeros _ p.1)
+    (leb-false _ _ p.0, all_zeros _ p.1)

@@ -1,5 +1,5 @@
 -- Bodies are as long as their number of samples asks for.
-use Rattle.std.proofs.Common.{◌≡◌, ◌*◌, ◌≤◌, ℕ, Bool, true, false, ltb, List, [], ◌∷◌, ◌++◌, length, replicate, refl, sym, ap, ◌∙◌, subst, length-append, arith}
+use Rattle.std.proofs.Common.{◌≡◌, ◌≤◌, ℕ, Bool, true, false, List, [], ◌∷◌, ◌++◌, length, replicate, refl, sym, ap, ◌∙◌, length-append, arith}
 use Rattle.std.proofs.lemmas.Bool.{le-ltb}
 use Rattle.cube_core.specs.declared.order.Place.{Place}
 use Rattle.cube_core.specs.Order.{IsOrder, places}
@@ -18,7 +18,6 @@ use Rattle.sample_adaptive.specs.Settings.{settings}
 use Rattle.sample_adaptive.specs.Words.{Form, Plain, Escape, form_text, form_of, code_at}
 use Rattle.sample_adaptive.specs.Body.{band_numbers, words_after, sample_body}
 use Rattle.sample_adaptive.proofs.Bodies.{code_bits}
-use Rattle.block_adaptive.specs.Segments.{segment_count}
 use Rattle.block_adaptive.proofs.Handed.{size_least}
 use Rattle.block_adaptive.proofs.Segmented.{no_shorter_body}
 use Rattle.sample_adaptive.proofs.ForSamples.{settings_bits}
@@ -53,8 +52,7 @@ by_coder_long p (Sample umax gamma_star gamma_zero start) numbers body deep lawf
     omega (arith, words, ap length coded)
 by_coder_long p (Block size restricted reference) numbers body deep lawful order long coded =
     let sized : 2 ≤ size = omega (arith, size_least _ lawful.0) in
-    let least = no_shorter_body (record { bits = p.kind.bits; restricted = restricted }) size reference numbers body (omega arith) sized lawful.2.0 coded in
-    subst (λ (n : ℕ). 3 * segment_count n size reference ≤ length body) long least
+    rw long at (no_shorter_body (record { bits = p.kind.bits; restricted = restricted }) size reference numbers body (omega arith) sized lawful.2.0 coded)
 
 -- a body of as many numbers as there are samples is no shorter than the least length
 pub body_long : (p : Params) (numbers : List ℕ) (body : List Bool) → IsLawful p → length numbers ≡ sample_count p.shape → IsBody p numbers body
@@ -62,4 +60,4 @@ pub body_long : (p : Params) (numbers : List ℕ) (body : List Bool) → IsLawfu
 body_long p numbers body lawful long coded = by_coder_long _ _ _ _ lawful.kind.0 lawful.coder lawful.order long coded
 
 pub least_passes : (count : ℕ) (p : Params) (bits : List Bool) → least_length p ≤ length bits → least_test count p bits ≡ fine
-least_passes count p bits le = (let enough : ltb (length bits) (least_length p) ≡ false = le-ltb (length bits) (least_length p) le in rw enough refl)
+least_passes count p bits le = rw (le-ltb (length bits) (least_length p) le) refl

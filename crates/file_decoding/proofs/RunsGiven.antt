@@ -1,6 +1,6 @@
 -- Runs that a coder gives at once.
-use Rattle.std.proofs.Common.{◌≡◌, ◌+◌, ◌<◌, ◌≤◌, ◌^◌, ℕ, zero, suc, Bool, List, [], ◌∷◌, ◌++◌, length, take, drop, replicate, Some, Result, Ok, Err, IfOk, sym}
-use Rattle.std.proofs.Common.{ap, ◌∙◌, length-append, length-drop, take-append-drop, arith}
+use Rattle.std.proofs.Common.{◌≡◌, ◌+◌, ◌<◌, ◌≤◌, ◌^◌, ℕ, zero, suc, Bool, List, [], ◌∷◌, ◌++◌, length, take, drop, replicate, Some, Result, Ok, Err, IfOk}
+use Rattle.std.proofs.Common.{◌∙◌, length-append, length-drop, take-append-drop, arith}
 use Rattle.std.specs.Prelude.{MatchResult}
 use Rattle.std.specs.List.{AllByRecursion, slice_get}
 use Rattle.std.proofs.lemmas.List.{length-replicate}
@@ -26,13 +26,15 @@ use Rattle.header_bits.proofs.Items.{all_append}
 use Rattle.file_decoding.specs.Files.{behind_body}
 use Rattle.sample_adaptive.specs.Reading.{words_at}
 
+pub more_long : (numbers : List ℕ) (i : ℕ) → length (numbers ++ replicate i 0) ≡ length numbers + i
+more_long numbers i = omega (arith, length-append numbers (replicate i 0), length-replicate {A = ℕ} i 0)
+
 -- numbers that may be asked for have places of such bands
 pub asked_at : (p : Params) (numbers : List ℕ) (zs ts : ℕ → ℕ) (count : ℕ) → AreEach p (length numbers) zs ts count
     → (i : ℕ) → i < count → (q : Place) × (slice_get (drop (length numbers) (places p.shape p.order)) i ≡ Some q) × (q.z ≡ zs i)
 asked_at p numbers zs ts count ask i lt =
-    let long : length (numbers ++ replicate i 0) ≡ length numbers + i = omega (arith, length-append numbers (replicate i 0), length-replicate {A = ℕ} i 0) in
-    let next = ask i (numbers ++ replicate i 0) lt long in
-    (next.0, get_drop (places p.shape p.order) (length numbers) i ∙ ap (slice_get (places p.shape p.order)) (sym long) ∙ next.1, next.2)
+    let next = ask i (numbers ++ replicate i 0) lt (more_long numbers i) in
+    (next.0, get_drop (places p.shape p.order) (length numbers) i ∙ rw (more_long numbers i) at next.1, next.2)
 
 -- the words of so many numbers are read behind those that were given, or the body is refused
 pub words_given : (r : Result (Unit {0}) Fault) (p : Params) (old new : Counts) (unread : Unread) (left : List Bool) (numbers list : List ℕ) (bits : List Bool)
@@ -46,7 +48,6 @@ words_given (Ok u) p old new unread left numbers list bits h kept fits did =
     let below : AllByRecursion (λ v. v < 2 ^ p.kind.bits) list = rw (settings_bits _) at words.numbers in
     (below, words_after _ _ _ _ _, words.text, (samples_more_run _ _ _ _ _ _ fits h.0 kept did.1, all_append _ _ _ h.1 below))
 words_given (Err fault) p old new unread left numbers list bits h kept fits did =
-    let rest : List Place = drop (length numbers) (places p.shape p.order) in
     let longer = words_longer _ _ _ _ _ (drop (length list) (drop (length numbers) (places p.shape p.order))) _ fault did.0 in
     let all = rw (take-append-drop (length list) (drop (length numbers) (places p.shape p.order))) at longer in
     rest_refused p _ _ _ _ _ h.0.coder h.1 (omega (arith, fits)) h.0.text all
