@@ -1,11 +1,12 @@
 -- Files: what is written is one, a file has no fault, and is a file of one cube alone.
-use Rattle.std.proofs.Common.{◌≡◌, ◌*◌, ◌/◌, ◌%◌, ◌-◌, ◌<◌, ◌≤◌, ◌^◌, ◌+◌, ℕ, zero, suc, Bool, false, leb, List, [], ◌∷◌, ◌++◌, length, take, drop, replicate, Ok, refl, sym, ap, subst, ◌∙◌, append_assoc, length-append, arith}
+use Rattle.std.proofs.Common.{◌≡◌, ◌*◌, ◌/◌, ◌%◌, ◌-◌, ◌<◌, ◌≤◌, ◌^◌, ℕ, zero, suc, Bool, false, leb, List, [], ◌∷◌, ◌++◌, length, take, drop, replicate, Ok}
+use Rattle.std.proofs.Common.{refl, sym, ap, ◌∙◌, append_assoc, length-append, arith, subst}
 use Rattle.std.specs.List.{AllByRecursion}
 use Rattle.std.proofs.lemmas.List.{append_cancel_left, length-replicate, length-map, take-append-drop, length-take, length-drop}
 use Rattle.std.proofs.lemmas.Nat.{mod_below}
-use Rattle.std.proofs.lemmas.Bool.Decides.{nat_tests}
+use Rattle.std.proofs.lemmas.Bool.{lt-leb}
 use Rattle.cube_core.specs.Steps.{◌>>=◌}
-use Rattle.cube_core.specs.Shape.{Sizes, sample_count}
+use Rattle.cube_core.specs.Shape.{sample_count}
 use Rattle.cube_core.specs.Kind.{SampleKind}
 use Rattle.cube_core.specs.Image.{Image}
 use Rattle.cube_core.specs.Order.{IsOrder, places}
@@ -13,10 +14,10 @@ use Rattle.cube_core.proofs.Orders.{length-places}
 use Rattle.header_bits.specs.declared.params.Params.{Params}
 use Rattle.header_bits.specs.declared.params.Coder.{Coder}
 use Rattle.header_bits.specs.declared.params.Coder.TheVariants.{Sample, Block}
-use Rattle.header_bits.specs.Bits.{bits_of, bits_of_bytes, number_of}
+use Rattle.header_bits.specs.Bits.{bits_of_bytes}
 use Rattle.header_bits.specs.Parts.{fine}
 use Rattle.header_bits.specs.Lawful.{IsLawful, IsCoder}
-use Rattle.header_bits.specs.Header.{header_at, header_of, SpellsHeader}
+use Rattle.header_bits.specs.Header.{header_of}
 use Rattle.header_bits.proofs.Bytes.{length-bits_of_bytes}
 use Rattle.header_bits.proofs.Numbers.{bits_of-number_of}
 use Rattle.header_bits.proofs.Exact.{one_spelling}
@@ -26,14 +27,12 @@ use Rattle.predict_core.specs.Residual.{residuals}
 use Rattle.sample_adaptive.specs.Settings.{settings}
 use Rattle.sample_adaptive.specs.Laws.{AreNumbers}
 use Rattle.sample_adaptive.proofs.Bodies as samples
-use Rattle.block_adaptive.specs.DataSets.{IsBlockBody, AreCodedDataSets, cut_of}
+use Rattle.block_adaptive.specs.DataSets.{IsBlockBody}
 use Rattle.block_adaptive.specs.Reading.{block_body_at}
 use Rattle.block_adaptive.proofs.Bodies as blocks
 use Rattle.block_adaptive.proofs.Handed.{size_halved, size_least}
 use Rattle.block_adaptive.specs.declared.options.CodeSet.{CodeSet}
-use Rattle.block_adaptive.specs.Segments.{block_count}
-use Rattle.block_adaptive.specs.Settings.{IsSize}
-use Rattle.file_coding.specs.File.{body_of, body_by, fill_length, filled, packed_from, packed, file_bits, file_of_residuals, file_of}
+use Rattle.file_coding.specs.File.{body_of, body_by, fill_length, packed_from, packed, file_bits, file_of_residuals, file_of}
 use Rattle.sample_adaptive.proofs.ForSamples.{settings_bits}
 use Rattle.file_coding.proofs.Packed.{filled_whole}
 use Rattle.file_decoding.specs.Files.{IsBodyBy, IsBody, IsCubeOf, IsFile, behind_by, behind_body, some_one, fill_test, body_test, head_at, file_test}
@@ -50,79 +49,75 @@ packed_bits zero [] e = refl
 packed_bits zero (b ∷ bits) e = absurd (omega arith)
 packed_bits (suc n) bits e =
     let eight : length (take 8 bits) ≡ 8 = omega (arith, e, length-take 8 bits) in
-    let byte : bits_of 8 (number_of (take 8 bits)) ≡ take 8 bits = subst (λ (k : ℕ). bits_of k (number_of (take 8 bits)) ≡ take 8 bits) eight (bits_of-number_of (take 8 bits)) in
-    let rest : bits_of_bytes (packed_from n (drop 8 bits)) ≡ drop 8 bits = packed_bits n (drop 8 bits) (omega (arith, e, length-drop 8 bits)) in
-    rw (byte, rest) (take-append-drop 8 bits)
+    let byte = rw eight at (bits_of-number_of (take 8 bits)) in
+    rw (byte, packed_bits n (drop 8 bits) (omega (arith, e, length-drop 8 bits))) (take-append-drop 8 bits)
 
 packed_again : (bits : List Bool) → length bits % 8 ≡ 0 → bits_of_bytes (packed bits) ≡ bits
 unfolding packed
-packed_again bits e = packed_bits (length bits / 8) bits (omega (arith, e))
+packed_again bits e = packed_bits _ _ (omega (arith, e))
 
 -- ---- residuals of a cube of the parameters
 
-order_of_cube : (p : Params) (c : Image) → IsLawful p → IsCubeOf p c → IsOrder c.shape p.order
-order_of_cube p c lawful cube = subst (λ (s : Sizes). IsOrder s p.order) (sym cube.shape) lawful.order
+module _ (p : Params) (c : Image) (lawful : IsLawful p) (cube : IsCubeOf p c) where
+  order_of_cube : IsOrder c.shape p.order
+  order_of_cube = rw cube.shape lawful.order
 
-pub inside : (p : Params) (c : Image) → IsLawful p → IsCubeOf p c → AllByRecursion (λ v. v < 2 ^ p.kind.bits) (residuals p c)
-inside p c lawful cube =
-    subst (λ (k : SampleKind). AllByRecursion (λ v. v < 2 ^ k.bits) (residuals p c)) cube.kind (residuals_inside p c (order_of_cube p c lawful cube) cube.cube)
+  pub inside : AllByRecursion (λ v. v < 2 ^ p.kind.bits) (residuals p c)
+  inside = subst (λ (k : SampleKind). AllByRecursion (λ v. v < 2 ^ k.bits) (residuals p c)) cube.kind (residuals_inside p c order_of_cube cube.cube)
 
-pub length-residuals : (p : Params) (c : Image) → IsLawful p → IsCubeOf p c → length (residuals p c) ≡ sample_count p.shape
-unfolding residuals
-length-residuals p c lawful cube = length-map (places c.shape p.order) _ ∙ length-places c.shape p.order (order_of_cube p c lawful cube) ∙ ap sample_count cube.shape
+  pub length-residuals : length (residuals p c) ≡ sample_count p.shape
+  unfolding residuals
+  length-residuals = length-map (places c.shape p.order) _ ∙ length-places _ _ order_of_cube ∙ ap sample_count cube.shape
 
 -- ---- what is written
 
-chosen_body : (p : Params) (numbers : List ℕ) (coder : Coder) → IsCoder p coder → AllByRecursion (λ v. v < 2 ^ p.kind.bits) numbers → IsBodyBy coder p numbers (body_by coder p numbers)
+chosen_body : (p : Params) (numbers : List ℕ) (coder : Coder) → IsCoder p coder → AllByRecursion (λ v. v < 2 ^ p.kind.bits) numbers
+    → IsBodyBy coder p numbers (body_by coder p numbers)
 chosen_body p numbers (Sample umax gamma_star gamma_zero start) lawful range = refl
 chosen_body p numbers (Block size restricted reference) lawful range =
-    blocks.chosen_is_body (record { bits = p.kind.bits; restricted = restricted }) size reference numbers (omega (arith, size_least size lawful.0)) lawful.2.0 range
+    blocks.chosen_is_body _ size reference numbers (omega (arith, size_least _ lawful.0)) lawful.2.0 range
 
 pub chosen_is_file : ChosenIsFile
 unfolding file_of file_of_residuals file_bits body_of
 chosen_is_file p c lawful cube =
-    let bits : List Bool = header_of p ++ body_of p (residuals p c) in
-    let fill : ℕ = fill_length p.word (length bits) in
-    let whole : length (filled p.word bits) % 8 ≡ 0 = filled_whole p.word bits lawful.word.0 in
+    let bits : List Bool = header_of p ++ body_of p (residuals _ c) in
     record {
       cube = cube;
       header = header_of p;
-      body = body_of p (residuals p c);
-      fill = fill;
-      spelt = chosen_is_spelt p lawful;
-      coded = chosen_body p (residuals p c) p.coder lawful.coder (inside p c lawful cube);
+      body = body_of p (residuals _ c);
+      fill = fill_length p.word (length bits);
+      spelt = chosen_is_spelt _ lawful;
+      coded = chosen_body _ _ _ lawful.coder (inside _ _ lawful cube);
       few = mod_below (8 * p.word - length bits % (8 * p.word)) (8 * p.word) (omega (arith, lawful.word.0));
-      text = packed_again (filled p.word bits) whole;
+      text = packed_again _ (filled_whole p.word bits lawful.word.0);
     }
 
 -- ---- a body is read again, whatever follows
 
-even_again : (count : ℕ) (s : CodeSet) (half reference n : ℕ) (numbers : List ℕ) (body rest : List Bool) → 1 ≤ reference → length numbers ≡ n → IsBlockBody s (2 * half) reference numbers body
-    → (block_body_at count s (2 * half) reference n (body ++ rest) >>= λ read. Ok read.1) ≡ Ok rest
+even_again : (count : ℕ) (s : CodeSet) (half reference n : ℕ) (numbers : List ℕ) (body rest : List Bool) → 1 ≤ reference → length numbers ≡ n
+    → IsBlockBody s (2 * half) reference numbers body → (block_body_at count s (2 * half) reference n (body ++ rest) >>= λ read. Ok read.1) ≡ Ok rest
 even_again count s half reference n numbers body rest least long coded =
-    let lawful : AreCodedDataSets (cut_of s (2 * half) reference n) 0 coded.data_sets (block_count (2 * half) n) = subst (λ (k : ℕ). AreCodedDataSets (cut_of s (2 * half) reference k) 0 coded.data_sets (block_count (2 * half) k)) long coded.lawful in
-    let read = (blocks.body_is_read count s half reference n coded.data_sets (body ++ rest) rest least).0 lawful (ap (λ (x : List Bool). x ++ rest) coded.text) in
+    let read = (blocks.body_is_read count s half reference n coded.data_sets (body ++ rest) rest least).0 (rw long at coded.lawful)
+    (ap (λ (x : List Bool). x ++ rest) coded.text) in
     rw read refl
 
-block_again : (count : ℕ) (s : CodeSet) (size reference n : ℕ) (numbers : List ℕ) (body rest : List Bool) → IsSize size → 1 ≤ reference → length numbers ≡ n → IsBlockBody s size reference numbers body
-    → (block_body_at count s size reference n (body ++ rest) >>= λ read. Ok read.1) ≡ Ok rest
-block_again count s size reference n numbers body rest sized least long =
-    subst (λ (k : ℕ). IsBlockBody s k reference numbers body → (block_body_at count s k reference n (body ++ rest) >>= λ read. Ok read.1) ≡ Ok rest) (size_halved size sized) (even_again count s (size / 2) reference n numbers body rest least long)
-
-by_coder_again : (p : Params) (count : ℕ) (coder : Coder) (numbers : List ℕ) (body rest : List Bool) → IsCoder p coder → IsOrder p.shape p.order → AllByRecursion (λ v. v < 2 ^ p.kind.bits) numbers → length numbers ≡ sample_count p.shape
+by_coder_again : (p : Params) (count : ℕ) (coder : Coder) (numbers : List ℕ) (body rest : List Bool) → IsCoder p coder → IsOrder p.shape p.order
+    → AllByRecursion (λ v. v < 2 ^ p.kind.bits) numbers → length numbers ≡ sample_count p.shape
     → IsBodyBy coder p numbers body → behind_by coder count p (body ++ rest) ≡ Ok rest
 by_coder_again p count (Sample umax gamma_star gamma_zero start) numbers body rest lawful order range long coded =
-    let along : length numbers ≡ length (places p.shape p.order) = long ∙ sym (length-places p.shape p.order order) in
-    let numbers-are : AreNumbers (settings p).bits numbers = rw (settings_bits p) range in
-    let read = (samples.body_is_read count (settings p) (places p.shape p.order) numbers (body ++ rest) rest along).0 numbers-are (ap (λ (x : List Bool). x ++ rest) coded) in
+    let along : length numbers ≡ length (places p.shape p.order) = long ∙ sym (length-places _ _ order) in
+    let numbers-are : AreNumbers (settings p).bits numbers = rw (settings_bits _) range in
+    let read = (samples.body_is_read count (settings p) (places p.shape p.order) numbers (body ++ rest) rest along).0 numbers-are
+    (ap (λ (x : List Bool). x ++ rest) coded) in
     rw read refl
 by_coder_again p count (Block size restricted reference) numbers body rest lawful order range long coded =
-    block_again count (record { bits = p.kind.bits; restricted = restricted }) size reference (sample_count p.shape) numbers body rest lawful.0 lawful.2.0 long coded
+    let half : size ≡ 2 * (size / 2) = sym (size_halved _ lawful.0) in
+    rw half (even_again count _ (size / 2) reference _ numbers body rest lawful.2.0 long (rw half at coded))
 
-pub behind_again : (p : Params) (count : ℕ) (numbers : List ℕ) (body rest : List Bool) → IsLawful p → AllByRecursion (λ v. v < 2 ^ p.kind.bits) numbers → length numbers ≡ sample_count p.shape
-    → IsBody p numbers body → behind_body count p (body ++ rest) ≡ Ok rest
+pub behind_again : (p : Params) (count : ℕ) (numbers : List ℕ) (body rest : List Bool) → IsLawful p → AllByRecursion (λ v. v < 2 ^ p.kind.bits) numbers
+    → length numbers ≡ sample_count p.shape → IsBody p numbers body → behind_body count p (body ++ rest) ≡ Ok rest
 unfolding behind_body
-behind_again p count numbers body rest lawful range long coded = by_coder_again p count p.coder numbers body rest lawful.coder lawful.order range long coded
+behind_again p count numbers body rest lawful range long coded = by_coder_again _ _ _ _ _ _ lawful.coder lawful.order range long coded
 
 -- ---- a file has no fault
 
@@ -132,64 +127,55 @@ no_ones (suc n) = no_ones n
 
 pub zeros_pass : (word n : ℕ) → n < 8 * word → fill_test word (replicate n false) ≡ fine
 zeros_pass word n lt =
-    let few : leb (8 * word) (length (replicate n false)) ≡ false = rw (length-replicate n false) (lt-leb (8 * word) n lt) in
-    rw (few, no_ones n) refl
-  where
-    lt-leb : (a b : ℕ) → b < a → leb a b ≡ false
-    lt-leb a b h = grind (arith, nat_tests)
+    let few : leb (8 * word) (length (replicate n false)) ≡ false = rw (length-replicate n false) (lt-leb _ _ lt) in
+    rw (few, no_ones _) refl
 
 file_text : (bytes : List ℕ) (p : Params) (c : Image) → (f : IsFile bytes p c) → bits_of_bytes bytes ≡ f.header ++ (f.body ++ replicate f.fill false)
 file_text bytes p c f = f.text ∙ append_assoc f.header f.body (replicate f.fill false)
 
 body_of_file_long : (bytes : List ℕ) (p : Params) (c : Image) → IsLawful p → (f : IsFile bytes p c) → least_length p ≤ length f.body
-body_of_file_long bytes p c lawful f = body_long p (residuals p c) f.body lawful (length-residuals p c lawful f.cube) f.coded
+body_of_file_long bytes p c lawful f = body_long _ _ _ lawful (length-residuals _ _ lawful f.cube) f.coded
 
 pub no_shorter_file : NoShorterFile
 no_shorter_file bytes p c lawful f =
     let long = body_of_file_long bytes p c lawful f in
-    let bits : length (bits_of_bytes bytes) ≡ length f.header + (length f.body + length (replicate f.fill false)) =
-    ap length (file_text bytes p c f) ∙ length-append f.header (f.body ++ replicate f.fill false) ∙ ap (λ (n : ℕ). length f.header + n) (length-append f.body (replicate f.fill false)) in
-    omega (arith, long, bits, length-bits_of_bytes bytes)
+    omega (arith, long, ap length (file_text bytes p c f), length-append {A = Bool}, length-bits_of_bytes bytes)
 
 pub file_is_fine : FileIsFine
 unfolding file_test body_test head_at
 file_is_fine bytes p c lawful f =
     let rest : List Bool = replicate f.fill false in
     let count : ℕ = length (f.header ++ (f.body ++ rest)) in
-    let text = file_text bytes p c f in
     let header = header_exact.again p f.header (f.body ++ rest) f.spelt in
-    let body = behind_again p count (residuals p c) f.body rest lawful (inside p c lawful f.cube) (length-residuals p c lawful f.cube) f.coded in
+    let body = behind_again p count (residuals _ c) f.body rest lawful (inside p c lawful f.cube) (length-residuals p c lawful f.cube) f.coded in
     let enough = least_passes count p (f.body ++ rest) (omega (arith, body_of_file_long bytes p c lawful f, length-append f.body rest)) in
-    rw (text, header, enough, body) (zeros_pass p.word f.fill f.few)
+    rw (file_text bytes p c f, header, enough, body) (zeros_pass p.word f.fill f.few)
 
 -- ---- one file
 
 -- no body of residuals begins a body of others
-same_numbers : (p : Params) (coder : Coder) (ms ns : List ℕ) (a b x y : List Bool) → IsCoder p coder → IsOrder p.shape p.order → AllByRecursion (λ v. v < 2 ^ p.kind.bits) ms → AllByRecursion (λ v. v < 2 ^ p.kind.bits) ns
-    → length ms ≡ sample_count p.shape → length ns ≡ sample_count p.shape → IsBodyBy coder p ms a → IsBodyBy coder p ns b → a ++ x ≡ b ++ y → ms ≡ ns
+same_numbers : (p : Params) (coder : Coder) (ms ns : List ℕ) (a b x y : List Bool) → IsCoder p coder → IsOrder p.shape p.order
+    → AllByRecursion (λ v. v < 2 ^ p.kind.bits) ms → AllByRecursion (λ v. v < 2 ^ p.kind.bits) ns → length ms ≡ sample_count p.shape
+    → length ns ≡ sample_count p.shape → IsBodyBy coder p ms a → IsBodyBy coder p ns b → a ++ x ≡ b ++ y → ms ≡ ns
 same_numbers p (Sample umax gamma_star gamma_zero start) ms ns a b x y lawful order rm rn lm ln s t e =
-    let whole = length-places p.shape p.order order in
-    let bodies = ap (λ (w : List Bool). w ++ x) (sym s) ∙ e ∙ ap (λ (w : List Bool). w ++ y) t in
-    (samples.one_body (settings p) (places p.shape p.order) ms ns x y (lm ∙ sym whole) (ln ∙ sym whole) (rw (settings_bits p) rm) (rw (settings_bits p) rn) bodies).0
+    let whole = length-places _ _ order in
+    (samples.one_body (settings p) (places p.shape p.order) ms ns x y (lm ∙ sym whole) (ln ∙ sym whole) (rw (settings_bits _) rm) (rw (settings_bits _) rn)
+    (rw (s, t) at e)).0
 same_numbers p (Block size restricted reference) ms ns a b x y lawful order rm rn lm ln s t e =
-    let set : CodeSet = record { bits = p.kind.bits; restricted = restricted } in
-    let half : size ≡ 2 * (size / 2) = sym (size_halved size lawful.0) in
-    let s' : IsBlockBody (record { bits = p.kind.bits; restricted = restricted }) (2 * (size / 2)) reference ms a = subst (λ (k : ℕ). IsBlockBody (record { bits = p.kind.bits; restricted = restricted }) k reference ms a) half s in
-    let t' : IsBlockBody (record { bits = p.kind.bits; restricted = restricted }) (2 * (size / 2)) reference ns b = subst (λ (k : ℕ). IsBlockBody (record { bits = p.kind.bits; restricted = restricted }) k reference ns b) half t in
-    (blocks.one_body (record { bits = p.kind.bits; restricted = restricted }) (size / 2) reference ms ns a b x y (omega (arith, half, size_least size lawful.0)) (lm ∙ sym ln) s' t' e).0
+    let half : size ≡ 2 * (size / 2) = sym (size_halved _ lawful.0) in
+    (blocks.one_body _ (size / 2) reference ms ns a b x y (omega (arith, half, size_least _ lawful.0)) (lm ∙ sym ln) (rw half at s) (rw half at t) e).0
 
 pub one_file : OneFile
 one_file bytes p q c d lawful f g =
-    let whole : f.header ++ (f.body ++ replicate f.fill false) ≡ g.header ++ (g.body ++ replicate g.fill false) = sym (file_text bytes p c f) ∙ file_text bytes q d g in
-    let one = one_spelling header_at SpellsHeader header_exact f.header g.header (f.body ++ replicate f.fill false) (g.body ++ replicate g.fill false) p q f.spelt g.spelt whole in
-    (one.0, same one.0 g (bodies one.1 whole))
+    let whole : f.header ++ (f.body ++ replicate f.fill false) ≡ g.header ++ (g.body ++ replicate g.fill false) =
+    sym (file_text bytes p c f) ∙ file_text bytes q d g in
+    let one = one_spelling _ _ header_exact _ _ _ _ _ _ f.spelt g.spelt whole in
+    (one.0, same one.0 g (append_cancel_left g.header _ _ (rw one.1 at whole)))
   where
-    bodies : f.header ≡ g.header → f.header ++ (f.body ++ replicate f.fill false) ≡ g.header ++ (g.body ++ replicate g.fill false) → f.body ++ replicate f.fill false ≡ g.body ++ replicate g.fill false
-    bodies h e = append_cancel_left f.header (f.body ++ replicate f.fill false) (g.body ++ replicate g.fill false) (e ∙ ap (λ (x : List Bool). x ++ (g.body ++ replicate g.fill false)) (sym h))
-
     same : p ≡ q → (k : IsFile bytes q d) → f.body ++ replicate f.fill false ≡ k.body ++ replicate k.fill false → c ≡ d
     same e k h =
-        let cube : IsCubeOf p d = subst (λ (r : Params). IsCubeOf r d) (sym e) k.cube in
-        let coded : IsBody p (residuals p d) k.body = subst (λ (r : Params). IsBody r (residuals r d) k.body) (sym e) k.coded in
-        let numbers = same_numbers p p.coder (residuals p c) (residuals p d) f.body k.body (replicate f.fill false) (replicate k.fill false) lawful.coder lawful.order (inside p c lawful f.cube) (inside p d lawful cube) (length-residuals p c lawful f.cube) (length-residuals p d lawful cube) f.coded coded h in
+        let cube : IsCubeOf p d = rw e k.cube in
+        let coded : IsBody p (residuals _ d) k.body = rw e k.coded in
+        let numbers = same_numbers _ _ _ _ _ k.body _ _ lawful.coder lawful.order (inside _ _ lawful f.cube) (inside _ _ lawful cube)
+        (length-residuals _ _ lawful f.cube) (length-residuals _ _ lawful cube) f.coded coded h in
         one_cube p c d lawful f.cube cube numbers

@@ -1,5 +1,5 @@
 -- A tile's samples are found band after band: what the image has by then, and where the bands are.
-use Rattle.std.proofs.Common.{◌≡◌, ◌≢◌, ◌⊎◌, ◌+◌, ◌-◌, ◌*◌, ◌<◌, ◌≤◌, ℕ, zero, suc, List, [], ◌∷◌, length, take, set, Some, refl, sym, ap, ◌∙◌, subst, inl, inr, arith}
+use Rattle.std.proofs.Common.{◌≡◌, ◌≢◌, ◌⊎◌, ◌+◌, ◌-◌, ◌*◌, ◌<◌, ◌≤◌, ℕ, zero, suc, List, [], ◌∷◌, length, take, set, Some, refl, sym, ap, ◌∙◌, inl, inr, arith}
 use Rattle.std.specs.List.{slice_get, slice_index}
 use Rattle.std.proofs.lemmas.Bool.{cases_lt}
 use Rattle.std.proofs.lemmas.List.{length-set}
@@ -11,15 +11,14 @@ use Rattle.cube_core.specs.Order.{IsPlaceOf, place_index}
 use Rattle.header_bits.specs.declared.params.Params.{Params}
 use Rattle.header_bits.specs.Lawful.{IsLawful}
 use Rattle.predict_core.specs.Following.{Learner, Follows, MovesBy}
-use Rattle.predict_core.specs.Precedence.{AreAlike, Agree, IsEarlier}
-use Rattle.predict_core.specs.Prediction.{weight_vector}
+use Rattle.predict_core.specs.Precedence.{AreAlike, Agree}
 use Rattle.predict_core.specs.Residual.{mapped_residual, run_residuals}
 use Rattle.predict_core.specs.RunPlaces.{AreAlikeBeside, IsBeside}
 use Rattle.predict_core.specs.Walked.{IsAlong, AreAlong}
-use Rattle.cube_core.specs.Along.{HasCome}
 use Rattle.cube_core.proofs.Come.{time_of}
+use Rattle.cube_core.proofs.Lists.{get_set}
 use Rattle.file_decoding.specs.declared.tile.Tile.{Tile}
-use Rattle.file_decoding.specs.Tiles.{IsTile, IsReady, AreReady, SameBefore, HasResiduals, place_in}
+use Rattle.file_decoding.specs.Tiles.{IsTile, IsReady, AreReady, SameBefore, place_in}
 use Rattle.file_decoding.proofs.Alike.{residual_same, weights_behind}
 use Rattle.file_decoding.proofs.Kept.{wide_of, all_follow}
 use Rattle.file_decoding.proofs.Tiles.{placed, come_within, come_beside}
@@ -28,12 +27,17 @@ use Rattle.file_decoding.proofs.Tiles.{placed, come_within, come_beside}
 abbrev pub IsOutside : Tile → ℕ → ℕ → ℕ → ℕ → Type 0
 IsOutside tile n z' y' x' = (b : ℕ) → b < n → IsBeside (tile.place.z + b) tile.place.y tile.place.x tile.columns z' y' x'
 
+-- an image has the residual of the tile's column i and its band b
+abbrev pub HasOne : Params → Image → Tile → List ℕ → ℕ → ℕ → Type 0
+HasOne p c tile deltas i b =
+    mapped_residual p c (tile.place.z + b) (tile.place.y * c.shape.columns + (tile.place.x + i)) ≡ slice_index deltas (i * tile.bands + b)
+
 -- by parameters of which the bands follow the image c, the first n bands follow the image d, which has their residuals
 abbrev pub Fills : Params → Tile → Image → Image → List Learner → List Learner → List ℕ → ℕ → Type 0
 Fills p tile c d bands now deltas n =
     IsLawful p → c.shape ≡ p.shape → IsTile p tile → AreAlong p c (place_index p.shape p.order tile.place) bands
     → ((b : ℕ) → b < n → (g : Learner) → slice_get now (tile.place.z + b) ≡ Some g → Follows p g d)
-    × ((i b : ℕ) → i < tile.columns → b < n → mapped_residual p d (tile.place.z + b) (tile.place.y * d.shape.columns + (tile.place.x + i)) ≡ slice_index deltas (i * tile.bands + b))
+    × ((i b : ℕ) → i < tile.columns → b < n → HasOne p d tile deltas i b)
 
 -- a band that has gone over the tile's columns
 pub record IsPast (c : Image) (tile : Tile) (b : ℕ) (g : Learner) : Type 0 where
@@ -61,37 +65,20 @@ filled_none tile c bands deltas = record {
 
 -- ---- a place before the tile is outside of it
 
-pub outside_before : (p : Params) (tile : Tile) (n : ℕ) (r : Place) → IsTile p tile → n ≤ tile.bands → IsPlaceOf p.shape r → place_index p.shape p.order r < place_index p.shape p.order tile.place → IsOutside tile n r.z r.y r.x
-outside_before p tile n r is le there lt b below band row column = elim (cases_lt r.x (tile.place.x + tile.columns)) [
-  | inr behind ↦ behind
-  | inl inner ↦
-      (let i : ℕ = r.x - tile.place.x in
-      let index = is.index i b (omega (arith, inner, column)) (omega (arith, below, le)) in
-      let x : r.x ≡ tile.place.x + (r.x - tile.place.x) = omega (arith, column) in
-      let same : r ≡ place_in tile.place i b = ap (λ (z : ℕ). record { z = z; y = r.y; x = r.x }) band ∙ ap (λ (y : ℕ). record { z = tile.place.z + b; y = y; x = r.x }) row ∙ ap (λ (k : ℕ). record { z = tile.place.z + b; y = tile.place.y; x = k }) x in
-      let here = ap (place_index p.shape p.order) same in
-      absurd (omega (arith, here, index, lt)))
-]
+same_fields : (r : Place) (z y x : ℕ) → r.z ≡ z → r.y ≡ y → r.x ≡ x → r ≡ record { z = z; y = y; x = x }
+same_fields r z y x a b c = rw (← a, ← b, ← c) refl
 
-pub same_before : (p : Params) (tile : Tile) (c d : Image) (bands now : List Learner) (deltas : List ℕ) (n : ℕ) → c.shape ≡ p.shape → IsTile p tile → n ≤ tile.bands → AreFilled tile c d bands now deltas n → SameBefore p.order c d (place_index p.shape p.order tile.place)
-same_before p tile c d bands now deltas n shape is le filled r there lt =
-    filled.samples r.z r.y r.x there (outside_before p tile n r is le (subst (λ (s : Sizes). IsPlaceOf s r) shape there) (subst (λ (s : Sizes). place_index s p.order r < place_index p.shape p.order tile.place) shape lt))
-
--- ---- what lower bands have stays
-
--- images that are one beside a run of a band are one at all places of lower bands
-below_run : (d e : Image) (z y x n b t : ℕ) → AreAlikeBeside d e z y x n → b < z → Agree d e b t
-below_run d e z y x n b t beside lt = record {
-  alike = beside.alike;
-  samples = λ z' y' x' there earlier. beside.samples z' y' x' there (λ band row column. absurd (late z' (y' * d.shape.columns + x') band earlier));
-}
-  where
-    late : (z' t' : ℕ) → z' ≡ z → IsEarlier b t z' t' → ⊥
-    late z' t' same (inl h) = omega (arith, same, h.0, lt)
-    late z' t' same (inr h) = omega (arith, same, h.0, lt)
-
-below_sample : (d e : Image) (z y x n : ℕ) (q : Place) → AreAlikeBeside d e z y x n → q.z < z → IsPlaceOf d.shape q → sample_at d q.z q.y q.x ≡ sample_at e q.z q.y q.x
-below_sample d e z y x n q beside lt there = beside.samples q.z q.y q.x there (λ band row column. absurd (omega (arith, band, lt)))
+pub same_before : {p : Params} {tile : Tile} {c d : Image} {bands now : List Learner} {deltas : List ℕ} {n : ℕ} → c.shape ≡ p.shape → IsTile p tile
+    → n ≤ tile.bands → AreFilled tile c d bands now deltas n → SameBefore p.order c d (place_index p.shape p.order tile.place)
+same_before {p} {tile} shape is le filled r there lt =
+    filled.samples r.z r.y r.x there (λ b below band row column. elim (cases_lt r.x (tile.place.x + tile.columns)) [
+      | inr behind ↦ behind
+      | inl inner ↦
+          (let index = is.index (r.x - tile.place.x) b (omega (arith, inner, column)) (omega (arith, below, le)) in
+          let x : r.x ≡ tile.place.x + (r.x - tile.place.x) = omega (arith, column) in
+          let here = ap (place_index p.shape p.order) (same_fields r _ _ _ band row x) in
+          absurd (omega (arith, here, index, rw shape at lt)))
+    ])
 
 -- ---- the run of one band
 
@@ -101,20 +88,12 @@ run_at p c z t zero i lt = absurd (omega (arith, lt))
 run_at p c z t (suc n) zero lt = ap (mapped_residual p c z) (omega arith)
 run_at p c z t (suc n) (suc i) lt = run_at p c z (suc t) n i (omega (arith, lt)) ∙ ap (mapped_residual p c z) (omega arith)
 
-get_first : (bands : List Learner) (i : ℕ) (g : Learner) → i < length bands → slice_get (set bands i g) i ≡ Some g
-get_first [] i g lt = absurd (omega (arith, lt))
-get_first (x ∷ xs) zero g lt = refl
-get_first (x ∷ xs) (suc i) g lt = get_first xs i g (omega (arith, lt))
-
 get_other : (bands : List Learner) (i z : ℕ) (g : Learner) → z ≢ i → slice_get (set bands i g) z ≡ slice_get bands z
 get_other [] i z g apart = refl
 get_other (x ∷ xs) zero zero g apart = absurd (apart refl)
 get_other (x ∷ xs) zero (suc z) g apart = refl
 get_other (x ∷ xs) (suc i) zero g apart = refl
 get_other (x ∷ xs) (suc i) (suc z) g apart = get_other xs i z g (λ e. apart (ap suc e))
-
-pub one_item : (f g : Learner) → Some f ≡ Some g → f ≡ g
-one_item f g e = cc
 
 pub item_taken : (n : ℕ) (ns : List ℕ) (i : ℕ) → i < n → n ≤ length ns → slice_index (take n ns) i ≡ slice_index ns i
 item_taken zero ns i lt le = absurd (omega (arith, lt))
@@ -130,94 +109,93 @@ pub record FillsBand (tile : Tile) (d e : Image) (n : ℕ) (f g : Learner) (run 
   pub follows : (p : Params) → Follows p f d → Follows p g e
 
 -- a band at its turn is as it was before the tile
-pub at_turn : (tile : Tile) (c d : Image) (bands now : List Learner) (deltas : List ℕ) (n : ℕ) → AreFilled tile c d bands now deltas n → slice_get now (tile.place.z + n) ≡ slice_get bands (tile.place.z + n)
-at_turn tile c d bands now deltas n filled = filled.others (tile.place.z + n) (λ b lt e. omega (arith, lt, e))
+pub at_turn : {tile : Tile} {c d : Image} {bands now : List Learner} {deltas : List ℕ} {n : ℕ} → AreFilled tile c d bands now deltas n
+    → slice_get now (tile.place.z + n) ≡ slice_get bands (tile.place.z + n)
+at_turn filled = filled.others _ (λ b lt e. omega (arith, lt, e))
 
-fills_more : (p : Params) (tile : Tile) (c d e : Image) (bands now : List Learner) (deltas run : List ℕ) (n : ℕ) (f g : Learner) → n < tile.bands → tile.place.z + n < length now → AreFilled tile c d bands now deltas n → slice_get bands (tile.place.z + n) ≡ Some f
-    → IsReady c tile n f → FillsBand tile d e n f g run → ((i : ℕ) → i < tile.columns → slice_index run i ≡ slice_index deltas (i * tile.bands + n)) → Fills p tile c e bands (set now (tile.place.z + n) g) deltas (n + 1)
-fills_more p tile c d e bands now deltas run n f g lt inside filled at ready band values lawful shape is along = (follow, residuals)
-  where
-    known : ((b : ℕ) → b < n → (h : Learner) → slice_get now (tile.place.z + b) ≡ Some h → Follows p h d) × ((i b : ℕ) → i < tile.columns → b < n → mapped_residual p d (tile.place.z + b) (tile.place.y * d.shape.columns + (tile.place.x + i)) ≡ slice_index deltas (i * tile.bands + b))
-    known = filled.fills p lawful shape is along
+module _ {tile : Tile} {c d e : Image} {bands now : List Learner} {deltas run : List ℕ} {n : ℕ} {f g : Learner} (lt : n < tile.bands)
+    (filled : AreFilled tile c d bands now deltas n) (at : slice_get bands (tile.place.z + n) ≡ Some f) (ready : IsReady c tile n f)
+    (band : FillsBand tile d e n f g run) (values : (i : ℕ) → i < tile.columns → slice_index run i ≡ slice_index deltas (i * tile.bands + n)) where
+  fills_more : (p : Params) → Fills p tile c e bands (set now (tile.place.z + n) g) deltas (n + 1)
+  fills_more p lawful shape is along = (follow, residuals)
+    where
+      known : ((b : ℕ) → b < n → (h : Learner) → slice_get now (tile.place.z + b) ≡ Some h → Follows p h d)
+          × ((i b : ℕ) → i < tile.columns → b < n → HasOne p d tile deltas i b)
+      known = filled.fills p lawful shape is along
 
-    shape-d : d.shape ≡ p.shape
-    shape-d = sym filled.alike.shape ∙ shape
+      shape-d : d.shape ≡ p.shape
+      shape-d = sym filled.alike.shape ∙ shape
 
-    columns-d : c.shape.columns ≡ d.shape.columns
-    columns-d = ap (λ (s : Sizes). s.columns) filled.alike.shape
+      there : (i b : ℕ) → i < tile.columns → b < n → IsPlaceOf d.shape (place_in tile.place i b)
+      there i b column below = rw shape-d (placed is _ _ column (omega (arith, below, lt)))
 
-    columns : d.shape.columns ≡ e.shape.columns
-    columns = ap (λ (s : Sizes). s.columns) band.beside.alike.shape
+      turn : Follows p f d
+      turn =
+          let in-image : tile.place.z + n < p.shape.bands = omega (arith, lt, is.bands) in
+          all_follow lawful shape filled.alike (same_before shape is (omega (arith, lt)) filled) in-image (along _ in-image f at)
 
-    there : (i b : ℕ) → i < tile.columns → b < tile.bands → IsPlaceOf d.shape (place_in tile.place i b)
-    there i b column below = subst (λ (s : Sizes). IsPlaceOf s (place_in tile.place i b)) (sym shape-d) (placed p tile i b is column below)
+      -- images that are one beside a run of a band are one at all places of lower bands
+      agree : (b t : ℕ) → b < n → Agree d e (tile.place.z + b) t
+      agree b t below = record {
+        alike = band.beside.alike;
+        samples = λ z' y' x' there earlier. band.beside.samples z' y' x' there (λ same row column.
+            absurd (elim earlier [ inl h ↦ omega (arith, same, h.0, below) | inr h ↦ omega (arith, same, h.0, below) ]));
+      }
 
-    turn : Follows p f d
-    turn = all_follow p c d (place_index p.shape p.order tile.place) (tile.place.z + n) f lawful shape filled.alike (same_before p tile c d bands now deltas n shape is (omega (arith, lt)) filled) (omega (arith, lt, is.bands)) (along (tile.place.z + n) (omega (arith, lt, is.bands)) f at)
+      same-sample : (i b : ℕ) → b < n → i < tile.columns
+          → sample_at d (tile.place.z + b) tile.place.y (tile.place.x + i) ≡ sample_at e (tile.place.z + b) tile.place.y (tile.place.x + i)
+      same-sample i b below column = band.beside.samples _ _ _ (there i b column below) (λ same row behind. absurd (omega (arith, same, below)))
 
-    agree : (b t : ℕ) → b < n → Agree d e (tile.place.z + b) t
-    agree b t below = below_run d e (tile.place.z + n) tile.place.y tile.place.x tile.columns (tile.place.z + b) t band.beside (omega (arith, below))
+      lower : (b : ℕ) → b < n → (h : Learner) → slice_get now (tile.place.z + b) ≡ Some h → Follows p h e
+      lower b below h here =
+          let before = known.0 b below h here in
+          let past = filled.past b below h here in
+          let i : tile.columns - 1 < tile.columns = omega (arith, is.some.0) in
+          let row = ap (λ (s : Sizes). tile.place.y * s.columns) filled.alike.shape in
+          let time : h.place ≡ suc (time_of d.shape (place_in tile.place (tile.columns - 1) b)) = omega (arith, past.place, row, is.some.0) in
+          let kept = weights_behind p d e _ _ (wide_of p d lawful shape-d) (there _ _ i below) refl (agree b _ below) (same-sample _ _ below i) in
+          record { made = before.made; weights = before.weights ∙ (rw (time, past.band) kept) }
 
-    same-sample : (i b : ℕ) → b < n → i < tile.columns → sample_at d (tile.place.z + b) tile.place.y (tile.place.x + i) ≡ sample_at e (tile.place.z + b) tile.place.y (tile.place.x + i)
-    same-sample i b below column = below_sample d e (tile.place.z + n) tile.place.y tile.place.x tile.columns (place_in tile.place i b) band.beside (omega (arith, below)) (there i b column (omega (arith, below, lt)))
+      follow : (b : ℕ) → b < n + 1 → (h : Learner) → slice_get (set now (tile.place.z + n) g) (tile.place.z + b) ≡ Some h → Follows p h e
+      follow b below h here = elim (get_set now _ _ g h here) [
+        | inl (k, same) ↦ rw same (band.follows p turn)
+        | inr (apart, old) ↦ lower b (omega (arith, below, apart)) h old
+      ]
 
-    kept : (b : ℕ) → b < n → weight_vector p d (tile.place.z + b) (suc (time_of d.shape (place_in tile.place (tile.columns - 1) b))) ≡ weight_vector p e (tile.place.z + b) (suc (time_of d.shape (place_in tile.place (tile.columns - 1) b)))
-    kept b below =
-        let column : tile.columns - 1 < tile.columns = omega (arith, is.some.0) in
-        weights_behind p d e (place_in tile.place (tile.columns - 1) b) (time_of d.shape (place_in tile.place (tile.columns - 1) b)) (wide_of p d lawful shape-d) (there (tile.columns - 1) b column (omega (arith, below, lt))) refl
-        (agree b (time_of d.shape (place_in tile.place (tile.columns - 1) b)) below) (same-sample (tile.columns - 1) b below column)
+      own : (i : ℕ) → i < tile.columns → HasOne p e tile deltas i n
+      own i column =
+          let row = ap (λ (s : Sizes). tile.place.y * s.columns) (filled.alike.shape ∙ band.beside.alike.shape) in
+          let time : tile.place.y * e.shape.columns + (tile.place.x + i) ≡ f.place + i = omega (arith, ready.place, row) in
+          rw time (sym (run_at _ _ _ _ _ _ column) ∙ rw (band.residuals p turn) (values i column))
 
-    lower : (b : ℕ) → b < n → (h : Learner) → slice_get now (tile.place.z + b) ≡ Some h → Follows p h e
-    lower b below h here =
-        let before = known.0 b below h here in
-        let past = filled.past b below h here in
-        let time : suc (time_of d.shape (place_in tile.place (tile.columns - 1) b)) ≡ h.place = let row : tile.place.y * c.shape.columns ≡ tile.place.y * d.shape.columns = ap (λ (k : ℕ). tile.place.y * k) columns-d in omega (arith, past.place, row, is.some.0) in
-        record { made = before.made; weights = before.weights ∙ (rw (time, ← past.band) at (kept b below)) }
+      earlier : (i b : ℕ) → i < tile.columns → b < n → HasOne p e tile deltas i b
+      earlier i b column below =
+          let here = same-sample _ _ below column in
+          let same = residual_same p d e (place_in tile.place i b) _ (wide_of p d lawful shape-d) (there _ _ column below) refl (agree b _ below) here in
+          ap (λ (s : Sizes). mapped_residual p e (tile.place.z + b) (tile.place.y * s.columns + (tile.place.x + i))) (sym band.beside.alike.shape)
+          ∙ sym same ∙ known.1 i b column below
 
-    follow : (b : ℕ) → b < n + 1 → (h : Learner) → slice_get (set now (tile.place.z + n) g) (tile.place.z + b) ≡ Some h → Follows p h e
-    follow b below h here = elim (cases_lt b n) [
-      | inl less ↦ lower b less h (sym (get_other now (tile.place.z + n) (tile.place.z + b) g (λ k. omega (arith, k, less))) ∙ here)
-      | inr not ↦
-          (let same : h ≡ g = one_item h g (sym here ∙ ap (slice_get (set now (tile.place.z + n) g)) (omega (arith, not, below)) ∙ get_first now (tile.place.z + n) g inside) in
-          subst (λ (k : Learner). Follows p k e) (sym same) (band.follows p turn))
-    ]
+      residuals : (i b : ℕ) → i < tile.columns → b < n + 1 → HasOne p e tile deltas i b
+      residuals i b column below = elim (cases_lt b n) [
+        | inl less ↦ earlier _ _ column less
+        | inr not ↦ (let is-n : b ≡ n = omega (arith, not, below) in rw is-n (own i column))
+      ]
 
-    own : (i : ℕ) → i < tile.columns → mapped_residual p e (tile.place.z + n) (tile.place.y * e.shape.columns + (tile.place.x + i)) ≡ slice_index deltas (i * tile.bands + n)
-    own i column =
-        let row : tile.place.y * c.shape.columns ≡ tile.place.y * e.shape.columns = ap (λ (k : ℕ). tile.place.y * k) (columns-d ∙ columns) in
-        let time : tile.place.y * e.shape.columns + (tile.place.x + i) ≡ f.place + i = omega (arith, ready.place, row) in
-        ap (mapped_residual p e (tile.place.z + n)) time ∙ sym (run_at p e (tile.place.z + n) f.place tile.columns i column) ∙ ap (λ (l : List ℕ). slice_index l i) (band.residuals p turn) ∙ values i column
-
-    earlier : (i b : ℕ) → i < tile.columns → b < n → mapped_residual p e (tile.place.z + b) (tile.place.y * e.shape.columns + (tile.place.x + i)) ≡ slice_index deltas (i * tile.bands + b)
-    earlier i b column below =
-        let same = residual_same p d e (place_in tile.place i b) (time_of d.shape (place_in tile.place i b)) (wide_of p d lawful shape-d) (there i b column (omega (arith, below, lt))) refl (agree b (time_of d.shape (place_in tile.place i b)) below) (same-sample i b below column) in
-        ap (λ (k : ℕ). mapped_residual p e (tile.place.z + b) (tile.place.y * k + (tile.place.x + i))) (sym columns) ∙ sym same ∙ known.1 i b column below
-
-    residuals : (i b : ℕ) → i < tile.columns → b < n + 1 → mapped_residual p e (tile.place.z + b) (tile.place.y * e.shape.columns + (tile.place.x + i)) ≡ slice_index deltas (i * tile.bands + b)
-    residuals i b column below = elim (cases_lt b n) [ inl less ↦ earlier i b column less | inr not ↦ (let is-n : n ≡ b = omega (arith, not, below) in subst (λ (k : ℕ). mapped_residual p e (tile.place.z + k) (tile.place.y * e.shape.columns + (tile.place.x + i)) ≡ slice_index deltas (i * tile.bands + k)) is-n (own i column)) ]
-
--- one band more is filled
-pub filled_more : (tile : Tile) (c d e : Image) (bands now : List Learner) (deltas run : List ℕ) (n : ℕ) (f g : Learner) → n < tile.bands → tile.place.z + n < length now → AreFilled tile c d bands now deltas n → slice_get bands (tile.place.z + n) ≡ Some f
-    → IsReady c tile n f → FillsBand tile d e n f g run → ((i : ℕ) → i < tile.columns → slice_index run i ≡ slice_index deltas (i * tile.bands + n)) → AreFilled tile c e bands (set now (tile.place.z + n) g) deltas (n + 1)
-filled_more tile c d e bands now deltas run n f g lt inside filled at ready band values = record {
-  alike = record { shape = filled.alike.shape ∙ band.beside.alike.shape; kind = filled.alike.kind ∙ band.beside.alike.kind };
-  many = length-set now (tile.place.z + n) g ∙ filled.many;
-  samples = λ z' y' x' there outside.
-      let there-d : IsPlace d.shape z' y' x' = subst (λ (s : Sizes). IsPlace s z' y' x') filled.alike.shape there in
-      filled.samples z' y' x' there (λ b below. outside b (omega (arith, below))) ∙ band.beside.samples z' y' x' there-d (outside n (omega arith));
-  others = λ z apart. get_other now (tile.place.z + n) z g (apart n (omega arith)) ∙ filled.others z (λ b below. apart b (omega (arith, below)));
-  past = past;
-  fills = λ p. fills_more p tile c d e bands now deltas run n f g lt inside filled at ready band values;
-}
-  where
-    past : (b : ℕ) → b < n + 1 → (h : Learner) → slice_get (set now (tile.place.z + n) g) (tile.place.z + b) ≡ Some h → IsPast c tile b h
-    past b below h here = elim (cases_lt b n) [
-      | inl less ↦ filled.past b less h (sym (get_other now (tile.place.z + n) (tile.place.z + b) g (λ k. omega (arith, k, less))) ∙ here)
-      | inr not ↦
-          (let same : h ≡ g = one_item h g (sym here ∙ ap (slice_get (set now (tile.place.z + n) g)) (omega (arith, not, below)) ∙ get_first now (tile.place.z + n) g inside) in
-          let own : IsPast c tile b g = record { band = omega (arith, band.moved.band, ready.band, not, below); place = omega (arith, band.moved.place, ready.place) } in
-          subst (IsPast c tile b) (sym same) own)
-    ]
+  -- one band more is filled
+  pub filled_more : AreFilled tile c e bands (set now (tile.place.z + n) g) deltas (n + 1)
+  filled_more = record {
+    alike = record { shape = filled.alike.shape ∙ band.beside.alike.shape; kind = filled.alike.kind ∙ band.beside.alike.kind };
+    many = length-set now (tile.place.z + n) g ∙ filled.many;
+    samples = λ z' y' x' there outside.
+        let there-d : IsPlace d.shape z' y' x' = rw (← filled.alike.shape) there in
+        filled.samples z' y' x' there (λ b below. outside b (omega (arith, below))) ∙ band.beside.samples z' y' x' there-d (outside n (omega arith));
+    others = λ z apart. get_other _ _ _ _ (apart n (omega arith)) ∙ filled.others z (λ b below. apart b (omega (arith, below)));
+    past = λ b below h here. elim (get_set now _ _ g h here) [
+      | inl (k, same) ↦ rw same (record { band = omega (arith, band.moved.band, ready.band, k); place = omega (arith, band.moved.place, ready.place) })
+      | inr (apart, old) ↦ filled.past b (omega (arith, below, apart)) h old
+    ];
+    fills = fills_more;
+  }
 
 -- ---- all bands are filled
 
@@ -231,42 +209,37 @@ in_tile tile z = elim (cases_lt z tile.place.z) [
   ]
 ]
 
-pub filled_whole : (p : Params) (tile : Tile) (c d : Image) (bands now : List Learner) (deltas : List ℕ) → AreFilled tile c d bands now deltas tile.bands → length deltas ≡ tile.columns * tile.bands → AreReady c tile bands → IsLawful p → c.shape ≡ p.shape → IsTile p tile
-    → AreAlong p c (place_index p.shape p.order tile.place) bands → AreAlong p d (place_index p.shape p.order tile.place + length deltas) now
-filled_whole p tile c d bands now deltas filled long ready lawful shape is along z lt g at = elim (in_tile tile z) [ inl (b, below, e) ↦ own b below e | inr apart ↦ other apart ]
-  where
-    n : ℕ
-    n = place_index p.shape p.order tile.place
+module _ {p : Params} {tile : Tile} {c d : Image} {bands now : List Learner} {deltas : List ℕ} (filled : AreFilled tile c d bands now deltas tile.bands)
+    (lawful : IsLawful p) (shape : c.shape ≡ p.shape) (is : IsTile p tile) (along : AreAlong p c (place_index p.shape p.order tile.place) bands) where
+  pub filled_whole : length deltas ≡ tile.columns * tile.bands → AreReady c tile bands
+      → AreAlong p d (place_index p.shape p.order tile.place + length deltas) now
+  filled_whole long ready z lt g at = elim (in_tile tile z) [ inl (b, below, e) ↦ rw (e, long) (own b below (rw e at at)) | inr apart ↦ rw long (other apart) ]
+    where
+      own : (b : ℕ) → b < tile.bands → slice_get now (tile.place.z + b) ≡ Some g
+          → IsAlong p d (place_index p.shape p.order tile.place + tile.columns * tile.bands) (tile.place.z + b) g
+      own b below here =
+          let row = ap (λ (s : Sizes). tile.place.y * s.columns) shape in
+          let past = filled.past b below g here in
+          let first = ready _ below in
+          let start = along _ (omega (arith, below, is.bands)) first.0 first.1 in
+          let place : first.0.place ≡ time_of p.shape tile.place = omega (arith, first.2.place, row) in
+          let come = come_within lawful.order is _ _ below refl (rw place at start.come) in
+          let last : tile.place.y * p.shape.columns + (tile.place.x + tile.columns - 1) < p.shape.rows * p.shape.columns =
+          digits_lt is.place.row (omega (arith, is.columns, is.some.0)) in
+          let gone : g.place ≡ time_of p.shape tile.place + tile.columns = omega (arith, past.place, row) in
+          record {
+            band = past.band;
+            inside = omega (arith, gone, last, is.some.0);
+            follows = (filled.fills p lawful shape is along).0 b below g here;
+            come = rw gone come;
+          }
 
-    row : tile.place.y * c.shape.columns ≡ tile.place.y * p.shape.columns
-    row = ap (λ (s : Sizes). tile.place.y * s.columns) shape
-
-    own : (b : ℕ) → b < tile.bands → z ≡ tile.place.z + b → IsAlong p d (place_index p.shape p.order tile.place + length deltas) z g
-    own b below e =
-        let here : slice_get now (tile.place.z + b) ≡ Some g = ap (slice_get now) (sym e) ∙ at in
-        let past = filled.past b below g here in
-        let first = ready b below in
-        let start = along (tile.place.z + b) (omega (arith, below, is.bands)) first.0 first.1 in
-        let come = come_within p tile b (place_index p.shape p.order tile.place) lawful.order is below refl (subst (λ (t : ℕ). HasCome p.shape p.order (tile.place.z + b) (place_index p.shape p.order tile.place) t) (omega (arith, first.2.place, row)) start.come) in
-        let last : tile.place.y * p.shape.columns + (tile.place.x + tile.columns - 1) < p.shape.rows * p.shape.columns = digits_lt is.place.row (omega (arith, is.columns, is.some.0)) in
-        let all : IsAlong p d (place_index p.shape p.order tile.place + tile.columns * tile.bands) (tile.place.z + b) g = record {
-          band = past.band;
-          inside = omega (arith, past.place, row, last, is.some.0);
-          follows = (filled.fills p lawful shape is along).0 b below g here;
-          come = subst (λ (t : ℕ). HasCome p.shape p.order (tile.place.z + b) (place_index p.shape p.order tile.place + tile.columns * tile.bands) t) (omega (arith, past.place, row)) come;
-        } in
-        rw (e, long) all
-
-    other : ((b : ℕ) → b < tile.bands → z ≢ tile.place.z + b) → IsAlong p d (place_index p.shape p.order tile.place + length deltas) z g
-    other apart =
-        let before = along z lt g (sym (filled.others z apart) ∙ at) in
-        let all : IsAlong p d (place_index p.shape p.order tile.place + tile.columns * tile.bands) z g = record {
-          band = before.band;
-          inside = before.inside;
-          follows = all_follow p c d (place_index p.shape p.order tile.place) z g lawful shape filled.alike (same_before p tile c d bands now deltas tile.bands shape is (omega arith) filled) lt before;
-          come = come_beside p tile z g.place (place_index p.shape p.order tile.place) lawful.order is apart refl before.come;
-        } in
-        rw long all
-
-pub filled_residuals : (p : Params) (tile : Tile) (c d : Image) (bands now : List Learner) (deltas : List ℕ) → AreFilled tile c d bands now deltas tile.bands → IsLawful p → c.shape ≡ p.shape → IsTile p tile → AreAlong p c (place_index p.shape p.order tile.place) bands → HasResiduals p d tile deltas
-filled_residuals p tile c d bands now deltas filled lawful shape is along = (filled.fills p lawful shape is along).1
+      other : ((b : ℕ) → b < tile.bands → z ≢ tile.place.z + b) → IsAlong p d (place_index p.shape p.order tile.place + tile.columns * tile.bands) z g
+      other apart =
+          let before = along _ lt g (sym (filled.others z apart) ∙ at) in
+          record {
+            band = before.band;
+            inside = before.inside;
+            follows = all_follow lawful shape filled.alike (same_before shape is (omega arith) filled) lt before;
+            come = come_beside lawful.order is _ _ _ apart refl before.come;
+          }

@@ -1,5 +1,7 @@
 -- Runs that a coder gives at once.
-use Rattle.std.proofs.Common.{◌≡◌, ◌+◌, ◌<◌, ◌≤◌, ◌^◌, ℕ, zero, suc, Bool, List, [], ◌∷◌, ◌++◌, length, take, drop, replicate, Some, Result, Ok, Err, sym, ap, ◌∙◌, length-append, length-drop, take-append-drop, arith}
+use Rattle.std.proofs.Common.{◌≡◌, ◌+◌, ◌<◌, ◌≤◌, ◌^◌, ℕ, zero, suc, Bool, List, [], ◌∷◌, ◌++◌, length, take, drop, replicate, Some, Result, Ok, Err, IfOk}
+use Rattle.std.proofs.Common.{◌∙◌, length-append, length-drop, take-append-drop, arith}
+use Rattle.std.specs.Prelude.{MatchResult}
 use Rattle.std.specs.List.{AllByRecursion, slice_get}
 use Rattle.std.proofs.lemmas.List.{length-replicate}
 use Rattle.cube_core.specs.declared.fault.Fault.{Fault}
@@ -7,63 +9,74 @@ use Rattle.cube_core.specs.declared.order.Place.{Place}
 use Rattle.cube_core.specs.Order.{places}
 use Rattle.header_bits.specs.declared.params.Params.{Params}
 use Rattle.header_bits.specs.Bits.{Unread}
+use Rattle.header_bits.specs.Reading.{Reads}
 use Rattle.sample_adaptive.specs.Settings.{settings}
-use Rattle.sample_adaptive.specs.Body.{words_after}
-use Rattle.sample_adaptive.specs.Taken.{Counts, GetsRun}
+use Rattle.sample_adaptive.specs.Body.{band_numbers, words_after}
+use Rattle.sample_adaptive.specs.Taken.{Counts, GetsRun, HasTaken as HaveTaken}
 use Rattle.sample_adaptive.proofs.Bodies.{words_takes}
 use Rattle.sample_adaptive.proofs.RunsRead.{words_longer}
 use Rattle.file_coding.specs.Coding.{places_of, places_behind, IsRun}
 use Rattle.file_coding.proofs.Coders.{places_long, run_count, samples_more_run}
 use Rattle.sample_adaptive.proofs.ForSamples.{settings_bits}
 use Rattle.file_decoding.specs.declared.decoder.Decoder.TheVariants.{Samples}
-use Rattle.file_decoding.specs.Decoding.{AreNumbers, GivesRun}
+use Rattle.file_decoding.specs.Decoding.{HasGiven, AreEach, AreNumbers, GivesAll, GivesRun}
 use Rattle.file_decoding.proofs.Givers.{rest_refused}
-use Rattle.file_decoding.proofs.Runs.{get_drop, range_both}
+use Rattle.cube_core.proofs.Lists.{get_drop}
+use Rattle.header_bits.proofs.Items.{all_append}
+use Rattle.file_decoding.specs.Files.{behind_body}
+use Rattle.sample_adaptive.specs.Reading.{words_at}
 
-pub some_same : (p q : Place) → Some p ≡ Some q → p ≡ q
-some_same p q k = cc
+pub more_long : (numbers : List ℕ) (i : ℕ) → length (numbers ++ replicate i 0) ≡ length numbers + i
+more_long numbers i = omega (arith, length-append numbers (replicate i 0), length-replicate {A = ℕ} i 0)
 
-pub none_there : (q : Place) → slice_get [] 0 ≡ Some q → ⊥
-none_there q e = cc
+-- numbers that may be asked for have places of such bands
+pub asked_at : (p : Params) (numbers : List ℕ) (zs ts : ℕ → ℕ) (count : ℕ) → AreEach p (length numbers) zs ts count
+    → (i : ℕ) → i < count → (q : Place) × (slice_get (drop (length numbers) (places p.shape p.order)) i ≡ Some q) × (q.z ≡ zs i)
+asked_at p numbers zs ts count ask i lt =
+    let next = ask i (numbers ++ replicate i 0) lt (more_long numbers i) in
+    (next.0, get_drop (places p.shape p.order) (length numbers) i ∙ rw (more_long numbers i) at next.1, next.2)
+
+-- the words of so many numbers are read behind those that were given, or the body is refused
+pub words_given : (r : Result (Unit {0}) Fault) (p : Params) (old new : Counts) (unread : Unread) (left : List Bool) (numbers list : List ℕ) (bits : List Bool)
+    → HasGiven p (Samples old) numbers bits → (length new.bands ≡ length old.bands) × (new.bits ≡ old.bits)
+    → length numbers + length list ≤ length (places p.shape p.order)
+    → Reads (λ _. list) r left (words_at unread.count (settings p) (places_of p numbers) numbers (places_behind p numbers (length list)) unread.left)
+    × IfOk r (λ _. HaveTaken (settings p) new (λ b. band_numbers b (places_of p numbers ++ places_behind p numbers (length list)) (numbers ++ list)))
+    → MatchResult r (λ _. GivesAll p (Samples new) numbers bits unread.left left list) (λ fault. behind_body unread.count p (bits ++ unread.left) ≡ Err fault)
+words_given (Ok u) p old new unread left numbers list bits h kept fits did =
+    let words = words_takes _ _ _ _ _ _ _ did.0 in
+    let below : AllByRecursion (λ v. v < 2 ^ p.kind.bits) list = rw (settings_bits _) at words.numbers in
+    (below, words_after _ _ _ _ _, words.text, (samples_more_run _ _ _ _ _ _ fits h.0 kept did.1, all_append _ _ _ h.1 below))
+words_given (Err fault) p old new unread left numbers list bits h kept fits did =
+    let longer = words_longer _ _ _ _ _ (drop (length list) (drop (length numbers) (places p.shape p.order))) _ fault did.0 in
+    let all = rw (take-append-drop (length list) (drop (length numbers) (places p.shape p.order))) at longer in
+    rest_refused p _ _ _ _ _ h.0.coder h.1 (omega (arith, fits)) h.0.text all
 
 -- the first places, so many, are there, and of one band
-all_first : (ps : List Place) (count z : ℕ) → ((i : ℕ) → i < count → (q : Place) × (slice_get ps i ≡ Some q) × (q.z ≡ z)) → (count ≤ length ps) × AllByRecursion (λ q. q.z ≡ z) (take count ps)
+all_first : (ps : List Place) (count z : ℕ) → ((i : ℕ) → i < count → (q : Place) × (slice_get ps i ≡ Some q) × (q.z ≡ z))
+    → (count ≤ length ps) × AllByRecursion (λ q. q.z ≡ z) (take count ps)
 all_first ps zero z h = (omega arith, tt)
-all_first [] (suc n) z h = let first = h 0 (omega arith) in absurd (none_there first.0 first.1)
+all_first [] (suc n) z h = absurd (let none = (h 0 (omega arith)).1 in cc)
 all_first (p ∷ ps) (suc n) z h =
     let first = h 0 (omega arith) in
+    let here : p ≡ first.0 = (let at = first.1 in cc) in
     let rest = all_first ps n z (λ i lt. h (suc i) (omega (arith, lt))) in
-    (omega (arith, rest.0), (ap (λ (r : Place). r.z) (some_same p first.0 first.1) ∙ first.2, rest.1))
+    (omega (arith, rest.0), (rw here first.2, rest.1))
 
 -- numbers that follow one another in a band are a run of it
 pub is_run : (p : Params) (numbers : List ℕ) (z t count : ℕ) → AreNumbers p (length numbers) z t count → 0 < count → IsRun p numbers z t count
 is_run p numbers z t count ask some =
-    let there = all_first (drop (length numbers) (places p.shape p.order)) count z (λ i lt.
-    let more : List ℕ = numbers ++ replicate i 0 in
-    let long : length (numbers ++ replicate i 0) ≡ length numbers + i = omega (arith, length-append numbers (replicate i 0), length-replicate {A = ℕ} i 0) in
-    let next = ask i (numbers ++ replicate i 0) lt long in
-    (next.0, get_drop (places p.shape p.order) (length numbers) i ∙ ap (slice_get (places p.shape p.order)) (sym long) ∙ next.1, next.2)) in
+    let there = all_first _ _ _ (asked_at p numbers _ _ count ask) in
     record {
       fits = omega (arith, there.0, some, length-drop (length numbers) (places p.shape p.order));
       band = there.1;
       time = omega (arith, (ask 0 numbers some (omega arith)).3);
     }
 
-pub samples_given : (r : Result (Unit {0}) Fault) (z t place : ℕ) (old new : Counts) (unread : Unread) (left : List Bool) (list : List ℕ) → GetsRun z t place r old unread new left list → (length new.bands ≡ length old.bands) × (new.bits ≡ old.bits) → 0 < length list
+pub samples_given : (r : Result (Unit {0}) Fault) (z t place : ℕ) (old new : Counts) (unread : Unread) (left : List Bool) (list : List ℕ)
+    → GetsRun z t place r old unread new left list → (length new.bands ≡ length old.bands) × (new.bits ≡ old.bits) → 0 < length list
     → GivesRun z t place r (Samples old) unread (Samples new) left list
-samples_given (Ok u) z t place old new unread left list gets kept some p numbers bits lawful h ask at =
+samples_given r z t place old new unread left list gets kept some p numbers bits lawful h ask at =
     let run = is_run p numbers z t (length list) ask some in
-    let behind : List Place = places_behind p numbers (length list) in
-    let long : length numbers ≡ length (places_of p numbers) = places_long p numbers (omega (arith, run.fits)) in
-    let did = gets (settings p) (places_of p numbers) (places_behind p numbers (length list)) numbers long (run_count p numbers (length list) run.fits) run.band h.0.taken run.time at in
-    let words = words_takes unread.count (settings p) (places_of p numbers) numbers (places_behind p numbers (length list)) unread.left (list, left) did.0 in
-    let below : AllByRecursion (λ v. v < 2 ^ p.kind.bits) list = rw (settings_bits p) at words.numbers in
-    (below, words_after (settings p) (places_of p numbers) numbers (places_behind p numbers (length list)) list, words.text, (samples_more_run p old new numbers list bits run.fits h.0 kept did.1, range_both (2 ^ p.kind.bits) numbers list h.1 below))
-samples_given (Err fault) z t place old new unread left list gets kept some p numbers bits lawful h ask at =
-    let run = is_run p numbers z t (length list) ask some in
-    let long : length numbers ≡ length (places_of p numbers) = places_long p numbers (omega (arith, run.fits)) in
-    let did = gets (settings p) (places_of p numbers) (places_behind p numbers (length list)) numbers long (run_count p numbers (length list) run.fits) run.band h.0.taken run.time at in
-    let rest : List Place = drop (length numbers) (places p.shape p.order) in
-    let longer = words_longer unread.count (settings p) (places_of p numbers) numbers (places_behind p numbers (length list)) (drop (length list) (drop (length numbers) (places p.shape p.order))) unread.left fault did.0 in
-    let all = rw (take-append-drop (length list) (drop (length numbers) (places p.shape p.order))) at longer in
-    rest_refused p unread.count numbers bits unread.left fault h.0.coder h.1 (omega (arith, run.fits)) h.0.text all
+    let long = places_long p numbers (omega (arith, run.fits)) in
+    words_given r _ _ _ _ _ _ _ _ h kept run.fits (gets (settings p) _ _ numbers long (run_count p _ _ run.fits) run.band h.0.taken run.time at)

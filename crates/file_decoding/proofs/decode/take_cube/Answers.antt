@@ -1,4 +1,5 @@
-use Rattle.std.proofs.Common.{◌≡◌, ◌∙◌, ◌+◌, ◌-◌, ◌*◌, ◌^◌, ◌<◌, ◌≤◌, ◌++◌, [], ℕ, length, take, drop, Err, inr, refl, sym, ap, subst, arith, length-take, length-drop}
+use Rattle.std.proofs.Common.{List, ◌≡◌, ◌∙◌, ◌+◌, ◌-◌, ◌*◌, ◌^◌, ◌≤◌, [], ℕ, length, take, drop, Err, inr, refl, sym, ap, subst, arith, length-take}
+use Rattle.std.proofs.Common.{length-drop}
 use Rattle.std.proofs.lemmas.List.{take_at}
 use Rattle.std.proofs.lemmas.Nat.{mul-le}
 use Rattle.std.proofs.Math.Arith.{digits_lt}
@@ -11,9 +12,9 @@ use Rattle.predict_core.specs.Walked.{AreAlong, residuals_at}
 use Rattle.cube_core.proofs.Lists.{none_first}
 use Rattle.predict_core.proofs.Walking.{gone_by, gone_count, length-residuals_at}
 use Rattle.file_decoding.specs.Decoding.{AreEach, GivesAll}
-use Rattle.file_decoding.specs.Files.{behind_body}
+use Rattle.file_decoding.specs.Files.{IsCubeOf, behind_body}
 use Rattle.file_decoding.specs.Tiles.{SameBefore, band_in, time_in}
-use Rattle.file_decoding.proofs.Decoded.{IsDecoded, decoded_first, decoded_whole}
+use Rattle.file_decoding.proofs.Decoded.{decoded_first, decoded_whole}
 use Rattle.file_decoding.proofs.Runs.{each_below}
 use Rattle.file_decoding.proofs.Tiles.{numbers_in, room_for}
 use Rattle.file_decoding.proofs.TileWalk.{ComesFirst, comes_first, bands_ready, gone_more, rest_more, decoded_more, kept_length}
@@ -22,7 +23,8 @@ use Rattle.file_decoding.proofs.decode.take_cube.Goals.{In-Some, After-left, Aft
 
 pub loop-place-init : goal.loop-place-init
 loop-place-init c =
-    let none : gone_count c.args.params.now c.new-places.result ≡ 0 = omega (arith, ap length c.new-places.ensures, length-places c.args.params.now.shape c.args.params.now.order c.requires.order) in
+    let none : gone_count c.args.params.now c.new-places.result ≡ 0 =
+    omega (arith, ap length c.new-places.ensures, length-places c.args.params.now.shape c.args.params.now.order c.requires.order) in
     record {
       shape = ap (λ (image : Image). image.shape) c.in_ok-cube.ensures.zeros;
       kind = ap (λ (image : Image). image.kind) c.in_ok-cube.ensures.zeros;
@@ -31,12 +33,12 @@ loop-place-init c =
       rest = rw none c.new-places.ensures;
       many = omega (arith, c.in_ok-bands.ensures.len, c.in_ok-bands.bands.ok.0);
       along = rw none (c.in_ok-bands.ensures.along c.in_ok-cube.cube);
-      decoded = rw c.new-places.ensures (decoded_first c.args.params.now c.in_ok-cube.cube c.in_ok-decoder.decoder c.args.reader.now.left c.requires.order c.in_ok-decoder.ensures.given);
+      decoded = rw c.new-places.ensures (decoded_first _ _ _ _ c.requires.order c.in_ok-decoder.ensures.given);
     }
 
 -- the place that comes next
 first : (c : In-Some) → ComesFirst c.args.params.now c.loop-place.places c.in-Some.place
-first c = comes_first c.args.params.now c.loop-place.places c.in-Some.place c.requires.order c.loop-place.invariant.rest (sym c.peek.ensures ∙ c.in-Some.is)
+first c = comes_first _ _ _ c.requires.order c.loop-place.invariant.rest (sym c.peek.ensures ∙ c.in-Some.is)
 
 pub at-tile-requires-clause-place : goal.at-tile-requires-clause-place
 at-tile-requires-clause-place c = (first c).place
@@ -47,47 +49,53 @@ overflow_sub-index c = let f = first (goal.at.overflow_sub-index c).In-Some in o
 -- ---- its tile
 
 first_at : (c : After-read-arg-in-Some-1) → ComesFirst c.args.params.now c.loop-place.places c.in-Some.place
-first_at c = comes_first c.args.params.now c.loop-place.places c.in-Some.place c.requires.order c.loop-place.invariant.rest (sym c.peek.ensures ∙ c.in-Some.is)
+first_at c = comes_first _ _ _ c.requires.order c.loop-place.invariant.rest (sym c.peek.ensures ∙ c.in-Some.is)
 
-at : (c : After-read-arg-in-Some-1) → gone_count c.args.params.now c.loop-place.places ≡ place_index c.args.params.now.shape c.args.params.now.order c.at-tile.result.place
+at : (c : After-read-arg-in-Some-1)
+    → gone_count c.args.params.now c.loop-place.places ≡ place_index c.args.params.now.shape c.args.params.now.order c.at-tile.result.place
 at c = sym (first_at c).index ∙ ap (place_index c.args.params.now.shape c.args.params.now.order) (sym c.at-tile.ensures.place)
 
 -- the places of the tile are to come
 fits : (c : After-read-arg-in-Some-1) → c.at-tile.result.columns * c.at-tile.result.bands ≤ length c.loop-place.places
-fits c = omega (arith, room_for c.args.params.now c.at-tile.result c.requires.order c.at-tile.ensures.tile, at c, (first_at c).whole)
+fits c = omega (arith, room_for c.requires.order c.at-tile.ensures.tile, at c, (first_at c).whole)
 
 -- the room has a number for each
 long : (c : After-read-arg-in-Some-1) → length (take c.count.result c.deref_mut.result.now) ≡ c.at-tile.result.columns * c.at-tile.result.bands
 long c =
     let few = c.at-tile.ensures.tile.few in
     let most = mul-le c.at-tile.result.columns c.at-tile.result.bands 64 _ few.0 few.1 in
-    let had : length c.deref_mut.result.now ≡ length c.loop-place.room.items = ap length c.deref_mut.ensures.value in
-    omega (arith, length-take c.count.result c.deref_mut.result.now, c.count.ensures, had, c.loop-place.invariant.room, most)
+    omega (arith, length-take {A = ℕ}, c.count.ensures, ap length c.deref_mut.ensures.value, c.loop-place.invariant.room, most)
 
-given_count : (c : After-read-arg-in-Some-1) → gone_count c.args.params.now c.loop-place.places ≡ length (residuals_at c.args.params.now c.loop-place.cube (gone_by c.args.params.now c.loop-place.places))
+-- the residuals that were given
+abbrev given : (c : After-read-arg-in-Some-1) → List ℕ
+given c = residuals_at c.args.params.now c.loop-place.cube (gone_by c.args.params.now c.loop-place.places)
+
+given_count : (c : After-read-arg-in-Some-1) → gone_count c.args.params.now c.loop-place.places ≡ length (given c)
 given_count c =
     let gone = length-residuals_at c.args.params.now c.loop-place.cube (gone_by c.args.params.now c.loop-place.places) in
-    omega (arith, gone, (first_at c).whole, length-take (gone_count c.args.params.now c.loop-place.places) (places c.args.params.now.shape c.args.params.now.order), length-places c.args.params.now.shape c.args.params.now.order c.requires.order)
+    let all = length-places c.args.params.now.shape c.args.params.now.order c.requires.order in
+    omega (arith, gone, (first_at c).whole, length-take {A = Place}, all)
 
-stands : (c : After-read-arg-in-Some-1) → c.sample_count-count.result - c.left.result ≡ length (residuals_at c.args.params.now c.loop-place.cube (gone_by c.args.params.now c.loop-place.places))
+stands : (c : After-read-arg-in-Some-1) → c.sample_count-count.result - c.left.result ≡ length (given c)
 stands c = omega (arith, (first_at c).whole, c.left.ensures, c.sample_count-count.ensures.value, given_count c)
 
-asked : (c : After-read-arg-in-Some-1) (n : ℕ) → n ≡ c.at-tile.result.columns * c.at-tile.result.bands → AreEach c.args.params.now (length (residuals_at c.args.params.now c.loop-place.cube (gone_by c.args.params.now c.loop-place.places))) (band_in c.at-tile.result) (time_in c.at-tile.result c.time_of.result) n
+asked : (c : After-read-arg-in-Some-1) (n : ℕ) → n ≡ c.at-tile.result.columns * c.at-tile.result.bands
+    → AreEach c.args.params.now (length (given c)) (band_in c.at-tile.result) (time_in c.at-tile.result c.time_of.result) n
 asked c n e =
-    let time : c.time_of.result ≡ c.at-tile.result.place.y * c.args.params.now.shape.columns + c.at-tile.result.place.x = c.time_of.ensures ∙ ap (λ (q : Place). q.y * c.args.params.now.shape.columns + q.x) (sym c.at-tile.ensures.place) in
-    rw e (numbers_in c.args.params.now c.at-tile.result c.time_of.result _ c.requires.order c.at-tile.ensures.tile (sym (given_count c) ∙ at c) time)
+    let time = c.time_of.ensures ∙ ap (λ (q : Place). q.y * c.args.params.now.shape.columns + q.x) (sym c.at-tile.ensures.place) in
+    rw e (numbers_in c.requires.order c.at-tile.ensures.tile c.time_of.result _ (sym (given_count c) ∙ at c) time)
 
 pub read-requires-clause-small : goal.read-requires-clause-small
 read-requires-clause-small c =
     let f = first_at c in
-    let row : c.in-Some.place.y * c.args.params.now.shape.columns + c.in-Some.place.x < c.args.params.now.shape.rows * c.args.params.now.shape.columns = digits_lt f.place.row f.place.column in
+    let row = digits_lt f.place.row f.place.column in
     let most = mul-le c.args.params.now.shape.rows c.args.params.now.shape.columns 65536 65536 c.requires.sizes.rows.1 c.requires.sizes.columns.1 in
     (omega (arith, c.time_of.ensures, row, most), omega (arith, stands c, given_count c, long c, fits c, f.whole, c.sample_count-count.ensures))
 
 pub read-requires-clause-may : goal.read-requires-clause-may
 read-requires-clause-may c = record {
   params = c.args.params.now;
-  numbers = residuals_at c.args.params.now c.loop-place.cube (gone_by c.args.params.now c.loop-place.places);
+  numbers = given c;
   bits = c.loop-place.invariant.decoded.read;
   lawful = c.requires;
   given = c.loop-place.invariant.decoded.given;
@@ -99,25 +107,33 @@ pub returns-in_err-read-clause-refused : goal.returns-in_err-read-clause-refused
 returns-in_err-read-clause-refused c =
     let d = (goal.at.returns-in_err-read-clause-refused c).After-read-arg-in-Some-1 in
     let known = c.loop-place.invariant in
-    let bad = c.in_err-read.ensures.given c.args.params.now (residuals_at c.args.params.now c.loop-place.cube (gone_by c.args.params.now c.loop-place.places)) known.decoded.read c.requires known.decoded.given (asked d (length c.read.new.deltas) (c.in_err-read.ensures.long ∙ long d)) (stands d) in
-    let body : behind_body c.args.reader.now.count c.args.params.now c.args.reader.now.left ≡ Err c.in_err-read.field-0.0 = rw (known.count, ← known.decoded.text) at bad in
+    let bad = c.in_err-read.ensures.given c.args.params.now (given d) known.decoded.read c.requires known.decoded.given
+    (asked d (length c.read.new.deltas) (c.in_err-read.ensures.long ∙ long d)) (stands d) in
+    let body : behind_body c.args.reader.now.count c.args.params.now c.args.reader.now.left ≡ Err c.in_err-read.field-0.0 =
+    rw (known.count, ← known.decoded.text) at bad in
     let told = err_from_is_err_and c.from_residual-in_err-read.result c.from_residual-in_err-read.ensures.1 in
     rw (told.1, told.2) (inr body)
 
 -- ---- its residuals
 
-gives : (c : After-deref_mut-in-Some) → GivesAll c.args.params.now c.read.new.decoder (residuals_at c.args.params.now c.loop-place.cube (gone_by c.args.params.now c.loop-place.places)) c.loop-place.invariant.decoded.read c.loop-place.reader.left c.read.new.reader.left c.read.new.deltas
+gives : (c : After-deref_mut-in-Some) → GivesAll c.args.params.now c.read.new.decoder
+    (residuals_at c.args.params.now c.loop-place.cube (gone_by c.args.params.now c.loop-place.places))
+    c.loop-place.invariant.decoded.read c.loop-place.reader.left c.read.new.reader.left c.read.new.deltas
 gives c =
     let d = (goal.at.fill-requires-clause-ready c).After-read-arg-in-Some-1 in
-    c.in_ok-read.ensures.given c.args.params.now (residuals_at c.args.params.now c.loop-place.cube (gone_by c.args.params.now c.loop-place.places)) c.loop-place.invariant.decoded.read c.requires c.loop-place.invariant.decoded.given (asked d (length c.read.new.deltas) (c.in_ok-read.ensures.long ∙ long d)) (stands d)
+    c.in_ok-read.ensures.given c.args.params.now (given d) c.loop-place.invariant.decoded.read c.requires c.loop-place.invariant.decoded.given
+    (asked d (length c.read.new.deltas) (c.in_ok-read.ensures.long ∙ long d)) (stands d)
 
-along : (c : After-deref_mut-in-Some) → AreAlong c.args.params.now c.loop-place.cube (gone_count c.args.params.now c.loop-place.places) c.deref_mut-in-Some.result.now
+along : (c : After-deref_mut-in-Some)
+    → AreAlong c.args.params.now c.loop-place.cube (gone_count c.args.params.now c.loop-place.places) c.deref_mut-in-Some.result.now
 along c = rw c.deref_mut-in-Some.ensures.value c.loop-place.invariant.along
 
 pub fill-requires-clause-ready : goal.fill-requires-clause-ready
 fill-requires-clause-ready c =
     let d = (goal.at.fill-requires-clause-ready c).After-read-arg-in-Some-1 in
-    bands_ready c.args.params.now c.loop-place.cube c.at-tile.result c.deref_mut-in-Some.result.now (gone_count c.args.params.now c.loop-place.places) c.requires.order c.loop-place.invariant.shape c.loop-place.invariant.kind (ap length c.deref_mut-in-Some.ensures.value ∙ c.loop-place.invariant.many) c.at-tile.ensures.tile (at d) (along c)
+    let known = c.loop-place.invariant in
+    bands_ready c.requires.order c.at-tile.ensures.tile _ (at d) c.loop-place.cube c.deref_mut-in-Some.result.now known.shape known.kind
+    (ap length c.deref_mut-in-Some.ensures.value ∙ known.many) (along c)
 
 pub fill-requires-clause-residuals_in : goal.fill-requires-clause-residuals_in
 fill-requires-clause-residuals_in c k lt = rw c.loop-place.invariant.kind (each_below (2 ^ c.args.params.now.kind.bits) c.read.new.deltas (gives c).0 k lt)
@@ -137,28 +153,28 @@ loop-place-preserved c =
     let e = (goal.at.loop-place-preserved c).After-deref_mut-in-Some in
     let known = c.loop-place.invariant in
     let count : length c.read.new.deltas ≡ c.at-tile.result.columns * c.at-tile.result.bands = c.in_ok-read.ensures.long ∙ long d in
-    let behind : c.go_by.new.self ≡ drop (length c.read.new.deltas) c.loop-place.places = c.go_by.ensures ∙ ap (λ (n : ℕ). drop n c.loop-place.places) (c.count-in-Some.ensures ∙ sym count) in
+    let behind = c.go_by.ensures ∙ ap (λ (n : ℕ). drop n c.loop-place.places) (c.count-in-Some.ensures ∙ sym count) in
     let gone = gone_more c.args.params.now c.loop-place.places (length c.read.new.deltas) (first_at d).whole (omega (arith, count, fits d)) in
-    let start = subst (λ (n : ℕ). AreAlong c.args.params.now c.loop-place.cube n c.deref_mut-in-Some.result.now) (at d) (along e) in
-    let filled = c.fill.ensures.filled c.args.params.now c.requires known.shape c.at-tile.ensures.tile start in
-    let same : SameBefore c.args.params.now.order c.loop-place.cube c.fill.new.cube (gone_count c.args.params.now c.loop-place.places) = subst (SameBefore c.args.params.now.order c.loop-place.cube c.fill.new.cube) (sym (at d)) filled.0 in
-    let whole : take c.loop-place.bands.len (c.fill.new.bands ++ drop (length c.fill.new.bands) c.loop-place.bands.items) ≡ c.fill.new.bands =
-    take_at c.fill.new.bands (drop (length c.fill.new.bands) c.loop-place.bands.items) c.loop-place.bands.len (omega (arith, c.fill.ensures.many, ap length c.deref_mut-in-Some.ensures.value, c.loop-place.bands.ok.0)) in
-    let further : AreAlong c.args.params.now c.fill.new.cube (gone_count c.args.params.now (drop (length c.read.new.deltas) c.loop-place.places)) c.fill.new.bands = subst (λ (n : ℕ). AreAlong c.args.params.now c.fill.new.cube n c.fill.new.bands) (sym (gone ∙ ap (λ (n : ℕ). n + length c.read.new.deltas) (at d))) filled.2 in
+    let filled = c.fill.ensures.filled c.args.params.now c.requires known.shape c.at-tile.ensures.tile (rw (at d) at (along e)) in
+    let same = subst (SameBefore c.args.params.now.order c.loop-place.cube c.fill.new.cube) (sym (at d)) filled.0 in
+    let whole = take_at c.fill.new.bands (drop (length c.fill.new.bands) c.loop-place.bands.items) c.loop-place.bands.len
+    (omega (arith, c.fill.ensures.many, ap length c.deref_mut-in-Some.ensures.value, c.loop-place.bands.ok.0)) in
+    let room = kept_length _ c.loop-place.room.items c.loop-place.room.len (omega (arith, c.loop-place.room.ok.0)) in
     rw (behind, whole) (record {
       shape = sym c.fill.ensures.alike.shape ∙ known.shape;
       kind = sym c.fill.ensures.alike.kind ∙ known.kind;
       count = c.in_ok-read.ensures.count ∙ known.count;
-      room = kept_length _ c.loop-place.room.items c.loop-place.room.len (omega (arith, c.loop-place.room.ok.0)) ∙ omega (arith, c.loop-place.room.ok.0, known.room);
+      room = room ∙ omega (arith, c.loop-place.room.ok.0, known.room);
       rest = rest_more c.args.params.now c.loop-place.places (length c.read.new.deltas) known.rest gone;
       many = omega (arith, c.fill.ensures.many, ap length c.deref_mut-in-Some.ensures.value, known.many);
-      along = further;
-      decoded = decoded_more c.args.params.now c.loop-place.cube c.fill.new.cube c.loop-place.places c.at-tile.result c.loop-place.decoder c.read.new.decoder c.args.reader.now.left c.loop-place.reader.left c.read.new.reader.left c.read.new.deltas c.requires known.shape c.fill.ensures.alike same known.rest gone (at d) c.at-tile.ensures.tile count known.decoded (gives e) filled.1;
+      along = rw (gone, at d) filled.2;
+      decoded = decoded_more c.read.new.decoder c.read.new.deltas c.requires known.shape c.fill.ensures.alike same known.rest gone (at d)
+          c.at-tile.ensures.tile count known.decoded (gives e) filled.1;
     })
 
 pub returns-clause-taken : goal.returns-clause-taken
 returns-clause-taken c =
     let known = c.loop-place.invariant in
-    let none : c.loop-place.places ≡ [] = none_first c.loop-place.places (sym c.peek.ensures ∙ c.in_default.is) in
-    let decoded : IsDecoded c.args.params.now c.loop-place.cube [] c.loop-place.decoder c.args.reader.now.left c.loop-place.reader.left = rw none at known.decoded in
-    decoded_whole c.args.params.now c.loop-place.cube c.loop-place.decoder c.args.reader.now.left c.loop-place.reader.left c.requires (record { cube = c.prove_is_cube.ensures; shape = known.shape; kind = known.kind }) decoded
+    let none : c.loop-place.places ≡ [] = none_first _ (sym c.peek.ensures ∙ c.in_default.is) in
+    let cube : IsCubeOf c.args.params.now c.loop-place.cube = record { cube = c.prove_is_cube.ensures; shape = known.shape; kind = known.kind } in
+    decoded_whole _ _ _ _ _ c.requires cube (rw none at known.decoded)

@@ -3,8 +3,8 @@ use Rattle.file_coding.proofs.Coders.{samples_none}
 use Rattle.file_decoding.proofs.decoder.Decoder.new.Goals as goal
 
 pub new-requires : goal.new-requires
-new-requires c = for_samples c.args.params.now c.requires (rw c.in-Sample.is tt)
+new-requires c = for_samples _ c.requires (rw c.in-Sample.is tt)
 
 pub returns-in_ok-new-in-Sample-clause-given : goal.returns-in_ok-new-in-Sample-clause-given
 returns-in_ok-new-in-Sample-clause-given c =
-    (samples_none c.args.params.now c.in_ok-new-in-Sample.field-0 (rw c.in-Sample.is tt) c.in_ok-new-in-Sample.ensures.bands c.in_ok-new-in-Sample.ensures.taken, tt)
+    (samples_none _ _ (rw c.in-Sample.is tt) c.in_ok-new-in-Sample.ensures.bands c.in_ok-new-in-Sample.ensures.taken, tt)

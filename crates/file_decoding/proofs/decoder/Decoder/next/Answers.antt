@@ -5,12 +5,14 @@ use Rattle.file_decoding.proofs.decoder.Decoder.next.Goals as goal
 
 pub returns-in-Ok-clause-given : goal.returns-in-Ok-clause-given
 returns-in-Ok-clause-given c = λ p numbers bits lawful given next at.
-    samples_given c.args.z c.args.t c.in-Ok.number c.in-Samples.stats c.get.new.self c.args.reader.now c.get.new.reader.left c.in-Ok.ensures.taken c.get.ensures.bands p numbers bits (rw c.in-Samples.is at given) next
+    samples_given _ _ _ _ _ _ _ c.in-Ok.ensures.taken c.get.ensures.bands _ _ _ (rw c.in-Samples.is at given) next
 
 pub returns-in-Err-clause-given : goal.returns-in-Err-clause-given
 returns-in-Err-clause-given c = λ p numbers bits lawful given next at.
-    samples_refused c.args.z c.args.t c.args.place c.in-Err.fault c.placed.result c.in-Samples.stats c.get.new.self c.args.reader.now c.get.new.reader.left c.in-Err.ensures.taken (λ s e. c.placed.ensures ∙ ap (placed_at c.args.place) e) (λ n e. c.placed.ensures ∙ ap (placed_at c.args.place) e) p numbers bits (rw c.in-Samples.is at given) next at
+    samples_refused _ _ _ _ _ _ c.get.new.self _ c.get.new.reader.left c.in-Err.ensures.taken (λ s e. c.placed.ensures ∙ ap (placed_at c.args.place) e)
+    (λ n e. c.placed.ensures ∙ ap (placed_at c.args.place) e) _ _ _ (rw c.in-Samples.is at given) next at
 
 pub returns-in-Blocks-clause-given : goal.returns-in-Blocks-clause-given
 returns-in-Blocks-clause-given c = λ p numbers bits lawful given next at.
-    blocks_given c.next.result c.args.z c.args.t c.args.place c.in-Blocks.blocks c.next.new.self c.args.reader.now c.next.new.reader.left c.next.ensures.given c.next.ensures.cut c.next.ensures.counted c.next.ensures.inside p numbers bits lawful (rw c.in-Blocks.is at given) next at
+    let did = c.next.ensures in
+    blocks_given _ _ _ _ _ _ _ _ did.given did.cut did.counted did.inside p numbers bits lawful (rw c.in-Blocks.is at given) next at

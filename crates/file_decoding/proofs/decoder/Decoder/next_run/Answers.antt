@@ -11,7 +11,7 @@ get_run-requires-clause-band c =
     let may = c.requires.may in
     let some : 0 < length c.args.deltas.now = omega (arith, c.requires.small) in
     let given : HasGiven may.params (Samples c.in-Samples.stats) may.numbers may.bits = rw c.in-Samples.is at may.given in
-    may_ask_next may.params (Samples c.in-Samples.stats) may.numbers may.bits c.args.z (c.args.t + 0) may.lawful given (may.ask 0 may.numbers some (omega arith))
+    may_ask_next _ (Samples c.in-Samples.stats) _ may.bits _ _ may.lawful given (may.ask 0 may.numbers some (omega arith))
 
 pub next_of_blocks-requires : goal.next_of_blocks-requires
 next_of_blocks-requires c =
@@ -24,7 +24,9 @@ next_of_blocks-requires c =
 pub returns-in-Samples-clause-given : goal.returns-in-Samples-clause-given
 returns-in-Samples-clause-given c = λ p numbers bits lawful given ask at.
     let some : 0 < length c.get_run.new.numbers = omega (arith, c.get_run.ensures.long, c.requires.small) in
-    samples_given c.get_run.result c.args.z c.args.t c.args.place c.in-Samples.stats c.get_run.new.self c.args.reader.now c.get_run.new.reader.left c.get_run.new.numbers c.get_run.ensures.taken c.get_run.ensures.bands some p numbers bits lawful (rw c.in-Samples.is at given) ask at
+    let got = c.get_run.ensures in
+    samples_given _ _ _ _ _ _ _ c.get_run.new.reader.left _ got.taken got.bands some p numbers bits lawful (rw c.in-Samples.is at given) ask at
 
 pub returns-in-Blocks-clause-given : goal.returns-in-Blocks-clause-given
-returns-in-Blocks-clause-given c = λ p numbers bits lawful given ask at. c.next_of_blocks.ensures.given (λ i. c.args.z) (λ i. c.args.t + i) c.args.place p numbers bits lawful (rw c.in-Blocks.is at given) ask at
+returns-in-Blocks-clause-given c = λ p numbers bits lawful given ask at.
+    c.next_of_blocks.ensures.given (λ i. c.args.z) (λ i. c.args.t + i) c.args.place p numbers bits lawful (rw c.in-Blocks.is at given) ask at

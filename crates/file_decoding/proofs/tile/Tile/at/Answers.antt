@@ -7,7 +7,13 @@ pub returns-clause-tile : goal.returns-clause-tile
 returns-clause-tile c =
     let place = c.requires.place in
     let bands = rw (c.most_bands-depth.ensures, c.bands.ensures.value) at c.min-end.ensures in
+    let many = c.columns.ensures.value in
     elim c.if-place-first.branch [
-      | then-place-first w ↦ is_tile c.args.params.now c.args.place _ _ c.requires.lawful.order place (omega (arith, w.result-is, w.min.ensures, place.column, c.columns.ensures.value)) (omega (arith, w.result-is, w.min.ensures)) (omega (arith, w.result-is, w.min.ensures, place.column, c.columns.ensures.value)) (omega (arith, bands)) (inr (w.if-place-first.true ∙ ap (λ (d : ℕ). c.args.place.z / d * d) c.most_bands-depth.ensures))
-      | else-place-first w ↦ is_tile c.args.params.now c.args.place _ _ c.requires.lawful.order place (omega (arith, w.result-is)) (omega (arith, w.result-is)) (omega (arith, w.result-is, place.column)) (omega (arith, bands)) (inl w.result-is)
+      | then-place-first w ↦
+          (let start = w.if-place-first.true ∙ ap (λ (d : ℕ). c.args.place.z / d * d) c.most_bands-depth.ensures in
+          is_tile _ _ _ _ c.requires.lawful.order place (omega (arith, w.result-is, w.min.ensures)) (omega (arith, w.result-is, w.min.ensures))
+          (omega (arith, w.result-is, w.min.ensures)) (omega (arith, bands)) (inr start))
+      | else-place-first w ↦
+          is_tile _ _ _ _ c.requires.lawful.order place (omega (arith, w.result-is)) (omega (arith, w.result-is)) (omega (arith, w.result-is))
+          (omega (arith, bands)) (inl w.result-is)
     ]
