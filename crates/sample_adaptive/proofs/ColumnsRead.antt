@@ -8,17 +8,15 @@ use Rattle.cube_core.specs.declared.fault.Fault.{Fault}
 use Rattle.cube_core.specs.declared.order.Place.{Place}
 use Rattle.header_bits.specs.Bits.{Unread}
 use Rattle.header_bits.specs.Reading.{Reads}
-use Rattle.sample_adaptive.specs.declared.code_word.Code.{Code}
 use Rattle.sample_adaptive.specs.declared.statistics.Statistics.{Statistics}
 use Rattle.sample_adaptive.specs.declared.tracked.Tracked.{Tracked}
 use Rattle.sample_adaptive.specs.Statistics.{CoderSettings}
-use Rattle.sample_adaptive.specs.Words.{code_at}
 use Rattle.sample_adaptive.specs.Body.{band_numbers}
 use Rattle.sample_adaptive.specs.Reading.{word_at, words_at}
 use Rattle.sample_adaptive.specs.Taken.{Counts, HasTaken, GetsColumn, Reaches, AreUpFrom, code_by, counted, with_band, with_number}
 use Rattle.sample_adaptive.specs.Tracked.{statistics_of}
 use Rattle.sample_adaptive.proofs.Bodies.{band_push}
-use Rattle.sample_adaptive.proofs.Taking.{taken_along, code_is, taken_more}
+use Rattle.sample_adaptive.proofs.Taking.{taken_along, taken_more, word_there}
 use Rattle.sample_adaptive.proofs.Tracking.{statistics_count, statistics_set}
 
 -- a number of another band is none of its own
@@ -40,17 +38,6 @@ bands_beside z b (p ∷ ps) (x ∷ xs) gone before e f up le =
     let long : length (before ++ x ∷ []) ≡ length (gone ++ p ∷ []) = omega (arith, length-append before (x ∷ []), length-append gone (p ∷ []), e) in
     let more = bands_beside (suc z) b ps xs (gone ++ p ∷ []) (before ++ x ∷ []) long (omega (arith, f)) up.1 (omega (arith, le)) in
     (rw (append_assoc gone (p ∷ []) ps, append_assoc before (x ∷ []) xs) at more) ∙ band_beside b gone before p x e (λ k. omega (arith, k, up.0, le))
-
--- the code word that stands next, by the earlier numbers of its band
-there : (z t place : ℕ) (old : Counts) (unread : Unread) (r : Result (ℕ × List Bool) Fault) (c : CoderSettings) (gone : List Place) (before : List ℕ)
-    (p : Place) → z < length old.bands → word_at unread.count place (code_by old z t) unread.left ≡ r → p.z ≡ z
-    → HasTaken c old (λ b. band_numbers b gone before) → t ≡ length (band_numbers z gone before) → place ≡ length before
-    → word_at unread.count (length before) (code_at c p.z (band_numbers p.z gone before)) unread.left ≡ r
-there z t place old unread r c gone before p lt read own taken is at =
-    let code : code_by old z t ≡ code_at c p.z (band_numbers p.z gone before) =
-    code_is c old (λ b. band_numbers b gone before) z t taken lt is ∙ ap (λ (b : ℕ). code_at c b (band_numbers b gone before)) (sym own) in
-    ap (λ (k : ℕ). word_at unread.count k (code_at c p.z (band_numbers p.z gone before)) unread.left) (sym at)
-    ∙ ap (λ (k : Code). word_at unread.count place k unread.left) (sym code) ∙ read
 
 pub column_none : (z t place : ℕ) (v : Counts) (unread : Unread) → GetsColumn z t place (Ok tt) v unread v unread.left []
 unfolding words_at
@@ -85,12 +72,12 @@ pub column_cons : (z t place number : ℕ) (r : Result (Unit {0}) Fault) (old ne
 unfolding words_at
 column_cons z t place number r old new unread now left ys lt read same rest c gone [] before e f h taken is at = absurd (omega (arith, f))
 column_cons z t place number (Ok u) old new unread now left ys lt read same rest c gone (p ∷ ps) before e f h taken is at =
-    let word = there z t place old unread (Ok (number, now.left)) c gone before p lt read h.0 taken (is z (omega arith) (omega arith)) at in
+    let word = word_there z t place old unread (Ok (number, now.left)) c gone before p lt read h.0 taken (is z (omega arith) (omega arith)) at in
     let did = behind z t place number (Ok u) old new now left ys c gone p ps before lt rest e (omega (arith, f)) h.0 h.1 taken is at in
     let more : words_at unread.count c (gone ++ p ∷ []) (before ++ number ∷ []) ps now.left ≡ Ok (ys, left) = rw same at did.0 in
     (rw (word, more) refl, rw (append_assoc gone (p ∷ []) ps, append_assoc before (number ∷ []) ys) at did.1)
 column_cons z t place number (Err fault) old new unread now left ys lt read same rest c gone (p ∷ ps) before e f h taken is at =
-    let word = there z t place old unread (Ok (number, now.left)) c gone before p lt read h.0 taken (is z (omega arith) (omega arith)) at in
+    let word = word_there z t place old unread (Ok (number, now.left)) c gone before p lt read h.0 taken (is z (omega arith) (omega arith)) at in
     let did = behind z t place number (Err fault) old new now left ys c gone p ps before lt rest e (omega (arith, f)) h.0 h.1 taken is at in
     let more : words_at unread.count c (gone ++ p ∷ []) (before ++ number ∷ []) ps now.left ≡ Err fault = rw same at did.0 in
     (rw (word, more) refl, tt)
@@ -101,7 +88,7 @@ pub column_refused : (z t place : ℕ) (fault : Fault) (old new : Counts) (unrea
 unfolding words_at
 column_refused z t place fault old new unread left numbers lt read some c gone [] before e f h taken is at = absurd (omega (arith, f, some))
 column_refused z t place fault old new unread left numbers lt read some c gone (p ∷ ps) before e f h taken is at =
-    let word = there z t place old unread (Err fault) c gone before p lt read h.0 taken (is z (omega arith) (omega (arith, some))) at in
+    let word = word_there z t place old unread (Err fault) c gone before p lt read h.0 taken (is z (omega arith) (omega (arith, some))) at in
     (rw word refl, tt)
 
 -- ---- the first numbers of a column

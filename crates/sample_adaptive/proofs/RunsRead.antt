@@ -19,7 +19,7 @@ use Rattle.sample_adaptive.specs.Laws.{AreNumbers}
 use Rattle.sample_adaptive.proofs.Bodies.{code_bits, words_again, words_takes}
 use Rattle.sample_adaptive.proofs.Refusals.{word_again}
 use Rattle.sample_adaptive.proofs.Running.{band_long, all_take, all_drop, words_append}
-use Rattle.sample_adaptive.proofs.Taking.{taken_along, code_is, taken_more}
+use Rattle.sample_adaptive.proofs.Taking.{taken_along, taken_more, word_there}
 
 -- ---- words behind others
 
@@ -91,24 +91,13 @@ unfolding words_at
 gets_none z t place v unread c gone [] before e f h taken is at = (refl, rw (append-nil gone, append-nil before) taken)
 gets_none z t place v unread c gone (p ∷ ps) before e f h taken is at = absurd (omega (arith, f))
 
--- the number that stands next, by the earlier numbers of its band
-there : (z t place : ℕ) (old : Counts) (unread : Unread) (r : Result (ℕ × List Bool) Fault) (c : CoderSettings) (gone : List Place) (before : List ℕ)
-    (p : Place) → z < length old.bands → word_at unread.count place (code_by old z t) unread.left ≡ r → p.z ≡ z
-    → HasTaken c old (λ b. band_numbers b gone before) → t ≡ length (band_numbers z gone before) → place ≡ length before
-    → word_at unread.count (length before) (code_at c p.z (band_numbers p.z gone before)) unread.left ≡ r
-there z t place old unread r c gone before p lt read own taken is at =
-    let code : code_by old z t ≡ code_at c p.z (band_numbers p.z gone before) =
-    code_is c old (λ b. band_numbers b gone before) z t taken lt is ∙ ap (λ (b : ℕ). code_at c b (band_numbers b gone before)) (sym own) in
-    ap (λ (k : ℕ). word_at unread.count k (code_at c p.z (band_numbers p.z gone before)) unread.left) (sym at)
-    ∙ ap (λ (k : Code). word_at unread.count place k unread.left) (sym code) ∙ read
-
 pub gets_one : (z t place number : ℕ) (old : Counts) (unread : Unread) (left : List Bool) → z < length old.bands
     → word_at unread.count place (code_by old z t) unread.left ≡ Ok (number, left)
     → GetsRun z t place (Ok tt) old unread (counted old z t number) left (number ∷ [])
 unfolding words_at
 gets_one z t place number old unread left lt read c gone [] before e f h taken is at = absurd (omega (arith, f))
 gets_one z t place number old unread left lt read c gone (p ∷ []) before e f h taken is at =
-    let word = there z t place old unread (Ok (number, left)) c gone before p lt read h.0 taken is at in
+    let word = word_there z t place old unread (Ok (number, left)) c gone before p lt read h.0 taken is at in
     let more = taken_more c old (λ b. band_numbers b gone before) z t number taken lt is in (
       rw word refl,
       taken_along c (counted old z t number) gone before p number e
@@ -122,14 +111,8 @@ pub gets_refused : (z t place : ℕ) (fault : Fault) (old new : Counts) (unread 
 unfolding words_at
 gets_refused z t place fault old new unread left numbers lt read some c gone [] before e f h taken is at = absurd (omega (arith, f, some))
 gets_refused z t place fault old new unread left numbers lt read some c gone (p ∷ ps) before e f h taken is at =
-    let word = there z t place old unread (Err fault) c gone before p lt read h.0 taken is at in
+    let word = word_there z t place old unread (Err fault) c gone before p lt read h.0 taken is at in
     (rw word refl, tt)
-
--- a refusal tells nothing of what is left
-pub gets_fault : (z t place : ℕ) (fault : Fault) (old mid new : Counts) (unread : Unread) (mid_left left : List Bool) (numbers : List ℕ)
-    → GetsRun z t place (Err fault) old unread mid mid_left numbers → GetsRun z t place (Err fault) old unread new left numbers
-gets_fault z t place fault old mid new unread mid_left left numbers gets c gone places before e f h taken is at =
-    ((gets c gone places before e f h taken is at).0, tt)
 
 -- how a list of places is parted where numbers are
 record Parted (z t place : ℕ) (old mid : Counts) (unread : Unread) (mid_left : List Bool) (xs ys : List ℕ) (c : CoderSettings) (gone places : List Place)
