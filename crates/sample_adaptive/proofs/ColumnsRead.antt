@@ -32,12 +32,11 @@ pub bands_beside : (z b : ℕ) (ps : List Place) (xs : List ℕ) (gone : List Pl
     → AreUpFrom z ps → z + length ps ≤ b
     → length (band_numbers b (gone ++ ps) (before ++ xs)) ≡ length (band_numbers b gone before)
 bands_beside z b [] [] gone before e f up le = rw (append-nil gone, append-nil before) refl
-bands_beside z b [] (x ∷ xs) gone before e f up le = absurd (omega (arith, f))
-bands_beside z b (p ∷ ps) [] gone before e f up le = absurd (omega (arith, f))
 bands_beside z b (p ∷ ps) (x ∷ xs) gone before e f up le =
     let long : length (before ++ x ∷ []) ≡ length (gone ++ p ∷ []) = omega (arith, length-append before (x ∷ []), length-append gone (p ∷ []), e) in
     let more = bands_beside (suc z) b ps xs (gone ++ p ∷ []) (before ++ x ∷ []) long (omega (arith, f)) up.1 (omega (arith, le)) in
     (rw (append_assoc gone (p ∷ []) ps, append_assoc before (x ∷ []) xs) at more) ∙ band_beside b gone before p x e (λ k. omega (arith, k, up.0, le))
+bands_beside z b ps xs gone before e f up le = absurd (omega arith)
 
 pub column_none : (z t place : ℕ) (v : Counts) (unread : Unread) → GetsColumn z t place (Ok tt) v unread v unread.left []
 unfolding words_at

@@ -23,11 +23,7 @@ pub band_long : (z : ℕ) (gone places : List Place) (before numbers : List ℕ)
     → length (band_numbers z (gone ++ places) (before ++ numbers)) ≡ length (band_numbers z gone before) + length numbers
 unfolding band_numbers
 band_long z [] [] [] [] e f h = refl
-band_long z [] [] [] (n ∷ ns) e f h = absurd (omega (arith, f))
-band_long z [] (p ∷ ps) [] [] e f h = absurd (omega (arith, f))
 band_long z [] (p ∷ ps) [] (n ∷ ns) e f h = rw (eq-eqb p.z z h.0) (ap suc (band_long z [] ps [] ns refl (omega (arith, f)) h.1) ∙ omega arith)
-band_long z [] places (b ∷ bs) numbers e f h = absurd (omega (arith, e))
-band_long z (q ∷ qs) places [] numbers e f h = absurd (omega (arith, e))
 band_long z (q ∷ qs) places (b ∷ bs) numbers e f h = by_band (eqb q.z z) (band_long z qs places bs numbers (omega (arith, e)) f h)
   where
     by_band : (own : Bool) → length (band_numbers z (qs ++ places) (bs ++ numbers)) ≡ length (band_numbers z qs bs) + length numbers
@@ -35,6 +31,7 @@ band_long z (q ∷ qs) places (b ∷ bs) numbers e f h = by_band (eqb q.z z) (ba
         ≡ length (cond own (b ∷ band_numbers z qs bs) (band_numbers z qs bs)) + length numbers
     by_band true h = ap suc h ∙ omega arith
     by_band false h = h
+band_long z gone places before numbers e f h = absurd (omega arith)
 
 -- ---- words of numbers behind others
 
@@ -42,8 +39,6 @@ pub words_append : (c : CoderSettings) (gone : List Place) (before : List ℕ) (
     → words_after c gone before (ps ++ qs) (ms ++ ns) ≡ words_after c gone before ps ms ++ words_after c (gone ++ ps) (before ++ ms) qs ns
 unfolding words_after
 words_append c gone before [] qs [] ns e = rw (append-nil gone, append-nil before) refl
-words_append c gone before [] qs (m ∷ ms) ns e = absurd (omega (arith, e))
-words_append c gone before (p ∷ ps) qs [] ns e = absurd (omega (arith, e))
 words_append c gone before (p ∷ ps) qs (m ∷ ms) ns e =
     let word : List Bool = code_word (code_at c p.z (band_numbers p.z gone before)) m in
     let more = words_append c (gone ++ p ∷ []) (before ++ m ∷ []) ps qs ms ns (omega (arith, e)) in
@@ -51,6 +46,7 @@ words_append c gone before (p ∷ ps) qs (m ∷ ms) ns e =
     let numbers-are : (before ++ m ∷ []) ++ ms ≡ before ++ (m ∷ ms) = append_assoc before (m ∷ []) ms in
     ap (λ (bs : List Bool). word ++ bs) (rw (places-are, numbers-are) at more)
     ∙ sym (append_assoc word (words_after c (gone ++ p ∷ []) (before ++ m ∷ []) ps ms) (words_after c (gone ++ (p ∷ ps)) (before ++ (m ∷ ms)) qs ns))
+words_append c gone before ps qs ms ns e = absurd (omega arith)
 
 -- the body of a run more
 pub body_run : (c : CoderSettings) (gone ps : List Place) (before ms : List ℕ) → length before ≡ length gone
@@ -84,14 +80,13 @@ run_none z t v written c gone (p ∷ ps) before e f h taken is = absurd (omega (
 pub run_one : (z t number : ℕ) (old new : Counts) (written written_now : List Bool) → PutsNumber z t number old written new written_now
     → PutsRun z t (number ∷ []) old written new written_now
 unfolding words_after
-run_one z t number old new written written_now puts c gone [] before e f h taken is = absurd (omega (arith, f))
 run_one z t number old new written written_now puts c gone (p ∷ []) before e f h taken is =
     let here : PutsNumber p.z t number old written new written_now = subst (λ b. PutsNumber b t number old written new written_now) (sym h.0) puts in
     let did = here c (λ b. band_numbers b gone before) taken (is ∙ ap (λ b. length (band_numbers b gone before)) (sym h.0)) in (
       did.0 ∙ ap (λ (bits : List Bool). written ++ bits) (sym (append-nil (code_word (code_at c p.z (band_numbers p.z gone before)) number))),
       taken_along c new gone before p number e did.1,
     )
-run_one z t number old new written written_now puts c gone (p ∷ q ∷ ps) before e f h taken is = absurd (omega (arith, f))
+run_one z t number old new written written_now puts c gone places before e f h taken is = absurd (omega arith)
 
 pub run_behind : (z t : ℕ) (xs ys : List ℕ) (old mid new : Counts) (written written_mid written_now : List Bool) → PutsRun z t xs old written mid written_mid
     → PutsRun z (t + length xs) ys mid written_mid new written_now

@@ -49,8 +49,6 @@ pub words_behind : (count : ℕ) (c : CoderSettings) (gone : List Place) (before
     → words_at count c gone before (ps ++ qs) (words_after c gone before ps numbers ++ left) ≡ Err e
 unfolding words_at words_after
 words_behind count c gone before [] [] qs left e long h bad = rw (append-nil gone, append-nil before) at bad
-words_behind count c gone before [] (n ∷ ns) qs left e long h bad = absurd (omega arith)
-words_behind count c gone before (p ∷ ps) [] qs left e long h bad = absurd (omega arith)
 words_behind count c gone before (p ∷ ps) (n ∷ ns) qs left e long h bad =
     let code : Code = code_at c p.z (band_numbers p.z gone before) in
     let after : List Bool = words_after c (gone ++ p ∷ []) (before ++ n ∷ []) ps ns in
@@ -59,6 +57,7 @@ words_behind count c gone before (p ∷ ps) (n ∷ ns) qs left e long h bad =
     let numbers-are : (before ++ n ∷ []) ++ ns ≡ before ++ n ∷ ns = append_assoc before (n ∷ []) ns in
     let rest = words_behind count c (gone ++ p ∷ []) (before ++ n ∷ []) ps ns qs left e (omega arith) h.1 (rw (places-are, numbers-are) bad) in
     rw (append_assoc (code_word code n) after left, word_again count (length before) code n (after ++ left) fits, rest) refl
+words_behind count c gone before ps numbers qs left e long h bad = absurd (omega arith)
 
 words_stopped : (count : ℕ) (c : CoderSettings) (gone : List Place) (before : List ℕ) (ps qs : List Place) (xs : List ℕ) (bits mid : List Bool) (e : Fault)
     → words_at count c gone before ps bits ≡ Ok (xs, mid)
@@ -95,7 +94,6 @@ pub gets_one : (z t place number : ℕ) (old : Counts) (unread : Unread) (left :
     → word_at unread.count place (code_by old z t) unread.left ≡ Ok (number, left)
     → GetsRun z t place (Ok tt) old unread (counted old z t number) left (number ∷ [])
 unfolding words_at
-gets_one z t place number old unread left lt read c gone [] before e f h taken is at = absurd (omega (arith, f))
 gets_one z t place number old unread left lt read c gone (p ∷ []) before e f h taken is at =
     let word = word_there z t place old unread (Ok (number, left)) c gone before p lt read h.0 taken is at in
     let more = taken_more c old (λ b. band_numbers b gone before) z t number taken lt is in (
@@ -103,7 +101,7 @@ gets_one z t place number old unread left lt read c gone (p ∷ []) before e f h
       taken_along c (counted old z t number) gone before p number e
           (subst (λ (b : ℕ). HasTaken c (counted old z t number) (with_number (λ d. band_numbers d gone before) b number)) (sym h.0) more),
     )
-gets_one z t place number old unread left lt read c gone (p ∷ q ∷ ps) before e f h taken is at = absurd (omega (arith, f))
+gets_one z t place number old unread left lt read c gone places before e f h taken is at = absurd (omega arith)
 
 pub gets_refused : (z t place : ℕ) (fault : Fault) (old new : Counts) (unread : Unread) (left : List Bool) (numbers : List ℕ) → z < length old.bands
     → word_at unread.count place (code_by old z t) unread.left ≡ Err fault → 0 < length numbers
