@@ -88,30 +88,45 @@ run_one z t number old new written written_now puts c gone (p ∷ []) before e f
     )
 run_one z t number old new written written_now puts c gone places before e f h taken is = absurd (omega arith)
 
+-- how places are parted where numbers are, and what is known of either part
+pub record Parted (z t : ℕ) (xs ys : List ℕ) (gone places : List Place) (before : List ℕ) : Type 0 where
+  pub few : length xs ≡ length (take (length xs) places)
+  pub own : AllByRecursion (λ p. p.z ≡ z) (take (length xs) places)
+  pub long : length (before ++ xs) ≡ length (gone ++ take (length xs) places)
+  pub rest : length ys ≡ length (drop (length xs) places)
+  pub others : AllByRecursion (λ p. p.z ≡ z) (drop (length xs) places)
+  pub time : t + length xs ≡ length (band_numbers z (gone ++ take (length xs) places) (before ++ xs))
+  pub whole : take (length xs) places ++ drop (length xs) places ≡ places
+  pub joined : (gone ++ take (length xs) places) ++ drop (length xs) places ≡ gone ++ places
+
+pub parted : (z t : ℕ) (xs ys : List ℕ) (gone places : List Place) (before : List ℕ) → length before ≡ length gone → length (xs ++ ys) ≡ length places
+    → AllByRecursion (λ p. p.z ≡ z) places → t ≡ length (band_numbers z gone before) → Parted z t xs ys gone places before
+parted z t xs ys gone places before e f h is =
+    let few : length xs ≡ length (take (length xs) places) = omega (arith, f, length-append xs ys, length-take (length xs) places) in
+    let own = all_take (λ p. p.z ≡ z) (length xs) places h in
+    record {
+      few = few;
+      own = own;
+      long = omega (arith, length-append before xs, length-append gone (take (length xs) places), e, few);
+      rest = omega (arith, f, length-append xs ys, length-drop (length xs) places);
+      others = all_drop (λ p. p.z ≡ z) (length xs) places h;
+      time = omega (arith, is, band_long z gone (take (length xs) places) before xs e few own);
+      whole = take-append-drop (length xs) places;
+      joined = rw (append_assoc, take-append-drop) refl;
+    }
+
 pub run_behind : (z t : ℕ) (xs ys : List ℕ) (old mid new : Counts) (written written_mid written_now : List Bool) → PutsRun z t xs old written mid written_mid
     → PutsRun z (t + length xs) ys mid written_mid new written_now
     → PutsRun z t (xs ++ ys) old written new written_now
 run_behind z t xs ys old mid new written written_mid written_now first second c gone places before e f h taken is =
-    let n : ℕ = length xs in
-    let cut : take (length xs) places ++ drop (length xs) places ≡ places = take-append-drop (length xs) places in
-    let few : length xs ≡ length (take (length xs) places) = omega (arith, f, length-append xs ys, length-take (length xs) places) in
-    let rest : length ys ≡ length (drop (length xs) places) = omega (arith, f, length-append xs ys, length-drop (length xs) places) in
-    let own = all_take (λ p. p.z ≡ z) (length xs) places h in
-    let a = first c gone (take (length xs) places) before e few own taken is in
-    let long : length (before ++ xs) ≡ length (gone ++ take (length xs) places) =
-    omega (arith, length-append before xs, length-append gone (take (length xs) places), e, few) in
-    let time : t + length xs ≡ length (band_numbers z (gone ++ take (length xs) places) (before ++ xs)) =
-    omega (arith, is, band_long z gone (take (length xs) places) before xs e few own) in
-    let b =
-    second c (gone ++ take (length xs) places) (drop (length xs) places) (before ++ xs) long rest (all_drop (λ p. p.z ≡ z) (length xs) places h) a.1 time in
+    let p = parted z t xs ys gone places before e f h is in
+    let a = first c gone (take (length xs) places) before e p.few p.own taken is in
+    let b = second c (gone ++ take (length xs) places) (drop (length xs) places) (before ++ xs) p.long p.rest p.others a.1 p.time in
     let text = b.0 ∙ ap (λ (bits : List Bool). bits ++ words_after c (gone ++ take (length xs) places) (before ++ xs) (drop (length xs) places) ys) a.0
     ∙ append_assoc written (words_after c gone before (take (length xs) places) xs)
     (words_after c (gone ++ take (length xs) places) (before ++ xs) (drop (length xs) places) ys)
-    ∙ ap (λ (bits : List Bool). written ++ bits) (sym (words_append c gone before (take (length xs) places) (drop (length xs) places) xs ys few)) in
-    let gone-are : (gone ++ take (length xs) places) ++ drop (length xs) places ≡ gone ++ places =
-    append_assoc gone (take (length xs) places) (drop (length xs) places) ∙ ap (λ (qs : List Place). gone ++ qs) cut in
-    let before-are : (before ++ xs) ++ ys ≡ before ++ (xs ++ ys) = append_assoc before xs ys in
-    (rw cut at text, rw (gone-are, before-are) at b.1)
+    ∙ ap (λ (bits : List Bool). written ++ bits) (sym (words_append c gone before (take (length xs) places) (drop (length xs) places) xs ys p.few)) in
+    (rw p.whole at text, rw (p.joined, append_assoc before xs ys) at b.1)
 
 -- ---- a number behind the first of its band
 

@@ -1,12 +1,12 @@
 -- A run of one band's numbers, read one after another.
 use Rattle.std.proofs.Common.{◌≡◌, ◌+◌, ◌^◌, ◌<◌, ℕ, Bool, false, eqb, List, [], ◌∷◌, ◌++◌, length, take, drop, Result, Ok, Err, refl, sym, ap, subst, ◌∙◌, inl}
-use Rattle.std.proofs.Common.{inr, append_assoc, append-nil, length-append, length-take, length-drop, take-append-drop, arith}
-use Rattle.std.specs.List.{AllByRecursion}
+use Rattle.std.proofs.Common.{inr, append_assoc, append-nil, length-append, arith}
 use Rattle.std.proofs.lemmas.Bool.{ne_eqb}
 use Rattle.std.proofs.lemmas.List.{get_or-set_same, length-set, set-set}
 use Rattle.cube_core.specs.declared.fault.Fault.{Fault}
 use Rattle.cube_core.specs.declared.order.Place.{Place}
 use Rattle.header_bits.specs.Bits.{Unread}
+use Rattle.header_bits.specs.Reading.{Reads}
 use Rattle.header_bits.proofs.Fronts.{bind_err}
 use Rattle.sample_adaptive.specs.declared.code_word.Code.{Code}
 use Rattle.sample_adaptive.specs.declared.statistics.Statistics.{Statistics}
@@ -18,7 +18,7 @@ use Rattle.sample_adaptive.specs.Taken.{Counts, HasTaken, GetsRun, code_by, coun
 use Rattle.sample_adaptive.specs.Laws.{AreNumbers}
 use Rattle.sample_adaptive.proofs.Bodies.{code_bits, words_again, words_takes}
 use Rattle.sample_adaptive.proofs.Refusals.{word_again}
-use Rattle.sample_adaptive.proofs.Running.{band_long, all_take, all_drop, words_append}
+use Rattle.sample_adaptive.proofs.Running.{parted, words_append}
 use Rattle.sample_adaptive.proofs.Taking.{taken_along, taken_more, word_there}
 
 -- ---- words behind others
@@ -59,12 +59,16 @@ words_behind count c gone before (p ∷ ps) (n ∷ ns) qs left e long h bad =
     rw (append_assoc (code_word code n) after left, word_again count (length before) code n (after ++ left) fits, rest) refl
 words_behind count c gone before ps numbers qs left e long h bad = absurd (omega arith)
 
-words_stopped : (count : ℕ) (c : CoderSettings) (gone : List Place) (before : List ℕ) (ps qs : List Place) (xs : List ℕ) (bits mid : List Bool) (e : Fault)
-    → words_at count c gone before ps bits ≡ Ok (xs, mid)
-    → words_at count c (gone ++ ps) (before ++ xs) qs mid ≡ Err e → words_at count c gone before (ps ++ qs) bits ≡ Err e
-words_stopped count c gone before ps qs xs bits mid e first second =
+-- numbers, and what is read behind them
+reads_joined : (count : ℕ) (c : CoderSettings) (gone : List Place) (before : List ℕ) (ps qs : List Place) (xs ys : List ℕ) (bits mid left : List Bool)
+    (r : Result (Unit {0}) Fault) → words_at count c gone before ps bits ≡ Ok (xs, mid)
+    → Reads (λ _. ys) r left (words_at count c (gone ++ ps) (before ++ xs) qs mid)
+    → Reads (λ _. xs ++ ys) r left (words_at count c gone before (ps ++ qs) bits)
+reads_joined count c gone before ps qs xs ys bits mid left (Ok u) first second =
+    words_joined count c gone before ps qs xs ys bits mid left first second
+reads_joined count c gone before ps qs xs ys bits mid left (Err e) first second =
     let a = words_takes count c gone before ps bits (xs, mid) first in
-    ap (λ (bs : List Bool). words_at count c gone before (ps ++ qs) bs) a.text ∙ words_behind count c gone before ps xs qs mid e a.count a.numbers second
+    rw a.text (words_behind count c gone before ps xs qs mid e a.count a.numbers second)
 
 not_read : (x : List ℕ × List Bool) (e : Fault) → Ok x ≡ Err e → ⊥
 not_read x e h = cc
@@ -112,57 +116,17 @@ gets_refused z t place fault old new unread left numbers lt read some c gone (p 
     let word = word_there z t place old unread (Err fault) c gone before p lt read h.0 taken is at in
     (rw word refl, tt)
 
--- how a list of places is parted where numbers are
-record Parted (z t place : ℕ) (old mid : Counts) (unread : Unread) (mid_left : List Bool) (xs ys : List ℕ) (c : CoderSettings) (gone places : List Place)
-    (before : List ℕ) : Type 0 where
-  first : words_at unread.count c gone before (take (length xs) places) unread.left ≡ Ok (xs, mid_left)
-  taken : HasTaken c mid (λ b. band_numbers b (gone ++ take (length xs) places) (before ++ xs))
-  long : length (before ++ xs) ≡ length (gone ++ take (length xs) places)
-  rest : length ys ≡ length (drop (length xs) places)
-  own : AllByRecursion (λ p. p.z ≡ z) (drop (length xs) places)
-  time : t + length xs ≡ length (band_numbers z (gone ++ take (length xs) places) (before ++ xs))
-  at : place + length xs ≡ length (before ++ xs)
-
-parted : (z t place : ℕ) (xs ys : List ℕ) (old mid : Counts) (unread : Unread) (mid_left : List Bool) (c : CoderSettings) (gone places : List Place)
-    (before : List ℕ) → GetsRun z t place (Ok tt) old unread mid mid_left xs
-    → length before ≡ length gone → length (xs ++ ys) ≡ length places → AllByRecursion (λ p. p.z ≡ z) places → HasTaken c old (λ b. band_numbers b gone before)
-    → t ≡ length (band_numbers z gone before) → place ≡ length before
-    → Parted z t place old mid unread mid_left xs ys c gone places before
-parted z t place xs ys old mid unread mid_left c gone places before first e f h taken is at =
-    let few : length xs ≡ length (take (length xs) places) = omega (arith, f, length-append xs ys, length-take (length xs) places) in
-    let own = all_take (λ p. p.z ≡ z) (length xs) places h in
-    let a = first c gone (take (length xs) places) before e few own taken is at in
-    record {
-      first = a.0;
-      taken = a.1;
-      long = omega (arith, length-append before xs, length-append gone (take (length xs) places), e, few);
-      rest = omega (arith, f, length-append xs ys, length-drop (length xs) places);
-      own = all_drop (λ p. p.z ≡ z) (length xs) places h;
-      time = omega (arith, is, band_long z gone (take (length xs) places) before xs e few own);
-      at = omega (arith, at, length-append before xs);
-    }
-
 pub gets_behind : (z t place : ℕ) (r : Result (Unit {0}) Fault) (xs ys : List ℕ) (old mid new : Counts) (unread now : Unread) (left : List Bool)
     → now.count ≡ unread.count → GetsRun z t place (Ok tt) old unread mid now.left xs
     → GetsRun z (t + length xs) (place + length xs) r mid now new left ys → GetsRun z t place r old unread new left (xs ++ ys)
-gets_behind z t place (Ok u) xs ys old mid new unread now left same first second c gone places before e f h taken is at =
-    let n : ℕ = length xs in
-    let cut : take (length xs) places ++ drop (length xs) places ≡ places = take-append-drop (length xs) places in
-    let a = parted z t place xs ys old mid unread now.left c gone places before first e f h taken is at in
-    let b = second c (gone ++ take (length xs) places) (drop (length xs) places) (before ++ xs) a.long a.rest a.own a.taken a.time a.at in
-    let read : words_at unread.count c (gone ++ take (length xs) places) (before ++ xs) (drop (length xs) places) now.left ≡ Ok (ys, left) = rw same at b.0 in
-    let whole = words_joined unread.count c gone before (take (length xs) places) (drop (length xs) places) xs ys unread.left now.left left a.first read in
-    let gone-are : (gone ++ take (length xs) places) ++ drop (length xs) places ≡ gone ++ places =
-    append_assoc gone (take (length xs) places) (drop (length xs) places) ∙ ap (λ (qs : List Place). gone ++ qs) cut in
-    let before-are : (before ++ xs) ++ ys ≡ before ++ (xs ++ ys) = append_assoc before xs ys in
-    (rw cut at whole, rw (gone-are, before-are) at b.1)
-gets_behind z t place (Err fault) xs ys old mid new unread now left same first second c gone places before e f h taken is at =
-    let cut : take (length xs) places ++ drop (length xs) places ≡ places = take-append-drop (length xs) places in
-    let a = parted z t place xs ys old mid unread now.left c gone places before first e f h taken is at in
-    let b = second c (gone ++ take (length xs) places) (drop (length xs) places) (before ++ xs) a.long a.rest a.own a.taken a.time a.at in
-    let read : words_at unread.count c (gone ++ take (length xs) places) (before ++ xs) (drop (length xs) places) now.left ≡ Err fault = rw same at b.0 in
-    let whole = words_stopped unread.count c gone before (take (length xs) places) (drop (length xs) places) xs unread.left now.left fault a.first read in
-    (rw cut at whole, tt)
+gets_behind z t place r xs ys old mid new unread now left same first second c gone places before e f h taken is at =
+    let p = parted z t xs ys gone places before e f h is in
+    let a = first c gone (take (length xs) places) before e p.few p.own taken is at in
+    let b = second c (gone ++ take (length xs) places) (drop (length xs) places) (before ++ xs) p.long p.rest p.others a.1 p.time
+    (omega (arith, at, length-append before xs)) in
+    let whole = reads_joined unread.count c gone before (take (length xs) places) (drop (length xs) places) xs ys unread.left now.left left r a.0
+    (rw same at b.0) in
+    (rw p.whole at whole, rw (p.joined, append_assoc before xs ys) at b.1)
 
 -- ---- a number behind the first of its band
 
