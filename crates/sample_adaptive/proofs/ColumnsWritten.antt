@@ -2,22 +2,13 @@
 use Rattle.std.proofs.Common.{◌≡◌, ◌+◌, ◌<◌, ◌≤◌, ℕ, suc, Bool, List, ◌∷◌, ◌++◌, length, drop, get_or, set, refl, sym, ap, subst, ◌∙◌, arith}
 use Rattle.std.proofs.Math.Seq.{drop-cons}
 use Rattle.std.proofs.lemmas.List.{length-set, drop_all}
-use Rattle.sample_adaptive.specs.declared.code_word.Code.{Code}
 use Rattle.sample_adaptive.specs.declared.statistics.Statistics.{Statistics}
 use Rattle.sample_adaptive.specs.declared.tracked.Tracked.{Tracked}
 use Rattle.sample_adaptive.specs.Words.{code_word}
 use Rattle.sample_adaptive.specs.Taken.{Counts, PutsNumber, PutsColumn, code_by, counted, with_band}
 use Rattle.sample_adaptive.specs.Tracked.{statistics_of}
-use Rattle.sample_adaptive.proofs.Taking.{code_is, taken_more}
+use Rattle.sample_adaptive.proofs.Taking.{puts_number}
 use Rattle.sample_adaptive.proofs.Tracking.{statistics_count, statistics_set}
-
--- a number whose code word was appended is put
-pub puts_number : (z t number : ℕ) (v : Counts) (written now : List Bool) → z < length v.bands → now ≡ written ++ code_word (code_by v z t) number
-    → PutsNumber z t number v written (counted v z t number) now
-puts_number z t number v written now lt text c taken h is = (
-  text ∙ ap (λ (k : Code). written ++ code_word k number) (code_is c v taken z t h lt is),
-  taken_more c v taken z t number h lt is,
-)
 
 -- whatever puts the numbers behind the first i, puts the column
 abbrev pub PutsTo : ℕ → ℕ → ℕ → Counts → List Statistics → List ℕ → List Bool → List Bool → Type 0

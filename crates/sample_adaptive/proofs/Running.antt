@@ -1,6 +1,6 @@
 -- A run of one band's numbers, taken one after another.
 use borrow.Rule.Slice.PartMut.{put_mid, same_len_mid}
-use Rattle.std.proofs.Common.{◌≡◌, ◌+◌, ◌-◌, ◌<◌, ◌≤◌, ℕ, zero, suc, Bool, true, false, cond, eqb, List, [], ◌∷◌, ◌++◌, length, take, drop, get_or, set}
+use Rattle.std.proofs.Common.{◌≡◌, ◌+◌, ◌-◌, ◌<◌, ◌≤◌, ℕ, zero, suc, Bool, true, false, cond, eqb, List, [], ◌∷◌, ◌++◌, length, take, drop, get_or}
 use Rattle.std.proofs.Common.{refl, sym, ap, ap₂, subst, ◌∙◌, append_assoc, append-nil, length-append, length-take, length-drop, take-append-drop, arith}
 use Rattle.std.proofs.Common.{eq-eqb}
 use Rattle.std.proofs.lemmas.Bool.{ne_eqb}
@@ -8,13 +8,12 @@ use Rattle.std.proofs.lemmas.List.{get_or-set_same, length-set, set-set, set-get
 use Rattle.std.proofs.lemmas.Slice.{take-put_mid}
 use Rattle.std.specs.List.{AllByRecursion}
 use Rattle.cube_core.specs.declared.order.Place.{Place}
-use Rattle.sample_adaptive.specs.declared.code_word.Code.{Code}
 use Rattle.sample_adaptive.specs.declared.statistics.Statistics.{Statistics}
 use Rattle.sample_adaptive.specs.Statistics.{CoderSettings, next_statistics, code_parameter}
 use Rattle.sample_adaptive.specs.Words.{code_word, code_at}
 use Rattle.sample_adaptive.specs.Body.{band_numbers, words_after, sample_body}
-use Rattle.sample_adaptive.specs.Taken.{Counts, HasTaken, PutsNumber, PutsRun, code_by, counted, of_band, no_statistics, with_band, with_number}
-use Rattle.sample_adaptive.proofs.Taking.{taken_along, code_is, taken_more}
+use Rattle.sample_adaptive.specs.Taken.{Counts, PutsNumber, PutsRun, code_by, counted, of_band, no_statistics, with_band}
+use Rattle.sample_adaptive.proofs.Taking.{puts_number, taken_along}
 
 -- ---- how many numbers its band has
 
@@ -58,7 +57,8 @@ body_run c gone ps before ms e = words_append c [] [] gone ps before ms e
 pub body_push : (c : CoderSettings) (places : List Place) (numbers : List ℕ) (p : Place) (n : ℕ) → length numbers ≡ length places
     → sample_body c (places ++ p ∷ []) (numbers ++ n ∷ []) ≡ sample_body c places numbers ++ code_word (code_at c p.z (band_numbers p.z places numbers)) n
 unfolding words_after
-body_push c places numbers p n e = body_run c places (p ∷ []) numbers (n ∷ []) e ∙ ap (λ (bits : List Bool). sample_body c places numbers ++ bits) (append-nil _)
+body_push c places numbers p n e =
+    body_run c places (p ∷ []) numbers (n ∷ []) e ∙ ap (λ (bits : List Bool). sample_body c places numbers ++ bits) (append-nil _)
 
 -- ---- runs one behind another
 
@@ -130,19 +130,15 @@ run_behind z t xs ys old mid new written written_mid written_now first second c 
 
 -- ---- a number behind the first of its band
 
-pub run_later : (z t number : ℕ) (v : Counts) (s : Statistics) (written written_now : List Bool) → z < length v.bands → 0 < t
-    → written_now ≡ written ++ code_word (record { limit = v.umax; low = code_parameter v.bits s; bits = v.bits }) number
-    → PutsRun z t (number ∷ []) (with_band v z s) written (with_band v z (next_statistics v.gamma_star s number)) written_now
-run_later z t number v s written written_now lt some text =
-    run_one z t number (with_band v z s) (with_band v z (next_statistics v.gamma_star s number)) written written_now (λ c taken h is.
-    let inside : z < length (set v.bands z s) = omega (arith, lt, length-set v.bands z s) in
-    let own : of_band (set v.bands z s) z ≡ s = get_or-set_same v.bands z s no_statistics lt in
-    let not_first : eqb t 0 ≡ false = ne_eqb t 0 (λ e. omega (arith, some, e)) in
-    let code : code_by (with_band v z s) z t ≡ record { limit = v.umax; low = code_parameter v.bits s; bits = v.bits } = rw (not_first, own) refl in
-    let counts : counted (with_band v z s) z t number ≡ with_band v z (next_statistics v.gamma_star s number) = rw (not_first, own, set-set) refl in (
-      text ∙ ap (λ (k : Code). written ++ code_word k number) (sym code ∙ code_is c (with_band v z s) taken z t h inside is),
-      subst (λ (w : Counts). HasTaken c w (with_number taken z number)) counts (taken_more c (with_band v z s) taken z t number h inside is),
-    ))
+module _ (z t : ℕ) (v : Counts) (s : Statistics) (lt : z < length v.bands) (some : 0 < t) where
+  pub later_inside : z < length (with_band v z s).bands
+  later_inside = omega (arith, lt, length-set v.bands z s)
+
+  pub later_code : code_by (with_band v z s) z t ≡ record { limit = v.umax; low = code_parameter v.bits s; bits = v.bits }
+  later_code = rw (ne_eqb t 0 (λ e. omega (arith, some, e)), get_or-set_same v.bands z s no_statistics lt) refl
+
+  pub later_counted : (number : ℕ) → counted (with_band v z s) z t number ≡ with_band v z (next_statistics v.gamma_star s number)
+  later_counted number = rw (ne_eqb t 0 (λ e. omega (arith, some, e)), get_or-set_same v.bands z s no_statistics lt, set-set) refl
 
 pub run_step : (z t i number : ℕ) (v : Counts) (s next : Statistics) (numbers : List ℕ) (written was now : List Bool) → z < length v.bands → 0 < t
     → i < length numbers → number ≡ get_or numbers i 0
@@ -150,12 +146,12 @@ pub run_step : (z t i number : ℕ) (v : Counts) (s next : Statistics) (numbers 
     → PutsRun z t (take i numbers) v written (with_band v z s) was
     → PutsRun z t (take (i + 1) numbers) v written (with_band v z next) now
 run_step z t i number v s next numbers written was now lt some within there text counts run =
-    let one = run_later z (t + length (take i numbers)) number v s was now lt (omega (arith, some)) text in
-    let both =
-    run_behind z t (take i numbers) (number ∷ []) v (with_band v z s) (with_band v z (next_statistics v.gamma_star s number)) written was now run one in
-    let cut : take i numbers ++ number ∷ [] ≡ take (i + 1) numbers = ap (λ n. take i numbers ++ n ∷ []) there ∙ sym (take_more numbers i 0 within) in
-    subst (λ (ns : List ℕ). PutsRun z t ns v written (with_band v z next) now) cut
-    (subst (λ (d : Statistics). PutsRun z t (take i numbers ++ number ∷ []) v written (with_band v z d) now) (sym counts) both)
+    let later : 0 < t + length (take i numbers) = omega (arith, some) in
+    let here : now ≡ was ++ code_word (code_by (with_band v z s) z (t + length (take i numbers))) number = rw (later_code z _ v s lt later) text in
+    let puts = puts_number z (t + length (take i numbers)) number (with_band v z s) was now (later_inside z _ v s lt later) here in
+    let one = run_one z (t + length (take i numbers)) number (with_band v z s) _ was now puts in
+    let both = run_behind z t (take i numbers) (number ∷ []) v (with_band v z s) _ written was now run one in
+    rw (counts, ← later_counted z (t + length (take i numbers)) v s lt later number, take_more numbers i 0 within, ← there) both
 
 pub same_band : (v : Counts) (z : ℕ) (s : Statistics) → s ≡ of_band v.bands z → with_band v z s ≡ v
 same_band v z s e = rw (e, set-get_or) refl

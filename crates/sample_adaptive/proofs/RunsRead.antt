@@ -1,8 +1,7 @@
 -- A run of one band's numbers, read one after another.
-use Rattle.std.proofs.Common.{◌≡◌, ◌+◌, ◌^◌, ◌<◌, ℕ, Bool, false, eqb, List, [], ◌∷◌, ◌++◌, length, take, drop, Result, Ok, Err, refl, sym, ap, subst, ◌∙◌, inl}
-use Rattle.std.proofs.Common.{inr, append_assoc, append-nil, length-append, arith}
-use Rattle.std.proofs.lemmas.Bool.{ne_eqb}
-use Rattle.std.proofs.lemmas.List.{get_or-set_same, length-set, set-set}
+use Rattle.std.proofs.Common.{◌≡◌, ◌+◌, ◌^◌, ◌<◌, ℕ, Bool, List, [], ◌∷◌, ◌++◌, length, take, drop, set, add-one, Result, Ok, Err, refl}
+use Rattle.std.proofs.Common.{sym, ap, subst, ◌∙◌, inl, inr, append_assoc, append-nil, length-append, length-take, length-drop, take-append-drop}
+use Rattle.std.proofs.Common.{take-suc-set, arith}
 use Rattle.cube_core.specs.declared.fault.Fault.{Fault}
 use Rattle.cube_core.specs.declared.order.Place.{Place}
 use Rattle.header_bits.specs.Bits.{Unread}
@@ -14,11 +13,11 @@ use Rattle.sample_adaptive.specs.Statistics.{CoderSettings, next_statistics, cod
 use Rattle.sample_adaptive.specs.Words.{code_word, code_at}
 use Rattle.sample_adaptive.specs.Body.{band_numbers, words_after}
 use Rattle.sample_adaptive.specs.Reading.{word_at, words_at}
-use Rattle.sample_adaptive.specs.Taken.{Counts, HasTaken, GetsRun, code_by, counted, of_band, no_statistics, with_band, with_number}
+use Rattle.sample_adaptive.specs.Taken.{Counts, HasTaken, GetsRun, code_by, counted, with_band, with_number}
 use Rattle.sample_adaptive.specs.Laws.{AreNumbers}
 use Rattle.sample_adaptive.proofs.Bodies.{code_bits, words_again, words_takes}
 use Rattle.sample_adaptive.proofs.Refusals.{word_again}
-use Rattle.sample_adaptive.proofs.Running.{parted, words_append}
+use Rattle.sample_adaptive.proofs.Running.{parted, later_inside, later_code, later_counted, words_append}
 use Rattle.sample_adaptive.proofs.Taking.{taken_along, taken_more, word_there}
 
 -- ---- words behind others
@@ -130,33 +129,33 @@ gets_behind z t place r xs ys old mid new unread now left same first second c go
 
 -- ---- a number behind the first of its band
 
-later_code : (z t : ℕ) (v : Counts) (s : Statistics) → z < length v.bands → 0 < t
-    → code_by (with_band v z s) z t ≡ record { limit = v.umax; low = code_parameter v.bits s; bits = v.bits }
-later_code z t v s lt some =
-    let own : of_band (with_band v z s).bands z ≡ s = get_or-set_same v.bands z s no_statistics lt in
-    let not_first : eqb t 0 ≡ false = ne_eqb t 0 (λ e. omega (arith, some, e)) in
-    rw (not_first, own) refl
+module _ (z t place i : ℕ) (v : Counts) (s : Statistics) (first was : Unread) (left : List Bool) (numbers : List ℕ) (lt : z < length v.bands) (some : 0 < t)
+    (within : i < length numbers) (same : was.count ≡ first.count)
+    (run : GetsRun z t place (Ok tt) v first (with_band v z s) was.left (take i numbers)) where
+  later : 0 < t + length (take i numbers)
+  later = omega (arith, some)
 
-inside : (z : ℕ) (v : Counts) (s : Statistics) → z < length v.bands → z < length (with_band v z s).bands
-inside z v s lt = omega (arith, lt, length-set v.bands z s)
+  word_later : (r : Result (ℕ × List Bool) Fault)
+      → word_at was.count (place + i) (record { limit = v.umax; low = code_parameter v.bits s; bits = v.bits }) was.left ≡ r
+      → word_at was.count (place + length (take i numbers)) (code_by (with_band v z s) z (t + length (take i numbers))) was.left ≡ r
+  word_later r read =
+      let long : length (take i numbers) ≡ i = omega (arith, within, length-take i numbers) in
+      rw (later_code z (t + length (take i numbers)) v s lt later, long) read
 
-pub gets_later : (z t place number : ℕ) (v : Counts) (s : Statistics) (unread : Unread) (left : List Bool) → z < length v.bands → 0 < t
-    → word_at unread.count place (record { limit = v.umax; low = code_parameter v.bits s; bits = v.bits }) unread.left ≡ Ok (number, left)
-    → GetsRun z t place (Ok tt) (with_band v z s) unread (with_band v z (next_statistics v.gamma_star s number)) left (number ∷ [])
-gets_later z t place number v s unread left lt some read =
-    let own : of_band (with_band v z s).bands z ≡ s = get_or-set_same v.bands z s no_statistics lt in
-    let not_first : eqb t 0 ≡ false = ne_eqb t 0 (λ e. omega (arith, some, e)) in
-    let counts : counted (with_band v z s) z t number ≡ with_band v z (next_statistics v.gamma_star s number) = rw (not_first, own, set-set) refl in
-    let word : word_at unread.count place (code_by (with_band v z s) z t) unread.left ≡ Ok (number, left) =
-    ap (λ (k : Code). word_at unread.count place k unread.left) (later_code z t v s lt some) ∙ read in
-    subst (λ (w : Counts). GetsRun z t place (Ok tt) (with_band v z s) unread w left (number ∷ [])) counts
-    (gets_one z t place number (with_band v z s) unread left (inside z v s lt) word)
+  pub gets_step : (number : ℕ) (next : Statistics)
+      → word_at was.count (place + i) (record { limit = v.umax; low = code_parameter v.bits s; bits = v.bits }) was.left ≡ Ok (number, left)
+      → next ≡ next_statistics v.gamma_star s number
+      → GetsRun z t place (Ok tt) v first (with_band v z next) left (take (i + 1) (set numbers i number))
+  gets_step number next read counts =
+      let one = gets_one z _ _ number (with_band v z s) was left (later_inside z _ v s lt later) (word_later _ read) in
+      let both = gets_behind z t place (Ok tt) (take i numbers) (number ∷ []) v (with_band v z s) _ first was left same run one in
+      rw (counts, ← later_counted z (t + length (take i numbers)) v s lt later number, add-one i, take-suc-set numbers i number within) both
 
-pub later_refused : (z t place : ℕ) (fault : Fault) (v new : Counts) (s : Statistics) (unread : Unread) (left : List Bool) (numbers : List ℕ)
-    → z < length v.bands → 0 < t
-    → word_at unread.count place (record { limit = v.umax; low = code_parameter v.bits s; bits = v.bits }) unread.left ≡ Err fault → 0 < length numbers
-    → GetsRun z t place (Err fault) (with_band v z s) unread new left numbers
-later_refused z t place fault v new s unread left numbers lt some read enough =
-    let word : word_at unread.count place (code_by (with_band v z s) z t) unread.left ≡ Err fault =
-    ap (λ (k : Code). word_at unread.count place k unread.left) (later_code z t v s lt some) ∙ read in
-    gets_refused z t place fault (with_band v z s) new unread left numbers (inside z v s lt) word enough
+  pub gets_stop : (fault : Fault) (new : Counts)
+      → word_at was.count (place + i) (record { limit = v.umax; low = code_parameter v.bits s; bits = v.bits }) was.left ≡ Err fault
+      → GetsRun z t place (Err fault) v first new left numbers
+  gets_stop fault new read =
+      let refused = gets_refused z _ _ fault (with_band v z s) new was left (drop i numbers) (later_inside z _ v s lt later) (word_later _ read)
+      (omega (arith, within, length-drop i numbers)) in
+      subst (λ (ns : List ℕ). GetsRun z t place (Err fault) v first new left ns) (take-append-drop i numbers)
+      (gets_behind z t place (Err fault) (take i numbers) (drop i numbers) v (with_band v z s) new first was left same run refused)

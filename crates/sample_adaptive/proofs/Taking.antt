@@ -11,11 +11,12 @@ use Rattle.header_bits.specs.declared.params.Coder.TheVariants.{Sample}
 use Rattle.header_bits.specs.declared.params.CountStart.{CountStart}
 use Rattle.sample_adaptive.specs.declared.statistics.Statistics.{Statistics}
 use Rattle.sample_adaptive.specs.Statistics.{CoderSettings, constant_of, start_statistics, first_statistics, next_statistics, statistics, statistics_from}
-use Rattle.sample_adaptive.specs.Words.{code_at}
+use Rattle.sample_adaptive.specs.declared.code_word.Code.{Code}
+use Rattle.sample_adaptive.specs.Words.{code_word, code_at}
 use Rattle.sample_adaptive.specs.Body.{band_numbers}
 use Rattle.sample_adaptive.specs.Reading.{word_at}
 use Rattle.sample_adaptive.specs.Settings.{settings}
-use Rattle.sample_adaptive.specs.Taken.{Counts, HasTaken, code_by, counted, of_band, no_statistics, with_number}
+use Rattle.sample_adaptive.specs.Taken.{Counts, HasTaken, PutsNumber, code_by, counted, of_band, no_statistics, with_number}
 use Rattle.sample_adaptive.proofs.Bodies.{band_push, from_push}
 
 -- ---- the code of the next number
@@ -101,6 +102,14 @@ taken_by_list c v taken z t number (first ∷ later) is h lt e =
 pub taken_more : (c : CoderSettings) (v : Counts) (taken : ℕ → List ℕ) (z t number : ℕ) → HasTaken c v taken → z < length v.bands → t ≡ length (taken z)
     → HasTaken c (counted v z t number) (with_number taken z number)
 taken_more c v taken z t number h lt e = taken_by_list c v taken z t number (taken z) refl h lt e
+
+-- a number whose code word was appended is put
+pub puts_number : (z t number : ℕ) (v : Counts) (written now : List Bool) → z < length v.bands → now ≡ written ++ code_word (code_by v z t) number
+    → PutsNumber z t number v written (counted v z t number) now
+puts_number z t number v written now lt text c taken h is = (
+  text ∙ ap (λ (k : Code). written ++ code_word k number) (code_is c v taken z t h lt is),
+  taken_more c v taken z t number h lt is,
+)
 
 -- the same numbers, told otherwise
 pub taken_alike : (c : CoderSettings) (v : Counts) (taken told : ℕ → List ℕ) → ((z : ℕ) → taken z ≡ told z) → HasTaken c v taken → HasTaken c v told

@@ -21,7 +21,8 @@ returns-in-Err-clause-taken c = λ v t is same settings.
     let bands = c.loop-i.bands in
     let within : c.loop-i.i < length c.loop-i.numbers = omega (arith, c.loop-i-test.true, was.long) in
     let inside : c.args.z + c.loop-i.i < length bands = omega (arith, c.loop-i-test.true, was.bands, c.requires.inside) in
-    let read = c.in-Err.ensures.reads (record v { bands = statistics_of bands }) (c.args.z + c.loop-i.i) t is (settings_stay settings) (statistics_at bands _ inside) in
+    let own = statistics_at bands (c.args.z + c.loop-i.i) inside in
+    let read = c.in-Err.ensures.reads (record v { bands = statistics_of bands }) (c.args.z + c.loop-i.i) t is (settings_stay settings) own in
     column_stops c.args.z t c.args.place c.loop-i.i c.in-Err.fault v v bands c.args.reader.now c.loop-i.reader c.loop-i.reader.left c.loop-i.numbers
     inside within (was.taken v t is same settings) read
 

@@ -22,10 +22,10 @@ returns-clause-taken c = λ v z t within settings own some.
     omega (arith, e.within, length-take c.take_ready-done.result c.take_ready-done.new.numbers) in
     let there : z < length (with_band v z s).bands = omega (arith, within, length-set v.bands z s) in
     let band : of_band (with_band v z s).bands z ≡ s = get_or-set_same v.bands z s no_statistics within in
-    let rest = rw set-set at (c.take_rest.ensures.taken (with_band v z s) z (t + c.take_ready-done.result) there (settings_stay settings) band (omega (arith, some))) in
+    let rest = c.take_rest.ensures.taken (with_band v z s) z (t + c.take_ready-done.result) there (settings_stay settings) band (omega (arith, some)) in
     let behind = gets_behind z t c.args.place c.take_rest.result (take c.take_ready-done.result c.take_ready-done.new.numbers) c.take_rest.new.numbers
     v (with_band v z s) (with_band v z c.take_rest.new.tracked.statistics) c.args.reader.now c.take_ready-done.new.reader c.take_rest.new.reader.left
-    e.count (e.taken v z t within settings own some) (rw long rest) in
+    e.count (e.taken v z t within settings own some) (rw long (rw set-set at rest)) in
     subst (λ (ns : List ℕ). GetsRun z t c.args.place c.take_rest.result v c.args.reader.now (with_band v z c.take_rest.new.tracked.statistics)
     c.take_rest.new.reader.left ns)
     (sym (behind_first c.take_ready-done.new.numbers c.take_rest.new.numbers c.take_ready-done.result e.within c.take_rest.ensures.long)) behind

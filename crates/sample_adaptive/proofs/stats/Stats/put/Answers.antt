@@ -1,7 +1,7 @@
 use Rattle.std.proofs.Common.{◌≡◌, List, Bool, ◌++◌, refl, ap, sym, subst, ◌∙◌}
 use Rattle.sample_adaptive.specs.Taken.{Counts, PutsNumber, with_band}
 use Rattle.sample_adaptive.specs.Tracked.{statistics_of}
-use Rattle.sample_adaptive.proofs.ColumnsWritten.{puts_number}
+use Rattle.sample_adaptive.proofs.Taking.{puts_number}
 use Rattle.sample_adaptive.proofs.Tracking.{settings_seen, band_own, statistics_set}
 use Rattle.sample_adaptive.proofs.stats.Stats.put.Goals as goal
 
