@@ -1,7 +1,6 @@
-use Rattle.std.proofs.Common.{◌<◌, [], length, Ok, refl, sym, subst, ◌∙◌}
+use Rattle.std.proofs.Common.{◌<◌, length, refl, sym, ◌∙◌}
 use Rattle.std.proofs.Common.{arith}
 use Rattle.std.proofs.lemmas.List.{length-set}
-use Rattle.sample_adaptive.specs.Taken.{Counts, GetsRun}
 use Rattle.sample_adaptive.proofs.Running.{same_band}
 use Rattle.sample_adaptive.proofs.RunsRead.{gets_none, gets_step}
 use Rattle.sample_adaptive.proofs.run_words.take_ready.Goals as goal
@@ -11,8 +10,7 @@ loop-i-init c =
     let same = c.fork-ahead.ensures in
     rw same (record {
       taken = λ v z t within settings own some.
-          subst (λ (w : Counts). GetsRun z t c.args.place (Ok tt) v c.args.reader.now w c.args.reader.now.left []) (sym (same_band v z _ (sym own)))
-          (gets_none z t _ v _);
+          rw (same_band v z _ (sym own)) (gets_none z t _ v _);
       tracked = c.requires.tracked;
       count = refl;
       long = refl;

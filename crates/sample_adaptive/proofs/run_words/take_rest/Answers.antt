@@ -1,7 +1,6 @@
-use Rattle.std.proofs.Common.{◌≡◌, ◌<◌, [], List, ℕ, length, take, Ok, refl, sym, subst, ◌∙◌}
+use Rattle.std.proofs.Common.{◌<◌, ◌≤◌, length, refl, sym, ◌∙◌}
 use Rattle.std.proofs.Common.{arith}
 use Rattle.std.proofs.lemmas.List.{take_all, length-set}
-use Rattle.sample_adaptive.specs.Taken.{Counts, GetsRun, with_band}
 use Rattle.sample_adaptive.proofs.Running.{same_band}
 use Rattle.sample_adaptive.proofs.RunsRead.{gets_none, gets_step, gets_stop}
 use Rattle.sample_adaptive.proofs.run_words.take_rest.Goals as goal
@@ -10,8 +9,7 @@ pub loop-i-init : goal.loop-i-init
 loop-i-init c =
     record {
       taken = λ v z t within settings own some.
-          subst (λ (w : Counts). GetsRun z t c.args.place (Ok tt) v c.args.reader.now w c.args.reader.now.left []) (sym (same_band v z _ (sym own)))
-          (gets_none z t _ v _);
+          rw (same_band v z _ (sym own)) (gets_none z t _ v _);
       tracked = c.requires.tracked;
       count = refl;
       long = refl;
@@ -41,6 +39,5 @@ loop-i-preserved c =
 
 pub returns-clause-taken : goal.returns-clause-taken
 returns-clause-taken c = λ v z t within settings own some.
-    let all : take c.loop-i.i c.loop-i.numbers ≡ c.loop-i.numbers = take_all _ _ (omega arith) in
-    subst (λ (ns : List ℕ). GetsRun z t c.args.place (Ok tt) v c.args.reader.now (with_band v z c.loop-i.tracked.statistics) c.loop-i.reader.left ns) all
-    (c.loop-i.invariant.taken v z t within settings own some)
+    let all : length c.loop-i.numbers ≤ c.loop-i.i = omega arith in
+    rw (take_all c.loop-i.i c.loop-i.numbers all) at (c.loop-i.invariant.taken v z t within settings own some)

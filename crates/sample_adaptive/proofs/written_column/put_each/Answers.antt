@@ -44,7 +44,8 @@ loop-i-preserved c =
           let first = puts_step _ t i (get_or numbers i 0) v bands _ numbers _ _ begun inside (omega (arith, c.loop-i-test.true)) refl refl
           (c.next_word-one.ensures.counts old at t is (settings_stay settings) own) (was.puts v t is same settings) in
           let second = puts_step _ t (i + 1) (get_or numbers (i + 1) 0) v mid c.next_word-two.new.tracked numbers _ begun c.push_both.new.writer.bits
-          (rw up higher) c.loop-i-test.true refl (rw up words) (rw up (c.next_word-two.ensures.counts above (at + 1) t is (settings_stay settings) other)) first in
+          (rw up higher) c.loop-i-test.true refl (rw up words)
+          (rw up (c.next_word-two.ensures.counts above (at + 1) t is (settings_stay settings) other)) first in
           rw (up, next) at second;
       tracked = tracked_set c.args.run mid (at + 1) c.next_word-two.new.tracked higher c.next_word-two.ensures.tracked
           (tracked_set c.args.run bands at c.next_word-one.new.tracked inside c.next_word-one.ensures.tracked was.tracked);
