@@ -41,9 +41,7 @@ words_append c gone before [] qs [] ns e = rw (append-nil gone, append-nil befor
 words_append c gone before (p ∷ ps) qs (m ∷ ms) ns e =
     let word : List Bool = code_word (code_at c p.z (band_numbers p.z gone before)) m in
     let more = words_append c (gone ++ p ∷ []) (before ++ m ∷ []) ps qs ms ns (omega (arith, e)) in
-    let places-are : (gone ++ p ∷ []) ++ ps ≡ gone ++ (p ∷ ps) = append_assoc gone (p ∷ []) ps in
-    let numbers-are : (before ++ m ∷ []) ++ ms ≡ before ++ (m ∷ ms) = append_assoc before (m ∷ []) ms in
-    ap (λ (bs : List Bool). word ++ bs) (rw (places-are, numbers-are) at more)
+    ap (λ (bs : List Bool). word ++ bs) (rw (append_assoc gone (p ∷ []) ps, append_assoc before (m ∷ []) ms) at more)
     ∙ sym (append_assoc word (words_after c (gone ++ p ∷ []) (before ++ m ∷ []) ps ms) (words_after c (gone ++ (p ∷ ps)) (before ++ (m ∷ ms)) qs ns))
 words_append c gone before ps qs ms ns e = absurd (omega arith)
 

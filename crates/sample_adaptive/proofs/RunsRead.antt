@@ -13,7 +13,7 @@ use Rattle.sample_adaptive.specs.Statistics.{CoderSettings, next_statistics, cod
 use Rattle.sample_adaptive.specs.Words.{code_word, code_at}
 use Rattle.sample_adaptive.specs.Body.{band_numbers, words_after}
 use Rattle.sample_adaptive.specs.Reading.{word_at, words_at}
-use Rattle.sample_adaptive.specs.Taken.{Counts, HasTaken, GetsRun, code_by, counted, with_band, with_number}
+use Rattle.sample_adaptive.specs.Taken.{Counts, GetsRun, code_by, counted, with_band}
 use Rattle.sample_adaptive.specs.Laws.{AreNumbers}
 use Rattle.sample_adaptive.proofs.Bodies.{code_bits, words_again, words_takes}
 use Rattle.sample_adaptive.proofs.Refusals.{word_again}
@@ -52,9 +52,8 @@ words_behind count c gone before (p ∷ ps) (n ∷ ns) qs left e long h bad =
     let code : Code = code_at c p.z (band_numbers p.z gone before) in
     let after : List Bool = words_after c (gone ++ p ∷ []) (before ++ n ∷ []) ps ns in
     let fits : n < 2 ^ code.bits = rw (code_bits c p.z (band_numbers p.z gone before)) h.0 in
-    let places-are : (gone ++ p ∷ []) ++ ps ≡ gone ++ p ∷ ps = append_assoc gone (p ∷ []) ps in
-    let numbers-are : (before ++ n ∷ []) ++ ns ≡ before ++ n ∷ ns = append_assoc before (n ∷ []) ns in
-    let rest = words_behind count c (gone ++ p ∷ []) (before ++ n ∷ []) ps ns qs left e (omega arith) h.1 (rw (places-are, numbers-are) bad) in
+    let rest = words_behind count c (gone ++ p ∷ []) (before ++ n ∷ []) ps ns qs left e
+    (omega arith) h.1 (rw (append_assoc gone (p ∷ []) ps, append_assoc before (n ∷ []) ns) bad) in
     rw (append_assoc (code_word code n) after left, word_again count (length before) code n (after ++ left) fits, rest) refl
 words_behind count c gone before ps numbers qs left e long h bad = absurd (omega arith)
 
@@ -101,8 +100,7 @@ gets_one z t place number old unread left lt read c gone (p ∷ []) before e f h
     let word = word_there z t place old unread (Ok (number, left)) c gone before p lt read h.0 taken is at in
     let more = taken_more c old (λ b. band_numbers b gone before) z t number taken lt is in (
       rw word refl,
-      taken_along c (counted old z t number) gone before p number e
-          (subst (λ (b : ℕ). HasTaken c (counted old z t number) (with_number (λ d. band_numbers d gone before) b number)) (sym h.0) more),
+      taken_along c (counted old z t number) gone before p number e (rw h.0 more),
     )
 gets_one z t place number old unread left lt read c gone places before e f h taken is at = absurd (omega arith)
 
