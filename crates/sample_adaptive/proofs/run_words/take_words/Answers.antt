@@ -1,4 +1,5 @@
 use Rattle.std.proofs.Common.{◌≡◌, ◌∷◌, [], List, ℕ, length, Ok, Err, refl, sym, arith}
+use Rattle.std.proofs.lemmas.List.{nil_from_length}
 use Rattle.std.proofs.lemmas.Result.{err_from_is_err_and}
 use Rattle.sample_adaptive.specs.Reading.{word_at}
 use Rattle.sample_adaptive.specs.Taken.{code_by, with_band}
@@ -30,10 +31,6 @@ returns-in_ok-first-in-Some-clause-taken c = λ v z within settings own.
     (gets_behind z 0 _ _ (c.in_ok-first-in-Some.field-0 ∷ []) _ v v (with_band v z _) _ _ _
     c.in_ok-first-in-Some.ensures.count one rest)
 
-empty_is : (numbers : List ℕ) → length numbers ≡ 0 → numbers ≡ []
-empty_is [] e = refl
-empty_is (n ∷ ns) e = absurd (omega (arith, e))
-
 pub returns-in-None-clause-taken : goal.returns-in-None-clause-taken
 returns-in-None-clause-taken c = λ v z within settings own.
-    rw (empty_is c.args.numbers.now (omega (arith, c.in-None.ensures.cases)), same_band v z _ (sym own)) (gets_none z _ _ v _)
+    rw (nil_from_length c.args.numbers.now (omega (arith, c.in-None.ensures.cases)), same_band v z _ (sym own)) (gets_none z _ _ v _)

@@ -1,4 +1,5 @@
 use Rattle.std.proofs.Common.{◌≡◌, ◌∷◌, [], List, Bool, ℕ, length, refl, sym, subst, arith}
+use Rattle.std.proofs.lemmas.List.{nil_from_length}
 use Rattle.sample_adaptive.specs.Taken.{Counts, PutsNumber, PutsRun}
 use Rattle.sample_adaptive.proofs.Running.{run_none, run_one, run_behind}
 use Rattle.sample_adaptive.proofs.stats.Stats.put_run.Goals as goal
@@ -27,12 +28,7 @@ returns-in-Ok-clause-taken c =
     (with_first _ _ _ _ _ _ _ _ _ _ _ (omega arith) c.in-Some.ensures.cases.0
     c.in-Ok.ensures.taken (c.put_later-in-Some.ensures.taken 1 (omega arith)))
 
-empty_is : (numbers : List ℕ) → length numbers ≡ 0 → numbers ≡ []
-empty_is [] e = refl
-empty_is (n ∷ ns) e = absurd (omega (arith, e))
-
 pub returns-in_default-clause-taken : goal.returns-in_default-clause-taken
 returns-in_default-clause-taken c =
     from_before _ _ _ _ _ _ _ _ c.in_ok-make_room.ensures.same
-    (subst (λ (ns : List ℕ). PutsRun c.args.z c.args.t ns c.args.self.now c.make_room.new.writer.bits c.args.self.now c.make_room.new.writer.bits) (sym
-    (empty_is c.args.numbers.now (omega (arith, c.in_default.ensures.cases)))) (run_none c.args.z c.args.t c.args.self.now c.make_room.new.writer.bits))
+    (rw (nil_from_length c.args.numbers.now (omega (arith, c.in_default.ensures.cases))) (run_none c.args.z c.args.t c.args.self.now c.make_room.new.writer.bits))
