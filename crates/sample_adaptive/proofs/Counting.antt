@@ -1,7 +1,6 @@
 -- Statistics stay in range, and the code parameter from the lengths of two numbers.
 use Rattle.std.proofs.Common.{cond, ◌≡◌, ℕ, zero, suc, ◌+◌, ◌-◌, ◌*◌, ◌/◌, ◌%◌, ◌^◌, ◌<◌, ◌≤◌, min, Bool, true, false, leb, refl, sym, ap, ◌∙◌, inl, inr, arith}
 use Rattle.std.proofs.lemmas.Bool.{cases_lt, lt-ltb, le-ltb, le-leb, lt-leb, leb-true}
-use Rattle.std.proofs.lemmas.Bool.Decides.{nat_tests}
 use Rattle.std.proofs.lemmas.Nat.{pow_pos, pow-add, mul-le}
 use Rattle.std.proofs.Math.Nat.{pow-succ', mod-eq_of_lt, mul-lt-mul_of_pos_left}
 use Rattle.std.proofs.Math.Pow.{pow_mono}
