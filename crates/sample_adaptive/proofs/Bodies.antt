@@ -31,8 +31,6 @@ pub words_again : (count : ℕ) (c : CoderSettings) (gone : List Place) (before 
     → words_at count c gone before places (words_after c gone before places numbers ++ rest) ≡ Ok (numbers, rest)
 unfolding words_at words_after
 words_again count c gone before [] [] rest len h = refl
-words_again count c gone before [] (n ∷ ns) rest len h = absurd (omega arith)
-words_again count c gone before (p ∷ ps) [] rest len h = absurd (omega arith)
 words_again count c gone before (p ∷ ps) (n ∷ ns) rest len h =
     let code : Code = code_at c p.z (band_numbers p.z gone before) in
     let after : List Bool = words_after c (gone ++ p ∷ []) (before ++ n ∷ []) ps ns in
@@ -42,6 +40,7 @@ words_again count c gone before (p ∷ ps) (n ∷ ns) rest len h =
       word_again count (length before) code n (after ++ rest) fits,
       words_again count c (gone ++ p ∷ []) (before ++ n ∷ []) ps ns rest (omega arith) h.1,
     ) refl
+words_again count c gone before places numbers rest len h = absurd (omega arith)
 
 -- numbers of a list of places, each of at most D bits, whose words stand next
 pub record AreWords (c : CoderSettings) (gone : List Place) (before : List ℕ) (places : List Place) (bits : List Bool) (x : List ℕ × List Bool) : Type 0 where
@@ -90,8 +89,6 @@ pub band_push : (z : ℕ) (places : List Place) (numbers : List ℕ) (p : Place)
     → band_numbers z (places ++ p ∷ []) (numbers ++ n ∷ []) ≡ cond (eqb p.z z) (band_numbers z places numbers ++ n ∷ []) (band_numbers z places numbers)
 unfolding band_numbers
 band_push z [] [] p n len = refl
-band_push z [] (m ∷ ms) p n len = absurd (omega arith)
-band_push z (q ∷ qs) [] p n len = absurd (omega arith)
 band_push z (q ∷ qs) (m ∷ ms) p n len = rw (band_push z qs ms p n (omega arith)) (go (eqb q.z z) (eqb p.z z) (band_numbers z qs ms))
   where
     go : (b d : Bool) (ns : List ℕ)
@@ -100,6 +97,7 @@ band_push z (q ∷ qs) (m ∷ ms) p n len = rw (band_push z qs ms p n (omega ari
     go true false ns = refl
     go false true ns = refl
     go false false ns = refl
+band_push z places numbers p n len = absurd (omega arith)
 
 pub from_push : (gamma_star : ℕ) (s : Statistics) (numbers : List ℕ) (n : ℕ)
     → statistics_from gamma_star s (numbers ++ n ∷ []) ≡ next_statistics gamma_star (statistics_from gamma_star s numbers) n

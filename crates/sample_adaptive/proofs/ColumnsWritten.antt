@@ -1,23 +1,14 @@
 -- A column: one number each of bands one above another, put one after another.
-use Rattle.std.proofs.Common.{◌≡◌, ◌+◌, ◌<◌, ◌≤◌, ℕ, suc, Bool, List, ◌∷◌, ◌++◌, length, drop, get_or, set, refl, sym, ap, subst, ◌∙◌, arith}
+use Rattle.std.proofs.Common.{◌≡◌, ◌+◌, ◌<◌, ◌≤◌, ℕ, suc, Bool, List, ◌++◌, length, drop, get_or, set, refl, subst, arith}
 use Rattle.std.proofs.Math.Seq.{drop-cons}
 use Rattle.std.proofs.lemmas.List.{length-set, drop_all}
-use Rattle.sample_adaptive.specs.declared.code_word.Code.{Code}
 use Rattle.sample_adaptive.specs.declared.statistics.Statistics.{Statistics}
 use Rattle.sample_adaptive.specs.declared.tracked.Tracked.{Tracked}
 use Rattle.sample_adaptive.specs.Words.{code_word}
 use Rattle.sample_adaptive.specs.Taken.{Counts, PutsNumber, PutsColumn, code_by, counted, with_band}
 use Rattle.sample_adaptive.specs.Tracked.{statistics_of}
-use Rattle.sample_adaptive.proofs.Taking.{code_is, taken_more}
+use Rattle.sample_adaptive.proofs.Taking.{puts_number}
 use Rattle.sample_adaptive.proofs.Tracking.{statistics_count, statistics_set}
-
--- a number whose code word was appended is put
-pub puts_number : (z t number : ℕ) (v : Counts) (written now : List Bool) → z < length v.bands → now ≡ written ++ code_word (code_by v z t) number
-    → PutsNumber z t number v written (counted v z t number) now
-puts_number z t number v written now lt text c taken h is = (
-  text ∙ ap (λ (k : Code). written ++ code_word k number) (code_is c v taken z t h lt is),
-  taken_more c v taken z t number h lt is,
-)
 
 -- whatever puts the numbers behind the first i, puts the column
 abbrev pub PutsTo : ℕ → ℕ → ℕ → Counts → List Statistics → List ℕ → List Bool → List Bool → Type 0
@@ -40,14 +31,12 @@ puts_step z t i number v bands kept numbers written was now inside lt there text
     let above : z + (i + 1) ≡ suc (z + i) = omega arith in
     let next : i + 1 ≡ suc i = omega arith in
     let within : z + i < length (statistics_of bands) = omega (arith, inside, statistics_count bands) in
-    let cut : number ∷ drop (suc i) numbers ≡ drop i numbers = ap (λ n. n ∷ drop (suc i) numbers) there ∙ sym (drop-cons numbers i 0 lt) in
     let one : PutsNumber (z + i) t number old was mid now =
     subst (λ (w : Counts). PutsNumber (z + i) t number old was w now) counts (puts_number (z + i) t number old was now within text) in
-    puts new later (subst (λ (ns : List ℕ). PutsColumn (z + i) t ns old was new later) cut
-    (mid, now, length-set (statistics_of bands) (z + i) kept.statistics, refl, one, (rw (above, next, statistics_set bands (z + i) kept) at rest)))
+    puts new later (rw (drop-cons numbers i 0 lt, ← there)
+    (mid, now, length-set (statistics_of bands) (z + i) kept.statistics, refl, one, rw (above, next, statistics_set bands (z + i) kept) at rest))
 
 pub puts_end : (z t i : ℕ) (v : Counts) (bands : List Statistics) (numbers : List ℕ) (written now : List Bool) → length numbers ≤ i
     → PutsTo z t i v bands numbers written now → PutsColumn z t numbers v written (record v { bands = bands }) now
 puts_end z t i v bands numbers written now le puts =
-    puts (record v { bands = bands }) now (subst (λ (ns : List ℕ). PutsColumn (z + i) t ns (record v { bands = bands }) now (record v { bands = bands }) now)
-    (sym (drop_all i numbers le)) (refl, refl))
+    puts (record v { bands = bands }) now (rw (drop_all i numbers le) (refl, refl))

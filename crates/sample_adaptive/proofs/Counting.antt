@@ -1,7 +1,6 @@
 -- Statistics stay in range, and the code parameter from the lengths of two numbers.
 use Rattle.std.proofs.Common.{cond, ◌≡◌, ℕ, zero, suc, ◌+◌, ◌-◌, ◌*◌, ◌/◌, ◌%◌, ◌^◌, ◌<◌, ◌≤◌, min, Bool, true, false, leb, refl, sym, ap, ◌∙◌, inl, inr, arith}
-use Rattle.std.proofs.lemmas.Bool.{cases_lt, lt-ltb, le-ltb}
-use Rattle.std.proofs.lemmas.Bool.Decides.{nat_tests}
+use Rattle.std.proofs.lemmas.Bool.{cases_lt, lt-ltb, le-ltb, le-leb, lt-leb, leb-true}
 use Rattle.std.proofs.lemmas.Nat.{pow_pos, pow-add, mul-le}
 use Rattle.std.proofs.Math.Nat.{pow-succ', mod-eq_of_lt, mul-lt-mul_of_pos_left}
 use Rattle.std.proofs.Math.Pow.{pow_mono}
@@ -61,12 +60,6 @@ next_in_range gamma_star s number least h small =
     ]
 
 -- ---- the code parameter
-
-le-leb : (a b : ℕ) → a ≤ b → leb a b ≡ true
-le-leb a b h = grind (arith, nat_tests)
-
-lt-leb : (a b : ℕ) → b < a → leb a b ≡ false
-lt-leb a b h = grind (arith, nat_tests)
 
 -- the greatest of the numbers that pass, where these are those up to k
 pub greatest_is : (f : ℕ → Bool) (n k : ℕ) → ((j : ℕ) → j ≤ k → f j ≡ true) → ((j : ℕ) → k < j → f j ≡ false) → greatest f n ≡ min k n
@@ -170,9 +163,6 @@ product_whole counter low few le =
     mod-eq_of_lt (omega (arith, mul-le counter (2 ^ low) 512 16384 (omega arith) (omega (arith, power))))
 
 -- ---- the greatest that passes
-
-leb-true : (a b : ℕ) → leb a b ≡ true → a ≤ b
-leb-true a b h = grind (arith, nat_tests)
 
 not_both : (b : Bool) → b ≡ true → b ≡ false → ⊥
 not_both true p q = cc

@@ -77,8 +77,7 @@ plain_takes count place c quotient bits after x few text e =
     (λ low. cond (ltb (quotient * 2 ^ c.low + low.0) (2 ^ c.bits)) (Ok (quotient * 2 ^ c.low + low.0, low.1)) (Err (BadCode place))) x e in
     let g = pass_ok (ltb (quotient * 2 ^ c.low + a.0.0) (2 ^ c.bits)) (BadCode place) (quotient * 2 ^ c.low + a.0.0, a.0.1) x a.2 in
     let low = number_takes count c.low after a.0 a.1 in
-    let whole : bits ≡ form_text c (Plain quotient a.0.0) ++ a.0.1 = text ∙ ap (λ (bs : List Bool). fundamental quotient ++ bs) low.0
-    ∙ sym (front quotient (bits_of c.low a.0.0 ++ a.0.1)) ∙ sym (plain_text c quotient a.0.0 a.0.1) in
+    let whole : bits ≡ form_text c (Plain quotient a.0.0) ++ a.0.1 = rw (plain_text c quotient a.0.0 a.0.1, front quotient _, ← low.0) text in
     subst (IsWord c bits) g.1
     (ltb-true _ _ g.0, rw (div-mul-add quotient (2 ^ c.low) a.0.0 low.1, lt-ltb quotient c.limit few, mod-mul-add quotient (2 ^ c.low) a.0.0 low.1) whole)
 
@@ -89,8 +88,7 @@ escape_takes count place c bits after x text e =
     let a = bind_ok (number_at count c.bits after) (λ number. cond (ltb (number.0 / 2 ^ c.low) c.limit) (Err (BadCode place)) (Ok (number.0, number.1))) x e in
     let g = stop_ok (ltb (a.0.0 / 2 ^ c.low) c.limit) (BadCode place) (a.0.0, a.0.1) x a.2 in
     let number = number_takes count c.bits after a.0 a.1 in
-    let whole : bits ≡ form_text c (Escape a.0.0) ++ a.0.1 =
-    text ∙ ap (λ (bs : List Bool). replicate c.limit false ++ bs) number.0 ∙ sym (escape_text c a.0.0 a.0.1) in
+    let whole : bits ≡ form_text c (Escape a.0.0) ++ a.0.1 = rw (escape_text c a.0.0 a.0.1, ← number.0) text in
     subst (IsWord c bits) g.1 (number.1, rw g.0 whole)
 
 pub word_takes : (count place : ℕ) (c : Code) (bits : List Bool) (x : ℕ × List Bool) → word_at count place c bits ≡ Ok x → IsWord c bits x
@@ -147,15 +145,8 @@ plain_stands count place c quotient bits after few text e =
     (λ low. cond (ltb (quotient * 2 ^ c.low + low.0) (2 ^ c.bits)) (Ok (quotient * 2 ^ c.low + low.0, low.1)) (Err (BadCode place))) (BadCode place) e) [
       | inl short ↦ absurd (clash count place (number_fault count c.low after (BadCode place) short))
       | inr a ↦
-          (let low = number_takes count c.low after a.0 a.1 in (
-            Plain quotient a.0.0,
-            a.0.1,
-            record {
-              form = (few, low.1);
-              text = text ∙ ap (λ (bs : List Bool). fundamental quotient ++ bs) low.0 ∙ sym (front quotient (bits_of c.low a.0.0 ++ a.0.1))
-                  ∙ sym (plain_text c quotient a.0.0 a.0.1);
-            },
-          ))
+          (let low = number_takes count c.low after a.0 a.1 in
+          (Plain quotient a.0.0, a.0.1, record { form = (few, low.1); text = rw (plain_text c quotient a.0.0 a.0.1, front quotient _, ← low.0) text }))
     ]
 
 escape_stands : (count place : ℕ) (c : Code) (bits after : List Bool) → bits ≡ replicate c.limit false ++ after
@@ -166,11 +157,8 @@ escape_stands count place c bits after text e =
     (λ number. cond (ltb (number.0 / 2 ^ c.low) c.limit) (Err (BadCode place)) (Ok (number.0, number.1))) (BadCode place) e) [
       | inl short ↦ absurd (clash count place (number_fault count c.bits after (BadCode place) short))
       | inr a ↦
-          (let number = number_takes count c.bits after a.0 a.1 in (
-            Escape a.0.0,
-            a.0.1,
-            record { form = number.1; text = text ∙ ap (λ (bs : List Bool). replicate c.limit false ++ bs) number.0 ∙ sym (escape_text c a.0.0 a.0.1) },
-          ))
+          (let number = number_takes count c.bits after a.0 a.1 in
+          (Escape a.0.0, a.0.1, record { form = number.1; text = rw (escape_text c a.0.0 a.0.1, ← number.0) text }))
     ]
 
 form_stands : (count place : ℕ) (c : Code) (bits : List Bool) → word_at count place c bits ≡ Err (BadCode place) → SomeForm c bits

@@ -1,6 +1,6 @@
 -- A run of one band's numbers, taken one after another.
 use borrow.Rule.Slice.PartMut.{put_mid, same_len_mid}
-use Rattle.std.proofs.Common.{◌≡◌, ◌+◌, ◌-◌, ◌<◌, ◌≤◌, ℕ, zero, suc, Bool, true, false, cond, eqb, List, [], ◌∷◌, ◌++◌, length, take, drop, get_or, set}
+use Rattle.std.proofs.Common.{◌≡◌, ◌+◌, ◌-◌, ◌<◌, ◌≤◌, ℕ, zero, suc, Bool, true, false, cond, eqb, List, [], ◌∷◌, ◌++◌, length, take, drop, get_or}
 use Rattle.std.proofs.Common.{refl, sym, ap, ap₂, subst, ◌∙◌, append_assoc, append-nil, length-append, length-take, length-drop, take-append-drop, arith}
 use Rattle.std.proofs.Common.{eq-eqb}
 use Rattle.std.proofs.lemmas.Bool.{ne_eqb}
@@ -8,13 +8,12 @@ use Rattle.std.proofs.lemmas.List.{get_or-set_same, length-set, set-set, set-get
 use Rattle.std.proofs.lemmas.Slice.{take-put_mid}
 use Rattle.std.specs.List.{AllByRecursion}
 use Rattle.cube_core.specs.declared.order.Place.{Place}
-use Rattle.sample_adaptive.specs.declared.code_word.Code.{Code}
 use Rattle.sample_adaptive.specs.declared.statistics.Statistics.{Statistics}
 use Rattle.sample_adaptive.specs.Statistics.{CoderSettings, next_statistics, code_parameter}
 use Rattle.sample_adaptive.specs.Words.{code_word, code_at}
 use Rattle.sample_adaptive.specs.Body.{band_numbers, words_after, sample_body}
-use Rattle.sample_adaptive.specs.Taken.{Counts, HasTaken, PutsNumber, PutsRun, code_by, counted, of_band, no_statistics, with_band, with_number}
-use Rattle.sample_adaptive.proofs.Taking.{taken_along, code_is, taken_more}
+use Rattle.sample_adaptive.specs.Taken.{Counts, PutsNumber, PutsRun, code_by, counted, of_band, no_statistics, with_band}
+use Rattle.sample_adaptive.proofs.Taking.{puts_number, taken_along}
 
 -- ---- how many numbers its band has
 
@@ -23,11 +22,7 @@ pub band_long : (z : ℕ) (gone places : List Place) (before numbers : List ℕ)
     → length (band_numbers z (gone ++ places) (before ++ numbers)) ≡ length (band_numbers z gone before) + length numbers
 unfolding band_numbers
 band_long z [] [] [] [] e f h = refl
-band_long z [] [] [] (n ∷ ns) e f h = absurd (omega (arith, f))
-band_long z [] (p ∷ ps) [] [] e f h = absurd (omega (arith, f))
 band_long z [] (p ∷ ps) [] (n ∷ ns) e f h = rw (eq-eqb p.z z h.0) (ap suc (band_long z [] ps [] ns refl (omega (arith, f)) h.1) ∙ omega arith)
-band_long z [] places (b ∷ bs) numbers e f h = absurd (omega (arith, e))
-band_long z (q ∷ qs) places [] numbers e f h = absurd (omega (arith, e))
 band_long z (q ∷ qs) places (b ∷ bs) numbers e f h = by_band (eqb q.z z) (band_long z qs places bs numbers (omega (arith, e)) f h)
   where
     by_band : (own : Bool) → length (band_numbers z (qs ++ places) (bs ++ numbers)) ≡ length (band_numbers z qs bs) + length numbers
@@ -35,6 +30,7 @@ band_long z (q ∷ qs) places (b ∷ bs) numbers e f h = by_band (eqb q.z z) (ba
         ≡ length (cond own (b ∷ band_numbers z qs bs) (band_numbers z qs bs)) + length numbers
     by_band true h = ap suc h ∙ omega arith
     by_band false h = h
+band_long z gone places before numbers e f h = absurd (omega arith)
 
 -- ---- words of numbers behind others
 
@@ -42,15 +38,12 @@ pub words_append : (c : CoderSettings) (gone : List Place) (before : List ℕ) (
     → words_after c gone before (ps ++ qs) (ms ++ ns) ≡ words_after c gone before ps ms ++ words_after c (gone ++ ps) (before ++ ms) qs ns
 unfolding words_after
 words_append c gone before [] qs [] ns e = rw (append-nil gone, append-nil before) refl
-words_append c gone before [] qs (m ∷ ms) ns e = absurd (omega (arith, e))
-words_append c gone before (p ∷ ps) qs [] ns e = absurd (omega (arith, e))
 words_append c gone before (p ∷ ps) qs (m ∷ ms) ns e =
     let word : List Bool = code_word (code_at c p.z (band_numbers p.z gone before)) m in
     let more = words_append c (gone ++ p ∷ []) (before ++ m ∷ []) ps qs ms ns (omega (arith, e)) in
-    let places-are : (gone ++ p ∷ []) ++ ps ≡ gone ++ (p ∷ ps) = append_assoc gone (p ∷ []) ps in
-    let numbers-are : (before ++ m ∷ []) ++ ms ≡ before ++ (m ∷ ms) = append_assoc before (m ∷ []) ms in
-    ap (λ (bs : List Bool). word ++ bs) (rw (places-are, numbers-are) at more)
+    ap (λ (bs : List Bool). word ++ bs) (rw (append_assoc gone (p ∷ []) ps, append_assoc before (m ∷ []) ms) at more)
     ∙ sym (append_assoc word (words_after c (gone ++ p ∷ []) (before ++ m ∷ []) ps ms) (words_after c (gone ++ (p ∷ ps)) (before ++ (m ∷ ms)) qs ns))
+words_append c gone before ps qs ms ns e = absurd (omega arith)
 
 -- the body of a run more
 pub body_run : (c : CoderSettings) (gone ps : List Place) (before ms : List ℕ) → length before ≡ length gone
@@ -62,7 +55,8 @@ body_run c gone ps before ms e = words_append c [] [] gone ps before ms e
 pub body_push : (c : CoderSettings) (places : List Place) (numbers : List ℕ) (p : Place) (n : ℕ) → length numbers ≡ length places
     → sample_body c (places ++ p ∷ []) (numbers ++ n ∷ []) ≡ sample_body c places numbers ++ code_word (code_at c p.z (band_numbers p.z places numbers)) n
 unfolding words_after
-body_push c places numbers p n e = body_run c places (p ∷ []) numbers (n ∷ []) e ∙ ap (λ (bits : List Bool). sample_body c places numbers ++ bits) (append-nil _)
+body_push c places numbers p n e =
+    body_run c places (p ∷ []) numbers (n ∷ []) e ∙ ap (λ (bits : List Bool). sample_body c places numbers ++ bits) (append-nil _)
 
 -- ---- runs one behind another
 
@@ -84,55 +78,65 @@ run_none z t v written c gone (p ∷ ps) before e f h taken is = absurd (omega (
 pub run_one : (z t number : ℕ) (old new : Counts) (written written_now : List Bool) → PutsNumber z t number old written new written_now
     → PutsRun z t (number ∷ []) old written new written_now
 unfolding words_after
-run_one z t number old new written written_now puts c gone [] before e f h taken is = absurd (omega (arith, f))
 run_one z t number old new written written_now puts c gone (p ∷ []) before e f h taken is =
     let here : PutsNumber p.z t number old written new written_now = subst (λ b. PutsNumber b t number old written new written_now) (sym h.0) puts in
     let did = here c (λ b. band_numbers b gone before) taken (is ∙ ap (λ b. length (band_numbers b gone before)) (sym h.0)) in (
       did.0 ∙ ap (λ (bits : List Bool). written ++ bits) (sym (append-nil (code_word (code_at c p.z (band_numbers p.z gone before)) number))),
       taken_along c new gone before p number e did.1,
     )
-run_one z t number old new written written_now puts c gone (p ∷ q ∷ ps) before e f h taken is = absurd (omega (arith, f))
+run_one z t number old new written written_now puts c gone places before e f h taken is = absurd (omega arith)
+
+-- how places are parted where numbers are, and what is known of either part
+pub record Parted (z t : ℕ) (xs ys : List ℕ) (gone places : List Place) (before : List ℕ) : Type 0 where
+  pub few : length xs ≡ length (take (length xs) places)
+  pub own : AllByRecursion (λ p. p.z ≡ z) (take (length xs) places)
+  pub long : length (before ++ xs) ≡ length (gone ++ take (length xs) places)
+  pub rest : length ys ≡ length (drop (length xs) places)
+  pub others : AllByRecursion (λ p. p.z ≡ z) (drop (length xs) places)
+  pub time : t + length xs ≡ length (band_numbers z (gone ++ take (length xs) places) (before ++ xs))
+  pub whole : take (length xs) places ++ drop (length xs) places ≡ places
+  pub joined : (gone ++ take (length xs) places) ++ drop (length xs) places ≡ gone ++ places
+
+pub parted : (z t : ℕ) (xs ys : List ℕ) (gone places : List Place) (before : List ℕ) → length before ≡ length gone → length (xs ++ ys) ≡ length places
+    → AllByRecursion (λ p. p.z ≡ z) places → t ≡ length (band_numbers z gone before) → Parted z t xs ys gone places before
+parted z t xs ys gone places before e f h is =
+    let few : length xs ≡ length (take (length xs) places) = omega (arith, f, length-append xs ys, length-take (length xs) places) in
+    let own = all_take (λ p. p.z ≡ z) (length xs) places h in
+    record {
+      few = few;
+      own = own;
+      long = omega (arith, length-append before xs, length-append gone (take (length xs) places), e, few);
+      rest = omega (arith, f, length-append xs ys, length-drop (length xs) places);
+      others = all_drop (λ p. p.z ≡ z) (length xs) places h;
+      time = omega (arith, is, band_long z gone (take (length xs) places) before xs e few own);
+      whole = take-append-drop (length xs) places;
+      joined = rw (append_assoc, take-append-drop) refl;
+    }
 
 pub run_behind : (z t : ℕ) (xs ys : List ℕ) (old mid new : Counts) (written written_mid written_now : List Bool) → PutsRun z t xs old written mid written_mid
     → PutsRun z (t + length xs) ys mid written_mid new written_now
     → PutsRun z t (xs ++ ys) old written new written_now
 run_behind z t xs ys old mid new written written_mid written_now first second c gone places before e f h taken is =
-    let n : ℕ = length xs in
-    let cut : take (length xs) places ++ drop (length xs) places ≡ places = take-append-drop (length xs) places in
-    let few : length xs ≡ length (take (length xs) places) = omega (arith, f, length-append xs ys, length-take (length xs) places) in
-    let rest : length ys ≡ length (drop (length xs) places) = omega (arith, f, length-append xs ys, length-drop (length xs) places) in
-    let own = all_take (λ p. p.z ≡ z) (length xs) places h in
-    let a = first c gone (take (length xs) places) before e few own taken is in
-    let long : length (before ++ xs) ≡ length (gone ++ take (length xs) places) =
-    omega (arith, length-append before xs, length-append gone (take (length xs) places), e, few) in
-    let time : t + length xs ≡ length (band_numbers z (gone ++ take (length xs) places) (before ++ xs)) =
-    omega (arith, is, band_long z gone (take (length xs) places) before xs e few own) in
-    let b =
-    second c (gone ++ take (length xs) places) (drop (length xs) places) (before ++ xs) long rest (all_drop (λ p. p.z ≡ z) (length xs) places h) a.1 time in
+    let p = parted z t xs ys gone places before e f h is in
+    let a = first c gone (take (length xs) places) before e p.few p.own taken is in
+    let b = second c (gone ++ take (length xs) places) (drop (length xs) places) (before ++ xs) p.long p.rest p.others a.1 p.time in
     let text = b.0 ∙ ap (λ (bits : List Bool). bits ++ words_after c (gone ++ take (length xs) places) (before ++ xs) (drop (length xs) places) ys) a.0
     ∙ append_assoc written (words_after c gone before (take (length xs) places) xs)
     (words_after c (gone ++ take (length xs) places) (before ++ xs) (drop (length xs) places) ys)
-    ∙ ap (λ (bits : List Bool). written ++ bits) (sym (words_append c gone before (take (length xs) places) (drop (length xs) places) xs ys few)) in
-    let gone-are : (gone ++ take (length xs) places) ++ drop (length xs) places ≡ gone ++ places =
-    append_assoc gone (take (length xs) places) (drop (length xs) places) ∙ ap (λ (qs : List Place). gone ++ qs) cut in
-    let before-are : (before ++ xs) ++ ys ≡ before ++ (xs ++ ys) = append_assoc before xs ys in
-    (rw cut at text, rw (gone-are, before-are) at b.1)
+    ∙ ap (λ (bits : List Bool). written ++ bits) (sym (words_append c gone before (take (length xs) places) (drop (length xs) places) xs ys p.few)) in
+    (rw p.whole at text, rw (p.joined, append_assoc before xs ys) at b.1)
 
 -- ---- a number behind the first of its band
 
-pub run_later : (z t number : ℕ) (v : Counts) (s : Statistics) (written written_now : List Bool) → z < length v.bands → 0 < t
-    → written_now ≡ written ++ code_word (record { limit = v.umax; low = code_parameter v.bits s; bits = v.bits }) number
-    → PutsRun z t (number ∷ []) (with_band v z s) written (with_band v z (next_statistics v.gamma_star s number)) written_now
-run_later z t number v s written written_now lt some text =
-    run_one z t number (with_band v z s) (with_band v z (next_statistics v.gamma_star s number)) written written_now (λ c taken h is.
-    let inside : z < length (set v.bands z s) = omega (arith, lt, length-set v.bands z s) in
-    let own : of_band (set v.bands z s) z ≡ s = get_or-set_same v.bands z s no_statistics lt in
-    let not_first : eqb t 0 ≡ false = ne_eqb t 0 (λ e. omega (arith, some, e)) in
-    let code : code_by (with_band v z s) z t ≡ record { limit = v.umax; low = code_parameter v.bits s; bits = v.bits } = rw (not_first, own) refl in
-    let counts : counted (with_band v z s) z t number ≡ with_band v z (next_statistics v.gamma_star s number) = rw (not_first, own, set-set) refl in (
-      text ∙ ap (λ (k : Code). written ++ code_word k number) (sym code ∙ code_is c (with_band v z s) taken z t h inside is),
-      subst (λ (w : Counts). HasTaken c w (with_number taken z number)) counts (taken_more c (with_band v z s) taken z t number h inside is),
-    ))
+module _ (z t : ℕ) (v : Counts) (s : Statistics) (lt : z < length v.bands) (some : 0 < t) where
+  pub later_inside : z < length (with_band v z s).bands
+  later_inside = omega (arith, lt, length-set v.bands z s)
+
+  pub later_code : code_by (with_band v z s) z t ≡ record { limit = v.umax; low = code_parameter v.bits s; bits = v.bits }
+  later_code = rw (ne_eqb t 0 (λ e. omega (arith, some, e)), get_or-set_same v.bands z s no_statistics lt) refl
+
+  pub later_counted : (number : ℕ) → counted (with_band v z s) z t number ≡ with_band v z (next_statistics v.gamma_star s number)
+  later_counted number = rw (ne_eqb t 0 (λ e. omega (arith, some, e)), get_or-set_same v.bands z s no_statistics lt, set-set) refl
 
 pub run_step : (z t i number : ℕ) (v : Counts) (s next : Statistics) (numbers : List ℕ) (written was now : List Bool) → z < length v.bands → 0 < t
     → i < length numbers → number ≡ get_or numbers i 0
@@ -140,12 +144,12 @@ pub run_step : (z t i number : ℕ) (v : Counts) (s next : Statistics) (numbers 
     → PutsRun z t (take i numbers) v written (with_band v z s) was
     → PutsRun z t (take (i + 1) numbers) v written (with_band v z next) now
 run_step z t i number v s next numbers written was now lt some within there text counts run =
-    let one = run_later z (t + length (take i numbers)) number v s was now lt (omega (arith, some)) text in
-    let both =
-    run_behind z t (take i numbers) (number ∷ []) v (with_band v z s) (with_band v z (next_statistics v.gamma_star s number)) written was now run one in
-    let cut : take i numbers ++ number ∷ [] ≡ take (i + 1) numbers = ap (λ n. take i numbers ++ n ∷ []) there ∙ sym (take_more numbers i 0 within) in
-    subst (λ (ns : List ℕ). PutsRun z t ns v written (with_band v z next) now) cut
-    (subst (λ (d : Statistics). PutsRun z t (take i numbers ++ number ∷ []) v written (with_band v z d) now) (sym counts) both)
+    let later : 0 < t + length (take i numbers) = omega (arith, some) in
+    let here : now ≡ was ++ code_word (code_by (with_band v z s) z (t + length (take i numbers))) number = rw (later_code z _ v s lt later) text in
+    let puts = puts_number z (t + length (take i numbers)) number (with_band v z s) was now (later_inside z _ v s lt later) here in
+    let one = run_one z (t + length (take i numbers)) number (with_band v z s) _ was now puts in
+    let both = run_behind z t (take i numbers) (number ∷ []) v (with_band v z s) _ written was now run one in
+    rw (counts, ← later_counted z (t + length (take i numbers)) v s lt later number, take_more numbers i 0 within, ← there) both
 
 pub same_band : (v : Counts) (z : ℕ) (s : Statistics) → s ≡ of_band v.bands z → with_band v z s ≡ v
 same_band v z s e = rw (e, set-get_or) refl

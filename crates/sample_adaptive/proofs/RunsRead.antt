@@ -1,12 +1,11 @@
 -- A run of one band's numbers, read one after another.
-use Rattle.std.proofs.Common.{◌≡◌, ◌+◌, ◌^◌, ◌<◌, ℕ, Bool, false, eqb, List, [], ◌∷◌, ◌++◌, length, take, drop, Result, Ok, Err, refl, sym, ap, subst, ◌∙◌, inl}
-use Rattle.std.proofs.Common.{inr, append_assoc, append-nil, length-append, length-take, length-drop, take-append-drop, arith}
-use Rattle.std.specs.List.{AllByRecursion}
-use Rattle.std.proofs.lemmas.Bool.{ne_eqb}
-use Rattle.std.proofs.lemmas.List.{get_or-set_same, length-set, set-set}
+use Rattle.std.proofs.Common.{◌≡◌, ◌+◌, ◌^◌, ◌<◌, ℕ, Bool, List, [], ◌∷◌, ◌++◌, length, take, drop, set, add-one, Result, Ok, Err, refl}
+use Rattle.std.proofs.Common.{sym, ap, subst, ◌∙◌, inl, inr, append_assoc, append-nil, length-append, length-take, length-drop, take-append-drop}
+use Rattle.std.proofs.Common.{take-suc-set, arith}
 use Rattle.cube_core.specs.declared.fault.Fault.{Fault}
 use Rattle.cube_core.specs.declared.order.Place.{Place}
 use Rattle.header_bits.specs.Bits.{Unread}
+use Rattle.header_bits.specs.Reading.{Reads}
 use Rattle.header_bits.proofs.Fronts.{bind_err}
 use Rattle.sample_adaptive.specs.declared.code_word.Code.{Code}
 use Rattle.sample_adaptive.specs.declared.statistics.Statistics.{Statistics}
@@ -14,12 +13,12 @@ use Rattle.sample_adaptive.specs.Statistics.{CoderSettings, next_statistics, cod
 use Rattle.sample_adaptive.specs.Words.{code_word, code_at}
 use Rattle.sample_adaptive.specs.Body.{band_numbers, words_after}
 use Rattle.sample_adaptive.specs.Reading.{word_at, words_at}
-use Rattle.sample_adaptive.specs.Taken.{Counts, HasTaken, GetsRun, code_by, counted, of_band, no_statistics, with_band, with_number}
+use Rattle.sample_adaptive.specs.Taken.{Counts, GetsRun, code_by, counted, with_band}
 use Rattle.sample_adaptive.specs.Laws.{AreNumbers}
 use Rattle.sample_adaptive.proofs.Bodies.{code_bits, words_again, words_takes}
 use Rattle.sample_adaptive.proofs.Refusals.{word_again}
-use Rattle.sample_adaptive.proofs.Running.{band_long, all_take, all_drop, words_append}
-use Rattle.sample_adaptive.proofs.Taking.{taken_along, code_is, taken_more}
+use Rattle.sample_adaptive.proofs.Running.{parted, later_inside, later_code, later_counted, words_append}
+use Rattle.sample_adaptive.proofs.Taking.{taken_along, taken_more, word_there}
 
 -- ---- words behind others
 
@@ -49,23 +48,25 @@ pub words_behind : (count : ℕ) (c : CoderSettings) (gone : List Place) (before
     → words_at count c gone before (ps ++ qs) (words_after c gone before ps numbers ++ left) ≡ Err e
 unfolding words_at words_after
 words_behind count c gone before [] [] qs left e long h bad = rw (append-nil gone, append-nil before) at bad
-words_behind count c gone before [] (n ∷ ns) qs left e long h bad = absurd (omega arith)
-words_behind count c gone before (p ∷ ps) [] qs left e long h bad = absurd (omega arith)
 words_behind count c gone before (p ∷ ps) (n ∷ ns) qs left e long h bad =
     let code : Code = code_at c p.z (band_numbers p.z gone before) in
     let after : List Bool = words_after c (gone ++ p ∷ []) (before ++ n ∷ []) ps ns in
     let fits : n < 2 ^ code.bits = rw (code_bits c p.z (band_numbers p.z gone before)) h.0 in
-    let places-are : (gone ++ p ∷ []) ++ ps ≡ gone ++ p ∷ ps = append_assoc gone (p ∷ []) ps in
-    let numbers-are : (before ++ n ∷ []) ++ ns ≡ before ++ n ∷ ns = append_assoc before (n ∷ []) ns in
-    let rest = words_behind count c (gone ++ p ∷ []) (before ++ n ∷ []) ps ns qs left e (omega arith) h.1 (rw (places-are, numbers-are) bad) in
+    let rest = words_behind count c (gone ++ p ∷ []) (before ++ n ∷ []) ps ns qs left e
+    (omega arith) h.1 (rw (append_assoc gone (p ∷ []) ps, append_assoc before (n ∷ []) ns) bad) in
     rw (append_assoc (code_word code n) after left, word_again count (length before) code n (after ++ left) fits, rest) refl
+words_behind count c gone before ps numbers qs left e long h bad = absurd (omega arith)
 
-words_stopped : (count : ℕ) (c : CoderSettings) (gone : List Place) (before : List ℕ) (ps qs : List Place) (xs : List ℕ) (bits mid : List Bool) (e : Fault)
-    → words_at count c gone before ps bits ≡ Ok (xs, mid)
-    → words_at count c (gone ++ ps) (before ++ xs) qs mid ≡ Err e → words_at count c gone before (ps ++ qs) bits ≡ Err e
-words_stopped count c gone before ps qs xs bits mid e first second =
+-- numbers, and what is read behind them
+reads_joined : (count : ℕ) (c : CoderSettings) (gone : List Place) (before : List ℕ) (ps qs : List Place) (xs ys : List ℕ) (bits mid left : List Bool)
+    (r : Result (Unit {0}) Fault) → words_at count c gone before ps bits ≡ Ok (xs, mid)
+    → Reads (λ _. ys) r left (words_at count c (gone ++ ps) (before ++ xs) qs mid)
+    → Reads (λ _. xs ++ ys) r left (words_at count c gone before (ps ++ qs) bits)
+reads_joined count c gone before ps qs xs ys bits mid left (Ok u) first second =
+    words_joined count c gone before ps qs xs ys bits mid left first second
+reads_joined count c gone before ps qs xs ys bits mid left (Err e) first second =
     let a = words_takes count c gone before ps bits (xs, mid) first in
-    ap (λ (bs : List Bool). words_at count c gone before (ps ++ qs) bs) a.text ∙ words_behind count c gone before ps xs qs mid e a.count a.numbers second
+    rw a.text (words_behind count c gone before ps xs qs mid e a.count a.numbers second)
 
 not_read : (x : List ℕ × List Bool) (e : Fault) → Ok x ≡ Err e → ⊥
 not_read x e h = cc
@@ -91,30 +92,17 @@ unfolding words_at
 gets_none z t place v unread c gone [] before e f h taken is at = (refl, rw (append-nil gone, append-nil before) taken)
 gets_none z t place v unread c gone (p ∷ ps) before e f h taken is at = absurd (omega (arith, f))
 
--- the number that stands next, by the earlier numbers of its band
-there : (z t place : ℕ) (old : Counts) (unread : Unread) (r : Result (ℕ × List Bool) Fault) (c : CoderSettings) (gone : List Place) (before : List ℕ)
-    (p : Place) → z < length old.bands → word_at unread.count place (code_by old z t) unread.left ≡ r → p.z ≡ z
-    → HasTaken c old (λ b. band_numbers b gone before) → t ≡ length (band_numbers z gone before) → place ≡ length before
-    → word_at unread.count (length before) (code_at c p.z (band_numbers p.z gone before)) unread.left ≡ r
-there z t place old unread r c gone before p lt read own taken is at =
-    let code : code_by old z t ≡ code_at c p.z (band_numbers p.z gone before) =
-    code_is c old (λ b. band_numbers b gone before) z t taken lt is ∙ ap (λ (b : ℕ). code_at c b (band_numbers b gone before)) (sym own) in
-    ap (λ (k : ℕ). word_at unread.count k (code_at c p.z (band_numbers p.z gone before)) unread.left) (sym at)
-    ∙ ap (λ (k : Code). word_at unread.count place k unread.left) (sym code) ∙ read
-
 pub gets_one : (z t place number : ℕ) (old : Counts) (unread : Unread) (left : List Bool) → z < length old.bands
     → word_at unread.count place (code_by old z t) unread.left ≡ Ok (number, left)
     → GetsRun z t place (Ok tt) old unread (counted old z t number) left (number ∷ [])
 unfolding words_at
-gets_one z t place number old unread left lt read c gone [] before e f h taken is at = absurd (omega (arith, f))
 gets_one z t place number old unread left lt read c gone (p ∷ []) before e f h taken is at =
-    let word = there z t place old unread (Ok (number, left)) c gone before p lt read h.0 taken is at in
+    let word = word_there z t place old unread (Ok (number, left)) c gone before p lt read h.0 taken is at in
     let more = taken_more c old (λ b. band_numbers b gone before) z t number taken lt is in (
       rw word refl,
-      taken_along c (counted old z t number) gone before p number e
-          (subst (λ (b : ℕ). HasTaken c (counted old z t number) (with_number (λ d. band_numbers d gone before) b number)) (sym h.0) more),
+      taken_along c (counted old z t number) gone before p number e (rw h.0 more),
     )
-gets_one z t place number old unread left lt read c gone (p ∷ q ∷ ps) before e f h taken is at = absurd (omega (arith, f))
+gets_one z t place number old unread left lt read c gone places before e f h taken is at = absurd (omega arith)
 
 pub gets_refused : (z t place : ℕ) (fault : Fault) (old new : Counts) (unread : Unread) (left : List Bool) (numbers : List ℕ) → z < length old.bands
     → word_at unread.count place (code_by old z t) unread.left ≡ Err fault → 0 < length numbers
@@ -122,96 +110,50 @@ pub gets_refused : (z t place : ℕ) (fault : Fault) (old new : Counts) (unread 
 unfolding words_at
 gets_refused z t place fault old new unread left numbers lt read some c gone [] before e f h taken is at = absurd (omega (arith, f, some))
 gets_refused z t place fault old new unread left numbers lt read some c gone (p ∷ ps) before e f h taken is at =
-    let word = there z t place old unread (Err fault) c gone before p lt read h.0 taken is at in
+    let word = word_there z t place old unread (Err fault) c gone before p lt read h.0 taken is at in
     (rw word refl, tt)
-
--- a refusal tells nothing of what is left
-pub gets_fault : (z t place : ℕ) (fault : Fault) (old mid new : Counts) (unread : Unread) (mid_left left : List Bool) (numbers : List ℕ)
-    → GetsRun z t place (Err fault) old unread mid mid_left numbers → GetsRun z t place (Err fault) old unread new left numbers
-gets_fault z t place fault old mid new unread mid_left left numbers gets c gone places before e f h taken is at =
-    ((gets c gone places before e f h taken is at).0, tt)
-
--- how a list of places is parted where numbers are
-record Parted (z t place : ℕ) (old mid : Counts) (unread : Unread) (mid_left : List Bool) (xs ys : List ℕ) (c : CoderSettings) (gone places : List Place)
-    (before : List ℕ) : Type 0 where
-  first : words_at unread.count c gone before (take (length xs) places) unread.left ≡ Ok (xs, mid_left)
-  taken : HasTaken c mid (λ b. band_numbers b (gone ++ take (length xs) places) (before ++ xs))
-  long : length (before ++ xs) ≡ length (gone ++ take (length xs) places)
-  rest : length ys ≡ length (drop (length xs) places)
-  own : AllByRecursion (λ p. p.z ≡ z) (drop (length xs) places)
-  time : t + length xs ≡ length (band_numbers z (gone ++ take (length xs) places) (before ++ xs))
-  at : place + length xs ≡ length (before ++ xs)
-
-parted : (z t place : ℕ) (xs ys : List ℕ) (old mid : Counts) (unread : Unread) (mid_left : List Bool) (c : CoderSettings) (gone places : List Place)
-    (before : List ℕ) → GetsRun z t place (Ok tt) old unread mid mid_left xs
-    → length before ≡ length gone → length (xs ++ ys) ≡ length places → AllByRecursion (λ p. p.z ≡ z) places → HasTaken c old (λ b. band_numbers b gone before)
-    → t ≡ length (band_numbers z gone before) → place ≡ length before
-    → Parted z t place old mid unread mid_left xs ys c gone places before
-parted z t place xs ys old mid unread mid_left c gone places before first e f h taken is at =
-    let few : length xs ≡ length (take (length xs) places) = omega (arith, f, length-append xs ys, length-take (length xs) places) in
-    let own = all_take (λ p. p.z ≡ z) (length xs) places h in
-    let a = first c gone (take (length xs) places) before e few own taken is at in
-    record {
-      first = a.0;
-      taken = a.1;
-      long = omega (arith, length-append before xs, length-append gone (take (length xs) places), e, few);
-      rest = omega (arith, f, length-append xs ys, length-drop (length xs) places);
-      own = all_drop (λ p. p.z ≡ z) (length xs) places h;
-      time = omega (arith, is, band_long z gone (take (length xs) places) before xs e few own);
-      at = omega (arith, at, length-append before xs);
-    }
 
 pub gets_behind : (z t place : ℕ) (r : Result (Unit {0}) Fault) (xs ys : List ℕ) (old mid new : Counts) (unread now : Unread) (left : List Bool)
     → now.count ≡ unread.count → GetsRun z t place (Ok tt) old unread mid now.left xs
     → GetsRun z (t + length xs) (place + length xs) r mid now new left ys → GetsRun z t place r old unread new left (xs ++ ys)
-gets_behind z t place (Ok u) xs ys old mid new unread now left same first second c gone places before e f h taken is at =
-    let n : ℕ = length xs in
-    let cut : take (length xs) places ++ drop (length xs) places ≡ places = take-append-drop (length xs) places in
-    let a = parted z t place xs ys old mid unread now.left c gone places before first e f h taken is at in
-    let b = second c (gone ++ take (length xs) places) (drop (length xs) places) (before ++ xs) a.long a.rest a.own a.taken a.time a.at in
-    let read : words_at unread.count c (gone ++ take (length xs) places) (before ++ xs) (drop (length xs) places) now.left ≡ Ok (ys, left) = rw same at b.0 in
-    let whole = words_joined unread.count c gone before (take (length xs) places) (drop (length xs) places) xs ys unread.left now.left left a.first read in
-    let gone-are : (gone ++ take (length xs) places) ++ drop (length xs) places ≡ gone ++ places =
-    append_assoc gone (take (length xs) places) (drop (length xs) places) ∙ ap (λ (qs : List Place). gone ++ qs) cut in
-    let before-are : (before ++ xs) ++ ys ≡ before ++ (xs ++ ys) = append_assoc before xs ys in
-    (rw cut at whole, rw (gone-are, before-are) at b.1)
-gets_behind z t place (Err fault) xs ys old mid new unread now left same first second c gone places before e f h taken is at =
-    let cut : take (length xs) places ++ drop (length xs) places ≡ places = take-append-drop (length xs) places in
-    let a = parted z t place xs ys old mid unread now.left c gone places before first e f h taken is at in
-    let b = second c (gone ++ take (length xs) places) (drop (length xs) places) (before ++ xs) a.long a.rest a.own a.taken a.time a.at in
-    let read : words_at unread.count c (gone ++ take (length xs) places) (before ++ xs) (drop (length xs) places) now.left ≡ Err fault = rw same at b.0 in
-    let whole = words_stopped unread.count c gone before (take (length xs) places) (drop (length xs) places) xs unread.left now.left fault a.first read in
-    (rw cut at whole, tt)
+gets_behind z t place r xs ys old mid new unread now left same first second c gone places before e f h taken is at =
+    let p = parted z t xs ys gone places before e f h is in
+    let a = first c gone (take (length xs) places) before e p.few p.own taken is at in
+    let b = second c (gone ++ take (length xs) places) (drop (length xs) places) (before ++ xs) p.long p.rest p.others a.1 p.time
+    (omega (arith, at, length-append before xs)) in
+    let whole = reads_joined unread.count c gone before (take (length xs) places) (drop (length xs) places) xs ys unread.left now.left left r a.0
+    (rw same at b.0) in
+    (rw p.whole at whole, rw (p.joined, append_assoc before xs ys) at b.1)
 
 -- ---- a number behind the first of its band
 
-later_code : (z t : ℕ) (v : Counts) (s : Statistics) → z < length v.bands → 0 < t
-    → code_by (with_band v z s) z t ≡ record { limit = v.umax; low = code_parameter v.bits s; bits = v.bits }
-later_code z t v s lt some =
-    let own : of_band (with_band v z s).bands z ≡ s = get_or-set_same v.bands z s no_statistics lt in
-    let not_first : eqb t 0 ≡ false = ne_eqb t 0 (λ e. omega (arith, some, e)) in
-    rw (not_first, own) refl
+module _ (z t place i : ℕ) (v : Counts) (s : Statistics) (first was : Unread) (left : List Bool) (numbers : List ℕ) (lt : z < length v.bands) (some : 0 < t)
+    (within : i < length numbers) (same : was.count ≡ first.count)
+    (run : GetsRun z t place (Ok tt) v first (with_band v z s) was.left (take i numbers)) where
+  later : 0 < t + length (take i numbers)
+  later = omega (arith, some)
 
-inside : (z : ℕ) (v : Counts) (s : Statistics) → z < length v.bands → z < length (with_band v z s).bands
-inside z v s lt = omega (arith, lt, length-set v.bands z s)
+  word_later : (r : Result (ℕ × List Bool) Fault)
+      → word_at was.count (place + i) (record { limit = v.umax; low = code_parameter v.bits s; bits = v.bits }) was.left ≡ r
+      → word_at was.count (place + length (take i numbers)) (code_by (with_band v z s) z (t + length (take i numbers))) was.left ≡ r
+  word_later r read =
+      let long : length (take i numbers) ≡ i = omega (arith, within, length-take i numbers) in
+      rw (later_code z (t + length (take i numbers)) v s lt later, long) read
 
-pub gets_later : (z t place number : ℕ) (v : Counts) (s : Statistics) (unread : Unread) (left : List Bool) → z < length v.bands → 0 < t
-    → word_at unread.count place (record { limit = v.umax; low = code_parameter v.bits s; bits = v.bits }) unread.left ≡ Ok (number, left)
-    → GetsRun z t place (Ok tt) (with_band v z s) unread (with_band v z (next_statistics v.gamma_star s number)) left (number ∷ [])
-gets_later z t place number v s unread left lt some read =
-    let own : of_band (with_band v z s).bands z ≡ s = get_or-set_same v.bands z s no_statistics lt in
-    let not_first : eqb t 0 ≡ false = ne_eqb t 0 (λ e. omega (arith, some, e)) in
-    let counts : counted (with_band v z s) z t number ≡ with_band v z (next_statistics v.gamma_star s number) = rw (not_first, own, set-set) refl in
-    let word : word_at unread.count place (code_by (with_band v z s) z t) unread.left ≡ Ok (number, left) =
-    ap (λ (k : Code). word_at unread.count place k unread.left) (later_code z t v s lt some) ∙ read in
-    subst (λ (w : Counts). GetsRun z t place (Ok tt) (with_band v z s) unread w left (number ∷ [])) counts
-    (gets_one z t place number (with_band v z s) unread left (inside z v s lt) word)
+  pub gets_step : (number : ℕ) (next : Statistics)
+      → word_at was.count (place + i) (record { limit = v.umax; low = code_parameter v.bits s; bits = v.bits }) was.left ≡ Ok (number, left)
+      → next ≡ next_statistics v.gamma_star s number
+      → GetsRun z t place (Ok tt) v first (with_band v z next) left (take (i + 1) (set numbers i number))
+  gets_step number next read counts =
+      let one = gets_one z _ _ number (with_band v z s) was left (later_inside z _ v s lt later) (word_later _ read) in
+      let both = gets_behind z t place (Ok tt) (take i numbers) (number ∷ []) v (with_band v z s) _ first was left same run one in
+      rw (counts, ← later_counted z (t + length (take i numbers)) v s lt later number, add-one i, take-suc-set numbers i number within) both
 
-pub later_refused : (z t place : ℕ) (fault : Fault) (v new : Counts) (s : Statistics) (unread : Unread) (left : List Bool) (numbers : List ℕ)
-    → z < length v.bands → 0 < t
-    → word_at unread.count place (record { limit = v.umax; low = code_parameter v.bits s; bits = v.bits }) unread.left ≡ Err fault → 0 < length numbers
-    → GetsRun z t place (Err fault) (with_band v z s) unread new left numbers
-later_refused z t place fault v new s unread left numbers lt some read enough =
-    let word : word_at unread.count place (code_by (with_band v z s) z t) unread.left ≡ Err fault =
-    ap (λ (k : Code). word_at unread.count place k unread.left) (later_code z t v s lt some) ∙ read in
-    gets_refused z t place fault (with_band v z s) new unread left numbers (inside z v s lt) word enough
+  pub gets_stop : (fault : Fault) (new : Counts)
+      → word_at was.count (place + i) (record { limit = v.umax; low = code_parameter v.bits s; bits = v.bits }) was.left ≡ Err fault
+      → GetsRun z t place (Err fault) v first new left numbers
+  gets_stop fault new read =
+      let refused = gets_refused z _ _ fault (with_band v z s) new was left (drop i numbers) (later_inside z _ v s lt later) (word_later _ read)
+      (omega (arith, within, length-drop i numbers)) in
+      subst (λ (ns : List ℕ). GetsRun z t place (Err fault) v first new left ns) (take-append-drop i numbers)
+      (gets_behind z t place (Err fault) (take i numbers) (drop i numbers) v (with_band v z s) new first was left same run refused)

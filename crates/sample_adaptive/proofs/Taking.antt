@@ -1,22 +1,23 @@
 -- What the coder has taken.
-use Rattle.std.proofs.Common.{◌≡◌, ℕ, ◌<◌, Bool, false, cond, eqb, List, [], ◌∷◌, ◌++◌, length, set, None, refl, sym, ap, subst, ◌∙◌, inl, inr, arith, eq-eqb}
-use Rattle.std.proofs.lemmas.Bool.{cases_eq}
+use Rattle.std.proofs.Common.{◌≡◌, ℕ, ◌<◌, Bool, false, eqb, List, [], ◌∷◌, ◌++◌, length, set, None, Result, refl, sym, ap, subst, ◌∙◌, inl, inr, arith, eq-eqb}
+use Rattle.std.proofs.lemmas.Bool.{cases_eq, ne_eqb}
 use Rattle.std.proofs.lemmas.Bool.Decides.{nat_tests}
 use Rattle.std.proofs.lemmas.List.{get_or-set_same, get_or-set_other, length-set}
+use Rattle.cube_core.specs.declared.fault.Fault.{Fault}
 use Rattle.cube_core.specs.declared.order.Place.{Place}
+use Rattle.header_bits.specs.Bits.{Unread}
 use Rattle.header_bits.specs.declared.params.Params.{Params}
 use Rattle.header_bits.specs.declared.params.Coder.TheVariants.{Sample}
 use Rattle.header_bits.specs.declared.params.CountStart.{CountStart}
 use Rattle.sample_adaptive.specs.declared.statistics.Statistics.{Statistics}
 use Rattle.sample_adaptive.specs.Statistics.{CoderSettings, constant_of, start_statistics, first_statistics, next_statistics, statistics, statistics_from}
-use Rattle.sample_adaptive.specs.Words.{code_at}
+use Rattle.sample_adaptive.specs.declared.code_word.Code.{Code}
+use Rattle.sample_adaptive.specs.Words.{code_word, code_at}
 use Rattle.sample_adaptive.specs.Body.{band_numbers}
-use Rattle.sample_adaptive.specs.Settings.{settings, AreForSamples, AreLawful}
-use Rattle.sample_adaptive.specs.Taken.{Counts, HasTaken, code_by, counted, of_band, no_statistics, with_number}
+use Rattle.sample_adaptive.specs.Reading.{word_at}
+use Rattle.sample_adaptive.specs.Settings.{settings}
+use Rattle.sample_adaptive.specs.Taken.{Counts, HasTaken, PutsNumber, code_by, counted, of_band, no_statistics, with_number}
 use Rattle.sample_adaptive.proofs.Bodies.{band_push, from_push}
-
-ne-eqb : (a b : ℕ) → (a ≡ b → ⊥) → eqb a b ≡ false
-ne-eqb a b h = grind (arith, nat_tests)
 
 -- ---- the code of the next number
 
@@ -25,7 +26,7 @@ code_by_list : (c : CoderSettings) (v : Counts) (z t : ℕ) (numbers : List ℕ)
 unfolding code_at
 code_by_list c v z t [] bits umax band e = rw (e, bits) refl
 code_by_list c v z t (first ∷ later) bits umax band e =
-    (let not_first : eqb t 0 ≡ false = ne-eqb t 0 (λ k. omega arith) in rw (not_first, bits, umax, band) refl)
+    (let not_first : eqb t 0 ≡ false = ne_eqb t 0 (λ k. omega arith) in rw (not_first, bits, umax, band) refl)
 
 pub code_is : (c : CoderSettings) (v : Counts) (taken : ℕ → List ℕ) (z t : ℕ) → HasTaken c v taken → z < length v.bands → t ≡ length (taken z)
     → code_by v z t ≡ code_at c z (taken z)
@@ -44,7 +45,7 @@ one_later c z first number later = from_push c.gamma_star (first_statistics c z)
 
 -- what was taken of a band that is another, or that is this one
 others_stay : (taken : ℕ → List ℕ) (z number b : ℕ) → (b ≡ z → ⊥) → with_number taken z number b ≡ taken b
-others_stay taken z number b other = rw (ne-eqb b z other) refl
+others_stay taken z number b other = rw (ne_eqb b z other) refl
 
 this_grows : (taken : ℕ → List ℕ) (z number : ℕ) → with_number taken z number z ≡ taken z ++ number ∷ []
 this_grows taken z number = rw (eq-eqb z z refl) refl
@@ -89,7 +90,7 @@ taken_by_list : (c : CoderSettings) (v : Counts) (taken : ℕ → List ℕ) (z t
 taken_by_list c v taken z t number [] is h lt e =
     rw e (record { bits = h.bits; umax = h.umax; gamma_star = h.gamma_star; bands = band_after_first c v.bands taken z number is h.bands; working = h.working })
 taken_by_list c v taken z t number (first ∷ later) is h lt e =
-    let not_first : eqb t 0 ≡ false = ne-eqb t 0 (λ k. omega arith) in
+    let not_first : eqb t 0 ≡ false = ne_eqb t 0 (λ k. omega arith) in
     rw (not_first, h.gamma_star) (record {
       bits = h.bits;
       umax = h.umax;
@@ -101,6 +102,14 @@ taken_by_list c v taken z t number (first ∷ later) is h lt e =
 pub taken_more : (c : CoderSettings) (v : Counts) (taken : ℕ → List ℕ) (z t number : ℕ) → HasTaken c v taken → z < length v.bands → t ≡ length (taken z)
     → HasTaken c (counted v z t number) (with_number taken z number)
 taken_more c v taken z t number h lt e = taken_by_list c v taken z t number (taken z) refl h lt e
+
+-- a number whose code word was appended is put
+pub puts_number : (z t number : ℕ) (v : Counts) (written now : List Bool) → z < length v.bands → now ≡ written ++ code_word (code_by v z t) number
+    → PutsNumber z t number v written (counted v z t number) now
+puts_number z t number v written now lt text c taken h is = (
+  text ∙ ap (λ (k : Code). written ++ code_word k number) (code_is c v taken z t h lt is),
+  taken_more c v taken z t number h lt is,
+)
 
 -- the same numbers, told otherwise
 pub taken_alike : (c : CoderSettings) (v : Counts) (taken told : ℕ → List ℕ) → ((z : ℕ) → taken z ≡ told z) → HasTaken c v taken → HasTaken c v told
@@ -117,21 +126,18 @@ pub taken_along : (c : CoderSettings) (v : Counts) (places : List Place) (number
     → HasTaken c v (with_number (λ z. band_numbers z places numbers) p.z number)
     → HasTaken c v (λ z. band_numbers z (places ++ p ∷ []) (numbers ++ number ∷ []))
 taken_along c v places numbers p number len h =
-    taken_alike c v (with_number (λ z. band_numbers z places numbers) p.z number) (λ z. band_numbers z (places ++ p ∷ []) (numbers ++ number ∷ []))
-    (λ z. turned z (eqb z p.z) (eqb p.z z) refl refl ∙ sym (band_push z places numbers p number len)) h
-  where
-    turned : (z : ℕ) (b d : Bool) → eqb z p.z ≡ b → eqb p.z z ≡ d
-        → cond (eqb z p.z) (band_numbers z places numbers ++ number ∷ []) (band_numbers z places numbers)
-        ≡ cond (eqb p.z z) (band_numbers z places numbers ++ number ∷ []) (band_numbers z places numbers)
-    turned z b d e f =
-        let same : eqb z p.z ≡ eqb p.z z = grind (arith, nat_tests) in
-        rw same refl
+    let turned : (z : ℕ) → eqb z p.z ≡ eqb p.z z = λ z. grind (arith, nat_tests) in
+    taken_alike c v _ _ (λ z. rw (turned z) (sym (band_push z places numbers p number len))) h
+
+-- the word that stands next, by the earlier numbers of its band
+pub word_there : (z t place : ℕ) (old : Counts) (unread : Unread) (r : Result (ℕ × List Bool) Fault) (c : CoderSettings) (gone : List Place)
+    (before : List ℕ) (p : Place) → z < length old.bands → word_at unread.count place (code_by old z t) unread.left ≡ r → p.z ≡ z
+    → HasTaken c old (λ b. band_numbers b gone before) → t ≡ length (band_numbers z gone before) → place ≡ length before
+    → word_at unread.count (length before) (code_at c p.z (band_numbers p.z gone before)) unread.left ≡ r
+word_there z t place old unread r c gone before p lt read own taken is at =
+    rw (own, ← at, ← code_is c old (λ b. band_numbers b gone before) z t taken lt is) read
 
 -- ---- at the start
-
-pub lawful_of : (p : Params) (umax gamma_star gamma_zero : ℕ) (start : CountStart) → p.coder ≡ Sample umax gamma_star gamma_zero start → AreForSamples p
-    → AreLawful p.shape.bands (record { bits = p.kind.bits; umax = umax; gamma_star = gamma_star; gamma_zero = gamma_zero; start = start })
-lawful_of p umax gamma_star gamma_zero start e h = rw e at h.lawful
 
 pub settings_of : (p : Params) (umax gamma_star gamma_zero : ℕ) (start : CountStart) → p.coder ≡ Sample umax gamma_star gamma_zero start
     → settings p ≡ record { bits = p.kind.bits; umax = umax; gamma_star = gamma_star; gamma_zero = gamma_zero; start = start }

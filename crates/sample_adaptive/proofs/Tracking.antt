@@ -3,6 +3,7 @@ use Rattle.std.proofs.Common.{◌≡◌, ◌<◌, ℕ, List, length, get_or, set
 use Rattle.std.proofs.lemmas.Bool.{cases_eq}
 use Rattle.std.proofs.lemmas.List.{get_or-map, get_or_default, get_or-set_same, get_or-set_other, length-map, length-set, map-set}
 use Rattle.sample_adaptive.specs.declared.run_codes.RunCodes.{RunCodes}
+use Rattle.sample_adaptive.specs.declared.statistics.Statistics.{Statistics}
 use Rattle.sample_adaptive.specs.declared.tracked.Tracked.{Tracked}
 use Rattle.sample_adaptive.specs.Taken.{Counts, HasSettings, of_band, no_statistics}
 use Rattle.sample_adaptive.specs.Tracked.{IsTracked, AreTracked, kept_of, no_tracked, statistics_of}
@@ -26,6 +27,11 @@ tracked_set run bands at t inside here was b lt =
       | inr other ↦ subst (IsTracked run) (sym (get_or-set_other bands at b t no_tracked other)) (was b (omega (arith, lt, length-set bands at t)))
     ]
 
+-- other statistics leave the settings
+pub settings_stay : {v : Counts} {bands : List Statistics} {bits umax size : ℕ} → HasSettings v bits umax size
+    → HasSettings (record v { bands = bands }) bits umax size
+settings_stay h = record { bits_are = h.bits_are; umax_is = h.umax_is; size_is = h.size_is }
+
 -- ---- a band of a coder that shows the statistics of what it keeps
 
 pub settings_seen : (v w : Counts) → w ≡ v → HasSettings v w.bits w.umax w.gamma_star
@@ -39,6 +45,3 @@ module _ (v : Counts) (items : List Tracked) (same : statistics_of items ≡ v.b
   band_own t is =
       rw (← same) (statistics_at items z band_inside)
       ∙ ap (λ (k : Tracked). k.statistics) (sym (is ∙ get_or_default items z t no_tracked band_inside))
-
-  pub band_tracked : (run : RunCodes) (t : Tracked) → t ≡ get_or items z t → AreTracked run items → IsTracked run t
-  band_tracked run t is kept = subst (IsTracked run) (sym (is ∙ get_or_default items z t no_tracked band_inside)) (kept z band_inside)

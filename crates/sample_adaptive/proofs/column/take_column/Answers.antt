@@ -1,9 +1,9 @@
-use Rattle.std.proofs.Common.{List, ℕ, refl, sym, subst, eq-eqb, arith}
+use Rattle.std.proofs.Common.{refl, sym, eq-eqb, arith}
 use Rattle.std.proofs.lemmas.Bool.{ne_eqb}
-use Rattle.sample_adaptive.specs.Taken.{HasSettings, GetsColumn}
 use Rattle.sample_adaptive.specs.Tracked.{statistics_of}
 use Rattle.sample_adaptive.proofs.ColumnsRead.{column_ends}
 use Rattle.sample_adaptive.proofs.Running.{behind_first}
+use Rattle.sample_adaptive.proofs.Tracking.{settings_stay}
 use Rattle.sample_adaptive.proofs.column.take_column.Goals as goal
 
 pub returns-then-t-eq0-clause-taken : goal.returns-then-t-eq0-clause-taken
@@ -18,11 +18,7 @@ returns-then-done-numbers-clause-taken c = λ v same settings.
 pub returns-clause-taken : goal.returns-clause-taken
 returns-clause-taken c = λ v same settings.
     let e = c.take_ready-done.ensures in
-    let known : HasSettings (record v { bands = statistics_of c.take_ready-done.new.bands }) c.args.run.bits c.args.run.limit c.args.run.rescaling.size =
-    record { bits_are = settings.bits_are; umax_is = settings.umax_is; size_is = settings.size_is } in
     let later = sym (ne_eqb c.args.t 0 c.if-t-eq0.false) in
-    let rest = c.take_each-2.ensures.taken (record v { bands = statistics_of c.take_ready-done.new.bands }) c.args.t later refl known in
+    let rest = c.take_each-2.ensures.taken (record v { bands = statistics_of c.take_ready-done.new.bands }) c.args.t later refl (settings_stay settings) in
     let behind = e.taken v c.args.t (omega (arith, c.if-t-eq0.false)) same settings _ _ _ _ rest in
-    subst (λ (ns : List ℕ). GetsColumn c.args.z c.args.t c.args.place c.take_each-2.result v c.args.reader.now
-    (record v { bands = statistics_of c.take_each-2.new.bands }) c.take_each-2.new.reader.left ns)
-    (sym (behind_first c.take_ready-done.new.numbers c.take_each-2.new.numbers c.take_ready-done.result e.within c.take_each-2.ensures.long)) behind
+    rw (behind_first c.take_ready-done.new.numbers c.take_each-2.new.numbers c.take_ready-done.result e.within c.take_each-2.ensures.long) behind

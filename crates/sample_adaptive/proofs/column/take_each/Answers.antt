@@ -1,9 +1,8 @@
 use Rattle.std.proofs.Common.{◌+◌, ◌<◌, length, refl, ◌∙◌, arith}
 use Rattle.std.proofs.lemmas.List.{length-set}
-use Rattle.sample_adaptive.specs.Taken.{HasSettings}
 use Rattle.sample_adaptive.specs.Tracked.{statistics_of}
 use Rattle.sample_adaptive.proofs.ColumnsRead.{column_starts, column_steps, column_stops, column_ends}
-use Rattle.sample_adaptive.proofs.Tracking.{statistics_at, tracked_set}
+use Rattle.sample_adaptive.proofs.Tracking.{settings_stay, statistics_at, tracked_set}
 use Rattle.sample_adaptive.proofs.column.take_each.Goals as goal
 
 pub loop-i-init : goal.loop-i-init
@@ -22,9 +21,8 @@ returns-in-Err-clause-taken c = λ v t is same settings.
     let bands = c.loop-i.bands in
     let within : c.loop-i.i < length c.loop-i.numbers = omega (arith, c.loop-i-test.true, was.long) in
     let inside : c.args.z + c.loop-i.i < length bands = omega (arith, c.loop-i-test.true, was.bands, c.requires.inside) in
-    let here : HasSettings (record v { bands = statistics_of bands }) c.args.run.bits c.args.run.limit c.args.run.rescaling.size =
-    record { bits_are = settings.bits_are; umax_is = settings.umax_is; size_is = settings.size_is } in
-    let read = c.in-Err.ensures.reads (record v { bands = statistics_of bands }) (c.args.z + c.loop-i.i) t is here (statistics_at bands _ inside) in
+    let own = statistics_at bands (c.args.z + c.loop-i.i) inside in
+    let read = c.in-Err.ensures.reads (record v { bands = statistics_of bands }) (c.args.z + c.loop-i.i) t is (settings_stay settings) own in
     column_stops c.args.z t c.args.place c.loop-i.i c.in-Err.fault v v bands c.args.reader.now c.loop-i.reader c.loop-i.reader.left c.loop-i.numbers
     inside within (was.taken v t is same settings) read
 
@@ -36,11 +34,9 @@ loop-i-preserved c =
     let inside : c.args.z + c.loop-i.i < length bands = omega (arith, c.loop-i-test.true, was.bands, c.requires.inside) in
     record {
       taken = λ v t is same settings.
-          let here : HasSettings (record v { bands = statistics_of bands }) c.args.run.bits c.args.run.limit c.args.run.rescaling.size =
-          record { bits_are = settings.bits_are; umax_is = settings.umax_is; size_is = settings.size_is } in
           let own = statistics_at bands (c.args.z + c.loop-i.i) inside in
-          let read = c.in-Ok.ensures.reads (record v { bands = statistics_of bands }) (c.args.z + c.loop-i.i) t is here own in
-          let counts = c.in-Ok.ensures.counts (record v { bands = statistics_of bands }) (c.args.z + c.loop-i.i) t is here own in
+          let read = c.in-Ok.ensures.reads (record v { bands = statistics_of bands }) (c.args.z + c.loop-i.i) t is (settings_stay settings) own in
+          let counts = c.in-Ok.ensures.counts (record v { bands = statistics_of bands }) (c.args.z + c.loop-i.i) t is (settings_stay settings) own in
           column_steps _ t _ _ _ v bands _ _ _ _ _ inside within (was.taken v t is same settings) read c.in-Ok.ensures.count counts;
       tracked = tracked_set c.args.run bands _ _ inside c.in-Ok.ensures.tracked was.tracked;
       count = c.in-Ok.ensures.count ∙ was.count;

@@ -1,10 +1,9 @@
 use Rattle.std.proofs.Common.{◌+◌, ◌<◌, length, refl, ap, ◌∙◌, arith}
 use Rattle.std.proofs.lemmas.List.{set-get_or, length-set}
 use Rattle.header_bits.specs.Bits.{Unread}
-use Rattle.sample_adaptive.specs.Taken.{HasSettings}
 use Rattle.sample_adaptive.specs.Tracked.{statistics_of}
 use Rattle.sample_adaptive.proofs.ColumnsRead.{column_starts, column_steps}
-use Rattle.sample_adaptive.proofs.Tracking.{statistics_at, tracked_set}
+use Rattle.sample_adaptive.proofs.Tracking.{settings_stay, statistics_at, tracked_set}
 use Rattle.sample_adaptive.proofs.column.take_ready.Goals as goal
 
 pub loop-i-init : goal.loop-i-init
@@ -27,11 +26,9 @@ loop-i-preserved c =
     let inside : c.args.z + c.loop-i.i < length bands = omega (arith, c.loop-i-test.true, was.bands, c.requires.inside) in
     record {
       taken = λ v t some same settings.
-          let here : HasSettings (record v { bands = statistics_of bands }) c.args.run.bits c.args.run.limit c.args.run.rescaling.size =
-          record { bits_are = settings.bits_are; umax_is = settings.umax_is; size_is = settings.size_is } in
           let own = statistics_at bands (c.args.z + c.loop-i.i) inside in
-          let read = c.in-Ok.ensures.reads (record v { bands = statistics_of bands }) (c.args.z + c.loop-i.i) t some here own in
-          let counts = c.in-Ok.ensures.counts (record v { bands = statistics_of bands }) (c.args.z + c.loop-i.i) t some here own in
+          let read = c.in-Ok.ensures.reads (record v { bands = statistics_of bands }) (c.args.z + c.loop-i.i) t some (settings_stay settings) own in
+          let counts = c.in-Ok.ensures.counts (record v { bands = statistics_of bands }) (c.args.z + c.loop-i.i) t some (settings_stay settings) own in
           column_steps _ t _ _ _ v bands _ _ _ _ _ inside within (was.taken v t some same settings) read c.in-Ok.ensures.count counts;
       tracked = tracked_set c.args.run bands _ _ inside c.in-Ok.ensures.tracked was.tracked;
       count = c.in-Ok.ensures.count ∙ was.count;

@@ -1,8 +1,7 @@
-use Rattle.std.proofs.Common.{◌≡◌, ◌+◌, ◌<◌, ◌++◌, [], List, Bool, ℕ, length, take, get_or, refl, sym, ap, subst, ◌∙◌, arith}
+use Rattle.std.proofs.Common.{◌≡◌, ◌+◌, ◌<◌, ◌≤◌, ◌++◌, List, Bool, length, get_or, refl, sym, ap, ◌∙◌, arith}
 use Rattle.std.proofs.lemmas.List.{take_all}
 use Rattle.sample_adaptive.specs.Statistics.{code_parameter}
 use Rattle.sample_adaptive.specs.Words.{code_word}
-use Rattle.sample_adaptive.specs.Taken.{Counts, PutsRun, with_band}
 use Rattle.sample_adaptive.proofs.Running.{run_none, run_step, same_band, two_words}
 use Rattle.sample_adaptive.proofs.run_words.put_words.Goals as goal
 
@@ -10,7 +9,7 @@ pub loop-i-init : goal.loop-i-init
 loop-i-init c =
     record {
       run = λ v z t within settings own some.
-          subst (λ (w : Counts). PutsRun z t [] v c.args.writer.bits w c.args.writer.bits) (sym (same_band v z _ (sym own))) (run_none z t v _);
+          rw (same_band v z _ (sym own)) (run_none z t v _);
       tracked = c.requires.tracked;
       room = omega (arith, c.requires.room);
       within = omega arith;
@@ -44,17 +43,15 @@ loop-i-preserved c =
 
 pub returns-then-i-numbers-clause-taken : goal.returns-then-i-numbers-clause-taken
 returns-then-i-numbers-clause-taken c = λ v z t within settings own some.
-    let all : take c.loop-i.i c.args.run.numbers.now ≡ c.args.run.numbers.now = take_all _ _ (omega arith) in
-    subst (λ (ns : List ℕ). PutsRun z t ns v c.args.writer.bits (with_band v z c.loop-i.tracked.statistics) c.loop-i.writer.bits) all
-    (c.loop-i.invariant.run v z t within settings own some)
+    let all : length c.args.run.numbers.now ≤ c.loop-i.i = omega arith in
+    rw (take_all c.loop-i.i c.args.run.numbers.now all) at (c.loop-i.invariant.run v z t within settings own some)
 
 pub returns-clause-taken : goal.returns-clause-taken
 returns-clause-taken c = λ v z t within settings own some.
     let numbers = c.args.run.numbers.now in
     let lt : c.loop-i.i < length numbers = omega (arith, c.loop-i.invariant.within, c.if-i-numbers.false) in
-    let all : take (c.loop-i.i + 1) numbers ≡ numbers = take_all (c.loop-i.i + 1) numbers (omega (arith, c.loop-i-test.false)) in
     let text = c.push_reserved.ensures.appended ∙ ap (λ (bits : List Bool). c.loop-i.writer.bits ++ bits) c.word_within-last.ensures.word in
-    let last = run_step z t _ (get_or numbers c.loop-i.i 0) v _ _ numbers _ _ _
+    let last = run_step z t _ (get_or numbers c.loop-i.i 0) v _ c.word_within-last.result.1.statistics numbers _ _ c.push_reserved.new.self.bits
     within some lt refl (rw (settings.umax_is, settings.bits_are) text) (rw settings.size_is c.word_within-last.ensures.next)
     (c.loop-i.invariant.run v z t within settings own some) in
-    subst (λ (ns : List ℕ). PutsRun z t ns v c.args.writer.bits (with_band v z c.word_within-last.result.1.statistics) c.push_reserved.new.self.bits) all last
+    rw (take_all (c.loop-i.i + 1) numbers (omega (arith, c.loop-i-test.false))) at last

@@ -1,7 +1,8 @@
-use Rattle.std.proofs.Common.{◌≡◌, ◌∷◌, [], List, ℕ, length, Ok, Err, refl, sym, subst, arith}
+use Rattle.std.proofs.Common.{◌≡◌, ◌∷◌, [], Ok, Err, sym, arith}
+use Rattle.std.proofs.lemmas.List.{nil_from_length}
 use Rattle.std.proofs.lemmas.Result.{err_from_is_err_and}
 use Rattle.sample_adaptive.specs.Reading.{word_at}
-use Rattle.sample_adaptive.specs.Taken.{Counts, GetsRun, code_by, with_band}
+use Rattle.sample_adaptive.specs.Taken.{code_by, with_band}
 use Rattle.sample_adaptive.proofs.Running.{same_band}
 use Rattle.sample_adaptive.proofs.RunsRead.{gets_none, gets_one, gets_behind, gets_refused}
 use Rattle.sample_adaptive.proofs.run_words.take_words.Goals as goal
@@ -26,18 +27,10 @@ returns-in_ok-first-in-Some-clause-taken c = λ v z within settings own.
     ≡ Ok (c.in_ok-first-in-Some.field-0, c.take_word.new.reader.left) = rw settings.bits_are c.in_ok-first-in-Some.ensures.reads in
     let one = gets_one z 0 c.args.place c.in_ok-first-in-Some.field-0 v c.args.reader.now c.take_word.new.reader.left within read in
     let rest = c.take_later-in-Some.ensures.taken v z 1 within settings own (omega arith) in
-    subst (λ (t : ℕ). GetsRun z t c.args.place c.take_later-in-Some.result v c.args.reader.now (with_band v z c.take_later-in-Some.new.tracked.statistics)
-    c.take_later-in-Some.new.reader.left (c.in_ok-first-in-Some.field-0 ∷ c.take_later-in-Some.new.numbers)) (sym none)
+    rw none
     (gets_behind z 0 _ _ (c.in_ok-first-in-Some.field-0 ∷ []) _ v v (with_band v z _) _ _ _
     c.in_ok-first-in-Some.ensures.count one rest)
 
-empty_is : (numbers : List ℕ) → length numbers ≡ 0 → numbers ≡ []
-empty_is [] e = refl
-empty_is (n ∷ ns) e = absurd (omega (arith, e))
-
 pub returns-in-None-clause-taken : goal.returns-in-None-clause-taken
 returns-in-None-clause-taken c = λ v z within settings own.
-    subst (λ (ns : List ℕ). GetsRun z c.args.t c.args.place (Ok tt) v c.args.reader.now (with_band v z c.args.tracked.now.statistics) c.args.reader.now.left ns)
-    (sym (empty_is c.args.numbers.now (omega (arith, c.in-None.ensures.cases))))
-    (subst (λ (w : Counts). GetsRun z c.args.t c.args.place (Ok tt) v c.args.reader.now w c.args.reader.now.left []) (sym (same_band v z _ (sym own)))
-    (gets_none z _ _ v _))
+    rw (nil_from_length c.args.numbers.now (omega (arith, c.in-None.ensures.cases)), same_band v z _ (sym own)) (gets_none z _ _ v _)

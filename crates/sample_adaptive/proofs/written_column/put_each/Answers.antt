@@ -2,11 +2,11 @@ use Rattle.std.proofs.Common.{◌≡◌, ◌+◌, ◌<◌, ◌++◌, List, Bool,
 use Rattle.std.proofs.lemmas.List.{length-set}
 use Rattle.sample_adaptive.specs.declared.tracked.Tracked.{Tracked}
 use Rattle.sample_adaptive.specs.Words.{code_word}
-use Rattle.sample_adaptive.specs.Taken.{HasSettings, code_by}
+use Rattle.sample_adaptive.specs.Taken.{Counts, code_by}
 use Rattle.sample_adaptive.specs.Tracked.{statistics_of}
 use Rattle.sample_adaptive.proofs.ColumnsWritten.{puts_start, puts_step, puts_end}
 use Rattle.sample_adaptive.proofs.Running.{two_words}
-use Rattle.sample_adaptive.proofs.Tracking.{statistics_at, tracked_set}
+use Rattle.sample_adaptive.proofs.Tracking.{settings_stay, statistics_at, tracked_set}
 use Rattle.sample_adaptive.proofs.written_column.put_each.Goals as goal
 
 pub loop-i-init : goal.loop-i-init
@@ -33,23 +33,19 @@ loop-i-preserved c =
     let next : i + 1 + 1 ≡ i + 2 = omega arith in
     record {
       puts = λ v t is same settings.
-          let here : HasSettings (record v { bands = statistics_of bands }) c.args.run.bits c.args.run.limit c.args.run.rescaling.size =
-          record { bits_are = settings.bits_are; umax_is = settings.umax_is; size_is = settings.size_is } in
-          let there : HasSettings (record v { bands = statistics_of mid }) c.args.run.bits c.args.run.limit c.args.run.rescaling.size =
-          record { bits_are = settings.bits_are; umax_is = settings.umax_is; size_is = settings.size_is } in
+          let old : Counts = record v { bands = statistics_of bands } in
+          let above : Counts = record v { bands = statistics_of mid } in
           let own = statistics_at bands at inside in
           let other = statistics_at mid (at + 1) higher in
-          let one = c.next_word-one.ensures.word (record v { bands = statistics_of bands }) at t is here own in
-          let two = c.next_word-two.ensures.word (record v { bands = statistics_of mid }) (at + 1) t is there other in
+          let one = c.next_word-one.ensures.word old at t is (settings_stay settings) own in
+          let two = c.next_word-two.ensures.word above (at + 1) t is (settings_stay settings) other in
           let words = two_words c.loop-i.writer.bits c.push_both.new.writer.bits _ _ _ _ c.push_both.ensures.appended one two in
-          let first = puts_step c.args.z t i (get_or numbers i 0) v bands c.next_word-one.new.tracked numbers c.args.writer.now.bits
-          c.loop-i.writer.bits (c.loop-i.writer.bits ++ code_word (code_by (record v { bands = statistics_of bands }) at t) (get_or numbers i 0))
-          inside (omega (arith, c.loop-i-test.true)) refl refl (c.next_word-one.ensures.counts (record v { bands = statistics_of bands }) at t is here own)
-          (was.puts v t is same settings) in
-          let second = puts_step c.args.z t (i + 1) (get_or numbers (i + 1) 0) v mid c.next_word-two.new.tracked numbers c.args.writer.now.bits
-          (c.loop-i.writer.bits ++ code_word (code_by (record v { bands = statistics_of bands }) at t) (get_or numbers i 0)) c.push_both.new.writer.bits
+          let begun : List Bool = c.loop-i.writer.bits ++ code_word (code_by old at t) (get_or numbers i 0) in
+          let first = puts_step _ t i (get_or numbers i 0) v bands _ numbers _ _ begun inside (omega (arith, c.loop-i-test.true)) refl refl
+          (c.next_word-one.ensures.counts old at t is (settings_stay settings) own) (was.puts v t is same settings) in
+          let second = puts_step _ t (i + 1) (get_or numbers (i + 1) 0) v mid c.next_word-two.new.tracked numbers _ begun c.push_both.new.writer.bits
           (rw up higher) c.loop-i-test.true refl (rw up words)
-          (rw up (c.next_word-two.ensures.counts (record v { bands = statistics_of mid }) (at + 1) t is there other)) first in
+          (rw up (c.next_word-two.ensures.counts above (at + 1) t is (settings_stay settings) other)) first in
           rw (up, next) at second;
       tracked = tracked_set c.args.run mid (at + 1) c.next_word-two.new.tracked higher c.next_word-two.ensures.tracked
           (tracked_set c.args.run bands at c.next_word-one.new.tracked inside c.next_word-one.ensures.tracked was.tracked);
@@ -70,13 +66,12 @@ returns-clause-taken c = λ v t is same settings.
     let bands = c.loop-i.bands in
     let lt : c.loop-i.i < length numbers = omega (arith, was.within, c.if-i-numbers.false) in
     let inside : at < length bands = omega (arith, lt, was.bands, c.requires.inside) in
-    let here : HasSettings (record v { bands = statistics_of bands }) c.args.run.bits c.args.run.limit c.args.run.rescaling.size =
-    record { bits_are = settings.bits_are; umax_is = settings.umax_is; size_is = settings.size_is } in
+    let old : Counts = record v { bands = statistics_of bands } in
     let own = statistics_at bands at inside in
     let text = c.push_reserved.ensures.appended
-    ∙ ap (λ (bits : List Bool). c.loop-i.writer.bits ++ bits) (c.next_word-last.ensures.word (record v { bands = statistics_of bands }) at t is here own) in
+    ∙ ap (λ (bits : List Bool). c.loop-i.writer.bits ++ bits) (c.next_word-last.ensures.word old at t is (settings_stay settings) own) in
     let last = puts_step _ t _ (get_or numbers c.loop-i.i 0) v bands c.next_word-last.new.tracked numbers _ _ _
-    inside lt refl text (c.next_word-last.ensures.counts (record v { bands = statistics_of bands }) at t is here own) (was.puts v t is same settings) in
+    inside lt refl text (c.next_word-last.ensures.counts old at t is (settings_stay settings) own) (was.puts v t is same settings) in
     puts_end _ t (c.loop-i.i + 1) v (statistics_of (set bands at c.next_word-last.new.tracked)) numbers _ _ (omega (arith, lt)) last
 
 pub returns-clause-tracked : goal.returns-clause-tracked

@@ -1,6 +1,5 @@
-use Rattle.std.proofs.Common.{◌≡◌, Ok, ap, sym, subst}
-use Rattle.header_bits.specs.Bits.{Unread}
-use Rattle.sample_adaptive.specs.Taken.{Counts, GetsRun, with_band}
+use Rattle.std.proofs.Common.{◌≡◌, ap}
+use Rattle.sample_adaptive.specs.Taken.{Counts}
 use Rattle.sample_adaptive.specs.Tracked.{statistics_of}
 use Rattle.sample_adaptive.proofs.Tracking.{settings_seen, band_own, statistics_set}
 use Rattle.sample_adaptive.proofs.stats.Stats.get_run.Goals as goal
@@ -12,8 +11,4 @@ returns-in-Ok-clause-taken c =
     let same : statistics_of items ≡ v.bands = ap (λ (w : Counts). w.bands) c.self.view_is in
     let own = band_own v items same c.args.z c.requires.band c.index.result.now c.index.ensures in
     let run = c.in-Ok.ensures.taken v c.args.z c.requires.band (settings_seen v _ c.self.view_is) own in
-    let moved = subst (λ (u : Unread). GetsRun c.args.z c.args.t c.args.place (Ok tt) v u (with_band v c.args.z c.take_words.new.tracked.statistics)
-    c.take_words.new.reader.left c.take_words.new.numbers) c.fork-ahead.ensures run in
-    rw (statistics_set items c.args.z c.take_words.new.tracked)
-    (subst (λ (w : Counts). GetsRun c.args.z c.args.t c.args.place (Ok tt) v c.args.reader.now w c.take_words.new.reader.left
-    c.take_words.new.numbers) (ap (λ (w : Counts). with_band w c.args.z c.take_words.new.tracked.statistics) (sym c.self.view_is)) moved)
+    rw (statistics_set items c.args.z c.take_words.new.tracked, ← c.self.view_is) (rw (c.fork-ahead.ensures, ← c.self.view_is) at run)

@@ -1,7 +1,7 @@
-use Rattle.std.proofs.Common.{◌≡◌, List, Bool, ◌++◌, refl, ap, sym, subst, ◌∙◌}
-use Rattle.sample_adaptive.specs.Taken.{Counts, PutsNumber, with_band}
+use Rattle.std.proofs.Common.{◌≡◌, List, Bool, ◌++◌, refl, ap, ◌∙◌}
+use Rattle.sample_adaptive.specs.Taken.{Counts}
 use Rattle.sample_adaptive.specs.Tracked.{statistics_of}
-use Rattle.sample_adaptive.proofs.ColumnsWritten.{puts_number}
+use Rattle.sample_adaptive.proofs.Taking.{puts_number}
 use Rattle.sample_adaptive.proofs.Tracking.{settings_seen, band_own, statistics_set}
 use Rattle.sample_adaptive.proofs.stats.Stats.put.Goals as goal
 
@@ -16,7 +16,5 @@ returns-clause-taken c =
     let text = c.in_ok-push.ensures.appended
     ∙ ap (λ (bits : List Bool). c.args.writer.now.bits ++ bits) (c.next_word-word.ensures.word v c.args.z c.args.t refl known own) in
     let counts = c.next_word-word.ensures.counts v c.args.z c.args.t refl known own in
-    rw (statistics_set items c.args.z kept)
-    (subst (λ (w : Counts). PutsNumber c.args.z c.args.t c.args.delta v c.args.writer.now.bits w c.push.new.self.bits)
-    (counts ∙ ap (λ (w : Counts). with_band w c.args.z kept.statistics) (sym c.self.view_is))
-    (puts_number c.args.z c.args.t c.args.delta v _ _ c.requires.band text))
+    let puts = rw counts at (puts_number c.args.z c.args.t c.args.delta v _ _ c.requires.band text) in
+    rw (statistics_set items c.args.z kept, ← c.self.view_is) (rw (← c.self.view_is) at puts)

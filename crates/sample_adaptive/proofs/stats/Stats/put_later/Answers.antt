@@ -1,5 +1,5 @@
-use Rattle.std.proofs.Common.{◌≡◌, ap, sym, subst}
-use Rattle.sample_adaptive.specs.Taken.{Counts, PutsRun, with_band}
+use Rattle.std.proofs.Common.{◌≡◌, ap}
+use Rattle.sample_adaptive.specs.Taken.{Counts}
 use Rattle.sample_adaptive.specs.Tracked.{statistics_of}
 use Rattle.sample_adaptive.proofs.Tracking.{settings_seen, band_own, statistics_set}
 use Rattle.sample_adaptive.proofs.stats.Stats.put_later.Goals as goal
@@ -11,6 +11,4 @@ returns-clause-taken c = λ t some.
     let same : statistics_of items ≡ v.bands = ap (λ (w : Counts). w.bands) c.self.view_is in
     let own = band_own v items same c.args.z c.requires.band c.index.result.now c.index.ensures in
     let run = c.replace_with.ensures.0 v c.args.z t c.requires.band (settings_seen v _ c.self.view_is) own some in
-    rw (statistics_set items c.args.z c.replace_with.result)
-    (subst (λ (w : Counts). PutsRun c.args.z t c.args.numbers.now v c.args.writer.now.bits w c.replace_with.new.dest.bits)
-    (ap (λ (w : Counts). with_band w c.args.z c.replace_with.result.statistics) (sym c.self.view_is)) run)
+    rw (statistics_set items c.args.z c.replace_with.result, ← c.self.view_is) (rw (← c.self.view_is) at run)
