@@ -1,8 +1,8 @@
 -- The local sum, case by case, from samples and from offsets.
-use Rattle.std.proofs.Common.{◌≡◌, ◌≢◌, ◌+◌, ◌-◌, ◌*◌, ◌<◌, ◌≤◌, ℕ, ℤ, pos, ◌+ℤ◌, ◌-ℤ◌, ◌*ℤ◌, Bool, true, false, List, length, get_or, inl, inr, arith, refl}
+use Rattle.std.proofs.Common.{◌≡◌, ◌≢◌, ◌+◌, ◌-◌, ◌*◌, ◌<◌, ◌≤◌, ℕ, ℤ, pos, ◌+ℤ◌, ◌-ℤ◌, ◌*ℤ◌, Bool, true, false, List, length, get_or, inl, inr, arith}
 use Rattle.std.proofs.Common.{◌∙◌, sym}
 use Rattle.std.proofs.lemmas.Int.{ints}
-use Rattle.std.proofs.lemmas.Bool.{cases_eq}
+use Rattle.std.proofs.lemmas.Bool.{cases_eq, cases_Bool}
 use Rattle.std.proofs.lemmas.Bool.Decides.{nat_tests}
 use Rattle.cube_core.specs.Kind.{smin}
 use Rattle.cube_core.specs.Image.{Image, sample_at}
@@ -106,12 +106,17 @@ module _ (p : Predictor) (c : Image) (z y x : ℕ) (row above : List ℕ) (colum
 
   -- a local sum of samples is that of their offsets, and four times the least sample
   pub sum_of_offsets : local_sum p c z y x ≡ pos 4 *ℤ smin c.kind +ℤ pos (offset_sum p.column y row above x)
-  sum_of_offsets = elim (cases_eq y 0) [ inl e ↦ first_row e | inr n ↦ by_sums n p.column refl ]
-    where
-      by_sums : y ≢ 0 → (b : Bool) → p.column ≡ b → local_sum p c z y x ≡ pos 4 *ℤ smin c.kind +ℤ pos (offset_sum p.column y row above x)
-      by_sums n true e = by_column n e
-      by_sums n false e =
-          elim (cases_eq x 0) [ inl h ↦ at_left n e h | inr h ↦ elim (cases_eq (x + 1) c.shape.columns) [ inl r ↦ at_right n e h r | inr r ↦ between n e h r ] ]
+  sum_of_offsets =
+      elim (cases_eq y 0) [
+        | inl e ↦ first_row e
+        | inr n ↦ elim (cases_Bool p.column) [
+          | inl e ↦ by_column n e
+          | inr e ↦ elim (cases_eq x 0) [
+            | inl h ↦ at_left n e h
+            | inr h ↦ elim (cases_eq (x + 1) c.shape.columns) [ inl r ↦ at_right n e h r | inr r ↦ between n e h r ]
+          ]
+        ]
+      ]
 
   -- and a difference of samples is that of their offsets
   pub difference_of_offsets : (sample : ℤ) (offset : ℕ) → sample ≡ smin c.kind +ℤ pos offset

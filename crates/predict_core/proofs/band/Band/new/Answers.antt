@@ -7,7 +7,8 @@ use Rattle.predict_core.proofs.band.Band.new.Goals as goal
 pub invariant_of-settings-clause-count_is : goal.invariant_of-settings-clause-count_is
 invariant_of-settings-clause-count_is c =
     rw c.min-previous.ensures
-    (count_is (predictor_of c.args.params.now) c.args.z c.first_spectral-first.result c.first_spectral-first.ensures.value ∙ ap (λ (q : Predictor). component_count q c.args.z) (sym c.of-predictor.ensures.value))
+    (count_is (predictor_of c.args.params.now) c.args.z _ c.first_spectral-first.ensures.value
+    ∙ ap (λ (q : Predictor). component_count q c.args.z) (sym c.of-predictor.ensures.value))
 
 pub invariant_of-settings-clause-near_is : goal.invariant_of-settings-clause-near_is
 invariant_of-settings-clause-near_is c =
