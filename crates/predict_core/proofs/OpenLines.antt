@@ -1,15 +1,14 @@
 -- The line above a run tells its local sums and directional differences but for the offsets to the west.
 use Rattle.std.proofs.Common.{◌≡◌, ◌≢◌, ℕ, ◌+◌, ◌-◌, ◌*◌, ◌<◌, ◌≤◌, pos, ◌-ℤ◌, ◌*ℤ◌, Bool, true, false, List, [], ◌∷◌, length, get_or, replicate, arith}
-use Rattle.std.proofs.Common.{sym, ap, ap₂, ◌∙◌, inl, inr}
+use Rattle.std.proofs.Common.{sym, ap, ap₂, ◌∙◌}
 use Rattle.std.proofs.lemmas.Int.{ints}
-use Rattle.std.proofs.lemmas.Bool.{cases_eq, cases_Bool}
+use Rattle.std.proofs.lemmas.Bool.Decides.{nat_tests}
 use Rattle.cube_core.specs.Image.{Image}
 use Rattle.cube_core.specs.Offsets.{AreRowOffsets}
 use Rattle.predict_core.specs.declared.predictor.Predictor.{Predictor}
 use Rattle.predict_core.specs.Lines.{bordered_above, line_sum, line_north, line_directions}
 use Rattle.predict_core.specs.OpenPart.{offset_above, open_sum, open_directions}
 use Rattle.predict_core.proofs.Borders.{border_inside, border_after, border_before}
-use Rattle.predict_core.proofs.Opening.{open_by_column, open_at_left, open_at_right, open_inside}
 use Rattle.predict_core.proofs.Quads.{zero_at}
 
 module _ (p : Predictor) (c : Image) (z y x count : ℕ) (above upper : List ℕ) (inside : x + count ≤ c.shape.columns) (long : length above ≡ c.shape.columns)
@@ -54,20 +53,16 @@ module _ (p : Predictor) (c : Image) (z y x count : ℕ) (above upper : List ℕ
     none i = ap (λ line. get_or line i 0) clear ∙ zero_at 66 i
 
     pub open_line : (i : ℕ) → i < count → pos (line_sum p.column current upper i) ≡ open_sum p c z y (x + i)
+    unfolding open_sum
     open_line i l =
+        let w = wide in
         let a = north i l in
-        let w = none i in
-        elim (cases_Bool p.column) [
-          | inl e ↦ (let s = open_by_column p c z y (x + i) e in let o = ap (λ (b : Bool). line_sum b current upper i) e in omega (arith, ints, s, a, o))
-          | inr e ↦ (let o = ap (λ (b : Bool). line_sum b current upper i) e in elim (cases_eq (x + i) 0) [
-            | inl h ↦ (let r = wide e in let s = open_at_left p c z y (x + i) e h in let b = west_first e i l h in
-                let d = east_inside i l (λ q. omega (arith, q, h, r)) in omega (arith, ints, s, a, b, d, w, o))
-            | inr n ↦ (let b = north_west i l n in elim (cases_eq (x + i + 1) c.shape.columns) [
-              | inl r ↦ (let s = open_at_right p c z y (x + i) e n r in let d = east_last e i l r in omega (arith, ints, s, a, b, d, w, o))
-              | inr m ↦ (let s = open_inside p c z y (x + i) e n m in let d = east_inside i l m in omega (arith, ints, s, a, b, d, w, o))
-            ])
-          ])
-        ]
+        let b = north_west i l in
+        let d = east_inside i l in
+        let e = λ (r : p.column ≡ false). east_last r i l in
+        let f = λ (r : p.column ≡ false). west_first r i l in
+        let n = none i in
+        grind (arith, ints, nat_tests, a, b, d, e, f, n, w)
 
     module _ (i : ℕ) (l : i < count) where
       north_is : line_north p.column current upper i ≡ pos 4 *ℤ offset_above c z y (x + i) -ℤ open_sum p c z y (x + i)

@@ -112,11 +112,3 @@ returns-clause-residuals g c p f =
     let kept = c.loop-i.invariant in
     let done : c.loop-i.i ≡ length c.args.run.deltas.now = omega (arith, c.loop-i-test.false, c.loop-i.auto.i-end) in
     rw kept.beside.alike.shape ((rw done at (kept.residuals p f)) ∙ take_all _ _ (omega arith))
-
-pub returns-clause-weights : goal.returns-clause-weights
-returns-clause-weights g c p f =
-    let kept = c.loop-i.invariant in
-    let r = c.args.run in
-    let done : c.loop-i.i ≡ length c.args.run.deltas.now = omega (arith, c.loop-i-test.false, c.loop-i.auto.i-end) in
-    let sum : (columns : ℕ) → r.y * columns + r.x + c.loop-i.i ≡ r.y * columns + (r.x + c.loop-i.i) = λ columns. omega arith in
-    rw (kept.beside.alike.shape, ← done, sum c.loop-i.cube.shape.columns) (kept.weights p f)

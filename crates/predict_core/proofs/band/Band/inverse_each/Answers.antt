@@ -42,11 +42,6 @@ loop-i-preserved c =
       whole = rw length-set kept.whole;
     })
 
-pub returns-clause-beside : goal.returns-clause-beside
-returns-clause-beside c =
-    let done : c.loop-i.i ≡ length c.args.deltas.now = omega (arith, c.loop-i-test.false, c.loop-i.auto.i-end) in
-    rw (← done) c.loop-i.invariant.beside
-
 pub returns-clause-residuals : goal.returns-clause-residuals
 returns-clause-residuals c p f =
     let kept = c.loop-i.invariant in
