@@ -61,24 +61,21 @@ module _ (p : Predictor) (c d : Image) (same : c.shape.columns ≡ d.shape.colum
   local_sum_same = elim (cases_eq y 0) [ inl e ↦ first_row e | inr n ↦ elim (cases_Bool p.column) [ inl e ↦ by_column n e | inr e ↦ in_rows n e ] ]
 
   directional_same : directional_differences p c z y x ≡ directional_differences p d z y x
-  directional_same = elim (cases_eq y 0) [ inl e ↦ none e | inr n ↦ elim (cases_eq x 0) [ inl h ↦ north n h | inr h ↦ all n h ] ]
-    where
-      none : y ≡ 0 → directional_differences p c z y x ≡ directional_differences p d z y x
-      none e = directional_first p c z y x e ∙ sym (directional_first p d z y x e)
-
-      north : y ≢ 0 → x ≡ 0 → directional_differences p c z y x ≡ directional_differences p d z y x
-      north n h =
-          let s = local_sum_same in
-          let u = above x column n in
-          rw (directional_left p c z y x n h, directional_left p d z y x n h, s, u) refl
-
-      all : y ≢ 0 → x ≢ 0 → directional_differences p c z y x ≡ directional_differences p d z y x
-      all n h =
-          let s = local_sum_same in
-          let u = above x column n in
-          let v = above (x - 1) (omega arith) n in
-          let l = left h in
-          rw (directional_inside p c z y x n h, directional_inside p d z y x n h, s, u, v, l) refl
+  directional_same =
+      elim (cases_eq y 0) [
+        | inl e ↦ directional_first p c z y x e ∙ sym (directional_first p d z y x e)
+        | inr n ↦ elim (cases_eq x 0) [
+          | inl h ↦ rw (directional_left p c z y x n h, directional_left p d z y x n h, local_sum_same, above x column n) refl
+          | inr h ↦ rw (
+            directional_inside p c z y x n h,
+            directional_inside p d z y x n h,
+            local_sum_same,
+            above x column n,
+            above (x - 1) (omega (arith, column)) n,
+            left h,
+          ) refl
+        ]
+      ]
 
 -- what is read at a place of one band
 module _ (p : Predictor) (c d : Image) (z y x : ℕ) (place : IsPlace c.shape z y x)

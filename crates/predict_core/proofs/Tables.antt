@@ -1,12 +1,13 @@
 -- The weights that a table tells, and where those of a band stand.
 use Rattle.std.proofs.Common.{◌≡◌, ◌+◌, ◌-◌, ◌*◌, ◌/◌, ◌%◌, ◌^◌, ◌<◌, ◌≤◌, ℕ, zero, suc, ℤ, pos, negsuc, neg_ℤ, ◌+ℤ◌, ◌-ℤ◌, ◌*ℤ◌, ◌≤ℤ◌, unsigned_abs, SFits}
 use Rattle.std.proofs.Common.{w32, to_z, of_z, to_z-of_z, Bool, true, false, List, [], ◌∷◌, length, take, drop, map, min, nat_le, nat_lt, get_or, set, ◌++◌}
-use Rattle.std.proofs.Common.{length-take, length-drop, add-one, arith, refl, ◌∙◌, sym, ap, pow_mono, if◌then◌else◌}
+use Rattle.std.proofs.Common.{inl, inr, length-take, length-drop, add-one, arith, refl, ◌∙◌, sym, ap, pow_mono, if◌then◌else◌}
 use Rattle.std.proofs.Math.Pow.{pow-add}
 use Rattle.std.proofs.Math.Seq.{take-suc}
 use Rattle.std.proofs.lemmas.List.{take_more_set, map-append}
 use Rattle.std.proofs.lemmas.Int.{ints, to_z_pos, fits_signed_from_abs, unsigned_abs-mul}
 use Rattle.std.proofs.lemmas.Nat.{mul-le, pow_pos}
+use Rattle.std.proofs.lemmas.Bool.{cases_Bool}
 use Rattle.std.proofs.lemmas.Bool.Decides.{nat_tests}
 use Rattle.std.specs.List.{AllByRecursion}
 use Rattle.header_bits.specs.declared.params.Params.{Params}
@@ -27,16 +28,13 @@ abbrev pub ones_below : ℕ → ℕ → ℕ
 ones_below f q = if nat_le q (f + 2) then 2 ^ (f + 2 - q) - 1 else 0
 
 ones_small : (f q : ℕ) → q ≤ f + 3 → ones_below f q + 1 ≤ 2 ^ (f + 3 - q)
-ones_small f q h = by_test (nat_le q (f + 2)) refl
-  where
-    by_test : (b : Bool) → nat_le q (f + 2) ≡ b → ones_below f q + 1 ≤ 2 ^ (f + 3 - q)
-    by_test true e =
-        let p : 2 ^ (f + 2 - q) ≤ 2 ^ (f + 3 - q) = pow_mono (omega arith) in
-        let s : 1 ≤ 2 ^ (f + 2 - q) = pow_pos (f + 2 - q) in
-        rw e (omega (arith, p, s))
-    by_test false e =
-        let s : 1 ≤ 2 ^ (f + 3 - q) = pow_pos (f + 3 - q) in
-        rw e s
+ones_small f q h =
+    let s : 1 ≤ 2 ^ (f + 3 - q) = pow_pos (f + 3 - q) in
+    let t : 1 ≤ 2 ^ (f + 2 - q) = pow_pos (f + 2 - q) in
+    elim (cases_Bool (nat_le q (f + 2))) [
+      | inl e ↦ (let p : 2 ^ (f + 2 - q) ≤ 2 ^ (f + 3 - q) = pow_mono (omega arith) in rw e (omega (arith, p, t)))
+      | inr e ↦ rw e s
+    ]
 
 -- the scale of an entry and its own range make up a weight's range
 powers_meet : (f q : ℕ) → 3 ≤ q → q ≤ f + 3 → 2 ^ (f + 3 - q) * 2 ^ (q - 1) ≡ 2 ^ (f + 2)
