@@ -31,7 +31,7 @@ within_three n a b d h k l (suc zero) m = k
 within_three n a b d h k l (suc (suc zero)) m = l
 within_three n a b d h k l (suc (suc (suc i))) m = absurd (omega (arith, m))
 
-within_none : (n : ℕ) → AllWithin n []
+pub within_none : (n : ℕ) → AllWithin n []
 within_none n i l = absurd (omega (arith, l))
 
 four : (low high a : ℤ) → Between low high a → Between (pos 4 *ℤ low) (pos 4 *ℤ high) (pos 4 *ℤ a)

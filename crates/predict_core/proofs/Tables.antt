@@ -88,12 +88,12 @@ pub scale_small : (f q : ℕ) → f ≤ 19 → 3 ≤ q → f + 3 - q ≤ 21
 scale_small f q h l = omega arith
 
 pub ones_fit : (f q : ℕ) → f ≤ 19 → SFits w32 (pos (ones_below f q))
-ones_fit f q h = by_test (nat_le q (f + 2)) refl
-  where
-    by_test : (b : Bool) → nat_le q (f + 2) ≡ b → SFits w32 (pos (ones_below f q))
-    by_test true e = let p : 2 ^ (f + 2 - q) ≤ 2 ^ 21 = pow_mono {j = 21} (omega (arith, h)) in
-        rw e (fits_signed_from_abs w32 (pos (2 ^ (f + 2 - q) - 1)) (omega (arith, p)))
-    by_test false e = rw e (fits_signed_from_abs w32 (pos 0) (omega arith))
+ones_fit f q h =
+    let p : 2 ^ (f + 2 - q) ≤ 2 ^ 21 = pow_mono {j = 21} (omega (arith, h)) in
+    elim (cases_Bool (nat_le q (f + 2))) [
+      | inl e ↦ rw e (fits_signed_from_abs w32 (pos (2 ^ (f + 2 - q) - 1)) (omega (arith, p)))
+      | inr e ↦ rw e (fits_signed_from_abs w32 (pos 0) (omega arith))
+    ]
 
 -- one weight more is written
 pub told_next : (f q i : ℕ) (ws entries : List ℤ) (w : ℤ) → i < length ws → i < length entries → w ≡ table_weight f q (get_or entries i (pos 0))
@@ -167,18 +167,14 @@ in_front_is p first f (suc z) =
 pub counts_agree : (p : Params) (z : ℕ) → entries_before (predictor_of p) z ≡ weight_count p.previous p.reduced z
 unfolding entries_before weight_count
 counts_agree p zero = refl
-counts_agree p (suc z) = by_mode p.reduced refl (counts_agree p z)
-  where
-    by_mode : (b : Bool) → p.reduced ≡ b → entries_before (predictor_of p) z ≡ weight_count p.previous p.reduced z
-        → entries_before (predictor_of p) (suc z) ≡ weight_count p.previous p.reduced (suc z)
-    by_mode true e before =
-        let count = reduced_count (predictor_of p) z e in
-        let none : ◌≡◌ {A = ℕ} (if p.reduced then 0 else 3) 0 = rw e refl in
-        omega (arith, before, count, none)
-    by_mode false e before =
-        let count = full_count (predictor_of p) z e in
-        let three : ◌≡◌ {A = ℕ} (if p.reduced then 0 else 3) 3 = rw e refl in
-        omega (arith, before, count, three)
+counts_agree p (suc z) =
+    let before = counts_agree p z in
+    elim (cases_Bool p.reduced) [
+      | inl e ↦ (let count = reduced_count (predictor_of p) z e in let none : ◌≡◌ {A = ℕ} (if p.reduced then 0 else 3) 0 = rw e refl in
+          omega (arith, before, count, none))
+      | inr e ↦ (let count = full_count (predictor_of p) z e in let three : ◌≡◌ {A = ℕ} (if p.reduced then 0 else 3) 3 = rw e refl in
+          omega (arith, before, count, three))
+    ]
 
 counts_grow : (previous : ℕ) (reduced : Bool) (z n : ℕ) → weight_count previous reduced z ≤ weight_count previous reduced (n + z)
 unfolding weight_count
