@@ -1,7 +1,8 @@
 -- The sum that the register takes is small.
 use Rattle.std.proofs.Common.{◌≡◌, ◌+◌, ◌-◌, ◌*◌, ◌^◌, ◌<◌, ◌≤◌, ℕ, zero, suc, ℤ, pos, ◌+ℤ◌, ◌-ℤ◌, ◌*ℤ◌, ◌≤ℤ◌, neg_ℤ, unsigned_abs, Bool, true, false, List, []}
-use Rattle.std.proofs.Common.{◌∷◌, replicate, length, if◌then◌else◌, arith, refl, sym, subst, ap, ◌∙◌, le_trans}
+use Rattle.std.proofs.Common.{inl, inr, ◌∷◌, replicate, length, if◌then◌else◌, arith, refl, sym, subst, ap, ◌∙◌, le_trans}
 use Rattle.std.proofs.lemmas.Int.{ints, unsigned_abs-mul}
+use Rattle.std.proofs.lemmas.Bool.{cases_Bool}
 use Rattle.std.proofs.lemmas.Nat.{mul-le, pow_pos}
 use Rattle.std.proofs.Math.Pow.{pow_mono, pow-add}
 use Rattle.cube_core.specs.Shape.{Sizes}
@@ -91,11 +92,7 @@ weights_within p c z (suc (suc t)) lawful = updated_within p.omega _ _ (weight_v
 -- ---- the products
 
 few_components : (p : Predictor) (z : ℕ) → p.previous ≤ 15 → component_count p z ≤ 18
-few_components p z few = by_reduced p.reduced
-  where
-    by_reduced : (b : Bool) → (if b then previous_bands p z else 3 + previous_bands p z) ≤ 18
-    by_reduced true = omega arith
-    by_reduced false = omega arith
+few_components p z few = elim (cases_Bool p.reduced) [ inl e ↦ rw e (omega arith) | inr e ↦ rw e (omega arith) ]
 
 -- ---- the local sum
 

@@ -1,14 +1,13 @@
 -- The weights that a table tells, and where those of a band stand.
 use Rattle.std.proofs.Common.{◌≡◌, ◌+◌, ◌-◌, ◌*◌, ◌/◌, ◌%◌, ◌^◌, ◌<◌, ◌≤◌, ℕ, zero, suc, ℤ, pos, negsuc, neg_ℤ, ◌+ℤ◌, ◌-ℤ◌, ◌*ℤ◌, ◌≤ℤ◌, unsigned_abs, SFits}
-use Rattle.std.proofs.Common.{w32, to_z, of_z, to_z-of_z, Bool, true, false, List, [], ◌∷◌, length, take, drop, map, min, nat_le, nat_lt, get_or, set, ◌++◌}
+use Rattle.std.proofs.Common.{w32, to_z, of_z, to_z-of_z, Bool, List, [], ◌∷◌, length, take, drop, map, min, nat_le, get_or, set, ◌++◌}
 use Rattle.std.proofs.Common.{inl, inr, length-take, length-drop, add-one, arith, refl, ◌∙◌, sym, ap, pow_mono, if◌then◌else◌}
 use Rattle.std.proofs.Math.Pow.{pow-add}
 use Rattle.std.proofs.Math.Seq.{take-suc}
 use Rattle.std.proofs.lemmas.List.{take_more_set, map-append}
 use Rattle.std.proofs.lemmas.Int.{ints, to_z_pos, fits_signed_from_abs, unsigned_abs-mul}
 use Rattle.std.proofs.lemmas.Nat.{mul-le, pow_pos}
-use Rattle.std.proofs.lemmas.Bool.{cases_Bool}
-use Rattle.std.proofs.lemmas.Bool.Decides.{nat_tests}
+use Rattle.std.proofs.lemmas.Bool.{cases_Bool, cases_lt}
 use Rattle.std.specs.List.{AllByRecursion}
 use Rattle.header_bits.specs.declared.params.Params.{Params}
 use Rattle.header_bits.specs.TableParts.{weight_count}
@@ -142,26 +141,20 @@ in_front_is p first f zero = let n : min 0 p.previous ≡ 0 = omega arith in rw 
 in_front_is p first f (suc z) =
     let before = in_front_is p first f z in
     let count : first + min z p.previous ≡ component_count p z = count_is p z first f in
-    by_order (nat_lt z p.previous) refl before count
-  where
-    by_order : (b : Bool) → nat_lt z p.previous ≡ b → in_front first p.previous z ≡ entries_before p z → first + min z p.previous ≡ component_count p z
-        → in_front first p.previous (suc z) ≡ entries_before p z + component_count p z
-    by_order true e before count =
-        let close : z < p.previous = grind (arith, nat_tests, e) in
-        let near : min z p.previous ≡ z = omega (arith, close) in
-        let next : min (suc z) p.previous ≡ z + 1 = omega (arith, close) in
-        let t = triangle_next z in
-        let b = rw near at before in
-        let k = rw near at count in
-        rw (near, next) (grind (arith, b, k, t))
-    by_order false e before count =
-        let far_off : p.previous ≤ z = grind (arith, nat_tests, e) in
-        let near : min z p.previous ≡ p.previous = omega (arith, far_off) in
-        let next : min (suc z) p.previous ≡ p.previous = omega (arith, far_off) in
-        let far : suc z - p.previous ≡ (z - p.previous) + 1 = omega (arith, far_off) in
-        let b = rw near at before in
-        let k = rw near at count in
-        rw (near, next, far) (grind (arith, b, k))
+    elim (cases_lt z p.previous) [
+      | inl close ↦ (let near : min z p.previous ≡ z = omega (arith, close) in
+          let next : min (suc z) p.previous ≡ z + 1 = omega (arith, close) in
+          let t = triangle_next z in
+          let b = rw near at before in
+          let k = rw near at count in
+          rw (near, next) (grind (arith, b, k, t)))
+      | inr far_off ↦ (let near : min z p.previous ≡ p.previous = omega (arith, far_off) in
+          let next : min (suc z) p.previous ≡ p.previous = omega (arith, far_off) in
+          let far : suc z - p.previous ≡ (z - p.previous) + 1 = omega (arith, far_off) in
+          let b = rw near at before in
+          let k = rw near at count in
+          rw (near, next, far) (grind (arith, b, k)))
+    ]
 
 -- the table has as many entries as all bands have weights
 pub counts_agree : (p : Params) (z : ℕ) → entries_before (predictor_of p) z ≡ weight_count p.previous p.reduced z

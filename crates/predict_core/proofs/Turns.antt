@@ -32,11 +32,7 @@ masked_is mask n l h s =
 
 pub masked_within : (mask n : ℤ) → pos 0 ≤ℤ n → n ≤ℤ pos 262140
     → (pos 0 ≤ℤ (if int_lt mask (pos 0) then n else pos 0)) × ((if int_lt mask (pos 0) then n else pos 0) ≤ℤ pos 262140)
-masked_within mask n l h = by_sign (int_lt mask (pos 0))
-  where
-    by_sign : (b : Bool) → (pos 0 ≤ℤ (if b then n else pos 0)) × ((if b then n else pos 0) ≤ℤ pos 262140)
-    by_sign true = (l, h)
-    by_sign false = (omega (arith, ints), omega (arith, ints))
+masked_within mask n l h = (grind (arith, ints), grind (arith, ints))
 
 pub either_fits : (negative : Bool) (a b : ℤ) → unsigned_abs a ≤ 2 ^ 21 → unsigned_abs b ≤ 2 ^ 21 → SFits w32 (if negative then b else a)
 either_fits true a b s t = fits_signed_from_abs w32 b (omega (arith, t))
