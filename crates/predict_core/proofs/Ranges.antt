@@ -1,5 +1,5 @@
 -- How large the differences of a cube's samples can be.
-use Rattle.std.proofs.Common.{◌≡◌, ◌+◌, ◌-◌, ◌*◌, ◌^◌, ◌<◌, ◌≤◌, ℕ, zero, suc, ℤ, pos, ◌+ℤ◌, ◌-ℤ◌, ◌*ℤ◌, unsigned_abs, false, List, [], ◌∷◌}
+use Rattle.std.proofs.Common.{◌≡◌, ◌+◌, ◌-◌, ◌*◌, ◌^◌, ◌<◌, ◌≤◌, ℕ, zero, suc, ℤ, pos, ◌-ℤ◌, ◌*ℤ◌, unsigned_abs, false, List, [], ◌∷◌}
 use Rattle.std.proofs.Common.{◌++◌, replicate, inl, inr, arith, sym, subst}
 use Rattle.std.proofs.lemmas.Int.{ints}
 use Rattle.std.proofs.lemmas.Bool.{cases_eq, cases_Bool}
@@ -34,19 +34,6 @@ within_three n a b d h k l (suc (suc (suc i))) m = absurd (omega (arith, m))
 pub within_none : (n : ℕ) → AllWithin n []
 within_none n i l = absurd (omega (arith, l))
 
-four : (low high a : ℤ) → Between low high a → Between (pos 4 *ℤ low) (pos 4 *ℤ high) (pos 4 *ℤ a)
-four low high a h = (omega (arith, ints, h.0, h.1), omega (arith, ints, h.0, h.1))
-
-two : (low high a b : ℤ) → Between low high a → Between low high b → Between (pos 4 *ℤ low) (pos 4 *ℤ high) (pos 2 *ℤ (a +ℤ b))
-two low high a b h k = (omega (arith, ints, h.0, h.1, k.0, k.1), omega (arith, ints, h.0, h.1, k.0, k.1))
-
-three : (low high a b d : ℤ) → Between low high a → Between low high b → Between low high d → Between (pos 4 *ℤ low) (pos 4 *ℤ high) (a +ℤ b +ℤ pos 2 *ℤ d)
-three low high a b d h k l = (omega (arith, ints, h.0, h.1, k.0, k.1, l.0, l.1), omega (arith, ints, h.0, h.1, k.0, k.1, l.0, l.1))
-
-all : (low high a b d u : ℤ) → Between low high a → Between low high b → Between low high d → Between low high u
-    → Between (pos 4 *ℤ low) (pos 4 *ℤ high) (a +ℤ b +ℤ d +ℤ u)
-all low high a b d u h k l m = (omega (arith, ints, h.0, h.1, k.0, k.1, l.0, l.1, m.0, m.1), omega (arith, ints, h.0, h.1, k.0, k.1, l.0, l.1, m.0, m.1))
-
 pub apart : (low high a s : ℤ) (power : ℕ) → high -ℤ low ≡ pos power -ℤ pos 1 → Between low high a → Between (pos 4 *ℤ low) (pos 4 *ℤ high) s
     → unsigned_abs (pos 4 *ℤ a -ℤ s) ≤ 4 * power
 apart low high a s power e h k = omega (arith, ints, e, h.0, h.1, k.0, k.1)
@@ -73,16 +60,21 @@ module _ (p : Predictor) (c : Image) (cube : IsCube c) (y x : ℕ) (later : 0 < 
 
     pub sum_within : Between (pos 4 *ℤ smin c.kind) (pos 4 *ℤ smax c.kind) (local_sum p c z y x)
     sum_within =
+        let l = left in
+        let u = up x column in
+        let b = up (x - 1) before in
         elim (cases_eq y 0) [
-          | inl e ↦ rw (sum_in_first_row p c z y x e) (four _ _ _ left)
+          | inl e ↦ rw (sum_in_first_row p c z y x e) (omega (arith, ints, l.0, l.1), omega (arith, ints, l.0, l.1))
           | inr n ↦ elim (cases_Bool p.column) [
-            | inl e ↦ rw (sum_by_column p c z y x n e) (four _ _ _ (up x column))
+            | inl e ↦ rw (sum_by_column p c z y x n e) (omega (arith, ints, u.0, u.1), omega (arith, ints, u.0, u.1))
             | inr e ↦ (let w = wide e in elim (cases_eq x 0) [
-              | inl h ↦ rw (sum_at_left p c z y x n e h) (two _ _ _ _ (up x column) (up (x + 1) (omega arith)))
+              | inl h ↦ (let d = up (x + 1) (omega arith) in
+                  rw (sum_at_left p c z y x n e h) (omega (arith, ints, u.0, u.1, d.0, d.1), omega (arith, ints, u.0, u.1, d.0, d.1)))
               | inr h ↦ elim (cases_eq (x + 1) c.shape.columns) [
-                | inl r ↦ rw (sum_at_right p c z y x n e h r) (three _ _ _ _ _ left (up (x - 1) before) (up x column))
-                | inr r ↦ rw (sum_inside p c z y x n e h r)
-                    (all _ _ _ _ _ _ left (up (x - 1) before) (up x column) (up (x + 1) (let q = column in omega arith)))
+                | inl r ↦ rw (sum_at_right p c z y x n e h r)
+                    (omega (arith, ints, l.0, l.1, b.0, b.1, u.0, u.1), omega (arith, ints, l.0, l.1, b.0, b.1, u.0, u.1))
+                | inr r ↦ (let q = column in let d = up (x + 1) (omega arith) in rw (sum_inside p c z y x n e h r)
+                    (omega (arith, ints, l.0, l.1, b.0, b.1, u.0, u.1, d.0, d.1), omega (arith, ints, l.0, l.1, b.0, b.1, u.0, u.1, d.0, d.1)))
               ]
             ])
           ]
