@@ -1,13 +1,13 @@
 -- Lines of offsets, and the sums that they tell.
-use Rattle.std.proofs.Common.{◌≡◌, ◌≢◌, ℕ, zero, suc, ◌+◌, ◌-◌, ◌<◌, ◌≤◌, true, false, ◌||◌, ◌==◌, List, [], ◌∷◌, length, get_or, set, arith, refl, sym, ap, ◌∙◌, inl}
-use Rattle.std.proofs.Common.{inr, get_or-set_same, get_or-set_other, length-set}
+use Rattle.std.proofs.Common.{◌≡◌, ◌≢◌, ℕ, zero, suc, ◌+◌, ◌-◌, ◌<◌, ◌≤◌, true, false, ◌||◌, ◌==◌, List, [], ◌∷◌, length, get_or, set, arith, refl, sym}
+use Rattle.std.proofs.Common.{ap, ◌∙◌, inl, inr, get_or-set_same, get_or-set_other, length-set}
 use Rattle.std.proofs.lemmas.Bool.{cases_eq}
 use Rattle.std.proofs.lemmas.Bool.Decides.{nat_tests}
 use Rattle.std.proofs.lemmas.List.{get_or-append-add}
 use lib.ListN.{get_or-append}
 use Rattle.predict_core.specs.OffsetSum.{offset_sum}
 use Rattle.predict_core.specs.Lines.{bordered, line_sum, AreLines}
-use Rattle.predict_core.proofs.LocalSums.{offsets_by_column, offsets_at_left, offsets_at_right, offsets_inside}
+use Rattle.predict_core.proofs.LocalSums.{offsets_by_column}
 
 -- ---- a row with a border
 
@@ -23,6 +23,10 @@ border_after before row after (suc k) e =
 
 pub border_before : (before : ℕ) (row : List ℕ) (after k : ℕ) → k ≡ 0 → get_or (bordered before row after) k 0 ≡ before
 border_before before row after k e = rw e refl
+
+bordered_at : (before : ℕ) (row : List ℕ) (after n k : ℕ) → n ≡ k + 1 → k < length row → get_or (bordered before row after) n 0 ≡ get_or row k 0
+bordered_at before row after n k e l =
+    border_inside before row after n (omega (arith, e)) (omega (arith, e, l)) ∙ ap (λ m. get_or row m 0) (let s : n - 1 ≡ k = omega (arith, e) in s)
 
 -- a line whose ends are written last
 pub ends_written : (line row : List ℕ) (x count before after v w : ℕ) → 2 + count ≤ length line → x + count ≤ length row
@@ -49,8 +53,7 @@ module _ (y : ℕ) (row above : List ℕ) (x count after : ℕ) (current upper :
     (near : (k : ℕ) → k < count + 2 → get_or current k 0 ≡ get_or (bordered (get_or above 0 0) row after) (x + k) 0)
     (far : (k : ℕ) → k < count + 2 → get_or upper k 0 ≡ get_or (bordered (get_or above 1 0) above (get_or above (length above - 1) 0)) (x + k) 0) where
   near_own : (i : ℕ) → i < count → get_or current (i + 1) 0 ≡ get_or row (x + i) 0
-  near_own i l =
-      near (i + 1) (omega arith) ∙ border_inside (get_or above 0 0) row after (x + (i + 1)) (omega arith) (omega arith) ∙ ap (λ n. get_or row n 0) (omega arith)
+  near_own i l = near (i + 1) (omega arith) ∙ bordered_at (get_or above 0 0) row after (x + (i + 1)) (x + i) (omega arith) (omega arith)
 
   near_west : (i : ℕ) → i < count → 0 < x + i → get_or current i 0 ≡ get_or row (x + i - 1) 0
   near_west i l h = near i (omega arith) ∙ border_inside (get_or above 0 0) row after (x + i) h (omega arith)
@@ -60,8 +63,7 @@ module _ (y : ℕ) (row above : List ℕ) (x count after : ℕ) (current upper :
 
   far_north : (i : ℕ) → i < count → get_or upper (i + 1) 0 ≡ get_or above (x + i) 0
   far_north i l =
-      far (i + 1) (omega arith) ∙ border_inside (get_or above 1 0) above (get_or above (length above - 1) 0) (x + (i + 1)) (omega arith) (omega arith)
-      ∙ ap (λ n. get_or above n 0) (omega arith)
+      far (i + 1) (omega arith) ∙ bordered_at (get_or above 1 0) above (get_or above (length above - 1) 0) (x + (i + 1)) (x + i) (omega arith) (omega arith)
 
   far_west : (i : ℕ) → i < count → 0 < x + i → get_or upper i 0 ≡ get_or above (x + i - 1) 0
   far_west i l h = far i (omega arith) ∙ border_inside (get_or above 1 0) above (get_or above (length above - 1) 0) (x + i) h (omega arith)
@@ -71,8 +73,7 @@ module _ (y : ℕ) (row above : List ℕ) (x count after : ℕ) (current upper :
 
   far_east : (i : ℕ) → i < count → x + i + 1 < length row → get_or upper (i + 2) 0 ≡ get_or above (x + i + 1) 0
   far_east i l h =
-      far (i + 2) (omega arith) ∙ border_inside (get_or above 1 0) above (get_or above (length above - 1) 0) (x + (i + 2)) (omega arith) (omega arith)
-      ∙ ap (λ n. get_or above n 0) (omega arith)
+      far (i + 2) (omega arith) ∙ bordered_at (get_or above 1 0) above (get_or above (length above - 1) 0) (x + (i + 2)) (x + i + 1) (omega arith) (omega arith)
 
   far_last : (i : ℕ) → i < count → x + i + 1 ≡ length row → get_or upper (i + 2) 0 ≡ get_or above (x + i) 0
   far_last i l e =
@@ -81,19 +82,14 @@ module _ (y : ℕ) (row above : List ℕ) (x count after : ℕ) (current upper :
 
   four : (i : ℕ) → i < count → line_sum false current upper i ≡ offset_sum false y row above (x + i)
   four i l =
-      elim (cases_eq (x + i) 0) [
-        | inl e ↦ (let n : i ≡ 0 = omega arith in let m : x ≡ 0 = omega arith in
-            let a : get_or current i 0 ≡ get_or above (x + i) 0 = rw n (near_first m ∙ ap (λ k. get_or above k 0) (omega arith)) in
-            let b : get_or upper i 0 ≡ get_or above (x + i + 1) 0 = rw n (far_first m ∙ ap (λ k. get_or above k 0) (omega arith)) in
-            let d = far_north i l in
-            let f = far_east i l (omega arith) in
-            let s = offsets_at_left false y row above (x + i) later refl e in omega (arith, a, b, d, f, s))
-        | inr n ↦ (let a = near_west i l (omega arith) in let b = far_west i l (omega arith) in let d = far_north i l in
-            elim (cases_eq (x + i + 1) (length row)) [
-              | inl e ↦ (let f = far_last i l e in let s = offsets_at_right false y row above (x + i) later refl n e in omega (arith, a, b, d, f, s))
-              | inr m ↦ (let f = far_east i l (omega arith) in let s = offsets_inside false y row above (x + i) later refl n m in omega (arith, a, b, d, f, s))
-            ])
-      ]
+      let a = near_west i l in
+      let b = far_west i l in
+      let d = far_north i l in
+      let e = far_east i l in
+      let f = far_last i l in
+      let g = near_first in
+      let h = far_first in
+      grind (arith, nat_tests, a, b, d, e, f, g, h, wide, same, later)
 
   pub four_lines : AreLines false y row above x count current upper
   four_lines = record {
@@ -115,13 +111,11 @@ module _ (y : ℕ) (row above : List ℕ) (x count before after : ℕ) (current 
     (near : (k : ℕ) → k < count + 2 → get_or current k 0 ≡ get_or (bordered (get_or above 0 0) row after) (x + k) 0)
     (far : (k : ℕ) → k < count + 2 → get_or upper k 0 ≡ get_or (bordered before above before) (x + k) 0) where
   over : (i : ℕ) → i < count → get_or upper (i + 1) 0 ≡ get_or above (x + i) 0
-  over i l =
-      far (i + 1) (omega arith) ∙ border_inside before above before (x + (i + 1)) (omega arith) (omega arith) ∙ ap (λ n. get_or above n 0) (omega arith)
+  over i l = far (i + 1) (omega arith) ∙ bordered_at before above before (x + (i + 1)) (x + i) (omega arith) (omega arith)
 
   pub column_lines : AreLines true y row above x count current upper
   column_lines = record {
-    own = λ i l. near (i + 1) (omega arith) ∙ border_inside (get_or above 0 0) row after (x + (i + 1)) (omega arith) (omega arith)
-        ∙ ap (λ n. get_or row n 0) (omega arith);
+    own = λ i l. near (i + 1) (omega arith) ∙ bordered_at (get_or above 0 0) row after (x + (i + 1)) (x + i) (omega arith) (omega arith);
     west = λ i l h. near i (omega arith) ∙ border_inside (get_or above 0 0) row after (x + i) h (omega arith);
     north = λ i l h. over i l;
     north_west = λ i l h k. far i (omega arith) ∙ border_inside before above before (x + i) k (omega arith);

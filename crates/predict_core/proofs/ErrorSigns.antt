@@ -16,6 +16,7 @@ use Rattle.predict_core.proofs.Floors.{kept, upper_part, sign_of_center, sign_of
 use Rattle.predict_core.proofs.Following.{row_is, column_is}
 use Rattle.predict_core.proofs.Largest.{register_bound, products_within}
 use Rattle.predict_core.proofs.Ranges.{sample_within}
+use Rattle.predict_core.proofs.Runs.{later_place}
 
 -- the scaled prediction where the register holds all of the sum
 pub unwrapped_by : (p : Predictor) (k : SampleKind) (sum : ℤ) (ws us : List ℤ) → 46 ≤ p.register
@@ -45,14 +46,10 @@ unfolding scaled_prediction scaled_there
 scaled_at p c z zero y x l e h = absurd (omega arith)
 scaled_at p c z (suc t) y x l e h = rw (row_is c.shape.columns (suc t) y x e h, column_is c.shape.columns (suc t) y x e h) refl
 
-not_first : (columns y x : ℕ) → x < columns → 0 < y + x → 0 < y * columns + x
-not_first columns zero x h l = omega arith
-not_first columns (suc y) x h l = omega arith
-
 module _ (p : Params) (c : Image) (z y x : ℕ) (h : IsLaterPlace p c z y x) where
   there : scaled_prediction p c z (y * c.shape.columns + x) ≡ scaled_by (predictor_of p) c.kind (local_sum (predictor_of p) c z y x)
       (weight_vector p c z (y * c.shape.columns + x)) (difference_vector (predictor_of p) c z y x)
-  there = scaled_at p c z (y * c.shape.columns + x) y x (not_first c.shape.columns y x h.place.column h.later) refl h.place.column
+  there = scaled_at p c z (y * c.shape.columns + x) y x (later_place c.shape.columns y x h.later h.place.column) refl h.place.column
 
   small : unsigned_abs (inner_product (weight_vector p c z (y * c.shape.columns + x)) (difference_vector (predictor_of p) c z y x)
       +ℤ pos (2 ^ p.omega) *ℤ (local_sum (predictor_of p) c z y x -ℤ pos 4 *ℤ smid c.kind)) < 2 ^ 45

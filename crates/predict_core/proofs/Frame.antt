@@ -1,10 +1,10 @@
 -- What is read at a place is earlier.
-use Rattle.std.proofs.Common.{◌≡◌, ◌≢◌, ◌⊎◌, inl, inr, ◌+◌, ◌-◌, ◌*◌, ◌/◌, ◌%◌, ◌<◌, ◌≤◌, ℕ, zero, suc, ℤ, pos, ◌+ℤ◌, ◌*ℤ◌, Bool, true, false, List}
+use Rattle.std.proofs.Common.{◌≡◌, ◌≢◌, ◌⊎◌, inl, inr, ◌+◌, ◌-◌, ◌*◌, ◌/◌, ◌%◌, ◌<◌, ◌≤◌, ℕ, zero, suc, ℤ, pos, ◌*ℤ◌, true, false, List}
 use Rattle.std.proofs.Common.{arith, refl, ◌∙◌, sym, ap, ap₂, subst, div-add-mod'}
 use Rattle.std.proofs.Math.Nat.{mod-lt}
 use Rattle.std.proofs.Math.Arith.{digits_lt}
 use Rattle.std.proofs.lemmas.Nat.{div_below}
-use Rattle.std.proofs.lemmas.Bool.{cases_eq, cases_lt}
+use Rattle.std.proofs.lemmas.Bool.{cases_eq, cases_lt, cases_Bool}
 use Rattle.std.proofs.lemmas.Bool.Decides.{nat_tests}
 use Rattle.header_bits.specs.declared.params.Params.{Params}
 use Rattle.cube_core.specs.Shape.{Sizes}
@@ -17,7 +17,6 @@ use Rattle.predict_core.specs.Differences.{central_difference, spectral_differen
 use Rattle.predict_core.specs.Weights.{step_exponent}
 use Rattle.predict_core.specs.Prediction.{scaled_by, scaled_there, next_weights, weight_vector, first_scaled, scaled_prediction}
 use Rattle.predict_core.specs.Precedence.{AreAlike, Agree, IsEarlier, PlacesPrecede}
-use Rattle.predict_core.proofs.LocalSums.{sum_at_left, sum_at_right, sum_inside}
 use Rattle.predict_core.proofs.Padding.{first_from_middle, first_from_below}
 use Rattle.predict_core.proofs.Directions.{directional_first, directional_left, directional_inside}
 use Rattle.predict_core.proofs.Earlier.{before_is}
@@ -48,53 +47,35 @@ module _ (p : Predictor) (c d : Image) (same : c.shape.columns ≡ d.shape.colum
   unfolding local_sum
   by_column n e = let u = above x column n in grind (arith, nat_tests)
 
-  at_left : y ≢ 0 → p.column ≡ false → x ≡ 0 → local_sum p c z y x ≡ local_sum p d z y x
-  at_left n e h =
+  in_rows : y ≢ 0 → p.column ≡ false → local_sum p c z y x ≡ local_sum p d z y x
+  unfolding local_sum
+  in_rows n e =
       let w = wide e in
-      sum_at_left p c z y x n e h ∙ ap₂ (λ a b. pos 2 *ℤ (a +ℤ b)) (above x column n) (above (x + 1) (omega arith) n) ∙ sym (sum_at_left p d z y x n e h)
-
-  at_right : y ≢ 0 → p.column ≡ false → x ≢ 0 → x + 1 ≡ c.shape.columns → local_sum p c z y x ≡ local_sum p d z y x
-  at_right n e h r =
-      let a = left h in
-      let b = above (x - 1) (omega arith) n in
-      let g = above x column n in
-      rw (sum_at_right p c z y x n e h r, sum_at_right p d z y x n e h (r ∙ same), a, b, g) refl
-
-  between : y ≢ 0 → p.column ≡ false → x ≢ 0 → x + 1 ≢ c.shape.columns → local_sum p c z y x ≡ local_sum p d z y x
-  between n e h r =
-      let a = left h in
-      let b = above (x - 1) (omega arith) n in
-      let g = above x column n in
-      let f = above (x + 1) (omega arith) n in
-      rw (sum_inside p c z y x n e h r, sum_inside p d z y x n e h (λ q. r (q ∙ sym same)), a, b, g, f) refl
+      let here = above x column n in
+      let west = left in
+      let north_west = above (x - 1) (omega (arith, column)) n in
+      let north_east = λ (l : x + 1 < c.shape.columns). above (x + 1) l n in
+      grind (arith, nat_tests, same, here, west, north_west, north_east, w)
 
   pub local_sum_same : local_sum p c z y x ≡ local_sum p d z y x
-  local_sum_same = elim (cases_eq y 0) [ inl e ↦ first_row e | inr n ↦ by_sums n p.column refl ]
-    where
-      by_sums : y ≢ 0 → (b : Bool) → p.column ≡ b → local_sum p c z y x ≡ local_sum p d z y x
-      by_sums n true e = by_column n e
-      by_sums n false e =
-          elim (cases_eq x 0) [ inl h ↦ at_left n e h | inr h ↦ elim (cases_eq (x + 1) c.shape.columns) [ inl r ↦ at_right n e h r | inr r ↦ between n e h r ] ]
+  local_sum_same = elim (cases_eq y 0) [ inl e ↦ first_row e | inr n ↦ elim (cases_Bool p.column) [ inl e ↦ by_column n e | inr e ↦ in_rows n e ] ]
 
   directional_same : directional_differences p c z y x ≡ directional_differences p d z y x
-  directional_same = elim (cases_eq y 0) [ inl e ↦ none e | inr n ↦ elim (cases_eq x 0) [ inl h ↦ north n h | inr h ↦ all n h ] ]
-    where
-      none : y ≡ 0 → directional_differences p c z y x ≡ directional_differences p d z y x
-      none e = directional_first p c z y x e ∙ sym (directional_first p d z y x e)
-
-      north : y ≢ 0 → x ≡ 0 → directional_differences p c z y x ≡ directional_differences p d z y x
-      north n h =
-          let s = local_sum_same in
-          let u = above x column n in
-          rw (directional_left p c z y x n h, directional_left p d z y x n h, s, u) refl
-
-      all : y ≢ 0 → x ≢ 0 → directional_differences p c z y x ≡ directional_differences p d z y x
-      all n h =
-          let s = local_sum_same in
-          let u = above x column n in
-          let v = above (x - 1) (omega arith) n in
-          let l = left h in
-          rw (directional_inside p c z y x n h, directional_inside p d z y x n h, s, u, v, l) refl
+  directional_same =
+      elim (cases_eq y 0) [
+        | inl e ↦ directional_first p c z y x e ∙ sym (directional_first p d z y x e)
+        | inr n ↦ elim (cases_eq x 0) [
+          | inl h ↦ rw (directional_left p c z y x n h, directional_left p d z y x n h, local_sum_same, above x column n) refl
+          | inr h ↦ rw (
+            directional_inside p c z y x n h,
+            directional_inside p d z y x n h,
+            local_sum_same,
+            above x column n,
+            above (x - 1) (omega (arith, column)) n,
+            left h,
+          ) refl
+        ]
+      ]
 
 -- what is read at a place of one band
 module _ (p : Predictor) (c d : Image) (z y x : ℕ) (place : IsPlace c.shape z y x)

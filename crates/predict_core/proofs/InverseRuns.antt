@@ -1,6 +1,9 @@
 -- A run whose samples are put into an image one behind another.
-use Rattle.std.proofs.Common.{◌≡◌, ℕ, zero, suc, ◌+◌, ◌-◌, ◌*◌, ◌<◌, ◌≤◌, ℤ, pos, false, true, Bool, List, [], ◌∷◌, ◌++◌, map, length, take, drop, replicate, get_or, append_assoc, length-append, length-take, refl, sym, ap, ap₂, ◌∙◌, subst, arith, inl, inr, if◌then◌else◌}
+use Rattle.std.proofs.Common.{◌≡◌, ℕ, zero, suc, ◌+◌, ◌-◌, ◌*◌, ◌<◌, ◌≤◌, ℤ, pos, false, true, Bool, List, [], ◌∷◌, ◌++◌, map, length, take, drop, replicate}
+use Rattle.std.proofs.Common.{get_or, add-one, append_assoc, length-append, length-take, refl, sym, ap, ap₂, ◌∙◌, arith, inl, inr, if◌then◌else◌}
 use Rattle.std.proofs.Math.Arith.{digits_lt}
+use Rattle.std.proofs.Math.Seq.{take-suc}
+use Rattle.std.proofs.lemmas.Bool.{cases_Bool}
 use Rattle.std.proofs.lemmas.List.{take-append-drop}
 use Rattle.cube_core.specs.Shape.{Sizes, sample_count}
 use Rattle.cube_core.specs.Image.{Image, IsPlace, sample_at, put}
@@ -9,7 +12,6 @@ use Rattle.header_bits.specs.declared.params.Params.{Params}
 use Rattle.predict_core.specs.declared.predictor.Predictor.{Predictor}
 use Rattle.predict_core.specs.Predictor.{previous_bands, component_count}
 use Rattle.predict_core.specs.Differences.{central_difference, spectral_differences, directional_differences, difference_vector}
-use Rattle.predict_core.specs.Prediction.{scaled_prediction}
 use Rattle.predict_core.specs.Precedence.{Agree, IsEarlier}
 use Rattle.predict_core.specs.Residual.{mapped, mapped_residual, run_residuals}
 use Rattle.predict_core.specs.RunPlaces.{AreAlikeBeside}
@@ -27,17 +29,19 @@ use Rattle.predict_core.proofs.Runs.{gathered_is}
 pub beside_none : (c : Image) (z y x : ℕ) → AreAlikeBeside c c z y x 0
 beside_none c z y x = record { alike = record { shape = refl; kind = refl }; samples = λ z' y' x' q out. refl }
 
-pub beside_next : (c d : Image) (z y x i : ℕ) (v : ℤ) → IsPlace d.shape z y (x + i) → length d.samples ≡ sample_count d.shape → AreAlikeBeside c d z y x i → AreAlikeBeside c (put d z y (x + i) v) z y x (i + 1)
+pub beside_next : (c d : Image) (z y x i : ℕ) (v : ℤ) → IsPlace d.shape z y (x + i) → length d.samples ≡ sample_count d.shape → AreAlikeBeside c d z y x i
+    → AreAlikeBeside c (put d z y (x + i) v) z y x (i + 1)
 beside_next c d z y x i v place whole a = record {
   alike = record { shape = a.alike.shape; kind = a.alike.kind };
   samples = λ z' y' x' q out.
       a.samples z' y' x' q (λ e f l. let o = out e f l in omega (arith, o))
-      ∙ sample_put_beside d z y (x + i) v place whole z' y' x' (subst (λ (s : Sizes). IsPlace s z' y' x') a.alike.shape q) (λ e f g. let o = out e f (omega (arith, g)) in omega (arith, o, g));
+      ∙ sample_put_beside d z y (x + i) v place whole z' y' x' (rw a.alike.shape at q) (λ e f g. let o = out e f (omega (arith, g)) in omega (arith, o, g));
 }
 
 -- ---- residuals of the places before stay
 
-module _ (p : Params) (c : Image) (z y x : ℕ) (v : ℤ) (place : IsPlace c.shape z y x) (whole : length c.samples ≡ sample_count c.shape) (wide : p.column ≡ false → 2 ≤ c.shape.columns) where
+module _ (p : Params) (c : Image) (z y x : ℕ) (v : ℤ) (place : IsPlace c.shape z y x) (whole : length c.samples ≡ sample_count c.shape)
+    (wide : p.column ≡ false → 2 ≤ c.shape.columns) where
   agree_earlier : (t : ℕ) → t < y * c.shape.columns + x → Agree c (put c z y x v) z t
   agree_earlier t l = record {
     alike = record { shape = refl; kind = refl };
@@ -48,124 +52,127 @@ module _ (p : Params) (c : Image) (z y x : ℕ) (v : ℤ) (place : IsPlace c.sha
       later t' z' (inl (b, m)) = inl (b, omega (arith, m, l))
       later t' z' (inr (b, m)) = inr (b, omega (arith, m, l))
 
-  pub residual_kept : (k : ℕ) → k < x → mapped_residual p c z (y * c.shape.columns + k) ≡ mapped_residual p (put c z y x v) z (y * c.shape.columns + k)
+  residual_kept : (k : ℕ) → k < x → mapped_residual p c z (y * c.shape.columns + k) ≡ mapped_residual p (put c z y x v) z (y * c.shape.columns + k)
   unfolding mapped_residual
   residual_kept k l =
       let inside : k < c.shape.columns = omega (arith, place.column, l) in
-      let within : y * c.shape.columns + k < c.shape.rows * c.shape.columns = digits_lt place.row inside in
-      let scaled : scaled_prediction p c z (y * c.shape.columns + k) ≡ scaled_prediction p (put c z y x v) z (y * c.shape.columns + k) =
-      scaled_same p c (put c z y x v) z place.band (omega (arith, inside)) wide (y * c.shape.columns + k) within (agree_earlier (y * c.shape.columns + k) (omega (arith, l))) in
-      let sample : sample_at c z y k ≡ sample_at (put c z y x v) z y k =
-      sample_put_beside c z y x v place whole z y k (record { band = place.band; row = place.row; column = inside }) (λ e f g. omega (arith, g, l)) in
-      rw (row_is c.shape.columns (y * c.shape.columns + k) y k refl inside, column_is c.shape.columns (y * c.shape.columns + k) y k refl inside) (ap₂ (mapped c.kind) scaled sample)
+      let scaled =
+      scaled_same p c (put c z y x v) z place.band (omega (arith, inside)) wide _ (digits_lt place.row inside) (agree_earlier _ (omega (arith, l))) in
+      let here : IsPlace c.shape z y k = record { band = place.band; row = place.row; column = inside } in
+      rw (row_is c.shape.columns _ y k refl inside, column_is c.shape.columns _ y k refl inside)
+      (ap₂ (mapped c.kind) scaled (sample_put_beside c z y x v place whole z y k here (λ e f g. omega (arith, g, l))))
 
 same_list : (f g : ℕ → ℕ) (a n : ℕ) → ((k : ℕ) → k < n → f (a + k) ≡ g (a + k)) → map f (from a n) ≡ map g (from a n)
 same_list f g a zero h = refl
 same_list f g a (suc n) h =
     let none : a + 0 ≡ a = omega arith in
-    let head : f a ≡ g a = rw none at (h 0 (omega arith)) in
-    let rest : map f (from (suc a) n) ≡ map g (from (suc a) n) = same_list f g (suc a) n (λ k l. let e : a + suc k ≡ suc a + k = omega arith in rw e at (h (suc k) (omega (arith, l)))) in
-    ap (λ r. r ∷ map f (from (suc a) n)) head ∙ ap (λ rs. g a ∷ rs) rest
+    ap₂ (λ r rs. r ∷ rs) (rw none at (h 0 (omega arith)))
+    (same_list f g (suc a) n (λ k l. let e : a + suc k ≡ suc a + k = omega arith in rw e at (h (suc k) (omega (arith, l)))))
 
-taken_next : (rs : List ℕ) (i : ℕ) → i < length rs → take (i + 1) rs ≡ take i rs ++ get_or rs i 0 ∷ []
-taken_next [] i l = absurd (omega (arith, l))
-taken_next (r ∷ rs) zero l = refl
-taken_next (r ∷ rs) (suc i) l = let e : suc i + 1 ≡ suc (i + 1) = omega arith in ap (λ n. take n (r ∷ rs)) e ∙ ap (λ xs. r ∷ xs) (taken_next rs i (omega (arith, l)))
-
-pub residuals_next : (p : Params) (d : Image) (z y x i : ℕ) (v : ℤ) (deltas : List ℕ) → IsPlace d.shape z y (x + i) → length d.samples ≡ sample_count d.shape → (p.column ≡ false → 2 ≤ d.shape.columns) → i < length deltas
-    → run_residuals p d z (y * d.shape.columns + x) i ≡ take i deltas → mapped_residual p (put d z y (x + i) v) z (y * d.shape.columns + x + i) ≡ get_or deltas i 0
+pub residuals_next : (p : Params) (d : Image) (z y x i : ℕ) (v : ℤ) (deltas : List ℕ) → IsPlace d.shape z y (x + i)
+    → length d.samples ≡ sample_count d.shape → (p.column ≡ false → 2 ≤ d.shape.columns) → i < length deltas
+    → run_residuals p d z (y * d.shape.columns + x) i ≡ take i deltas
+    → mapped_residual p (put d z y (x + i) v) z (y * d.shape.columns + x + i) ≡ get_or deltas i 0
     → run_residuals p (put d z y (x + i) v) z (y * d.shape.columns + x) (i + 1) ≡ take (i + 1) deltas
 residuals_next p d z y x i v deltas place whole wide l before e =
     let more : i + 1 ≡ suc i = omega arith in
     ap (λ n. run_residuals p (put d z y (x + i) v) z (y * d.shape.columns + x) n) more
     ∙ one_more (mapped_residual p (put d z y (x + i) v) z) (y * d.shape.columns + x) i
     ∙ ap₂ (λ rs r. rs ++ r ∷ []) (sym kept ∙ before) e
-    ∙ sym (taken_next deltas i l)
+    ∙ rw (add-one, take-suc deltas i 0 l) refl
   where
     sum : (columns k : ℕ) → y * columns + (x + k) ≡ y * columns + x + k
     sum columns k = omega arith
 
     kept : run_residuals p d z (y * d.shape.columns + x) i ≡ run_residuals p (put d z y (x + i) v) z (y * d.shape.columns + x) i
-    kept = same_list (mapped_residual p d z) (mapped_residual p (put d z y (x + i) v) z) (y * d.shape.columns + x) i
-        (λ k m. subst (λ t. mapped_residual p d z t ≡ mapped_residual p (put d z y (x + i) v) z t) (sum d.shape.columns k) (residual_kept p d z y (x + i) v place whole wide (x + k) (omega (arith, m))))
+    kept = same_list _ _ _ i (λ k m. rw (sum d.shape.columns k) at (residual_kept p d z y (x + i) v place whole wide (x + k) (omega (arith, m))))
 
 -- ---- the bands below stay
 
-module _ (q : Predictor) (c d : Image) (z y first n x : ℕ) (place : IsPlace c.shape z y x) (below : 0 < y) (wide : q.column ≡ false → 2 ≤ c.shape.columns) (a : AreAlikeBeside c d z y first n) where
+module _ (q : Predictor) (c d : Image) (z y first n x : ℕ) (place : IsPlace c.shape z y x) (below : 0 < y) (wide : q.column ≡ false → 2 ≤ c.shape.columns)
+    (a : AreAlikeBeside c d z y first n) where
   under : (z' y' x' : ℕ) → z' < z → x' < c.shape.columns → y' ≤ y → sample_at c z' y' x' ≡ sample_at d z' y' x'
   under z' y' x' b h k =
-      a.samples z' y' x' (record { band = (let r = place.band in omega arith); row = (let r = place.row in omega arith); column = h }) (λ e f l. absurd (omega (arith, e, b)))
+      a.samples z' y' x' (record { band = (let r = place.band in omega arith); row = (let r = place.row in omega arith); column = h })
+      (λ e f l. absurd (omega (arith, e, b)))
+
+  same_columns : c.shape.columns ≡ d.shape.columns
+  same_columns = ap (λ (s : Sizes). s.columns) a.alike.shape
 
   central_below : (z' : ℕ) → z' < z → central_difference q c z' y x ≡ central_difference q d z' y x
   unfolding central_difference
   central_below z' b =
-      let s = under z' y x b place.column (omega arith) in
-      let m = local_sum_same q c d (ap (λ (s : Sizes). s.columns) a.alike.shape) z' y x (omega (arith, below)) wide place.column (λ y' x' h l k. under z' y' x' b h k) in
-      rw (s, m) refl
+      let m = local_sum_same q c d same_columns z' y x (omega (arith, below)) wide place.column (λ y' x' h l k. under z' y' x' b h k) in
+      rw (under z' y x b place.column (omega arith), m) refl
 
-  pub spectral_below : (k : ℕ) → k ≤ z → spectral_differences q c z y x k ≡ spectral_differences q d z y x k
+  spectral_below : (k : ℕ) → k ≤ z → spectral_differences q c z y x k ≡ spectral_differences q d z y x k
   unfolding spectral_differences
   spectral_below zero h = refl
-  spectral_below (suc k) h =
-      let s = spectral_below k (omega arith) in
-      let m = central_below (z - suc k) (omega arith) in
-      rw (s, m) refl
+  spectral_below (suc k) h = rw (spectral_below k (omega arith), central_below (z - suc k) (omega arith)) refl
+
+  abbrev lower : List ℤ
+  lower = spectral_differences q c z y x (previous_bands q z)
 
   -- gathered in a room of 18, behind so many components that the caller writes
-  lower_from : (k count m : ℕ) (components room : List ℤ) → count ≡ k + previous_bands q z → count ≤ 18 → k ≤ length components → drop k components ≡ spectral_differences q c z y x (previous_bands q z) ++ replicate m (pos 0)
-      → room ≡ take 18 (components ++ replicate 18 (pos 0)) → drop k room ≡ spectral_differences q d z y x (previous_bands q z) ++ replicate (18 - count) (pos 0)
-  lower_from k count m components room e few le h g =
-      let heads : List ℤ = take k components in
-      let lower : List ℤ = spectral_differences q c z y x (previous_bands q z) in
-      let heads_long : length (take k components) ≡ k = omega (arith, le, length-take k components) in
-      let all : components ≡ (take k components ++ lower) ++ replicate m (pos 0) = sym (take-append-drop k components) ∙ ap (λ us. take k components ++ us) h ∙ sym (append_assoc heads lower (replicate m (pos 0))) in
-      let long : length (take k components ++ lower) ≡ count = omega (arith, length-append heads lower, heads_long, spectral_length q c z y x (previous_bands q z), e) in
-      ap (drop k) (gathered_is (take k components ++ lower) components room count m long few all g ∙ append_assoc heads lower (replicate (18 - count) (pos 0)))
-      ∙ heads_dropped heads (lower ++ replicate (18 - count) (pos 0)) k heads_long
-      ∙ ap (λ us. us ++ replicate (18 - count) (pos 0)) (spectral_below (previous_bands q z) (omega arith))
+  module _ (k count m : ℕ) (components room : List ℤ) (e : count ≡ k + previous_bands q z) (few : count ≤ 18) (le : k ≤ length components)
+      (h : drop k components ≡ lower ++ replicate m (pos 0)) (g : room ≡ take 18 (components ++ replicate 18 (pos 0))) where
+    heads_long : length (take k components) ≡ k
+    heads_long = omega (arith, le, length-take k components)
+
+    gathered : room ≡ take k components ++ (lower ++ replicate (18 - count) (pos 0))
+    gathered =
+        let all = sym (take-append-drop k components) ∙ ap (λ us. take k components ++ us) h ∙ sym (append_assoc (take k components) lower _) in
+        let long : length (take k components ++ lower) ≡ count =
+        omega (arith, length-append (take k components) lower, heads_long, spectral_length q c z y x (previous_bands q z), e) in
+        gathered_is (take k components ++ lower) components room count m long few all g ∙ append_assoc (take k components) lower _
+
+    lower_from : drop k room ≡ spectral_differences q d z y x (previous_bands q z) ++ replicate (18 - count) (pos 0)
+    lower_from =
+        ap (drop k) gathered ∙ heads_dropped _ _ k heads_long
+        ∙ ap (λ us. us ++ replicate (18 - count) (pos 0)) (spectral_below (previous_bands q z) (omega arith))
+
+    heads_from : take k room ≡ take k components
+    heads_from = ap (take k) gathered ∙ heads_taken _ _ k heads_long
 
   above : (k : ℕ) → k < c.shape.columns → sample_at c z (y - 1) k ≡ sample_at d z (y - 1) k
-  above k h = a.samples z (y - 1) k (record { band = place.band; row = (let r = place.row in omega arith); column = h }) (λ e f l. absurd (omega (arith, f, below)))
+  above k h =
+      a.samples z (y - 1) k (record { band = place.band; row = (let r = place.row in omega arith); column = h }) (λ e f l. absurd (omega (arith, f, below)))
 
-  heads_from : (count m : ℕ) (components room : List ℤ) → count ≡ 3 + previous_bands q z → count ≤ 18 → 3 ≤ length components → drop 3 components ≡ spectral_differences q c z y x (previous_bands q z) ++ replicate m (pos 0)
-      → room ≡ take 18 (components ++ replicate 18 (pos 0)) → take 3 room ≡ take 3 components
-  heads_from count m components room e few le h g =
-      let heads : List ℤ = take 3 components in
-      let lower : List ℤ = spectral_differences q c z y x (previous_bands q z) in
-      let heads_long : length (take 3 components) ≡ 3 = omega (arith, le, length-take 3 components) in
-      let all : components ≡ (take 3 components ++ lower) ++ replicate m (pos 0) = sym (take-append-drop 3 components) ∙ ap (λ us. take 3 components ++ us) h ∙ sym (append_assoc heads lower (replicate m (pos 0))) in
-      let long : length (take 3 components ++ lower) ≡ count = omega (arith, length-append heads lower, heads_long, spectral_length q c z y x (previous_bands q z), e) in
-      ap (take 3) (gathered_is (take 3 components ++ lower) components room count m long few all g ∙ append_assoc heads lower (replicate (18 - count) (pos 0)))
-      ∙ heads_taken heads (lower ++ replicate (18 - count) (pos 0)) 3 heads_long
-
-  module _ (count : ℕ) (sum : ℤ) (components room : List ℤ) (e : count ≡ component_count q z) (few : count ≤ 18) (part : IsOpenPart q c z y x count sum components)
-      (g : room ≡ take 18 (components ++ replicate 18 (pos 0))) where
+  module _ (count : ℕ) (sum : ℤ) (components room : List ℤ) (e : count ≡ component_count q z) (few : count ≤ 18)
+      (part : IsOpenPart q c z y x count sum components) (g : room ≡ take 18 (components ++ replicate 18 (pos 0))) where
     pub sum_kept : sum ≡ open_sum q d z y x
-    sum_kept = part.sum_is ∙ open_sum_same q c d z y x place.column wide (ap (λ (s : Sizes). s.columns) a.alike.shape) a.alike.kind above
+    sum_kept = part.sum_is ∙ open_sum_same q c d z y x place.column wide same_columns a.alike.kind above
+
+    lower_parts : (b : Bool) → q.reduced ≡ b → drop (if b then 0 else 3) components ≡ lower ++ replicate (4 * quads_of count - count) (pos 0)
+    lower_parts b r = ap (λ (b : Bool). drop (if b then 0 else 3) components) (sym r) ∙ part.lower
 
     pub directions_kept : q.reduced ≡ false → take 3 room ≡ open_directions q d z y x
     directions_kept r =
         let three = e ∙ full_count q z r in
-        let lower : drop 3 components ≡ spectral_differences q c z y x (previous_bands q z) ++ replicate (4 * quads_of count - count) (pos 0) =
-        ap (λ (b : Bool). drop (if b then 0 else 3) components) (sym r) ∙ part.lower in
-        heads_from count (4 * quads_of count - count) components room three few (omega (arith, part.long, three)) lower g
-        ∙ part.directions r ∙ open_directions_same q c d z y x place.column wide (ap (λ (s : Sizes). s.columns) a.alike.shape) a.alike.kind above
+        heads_from 3 count _ components room three few (omega (arith, part.long, three)) (lower_parts false r) g
+        ∙ part.directions r ∙ open_directions_same q c d z y x place.column wide same_columns a.alike.kind above
 
     pub lower_kept : drop (if q.reduced then 0 else 3) room ≡ spectral_differences q d z y x (previous_bands q z) ++ replicate (18 - count) (pos 0)
-    lower_kept = by_mode q.reduced refl part.lower
-      where
-        by_mode : (b : Bool) → q.reduced ≡ b → drop (if b then 0 else 3) components ≡ spectral_differences q c z y x (previous_bands q z) ++ replicate (4 * quads_of count - count) (pos 0)
-            → drop (if b then 0 else 3) room ≡ spectral_differences q d z y x (previous_bands q z) ++ replicate (18 - count) (pos 0)
-        by_mode true r h = lower_from 0 count (4 * quads_of count - count) components room (let n = reduced_count q z r in omega (arith, e, n)) few (omega arith) h g
-        by_mode false r h = let three = e ∙ full_count q z r in lower_from 3 count (4 * quads_of count - count) components room three few (omega (arith, part.long, three)) h g
+    lower_kept =
+        elim (cases_Bool q.reduced) [
+          | inl r ↦ (let n = reduced_count q z r in ap (λ (b : Bool). drop (if b then 0 else 3) room) r
+              ∙ lower_from 0 count _ components room (omega (arith, e, n)) few (omega arith) (lower_parts true r) g)
+          | inr r ↦ (let n = full_count q z r in ap (λ (b : Bool). drop (if b then 0 else 3) room) r
+              ∙ lower_from 3 count _ components room (omega (arith, e, n)) few (omega (arith, part.long, e, n)) (lower_parts false r) g)
+        ]
 
 -- with the directions of the place, they are all its differences
-pub vector_filled : (q : Predictor) (c : Image) (z y x m : ℕ) (lower new : List ℤ) → drop (if q.reduced then 0 else 3) lower ≡ spectral_differences q c z y x (previous_bands q z) ++ replicate m (pos 0)
-    → (q.reduced ≡ true → new ≡ lower) → (q.reduced ≡ false → new ≡ directional_differences q c z y x ++ drop 3 lower) → new ≡ difference_vector q c z y x ++ replicate m (pos 0)
-vector_filled q c z y x m lower new e f g = by_mode q.reduced refl e
+pub vector_filled : (q : Predictor) (c : Image) (z y x m : ℕ) (lower new : List ℤ)
+    → drop (if q.reduced then 0 else 3) lower ≡ spectral_differences q c z y x (previous_bands q z) ++ replicate m (pos 0) → (q.reduced ≡ true → new ≡ lower)
+    → (q.reduced ≡ false → new ≡ directional_differences q c z y x ++ drop 3 lower) → new ≡ difference_vector q c z y x ++ replicate m (pos 0)
+vector_filled q c z y x m lower new e f g =
+    elim (cases_Bool q.reduced) [
+      | inl r ↦ f r ∙ by_mode true r ∙ ap (λ us. us ++ replicate m (pos 0)) (sym (reduced_vector_is q c z y x r))
+      | inr r ↦
+          g r ∙ ap (λ us. directional_differences q c z y x ++ us) (by_mode false r)
+          ∙ sym (append_assoc (directional_differences q c z y x) _ (replicate m (pos 0)))
+          ∙ ap (λ us. us ++ replicate m (pos 0)) (sym (full_vector_is q c z y x r))
+    ]
   where
-    by_mode : (b : Bool) → q.reduced ≡ b → drop (if b then 0 else 3) lower ≡ spectral_differences q c z y x (previous_bands q z) ++ replicate m (pos 0) → new ≡ difference_vector q c z y x ++ replicate m (pos 0)
-    by_mode true r d = f r ∙ d ∙ ap (λ us. us ++ replicate m (pos 0)) (sym (reduced_vector_is q c z y x r))
-    by_mode false r d =
-        g r ∙ ap (λ us. directional_differences q c z y x ++ us) d ∙ sym (append_assoc (directional_differences q c z y x) (spectral_differences q c z y x (previous_bands q z)) (replicate m (pos 0)))
-        ∙ ap (λ us. us ++ replicate m (pos 0)) (sym (full_vector_is q c z y x r))
+    by_mode : (b : Bool) → q.reduced ≡ b → drop (if b then 0 else 3) lower ≡ spectral_differences q c z y x (previous_bands q z) ++ replicate m (pos 0)
+    by_mode b r = ap (λ (b : Bool). drop (if b then 0 else 3) lower) (sym r) ∙ e

@@ -1,7 +1,8 @@
 -- The sum that the register takes is small.
 use Rattle.std.proofs.Common.{◌≡◌, ◌+◌, ◌-◌, ◌*◌, ◌^◌, ◌<◌, ◌≤◌, ℕ, zero, suc, ℤ, pos, ◌+ℤ◌, ◌-ℤ◌, ◌*ℤ◌, ◌≤ℤ◌, neg_ℤ, unsigned_abs, Bool, true, false, List, []}
-use Rattle.std.proofs.Common.{◌∷◌, length, if◌then◌else◌, arith, refl, sym, subst, ap, ◌∙◌, le_trans}
+use Rattle.std.proofs.Common.{inl, inr, ◌∷◌, replicate, length, if◌then◌else◌, arith, refl, sym, subst, ap, ◌∙◌, le_trans}
 use Rattle.std.proofs.lemmas.Int.{ints, unsigned_abs-mul}
+use Rattle.std.proofs.lemmas.Bool.{cases_Bool}
 use Rattle.std.proofs.lemmas.Nat.{mul-le, pow_pos}
 use Rattle.std.proofs.Math.Pow.{pow_mono, pow-add}
 use Rattle.cube_core.specs.Shape.{Sizes}
@@ -23,16 +24,14 @@ use Rattle.predict_core.specs.Bounds.{AllWithin}
 use Rattle.predict_core.specs.Largest.{RegisterBound}
 use Rattle.predict_core.proofs.Moves.{clipped_low, clipped_high, limit_within, within_most}
 use Rattle.predict_core.proofs.Padding.{vector_length}
-use Rattle.predict_core.proofs.Ranges.{vector_within, sum_within, apart}
+use Rattle.predict_core.proofs.Ranges.{within_none, within_append, vector_within, sum_within, apart}
+use Rattle.predict_core.proofs.Directions.{zeros_within}
 use Rattle.predict_core.proofs.Inner.{inner_within}
 use Rattle.predict_core.proofs.Spans.{span, doubled}
 use Rattle.predict_core.proofs.Scaled.{halved_shrinks}
 use Rattle.predict_core.proofs.Tables.{table_within}
 
 -- ---- weights
-
-within_none : (n : ℕ) → AllWithin n []
-within_none n i l = absurd (omega (arith, l))
 
 within_cons : (n : ℕ) (x : ℤ) (xs : List ℤ) → unsigned_abs x ≤ n → AllWithin n xs → AllWithin n (x ∷ xs)
 within_cons n x xs h k zero l = h
@@ -43,13 +42,9 @@ unfolding eighths
 eighths_within n w zero h = within_none n
 eighths_within n w (suc k) h = within_cons n w (eighths (floor_div w 8) k) h (eighths_within n (floor_div w 8) k (le_trans (halved_shrinks w 8) h))
 
-behind_three : (n : ℕ) (xs : List ℤ) → AllWithin n xs → AllWithin n (pos 0 ∷ pos 0 ∷ pos 0 ∷ xs)
-behind_three n xs h =
-    within_cons n (pos 0) (pos 0 ∷ pos 0 ∷ xs) (omega arith) (within_cons n (pos 0) (pos 0 ∷ xs) (omega arith) (within_cons n (pos 0) xs (omega arith) h))
-
 by_mode : (n : ℕ) (b : Bool) (xs : List ℤ) → AllWithin n xs → AllWithin n (if b then xs else pos 0 ∷ pos 0 ∷ pos 0 ∷ xs)
 by_mode n true xs h = h
-by_mode n false xs h = behind_three n xs h
+by_mode n false xs h = within_append n (replicate 3 (pos 0)) xs (zeros_within n 3) h
 
 default_within : (p : Predictor) (z : ℕ) → 3 ≤ p.fraction → AllWithin (2 ^ (p.fraction + 2)) (default_weights p z)
 unfolding default_weights
@@ -97,11 +92,7 @@ weights_within p c z (suc (suc t)) lawful = updated_within p.omega _ _ (weight_v
 -- ---- the products
 
 few_components : (p : Predictor) (z : ℕ) → p.previous ≤ 15 → component_count p z ≤ 18
-few_components p z few = by_reduced p.reduced
-  where
-    by_reduced : (b : Bool) → (if b then previous_bands p z else 3 + previous_bands p z) ≤ 18
-    by_reduced true = omega arith
-    by_reduced false = omega arith
+few_components p z few = elim (cases_Bool p.reduced) [ inl e ↦ rw e (omega arith) | inr e ↦ rw e (omega arith) ]
 
 -- ---- the local sum
 

@@ -1,8 +1,8 @@
 -- The local sum, case by case, from samples and from offsets.
-use Rattle.std.proofs.Common.{◌≡◌, ◌≢◌, ◌+◌, ◌-◌, ◌*◌, ◌<◌, ◌≤◌, ℕ, ℤ, pos, ◌+ℤ◌, ◌-ℤ◌, ◌*ℤ◌, Bool, true, false, List, length, get_or, inl, inr, arith, refl}
+use Rattle.std.proofs.Common.{◌≡◌, ◌≢◌, ◌+◌, ◌-◌, ◌*◌, ◌<◌, ◌≤◌, ℕ, ℤ, pos, ◌+ℤ◌, ◌-ℤ◌, ◌*ℤ◌, Bool, true, false, List, length, get_or, inl, inr, arith}
 use Rattle.std.proofs.Common.{◌∙◌, sym}
 use Rattle.std.proofs.lemmas.Int.{ints}
-use Rattle.std.proofs.lemmas.Bool.{cases_eq}
+use Rattle.std.proofs.lemmas.Bool.{cases_eq, cases_Bool}
 use Rattle.std.proofs.lemmas.Bool.Decides.{nat_tests}
 use Rattle.cube_core.specs.Kind.{smin}
 use Rattle.cube_core.specs.Image.{Image, sample_at}
@@ -57,20 +57,7 @@ pub offsets_inside : (column : Bool) (y : ℕ) (row above : List ℕ) (x : ℕ) 
     → offset_sum column y row above x ≡ get_or row (x - 1) 0 + get_or above (x - 1) 0 + get_or above x 0 + get_or above (x + 1) 0
 offsets_inside column y row above x a b d e = grind (arith, nat_tests)
 
--- ---- one sum from the other: low is the least sample
-
-four : (low a : ℤ) (h : ℕ) → a ≡ low +ℤ pos h → pos 4 *ℤ a ≡ pos 4 *ℤ low +ℤ pos (4 * h)
-four low a h e = omega (arith, ints)
-
-two : (low a b : ℤ) (h i : ℕ) → a ≡ low +ℤ pos h → b ≡ low +ℤ pos i → pos 2 *ℤ (a +ℤ b) ≡ pos 4 *ℤ low +ℤ pos (2 * (h + i))
-two low a b h i e f = omega (arith, ints)
-
-three : (low a b d : ℤ) (h i j : ℕ) → a ≡ low +ℤ pos h → b ≡ low +ℤ pos i → d ≡ low +ℤ pos j → a +ℤ b +ℤ pos 2 *ℤ d ≡ pos 4 *ℤ low +ℤ pos (h + i + 2 * j)
-three low a b d h i j e f g = omega (arith, ints)
-
-all : (low a b d u : ℤ) (h i j k : ℕ) → a ≡ low +ℤ pos h → b ≡ low +ℤ pos i → d ≡ low +ℤ pos j → u ≡ low +ℤ pos k
-    → a +ℤ b +ℤ d +ℤ u ≡ pos 4 *ℤ low +ℤ pos (h + i + j + k)
-all low a b d u h i j k e f g l = omega (arith, ints)
+-- ---- one from the other: low is the least sample
 
 less : (low a s : ℤ) (h t : ℕ) → a ≡ low +ℤ pos h → s ≡ pos 4 *ℤ low +ℤ pos t → pos 4 *ℤ a -ℤ s ≡ pos (4 * h) -ℤ pos t
 less low a s h t e f = omega (arith, ints)
@@ -84,34 +71,39 @@ module _ (p : Predictor) (c : Image) (z y x : ℕ) (row above : List ℕ) (colum
   up i l = (upper i l).1
 
   first_row : y ≡ 0 → local_sum p c z y x ≡ pos 4 *ℤ smin c.kind +ℤ pos (offset_sum p.column y row above x)
-  first_row e = rw (sum_in_first_row p c z y x e, offsets_in_first_row p.column y row above x e) (four (smin c.kind) _ _ (left (omega arith)))
+  first_row e = rw (sum_in_first_row p c z y x e, offsets_in_first_row p.column y row above x e) (omega (arith, ints, left (omega arith)))
 
   by_column : y ≢ 0 → p.column ≡ true → local_sum p c z y x ≡ pos 4 *ℤ smin c.kind +ℤ pos (offset_sum p.column y row above x)
-  by_column n e = rw (sum_by_column p c z y x n e, offsets_by_column p.column y row above x n e) (four (smin c.kind) _ _ (up x column))
+  by_column n e = rw (sum_by_column p c z y x n e, offsets_by_column p.column y row above x n e) (omega (arith, ints, up x column))
 
   at_left : y ≢ 0 → p.column ≡ false → x ≡ 0 → local_sum p c z y x ≡ pos 4 *ℤ smin c.kind +ℤ pos (offset_sum p.column y row above x)
   at_left n e h =
       let w = wide e in
-      rw (sum_at_left p c z y x n e h, offsets_at_left p.column y row above x n e h) (two (smin c.kind) _ _ _ _ (up x column) (up (x + 1) (omega arith)))
+      rw (sum_at_left p c z y x n e h, offsets_at_left p.column y row above x n e h) (omega (arith, ints, up x column, up (x + 1) (omega arith)))
 
   at_right : y ≢ 0 → p.column ≡ false → x ≢ 0 → x + 1 ≡ c.shape.columns → local_sum p c z y x ≡ pos 4 *ℤ smin c.kind +ℤ pos (offset_sum p.column y row above x)
   at_right n e h r =
       rw (sum_at_right p c z y x n e h r, offsets_at_right p.column y row above x n e h (r ∙ sym long))
-      (three (smin c.kind) _ _ _ _ _ _ (left h) (up (x - 1) (omega arith)) (up x column))
+      (omega (arith, ints, left h, up (x - 1) (omega arith), up x column))
 
   between : y ≢ 0 → p.column ≡ false → x ≢ 0 → x + 1 ≢ c.shape.columns → local_sum p c z y x ≡ pos 4 *ℤ smin c.kind +ℤ pos (offset_sum p.column y row above x)
   between n e h r =
       rw (sum_inside p c z y x n e h r, offsets_inside p.column y row above x n e h (λ q. r (q ∙ long)))
-      (all (smin c.kind) _ _ _ _ _ _ _ _ (left h) (up (x - 1) (omega arith)) (up x column) (up (x + 1) (omega arith)))
+      (omega (arith, ints, left h, up (x - 1) (omega arith), up x column, up (x + 1) (omega arith)))
 
   -- a local sum of samples is that of their offsets, and four times the least sample
   pub sum_of_offsets : local_sum p c z y x ≡ pos 4 *ℤ smin c.kind +ℤ pos (offset_sum p.column y row above x)
-  sum_of_offsets = elim (cases_eq y 0) [ inl e ↦ first_row e | inr n ↦ by_sums n p.column refl ]
-    where
-      by_sums : y ≢ 0 → (b : Bool) → p.column ≡ b → local_sum p c z y x ≡ pos 4 *ℤ smin c.kind +ℤ pos (offset_sum p.column y row above x)
-      by_sums n true e = by_column n e
-      by_sums n false e =
-          elim (cases_eq x 0) [ inl h ↦ at_left n e h | inr h ↦ elim (cases_eq (x + 1) c.shape.columns) [ inl r ↦ at_right n e h r | inr r ↦ between n e h r ] ]
+  sum_of_offsets =
+      elim (cases_eq y 0) [
+        | inl e ↦ first_row e
+        | inr n ↦ elim (cases_Bool p.column) [
+          | inl e ↦ by_column n e
+          | inr e ↦ elim (cases_eq x 0) [
+            | inl h ↦ at_left n e h
+            | inr h ↦ elim (cases_eq (x + 1) c.shape.columns) [ inl r ↦ at_right n e h r | inr r ↦ between n e h r ]
+          ]
+        ]
+      ]
 
   -- and a difference of samples is that of their offsets
   pub difference_of_offsets : (sample : ℤ) (offset : ℕ) → sample ≡ smin c.kind +ℤ pos offset

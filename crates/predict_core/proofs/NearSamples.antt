@@ -1,5 +1,6 @@
 -- Samples whose numbers are at most twice the distance of their predictions from the nearer limit of the range.
-use Rattle.std.proofs.Common.{◌≡◌, ◌≢◌, ◌+◌, ◌*◌, ◌/◌, ◌%◌, ◌≤◌, ℕ, ℤ, pos, negsuc, neg_ℤ, ◌+ℤ◌, ◌-ℤ◌, ◌*ℤ◌, ◌≤ℤ◌, int_lt, unsigned_abs, true, false, arith, refl}
+use Rattle.std.proofs.Common.{◌≡◌, ◌≢◌, ◌+◌, ◌*◌, ◌/◌, ◌%◌, ◌≤◌, ℕ, ℤ, pos, negsuc, neg_ℤ, ◌+ℤ◌, ◌-ℤ◌, ◌*ℤ◌, ◌≤ℤ◌, int_lt, unsigned_abs, true}
+use Rattle.std.proofs.Common.{false, arith, refl}
 use Rattle.std.proofs.lemmas.Int.{ints}
 use Rattle.std.proofs.lemmas.Bool.Decides.{nat_tests}
 use Rattle.predict_core.specs.Arithmetic.{floor_div}
@@ -24,14 +25,10 @@ module _ (low high scaled predicted : ℤ) (n : ℕ) (half : predicted ≡ floor
   near = omega (arith, ints, least, most)
 
   pub even_sample : (n + unsigned_abs scaled) % 2 ≡ 0 → predicted +ℤ pos ((n + 1) / 2) ≡ unmapped_between low high scaled n
-  even_sample e =
-      unmapped_is low high scaled predicted (pos ((n + 1) / 2)) (theta_between low high predicted) (unsigned_abs (predicted -ℤ low)) (unsigned_abs scaled) n half refl refl refl
-      (even_error (theta_between low high predicted) (unsigned_abs (predicted -ℤ low)) (unsigned_abs scaled) n near e)
+  even_sample e = unmapped_is low high scaled predicted _ _ _ _ n half refl refl refl (even_error _ _ _ n near e)
 
   pub odd_sample : (n + unsigned_abs scaled) % 2 ≢ 0 → predicted -ℤ pos ((n + 1) / 2) ≡ unmapped_between low high scaled n
-  odd_sample e =
-      unmapped_is low high scaled predicted (neg_ℤ (pos ((n + 1) / 2))) (theta_between low high predicted) (unsigned_abs (predicted -ℤ low)) (unsigned_abs scaled) n half refl refl refl
-      (odd_error (theta_between low high predicted) (unsigned_abs (predicted -ℤ low)) (unsigned_abs scaled) n near e)
+  odd_sample e = unmapped_is low high scaled predicted _ _ _ _ n half refl refl refl (odd_error _ _ _ n near e)
 
   pub even_turn : (n + unsigned_abs scaled) % 2 ≡ 0 → false ≡ int_lt (pos 2 *ℤ unmapped_between low high scaled n -ℤ scaled) (pos 0)
   even_turn e = let w = with_parity scaled predicted half in let s = even_sample e in grind (arith, ints, w, s, e)

@@ -24,19 +24,16 @@ signed_by parity e sign =
     ⊎ (((sign ≡ true) × (parity % 2 ≡ 1) × (e ≤ℤ pos 0)) ⊎ ((sign ≡ false) × (parity % 2 ≡ 1) × (pos 0 <ℤ e))))
 
 pub agrees_cases : (scaled e : ℤ) (sign : Bool) → sign ≡ agrees scaled e → signed_by (unsigned_abs scaled) e sign
-agrees_cases scaled e sign h = by_parity (cases_lt 0 (unsigned_abs scaled % 2))
+agrees_cases scaled e true h = by_parity (cases_lt 0 (unsigned_abs scaled % 2))
   where
-    by_parity : (0 < unsigned_abs scaled % 2) ⊎ (unsigned_abs scaled % 2 ≤ 0) → signed_by (unsigned_abs scaled) e sign
-    by_parity (inl odd) = by_sign sign refl
-      where
-        by_sign : (b : Bool) → sign ≡ b → signed_by (unsigned_abs scaled) e sign
-        by_sign true s = inr (inr (inl (s, omega arith, grind (arith, ints, nat_tests))))
-        by_sign false s = inr (inr (inr (s, omega arith, grind (arith, ints, nat_tests))))
-    by_parity (inr even) = by_sign sign refl
-      where
-        by_sign : (b : Bool) → sign ≡ b → signed_by (unsigned_abs scaled) e sign
-        by_sign true s = inl (s, omega arith, grind (arith, ints, nat_tests))
-        by_sign false s = inr (inl (s, omega arith, grind (arith, ints, nat_tests)))
+    by_parity : (0 < unsigned_abs scaled % 2) ⊎ (unsigned_abs scaled % 2 ≤ 0) → signed_by (unsigned_abs scaled) e true
+    by_parity (inl odd) = inr (inr (inl (refl, omega arith, grind (arith, ints, nat_tests))))
+    by_parity (inr even) = inl (refl, omega arith, grind (arith, ints, nat_tests))
+agrees_cases scaled e false h = by_parity (cases_lt 0 (unsigned_abs scaled % 2))
+  where
+    by_parity : (0 < unsigned_abs scaled % 2) ⊎ (unsigned_abs scaled % 2 ≤ 0) → signed_by (unsigned_abs scaled) e false
+    by_parity (inl odd) = inr (inr (inr (refl, omega arith, grind (arith, ints, nat_tests))))
+    by_parity (inr even) = inr (inl (refl, omega arith, grind (arith, ints, nat_tests)))
 
 error_cases : (theta below parity n : ℕ) (e : ℤ) → e ≡ error_of theta below parity n
     → ((2 * theta < n) × (theta < below) × (e ≡ neg_ℤ (pos (n - theta)))) ⊎ (((2 * theta < n) × (below ≤ theta) × (e ≡ pos (n - theta)))

@@ -1,14 +1,14 @@
 -- The line above a run tells its local sums and directional differences but for the offsets to the west.
-use Rattle.std.proofs.Common.{◌≡◌, ◌≢◌, ℕ, ◌+◌, ◌-◌, ◌*◌, ◌<◌, ◌≤◌, pos, ◌-ℤ◌, ◌*ℤ◌, Bool, true, false, List, [], ◌∷◌, length, get_or, replicate, arith, refl, sym, ap, ap₂, ◌∙◌, inl, inr}
+use Rattle.std.proofs.Common.{◌≡◌, ◌≢◌, ℕ, ◌+◌, ◌-◌, ◌*◌, ◌<◌, ◌≤◌, pos, ◌-ℤ◌, ◌*ℤ◌, Bool, true, false, List, [], ◌∷◌, length, get_or, replicate, arith}
+use Rattle.std.proofs.Common.{sym, ap, ap₂, ◌∙◌}
 use Rattle.std.proofs.lemmas.Int.{ints}
-use Rattle.std.proofs.lemmas.Bool.{cases_eq}
+use Rattle.std.proofs.lemmas.Bool.Decides.{nat_tests}
 use Rattle.cube_core.specs.Image.{Image}
 use Rattle.cube_core.specs.Offsets.{AreRowOffsets}
 use Rattle.predict_core.specs.declared.predictor.Predictor.{Predictor}
 use Rattle.predict_core.specs.Lines.{bordered_above, line_sum, line_north, line_directions}
 use Rattle.predict_core.specs.OpenPart.{offset_above, open_sum, open_directions}
 use Rattle.predict_core.proofs.Borders.{border_inside, border_after, border_before}
-use Rattle.predict_core.proofs.Opening.{open_by_column, open_at_left, open_at_right, open_inside}
 use Rattle.predict_core.proofs.Quads.{zero_at}
 
 module _ (p : Predictor) (c : Image) (z y x count : ℕ) (above upper : List ℕ) (inside : x + count ≤ c.shape.columns) (long : length above ≡ c.shape.columns)
@@ -22,54 +22,47 @@ module _ (p : Predictor) (c : Image) (z y x count : ℕ) (above upper : List ℕ
   within true k h l = border_inside (get_or above 0 0) above (get_or above 0 0) k h l
   within false k h l = border_inside (get_or above 1 0) above (get_or above (length above - 1) 0) k h l
 
+  inner : (i k : ℕ) → i < count + 2 → x + i ≡ k + 1 → k < c.shape.columns → pos (get_or upper i 0) ≡ offset_above c z y k
+  inner i k l e h =
+      let at : x + i - 1 ≡ k = omega (arith, e) in
+      ap pos (far i l ∙ within p.column (x + i) (omega (arith, e)) (omega (arith, e)) ∙ ap (λ n. get_or above n 0) at) ∙ sym (offset_is k h)
+
   north : (i : ℕ) → i < count → pos (get_or upper (i + 1) 0) ≡ offset_above c z y (x + i)
-  north i l =
-      let e : x + (i + 1) - 1 ≡ x + i = omega arith in
-      ap pos (far (i + 1) (omega arith) ∙ within p.column (x + (i + 1)) (omega arith) (omega arith) ∙ ap (λ k. get_or above k 0) e) ∙ sym (offset_is (x + i) (omega arith))
+  north i l = inner (i + 1) (x + i) (omega arith) (omega arith) (omega arith)
 
   north_west : (i : ℕ) → i < count → x + i ≢ 0 → pos (get_or upper i 0) ≡ offset_above c z y (x + i - 1)
-  north_west i l n = ap pos (far i (omega arith) ∙ within p.column (x + i) (omega arith) (omega arith)) ∙ sym (offset_is (x + i - 1) (omega arith))
+  north_west i l n = inner i (x + i - 1) (omega arith) (omega arith) (omega arith)
 
   east_inside : (i : ℕ) → i < count → x + i + 1 ≢ c.shape.columns → pos (get_or upper (i + 2) 0) ≡ offset_above c z y (x + i + 1)
-  east_inside i l n =
-      let e : x + (i + 2) - 1 ≡ x + i + 1 = omega arith in
-      ap pos (far (i + 2) (omega arith) ∙ within p.column (x + (i + 2)) (omega arith) (omega arith) ∙ ap (λ k. get_or above k 0) e)
-      ∙ sym (offset_is (x + i + 1) (omega arith))
+  east_inside i l n = inner (i + 2) (x + i + 1) (omega arith) (omega arith) (omega arith)
 
   east_last : p.column ≡ false → (i : ℕ) → i < count → x + i + 1 ≡ c.shape.columns → pos (get_or upper (i + 2) 0) ≡ offset_above c z y (x + i)
   east_last r i l e =
       let last : length above - 1 ≡ x + i = omega arith in
-      ap pos (far (i + 2) (omega arith) ∙ ap (λ b. get_or (bordered_above b above) (x + (i + 2)) 0) r
-      ∙ border_after (get_or above 1 0) above (get_or above (length above - 1) 0) (x + (i + 2)) (omega arith) ∙ ap (λ k. get_or above k 0) last)
+      ap pos (far (i + 2) (omega arith) ∙ rw r (border_after (get_or above 1 0) above _ (x + (i + 2)) (omega arith)) ∙ ap (λ k. get_or above k 0) last)
       ∙ sym (offset_is (x + i) (omega arith))
 
   west_first : p.column ≡ false → (i : ℕ) → i < count → x + i ≡ 0 → pos (get_or upper i 0) ≡ offset_above c z y (x + i + 1)
   west_first r i l e =
       let w = wide r in
       let one : x + i + 1 ≡ 1 = omega (arith, e) in
-      ap pos (far i (omega arith) ∙ ap (λ b. get_or (bordered_above b above) (x + i) 0) r
-      ∙ border_before (get_or above 1 0) above (get_or above (length above - 1) 0) (x + i) e) ∙ sym (ap (offset_above c z y) one ∙ offset_is 1 (omega arith))
+      ap pos (far i (omega arith) ∙ rw r (border_before (get_or above 1 0) above _ (x + i) e)) ∙ sym (ap (offset_above c z y) one ∙ offset_is 1 (omega arith))
 
   module _ (current : List ℕ) (clear : current ≡ replicate 66 0) where
     none : (i : ℕ) → get_or current i 0 ≡ 0
     none i = ap (λ line. get_or line i 0) clear ∙ zero_at 66 i
 
     pub open_line : (i : ℕ) → i < count → pos (line_sum p.column current upper i) ≡ open_sum p c z y (x + i)
-    open_line i l = by_sums p.column refl
-      where
-        by_sums : (b : Bool) → p.column ≡ b → pos (line_sum b current upper i) ≡ open_sum p c z y (x + i)
-        by_sums true e = let s = open_by_column p c z y (x + i) e in let a = north i l in omega (arith, ints, s, a)
-        by_sums false e =
-            let a = north i l in
-            let w = none i in
-            elim (cases_eq (x + i) 0) [
-              | inl h ↦ (let r = wide e in let s = open_at_left p c z y (x + i) e h in let b = west_first e i l h in let d = east_inside i l (λ q. omega (arith, q, h, r)) in
-                  omega (arith, ints, s, a, b, d, w))
-              | inr n ↦ (let b = north_west i l n in elim (cases_eq (x + i + 1) c.shape.columns) [
-                | inl r ↦ (let s = open_at_right p c z y (x + i) e n r in let d = east_last e i l r in omega (arith, ints, s, a, b, d, w))
-                | inr m ↦ (let s = open_inside p c z y (x + i) e n m in let d = east_inside i l m in omega (arith, ints, s, a, b, d, w))
-              ])
-            ]
+    unfolding open_sum
+    open_line i l =
+        let w = wide in
+        let a = north i l in
+        let b = north_west i l in
+        let d = east_inside i l in
+        let e = λ (r : p.column ≡ false). east_last r i l in
+        let f = λ (r : p.column ≡ false). west_first r i l in
+        let n = none i in
+        grind (arith, ints, nat_tests, a, b, d, e, f, n, w)
 
     module _ (i : ℕ) (l : i < count) where
       north_is : line_north p.column current upper i ≡ pos 4 *ℤ offset_above c z y (x + i) -ℤ open_sum p c z y (x + i)
@@ -83,14 +76,10 @@ module _ (p : Predictor) (c : Image) (z y x count : ℕ) (above upper : List ℕ
       open_inner n =
           let b = north_west i l n in
           let s = open_line i l in
-          let third : pos (4 * get_or upper i 0) -ℤ pos (line_sum p.column current upper i) ≡ pos 4 *ℤ offset_above c z y (x + i - 1) -ℤ open_sum p c z y (x + i) = omega (arith, ints, b, s) in
-          ap₂ (λ a bs. a ∷ bs) north_is (ap₂ (λ b d. b ∷ d ∷ []) west_is third)
+          ap₂ (λ a bs. a ∷ bs) north_is (ap₂ (λ b d. b ∷ d ∷ []) west_is (omega (arith, ints, b, s)))
 
       pub open_first : x + i ≡ 0 → line_north p.column current upper i
-          ∷ (pos (4 * get_or current i 0) -ℤ pos (line_sum p.column current upper i)) ∷ line_north p.column current upper i ∷ [] ≡ open_directions p c z y (x + i)
+          ∷ (pos (4 * get_or current i 0) -ℤ pos (line_sum p.column current upper i)) ∷ line_north p.column current upper i ∷ []
+          ≡ open_directions p c z y (x + i)
       unfolding open_directions
-      open_first e =
-          let same : x + i - 1 ≡ x + i = omega (arith, e) in
-          ap₂ (λ a b. a ∷ b ∷ a ∷ []) north_is west_is
-          ∙ ap (λ k. (pos 4 *ℤ offset_above c z y (x + i) -ℤ open_sum p c z y (x + i)) ∷ (pos 0 -ℤ open_sum p c z y (x + i))
-          ∷ (pos 4 *ℤ offset_above c z y k -ℤ open_sum p c z y (x + i)) ∷ []) (sym same)
+      open_first e = let same : x + i - 1 ≡ x + i = omega (arith, e) in rw same (ap₂ (λ a b. a ∷ b ∷ a ∷ []) north_is west_is)

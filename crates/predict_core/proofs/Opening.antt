@@ -1,7 +1,9 @@
 -- The row above tells a place's local sum and directional differences but for what the sample to the west adds.
-use Rattle.std.proofs.Common.{◌≡◌, ◌≢◌, ◌+◌, ◌-◌, ◌<◌, ◌≤◌, ℕ, ℤ, pos, ◌+ℤ◌, ◌-ℤ◌, ◌*ℤ◌, Bool, true, false, List, [], ◌∷◌, length, get_or, set, take, drop, inl, inr, if◌then◌else◌, negsuc, ◌≤ℤ◌, ◌||◌, int_lt, SFits, w32, arith, refl, sym, ap, ap₂, ◌∙◌}
+use Rattle.std.proofs.Common.{◌≡◌, ◌≢◌, ◌+◌, ◌-◌, ◌<◌, ◌≤◌, ℕ, ℤ, pos, ◌+ℤ◌, ◌-ℤ◌, ◌*ℤ◌, Bool, true, false, List, [], ◌∷◌, length, get_or, set, take, drop}
+use Rattle.std.proofs.Common.{inl, inr, if◌then◌else◌, negsuc, ◌≤ℤ◌, ◌||◌, int_lt, SFits, w32, arith, refl, sym, ap, ap₂, ◌∙◌}
 use Rattle.std.proofs.lemmas.Int.{ints, fits_signed_from_abs}
-use Rattle.std.proofs.lemmas.Bool.{cases_eq}
+use Rattle.std.proofs.lemmas.Bool.{cases_eq, cases_Bool}
+use Rattle.std.proofs.lemmas.List.{set-get_or, get_or-take, get_or-drop}
 use Rattle.std.proofs.lemmas.Bool.Decides.{nat_tests}
 use Rattle.cube_core.specs.Kind.{smin}
 use Rattle.cube_core.specs.Image.{Image, sample_at}
@@ -10,7 +12,7 @@ use Rattle.predict_core.specs.LocalSum.{local_sum}
 use Rattle.predict_core.specs.Differences.{directional_differences}
 use Rattle.predict_core.specs.OffsetSum.{IsWest}
 use Rattle.predict_core.specs.OpenPart.{offset_above, open_sum, open_directions, unless}
-use Rattle.predict_core.proofs.Directions.{directional_left, directional_inside, west_left, west_inside}
+use Rattle.predict_core.proofs.Directions.{directional_left, directional_inside, west_left, west_inside, three_written}
 use Rattle.predict_core.proofs.LocalSums.{sum_by_column, sum_at_left, sum_at_right, sum_inside}
 
 -- ---- case by case
@@ -42,21 +44,27 @@ west_part column west = if column then pos 0 else pos west
 
 module _ (p : Predictor) (c : Image) (z y x west : ℕ) (later : y ≢ 0) (is : IsWest c z y x west) where
   pub closed_sum : local_sum p c z y x ≡ pos 4 *ℤ smin c.kind +ℤ (open_sum p c z y x +ℤ west_part p.column west)
-  closed_sum = by_sums p.column refl
-    where
-      by_sums : (b : Bool) → p.column ≡ b → local_sum p c z y x ≡ pos 4 *ℤ smin c.kind +ℤ (open_sum p c z y x +ℤ west_part b west)
-      by_sums true e = let a = sum_by_column p c z y x later e in let b = open_by_column p c z y x e in omega (arith, ints, a, b)
-      by_sums false e =
-          elim (cases_eq x 0) [
-            | inl h ↦ (let a = sum_at_left p c z y x later e h in let b = open_at_left p c z y x e h in let w = west_left c z y x west h is in omega (arith, ints, a, b, w))
-            | inr n ↦ (let w = west_inside c z y x west n is in elim (cases_eq (x + 1) c.shape.columns) [
-              | inl r ↦ (let a = sum_at_right p c z y x later e n r in let b = open_at_right p c z y x e n r in omega (arith, ints, a, b, w))
-              | inr m ↦ (let a = sum_inside p c z y x later e n m in let b = open_inside p c z y x e n m in omega (arith, ints, a, b, w))
-            ])
-          ]
+  closed_sum =
+      elim (cases_Bool p.column) [
+        | inl e ↦ (let a = sum_by_column p c z y x later e in let b = open_by_column p c z y x e in let o = ap (λ (b : Bool). west_part b west) e in
+            omega (arith, ints, a, b, o))
+        | inr e ↦ (let o = ap (λ (b : Bool). west_part b west) e in elim (cases_eq x 0) [
+          | inl h ↦ (let a = sum_at_left p c z y x later e h in let b = open_at_left p c z y x e h in let w = west_left c z y x west h is in
+              omega (arith, ints, a, b, w, o))
+          | inr n ↦ (let w = west_inside c z y x west n is in elim (cases_eq (x + 1) c.shape.columns) [
+            | inl r ↦ (let a = sum_at_right p c z y x later e n r in let b = open_at_right p c z y x e n r in omega (arith, ints, a, b, w, o))
+            | inr m ↦ (let a = sum_inside p c z y x later e n m in let b = open_inside p c z y x e n m in omega (arith, ints, a, b, w, o))
+          ])
+        ])
+      ]
 
-  north_closed : pos 4 *ℤ sample_at c z (y - 1) x -ℤ local_sum p c z y x ≡ (pos 4 *ℤ offset_above c z y x -ℤ open_sum p c z y x) -ℤ west_part p.column west
-  north_closed = let s = closed_sum in omega (arith, ints, s)
+  north_closed : (k : ℕ) → pos 4 *ℤ sample_at c z (y - 1) k -ℤ local_sum p c z y x
+      ≡ (pos 4 *ℤ offset_above c z y k -ℤ open_sum p c z y x) -ℤ west_part p.column west
+  north_closed k = let s = closed_sum in omega (arith, ints, s)
+
+  west_closed : (sample : ℤ) → sample ≡ smin c.kind +ℤ pos west
+      → pos 4 *ℤ sample -ℤ local_sum p c z y x ≡ (pos 0 -ℤ open_sum p c z y x) +ℤ pos 4 *ℤ pos west -ℤ west_part p.column west
+  west_closed sample w = let s = closed_sum in omega (arith, ints, s, w)
 
   -- the differences of the neighbours to the north, the west and the north-west
   pub closed_directions : directional_differences p c z y x
@@ -64,16 +72,11 @@ module _ (p : Predictor) (c : Image) (z y x west : ℕ) (later : y ≢ 0) (is : 
       ∷ ((pos 0 -ℤ open_sum p c z y x) +ℤ pos 4 *ℤ pos west -ℤ west_part p.column west)
       ∷ ((pos 4 *ℤ offset_above c z y (x - 1) -ℤ open_sum p c z y x) -ℤ west_part p.column west) ∷ []
   closed_directions =
-      let s = closed_sum in
       elim (cases_eq x 0) [
-        | inl h ↦ (let w = west_left c z y x west h is in
-            let same : x - 1 ≡ x = omega (arith, h) in
-            let second : pos 4 *ℤ sample_at c z (y - 1) x -ℤ local_sum p c z y x ≡ (pos 0 -ℤ open_sum p c z y x) +ℤ pos 4 *ℤ pos west -ℤ west_part p.column west = omega (arith, ints, s, w) in
-            rw (directional_left p c z y x later h, same) (ap₂ (λ a b. a ∷ b ∷ a ∷ []) north_closed second))
-        | inr n ↦ (let w = west_inside c z y x west n is in
-            let second : pos 4 *ℤ sample_at c z y (x - 1) -ℤ local_sum p c z y x ≡ (pos 0 -ℤ open_sum p c z y x) +ℤ pos 4 *ℤ pos west -ℤ west_part p.column west = omega (arith, ints, s, w) in
-            let third : pos 4 *ℤ sample_at c z (y - 1) (x - 1) -ℤ local_sum p c z y x ≡ (pos 4 *ℤ offset_above c z y (x - 1) -ℤ open_sum p c z y x) -ℤ west_part p.column west = omega (arith, ints, s) in
-            rw (directional_inside p c z y x later n) (ap₂ (λ a bs. a ∷ bs) north_closed (ap₂ (λ b d. b ∷ d ∷ []) second third)))
+        | inl h ↦ (let same : x - 1 ≡ x = omega (arith, h) in
+            rw (directional_left p c z y x later h, same)
+            (ap₂ (λ a b. a ∷ b ∷ a ∷ []) (north_closed x) (west_closed _ (west_left c z y x west h is))))
+        | inr n ↦ rw (directional_inside p c z y x later n, north_closed x, west_closed _ (west_inside c z y x west n is), north_closed (x - 1)) refl
       ]
 
 -- ---- images that are alike in the row above
@@ -85,25 +88,13 @@ module _ (p : Predictor) (c d : Image) (z y x : ℕ) (column : x < c.shape.colum
   offset_same k l = ap₂ (λ s low. s -ℤ smin low) (above k l) kind
 
   pub open_sum_same : open_sum p c z y x ≡ open_sum p d z y x
-  open_sum_same = by_sums p.column refl
-    where
-      by_sums : (b : Bool) → p.column ≡ b → open_sum p c z y x ≡ open_sum p d z y x
-      by_sums true e = rw (open_by_column p c z y x e, open_by_column p d z y x e, offset_same x column) refl
-      by_sums false e =
-          let w = wide e in
-          elim (cases_eq x 0) [
-            | inl h ↦ rw (open_at_left p c z y x e h, open_at_left p d z y x e h, offset_same x column, offset_same (x + 1) (omega arith)) refl
-            | inr n ↦ elim (cases_eq (x + 1) c.shape.columns) [
-              | inl r ↦ rw (open_at_right p c z y x e n r, open_at_right p d z y x e n (r ∙ columns), offset_same x column, offset_same (x - 1) (omega arith)) refl
-              | inr m ↦ rw (
-                open_inside p c z y x e n m,
-                open_inside p d z y x e n (λ r. m (r ∙ sym columns)),
-                offset_same x column,
-                offset_same (x - 1) (omega arith),
-                offset_same (x + 1) (omega arith),
-              ) refl
-            ]
-          ]
+  unfolding open_sum
+  open_sum_same =
+      let w = wide in
+      let here = offset_same x column in
+      let before = offset_same (x - 1) (omega (arith, column)) in
+      let behind = offset_same (x + 1) in
+      grind (arith, nat_tests, here, before, behind, columns, w)
 
   pub open_directions_same : open_directions p c z y x ≡ open_directions p d z y x
   unfolding open_directions
@@ -151,29 +142,19 @@ module _ (part : ℤ) (west : ℕ) where
 
 pub three_heads : (out : List ℤ) (a b d : ℤ) → take 3 out ≡ a ∷ b ∷ d ∷ []
     → (get_or out 0 (pos 0) ≡ a) × (get_or out 1 (pos 0) ≡ b) × (get_or out 2 (pos 0) ≡ d)
-three_heads [] a b d e = absurd (omega (arith, ap length e))
-three_heads (o ∷ []) a b d e = absurd (omega (arith, ap length e))
-three_heads (o ∷ p ∷ []) a b d e = absurd (omega (arith, ap length e))
-three_heads (o ∷ p ∷ q ∷ out) a b d e = (ap (λ l. get_or l 0 (pos 0)) e, ap (λ l. get_or l 1 (pos 0)) e, ap (λ l. get_or l 2 (pos 0)) e)
+three_heads out a b d e = (head 0 (omega arith), head 1 (omega arith), head 2 (omega arith))
+  where
+    head : (k : ℕ) → k < 3 → get_or out k (pos 0) ≡ get_or (a ∷ b ∷ d ∷ []) k (pos 0)
+    head k l = sym (get_or-take 3 out k (pos 0) l) ∙ ap (λ xs. get_or xs k (pos 0)) e
+
+kept : (out : List ℤ) (k : ℕ) (v : ℤ) → v ≡ get_or out k (pos 0) → set out k v ≡ out
+kept out k v e = rw e (set-get_or out k (pos 0))
 
 module _ (out : List ℤ) (a b d e : ℤ) (long : 4 ≤ length out) (fourth : e ≡ get_or out 3 (pos 0)) where
   pub three_over_four : set (set (set (set out 0 a) 1 b) 2 d) 3 e ≡ a ∷ b ∷ d ∷ drop 3 out
-  three_over_four = by_length out long fourth
-    where
-      by_length : (out : List ℤ) → 4 ≤ length out → e ≡ get_or out 3 (pos 0) → set (set (set (set out 0 a) 1 b) 2 d) 3 e ≡ a ∷ b ∷ d ∷ drop 3 out
-      by_length [] l f = absurd (omega (arith, l))
-      by_length (o ∷ []) l f = absurd (omega (arith, l))
-      by_length (o ∷ p ∷ []) l f = absurd (omega (arith, l))
-      by_length (o ∷ p ∷ q ∷ []) l f = absurd (omega (arith, l))
-      by_length (o ∷ p ∷ q ∷ r ∷ out) l f = ap (λ v. a ∷ b ∷ d ∷ v ∷ out) f
+  three_over_four =
+      ap (λ xs. set xs 3 e) (three_written out a b d (omega (arith, long)))
+      ∙ ap (λ xs. a ∷ b ∷ d ∷ xs) (kept (drop 3 out) 0 e (fourth ∙ sym (get_or-drop 3 out 0 (pos 0))))
 
   pub four_kept : a ≡ get_or out 0 (pos 0) → b ≡ get_or out 1 (pos 0) → d ≡ get_or out 2 (pos 0) → set (set (set (set out 0 a) 1 b) 2 d) 3 e ≡ out
-  four_kept = by_length out long fourth
-    where
-      by_length : (out : List ℤ) → 4 ≤ length out → e ≡ get_or out 3 (pos 0) → a ≡ get_or out 0 (pos 0) → b ≡ get_or out 1 (pos 0) → d ≡ get_or out 2 (pos 0)
-          → set (set (set (set out 0 a) 1 b) 2 d) 3 e ≡ out
-      by_length [] l f g h k = absurd (omega (arith, l))
-      by_length (o ∷ []) l f g h k = absurd (omega (arith, l))
-      by_length (o ∷ p ∷ []) l f g h k = absurd (omega (arith, l))
-      by_length (o ∷ p ∷ q ∷ []) l f g h k = absurd (omega (arith, l))
-      by_length (o ∷ p ∷ q ∷ r ∷ out) l f g h k = rw (f, g, h, k) refl
+  four_kept f g h = rw (kept out 0 a f, kept out 1 b g, kept out 2 d h, kept out 3 e fourth) refl

@@ -1,19 +1,19 @@
 -- Weights and differences in a room whose rest is 0.
-use Rattle.std.proofs.Common.{◌≡◌, ◌≢◌, ◌⊎◌, ◌-◌, ◌≤◌, ℕ, zero, suc, ℤ, pos, ◌+ℤ◌, ◌-ℤ◌, ◌*ℤ◌, Bool, true, false, List, [], ◌∷◌, ◌++◌, length, take, replicate}
-use Rattle.std.proofs.Common.{arith, refl, ◌∙◌, sym, ap}
+use Rattle.std.proofs.Common.{◌≡◌, ◌≢◌, ◌⊎◌, ◌-◌, ◌≤◌, ℕ, zero, suc, ℤ, pos, ◌+ℤ◌, ◌-ℤ◌, ◌*ℤ◌, Bool, List, [], ◌∷◌, ◌++◌, length, take, replicate}
+use Rattle.std.proofs.Common.{arith, refl, ◌∙◌, sym, ap, inl, inr, length-append, negsuc, ◌≤ℤ◌, int_lt, to_z, of_z, w32}
 use Rattle.std.proofs.lemmas.Int.{ints}
+use Rattle.std.proofs.lemmas.Bool.{cases_Bool}
 use Rattle.std.proofs.lemmas.Bool.Decides.{nat_tests}
 use Rattle.cube_core.specs.Kind.{SampleKind, smid}
 use Rattle.cube_core.specs.Image.{Image, sample_at}
 use Rattle.predict_core.specs.declared.predictor.Predictor.{Predictor}
 use Rattle.predict_core.specs.Predictor.{previous_bands, component_count}
 use Rattle.predict_core.specs.LocalSum.{local_sum}
-use Rattle.predict_core.specs.Differences.{spectral_differences, directional_differences, difference_vector}
+use Rattle.predict_core.specs.Differences.{directional_differences, difference_vector}
 use Rattle.predict_core.specs.Weights.{updated_weights, updated_weight}
 use Rattle.predict_core.specs.Prediction.{inner_product, scaled_by, scaled_there, first_scaled}
 use Rattle.predict_core.proofs.Filling.{spectral_length}
 use Rattle.predict_core.proofs.Directions.{reduced_vector_is, full_vector_is, directional_length, reduced_count, full_count}
-use Rattle.std.proofs.Common.{length-append, negsuc, ◌≤ℤ◌, int_lt, to_z, of_z, w32}
 
 product_with_zeros : (ws : List ℤ) (m : ℕ) → inner_product ws (replicate m (pos 0)) ≡ pos 0
 unfolding inner_product
@@ -42,16 +42,14 @@ padded_update f e n (w ∷ ws) [] zs = refl
 padded_update f e n (w ∷ ws) (u ∷ us) zs = ap (λ xs. updated_weight f e n w u ∷ xs) (padded_update f e n ws us zs)
 
 pub vector_length : (p : Predictor) (c : Image) (z y x : ℕ) → length (difference_vector p c z y x) ≡ component_count p z
-vector_length p c z y x = by_mode p.reduced refl
-  where
-    by_mode : (b : Bool) → p.reduced ≡ b → length (difference_vector p c z y x) ≡ component_count p z
-    by_mode true e = ap length (reduced_vector_is p c z y x e) ∙ spectral_length p c z y x (previous_bands p z) ∙ sym (reduced_count p z e)
-    by_mode false e =
-        let d = directional_length p c z y x in
-        let s = spectral_length p c z y x (previous_bands p z) in
-        let k = full_count p z e in
-        ap length (full_vector_is p c z y x e) ∙ length-append (directional_differences p c z y x) (spectral_differences p c z y x (previous_bands p z))
-        ∙ omega (arith, d, s, k)
+vector_length p c z y x =
+    let d = directional_length p c z y x in
+    let s = spectral_length p c z y x (previous_bands p z) in
+    elim (cases_Bool p.reduced) [
+      | inl e ↦ ap length (reduced_vector_is p c z y x e) ∙ s ∙ sym (reduced_count p z e)
+      | inr e ↦ (let k = full_count p z e in
+          ap length (full_vector_is p c z y x e) ∙ length-append (directional_differences p c z y x) _ ∙ omega (arith, d, s, k))
+    ]
 
 pub scaled_there_is : (p : Predictor) (c : Image) (k : SampleKind) (z y x : ℕ) (sum scaled : ℤ) (ws : List ℤ) → c.kind ≡ k → sum ≡ local_sum p c z y x
     → scaled ≡ scaled_by p k sum ws (difference_vector p c z y x) → scaled ≡ scaled_there p c z y x ws

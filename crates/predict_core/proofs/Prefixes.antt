@@ -7,6 +7,7 @@ use Rattle.std.proofs.Math.Seq.{take-suc-set, take-suc, take-append-add}
 use Rattle.predict_core.specs.Weights.{updated_weight, updated_weights}
 use Rattle.predict_core.specs.Prediction.{inner_product}
 use Rattle.predict_core.proofs.Padding.{padded_product, padded_update}
+use Rattle.predict_core.proofs.Products.{same_heads}
 
 product_more : (ws us : List ℤ) (w u : ℤ) → length ws ≡ length us → inner_product (ws ++ w ∷ []) (us ++ u ∷ []) ≡ inner_product ws us +ℤ w *ℤ u
 unfolding inner_product
@@ -44,12 +45,9 @@ pub product_none : (ws us : List ℤ) → pos 0 ≡ inner_product (take 0 ws) (t
 unfolding inner_product
 product_none ws us = refl
 
-same_heads : (a b : ℤ) (xs ys : List ℤ) → a ∷ xs ≡ b ∷ ys → a ≡ b
-same_heads a b xs ys e = cc
-
 -- what was not yet written is as before
 pub kept_at : (old now : List ℤ) (i : ℕ) → i < length now → i < length old → drop i now ≡ drop i old → get_or now i (pos 0) ≡ get_or old i (pos 0)
-kept_at old now i h k e = same_heads _ _ _ _ (sym (drop-cons now i (pos 0) h) ∙ e ∙ drop-cons old i (pos 0) k)
+kept_at old now i h k e = (same_heads _ _ _ _ (sym (drop-cons now i (pos 0) h) ∙ e ∙ drop-cons old i (pos 0) k)).0
 
 pub update_next : (f : ℕ) (e : ℤ) (n : Bool) (old us now : List ℤ) (i : ℕ) (v : ℤ) → i < length now → i < length old → i < length us → drop i now ≡ drop i old
     → v ≡ updated_weight f e n (get_or now i (pos 0)) (get_or us i (pos 0)) → take i now ≡ updated_weights f e n (take i old) (take i us)

@@ -35,7 +35,7 @@ sum_bound sum x i h k = omega (arith, ints)
 pub sum_fits : (sum x : ℤ) (i : ℕ) → i < 18 → unsigned_abs sum ≤ i * 2 ^ 39 → unsigned_abs x ≤ 2 ^ 39 → SFits w64 (sum +ℤ x)
 sum_fits sum x i l h k = SFits-wide (sum +ℤ x) (omega (arith, sum_bound sum x i h k))
 
-same_heads : (a b : ℤ) (xs ys : List ℤ) → a ∷ xs ≡ b ∷ ys → (a ≡ b) × (xs ≡ ys)
+pub same_heads : (a b : ℤ) (xs ys : List ℤ) → a ∷ xs ≡ b ∷ ys → (a ≡ b) × (xs ≡ ys)
 same_heads a b xs ys e = (cc, cc)
 
 pub step_kept : (old now : List ℤ) (i : ℕ) (v : ℤ) → i < length now → i < length old → drop i now ≡ drop i old → drop (i + 1) (set now i v) ≡ drop (i + 1) old

@@ -1,8 +1,8 @@
 -- How large the differences of a cube's samples can be.
-use Rattle.std.proofs.Common.{◌≡◌, ◌≢◌, ◌+◌, ◌-◌, ◌*◌, ◌^◌, ◌<◌, ◌≤◌, ℕ, zero, suc, ℤ, pos, ◌+ℤ◌, ◌-ℤ◌, ◌*ℤ◌, unsigned_abs, Bool, true, false, List, [], ◌∷◌}
-use Rattle.std.proofs.Common.{◌++◌, replicate, inl, inr, arith, refl, sym, subst}
+use Rattle.std.proofs.Common.{◌≡◌, ◌+◌, ◌-◌, ◌*◌, ◌^◌, ◌<◌, ◌≤◌, ℕ, zero, suc, ℤ, pos, ◌-ℤ◌, ◌*ℤ◌, unsigned_abs, false, List, [], ◌∷◌}
+use Rattle.std.proofs.Common.{◌++◌, replicate, inl, inr, arith, sym, subst}
 use Rattle.std.proofs.lemmas.Int.{ints}
-use Rattle.std.proofs.lemmas.Bool.{cases_eq}
+use Rattle.std.proofs.lemmas.Bool.{cases_eq, cases_Bool}
 use Rattle.cube_core.specs.Kind.{smin, smax, IsSample}
 use Rattle.cube_core.specs.Image.{Image, IsCube, IsPlace, sample_at, index_in}
 use Rattle.cube_core.proofs.Bounds.{index_below}
@@ -31,21 +31,8 @@ within_three n a b d h k l (suc zero) m = k
 within_three n a b d h k l (suc (suc zero)) m = l
 within_three n a b d h k l (suc (suc (suc i))) m = absurd (omega (arith, m))
 
-within_none : (n : ℕ) → AllWithin n []
+pub within_none : (n : ℕ) → AllWithin n []
 within_none n i l = absurd (omega (arith, l))
-
-four : (low high a : ℤ) → Between low high a → Between (pos 4 *ℤ low) (pos 4 *ℤ high) (pos 4 *ℤ a)
-four low high a h = (omega (arith, ints, h.0, h.1), omega (arith, ints, h.0, h.1))
-
-two : (low high a b : ℤ) → Between low high a → Between low high b → Between (pos 4 *ℤ low) (pos 4 *ℤ high) (pos 2 *ℤ (a +ℤ b))
-two low high a b h k = (omega (arith, ints, h.0, h.1, k.0, k.1), omega (arith, ints, h.0, h.1, k.0, k.1))
-
-three : (low high a b d : ℤ) → Between low high a → Between low high b → Between low high d → Between (pos 4 *ℤ low) (pos 4 *ℤ high) (a +ℤ b +ℤ pos 2 *ℤ d)
-three low high a b d h k l = (omega (arith, ints, h.0, h.1, k.0, k.1, l.0, l.1), omega (arith, ints, h.0, h.1, k.0, k.1, l.0, l.1))
-
-all : (low high a b d u : ℤ) → Between low high a → Between low high b → Between low high d → Between low high u
-    → Between (pos 4 *ℤ low) (pos 4 *ℤ high) (a +ℤ b +ℤ d +ℤ u)
-all low high a b d u h k l m = (omega (arith, ints, h.0, h.1, k.0, k.1, l.0, l.1, m.0, m.1), omega (arith, ints, h.0, h.1, k.0, k.1, l.0, l.1, m.0, m.1))
 
 pub apart : (low high a s : ℤ) (power : ℕ) → high -ℤ low ≡ pos power -ℤ pos 1 → Between low high a → Between (pos 4 *ℤ low) (pos 4 *ℤ high) s
     → unsigned_abs (pos 4 *ℤ a -ℤ s) ≤ 4 * power
@@ -71,21 +58,27 @@ module _ (p : Predictor) (c : Image) (cube : IsCube c) (y x : ℕ) (later : 0 < 
     before : x - 1 < c.shape.columns
     before = let q = place.column in omega arith
 
-    by_sums : y ≢ 0 → (b : Bool) → p.column ≡ b → Between (pos 4 *ℤ smin c.kind) (pos 4 *ℤ smax c.kind) (local_sum p c z y x)
-    by_sums n true e = rw (sum_by_column p c z y x n e) (four (smin c.kind) (smax c.kind) _ (up x column))
-    by_sums n false e =
-        let w = wide e in
-        elim (cases_eq x 0) [
-          | inl h ↦ rw (sum_at_left p c z y x n e h) (two (smin c.kind) (smax c.kind) _ _ (up x column) (up (x + 1) (omega arith)))
-          | inr h ↦ elim (cases_eq (x + 1) c.shape.columns) [
-            | inl r ↦ rw (sum_at_right p c z y x n e h r) (three (smin c.kind) (smax c.kind) _ _ _ left (up (x - 1) before) (up x column))
-            | inr r ↦ rw (sum_inside p c z y x n e h r)
-                (all (smin c.kind) (smax c.kind) _ _ _ _ left (up (x - 1) before) (up x column) (up (x + 1) (let q = column in omega arith)))
+    pub sum_within : Between (pos 4 *ℤ smin c.kind) (pos 4 *ℤ smax c.kind) (local_sum p c z y x)
+    sum_within =
+        let l = left in
+        let u = up x column in
+        let b = up (x - 1) before in
+        elim (cases_eq y 0) [
+          | inl e ↦ rw (sum_in_first_row p c z y x e) (omega (arith, ints, l.0, l.1), omega (arith, ints, l.0, l.1))
+          | inr n ↦ elim (cases_Bool p.column) [
+            | inl e ↦ rw (sum_by_column p c z y x n e) (omega (arith, ints, u.0, u.1), omega (arith, ints, u.0, u.1))
+            | inr e ↦ (let w = wide e in elim (cases_eq x 0) [
+              | inl h ↦ (let d = up (x + 1) (omega arith) in
+                  rw (sum_at_left p c z y x n e h) (omega (arith, ints, u.0, u.1, d.0, d.1), omega (arith, ints, u.0, u.1, d.0, d.1)))
+              | inr h ↦ elim (cases_eq (x + 1) c.shape.columns) [
+                | inl r ↦ rw (sum_at_right p c z y x n e h r)
+                    (omega (arith, ints, l.0, l.1, b.0, b.1, u.0, u.1), omega (arith, ints, l.0, l.1, b.0, b.1, u.0, u.1))
+                | inr r ↦ (let q = column in let d = up (x + 1) (omega arith) in rw (sum_inside p c z y x n e h r)
+                    (omega (arith, ints, l.0, l.1, b.0, b.1, u.0, u.1, d.0, d.1), omega (arith, ints, l.0, l.1, b.0, b.1, u.0, u.1, d.0, d.1)))
+              ]
+            ])
           ]
         ]
-
-    pub sum_within : Between (pos 4 *ℤ smin c.kind) (pos 4 *ℤ smax c.kind) (local_sum p c z y x)
-    sum_within = elim (cases_eq y 0) [ inl e ↦ rw (sum_in_first_row p c z y x e) (four (smin c.kind) (smax c.kind) _ left) | inr n ↦ by_sums n p.column refl ]
 
     difference_within : (sample : ℤ) → IsSample c.kind sample → unsigned_abs (difference_from p c z y x sample) ≤ 4 * 2 ^ c.kind.bits
     difference_within sample h = apart (smin c.kind) (smax c.kind) sample (local_sum p c z y x) (2 ^ c.kind.bits) (span c.kind cube.bits) h sum_within
@@ -115,14 +108,12 @@ module _ (p : Predictor) (c : Image) (cube : IsCube c) (y x : ℕ) (later : 0 < 
         (central_within (z - suc n) (record { band = (let b = place.band in omega arith); row = place.row; column = place.column })))
 
     pub vector_within : AllWithin (4 * 2 ^ c.kind.bits) (difference_vector p c z y x)
-    vector_within = by_mode p.reduced refl
-      where
-        by_mode : (b : Bool) → p.reduced ≡ b → AllWithin (4 * 2 ^ c.kind.bits) (difference_vector p c z y x)
-        by_mode true e = subst (AllWithin (4 * 2 ^ c.kind.bits)) (sym (reduced_vector_is p c z y x e)) (spectral_within (previous_bands p z) (omega arith))
-        by_mode false e =
-            subst (AllWithin (4 * 2 ^ c.kind.bits)) (sym (full_vector_is p c z y x e))
-            (within_append (4 * 2 ^ c.kind.bits) (directional_differences p c z y x) (spectral_differences p c z y x (previous_bands p z))
-            (directional_within z place) (spectral_within (previous_bands p z) (omega arith)))
+    vector_within =
+        let s = spectral_within (previous_bands p z) (omega arith) in
+        elim (cases_Bool p.reduced) [
+          | inl e ↦ subst (AllWithin (4 * 2 ^ c.kind.bits)) (sym (reduced_vector_is p c z y x e)) s
+          | inr e ↦ subst (AllWithin (4 * 2 ^ c.kind.bits)) (sym (full_vector_is p c z y x e)) (within_append _ _ _ (directional_within z place) s)
+        ]
 
     pub padded_within : (m : ℕ) → AllWithin (4 * 2 ^ c.kind.bits) (difference_vector p c z y x ++ replicate m (pos 0))
     padded_within m =

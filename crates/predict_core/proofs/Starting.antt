@@ -1,9 +1,10 @@
 -- The weights that a band starts from, written one after another.
-use Rattle.std.proofs.Common.{◌≡◌, ◌+◌, ◌-◌, ◌*◌, ◌^◌, ◌<◌, ◌≤◌, ℕ, zero, suc, ℤ, pos, unsigned_abs, SFits, w32, Bool, true, false, List, ◌++◌, length, take}
-use Rattle.std.proofs.Common.{drop, set, replicate, arith, refl, ◌∙◌, sym, ap, add-one, append_assoc, append-nil, pow_mono, to_z, ◌%◌, if◌then◌else◌}
+use Rattle.std.proofs.Common.{◌≡◌, ◌+◌, ◌-◌, ◌*◌, ◌^◌, ◌<◌, ◌≤◌, ℕ, zero, suc, ℤ, pos, unsigned_abs, SFits, w32, true, false, List, ◌++◌, length, take}
+use Rattle.std.proofs.Common.{inl, inr, drop, set, replicate, arith, refl, ◌∙◌, sym, ap, add-one, append_assoc, append-nil, pow_mono, to_z, ◌%◌, if◌then◌else◌}
 use Rattle.std.proofs.Math.Seq.{take-suc-set}
 use Rattle.std.proofs.Math.Pow.{pow-add}
 use Rattle.std.proofs.lemmas.List.{take-replicate, take-append-drop}
+use Rattle.std.proofs.lemmas.Bool.{cases_Bool}
 use Rattle.std.proofs.lemmas.Int.{to_z_pos, fits_signed_from_abs}
 use Rattle.header_bits.specs.declared.params.Params.{Params}
 use Rattle.header_bits.specs.declared.params.WeightStart.TheVariants.{Usual}
@@ -73,22 +74,20 @@ module _ (made : Predictor) (z : ℕ) (weights : List ℤ) where
   pub start_is : (first k : ℕ) → first ≡ (if made.reduced then 0 else 3)
       → weights ≡ replicate first (pos 0) ++ eighths (pos (7 * 2 ^ (made.fraction - 3))) (previous_bands made z) ++ replicate k (pos 0)
       → take (first + previous_bands made z) weights ≡ default_weights made z
-  start_is first k f e = by_mode made.reduced refl
-    where
-      by_mode : (b : Bool) → made.reduced ≡ b → take (first + previous_bands made z) weights ≡ default_weights made z
-      by_mode true h =
-          let zero_first : first ≡ 0 = grind (arith, f) in
-          ap (λ j. take j weights) (omega (arith, zero_first, reduced_count made z h)) ∙ reduced_start h k (rw zero_first at e)
-      by_mode false h =
-          let three_first : first ≡ 3 = grind (arith, f) in
-          ap (λ j. take j weights) (omega (arith, three_first, full_count made z h)) ∙ full_start h k (rw three_first at e)
+  start_is first k f e =
+      elim (cases_Bool made.reduced) [
+        | inl h ↦ (let none : first ≡ 0 = grind (arith, f) in
+            ap (λ j. take j weights) (omega (arith, none, reduced_count made z h)) ∙ reduced_start h k (rw none at e))
+        | inr h ↦ (let three : first ≡ 3 = grind (arith, f) in
+            ap (λ j. take j weights) (omega (arith, three, full_count made z h)) ∙ full_start h k (rw three at e))
+      ]
 
 pub count_is : (made : Predictor) (z first : ℕ) → first ≡ (if made.reduced then 0 else 3) → first + previous_bands made z ≡ component_count made z
-count_is made z first f = by_mode made.reduced refl
-  where
-    by_mode : (b : Bool) → made.reduced ≡ b → first + previous_bands made z ≡ component_count made z
-    by_mode true h = let n : first ≡ 0 = grind (arith, f) in omega (arith, n, reduced_count made z h)
-    by_mode false h = let n : first ≡ 3 = grind (arith, f) in omega (arith, n, full_count made z h)
+count_is made z first f =
+    elim (cases_Bool made.reduced) [
+      | inl h ↦ (let n : first ≡ 0 = grind (arith, f) in omega (arith, n, reduced_count made z h))
+      | inr h ↦ (let n : first ≡ 3 = grind (arith, f) in omega (arith, n, full_count made z h))
+    ]
 
 -- the first weight, as the code computes it
 pub seven_fits : (k : ℕ) → k ≤ 16 → 7 * 2 ^ k ≤ 458752

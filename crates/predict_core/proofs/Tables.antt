@@ -1,13 +1,13 @@
 -- The weights that a table tells, and where those of a band stand.
 use Rattle.std.proofs.Common.{◌≡◌, ◌+◌, ◌-◌, ◌*◌, ◌/◌, ◌%◌, ◌^◌, ◌<◌, ◌≤◌, ℕ, zero, suc, ℤ, pos, negsuc, neg_ℤ, ◌+ℤ◌, ◌-ℤ◌, ◌*ℤ◌, ◌≤ℤ◌, unsigned_abs, SFits}
-use Rattle.std.proofs.Common.{w32, to_z, of_z, to_z-of_z, Bool, true, false, List, [], ◌∷◌, length, take, drop, map, min, nat_le, nat_lt, get_or, set, ◌++◌}
-use Rattle.std.proofs.Common.{length-take, length-drop, add-one, arith, refl, ◌∙◌, sym, ap, pow_mono, if◌then◌else◌}
+use Rattle.std.proofs.Common.{w32, to_z, of_z, to_z-of_z, Bool, List, [], ◌∷◌, length, take, drop, map, min, nat_le, get_or, set, ◌++◌}
+use Rattle.std.proofs.Common.{inl, inr, length-take, length-drop, add-one, arith, refl, ◌∙◌, sym, ap, pow_mono, if◌then◌else◌}
 use Rattle.std.proofs.Math.Pow.{pow-add}
 use Rattle.std.proofs.Math.Seq.{take-suc}
 use Rattle.std.proofs.lemmas.List.{take_more_set, map-append}
 use Rattle.std.proofs.lemmas.Int.{ints, to_z_pos, fits_signed_from_abs, unsigned_abs-mul}
 use Rattle.std.proofs.lemmas.Nat.{mul-le, pow_pos}
-use Rattle.std.proofs.lemmas.Bool.Decides.{nat_tests}
+use Rattle.std.proofs.lemmas.Bool.{cases_Bool, cases_lt}
 use Rattle.std.specs.List.{AllByRecursion}
 use Rattle.header_bits.specs.declared.params.Params.{Params}
 use Rattle.header_bits.specs.TableParts.{weight_count}
@@ -27,16 +27,13 @@ abbrev pub ones_below : ℕ → ℕ → ℕ
 ones_below f q = if nat_le q (f + 2) then 2 ^ (f + 2 - q) - 1 else 0
 
 ones_small : (f q : ℕ) → q ≤ f + 3 → ones_below f q + 1 ≤ 2 ^ (f + 3 - q)
-ones_small f q h = by_test (nat_le q (f + 2)) refl
-  where
-    by_test : (b : Bool) → nat_le q (f + 2) ≡ b → ones_below f q + 1 ≤ 2 ^ (f + 3 - q)
-    by_test true e =
-        let p : 2 ^ (f + 2 - q) ≤ 2 ^ (f + 3 - q) = pow_mono (omega arith) in
-        let s : 1 ≤ 2 ^ (f + 2 - q) = pow_pos (f + 2 - q) in
-        rw e (omega (arith, p, s))
-    by_test false e =
-        let s : 1 ≤ 2 ^ (f + 3 - q) = pow_pos (f + 3 - q) in
-        rw e s
+ones_small f q h =
+    let s : 1 ≤ 2 ^ (f + 3 - q) = pow_pos (f + 3 - q) in
+    let t : 1 ≤ 2 ^ (f + 2 - q) = pow_pos (f + 2 - q) in
+    elim (cases_Bool (nat_le q (f + 2))) [
+      | inl e ↦ (let p : 2 ^ (f + 2 - q) ≤ 2 ^ (f + 3 - q) = pow_mono (omega arith) in rw e (omega (arith, p, t)))
+      | inr e ↦ rw e s
+    ]
 
 -- the scale of an entry and its own range make up a weight's range
 powers_meet : (f q : ℕ) → 3 ≤ q → q ≤ f + 3 → 2 ^ (f + 3 - q) * 2 ^ (q - 1) ≡ 2 ^ (f + 2)
@@ -90,12 +87,12 @@ pub scale_small : (f q : ℕ) → f ≤ 19 → 3 ≤ q → f + 3 - q ≤ 21
 scale_small f q h l = omega arith
 
 pub ones_fit : (f q : ℕ) → f ≤ 19 → SFits w32 (pos (ones_below f q))
-ones_fit f q h = by_test (nat_le q (f + 2)) refl
-  where
-    by_test : (b : Bool) → nat_le q (f + 2) ≡ b → SFits w32 (pos (ones_below f q))
-    by_test true e = let p : 2 ^ (f + 2 - q) ≤ 2 ^ 21 = pow_mono {j = 21} (omega (arith, h)) in
-        rw e (fits_signed_from_abs w32 (pos (2 ^ (f + 2 - q) - 1)) (omega (arith, p)))
-    by_test false e = rw e (fits_signed_from_abs w32 (pos 0) (omega arith))
+ones_fit f q h =
+    let p : 2 ^ (f + 2 - q) ≤ 2 ^ 21 = pow_mono {j = 21} (omega (arith, h)) in
+    elim (cases_Bool (nat_le q (f + 2))) [
+      | inl e ↦ rw e (fits_signed_from_abs w32 (pos (2 ^ (f + 2 - q) - 1)) (omega (arith, p)))
+      | inr e ↦ rw e (fits_signed_from_abs w32 (pos 0) (omega arith))
+    ]
 
 -- one weight more is written
 pub told_next : (f q i : ℕ) (ws entries : List ℤ) (w : ℤ) → i < length ws → i < length entries → w ≡ table_weight f q (get_or entries i (pos 0))
@@ -144,43 +141,33 @@ in_front_is p first f zero = let n : min 0 p.previous ≡ 0 = omega arith in rw 
 in_front_is p first f (suc z) =
     let before = in_front_is p first f z in
     let count : first + min z p.previous ≡ component_count p z = count_is p z first f in
-    by_order (nat_lt z p.previous) refl before count
-  where
-    by_order : (b : Bool) → nat_lt z p.previous ≡ b → in_front first p.previous z ≡ entries_before p z → first + min z p.previous ≡ component_count p z
-        → in_front first p.previous (suc z) ≡ entries_before p z + component_count p z
-    by_order true e before count =
-        let close : z < p.previous = grind (arith, nat_tests, e) in
-        let near : min z p.previous ≡ z = omega (arith, close) in
-        let next : min (suc z) p.previous ≡ z + 1 = omega (arith, close) in
-        let t = triangle_next z in
-        let b = rw near at before in
-        let k = rw near at count in
-        rw (near, next) (grind (arith, b, k, t))
-    by_order false e before count =
-        let far_off : p.previous ≤ z = grind (arith, nat_tests, e) in
-        let near : min z p.previous ≡ p.previous = omega (arith, far_off) in
-        let next : min (suc z) p.previous ≡ p.previous = omega (arith, far_off) in
-        let far : suc z - p.previous ≡ (z - p.previous) + 1 = omega (arith, far_off) in
-        let b = rw near at before in
-        let k = rw near at count in
-        rw (near, next, far) (grind (arith, b, k))
+    elim (cases_lt z p.previous) [
+      | inl close ↦ (let near : min z p.previous ≡ z = omega (arith, close) in
+          let next : min (suc z) p.previous ≡ z + 1 = omega (arith, close) in
+          let t = triangle_next z in
+          let b = rw near at before in
+          let k = rw near at count in
+          rw (near, next) (grind (arith, b, k, t)))
+      | inr far_off ↦ (let near : min z p.previous ≡ p.previous = omega (arith, far_off) in
+          let next : min (suc z) p.previous ≡ p.previous = omega (arith, far_off) in
+          let far : suc z - p.previous ≡ (z - p.previous) + 1 = omega (arith, far_off) in
+          let b = rw near at before in
+          let k = rw near at count in
+          rw (near, next, far) (grind (arith, b, k)))
+    ]
 
 -- the table has as many entries as all bands have weights
 pub counts_agree : (p : Params) (z : ℕ) → entries_before (predictor_of p) z ≡ weight_count p.previous p.reduced z
 unfolding entries_before weight_count
 counts_agree p zero = refl
-counts_agree p (suc z) = by_mode p.reduced refl (counts_agree p z)
-  where
-    by_mode : (b : Bool) → p.reduced ≡ b → entries_before (predictor_of p) z ≡ weight_count p.previous p.reduced z
-        → entries_before (predictor_of p) (suc z) ≡ weight_count p.previous p.reduced (suc z)
-    by_mode true e before =
-        let count = reduced_count (predictor_of p) z e in
-        let none : ◌≡◌ {A = ℕ} (if p.reduced then 0 else 3) 0 = rw e refl in
-        omega (arith, before, count, none)
-    by_mode false e before =
-        let count = full_count (predictor_of p) z e in
-        let three : ◌≡◌ {A = ℕ} (if p.reduced then 0 else 3) 3 = rw e refl in
-        omega (arith, before, count, three)
+counts_agree p (suc z) =
+    let before = counts_agree p z in
+    elim (cases_Bool p.reduced) [
+      | inl e ↦ (let count = reduced_count (predictor_of p) z e in let none : ◌≡◌ {A = ℕ} (if p.reduced then 0 else 3) 0 = rw e refl in
+          omega (arith, before, count, none))
+      | inr e ↦ (let count = full_count (predictor_of p) z e in let three : ◌≡◌ {A = ℕ} (if p.reduced then 0 else 3) 3 = rw e refl in
+          omega (arith, before, count, three))
+    ]
 
 counts_grow : (previous : ℕ) (reduced : Bool) (z n : ℕ) → weight_count previous reduced z ≤ weight_count previous reduced (n + z)
 unfolding weight_count

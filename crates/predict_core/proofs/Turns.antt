@@ -25,20 +25,14 @@ chosen_is (negsuc (suc n)) a b l h s t = absurd (omega (arith, ints, l))
 -- a number where such a word is all ones, and else 0
 pub masked_is : (mask n : ℤ) → negsuc 0 ≤ℤ mask → mask ≤ℤ pos 0 → unsigned_abs n ≤ 2 ^ 21
     → to_z w32 (bit_and (of_z w32 n) (of_z w32 mask)) ≡ (if int_lt mask (pos 0) then n else pos 0)
-masked_is (pos zero) n l h s = rw (and_zero_r (of_z w32 n)) (omega (arith, ints))
-masked_is (pos (suc m)) n l h s = absurd (omega (arith, ints, h))
-masked_is (negsuc zero) n l h s =
-    let fits : SFits w32 n = fits_signed_from_abs w32 n (omega (arith, ints, s)) in
-    rw (kept n (omega (arith, ints, s)), to_z-of_z fits) (omega (arith, ints))
-masked_is (negsuc (suc m)) n l h s = absurd (omega (arith, ints, l))
+masked_is mask n l h s =
+    let same : n -ℤ pos 0 ≡ n = omega (arith, ints) in
+    let m = rw same at (chosen_is mask (pos 0) n l h (omega arith) s) in
+    omega (arith, ints, m)
 
 pub masked_within : (mask n : ℤ) → pos 0 ≤ℤ n → n ≤ℤ pos 262140
     → (pos 0 ≤ℤ (if int_lt mask (pos 0) then n else pos 0)) × ((if int_lt mask (pos 0) then n else pos 0) ≤ℤ pos 262140)
-masked_within mask n l h = by_sign (int_lt mask (pos 0))
-  where
-    by_sign : (b : Bool) → (pos 0 ≤ℤ (if b then n else pos 0)) × ((if b then n else pos 0) ≤ℤ pos 262140)
-    by_sign true = (l, h)
-    by_sign false = (omega (arith, ints), omega (arith, ints))
+masked_within mask n l h = (grind (arith, ints), grind (arith, ints))
 
 pub either_fits : (negative : Bool) (a b : ℤ) → unsigned_abs a ≤ 2 ^ 21 → unsigned_abs b ≤ 2 ^ 21 → SFits w32 (if negative then b else a)
 either_fits true a b s t = fits_signed_from_abs w32 b (omega (arith, t))

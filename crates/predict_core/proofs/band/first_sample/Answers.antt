@@ -1,4 +1,4 @@
-use Rattle.std.proofs.Common.{◌≡◌, ◌≤◌, false, SFits, w32, to_z-of_z, rules, arith}
+use Rattle.std.proofs.Common.{SFits, w32, to_z-of_z, rules}
 use Rattle.predict_core.proofs.Inverting.{first_put}
 use Rattle.predict_core.proofs.band.first_sample.Goals as goal
 
@@ -7,6 +7,11 @@ returns-clause-inverse c =
     let s = c.args.settings.now in
     let fits : SFits w32 c.sample_of.result = search rules in
     let scaled_fits : SFits w32 c.first_scaled-scaled.result = search rules in
-    let wide : s.predictor.column ≡ false → 2 ≤ c.args.cube.now.shape.columns = λ h. let w = s.wide h in omega arith in
     let e = rw (← c.requires.kind) at (simp (to_z-of_z scaled_fits) at c.sample_of.ensures.inverse) in
-    rw (to_z-of_z fits, ← first_put c.args.cube.now s.band c.args.y c.args.x c.sample_of.result c.requires.place c.prove_is_cube.ensures.whole s.predictor wide c.requires.first, ← c.first_scaled-scaled.ensures.value) e
+    rw (
+      to_z-of_z fits,
+      ← first_put c.args.cube.now s.band c.args.y c.args.x c.sample_of.result c.requires.place c.prove_is_cube.ensures.whole s.predictor
+          (rw c.requires.columns s.wide) c.requires.first,
+      ← c.first_scaled-scaled.ensures.value,
+    )
+    e

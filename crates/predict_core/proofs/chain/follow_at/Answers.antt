@@ -1,8 +1,6 @@
-use Rattle.std.proofs.Common.{◌≡◌, ◌≤◌, ◌-◌, ◌^◌, ℤ, pos, negsuc, ◌≤ℤ◌, ◌+ℤ◌, ◌*ℤ◌, List, false, ap, sym, ◌∙◌, int_le, take, SFits, w32, to_z, of_z, to_z-of_z}
+use Rattle.std.proofs.Common.{◌≡◌, ◌≤◌, ◌-◌, ◌^◌, ℤ, pos, negsuc, ◌≤ℤ◌, ◌+ℤ◌, ◌*ℤ◌, ap, ◌∙◌, int_le, take, SFits, w32, to_z, of_z, to_z-of_z}
 use Rattle.std.proofs.Common.{rules, arith, pow_mono}
 use Rattle.std.proofs.lemmas.Int.{ints}
-use Rattle.cube_core.specs.Kind.{SampleKind, smin}
-use Rattle.predict_core.specs.declared.predictor.Predictor.{Predictor}
 use Rattle.predict_core.specs.Chain.{scaled_by_difference}
 use Rattle.predict_core.specs.LocalSum.{local_sum}
 use Rattle.predict_core.specs.Prediction.{scaled_by}
@@ -12,46 +10,35 @@ use Rattle.predict_core.proofs.Moves.{within_most}
 use Rattle.predict_core.proofs.Ranges.{central_within, padded_within}
 use Rattle.predict_core.proofs.chain.follow_at.Given as given
 use Rattle.predict_core.proofs.chain.follow_at.Goals as goal
-use Rattle.predict_core.proofs.chain.follow_at.Goals.{After-prove_is_cube, After-predicted_difference-predicted}
+use Rattle.predict_core.proofs.chain.follow_at.Goals.{After-predicted_difference-predicted}
 
 -- the local sum, as the code computes it
 reckoned : (low sum : ℤ) → (negsuc 32767 ≤ℤ low) × (low ≤ℤ pos 0) → (pos 0 ≤ℤ sum) × (sum ≤ℤ pos 262140)
     → to_z w32 (of_z w32 (to_z w32 (of_z w32 (pos 4 *ℤ to_z w32 (of_z w32 low))) +ℤ to_z w32 (of_z w32 sum))) ≡ pos 4 *ℤ low +ℤ sum
 reckoned low sum h k = let a = h.0 in let b = h.1 in let d = k.0 in let e = k.1 in omega (arith, ints, a, b, d, e)
 
--- a scaled prediction that is found by the range, and by a band's local sum
-found : (p : Predictor) (made k : SampleKind) (low sum whole v : ℤ) (ws us : List ℤ) → k ≡ made → low ≡ smin made → pos 4 *ℤ smin k +ℤ sum ≡ whole
-    → scaled_by p made (pos 4 *ℤ low +ℤ sum) ws us ≡ scaled_by_difference made v (pos 4 *ℤ low +ℤ sum)
-    → scaled_by p k whole ws us ≡ scaled_by_difference k v whole
-found p made k low sum whole v ws us a b e h =
-    let same : pos 4 *ℤ low +ℤ sum ≡ whole = ap (λ l. pos 4 *ℤ l +ℤ sum) (b ∙ ap smin (sym a)) ∙ e in
-    rw (a, ← same) h
-
-wide : (g : given.Over) (c : After-prove_is_cube g) → c.args.settings.now.predictor.column ≡ false → 2 ≤ c.args.cube.now.shape.columns
-wide g c h = let w = c.args.settings.now.wide h in let e = c.requires.columns in omega (arith, w, e)
-
 pub predicted_difference-predicted-requires-clause-differences_in : goal.predicted_difference-predicted-requires-clause-differences_in
 predicted_difference-predicted-requires-clause-differences_in g c =
-    let d = (goal.at.predicted_difference-predicted-requires-clause-differences_in g c).After-prove_is_cube in
     let s = c.args.settings.now in
     let bits : c.args.cube.now.kind.bits ≤ 16 = c.prove_is_cube.ensures.bits.1 in
     within_most c.args.cube.now.kind.bits c.args.differences.now bits
-    (rw c.requires.differences_are (padded_within s.predictor _ c.prove_is_cube.ensures _ _ c.requires.later (wide g d) s.band c.requires.place (18 - s.count)))
+    (rw c.requires.differences_are (padded_within s.predictor _ c.prove_is_cube.ensures _ _ c.requires.later (rw c.requires.columns s.wide)
+    s.band c.requires.place (18 - s.count)))
 
 pub follow-requires-clause-own_in : goal.follow-requires-clause-own_in
 follow-requires-clause-own_in g c =
-    let d = (goal.at.follow-requires-clause-own_in g c).After-prove_is_cube in
     let s = c.args.settings.now in
     let power : 2 ^ c.args.cube.now.kind.bits ≤ 2 ^ 16 = pow_mono (c.prove_is_cube.ensures.bits.1) in
-    let small = central_within s.predictor c.args.cube.now c.prove_is_cube.ensures c.args.y c.args.x c.requires.later (wide g d) s.band c.requires.place in
+    let small = central_within s.predictor c.args.cube.now c.prove_is_cube.ensures c.args.y c.args.x c.requires.later (rw c.requires.columns s.wide)
+    s.band c.requires.place in
     rw (to_z-of_z c.ranges.own, c.requires.own_is) (omega (arith, power, small))
 
 pub follow-requires-clause-differences_in : goal.follow-requires-clause-differences_in
 follow-requires-clause-differences_in g c =
-    let d = (goal.at.follow-requires-clause-differences_in g c).After-prove_is_cube in
     let s = c.args.settings.now in
     rw (c.requires.differences_are, c.requires.bits, s.range.bits_is, ← c.requires.kind)
-    (padded_within s.predictor c.args.cube.now c.prove_is_cube.ensures c.args.y c.args.x c.requires.later (wide g d) s.band c.requires.place (18 - s.count))
+    (padded_within s.predictor c.args.cube.now c.prove_is_cube.ensures c.args.y c.args.x c.requires.later (rw c.requires.columns s.wide)
+    s.band c.requires.place (18 - s.count))
 
 -- the scaled prediction comes from the predicted difference
 module _ (g : given.Over) (c : After-predicted_difference-predicted g) where
@@ -62,11 +49,9 @@ module _ (g : given.Over) (c : After-predicted_difference-predicted g) where
   from_difference =
       let s = c.args.settings.now in
       let r = s.range in
-      let fits : SFits w32 c.predicted_difference-predicted.result = search rules in
-      found s.predictor r.kind c.args.cube.now.kind r.smin c.args.sum
-      (local_sum s.predictor c.args.cube.now s.band c.args.y c.args.x) c.predicted_difference-predicted.result (take g.row.N c.args.weights.now)
-      (take g.row.N c.args.differences.now) c.requires.kind r.smin_is c.requires.sum_is
-      (rw (reckoned r.smin c.args.sum r.low c.requires.sum_in) at c.predicted_difference-predicted.ensures.scaled)
+      let sum : pos 4 *ℤ r.smin +ℤ c.args.sum ≡ local_sum s.predictor c.args.cube.now s.band c.args.y c.args.x =
+      rw (r.smin_is, ← c.requires.kind) c.requires.sum_is in
+      rw (← sum, c.requires.kind) (rw (reckoned r.smin c.args.sum r.low c.requires.sum_in) at c.predicted_difference-predicted.ensures.scaled)
 
 pub returns-clause-scaled : goal.returns-clause-scaled
 returns-clause-scaled g c =

@@ -7,8 +7,5 @@ returns-then-y-eq0-clause-value c = rw (directional_first c.args.predictor.now c
 pub returns-then-y-eq0-clause-bound : goal.returns-then-y-eq0-clause-bound
 returns-then-y-eq0-clause-bound c = rw c.requires.clear (zeros_within 262144 18)
 
-pub returns-clause-value : goal.returns-clause-value
-returns-clause-value c = rw c.requires.clear at c.put_neighbours.ensures.value
-
 pub returns-clause-bound : goal.returns-clause-bound
 returns-clause-bound c = c.put_neighbours.ensures.bound (rw c.requires.clear (zeros_within 262144 18))

@@ -1,6 +1,5 @@
-use Rattle.std.proofs.Common.{◌≡◌, ◌-◌, ◌++◌, length, pos, take, replicate, SFits, to_z-of_z, w32, arith, rules, length-set, sym, subst}
+use Rattle.std.proofs.Common.{◌≡◌, length, take, SFits, to_z-of_z, w32, arith, rules, length-set, sym}
 use Rattle.std.proofs.lemmas.List.{length-take-le}
-use Rattle.predict_core.specs.Differences.{spectral_differences}
 use Rattle.predict_core.proofs.Filling.{filled_next, filled_none}
 use Rattle.predict_core.proofs.Products.{step_bound}
 use Rattle.predict_core.proofs.differences.fill_spectral.Goals as goal
@@ -22,9 +21,3 @@ loop-i-preserved c =
       bound = step_bound 262144 c.loop-i.out _ c.central.result c.loop-i.invariant.bound c.central.ensures.bound;
       long = rw length-set c.loop-i.invariant.long;
     })
-
-pub returns-clause-value : goal.returns-clause-value
-returns-clause-value c =
-    let done : c.loop-i.i ≡ c.args.count = omega arith in
-    subst (λ n. c.loop-i.out ≡ take c.args.first c.args.out.now ++ spectral_differences c.args.predictor.now c.args.cube.now c.args.z c.args.y c.args.x n
-    ++ replicate (18 - c.args.first - n) (pos 0)) done c.loop-i.invariant.filled

@@ -14,10 +14,16 @@ use Rattle.predict_core.proofs.inverse_chain.invert_places.Given as goal
 abbrev pub invariant-loop-i : goal.invariant-loop-i
 invariant-loop-i g l = record {
   beside : AreAlikeBeside l.fn.cube l.cube l.fn.run.settings.now.band l.fn.run.y l.fn.run.x l.i;
-  residuals : (p : Params) → AreWeightsAt p l.fn.run.settings.now.predictor l.fn.cube l.fn.run.settings.now.band (l.fn.run.y * l.fn.cube.shape.columns + l.fn.run.x) (take l.fn.run.settings.now.count l.fn.run.weights) → run_residuals p l.cube l.fn.run.settings.now.band (l.fn.run.y * l.cube.shape.columns + l.fn.run.x) l.i ≡ take l.i l.fn.run.deltas.now;
-  weights : (p : Params) → AreWeightsAt p l.fn.run.settings.now.predictor l.fn.cube l.fn.run.settings.now.band (l.fn.run.y * l.fn.cube.shape.columns + l.fn.run.x) (take l.fn.run.settings.now.count l.fn.run.weights) → take l.fn.run.settings.now.count l.weights ≡ weight_vector p l.cube l.fn.run.settings.now.band (l.fn.run.y * l.cube.shape.columns + (l.fn.run.x + l.i));
+  residuals : (p : Params) → AreWeightsAt p l.fn.run.settings.now.predictor l.fn.cube l.fn.run.settings.now.band
+      (l.fn.run.y * l.fn.cube.shape.columns + l.fn.run.x) (take l.fn.run.settings.now.count l.fn.run.weights)
+      → run_residuals p l.cube l.fn.run.settings.now.band (l.fn.run.y * l.cube.shape.columns + l.fn.run.x) l.i ≡ take l.i l.fn.run.deltas.now;
+  weights : (p : Params) → AreWeightsAt p l.fn.run.settings.now.predictor l.fn.cube l.fn.run.settings.now.band
+      (l.fn.run.y * l.fn.cube.shape.columns + l.fn.run.x) (take l.fn.run.settings.now.count l.fn.run.weights)
+      → take l.fn.run.settings.now.count l.weights ≡ weight_vector p l.cube l.fn.run.settings.now.band (l.fn.run.y * l.cube.shape.columns + (l.fn.run.x + l.i));
   bound : AllWithin (2 ^ (l.fn.run.settings.now.predictor.fraction + 2)) l.weights;
-  steps : (k : ℕ) → l.i ≤ k → k < l.stretch.end → AreSteps l.stretch.form l.fn.run.settings.now.range.bits (step_exponent l.fn.run.settings.now.predictor l.fn.run.settings.now.columns l.fn.run.settings.now.range.bits (l.fn.run.y * l.fn.run.settings.now.columns + (l.fn.run.x + k)));
+  steps : (k : ℕ) → l.i ≤ k → k < l.stretch.end → AreSteps l.stretch.form l.fn.run.settings.now.range.bits
+      (step_exponent l.fn.run.settings.now.predictor l.fn.run.settings.now.columns l.fn.run.settings.now.range.bits
+      (l.fn.run.y * l.fn.run.settings.now.columns + (l.fn.run.x + k)));
   west : IsWest l.cube l.fn.run.settings.now.band l.fn.run.y (l.fn.run.x + l.i) l.west;
   whole : length l.cube.samples ≡ sample_count l.cube.shape;
 }

@@ -1,11 +1,11 @@
-use Rattle.std.proofs.Common.{◌≡◌, ◌≤◌, ◌<◌, ◌-◌, ◌*◌, ◌^◌, ◌+◌, ℤ, pos, ◌+ℤ◌, ◌-ℤ◌, ◌*ℤ◌, List, false, refl, sym, ap, ◌∙◌, take, ◌++◌, replicate, SFits, w32, to_z-of_z, rules, arith}
+use Rattle.std.proofs.Common.{◌≡◌, ◌≤◌, ◌-◌, ◌*◌, ◌^◌, ℤ, pos, ◌+ℤ◌, ◌-ℤ◌, ◌*ℤ◌, refl, sym, ap, ◌∙◌, take, ◌++◌, replicate, SFits, w32}
+use Rattle.std.proofs.Common.{to_z-of_z, rules, arith}
 use Rattle.cube_core.specs.Kind.{SampleKind, smin}
-use Rattle.predict_core.specs.declared.predictor.Predictor.{Predictor}
 use Rattle.predict_core.specs.Bounds.{AllWithin}
 use Rattle.predict_core.specs.Chain.{scaled_by_difference}
 use Rattle.predict_core.specs.Differences.{difference_vector}
 use Rattle.predict_core.specs.LocalSum.{local_sum}
-use Rattle.predict_core.specs.Prediction.{scaled_by, scaled_there}
+use Rattle.predict_core.specs.Prediction.{scaled_by}
 use Rattle.predict_core.specs.Weights.{step}
 use Rattle.predict_core.proofs.Chains.{scaled_from_room, moved_from_room}
 use Rattle.predict_core.proofs.InverseRuns.{vector_filled}
@@ -16,61 +16,22 @@ use Rattle.predict_core.proofs.Padding.{whole_sum}
 use Rattle.predict_core.proofs.Ranges.{padded_within}
 use Rattle.predict_core.proofs.inverse_chain.sample_there.Given as given
 use Rattle.predict_core.proofs.inverse_chain.sample_there.Goals as goal
-use Rattle.predict_core.proofs.inverse_chain.sample_there.Goals.{After-put_west, After-sample_by_part-found, After-update_by}
-
--- a scaled prediction that is found by the range, and by a local sum
-found_by : (p : Predictor) (made k : SampleKind) (sum whole v : ℤ) (ws us : List ℤ) → k ≡ made → sum ≡ whole → scaled_by p made sum ws us ≡ scaled_by_difference made v sum → scaled_by p k whole ws us ≡ scaled_by_difference k v whole
-found_by p made k sum whole v ws us a e h = rw (a, ← e) h
+use Rattle.predict_core.proofs.inverse_chain.sample_there.Goals.{After-put_west, After-update_by}
 
 module _ (g : given.Over) (c : After-put_west g) where
-  later : 0 < c.args.y + c.args.x
-  later = omega (arith, c.requires.later)
-
-  wide : c.args.settings.now.predictor.column ≡ false → 2 ≤ c.args.cube.now.shape.columns
-  wide h = let w = c.args.settings.now.wide h in let e = c.requires.columns in omega (arith, w, e)
-
-  filled : c.put_west.new.components ≡ difference_vector c.args.settings.now.predictor c.args.cube.now c.args.settings.now.band c.args.y c.args.x ++ replicate (18 - c.args.settings.now.count) (pos 0)
+  filled : c.put_west.new.components ≡ difference_vector c.args.settings.now.predictor c.args.cube.now c.args.settings.now.band c.args.y c.args.x
+      ++ replicate (18 - c.args.settings.now.count) (pos 0)
   filled =
       let s = c.args.settings.now in
-      vector_filled s.predictor c.args.cube.now s.band c.args.y c.args.x (18 - s.count) c.args.components.now c.put_west.new.components c.requires.lower c.put_west.ensures.reduced c.put_west.ensures.full
+      vector_filled s.predictor c.args.cube.now s.band c.args.y c.args.x (18 - s.count) c.args.components.now _ c.requires.lower c.put_west.ensures.reduced
+      c.put_west.ensures.full
 
   small : AllWithin (4 * 2 ^ c.args.settings.now.range.bits) c.put_west.new.components
   small =
       let s = c.args.settings.now in
-      rw (filled, s.range.bits_is, ← c.requires.kind) (padded_within s.predictor c.args.cube.now c.prove_is_cube.ensures c.args.y c.args.x later wide s.band c.requires.place (18 - s.count))
-
-module _ (g : given.Over) (c : After-sample_by_part-found g) where
-  -- the local sum, as the code computes it
-  sum_is : pos 4 *ℤ c.args.settings.now.range.smin +ℤ pos c.args.sum ≡ local_sum c.args.settings.now.predictor c.args.cube.now c.args.settings.now.band c.args.y c.args.x
-  sum_is =
-      let r = c.args.settings.now.range in
-      let low : smin c.args.cube.now.kind ≡ r.smin = ap smin c.requires.kind ∙ sym r.smin_is in
-      sym (rw low at c.requires.sum_is)
-
-  after : 0 < c.args.y + c.args.x
-  after = omega (arith, c.requires.later)
-
-  broad : c.args.settings.now.predictor.column ≡ false → 2 ≤ c.args.cube.now.shape.columns
-  broad h = let w = c.args.settings.now.wide h in let e = c.requires.columns in omega (arith, w, e)
-
-  vector_is : c.put_west.new.components ≡ difference_vector c.args.settings.now.predictor c.args.cube.now c.args.settings.now.band c.args.y c.args.x ++ replicate (18 - c.args.settings.now.count) (pos 0)
-  vector_is =
-      let s = c.args.settings.now in
-      vector_filled s.predictor c.args.cube.now s.band c.args.y c.args.x (18 - s.count) c.args.components.now c.put_west.new.components c.requires.lower c.put_west.ensures.reduced c.put_west.ensures.full
-
-  -- the scaled prediction comes from the predicted difference
-  from_difference : scaled_by c.args.settings.now.predictor c.args.cube.now.kind (local_sum c.args.settings.now.predictor c.args.cube.now c.args.settings.now.band c.args.y c.args.x) (take g.row.N c.args.weights.now) (take g.row.N c.put_west.new.components)
-      ≡ scaled_by_difference c.args.cube.now.kind c.predicted_difference-part.result (local_sum c.args.settings.now.predictor c.args.cube.now c.args.settings.now.band c.args.y c.args.x)
-  from_difference =
-      let s = c.args.settings.now in
-      let e = rw (whole_sum s.range.smin c.args.sum s.range.low c.requires.sum_in) at c.predicted_difference-part.ensures.scaled in
-      found_by s.predictor s.range.kind c.args.cube.now.kind (pos 4 *ℤ s.range.smin +ℤ pos c.args.sum) (local_sum s.predictor c.args.cube.now s.band c.args.y c.args.x) c.predicted_difference-part.result (take g.row.N c.args.weights.now) (take g.row.N c.put_west.new.components) c.requires.kind sum_is e
-
-  -- the scaled prediction is that of the weights and differences there
-  scaled_is : scaled_by_difference c.args.cube.now.kind c.predicted_difference-part.result (local_sum c.args.settings.now.predictor c.args.cube.now c.args.settings.now.band c.args.y c.args.x) ≡ scaled_there c.args.settings.now.predictor c.args.cube.now c.args.settings.now.band c.args.y c.args.x (take c.args.settings.now.count c.args.weights.now)
-  scaled_is =
-      let s = c.args.settings.now in
-      sym (scaled_from_room s.predictor c.args.cube.now s.band c.args.y c.args.x s.count g.row.N c.args.weights.now c.put_west.new.components c.prove_is_cube.ensures c.requires.place s.count_is c.requires.enough c.requires.few vector_is c.predicted_difference-part.result from_difference)
+      rw (filled, s.range.bits_is, ← c.requires.kind)
+      (padded_within s.predictor c.args.cube.now c.prove_is_cube.ensures c.args.y c.args.x (omega (arith, c.requires.later)) (rw c.requires.columns s.wide)
+      s.band c.requires.place (18 - s.count))
 
 pub predicted_difference-part-requires-clause-differences_in : goal.predicted_difference-part-requires-clause-differences_in
 predicted_difference-part-requires-clause-differences_in g c =
@@ -94,22 +55,44 @@ update_by-requires-clause-steps g c a =
     let exponent_fits : SFits w32 c.exponent_at-exponent.result = search rules in
     rw (to_z-of_z exponent_fits) (c.requires.steps.steps a ∙ ap (λ e. step e a) (sym exponent))
 
+module _ (g : given.Over) (c : After-update_by g) where
+  abbrev sum : ℤ
+  sum = local_sum c.args.settings.now.predictor c.args.cube.now c.args.settings.now.band c.args.y c.args.x
+
+  -- the local sum, as the code computes it
+  sum_is : pos 4 *ℤ c.args.settings.now.range.smin +ℤ pos c.args.sum ≡ sum
+  sum_is =
+      let low : smin c.args.cube.now.kind ≡ c.args.settings.now.range.smin = ap smin c.requires.kind ∙ sym c.args.settings.now.range.smin_is in
+      sym (rw low at c.requires.sum_is)
+
+  -- the scaled prediction comes from the predicted difference
+  by_difference : scaled_by c.args.settings.now.predictor c.args.cube.now.kind sum (take g.row.N c.args.weights.now) (take g.row.N c.put_west.new.components)
+      ≡ scaled_by_difference c.args.cube.now.kind c.predicted_difference-part.result sum
+  by_difference =
+      let r = c.args.settings.now.range in
+      rw (← sum_is, c.requires.kind) (rw (whole_sum r.smin c.args.sum r.low c.requires.sum_in) at c.predicted_difference-part.ensures.scaled)
+
 pub returns-clause-inverse : goal.returns-clause-inverse
 returns-clause-inverse g c =
-    let d = (goal.at.returns-clause-inverse g c).After-sample_by_part-found in
+    let d = (goal.at.returns-clause-inverse g c).After-update_by in
+    let filled = filled g (goal.at.returns-clause-inverse g c).After-put_west in
     let s = c.args.settings.now in
     let fits : SFits w32 c.sample_by_part-found.result.0 = search rules in
     let part_fits : SFits w32 c.predicted_difference-part.result = search rules in
-    let e = rw (← c.requires.kind, ← c.requires.sum_is, scaled_is g d) at (simp (to_z-of_z part_fits) at c.sample_by_part-found.ensures.inverse) in
+    let scaled = scaled_from_room s.predictor c.args.cube.now s.band c.args.y c.args.x s.count g.row.N c.args.weights.now c.put_west.new.components
+    c.prove_is_cube.ensures c.requires.place s.count_is c.requires.enough c.requires.few filled _ (by_difference g d) in
+    let e = rw (← c.requires.kind, ← c.requires.sum_is, ← scaled) at (simp (to_z-of_z part_fits) at c.sample_by_part-found.ensures.inverse) in
     rw (
       to_z-of_z fits,
-      ← scaled_put c.args.cube.now s.band c.args.y c.args.x c.sample_by_part-found.result.0 c.requires.place c.prove_is_cube.ensures.whole s.predictor (broad g d) (after g d) (take s.count c.args.weights.now),
+      ← scaled_put c.args.cube.now s.band c.args.y c.args.x c.sample_by_part-found.result.0 c.requires.place c.prove_is_cube.ensures.whole s.predictor
+          (rw c.requires.columns s.wide) (omega (arith, c.requires.later)) (take s.count c.args.weights.now),
     )
     e
 
 pub returns-clause-weights : goal.returns-clause-weights
 returns-clause-weights g c =
-    let d = (goal.at.returns-clause-weights g c).After-sample_by_part-found in
+    let d = (goal.at.returns-clause-weights g c).After-update_by in
+    let filled = filled g (goal.at.returns-clause-weights g c).After-put_west in
     let s = c.args.settings.now in
     let found = c.sample_by_part-found.result.0 in
     let fits : SFits w32 c.sample_by_part-found.result.0 = search rules in
@@ -117,20 +100,19 @@ returns-clause-weights g c =
     let exponent_fits : SFits w32 c.exponent_at-exponent.result = search rules in
     let turn_fits : SFits w32 c.sample_by_part-found.result.1 = search rules in
     let bits : s.range.bits ≡ c.args.cube.now.kind.bits = s.range.bits_is ∙ ap (λ (k : SampleKind). k.bits) (sym c.requires.kind) in
-    let low : smin s.range.kind ≡ s.range.smin = sym s.range.smin_is in
-    let turn = rw low at (simp (to_z-of_z fits, to_z-of_z part_fits, to_z-of_z turn_fits) at c.sample_by_part-found.ensures.turn) in
+    let turn = rw (← s.range.smin_is) at (simp (to_z-of_z part_fits) at c.sample_by_part-found.ensures.turn) in
     let moved = rw turn at (simp (to_z-of_z exponent_fits, to_z-of_z turn_fits) at c.update_by.ensures.value) in
     let exponent = rw (bits, ← c.requires.columns) at c.exponent_at-exponent.ensures.value in
-    let range = rw (← c.requires.kind) at c.sample_by_part-found.ensures.range in
-    let m = moved_from_room s.predictor c.args.cube.now s.band c.args.y c.args.x s.count g.row.N c.args.weights.now c.put_west.new.components c.prove_is_cube.ensures c.requires.place s.count_is c.requires.enough c.requires.few (vector_is g d) c.predicted_difference-part.result (from_difference g d)
-    c.update_by.new.weights found (pos 4 *ℤ found -ℤ (pos 4 *ℤ s.range.smin +ℤ pos c.args.sum)) c.exponent_at-exponent.result range (ap (λ v. pos 4 *ℤ found -ℤ v) (sum_is g d)) exponent moved in
+    let m = moved_from_room s.predictor c.args.cube.now s.band c.args.y c.args.x s.count g.row.N c.args.weights.now c.put_west.new.components
+    c.prove_is_cube.ensures c.requires.place s.count_is c.requires.enough c.requires.few filled _ (by_difference g d)
+    c.update_by.new.weights found _ _ (rw (← c.requires.kind) at c.sample_by_part-found.ensures.range)
+    (ap (λ v. pos 4 *ℤ found -ℤ v) (sum_is g d)) exponent moved in
     rw (to_z-of_z fits)
-    (moved_put c.args.cube.now s.band c.args.y c.args.x found c.requires.place c.prove_is_cube.ensures.whole s.predictor (broad g d) (c.args.y * c.args.cube.now.shape.columns + c.args.x) (take s.count c.args.weights.now) (take s.count c.update_by.new.weights)
-    (scaled_there s.predictor c.args.cube.now s.band c.args.y c.args.x (take s.count c.args.weights.now)) (after g d) refl refl m)
+    (moved_put c.args.cube.now s.band c.args.y c.args.x found c.requires.place c.prove_is_cube.ensures.whole s.predictor (rw c.requires.columns s.wide) _
+    (take s.count c.args.weights.now) _ _ (omega (arith, c.requires.later)) refl refl m)
 
 pub put_west-requires-clause-small : goal.put_west-requires-clause-small
 put_west-requires-clause-small g c =
     let s = c.args.settings.now in
-    let wide : s.predictor.column ≡ false → 2 ≤ c.args.cube.now.shape.columns = λ h. let w = s.wide h in omega (arith, w, c.requires.columns) in
-    open_within s.predictor c.args.cube.now c.prove_is_cube.ensures s.band c.args.y c.args.x c.requires.later wide c.requires.place c.args.components.now (18 - s.count)
-    c.requires.directions c.requires.lower
+    open_within s.predictor c.args.cube.now c.prove_is_cube.ensures s.band c.args.y c.args.x c.requires.later (rw c.requires.columns s.wide) c.requires.place
+    _ _ c.requires.directions c.requires.lower

@@ -8,7 +8,8 @@ use Rattle.predict_core.proofs.prediction.may_wrap.Goals as goal
 
 -- the upper part of the register, as the code computes it
 upper_is : (part sum middle : ℤ) → unsigned_abs part ≤ 18 * 2 ^ 20 → negsuc 131071 ≤ℤ sum → sum ≤ℤ pos 262140 → pos 0 ≤ℤ middle → middle ≤ℤ pos 32768
-    → to_z w32 (of_z w32 (to_z w32 (of_z w32 part) +ℤ to_z w32 (of_z w32 (to_z w32 (of_z w32 sum) -ℤ to_z w32 (of_z w32 (pos 4 *ℤ to_z w32 (of_z w32 middle)))))))
+    → to_z w32 (of_z w32 (to_z w32 (of_z w32 part)
+    +ℤ to_z w32 (of_z w32 (to_z w32 (of_z w32 sum) -ℤ to_z w32 (of_z w32 (pos 4 *ℤ to_z w32 (of_z w32 middle)))))))
     ≡ part +ℤ (sum -ℤ pos 4 *ℤ middle)
 upper_is part sum middle a b d e f = omega (arith, ints, a, b, d, e, f)
 

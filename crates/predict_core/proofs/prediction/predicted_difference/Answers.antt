@@ -20,7 +20,8 @@ returns-else-may_wrap-clause-scaled g c =
     let p = c.args.predictor.now in
     let product_fits : SFits w64 c.product_of_first-product.result = search rules in
     let result_fits : SFits w32 c.whole_product-part.result = search rules in
-    let kept = rw c.product_of_first-product.ensures.value at (simp (to_z-of_z product_fits, to_z-of_z c.ranges.sum) at (c.if-may_wrap.ensures.kept refl)) in
+    let kept = rw c.product_of_first-product.ensures.value at
+    (simp (to_z-of_z product_fits, to_z-of_z c.ranges.sum) at (c.if-may_wrap.ensures.kept refl)) in
     let value = rw c.product_of_first-product.ensures.value at (simp (to_z-of_z product_fits) at c.whole_product-part.ensures.value) in
     rw (to_z-of_z result_fits)
-    (of_product p c.args.range.now.kind c.args.sum c.whole_product-part.result (take g.row.N c.args.weights.now) (take g.row.N c.args.differences.now) kept value)
+    (of_product p c.args.range.now.kind c.args.sum _ _ _ kept value)

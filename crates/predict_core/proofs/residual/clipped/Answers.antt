@@ -4,7 +4,8 @@ use Rattle.std.proofs.lemmas.Int.{ints, clamps}
 use Rattle.predict_core.proofs.residual.clipped.Goals as goal
 use Rattle.predict_core.proofs.residual.clipped.Goals.{After-max}
 
-top_is : (high : ℤ) → negsuc 32767 ≤ℤ high → high ≤ℤ pos 65535 → to_z w32 (of_z w32 (to_z w32 (of_z w32 (pos 2 *ℤ to_z w32 (of_z w32 high))) +ℤ pos 1)) ≡ pos 2 *ℤ high +ℤ pos 1
+top_is : (high : ℤ) → negsuc 32767 ≤ℤ high → high ≤ℤ pos 65535
+    → to_z w32 (of_z w32 (to_z w32 (of_z w32 (pos 2 *ℤ to_z w32 (of_z w32 high))) +ℤ pos 1)) ≡ pos 2 *ℤ high +ℤ pos 1
 top_is high h k = omega (arith, ints)
 
 bottom_is : (low : ℤ) → negsuc 32767 ≤ℤ low → low ≤ℤ pos 65535 → to_z w32 (of_z w32 (pos 2 *ℤ to_z w32 (of_z w32 low))) ≡ pos 2 *ℤ low

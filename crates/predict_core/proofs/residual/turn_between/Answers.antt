@@ -1,4 +1,4 @@
-use Rattle.std.proofs.Common.{◌≡◌, ◌%◌, ℤ, pos, ◌+ℤ◌, ◌-ℤ◌, ◌*ℤ◌, int_lt, SFits, w32, to_z-of_z, refl, sym, ap, ◌∙◌, arith, rules}
+use Rattle.std.proofs.Common.{◌≡◌, ◌%◌, ℤ, pos, ◌+ℤ◌, ◌-ℤ◌, ◌*ℤ◌, int_lt, SFits, w32, to_z-of_z, refl, ap, ◌∙◌, arith, rules}
 use Rattle.std.proofs.lemmas.Int.{ints}
 use Rattle.predict_core.specs.Mapping.{unmapped_between, error_of}
 use Rattle.predict_core.proofs.NearSamples.{with_parity}
@@ -6,7 +6,8 @@ use Rattle.predict_core.proofs.OneSample.{unmapped_is}
 use Rattle.predict_core.proofs.residual.turn_between.Goals as goal
 
 -- what is left of both, once twice the prediction is taken from them
-left : (scaled predicted error sample parity : ℤ) → scaled ≡ pos 2 *ℤ predicted +ℤ parity → predicted +ℤ error ≡ sample → pos 2 *ℤ error -ℤ parity ≡ pos 2 *ℤ sample -ℤ scaled
+left : (scaled predicted error sample parity : ℤ) → scaled ≡ pos 2 *ℤ predicted +ℤ parity → predicted +ℤ error ≡ sample
+    → pos 2 *ℤ error -ℤ parity ≡ pos 2 *ℤ sample -ℤ scaled
 left scaled predicted error sample parity e h = omega (arith, ints, e, h)
 
 pub returns-clause-value : goal.returns-clause-value
@@ -18,7 +19,8 @@ returns-clause-value c =
     let below = simp (to_z-of_z c.ranges.low, to_z-of_z predicted_fits) at c.span_of-below.ensures in
     let parity = simp (to_z-of_z c.ranges.scaled) at c.unsigned_abs.ensures.value in
     let sample = unmapped_is c.args.low c.args.high c.args.scaled c.prediction_of-predicted.result _ _ _ _ c.args.delta half theta below parity refl in
-    let error : ℤ = error_of c.theta_of-theta.result c.span_of-below.result c.unsigned_abs.result c.args.delta in
-    let whole = with_parity c.args.scaled c.prediction_of-predicted.result half ∙ ap (λ n. pos 2 *ℤ c.prediction_of-predicted.result +ℤ pos (n % 2)) (sym parity) in
+    let whole = rw (← parity) at (with_parity c.args.scaled c.prediction_of-predicted.result half) in
     rw (to_z-of_z fits)
-    (c.turn_of_number.ensures.value ∙ ap (λ v. int_lt v (pos 0)) (left c.args.scaled c.prediction_of-predicted.result error (unmapped_between c.args.low c.args.high c.args.scaled c.args.delta) (pos (c.unsigned_abs.result % 2)) whole sample))
+    (c.turn_of_number.ensures.value ∙ ap (λ v. int_lt v (pos 0)) (left c.args.scaled c.prediction_of-predicted.result
+    (error_of c.theta_of-theta.result c.span_of-below.result c.unsigned_abs.result c.args.delta)
+    (unmapped_between c.args.low c.args.high c.args.scaled c.args.delta) (pos (c.unsigned_abs.result % 2)) whole sample))

@@ -1,4 +1,5 @@
-use Rattle.std.proofs.Common.{◌^◌, ◌*ℤ◌, ◌≡◌, ◌≤◌, ◌+◌, ◌/◌, ℕ, ℤ, pos, ◌+ℤ◌, ◌-ℤ◌, ◌≤ℤ◌, int_lt, unsigned_abs, false, w32, to_z, of_z, to_z-of_z, arith, sym, ap, ap₂, ◌∙◌, Bool, subst}
+use Rattle.std.proofs.Common.{◌^◌, ◌*ℤ◌, ◌≡◌, ◌≤◌, ◌+◌, ◌/◌, ℕ, ℤ, pos, ◌+ℤ◌, ◌-ℤ◌, ◌≤ℤ◌, int_lt, unsigned_abs, false, w32, to_z, of_z, to_z-of_z, arith, sym}
+use Rattle.std.proofs.Common.{ap, ap₂, ◌∙◌, Bool, subst}
 use Rattle.std.proofs.lemmas.Int.{ints, clamps}
 use Rattle.predict_core.specs.Arithmetic.{floor_div, clip}
 use Rattle.predict_core.specs.Mapping.{Between, unmapped_between}
@@ -77,7 +78,8 @@ module _ (c : After-unsigned_abs) where
 
   -- the sign, by the scaled prediction
   sign_of : (b : Bool) (v : ℤ) → v ≡ unmapped_between c.args.low c.args.high scaled c.args.delta
-      → b ≡ int_lt (pos 2 *ℤ unmapped_between c.args.low c.args.high c.args.center c.args.delta -ℤ c.args.center) (pos 0) → b ≡ int_lt (pos 2 *ℤ v -ℤ scaled) (pos 0)
+      → b ≡ int_lt (pos 2 *ℤ unmapped_between c.args.low c.args.high c.args.center c.args.delta -ℤ c.args.center) (pos 0)
+      → b ≡ int_lt (pos 2 *ℤ v -ℤ scaled) (pos 0)
   sign_of b v e h = h ∙ ap₂ (λ u w. int_lt (pos 2 *ℤ u -ℤ w) (pos 0)) (by_center ∙ sym e) (sym whole)
 
 pub returns-then-delta-unsigned_abs-eq0-clause-value : goal.returns-then-delta-unsigned_abs-eq0-clause-value
@@ -98,7 +100,8 @@ returns-then-delta-unsigned_abs-eq0-clause-inverse c =
 pub returns-then-delta-unsigned_abs-eq0-clause-turn : goal.returns-then-delta-unsigned_abs-eq0-clause-turn
 returns-then-delta-unsigned_abs-eq0-clause-turn c =
     let d = (goal.at.returns-then-delta-unsigned_abs-eq0-clause-turn c).After-unsigned_abs in
-    sign_of d _ _ (returns-then-delta-unsigned_abs-eq0-clause-value c) (even_turn _ _ _ _ _ (half d) (least d) (most d) (rw (parity d) at c.if-delta-unsigned_abs-eq0.true))
+    sign_of d _ _ (returns-then-delta-unsigned_abs-eq0-clause-value c)
+    (even_turn _ _ _ _ _ (half d) (least d) (most d) (rw (parity d) at c.if-delta-unsigned_abs-eq0.true))
 
 pub returns-else-delta-unsigned_abs-eq0-clause-value : goal.returns-else-delta-unsigned_abs-eq0-clause-value
 returns-else-delta-unsigned_abs-eq0-clause-value c =
@@ -118,4 +121,5 @@ returns-else-delta-unsigned_abs-eq0-clause-inverse c =
 pub returns-else-delta-unsigned_abs-eq0-clause-turn : goal.returns-else-delta-unsigned_abs-eq0-clause-turn
 returns-else-delta-unsigned_abs-eq0-clause-turn c =
     let d = (goal.at.returns-else-delta-unsigned_abs-eq0-clause-turn c).After-unsigned_abs in
-    sign_of d _ _ (returns-else-delta-unsigned_abs-eq0-clause-value c) (odd_turn _ _ _ _ _ (half d) (least d) (most d) (rw (parity d) at c.if-delta-unsigned_abs-eq0.false))
+    sign_of d _ _ (returns-else-delta-unsigned_abs-eq0-clause-value c)
+    (odd_turn _ _ _ _ _ (half d) (least d) (most d) (rw (parity d) at c.if-delta-unsigned_abs-eq0.false))

@@ -1,4 +1,5 @@
-use Rattle.std.proofs.Common.{◌≡◌, ◌≢◌, ◌+◌, ◌-◌, ◌*◌, ◌<◌, ◌≤◌, ℕ, ℤ, pos, [], ◌∷◌, ◌++◌, false, length, get_or, replicate, refl, arith, ap, ◌∙◌, sym, inl, inr}
+use Rattle.std.proofs.Common.{◌≡◌, ◌≢◌, ◌+◌, ◌-◌, ◌*◌, ◌<◌, ℕ, ℤ, pos, [], ◌∷◌, ◌++◌, length, get_or, replicate, refl, arith, ap, ◌∙◌, sym, inl}
+use Rattle.std.proofs.Common.{inr}
 use Rattle.std.proofs.lemmas.Bool.{cases_eq}
 use Rattle.predict_core.specs.Lines.{line_sum, line_difference, line_north, line_directions}
 use Rattle.predict_core.specs.OffsetSum.{offset_difference}
@@ -12,15 +13,12 @@ use Rattle.predict_core.proofs.room.fill_open_part.Goals as goal
 use Rattle.predict_core.proofs.room.fill_open_part.Goals.{After-fill_line_above, After-fill_spectral-else-settings, then-x-eq0, else-x-eq0}
 
 module _ (g : given.Over) (c : After-fill_line_above g) where
-  wide : c.args.settings.now.predictor.column ≡ false → 2 ≤ c.args.cube.now.shape.columns
-  wide h = let w = c.args.settings.now.wide h in omega (arith, w, c.requires.columns)
-
   summed : (i : ℕ) → i < c.args.count → pos (line_sum c.args.settings.now.predictor.column (replicate 66 0) c.fill_line_above.new.upper i)
       ≡ open_sum c.args.settings.now.predictor c.args.cube.now c.args.settings.now.band c.args.y (c.args.x + i)
   summed =
       let s = c.args.settings.now in
       open_line s.predictor c.args.cube.now s.band c.args.y c.args.x c.args.count c.row-above.result.now c.fill_line_above.new.upper c.requires.inside
-      c.row-above.ensures.len c.row-above.ensures.samples wide c.fill_line_above.ensures (replicate 66 0) refl
+      c.row-above.ensures.len c.row-above.ensures.samples (rw c.requires.columns s.wide) c.fill_line_above.ensures (replicate 66 0) refl
 
 pub returns-then-settings : goal.returns-then-settings
 returns-then-settings g c = λ i l.
@@ -65,7 +63,7 @@ module _ (g : given.Over) (c : After-fill_spectral-else-settings g) where
   inner i l n =
       let s = c.args.settings.now in
       open_inner s.predictor c.args.cube.now s.band c.args.y c.args.x c.args.count c.row-above.result.now c.fill_line_above.new.upper c.requires.inside
-      c.row-above.ensures.len c.row-above.ensures.samples (wide g from) c.fill_line_above.ensures (replicate 66 0) refl i l n
+      c.row-above.ensures.len c.row-above.ensures.samples (rw c.requires.columns s.wide) c.fill_line_above.ensures (replicate 66 0) refl i l n
 
 pub returns-after-x-eq0 : goal.returns-after-x-eq0
 unfolding below
@@ -80,7 +78,7 @@ returns-after-x-eq0 g c = λ i l.
             ∷ offset_difference (get_or (replicate {A = ℕ} 66 0) k 0) (line_sum s.predictor.column (replicate 66 0) c.fill_line_above.new.upper k)
             ∷ line_north s.predictor.column (replicate 66 0) c.fill_line_above.new.upper k ∷ []) (sym e)
             ∙ open_first s.predictor c.args.cube.now s.band c.args.y c.args.x c.args.count c.row-above.result.now c.fill_line_above.new.upper c.requires.inside
-            c.row-above.ensures.len c.row-above.ensures.samples (wide g (from g c)) c.fill_line_above.ensures (replicate 66 0)
+            c.row-above.ensures.len c.row-above.ensures.samples (rw c.requires.columns s.wide) c.fill_line_above.ensures (replicate 66 0)
             refl i l (omega (arith, e, w.if-x-eq0.true)))
         | inr n ↦ done g c i l _ _ _
             (ap (λ qs. components_at 1 qs i) w.quads-is ∙ one_quad c.args.quads.now _ i (some g c)

@@ -1,4 +1,4 @@
-use Rattle.std.proofs.Common.{◌≡◌, ◌+◌, ◌-◌, ◌*◌, ◌<◌, ◌≤◌, ◌++◌, ℕ, false, pos, length, set, replicate, arith, ap, ◌∙◌}
+use Rattle.std.proofs.Common.{◌≡◌, ◌+◌, ◌-◌, ◌*◌, ◌<◌, ◌++◌, ℕ, pos, length, set, replicate, arith, ap, ◌∙◌}
 use Rattle.predict_core.specs.Differences.{difference_vector, directional_differences}
 use Rattle.predict_core.specs.Rooms.{components_at, lower_differences, quads_of}
 use Rattle.predict_core.proofs.Quads.{components_none, one_quad, reduced_components, full_components}
@@ -9,7 +9,6 @@ use Rattle.predict_core.proofs.room.fill_run.Goals as goal
 pub returns-then-settings : goal.returns-then-settings
 returns-then-settings g c =
     let s = c.args.settings.now in
-    let wide : s.predictor.column ≡ false → 2 ≤ c.args.cube.now.shape.columns = λ h. let w = s.wide h in let e = c.requires.columns in omega (arith, w, e) in
     let sums = rw c.is_column-column.ensures at c.fill_own.ensures.sums in
     let own = rw c.is_column-column.ensures at c.fill_own.ensures.own in
     let vectors : (i : ℕ) → i < c.args.count → 0 < c.args.y + (c.args.x + i) → components_at (quads_of s.count) c.fill_spectral.new.quads i
@@ -17,13 +16,12 @@ returns-then-settings g c =
     λ i l h. reduced_components s.predictor c.args.cube.now s.band c.args.y (c.args.x + i) s.count _ c.if-settings.true s.count_is
     (c.fill_spectral.ensures i l h ∙ ap (λ us. us
     ++ lower_differences s.predictor c.args.cube.now s.band c.args.y (c.args.x + i) 1 (4 * (quads_of s.count - 0))) (components_none c.args.quads.now i)) in
-    room_told s.predictor _ s.band _ _ _ s.count _ _ _ _ _ c.prove_is_cube.ensures c.requires.place c.requires.inside wide c.requires.few
-    c.fill_band_lines.ensures sums own vectors
+    room_told s.predictor _ s.band _ _ _ s.count _ _ _ _ _ c.prove_is_cube.ensures c.requires.place c.requires.inside
+    (rw c.requires.columns s.wide) c.requires.few c.fill_band_lines.ensures sums own vectors
 
 pub returns-else-settings : goal.returns-else-settings
 returns-else-settings g c =
     let s = c.args.settings.now in
-    let wide : s.predictor.column ≡ false → 2 ≤ c.args.cube.now.shape.columns = λ h. let w = s.wide h in let e = c.requires.columns in omega (arith, w, e) in
     let three = s.count_is ∙ full_count s.predictor s.band c.if-settings.false in
     let some : 0 < length c.args.quads.now = (let enough = c.requires.enough in let long = c.told-quads in omega (arith, three, enough, long)) in
     let head : (i : ℕ) → i < c.args.count → 0 < c.args.y + (c.args.x + i)
@@ -35,5 +33,5 @@ returns-else-settings g c =
     λ i l h. full_components s.predictor c.args.cube.now s.band c.args.y (c.args.x + i) s.count _ c.if-settings.false s.count_is
     (c.fill_spectral-else-settings.ensures i l h
     ∙ ap (λ us. us ++ lower_differences s.predictor c.args.cube.now s.band c.args.y (c.args.x + i) 2 (4 * (quads_of s.count - 1))) (head i l h)) in
-    room_told s.predictor _ s.band _ _ _ s.count _ _ _ _ _ c.prove_is_cube.ensures c.requires.place c.requires.inside wide c.requires.few
-    c.fill_band_lines.ensures c.fill_first.ensures.sums c.fill_first.ensures.own vectors
+    room_told s.predictor _ s.band _ _ _ s.count _ _ _ _ _ c.prove_is_cube.ensures c.requires.place c.requires.inside
+    (rw c.requires.columns s.wide) c.requires.few c.fill_band_lines.ensures c.fill_first.ensures.sums c.fill_first.ensures.own vectors

@@ -1,4 +1,4 @@
-use Rattle.std.proofs.Common.{length, take, ◌≡◌, ◌*◌, ◌^◌, ◌≤◌, false, arith, subst, SFits, w32, to_z-of_z, rules, ap, ◌∙◌, sym}
+use Rattle.std.proofs.Common.{length, take, ◌≡◌, ◌*◌, ◌^◌, subst, SFits, w32, to_z-of_z, rules, ap, ◌∙◌, sym}
 use Rattle.cube_core.specs.Kind.{SampleKind, smin}
 use Rattle.predict_core.specs.Differences.{difference_vector}
 use Rattle.predict_core.specs.Bounds.{AllWithin}
@@ -23,7 +23,7 @@ pub returns-clause-bound : goal.returns-clause-bound
 returns-clause-bound c =
     let s = c.args.settings.now in
     let bits : s.range.bits ≡ c.args.cube.now.kind.bits = s.range.bits_is ∙ ap (λ (k : SampleKind). k.bits) (sym c.requires.kind) in
-    let wide : s.predictor.column ≡ false → 2 ≤ c.args.cube.now.shape.columns = λ h. let w = s.wide h in omega arith in
     rw bits
     (subst (AllWithin (4 * 2 ^ c.args.cube.now.kind.bits)) (sym c.fill_differences.ensures.value)
-    (padded_within s.predictor c.args.cube.now c.prove_is_cube.ensures c.args.y c.args.x c.requires.later wide s.band c.requires.place _))
+    (padded_within s.predictor c.args.cube.now c.prove_is_cube.ensures c.args.y c.args.x c.requires.later (rw c.requires.columns s.wide)
+    s.band c.requires.place _))

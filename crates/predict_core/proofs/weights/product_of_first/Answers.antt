@@ -32,15 +32,6 @@ loop-i-preserved g c =
       bound = sum_bound c.loop-i.sum (w *ℤ u) c.loop-i.i kept (product_bound w u wb ub);
     })
 
-pub returns-clause-value : goal.returns-clause-value
-returns-clause-value g c =
-    let done : c.loop-i.i ≡ g.row.N = omega arith in
-    rw c.loop-i.sum-is (subst (λ n. c.loop-i.sum ≡ inner_product (take n c.args.weights.now) (take n c.args.differences.now)) done
-    (rw c.loop-i.sum-is at c.loop-i.invariant.begun))
-
-pub returns-clause-bound : goal.returns-clause-bound
-returns-clause-bound g c = omega (arith, c.loop-i.invariant.bound)
-
 pub returns-clause-bound_by : goal.returns-clause-bound_by
 returns-clause-bound_by g c n within =
     let done : c.loop-i.i ≡ g.row.N = omega arith in

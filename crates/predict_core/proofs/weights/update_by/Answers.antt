@@ -1,7 +1,6 @@
-use Rattle.std.proofs.Common.{int_lt, ◌≡◌, ◌+◌, ◌<◌, ◌^◌, le_trans, ◌≤◌, unsigned_abs, ℤ, ℕ, List, pos, take, length, get_or, SFits, to_z-of_z, w32, arith}
-use Rattle.std.proofs.Common.{refl, rules, length-set, subst}
+use Rattle.std.proofs.Common.{int_lt, ◌+◌, ◌<◌, ◌^◌, le_trans, ◌≤◌, unsigned_abs, ℤ, ℕ, List, pos, length, get_or, SFits, to_z-of_z, w32, arith}
+use Rattle.std.proofs.Common.{refl, rules, length-set}
 use Rattle.std.proofs.lemmas.Int.{ints}
-use Rattle.predict_core.specs.Weights.{updated_weights}
 use Rattle.predict_core.proofs.Products.{step_kept, step_bound, SFits-small}
 use Rattle.predict_core.proofs.Moves.{room_word, SFits-26, limit_within}
 use Rattle.predict_core.proofs.Prefixes.{update_none, update_next}
@@ -44,9 +43,3 @@ loop-i-preserved g c =
       bound = step_bound (2 ^ (c.args.fraction + 2)) now i _ c.loop-i.invariant.bound c.moved.ensures.bound;
       long = rw length-set c.loop-i.invariant.long;
     })
-
-pub returns-clause-value : goal.returns-clause-value
-returns-clause-value g c =
-    let done : c.loop-i.i ≡ g.row.N = omega arith in
-    subst (λ n. take n c.loop-i.weights ≡ updated_weights c.args.fraction c.args.exponent (int_lt c.args.turn (pos 0)) (take n c.args.weights.now)
-    (take n c.args.differences.now)) done (rw (to_z-of_z c.ranges.turn, to_z-of_z c.ranges.exponent) at c.loop-i.invariant.done)

@@ -1,4 +1,4 @@
-use Rattle.std.proofs.Common.{◌≡◌, ◌≤◌, ◌^◌, ◌+ℤ◌, ◌*ℤ◌, ◌≤ℤ◌, pos, SFits, w32, to_z, to_z-of_z, rules, false, ap, ◌∙◌, sym, arith}
+use Rattle.std.proofs.Common.{◌≡◌, ◌^◌, ◌+ℤ◌, ◌*ℤ◌, ◌≤ℤ◌, pos, SFits, w32, to_z, to_z-of_z, rules, ap, ◌∙◌, sym, arith}
 use Rattle.std.proofs.lemmas.Int.{ints, fits_signed_from_abs, to_z_pos}
 use Rattle.std.proofs.Math.Pow.{pow_mono}
 use Rattle.cube_core.specs.Kind.{smin, smax}
@@ -28,9 +28,9 @@ module _ (c : After-masked) where
       let s = c.args.settings.now in
       let cube = c.prove_is_cube.ensures in
       let k = c.args.cube.now.kind in
-      let wide : s.predictor.column ≡ false → 2 ≤ c.args.cube.now.shape.columns = λ h. let w = s.wide h in omega (arith, w, c.requires.columns) in
       offset_sum_most (smin k) (smax k) _ (c.args.sum +ℤ c.masked.result) (2 ^ k.bits) (span k cube.bits) (pow_mono (cube.bits.1))
-      (sum_within s.predictor c.args.cube.now cube c.args.y c.args.x (omega (arith, c.requires.later)) wide s.band c.requires.place) (sym whole)
+      (sum_within s.predictor c.args.cube.now cube c.args.y c.args.x (omega (arith, c.requires.later)) (rw c.requires.columns s.wide) s.band
+      c.requires.place) (sym whole)
 
   part_fits : SFits w32 c.masked.result
   part_fits = let b = c.masked.ensures.bound in fits_signed_from_abs w32 c.masked.result (omega (arith, ints, b.0, b.1))

@@ -10,7 +10,8 @@ abbrev pub invariant-loop-i : goal.invariant-loop-i
 invariant-loop-i l = record {
   moved : MovesBy l.i l.initial.self l.self;
   beside : AreAlikeBeside l.initial.cube l.cube l.initial.self.band l.y l.x l.i;
-  residuals : (p : Params) → Follows p l.initial.self l.initial.cube → run_residuals p l.cube l.initial.self.band (l.y * l.cube.shape.columns + l.x) l.i ≡ take l.i l.deltas;
+  residuals : (p : Params) → Follows p l.initial.self l.initial.cube
+      → run_residuals p l.cube l.initial.self.band (l.y * l.cube.shape.columns + l.x) l.i ≡ take l.i l.deltas;
   follows : (p : Params) → Follows p l.initial.self l.initial.cube → Follows p l.self l.cube;
   whole : length l.cube.samples ≡ sample_count l.cube.shape;
 }

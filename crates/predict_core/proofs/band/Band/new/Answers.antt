@@ -1,5 +1,5 @@
 use Rattle.std.proofs.Common.{◌∙◌, ap, sym, refl}
-use Rattle.predict_core.specs.Predictor.{predictor_of, previous_bands, component_count}
+use Rattle.predict_core.specs.Predictor.{predictor_of, component_count}
 use Rattle.predict_core.specs.declared.predictor.Predictor.{Predictor}
 use Rattle.predict_core.proofs.Starting.{count_is, start_told}
 use Rattle.predict_core.proofs.band.Band.new.Goals as goal
@@ -7,14 +7,8 @@ use Rattle.predict_core.proofs.band.Band.new.Goals as goal
 pub invariant_of-settings-clause-count_is : goal.invariant_of-settings-clause-count_is
 invariant_of-settings-clause-count_is c =
     rw c.min-previous.ensures
-    (count_is (predictor_of c.args.params.now) c.args.z c.first_spectral-first.result c.first_spectral-first.ensures.value ∙ ap (λ (q : Predictor). component_count q c.args.z) (sym c.of-predictor.ensures.value))
-
-pub invariant_of-settings-clause-near_is : goal.invariant_of-settings-clause-near_is
-invariant_of-settings-clause-near_is c =
-    rw c.min-previous.ensures (ap (λ (q : Predictor). previous_bands q c.args.z) (sym c.of-predictor.ensures.value))
-
-pub returns-clause-made : goal.returns-clause-made
-returns-clause-made c = (record { predictor = c.of-predictor.ensures.value; shape = refl; kind = c.of.ensures }, refl, refl)
+    (count_is (predictor_of c.args.params.now) c.args.z _ c.first_spectral-first.ensures.value
+    ∙ ap (λ (q : Predictor). component_count q c.args.z) (sym c.of-predictor.ensures.value))
 
 pub returns-clause-follows : goal.returns-clause-follows
 returns-clause-follows c d = record {
