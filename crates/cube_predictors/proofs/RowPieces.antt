@@ -1,19 +1,20 @@
 -- Pieces of a row, one behind another.
 use Rattle.std.proofs.Common.{◌≡◌, ◌+◌, ◌*◌, ◌<◌, ◌≤◌, ℕ, zero, suc, List, [], ◌∷◌, ◌++◌, length, take, drop, get_or, set, refl, sym, ap, ap₂, subst, ◌∙◌}
-use Rattle.std.proofs.Common.{add-one, get_or-take, append-nil, length-append, length-drop, arith}
+use Rattle.std.proofs.Common.{add-one, get_or-take, get_or-drop, get_or-set_other, append-nil, length-append, length-drop, length-set, arith}
 use Rattle.std.specs.List.{flat_map}
 use Rattle.std.proofs.lemmas.Grind.{flat_map-append}
 use Rattle.std.proofs.lemmas.Slice.{take-put_mid}
 use borrow.Rule.Slice.PartMut.{put_mid}
 use Rattle.std.proofs.Math.Seq.{take-add}
 use Rattle.std.proofs.lemmas.List.{take_more, take_more_set, drop_more, drop-set-lt, take-map, drop-map, take-append-drop, length-take, length-take-le}
-use Rattle.std.proofs.lemmas.List.{length-map, get_or-map, take_at}
+use Rattle.std.proofs.lemmas.List.{length-map, get_or-map, take_at, set-append_left, set-append_right}
+use Rattle.std.proofs.Math.Seq.{map-set_same}
 use Rattle.std.proofs.lemmas.List.Elements.{All-weaker, All-from_recursion, recursion_from_All}
 use Rattle.cube_core.specs.Image.{Image}
 use Rattle.cube_core.specs.Order.{from, upto}
 use Rattle.cube_core.proofs.Lists.{get_or-from, length-from}
 use Rattle.header_bits.specs.declared.params.Params.{Params}
-use Rattle.predict_core.specs.Following.{Learner, Follows, MovesBy}
+use Rattle.predict_core.specs.Following.{Learner, HoldsPiece}
 use Rattle.predict_core.specs.Residual.{mapped_residual, run_residuals}
 use Rattle.cube_predictors.specs.Own.{column_of}
 use Rattle.cube_predictors.specs.Sends.{IsAt, AreAt, bands_of}
@@ -24,17 +25,48 @@ use Rattle.cube_predictors.proofs.Sending.{Pieces, each_append, from_split, upto
 
 -- one band has gone over its piece, and so the bands up to it
 pub past_step : (p : Params) (c : Image) (t n i : ℕ) (bands : List Learner) (b d : Learner) → i < length bands → ArePast p c t n (take i bands)
-    → AreAt p c t (drop i bands) → MovesBy n (get_or bands i b) d → (Follows p (get_or bands i b) c → Follows p d c)
-    → (Follows p (get_or bands i b) c → take n d.piece ≡ run_residuals p c (get_or bands i b).band (get_or bands i b).place n)
+    → AreAt p c t (drop i bands) → HoldsPiece c n (get_or bands i b) d
     → ArePast p c t n (take (i + 1) (set bands i d)) × AreAt p c t (drop (i + 1) (set bands i d))
-past_step p c t n i bands b d lt done left moves follows held =
+past_step p c t n i bands b d lt done left piece =
     let here : IsAt p c t (get_or bands i b) × AreAt p c t (drop (i + 1) bands) = rw (drop_more bands i b lt) at left in
+    let moves = piece.moved in
     let past : IsPast p c t n d = record {
-      at = record { follows = follows here.0.follows; place = moves.place ∙ ap (λ k. k + n) here.0.place; inside = omega (arith, here.0.inside, moves.band) };
-      held = held here.0.follows ∙ ap₂ (λ z k. run_residuals p c z k n) (sym moves.band) here.0.place;
+      at = record {
+        follows = piece.follows p here.0.follows;
+        place = moves.place ∙ ap (λ k. k + n) here.0.place;
+        inside = omega (arith, here.0.inside, moves.band);
+      };
+      held = piece.residuals p here.0.follows ∙ ap₂ (λ z k. run_residuals p c z k n) (sym moves.band) here.0.place;
     } in
     let all = each_append (IsPast p c t n) (take i bands) (d ∷ []) done (past, tt) in
     (rw (take_more_set bands i d lt) all, rw (drop-set-lt (i + 1) bands i d (omega arith)) here.1)
+
+-- two bands that are parted between them have gone over their pieces, and so the bands up to them
+pub past_two : (p : Params) (c : Image) (t n i : ℕ) (bands before rest : List Learner) (b d e f : Learner) → i + 1 < length bands
+    → before ≡ take (i + 1) bands → rest ≡ drop (i + 1) bands → ArePast p c t n (take i bands) → AreAt p c t (drop i bands)
+    → HoldsPiece c n (get_or before i b) d → HoldsPiece c n (get_or rest 0 e) f
+    → (bands_of (set before i d ++ set rest 0 f) ≡ bands_of bands)
+    × ArePast p c t n (take (i + 1 + 1) (set before i d ++ set rest 0 f)) × AreAt p c t (drop (i + 1 + 1) (set before i d ++ set rest 0 f))
+past_two p c t n i bands before rest b d e f lt front back done left piece other =
+    let first : HoldsPiece c n (get_or bands i b) d = subst (λ a. HoldsPiece c n a d) (ap (λ (bs : List Learner). get_or bs i b) front
+    ∙ get_or-take (i + 1) bands i b (omega arith)) piece in
+    let second : HoldsPiece c n (get_or (set bands i d) (i + 1) e) f = subst (λ a. HoldsPiece c n a f) (ap (λ (bs : List Learner). get_or bs 0 e) back
+    ∙ get_or-drop (i + 1) bands 0 e ∙ ap (λ k. get_or bands k e) (omega arith) ∙ sym (get_or-set_other bands i (i + 1) d e (λ h. absurd (omega (arith, h))))) other in
+    let one = past_step p c t n i bands b d (omega arith) done left first in
+    let two = past_step p c t n (i + 1) (set bands i d) e f (rw length-set lt) one.0 one.1 second in
+    let same : bands_of (set (set bands i d) (i + 1) f) ≡ bands_of bands =
+    map-set_same (λ r. r.band) _ _ _ e second.moved.band ∙ map-set_same (λ r. r.band) _ _ _ b first.moved.band in
+    rw (← joined) (same, two.0, two.1)
+  where
+    long : length before ≡ i + 1
+    long = ap length front ∙ length-take-le (i + 1) bands (omega arith)
+
+    joined : set (set bands i d) (i + 1) f ≡ set before i d ++ set rest 0 f
+    joined =
+        ap (λ bs. set (set bs i d) (i + 1) f) (sym (take-append-drop (i + 1) bands) ∙ ap₂ (λ xs ys. xs ++ ys) (sym front) (sym back))
+        ∙ ap (λ bs. set bs (i + 1) f) (set-append_left before rest i d (omega (arith, long)))
+        ∙ set-append_right (set before i d) rest (i + 1) (i + 1) f (length-set before i d ∙ long) (omega arith)
+        ∙ ap (λ k. set before i d ++ set rest k f) (omega arith)
 
 pub past_at : (p : Params) (c : Image) (t n : ℕ) (bands : List Learner) → ArePast p c t n bands → AreAt p c (t + n) bands
 past_at p c t n bands h =

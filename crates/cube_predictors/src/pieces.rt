@@ -30,9 +30,17 @@ pub(crate) fn predict_pieces(
     ensures past { ArePast params.now cube.now (y * cube.now.shape.columns + x) count bands.new }
     ensures same { bands_of bands.new ≡ bands_of bands.old }
 {
-    for i in 0..bands.len() {
-        let band = &mut bands[i];
-        band.predict_piece(cube, y, x, count as usize);
+    let count = count as usize;
+    let pairs = bands.len() / 2;
+    for k in 0..pairs {
+        let (before, rest) = bands.split_at_mut(2 * k + 1);
+        let band = &mut before[2 * k];
+        let other = &mut rest[0];
+        band.predict_pieces(other, cube, y, x, count);
+    }
+    if 2 * pairs < bands.len() {
+        let band = &mut bands[2 * pairs];
+        band.predict_piece(cube, y, x, count);
     }
 }
 

@@ -40,6 +40,7 @@ pub mod Quads
 pub mod Inner
 pub mod Links
 pub mod Runs
+pub mod RunChains
 pub mod Intervals
 pub mod WholeRuns
 pub mod Walking

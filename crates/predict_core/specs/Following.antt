@@ -1,12 +1,13 @@
 -- The predictor of one band, and the images that it follows.
-use Rattle.std.specs.Prelude.{ℕ, ◌≡◌, ◌+◌, ℤ, List}
+use Rattle.std.specs.Prelude.{ℕ, ◌≡◌, ◌+◌, ◌*◌, ◌^◌, ◌<◌, ◌≤◌, ℤ, List, take, slice_index_or}
 use Rattle.header_bits.specs.declared.params.Params.{Params}
 use Rattle.cube_core.specs.Shape.{Sizes}
 use Rattle.cube_core.specs.Kind.{SampleKind}
-use Rattle.cube_core.specs.Image.{Image}
+use Rattle.cube_core.specs.Image.{Image, IsPlace}
 use Rattle.predict_core.specs.declared.predictor.Predictor.{Predictor}
 use Rattle.predict_core.specs.Predictor.{predictor_of}
 use Rattle.predict_core.specs.Prediction.{weight_vector}
+use Rattle.predict_core.specs.Residual.{run_residuals}
 
 -- what a band's predictor knows: its parameters, the place that comes next, the weights there, and the residuals of the piece behind it
 pub record Learner : Type 0 where
@@ -44,3 +45,19 @@ pub record MovesBy (n : ℕ) (old new : Learner) : Type 0 where
   pub kind : new.kind ≡ old.kind
   pub band : new.band ≡ old.band
   pub place : new.place ≡ old.place + n
+
+-- n places from row y, column x on are the next ones of a band, at most 64 and all in that row of an image of its shape and kind
+pub record IsPieceNext (b : Learner) (c : Image) (y x n : ℕ) : Type 0 where
+  pub shape : c.shape ≡ b.shape
+  pub kind : c.kind ≡ b.kind
+  pub place : IsPlace c.shape b.band y x
+  pub few : n ≤ 64
+  pub inside : x + n ≤ c.shape.columns
+  pub next : b.place ≡ y * c.shape.columns + x
+
+-- a band's predictor has gone over its next n places, and holds their residuals
+pub record HoldsPiece (c : Image) (n : ℕ) (old new : Learner) : Type 0 where
+  pub moved : MovesBy n old new
+  pub bound : (i : ℕ) → i < n → slice_index_or new.piece i 0 < 2 ^ c.kind.bits
+  pub residuals : (p : Params) → Follows p old c → take n new.piece ≡ run_residuals p c old.band old.place n
+  pub follows : (p : Params) → Follows p old c → Follows p new c

@@ -20,5 +20,6 @@ pub mod RunPlaces
 pub mod Steps
 pub mod Weights
 pub mod Rows
+pub mod RunChains
 pub mod Everything
 pub mod Walked

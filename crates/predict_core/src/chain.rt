@@ -4,18 +4,18 @@
 //! wraps in the register, the weights don't wait for the prediction and its clip. The part of a place's work
 //! that has to wait for the place before is thus short; predictions and residuals are computed afterwards.
 
-ghost use Rattle.std.specs.Prelude.{◌≡◌, ◌+◌, ◌-◌, ◌*◌, ◌^◌, ◌<◌, ◌≤◌, false, ℕ, pos, negsuc, ◌≤ℤ◌, ◌+ℤ◌, ◌-ℤ◌, ◌*ℤ◌, int_lt, int_le, unsigned_abs, ℤ};
-ghost use Rattle.std.specs.Prelude.{List, length, take, ◌++◌, replicate, slice_index_or};
+ghost use Rattle.std.specs.Prelude.{◌≡◌, ◌+◌, ◌-◌, ◌*◌, ◌^◌, ◌<◌, ◌≤◌, true, false, ℕ, pos, negsuc, ◌≤ℤ◌, ◌+ℤ◌, ◌-ℤ◌, ◌*ℤ◌, int_lt, int_le, unsigned_abs, ℤ};
+ghost use Rattle.std.specs.Prelude.{List, length, take, ◌++◌, replicate};
 ghost use Rattle.cube_core.specs.Image.{IsPlace};
 ghost use Rattle.cube_core.specs.Kind.{smin};
-ghost use Rattle.header_bits.specs.declared.params.Params.{Params as Parameters};
 ghost use Rattle.predict_core.specs.LocalSum.{local_sum};
 ghost use Rattle.predict_core.specs.Differences.{central_difference, difference_vector};
-ghost use Rattle.predict_core.specs.Prediction.{scaled_there, next_weights, weight_vector, scaled_prediction};
+ghost use Rattle.predict_core.specs.Prediction.{scaled_there, next_weights};
 ghost use Rattle.predict_core.specs.Weights.{step_exponent, updated_weights};
 ghost use Rattle.predict_core.specs.Bounds.{AllWithin};
-ghost use Rattle.predict_core.specs.Rooms.{components_at, quads_of};
-ghost use Rattle.predict_core.specs.Chain.{scaled_by_difference, quad_or_zeros, AreWeightsAt};
+ghost use Rattle.predict_core.specs.Rooms.{components_at};
+ghost use Rattle.predict_core.specs.Chain.{scaled_by_difference, quad_or_zeros};
+ghost use Rattle.predict_core.specs.RunChains.{CanFollow, AreStepsThere, IsFollowed};
 
 use crate::prediction::predicted_difference;
 use crate::room::Quad;
@@ -171,75 +171,103 @@ fn follow_at<const N: usize, const WRAPS: bool>(
     predicted
 }
 
-/// Returns the predicted central differences of the places `first..last` of a run, and the weights after them.
-///
-/// The weights are kept in a copy of their own, so that the compiler can keep them in registers.
+/// A run whose samples are known, and what they tell of its places: the local sums of offsets, the central
+/// differences and the components.
+#[derive(Clone, Copy)]
+pub(crate) struct KnownRun<'a, const Q: usize> {
+    pub settings: &'a Settings,
+    pub sums: &'a [i32; 64],
+    pub own: &'a [i32; 64],
+    pub quads: &'a [Quad; Q],
+}
+
+/// Writes the predicted central difference of place `i` of a run, and updates the weights.
 #[inline(always)]
-pub(crate) fn follow_places<const Q: usize, const N: usize, const WRAPS: bool>(
-    settings: &Settings,
+fn follow_place<const Q: usize, const N: usize, const WRAPS: bool>(
+    cube: &Cube,
+    y: u32,
+    x: u32,
+    i: usize,
+    steps: Steps,
+    run: KnownRun<Q>,
+    parts: &mut [i32; 64],
+    weights: &mut [i32; 18],
+)
+    requires run { CanFollow Q N WRAPS run.settings.now cube.now y x (i + 1) run.sums.now run.own.now run.quads.now }
+    requires later { 0 < y + (x + i) }
+    requires steps { AreStepsThere run.settings.now cube.now steps.fraction steps.bits steps.exponent y (x + i) }
+    requires weights_in { AllWithin (2 ^ (run.settings.now.predictor.fraction + 2)) weights.old }
+    ensures followed { (first : ℕ) (begun : List ℤ) → IsFollowed run.entry.settings.now cube.now y x first begun i weights.old parts.old
+        → IsFollowed run.entry.settings.now cube.now y x first begun (i + 1) weights.new parts.new }
+    ensures bound { AllWithin (2 ^ (run.entry.settings.now.predictor.fraction + 2)) weights.new }
+{
+    cube.prove_is_cube();
+    let differences = differences_at::<Q>(run.quads, i);
+    parts[i] = follow_at::<N, WRAPS>(
+        run.settings,
+        cube,
+        y,
+        x + i as u32,
+        steps,
+        run.sums[i],
+        run.own[i],
+        weights,
+        &differences,
+    );
+}
+
+/// Writes the predicted central differences of the places `first..last` of a run, and updates the weights; with
+/// `PAIR` also those of the same places of another run, a step of one beside a step of the other.
+///
+/// What a place of one band waits for tells nothing of another band, so the processor goes over both at once.
+/// The weights are kept in copies of their own, so that the compiler can keep them in registers.
+#[inline(always)]
+pub(crate) fn follow_places<const Q: usize, const N: usize, const WRAPS: bool, const PAIR: bool>(
     cube: &Cube,
     y: u32,
     x: u32,
     first: usize,
     last: usize,
     steps: Steps,
-    sums: &[i32; 64],
-    own: &[i32; 64],
-    quads: &[Quad; Q],
+    run: KnownRun<Q>,
     parts: &mut [i32; 64],
     weights: &mut [i32; 18],
+    other: KnownRun<Q>,
+    other_parts: &mut [i32; 64],
+    other_weights: &mut [i32; 18],
 )
-    requires few { N ≤ 18 }
-    requires enough { settings.now.count ≤ N }
-    requires quads { Q ≡ quads_of settings.now.count }
-    requires register { WRAPS ≡ false → 46 ≤ settings.now.predictor.register }
-    requires place { IsPlace cube.now.shape settings.now.band y x }
-    requires columns { cube.now.shape.columns ≡ settings.now.columns }
-    requires kind { cube.now.kind ≡ settings.now.range.kind }
-    requires run { last ≤ 64 }
+    requires run { CanFollow Q N WRAPS run.settings.now cube.now y x last run.sums.now run.own.now run.quads.now }
+    requires other { CanFollow Q N WRAPS other.settings.now cube.now y x last other.sums.now other.own.now other.quads.now }
     requires order { first ≤ last }
-    requires inside { x + last ≤ cube.now.shape.columns }
     requires later { 0 < y + (x + first) }
-    requires fraction { steps.fraction ≡ settings.now.predictor.fraction }
-    requires bits { steps.bits ≡ settings.now.range.bits }
-    requires exponent { (i : ℕ) → first ≤ i → i < last → steps.exponent ≡ step_exponent settings.now.predictor cube.now.shape.columns cube.now.kind.bits
-        (y * cube.now.shape.columns + (x + i)) }
-    requires sums_are { (i : ℕ) → first ≤ i → i < last → pos 4 *ℤ smin cube.now.kind +ℤ slice_index_or sums.now i (pos 0) ≡ local_sum settings.now.predictor
-        cube.now settings.now.band y (x + i) }
-    requires sum_least { (i : ℕ) → first ≤ i → i < last → pos 0 ≤ℤ slice_index_or sums.now i (pos 0) }
-    requires sum_most { (i : ℕ) → first ≤ i → i < last → slice_index_or sums.now i (pos 0) ≤ℤ pos 262140 }
-    requires own_is { (i : ℕ) → first ≤ i → i < last
-        → slice_index_or own.now i (pos 0) ≡ central_difference settings.now.predictor cube.now settings.now.band y (x + i) }
-    requires components { (i : ℕ) → first ≤ i → i < last
-        → components_at (quads_of settings.now.count) quads.now i ≡ difference_vector settings.now.predictor cube.now settings.now.band y (x + i)
-        ++ replicate (4 * quads_of settings.now.count - settings.now.count) (pos 0) }
-    requires weights_in { AllWithin (2 ^ (steps.fraction + 2)) weights.old }
-    ensures weights { (p : Parameters) → AreWeightsAt p settings.now.predictor cube.now settings.now.band (y * cube.now.shape.columns + (x + first))
-        (take settings.now.count weights.old) → take settings.now.count weights.new ≡ weight_vector p cube.now settings.now.band (y * cube.now.shape.columns
-        + (x + last)) }
-    ensures parts { (p : Parameters) → AreWeightsAt p settings.now.predictor cube.now settings.now.band (y * cube.now.shape.columns + (x + first))
-        (take settings.now.count weights.old) → (i : ℕ) → first ≤ i → i < last
-        → scaled_prediction p cube.now settings.now.band (y * cube.now.shape.columns + (x + i)) ≡ scaled_by_difference cube.now.kind
-        (slice_index_or parts.new i (pos 0)) (local_sum settings.now.predictor cube.now settings.now.band y (x + i)) }
-    ensures kept { (i : ℕ) → i < first → slice_index_or parts.new i (pos 0) ≡ slice_index_or parts.old i (pos 0) }
-    ensures small { (i : ℕ) → first ≤ i → i < last → unsigned_abs (slice_index_or parts.new i (pos 0)) ≤ 18 * 2 ^ 20 }
-    ensures bound { AllWithin (2 ^ (steps.fraction + 2)) weights.new }
+    requires steps { (i : ℕ) → first ≤ i → i < last → AreStepsThere run.settings.now cube.now steps.fraction steps.bits steps.exponent y (x + i) }
+    requires same { other.settings.now.predictor ≡ run.settings.now.predictor }
+    requires weights_in { AllWithin (2 ^ (run.settings.now.predictor.fraction + 2)) weights.old }
+    requires other_weights_in { AllWithin (2 ^ (run.settings.now.predictor.fraction + 2)) other_weights.old }
+    ensures followed { (start : ℕ) (begun : List ℤ) → IsFollowed run.entry.settings.now cube.now y x start begun first weights.old parts.old
+        → IsFollowed run.entry.settings.now cube.now y x start begun last weights.new parts.new }
+    ensures other_followed { PAIR ≡ true → (start : ℕ) (begun : List ℤ) → IsFollowed other.entry.settings.now cube.now y x start begun first other_weights.old other_parts.old
+        → IsFollowed other.entry.settings.now cube.now y x start begun last other_weights.new other_parts.new }
+    ensures bound { AllWithin (2 ^ (run.entry.settings.now.predictor.fraction + 2)) weights.new }
+    ensures other_bound { AllWithin (2 ^ (run.entry.settings.now.predictor.fraction + 2)) other_weights.new }
 {
-    cube.prove_is_cube();
     let mut working = *weights;
+    let mut other_working = *other_weights;
     for i in first..last {
-        let differences = differences_at::<Q>(quads, i);
-        parts[i] = follow_at::<N, WRAPS>(
-            settings,
-            cube,
-            y,
-            x + i as u32,
-            steps,
-            sums[i],
-            own[i],
-            &mut working,
-            &differences,
-        );
+        follow_place::<Q, N, WRAPS>(cube, y, x, i, steps, run, parts, &mut working);
+        if PAIR {
+            follow_place::<Q, N, WRAPS>(
+                cube,
+                y,
+                x,
+                i,
+                steps,
+                other,
+                other_parts,
+                &mut other_working,
+            );
+        }
     }
     *weights = working;
+    *other_weights = other_working;
 }

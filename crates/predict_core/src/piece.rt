@@ -1,12 +1,10 @@
 //! A piece of a row: places that a band's predictor has gone over, and their residuals, which it holds.
 
-ghost use Rattle.std.specs.Prelude.{◌≡◌, ◌+◌, ◌*◌, ◌^◌, ◌<◌, ◌≤◌, ℕ, take, length, slice_index_or};
-ghost use Rattle.cube_core.specs.Image.{IsPlace};
-ghost use Rattle.header_bits.specs.declared.params.Params.{Params as Parameters};
-ghost use Rattle.predict_core.specs.Residual.{run_residuals};
-ghost use Rattle.predict_core.specs.Following.{Follows, MovesBy};
+ghost use Rattle.std.specs.Prelude.{◌≡◌, ◌<◌, ◌≤◌, take, length, slice_index_or};
+ghost use Rattle.predict_core.specs.Following.{IsPieceNext, HoldsPiece};
 
 use crate::band::Band;
+use crate::run::{LEAST, predict_run};
 use cube_core::cube::Cube;
 
 impl Band {
@@ -16,21 +14,49 @@ impl Band {
     /// are in that row. The cube has the shape and kind of the parameters. Each residual is at most 2^D - 1
     /// (CCSDS 123.0-B-1, "Predictor").
     pub fn predict_piece(&mut self, cube: &Cube, y: u32, x: u32, count: usize)
-        requires shape { cube.now.shape ≡ self.old.shape }
-        requires kind { cube.now.kind ≡ self.old.kind }
-        requires place { IsPlace cube.now.shape self.old.band y x }
-        requires few { count ≤ 64 }
-        requires inside { x + count ≤ cube.now.shape.columns }
-        requires next { self.old.place ≡ y * cube.now.shape.columns + x }
-        ensures moved { MovesBy count self.old self.new }
-        ensures bound { (i : ℕ) → i < count → slice_index_or self.new.piece i 0 < 2 ^ cube.now.kind.bits }
-        ensures residuals { (p : Parameters) → Follows p self.old cube.now
-            → take count self.new.piece ≡ run_residuals p cube.now self.old.band self.old.place count }
-        ensures follows { (p : Parameters) → Follows p self.old cube.now → Follows p self.new cube.now }
+        requires next { IsPieceNext self.old cube.now y x count }
+        ensures held { HoldsPiece cube.now count self.old self.new }
     {
         let mut piece = [0; 64];
         self.forward_run(cube, y, x, &mut piece[..count]);
         self.piece = piece;
+    }
+
+    /// Goes over the next `count` places of a row, and has another band go over the same places of its own; each
+    /// holds its mapped residuals until its next piece.
+    ///
+    /// `count` is at most 64. Both bands have the same parameters, and for each this does what `predict_piece` does.
+    /// What a place waits for is never of another band, so the processor goes over both at once, in less time than
+    /// over one after the other (CCSDS 123.0-B-1, "Predictor").
+    pub fn predict_pieces(&mut self, other: &mut Band, cube: &Cube, y: u32, x: u32, count: usize)
+        requires next { IsPieceNext self.old cube.now y x count }
+        requires other_next { IsPieceNext other.old cube.now y x count }
+        requires alike { other.old.predictor ≡ self.old.predictor }
+        ensures held { HoldsPiece cube.now count self.old self.new }
+        ensures other_held { HoldsPiece cube.now count other.old other.new }
+    {
+        if count < LEAST || self.settings.count != other.settings.count {
+            self.predict_piece(cube, y, x, count);
+            other.predict_piece(cube, y, x, count);
+            return;
+        }
+        let mut piece = [0; 64];
+        let mut other_piece = [0; 64];
+        self.next += count as u64;
+        other.next += count as u64;
+        predict_run::<true>(
+            cube,
+            y,
+            x,
+            &self.settings,
+            &mut self.weights,
+            &mut piece[..count],
+            &other.settings,
+            &mut other.weights,
+            &mut other_piece[..count],
+        );
+        self.piece = piece;
+        other.piece = other_piece;
     }
 
     /// Returns the mapped residual of place `i`, counted from 0, of the last piece.

@@ -1,0 +1,78 @@
+-- Runs whose samples are known: a run begun, and its first places.
+use Rattle.std.proofs.Common.{◌≡◌, ℕ, ◌+◌, ◌*◌, ◌^◌, ◌<◌, ◌≤◌, Bool, ℤ, List, length, take, slice_index, sym, ap, ◌∙◌, subst, arith, inl, inr}
+use Rattle.std.proofs.lemmas.Bool.{cases_eq}
+use Rattle.header_bits.specs.declared.params.Params.{Params}
+use Rattle.cube_core.specs.Image.{Image}
+use Rattle.predict_core.specs.declared.predictor.Predictor.{Predictor}
+use Rattle.predict_core.specs.declared.room.Quad.{Quad}
+use Rattle.predict_core.specs.declared.settings.Settings.{Settings}
+use Rattle.predict_core.specs.Bounds.{AllWithin}
+use Rattle.predict_core.specs.Chain.{AreWeightsAt}
+use Rattle.predict_core.specs.Prediction.{weight_vector}
+use Rattle.predict_core.specs.Residual.{run_residuals}
+use Rattle.predict_core.specs.RunChains.{CanFollow, AreStepsThere, IsFirstLater, IsFollowed, HasPredicted}
+use Rattle.predict_core.specs.Weights.{step_exponent}
+use Rattle.predict_core.proofs.WholeRuns.{started}
+
+-- what is told of a run is told of its first places
+pub first_of_run : (q n : ℕ) (wraps : Bool) (s : Settings) (c : Image) (y x count k : ℕ) (sums own : List ℤ) (quads : List Quad) → k ≤ count
+    → CanFollow q n wraps s c y x count sums own quads → CanFollow q n wraps s c y x k sums own quads
+first_of_run q n wraps s c y x count k sums own quads h run = record {
+  few = run.few;
+  enough = run.enough;
+  needed = run.needed;
+  register = run.register;
+  place = run.place;
+  columns = run.columns;
+  kind = run.kind;
+  within = omega (arith, run.within);
+  inside = omega (arith, run.inside);
+  room = record {
+    sum = λ i l. run.room.sum i (omega arith);
+    central = λ i l. run.room.central i (omega arith);
+    vector = λ i l. run.room.vector i (omega arith);
+    sum_least = λ i l. run.room.sum_least i (omega arith);
+    sum_most = λ i l. run.room.sum_most i (omega arith);
+    central_in = λ i l. run.room.central_in i (omega arith);
+    vector_in = λ i l. run.room.vector_in i (omega arith);
+  };
+}
+
+-- the weights at a run's first place are those at its first one that isn't the first of its band
+pub at_first : (p : Params) (made : Predictor) (c : Image) (z y x first : ℕ) (ws : List ℤ) → IsFirstLater y x first
+    → AreWeightsAt p made c z (y * c.shape.columns + x) ws → AreWeightsAt p made c z (y * c.shape.columns + (x + first)) ws
+at_first p made c z y x first ws h f =
+    elim (cases_eq first 1) [
+      | inl e ↦ rw e (started p made c z y x ws (h.start e) f)
+      | inr d ↦ subst (λ k. AreWeightsAt p made c z k ws) (same y c.shape.columns (omega (arith, d, h.most))) f
+    ]
+  where
+    same : (y columns : ℕ) → first ≡ 0 → y * columns + x ≡ y * columns + (x + first)
+    same y columns e = omega (arith, e)
+
+-- the steps are the same for bands with the same parameters
+pub same_steps : (s other : Settings) (c : Image) (fraction bits : ℕ) (exponent : ℤ) (y x : ℕ) → other.predictor ≡ s.predictor
+    → other.range.kind ≡ s.range.kind → AreStepsThere s c fraction bits exponent y x → AreStepsThere other c fraction bits exponent y x
+same_steps s other c fraction bits exponent y x same kind h = record {
+  fraction_is = h.fraction_is ∙ ap (λ (p : Predictor). p.fraction) (sym same);
+  bits_are = h.bits_are ∙ s.range.bits_is ∙ ap (λ k. k.bits) (sym kind) ∙ sym other.range.bits_is;
+  exponent_is = h.exponent_is ∙ ap (λ p. step_exponent p c.shape.columns c.kind.bits (y * c.shape.columns + x)) (sym same);
+}
+
+-- a run is predicted where its chain was followed to its end and its residuals are written
+pub predicted : (s : Settings) (c : Image) (y x first : ℕ) (old new parts : List ℤ) (n : ℕ) (rs : List ℕ) → IsFirstLater y x first
+    → IsFollowed s c y x first old n new parts → AllWithin (2 ^ (s.predictor.fraction + 2)) new
+    → ((i : ℕ) → i < length rs → slice_index rs i < 2 ^ c.kind.bits)
+    → ((p : Params) (begun ws : List ℤ) → AreWeightsAt p s.predictor c s.band (y * c.shape.columns + x) (take s.count begun)
+    → IsFollowed s c y x first begun n ws parts → rs ≡ run_residuals p c s.band (y * c.shape.columns + x) n)
+    → HasPredicted s c y x old new n rs
+predicted s c y x first old new parts n rs at followed within bound written = record {
+  bound = bound;
+  residuals = λ p f. written p old new f followed;
+  weights = λ p f. followed.weights p (at_first p s.predictor c s.band y x first (take s.count old) at f)
+      ∙ ap (weight_vector p c s.band) (place y c.shape.columns);
+  within = within;
+}
+  where
+    place : (y columns : ℕ) → y * columns + (x + n) ≡ y * columns + x + n
+    place y columns = omega arith

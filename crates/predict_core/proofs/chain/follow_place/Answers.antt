@@ -1,0 +1,50 @@
+use Rattle.std.proofs.Common.{◌≡◌, ℤ, pos, ◌≤ℤ◌, slice_index_or, of_z, to_z, unsigned_abs, ◌≤◌, ◌<◌, ◌+◌, ◌-◌, ◌*◌, length, take, SFits, w32, to_z-of_z, rules}
+use Rattle.std.proofs.Common.{arith, sym, ◌∙◌}
+use Rattle.std.proofs.lemmas.Int.{ints}
+use Rattle.header_bits.specs.declared.params.Params.{Params}
+use Rattle.predict_core.specs.Chain.{AreWeightsAt, scaled_by_difference}
+use Rattle.predict_core.specs.Differences.{difference_vector}
+use Rattle.predict_core.specs.LocalSum.{local_sum}
+use Rattle.predict_core.specs.Prediction.{scaled_prediction}
+use Rattle.predict_core.specs.Rooms.{components_at}
+use Rattle.predict_core.proofs.Padding.{vector_length}
+use Rattle.predict_core.proofs.Runs.{gathered_is, written_place, weights_next, part_is}
+use Rattle.predict_core.proofs.chain.follow_place.Goals as goal
+
+pub follow_at-requires-clause-differences_are : goal.follow_at-requires-clause-differences_are
+follow_at-requires-clause-differences_are g c =
+    let s = c.args.run.settings.now in
+    let run = c.requires.run in
+    let e = rw (← run.needed) at (run.room.vector c.args.i (omega arith) c.requires.later) in
+    gathered_is (difference_vector s.predictor _ s.band _ (c.args.x + c.args.i)) (components_at g.row.Q c.args.run.quads.now c.args.i) _ s.count
+    (4 * g.row.Q - s.count) (vector_length s.predictor _ s.band _ (c.args.x + c.args.i) ∙ sym s.count_is) s.few e c.differences_at-differences.ensures
+
+pub follow_at-requires-clause-sum_in : goal.follow_at-requires-clause-sum_in
+follow_at-requires-clause-sum_in g c =
+    let room = c.requires.run.room in
+    inside (slice_index_or c.args.run.sums.now c.args.i (pos 0)) (room.sum_least c.args.i (omega arith) c.requires.later)
+    (room.sum_most c.args.i (omega arith) c.requires.later)
+  where
+    inside : (v : ℤ) → pos 0 ≤ℤ v → v ≤ℤ pos 262140 → (pos 0 ≤ℤ to_z w32 (of_z w32 v)) × (to_z w32 (of_z w32 v) ≤ℤ pos 262140)
+    inside v h k = (omega (arith, ints, h, k), omega (arith, ints, h, k))
+
+pub returns-clause-followed : goal.returns-clause-followed
+returns-clause-followed g c first begun h =
+    let s = c.args.run.settings.now in
+    let fits : SFits w32 c.follow_at.result = search rules in
+    let within : c.args.i < length c.args.parts.now = search rules in
+    let column : c.args.x + c.args.i < c.args.cube.now.shape.columns = omega (arith, c.requires.run.inside) in
+    let there : (p : Params) → AreWeightsAt p s.predictor c.args.cube.now s.band
+    (c.args.y * c.args.cube.now.shape.columns + (c.args.x + first)) (take s.count begun) → AreWeightsAt p s.predictor c.args.cube.now
+    s.band (c.args.y * c.args.cube.now.shape.columns + (c.args.x + c.args.i)) (take s.count c.args.weights.now) =
+    λ p f. record { predictor = f.predictor; weights = h.weights p f } in
+    rw (to_z-of_z fits)
+    (record {
+      weights = λ p f. weights_next p s.predictor _ s.band _ _ _ (take s.count c.args.weights.now) c.requires.later column (there p f)
+          (take s.count c.follow_at.new.weights) c.follow_at.ensures.weights;
+      predicted = λ p f. written_place (λ k v. scaled_prediction p c.args.cube.now s.band (c.args.y * c.args.cube.now.shape.columns + (c.args.x + k))
+          ≡ scaled_by_difference c.args.cube.now.kind v (local_sum s.predictor c.args.cube.now s.band c.args.y (c.args.x + k))) _ _ _ _ within
+          (part_is p s.predictor _ s.band _ _ _ (take s.count c.args.weights.now) c.requires.later column (there p f) _ c.follow_at.ensures.scaled)
+          (h.predicted p f);
+      small = written_place (λ k v. unsigned_abs v ≤ 18874368) _ _ _ _ within c.follow_at.ensures.small h.small;
+    })

@@ -1,0 +1,66 @@
+-- The chain of a run whose samples are known: what it needs, and how far it has come.
+use Rattle.std.specs.Prelude.{ℕ, ◌≡◌, ◌+◌, ◌*◌, ◌^◌, ◌<◌, ◌≤◌, Bool, false, ℤ, pos, unsigned_abs, List, length, take, slice_index, slice_index_or}
+use Rattle.header_bits.specs.declared.params.Params.{Params}
+use Rattle.cube_core.specs.Image.{Image, IsPlace}
+use Rattle.predict_core.specs.declared.room.Quad.{Quad}
+use Rattle.predict_core.specs.declared.settings.Settings.{Settings}
+use Rattle.predict_core.specs.LocalSum.{local_sum}
+use Rattle.predict_core.specs.Bounds.{AllWithin}
+use Rattle.predict_core.specs.Residual.{run_residuals}
+use Rattle.predict_core.specs.Weights.{step_exponent}
+use Rattle.predict_core.specs.Prediction.{weight_vector, scaled_prediction}
+use Rattle.predict_core.specs.Rooms.{IsRoom, quads_of}
+use Rattle.predict_core.specs.Chain.{scaled_by_difference, AreWeightsAt}
+
+-- a room tells the samples of a run of count places from row y, column x on, and n weights in a register are enough for its band
+pub record CanFollow (q n : ℕ) (wraps : Bool) (s : Settings) (c : Image) (y x count : ℕ) (sums own : List ℤ) (quads : List Quad) : Type 0 where
+  pub few : n ≤ 18
+  pub enough : s.count ≤ n
+  pub needed : q ≡ quads_of s.count
+  pub register : wraps ≡ false → 46 ≤ s.predictor.register
+  pub place : IsPlace c.shape s.band y x
+  pub columns : c.shape.columns ≡ s.columns
+  pub kind : c.kind ≡ s.range.kind
+  pub within : count ≤ 64
+  pub inside : x + count ≤ c.shape.columns
+  pub room : IsRoom s.predictor c s.band y x count s.count sums own quads
+
+-- the steps of the weights at row y, column x have this exponent
+pub record AreStepsThere (s : Settings) (c : Image) (fraction bits : ℕ) (exponent : ℤ) (y x : ℕ) : Type 0 where
+  pub fraction_is : fraction ≡ s.predictor.fraction
+  pub bits_are : bits ≡ s.range.bits
+  pub exponent_is : exponent ≡ step_exponent s.predictor c.shape.columns c.kind.bits (y * c.shape.columns + x)
+
+-- from the weights of the image at place `first` of a run the chain has come to those at place `at`, and it has predicted all differences between
+pub record IsFollowed (s : Settings) (c : Image) (y x first : ℕ) (begun : List ℤ) (at : ℕ) (ws parts : List ℤ) : Type 0 where
+  pub weights : (p : Params) → AreWeightsAt p s.predictor c s.band (y * c.shape.columns + (x + first)) (take s.count begun)
+      → take s.count ws ≡ weight_vector p c s.band (y * c.shape.columns + (x + at))
+  pub predicted : (p : Params) → AreWeightsAt p s.predictor c s.band (y * c.shape.columns + (x + first)) (take s.count begun) → (i : ℕ) → first ≤ i → i < at
+      → scaled_prediction p c s.band (y * c.shape.columns + (x + i)) ≡ scaled_by_difference c.kind (slice_index_or parts i (pos 0))
+      (local_sum s.predictor c s.band y (x + i))
+  pub small : (i : ℕ) → first ≤ i → i < at → unsigned_abs (slice_index_or parts i (pos 0)) ≤ 18 * 2 ^ 20
+
+-- the first place of a run from row y, column x on that is not the first of its band
+pub record IsFirstLater (y x first : ℕ) : Type 0 where
+  pub most : first ≤ 1
+  pub later : 0 < y + (x + first)
+  pub start : first ≡ 1 → y + x ≡ 0
+
+-- the next n places of a band are of one row, and the weights there are in their range
+pub record CanPredict (s : Settings) (c : Image) (y x n : ℕ) (ws : List ℤ) : Type 0 where
+  pub place : IsPlace c.shape s.band y x
+  pub columns : c.shape.columns ≡ s.columns
+  pub kind : c.kind ≡ s.range.kind
+  pub some : 1 ≤ n
+  pub few : n ≤ 64
+  pub inside : x + n ≤ c.shape.columns
+  pub weights_in : AllWithin (2 ^ (s.predictor.fraction + 2)) ws
+
+-- their residuals, and the weights behind them
+pub record HasPredicted (s : Settings) (c : Image) (y x : ℕ) (old new : List ℤ) (n : ℕ) (rs : List ℕ) : Type 0 where
+  pub bound : (i : ℕ) → i < length rs → slice_index rs i < 2 ^ c.kind.bits
+  pub residuals : (p : Params) → AreWeightsAt p s.predictor c s.band (y * c.shape.columns + x) (take s.count old)
+      → rs ≡ run_residuals p c s.band (y * c.shape.columns + x) n
+  pub weights : (p : Params) → AreWeightsAt p s.predictor c s.band (y * c.shape.columns + x) (take s.count old)
+      → take s.count new ≡ weight_vector p c s.band (y * c.shape.columns + x + n)
+  pub within : AllWithin (2 ^ (s.predictor.fraction + 2)) new
