@@ -1,3 +1,4 @@
+pub mod EachRow
 pub mod Groups
 pub mod Owning
 pub mod Parts

@@ -3,6 +3,7 @@
 
 mod copied;
 pub mod cube_feed;
+mod each_row;
 mod pieces;
 pub mod plan;
 pub mod predict_lane;

@@ -8,6 +8,7 @@ ghost use Rattle.header_bits.specs.Lawful.{IsLawful};
 ghost use Rattle.cube_predictors.specs.Own.{own, row_of, rows_of, line_of, own_residuals};
 ghost use Rattle.cube_predictors.specs.Sends.{IsSeen, AreAt, AreFresh, bands_of};
 
+use crate::each_row::send_each_row;
 use crate::pieces::{RUN, predict_pieces, send_pieces};
 use crate::taker::Taker;
 use cube_core::cube::Cube;
@@ -16,10 +17,10 @@ use header_bits::params::Params;
 use predict_core::band::Band;
 
 /// The greatest number of places in a piece of a row.
-const PIECE: u32 = 64;
+pub(crate) const PIECE: u32 = 64;
 
 /// Sends the residuals of some bands in row `y`, column after column. Returns false if the taker has stopped.
-fn send_row<R, T: Taker<R>>(
+pub(crate) fn send_row<R, T: Taker<R>>(
     rt: &R,
     cube: &Cube,
     params: &Params,
@@ -143,6 +144,9 @@ fn send_line<R, T: Taker<R>>(
     ensures at { IsTrue result → AreAt params.now cube.now ((y + 1) * cube.now.shape.columns) bands.new }
     ensures same { bands_of bands.new ≡ bands_of bands.old }
 {
+    if depth == 1 {
+        return send_each_row(rt, cube, params, y, bands, taker);
+    }
     let total = cube.shape().bands();
     let groups = (total + depth - 1) / depth;
     let mut first = 0;

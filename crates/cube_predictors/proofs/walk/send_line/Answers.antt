@@ -1,10 +1,11 @@
-use Rattle.std.proofs.Common.{rules, ◌≡◌, ◌+◌, ◌-◌, ◌/◌, ◌<◌, ◌≤◌, ℕ, List, true, refl, ap, sym, length, take, drop, arith, ◌∙◌}
+use Rattle.std.proofs.Common.{rules, ◌≡◌, ◌+◌, ◌-◌, ◌/◌, ◌<◌, ◌≤◌, ℕ, List, true, subst, refl, ap, sym, length, take, drop, arith, ◌∙◌}
 use Rattle.std.specs.List.{flat_map}
 use Rattle.std.proofs.lemmas.List.{length-map}
 use Rattle.cube_core.specs.Order.{upto, group, group_count}
 use Rattle.cube_predictors.specs.Own.{own, row_of, line_of}
 use Rattle.cube_predictors.specs.Sends.{bands_of}
 use Rattle.cube_predictors.proofs.Sending.{Pieces, none_yet, piece_fits, piece_cut, upto_more, upto_rest, bands_put, left_put, done_put}
+use Rattle.cube_predictors.proofs.EachRow.{line_alone}
 use Rattle.cube_predictors.proofs.Groups.{IsGroup, is_group, own_few, group_there}
 use Rattle.cube_predictors.proofs.walk.send_line.Goals as goal
 use Rattle.cube_predictors.proofs.walk.send_line.Goals.{After-count_own-count, After-loop-i}
@@ -44,6 +45,16 @@ module _ (g : Over) (c : After-count_own-count g) where
       (run c.loop-i.i)
   unfolding line_of
   pieces = upto_rest run c.loop-i.i (group_count c.args.cube.now.shape c.args.depth) in_order
+
+pub send_each_row-requires-clause-may : goal.send_each_row-requires-clause-may
+send_each_row-requires-clause-may g c =
+    let alone = line_alone c.args.params.now c.args.cube.now c.args.y _ c.args.deal.now _ _ c.if-depth-eq1.true c.requires.own in
+    subst (g.T.Taker.may c.args.taker.now) alone c.requires.may
+
+pub returns-then-depth-eq1-clause-sent : goal.returns-then-depth-eq1-clause-sent
+returns-then-depth-eq1-clause-sent g c =
+    let alone = line_alone c.args.params.now c.args.cube.now c.args.y _ c.args.deal.now _ _ c.if-depth-eq1.true c.requires.own in
+    subst (g.T.Taker.takes c.args.taker.now c.send_each_row.new.taker c.send_each_row.result) (sym alone) c.send_each_row.ensures.sent
 
 pub overflow_add-slot : goal.overflow_add-slot
 overflow_add-slot g c = omega (arith, within g c, few g c)
