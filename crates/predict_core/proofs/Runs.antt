@@ -1,7 +1,7 @@
 -- The chain of a run, place after place.
 use Rattle.std.proofs.Common.{◌≡◌, ℕ, zero, suc, ◌+◌, ◌-◌, ◌*◌, ◌<◌, ◌≤◌, ℤ, pos, List, ◌∷◌, ◌++◌, length, take, replicate, get_or, set, append_assoc, refl}
-use Rattle.std.proofs.Common.{sym, subst, ap, ◌∙◌, arith, inl, inr, get_or-set_same, get_or-set_other}
-use Rattle.std.proofs.lemmas.Bool.{cases_eq, cases_lt}
+use Rattle.std.proofs.Common.{sym, ap, ◌∙◌, arith, inl, inr, get_or-set_same, get_or-set_other}
+use Rattle.std.proofs.lemmas.Bool.{cases_eq}
 use Rattle.header_bits.specs.declared.params.Params.{Params}
 use Rattle.cube_core.specs.Image.{Image}
 use Rattle.predict_core.specs.Chain.{scaled_by_difference, AreWeightsAt}
@@ -31,10 +31,6 @@ written_place P first i out v h e b k l m =
       | inl s ↦ rw (s, get_or-set_same out i v (pos 0) h) e
       | inr n ↦ rw (get_or-set_other out i k v (pos 0) n) (b k l (omega arith))
     ]
-
-pub kept_place : (first i : ℕ) (old out : List ℤ) (v : ℤ) → first ≤ i → ((k : ℕ) → k < first → get_or out k (pos 0) ≡ get_or old k (pos 0)) → (k : ℕ)
-    → k < first → get_or (set out i v) k (pos 0) ≡ get_or old k (pos 0)
-kept_place first i old out v h b k l = get_or-set_other out i k v (pos 0) (λ e. absurd (omega (arith, e))) ∙ b k l
 
 pub later_place : (columns y x : ℕ) → 0 < y + x → x < columns → 0 < y * columns + x
 later_place columns zero x h l = omega arith
@@ -71,12 +67,3 @@ pub piece_exponent : (p : Predictor) (e : ℤ) (columns bits t columns' bits' t'
     → step_exponent p columns bits (t + k) ≡ step_exponent p columns bits t → columns' ≡ columns → bits' ≡ bits → t + k ≡ t'
     → e ≡ step_exponent p columns' bits' t'
 piece_exponent p e columns bits t columns' bits' t' k a b same_columns same_bits place = rw (same_columns, same_bits, ← place) (a ∙ sym b)
-
-pub joined_places : (P : ℕ → ℤ → Type 0) (first at next : ℕ) (old new : List ℤ) → ((k : ℕ) → k < at → get_or new k (pos 0) ≡ get_or old k (pos 0))
-    → ((k : ℕ) → first ≤ k → k < at → P k (get_or old k (pos 0)))
-    → ((k : ℕ) → at ≤ k → k < next → P k (get_or new k (pos 0))) → (k : ℕ) → first ≤ k → k < next → P k (get_or new k (pos 0))
-joined_places P first at next old new same a b k l m =
-    elim (cases_lt k at) [
-      | inl h ↦ subst (P k) (sym (same k h)) (a k l h)
-      | inr h ↦ b k (omega (arith, h)) m
-    ]

@@ -85,7 +85,8 @@ pub(crate) fn fill_directions(
     }
 }
 
-/// Writes the same of a line `above` alone, as if each offset to the west were 0.
+/// Writes the local sums of offsets and the quads of directions and of the band below, from the line `above` alone, as if
+/// each offset to the west were 0.
 pub(crate) fn fill_open_directions(
     column: bool,
     above: &[u16; 66],

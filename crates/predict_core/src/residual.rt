@@ -138,7 +138,8 @@ fn clipped(low: i32, high: i32, center: i32) -> i32
     center.min(2 * high + 1).max(2 * low)
 }
 
-/// Returns the same for a scaled prediction, wherever the sample is.
+/// Returns the sample of a mapped residual by its scaled prediction, wherever in the range it is, and the turn of its
+/// error.
 #[cold]
 fn unmap_far(low: i32, high: i32, scaled: i32, delta: u16) -> (i32, i32)
     requires low_in { negsuc 32767 ≤ℤ low }

@@ -2,6 +2,8 @@
 #![tactic(auto)]
 
 #[cfg(test)]
+mod at_once;
+#[cfg(test)]
 mod bit_by_bit;
 #[cfg(test)]
 mod blocks;

@@ -14,7 +14,7 @@ use std::process::Abort;
 
 /// Numbers that a seed decides.
 #[derive(Drop)]
-struct Draw(u64);
+pub(crate) struct Draw(pub(crate) u64);
 
 impl Draw {
     /// A number below 2^31.
@@ -29,10 +29,10 @@ impl Draw {
 
 /// One band of a cube, twice.
 #[derive(Drop)]
-struct Twice {
-    cube: Cube,
-    runs: Band,
-    singles: Band,
+pub(crate) struct Twice {
+    pub(crate) cube: Cube,
+    pub(crate) runs: Band,
+    pub(crate) singles: Band,
     ghost runs_shape: { cube.shape ≡ runs.shape },
     ghost runs_kind: { cube.kind ≡ runs.kind },
     ghost runs_inside: { runs.band < cube.shape.bands },
@@ -55,7 +55,7 @@ impl Twice {
     }
 
     /// The residual of one place.
-    fn single(&mut self, rt: &impl Abort, y: u32, x: u32) -> u16 {
+    pub(crate) fn single(&mut self, rt: &impl Abort, y: u32, x: u32) -> u16 {
         let shape = self.cube.shape();
         let place = u64::from(y) * u64::from(shape.columns()) + u64::from(x);
         assert!(rt; y < shape.rows());
@@ -66,9 +66,10 @@ impl Twice {
 }
 
 /// Parameters of five rows, whose exponent grows every 16 places.
-fn params_of(
+pub(crate) fn params_of(
     rt: &impl Abort,
     columns: u32,
+    bands: u32,
     previous: u32,
     reduced: bool,
     column: bool,
@@ -84,7 +85,7 @@ fn params_of(
         register,
         interval_log: 4,
         ..Params::plain(
-            Shape::new(columns, 5, previous + 1).expect(rt, "a shape"),
+            Shape::new(columns, 5, bands).expect(rt, "a shape"),
             Kind::new(false, 12).expect(rt, "a kind"),
         )
     };
@@ -93,7 +94,7 @@ fn params_of(
 }
 
 /// A cube of a slope and noise, with ends of the range here and there.
-fn cube_of(rt: &impl Abort, alloc: Global, params: &Params, draw: &mut Draw) -> Cube
+pub(crate) fn cube_of(rt: &impl Abort, alloc: Global, params: &Params, draw: &mut Draw) -> Cube
     ensures shape { result.shape ≡ params.now.shape }
     ensures kind { result.kind ≡ params.now.kind }
 {
@@ -155,7 +156,15 @@ fn runs_are_as_single_places(rt: HostRuntime) {
                 // One column alone asks for reduced mode and column-oriented sums.
                 if columns > 1 || (reduced && column) {
                     for register in [32 + previous % 14, 46 + previous * 7 % 19] {
-                        let params = params_of(&rt, columns, previous, reduced, column, register);
+                        let params = params_of(
+                            &rt,
+                            columns,
+                            previous + 1,
+                            previous,
+                            reduced,
+                            column,
+                            register,
+                        );
                         are_the_same(&rt, rt.alloc(), &params, previous, 64, &mut draw);
                     }
                 }
@@ -172,6 +181,7 @@ fn runs_of_any_length_are_as_single_places(rt: HostRuntime) {
         let params = params_of(
             &rt,
             129,
+            previous + 1,
             previous,
             most % 4 < 2,
             most % 3 == 0,

@@ -1,0 +1,102 @@
+//! Two bands that go over their pieces at once hold what each of them holds alone.
+
+ghost use Rattle.std.specs.Prelude.{◌≡◌, ◌<◌};
+ghost use Rattle.header_bits.specs.Lawful.{IsLawful};
+
+use crate::runs::{Draw, Twice, cube_of, params_of};
+use cube_core::cube::Cube;
+use header_bits::params::Params;
+use predict_core::band::Band;
+use std::alloc::Global;
+use std::process::Abort;
+
+/// Two bands of a cube.
+#[derive(Drop)]
+struct Both {
+    cube: Cube,
+    lower: Band,
+    upper: Band,
+    ghost lower_shape: { cube.shape ≡ lower.shape },
+    ghost lower_kind: { cube.kind ≡ lower.kind },
+    ghost lower_inside: { lower.band < cube.shape.bands },
+    ghost upper_shape: { cube.shape ≡ upper.shape },
+    ghost upper_kind: { cube.kind ≡ upper.kind },
+    ghost upper_inside: { upper.band < cube.shape.bands },
+    ghost alike: { upper.predictor ≡ lower.predictor },
+}
+
+impl Both {
+    /// Has both go over so many places.
+    fn go(&mut self, rt: &impl Abort, y: u32, x: u32, count: u32) {
+        let shape = self.cube.shape();
+        let place = u64::from(y) * u64::from(shape.columns()) + u64::from(x);
+        assert!(rt; y < shape.rows());
+        assert!(rt; x < shape.columns());
+        assert!(rt; count <= 64);
+        assert!(rt; u64::from(x) + u64::from(count) <= u64::from(shape.columns()));
+        assert!(rt; self.lower.next() == place);
+        assert!(rt; self.upper.next() == place);
+        self.lower
+            .predict_pieces(&mut self.upper, &self.cube, y, x, count as usize);
+    }
+}
+
+/// A band of a cube that a seed decides, by single places.
+fn alone(rt: &impl Abort, alloc: Global, params: &Params, z: u32, seed: u64) -> Twice
+    requires { IsLawful params.now }
+{
+    assert!(rt; z < params.shape.bands());
+    Twice {
+        cube: cube_of(rt, alloc, params, &mut Draw(seed)),
+        runs: Band::new(alloc, params, z).expect(rt, "a band"),
+        singles: Band::new(alloc, params, z).expect(rt, "a band"),
+    }
+}
+
+/// Goes over all rows of bands `z` and `z + 1` by pieces of 64 places, and by single places.
+fn are_the_same(rt: &impl Abort, alloc: Global, params: &Params, z: u32, seed: u64)
+    requires { IsLawful params.now }
+{
+    assert!(rt; z < params.shape.bands() - 1);
+    let mut both = Both {
+        cube: cube_of(rt, alloc, params, &mut Draw(seed)),
+        lower: Band::new(alloc, params, z).expect(rt, "a band"),
+        upper: Band::new(alloc, params, z + 1).expect(rt, "a band"),
+    };
+    let mut lower = alone(rt, alloc, params, z, seed);
+    let mut upper = alone(rt, alloc, params, z + 1, seed);
+    let columns = params.shape.columns();
+    for y in 0..5 {
+        let mut x = 0u32;
+        for _ in 0..columns {
+            let count = columns.saturating_sub(x).min(64);
+            if count > 0 {
+                both.go(rt, y, x, count);
+            }
+            for i in 0..count as usize {
+                assert_eq!(rt; both.lower.piece_residual(i), lower.single(rt, y, x));
+                assert_eq!(rt; both.upper.piece_residual(i), upper.single(rt, y, x));
+                x = x.saturating_add(1);
+            }
+        }
+    }
+}
+
+/// Bands with as many weights each, and such with unlike numbers of them, in registers that wrap and that don't.
+#[test]
+fn two_bands_hold_what_each_holds_alone(rt: HostRuntime) {
+    for columns in [2, 8, 9, 64, 65, 129] {
+        for previous in [0, 1, 3, 7, 15] {
+            for (reduced, column) in [(false, true), (true, true), (false, false), (true, false)] {
+                for register in [36, 64] {
+                    let bands = previous + 2;
+                    let params =
+                        params_of(&rt, columns, bands, previous, reduced, column, register);
+                    for z in [0, previous] {
+                        are_the_same(&rt, rt.alloc(), &params, z, 20_261_126);
+                    }
+                }
+            }
+        }
+    }
+}
