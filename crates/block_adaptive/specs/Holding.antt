@@ -4,7 +4,8 @@ use Rattle.std.specs.List.{AllByRecursion}
 use Rattle.block_adaptive.specs.DataSets.{Cut, left_at}
 use Rattle.block_adaptive.specs.Settings.{IsCut}
 
--- a reader's parts: next comes block i; of the block in the array so many values were given; so many zeros are counted. What is in hand lies in the array or is counted, not both, and is of the blocks before i
+-- a reader's parts: next comes block i; of the block in the array so many values were given; so many zeros are counted.
+-- What is in hand lies in the array or is counted, not both, and is of the blocks before i
 pub record AreParts (c : Cut) (i given counted : ℕ) : Type 0 where
   pub cut : IsCut c
   pub block : i ≤ c.count
@@ -13,7 +14,8 @@ pub record AreParts (c : Cut) (i given counted : ℕ) : Type 0 where
   pub few : counted ≤ 4096
   pub behind : c.size - given + counted ≤ i * c.size
 
--- a writer's parts: from block i on nothing was written, of which so many are zeros that are held, fewer than the segment has left; of the next block so many values are there, fewer than a block has, with this sum
+-- a writer's parts: from block i on nothing was written, of which so many are zeros that are held, fewer than the segment has left;
+-- of the next block so many values are there, fewer than a block has, with this sum
 pub record AreStored (c : Cut) (i zeros total : ℕ) (held : List ℕ) : Type 0 where
   pub cut : IsCut c
   pub block : i + zeros ≤ c.count

@@ -4,7 +4,8 @@ ghost use Rattle.std.specs.Prelude.{◌≡◌, ◌*◌, ◌<◌, ◌≤◌, [], 
 ghost use Rattle.cube_core.specs.declared.fault.Fault.TheVariants.{WantOfMemory};
 ghost use Rattle.header_bits.specs.Lawful.{IsLawful};
 ghost use Rattle.block_adaptive.specs.Settings.{IsBlock};
-ghost use Rattle.file_coding.specs.Coding.{HasTaken, MayPut, MayPutRun, MayPutColumn, MayPutBlocks, MayGrow, MayGrowAtEnd, PutsNumber, PutsRun, PutsColumn, PutsBlocks, EndsBody};
+ghost use Rattle.file_coding.specs.Coding.{HasTaken, MayPut, MayPutRun, MayPutColumn, MayPutBlocks, MayGrow, MayGrowAtEnd, PutsNumber, PutsRun};
+ghost use Rattle.file_coding.specs.Coding.{PutsColumn, PutsBlocks, EndsBody};
 ghost use Rattle.file_coding.specs.Coding.{IsBySamples, IsByBlocks};
 
 use block_adaptive::block_writer::BlockWriter;

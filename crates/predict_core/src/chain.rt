@@ -246,7 +246,8 @@ pub(crate) fn follow_places<const Q: usize, const N: usize, const WRAPS: bool, c
     requires other_weights_in { AllWithin (2 ^ (run.settings.now.predictor.fraction + 2)) other_weights.old }
     ensures followed { (start : ℕ) (begun : List ℤ) → IsFollowed run.entry.settings.now cube.now y x start begun first weights.old parts.old
         → IsFollowed run.entry.settings.now cube.now y x start begun last weights.new parts.new }
-    ensures other_followed { PAIR ≡ true → (start : ℕ) (begun : List ℤ) → IsFollowed other.entry.settings.now cube.now y x start begun first other_weights.old other_parts.old
+    ensures other_followed { PAIR ≡ true → (start : ℕ) (begun : List ℤ)
+        → IsFollowed other.entry.settings.now cube.now y x start begun first other_weights.old other_parts.old
         → IsFollowed other.entry.settings.now cube.now y x start begun last other_weights.new other_parts.new }
     ensures bound { AllWithin (2 ^ (run.entry.settings.now.predictor.fraction + 2)) weights.new }
     ensures other_bound { AllWithin (2 ^ (run.entry.settings.now.predictor.fraction + 2)) other_weights.new }

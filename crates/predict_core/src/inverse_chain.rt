@@ -3,7 +3,8 @@
 //!
 //! Parities give the sign of an error before its sample is known.
 
-ghost use Rattle.std.specs.Prelude.{◌≡◌, ◌+◌, ◌-◌, ◌*◌, ◌^◌, ◌<◌, ◌≤◌, false, ℕ, pos, ◌+ℤ◌, ◌-ℤ◌, ◌*ℤ◌, negsuc, ◌≤ℤ◌, int_lt, int_le, unsigned_abs, take, drop, length, ◌++◌, replicate};
+ghost use Rattle.std.specs.Prelude.{◌≡◌, ◌+◌, ◌-◌, ◌*◌, ◌^◌, ◌<◌, ◌≤◌, false, ℕ, pos, ◌+ℤ◌, ◌-ℤ◌, ◌*ℤ◌, negsuc, ◌≤ℤ◌, int_lt, int_le, unsigned_abs};
+ghost use Rattle.std.specs.Prelude.{take, drop, length, ◌++◌, replicate};
 ghost use Rattle.std.specs.Prelude.{slice_index, slice_index_or, if◌then◌else◌};
 ghost use Rattle.cube_core.specs.Kind.{IsSample, smin};
 ghost use Rattle.cube_core.specs.Image.{IsPlace, put};
@@ -71,11 +72,13 @@ pub(crate) fn invert_places<const Q: usize, const N: usize, const WRAPS: bool>(
         run.settings.now.count (slice_index_or run.sums.now i (pos 0)) (components_at (quads_of run.settings.now.count) run.quads.now i) }
     requires weights_in { AllWithin (2 ^ (run.settings.now.predictor.fraction + 2)) run.weights }
     ensures beside { AreAlikeBeside cube result.0 run.entry.settings.now.band run.entry.y run.entry.x (length run.entry.deltas.now) }
-    ensures residuals { (p : Parameters) → AreWeightsAt p run.entry.settings.now.predictor cube run.entry.settings.now.band (run.entry.y * cube.shape.columns + run.entry.x)
-        (take run.entry.settings.now.count run.entry.weights) → run_residuals p result.0 run.entry.settings.now.band (run.entry.y * cube.shape.columns + run.entry.x)
+    ensures residuals { (p : Parameters) → AreWeightsAt p run.entry.settings.now.predictor cube run.entry.settings.now.band
+        (run.entry.y * cube.shape.columns + run.entry.x) (take run.entry.settings.now.count run.entry.weights)
+        → run_residuals p result.0 run.entry.settings.now.band (run.entry.y * cube.shape.columns + run.entry.x)
         (length run.entry.deltas.now) ≡ run.entry.deltas.now }
-    ensures weights { (p : Parameters) → AreWeightsAt p run.entry.settings.now.predictor cube run.entry.settings.now.band (run.entry.y * cube.shape.columns + run.entry.x)
-        (take run.entry.settings.now.count run.entry.weights) → take run.entry.settings.now.count result.1 ≡ weight_vector p result.0 run.entry.settings.now.band
+    ensures weights { (p : Parameters) → AreWeightsAt p run.entry.settings.now.predictor cube run.entry.settings.now.band
+        (run.entry.y * cube.shape.columns + run.entry.x) (take run.entry.settings.now.count run.entry.weights)
+        → take run.entry.settings.now.count result.1 ≡ weight_vector p result.0 run.entry.settings.now.band
         (run.entry.y * cube.shape.columns + run.entry.x + length run.entry.deltas.now) }
     ensures within { AllWithin (2 ^ (run.entry.settings.now.predictor.fraction + 2)) result.1 }
 {
@@ -203,7 +206,8 @@ fn sample_there<const N: usize, const WRAPS: bool>(
     requires sum_in { sum ≤ 262140 }
     requires west { IsWest cube.now settings.now.band y x west }
     requires weights_in { AllWithin (2 ^ (settings.now.predictor.fraction + 2)) weights.old }
-    requires directions { settings.now.predictor.reduced ≡ false → take 3 components.now ≡ open_directions settings.now.predictor cube.now settings.now.band y x }
+    requires directions { settings.now.predictor.reduced ≡ false
+        → take 3 components.now ≡ open_directions settings.now.predictor cube.now settings.now.band y x }
     requires lower { drop (if settings.now.predictor.reduced then 0 else 3) components.now ≡ spectral_differences settings.now.predictor cube.now
         settings.now.band y x (previous_bands settings.now.predictor settings.now.band) ++ replicate (18 - settings.now.count) (pos 0) }
     requires residual { delta < 2 ^ cube.now.kind.bits }

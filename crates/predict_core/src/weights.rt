@@ -1,6 +1,7 @@
 //! The weights of the differences: their products, and their update.
 
-ghost use Rattle.std.specs.Prelude.{if◌then◌else◌, ◌≡◌, ◌+◌, ◌-◌, ◌*◌, ◌^◌, ◌≤◌, pos, negsuc, ◌≤ℤ◌, ◌+ℤ◌, ◌-ℤ◌, ◌*ℤ◌, unsigned_abs, int_lt, ℕ, ℤ, List, length, take};
+ghost use Rattle.std.specs.Prelude.{if◌then◌else◌, ◌≡◌, ◌+◌, ◌-◌, ◌*◌, ◌^◌, ◌≤◌, pos, negsuc, ◌≤ℤ◌, ◌+ℤ◌, ◌-ℤ◌, ◌*ℤ◌, unsigned_abs, int_lt};
+ghost use Rattle.std.specs.Prelude.{ℕ, ℤ, List, length, take};
 ghost use Rattle.std.specs.Prelude.{◌++◌, replicate};
 ghost use Rattle.predict_core.specs.Arithmetic.{floor_div, clip};
 ghost use Rattle.predict_core.specs.Prediction.{inner_product};

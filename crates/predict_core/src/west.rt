@@ -2,7 +2,8 @@
 //!
 //! The row above tells all the rest of them, so that it is computed for a whole run at once.
 
-ghost use Rattle.std.specs.Prelude.{◌≡◌, ◌+◌, ◌-◌, ◌<◌, ◌≤◌, pos, negsuc, ◌+ℤ◌, ◌-ℤ◌, ◌*ℤ◌, ◌≤ℤ◌, int_lt, if◌then◌else◌, take, drop, ◌++◌, true, false, FitsSigned};
+ghost use Rattle.std.specs.Prelude.{◌≡◌, ◌+◌, ◌-◌, ◌<◌, ◌≤◌, pos, negsuc, ◌+ℤ◌, ◌-ℤ◌, ◌*ℤ◌, ◌≤ℤ◌, int_lt, if◌then◌else◌, take, drop};
+ghost use Rattle.std.specs.Prelude.{◌++◌, true, false, FitsSigned};
 ghost use Rattle.std.specs.Int.{w32};
 ghost use Rattle.cube_core.specs.Kind.{smin};
 ghost use Rattle.cube_core.specs.Image.{IsPlace};
@@ -100,7 +101,8 @@ pub(crate) fn put_west(
     requires place { IsPlace cube.now.shape settings.now.band y x }
     requires columns { cube.now.shape.columns ≡ settings.now.columns }
     requires later { 0 < y }
-    requires directions { settings.now.predictor.reduced ≡ false → take 3 components.old ≡ open_directions settings.now.predictor cube.now settings.now.band y x }
+    requires directions { settings.now.predictor.reduced ≡ false
+        → take 3 components.old ≡ open_directions settings.now.predictor cube.now settings.now.band y x }
     requires small { AllWithin 2097152 components.old }
     requires west { IsWest cube.now settings.now.band y x west }
     ensures reduced { settings.now.predictor.reduced ≡ true → components.new ≡ components.old }
