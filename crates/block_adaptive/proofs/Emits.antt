@@ -1,5 +1,5 @@
 -- Writing texts, part after part.
-use Rattle.std.proofs.Common.{◌≡◌, ℕ, zero, suc, ◌+◌, ◌-◌, ◌*◌, ◌/◌, ◌%◌, ◌^◌, ◌<◌, ◌≤◌, false, List, [], ◌∷◌, ◌++◌, length, drop, replicate, get_or, refl, sym}
+use Rattle.std.proofs.Common.{◌≡◌, ℕ, suc, ◌+◌, ◌-◌, ◌*◌, ◌/◌, ◌%◌, ◌^◌, ◌<◌, ◌≤◌, List, [], ◌++◌, length, drop, get_or, refl, sym}
 use Rattle.std.proofs.Common.{ap, ◌∙◌, arith, add-one, drop-cons}
 use Rattle.std.proofs.lemmas.List.{length-append, drop_all}
 use Rattle.header_bits.specs.Bits.{bits_of, fundamental}
@@ -64,11 +64,7 @@ identifier_split s k = refl
 
 pub identifier_zero : (s : CodeSet) → bits_of (width s + 1) 0 ≡ zero_identifier s
 unfolding zero_identifier
-identifier_zero s = bits_of_zero _ ∙ ends _
-  where
-    ends : (n : ℕ) → replicate (n + 1) false ≡ replicate n false ++ false ∷ []
-    ends zero = refl
-    ends (suc n) = (let e : suc n + 1 ≡ suc (n + 1) = omega arith in rw (e, ends n) refl)
+identifier_zero s = grind (arith, bits_of_zero)
 
 pub low_next_masked : (k i : ℕ) (block : List ℕ) → i < length block → low_groups k (drop i block) ≡ bits_of k (get_or block i 0 % 2 ^ k) ++ low_groups k
     (drop (i + 1) block)

@@ -51,10 +51,7 @@ code_word a j word top = record { few = omega (arith, word.few, top.inside); bel
 
 pub looked : (n word : ℕ) (left after : List Bool) → n ≤ 57 → n ≤ length left → left ≡ bits_of n word ++ after
     → IsAhead (record { peeked = n; known = n; word = word }) left
-looked n word left after most enough is =
-    let none : n - n ≡ 0 = omega arith in
-    let behind : drop n left ≡ after = ap (drop n) is ∙ drop_at _ _ _ (length-bits_of _ _) in
-    record { few = omega arith; most = most; enough = enough; bits = (λ i. drop (none i) left) ∙ is ∙ (λ i. bits_of n word ++ (sym behind) i) }
+looked n word left after most enough is = grind (arith, drop_at, length-bits_of)
 
 pub looked_word : (left : List Bool) (word : ℕ) → word < 2 ^ 64 → IsFront 57 left word → 57 ≤ length left
     → IsAhead (record { peeked = 57; known = 57; word = word / 2 ^ 7 }) left × IsWord (record { peeked = 57; known = 57; word = word / 2 ^ 7 })
@@ -79,8 +76,3 @@ Reading = List Bool → Result (ℕ × List Bool) Fault
 pub read_fresh : (f : Reading) (m : ℕ) (was a b : Ahead) (old left : List Bool) → left ≡ drop (used was) old → used a ≡ 0
     → f (drop (used a) left) ≡ Ok (m, drop (used b) left) → f (drop (used was) old) ≡ Ok (m, drop (used b) left)
 read_fresh f m was a b old left is unused e = ap f (sym is) ∙ (λ i. f (drop ((sym unused) i) left)) ∙ e
-
--- what is read by itself, before a look at the bits behind it
-pub read_alone : (f : Reading) (m : ℕ) (was b : Ahead) (old left after : List Bool) → left ≡ drop (used was) old → used b ≡ 0 → f left ≡ Ok (m, after)
-    → f (drop (used was) old) ≡ Ok (m, drop (used b) after)
-read_alone f m was b old left after is unused e = ap f (sym is) ∙ e ∙ (λ i. Ok (m, drop ((sym unused) i) after))

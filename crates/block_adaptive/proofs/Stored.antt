@@ -1,6 +1,5 @@
 -- The parts of a writer, behind a whole block.
-use Rattle.std.proofs.Common.{ℕ, ◌+◌, ◌-◌, ◌<◌, ◌≤◌, ◌*◌, ◌^◌, List, [], length, refl, sym, subst, inl, inr, arith, lit<}
-use Rattle.std.proofs.lemmas.Bool.{cases_lt}
+use Rattle.std.proofs.Common.{ℕ, ◌+◌, ◌-◌, ◌<◌, ◌≤◌, ◌*◌, ◌^◌, List, [], length, refl, sym, subst, arith, lit<}
 use Rattle.std.proofs.lemmas.Nat.{mul-le}
 use Rattle.std.proofs.Math.Nat.{pow-le-pow_right}
 use Rattle.block_adaptive.specs.Segments.{segment_rest}
@@ -14,11 +13,7 @@ use Rattle.header_bits.proofs.Sums.{sum_most}
 
 -- the blocks of zeros that are held are fewer than the segment has left
 pub held_inside : (c : Cut) (i zeros total : ℕ) (held : List ℕ) → AreStored c i zeros total held → i + zeros < c.count → zeros < left_at c i
-held_inside c i zeros total held h more =
-    elim (cases_lt 0 zeros) [
-      | inl lt ↦ h.inside (omega arith)
-      | inr le ↦ (let some : 1 ≤ left_at c i = rest_least c.reference c.count i h.cut.reference.0 (omega arith) in omega arith)
-    ]
+held_inside c i zeros total held h more = grind (arith, rest_least)
 
 pub held_few : (c : Cut) (i zeros total : ℕ) (held : List ℕ) → AreStored c i zeros total held → i + zeros < c.count → zeros < 64
 unfolding segment_rest

@@ -57,9 +57,7 @@ run_whole size (suc left) bs = rw (zero_is size, run_whole size left bs) refl
 pub block_next : (c : Cut) (n i : ℕ) (x : List ℕ) (bs : List (List ℕ)) → 1 ≤ segment_rest c.reference c.count i → is_zero x ≡ false
     → chosen_from c (suc n) i (x ∷ bs) ≡ Block (chosen_option c.set x) x ∷ chosen_from c n (i + 1) bs
 unfolding chosen_from
-block_next c n i x bs pos h =
-    let none : zero_blocks (segment_rest c.reference c.count i) (x ∷ bs) ≡ 0 = run_broken 0 (segment_rest c.reference c.count i) 0 x bs h (omega arith) in
-    rw none refl
+block_next c n i x bs pos h = grind arith
 
 -- zeros before it, fewer than the segment's rest, are a run
 pub run_next : (c : Cut) (n i z : ℕ) (x : List ℕ) (bs : List (List ℕ)) → suc z < segment_rest c.reference c.count i → is_zero x ≡ false
