@@ -1,4 +1,7 @@
 -- Writing texts, part after part.
+use Rattle.std.proofs.lemmas.Grind.{common_steps}
+use Rattle.std.proofs.Math.Pow.{pow_mono}
+use Rattle.header_bits.proofs.WordTexts.{words_start, words_few, words_joined, words_end, words_below}
 use Rattle.std.proofs.Common.{◌≡◌, ℕ, suc, ◌+◌, ◌-◌, ◌*◌, ◌/◌, ◌%◌, ◌^◌, ◌<◌, ◌≤◌, List, [], ◌++◌, length, drop, get_or, refl, sym}
 use Rattle.std.proofs.Common.{ap, ◌∙◌, arith, add-one, drop-cons}
 use Rattle.std.proofs.lemmas.List.{length-append, drop_all}
@@ -75,3 +78,15 @@ low_next_masked k i block lt = low_next _ _ _ lt ∙ ap (λ bs. bs ++ low_groups
 pub run_text_cost : (s : CodeSet) (n : ℕ) → length (run_text s (fundamental n)) ≡ width s + n + 2
 run_text_cost s n =
     omega (arith, length-append (zero_identifier s) (fundamental n), length-fundamental n, ap length (identifier_zero s), length-bits_of (width s + 1) 0)
+
+-- ---- texts gathered in a word
+
+pub one_below : (n : ℕ) → 1 < 2 ^ (n + 1)
+one_below n = pow_mono {i = 1} {j = n + 1} (omega arith)
+
+-- what a loop that gathers them takes
+pub ruleset word_steps = (common_steps, words_start, words_few, words_joined, words_end, words_below)
+
+pub ruleset low_word_steps = (word_steps, low_next_masked, low_end)
+
+pub ruleset quotient_word_steps = (word_steps, quotient_bits, quotient_end, one_below)
