@@ -1,10 +1,12 @@
 -- Bits gathered behind a writer, and codes gathered in a word.
+use Rattle.std.proofs.lemmas.Nat.{and_mask, shr_below}
+use Rattle.std.proofs.lemmas.Grind.{common_steps}
 use Rattle.std.proofs.Common.{◌≡◌, ℕ, ◌+◌, ◌-◌, ◌*◌, ◌/◌, ◌%◌, ◌^◌, ◌<◌, ◌≤◌, Bool, List, [], ◌++◌, length, take, drop, bit_or, sym, ap, ◌∙◌, append_assoc}
 use Rattle.std.proofs.Common.{arith}
 use Rattle.std.proofs.lemmas.Grind.{flat_map-append}
 use Rattle.std.proofs.lemmas.List.{append-nil, length-append, length-take, length-drop, take-append-drop, drop-drop}
 use Rattle.header_bits.specs.Bits.{Written, bits_of, fundamental}
-use Rattle.header_bits.proofs.Numbers.{length-bits_of}
+use Rattle.header_bits.proofs.Numbers.{length-bits_of, bits_of-mod}
 use Rattle.header_bits.proofs.Words.{pushed_behind, two_parts}
 use Rattle.block_adaptive.specs.Options.{quotient_codes, low_groups}
 use Rattle.block_adaptive.specs.Taken.{Writes, Appends, behind}
@@ -21,6 +23,11 @@ module _ {w : Written} {was : List Bool} where
       → bits_of 64 word ≡ bits_of held part ++ bits_of (64 - held) (bits / 2 ^ (n - (64 - held))) → new.bits ≡ w.bits ++ bits_of 64 word
       → w.room ≤ new.room + 64 → Appends w was new (bits_of (n - (64 - held)) bits) (bits_of n bits)
   appends_word {new} held part n bits word lt le is room filled pushed spent = grind (arith, append_assoc, length-bits_of, two_parts)
+
+-- what an append takes, and what a flush does
+pub ruleset append_steps = (appends_part, appends_word, length-bits_of, shr_below)
+
+pub ruleset flush_steps = (common_steps, and_mask, bits_of-mod, length-bits_of)
 
 -- ---- texts that stand one behind another
 

@@ -42,6 +42,7 @@ impl Gathered {
 
     /// Appends a number as `n` bits.
     #[inline(always)]
+    #[tactic(auto, using(crate::proofs::Gathers::append_steps))]
     pub(crate) fn append(&mut self, writer: &mut BitWriter, bits: u64, n: u32)
         requires few { n ≤ 64 }
         requires below { bits < 2 ^ n }
@@ -77,6 +78,7 @@ impl Gathered {
 
     /// Pushes the bits.
     #[inline(always)]
+    #[tactic(auto, using(crate::proofs::Gathers::flush_steps))]
     pub(crate) fn flush(self, writer: &mut BitWriter)
         requires { length self ≤ writer.old.room }
         ensures { Writes writer.old writer.new self }

@@ -1,5 +1,5 @@
 use Rattle.std.proofs.lemmas.Grind.{common_steps}
-use Rattle.std.proofs.Common.{◌+◌, arith}
+use Rattle.std.proofs.Common.{arith}
 use Rattle.block_adaptive.proofs.block_writer.sum_of_eights.Goals as goal
 use Rattle.header_bits.proofs.Sums.{sum_small, sum_front, sum_next}
 
