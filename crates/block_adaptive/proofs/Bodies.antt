@@ -41,17 +41,10 @@ pub data_sets_again : (count half n i : ℕ) (c : Cut) (data_sets : List CodedDa
 unfolding data_sets_at AreCodedDataSets
 data_sets_again count half zero i c [] rest even few h = refl
 data_sets_again count half zero i c (t ∷ data_sets) rest even few h = absurd (omega arith)
-data_sets_again count half (suc n) i c [] rest even few h =
-    let done : leb c.count i ≡ true = le-leb _ _ (omega (arith, h)) in
-    rw done refl
+data_sets_again count half (suc n) i c [] rest even few h = grind arith
 data_sets_again count half (suc n) i c (t ∷ data_sets) rest even few h =
-    let more : leb c.count i ≡ false = lt-leb _ _ (omega (arith, data_set_some _ _ _ t h.0, data_sets_few _ (i + blocks_in (left_at c i) t) _ _ h.1)) in
-    let site : Site = record { count = count; block = i } in
-    let after : List Bool = spelling c.set data_sets ++ rest in
-    let one : data_set_at site c.set c.size (left_at c i) (spelled c.set t ++ after) ≡ Ok (t, after) =
-    rw even (data_set_again _ _ _ _ t _ (subst (λ (k : ℕ). IsCodedDataSet c.set k (left_at c i) t) even h.0)) in
-    rw (more, append_assoc (spelled c.set t) _ _, one, data_sets_again count half n (i + blocks_in (left_at c i) t) c data_sets rest even (omega arith) h.1)
-    refl
+    let others = data_sets_again count half n (i + blocks_in (left_at c i) t) c data_sets rest even (omega arith) h.1 in
+    grind (arith, append_assoc, data_set_again, data_sets_few)
 
 pub one_body : OneBody
 one_body s half reference ms ns a b x y pos len p q e =

@@ -2,7 +2,7 @@
 use Rattle.std.proofs.lemmas.Grind.{common_steps}
 use Rattle.std.proofs.Math.Pow.{pow_mono}
 use Rattle.header_bits.proofs.WordTexts.{words_start, words_few, words_joined, words_end, words_below}
-use Rattle.std.proofs.Common.{◌≡◌, ℕ, suc, ◌+◌, ◌-◌, ◌*◌, ◌/◌, ◌%◌, ◌^◌, ◌<◌, ◌≤◌, List, [], ◌++◌, length, drop, get_or, refl, sym}
+use Rattle.std.proofs.Common.{◌≡◌, ℕ, ◌+◌, ◌-◌, ◌*◌, ◌/◌, ◌%◌, ◌^◌, ◌<◌, ◌≤◌, List, [], ◌++◌, length, drop, get_or, refl, sym, rules}
 use Rattle.std.proofs.Common.{ap, ◌∙◌, arith, add-one, drop-cons}
 use Rattle.std.proofs.lemmas.List.{length-append, drop_all}
 use Rattle.header_bits.specs.Bits.{bits_of, fundamental}
@@ -28,12 +28,7 @@ low_next k i block lt = rw (add-one, drop-cons block i 0 lt) refl
 pub pair_next : (i : ℕ) (block : List ℕ) → 2 * i + 1 < length block → pair_codes (drop (2 * i) block)
     ≡ fundamental (pair_number (get_or block (2 * i) 0) (get_or block (2 * i + 1) 0)) ++ pair_codes (drop (2 * (i + 1)) block)
 unfolding pair_codes
-pair_next i block lt =
-    let e : 2 * (i + 1) ≡ suc (suc (2 * i)) = omega arith in
-    let f : 2 * i + 1 ≡ suc (2 * i) = omega arith in
-    let second : suc (2 * i) < length block = omega arith in
-    let first : 2 * i < length block = omega arith in
-    rw (e, f, drop-cons block (2 * i) 0 first, drop-cons block (suc (2 * i)) 0 second) refl
+pair_next i block lt = search (rules, common_steps)
 
 pub quotient_bits : (k i : ℕ) (block : List ℕ) → i < length block → quotient_codes k (drop i block) ≡ bits_of (get_or block i 0 / 2 ^ k + 1) 1 ++ quotient_codes
     k (drop (i + 1) block)

@@ -86,6 +86,3 @@ data_set_given v reader given bits left t cut more none h e =
         working = h.working;
       },
     )
-
-pub put_back : (v w : Unpacked) (held : List ℕ) → v ≡ w → record v { held = held } ≡ record w { held = held }
-put_back v w held e = ap (λ (u : Unpacked). record u { held = held }) e

@@ -1,9 +1,8 @@
 -- Codes and low bits among the bits ahead.
-use Rattle.std.proofs.Common.{◌≡◌, ℕ, ◌+◌, ◌-◌, ◌*◌, ◌/◌, ◌^◌, ◌<◌, ◌≤◌, Bool, List, ◌++◌, length, drop, refl, sym, ap, subst, ◌∙◌, append_assoc, arith, Result}
+use Rattle.std.proofs.Common.{◌≡◌, ℕ, ◌+◌, ◌-◌, ◌*◌, ◌/◌, ◌^◌, ◌<◌, ◌≤◌, Bool, List, ◌++◌, length, drop, refl, sym, ap, subst, ◌∙◌, append_assoc, arith}
 use Rattle.std.proofs.Common.{Ok}
 use Rattle.std.proofs.lemmas.Nat.{shr_below}
 use Rattle.std.proofs.lemmas.List.{drop-drop, drop_at}
-use Rattle.cube_core.specs.declared.fault.Fault.{Fault}
 use Rattle.header_bits.specs.Bits.{bits_of, fundamental}
 use Rattle.header_bits.specs.Windows.{IsAhead as IsFront}
 use Rattle.header_bits.proofs.Numbers.{length-bits_of, no_bits, bits_of-fundamental}
@@ -66,13 +65,3 @@ looked_nowhere left = looked 0 0 left left (omega arith) (omega arith) ((λ i. (
 pub code_read : (site : Site) (most m : ℕ) (a b : Ahead) (left : List Bool) → m ≤ most → Uses a b (fundamental m) left
     → fundamental_at site most (drop (used a) left) ≡ Ok (m, drop (used b) left)
 code_read site most m a b left le h = rw h.text (fundamental_again site most m (drop (used b) left) le)
-
--- ---- a look behind what was used
-
-abbrev pub Reading : Type 0
-Reading = List Bool → Result (ℕ × List Bool) Fault
-
--- what is read out of the bits that were looked at anew
-pub read_fresh : (f : Reading) (m : ℕ) (was a b : Ahead) (old left : List Bool) → left ≡ drop (used was) old → used a ≡ 0
-    → f (drop (used a) left) ≡ Ok (m, drop (used b) left) → f (drop (used was) old) ≡ Ok (m, drop (used b) left)
-read_fresh f m was a b old left is unused e = ap f (sym is) ∙ (λ i. f (drop ((sym unused) i) left)) ∙ e

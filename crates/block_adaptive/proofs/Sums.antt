@@ -1,4 +1,5 @@
 -- The sum of a block's values, and the sums of their quotients.
+use Rattle.std.proofs.lemmas.Grind.{common_steps}
 use Rattle.std.proofs.Common.{◌≡◌, ℕ, zero, suc, ◌+◌, ◌*◌, ◌/◌, ◌^◌, true, false, List, [], ◌∷◌, length, sum, refl, arith}
 use Rattle.std.proofs.lemmas.List.Sums.{sum_by-cons}
 use Rattle.block_adaptive.specs.declared.options.CodeSet.{CodeSet}
@@ -36,3 +37,6 @@ pub some_block : (vs : List ℕ) (total : ℕ) → total ≡ sum vs → (total �
 some_block [] total is some = absurd (some is)
 some_block (zero ∷ vs) total is some = some_block vs total is some
 some_block (suc v ∷ vs) total is some = grind arith
+
+-- what tells a block of zeros by its sum
+pub ruleset zero_tests = (common_steps, zero_block, some_block)

@@ -10,7 +10,7 @@ use cube_core::fault::Fault;
 use header_bits::bit_reader::BitReader;
 
 /// Reads the low bits of each value, whose quotient is known.
-#[tactic(auto, using(crate::proofs::Takes::lows_each, header_bits::proofs::Each::each_more, header_bits::proofs::Each::each_ends, header_bits::proofs::Each::each_done))]
+#[tactic(auto, using(crate::proofs::Takes::lows_steps))]
 pub(crate) fn lows(
     reader: &mut BitReader,
     block: u64,

@@ -207,7 +207,7 @@ fn write_block(
 /// are held; returns how many are held then.
 ///
 /// The first zero block held is at `place`. It allocates first.
-#[tactic(auto, using(std::proofs::lemmas::Grind::common_steps, crate::proofs::Sums::zero_block, crate::proofs::Sums::some_block), unfolding(crate::specs::Segments::segment_rest))]
+#[tactic(auto, using(crate::proofs::Sums::zero_tests), unfolding(crate::specs::Segments::segment_rest))]
 pub(crate) fn write_data_sets(
     writer: &mut BitWriter,
     set: &CodeSet,
