@@ -64,10 +64,21 @@ pub values_taken : (v : Packed) (taken : List ℕ) (bits : List Bool) (xs : List
     → HasTaken (record v { held = v.held ++ xs }) (taken ++ xs) bits
 values_taken v taken bits xs h = grind (arith, append_assoc)
 
-unfoldable pub block_taken : (v : Packed) (taken told : List ℕ) (bits : List Bool) (b : List ℕ) → IsCut v.cut → v.start + v.zeros < v.cut.count
+-- the blocks are those before and this one
+pub block_taken : (v : Packed) (taken told : List ℕ) (bits : List Bool) (b : List ℕ) → IsCut v.cut → v.start + v.zeros < v.cut.count
     → length b ≡ v.cut.size → AllByRecursion (λ x. x < 2 ^ v.cut.set.bits) b → (h : HasTaken v taken bits) → told ≡ values_of (h.blocks ++ b ∷ [])
-    → HasTaken (packed v b) told (bits ++ data_sets_packed v b)
-block_taken v taken told bits b cut more len range h is = grind (arith, all_append, append-nil, append_assoc, length-append, rest_least, step)
+    → (after : HasTaken (packed v b) told (bits ++ data_sets_packed v b)) × (after.blocks ≡ h.blocks ++ b ∷ [])
+block_taken v taken told bits b cut more len range h is = (
+  record {
+    blocks = h.blocks ++ b ∷ [];
+    whole = all_append _ h.blocks (b ∷ []) h.whole ((len, range), tt);
+    numbers = is ∙ sym (append-nil _);
+    place = grind (arith, length-append, rest_least);
+    inside = grind (arith, rest_least);
+    goes_on = grind (arith, append_assoc, length-append, step);
+  },
+  refl,
+)
 
 -- ---- all blocks
 
@@ -138,7 +149,6 @@ nothing_left v written cut none = λ taken bits h count.
 pub last_block : (v : Packed) (written now : List Bool) → IsCut v.cut → 1 ≤ length v.held → length v.held ≤ v.cut.size → v.start + v.zeros < v.cut.count
     → AllByRecursion (λ x. x < 2 ^ v.cut.set.bits) (filled v.cut.size v.held) → now ≡ written ++ data_sets_packed v (filled v.cut.size v.held)
     → EndsBody v written now
-unfolding block_taken
 last_block v written now cut least most more range is = λ taken bits h count.
     let c : Cut = v.cut in
     let b : List ℕ = filled c.size v.held in
@@ -149,8 +159,9 @@ last_block v written now cut least most more range is = λ taken bits h count.
     ∙ omega (arith, length-append (values_of h.blocks) v.held, values_length c.set _ h.blocks h.whole) in
     let count-is : length h.blocks + 1 ≡ c.count = sym (count_odd _ (length h.blocks) _ least most) ∙ ap (block_count c.size) (sym size) ∙ count in
     let blocks-are : length (h.blocks ++ b ∷ []) ≡ c.count = length-append h.blocks _ ∙ count-is in
-    let body = all_taken _ (values_of (h.blocks ++ b ∷ [])) (bits ++ data_sets_packed v b) after blocks-are
-    ∙ sym (body_of_blocks v taken (h.blocks ++ b ∷ []) count all blocks-are) in (data_sets_packed v b, is, body)
+    let body = all_taken _ (values_of (h.blocks ++ b ∷ [])) (bits ++ data_sets_packed v b) after.0 (ap length after.1 ∙ blocks-are)
+    ∙ ap (λ bs. spelling c.set (chosen_from c c.count 0 bs)) after.1 ∙ sym (body_of_blocks v taken (h.blocks ++ b ∷ []) count all blocks-are) in
+    (data_sets_packed v b, is, body)
 
 -- ---- numbers more
 
@@ -163,7 +174,7 @@ pub values_packed : (v new : Packed) (written now : List Bool) (xs : List ℕ) �
 values_packed v new written now xs cut more len range data_sets is = λ taken bits h.
     let told : taken ++ xs ≡ values_of (h.blocks ++ (v.held ++ xs) ∷ []) = ap (λ ns. ns ++ xs) h.numbers ∙ append_assoc (values_of h.blocks) _ _
     ∙ ap (λ ns. values_of h.blocks ++ ns) (sym (append-nil _)) ∙ sym (flat_map-append _ h.blocks _) in
-    (data_sets_packed v (v.held ++ xs), data_sets, rw is (block_taken _ taken (taken ++ xs) bits _ cut more len range h told))
+    (data_sets_packed v (v.held ++ xs), data_sets, rw is (block_taken _ taken (taken ++ xs) bits _ cut more len range h told).0)
 
 -- ---- the values held
 

@@ -12,16 +12,16 @@ use Rattle.block_adaptive.proofs.Packing.{after_in_range, after_start}
 use Rattle.header_bits.proofs.Sums.{sum_most}
 
 -- the blocks of zeros that are held are fewer than the segment has left
-pub held_inside : (c : Cut) (i zeros total : ℕ) (held : List ℕ) → AreStored c i zeros total held → i + zeros < c.count → zeros < left_at c i
-held_inside c i zeros total held h more = grind (arith, rest_least)
+pub held_inside : (c : Cut) (i counted total : ℕ) (held : List ℕ) → AreStored c i counted total held → i + counted < c.count → counted < left_at c i
+held_inside c i counted total held h more = grind (arith, rest_least)
 
-pub held_few : (c : Cut) (i zeros total : ℕ) (held : List ℕ) → AreStored c i zeros total held → i + zeros < c.count → zeros < 64
+pub held_few : (c : Cut) (i counted total : ℕ) (held : List ℕ) → AreStored c i counted total held → i + counted < c.count → counted < 64
 unfolding segment_rest
-held_few c i zeros total held h more = (let inside = held_inside c i zeros total held h more in omega arith)
+held_few c i counted total held h more = (let inside = held_inside c i counted total held h more in omega arith)
 
-pub stored_after : (c : Cut) (i zeros total : ℕ) (held block : List ℕ) → AreStored c i zeros total held → i + zeros < c.count
-    → AreStored c (i + (zeros + 1 - zeros_after (left_at c i) zeros block)) (zeros_after (left_at c i) zeros block) 0 []
-stored_after c i zeros total held block h more = grind (arith, after_in_range, after_start, held_inside, rest_least, size_least)
+pub stored_after : (c : Cut) (i counted total : ℕ) (held block : List ℕ) → AreStored c i counted total held → i + counted < c.count
+    → AreStored c (i + (counted + 1 - zeros_after (left_at c i) counted block)) (zeros_after (left_at c i) counted block) 0 []
+stored_after c i counted total held block h more = grind (arith, after_in_range, after_start, held_inside, rest_least, size_least)
 
 -- what the values held add up to
 pub total_few : (c : Cut) (i counted total : ℕ) (held : List ℕ) → AreStored c i counted total held → total ≤ 64 * 65536
