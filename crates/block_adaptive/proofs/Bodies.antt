@@ -1,10 +1,9 @@
 -- Bodies, data set after data set.
-use Rattle.std.proofs.Common.{◌≡◌, ℕ, zero, suc, ◌+◌, ◌-◌, ◌*◌, ◌/◌, ◌^◌, ◌<◌, ◌≤◌, Bool, true, false, leb, List, [], ◌∷◌, ◌++◌, length, take, drop, replicate}
+use Rattle.std.proofs.Common.{◌≡◌, ℕ, zero, suc, ◌+◌, ◌-◌, ◌*◌, ◌^◌, ◌<◌, ◌≤◌, Bool, true, false, leb, List, [], ◌∷◌, ◌++◌, length, take, drop, replicate}
 use Rattle.std.proofs.Common.{inl, inr, Ok, refl, sym, ap, subst, ◌∙◌, arith, append_assoc}
 use Rattle.std.specs.List.{AllByRecursion}
 use Rattle.std.proofs.lemmas.Bool.{cases_lt, le-leb, lt-leb}
 use Rattle.std.proofs.lemmas.Nat.{pow_pos}
-use Rattle.std.proofs.Math.Nat.{lt-div-mul-add}
 use Rattle.std.proofs.lemmas.List.{take_at, take_all, take-append-drop, length-take, length-drop}
 use Rattle.block_adaptive.proofs.Packing.{range_filled, filled_length, filled_whole}
 use Rattle.cube_core.specs.Steps.{◌>>=◌}
@@ -42,17 +41,10 @@ pub data_sets_again : (count half n i : ℕ) (c : Cut) (data_sets : List CodedDa
 unfolding data_sets_at AreCodedDataSets
 data_sets_again count half zero i c [] rest even few h = refl
 data_sets_again count half zero i c (t ∷ data_sets) rest even few h = absurd (omega arith)
-data_sets_again count half (suc n) i c [] rest even few h =
-    let done : leb c.count i ≡ true = le-leb _ _ (omega (arith, h)) in
-    rw done refl
+data_sets_again count half (suc n) i c [] rest even few h = grind arith
 data_sets_again count half (suc n) i c (t ∷ data_sets) rest even few h =
-    let more : leb c.count i ≡ false = lt-leb _ _ (omega (arith, data_set_some _ _ _ t h.0, data_sets_few _ (i + blocks_in (left_at c i) t) _ _ h.1)) in
-    let site : Site = record { count = count; block = i } in
-    let after : List Bool = spelling c.set data_sets ++ rest in
-    let one : data_set_at site c.set c.size (left_at c i) (spelled c.set t ++ after) ≡ Ok (t, after) =
-    rw even (data_set_again _ _ _ _ t _ (subst (λ (k : ℕ). IsCodedDataSet c.set k (left_at c i) t) even h.0)) in
-    rw (more, append_assoc (spelled c.set t) _ _, one, data_sets_again count half n (i + blocks_in (left_at c i) t) c data_sets rest even (omega arith) h.1)
-    refl
+    let others = data_sets_again count half n (i + blocks_in (left_at c i) t) c data_sets rest even (omega arith) h.1 in
+    grind (arith, append_assoc, data_set_again, data_sets_few)
 
 pub one_body : OneBody
 one_body s half reference ms ns a b x y pos len p q e =
@@ -81,10 +73,9 @@ length-first_blocks size (suc n) numbers = ap suc (length-first_blocks size n (d
 first_are_blocks : (s : CodeSet) (size n : ℕ) (numbers : List ℕ) → AllByRecursion (λ v. v < 2 ^ s.bits) numbers → AreBlocks s size (first_blocks size n numbers)
 unfolding first_blocks
 first_are_blocks s size zero numbers h = tt
-first_are_blocks s size (suc n) numbers h = (
-  (filled_length size (take size numbers) (omega (arith, length-take size numbers)), range_filled _ _ _ (pow_pos _) (all_take _ size _ h)),
-  first_are_blocks s size n (drop size numbers) (all_drop _ size _ h),
-)
+first_are_blocks s size (suc n) numbers h =
+    let others = first_are_blocks s size n (drop size numbers) (all_drop _ size _ h) in
+    grind (arith, all_take, filled_length, length-take, pow_pos, range_filled)
 
 -- the blocks begin with the numbers
 first_values : (size n : ℕ) (numbers : List ℕ) → length numbers ≤ n * size → take (length numbers) (values_of (first_blocks size n numbers)) ≡ numbers
@@ -107,9 +98,7 @@ first_values size (suc n) numbers h =
     ]
 
 pub blocks_enough : (size n : ℕ) → 1 ≤ size → n ≤ block_count size n * size
-blocks_enough size n pos =
-    let over : n + size - 1 < (n + size - 1) / size * size + size = lt-div-mul-add {a = n + size - 1} {b = size} (omega arith) in
-    omega arith
+blocks_enough size n pos = grind arith
 
 pub chosen_is_body : ChosenIsBody
 unfolding chosen_block_body chosen_data_sets blocks

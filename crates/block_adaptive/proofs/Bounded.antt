@@ -1,7 +1,6 @@
 -- The chosen option, out of the few k that the sum of the values leaves.
 use Rattle.std.proofs.Common.{◌≡◌, ℕ, suc, ◌+◌, ◌-◌, ◌*◌, ◌^◌, ◌<◌, ◌≤◌, Bool, true, false, List, length, sum, subst, inl, inr, arith, lit<}
 use Rattle.std.proofs.lemmas.Bool.{cases_lt}
-use Rattle.std.proofs.lemmas.Nat.{mul-le}
 use Rattle.std.proofs.Math.Nat.{pow-le-pow_right}
 use Rattle.block_adaptive.specs.declared.options.CodeSet.{CodeSet}
 use Rattle.block_adaptive.specs.declared.options.Choice.{Choice}
@@ -54,18 +53,12 @@ ended s vs sum first k longer o h leads few last =
 -- ---- values that are less than 1 on average
 
 plain_short : (s : CodeSet) (vs : List ℕ) (k : ℕ) → sum vs < length vs → 1 ≤ k → cost s (Split 0) vs < cost s (Split k) vs
-plain_short s vs k small some =
-    let low : 1 * length vs ≤ k * length vs = mul-le _ _ _ _ some (omega arith) in
-    omega (arith, split_cost s 0 vs, split_cost s k vs, plain_length vs, quotients_least k vs, low)
+plain_short s vs k small some = grind (arith, plain_length, quotients_least, split_cost)
 
 -- no k above 0 is shorter
 pub ended_at_plain : (s : CodeSet) (vs : List ℕ) (k : ℕ) (o : Choice) → (0 < splits s → sum vs < length vs) → LeadsTried s vs false 0 k o → k ≤ splits s
     → (k < splits s → k ≡ 1) → o ≡ chosen_option s vs
-ended_at_plain s vs k o small leads few last =
-    leads_all leads few (λ some. some) (λ j lt. absurd (omega arith)) (λ e. absurd cc) (λ j from in_set.
-    let end : k ≡ 1 = last (omega arith) in
-    let tried = lead_cost _ _ _ _ (leads.leads (Split 0) (omega arith, omega arith)) in
-    omega (arith, tried, plain_short s vs j (small (omega arith)) (omega arith)))
+ended_at_plain s vs k o small leads few last = grind (arith, leads_all, plain_short)
 
 -- only an identifier of one bit leaves no k
 pub some_splits : (s : CodeSet) → 1 < width s → 1 ≤ splits s

@@ -27,8 +27,7 @@ use Rattle.header_bits.proofs.Intervals.{count_least}
 
 zeros_length : (n size : ℕ) → length (values_of (replicate n (replicate size 0))) ≡ n * size
 zeros_length zero size = omega arith
-zeros_length (suc n) size =
-    omega (arith, length-append (replicate size 0) (values_of (replicate n (replicate size 0))), length-replicate {A = ℕ} size 0, zeros_length n size)
+zeros_length (suc n) size = grind (arith, length-append, length-replicate, zeros_length n size)
 
 data_set_blocks : (s : CodeSet) (size left : ℕ) (t : CodedDataSet) → IsCodedDataSet s size left t → length (values_of (blocks_of size left t))
     ≡ blocks_in left t * size

@@ -1,9 +1,7 @@
 -- FS codes and groups of bits are read as the values that they spell.
-use Rattle.std.proofs.Common.{◌≡◌, ℕ, suc, ◌-◌, ◌/◌, ◌^◌, ◌<◌, ◌≤◌, Bool, false, ltb, List, [], ◌∷◌, ◌++◌, length, map, Ok, refl, append_assoc, arith}
+use Rattle.std.proofs.Common.{◌≡◌, ℕ, ◌-◌, ◌/◌, ◌^◌, ◌<◌, ◌≤◌, Bool, List, [], ◌∷◌, ◌++◌, length, map, Ok, refl, append_assoc, arith}
 use Rattle.std.specs.List.{AllByRecursion}
-use Rattle.std.proofs.lemmas.Bool.{le-ltb}
-use Rattle.std.proofs.lemmas.Nat.{shr_split, pow_pos, le-div}
-use Rattle.std.proofs.Math.Nat.{div-mul-le_self}
+use Rattle.std.proofs.lemmas.Nat.{le-div}
 use Rattle.header_bits.specs.Bits.{bits_of, fundamental}
 use Rattle.block_adaptive.specs.Options.{quotient_codes, low_groups}
 use Rattle.block_adaptive.specs.Reading.{Site, fundamental_at, quotients_at, low_at, lows_at, split_at, words_at}
@@ -13,9 +11,7 @@ use Rattle.header_bits.proofs.Items.{all_weaker}
 
 pub fundamental_again : (site : Site) (most m : ℕ) (rest : List Bool) → m ≤ most → fundamental_at site most (fundamental m ++ rest) ≡ Ok (m, rest)
 unfolding fundamental_at
-fundamental_again site most m rest le =
-    let few : ltb most m ≡ false = le-ltb _ _ le in
-    rw (zeros_again site.count m (suc most) rest (omega arith), few) refl
+fundamental_again site most m rest le = grind (arith, zeros_again)
 
 pub quotients_again : (site : Site) (most k : ℕ) (vs : List ℕ) (rest : List Bool) → AllByRecursion (λ v. v / 2 ^ k ≤ most) vs
     → quotients_at site most (length vs) (quotient_codes k vs ++ rest) ≡ Ok (map (λ v. v / 2 ^ k) vs, rest)
@@ -25,9 +21,7 @@ quotients_again site most k (v ∷ vs) rest h = rw (append_assoc, fundamental_ag
 
 pub low_again : (site : Site) (k most v : ℕ) (rest : List Bool) → v ≤ most → low_at site k most (v / 2 ^ k) (bits_of k v ++ rest) ≡ Ok (v, rest)
 unfolding low_at
-low_again site k most v rest le =
-    let few : ltb most v ≡ false = le-ltb _ _ le in
-    rw (number_low _ _ _ _, shr_split _ _, few) refl
+low_again site k most v rest le = grind (arith, number_low)
 
 pub lows_again : (site : Site) (k most : ℕ) (vs : List ℕ) (rest : List Bool) → AllByRecursion (λ v. v ≤ most) vs
     → lows_at site k most (map (λ v. v / 2 ^ k) vs) (low_groups k vs ++ rest) ≡ Ok (vs, rest)
@@ -44,9 +38,4 @@ words_again site depth (v ∷ vs) rest h = rw (append_assoc, number_again _ _ v 
 pub split_again : (site : Site) (depth k : ℕ) (vs : List ℕ) (rest : List Bool) → AllByRecursion (λ v. v < 2 ^ depth) vs
     → split_at site k (2 ^ depth - 1) (length vs) ((quotient_codes k vs ++ low_groups k vs) ++ rest) ≡ Ok (vs, rest)
 unfolding split_at
-split_again site depth k vs rest h =
-    let most : ℕ = 2 ^ depth - 1 in
-    let small = all_weaker (λ v. v < 2 ^ depth) (λ v. v ≤ most) (λ v lt. omega arith) _ h in
-    let quotients = all_weaker (λ v. v ≤ most) (λ v. v / 2 ^ k ≤ most / 2 ^ k)
-    (λ v le. le-div (v / 2 ^ k) _ _ (pow_pos _) (omega (arith, div-mul-le_self v (2 ^ k)))) _ small in
-    rw (append_assoc, quotients_again _ _ _ _ _ quotients) (lows_again _ _ _ _ _ small)
+split_again site depth k vs rest h = grind (arith, all_weaker, append_assoc, le-div, lows_again, quotients_again)

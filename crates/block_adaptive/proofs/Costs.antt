@@ -1,5 +1,5 @@
 -- The lengths of data sets.
-use Rattle.std.proofs.Common.{◌≡◌, ℕ, zero, suc, ◌+◌, ◌*◌, ◌/◌, ◌^◌, ◌<◌, ◌≤◌, true, false, List, [], ◌∷◌, ◌++◌, length, drop, replicate, get_or, refl, ◌∙◌}
+use Rattle.std.proofs.Common.{◌≡◌, ℕ, zero, suc, ◌+◌, ◌*◌, ◌/◌, ◌^◌, ◌<◌, ◌≤◌, true, List, [], ◌∷◌, length, drop, replicate, get_or, refl, ◌∙◌}
 use Rattle.std.proofs.Common.{arith, add-one, drop-cons}
 use Rattle.std.proofs.lemmas.List.{length-append, length-replicate}
 use Rattle.block_adaptive.specs.declared.options.CodeSet.{CodeSet}
@@ -42,15 +42,11 @@ uncoded_cost s vs = length-append (replicate (width s) true) _ ∙ rw (length-re
 
 pub second_cost : (s : CodeSet) (vs : List ℕ) → cost s Second vs ≡ width s + 1 + length (pair_codes vs)
 unfolding option_text identifier coded
-second_cost s vs =
-    length-append (replicate (width s) false ++ true ∷ []) _ ∙ rw (length-append (replicate (width s) false) (true ∷ []), length-replicate _ false) refl
+second_cost s vs = grind arith
 
 pub split_cost : (s : CodeSet) (k : ℕ) (vs : List ℕ) → cost s (Split k) vs ≡ width s + length (quotient_codes k vs) + k * length vs
 unfolding option_text identifier coded
-split_cost s k vs =
-    let a = length-append (bits_of (width s) (k + 1)) (quotient_codes k vs ++ low_groups k vs) in
-    let b = length-append (quotient_codes k vs) (low_groups k vs) in
-    omega (arith, a, b, length-bits_of (width s) (k + 1), length-low_groups k vs)
+split_cost s k vs = grind (arith, length-append, length-bits_of, length-low_groups)
 
 pub pairs_step : (a b total whole : ℕ) (left middle rest : List ℕ) → left ≡ a ∷ middle → middle ≡ b ∷ rest → total + length (pair_codes left) ≡ whole
     → total + (pair_number a b + 1) + length (pair_codes rest) ≡ whole

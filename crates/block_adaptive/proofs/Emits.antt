@@ -1,5 +1,8 @@
 -- Writing texts, part after part.
-use Rattle.std.proofs.Common.{◌≡◌, ℕ, zero, suc, ◌+◌, ◌-◌, ◌*◌, ◌/◌, ◌%◌, ◌^◌, ◌<◌, ◌≤◌, false, List, [], ◌∷◌, ◌++◌, length, drop, replicate, get_or, refl, sym}
+use Rattle.std.proofs.lemmas.Grind.{common_steps}
+use Rattle.std.proofs.Math.Pow.{pow_mono}
+use Rattle.header_bits.proofs.WordTexts.{words_start, words_few, words_joined, words_end, words_below}
+use Rattle.std.proofs.Common.{◌≡◌, ℕ, ◌+◌, ◌-◌, ◌*◌, ◌/◌, ◌%◌, ◌^◌, ◌<◌, ◌≤◌, List, [], ◌++◌, length, drop, get_or, refl, sym, rules}
 use Rattle.std.proofs.Common.{ap, ◌∙◌, arith, add-one, drop-cons}
 use Rattle.std.proofs.lemmas.List.{length-append, drop_all}
 use Rattle.header_bits.specs.Bits.{bits_of, fundamental}
@@ -25,12 +28,7 @@ low_next k i block lt = rw (add-one, drop-cons block i 0 lt) refl
 pub pair_next : (i : ℕ) (block : List ℕ) → 2 * i + 1 < length block → pair_codes (drop (2 * i) block)
     ≡ fundamental (pair_number (get_or block (2 * i) 0) (get_or block (2 * i + 1) 0)) ++ pair_codes (drop (2 * (i + 1)) block)
 unfolding pair_codes
-pair_next i block lt =
-    let e : 2 * (i + 1) ≡ suc (suc (2 * i)) = omega arith in
-    let f : 2 * i + 1 ≡ suc (2 * i) = omega arith in
-    let second : suc (2 * i) < length block = omega arith in
-    let first : 2 * i < length block = omega arith in
-    rw (e, f, drop-cons block (2 * i) 0 first, drop-cons block (suc (2 * i)) 0 second) refl
+pair_next i block lt = search (rules, common_steps)
 
 pub quotient_bits : (k i : ℕ) (block : List ℕ) → i < length block → quotient_codes k (drop i block) ≡ bits_of (get_or block i 0 / 2 ^ k + 1) 1 ++ quotient_codes
     k (drop (i + 1) block)
@@ -64,11 +62,7 @@ identifier_split s k = refl
 
 pub identifier_zero : (s : CodeSet) → bits_of (width s + 1) 0 ≡ zero_identifier s
 unfolding zero_identifier
-identifier_zero s = bits_of_zero _ ∙ ends _
-  where
-    ends : (n : ℕ) → replicate (n + 1) false ≡ replicate n false ++ false ∷ []
-    ends zero = refl
-    ends (suc n) = (let e : suc n + 1 ≡ suc (n + 1) = omega arith in rw (e, ends n) refl)
+identifier_zero s = grind (arith, bits_of_zero)
 
 pub low_next_masked : (k i : ℕ) (block : List ℕ) → i < length block → low_groups k (drop i block) ≡ bits_of k (get_or block i 0 % 2 ^ k) ++ low_groups k
     (drop (i + 1) block)
@@ -79,3 +73,15 @@ low_next_masked k i block lt = low_next _ _ _ lt ∙ ap (λ bs. bs ++ low_groups
 pub run_text_cost : (s : CodeSet) (n : ℕ) → length (run_text s (fundamental n)) ≡ width s + n + 2
 run_text_cost s n =
     omega (arith, length-append (zero_identifier s) (fundamental n), length-fundamental n, ap length (identifier_zero s), length-bits_of (width s + 1) 0)
+
+-- ---- texts gathered in a word
+
+pub one_below : (n : ℕ) → 1 < 2 ^ (n + 1)
+one_below n = pow_mono {i = 1} {j = n + 1} (omega arith)
+
+-- what a loop that gathers them takes
+pub ruleset word_steps = (common_steps, words_start, words_few, words_joined, words_end, words_below)
+
+pub ruleset low_word_steps = (word_steps, low_next_masked, low_end)
+
+pub ruleset quotient_word_steps = (word_steps, quotient_bits, quotient_end, one_below)

@@ -1,9 +1,7 @@
 -- The low bits of values, four values at a time.
-use Rattle.std.proofs.Common.{◌≡◌, ℕ, ◌+◌, ◌-◌, ◌*◌, ◌/◌, ◌%◌, ◌^◌, ◌<◌, ◌≤◌, Bool, false, ltb, List, [], ◌∷◌, length, drop, Ok, refl, sym, subst, arith}
+use Rattle.std.proofs.Common.{◌≡◌, ℕ, ◌+◌, ◌-◌, ◌*◌, ◌/◌, ◌%◌, ◌^◌, ◌≤◌, Bool, List, [], ◌∷◌, length, drop, Ok, refl, sym, subst, arith}
 use Rattle.std.proofs.Common.{pow_pos}
 use Rattle.std.specs.List.{AllByRecursion}
-use Rattle.std.proofs.lemmas.Bool.{le-ltb}
-use Rattle.std.proofs.Math.Nat.{mod-lt}
 use Rattle.header_bits.specs.Windows.{IsAhead as IsFront}
 use Rattle.header_bits.proofs.Ahead.{number_ahead}
 use Rattle.block_adaptive.specs.Ahead.{joined_four}
@@ -18,13 +16,7 @@ use Rattle.header_bits.proofs.Fours.{Within}
 low_front : (site : Site) (k most q place next : ℕ) (bits : List Bool) (word : ℕ) → IsFront 57 bits word → place + k ≡ next → next ≤ 57
     → (q + 1) * 2 ^ k ≤ most + 1 → low_at site k most q (drop place bits) ≡ Ok (q * 2 ^ k + word / 2 ^ (64 - next) % 2 ^ k, drop next bits)
 unfolding low_at
-low_front site k most q place next bits word h e le within =
-    let here : ℕ = word / 2 ^ (64 - (place + k)) in
-    let lt : here % 2 ^ k < 2 ^ k = mod-lt _ (pow_pos _) in
-    let parts : (q + 1) * 2 ^ k ≡ q * 2 ^ k + 2 ^ k = omega arith in
-    let few : ltb most (q * 2 ^ k + here % 2 ^ k) ≡ false = le-ltb _ _ (omega arith) in
-    subst (λ (n : ℕ). low_at site k most q (drop place bits) ≡ Ok (q * 2 ^ k + word / 2 ^ (64 - n) % 2 ^ k, drop n bits)) e
-    (rw (number_ahead site.count place k 57 bits word h (omega arith), few) refl)
+low_front site k most q place next bits word h e le within = grind (arith, number_ahead, pow_pos)
 
 pub four_read : (site : Site) (k most : ℕ) (old new : List ℕ) (bits : List Bool) (word : ℕ) → IsFront 57 bits word → k ≤ 14 → length old ≡ 4
     → Within k (most + 1) old → ((a b c d : ℕ) → old ≡ a ∷ b ∷ c ∷ d ∷ [] → new ≡ joined_four k word a b c d) → lows_at site k most old bits

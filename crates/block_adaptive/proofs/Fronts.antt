@@ -1,5 +1,5 @@
 -- What a call of the reader of data sets means in the words of the lawful data sets.
-use Rattle.std.proofs.Common.{◌≡◌, ℕ, ◌*◌, ◌/◌, ◌%◌, ◌≤◌, Bool, List, ◌++◌, Result, Ok, Err, sym, ◌∙◌, arith, subst}
+use Rattle.std.proofs.Common.{◌≡◌, ℕ, ◌*◌, ◌/◌, ◌%◌, ◌≤◌, Bool, List, ◌++◌, Result, Ok, Err, sym, arith, subst}
 use Rattle.std.specs.Prelude.{IfOk, IfErr}
 use Rattle.cube_core.specs.declared.fault.Fault.{Fault}
 use Rattle.block_adaptive.specs.declared.options.CodeSet.{CodeSet}
@@ -28,8 +28,4 @@ pub none_is : (site : Site) {X : Type 0} (view : X → CodedDataSet) (s : CodeSe
     → Reads view result new (data_set_at site s size left old) → IfErr result (λ _. (t : CodedDataSet) (rest : List Bool) → IsCodedDataSet s size left t
     → old ≡ spelled s t ++ rest → ⊥)
 none_is site view s size left (Ok x) old new even h = tt
-none_is site view s size left (Err d) old new even h = λ t rest lawful parts.
-    let e = halved _ even in
-    let again = subst (λ (n : ℕ). data_set_at site s n left (spelled s t ++ rest) ≡ Ok (t, rest)) e
-    (data_set_again _ _ _ _ _ _ (subst (λ (n : ℕ). IsCodedDataSet s n left t) (sym e) lawful)) in
-    no_both d _ _ h ((λ i. data_set_at site s size left (parts i)) ∙ again)
+none_is site view s size left (Err d) old new even h = grind (arith, data_set_again, halved)

@@ -1,10 +1,12 @@
 -- Bits gathered behind a writer, and codes gathered in a word.
+use Rattle.std.proofs.lemmas.Nat.{and_mask, shr_below}
+use Rattle.std.proofs.lemmas.Grind.{common_steps}
 use Rattle.std.proofs.Common.{◌≡◌, ℕ, ◌+◌, ◌-◌, ◌*◌, ◌/◌, ◌%◌, ◌^◌, ◌<◌, ◌≤◌, Bool, List, [], ◌++◌, length, take, drop, bit_or, sym, ap, ◌∙◌, append_assoc}
-use Rattle.std.proofs.Common.{arith, refl}
+use Rattle.std.proofs.Common.{arith}
 use Rattle.std.proofs.lemmas.Grind.{flat_map-append}
 use Rattle.std.proofs.lemmas.List.{append-nil, length-append, length-take, length-drop, take-append-drop, drop-drop}
 use Rattle.header_bits.specs.Bits.{Written, bits_of, fundamental}
-use Rattle.header_bits.proofs.Numbers.{length-bits_of}
+use Rattle.header_bits.proofs.Numbers.{length-bits_of, bits_of-mod}
 use Rattle.header_bits.proofs.Words.{pushed_behind, two_parts}
 use Rattle.block_adaptive.specs.Options.{quotient_codes, low_groups}
 use Rattle.block_adaptive.specs.Taken.{Writes, Appends, behind}
@@ -15,43 +17,23 @@ use Rattle.block_adaptive.proofs.Costs.{length-low_groups}
 module _ {w : Written} {was : List Bool} where
   pub appends_part : (held part n bits : ℕ) → bits < 2 ^ n → held + n ≤ 64 → bits_of held part ≡ was → length was + n ≤ w.room
       → Appends w was w (bits_of (held + n) (bit_or (part * 2 ^ n % 2 ^ 64) bits)) (bits_of n bits)
-  appends_part held part n bits lt few is room =
-      let joined = pushed_behind _ _ _ _ lt few ∙ (λ i. is i ++ bits_of n bits) in
-      record {
-        writes = record {
-          appended = (λ i. w.bits ++ joined i) ∙ sym (append_assoc w.bits was (bits_of n bits));
-          spent = omega (arith, ap length joined, length-append was (bits_of n bits));
-        };
-        fits = omega (arith, ap length joined, length-append was (bits_of n bits), length-bits_of n bits);
-      }
+  appends_part held part n bits lt few is room = grind (arith, append_assoc, length-bits_of, pushed_behind)
 
   pub appends_word : {new : Written} → (held part n bits word : ℕ) → held < 64 → 64 - held ≤ n → bits_of held part ≡ was → length was + n ≤ w.room
       → bits_of 64 word ≡ bits_of held part ++ bits_of (64 - held) (bits / 2 ^ (n - (64 - held))) → new.bits ≡ w.bits ++ bits_of 64 word
       → w.room ≤ new.room + 64 → Appends w was new (bits_of (n - (64 - held)) bits) (bits_of n bits)
-  appends_word {new} held part n bits word lt le is room filled pushed spent =
-      let rest : List Bool = bits_of (n - (64 - held)) bits in
-      let high : List Bool = bits_of (64 - held) (bits / 2 ^ (n - (64 - held))) in
-      let long : length was ≡ held = ap length (sym is) ∙ length-bits_of held part in
-      let front : new.bits ≡ (w.bits ++ was) ++ high = pushed ∙ (λ i. w.bits ++ (filled ∙ ap (λ x. x ++ high) is) i) ∙ sym (append_assoc w.bits was high) in
-      record {
-        writes = record {
-          appended = (λ i. front i ++ rest) ∙ append_assoc (w.bits ++ was) high rest ∙ (λ i. (w.bits ++ was) ++ (two_parts held n bits lt le) i);
-          spent = omega (arith, spent, room, long, length-bits_of n bits, length-bits_of (n - (64 - held)) bits);
-        };
-        fits = omega (arith, spent, room, long, length-bits_of (n - (64 - held)) bits);
-      }
+  appends_word {new} held part n bits word lt le is room filled pushed spent = grind (arith, append_assoc, length-bits_of, two_parts)
+
+-- what an append takes, and what a flush does
+pub ruleset append_steps = (appends_part, appends_word, length-bits_of, shr_below)
+
+pub ruleset flush_steps = (common_steps, and_mask, bits_of-mod, length-bits_of)
 
 -- ---- texts that stand one behind another
 
 module _ {old mid new : Written} {was between now x y : List Bool} where
   pub appends_both : Appends old was mid between x → Appends mid between new now y → Appends old was new now (x ++ y)
-  appends_both first second = record {
-    writes = record {
-      appended = second.writes.appended ∙ (λ i. first.writes.appended i ++ y) ∙ append_assoc (old.bits ++ was) x y;
-      spent = omega (arith, first.writes.spent, second.writes.spent, length-append x y);
-    };
-    fits = second.fits;
-  }
+  appends_both first second = grind (arith, append_assoc, length-append)
 
 module _ {old mid : Written} {was between x : List Bool} where
   pub second_fits : (y : List Bool) → length was + length (x ++ y) ≤ old.room → Appends old was mid between x → length between + length y ≤ mid.room
@@ -63,10 +45,7 @@ first_fits x y n room h = omega (arith, length-append x y)
 -- the bits gathered are pushed
 module _ {old new last : Written} {now text : List Bool} where
   pub appends_end : Appends old [] new now text → Writes new last now → Writes old last text
-  appends_end h w = record {
-    appended = w.appended ∙ h.writes.appended ∙ (λ i. (append-nil old.bits) i ++ text);
-    spent = omega (arith, w.spent, h.writes.spent, h.fits);
-  }
+  appends_end h w = grind (arith, append-nil)
 
 -- ---- a text, part after part
 
@@ -77,9 +56,6 @@ pub record Goes (old : Written) (was : List Bool) (now : Written) (part whole le
   pub fits : length part ≤ now.room
 
 module _ {old : Written} {was : List Bool} where
-  pub goes_start : (whole : List Bool) → length was + length whole ≤ old.room → Goes old was old was whole whole
-  goes_start whole room = record { text = refl; room = omega arith; fits = omega (arith, room) }
-
   module _ {now : Written} {part whole left : List Bool} where
     pub goes_room : (text rest : List Bool) → length was + length whole ≤ old.room → Goes old was now part whole left → left ≡ text ++ rest
         → length part + length text ≤ now.room
@@ -120,6 +96,4 @@ unfolding low_groups
 lows_of_some k i n block = ap (low_groups k) (some_of i n block) ∙ flat_map-append (λ v. bits_of k v) _ _
 
 pub lows_length : (k i n : ℕ) (block : List ℕ) → i + n ≤ length block → length (low_groups k (take (i + n - i) (drop i block))) ≡ n * k
-lows_length k i n block le =
-    let size : length (take (i + n - i) (drop i block)) ≡ n = omega (arith, length-take (i + n - i) (drop i block), length-drop i block) in
-    length-low_groups _ _ ∙ rw size (omega arith)
+lows_length k i n block le = grind (arith, length-drop, length-low_groups, length-take)

@@ -1,8 +1,7 @@
 -- What a reader has in hand.
-use Rattle.std.proofs.Common.{◌≡◌, ℕ, ◌+◌, ◌-◌, ◌*◌, ◌<◌, ◌≤◌, Bool, List, [], ◌∷◌, ◌++◌, take, drop, None, Ok, ◌/◌, inl, refl, sym, ap, ◌∙◌, arith}
+use Rattle.std.proofs.Common.{◌≡◌, ℕ, ◌+◌, ◌-◌, ◌*◌, ◌<◌, ◌≤◌, Bool, List, [], ◌∷◌, ◌++◌, take, drop, None, Ok, ◌/◌, refl, sym, ap, ◌∙◌, arith}
 use Rattle.std.proofs.Common.{append_assoc, replicate}
 use Rattle.std.proofs.lemmas.List.{append-nil}
-use Rattle.std.proofs.lemmas.Nat.{mul-le}
 use Rattle.header_bits.specs.Bits.{Unread}
 use Rattle.block_adaptive.specs.Segments.{segment_rest}
 use Rattle.block_adaptive.specs.Settings.{IsSize, IsCut}
@@ -41,14 +40,7 @@ rest_small reference count i = omega arith
 
 -- a run in hand keeps the parts in range
 pub run_parts : (c : Cut) (i given counted n : ℕ) → AreParts c i given counted → n ≤ left_at c i → left_at c i ≤ 64 → AreParts c (i + n) c.size (n * c.size)
-run_parts c i given counted n h le most = record {
-  cut = h.cut;
-  block = omega (arith, rest_most c i, h.block);
-  inside = omega arith;
-  one = inl refl;
-  few = (let p = mul-le n c.size 64 64 (omega arith) (size_most c.size h.cut.size) in omega arith);
-  behind = omega arith;
-}
+run_parts c i given counted n h le most = grind (arith, rest_most)
 
 -- ---- data sets in hand
 
@@ -57,8 +49,7 @@ pub zeros_held : (v : Unpacked) (reader : Unread) (n : ℕ) (t : CodedDataSet) (
     → holding v t ≡ record v { block = v.block + n; held = values_of (replicate n (zeros v.cut.size)) }
     → data_set_at (site_of reader v.block) v.cut.set v.cut.size (left_at v.cut v.block) reader.left ≡ Ok (t, left)
     → next_data_set v reader ≡ Ok (record v { block = v.block + n; held = drop v.cut.size (take v.cut.size values) ++ zeros (n * v.cut.size) }, left)
-zeros_held v reader n t values left is e =
-    let held = run_in_hand n v.cut.size values in rw e (λ i. Ok ((is ∙ (λ j. record v { block = v.block + n; held = held j })) i, left))
+zeros_held v reader n t values left is e = grind (arith, run_in_hand)
 
 -- ---- one data set more
 
@@ -72,9 +63,7 @@ pub told_push : (c : Cut) (i j : ℕ) (data_sets : List CodedDataSet) (t : Coded
     → blocks_told c i (data_sets ++ t ∷ []) ≡ blocks_told c i data_sets ++ blocks_of c.size (left_at c j) t
 unfolding AreCodedDataSets blocks_told
 told_push c i j [] t h = rw h (append-nil (blocks_of c.size (left_at c j) t))
-told_push c i j (u ∷ data_sets) t h =
-    (λ m. blocks_of c.size (left_at c i) u ++ (told_push c (i + blocks_in (left_at c i) u) j data_sets t h.1) m)
-    ∙ sym (append_assoc (blocks_of c.size (left_at c i) u) (blocks_told c (i + blocks_in (left_at c i) u) data_sets) _)
+told_push c i j (u ∷ data_sets) t h = grind (arith, append_assoc, told_push c (i + blocks_in (left_at c i) u) j data_sets t h.1)
 
 -- ---- what was given
 
@@ -97,6 +86,3 @@ data_set_given v reader given bits left t cut more none h e =
         working = h.working;
       },
     )
-
-pub put_back : (v w : Unpacked) (held : List ℕ) → v ≡ w → record v { held = held } ≡ record w { held = held }
-put_back v w held e = ap (λ (u : Unpacked). record u { held = held }) e

@@ -1,10 +1,9 @@
 -- What a writer has taken, several numbers at a time.
-use Rattle.std.proofs.Common.{◌≡◌, ℕ, ◌+◌, ◌-◌, ◌^◌, ◌<◌, ◌≤◌, Bool, List, ◌++◌, length, take, drop, get_or, sum, refl, ap, ◌∙◌, inl, inr, arith, append_assoc}
+use Rattle.std.proofs.Common.{◌≡◌, ℕ, ◌+◌, ◌-◌, ◌^◌, ◌<◌, ◌≤◌, Bool, List, ◌++◌, length, take, drop, get_or, sum, refl, ◌∙◌, arith, append_assoc}
 use Rattle.std.proofs.Common.{[], ◌∷◌}
 use Rattle.std.specs.List.{AllByRecursion}
 use Rattle.std.specs.Prelude.{Result, Ok, Err, OnErr}
 use Rattle.std.proofs.Math.Seq.{take-add}
-use Rattle.std.proofs.lemmas.Bool.{cases_lt}
 use Rattle.std.proofs.lemmas.List.{length-append, length-take, length-drop, take_more, take-take}
 use Rattle.cube_core.specs.declared.fault.Fault.{Fault}
 use Rattle.block_adaptive.specs.DataSets.{Cut}
@@ -18,18 +17,7 @@ use Rattle.header_bits.proofs.Sums.{sum_append}
 
 pub stored_more : (c : Cut) (i counted total : ℕ) (held list : List ℕ) → AreStored c i counted total held → AllByRecursion (λ v. v < 2 ^ c.set.bits) list
     → length held + length list < c.size → (1 ≤ length list → i + counted < c.count) → AreStored c i counted (total + sum list) (held ++ list)
-stored_more c i counted total held list h range few more = record {
-  cut = h.cut;
-  block = h.block;
-  inside = h.inside;
-  more = λ some. elim (cases_lt 0 (length list)) [
-    | inl lt ↦ more (omega arith)
-    | inr none ↦ h.more (omega (arith, some, none, length-append held list))
-  ];
-  few = omega (arith, few, length-append held list);
-  range = all_append _ held list h.range range;
-  added = omega (arith, h.added, sum_append held list);
-}
+stored_more c i counted total held list h range few more = grind (arith, all_append, length-append, sum_append)
 
 -- ---- what was taken
 
@@ -75,6 +63,4 @@ module _ {old v : Packed} {list : List ℕ} {written now : List Bool} where
 
 pub held_counted : (v new : Packed) (list : List ℕ) (first count : ℕ) → first + count ≤ length list
     → new ≡ record v { held = v.held ++ take (first + count - first) (drop first list) } → taken_count new ≡ taken_count v + count
-held_counted v new list first count le is =
-    let many : List ℕ = take (first + count - first) (drop first list) in
-    ap taken_count is ∙ omega (arith, le, length-append v.held many, length-take (first + count - first) (drop first list), length-drop first list)
+held_counted v new list first count le is = grind (arith, length-append, length-drop, length-take)

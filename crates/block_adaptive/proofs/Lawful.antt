@@ -1,6 +1,6 @@
 -- The chosen data sets are lawful, and stand for the blocks.
 use Rattle.std.proofs.Common.{◌≡◌, ℕ, zero, suc, ◌+◌, ◌%◌, ◌<◌, ◌≤◌, Bool, true, false, cond, eqb, leb, ◌&&◌, List, [], ◌∷◌, length, take, drop, replicate}
-use Rattle.std.proofs.Common.{refl, sym, ◌∙◌, arith, lit<, inl, inr}
+use Rattle.std.proofs.Common.{refl, sym, ◌∙◌, arith, lit<}
 use Rattle.std.proofs.lemmas.Bool.{eqb-true, eqb-false}
 use Rattle.std.proofs.lemmas.List.{take-append-drop, length-drop}
 use Rattle.std.proofs.Math.Nat.{mod-lt}
@@ -12,7 +12,6 @@ use Rattle.block_adaptive.specs.Chosen.{chosen_option, is_zero, zero_blocks, dat
 use Rattle.block_adaptive.specs.Laws.{AreBlocks, ChosenIsLawful}
 use Rattle.block_adaptive.proofs.Tried.{option_is_least}
 use Rattle.header_bits.proofs.Items.{all_drop}
-use Rattle.header_bits.proofs.Fronts.{by_test}
 use Rattle.header_bits.proofs.Powers.{and_true}
 
 -- ---- runs
@@ -28,16 +27,13 @@ zeros_of (v ∷ vs) (suc size) e h =
 run_at_most : (n : ℕ) (bs : List (List ℕ)) → (zero_blocks n bs ≤ n) × (zero_blocks n bs ≤ length bs)
 run_at_most zero bs = (omega arith, omega arith)
 run_at_most (suc n) [] = (omega arith, omega arith)
-run_at_most (suc n) (b ∷ bs) =
-    let others = run_at_most n bs in
-    elim (by_test (is_zero b)) [ inl e ↦ rw e (omega (arith, others.0), omega (arith, others.1)) | inr e ↦ rw e (omega arith, omega arith) ]
+run_at_most (suc n) (b ∷ bs) = grind (arith, run_at_most n bs)
 
 run_is_zeros : (s : CodeSet) (size n : ℕ) (bs : List (List ℕ)) → AreBlocks s size bs → take (zero_blocks n bs) bs ≡ replicate (zero_blocks n bs)
     (replicate size 0)
 run_is_zeros s size zero bs h = refl
 run_is_zeros s size (suc n) [] h = refl
-run_is_zeros s size (suc n) (b ∷ bs) h =
-    elim (by_test (is_zero b)) [ inl e ↦ rw e (rw (zeros_of b size h.0.0 e, run_is_zeros s size n bs h.1) refl) | inr e ↦ rw e refl ]
+run_is_zeros s size (suc n) (b ∷ bs) h = grind (arith, zeros_of, run_is_zeros s size n bs h.1)
 
 -- ---- one data set
 
@@ -49,8 +45,7 @@ record Fine (s : CodeSet) (size left : ℕ) (bs : List (List ℕ)) (t : CodedDat
 
 pick : (s : CodeSet) (size left : ℕ) (b : List ℕ) (bs : List (List ℕ)) → 1 ≤ left → AreBlocks s size (b ∷ bs) → (k : ℕ) → k ≡ zero_blocks left (b ∷ bs)
     → (e f : Bool) → eqb k 0 ≡ e → (eqb k left && leb 5 k) ≡ f → Fine s size left (b ∷ bs) (cond e (Block (chosen_option s b) b) (cond f RestOfSegment (Run k)))
-pick s size left b bs pos h k is true f none test =
-    record { lawful = record { option = (option_is_least s b).0; whole = h.0.0; range = h.0.1 }; least = omega arith; most = omega arith; told = refl }
+pick s size left b bs pos h k is true f none test = grind (arith, option_is_least)
 pick s size left b bs pos h k is false true none test =
     let same : k ≡ left = eqb-true k left (and_true (eqb k left) (leb 5 k) test).0 in
     let most = run_at_most left (b ∷ bs) in

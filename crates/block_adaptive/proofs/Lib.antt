@@ -12,7 +12,6 @@ pub mod Bounded
 pub mod Lawful
 pub mod Takes
 pub mod Taken
-pub mod ForBlocks
 pub mod Fronts
 pub mod Looking
 pub mod Bounds

@@ -1,9 +1,8 @@
 -- Codes and low bits among the bits ahead.
-use Rattle.std.proofs.Common.{◌≡◌, ℕ, ◌+◌, ◌-◌, ◌*◌, ◌/◌, ◌^◌, ◌<◌, ◌≤◌, Bool, List, ◌++◌, length, drop, refl, sym, ap, subst, ◌∙◌, append_assoc, arith, Result}
+use Rattle.std.proofs.Common.{◌≡◌, ℕ, ◌+◌, ◌-◌, ◌*◌, ◌/◌, ◌^◌, ◌<◌, ◌≤◌, Bool, List, ◌++◌, length, drop, refl, sym, ap, subst, ◌∙◌, append_assoc, arith}
 use Rattle.std.proofs.Common.{Ok}
 use Rattle.std.proofs.lemmas.Nat.{shr_below}
 use Rattle.std.proofs.lemmas.List.{drop-drop, drop_at}
-use Rattle.cube_core.specs.declared.fault.Fault.{Fault}
 use Rattle.header_bits.specs.Bits.{bits_of, fundamental}
 use Rattle.header_bits.specs.Windows.{IsAhead as IsFront}
 use Rattle.header_bits.proofs.Numbers.{length-bits_of, no_bits, bits_of-fundamental}
@@ -51,10 +50,7 @@ code_word a j word top = record { few = omega (arith, word.few, top.inside); bel
 
 pub looked : (n word : ℕ) (left after : List Bool) → n ≤ 57 → n ≤ length left → left ≡ bits_of n word ++ after
     → IsAhead (record { peeked = n; known = n; word = word }) left
-looked n word left after most enough is =
-    let none : n - n ≡ 0 = omega arith in
-    let behind : drop n left ≡ after = ap (drop n) is ∙ drop_at _ _ _ (length-bits_of _ _) in
-    record { few = omega arith; most = most; enough = enough; bits = (λ i. drop (none i) left) ∙ is ∙ (λ i. bits_of n word ++ (sym behind) i) }
+looked n word left after most enough is = grind (arith, drop_at, length-bits_of)
 
 pub looked_word : (left : List Bool) (word : ℕ) → word < 2 ^ 64 → IsFront 57 left word → 57 ≤ length left
     → IsAhead (record { peeked = 57; known = 57; word = word / 2 ^ 7 }) left × IsWord (record { peeked = 57; known = 57; word = word / 2 ^ 7 })
@@ -69,18 +65,3 @@ looked_nowhere left = looked 0 0 left left (omega arith) (omega arith) ((λ i. (
 pub code_read : (site : Site) (most m : ℕ) (a b : Ahead) (left : List Bool) → m ≤ most → Uses a b (fundamental m) left
     → fundamental_at site most (drop (used a) left) ≡ Ok (m, drop (used b) left)
 code_read site most m a b left le h = rw h.text (fundamental_again site most m (drop (used b) left) le)
-
--- ---- a look behind what was used
-
-abbrev pub Reading : Type 0
-Reading = List Bool → Result (ℕ × List Bool) Fault
-
--- what is read out of the bits that were looked at anew
-pub read_fresh : (f : Reading) (m : ℕ) (was a b : Ahead) (old left : List Bool) → left ≡ drop (used was) old → used a ≡ 0
-    → f (drop (used a) left) ≡ Ok (m, drop (used b) left) → f (drop (used was) old) ≡ Ok (m, drop (used b) left)
-read_fresh f m was a b old left is unused e = ap f (sym is) ∙ (λ i. f (drop ((sym unused) i) left)) ∙ e
-
--- what is read by itself, before a look at the bits behind it
-pub read_alone : (f : Reading) (m : ℕ) (was b : Ahead) (old left after : List Bool) → left ≡ drop (used was) old → used b ≡ 0 → f left ≡ Ok (m, after)
-    → f (drop (used was) old) ≡ Ok (m, drop (used b) after)
-read_alone f m was b old left after is unused e = ap f (sym is) ∙ e ∙ (λ i. Ok (m, drop ((sym unused) i) after))

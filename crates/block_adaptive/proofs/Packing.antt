@@ -1,12 +1,12 @@
 -- What a writer has taken, block after block.
-use Rattle.std.proofs.Common.{◌≡◌, ℕ, zero, suc, ◌+◌, ◌-◌, ◌*◌, ◌^◌, ◌<◌, ◌≤◌, Bool, true, false, eqb, List, [], ◌∷◌, ◌++◌, length, take, drop, replicate, refl}
-use Rattle.std.proofs.Common.{sym, ap, subst, ◌∙◌, inl, inr, arith, append_assoc}
+use Rattle.std.proofs.Common.{◌≡◌, ℕ, zero, suc, ◌+◌, ◌-◌, ◌*◌, ◌^◌, ◌<◌, ◌≤◌, Bool, true, false, List, [], ◌∷◌, ◌++◌, length, take, drop, replicate, refl}
+use Rattle.std.proofs.Common.{sym, ap, ◌∙◌, inl, inr, arith, append_assoc}
 use Rattle.std.specs.List.{AllByRecursion}
-use Rattle.std.proofs.lemmas.Bool.{cases_lt, eqb-true, ne_eqb}
+use Rattle.std.proofs.lemmas.Bool.{cases_lt}
 use Rattle.std.proofs.lemmas.List.{append-nil, length-append, length-replicate, take_at, drop_at, take_all, replicate_more}
 use Rattle.block_adaptive.specs.declared.options.CodeSet.{CodeSet}
 use Rattle.block_adaptive.specs.Segments.{filled, first_blocks, blocks, block_count}
-use Rattle.block_adaptive.specs.DataSets.{CodedDataSet, Cut, left_at, spelled, spelling, values_of}
+use Rattle.block_adaptive.specs.DataSets.{Cut, left_at, spelling, values_of}
 use Rattle.block_adaptive.specs.Chosen.{chosen_from, chosen_data_sets, chosen_block_body, is_zero}
 use Rattle.block_adaptive.specs.Laws.{AreBlocks}
 use Rattle.block_adaptive.specs.Settings.{IsCut}
@@ -17,7 +17,6 @@ use Rattle.block_adaptive.proofs.Handed.{rest_most, size_least}
 use Rattle.header_bits.proofs.Items.{all_append, all_replicate}
 use Rattle.std.proofs.lemmas.Grind.{flat_map-append}
 use Rattle.header_bits.proofs.Places.{zeros}
-use Rattle.header_bits.proofs.Fronts.{by_test}
 use Rattle.std.proofs.lemmas.Bool.Decides.{nat_tests}
 use Rattle.header_bits.proofs.Intervals.{count_even, count_odd}
 
@@ -37,45 +36,17 @@ Step c start held b future after =
 
 zero_step : (c : Cut) (start held : ℕ) (b : List ℕ) (future : List (List ℕ)) → length b ≡ c.size → start + held + 1 + length future ≡ c.count → is_zero b ≡ true
     → Step c start held b future (zeros_after (left_at c start) held b)
-zero_step c start held b future len all is =
-    let z : b ≡ zeros c.size = zeros_of _ _ len is in
-    elim (by_test (eqb (held + 1) (left_at c start))) [
-      | inl last ↦
-          (let left : left_at c start ≡ suc held = (let e : held + 1 ≡ left_at c start = eqb-true _ _ last in omega arith) in
-          let e : held + 1 ≡ suc held = omega arith in
-          let whole : replicate held (zeros c.size) ++ b ∷ future ≡ replicate (suc held) (zeros c.size) ++ future =
-          (λ i. replicate held (zeros c.size) ++ z i ∷ future) ∙ one_more held (zeros c.size) future ∙ (λ i. replicate (e i) (zeros c.size) ++ future) in
-          let size : length (replicate (suc held) (zeros c.size) ++ future) ≡ suc held + length future =
-          omega (arith, length-append (replicate (suc held) (zeros c.size)) future, length-replicate (suc held) (zeros c.size)) in
-          let fuel = enough c c.count (suc c.count) start (replicate (suc held) (zeros c.size) ++ future) (omega arith) (omega arith) in
-          let next : start + (held + 1 - 0) ≡ start + suc held = omega arith in
-          rw (is, last) (rw (whole, fuel, run_to_end c c.count start held future left, next, left) refl))
-      | inr more ↦
-          (let next : start + (held + 1 - (held + 1)) ≡ start = omega arith in rw (is, more) (rw (z, one_more held (zeros c.size) future, next) refl))
-    ]
+zero_step c start held b future len all is = search (arith, enough, length-append, length-replicate, one_more, run_to_end, zeros_of)
 
 block_step : (c : Cut) (start held : ℕ) (b : List ℕ) (future : List (List ℕ)) → 1 ≤ c.reference → start + held + 1 + length future ≡ c.count → is_zero b ≡ false
     → (1 ≤ held → held < left_at c start) → chosen_from c c.count start (replicate held (zeros c.size) ++ b ∷ future)
     ≡ run_and_block c.set held b ++ chosen_from c c.count (start + (held + 1 - 0)) future
-block_step c start zero b future pos all is inside =
-    let fuel = enough c c.count (suc c.count) start (b ∷ future) (omega arith) (omega arith) in
-    let next : start + (0 + 1 - 0) ≡ start + 1 = omega arith in
-    rw (fuel, block_next c c.count start b future (rest_least c.reference c.count start pos (omega arith)) is, next) refl
-block_step c start (suc held) b future pos all is inside =
-    let size = held_length (suc held) c.size b future in
-    let fuel = enough c c.count (suc (suc c.count)) start (replicate (suc held) (zeros c.size) ++ b ∷ future) (omega arith) (omega arith) in
-    let next : start + (suc held + 1 - 0) ≡ start + suc held + 1 = omega arith in
-    let some : eqb (suc held) 0 ≡ false = ne_eqb _ _ (λ e. omega arith) in
-    let last = block_next c c.count (start + suc held) b future (rest_least c.reference c.count (start + suc held) pos (omega arith)) is in
-    rw (fuel, run_next c (suc c.count) start held b future (inside (omega arith)) is, last, next, some) refl
+block_step c start zero b future pos all is inside = grind (arith, block_next, enough, rest_least)
+block_step c start (suc held) b future pos all is inside = grind (arith, block_next, enough, held_length, rest_least, run_next)
 
 pub step : (c : Cut) (start held : ℕ) (b : List ℕ) (future : List (List ℕ)) → length b ≡ c.size → 1 ≤ c.reference → start + held + 1 + length future ≡ c.count
     → (1 ≤ held → held < left_at c start) → Step c start held b future (zeros_after (left_at c start) held b)
-step c start held b future len pos all inside =
-    elim (by_test (is_zero b)) [
-      | inl is ↦ zero_step c start held b future len all is
-      | inr is ↦ rw is (block_step c start held b future pos all is inside)
-    ]
+step c start held b future len pos all inside = grind (arith, block_step, zero_step)
 
 -- how many blocks of zeros are held is in range again
 pub after_in_range : (left held : ℕ) (b : List ℕ) → held < left → (zeros_after left held b ≤ held + 1) × (1 ≤ zeros_after left held b
@@ -91,41 +62,23 @@ after_start c start held b p = grind (arith, nat_tests)
 
 pub values_taken : (v : Packed) (taken : List ℕ) (bits : List Bool) (xs : List ℕ) → HasTaken v taken bits
     → HasTaken (record v { held = v.held ++ xs }) (taken ++ xs) bits
-values_taken v taken bits xs h = record {
-  blocks = h.blocks;
-  whole = h.whole;
-  numbers = (λ i. h.numbers i ++ xs) ∙ append_assoc (values_of h.blocks) v.held xs;
-  place = h.place;
-  inside = h.inside;
-  goes_on = h.goes_on;
-}
+values_taken v taken bits xs h = grind (arith, append_assoc)
 
-unfoldable pub block_taken : (v : Packed) (taken told : List ℕ) (bits : List Bool) (b : List ℕ) → IsCut v.cut → v.start + v.zeros < v.cut.count
+-- the blocks are those before and this one
+pub block_taken : (v : Packed) (taken told : List ℕ) (bits : List Bool) (b : List ℕ) → IsCut v.cut → v.start + v.zeros < v.cut.count
     → length b ≡ v.cut.size → AllByRecursion (λ x. x < 2 ^ v.cut.set.bits) b → (h : HasTaken v taken bits) → told ≡ values_of (h.blocks ++ b ∷ [])
-    → HasTaken (packed v b) told (bits ++ data_sets_packed v b)
-block_taken v taken told bits b cut more len range h is =
-    let c : Cut = v.cut in
-    let left : ℕ = left_at c v.start in
-    let after : ℕ = zeros_after left v.zeros b in
-    let some : 1 ≤ left = rest_least c.reference c.count v.start cut.reference.0 (omega arith) in
-    let inside : v.zeros < left = elim (cases_lt 0 v.zeros) [ inl lt ↦ h.inside (omega arith) | inr none ↦ omega arith ] in
-    let range_after = after_in_range left v.zeros b inside in
-    record {
-      blocks = h.blocks ++ b ∷ [];
-      whole = all_append _ h.blocks (b ∷ []) h.whole ((len, range), tt);
-      numbers = is ∙ sym (append-nil (values_of (h.blocks ++ b ∷ [])));
-      place = omega (arith, length-append h.blocks (b ∷ []), h.place, range_after.0);
-      inside = λ held. subst (λ (i : ℕ). after < left_at c i) (sym (after_start c v.start v.zeros b held)) (range_after.1 held);
-      goes_on = λ future all.
-          let count : length (h.blocks ++ b ∷ []) ≡ length h.blocks + 1 = length-append h.blocks (b ∷ []) in
-          let rest : v.start + v.zeros + 1 + length future ≡ c.count = omega (arith, h.place) in
-          let told-so = h.goes_on (b ∷ future) (omega arith) in
-          let next = step c v.start v.zeros b future len cut.reference.0 rest h.inside in
-          let behind : List CodedDataSet = chosen_from c c.count (v.start + (v.zeros + 1 - after)) (replicate after (zeros c.size) ++ future) in
-          (λ j. spelling c.set (chosen_from c c.count 0 ((append_assoc h.blocks (b ∷ []) future) j))) ∙ told-so ∙ (λ j. bits ++ spelling c.set (next j))
-          ∙ (λ j. bits ++ (flat_map-append (spelled c.set) (data_sets_after c.set left v.zeros b) behind) j)
-          ∙ sym (append_assoc bits (data_sets_packed v b) (spelling c.set behind));
-    }
+    → (after : HasTaken (packed v b) told (bits ++ data_sets_packed v b)) × (after.blocks ≡ h.blocks ++ b ∷ [])
+block_taken v taken told bits b cut more len range h is = (
+  record {
+    blocks = h.blocks ++ b ∷ [];
+    whole = all_append _ h.blocks (b ∷ []) h.whole ((len, range), tt);
+    numbers = is ∙ sym (append-nil _);
+    place = grind (arith, length-append, rest_least);
+    inside = grind (arith, rest_least);
+    goes_on = grind (arith, append_assoc, length-append, step);
+  },
+  refl,
+)
 
 -- ---- all blocks
 
@@ -175,11 +128,7 @@ blocks_even s size bs pos h =
 blocks_odd : (s : CodeSet) (size : ℕ) (bs : List (List ℕ)) (held : List ℕ) → 1 ≤ length held → length held ≤ size → AreBlocks s size bs
     → blocks size (values_of bs ++ held) ≡ bs ++ filled size held ∷ []
 unfolding blocks first_blocks
-blocks_odd s size bs held least most h =
-    let len : length (values_of bs ++ held) ≡ length bs * size + length held = omega (arith, length-append (values_of bs) held, values_length s size bs h) in
-    let all = first_of_blocks s size 1 bs held h in
-    let whole : take size held ≡ held = take_all size held most in
-    rw (len, count_odd size (length bs) (length held) least most) (rw whole at all)
+blocks_odd s size bs held least most h = grind (arith, count_odd, first_of_blocks, length-append, take_all, values_length)
 
 -- the chosen body of numbers whose blocks are known
 body_of_blocks : (v : Packed) (taken : List ℕ) (bs : List (List ℕ)) → block_count v.cut.size (length taken) ≡ v.cut.count → blocks v.cut.size taken ≡ bs
@@ -200,7 +149,6 @@ nothing_left v written cut none = λ taken bits h count.
 pub last_block : (v : Packed) (written now : List Bool) → IsCut v.cut → 1 ≤ length v.held → length v.held ≤ v.cut.size → v.start + v.zeros < v.cut.count
     → AllByRecursion (λ x. x < 2 ^ v.cut.set.bits) (filled v.cut.size v.held) → now ≡ written ++ data_sets_packed v (filled v.cut.size v.held)
     → EndsBody v written now
-unfolding block_taken
 last_block v written now cut least most more range is = λ taken bits h count.
     let c : Cut = v.cut in
     let b : List ℕ = filled c.size v.held in
@@ -211,8 +159,9 @@ last_block v written now cut least most more range is = λ taken bits h count.
     ∙ omega (arith, length-append (values_of h.blocks) v.held, values_length c.set _ h.blocks h.whole) in
     let count-is : length h.blocks + 1 ≡ c.count = sym (count_odd _ (length h.blocks) _ least most) ∙ ap (block_count c.size) (sym size) ∙ count in
     let blocks-are : length (h.blocks ++ b ∷ []) ≡ c.count = length-append h.blocks _ ∙ count-is in
-    let body = all_taken _ (values_of (h.blocks ++ b ∷ [])) (bits ++ data_sets_packed v b) after blocks-are
-    ∙ sym (body_of_blocks v taken (h.blocks ++ b ∷ []) count all blocks-are) in (data_sets_packed v b, is, body)
+    let body = all_taken _ (values_of (h.blocks ++ b ∷ [])) (bits ++ data_sets_packed v b) after.0 (ap length after.1 ∙ blocks-are)
+    ∙ ap (λ bs. spelling c.set (chosen_from c c.count 0 bs)) after.1 ∙ sym (body_of_blocks v taken (h.blocks ++ b ∷ []) count all blocks-are) in
+    (data_sets_packed v b, is, body)
 
 -- ---- numbers more
 
@@ -225,7 +174,7 @@ pub values_packed : (v new : Packed) (written now : List Bool) (xs : List ℕ) �
 values_packed v new written now xs cut more len range data_sets is = λ taken bits h.
     let told : taken ++ xs ≡ values_of (h.blocks ++ (v.held ++ xs) ∷ []) = ap (λ ns. ns ++ xs) h.numbers ∙ append_assoc (values_of h.blocks) _ _
     ∙ ap (λ ns. values_of h.blocks ++ ns) (sym (append-nil _)) ∙ sym (flat_map-append _ h.blocks _) in
-    (data_sets_packed v (v.held ++ xs), data_sets, rw is (block_taken _ taken (taken ++ xs) bits _ cut more len range h told))
+    (data_sets_packed v (v.held ++ xs), data_sets, rw is (block_taken _ taken (taken ++ xs) bits _ cut more len range h told).0)
 
 -- ---- the values held
 

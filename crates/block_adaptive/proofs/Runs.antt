@@ -1,4 +1,5 @@
 -- Several numbers that a reader gives at once.
+use Rattle.std.proofs.Common.{arith}
 use Rattle.std.proofs.Common.{◌≡◌, ℕ, ◌+◌, ◌^◌, ◌<◌, Bool, List, [], ◌∷◌, ◌++◌, Ok, Err, refl, sym, ap, subst, ◌∙◌, append_assoc, ◌*◌, pow_pos, replicate}
 use Rattle.std.specs.List.{AllByRecursion}
 use Rattle.std.proofs.lemmas.List.{append-nil}
@@ -45,9 +46,7 @@ list_range v given list bits h =
 
 pub values_given : (v new : Unpacked) (given list : List ℕ) (bits : List Bool) → HasGiven v given bits → GivesFront v list new
     → HasGiven new (given ++ list) bits
-values_given v new given list bits h front =
-    let is : given ++ v.held ≡ (given ++ list) ++ new.held = (λ i. given ++ front.0 i) ∙ sym (append_assoc given list new.held) in
-    rw front.1 (record { data_sets = h.data_sets; lawful = h.lawful; text = h.text; told = h.told ∙ is; working = h.working })
+values_given v new given list bits h front = grind (arith, append_assoc)
 
 -- out of what was in hand
 pub held_run : (v new : Unpacked) (list : List ℕ) (unread : List Bool) → GivesFront v list new → (given : List ℕ) (bits : List Bool) → HasGiven v given bits
@@ -78,9 +77,7 @@ taken_run v held new reader left list cut more none e front given bits h =
 
 -- the refusal that was met is as before
 pub taken_kept : (v held : Unpacked) (reader : Unread) (left : List Bool) → next_data_set v reader ≡ Ok (held, left) → held.refused ≡ v.refused
-taken_kept v held reader left e =
-    let a = bind_ok _ (λ t. Ok (holding v t.0, t.1)) _ e in
-    (λ i. ((sym (ok_is (holding v a.0.0, a.0.1) _ a.2)) i).0.refused)
+taken_kept v held reader left e = grind arith
 
 -- one value
 pub gives_next : (old new : Unpacked) (reader : Unread) (value : ℕ) (left : List Bool) → ((given : List ℕ) (bits : List Bool) → HasGiven old given bits

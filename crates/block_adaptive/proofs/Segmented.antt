@@ -1,8 +1,8 @@
 -- Segments are as many as are counted, and each has a data set of three bits at least.
 use Rattle.std.proofs.Common.{◌≡◌, ℕ, min, cond, add-zero, zero, suc, ◌+◌, ◌-◌, ◌*◌, ◌/◌, ◌%◌, ◌<◌, ◌≤◌, true, false, leb, List, [], ◌∷◌, ◌++◌, length}
-use Rattle.std.proofs.Common.{replicate, sum, refl, ap, subst, ◌∙◌, inl, inr, arith}
+use Rattle.std.proofs.Common.{sum, refl, ap, subst, ◌∙◌, inl, inr, arith}
 use Rattle.std.proofs.lemmas.Bool.{cases_lt, le-leb, lt-leb}
-use Rattle.std.proofs.lemmas.List.{length-append, length-replicate}
+use Rattle.std.proofs.lemmas.List.{length-append}
 use Rattle.std.proofs.lemmas.Nat.{mod-mul-add, div-add-mod', mod_below, mul-le}
 use Rattle.header_bits.specs.Bits.{fundamental}
 use Rattle.block_adaptive.specs.declared.options.CodeSet.{CodeSet}
@@ -15,10 +15,9 @@ use Rattle.block_adaptive.specs.Laws.{SegmentsAreCounted, NoShorterBody}
 use Rattle.block_adaptive.proofs.Bodies.{data_set_most, data_sets_few, data_set_some}
 use Rattle.block_adaptive.proofs.Costs.{uncoded_cost, second_cost, split_cost, quotients_least, pairs_more}
 use Rattle.block_adaptive.proofs.Again.{width_least}
-use Rattle.block_adaptive.proofs.Bounded.{no_splits}
 use Rattle.block_adaptive.proofs.Lawful.{rest_least}
 use Rattle.header_bits.proofs.Sums.{sum_cons}
-use Rattle.header_bits.proofs.Intervals.{begun, begun_none, few_at, one_at, begun_within}
+use Rattle.header_bits.proofs.Intervals.{begun, begun_none, few_at, begun_within}
 use Rattle.header_bits.proofs.Zeros.{length-fundamental}
 
 -- ---- a segment's length from a place on
@@ -31,9 +30,7 @@ begun_few r n i k pos le = omega (arith, begun_within r i k pos (omega arith), f
 -- a whole segment begins one
 begun_one : (r n i : ℕ) → 1 ≤ r → i < n → i % r % 64 ≡ 0 → begun r (i + segment_rest r n i) ≡ begun r i + 1
 unfolding segment_rest
-begun_one r n i pos lt border =
-    let k : ℕ = min (64 - i % r % 64) (min (r - i % r) (n - i)) in
-    omega (arith, begun_within r i k pos (omega arith), one_at (i % r) k border (rest_least r n i pos lt) (omega arith))
+begun_one r n i pos lt border = grind (arith, begun_within)
 
 -- and ends at the last block, or where another begins
 border_next : (r n i : ℕ) → 1 ≤ r → i < n → i % r % 64 ≡ 0 → i + segment_rest r n i < n → (i + segment_rest r n i) % r % 64 ≡ 0
@@ -116,17 +113,11 @@ pairs_least (v ∷ vs) some = pairs_some v vs
 
 -- a set with a split-sample option has identifiers of two bits at least
 two_wide : (s : CodeSet) (k : ℕ) → k < splits s → 2 ≤ width s
-two_wide s k lt =
-    elim (cases_lt _ _) [
-      | inl wide ↦ wide
-      | inr narrow ↦ (let one : width s ≡ 1 = omega (arith, width_least s) in absurd (omega (arith, no_splits s one)))
-    ]
+two_wide s k lt = grind arith
 
 run_bits : (s : CodeSet) (m : ℕ) → 3 ≤ length (zero_identifier s ++ fundamental m)
 unfolding zero_identifier
-run_bits s m =
-    let front = length-append (replicate (width s) false) (false ∷ []) in
-    omega (arith, length-append (zero_identifier s) (fundamental m), front, length-replicate (width s) false, length-fundamental m, width_least s)
+run_bits s m = grind (arith, length-append, length-fundamental)
 
 data_set_bits : (s : CodeSet) (size left : ℕ) (t : CodedDataSet) → 1 ≤ s.bits → 2 ≤ size → IsCodedDataSet s size left t → 3 ≤ length (spelled s t)
 unfolding spelled run_code rest_code

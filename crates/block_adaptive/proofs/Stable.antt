@@ -1,6 +1,6 @@
 -- Bits behind those that were read change nothing, but for a data set that they end too early.
-use Rattle.std.proofs.Common.{◌≡◌, ◌⊎◌, ◌+◌, ◌-◌, ◌*◌, ◌/◌, ◌^◌, ℕ, max, cond, eqb, leb, ltb, zero, suc, Bool, List, [], ◌∷◌, ◌++◌, Result, Ok, Err, refl, ap}
-use Rattle.std.proofs.Common.{◌∙◌, inl, inr}
+use Rattle.std.proofs.Common.{◌≡◌, ◌⊎◌, ◌+◌, ◌-◌, ◌*◌, ◌/◌, ◌^◌, ℕ, eqb, ltb, zero, suc, Bool, List, [], ◌∷◌, ◌++◌, Result, Ok, Err, refl, ap}
+use Rattle.std.proofs.Common.{◌∙◌, inl, inr, arith}
 use Rattle.cube_core.specs.declared.fault.Fault.{Fault}
 use Rattle.cube_core.specs.declared.fault.Fault.TheVariants.{Truncated}
 use Rattle.header_bits.proofs.Longer.{Goes, goes_then, goes_if, goes_guard, number_goes, zeros_goes}
@@ -8,7 +8,7 @@ use Rattle.block_adaptive.specs.declared.options.CodeSet.{CodeSet}
 use Rattle.block_adaptive.specs.declared.options.Choice.{Choice}
 use Rattle.block_adaptive.specs.Options.{width, greatest_value}
 use Rattle.block_adaptive.specs.DataSets.{CodedDataSet}
-use Rattle.block_adaptive.specs.Reading.{Site, pair_sum, fundamental_at, quotients_at, low_at, lows_at, split_at, words_at, pair_of, pairs_at, run_at}
+use Rattle.block_adaptive.specs.Reading.{Site, fundamental_at, quotients_at, low_at, lows_at, split_at, words_at, pair_of, pairs_at, run_at}
 use Rattle.block_adaptive.specs.Reading.{block_read, data_set_at}
 use Rattle.block_adaptive.specs.Laws.{FaultIsNoDataSet}
 use Rattle.block_adaptive.proofs.Again.{data_set_again}
@@ -46,10 +46,7 @@ module _ (s : Site) (more : List Bool) where
 
   pair_goes : (most m : ℕ) (rest : List Bool) → Goes s.count more (pair_of s most m rest) (pair_of s most m (rest ++ more))
   unfolding pair_of
-  pair_goes most m rest =
-      let sum : ℕ = pair_sum most m in
-      let b : ℕ = m - sum * (sum + 1) / 2 in
-      goes_guard s.count more (ltb most b) _ _ _ (goes_guard s.count more (ltb most (sum - b)) _ _ _ refl)
+  pair_goes most m rest = grind arith
 
   pairs_goes : (most n : ℕ) (bits : List Bool) → Goes s.count more (pairs_at s most n bits) (pairs_at s most n (bits ++ more))
   unfolding pairs_at
@@ -62,9 +59,7 @@ module _ (s : Site) (more : List Bool) where
 
   run_goes : (left : ℕ) (bits : List Bool) → Goes s.count more (run_at s left bits) (run_at s left (bits ++ more))
   unfolding run_at
-  run_goes left bits =
-      goes_then _ _ _ _ _ (zeros_goes _ _ more bits) (λ z rest. goes_guard s.count more (ltb (max 4 left) z) _ _ _
-      (goes_if s.count more (eqb z 4) _ _ _ _ refl (goes_guard s.count more (ltb left (cond (leb z 3) (z + 1) z)) _ _ _ refl)))
+  run_goes left bits = grind (arith, goes_then, zeros_goes)
 
   block_goes : (o : Choice) (r t : Result (List ℕ × List Bool) Fault) → Goes s.count more r t → Goes s.count more (block_read o r) (block_read o t)
   block_goes o r t h = goes_then _ _ _ _ _ h (λ vs rest. refl)

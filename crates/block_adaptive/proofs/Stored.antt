@@ -1,6 +1,5 @@
 -- The parts of a writer, behind a whole block.
-use Rattle.std.proofs.Common.{ℕ, ◌+◌, ◌-◌, ◌<◌, ◌≤◌, ◌*◌, ◌^◌, List, [], length, refl, sym, subst, inl, inr, arith, lit<}
-use Rattle.std.proofs.lemmas.Bool.{cases_lt}
+use Rattle.std.proofs.Common.{ℕ, ◌+◌, ◌-◌, ◌<◌, ◌≤◌, ◌*◌, ◌^◌, List, [], length, arith, lit<}
 use Rattle.std.proofs.lemmas.Nat.{mul-le}
 use Rattle.std.proofs.Math.Nat.{pow-le-pow_right}
 use Rattle.block_adaptive.specs.Segments.{segment_rest}
@@ -13,31 +12,16 @@ use Rattle.block_adaptive.proofs.Packing.{after_in_range, after_start}
 use Rattle.header_bits.proofs.Sums.{sum_most}
 
 -- the blocks of zeros that are held are fewer than the segment has left
-pub held_inside : (c : Cut) (i zeros total : ℕ) (held : List ℕ) → AreStored c i zeros total held → i + zeros < c.count → zeros < left_at c i
-held_inside c i zeros total held h more =
-    elim (cases_lt 0 zeros) [
-      | inl lt ↦ h.inside (omega arith)
-      | inr le ↦ (let some : 1 ≤ left_at c i = rest_least c.reference c.count i h.cut.reference.0 (omega arith) in omega arith)
-    ]
+pub held_inside : (c : Cut) (i counted total : ℕ) (held : List ℕ) → AreStored c i counted total held → i + counted < c.count → counted < left_at c i
+held_inside c i counted total held h more = grind (arith, rest_least)
 
-pub held_few : (c : Cut) (i zeros total : ℕ) (held : List ℕ) → AreStored c i zeros total held → i + zeros < c.count → zeros < 64
+pub held_few : (c : Cut) (i counted total : ℕ) (held : List ℕ) → AreStored c i counted total held → i + counted < c.count → counted < 64
 unfolding segment_rest
-held_few c i zeros total held h more = (let inside = held_inside c i zeros total held h more in omega arith)
+held_few c i counted total held h more = (let inside = held_inside c i counted total held h more in omega arith)
 
-pub stored_after : (c : Cut) (i zeros total : ℕ) (held block : List ℕ) → AreStored c i zeros total held → i + zeros < c.count
-    → AreStored c (i + (zeros + 1 - zeros_after (left_at c i) zeros block)) (zeros_after (left_at c i) zeros block) 0 []
-stored_after c i zeros total held block h more =
-    let after : ℕ = zeros_after (left_at c i) zeros block in
-    let range = after_in_range (left_at c i) zeros block (held_inside c i zeros total held h more) in
-    record {
-      cut = h.cut;
-      block = omega (arith, range.0);
-      inside = λ some. subst (λ (k : ℕ). after < left_at c k) (sym (after_start c i zeros block some)) (range.1 some);
-      more = λ some. absurd (omega arith);
-      few = omega (arith, size_least c.size h.cut.size);
-      range = tt;
-      added = refl;
-    }
+pub stored_after : (c : Cut) (i counted total : ℕ) (held block : List ℕ) → AreStored c i counted total held → i + counted < c.count
+    → AreStored c (i + (counted + 1 - zeros_after (left_at c i) counted block)) (zeros_after (left_at c i) counted block) 0 []
+stored_after c i counted total held block h more = grind (arith, after_in_range, after_start, held_inside, rest_least, size_least)
 
 -- what the values held add up to
 pub total_few : (c : Cut) (i counted total : ℕ) (held : List ℕ) → AreStored c i counted total held → total ≤ 64 * 65536

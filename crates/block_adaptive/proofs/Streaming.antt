@@ -1,14 +1,13 @@
 -- The chosen data sets, block after block, as a writer sees them.
 use Rattle.std.proofs.Common.{◌≡◌, ℕ, zero, suc, ◌+◌, ◌<◌, ◌≤◌, Bool, true, false, cond, eqb, leb, ◌&&◌, List, [], ◌∷◌, ◌++◌, length, drop, replicate, refl, ap}
-use Rattle.std.proofs.Common.{inl, inr, sym, ◌∙◌}
-use Rattle.std.proofs.Common.{arith, eq-eqb}
-use Rattle.std.proofs.lemmas.Bool.{eqb-false, eq-eqb, ne_eqb}
+use Rattle.std.proofs.Common.{sym, ◌∙◌}
+use Rattle.std.proofs.Common.{arith}
+use Rattle.std.proofs.lemmas.Bool.{eqb-false, ne_eqb}
 use Rattle.std.proofs.lemmas.List.{length-drop, length-replicate, drop_at}
 use Rattle.block_adaptive.specs.declared.options.CodeSet.{CodeSet}
 use Rattle.block_adaptive.specs.Segments.{segment_rest}
 use Rattle.block_adaptive.specs.DataSets.{CodedDataSet, Block, Run, RestOfSegment, Cut, blocks_in}
 use Rattle.block_adaptive.specs.Chosen.{chosen_option, is_zero, zero_blocks, data_set_of, chosen_from}
-use Rattle.header_bits.proofs.Fronts.{by_test}
 use Rattle.std.proofs.lemmas.Bool.Decides.{nat_tests}
 
 -- a data set stands for a block or more
@@ -57,9 +56,7 @@ run_whole size (suc left) bs = rw (zero_is size, run_whole size left bs) refl
 pub block_next : (c : Cut) (n i : ℕ) (x : List ℕ) (bs : List (List ℕ)) → 1 ≤ segment_rest c.reference c.count i → is_zero x ≡ false
     → chosen_from c (suc n) i (x ∷ bs) ≡ Block (chosen_option c.set x) x ∷ chosen_from c n (i + 1) bs
 unfolding chosen_from
-block_next c n i x bs pos h =
-    let none : zero_blocks (segment_rest c.reference c.count i) (x ∷ bs) ≡ 0 = run_broken 0 (segment_rest c.reference c.count i) 0 x bs h (omega arith) in
-    rw none refl
+block_next c n i x bs pos h = grind arith
 
 -- zeros before it, fewer than the segment's rest, are a run
 pub run_next : (c : Cut) (n i z : ℕ) (x : List ℕ) (bs : List (List ℕ)) → suc z < segment_rest c.reference c.count i → is_zero x ≡ false
@@ -76,9 +73,4 @@ run_next c n i z x bs lt h =
 pub run_to_end : (c : Cut) (n i z : ℕ) (bs : List (List ℕ)) → segment_rest c.reference c.count i ≡ suc z
     → chosen_from c (suc n) i (replicate (suc z) (replicate c.size 0) ++ bs) ≡ cond (leb 5 (suc z)) RestOfSegment (Run (suc z)) ∷ chosen_from c n (i + suc z) bs
 unfolding chosen_from
-run_to_end c n i z bs is =
-    let k = run_whole c.size (suc z) bs in
-    let a : eqb (suc z) 0 ≡ false = ne_eqb _ _ (λ e. omega arith) in
-    let b : eqb (suc z) (suc z) ≡ true = eq-eqb (suc z) (suc z) refl in
-    let behind = drop_at (replicate z (replicate c.size 0)) bs z (length-replicate z (replicate c.size 0)) in
-    rw (is, k, a, b) (elim (by_test (leb 5 (suc z))) [ inl f ↦ rw (f, behind) refl | inr f ↦ rw (f, behind) refl ])
+run_to_end c n i z bs is = grind (arith, drop_at, length-replicate, run_whole, zero_is)

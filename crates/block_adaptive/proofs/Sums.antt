@@ -1,7 +1,7 @@
 -- The sum of a block's values, and the sums of their quotients.
-use Rattle.std.proofs.Common.{◌≡◌, ℕ, zero, suc, ◌+◌, ◌*◌, ◌/◌, ◌^◌, true, false, eqb, List, [], ◌∷◌, length, sum, refl, arith}
+use Rattle.std.proofs.lemmas.Grind.{common_steps}
+use Rattle.std.proofs.Common.{◌≡◌, ℕ, zero, suc, ◌+◌, ◌*◌, ◌/◌, ◌^◌, true, false, List, [], ◌∷◌, length, sum, refl, arith}
 use Rattle.std.proofs.lemmas.List.Sums.{sum_by-cons}
-use Rattle.std.proofs.lemmas.Bool.{ne_eqb}
 use Rattle.block_adaptive.specs.declared.options.CodeSet.{CodeSet}
 use Rattle.block_adaptive.specs.declared.options.Choice.TheVariants.{Split}
 use Rattle.block_adaptive.specs.Options.{width, quotient_codes, quotient_sum, cost}
@@ -36,6 +36,7 @@ zero_block (suc v ∷ vs) total is none = absurd (omega (arith, sum_cons (suc v)
 pub some_block : (vs : List ℕ) (total : ℕ) → total ≡ sum vs → (total ≡ 0 → ⊥) → is_zero vs ≡ false
 some_block [] total is some = absurd (some is)
 some_block (zero ∷ vs) total is some = some_block vs total is some
-some_block (suc v ∷ vs) total is some =
-    let front : eqb (suc v) 0 ≡ false = ne_eqb (suc v) _ (λ e. absurd (omega arith)) in
-    rw front refl
+some_block (suc v ∷ vs) total is some = grind arith
+
+-- what tells a block of zeros by its sum
+pub ruleset zero_tests = (common_steps, zero_block, some_block)

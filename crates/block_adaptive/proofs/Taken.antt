@@ -1,7 +1,7 @@
 -- A data set that is read is lawful, and the bits begin with its spelling.
 use Rattle.std.proofs.Common.{◌≡◌, ℕ, zero, suc, ◌+◌, ◌-◌, ◌*◌, ◌/◌, ◌^◌, ◌<◌, ◌≤◌, ◌⊎◌, max, Bool, true, false, cond, eqb, leb, ltb, List, [], ◌∷◌, ◌++◌}
 use Rattle.std.proofs.Common.{replicate, Result, Ok, refl, sym, ap, subst, ◌∙◌, inl, inr, append_assoc, arith}
-use Rattle.std.proofs.lemmas.Bool.{ltb-false, cases_lt, eqb-true, eqb-false, le-leb, lt-leb}
+use Rattle.std.proofs.lemmas.Bool.{ltb-false, eqb-true, eqb-false}
 use Rattle.std.proofs.lemmas.Nat.{pow_pos}
 use Rattle.cube_core.specs.declared.fault.Fault.{Fault}
 use Rattle.block_adaptive.specs.declared.options.CodeSet.{CodeSet}
@@ -9,18 +9,16 @@ use Rattle.block_adaptive.specs.declared.options.Choice.{Choice}
 use Rattle.block_adaptive.specs.declared.options.Choice.TheVariants.{Uncoded, Second, Split}
 use Rattle.header_bits.specs.Bits.{bits_of, fundamental}
 use Rattle.block_adaptive.specs.Options.{width, greatest_value, IsOption, zero_identifier, identifier, coded, option_text, pair_codes, pair_number}
-use Rattle.block_adaptive.specs.DataSets.{CodedDataSet, Block, Run, RestOfSegment, run_code, rest_code, spelled, IsCodedDataSet}
+use Rattle.block_adaptive.specs.DataSets.{CodedDataSet, Run, RestOfSegment, run_code, rest_code, spelled, IsCodedDataSet}
 use Rattle.header_bits.specs.Reading.{number_at, zeros_at}
 use Rattle.block_adaptive.specs.Reading.{Site, greatest, pair_sum, pair_of, pairs_at, run_at, data_set_at, block_read}
 use Rattle.block_adaptive.specs.Laws.{DataSetIsTaken}
 use Rattle.header_bits.proofs.Reading.{ok_is, number_takes}
-use Rattle.header_bits.proofs.Fronts.{bind_ok, cond_ok, guard_ok, by_test, bits_of_ones, zeros_takes}
+use Rattle.header_bits.proofs.Fronts.{bind_ok, cond_ok, guard_ok, bits_of_ones, zeros_takes}
 use Rattle.header_bits.proofs.Numbers.{bits_of_zero}
 use Rattle.header_bits.proofs.Each.{TakesList}
 use Rattle.block_adaptive.proofs.Takes.{fundamental_takes, words_takes, split_takes}
 use Rattle.header_bits.proofs.Items.{all_weaker}
-use Rattle.header_bits.proofs.Sums.{triangle_step}
-use Rattle.header_bits.proofs.Powers.{leb-false, leb-true}
 
 -- ---- runs
 
@@ -30,13 +28,8 @@ TakesRun left bits x = ((n : ℕ) × (x.0 ≡ Run n) × (bits ≡ run_code n ++ 
 -- the run that so many zeros name
 named : (z : ℕ) (c : Bool) → leb z 3 ≡ c → (z ≡ 4 → ⊥) → (run_code (cond c (z + 1) z) ≡ fundamental z) × (1 ≤ cond c (z + 1) z)
 unfolding run_code
-named z true three other =
-    let few : z ≤ 3 = leb-true _ _ three in
-    let small : leb (z + 1) 4 ≡ true = le-leb _ _ (omega arith) in
-    let back : z + 1 - 1 ≡ z = omega arith in (rw (small, back) refl, omega arith)
-named z false three other =
-    let many : 3 < z = leb-false _ _ three in
-    let large : leb z 4 ≡ false = lt-leb _ _ (omega arith) in (rw large refl, omega arith)
+named z true three other = grind arith
+named z false three other = grind arith
 
 run_takes : (site : Site) (left : ℕ) (bits : List Bool) (x : CodedDataSet × List Bool) → run_at site left bits ≡ Ok x → TakesRun left bits x
 unfolding run_at rest_code
@@ -61,36 +54,12 @@ run_takes site left bits x e =
 greatest_passes : (f : ℕ → Bool) (n : ℕ) → f 0 ≡ true → (f (greatest f n) ≡ true) × (greatest f n ≤ n) × ((m : ℕ) → greatest f n < m → m ≤ n → f m ≡ false)
 unfolding greatest
 greatest_passes f zero h = (h, omega arith, λ m a b. absurd (omega arith))
-greatest_passes f (suc n) h =
-    let k = greatest_passes f n h in
-    elim (by_test (f (suc n))) [
-      | inl e ↦ rw e (e, omega arith, λ m a b. absurd (omega arith))
-      | inr e ↦
-          (let above : (m : ℕ) → greatest f n < m → m ≤ suc n → f m ≡ false =
-          λ m a b. elim (cases_lt m (suc n)) [ inl lt ↦ k.2 m a (omega arith) | inr ge ↦ (let same : m ≡ suc n = omega arith in rw same e) ] in
-          rw e (k.0, omega (arith, k.1), above))
-    ]
+greatest_passes f (suc n) h = grind (arith, greatest_passes f n h)
 
 pair_takes : (site : Site) (most m : ℕ) (rest : List Bool) (x : (ℕ × ℕ) × List Bool) → m ≤ 2 * most * (most + 1) → pair_of site most m rest ≡ Ok x
     → (m ≡ pair_number x.0.0 x.0.1) × (x.0.0 ≤ most) × (x.0.1 ≤ most) × (x.1 ≡ rest)
 unfolding pair_of pair_sum
-pair_takes site most m rest x le e =
-    let f : ℕ → Bool = λ s. leb (s * (s + 1) / 2) m in
-    let s : ℕ = greatest f (2 * most) in
-    let b : ℕ = m - s * (s + 1) / 2 in
-    let g = guard_ok _ _ _ _ e in
-    let h = guard_ok _ _ _ _ g.1 in
-    let sum = greatest_passes f (2 * most) (le-leb _ _ (omega arith)) in
-    let under : s * (s + 1) / 2 ≤ m = leb-true _ _ sum.0 in
-    let b-in : b ≤ most = ltb-false _ _ g.0 in
-    let a-in : s - b ≤ most = ltb-false _ _ h.0 in
-    let inside : b ≤ s = elim (cases_lt s (2 * most)) [
-      | inl lt ↦ (let over : m < (s + 1) * (s + 1 + 1) / 2 = leb-false _ _ (sum.2 (s + 1) (omega arith) (omega arith)) in omega (arith, triangle_step s))
-      | inr ge ↦ omega arith
-    ] in
-    let whole : s - b + b ≡ s = omega arith in
-    subst (λ (y : (ℕ × ℕ) × List Bool). (m ≡ pair_number y.0.0 y.0.1) × (y.0.0 ≤ most) × (y.0.1 ≤ most) × (y.1 ≡ rest)) (ok_is ((s - b, b), rest) x h.1)
-    (rw whole (omega arith), a-in, b-in, refl)
+pair_takes site most m rest x le e = grind (arith, greatest_passes)
 
 pairs_takes : (site : Site) (most n : ℕ) (bits : List Bool) (x : List ℕ × List Bool) → pairs_at site most n bits ≡ Ok x
     → TakesList pair_codes (2 * n) (λ v. v ≤ most) bits x
@@ -121,12 +90,7 @@ block_takes : (site : Site) (s : CodeSet) (size left : ℕ) (o : Choice) (bits a
     → ((y : List ℕ × List Bool) → read ≡ Ok y → TakesList (coded s o) size (λ v. v < 2 ^ s.bits) after y) → block_read o read ≡ Ok x
     → Taken s size left bits x
 unfolding spelled option_text
-block_takes site s size left o bits after read x option front takes e =
-    let a = bind_ok _ (λ vs. Ok (Block o vs.0, vs.1)) _ e in
-    let y = a.0 in
-    let values = takes _ a.1 in
-    let text = front ∙ (λ i. identifier s o ++ values.parts i) ∙ sym (append_assoc (identifier s o) (coded s o y.0) y.1) in
-    subst (Taken s size left bits) (ok_is _ _ a.2) (text, record { option = option; whole = values.len; range = values.all })
+block_takes site s size left o bits after read x option front takes e = grind (arith, append_assoc)
 
 in_range : (s : CodeSet) (spelling : List ℕ → List Bool) (n : ℕ) (bits : List Bool) (y : List ℕ × List Bool)
     → TakesList spelling n (λ v. v ≤ greatest_value s) bits y → TakesList spelling n (λ v. v < 2 ^ s.bits) bits y
@@ -135,8 +99,7 @@ in_range s spelling n bits y h = record { parts = h.parts; len = h.len; all = al
 run_text_takes : (s : CodeSet) (size left : ℕ) (bits after : List Bool) (x : CodedDataSet × List Bool) → 1 ≤ left → bits ≡ zero_identifier s ++ after
     → TakesRun left after x → Taken s size left bits x
 unfolding spelled
-run_text_takes s size left bits after x pos front (inl h) =
-    rw h.1 (front ∙ (λ i. zero_identifier s ++ h.2 i) ∙ sym (append_assoc _ (run_code h.0) _), (h.3, h.4))
+run_text_takes s size left bits after x pos front (inl h) = grind (arith, append_assoc)
 run_text_takes s size left bits after x pos front (inr h) = rw h.0 (front ∙ (λ i. zero_identifier s ++ h.1 i) ∙ sym (append_assoc _ rest_code _), pos)
 
 zero_case : (site : Site) (s : CodeSet) (half left : ℕ) (bits after : List Bool) (more : ℕ × List Bool) (x : CodedDataSet × List Bool) (b : Bool) → 1 ≤ left

@@ -12,7 +12,7 @@ use Rattle.block_adaptive.specs.Options.{quotient_codes, low_groups}
 use Rattle.cube_core.specs.Steps.{◌>>=◌}
 use Rattle.header_bits.specs.Reading.{number_at, zeros_at}
 use Rattle.block_adaptive.specs.Reading.{Site, fundamental_at, quotients_at, low_at, lows_at, split_at, words_at}
-use Rattle.header_bits.proofs.Each.{TakesList, bind_same, each_at, each_maps, each_takes}
+use Rattle.header_bits.proofs.Each.{TakesList, bind_same, each_at, each_maps, each_takes, each_more, each_ends, each_done}
 use Rattle.header_bits.proofs.Reading.{ok_is, number_takes}
 use Rattle.header_bits.proofs.Fronts.{bind_ok, guard_ok, zeros_takes}
 use Rattle.header_bits.proofs.Numbers.{same_bits}
@@ -44,6 +44,9 @@ quotients_each site most (x ∷ xs) bits =
 pub lows_each : (site : Site) (k most : ℕ) (xs : List ℕ) (bits : List Bool) → lows_at site k most xs bits ≡ each_at (low_at site k most) xs bits
 unfolding lows_at each_at
 lows_each site k most xs bits = refl
+
+-- what a loop over low bits takes
+pub ruleset lows_steps = (lows_each, each_more, each_ends, each_done)
 
 pub words_each : (count depth : ℕ) (xs : List ℕ) (bits : List Bool) → words_at count depth (length xs) bits ≡ each_at (λ _ left. number_at count depth left) xs
     bits

@@ -1,9 +1,8 @@
 -- A pair is read as the pair that its number stands for.
-use Rattle.std.proofs.Common.{◌≡◌, ℕ, zero, suc, ◌+◌, ◌-◌, ◌*◌, ◌/◌, ◌<◌, ◌≤◌, Bool, true, false, ltb, List, [], ◌∷◌, ◌++◌, length, Ok, refl, subst, inl, inr}
-use Rattle.std.proofs.Common.{append_assoc, arith, lit<}
+use Rattle.std.proofs.Common.{◌≡◌, ℕ, zero, suc, ◌+◌, ◌-◌, ◌*◌, ◌/◌, ◌<◌, ◌≤◌, Bool, true, false, List, [], ◌∷◌, ◌++◌, length, Ok, refl, subst, inl, inr}
+use Rattle.std.proofs.Common.{append_assoc, arith}
 use Rattle.std.specs.List.{AllByRecursion}
-use Rattle.std.proofs.lemmas.Bool.{le-ltb, cases_lt, le-leb, lt-leb}
-use Rattle.std.proofs.Math.Nat.{mul-div_cancel}
+use Rattle.std.proofs.lemmas.Bool.{cases_lt, le-leb, lt-leb}
 use Rattle.std.proofs.lemmas.Nat.{mul-le}
 use Rattle.block_adaptive.specs.Options.{pair_number, pair_codes}
 use Rattle.block_adaptive.specs.Reading.{Site, greatest, pair_sum, pair_of, pairs_at}
@@ -31,38 +30,18 @@ pair_sum_is most a b ha hb =
 
 -- no pair in range has a greater number than the last
 pub pair_below : (most a b : ℕ) → a ≤ most → b ≤ most → pair_number a b ≤ 2 * most * (most + 1)
-pair_below most a b ha hb =
-    let whole : 2 * most * (2 * most + 1) / 2 ≡ most * (2 * most + 1) = (let e : 2 * most * (2 * most + 1) ≡ most * (2 * most + 1) * 2 =
-    omega arith in rw e (mul-div_cancel (most * (2 * most + 1)) (lit< tt))) in
-    elim (cases_lt (a + b) (2 * most)) [
-      | inl lt ↦
-          (let d : ℕ = 2 * most - (a + b + 1) in
-          let e : a + b + 1 + d ≡ 2 * most = omega arith in
-          let grows : (a + b) * (a + b + 1) / 2 + (a + b) < 2 * most * (2 * most + 1) / 2 =
-          subst (λ (k : ℕ). (a + b) * (a + b + 1) / 2 + (a + b) < k * (k + 1) / 2) e (triangle_grows d (a + b)) in
-          omega arith)
-      | inr ge ↦
-          (let e : a + b ≡ 2 * most = omega arith in
-          let f : b ≡ most = omega arith in
-          rw (e, whole, f) (omega arith))
-    ]
+pair_below most a b ha hb = grind arith
 
 pub pair_again : (site : Site) (most a b : ℕ) (rest : List Bool) → a ≤ most → b ≤ most → pair_of site most (pair_number a b) rest ≡ Ok ((a, b), rest)
 unfolding pair_of
-pair_again site most a b rest ha hb =
-    let b-is : pair_number a b - (a + b) * (a + b + 1) / 2 ≡ b = omega arith in
-    let a-is : a + b - b ≡ a = omega arith in
-    let b-in : ltb most b ≡ false = le-ltb _ _ hb in
-    let a-in : ltb most a ≡ false = le-ltb _ _ ha in
-    rw (pair_sum_is _ _ _ ha hb, b-is, b-in, a-is, a-in) refl
+pair_again site most a b rest ha hb = grind (arith, pair_sum_is)
 
 pub pairs_again : (site : Site) (most n : ℕ) (vs : List ℕ) (rest : List Bool) → length vs ≡ 2 * n → AllByRecursion (λ v. v ≤ most) vs
     → pairs_at site most n (pair_codes vs ++ rest) ≡ Ok (vs, rest)
 unfolding pairs_at pair_codes
 pairs_again site most zero [] rest len h = refl
 pairs_again site most (suc n) (a ∷ b ∷ vs) rest len h =
-    let others = pairs_again site most n vs rest (omega arith) h.1.1 in
-    rw (append_assoc, fundamental_again _ _ (pair_number a b) _ (pair_below _ a b h.0 h.1.0), pair_again _ _ a b _ h.0 h.1.0, others) refl
+    let others = pairs_again site most n vs rest (omega arith) h.1.1 in grind (arith, append_assoc, fundamental_again, pair_again, pair_below)
 pairs_again site most n vs rest len h = absurd (omega arith)
 
 -- ---- the sum, by a square root

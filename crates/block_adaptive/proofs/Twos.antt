@@ -4,7 +4,7 @@ use Rattle.std.proofs.Common.{append_assoc}
 use Rattle.std.proofs.lemmas.List.{append-nil, length-set, take_all, take_more_set}
 use Rattle.cube_core.specs.declared.fault.Fault.{Fault}
 use Rattle.cube_core.specs.Steps.{◌>>=◌}
-use Rattle.header_bits.proofs.Each.{with_front, front_none}
+use Rattle.header_bits.proofs.Each.{with_front}
 use Rattle.block_adaptive.specs.Reading.{Site, fundamental_at, pair_of, pairs_at}
 
 two_more : (front : List ℕ) (a b : ℕ) (read : Result (List ℕ × List Bool) Fault) → with_front front (read >>= λ x. Ok (a ∷ b ∷ x.0, x.1))
@@ -15,9 +15,6 @@ two_more front a b (Err e) = refl
 -- i pairs were read
 pub record TwosRead (site : Site) (most half : ℕ) (start : List Bool) (i : ℕ) (vs : List ℕ) (bits : List Bool) : Type 0 where
   pub so_far : with_front (take (2 * i) vs) (pairs_at site most (half - i) bits) ≡ pairs_at site most half start
-
-pub twos_start : (site : Site) (most half : ℕ) (vs : List ℕ) (bits : List Bool) → TwosRead site most half bits 0 vs bits
-twos_start site most half vs bits = (let e : half - 0 ≡ half = omega arith in record { so_far = rw e (front_none _) })
 
 module _ {site : Site} {most half i : ℕ} {start bits : List Bool} {vs : List ℕ} where
   pub twos_more : {m a b : ℕ} {after : List Bool} → TwosRead site most half start i vs bits → 2 * half ≤ length vs → i < half
@@ -44,6 +41,4 @@ module _ {site : Site} {most half i : ℕ} {start bits : List Bool} {vs : List �
 
   pub twos_done : TwosRead site most half start i vs bits → i ≡ half → length vs ≡ 2 * half → pairs_at site most half start ≡ Ok (vs, bits)
   unfolding pairs_at
-  twos_done h same len =
-      let n : half - i ≡ 0 = omega arith in
-      sym h.so_far ∙ rw (n, take_all (2 * i) vs (omega arith)) ((λ j. Ok (((append-nil vs) j), bits)))
+  twos_done h same len = grind (arith, append-nil, take_all)

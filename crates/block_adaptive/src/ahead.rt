@@ -19,6 +19,7 @@ pub(crate) struct Ahead {
 
 /// Returns the next 57 bits, or none if fewer are left.
 #[inline(always)]
+#[tactic(auto, using(crate::proofs::Looking::looked_word, crate::proofs::Looking::looked_nowhere))]
 pub(crate) fn look_ahead(reader: &BitReader) -> Ahead
     ensures ahead { IsAhead result reader.now.left }
     ensures word { IsWord result }

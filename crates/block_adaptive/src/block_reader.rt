@@ -61,6 +61,7 @@ impl BlockReader {
     /// Returns a reader of an image's numbers, none of which was read yet. It allocates nothing.
     ///
     /// The parameters are lawful, and for this coder.
+    #[tactic(auto, using(crate::proofs::Handed::nothing_held))]
     pub fn new(params: &Params) -> BlockReader
         requires { AreForBlocks params.now }
         ensures cut { result.cut ≡ cut_by params.now }
@@ -233,6 +234,7 @@ impl BlockReader {
     }
 
     /// Returns the first value held.
+    #[tactic(auto, using(header_bits::proofs::Places::first_in_hand))]
     fn give(&mut self) -> u16
         requires { 0 < length self.old.held }
         ensures first { GivesFirst self.old result self.new }
@@ -251,6 +253,7 @@ impl BlockReader {
 
     /// Moves the first values held to the front of `numbers`, and returns how many: as many as there is room for.
     #[inline(always)]
+    #[tactic(auto, using(std::proofs::lemmas::Grind::common_steps, header_bits::proofs::Places::first_of_hand, header_bits::proofs::Places::zeros_of_hand))]
     fn give_run(&mut self, numbers: &mut [u16]) -> usize
         requires held { 0 < length self.old.held }
         requires room { 0 < length numbers.old }

@@ -67,6 +67,7 @@ fn pairs_cost(block: &[u16]) -> u64
 /// Returns the number of bits of a block's coded data set under an option, identifier included.
 ///
 /// The block has at most 64 values, and the option is one of the set.
+#[tactic(auto, using(crate::proofs::Costs::uncoded_cost, crate::proofs::Costs::second_cost, crate::proofs::Costs::split_cost))]
 pub fn option_cost(set: &CodeSet, block: &[u16], choice: Choice) -> u64
     requires bits { set.now.bits ≤ 16 }
     requires option { IsOption set.now choice }

@@ -38,6 +38,7 @@ pub(crate) fn fundamental(reader: &mut BitReader, block: u64, most: u64) -> Resu
 
 /// Reads a fundamental sequence for each value.
 #[inline(always)]
+#[tactic(auto, using(header_bits::proofs::Items::all_weaker, crate::proofs::Bounds::judged_within))]
 fn quotients(reader: &mut BitReader, block: u64, most: u16, values: &mut [u16]) -> Result<(), Fault>
     ensures read { Reads (λ _. values.new) result reader.new.left (quotients_at (site_of reader.old block) most (length values.old) reader.old.left) }
     ensures count { reader.new.count ≡ reader.old.count }
@@ -81,6 +82,7 @@ fn codes(reader: &mut BitReader, block: u64, values: &mut [u16]) -> Result<u16, 
 
 /// Reads the fundamental sequence behind the used bits, and looks ahead anew.
 #[inline(always)]
+#[tactic(auto, using(crate::proofs::Looking::code_read))]
 fn next_code(reader: &mut BitReader, block: u64, ahead: Ahead) -> Result<(u16, Ahead), Fault>
     requires { IsAhead ahead reader.old.left }
     ensures found { IfOk result (λ p. IsWord p.1 × IsAhead p.1 reader.new.left
@@ -221,6 +223,7 @@ pub(crate) fn data_set(
 /// Reads one lawful coded data set, that of the block at a place. The values of a block are written.
 ///
 /// The refusal is that of the first unlawful part of the data set, and names the block.
+#[tactic(auto, using(crate::proofs::Fronts::found_is, crate::proofs::Fronts::none_is, crate::proofs::Lawful::rest_least))]
 pub(crate) fn read_data_set(
     reader: &mut BitReader,
     block: u64,

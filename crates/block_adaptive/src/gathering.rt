@@ -33,6 +33,7 @@ impl Model for Gathered {
 impl Gathered {
     /// Returns no bits.
     #[inline(always)]
+    #[tactic(auto, using(header_bits::proofs::Numbers::no_bits))]
     pub(crate) fn new() -> Gathered
         ensures { result ≡ [] }
     {
@@ -41,6 +42,7 @@ impl Gathered {
 
     /// Appends a number as `n` bits.
     #[inline(always)]
+    #[tactic(auto, using(crate::proofs::Gathers::append_steps))]
     pub(crate) fn append(&mut self, writer: &mut BitWriter, bits: u64, n: u32)
         requires few { n ≤ 64 }
         requires below { bits < 2 ^ n }
@@ -76,6 +78,7 @@ impl Gathered {
 
     /// Pushes the bits.
     #[inline(always)]
+    #[tactic(auto, using(crate::proofs::Gathers::flush_steps))]
     pub(crate) fn flush(self, writer: &mut BitWriter)
         requires { length self ≤ writer.old.room }
         ensures { Writes writer.old writer.new self }
@@ -101,6 +104,7 @@ fn filled(part: u64, held: u32, bits: u64) -> u64
 
 /// Returns the `held` bits of a word followed by a number's `n` bits.
 #[inline(always)]
+#[tactic(auto, using(header_bits::proofs::Words::pushed_behind, header_bits::proofs::Words::joined_is, header_bits::proofs::Words::joined_below))]
 fn joined(word: u64, held: u32, bits: u64, n: u32) -> u64
     requires few { (n < 64) × (held + n ≤ 64) }
     requires word { word < 2 ^ held }
@@ -113,6 +117,7 @@ fn joined(word: u64, held: u32, bits: u64, n: u32) -> u64
 
 /// Returns the codes of a few values without their k lowest bits, together fewer than 64 bits, as one number.
 #[inline(always)]
+#[tactic(auto, using(crate::proofs::Emits::quotient_word_steps))]
 pub(crate) fn quotient_word(k: u32, values: &[u16]) -> u64
     requires k { k ≤ 15 }
     requires few { length (quotient_codes k values.now) < 64 }
@@ -131,6 +136,7 @@ pub(crate) fn quotient_word(k: u32, values: &[u16]) -> u64
 
 /// Returns the k lowest bits of each of a few values, together at most 64 bits, as one number.
 #[inline(always)]
+#[tactic(auto, using(crate::proofs::Emits::low_word_steps))]
 pub(crate) fn low_word(k: u32, values: &[u16]) -> u64
     requires k { k ≤ 16 }
     requires few { length (low_groups k values.now) ≤ 64 }

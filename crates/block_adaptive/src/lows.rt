@@ -10,6 +10,7 @@ use cube_core::fault::Fault;
 use header_bits::bit_reader::BitReader;
 
 /// Reads the low bits of each value, whose quotient is known.
+#[tactic(auto, using(crate::proofs::Takes::lows_steps))]
 pub(crate) fn lows(
     reader: &mut BitReader,
     block: u64,
@@ -95,6 +96,7 @@ fn four_lows(
 
 /// Joins four quotients with their low bits, which are the highest bits of a word.
 #[inline(always)]
+#[tactic(auto, using(header_bits::proofs::Powers::four_shifts))]
 fn join_lows(word: u64, k: u32, four: &mut [u16])
     requires depth { k ≤ 14 }
     requires four { length four.old ≡ 4 }

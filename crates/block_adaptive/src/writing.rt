@@ -150,6 +150,7 @@ fn zeros_of_run(blocks: u32) -> u32
 }
 
 /// Returns the number of bits of the data set of a run, whose code has `zeros` zeros.
+#[tactic(auto, using(crate::proofs::Emits::run_text_cost))]
 fn run_cost(set: &CodeSet, zeros: u32) -> u64
     requires { zeros ≤ 64 }
     ensures value { result ≡ length (run_text set.now (fundamental zeros)) }
@@ -173,7 +174,7 @@ fn write_rest(writer: &mut BitWriter, set: &CodeSet, left: u32) -> Result<(), Fa
 }
 
 /// Writes a block that isn't a zero block, whose values have this sum, after a run of zero blocks.
-#[tactic(auto, unfolding(crate::specs::DataSets::spelled))]
+#[tactic(auto, using(crate::proofs::Tried::option_is_least), unfolding(crate::specs::DataSets::spelled))]
 fn write_block(
     writer: &mut BitWriter,
     set: &CodeSet,
@@ -206,7 +207,7 @@ fn write_block(
 /// are held; returns how many are held then.
 ///
 /// The first zero block held is at `place`. It allocates first.
-#[tactic(auto, unfolding(crate::specs::Segments::segment_rest))]
+#[tactic(auto, using(crate::proofs::Sums::zero_tests), unfolding(crate::specs::Segments::segment_rest))]
 pub(crate) fn write_data_sets(
     writer: &mut BitWriter,
     set: &CodeSet,

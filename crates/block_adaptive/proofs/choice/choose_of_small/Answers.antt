@@ -21,9 +21,7 @@ returns-then-plain-least-clause-chosen c =
     (some_splits s (omega (arith, c.if-width-gt1.true, c.identifier_width-width.ensures.value))) (λ lt. refl)
 
 pub returns-then-plain-least-clause-cost : goal.returns-then-plain-least-clause-cost
-returns-then-plain-least-clause-cost c =
-    let plain = split_cost c.args.set.now 0 c.args.block.now in
-    omega (arith, c.split_cost-plain.ensures, c.identifier_width-width.ensures.value, plain, plain_length c.args.block.now, c.requires.total)
+returns-then-plain-least-clause-cost c = grind (arith, plain_length, split_cost)
 
 pub returns-else-width-gt1-clause-chosen : goal.returns-else-width-gt1-clause-chosen
 returns-else-width-gt1-clause-chosen c =

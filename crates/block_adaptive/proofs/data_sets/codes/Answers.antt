@@ -31,7 +31,4 @@ loop-value-preserved c =
     ]
 
 pub returns-clause-read : goal.returns-clause-read
-returns-clause-read c = (
-  all_bound _ _ _ (omega arith) c.loop-value.invariant.bound,
-  rw c.take_used.ensures.left (quotients_each _ 65535 _ _ ∙ each_done c.loop-value.invariant.read (omega arith)),
-)
+returns-clause-read c = grind (arith, all_bound, each_done, quotients_each)

@@ -1,14 +1,10 @@
 use Rattle.std.proofs.Common.{◌∙◌, arith}
-use Rattle.std.proofs.lemmas.Result.{err_from_is_err_and}
 use Rattle.header_bits.proofs.Each.{each_more, each_ends, each_done}
 use Rattle.block_adaptive.proofs.Takes.{quotients_each}
 use Rattle.block_adaptive.proofs.data_sets.judged_codes.Goals as goal
 
 pub returns-in_err-value-clause-read : goal.returns-in_err-value-clause-read
-returns-in_err-value-clause-read c =
-    let p = err_from_is_err_and c.from_residual.result c.from_residual.ensures.1 in
-    let one = rw (c.loop-value.invariant.count, c.from.ensures) at c.in_err-value.ensures.read in
-    rw (p.1, p.2) (quotients_each _ _ _ _ ∙ each_ends c.loop-value.invariant.read (omega arith) one)
+returns-in_err-value-clause-read c = grind (arith, each_ends, quotients_each)
 
 pub loop-value-preserved : goal.loop-value-preserved
 loop-value-preserved c =

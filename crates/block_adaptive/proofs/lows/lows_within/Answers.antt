@@ -1,15 +1,11 @@
 use Rattle.std.proofs.Common.{◌≡◌, ◌+◌, ◌-◌, ◌≤◌, ◌∙◌, ℕ, length, sym, arith, rules}
-use Rattle.std.proofs.lemmas.Result.{err_from_is_err_and}
 use Rattle.header_bits.proofs.Each.{some_more, some_end, each_done}
 use Rattle.block_adaptive.proofs.Takes.{lows_each}
 use Rattle.block_adaptive.proofs.lows.lows_within.Goals as goal
 use Rattle.header_bits.proofs.Fours.{fours_behind}
 
 pub returns-in_err-four_lows-clause-read : goal.returns-in_err-four_lows-clause-read
-returns-in_err-four_lows-clause-read c =
-    let p = err_from_is_err_and c.from_residual.result c.from_residual.ensures.1 in
-    let bad = rw c.loop-first.invariant.count at c.in_err-four_lows.ensures.read in
-    rw (p.1, p.2) (lows_each _ _ _ _ _ ∙ some_end _ c.loop-first.invariant.read (sym (lows_each _ _ _ _ _) ∙ bad))
+returns-in_err-four_lows-clause-read c = grind (arith, lows_each, some_end)
 
 pub loop-first-preserved : goal.loop-first-preserved
 loop-first-preserved c =

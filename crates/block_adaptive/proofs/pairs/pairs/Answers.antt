@@ -4,10 +4,7 @@ use Rattle.block_adaptive.proofs.Twos.{twos_more, code_ends, pair_ends, twos_don
 use Rattle.block_adaptive.proofs.pairs.pairs.Goals as goal
 
 pub returns-in_err-number-clause-read : goal.returns-in_err-number-clause-read
-returns-in_err-number-clause-read c =
-    let p = err_from_is_err_and c.from_residual.result c.from_residual.ensures.1 in
-    let one = rw (c.loop-i.invariant.count, c.from.ensures, c.from-in-loop-i.ensures) at c.in_err-number.ensures.read in
-    rw (p.1, p.2) (code_ends c.loop-i.invariant.read c.loop-i-test.true one)
+returns-in_err-number-clause-read c = grind (arith, code_ends)
 
 pub returns-in_err-first-clause-read : goal.returns-in_err-first-clause-read
 returns-in_err-first-clause-read c =

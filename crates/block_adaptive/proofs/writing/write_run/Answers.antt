@@ -1,19 +1,15 @@
-use Rattle.std.proofs.Common.{length, ap, arith}
-use Rattle.header_bits.specs.Bits.{fundamental}
+use Rattle.std.proofs.lemmas.Grind.{common_steps}
+use Rattle.std.proofs.Common.{arith}
 use Rattle.block_adaptive.proofs.Emits.{identifier_zero, run_text_cost}
-use Rattle.block_adaptive.proofs.Gathers.{appends_both, appends_end, second_fits}
+use Rattle.block_adaptive.proofs.Gathers.{appends_both, appends_end}
 use Rattle.block_adaptive.proofs.writing.write_run.Goals as goal
 use Rattle.header_bits.proofs.Zeros.{length-fundamental}
 
 pub append-requires-clause-room : goal.append-requires-clause-room
-append-requires-clause-room c =
-    omega (arith, c.requires.room, ap length c.new-gathered.ensures, run_text_cost c.args.set.now c.args.zeros, c.identifier_width.ensures.value)
+append-requires-clause-room c = grind (arith, run_text_cost)
 
 pub append_fundamental-requires : goal.append_fundamental-requires
-append_fundamental-requires c =
-    let first = rw (c.identifier_width.ensures.value, identifier_zero _) at c.append.ensures in
-    let behind = second_fits (fundamental c.args.zeros) (omega (arith, c.requires.room, ap length c.new-gathered.ensures)) first in
-    omega (arith, behind, length-fundamental c.args.zeros, c.from.ensures)
+append_fundamental-requires c = grind (arith, common_steps, identifier_zero, length-fundamental)
 
 pub returns : goal.returns
 returns c =

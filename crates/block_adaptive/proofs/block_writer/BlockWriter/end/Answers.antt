@@ -9,8 +9,7 @@ use Rattle.block_adaptive.proofs.Packing.{nothing_left, last_block, range_filled
 use Rattle.block_adaptive.proofs.block_writer.BlockWriter.end.Goals as goal
 
 pub returns-then-self-eq0-clause-ended : goal.returns-then-self-eq0-clause-ended
-returns-then-self-eq0-clause-ended c =
-    rw (← c.self.view_is) (nothing_left (the_view c.self.inside) _ c.self.invariant.cut ((λ i. take (c.if-self-eq0.true i) c.self.inside.values)))
+returns-then-self-eq0-clause-ended c = grind (arith, nothing_left)
 
 pub returns-clause-ended : goal.returns-clause-ended
 returns-clause-ended c =

@@ -1,7 +1,5 @@
-use Rattle.std.proofs.Common.{◌≡◌, ◌∙◌, ℕ, List, ◌≤◌, ◌++◌, length, sym, ap, arith}
+use Rattle.std.proofs.Common.{◌≡◌, ◌≤◌, length, sym, ap, arith}
 use Rattle.std.proofs.lemmas.List.{length-take}
-use Rattle.block_adaptive.specs.Taken.{Packed}
-use Rattle.block_adaptive.specs.contracts.block_writer.BlockWriter.{the_view}
 use Rattle.block_adaptive.proofs.Counts.{room_left}
 use Rattle.block_adaptive.proofs.Handed.{size_most}
 use Rattle.block_adaptive.proofs.Holds.{stored_more}
@@ -28,11 +26,4 @@ invariant_of-self c =
     (λ some. rw (← c.self.view_is) at (room_left c.args.self.now (omega (arith, some, c.requires.more)))))
 
 pub returns : goal.returns
-returns c =
-    let size = size_most c.self.inside.size c.self.invariant.cut.size in
-    let room : c.self.inside.held ≤ length c.self.inside.values =
-    omega (arith, c.self.told, c.self.invariant.few, size, length-take c.self.inside.held c.self.inside.values) in
-    let copied : c.copy_from_slice.new.self ≡ c.args.numbers.now = c.copy_from_slice.ensures.after in
-    ap (λ (held : List ℕ). record (the_view c.self.inside) { held = held })
-    (rw copied (held_all c.self.inside.values c.args.numbers.now _ c.self.inside.held room))
-    ∙ ap (λ (v : Packed). record v { held = v.held ++ c.args.numbers.now }) c.self.view_is
+returns c = grind (arith, held_all, length-take)

@@ -1,15 +1,11 @@
 use Rattle.std.proofs.Common.{[], ◌+◌, ◌^◌, ◌≤◌, arith, refl}
 use Rattle.std.proofs.Math.Pow.{pow_mono}
-use Rattle.header_bits.proofs.Numbers.{length-bits_of}
-use Rattle.header_bits.specs.Bits.{bits_of}
-use Rattle.block_adaptive.proofs.Gathers.{goes_room, goes_step, goes_end}
+use Rattle.block_adaptive.proofs.Gathers.{goes_step, goes_end}
 use Rattle.block_adaptive.proofs.gathering.Gathered.append_fundamental.Goals as goal
 use Rattle.header_bits.proofs.Zeros.{length-fundamental, sixty_four_more, last_zeros}
 
 pub append-requires-clause-room : goal.append-requires-clause-room
-append-requires-clause-room c =
-    let room = goes_room (bits_of 64 0) _ (omega (arith, length-fundamental c.args.zeros)) c.loop-left.invariant (sixty_four_more _ c.loop-left-test.true) in
-    omega (arith, room, length-bits_of 64 0)
+append-requires-clause-room c = grind (arith, length-fundamental)
 
 pub loop-left-preserved : goal.loop-left-preserved
 loop-left-preserved c = goes_step _ c.loop-left.invariant (sixty_four_more _ c.loop-left-test.true) c.append.ensures
@@ -20,9 +16,7 @@ append-requires-2-clause-below c =
     omega (arith, p)
 
 pub append-requires-2-clause-room : goal.append-requires-2-clause-room
-append-requires-2-clause-room c =
-    let room = goes_room _ [] (omega (arith, length-fundamental c.args.zeros)) c.loop-left.invariant (last_zeros _) in
-    omega (arith, room, length-bits_of (c.loop-left.left + 1) 1)
+append-requires-2-clause-room c = grind (arith, length-fundamental)
 
 pub returns : goal.returns
 returns c = goes_end (goes_step [] c.loop-left.invariant (last_zeros _) c.append-2.ensures) refl
