@@ -1,7 +1,8 @@
 -- A predictor's bands, group after group.
 use Rattle.std.proofs.Common.{◌≡◌, ◌+◌, ◌*◌, ◌-◌, ◌/◌, ◌<◌, ◌≤◌, ℕ, suc, min, List, [], ◌∷◌, ◌++◌, length, take, drop, get_or, refl, sym, ap, ◌∙◌, append_assoc}
 use Rattle.std.proofs.Common.{length-append, arith}
-use Rattle.std.specs.Prelude.{◌==◌}
+use Rattle.std.specs.Prelude.{◌==◌, Bool, true, false, if◌then◌else◌}
+use Rattle.std.specs.List.{flat_map}
 use Rattle.std.proofs.lemmas.Bool.{eq-eqb, ne_eqb, cond-true, cond-false}
 use Rattle.std.proofs.lemmas.Nat.{mul-le}
 use Rattle.std.proofs.lemmas.List.{take-map, drop-map}
@@ -36,6 +37,18 @@ own_more q first z deal le =
 
 pub own_split : (q : ℕ) (deal : List ℕ) (x n : ℕ) → own q deal (upto (x + n)) ≡ own q deal (upto x) ++ own q deal (from x n)
 own_split q deal x n = ap (own q deal) (upto_split x n) ∙ filter-append (λ z. get_or deal z 0 == q) (upto x) (from x n)
+
+-- band after band, of which only the predictor's own have anything
+one_more : (f : List ℕ → List ℕ) (b : Bool) (z : ℕ) (zs ns : List ℕ) → f [] ≡ [] → ns ≡ flat_map (λ z. f (z ∷ [])) zs
+    → f (if b then z ∷ [] else []) ++ ns ≡ flat_map (λ z. f (z ∷ [])) (if b then z ∷ zs else zs)
+one_more f true z zs ns none e = ap (λ v. f (z ∷ []) ++ v) e
+one_more f false z zs ns none e = rw none e
+
+pub own_alone : (q : ℕ) (deal : List ℕ) (f : List ℕ → List ℕ) → f [] ≡ [] → (zs : List ℕ)
+    → flat_map (λ z. f (own q deal (z ∷ []))) zs ≡ flat_map (λ z. f (z ∷ [])) (own q deal zs)
+own_alone q deal f none [] = refl
+own_alone q deal f none (z ∷ zs) =
+    one_more f (get_or deal z 0 == q) z (own q deal zs) (flat_map (λ z. f (own q deal (z ∷ []))) zs) none (own_alone q deal f none zs)
 
 -- a predictor has at most all of some bands
 pub own_few : (q : ℕ) (deal : List ℕ) (a n : ℕ) → length (own q deal (from a n)) ≤ n
@@ -73,8 +86,3 @@ is_group q deal s depth i first end slot count some lt first_is end_is slot_is c
           (ap (own q deal) (rw size (ap (λ k. from k (min depth (s.bands - i * depth))) start)));
       more = more;
     }
-
--- the bands of the group, out of the bands that are the predictor's
-pub group_there : (q : ℕ) (deal : List ℕ) (s : Sizes) (depth i end slot count n : ℕ) (bands was : List Learner) → IsGroup q deal s depth i end slot count
-    → n ≡ count → bands_of bands ≡ bands_of was → bands_of was ≡ own q deal (upto s.bands) → bands_of (take n (drop slot bands)) ≡ own q deal (group s depth i)
-group_there q deal s depth i end slot count n bands was h e same mine = rw (e, ← take-map, ← drop-map, same, mine) h.there

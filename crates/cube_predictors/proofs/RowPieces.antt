@@ -19,7 +19,7 @@ use Rattle.predict_core.specs.Residual.{mapped_residual, run_residuals}
 use Rattle.cube_predictors.specs.Own.{column_of}
 use Rattle.cube_predictors.specs.Sends.{IsAt, AreAt, bands_of}
 use Rattle.cube_predictors.specs.Pieces.{IsPast, ArePast, held_at, held_of}
-use Rattle.cube_predictors.proofs.Sending.{Pieces, each_append, from_split, upto_more}
+use Rattle.cube_predictors.proofs.Sending.{each_append, from_split, upto_rest}
 
 -- ---- the bands
 
@@ -48,10 +48,11 @@ pub past_two : (p : Params) (c : Image) (t n i : ℕ) (bands before rest : List 
     → (bands_of (set before i d ++ set rest 0 f) ≡ bands_of bands)
     × ArePast p c t n (take (i + 1 + 1) (set before i d ++ set rest 0 f)) × AreAt p c t (drop (i + 1 + 1) (set before i d ++ set rest 0 f))
 past_two p c t n i bands before rest b d e f lt front back done left piece other =
-    let first : HoldsPiece c n (get_or bands i b) d = subst (λ a. HoldsPiece c n a d) (ap (λ (bs : List Learner). get_or bs i b) front
-    ∙ get_or-take (i + 1) bands i b (omega arith)) piece in
-    let second : HoldsPiece c n (get_or (set bands i d) (i + 1) e) f = subst (λ a. HoldsPiece c n a f) (ap (λ (bs : List Learner). get_or bs 0 e) back
-    ∙ get_or-drop (i + 1) bands 0 e ∙ ap (λ k. get_or bands k e) (omega arith) ∙ sym (get_or-set_other bands i (i + 1) d e (λ h. absurd (omega (arith, h))))) other in
+    let there : get_or before i b ≡ get_or bands i b = rw front (get_or-take (i + 1) bands i b (omega arith)) in
+    let behind : get_or rest 0 e ≡ get_or (set bands i d) (i + 1) e =
+    rw (get_or-set_other bands i (i + 1) d e (λ h. absurd (omega (arith, h))), back, get_or-drop (i + 1) bands 0 e) (ap (λ k. get_or bands k e) (omega arith)) in
+    let first = rw there at piece in
+    let second = rw behind at other in
     let one = past_step p c t n i bands b d (omega arith) done left first in
     let two = past_step p c t n (i + 1) (set bands i d) e f (rw length-set lt) one.0 one.1 second in
     let same : bands_of (set (set bands i d) (i + 1) f) ≡ bands_of bands =
@@ -75,13 +76,6 @@ past_at p c t n bands h =
 
 -- ---- what they hold
 
-pub next_held : (bands : List Learner) (i k number : ℕ) (b : Learner) → k < length bands → b ≡ get_or bands k b → number ≡ get_or b.piece i 0
-    → take (k + 1) (held_at bands i) ≡ take k (held_at bands i) ++ number ∷ []
-next_held bands i k number b lt there is =
-    let item : get_or (held_at bands i) k 0 ≡ number =
-    get_or-map (λ r. get_or r.piece i 0) bands k b 0 lt ∙ ap (λ (r : Learner). get_or r.piece i 0) (sym there) ∙ sym is in
-    rw (← item) (take_more (held_at bands i) k 0 (rw length-map lt))
-
 held_column : (p : Params) (c : Image) (y x n i : ℕ) (bands : List Learner) → i < n → ArePast p c (y * c.shape.columns + x) n bands
     → held_at bands i ≡ column_of p c (bands_of bands) y (x + i)
 held_column p c y x n i [] lt h = refl
@@ -93,23 +87,20 @@ held_column p c y x n i (b ∷ bands) lt h = ap₂ (λ r rs. r ∷ rs) there (he
         ∙ get_or-map (mapped_residual p c b.band) (from (y * c.shape.columns + x) n) i 0 0 (rw length-from lt)
         ∙ ap (mapped_residual p c b.band) (get_or-from (y * c.shape.columns + x) n i 0 lt ∙ omega arith)
 
-same_lists : (f g : ℕ → List ℕ) (a b n : ℕ) → ((i : ℕ) → i < n → f (a + i) ≡ g (b + i)) → flat_map f (from a n) ≡ flat_map g (from b n)
+pub same_lists : (f g : ℕ → List ℕ) (a b n : ℕ) → ((i : ℕ) → i < n → f (a + i) ≡ g (b + i)) → flat_map f (from a n) ≡ flat_map g (from b n)
 same_lists f g a b zero h = refl
 same_lists f g a b (suc n) h =
     let first : f a ≡ g b = ap f (omega arith) ∙ h 0 (omega arith) ∙ ap g (omega arith) in
     ap₂ (λ u v. u ++ v) first (same_lists f g (suc a) (suc b) n (λ i lt. ap f (omega arith) ∙ h (suc i) (omega (arith, lt)) ∙ ap g (omega arith)))
 
 -- the residuals of the columns of a piece
-pub held_is : (p : Params) (c : Image) (y x n : ℕ) (bands : List Learner) → ArePast p c (y * c.shape.columns + x) n bands
-    → held_of bands n ≡ flat_map (λ k. column_of p c (bands_of bands) y k) (from x n)
-held_is p c y x n bands h =
-    same_lists (λ i. held_at bands i) (λ k. column_of p c (bands_of bands) y k) 0 x n
-    (λ i lt. ap (λ k. held_at bands k) (omega arith) ∙ held_column p c y x n i bands lt h)
+pub held_is : (p : Params) (c : Image) (y x n : ℕ) (bands : List Learner) (zs : List ℕ) → ArePast p c (y * c.shape.columns + x) n bands → bands_of bands ≡ zs
+    → held_of bands n ≡ flat_map (λ k. column_of p c zs y k) (from x n)
+held_is p c y x n bands zs h same =
+    rw (← same) (same_lists (λ i. held_at bands i) (λ k. column_of p c (bands_of bands) y k) 0 x n
+    (λ i lt. ap (λ k. held_at bands k) (omega arith) ∙ held_column p c y x n i bands lt h))
 
 -- ---- runs of a column, and of one band
-
-pub run_piece : (ns : List ℕ) (i n : ℕ) → Pieces ns (take i ns) (take n (drop i ns))
-run_piece ns i n = record { tail = drop (i + n) ns; whole = rw (← take-add i n ns) (sym (take-append-drop (i + n) ns)) }
 
 -- what was gathered of a column stands in front of what the room held before
 pub gathered : (bands : List Learner) (i first n many : ℕ) (numbers room : List ℕ) → first + n ≤ length bands → many ≡ n
@@ -125,7 +116,7 @@ first_items : (ns : List ℕ) (n : ℕ) → n ≤ length ns → flat_map (λ i. 
 first_items ns zero le = refl
 first_items ns (suc n) le =
     let more : flat_map (λ i. get_or ns i 0 ∷ []) (upto (n + 1)) ≡ take (n + 1) ns =
-    rw (upto_more (λ i. get_or ns i 0 ∷ []) n, first_items ns n (omega (arith, le))) (sym (take_more ns n 0 (omega (arith, le)))) in
+    rw ((upto_rest (λ i. get_or ns i 0 ∷ []) n (n + 1) (omega arith)).more, first_items ns n (omega (arith, le))) (sym (take_more ns n 0 (omega (arith, le)))) in
     subst (λ k. flat_map (λ i. get_or ns i 0 ∷ []) (upto k) ≡ take k ns) (add-one n) more
 
 -- one band's residuals, place after place, are those that it holds

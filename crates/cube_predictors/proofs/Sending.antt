@@ -1,11 +1,11 @@
 -- The walk over a predictor's own places, step by step.
 use Rattle.std.proofs.Common.{◌≡◌, ◌+◌, ◌-◌, ◌<◌, ◌≤◌, ℕ, zero, suc, Bool, true, false, List, [], ◌∷◌, ◌++◌, length, take, drop, get_or}
-use Rattle.std.proofs.Common.{refl, sym, ap, ap₂, ◌∙◌, subst, append-nil, zero-add, length-take, length-drop, arith}
+use Rattle.std.proofs.Common.{refl, sym, ap, ap₂, ◌∙◌, subst, append-nil, zero-add, length-take, length-drop, take-add, arith}
 use Rattle.std.specs.List.{flat_map, AllByRecursion}
 use Rattle.std.proofs.lemmas.Grind.{flat_map-append}
 use Rattle.std.proofs.lemmas.Slice.{take-put_mid, drop-put_mid}
 use borrow.Rule.Slice.PartMut.{put_mid}
-use Rattle.std.proofs.lemmas.List.{map-append, take-append-drop, drop-drop, drop_more, take_more, take-map, drop-map, length-map}
+use Rattle.std.proofs.lemmas.List.{map-append, take-append-drop, drop-drop, take-map, drop-map, length-map}
 use Rattle.std.proofs.lemmas.List.Elements.{All-append, All-drop, All-from_recursion, recursion_from_All}
 use Rattle.cube_core.specs.Image.{Image}
 use Rattle.cube_core.specs.Order.{from, upto}
@@ -20,6 +20,9 @@ use Rattle.cube_predictors.specs.Takings.{AreTakings}
 pub each_append : {X : Type 0} (P : X → Type 0) (xs ys : List X) → AllByRecursion P xs → AllByRecursion P ys → AllByRecursion P (xs ++ ys)
 each_append P xs ys h k = recursion_from_All P (xs ++ ys) (All-append P xs ys (All-from_recursion P xs h) (All-from_recursion P ys k))
 
+pub at_same : (p : Params) (c : Image) (t u : ℕ) (bands : List Learner) → AreAt p c t bands → t ≡ u → AreAt p c u bands
+at_same p c t u bands h e = subst (λ k. AreAt p c k bands) e h
+
 -- ---- pieces, one behind another
 
 pub from_split : (a m n : ℕ) → from a (m + n) ≡ from a m ++ from (a + m) n
@@ -31,54 +34,59 @@ from_split a (suc m) n =
 pub upto_split : (x n : ℕ) → upto (x + n) ≡ upto x ++ from x n
 upto_split x n = rw zero-add at (from_split 0 x n)
 
--- the pieces up to a place, the next one, and those behind it
-pub record Pieces (all done next : List ℕ) : Type 0 where
+-- the pieces up to a place, the next one, those up to its end, and the rest
+pub record Pieces (all done next up : List ℕ) : Type 0 where
+  pub more : up ≡ done ++ next
   pub tail : List ℕ
-  pub whole : all ≡ (done ++ next) ++ tail
+  pub whole : all ≡ up ++ tail
 
-pub upto_piece : (f : ℕ → List ℕ) (x n : ℕ) → flat_map f (upto (x + n)) ≡ flat_map f (upto x) ++ flat_map f (from x n)
-upto_piece f x n = ap (flat_map f) (upto_split x n) ∙ flat_map-append f (upto x) (from x n)
+pub run_piece : (ns : List ℕ) (i n : ℕ) → Pieces ns (take i ns) (take n (drop i ns)) (take (i + n) ns)
+run_piece ns i n = record { more = take-add i n ns; tail = drop (i + n) ns; whole = sym (take-append-drop (i + n) ns) }
 
-pub upto_more : (f : ℕ → List ℕ) (n : ℕ) → flat_map f (upto (n + 1)) ≡ flat_map f (upto n) ++ f n
-upto_more f n = upto_piece f n 1 ∙ ap (λ v. flat_map f (upto n) ++ v) (append-nil (f n))
+-- what is made of each item of the pieces
+pieces_of : (f : ℕ → List ℕ) {all done next up : List ℕ} → Pieces all done next up → Pieces (flat_map f all) (flat_map f done) (flat_map f next) (flat_map f up)
+pieces_of f {done = done} {next = next} {up = up} h = record {
+  more = ap (flat_map f) h.more ∙ flat_map-append f done next;
+  tail = flat_map f h.tail;
+  whole = ap (flat_map f) h.whole ∙ flat_map-append f up h.tail;
+}
 
-pub piece_rest : (f : ℕ → List ℕ) (x n m : ℕ) → x + n ≤ m → Pieces (flat_map f (upto m)) (flat_map f (upto x)) (flat_map f (from x n))
+pub some_rest : (f : ℕ → List ℕ) (zs : List ℕ) (i n : ℕ)
+    → Pieces (flat_map f zs) (flat_map f (take i zs)) (flat_map f (take n (drop i zs))) (flat_map f (take (i + n) zs))
+some_rest f zs i n = pieces_of f (run_piece zs i n)
+
+pub piece_rest : (f : ℕ → List ℕ) (x n m : ℕ) → x + n ≤ m
+    → Pieces (flat_map f (upto m)) (flat_map f (upto x)) (flat_map f (from x n)) (flat_map f (upto (x + n)))
 piece_rest f x n m le =
     let all : x + n + (m - (x + n)) ≡ m = omega (arith, le) in
-    record { tail = flat_map f (from (x + n) (m - (x + n))); whole = rw (upto_piece f x n) at (rw all at (upto_piece f (x + n) (m - (x + n)))) }
+    let rest : Pieces (upto m) (upto x) (from x n) (upto (x + n)) =
+    record { more = upto_split x n; tail = from (x + n) (m - (x + n)); whole = rw all at (upto_split (x + n) (m - (x + n))) } in
+    pieces_of f rest
 
-pub upto_rest : (f : ℕ → List ℕ) (i n : ℕ) → i < n → Pieces (flat_map f (upto n)) (flat_map f (upto i)) (f i)
+pub upto_rest : (f : ℕ → List ℕ) (i n : ℕ) → i < n → Pieces (flat_map f (upto n)) (flat_map f (upto i)) (f i) (flat_map f (upto (i + 1)))
 upto_rest f i n lt = rw (append-nil (f i)) at (piece_rest f i 1 n (omega (arith, lt)))
 
--- the next of some pieces stands behind those before it, and in front of those behind it
-abbrev pub IsNext : (ℕ → List ℕ) → List ℕ → ℕ → Type 0
-IsNext f zs i =
-    (flat_map f (take (i + 1) zs) ≡ flat_map f (take i zs) ++ f (get_or zs i 0)) × Pieces (flat_map f zs) (flat_map f (take i zs)) (f (get_or zs i 0))
-
-pub take_rest : (f : ℕ → List ℕ) (zs : List ℕ) (i : ℕ) → i < length zs → IsNext f zs i
-take_rest f zs i lt =
-    let more : flat_map f (take (i + 1) zs) ≡ flat_map f (take i zs) ++ f (get_or zs i 0) =
-    rw (flat_map-append, append-nil (f (get_or zs i 0))) at (ap (flat_map f) (take_more zs i 0 lt)) in
-    let whole = rw take-append-drop at (flat_map-append f (take (i + 1) zs) (drop (i + 1) zs)) in
-    (more, record { tail = flat_map f (drop (i + 1) zs); whole = rw more at whole })
+-- what comes of the next numbers of a list: they may be taken, behind those before them; then the taker has stopped in the list, or has taken them all
+pub record Steps {S : Type 0} (may : S → List ℕ → Type 0) (takes : S → S → Bool → List ℕ → Type 0) (old mid : S) (all numbers up : List ℕ) : Type 0 where
+  pub fits : may mid numbers
+  pub so_far : (new : S) (result : Bool) → takes mid new result numbers → takes old new result up
+  pub cut : (new : S) (result : Bool) → result ≡ false → takes mid new result numbers → takes old new false all
+  pub more : (new : S) (result : Bool) → result ≡ true → takes mid new result numbers → takes old new true up
 
 module _ {S : Type 0} {may : S → List ℕ → Type 0} {takes : S → S → Bool → List ℕ → Type 0} (laws : AreTakings may takes) where
   pub none_yet : {s : S} {list : List ℕ} → may s list → takes s s true []
   none_yet h = laws.none _ (laws.less _ [] _ h)
 
-  -- the next piece may be taken
-  pub piece_fits : {old mid : S} {all done next : List ℕ} → takes old mid true done → Pieces all done next → may old all → may mid next
-  piece_fits {old = old} {done = done} {next = next} h pieces m =
-      laws.more _ _ done next h (laws.less _ (done ++ next) pieces.tail (subst (may old) pieces.whole m))
-
-  -- it was taken, or the taker stopped in it
-  pub piece_cut : {old mid new : S} {all done next : List ℕ} → takes old mid true done → Pieces all done next → takes mid new false next
-      → takes old new false all
-  piece_cut {old = old} {new = new} {done = done} {next = next} h pieces cut =
-      subst (takes old new false) (sym pieces.whole) (laws.cut _ _ (done ++ next) pieces.tail (laws.behind _ _ _ false _ _ h cut))
-
-pub at_same : (p : Params) (c : Image) (t u : ℕ) (bands : List Learner) → AreAt p c t bands → t ≡ u → AreAt p c u bands
-at_same p c t u bands h e = subst (λ k. AreAt p c k bands) e h
+  pub stepped : {old mid : S} {all done next up numbers : List ℕ} → takes old mid true done → may old all → Pieces all done next up → numbers ≡ next
+      → Steps may takes old mid all numbers up
+  stepped {old = old} {done = done} {next = next} h m pieces same =
+      let there = pieces.whole ∙ ap (λ v. v ++ pieces.tail) pieces.more in
+      record {
+        fits = rw same (laws.more _ _ done next h (laws.less _ (done ++ next) pieces.tail (subst (may old) there m)));
+        so_far = λ new result k. rw pieces.more (laws.behind _ _ _ result _ _ h (rw same at k));
+        cut = λ new result e k. rw there (laws.cut _ _ (done ++ next) pieces.tail (laws.behind _ _ _ false _ _ h (rw (same, e) at k)));
+        more = λ new result e k. rw pieces.more (laws.behind _ _ _ true _ _ h (rw (same, e) at k));
+      }
 
 -- ---- some of the bands
 
@@ -87,34 +95,47 @@ nothing_each [] = refl
 nothing_each (x ∷ xs) = nothing_each xs
 
 -- a row of no bands has no residuals
-pub row_of_none : (p : Params) (c : Image) (bands : List Learner) (y : ℕ) → length bands ≡ 0 → row_of p c (bands_of bands) y ≡ []
+pub row_of_none : (p : Params) (c : Image) (y : ℕ) → row_of p c [] y ≡ []
 unfolding row_of
-row_of_none p c [] y e = nothing_each (upto c.shape.columns)
-row_of_none p c (b ∷ bs) y e = absurd (omega (arith, e))
+row_of_none p c y = nothing_each (upto c.shape.columns)
 
 -- some bands were put in the place of as many
 pub bands_put : (bands was sub : List Learner) (i n : ℕ) → bands_of bands ≡ bands_of was → bands_of sub ≡ bands_of (take n (drop i bands))
     → bands_of (put_mid i n bands sub) ≡ bands_of was
 bands_put bands was sub i n same e = rw (map-append, map-append, e, ← map-append, take-append-drop, ← map-append, take-append-drop) same
 
--- the bands behind those that were put
-pub left_put : (p : Params) (c : Image) (t i n j : ℕ) (bands sub : List Learner) → j ≡ i + n → j ≤ length bands → length sub ≡ length (take n (drop i bands))
-    → AreAt p c t (drop i bands) → AreAt p c t (drop j (put_mid i n bands sub))
-left_put p c t i n j bands sub e fits long h =
-    let many : length sub ≡ n = omega (arith, long, e, fits, length-take n (drop i bands), length-drop i bands) in
-    let left = recursion_from_All (IsAt p c t) _ (All-drop (IsAt p c t) n (drop i bands) (All-from_recursion (IsAt p c t) (drop i bands) h)) in
-    rw (drop-put_mid i n bands sub j (omega (arith, e)) (omega (arith, e, fits)) many, e) (rw drop-drop at left)
+-- the bands up to one of them have come to what they are to come to, and the others are at place t
+pub record Parted (Done : Learner → Type 0) (p : Params) (c : Image) (t i : ℕ) (bands was : List Learner) : Type 0 where
+  pub done : AllByRecursion Done (take i bands)
+  pub left : AreAt p c t (drop i bands)
+  pub same : bands_of bands ≡ bands_of was
 
--- and those up to them
-pub done_put : (p : Params) (c : Image) (t i n j : ℕ) (bands sub : List Learner) → j ≡ i + n → j ≤ length bands → length sub ≡ length (take n (drop i bands))
-    → AreAt p c t (take i bands) → AreAt p c t sub → AreAt p c t (take j (put_mid i n bands sub))
-done_put p c t i n j bands sub e fits long h k =
-    let many : length sub ≡ n = omega (arith, long, e, fits, length-take n (drop i bands), length-drop i bands) in
-    rw (take-put_mid i n bands sub j (omega (arith, e, many)) (omega (arith, e, fits))) (each_append (IsAt p c t) (take i bands) sub h k)
+pub next_bands : (bands was : List Learner) (i m n : ℕ) → m ≡ n → bands_of bands ≡ bands_of was
+    → bands_of (take m (drop i bands)) ≡ take n (drop i (bands_of was))
+next_bands bands was i m n e same = rw (e, ← take-map, ← drop-map, same) refl
 
--- the one band
-pub band_there : (bands was : List Learner) (i n : ℕ) → n ≡ 1 → i < length bands → bands_of bands ≡ bands_of was
-    → bands_of (take n (drop i bands)) ≡ get_or (bands_of was) i 0 ∷ []
-band_there bands was i n e lt same =
-    let within : i < length (bands_of was) = omega (arith, lt, length-map bands (λ b. b.band), ap (λ (zs : List ℕ). length zs) same) in
-    rw (e, ← take-map, ← drop-map, same, drop_more (bands_of was) i 0 within) refl
+-- the next n of them have come to it too
+pub parted_put : {Done : Learner → Type 0} {p : Params} {c : Image} {t i : ℕ} {bands was : List Learner} (n j : ℕ) (sub : List Learner)
+    → Parted Done p c t i bands was → j ≡ i + n → j ≤ length bands → AllByRecursion Done sub → bands_of sub ≡ bands_of (take n (drop i bands))
+    → Parted Done p c t j (put_mid i n bands sub) was
+parted_put {Done = Done} {p = p} {c = c} {t = t} {i = i} {bands = bands} {was = was} n j sub h e fits past same =
+    let long = ap (λ (zs : List ℕ). length zs) same in
+    let many : length sub ≡ n = omega (arith, long, e, fits, length-map {A = Learner} {B = ℕ}, length-take n (drop i bands), length-drop i bands) in
+    let left = recursion_from_All (IsAt p c t) _ (All-drop (IsAt p c t) n (drop i bands) (All-from_recursion (IsAt p c t) (drop i bands) h.left)) in
+    record {
+      done = rw (take-put_mid i n bands sub j (omega (arith, e, many)) (omega (arith, e, fits))) (each_append Done (take i bands) sub h.done past);
+      left = rw (drop-put_mid i n bands sub j (omega (arith, e)) (omega (arith, e, fits)) many, e) (rw drop-drop at left);
+      same = bands_put bands was sub i n h.same same;
+    }
+
+-- one band alone, and two
+pub one_alone : (f : List ℕ → List ℕ) (zs : List ℕ) → length zs ≡ 1 → f zs ≡ flat_map (λ z. f (z ∷ [])) zs
+one_alone f [] e = absurd (omega (arith, e))
+one_alone f (z ∷ []) e = sym (append-nil (f (z ∷ [])))
+one_alone f (z ∷ w ∷ zs) e = absurd (omega (arith, e))
+
+pub two_alone : (f : ℕ → List ℕ) (zs : List ℕ) → length zs ≡ 2 → flat_map f zs ≡ f (get_or zs 0 0) ++ f (get_or zs 1 0)
+two_alone f [] e = absurd (omega (arith, e))
+two_alone f (z ∷ []) e = absurd (omega (arith, e))
+two_alone f (z ∷ w ∷ []) e = ap (λ v. f z ++ v) (append-nil (f w))
+two_alone f (z ∷ w ∷ v ∷ zs) e = absurd (omega (arith, e))
