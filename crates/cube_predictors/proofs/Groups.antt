@@ -1,11 +1,10 @@
 -- A predictor's bands, group after group.
 use Rattle.std.proofs.Common.{◌≡◌, ◌+◌, ◌*◌, ◌-◌, ◌/◌, ◌<◌, ◌≤◌, ℕ, suc, min, List, [], ◌∷◌, ◌++◌, length, take, drop, get_or, refl, sym, ap, ◌∙◌, append_assoc}
-use Rattle.std.proofs.Common.{length-append, arith}
+use Rattle.std.proofs.Common.{length-append, arith, cond, eqb, inl, inr}
 use Rattle.std.specs.Prelude.{◌==◌, Bool, true, false, if◌then◌else◌}
 use Rattle.std.specs.List.{flat_map}
-use Rattle.std.proofs.lemmas.Bool.{eq-eqb, ne_eqb, cond-true, cond-false}
+use Rattle.std.proofs.lemmas.Bool.{cases_Bool, eq-eqb, ne_eqb, cond-true, cond-false}
 use Rattle.std.proofs.lemmas.Nat.{mul-le}
-use Rattle.std.proofs.lemmas.List.{take-map, drop-map}
 use Rattle.std.proofs.lemmas.List.Elements.{filter-append}
 use Rattle.std.proofs.lemmas.List.Sums.{length-filter, count_by-le-length}
 use Rattle.cube_core.proofs.Lists.{length-from}
@@ -13,9 +12,7 @@ use Rattle.std.proofs.Math.Nat.{div-mul-le_self}
 use Rattle.std.proofs.Math.Seq.{take-append_seam, drop-append_seam}
 use Rattle.cube_core.specs.Shape.{Sizes}
 use Rattle.cube_core.specs.Order.{from, upto, group, group_count}
-use Rattle.predict_core.specs.Following.{Learner}
 use Rattle.cube_predictors.specs.Own.{own}
-use Rattle.cube_predictors.specs.Sends.{bands_of}
 use Rattle.cube_predictors.proofs.Sending.{from_split, upto_split}
 
 -- ---- band after band
@@ -28,12 +25,13 @@ pub own_none : (q z owner : ℕ) (deal : List ℕ) → owner ≡ get_or deal z 0
 own_none q z owner deal e other = cond-false _ _ _ (ne_eqb (get_or deal z 0) q (λ h. other (e ∙ h)))
 
 -- one band more
-pub own_more : (q first z : ℕ) (deal : List ℕ) → first ≤ z
-    → length (own q deal (from first (z + 1 - first))) ≡ length (own q deal (from first (z - first))) + length (own q deal (z ∷ []))
-own_more q first z deal le =
+pub own_next : (q first z : ℕ) (deal : List ℕ) → first ≤ z
+    → length (own q deal (from first (z + 1 - first))) ≡ length (own q deal (from first (z - first))) + cond (eqb (get_or deal z 0) q) 1 0
+own_next q first z deal le =
     let e : z + 1 - first ≡ (z - first) + 1 = omega arith in
     let f : first + (z - first) ≡ z = omega arith in
-    rw (e, from_split first (z - first) 1, f, filter-append, length-append) refl
+    rw (e, from_split first (z - first) 1, f, filter-append, length-append)
+    (elim (cases_Bool (get_or deal z 0 == q)) [ inl t ↦ rw t refl | inr t ↦ rw t refl ])
 
 pub own_split : (q : ℕ) (deal : List ℕ) (x n : ℕ) → own q deal (upto (x + n)) ≡ own q deal (upto x) ++ own q deal (from x n)
 own_split q deal x n = ap (own q deal) (upto_split x n) ∙ filter-append (λ z. get_or deal z 0 == q) (upto x) (from x n)

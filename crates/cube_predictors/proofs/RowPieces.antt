@@ -1,11 +1,11 @@
 -- Pieces of a row, one behind another.
 use Rattle.std.proofs.Common.{◌≡◌, ◌+◌, ◌*◌, ◌<◌, ◌≤◌, ℕ, zero, suc, List, [], ◌∷◌, ◌++◌, length, take, drop, get_or, set, refl, sym, ap, ap₂, subst, ◌∙◌}
-use Rattle.std.proofs.Common.{add-one, get_or-take, get_or-drop, get_or-set_other, append-nil, length-append, length-drop, length-set, arith}
+use Rattle.std.proofs.Common.{add-one, get_or-take, get_or-drop, get_or-set_other, append-nil, length-drop, length-set, arith}
 use Rattle.std.specs.List.{flat_map}
 use Rattle.std.proofs.lemmas.Grind.{flat_map-append}
+use Rattle.std.proofs.lemmas.Nat.{mul-le}
 use Rattle.std.proofs.lemmas.Slice.{take-put_mid}
 use borrow.Rule.Slice.PartMut.{put_mid}
-use Rattle.std.proofs.Math.Seq.{take-add}
 use Rattle.std.proofs.lemmas.List.{take_more, take_more_set, drop_more, drop-set-lt, take-map, drop-map, take-append-drop, length-take, length-take-le}
 use Rattle.std.proofs.lemmas.List.{length-map, get_or-map, take_at, set-append_left, set-append_right}
 use Rattle.std.proofs.Math.Seq.{map-set_same}
@@ -41,6 +41,10 @@ past_step p c t n i bands b d lt done left piece =
     let all = each_append (IsPast p c t n) (take i bands) (d ∷ []) done (past, tt) in
     (rw (take_more_set bands i d lt) all, rw (drop-set-lt (i + 1) bands i d (omega arith)) here.1)
 
+pub band_set : (c : Image) (n : ℕ) (bands : List Learner) (k : ℕ) (b d : Learner) → HoldsPiece c n (get_or bands k b) d
+    → bands_of (set bands k d) ≡ bands_of bands
+band_set c n bands k b d piece = map-set_same (λ r. r.band) _ _ _ b piece.moved.band
+
 -- two bands that are parted between them have gone over their pieces, and so the bands up to them
 pub past_two : (p : Params) (c : Image) (t n i : ℕ) (bands before rest : List Learner) (b d e f : Learner) → i + 1 < length bands
     → before ≡ take (i + 1) bands → rest ≡ drop (i + 1) bands → ArePast p c t n (take i bands) → AreAt p c t (drop i bands)
@@ -55,8 +59,7 @@ past_two p c t n i bands before rest b d e f lt front back done left piece other
     let second = rw behind at other in
     let one = past_step p c t n i bands b d (omega arith) done left first in
     let two = past_step p c t n (i + 1) (set bands i d) e f (rw length-set lt) one.0 one.1 second in
-    let same : bands_of (set (set bands i d) (i + 1) f) ≡ bands_of bands =
-    map-set_same (λ r. r.band) _ _ _ e second.moved.band ∙ map-set_same (λ r. r.band) _ _ _ b first.moved.band in
+    let same : bands_of (set (set bands i d) (i + 1) f) ≡ bands_of bands = band_set c n _ _ _ f second ∙ band_set c n _ _ _ d first in
     rw (← joined) (same, two.0, two.1)
   where
     long : length before ≡ i + 1
@@ -131,15 +134,11 @@ held_alone (d ∷ e ∷ bands) b n numbers one there is long = absurd (omega (ar
 -- ---- several columns at once
 
 -- the residuals of one more place, behind those of the places before it
-pub places_more : (bands : List Learner) (first k n many : ℕ) (room numbers : List ℕ) → length numbers ≡ many → k * many ≤ length room
+pub places_more : (bands : List Learner) (first k n many count : ℕ) (room numbers : List ℕ) → length numbers ≡ many → length room ≡ count * many → k < count
     → numbers ≡ held_at bands (first + k) → take (k * many) room ≡ flat_map (λ i. held_at bands i) (from first k)
     → take ((k + 1) * many) (put_mid (k * many) n room numbers) ≡ flat_map (λ i. held_at bands i) (from first (k + 1))
-places_more bands first k n many room numbers long within is done =
+places_more bands first k n many count room numbers long all lt is done =
     let end : (k + 1) * many ≡ k * many + length numbers = grind (arith, long) in
-    take-put_mid (k * many) n room numbers ((k + 1) * many) end within ∙ ap₂ (λ a b. a ++ b) done (is ∙ sym (append-nil (held_at bands (first + k))))
+    let within = mul-le k many count many (omega arith) (omega arith) in
+    take-put_mid (k * many) n room numbers ((k + 1) * many) end (omega (arith, within, all)) ∙ ap₂ (λ a b. a ++ b) done (is ∙ sym (append-nil (held_at bands (first + k))))
     ∙ sym (flat_map-append (λ i. held_at bands i) (from first k) ((first + k) ∷ [])) ∙ ap (flat_map (λ i. held_at bands i)) (sym (from_split first k 1))
-
--- a part was written anew, by as many
-pub part_long : (a n many : ℕ) (room numbers : List ℕ) → n ≡ many → length numbers ≡ many → a + many ≤ length room
-    → length (put_mid a n room numbers) ≡ length room
-part_long a n many room numbers same long within = rw (length-append, length-append, length-take, length-drop, length-drop) (omega (arith, same, long, within))

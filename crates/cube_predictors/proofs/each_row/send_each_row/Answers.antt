@@ -1,4 +1,4 @@
-use Rattle.std.proofs.Common.{◌≡◌, ◌+◌, ◌-◌, ◌∷◌, [], ℕ, List, refl, ap, take, drop, arith}
+use Rattle.std.proofs.Common.{◌+◌, ◌-◌, ◌∷◌, [], ℕ, List, refl, ap, take, drop, arith}
 use Rattle.std.specs.List.{flat_map}
 use Rattle.cube_predictors.specs.Own.{row_of}
 use Rattle.cube_predictors.specs.Sends.{bands_of}

@@ -1,4 +1,4 @@
-use Rattle.std.proofs.Common.{◌≡◌, ◌+◌, ◌*◌, ◌-◌, ◌∷◌, [], true, take, drop, length}
+use Rattle.std.proofs.Common.{◌+◌, ◌*◌, ◌-◌, ◌∷◌, [], true, take, length}
 use Rattle.std.specs.List.{flat_map}
 use Rattle.cube_predictors.specs.Own.{row_of}
 use Rattle.cube_predictors.specs.Sends.{IsAt, bands_of}

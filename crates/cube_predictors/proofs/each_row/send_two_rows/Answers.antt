@@ -1,4 +1,4 @@
-use Rattle.std.proofs.Common.{◌≡◌, ◌≤◌, ◌<◌, ◌+◌, ℕ, List, ◌∷◌, [], true, length, take, get_or, ap, ap₂, refl, sym, arith, ◌∙◌, ◌++◌}
+use Rattle.std.proofs.Common.{◌≡◌, ◌≤◌, ◌<◌, ◌+◌, ℕ, List, ◌∷◌, [], length, take, get_or, ap, ap₂, refl, sym, arith, ◌∙◌, ◌++◌}
 use Rattle.std.specs.List.{flat_map}
 use Rattle.std.proofs.lemmas.List.{length-map}
 use Rattle.std.proofs.lemmas.Slice.{take-put_mid}
@@ -8,7 +8,7 @@ use Rattle.cube_predictors.specs.Own.{column_of, row_of}
 use Rattle.cube_predictors.specs.Sends.{bands_of}
 use Rattle.cube_predictors.proofs.EachRow.{front_piece, last_piece, row_piece}
 use Rattle.cube_predictors.proofs.Sending.{Steps, at_same, none_yet, stepped, piece_rest, two_alone}
-use Rattle.cube_predictors.proofs.RowPieces.{past_at, part_long}
+use Rattle.cube_predictors.proofs.RowPieces.{past_at}
 use Rattle.cube_predictors.proofs.each_row.send_two_rows.Goals as goal
 use Rattle.cube_predictors.proofs.each_row.send_two_rows.Goals.{After-piece_residuals, After-loop-x}
 use Rattle.cube_predictors.proofs.each_row.send_two_rows.Given.{Over}
@@ -58,9 +58,8 @@ loop-x-preserved g c =
       at = at_same _ _ _ _ _ (past_at _ _ _ _ _ c.predict_pieces.ensures.past) (omega arith);
       same = same g d;
       sent = (step g d).more _ _ c.if-not-take.false c.take.ensures;
-      kept = take-put_mid _ _ c.loop-x.row numbers _ (omega (arith, many)) (omega (arith, was.long, was.within, c.requires.room))
+      kept = take-put_mid _ _ c.loop-x.row numbers _ (omega (arith, many)) (omega (arith, was.within, c.requires.room))
           ∙ ap₂ (λ xs ys. xs ++ ys) was.kept (copied ∙ held g d 1 _ _ (omega arith) second.value) ∙ sym next;
-      long = part_long _ _ _ c.loop-x.row _ (omega arith) many (omega (arith, was.long, within g d, c.requires.room)) ∙ was.long;
     }
 
 -- at the end the first row was sent, and the second one is there
@@ -90,5 +89,4 @@ loop-x-init g c = record {
   same = refl;
   sent = none_yet g.met.T.Taker.laws c.requires.may;
   kept = refl;
-  long = refl;
 }

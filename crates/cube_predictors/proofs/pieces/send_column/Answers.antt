@@ -1,4 +1,4 @@
-use Rattle.std.proofs.Common.{◌≡◌, ◌+◌, ◌≤◌, ◌++◌, true, length, take, drop, sym, subst, arith}
+use Rattle.std.proofs.Common.{◌+◌, ◌≤◌, ◌++◌, length, take, drop, arith}
 use Rattle.cube_predictors.specs.Pieces.{held_at}
 use Rattle.cube_predictors.proofs.Sending.{Steps, none_yet, run_piece, stepped}
 use Rattle.cube_predictors.proofs.RowPieces.{gathered}

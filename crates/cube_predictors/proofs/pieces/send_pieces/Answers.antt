@@ -1,6 +1,4 @@
-use Rattle.std.proofs.Common.{◌≡◌, ◌+◌, ◌≤◌, true, sym, subst, arith}
-use Rattle.std.specs.List.{flat_map}
-use Rattle.cube_core.specs.Order.{from}
+use Rattle.std.proofs.Common.{◌≡◌, ◌+◌, ◌≤◌, sym, subst, arith}
 use Rattle.cube_predictors.specs.Pieces.{held_at, held_of}
 use Rattle.cube_predictors.proofs.Sending.{Steps, none_yet, stepped, piece_rest}
 use Rattle.cube_predictors.proofs.RowPieces.{held_alone}

@@ -1,4 +1,4 @@
-use Rattle.std.proofs.Common.{◌≡◌, ◌∷◌, [], take, drop, true}
+use Rattle.std.proofs.Common.{◌∷◌, [], take, true}
 use Rattle.std.specs.List.{flat_map}
 use Rattle.cube_predictors.specs.Own.{rows_of}
 use Rattle.cube_predictors.specs.Sends.{bands_of}

@@ -1,8 +1,8 @@
-use Rattle.std.proofs.Common.{◌≡◌, ◌+◌, ◌*◌, min, length, take, drop, true}
+use Rattle.std.proofs.Common.{◌≡◌, ◌+◌, ◌*◌, min, length, true}
 use Rattle.std.specs.List.{flat_map}
 use Rattle.cube_core.specs.Order.{upto, group}
 use Rattle.cube_predictors.specs.Own.{own, row_of}
-use Rattle.cube_predictors.specs.Sends.{IsAt, bands_of}
+use Rattle.cube_predictors.specs.Sends.{IsAt}
 use Rattle.cube_predictors.proofs.Sending.{Parted}
 use Rattle.cube_predictors.proofs.walk.send_line.Given as goal
 

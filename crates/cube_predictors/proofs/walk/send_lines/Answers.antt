@@ -1,4 +1,4 @@
-use Rattle.std.proofs.Common.{◌+◌, ◌<◌, ap, arith, refl, ◌∙◌}
+use Rattle.std.proofs.Common.{◌+◌, ap, arith, refl, ◌∙◌}
 use Rattle.std.specs.List.{flat_map}
 use Rattle.cube_core.specs.Order.{upto}
 use Rattle.cube_predictors.specs.Own.{line_of, own_residuals}
