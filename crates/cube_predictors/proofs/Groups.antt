@@ -4,6 +4,7 @@ use Rattle.std.proofs.Common.{length-append, arith, cond, eqb, inl, inr}
 use Rattle.std.specs.Prelude.{◌==◌, Bool, true, false, if◌then◌else◌}
 use Rattle.std.specs.List.{flat_map}
 use Rattle.std.proofs.lemmas.Bool.{cases_Bool, eq-eqb, ne_eqb, cond-true, cond-false}
+use Rattle.std.proofs.lemmas.List.{length-map, take-map, drop-map}
 use Rattle.std.proofs.lemmas.Nat.{mul-le}
 use Rattle.std.proofs.lemmas.List.Elements.{filter-append}
 use Rattle.std.proofs.lemmas.List.Sums.{length-filter, count_by-le-length}
@@ -12,7 +13,9 @@ use Rattle.std.proofs.Math.Nat.{div-mul-le_self}
 use Rattle.std.proofs.Math.Seq.{take-append_seam, drop-append_seam}
 use Rattle.cube_core.specs.Shape.{Sizes}
 use Rattle.cube_core.specs.Order.{from, upto, group, group_count}
+use Rattle.predict_core.specs.Following.{Learner}
 use Rattle.cube_predictors.specs.Own.{own}
+use Rattle.cube_predictors.specs.Sends.{bands_of}
 use Rattle.cube_predictors.proofs.Sending.{from_split, upto_split}
 
 -- ---- band after band
@@ -55,32 +58,36 @@ own_few q deal a n =
 
 -- ---- group after group
 
--- where the i-th group's bands stand among the predictor's
-pub record IsGroup (q : ℕ) (deal : List ℕ) (s : Sizes) (depth i end slot count : ℕ) : Type 0 where
+-- the i-th group's bands among the predictor's
+pub record IsGroup (q : ℕ) (deal : List ℕ) (s : Sizes) (depth i total end slot count : ℕ) (bands : List Learner) : Type 0 where
+  pub in_order : i < group_count s depth
   pub next : end ≡ min ((i + 1) * depth) s.bands
-  pub fits : slot + count ≤ length (own q deal (upto s.bands))
-  pub there : take count (drop slot (own q deal (upto s.bands))) ≡ own q deal (group s depth i)
   pub more : slot + count ≡ length (own q deal (upto end))
+  pub fits : slot + count ≤ length bands
+  pub few : length bands ≤ total
+  pub there : bands_of (take (slot + count - slot) (drop slot bands)) ≡ own q deal (group s depth i)
 
-pub is_group : (q : ℕ) (deal : List ℕ) (s : Sizes) (depth i first end slot count : ℕ) → 1 ≤ depth → i < group_count s depth → first ≡ min (i * depth) s.bands
-    → end ≡ min s.bands (first + depth) → slot ≡ length (own q deal (upto first)) → count ≡ length (own q deal (from first (end - first)))
-    → IsGroup q deal s depth i end slot count
-is_group q deal s depth i first end slot count some lt first_is end_is slot_is count_is =
-    let low : (s.bands + depth - 1) / depth * depth ≤ s.bands + depth - 1 = div-mul-le_self (s.bands + depth - 1) depth in
-    let high : suc i * depth ≤ (s.bands + depth - 1) / depth * depth = mul-le (suc i) depth ((s.bands + depth - 1) / depth) depth lt (omega arith) in
-    let start : first ≡ i * depth = omega (arith, first_is, low, high) in
-    let size : end - first ≡ min depth (s.bands - i * depth) = omega (arith, end_is, start, low, high) in
-    let front : first + (end - first) ≡ end = omega (arith, end_is, start, low, high) in
-    let whole : end + (s.bands - end) ≡ s.bands = omega (arith, end_is) in
-    let before : own q deal (upto end) ≡ own q deal (upto first) ++ own q deal (from first (end - first)) =
-    rw front at (own_split q deal first (end - first)) in
-    let mine : own q deal (upto s.bands) ≡ own q deal (upto end) ++ own q deal (from end (s.bands - end)) =
-    rw whole at (own_split q deal end (s.bands - end)) in
+pub is_group : (q : ℕ) (deal : List ℕ) (s : Sizes) (depth i first total end slot count : ℕ) (bands : List Learner) → 1 ≤ depth → total ≡ s.bands
+    → i < (total + depth - 1) / depth → first ≡ min (i * depth) s.bands → end ≡ min total (first + depth) → slot ≡ length (own q deal (upto first))
+    → count ≡ length (own q deal (from first (end - first))) → bands_of bands ≡ own q deal (upto s.bands) → IsGroup q deal s depth i total end slot count bands
+is_group q deal s depth i first total end slot count bands some all lt first_is end_is slot_is count_is own_is =
+    let low : (total + depth - 1) / depth * depth ≤ total + depth - 1 = div-mul-le_self (total + depth - 1) depth in
+    let high : suc i * depth ≤ (total + depth - 1) / depth * depth = mul-le (suc i) depth ((total + depth - 1) / depth) depth lt (omega arith) in
+    let start : first ≡ i * depth = omega (arith, all, first_is, low, high) in
+    let size : end - first ≡ min depth (s.bands - i * depth) = omega (arith, all, end_is, start, low, high) in
+    let front : first + (end - first) ≡ end = omega (arith, all, end_is, start, low, high) in
+    let whole : end + (s.bands - end) ≡ s.bands = omega (arith, all, end_is) in
+    let before = rw front at (own_split q deal first (end - first)) in
+    let mine = rw whole at (own_split q deal end (s.bands - end)) in
     let more : slot + count ≡ length (own q deal (upto end)) = rw (before, length-append) (omega (arith, slot_is, count_is)) in
+    let long : length bands ≡ length (own q deal (upto s.bands)) = rw (← own_is, length-map) refl in
+    let size_of : slot + count - slot ≡ count = omega arith in
     record {
-      next = omega (arith, end_is, start);
-      fits = rw (mine, length-append) (omega (arith, more));
-      there = rw (slot_is, count_is, mine, before, append_assoc, drop-append_seam, take-append_seam)
-          (ap (own q deal) (rw size (ap (λ k. from k (min depth (s.bands - i * depth))) start)));
+      in_order = rw all at lt;
+      next = omega (arith, all, end_is, start);
       more = more;
+      fits = rw (long, mine, length-append) (omega (arith, more));
+      few = omega (arith, all, long, own_few q deal 0 s.bands);
+      there = rw (size_of, ← take-map, ← drop-map, own_is, slot_is, count_is, mine, before, append_assoc, drop-append_seam, take-append_seam)
+          (ap (own q deal) (rw size (ap (λ k. from k (min depth (s.bands - i * depth))) start)));
     }

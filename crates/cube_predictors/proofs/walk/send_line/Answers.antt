@@ -8,32 +8,18 @@ use Rattle.cube_predictors.proofs.Sending.{Steps, none_yet, stepped, upto_rest, 
 use Rattle.cube_predictors.proofs.EachRow.{line_alone}
 use Rattle.cube_predictors.proofs.Groups.{IsGroup, is_group, own_few}
 use Rattle.cube_predictors.proofs.walk.send_line.Goals as goal
-use Rattle.cube_predictors.proofs.walk.send_line.Goals.{After-count_own-count, After-loop-i}
+use Rattle.cube_predictors.proofs.walk.send_line.Goals.{After-count_own-count}
 use Rattle.cube_predictors.proofs.walk.send_line.Given.{Over}
 
 module _ (g : Over) (c : After-count_own-count g) where
   abbrev run : ℕ → List ℕ
   run i = row_of c.args.params.now c.args.cube.now (own c.args.predictor c.args.deal.now (group c.args.cube.now.shape c.args.depth i)) c.args.y
 
-  bands_are : c.bands-total.result ≡ c.args.cube.now.shape.bands
-  bands_are = c.bands-total.ensures.value ∙ ap (λ s. s.bands) c.shape.ensures
-
-  in_order : c.loop-i.i < group_count c.args.cube.now.shape c.args.depth
-  in_order = rw bands_are at c.loop-i-test.true
-
-  there : IsGroup c.args.predictor c.args.deal.now c.args.cube.now.shape c.args.depth c.loop-i.i c.min-end.result c.loop-i.slot c.count_own-count.result
+  there : IsGroup c.args.predictor c.args.deal.now c.args.cube.now.shape c.args.depth c.loop-i.i c.bands-total.result c.min-end.result c.loop-i.slot
+      c.count_own-count.result c.loop-i.bands
   there =
-      is_group _ _ _ _ _ _ _ _ _ c.requires.depth.0 in_order c.loop-i.invariant.first
-      (rw bands_are at c.min-end.ensures) c.loop-i.invariant.slot c.count_own-count.ensures
-
-  long : length c.loop-i.bands ≡ length (own c.args.predictor c.args.deal.now (upto c.args.cube.now.shape.bands))
-  long = sym (length-map c.loop-i.bands (λ b. b.band)) ∙ ap (λ (zs : List ℕ). length zs) (c.loop-i.invariant.parted.same ∙ c.requires.own)
-
-  within : c.loop-i.slot + c.count_own-count.result ≤ length c.loop-i.bands
-  within = omega (arith, long, there.fits)
-
-  few : length c.loop-i.bands ≤ 65536
-  few = omega (arith, long, own_few c.args.predictor c.args.deal.now 0 c.args.cube.now.shape.bands, bands_are)
+      is_group _ _ _ _ _ _ _ _ _ _ _ c.requires.depth.0 (c.bands-total.ensures.value ∙ ap (λ s. s.bands) c.shape.ensures) c.loop-i-test.true
+      c.loop-i.invariant.first c.min-end.ensures c.loop-i.invariant.slot c.count_own-count.ensures (c.loop-i.invariant.parted.same ∙ c.requires.own)
 
   step : Steps g.T.Taker.may g.T.Taker.takes c.args.taker.now c.loop-i.taker
       (line_of c.args.params.now c.args.cube.now c.args.predictor c.args.deal.now c.args.depth c.args.y)
@@ -42,28 +28,26 @@ module _ (g : Over) (c : After-count_own-count g) where
       (flat_map run (upto (c.loop-i.i + 1)))
   unfolding line_of
   step =
-      stepped g.met.T.Taker.laws c.loop-i.invariant.sent c.requires.may (upto_rest run _ _ in_order)
-      (ap (λ zs. row_of c.args.params.now c.args.cube.now zs c.args.y)
-      (next_bands _ _ c.loop-i.slot _ c.count_own-count.result (omega arith) c.loop-i.invariant.parted.same ∙ rw c.requires.own there.there))
+      stepped g.met.T.Taker.laws c.loop-i.invariant.sent c.requires.may (upto_rest run _ _ there.in_order)
+      (ap (λ zs. row_of c.args.params.now c.args.cube.now zs c.args.y) there.there)
 
 pub send_each_row-requires-clause-may : goal.send_each_row-requires-clause-may
 send_each_row-requires-clause-may g c =
-    let alone = line_alone c.args.params.now c.args.cube.now c.args.y _ c.args.deal.now _ _ c.if-depth-eq1.true c.requires.own in
-    subst (g.T.Taker.may c.args.taker.now) alone c.requires.may
+    subst (g.T.Taker.may c.args.taker.now) (line_alone _ _ _ _ _ _ _ c.if-depth-eq1.true c.requires.own) c.requires.may
 
 pub returns-then-depth-eq1-clause-sent : goal.returns-then-depth-eq1-clause-sent
 returns-then-depth-eq1-clause-sent g c =
-    let alone = line_alone c.args.params.now c.args.cube.now c.args.y _ c.args.deal.now _ _ c.if-depth-eq1.true c.requires.own in
-    subst (g.T.Taker.takes c.args.taker.now c.send_each_row.new.taker c.send_each_row.result) (sym alone) c.send_each_row.ensures.sent
+    subst (g.T.Taker.takes c.args.taker.now c.send_each_row.new.taker c.send_each_row.result)
+    (sym (line_alone _ _ _ _ _ _ _ c.if-depth-eq1.true c.requires.own)) c.send_each_row.ensures.sent
 
 pub overflow_add-slot : goal.overflow_add-slot
-overflow_add-slot g c = omega (arith, within g c, few g c)
+overflow_add-slot g c = let h = there g c in omega arith
 
 pub offset_bounds-bands-slot : goal.offset_bounds-bands-slot
-offset_bounds-bands-slot g c = omega (arith, within g c, few g c)
+offset_bounds-bands-slot g c = let h = there g c in omega arith
 
 pub slice_bounds-send_row-end : goal.slice_bounds-send_row-end
-slice_bounds-send_row-end g c = let h : c.loop-i.slot + c.count_own-count.result ≤ length c.loop-i.bands = within g c in search rules
+slice_bounds-send_row-end g c = let h = (there g c).fits in search rules
 
 pub send_row-requires-clause-may : goal.send_row-requires-clause-may
 send_row-requires-clause-may g c = (step g (goal.at.send_row-requires-clause-may g c).After-count_own-count).fits
@@ -80,18 +64,15 @@ loop-i-preserved g c =
     record {
       first = (there g d).next;
       slot = (there g d).more;
-      parted = parted_put (next - c.loop-i.slot) next _ c.loop-i.invariant.parted (omega arith) (within g d) (told.at c.if-not-send_row.false) told.same;
+      parted = parted_put (next - c.loop-i.slot) next _ c.loop-i.invariant.parted (omega arith) (there g d).fits (told.at c.if-not-send_row.false) told.same;
       sent = (step g d).more _ _ c.if-not-send_row.false told.sent;
     }
 
-last : (g : Over) (c : After-loop-i g) → c.loop-i.i ≡ group_count c.args.cube.now.shape c.args.depth
-last g c =
-    let end : c.loop-i.i ≡ (c.bands-total.result + c.args.depth - 1) / c.args.depth = omega arith in
-    rw (c.bands-total.ensures.value, c.shape.ensures) at end
-
 pub returns-clause-sent : goal.returns-clause-sent
 unfolding line_of
-returns-clause-sent g c = rw (last g c) at c.loop-i.invariant.sent
+returns-clause-sent g c =
+    let end : c.loop-i.i ≡ (c.bands-total.result + c.args.depth - 1) / c.args.depth = omega arith in
+    rw (rw (c.bands-total.ensures.value, c.shape.ensures) at end) at c.loop-i.invariant.sent
 
 pub loop-i-init : goal.loop-i-init
 loop-i-init g c =

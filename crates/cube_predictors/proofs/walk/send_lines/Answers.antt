@@ -1,4 +1,4 @@
-use Rattle.std.proofs.Common.{◌+◌, ap, arith, refl, ◌∙◌}
+use Rattle.std.proofs.Common.{◌<◌, ◌+◌, ap, arith, refl, ◌∙◌}
 use Rattle.std.specs.List.{flat_map}
 use Rattle.cube_core.specs.Order.{upto}
 use Rattle.cube_predictors.specs.Own.{line_of, own_residuals}
@@ -12,7 +12,9 @@ step : (g : Over) (c : In-loop-y g) → Steps g.T.Taker.may g.T.Taker.takes c.ar
     (own_residuals c.args.params.now c.args.cube.now c.args.predictor c.args.deal.now (Bi c.args.depth))
     (line_of c.args.params.now c.args.cube.now c.args.predictor c.args.deal.now c.args.depth c.loop-y.y)
     (flat_map (λ y. line_of c.args.params.now c.args.cube.now c.args.predictor c.args.deal.now c.args.depth y) (upto (c.loop-y.y + 1)))
-step g c = stepped g.met.T.Taker.laws c.loop-y.invariant.sent c.requires.may (upto_rest _ c.loop-y.y c.args.cube.now.shape.rows (omega (arith, ap (λ s. s.rows) c.shape.ensures))) refl
+step g c =
+    let next : c.loop-y.y < c.args.cube.now.shape.rows = omega (arith, ap (λ s. s.rows) c.shape.ensures) in
+    stepped g.met.T.Taker.laws c.loop-y.invariant.sent c.requires.may (upto_rest _ _ _ next) refl
 
 pub send_line-requires-clause-may : goal.send_line-requires-clause-may
 send_line-requires-clause-may g c = (step g (goal.at.send_line-requires-clause-may g c).In-loop-y).fits

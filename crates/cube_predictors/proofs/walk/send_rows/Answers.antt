@@ -1,4 +1,4 @@
-use Rattle.std.proofs.Common.{◌≡◌, ◌+◌, ap, refl, arith, ◌∙◌}
+use Rattle.std.proofs.Common.{◌<◌, ◌≡◌, ◌+◌, ap, refl, arith, ◌∙◌}
 use Rattle.std.specs.List.{flat_map}
 use Rattle.cube_core.specs.Order.{upto}
 use Rattle.cube_predictors.specs.Own.{row_of, rows_of}
@@ -14,8 +14,8 @@ step : (g : Over) (c : In-loop-y g) → Steps g.T.Taker.may g.T.Taker.takes c.ar
     (flat_map (λ y. row_of c.args.params.now c.args.cube.now (bands_of c.args.bands.now) y) (upto (c.loop-y.y + 1)))
 unfolding rows_of
 step g c =
-    stepped g.met.T.Taker.laws c.loop-y.invariant.sent c.requires.may (upto_rest _ c.loop-y.y c.args.cube.now.shape.rows (omega (arith, ap (λ s. s.rows) c.shape.ensures)))
-    (rw c.loop-y.invariant.same refl)
+    let next : c.loop-y.y < c.args.cube.now.shape.rows = omega (arith, ap (λ s. s.rows) c.shape.ensures) in
+    stepped g.met.T.Taker.laws c.loop-y.invariant.sent c.requires.may (upto_rest _ _ _ next) (rw c.loop-y.invariant.same refl)
 
 pub send_row-requires-clause-may : goal.send_row-requires-clause-may
 send_row-requires-clause-may g c = (step g (goal.at.send_row-requires-clause-may g c).In-loop-y).fits
