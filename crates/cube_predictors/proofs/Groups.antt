@@ -11,12 +11,14 @@ use Rattle.std.proofs.lemmas.List.Sums.{length-filter, count_by-le-length}
 use Rattle.cube_core.proofs.Lists.{length-from}
 use Rattle.std.proofs.Math.Nat.{div-mul-le_self}
 use Rattle.std.proofs.Math.Seq.{take-append_seam, drop-append_seam}
+use Rattle.cube_core.specs.Image.{Image}
 use Rattle.cube_core.specs.Shape.{Sizes}
 use Rattle.cube_core.specs.Order.{from, upto, group, group_count}
+use Rattle.header_bits.specs.declared.params.Params.{Params}
 use Rattle.predict_core.specs.Following.{Learner}
-use Rattle.cube_predictors.specs.Own.{own}
+use Rattle.cube_predictors.specs.Own.{own, row_of, line_of}
 use Rattle.cube_predictors.specs.Sends.{bands_of}
-use Rattle.cube_predictors.proofs.Sending.{from_split, upto_split}
+use Rattle.cube_predictors.proofs.Sending.{from_split, upto_split, row_of_none, same_lists}
 
 -- ---- band after band
 
@@ -91,3 +93,19 @@ is_group q deal s depth i first total end slot count bands some all lt first_is 
       there = rw (size_of, ← take-map, ← drop-map, own_is, slot_is, count_is, mine, before, append_assoc, drop-append_seam, take-append_seam)
           (ap (own q deal) (rw size (ap (λ k. from k (min depth (s.bands - i * depth))) start)));
     }
+
+-- a line of groups of one band is the rows of the own bands
+pub line_alone : (p : Params) (c : Image) (y q : ℕ) (deal : List ℕ) (depth : ℕ) (zs : List ℕ) → depth ≡ 1 → zs ≡ own q deal (upto c.shape.bands)
+    → line_of p c q deal depth y ≡ flat_map (λ z. row_of p c (z ∷ []) y) zs
+unfolding line_of
+line_alone p c y q deal depth zs one mine =
+    let count : (c.shape.bands + 1 - 1) / 1 ≡ c.shape.bands = omega arith in
+    rw (one, mine, count) (same_lists _ (λ z. row_of p c (own q deal (z ∷ [])) y) 0 0 c.shape.bands
+    (λ i lt. ap (λ zs. row_of p c (own q deal zs) y) (single (0 + i) (omega (arith, lt))))
+    ∙ own_alone q deal (λ zs. row_of p c zs y) (row_of_none p c y) (upto c.shape.bands))
+  where
+    single : (i : ℕ) → i < c.shape.bands → group c.shape 1 i ≡ i ∷ []
+    single i lt =
+        let first : i * 1 ≡ i = omega arith in
+        let size : min 1 (c.shape.bands - i) ≡ 1 = omega (arith, lt) in
+        rw (first, size) refl

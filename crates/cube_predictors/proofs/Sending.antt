@@ -1,24 +1,19 @@
 -- The walk over a predictor's own places, step by step.
 use Rattle.std.proofs.Common.{◌≡◌, ◌+◌, ◌-◌, ◌<◌, ◌≤◌, ℕ, zero, suc, Bool, true, false, List, [], ◌∷◌, ◌++◌, length, take, drop, get_or}
-use Rattle.std.proofs.Common.{refl, sym, ap, ap₂, ◌∙◌, subst, append-nil, zero-add, length-take, length-drop, take-add, arith}
+use Rattle.std.proofs.Common.{refl, sym, ap, ap₂, ◌∙◌, subst, map, append-nil, append_assoc, zero-add, drop-cons, take_all, length-take, length-drop, take-add, arith}
 use Rattle.std.specs.List.{flat_map, AllByRecursion}
 use Rattle.std.proofs.lemmas.Grind.{flat_map-append}
 use Rattle.std.proofs.lemmas.Slice.{take-put_mid, drop-put_mid}
 use borrow.Rule.Slice.PartMut.{put_mid}
 use Rattle.std.proofs.lemmas.List.{map-append, take-append-drop, drop-drop, take-map, drop-map, length-map}
-use Rattle.std.proofs.lemmas.List.Elements.{All-append, All-drop, All-from_recursion, recursion_from_All}
 use Rattle.cube_core.specs.Image.{Image}
 use Rattle.cube_core.specs.Order.{from, upto}
 use Rattle.header_bits.specs.declared.params.Params.{Params}
 use Rattle.predict_core.specs.Following.{Learner}
+use Rattle.header_bits.proofs.Items.{all_append, all_drop}
 use Rattle.cube_predictors.specs.Own.{row_of}
 use Rattle.cube_predictors.specs.Sends.{IsAt, AreAt, bands_of}
 use Rattle.cube_predictors.specs.Takings.{AreTakings}
-
--- ---- one band behind another
-
-pub each_append : {X : Type 0} (P : X → Type 0) (xs ys : List X) → AllByRecursion P xs → AllByRecursion P ys → AllByRecursion P (xs ++ ys)
-each_append P xs ys h k = recursion_from_All P (xs ++ ys) (All-append P xs ys (All-from_recursion P xs h) (All-from_recursion P ys k))
 
 pub at_same : (p : Params) (c : Image) (t u : ℕ) (bands : List Learner) → AreAt p c t bands → t ≡ u → AreAt p c u bands
 at_same p c t u bands h e = subst (λ k. AreAt p c k bands) e h
@@ -33,6 +28,12 @@ from_split a (suc m) n =
 
 pub upto_split : (x n : ℕ) → upto (x + n) ≡ upto x ++ from x n
 upto_split x n = rw zero-add at (from_split 0 x n)
+
+pub same_lists : (f g : ℕ → List ℕ) (a b n : ℕ) → ((i : ℕ) → i < n → f (a + i) ≡ g (b + i)) → flat_map f (from a n) ≡ flat_map g (from b n)
+same_lists f g a b zero h = refl
+same_lists f g a b (suc n) h =
+    let first : f a ≡ g b = ap f (omega arith) ∙ h 0 (omega arith) ∙ ap g (omega arith) in
+    ap₂ (λ u v. u ++ v) first (same_lists f g (suc a) (suc b) n (λ i lt. ap f (omega arith) ∙ h (suc i) (omega (arith, lt)) ∙ ap g (omega arith)))
 
 -- the pieces up to a place, the next one, those up to its end, and the rest
 pub record Pieces (all done next up : List ℕ) : Type 0 where
@@ -65,6 +66,14 @@ piece_rest f x n m le =
 
 pub upto_rest : (f : ℕ → List ℕ) (i n : ℕ) → i < n → Pieces (flat_map f (upto n)) (flat_map f (upto i)) (f i) (flat_map f (upto (i + 1)))
 upto_rest f i n lt = rw (append-nil (f i)) at (piece_rest f i 1 n (omega (arith, lt)))
+
+-- pieces of the first of two lists, and the second
+pub front_piece : (rest : List ℕ) {all done next up : List ℕ} → Pieces all done next up → Pieces (all ++ rest) done next up
+front_piece rest {up = up} h =
+    record { more = h.more; tail = h.tail ++ rest; whole = ap (λ v. v ++ rest) h.whole ∙ append_assoc up h.tail rest }
+
+pub last_piece : (all rest : List ℕ) → Pieces (all ++ rest) all rest (all ++ rest)
+last_piece all rest = record { more = refl; tail = []; whole = sym (append-nil (all ++ rest)) }
 
 -- what comes of the next numbers of a list: they may be taken, behind those before them; then the taker has stopped in the list, or has taken them all
 pub record Steps {S : Type 0} (may : S → List ℕ → Type 0) (takes : S → S → Bool → List ℕ → Type 0) (old mid : S) (all numbers up : List ℕ) : Type 0 where
@@ -121,21 +130,30 @@ pub parted_put : {Done : Learner → Type 0} {p : Params} {c : Image} {t i : ℕ
 parted_put {Done = Done} {p = p} {c = c} {t = t} {i = i} {bands = bands} {was = was} n j sub h e fits past same =
     let long = ap (λ (zs : List ℕ). length zs) same in
     let many : length sub ≡ n = omega (arith, long, e, fits, length-map {A = Learner} {B = ℕ}, length-take n (drop i bands), length-drop i bands) in
-    let left = recursion_from_All (IsAt p c t) _ (All-drop (IsAt p c t) n (drop i bands) (All-from_recursion (IsAt p c t) (drop i bands) h.left)) in
     record {
-      done = rw (take-put_mid i n bands sub j (omega (arith, e, many)) (omega (arith, e, fits))) (each_append Done (take i bands) sub h.done past);
-      left = rw (drop-put_mid i n bands sub j (omega (arith, e)) (omega (arith, e, fits)) many, e) (rw drop-drop at left);
+      done = rw (take-put_mid i n bands sub j (omega (arith, e, many)) (omega (arith, e, fits))) (all_append Done (take i bands) sub h.done past);
+      left = rw (drop-put_mid i n bands sub j (omega (arith, e)) (omega (arith, e, fits)) many, e) (rw drop-drop at (all_drop (IsAt p c t) n (drop i bands) h.left));
       same = bands_put bands was sub i n h.same same;
     }
 
--- one band alone, and two
-pub one_alone : (f : List ℕ → List ℕ) (zs : List ℕ) → length zs ≡ 1 → f zs ≡ flat_map (λ z. f (z ∷ [])) zs
-one_alone f [] e = absurd (omega (arith, e))
-one_alone f (z ∷ []) e = sym (append-nil (f (z ∷ [])))
-one_alone f (z ∷ w ∷ zs) e = absurd (omega (arith, e))
+-- the items from place a on, one by one
+pub items_from : {A : Type 0} (xs : List A) (d : A) (a n : ℕ) → a + n ≤ length xs → map (λ i. get_or xs i d) (from a n) ≡ take n (drop a xs)
+items_from xs d a zero le = refl
+items_from xs d a (suc n) le =
+    let here : a < length xs = omega (arith, le) in
+    rw (drop-cons xs a d here) (ap (λ v. get_or xs a d ∷ v) (items_from xs d (suc a) n (omega (arith, le))))
 
-pub two_alone : (f : ℕ → List ℕ) (zs : List ℕ) → length zs ≡ 2 → flat_map f zs ≡ f (get_or zs 0 0) ++ f (get_or zs 1 0)
-two_alone f [] e = absurd (omega (arith, e))
-two_alone f (z ∷ []) e = absurd (omega (arith, e))
-two_alone f (z ∷ w ∷ []) e = ap (λ v. f z ++ v) (append-nil (f w))
-two_alone f (z ∷ w ∷ v ∷ zs) e = absurd (omega (arith, e))
+pub all_items : {A : Type 0} (xs : List A) (d : A) (n : ℕ) → length xs ≡ n → xs ≡ map (λ i. get_or xs i d) (upto n)
+all_items xs d n e = sym (items_from xs d 0 n (omega (arith, e)) ∙ take_all n xs (omega (arith, e)))
+
+-- one band alone, and two
+pub one_alone : (f : List ℕ → List ℕ) (bands : List Learner) → length bands ≡ 1 → f (bands_of bands) ≡ flat_map (λ z. f (z ∷ [])) (bands_of bands)
+one_alone f bands e =
+    let all = all_items (bands_of bands) 0 1 (length-map bands (λ b. b.band) ∙ e) in
+    subst (λ v. f v ≡ flat_map (λ z. f (z ∷ [])) v) (sym all) (sym (append-nil (f (get_or (bands_of bands) 0 0 ∷ []))))
+
+pub two_alone : (f : ℕ → List ℕ) (bands : List Learner) → length bands ≡ 2
+    → flat_map f (bands_of bands) ≡ f (get_or (bands_of bands) 0 0) ++ f (get_or (bands_of bands) 1 0)
+two_alone f bands e =
+    ap (flat_map f) (all_items (bands_of bands) 0 2 (length-map bands (λ b. b.band) ∙ e))
+    ∙ ap (λ v. f (get_or (bands_of bands) 0 0) ++ v) (append-nil (f (get_or (bands_of bands) 1 0)))

@@ -1,14 +1,12 @@
 use Rattle.std.proofs.Common.{◌≡◌, ◌≤◌, ◌<◌, ◌+◌, ℕ, List, ◌∷◌, [], length, take, get_or, ap, ap₂, refl, sym, arith, ◌∙◌, ◌++◌}
 use Rattle.std.specs.List.{flat_map}
-use Rattle.std.proofs.lemmas.List.{length-map}
 use Rattle.std.proofs.lemmas.Slice.{take-put_mid}
 use Rattle.cube_core.specs.Order.{from, upto}
 use Rattle.predict_core.specs.Following.{Learner}
 use Rattle.cube_predictors.specs.Own.{column_of, row_of}
 use Rattle.cube_predictors.specs.Sends.{bands_of}
-use Rattle.cube_predictors.proofs.EachRow.{front_piece, last_piece, row_piece}
-use Rattle.cube_predictors.proofs.Sending.{Steps, at_same, none_yet, stepped, piece_rest, two_alone}
-use Rattle.cube_predictors.proofs.RowPieces.{past_at}
+use Rattle.cube_predictors.proofs.Sending.{front_piece, last_piece, Steps, at_same, none_yet, stepped, piece_rest, two_alone}
+use Rattle.cube_predictors.proofs.RowPieces.{row_piece, past_at}
 use Rattle.cube_predictors.proofs.each_row.send_two_rows.Goals as goal
 use Rattle.cube_predictors.proofs.each_row.send_two_rows.Goals.{After-piece_residuals, After-loop-x}
 use Rattle.cube_predictors.proofs.each_row.send_two_rows.Given.{Over}
@@ -33,7 +31,7 @@ module _ (g : Over) (c : After-piece_residuals g) where
   unfolding row_of
   step =
       stepped g.met.T.Taker.laws c.loop-x.invariant.sent c.requires.may
-      (rw (two_alone _ (bands_of c.args.bands.now) (length-map c.args.bands.now (λ b. b.band) ∙ c.requires.two))
+      (rw (two_alone _ c.args.bands.now c.requires.two)
       (front_piece _ (piece_rest (column 0) _ _ c.args.cube.now.shape.columns within)))
       (held 0 _ _ (omega arith) c.piece_residuals.ensures.value)
 
@@ -55,7 +53,7 @@ loop-x-preserved g c =
     let next = (piece_rest (column g d 1) c.loop-x.x c.min-count.result c.args.cube.now.shape.columns (within g d)).more in
     record {
       within = within g d;
-      at = at_same _ _ _ _ _ (past_at _ _ _ _ _ c.predict_pieces.ensures.past) (omega arith);
+      at = past_at _ _ _ _ _ _ c.predict_pieces.ensures.past (omega arith);
       same = same g d;
       sent = (step g d).more _ _ c.if-not-take.false c.take.ensures;
       kept = take-put_mid _ _ c.loop-x.row numbers _ (omega (arith, many)) (omega (arith, was.within, c.requires.room))
@@ -73,7 +71,7 @@ module _ (g : Over) (c : After-loop-x g) where
   unfolding row_of
   last_step =
       stepped g.met.T.Taker.laws (rw columns at c.loop-x.invariant.sent) c.requires.may
-      (rw (two_alone _ (bands_of c.args.bands.now) (length-map c.args.bands.now (λ b. b.band) ∙ c.requires.two)) (last_piece _ _))
+      (rw (two_alone _ c.args.bands.now c.requires.two) (last_piece _ _))
       (ap (λ k. take k c.loop-x.row) (omega (arith, columns, ap (λ s. s.columns) c.shape.ensures)) ∙ rw columns at c.loop-x.invariant.kept)
 
 pub take-requires-2 : goal.take-requires-2

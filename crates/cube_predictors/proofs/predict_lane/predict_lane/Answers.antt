@@ -1,4 +1,4 @@
-use Rattle.std.proofs.Common.{◌≡◌, ◌∙◌, ◌≤◌, ◌^◌, List, ℕ, [], length, ap, ap₂, sym, subst, arith}
+use Rattle.std.proofs.Common.{◌∙◌, ◌^◌, List, ℕ, length, ap, ap₂, sym, subst, arith}
 use Rattle.header_bits.specs.declared.params.Params.{Params}
 use Rattle.lane_workers.specs.Feeds.{Keeps}
 use Rattle.cube_predictors.specs.Own.{own_residuals}

@@ -1,6 +1,5 @@
-use Rattle.std.proofs.Common.{◌≡◌, ◌+◌, ◌-◌, ◌∷◌, [], ℕ, List, refl, length, take, drop, length-take, length-drop, arith}
+use Rattle.std.proofs.Common.{◌∙◌, ap, ◌≡◌, ◌+◌, ◌-◌, ◌∷◌, [], ℕ, List, refl, length, take, drop, length-take, length-drop, arith}
 use Rattle.std.specs.List.{flat_map}
-use Rattle.std.proofs.lemmas.List.{length-map}
 use Rattle.std.proofs.lemmas.List.Elements.{recursion_from_All}
 use Rattle.cube_predictors.specs.Own.{rows_of}
 use Rattle.cube_predictors.specs.Sends.{bands_of}
@@ -13,18 +12,16 @@ module _ (g : Over) (c : In-loop-i g) where
   abbrev rows : List ℕ → List ℕ
   rows zs = flat_map (λ z. rows_of c.args.params.now c.args.cube.now (z ∷ [])) zs
 
-  next : bands_of (take (c.loop-i.i + 1 - c.loop-i.i) (drop c.loop-i.i c.loop-i.bands)) ≡ take 1 (drop c.loop-i.i (bands_of c.args.bands.now))
-  next = next_bands _ _ c.loop-i.i _ 1 (omega arith) c.loop-i.invariant.parted.same
-
-  one : length (take 1 (drop c.loop-i.i (bands_of c.args.bands.now))) ≡ 1
-  one = rw (length-take, length-drop, length-map) (omega (arith, c.loop-i-test.true))
+  one : length (take (c.loop-i.i + 1 - c.loop-i.i) (drop c.loop-i.i c.loop-i.bands)) ≡ 1
+  one = rw (length-take, length-drop) (omega (arith, c.loop-i-test.true, c.loop-i.auto.bands))
 
   step : Steps g.T.Taker.may g.T.Taker.takes c.args.taker.now c.loop-i.taker (rows (bands_of c.args.bands.now))
       (rows_of c.args.params.now c.args.cube.now (bands_of (take (c.loop-i.i + 1 - c.loop-i.i) (drop c.loop-i.i c.loop-i.bands))))
       (rows (take (c.loop-i.i + 1) (bands_of c.args.bands.now)))
   step =
       stepped g.met.T.Taker.laws c.loop-i.invariant.sent c.requires.may (some_rest _ (bands_of c.args.bands.now) c.loop-i.i 1)
-      (rw next (one_alone (rows_of c.args.params.now c.args.cube.now) _ one))
+      (one_alone (rows_of c.args.params.now c.args.cube.now) _ one
+      ∙ ap rows (next_bands _ _ c.loop-i.i _ 1 (omega arith) c.loop-i.invariant.parted.same))
 
 pub send_rows-requires-clause-may : goal.send_rows-requires-clause-may
 send_rows-requires-clause-may g c = (step g (goal.at.send_rows-requires-clause-may g c).In-loop-i).fits

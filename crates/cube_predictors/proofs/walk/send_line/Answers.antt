@@ -1,12 +1,10 @@
-use Rattle.std.proofs.Common.{rules, ◌≡◌, ◌+◌, ◌-◌, ◌/◌, ◌<◌, ◌≤◌, ℕ, List, subst, refl, ap, sym, length, take, drop, arith, ◌∙◌}
+use Rattle.std.proofs.Common.{rules, ◌≡◌, ◌+◌, ◌-◌, ◌/◌, ℕ, List, subst, refl, ap, sym, take, drop, arith, ◌∙◌}
 use Rattle.std.specs.List.{flat_map}
-use Rattle.std.proofs.lemmas.List.{length-map}
-use Rattle.cube_core.specs.Order.{upto, group, group_count}
+use Rattle.cube_core.specs.Order.{upto, group}
 use Rattle.cube_predictors.specs.Own.{own, row_of, line_of}
 use Rattle.cube_predictors.specs.Sends.{bands_of}
-use Rattle.cube_predictors.proofs.Sending.{Steps, none_yet, stepped, upto_rest, next_bands, parted_put}
-use Rattle.cube_predictors.proofs.EachRow.{line_alone}
-use Rattle.cube_predictors.proofs.Groups.{IsGroup, is_group, own_few}
+use Rattle.cube_predictors.proofs.Sending.{Steps, none_yet, stepped, upto_rest, parted_put}
+use Rattle.cube_predictors.proofs.Groups.{IsGroup, is_group, line_alone}
 use Rattle.cube_predictors.proofs.walk.send_line.Goals as goal
 use Rattle.cube_predictors.proofs.walk.send_line.Goals.{After-count_own-count}
 use Rattle.cube_predictors.proofs.walk.send_line.Given.{Over}

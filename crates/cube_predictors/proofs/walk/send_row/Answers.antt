@@ -44,7 +44,7 @@ loop-x-preserved g c =
     let d = (goal.at.loop-x-preserved g c).After-predict_pieces in
     record {
       within = within g d;
-      at = at_same _ _ _ _ _ (past_at _ _ _ _ _ c.predict_pieces.ensures.past) (omega arith);
+      at = past_at _ _ _ _ _ _ c.predict_pieces.ensures.past (omega arith);
       same = same g d;
       sent = (step g d).more _ _ c.if-not-send_pieces.false c.send_pieces.ensures.sent;
     }
