@@ -56,7 +56,8 @@ pub past_two : (p : Params) (c : Image) (t n i : ℕ) (bands before rest : List 
 past_two p c t n i bands before rest b d e f lt front back done left piece other =
     let there : get_or before i b ≡ get_or bands i b = rw front (get_or-take (i + 1) bands i b (omega arith)) in
     let behind : get_or rest 0 e ≡ get_or (set bands i d) (i + 1) e =
-    rw (get_or-set_other bands i (i + 1) d e (λ h. absurd (omega (arith, h))), back, get_or-drop (i + 1) bands 0 e) (ap (λ k. get_or bands k e) (omega arith)) in
+    rw (get_or-set_other bands i (i + 1) d e (λ h. absurd (omega (arith, h))), back, get_or-drop (i + 1) bands 0 e)
+    (ap (λ k. get_or bands k e) (omega arith)) in
     let first = rw there at piece in
     let second = rw behind at other in
     let one = past_step p c t n i bands b d (omega arith) done left first in
@@ -138,5 +139,6 @@ pub places_more : (bands : List Learner) (first k n many count : ℕ) (room numb
 places_more bands first k n many count room numbers long all lt is done =
     let end : (k + 1) * many ≡ k * many + length numbers = grind (arith, long) in
     let within = mul-le k many count many (omega arith) (omega arith) in
-    take-put_mid (k * many) n room numbers ((k + 1) * many) end (omega (arith, within, all)) ∙ ap₂ (λ a b. a ++ b) done (is ∙ sym (append-nil (held_at bands (first + k))))
+    take-put_mid (k * many) n room numbers ((k + 1) * many) end (omega (arith, within, all))
+    ∙ ap₂ (λ a b. a ++ b) done (is ∙ sym (append-nil (held_at bands (first + k))))
     ∙ sym (flat_map-append (λ i. held_at bands i) (from first k) ((first + k) ∷ [])) ∙ ap (flat_map (λ i. held_at bands i)) (sym (from_split first k 1))

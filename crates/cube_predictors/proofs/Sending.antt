@@ -1,6 +1,7 @@
 -- The walk over a predictor's own places, step by step.
 use Rattle.std.proofs.Common.{◌≡◌, ◌+◌, ◌-◌, ◌<◌, ◌≤◌, ℕ, zero, suc, Bool, true, false, List, [], ◌∷◌, ◌++◌, length, take, drop, get_or}
-use Rattle.std.proofs.Common.{refl, sym, ap, ap₂, ◌∙◌, subst, map, append-nil, append_assoc, zero-add, drop-cons, take_all, length-take, length-drop, take-add, arith}
+use Rattle.std.proofs.Common.{refl, sym, ap, ap₂, ◌∙◌, subst, map, append-nil, append_assoc, zero-add}
+use Rattle.std.proofs.Common.{drop-cons, take_all, length-take, length-drop, take-add, arith}
 use Rattle.std.specs.List.{flat_map, AllByRecursion}
 use Rattle.std.proofs.lemmas.Grind.{flat_map-append}
 use Rattle.std.proofs.lemmas.Slice.{take-put_mid, drop-put_mid}
@@ -132,7 +133,8 @@ parted_put {Done = Done} {p = p} {c = c} {t = t} {i = i} {bands = bands} {was = 
     let many : length sub ≡ n = omega (arith, long, e, fits, length-map {A = Learner} {B = ℕ}, length-take n (drop i bands), length-drop i bands) in
     record {
       done = rw (take-put_mid i n bands sub j (omega (arith, e, many)) (omega (arith, e, fits))) (all_append Done (take i bands) sub h.done past);
-      left = rw (drop-put_mid i n bands sub j (omega (arith, e)) (omega (arith, e, fits)) many, e) (rw drop-drop at (all_drop (IsAt p c t) n (drop i bands) h.left));
+      left = rw (drop-put_mid i n bands sub j (omega (arith, e)) (omega (arith, e, fits)) many, e)
+          (rw drop-drop at (all_drop (IsAt p c t) n (drop i bands) h.left));
       same = bands_put bands was sub i n h.same same;
     }
 

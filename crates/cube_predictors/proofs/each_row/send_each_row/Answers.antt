@@ -29,11 +29,9 @@ pub loop-first-preserved : goal.loop-first-preserved
 loop-first-preserved g c =
     let told = c.send_next_rows.ensures in
     let next = c.loop-first.first + c.min-count.result in
-    record {
-      parted = parted_put (next - c.loop-first.first) next _ c.loop-first.invariant.parted (omega arith) (omega arith)
-          (told.at c.if-not-send_next_rows.false) told.same;
-      sent = (step g (goal.at.loop-first-preserved g c).After-min-count).more _ _ c.if-not-send_next_rows.false told.sent;
-    }
+    let parted = parted_put (next - c.loop-first.first) next _ c.loop-first.invariant.parted (omega arith) (omega arith)
+    (told.at c.if-not-send_next_rows.false) told.same in
+    record { parted = parted; sent = (step g (goal.at.loop-first-preserved g c).After-min-count).more _ _ c.if-not-send_next_rows.false told.sent }
 
 pub loop-first-init : goal.loop-first-init
 loop-first-init g c = record { parted = record { done = tt; left = c.requires.at; same = refl }; sent = none_yet g.met.T.Taker.laws c.requires.may }

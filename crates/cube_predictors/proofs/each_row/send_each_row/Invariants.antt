@@ -7,7 +7,7 @@ use Rattle.cube_predictors.proofs.each_row.send_each_row.Given as goal
 
 abbrev pub invariant-loop-first : goal.invariant-loop-first
 invariant-loop-first g l = record {
-  parted : Parted (λ b. IsAt l.params l.cube ((l.y + 1) * l.cube.shape.columns) b) l.params l.cube (l.y * l.cube.shape.columns) l.first l.bands l.initial.bands;
+  parted : Parted (IsAt l.params l.cube ((l.y + 1) * l.cube.shape.columns)) l.params l.cube (l.y * l.cube.shape.columns) l.first l.bands l.initial.bands;
   sent : g.T.Taker.takes l.initial.taker l.taker true
       (flat_map (λ z. row_of l.params l.cube (z ∷ []) l.y) (take l.first (bands_of l.initial.bands)));
 }

@@ -59,12 +59,9 @@ loop-i-preserved g c =
     let d = (goal.at.loop-i-preserved g c).After-count_own-count in
     let told = c.send_row.ensures in
     let next = c.loop-i.slot + c.count_own-count.result in
-    record {
-      first = (there g d).next;
-      slot = (there g d).more;
-      parted = parted_put (next - c.loop-i.slot) next _ c.loop-i.invariant.parted (omega arith) (there g d).fits (told.at c.if-not-send_row.false) told.same;
-      sent = (step g d).more _ _ c.if-not-send_row.false told.sent;
-    }
+    let parted = parted_put (next - c.loop-i.slot) next _ c.loop-i.invariant.parted (omega arith) (there g d).fits
+    (told.at c.if-not-send_row.false) told.same in
+    record { first = (there g d).next; slot = (there g d).more; parted = parted; sent = (step g d).more _ _ c.if-not-send_row.false told.sent }
 
 pub returns-clause-sent : goal.returns-clause-sent
 unfolding line_of
@@ -74,4 +71,5 @@ returns-clause-sent g c =
 
 pub loop-i-init : goal.loop-i-init
 loop-i-init g c =
-    record { first = omega arith; slot = refl; parted = record { done = tt; left = c.requires.at; same = refl }; sent = none_yet g.met.T.Taker.laws c.requires.may }
+    let sent = none_yet g.met.T.Taker.laws c.requires.may in
+    record { first = omega arith; slot = refl; parted = record { done = tt; left = c.requires.at; same = refl }; sent = sent }

@@ -10,7 +10,7 @@ abbrev pub invariant-loop-i : goal.invariant-loop-i
 invariant-loop-i g l = record {
   first : l.first ≡ min (l.i * l.depth) l.cube.shape.bands;
   slot : l.slot ≡ length (own l.predictor l.deal (upto l.first));
-  parted : Parted (λ b. IsAt l.params l.cube ((l.y + 1) * l.cube.shape.columns) b) l.params l.cube (l.y * l.cube.shape.columns) l.slot l.bands l.initial.bands;
+  parted : Parted (IsAt l.params l.cube ((l.y + 1) * l.cube.shape.columns)) l.params l.cube (l.y * l.cube.shape.columns) l.slot l.bands l.initial.bands;
   sent : g.T.Taker.takes l.initial.taker l.taker true
       (flat_map (λ i. row_of l.params l.cube (own l.predictor l.deal (group l.cube.shape l.depth i)) l.y) (upto l.i));
 }
