@@ -43,6 +43,7 @@ past_step p c t n i bands b d lt done left piece =
     let all = all_append (IsPast p c t n) (take i bands) (d ∷ []) done (past, tt) in
     (rw (take_more_set bands i d lt) all, rw (drop-set-lt (i + 1) bands i d (omega arith)) here.1)
 
+-- it is the same band as before
 pub band_set : (c : Image) (n : ℕ) (bands : List Learner) (k : ℕ) (b d : Learner) → HoldsPiece c n (get_or bands k b) d
     → bands_of (set bands k d) ≡ bands_of bands
 band_set c n bands k b d piece = map-set_same (λ r. r.band) _ _ _ b piece.moved.band

@@ -16,9 +16,6 @@ use Rattle.cube_predictors.specs.Own.{row_of}
 use Rattle.cube_predictors.specs.Sends.{IsAt, AreAt, bands_of}
 use Rattle.cube_predictors.specs.Takings.{AreTakings}
 
-pub at_same : (p : Params) (c : Image) (t u : ℕ) (bands : List Learner) → AreAt p c t bands → t ≡ u → AreAt p c u bands
-at_same p c t u bands h e = subst (λ k. AreAt p c k bands) e h
-
 -- ---- pieces, one behind another
 
 pub from_split : (a m n : ℕ) → from a (m + n) ≡ from a m ++ from (a + m) n
@@ -30,13 +27,14 @@ from_split a (suc m) n =
 pub upto_split : (x n : ℕ) → upto (x + n) ≡ upto x ++ from x n
 upto_split x n = rw zero-add at (from_split 0 x n)
 
+-- two lists that are made alike, place by place
 pub same_lists : (f g : ℕ → List ℕ) (a b n : ℕ) → ((i : ℕ) → i < n → f (a + i) ≡ g (b + i)) → flat_map f (from a n) ≡ flat_map g (from b n)
 same_lists f g a b zero h = refl
 same_lists f g a b (suc n) h =
     let first : f a ≡ g b = ap f (omega arith) ∙ h 0 (omega arith) ∙ ap g (omega arith) in
     ap₂ (λ u v. u ++ v) first (same_lists f g (suc a) (suc b) n (λ i lt. ap f (omega arith) ∙ h (suc i) (omega (arith, lt)) ∙ ap g (omega arith)))
 
--- the pieces up to a place, the next one, those up to its end, and the rest
+-- a list's front, what comes next, both together, and the rest
 pub record Pieces (all done next up : List ℕ) : Type 0 where
   pub more : up ≡ done ++ next
   pub tail : List ℕ
@@ -76,7 +74,8 @@ front_piece rest {up = up} h =
 pub last_piece : (all rest : List ℕ) → Pieces (all ++ rest) all rest (all ++ rest)
 last_piece all rest = record { more = refl; tail = []; whole = sym (append-nil (all ++ rest)) }
 
--- what comes of the next numbers of a list: they may be taken, behind those before them; then the taker has stopped in the list, or has taken them all
+-- what comes of the next numbers of a list, where those before them were taken: they may be taken too, and the taker
+-- then has gone on with the list to their end, or has stopped within it
 pub record Steps {S : Type 0} (may : S → List ℕ → Type 0) (takes : S → S → Bool → List ℕ → Type 0) (old mid : S) (all numbers up : List ℕ) : Type 0 where
   pub fits : may mid numbers
   pub so_far : (new : S) (result : Bool) → takes mid new result numbers → takes old new result up
@@ -100,6 +99,9 @@ module _ {S : Type 0} {may : S → List ℕ → Type 0} {takes : S → S → Boo
 
 -- ---- some of the bands
 
+pub at_same : (p : Params) (c : Image) (t u : ℕ) (bands : List Learner) → AreAt p c t bands → t ≡ u → AreAt p c u bands
+at_same p c t u bands h e = subst (λ k. AreAt p c k bands) e h
+
 pub nothing_each : {A : Type 0} (xs : List A) → flat_map {X = A} {A = ℕ} (λ x. []) xs ≡ []
 nothing_each [] = refl
 nothing_each (x ∷ xs) = nothing_each xs
@@ -114,17 +116,18 @@ pub bands_put : (bands was sub : List Learner) (i n : ℕ) → bands_of bands �
     → bands_of (put_mid i n bands sub) ≡ bands_of was
 bands_put bands was sub i n same e = rw (map-append, map-append, e, ← map-append, take-append-drop, ← map-append, take-append-drop) same
 
--- the bands up to one of them have come to what they are to come to, and the others are at place t
+-- the first i bands are done, and the others are still at place t
 pub record Parted (Done : Learner → Type 0) (p : Params) (c : Image) (t i : ℕ) (bands was : List Learner) : Type 0 where
   pub done : AllByRecursion Done (take i bands)
   pub left : AreAt p c t (drop i bands)
   pub same : bands_of bands ≡ bands_of was
 
+-- which bands come next
 pub next_bands : (bands was : List Learner) (i m n : ℕ) → m ≡ n → bands_of bands ≡ bands_of was
     → bands_of (take m (drop i bands)) ≡ take n (drop i (bands_of was))
 next_bands bands was i m n e same = rw (e, ← take-map, ← drop-map, same) refl
 
--- the next n of them have come to it too
+-- the next n are done too, and were put back
 pub parted_put : {Done : Learner → Type 0} {p : Params} {c : Image} {t i : ℕ} {bands was : List Learner} (n j : ℕ) (sub : List Learner)
     → Parted Done p c t i bands was → j ≡ i + n → j ≤ length bands → AllByRecursion Done sub → bands_of sub ≡ bands_of (take n (drop i bands))
     → Parted Done p c t j (put_mid i n bands sub) was
