@@ -1,4 +1,3 @@
-pub mod EachRow
 pub mod Groups
 pub mod Owning
 pub mod Parts

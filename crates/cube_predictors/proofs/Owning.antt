@@ -1,5 +1,5 @@
 -- A predictor's part of the residuals is those of its own bands, in encoding order.
-use Rattle.std.proofs.Common.{◌≡◌, ◌+◌, ◌*◌, ℕ, Bool, true, false, List, [], ◌∷◌, ◌++◌, map, refl, sym, ap, ◌∙◌}
+use Rattle.std.proofs.Common.{◌≡◌, ◌+◌, ◌*◌, ℕ, Bool, true, false, List, [], ◌∷◌, map, refl, sym, ap, ◌∙◌}
 use Rattle.std.specs.Prelude.{◌==◌, if◌then◌else◌, filter, slice_index_or}
 use Rattle.std.specs.List.{flat_map}
 use Rattle.std.proofs.lemmas.List.{map-append}
@@ -15,6 +15,7 @@ use Rattle.header_bits.specs.declared.params.Params.{Params}
 use Rattle.predict_core.specs.Residual.{mapped_residual, residuals}
 use Rattle.cube_predictors.specs.Own.{own, column_of, row_of, rows_of, line_of, own_residuals, OwnIsPart}
 use Rattle.cube_predictors.specs.Weave.{owners_of, part}
+use Rattle.cube_predictors.proofs.Groups.{own_alone}
 use Rattle.cube_predictors.proofs.Sending.{nothing_each}
 
 -- what is chosen, and its images
@@ -57,24 +58,11 @@ module _ (p : Params) (c : Image) (q : ℕ) (deal : List ℕ) where
       ap at_own (sym (flat_map_single (λ x. record { z = z; y = y; x = x }) xs))
       ∙ own_each (λ x. record { z = z; y = y; x = x } ∷ []) _ xs (λ x. own_column y x (z ∷ []))
 
-  no_rows : rows_of p c [] ≡ []
-  unfolding rows_of row_of
-  no_rows = simp nothing_each
-
-  one_more : (b : Bool) (z : ℕ) (zs ns : List ℕ) → ns ≡ flat_map (λ z. rows_of p c (z ∷ [])) zs
-      → rows_of p c (if b then z ∷ [] else []) ++ ns ≡ flat_map (λ z. rows_of p c (z ∷ [])) (if b then z ∷ zs else zs)
-  one_more true z zs ns e = ap (λ v. rows_of p c (z ∷ []) ++ v) e
-  one_more false z zs ns e = rw no_rows e
-
-  own_bands : (zs : List ℕ) → flat_map (λ z. rows_of p c (own q deal (z ∷ []))) zs ≡ flat_map (λ z. rows_of p c (z ∷ [])) (own q deal zs)
-  own_bands [] = refl
-  own_bands (z ∷ zs) = one_more (slice_index_or deal z 0 == q) z (own q deal zs) (flat_map (λ z. rows_of p c (own q deal (z ∷ []))) zs) (own_bands zs)
-
   by_order : (order : Order) → at_own (places c.shape order) ≡ own_residuals p c q deal order
   unfolding places row_of rows_of line_of
   by_order Bsq =
       own_each _ (λ z. rows_of p c (own q deal (z ∷ []))) (upto c.shape.bands) (λ z. own_each _ _ (upto c.shape.rows) (λ y. own_row z y (upto c.shape.columns)))
-      ∙ own_bands (upto c.shape.bands)
+      ∙ own_alone q deal (rows_of p c) (simp nothing_each) (upto c.shape.bands)
   by_order (Bi depth) =
       own_each _ (λ y. line_of p c q deal depth y) (upto c.shape.rows) (λ y.
       own_each _ (λ i. row_of p c (own q deal (group c.shape depth i)) y) (upto (group_count c.shape depth)) (λ i.

@@ -1,11 +1,12 @@
 -- When there is nothing to refuse of a plan.
-use Rattle.std.proofs.Common.{◌≡◌, ◌+◌, ◌<◌, ℕ, suc, ltb, not, List, [], ◌∷◌, length, drop, get_or, refl, ap, drop-cons, add-one}
+use Rattle.std.proofs.Common.{◌≡◌, ◌+◌, ◌<◌, ◌≤◌, Err, ℕ, suc, ltb, not, List, [], ◌∷◌, length, drop, get_or, refl, ap, drop-cons, add-one}
+use Rattle.std.proofs.Math.ListN.{drop_of_length-le}
 use Rattle.std.specs.List.{AllByRecursion}
 use Rattle.std.proofs.lemmas.List.Elements.{All-from_recursion, recursion_from_All}
-use Rattle.std.proofs.lemmas.Bool.{ltb-true, lt-ltb, eqb-true, eq-eqb}
+use Rattle.std.proofs.lemmas.Bool.{ltb-true, lt-ltb, le-ltb, eqb-true, eq-eqb}
 use Rattle.cube_core.specs.declared.fault.Field.TheVariants as field
 use Rattle.cube_core.specs.declared.fault.Fault.TheVariants.{BadDeal}
-use Rattle.cube_core.specs.Steps.{◌>>◌, refuse_if}
+use Rattle.cube_core.specs.Steps.{refuse_if}
 use Rattle.header_bits.specs.Lawful.{in_range_or}
 use Rattle.header_bits.specs.Parts.{fine}
 use Rattle.header_bits.proofs.Tests.{then_ok, ◌then_fine◌, refuse_ok, refuse_fine, not_false, in_range_ok, in_range_fine}
@@ -13,10 +14,19 @@ use Rattle.cube_predictors.specs.Weave.{IsDeal}
 use Rattle.cube_predictors.specs.Plans.{told_band, owner_fault, length_fault, plan_fault, PlanFaultIsExact}
 
 -- one band behind another
-pub owner_step : (predictors z owner : ℕ) (deal : List ℕ) → z < length deal → owner ≡ get_or deal z 0 → owner_fault predictors z (drop z deal) ≡
-    (refuse_if (not (ltb owner predictors)) (BadDeal (told_band z)) >> owner_fault predictors (z + 1) (drop (z + 1) deal))
+pub owner_there : (predictors z : ℕ) (deal : List ℕ) → z < length deal → get_or deal z 0 < predictors
+    → owner_fault predictors z (drop z deal) ≡ owner_fault predictors (z + 1) (drop (z + 1) deal)
 unfolding owner_fault
-owner_step predictors z owner deal lt e = rw (add-one, drop-cons deal z 0 lt, e) refl
+owner_there predictors z deal lt there = rw (add-one, drop-cons deal z 0 lt, lt-ltb _ _ there) refl
+
+pub owner_lacks : (predictors z : ℕ) (deal : List ℕ) → z < length deal → predictors ≤ get_or deal z 0
+    → owner_fault predictors z (drop z deal) ≡ Err (BadDeal (told_band z))
+unfolding owner_fault
+owner_lacks predictors z deal lt lacks = rw (drop-cons deal z 0 lt, le-ltb _ _ lacks) refl
+
+pub owner_none : (predictors z : ℕ) (deal : List ℕ) → length deal ≤ z → owner_fault predictors z (drop z deal) ≡ fine
+unfolding owner_fault
+owner_none predictors z deal le = rw (drop_of_length-le deal le) refl
 
 owners_ok : (predictors z : ℕ) (deal : List ℕ) → owner_fault predictors z deal ≡ fine → AllByRecursion (λ q. q < predictors) deal
 unfolding owner_fault

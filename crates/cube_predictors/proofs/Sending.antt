@@ -1,24 +1,20 @@
 -- The walk over a predictor's own places, step by step.
 use Rattle.std.proofs.Common.{◌≡◌, ◌+◌, ◌-◌, ◌<◌, ◌≤◌, ℕ, zero, suc, Bool, true, false, List, [], ◌∷◌, ◌++◌, length, take, drop, get_or}
-use Rattle.std.proofs.Common.{refl, sym, ap, ap₂, ◌∙◌, subst, append-nil, zero-add, length-take, length-drop, arith}
+use Rattle.std.proofs.Common.{refl, sym, ap, ap₂, ◌∙◌, subst, map, append-nil, append_assoc, zero-add}
+use Rattle.std.proofs.Common.{drop-cons, take_all, length-take, length-drop, take-add, arith}
 use Rattle.std.specs.List.{flat_map, AllByRecursion}
 use Rattle.std.proofs.lemmas.Grind.{flat_map-append}
 use Rattle.std.proofs.lemmas.Slice.{take-put_mid, drop-put_mid}
 use borrow.Rule.Slice.PartMut.{put_mid}
-use Rattle.std.proofs.lemmas.List.{map-append, take-append-drop, drop-drop, drop_more, take_more, take-map, drop-map, length-map}
-use Rattle.std.proofs.lemmas.List.Elements.{All-append, All-drop, All-from_recursion, recursion_from_All}
+use Rattle.std.proofs.lemmas.List.{map-append, take-append-drop, drop-drop, take-map, drop-map, length-map}
 use Rattle.cube_core.specs.Image.{Image}
 use Rattle.cube_core.specs.Order.{from, upto}
 use Rattle.header_bits.specs.declared.params.Params.{Params}
 use Rattle.predict_core.specs.Following.{Learner}
+use Rattle.header_bits.proofs.Items.{all_append, all_drop}
 use Rattle.cube_predictors.specs.Own.{row_of}
 use Rattle.cube_predictors.specs.Sends.{IsAt, AreAt, bands_of}
 use Rattle.cube_predictors.specs.Takings.{AreTakings}
-
--- ---- one band behind another
-
-pub each_append : {X : Type 0} (P : X → Type 0) (xs ys : List X) → AllByRecursion P xs → AllByRecursion P ys → AllByRecursion P (xs ++ ys)
-each_append P xs ys h k = recursion_from_All P (xs ++ ys) (All-append P xs ys (All-from_recursion P xs h) (All-from_recursion P ys k))
 
 -- ---- pieces, one behind another
 
@@ -31,90 +27,138 @@ from_split a (suc m) n =
 pub upto_split : (x n : ℕ) → upto (x + n) ≡ upto x ++ from x n
 upto_split x n = rw zero-add at (from_split 0 x n)
 
--- the pieces up to a place, the next one, and those behind it
-pub record Pieces (all done next : List ℕ) : Type 0 where
+-- two lists that are made alike, place by place
+pub same_lists : (f g : ℕ → List ℕ) (a b n : ℕ) → ((i : ℕ) → i < n → f (a + i) ≡ g (b + i)) → flat_map f (from a n) ≡ flat_map g (from b n)
+same_lists f g a b zero h = refl
+same_lists f g a b (suc n) h =
+    let first : f a ≡ g b = ap f (omega arith) ∙ h 0 (omega arith) ∙ ap g (omega arith) in
+    ap₂ (λ u v. u ++ v) first (same_lists f g (suc a) (suc b) n (λ i lt. ap f (omega arith) ∙ h (suc i) (omega (arith, lt)) ∙ ap g (omega arith)))
+
+-- a list's front, what comes next, both together, and the rest
+pub record Pieces (all done next up : List ℕ) : Type 0 where
+  pub more : up ≡ done ++ next
   pub tail : List ℕ
-  pub whole : all ≡ (done ++ next) ++ tail
+  pub whole : all ≡ up ++ tail
 
-pub upto_piece : (f : ℕ → List ℕ) (x n : ℕ) → flat_map f (upto (x + n)) ≡ flat_map f (upto x) ++ flat_map f (from x n)
-upto_piece f x n = ap (flat_map f) (upto_split x n) ∙ flat_map-append f (upto x) (from x n)
+pub run_piece : (ns : List ℕ) (i n : ℕ) → Pieces ns (take i ns) (take n (drop i ns)) (take (i + n) ns)
+run_piece ns i n = record { more = take-add i n ns; tail = drop (i + n) ns; whole = sym (take-append-drop (i + n) ns) }
 
-pub upto_more : (f : ℕ → List ℕ) (n : ℕ) → flat_map f (upto (n + 1)) ≡ flat_map f (upto n) ++ f n
-upto_more f n = upto_piece f n 1 ∙ ap (λ v. flat_map f (upto n) ++ v) (append-nil (f n))
+-- what is made of each item of the pieces
+pieces_of : (f : ℕ → List ℕ) {all done next up : List ℕ} → Pieces all done next up → Pieces (flat_map f all) (flat_map f done) (flat_map f next) (flat_map f up)
+pieces_of f {done = done} {next = next} {up = up} h = record {
+  more = ap (flat_map f) h.more ∙ flat_map-append f done next;
+  tail = flat_map f h.tail;
+  whole = ap (flat_map f) h.whole ∙ flat_map-append f up h.tail;
+}
 
-pub piece_rest : (f : ℕ → List ℕ) (x n m : ℕ) → x + n ≤ m → Pieces (flat_map f (upto m)) (flat_map f (upto x)) (flat_map f (from x n))
+pub some_rest : (f : ℕ → List ℕ) (zs : List ℕ) (i n : ℕ)
+    → Pieces (flat_map f zs) (flat_map f (take i zs)) (flat_map f (take n (drop i zs))) (flat_map f (take (i + n) zs))
+some_rest f zs i n = pieces_of f (run_piece zs i n)
+
+pub piece_rest : (f : ℕ → List ℕ) (x n m : ℕ) → x + n ≤ m
+    → Pieces (flat_map f (upto m)) (flat_map f (upto x)) (flat_map f (from x n)) (flat_map f (upto (x + n)))
 piece_rest f x n m le =
     let all : x + n + (m - (x + n)) ≡ m = omega (arith, le) in
-    record { tail = flat_map f (from (x + n) (m - (x + n))); whole = rw (upto_piece f x n) at (rw all at (upto_piece f (x + n) (m - (x + n)))) }
+    let rest : Pieces (upto m) (upto x) (from x n) (upto (x + n)) =
+    record { more = upto_split x n; tail = from (x + n) (m - (x + n)); whole = rw all at (upto_split (x + n) (m - (x + n))) } in
+    pieces_of f rest
 
-pub upto_rest : (f : ℕ → List ℕ) (i n : ℕ) → i < n → Pieces (flat_map f (upto n)) (flat_map f (upto i)) (f i)
+pub upto_rest : (f : ℕ → List ℕ) (i n : ℕ) → i < n → Pieces (flat_map f (upto n)) (flat_map f (upto i)) (f i) (flat_map f (upto (i + 1)))
 upto_rest f i n lt = rw (append-nil (f i)) at (piece_rest f i 1 n (omega (arith, lt)))
 
--- the next of some pieces stands behind those before it, and in front of those behind it
-abbrev pub IsNext : (ℕ → List ℕ) → List ℕ → ℕ → Type 0
-IsNext f zs i =
-    (flat_map f (take (i + 1) zs) ≡ flat_map f (take i zs) ++ f (get_or zs i 0)) × Pieces (flat_map f zs) (flat_map f (take i zs)) (f (get_or zs i 0))
+-- pieces of the first of two lists, and the second
+pub front_piece : (rest : List ℕ) {all done next up : List ℕ} → Pieces all done next up → Pieces (all ++ rest) done next up
+front_piece rest {up = up} h =
+    record { more = h.more; tail = h.tail ++ rest; whole = ap (λ v. v ++ rest) h.whole ∙ append_assoc up h.tail rest }
 
-pub take_rest : (f : ℕ → List ℕ) (zs : List ℕ) (i : ℕ) → i < length zs → IsNext f zs i
-take_rest f zs i lt =
-    let more : flat_map f (take (i + 1) zs) ≡ flat_map f (take i zs) ++ f (get_or zs i 0) =
-    rw (flat_map-append, append-nil (f (get_or zs i 0))) at (ap (flat_map f) (take_more zs i 0 lt)) in
-    let whole = rw take-append-drop at (flat_map-append f (take (i + 1) zs) (drop (i + 1) zs)) in
-    (more, record { tail = flat_map f (drop (i + 1) zs); whole = rw more at whole })
+pub last_piece : (all rest : List ℕ) → Pieces (all ++ rest) all rest (all ++ rest)
+last_piece all rest = record { more = refl; tail = []; whole = sym (append-nil (all ++ rest)) }
+
+-- what comes of the next numbers of a list, where those before them were taken: they may be taken too, and the taker
+-- then has gone on with the list to their end, or has stopped within it
+pub record Steps {S : Type 0} (may : S → List ℕ → Type 0) (takes : S → S → Bool → List ℕ → Type 0) (old mid : S) (all numbers up : List ℕ) : Type 0 where
+  pub fits : may mid numbers
+  pub so_far : (new : S) (result : Bool) → takes mid new result numbers → takes old new result up
+  pub cut : (new : S) (result : Bool) → result ≡ false → takes mid new result numbers → takes old new false all
+  pub more : (new : S) (result : Bool) → result ≡ true → takes mid new result numbers → takes old new true up
 
 module _ {S : Type 0} {may : S → List ℕ → Type 0} {takes : S → S → Bool → List ℕ → Type 0} (laws : AreTakings may takes) where
   pub none_yet : {s : S} {list : List ℕ} → may s list → takes s s true []
   none_yet h = laws.none _ (laws.less _ [] _ h)
 
-  -- the next piece may be taken
-  pub piece_fits : {old mid : S} {all done next : List ℕ} → takes old mid true done → Pieces all done next → may old all → may mid next
-  piece_fits {old = old} {done = done} {next = next} h pieces m =
-      laws.more _ _ done next h (laws.less _ (done ++ next) pieces.tail (subst (may old) pieces.whole m))
+  pub stepped : {old mid : S} {all done next up numbers : List ℕ} → takes old mid true done → may old all → Pieces all done next up → numbers ≡ next
+      → Steps may takes old mid all numbers up
+  stepped {old = old} {done = done} {next = next} h m pieces same =
+      let there = pieces.whole ∙ ap (λ v. v ++ pieces.tail) pieces.more in
+      record {
+        fits = rw same (laws.more _ _ done next h (laws.less _ (done ++ next) pieces.tail (subst (may old) there m)));
+        so_far = λ new result k. rw pieces.more (laws.behind _ _ _ result _ _ h (rw same at k));
+        cut = λ new result e k. rw there (laws.cut _ _ (done ++ next) pieces.tail (laws.behind _ _ _ false _ _ h (rw (same, e) at k)));
+        more = λ new result e k. rw pieces.more (laws.behind _ _ _ true _ _ h (rw (same, e) at k));
+      }
 
-  -- it was taken, or the taker stopped in it
-  pub piece_cut : {old mid new : S} {all done next : List ℕ} → takes old mid true done → Pieces all done next → takes mid new false next
-      → takes old new false all
-  piece_cut {old = old} {new = new} {done = done} {next = next} h pieces cut =
-      subst (takes old new false) (sym pieces.whole) (laws.cut _ _ (done ++ next) pieces.tail (laws.behind _ _ _ false _ _ h cut))
+-- ---- some of the bands
 
 pub at_same : (p : Params) (c : Image) (t u : ℕ) (bands : List Learner) → AreAt p c t bands → t ≡ u → AreAt p c u bands
 at_same p c t u bands h e = subst (λ k. AreAt p c k bands) e h
-
--- ---- some of the bands
 
 pub nothing_each : {A : Type 0} (xs : List A) → flat_map {X = A} {A = ℕ} (λ x. []) xs ≡ []
 nothing_each [] = refl
 nothing_each (x ∷ xs) = nothing_each xs
 
 -- a row of no bands has no residuals
-pub row_of_none : (p : Params) (c : Image) (bands : List Learner) (y : ℕ) → length bands ≡ 0 → row_of p c (bands_of bands) y ≡ []
+pub row_of_none : (p : Params) (c : Image) (y : ℕ) → row_of p c [] y ≡ []
 unfolding row_of
-row_of_none p c [] y e = nothing_each (upto c.shape.columns)
-row_of_none p c (b ∷ bs) y e = absurd (omega (arith, e))
+row_of_none p c y = nothing_each (upto c.shape.columns)
 
 -- some bands were put in the place of as many
 pub bands_put : (bands was sub : List Learner) (i n : ℕ) → bands_of bands ≡ bands_of was → bands_of sub ≡ bands_of (take n (drop i bands))
     → bands_of (put_mid i n bands sub) ≡ bands_of was
 bands_put bands was sub i n same e = rw (map-append, map-append, e, ← map-append, take-append-drop, ← map-append, take-append-drop) same
 
--- the bands behind those that were put
-pub left_put : (p : Params) (c : Image) (t i n j : ℕ) (bands sub : List Learner) → j ≡ i + n → j ≤ length bands → length sub ≡ length (take n (drop i bands))
-    → AreAt p c t (drop i bands) → AreAt p c t (drop j (put_mid i n bands sub))
-left_put p c t i n j bands sub e fits long h =
-    let many : length sub ≡ n = omega (arith, long, e, fits, length-take n (drop i bands), length-drop i bands) in
-    let left = recursion_from_All (IsAt p c t) _ (All-drop (IsAt p c t) n (drop i bands) (All-from_recursion (IsAt p c t) (drop i bands) h)) in
-    rw (drop-put_mid i n bands sub j (omega (arith, e)) (omega (arith, e, fits)) many, e) (rw drop-drop at left)
+-- the first i bands are done, and the others are still at place t
+pub record Parted (Done : Learner → Type 0) (p : Params) (c : Image) (t i : ℕ) (bands was : List Learner) : Type 0 where
+  pub done : AllByRecursion Done (take i bands)
+  pub left : AreAt p c t (drop i bands)
+  pub same : bands_of bands ≡ bands_of was
 
--- and those up to them
-pub done_put : (p : Params) (c : Image) (t i n j : ℕ) (bands sub : List Learner) → j ≡ i + n → j ≤ length bands → length sub ≡ length (take n (drop i bands))
-    → AreAt p c t (take i bands) → AreAt p c t sub → AreAt p c t (take j (put_mid i n bands sub))
-done_put p c t i n j bands sub e fits long h k =
-    let many : length sub ≡ n = omega (arith, long, e, fits, length-take n (drop i bands), length-drop i bands) in
-    rw (take-put_mid i n bands sub j (omega (arith, e, many)) (omega (arith, e, fits))) (each_append (IsAt p c t) (take i bands) sub h k)
+-- which bands come next
+pub next_bands : (bands was : List Learner) (i m n : ℕ) → m ≡ n → bands_of bands ≡ bands_of was
+    → bands_of (take m (drop i bands)) ≡ take n (drop i (bands_of was))
+next_bands bands was i m n e same = rw (e, ← take-map, ← drop-map, same) refl
 
--- the one band
-pub band_there : (bands was : List Learner) (i n : ℕ) → n ≡ 1 → i < length bands → bands_of bands ≡ bands_of was
-    → bands_of (take n (drop i bands)) ≡ get_or (bands_of was) i 0 ∷ []
-band_there bands was i n e lt same =
-    let within : i < length (bands_of was) = omega (arith, lt, length-map bands (λ b. b.band), ap (λ (zs : List ℕ). length zs) same) in
-    rw (e, ← take-map, ← drop-map, same, drop_more (bands_of was) i 0 within) refl
+-- the next n are done too, and were put back
+pub parted_put : {Done : Learner → Type 0} {p : Params} {c : Image} {t i : ℕ} {bands was : List Learner} (n j : ℕ) (sub : List Learner)
+    → Parted Done p c t i bands was → j ≡ i + n → j ≤ length bands → AllByRecursion Done sub → bands_of sub ≡ bands_of (take n (drop i bands))
+    → Parted Done p c t j (put_mid i n bands sub) was
+parted_put {Done = Done} {p = p} {c = c} {t = t} {i = i} {bands = bands} {was = was} n j sub h e fits past same =
+    let long = ap (λ (zs : List ℕ). length zs) same in
+    let many : length sub ≡ n = omega (arith, long, e, fits, length-map {A = Learner} {B = ℕ}, length-take n (drop i bands), length-drop i bands) in
+    record {
+      done = rw (take-put_mid i n bands sub j (omega (arith, e, many)) (omega (arith, e, fits))) (all_append Done (take i bands) sub h.done past);
+      left = rw (drop-put_mid i n bands sub j (omega (arith, e)) (omega (arith, e, fits)) many, e)
+          (rw drop-drop at (all_drop (IsAt p c t) n (drop i bands) h.left));
+      same = bands_put bands was sub i n h.same same;
+    }
+
+-- the items from place a on, one by one
+pub items_from : {A : Type 0} (xs : List A) (d : A) (a n : ℕ) → a + n ≤ length xs → map (λ i. get_or xs i d) (from a n) ≡ take n (drop a xs)
+items_from xs d a zero le = refl
+items_from xs d a (suc n) le =
+    let here : a < length xs = omega (arith, le) in
+    rw (drop-cons xs a d here) (ap (λ v. get_or xs a d ∷ v) (items_from xs d (suc a) n (omega (arith, le))))
+
+pub all_items : {A : Type 0} (xs : List A) (d : A) (n : ℕ) → length xs ≡ n → xs ≡ map (λ i. get_or xs i d) (upto n)
+all_items xs d n e = sym (items_from xs d 0 n (omega (arith, e)) ∙ take_all n xs (omega (arith, e)))
+
+-- one band alone, and two
+pub one_alone : (f : List ℕ → List ℕ) (bands : List Learner) → length bands ≡ 1 → f (bands_of bands) ≡ flat_map (λ z. f (z ∷ [])) (bands_of bands)
+one_alone f bands e =
+    let all = all_items (bands_of bands) 0 1 (length-map bands (λ b. b.band) ∙ e) in
+    subst (λ v. f v ≡ flat_map (λ z. f (z ∷ [])) v) (sym all) (sym (append-nil (f (get_or (bands_of bands) 0 0 ∷ []))))
+
+pub two_alone : (f : ℕ → List ℕ) (bands : List Learner) → length bands ≡ 2
+    → flat_map f (bands_of bands) ≡ f (get_or (bands_of bands) 0 0) ++ f (get_or (bands_of bands) 1 0)
+two_alone f bands e =
+    ap (flat_map f) (all_items (bands_of bands) 0 2 (length-map bands (λ b. b.band) ∙ e))
+    ∙ ap (λ v. f (get_or (bands_of bands) 0 0) ++ v) (append-nil (f (get_or (bands_of bands) 1 0)))

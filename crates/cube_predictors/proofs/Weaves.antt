@@ -67,12 +67,6 @@ weave_step : (o n : ℕ) (os rest : List ℕ) (lists : List (List ℕ)) → get_
 unfolding weave
 weave_step o n os rest lists e = rw (e, weave) refl
 
--- one list is shorter by its first number, and the others are as they were
-kept_parts : (os ns : List ℕ) (lists : List (List ℕ)) (o n : ℕ) → o < length lists → ((k : ℕ) → k < length lists → get_or lists k [] ≡ part k (o ∷ os) (n ∷ ns))
-    → (k : ℕ) → k < length lists → get_or (set lists o (part o os ns)) k [] ≡ part k os ns
-unfolding part
-kept_parts os ns lists o n below parts k h = grind (arith, nat_tests, get_or-set_at, get_or-set_other, parts k h)
-
 -- lists that are the parts of numbers, woven along their owners, are the numbers
 pub weave_is : (os ns : List ℕ) (lists : List (List ℕ)) → length ns ≤ length os → ((k : ℕ) → k < length lists → get_or lists k [] ≡ part k os ns)
     → All (λ o. o < length lists) os → weave os lists ≡ ns
@@ -86,7 +80,7 @@ weave_is (o ∷ os) (n ∷ ns) lists e each below =
     let first : get_or lists o [] ≡ n ∷ part o os ns = rw here at (each o there) in
     let rest = part o os ns in
     let others : (k : ℕ) → k < length (set lists o rest) → get_or (set lists o rest) k [] ≡ part k os ns =
-    λ k h. kept_parts os ns lists o n there each k (rw length-set at h) in
+    λ k h. let was = each k (rw length-set at h) in grind (arith, nat_tests, get_or-set_at, get_or-set_other) in
     let later : All (λ x. x < length (set lists o rest)) os = λ k d h. rw length-set (below (suc k) d (omega (arith, h))) in
     rw (weave_step o n os rest lists first) (ap (λ zs. n ∷ zs) (weave_is os ns (set lists o rest) (omega (arith, e)) others later))
 
@@ -106,18 +100,6 @@ weave_of_taken predictors os ns below few =
 
 -- ---- lists with a number for each place
 
--- one list is shorter by its first number, which stood at the first place
-kept_whole : (os : List ℕ) (lists : List (List ℕ)) (o n : ℕ) (rest : List ℕ) → AreWhole (o ∷ os) lists → get_or lists o [] ≡ n ∷ rest → o < length lists
-    → (k : ℕ) → k < length lists → length (get_or (set lists o rest) k []) ≡ share k os
-kept_whole os lists o n rest whole first below k h =
-    grind (arith, nat_tests, get_or-set_at, get_or-set_other, whole k h, share_cons k o os, ap (λ (v : List ℕ). length v) first)
-
--- the parts of what is woven, of one place more
-grown_part : (os w : List ℕ) (lists : List (List ℕ)) (o n : ℕ) (rest : List ℕ) → get_or lists o [] ≡ n ∷ rest → o < length lists
-    → ((q : ℕ) → q < length lists → part q os w ≡ get_or (set lists o rest) q []) → (k : ℕ) → k < length lists → part k (o ∷ os) (n ∷ w) ≡ get_or lists k []
-unfolding part
-grown_part os w lists o n rest first below parts k h = grind (arith, nat_tests, get_or-set_at, get_or-set_other, parts k h)
-
 first_rest : (xs : List ℕ) → 0 < length xs → (n : ℕ) × (rest : List ℕ) × (xs ≡ n ∷ rest)
 first_rest [] h = absurd (omega arith)
 first_rest (n ∷ rest) h = (n, rest, refl)
@@ -131,10 +113,13 @@ parts_woven [] lists below whole = (refl, λ q h. sym (nil_from_length (get_or l
 parts_woven (o ∷ os) lists below whole =
     let there : o < length lists = below 0 0 (omega arith) in
     let f = first_rest (get_or lists o []) (omega (arith, whole o there, share_own o os)) in
-    let kept : AreWhole os (set lists o f.1) = λ k h. kept_whole os lists o f.0 f.1 whole f.2 there k (rw length-set at h) in
+    let kept : AreWhole os (set lists o f.1) = λ k h.
+    let was = whole k (rw length-set at h) in
+    let first = ap (λ (v : List ℕ). length v) f.2 in
+    grind (arith, nat_tests, get_or-set_at, get_or-set_other, share_cons k o os) in
     let inner = parts_woven os (set lists o f.1) (λ k d h. rw length-set (below (suc k) d (omega (arith, h)))) kept in
     rw (weave_step o f.0 os f.1 lists f.2)
-    (omega (arith, inner.0), grown_part os (weave os (set lists o f.1)) lists o f.0 f.1 f.2 there (λ k h. inner.1 k (rw length-set h)))
+    (omega (arith, inner.0), λ k h. let was = inner.1 k (rw length-set h) in grind (arith, nat_tests, get_or-set_at, get_or-set_other))
 
 pub parts_of_weave : PartsOfWeave
 parts_of_weave os lists below whole =

@@ -15,6 +15,7 @@ use predict_core::band::Band;
 /// Sends the residuals of some bands in row `y`, band after band. Returns false if the taker has stopped.
 ///
 /// Two bands at a time go over their rows side by side, where there is room for the row of the second.
+#[tactic(auto, using(crate::proofs::Sending::bands_put))]
 pub(crate) fn send_each_row<R, T: Taker<R>>(
     rt: &R,
     cube: &Cube,

@@ -46,6 +46,7 @@ pub(crate) fn predict_pieces(
 
 /// Writes the residuals that some bands hold of place `i` of their pieces, band after band.
 #[inline(always)]
+#[tactic(auto, using(std::proofs::lemmas::List::map_more))]
 fn gather(i: usize, bands: &[Band], residuals: &mut [u16])
     requires place { i < 64 }
     requires room { length residuals.old ≡ length bands.now }

@@ -141,6 +141,7 @@ fn in_range(field: Field, most: u32, number: u32) -> Result<(), Fault>
 }
 
 /// Refuses the first band whose predictor doesn't exist.
+#[tactic(auto, using(crate::proofs::Planning::owner_there, crate::proofs::Planning::owner_lacks, crate::proofs::Planning::owner_none))]
 fn test_owners(predictors: u32, deal: &[u8]) -> Result<(), Fault>
     ensures { result ≡ owner_fault predictors 0 deal.now }
 {

@@ -107,6 +107,7 @@ fn owner(deal: &[u8], band: u32) -> u32
 }
 
 /// Returns how many of the bands `first` to `end - 1` are dealt to a predictor.
+#[tactic(auto, using(crate::proofs::Groups::own_next))]
 fn count_own(deal: &[u8], predictor: u32, first: u32, end: u32) -> usize
     requires { first ≤ end }
     ensures { result ≡ length (own predictor deal.now (from first (end - first))) }
@@ -123,6 +124,7 @@ fn count_own(deal: &[u8], predictor: u32, first: u32, end: u32) -> usize
 
 /// Sends the residuals of a predictor's bands in row `y`, group after group of bands. Returns false if the
 /// taker has stopped.
+#[tactic(auto, using(crate::proofs::Sending::bands_put))]
 fn send_line<R, T: Taker<R>>(
     rt: &R,
     cube: &Cube,

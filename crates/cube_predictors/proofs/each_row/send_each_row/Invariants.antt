@@ -1,14 +1,13 @@
-use Rattle.std.proofs.Common.{◌≡◌, ◌+◌, ◌*◌, ◌-◌, ◌∷◌, [], true, take, drop, length}
+use Rattle.std.proofs.Common.{◌+◌, ◌*◌, ◌-◌, ◌∷◌, [], true, take, length}
 use Rattle.std.specs.List.{flat_map}
 use Rattle.cube_predictors.specs.Own.{row_of}
-use Rattle.cube_predictors.specs.Sends.{AreAt, bands_of}
+use Rattle.cube_predictors.specs.Sends.{IsAt, bands_of}
+use Rattle.cube_predictors.proofs.Sending.{Parted}
 use Rattle.cube_predictors.proofs.each_row.send_each_row.Given as goal
 
 abbrev pub invariant-loop-first : goal.invariant-loop-first
 invariant-loop-first g l = record {
-  done : AreAt l.params l.cube ((l.y + 1) * l.cube.shape.columns) (take l.first l.bands);
-  left : AreAt l.params l.cube (l.y * l.cube.shape.columns) (drop l.first l.bands);
-  same : bands_of l.bands ≡ bands_of l.initial.bands;
+  parted : Parted (IsAt l.params l.cube ((l.y + 1) * l.cube.shape.columns)) l.params l.cube (l.y * l.cube.shape.columns) l.first l.bands l.initial.bands;
   sent : g.T.Taker.takes l.initial.taker l.taker true
       (flat_map (λ z. row_of l.params l.cube (z ∷ []) l.y) (take l.first (bands_of l.initial.bands)));
 }

@@ -1,4 +1,4 @@
-use Rattle.std.proofs.Common.{◌≡◌, ◌+◌, ◌*◌, ◌-◌, ◌≤◌, ◌∷◌, [], true, take, length, get_or}
+use Rattle.std.proofs.Common.{◌≡◌, ◌+◌, ◌*◌, ◌-◌, ◌≤◌, ◌∷◌, [], true, take, get_or}
 use Rattle.std.specs.List.{flat_map}
 use Rattle.cube_core.specs.Order.{upto}
 use Rattle.cube_predictors.specs.Own.{column_of}
@@ -13,7 +13,6 @@ invariant-loop-x g l = record {
   sent : g.T.Taker.takes l.initial.taker l.taker true
       (flat_map (λ k. column_of l.params l.cube (get_or (bands_of l.initial.bands) 0 0 ∷ []) l.y k) (upto l.x));
   kept : take l.x l.row ≡ flat_map (λ k. column_of l.params l.cube (get_or (bands_of l.initial.bands) 1 0 ∷ []) l.y k) (upto l.x);
-  long : length l.row ≡ 2048;
 }
 
 abbrev pub decreases-loop-x : goal.decreases-loop-x

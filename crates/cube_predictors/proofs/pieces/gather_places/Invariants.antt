@@ -5,7 +5,4 @@ use Rattle.cube_predictors.specs.Pieces.{held_at}
 use Rattle.cube_predictors.proofs.pieces.gather_places.Given as goal
 
 abbrev pub invariant-loop-k : goal.invariant-loop-k
-invariant-loop-k l = record {
-  long : length l.residuals ≡ l.count * length l.bands;
-  done : take (l.k * length l.bands) l.residuals ≡ flat_map (λ i. held_at l.bands i) (from l.first l.k);
-}
+invariant-loop-k l = take (l.k * length l.bands) l.residuals ≡ flat_map (λ i. held_at l.bands i) (from l.first l.k)

@@ -1,7 +1,6 @@
-use Rattle.std.proofs.Common.{◌≡◌, ◌+◌, ◌*◌, ◌/◌, ◌<◌, ◌≤◌, ◌∙◌, length, slice_set, arith, length-append, length-set, take_all}
-use Rattle.std.proofs.Math.Seq.{map-set_same}
+use Rattle.std.proofs.Common.{◌≡◌, ◌+◌, ◌*◌, ◌/◌, ◌<◌, ◌≤◌, ◌∙◌, length, slice_set, arith, length-set, take_all}
 use Rattle.predict_core.specs.Following.{Learner}
-use Rattle.cube_predictors.proofs.RowPieces.{past_step, past_two}
+use Rattle.cube_predictors.proofs.RowPieces.{band_set, past_step, past_two}
 use Rattle.cube_predictors.proofs.pieces.predict_pieces.Goals as goal
 
 pub loop-k-preserved : goal.loop-k-preserved
@@ -12,18 +11,11 @@ loop-k-preserved c =
     let lt : 2 * c.loop-k.k + 1 < length c.loop-k.bands = omega arith in
     let two = past_two c.args.params.now _ _ _ _ _ _ _ _ _ _ _ lt split.front split.back was.done was.left told.held told.other_held in
     let next : 2 * (c.loop-k.k + 1) ≡ 2 * c.loop-k.k + 1 + 1 = omega arith in
-    let many = was.many in
-    rw next (record {
-      done = two.1;
-      left = two.2;
-      many = omega (arith, length-append {A = Learner}, length-set {A = Learner}, split.front_len, split.back_len);
-      same = two.0 ∙ was.same;
-    })
+    rw next (record { done = two.1; left = two.2; same = two.0 ∙ was.same })
 
 pub returns-then-pairs-bands-clause-past : goal.returns-then-pairs-bands-clause-past
 returns-then-pairs-bands-clause-past c =
     let was = c.loop-k.invariant in
-    let many = was.many in
     let bands = slice_set c.loop-k.bands (2 * (length c.args.bands.now / 2)) c.predict_piece.new.self in
     let whole : length bands ≤ 2 * (length c.args.bands.now / 2) + 1 = omega (arith, length-set {A = Learner}) in
     let end : 2 * c.loop-k.k ≡ 2 * (length c.args.bands.now / 2) = omega arith in
@@ -32,5 +24,4 @@ returns-then-pairs-bands-clause-past c =
     rw (take_all (2 * (length c.args.bands.now / 2) + 1) bands whole) at past.0
 
 pub returns-then-pairs-bands-clause-same : goal.returns-then-pairs-bands-clause-same
-returns-then-pairs-bands-clause-same c =
-    map-set_same (λ r. r.band) _ _ _ c.index-bands-pairs.result c.predict_piece.ensures.held.moved.band ∙ c.loop-k.invariant.same
+returns-then-pairs-bands-clause-same c = band_set _ _ _ _ _ _ c.predict_piece.ensures.held ∙ c.loop-k.invariant.same

@@ -1,4 +1,4 @@
-use Rattle.std.proofs.Common.{◌≡◌, ◌+◌, ◌-◌, ◌*◌, ◌≤◌, take, drop, length}
+use Rattle.std.proofs.Common.{◌≡◌, ◌+◌, ◌*◌, take, drop}
 use Rattle.cube_predictors.specs.Sends.{AreAt, bands_of}
 use Rattle.cube_predictors.specs.Pieces.{ArePast}
 use Rattle.cube_predictors.proofs.pieces.predict_pieces.Given as goal
@@ -7,6 +7,5 @@ abbrev pub invariant-loop-k : goal.invariant-loop-k
 invariant-loop-k l = record {
   done : ArePast l.params l.cube (l.y * l.cube.shape.columns + l.x) l.count (take (2 * l.k) l.bands);
   left : AreAt l.params l.cube (l.y * l.cube.shape.columns + l.x) (drop (2 * l.k) l.bands);
-  many : length l.bands ≡ length l.initial.bands;
   same : bands_of l.bands ≡ bands_of l.initial.bands;
 }

@@ -1,12 +1,12 @@
-use Rattle.std.proofs.Common.{◌≡◌, ◌∷◌, [], take, drop, true}
+use Rattle.std.proofs.Common.{◌∷◌, [], take, true}
 use Rattle.std.specs.List.{flat_map}
 use Rattle.cube_predictors.specs.Own.{rows_of}
-use Rattle.cube_predictors.specs.Sends.{AreAt, bands_of}
+use Rattle.cube_predictors.specs.Sends.{bands_of}
+use Rattle.cube_predictors.proofs.Sending.{Parted}
 use Rattle.cube_predictors.proofs.walk.send_bands.Given as goal
 
 abbrev pub invariant-loop-i : goal.invariant-loop-i
 invariant-loop-i g l = record {
-  left : AreAt l.params l.cube 0 (drop l.i l.bands);
-  same : bands_of l.bands ≡ bands_of l.initial.bands;
+  parted : Parted (λ b. Unit) l.params l.cube 0 l.i l.bands l.initial.bands;
   sent : g.T.Taker.takes l.initial.taker l.taker true (flat_map (λ z. rows_of l.params l.cube (z ∷ [])) (take l.i (bands_of l.initial.bands)));
 }

@@ -1,105 +1,75 @@
-use Rattle.std.proofs.Common.{rules, ◌≡◌, ◌+◌, ◌-◌, ◌/◌, ◌<◌, ◌≤◌, ℕ, List, true, subst, refl, ap, sym, length, take, drop, arith, ◌∙◌}
+use Rattle.std.proofs.Common.{rules, ◌≡◌, ◌+◌, ◌-◌, ◌/◌, ℕ, List, subst, refl, ap, sym, take, drop, arith, ◌∙◌}
 use Rattle.std.specs.List.{flat_map}
-use Rattle.std.proofs.lemmas.List.{length-map}
-use Rattle.cube_core.specs.Order.{upto, group, group_count}
+use Rattle.cube_core.specs.Order.{upto, group}
 use Rattle.cube_predictors.specs.Own.{own, row_of, line_of}
 use Rattle.cube_predictors.specs.Sends.{bands_of}
-use Rattle.cube_predictors.proofs.Sending.{Pieces, none_yet, piece_fits, piece_cut, upto_more, upto_rest, bands_put, left_put, done_put}
-use Rattle.cube_predictors.proofs.EachRow.{line_alone}
-use Rattle.cube_predictors.proofs.Groups.{IsGroup, is_group, own_few, group_there}
+use Rattle.cube_predictors.proofs.Sending.{Steps, none_yet, stepped, upto_rest, parted_put}
+use Rattle.cube_predictors.proofs.Groups.{IsGroup, is_group, line_alone}
 use Rattle.cube_predictors.proofs.walk.send_line.Goals as goal
-use Rattle.cube_predictors.proofs.walk.send_line.Goals.{After-count_own-count, After-loop-i}
+use Rattle.cube_predictors.proofs.walk.send_line.Goals.{After-count_own-count}
 use Rattle.cube_predictors.proofs.walk.send_line.Given.{Over}
 
 module _ (g : Over) (c : After-count_own-count g) where
-  abbrev mine : ℕ → List ℕ
-  mine i = own c.args.predictor c.args.deal.now (group c.args.cube.now.shape c.args.depth i)
-
   abbrev run : ℕ → List ℕ
-  run i = row_of c.args.params.now c.args.cube.now (mine i) c.args.y
+  run i = row_of c.args.params.now c.args.cube.now (own c.args.predictor c.args.deal.now (group c.args.cube.now.shape c.args.depth i)) c.args.y
 
-  bands_are : c.bands-total.result ≡ c.args.cube.now.shape.bands
-  bands_are = c.bands-total.ensures.value ∙ ap (λ s. s.bands) c.shape.ensures
-
-  in_order : c.loop-i.i < group_count c.args.cube.now.shape c.args.depth
-  in_order = rw bands_are at c.loop-i-test.true
-
-  there : IsGroup c.args.predictor c.args.deal.now c.args.cube.now.shape c.args.depth c.loop-i.i c.min-end.result c.loop-i.slot c.count_own-count.result
+  there : IsGroup c.args.predictor c.args.deal.now c.args.cube.now.shape c.args.depth c.loop-i.i c.bands-total.result c.min-end.result c.loop-i.slot
+      c.count_own-count.result c.loop-i.bands
   there =
-      is_group _ _ _ _ _ _ _ _ _ c.requires.depth.0 in_order c.loop-i.invariant.first
-      (rw bands_are at c.min-end.ensures) c.loop-i.invariant.slot c.count_own-count.ensures
+      is_group _ _ _ _ _ _ _ _ _ _ _ c.requires.depth.0 (c.bands-total.ensures.value ∙ ap (λ s. s.bands) c.shape.ensures) c.loop-i-test.true
+      c.loop-i.invariant.first c.min-end.ensures c.loop-i.invariant.slot c.count_own-count.ensures (c.loop-i.invariant.parted.same ∙ c.requires.own)
 
-  long : length c.loop-i.bands ≡ length (own c.args.predictor c.args.deal.now (upto c.args.cube.now.shape.bands))
-  long = sym (length-map c.loop-i.bands (λ b. b.band)) ∙ ap (λ (zs : List ℕ). length zs) (c.loop-i.invariant.same ∙ c.requires.own)
-
-  within : c.loop-i.slot + c.count_own-count.result ≤ length c.loop-i.bands
-  within = omega (arith, long, there.fits)
-
-  few : length c.loop-i.bands ≤ 65536
-  few = omega (arith, long, own_few c.args.predictor c.args.deal.now 0 c.args.cube.now.shape.bands, bands_are)
-
-  own_bands : bands_of (take (c.loop-i.slot + c.count_own-count.result - c.loop-i.slot) (drop c.loop-i.slot c.loop-i.bands)) ≡ mine c.loop-i.i
-  own_bands = group_there _ _ _ _ _ _ _ _ _ _ _ there (omega arith) c.loop-i.invariant.same c.requires.own
-
-  pieces : Pieces (line_of c.args.params.now c.args.cube.now c.args.predictor c.args.deal.now c.args.depth c.args.y) (flat_map run (upto c.loop-i.i))
-      (run c.loop-i.i)
+  step : Steps g.T.Taker.may g.T.Taker.takes c.args.taker.now c.loop-i.taker
+      (line_of c.args.params.now c.args.cube.now c.args.predictor c.args.deal.now c.args.depth c.args.y)
+      (row_of c.args.params.now c.args.cube.now
+      (bands_of (take (c.loop-i.slot + c.count_own-count.result - c.loop-i.slot) (drop c.loop-i.slot c.loop-i.bands))) c.args.y)
+      (flat_map run (upto (c.loop-i.i + 1)))
   unfolding line_of
-  pieces = upto_rest run c.loop-i.i (group_count c.args.cube.now.shape c.args.depth) in_order
+  step =
+      stepped g.met.T.Taker.laws c.loop-i.invariant.sent c.requires.may (upto_rest run _ _ there.in_order)
+      (ap (λ zs. row_of c.args.params.now c.args.cube.now zs c.args.y) there.there)
 
 pub send_each_row-requires-clause-may : goal.send_each_row-requires-clause-may
 send_each_row-requires-clause-may g c =
-    let alone = line_alone c.args.params.now c.args.cube.now c.args.y _ c.args.deal.now _ _ c.if-depth-eq1.true c.requires.own in
-    subst (g.T.Taker.may c.args.taker.now) alone c.requires.may
+    subst (g.T.Taker.may c.args.taker.now) (line_alone _ _ _ _ _ _ _ c.if-depth-eq1.true c.requires.own) c.requires.may
 
 pub returns-then-depth-eq1-clause-sent : goal.returns-then-depth-eq1-clause-sent
 returns-then-depth-eq1-clause-sent g c =
-    let alone = line_alone c.args.params.now c.args.cube.now c.args.y _ c.args.deal.now _ _ c.if-depth-eq1.true c.requires.own in
-    subst (g.T.Taker.takes c.args.taker.now c.send_each_row.new.taker c.send_each_row.result) (sym alone) c.send_each_row.ensures.sent
+    subst (g.T.Taker.takes c.args.taker.now c.send_each_row.new.taker c.send_each_row.result)
+    (sym (line_alone _ _ _ _ _ _ _ c.if-depth-eq1.true c.requires.own)) c.send_each_row.ensures.sent
 
 pub overflow_add-slot : goal.overflow_add-slot
-overflow_add-slot g c = omega (arith, within g c, few g c)
+overflow_add-slot g c = let h = there g c in omega arith
 
 pub offset_bounds-bands-slot : goal.offset_bounds-bands-slot
-offset_bounds-bands-slot g c = omega (arith, within g c, few g c)
+offset_bounds-bands-slot g c = let h = there g c in omega arith
 
 pub slice_bounds-send_row-end : goal.slice_bounds-send_row-end
-slice_bounds-send_row-end g c = let h : c.loop-i.slot + c.count_own-count.result ≤ length c.loop-i.bands = within g c in search rules
+slice_bounds-send_row-end g c = let h = (there g c).fits in search rules
 
 pub send_row-requires-clause-may : goal.send_row-requires-clause-may
-send_row-requires-clause-may g c =
-    let d = (goal.at.send_row-requires-clause-may g c).After-count_own-count in
-    rw (own_bands g d) (piece_fits g.met.T.Taker.laws c.loop-i.invariant.sent (pieces g d) c.requires.may)
+send_row-requires-clause-may g c = (step g (goal.at.send_row-requires-clause-may g c).After-count_own-count).fits
 
 pub returns-then-not-send_row-clause-sent : goal.returns-then-not-send_row-clause-sent
 returns-then-not-send_row-clause-sent g c =
-    let d = (goal.at.returns-then-not-send_row-clause-sent g c).After-count_own-count in
-    piece_cut g.met.T.Taker.laws c.loop-i.invariant.sent (pieces g d) (rw (own_bands g d, c.if-not-send_row.true) at c.send_row.ensures.sent)
-
-pub returns-then-not-send_row-clause-same : goal.returns-then-not-send_row-clause-same
-returns-then-not-send_row-clause-same g c = bands_put _ _ _ _ _ c.loop-i.invariant.same c.send_row.ensures.same
+    (step g (goal.at.returns-then-not-send_row-clause-sent g c).After-count_own-count).cut _ _ c.if-not-send_row.true c.send_row.ensures.sent
 
 pub loop-i-preserved : goal.loop-i-preserved
 loop-i-preserved g c =
     let d = (goal.at.loop-i-preserved g c).After-count_own-count in
-    let was = c.loop-i.invariant in
-    let n = c.loop-i.slot + c.count_own-count.result - c.loop-i.slot in
-    record {
-      first = (there g d).next;
-      slot = (there g d).more;
-      done = done_put _ _ _ _ n _ _ _ (omega arith) (within g d) c.send_row.auto.bands was.done (c.send_row.ensures.at c.if-not-send_row.false);
-      left = left_put _ _ _ _ n _ _ _ (omega arith) (within g d) c.send_row.auto.bands was.left;
-      same = bands_put c.loop-i.bands _ _ c.loop-i.slot n was.same c.send_row.ensures.same;
-      sent = rw upto_more (g.met.T.Taker.laws.behind _ _ _ true _ _ was.sent (rw (own_bands g d, c.if-not-send_row.false) at c.send_row.ensures.sent));
-    }
-
-last : (g : Over) (c : After-loop-i g) → c.loop-i.i ≡ group_count c.args.cube.now.shape c.args.depth
-last g c =
-    let end : c.loop-i.i ≡ (c.bands-total.result + c.args.depth - 1) / c.args.depth = omega arith in
-    rw (c.bands-total.ensures.value, c.shape.ensures) at end
+    let told = c.send_row.ensures in
+    let next = c.loop-i.slot + c.count_own-count.result in
+    let parted = parted_put (next - c.loop-i.slot) next _ c.loop-i.invariant.parted (omega arith) (there g d).fits
+    (told.at c.if-not-send_row.false) told.same in
+    record { first = (there g d).next; slot = (there g d).more; parted = parted; sent = (step g d).more _ _ c.if-not-send_row.false told.sent }
 
 pub returns-clause-sent : goal.returns-clause-sent
 unfolding line_of
-returns-clause-sent g c = rw (last g c) at c.loop-i.invariant.sent
+returns-clause-sent g c =
+    let end : c.loop-i.i ≡ (c.bands-total.result + c.args.depth - 1) / c.args.depth = omega arith in
+    rw (rw (c.bands-total.ensures.value, c.shape.ensures) at end) at c.loop-i.invariant.sent
 
 pub loop-i-init : goal.loop-i-init
-loop-i-init g c = record { first = omega arith; slot = refl; done = tt; left = c.requires.at; same = refl; sent = none_yet g.met.T.Taker.laws c.requires.may }
+loop-i-init g c =
+    let sent = none_yet g.met.T.Taker.laws c.requires.may in
+    record { first = omega arith; slot = refl; parted = record { done = tt; left = c.requires.at; same = refl }; sent = sent }

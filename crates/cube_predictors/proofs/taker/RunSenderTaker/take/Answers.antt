@@ -3,8 +3,7 @@ use Rattle.std.proofs.lemmas.List.{take_rest}
 use Rattle.lane_workers.specs.Runs.{RunSending}
 use Rattle.cube_predictors.specs.Sends.{Sends}
 use Rattle.cube_predictors.specs.TakingLaws.{sendings_are}
-use Rattle.cube_predictors.proofs.Sending.{piece_cut}
-use Rattle.cube_predictors.proofs.RowPieces.{run_piece}
+use Rattle.cube_predictors.proofs.Sending.{stepped, run_piece}
 use Rattle.cube_predictors.proofs.taker.RunSenderTaker.take.Goals as goal
 
 sent_some : {G : Type 0} {old new : RunSending G} {result : Bool} {ns : List ℕ}
@@ -16,7 +15,7 @@ sent_some same taken ready stopped =
 pub returns-then-not-goes_on : goal.returns-then-not-goes_on
 returns-then-not-goes_on g c =
     let told = c.send_some-first.ensures in
-    piece_cut sendings_are c.loop-first.invariant.sent (run_piece c.args.numbers.now c.loop-first.first c.send_some-first.result)
+    (stepped sendings_are c.loop-first.invariant.sent c.requires (run_piece c.args.numbers.now c.loop-first.first c.send_some-first.result) refl).cut _ _ refl
     (sent_some told.same (rw take_rest at told.taken) (λ h. absurd (cc)) (λ h. c.goes_on.ensures.stopped c.if-not-goes_on.true))
 
 pub loop-first-preserved : goal.loop-first-preserved
