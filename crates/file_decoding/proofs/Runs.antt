@@ -1,27 +1,50 @@
 -- Runs: what the reading end has given, several numbers at a time.
-use Rattle.std.proofs.Common.{◌≡◌, ◌<◌, ℕ, zero, suc, Bool, List, [], ◌∷◌, ◌++◌, length, Err, append_assoc, arith}
-use Rattle.std.specs.List.{AllByRecursion, slice_index}
+use Rattle.std.proofs.Common.{◌≡◌, ◌+◌, ◌<◌, ℕ, zero, suc, Bool, List, [], ◌∷◌, ◌++◌, length, drop, replicate, Some, Err, append_assoc, length-append, ◌∙◌, arith}
+use Rattle.std.specs.List.{AllByRecursion, slice_get, slice_index}
+use Rattle.std.proofs.lemmas.List.{length-replicate}
 use Rattle.std.proofs.lemmas.Option.{slice_get_within}
 use Rattle.cube_core.specs.declared.fault.Fault.{Fault}
+use Rattle.cube_core.specs.declared.order.Place.{Place}
+use Rattle.cube_core.specs.Shape.{sample_count}
 use Rattle.cube_core.specs.Order.{places}
 use Rattle.cube_core.proofs.Keys.{order_is_by_key}
+use Rattle.cube_core.proofs.Lists.{get_drop}
 use Rattle.cube_core.proofs.Orders.{length-places}
 use Rattle.header_bits.specs.declared.params.Params.{Params}
 use Rattle.header_bits.specs.Lawful.{IsLawful}
-use Rattle.file_coding.specs.Coding.{IsNumber}
+use Rattle.block_adaptive.specs.Given.{given_count}
+use Rattle.block_adaptive.specs.DataSets.{capacity}
 use Rattle.file_decoding.specs.declared.decoder.Decoder.{Decoder}
-use Rattle.file_decoding.specs.Decoding.{HasGiven, MayAsk, GivesAll}
+use Rattle.file_decoding.specs.declared.decoder.Decoder.TheVariants.{Samples, Blocks}
+use Rattle.file_decoding.specs.Decoding.{AreEach, MayAskEach, GivesAll}
 use Rattle.file_decoding.specs.Files.{behind_body}
-use Rattle.file_decoding.proofs.Givers.{may_ask}
 use Rattle.header_bits.proofs.Items.{all_append}
 
--- where a number of the image comes next, it may be asked for
-pub may_ask_next : (p : Params) (d : Decoder) (numbers : List ℕ) (bits : List Bool) (z t : ℕ) → IsLawful p → HasGiven p d numbers bits
-    → IsNumber p numbers z t → MayAsk d z
-may_ask_next p d numbers bits z t lawful given next =
-    let within = slice_get_within (places p.shape p.order) (length numbers) next.0 next.1 in
-    let there = (order_is_by_key p.shape p.order lawful.order).only _ _ next.1 in
-    may_ask p _ _ _ _ given (omega (arith, within, length-places p.shape p.order lawful.order)) (omega (arith, there.band, next.2))
+pub more_long : (numbers : List ℕ) (i : ℕ) → length (numbers ++ replicate i 0) ≡ length numbers + i
+more_long numbers i = omega (arith, length-append numbers (replicate i 0), length-replicate {A = ℕ} i 0)
+
+-- numbers that may be asked for have places of such bands
+module _ (p : Params) (numbers : List ℕ) (zs ts : ℕ → ℕ) (count : ℕ) (ask : AreEach p (length numbers) zs ts count) (i : ℕ) (lt : i < count) where
+  pub asked_at : (q : Place) × (slice_get (drop (length numbers) (places p.shape p.order)) i ≡ Some q) × (q.z ≡ zs i)
+  asked_at =
+      let next = ask i (numbers ++ replicate i 0) lt (more_long numbers i) in
+      (next.0, get_drop (places p.shape p.order) (length numbers) i ∙ rw (more_long numbers i) at next.1, next.2)
+
+  asked_within : IsLawful p → (length numbers + i < sample_count p.shape) × (zs i < p.shape.bands)
+  asked_within lawful =
+      let next = ask i (numbers ++ replicate i 0) lt (more_long numbers i) in
+      let within = slice_get_within (places p.shape p.order) _ next.0 next.1 in
+      let there = (order_is_by_key p.shape p.order lawful.order).only _ _ next.1 in
+      (omega (arith, within, more_long numbers i, length-places p.shape p.order lawful.order), omega (arith, there.band, next.2))
+
+-- a coder has room for i numbers more and another of band z
+abbrev MayReach : Decoder → ℕ → ℕ → Type 0
+MayReach (Samples v) z i = z < length v.bands
+MayReach (Blocks v) z i = given_count v + i < capacity v.cut
+
+pub may_reach : (d : Decoder) {zs ts : ℕ → ℕ} {place count : ℕ} → MayAskEach d zs ts place count → (i : ℕ) → i < count → MayReach d (zs i) i
+may_reach (Samples v) m i lt = omega (arith, m.given.0.bands, (asked_within _ _ _ _ _ m.ask i lt m.lawful).1)
+may_reach (Blocks v) m i lt = omega (arith, m.given.count, m.given.room.room, (asked_within _ _ _ _ _ m.ask i lt m.lawful).0)
 
 -- the refusal of a number is that of the body
 pub refused_behind : (p : Params) (count now_count : ℕ) (bits read unread now : List Bool) (fault : Fault) → now_count ≡ count → unread ≡ read ++ now

@@ -1,9 +1,8 @@
 -- Runs that a coder gives at once.
-use Rattle.std.proofs.Common.{◌≡◌, ◌+◌, ◌<◌, ◌≤◌, ◌^◌, ℕ, zero, suc, Bool, List, [], ◌∷◌, ◌++◌, length, take, drop, replicate, Some, Result, Ok, Err, IfOk}
-use Rattle.std.proofs.Common.{◌∙◌, length-append, length-drop, take-append-drop, arith}
+use Rattle.std.proofs.Common.{◌≡◌, ◌+◌, ◌<◌, ◌≤◌, ◌^◌, ℕ, zero, suc, Bool, List, [], ◌∷◌, ◌++◌, length, take, drop, Some, Result, Ok, Err, IfOk}
+use Rattle.std.proofs.Common.{length-drop, take-append-drop, arith}
 use Rattle.std.specs.Prelude.{MatchResult}
 use Rattle.std.specs.List.{AllByRecursion, slice_get}
-use Rattle.std.proofs.lemmas.List.{length-replicate}
 use Rattle.cube_core.specs.declared.fault.Fault.{Fault}
 use Rattle.cube_core.specs.declared.order.Place.{Place}
 use Rattle.cube_core.specs.Order.{places}
@@ -15,26 +14,16 @@ use Rattle.sample_adaptive.specs.Body.{band_numbers, words_after}
 use Rattle.sample_adaptive.specs.Taken.{Counts, GetsRun, HasTaken as HaveTaken}
 use Rattle.sample_adaptive.proofs.Bodies.{words_takes}
 use Rattle.sample_adaptive.proofs.RunsRead.{words_longer}
-use Rattle.file_coding.specs.Coding.{places_of, places_behind, IsRun}
+use Rattle.file_coding.specs.Coding.{places_of, places_behind, of_band}
 use Rattle.file_coding.proofs.Coders.{places_long, run_count, samples_more_run}
 use Rattle.sample_adaptive.proofs.ForSamples.{settings_bits}
 use Rattle.file_decoding.specs.declared.decoder.Decoder.TheVariants.{Samples}
-use Rattle.file_decoding.specs.Decoding.{HasGiven, AreEach, AreNumbers, GivesAll, GivesRun}
+use Rattle.file_decoding.specs.Decoding.{HasGiven, GivesAll, GivesRun}
+use Rattle.file_decoding.proofs.Runs.{asked_at}
 use Rattle.file_decoding.proofs.Givers.{rest_refused}
-use Rattle.cube_core.proofs.Lists.{get_drop}
 use Rattle.header_bits.proofs.Items.{all_append}
 use Rattle.file_decoding.specs.Files.{behind_body}
 use Rattle.sample_adaptive.specs.Reading.{words_at}
-
-pub more_long : (numbers : List ℕ) (i : ℕ) → length (numbers ++ replicate i 0) ≡ length numbers + i
-more_long numbers i = omega (arith, length-append numbers (replicate i 0), length-replicate {A = ℕ} i 0)
-
--- numbers that may be asked for have places of such bands
-pub asked_at : (p : Params) (numbers : List ℕ) (zs ts : ℕ → ℕ) (count : ℕ) → AreEach p (length numbers) zs ts count
-    → (i : ℕ) → i < count → (q : Place) × (slice_get (drop (length numbers) (places p.shape p.order)) i ≡ Some q) × (q.z ≡ zs i)
-asked_at p numbers zs ts count ask i lt =
-    let next = ask i (numbers ++ replicate i 0) lt (more_long numbers i) in
-    (next.0, get_drop (places p.shape p.order) (length numbers) i ∙ rw (more_long numbers i) at next.1, next.2)
 
 -- the words of so many numbers are read behind those that were given, or the body is refused
 pub words_given : (r : Result (Unit {0}) Fault) (p : Params) (old new : Counts) (unread : Unread) (left : List Bool) (numbers list : List ℕ) (bits : List Bool)
@@ -63,20 +52,12 @@ all_first (p ∷ ps) (suc n) z h =
     let rest = all_first ps n z (λ i lt. h (suc i) (omega (arith, lt))) in
     (omega (arith, rest.0), (rw here first.2, rest.1))
 
--- numbers that follow one another in a band are a run of it
-pub is_run : (p : Params) (numbers : List ℕ) (z t count : ℕ) → AreNumbers p (length numbers) z t count → 0 < count → IsRun p numbers z t count
-is_run p numbers z t count ask some =
-    let there = all_first _ _ _ (asked_at p numbers _ _ count ask) in
-    record {
-      fits = omega (arith, there.0, some, length-drop (length numbers) (places p.shape p.order));
-      band = there.1;
-      time = omega (arith, (ask 0 numbers some (omega arith)).3);
-    }
-
-pub samples_given : (r : Result (Unit {0}) Fault) (z t place : ℕ) (old new : Counts) (unread : Unread) (left : List Bool) (list : List ℕ)
+pub run_given : (r : Result (Unit {0}) Fault) (z t place : ℕ) (old new : Counts) (unread : Unread) (left : List Bool) (list : List ℕ)
     → GetsRun z t place r old unread new left list → (length new.bands ≡ length old.bands) × (new.bits ≡ old.bits) → 0 < length list
     → GivesRun z t place r (Samples old) unread (Samples new) left list
-samples_given r z t place old new unread left list gets kept some p numbers bits lawful h ask at =
-    let run = is_run p numbers z t (length list) ask some in
-    let long = places_long p numbers (omega (arith, run.fits)) in
-    words_given r _ _ _ _ _ _ _ _ h kept run.fits (gets (settings p) _ _ numbers long (run_count p _ _ run.fits) run.band h.0.taken run.time at)
+run_given r z t place old new unread left list gets kept some p numbers bits lawful h ask at =
+    let there = all_first _ _ _ (asked_at p numbers _ _ (length list) ask) in
+    let fits : length numbers + length list ≤ length (places p.shape p.order) = omega (arith, there.0, some, length-drop {A = Place}) in
+    let time : t ≡ length (of_band p numbers z) = omega (arith, (ask 0 numbers some (omega arith)).3) in
+    let long = places_long p numbers (omega (arith, fits)) in
+    words_given r _ _ _ _ _ _ _ _ h kept fits (gets (settings p) _ _ numbers long (run_count p _ _ fits) there.1 h.0.taken time at)
