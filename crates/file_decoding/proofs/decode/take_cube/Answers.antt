@@ -6,7 +6,7 @@ use Rattle.std.proofs.Math.Arith.{digits_lt}
 use Rattle.std.proofs.lemmas.Result.{err_from_is_err_and}
 use Rattle.cube_core.specs.declared.order.Place.{Place}
 use Rattle.cube_core.specs.Image.{Image}
-use Rattle.cube_core.specs.Order.{place_index, places}
+use Rattle.cube_core.specs.Order.{place_index}
 use Rattle.cube_core.proofs.Orders.{length-places}
 use Rattle.predict_core.specs.Walked.{AreAlong, residuals_at}
 use Rattle.cube_core.proofs.Lists.{none_first}
