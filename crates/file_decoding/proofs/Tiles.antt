@@ -10,16 +10,16 @@ use Rattle.cube_core.specs.declared.order.Order.TheVariants.{Bsq, Bi}
 use Rattle.cube_core.specs.declared.order.Place.{Place}
 use Rattle.cube_core.specs.Shape.{Sizes, sample_count}
 use Rattle.cube_core.specs.Order.{IsOrder, IsPlaceOf, places, place_index}
-use Rattle.cube_core.proofs.Orders.{item_from_index, place_index_below}
+use Rattle.cube_core.proofs.Orders.{StandsAt, item_from_index, place_index_below}
 use Rattle.cube_core.proofs.Raws.{same_place}
 use Rattle.cube_core.proofs.Walks.{columns_on, index_in_group, group_kept, sequential_index}
 use Rattle.header_bits.specs.declared.params.Params.{Params}
 use Rattle.cube_core.specs.Along.{HasCome}
-use Rattle.cube_core.proofs.Come.{time_of}
+use Rattle.cube_core.proofs.Come.{time_of, come_here}
 use Rattle.file_coding.proofs.Endings.{time_of_place}
 use Rattle.file_decoding.specs.declared.tile.Tile.{Tile}
 use Rattle.file_decoding.specs.Decoding.{AreEach}
-use Rattle.file_decoding.specs.Tiles.{IsTile, most_bands, place_in, band_in, time_in}
+use Rattle.file_decoding.specs.Tiles.{IsTile, start_of, most_bands, place_in, band_in, time_in}
 
 -- ---- where they stand
 
@@ -99,12 +99,13 @@ module _ {p : Params} {tile : Tile} (is : IsTile p tile) where
 
 module _ {p : Params} {tile : Tile} (lawful : IsOrder p.shape p.order) (is : IsTile p tile) where
   -- a place that stands among them is one of them
-  found_in : (r : Place) → IsPlaceOf p.shape r → place_index p.shape p.order tile.place ≤ place_index p.shape p.order r
-      → place_index p.shape p.order r < place_index p.shape p.order tile.place + tile.columns * tile.bands → (k : ℕ) × Within tile k × (r ≡ nth tile k)
+  found_in : (r : Place) → IsPlaceOf p.shape r → start_of p tile ≤ place_index p.shape p.order r
+      → place_index p.shape p.order r < start_of p tile + tile.columns * tile.bands
+      → (k : ℕ) × Within tile k × (r ≡ nth tile k) × (place_index p.shape p.order r ≡ start_of p tile + k)
   found_in r there low high =
-      let k : ℕ = place_index p.shape p.order r - place_index p.shape p.order tile.place in
+      let k : ℕ = place_index p.shape p.order r - start_of p tile in
       let s = stands is k (omega (arith, low, high)) in
-      (k, s.0, same_place _ _ _ _ lawful there s.1 (omega (arith, s.2, low)))
+      (k, s.0, same_place _ _ _ _ lawful there s.1 (omega (arith, s.2, low)), omega (arith, low))
 
   -- they follow one another in the list of all places
   pub item_in : (k : ℕ) → k < tile.columns * tile.bands → slice_get (places p.shape p.order) (place_index p.shape p.order tile.place + k) ≡ Some (nth tile k)
@@ -152,44 +153,60 @@ same_time s p q a b e h =
     let bands : p.z * s.rows * s.columns ≡ q.z * s.rows * s.columns = ap (λ n. n * s.rows * s.columns) e in
     same_place s Bsq p q tt a b (omega (arith, sequential_index s p, sequential_index s q, bands, h))
 
-module _ {p : Params} {tile : Tile} (lawful : IsOrder p.shape p.order) (is : IsTile p tile) where
-  -- a band of the tile comes as many places further as the tile has columns
-  pub come_within : (b n : ℕ) → b < tile.bands → n ≡ place_index p.shape p.order tile.place
-      → HasCome p.shape p.order (tile.place.z + b) n (time_of p.shape tile.place)
-      → HasCome p.shape p.order (tile.place.z + b) (n + tile.columns * tile.bands) (time_of p.shape tile.place + tile.columns)
-  come_within b n lt at come r there e = (forth, back)
+module _ {p : Params} {tile : Tile} (lawful : IsOrder p.shape p.order) (is : IsTile p tile) (z t : ℕ) (come : HasCome p.shape p.order z (start_of p tile) t) where
+  -- a band that has no place among the first m of the tile comes no further by them
+  come_past : (m : ℕ) → m ≤ tile.columns * tile.bands → ((k : ℕ) → k < m → Within tile k → z ≢ tile.place.z + k % tile.bands)
+      → HasCome p.shape p.order z (start_of p tile + m) t
+  come_past m le apart r there e = (forth, λ h. let g = (come r there e).1 h in omega (arith, g))
     where
-      forth : place_index p.shape p.order r < n + tile.columns * tile.bands → time_of p.shape r < time_of p.shape tile.place + tile.columns
-      forth h = elim (cases_lt (place_index p.shape p.order r) n) [
-        | inl before ↦ (let g = (come r there e).0 before in omega (arith, g))
-        | inr behind ↦
-            (let f = found_in lawful is r there (omega (arith, at, behind)) (omega (arith, at, h)) in
-            let time = ap (time_of p.shape) f.2 in
-            omega (arith, time, f.1.column))
-      ]
-
-      back : time_of p.shape r < time_of p.shape tile.place + tile.columns → place_index p.shape p.order r < n + tile.columns * tile.bands
-      back h = elim (cases_lt (time_of p.shape r) (time_of p.shape tile.place)) [
-        | inl before ↦ (let g = (come r there e).1 before in omega (arith, g))
-        | inr behind ↦
-            (let i : ℕ = time_of p.shape r - time_of p.shape tile.place in
-            let column : time_of p.shape r - time_of p.shape tile.place < tile.columns = omega (arith, behind, h) in
-            let same = same_time p.shape r (place_in tile.place i b) there (placed is i b column lt) e (omega (arith, behind)) in
-            let here = ap (place_index p.shape p.order) same in
-            omega (arith, here, is.index i b column lt, mul-add-lt i tile.bands b tile.columns column lt, at))
-      ]
-
-  -- another band comes no further
-  pub come_beside : (z t n : ℕ) → ((b : ℕ) → b < tile.bands → z ≢ tile.place.z + b) → n ≡ place_index p.shape p.order tile.place
-      → HasCome p.shape p.order z n t → HasCome p.shape p.order z (n + tile.columns * tile.bands) t
-  come_beside z t n apart at come r there e = (forth, λ h. let g = (come r there e).1 h in omega (arith, g))
-    where
-      forth : place_index p.shape p.order r < n + tile.columns * tile.bands → time_of p.shape r < t
-      forth h = elim (cases_lt (place_index p.shape p.order r) n) [
+      forth : place_index p.shape p.order r < start_of p tile + m → time_of p.shape r < t
+      forth h = elim (cases_lt (place_index p.shape p.order r) (start_of p tile)) [
         | inl before ↦ (come r there e).0 before
         | inr behind ↦
-            (let f = found_in lawful is r there (omega (arith, at, behind)) (omega (arith, at, h)) in
-            absurd (apart (f.0 % tile.bands) f.1.band (sym e ∙ ap (λ (q : Place). q.z) f.2)))
+            (let f = found_in lawful is r there behind (omega (arith, h, le)) in
+            absurd (apart f.0 (omega (arith, f.3, h)) f.1 (sym e ∙ ap (λ (q : Place). q.z) f.2)))
+      ]
+
+  pub come_beside : (tile.place.z ≤ z → tile.place.z + tile.bands ≤ z) → HasCome p.shape p.order z (start_of p tile + tile.columns * tile.bands) t
+  come_beside apart = come_past (tile.columns * tile.bands) (omega arith) (λ k lt w e. omega (arith, e, w.band, apart))
+
+  -- a band of the tile is at its first column
+  pub time_at : tile.place.z ≤ z → z < tile.place.z + tile.bands → time_of p.shape tile.place ≡ t
+  time_at low high =
+      let b : ℕ = z - tile.place.z in
+      let some : 0 < tile.columns = omega (arith, is.some.0) in
+      let row = mul-le 1 tile.bands tile.columns tile.bands is.some.0 (omega arith) in
+      let stands : StandsAt p.shape p.order (place_in tile.place 0 b) (start_of p tile + b) =
+      record { place = placed is 0 b some (omega (arith, low, high)); index = omega (arith, is.index 0 b some (omega (arith, low, high))) } in
+      let up = come_past b (omega (arith, row, low, high)) (λ k lt w e. omega (arith, e, lt, w.split)) in
+      let here = come_here _ _ _ _ _ _ lawful up stands (omega (arith, low)) in
+      omega (arith, here)
+
+  -- it comes as many places further as the tile has columns
+  pub come_within : tile.place.z ≤ z → z < tile.place.z + tile.bands
+      → HasCome p.shape p.order z (start_of p tile + tile.columns * tile.bands) (time_of p.shape tile.place + tile.columns)
+  come_within low high r there e = (forth, back)
+    where
+      time : time_of p.shape tile.place ≡ t
+      time = time_at low high
+
+      forth : place_index p.shape p.order r < start_of p tile + tile.columns * tile.bands → time_of p.shape r < time_of p.shape tile.place + tile.columns
+      forth h = elim (cases_lt (place_index p.shape p.order r) (start_of p tile)) [
+        | inl before ↦ (let g = (come r there e).0 before in omega (arith, g, time))
+        | inr behind ↦ (let f = found_in lawful is r there behind h in omega (arith, ap (time_of p.shape) f.2, f.1.column))
+      ]
+
+      back : time_of p.shape r < time_of p.shape tile.place + tile.columns → place_index p.shape p.order r < start_of p tile + tile.columns * tile.bands
+      back h = elim (cases_lt (time_of p.shape r) (time_of p.shape tile.place)) [
+        | inl before ↦ (let g = (come r there e).1 (omega (arith, before, time)) in omega (arith, g))
+        | inr behind ↦
+            (let i : ℕ = time_of p.shape r - time_of p.shape tile.place in
+            let b : ℕ = z - tile.place.z in
+            let column : time_of p.shape r - time_of p.shape tile.place < tile.columns = omega (arith, behind, h) in
+            let lt : z - tile.place.z < tile.bands = omega (arith, low, high) in
+            let same = same_time p.shape r (place_in tile.place i b) there (placed is i b column lt) (omega (arith, e, low)) (omega (arith, behind)) in
+            let here = ap (place_index p.shape p.order) same in
+            omega (arith, here, is.index i b column lt, mul-add-lt i tile.bands b tile.columns column lt))
       ]
 
 -- ---- lists of what stands at the places

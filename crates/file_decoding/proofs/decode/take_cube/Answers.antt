@@ -8,12 +8,12 @@ use Rattle.cube_core.specs.declared.order.Place.{Place}
 use Rattle.cube_core.specs.Image.{Image}
 use Rattle.cube_core.specs.Order.{place_index}
 use Rattle.cube_core.proofs.Orders.{length-places}
-use Rattle.predict_core.specs.Walked.{AreAlong, residuals_at}
+use Rattle.predict_core.specs.Walked.{residuals_at}
 use Rattle.cube_core.proofs.Lists.{none_first}
 use Rattle.predict_core.proofs.Walking.{gone_by, gone_count, length-residuals_at}
 use Rattle.file_decoding.specs.Decoding.{AreEach, GivesAll}
 use Rattle.file_decoding.specs.Files.{IsCubeOf, behind_body}
-use Rattle.file_decoding.specs.Tiles.{SameBefore, band_in, time_in}
+use Rattle.file_decoding.specs.Tiles.{ComeTo, SameBefore, band_in, time_in}
 use Rattle.file_decoding.proofs.Decoded.{decoded_first, decoded_whole}
 use Rattle.file_decoding.proofs.Runs.{each_below}
 use Rattle.file_decoding.proofs.Tiles.{numbers_in, room_for}
@@ -124,16 +124,18 @@ gives c =
     c.in_ok-read.ensures.given c.args.params.now (given d) c.loop-place.invariant.decoded.read c.requires c.loop-place.invariant.decoded.given
     (asked d (length c.read.new.deltas) (c.in_ok-read.ensures.long ∙ long d)) (stands d)
 
-along : (c : After-deref_mut-in-Some)
-    → AreAlong c.args.params.now c.loop-place.cube (gone_count c.args.params.now c.loop-place.places) c.deref_mut-in-Some.result.now
-along c = rw c.deref_mut-in-Some.ensures.value c.loop-place.invariant.along
+come : (c : After-deref_mut-in-Some) → ComeTo c.args.params.now c.loop-place.cube c.at-tile.result c.deref_mut-in-Some.result.now
+come c =
+    let d = (goal.at.fill-requires-clause-ready c).After-read-arg-in-Some-1 in
+    record {
+      lawful = c.requires;
+      shape = c.loop-place.invariant.shape;
+      is = c.at-tile.ensures.tile;
+      along = rw (c.deref_mut-in-Some.ensures.value, ← at d) c.loop-place.invariant.along;
+    }
 
 pub fill-requires-clause-ready : goal.fill-requires-clause-ready
-fill-requires-clause-ready c =
-    let d = (goal.at.fill-requires-clause-ready c).After-read-arg-in-Some-1 in
-    let known = c.loop-place.invariant in
-    bands_ready c.requires.order c.at-tile.ensures.tile _ (at d) c.loop-place.cube c.deref_mut-in-Some.result.now known.shape known.kind
-    (ap length c.deref_mut-in-Some.ensures.value ∙ known.many) (along c)
+fill-requires-clause-ready c = bands_ready (come c) c.loop-place.invariant.kind
 
 pub fill-requires-clause-residuals_in : goal.fill-requires-clause-residuals_in
 fill-requires-clause-residuals_in c k lt = rw c.loop-place.invariant.kind (each_below (2 ^ c.args.params.now.kind.bits) c.read.new.deltas (gives c).0 k lt)
@@ -155,8 +157,8 @@ loop-place-preserved c =
     let count : length c.read.new.deltas ≡ c.at-tile.result.columns * c.at-tile.result.bands = c.in_ok-read.ensures.long ∙ long d in
     let behind = c.go_by.ensures ∙ ap (λ (n : ℕ). drop n c.loop-place.places) (c.count-in-Some.ensures ∙ sym count) in
     let gone = gone_more c.args.params.now c.loop-place.places (length c.read.new.deltas) (first_at d).whole (omega (arith, count, fits d)) in
-    let filled = c.fill.ensures.filled c.args.params.now c.requires known.shape c.at-tile.ensures.tile (rw (at d) at (along e)) in
-    let same = subst (SameBefore c.args.params.now.order c.loop-place.cube c.fill.new.cube) (sym (at d)) filled.0 in
+    let filled = c.fill.ensures.filled c.args.params.now (come e) in
+    let same = subst (SameBefore c.args.params.now.order c.loop-place.cube c.fill.new.cube) (sym (at d)) filled.same in
     let whole = take_at c.fill.new.bands (drop (length c.fill.new.bands) c.loop-place.bands.items) c.loop-place.bands.len
     (omega (arith, c.fill.ensures.many, ap length c.deref_mut-in-Some.ensures.value, c.loop-place.bands.ok.0)) in
     let room = kept_length _ c.loop-place.room.items c.loop-place.room.len (omega (arith, c.loop-place.room.ok.0)) in
@@ -167,9 +169,9 @@ loop-place-preserved c =
       room = room ∙ omega (arith, c.loop-place.room.ok.0, known.room);
       rest = rest_more c.args.params.now c.loop-place.places (length c.read.new.deltas) known.rest gone;
       many = omega (arith, c.fill.ensures.many, ap length c.deref_mut-in-Some.ensures.value, known.many);
-      along = rw (gone, at d) filled.2;
+      along = rw (gone, at d) filled.along;
       decoded = decoded_more c.read.new.decoder c.read.new.deltas c.requires known.shape c.fill.ensures.alike same known.rest gone (at d)
-          c.at-tile.ensures.tile count known.decoded (gives e) filled.1;
+          c.at-tile.ensures.tile count known.decoded (gives e) filled.residuals;
     })
 
 pub returns-clause-taken : goal.returns-clause-taken
