@@ -8,7 +8,6 @@ pub mod Runs
 pub mod Tiles
 pub mod TileWalk
 pub mod Filling
-pub mod Decoded
 pub mod Long
 pub mod OneCube
 pub mod RunsGiven
