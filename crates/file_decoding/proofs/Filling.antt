@@ -9,6 +9,8 @@ use Rattle.cube_core.specs.Shape.{Sizes}
 use Rattle.cube_core.specs.Image.{Image}
 use Rattle.cube_core.specs.Order.{IsPlaceOf, place_index, from}
 use Rattle.cube_core.proofs.Come.{time_of}
+use Rattle.cube_core.specs.Tiles.{place_in}
+use Rattle.cube_core.proofs.Tiles.{placed, come_within, come_beside}
 use Rattle.cube_core.proofs.Lists.{get_set, get_or-from, length-from}
 use Rattle.header_bits.specs.declared.params.Params.{Params}
 use Rattle.predict_core.specs.Following.{Learner, Follows, MovesBy}
@@ -17,10 +19,9 @@ use Rattle.predict_core.specs.Residual.{mapped_residual, run_residuals}
 use Rattle.predict_core.specs.RunPlaces.{AreAlikeBeside}
 use Rattle.predict_core.proofs.Frame.{weights_same}
 use Rattle.file_decoding.specs.declared.tile.Tile.{Tile}
-use Rattle.file_decoding.specs.Tiles.{IsReady, AreReady, ComeTo, SameBefore, HasResiduals, IsFilled, start_of, place_in}
+use Rattle.file_decoding.specs.Tiles.{IsReady, AreReady, ComeTo, SameBefore, HasResiduals, IsFilled, start_of}
 use Rattle.file_decoding.proofs.Alike.{residual_same}
 use Rattle.file_decoding.proofs.Kept.{wide_of, all_follow}
-use Rattle.file_decoding.proofs.Tiles.{placed, come_within, come_beside}
 
 -- band z, one of the tile's first n, has gone over the tile's columns
 pub record IsPast (tile : Tile) (c d : Image) (bands : List Learner) (n z : ℕ) (g : Learner) : Type 0 where
@@ -101,7 +102,8 @@ module _ {tile : Tile} {c d e : Image} {bands now : List Learner} {deltas run : 
             | inr behind ↦ omega (arith, long, behind)
             | inl inner ↦
                 (let index = m.is.index (r.x - tile.place.x) n (omega (arith, inner, column)) lt in
-                let here = ap (place_index p.shape p.order) (same_fields r _ _ (tile.place.x + (r.x - tile.place.x)) (own ∙ ready.band) row (omega (arith, column))) in
+                let x : r.x ≡ tile.place.x + (r.x - tile.place.x) = omega (arith, column) in
+                let here = ap (place_index p.shape p.order) (same_fields r _ _ _ (own ∙ ready.band) row x) in
                 absurd (omega (arith, here, index, rw m.shape at before)))
           ])
 
@@ -119,7 +121,7 @@ module _ {tile : Tile} {c d e : Image} {bands now : List Learner} {deltas run : 
       residuals i b column below = elim (cases_lt b n) [
         | inr not ↦ (let is-n : b ≡ n = omega (arith, not, below) in rw is-n (top i column))
         | inl less ↦
-            (let there : IsPlaceOf d.shape (place_in tile.place i b) = rw shape (placed m.is i b column (omega (arith, less, lt))) in
+            (let there : IsPlaceOf d.shape (place_in tile.place i b) = rw shape (placed m.lawful.order m.is i b column (omega (arith, less, lt))) in
             let low : tile.place.z + b < f.band = omega (arith, less, ready.band) in
             let stays = beside.samples _ _ _ there (λ own row behind. absurd (omega (arith, own, low))) in
             sym (residual_same p d e (place_in tile.place i b) _ (wide_of p d m.lawful shape) there (rw shape refl) (agree _ _ low) stays)

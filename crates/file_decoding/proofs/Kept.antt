@@ -1,17 +1,15 @@
 -- What stays for images that are one before a place of the order: residuals, weights, and what bands follow.
-use Rattle.std.proofs.Common.{ap₂, ◌≡◌, ◌*◌, ◌/◌, ◌%◌, ◌+◌, ◌<◌, ◌≤◌, ℕ, suc, zero, ℤ, pos, false, List, map, take, Some, refl, sym, ap, ◌∙◌, arith, ◌∷◌, []}
-use Rattle.std.specs.List.{slice_get}
-use Rattle.std.proofs.lemmas.List.{get_or-set_other}
+use Rattle.std.proofs.Common.{◌≡◌, ◌*◌, ◌/◌, ◌%◌, ◌+◌, ◌<◌, ◌≤◌, ℕ, suc, zero, ℤ, false, List, refl, ap, ◌∙◌, arith}
 use Rattle.std.proofs.lemmas.Nat.{div_below, mod_below, div-add-mod'}
 use Rattle.cube_core.specs.declared.order.Order.{Order}
 use Rattle.cube_core.specs.declared.order.Place.{Place}
 use Rattle.cube_core.specs.Shape.{Sizes}
-use Rattle.cube_core.specs.Image.{Image, sample_at, index_in, put}
+use Rattle.cube_core.specs.Image.{Image, put}
 use Rattle.cube_core.specs.Order.{IsOrder, IsPlaceOf, place_index}
 use Rattle.cube_core.proofs.Keys.{order_is_by_key, index_of_item}
 use Rattle.cube_core.proofs.Orders.{StandsAt}
-use Rattle.cube_core.proofs.Raws.{same_place}
-use Rattle.cube_core.proofs.Walks.{sequential_index}
+use Rattle.cube_core.proofs.Images.{put_other}
+use Rattle.cube_core.proofs.Lists.{map_taken_same}
 use Rattle.header_bits.specs.declared.params.Params.{Params}
 use Rattle.header_bits.specs.Lawful.{IsLawful}
 use Rattle.predict_core.specs.Following.{Learner, Follows}
@@ -27,13 +25,6 @@ use Rattle.file_decoding.proofs.Alike.{agree_at, residual_same, weights_behind}
 
 pub wide_of : (p : Params) (c : Image) → IsLawful p → c.shape ≡ p.shape → p.column ≡ false → 2 ≤ c.shape.columns
 wide_of p c lawful shape h = omega (arith, lawful.sums h, ap (λ (s : Sizes). s.columns) shape)
-
-map_take_same : (f g : Place → ℕ) (i : ℕ) (ps : List Place) → ((j : ℕ) (r : Place) → j < i → slice_get ps j ≡ Some r → f r ≡ g r)
-    → map f (take i ps) ≡ map g (take i ps)
-map_take_same f g zero ps h = refl
-map_take_same f g (suc i) [] h = refl
-map_take_same f g (suc i) (p ∷ ps) h =
-    ap₂ (λ (n : ℕ) (ns : List ℕ). n ∷ ns) (h 0 p (omega arith) refl) (map_take_same f g i ps (λ j r lt e. h (suc j) r (omega (arith, lt)) e))
 
 module _ {p : Params} {c d : Image} (lawful : IsLawful p) (shape : c.shape ≡ p.shape) (alike : AreAlike c d) where
   order_kept : IsOrder c.shape p.order
@@ -61,7 +52,7 @@ module _ {p : Params} {c d : Image} (lawful : IsLawful p) (shape : c.shape ≡ p
 
   pub residuals_same : (left : List Place) → SameBefore p.order c d (gone_count p left) → residuals_at p c (gone_by p left) ≡ residuals_at p d (gone_by p left)
   residuals_same left same =
-      map_take_same (λ r. mapped_residual p c r.z (r.y * c.shape.columns + r.x)) (λ r. mapped_residual p d r.z (r.y * d.shape.columns + r.x)) _ _
+      map_taken_same (λ r. mapped_residual p c r.z (r.y * c.shape.columns + r.x)) (λ r. mapped_residual p d r.z (r.y * d.shape.columns + r.x)) _ _
       (λ j r lt e.
       let place : IsPlaceOf c.shape r = rw shape ((order_is_by_key p.shape p.order lawful.order).only j r e) in
       let index = ap (λ (s : Sizes). place_index s p.order r) shape ∙ index_of_item p.shape p.order r j lawful.order e in
@@ -74,14 +65,6 @@ module _ {p : Params} {c d : Image} (lawful : IsLawful p) (shape : c.shape ≡ p
 
 pub put_alike : (c : Image) (q : Place) (v : ℤ) → AreAlike c (put c q.z q.y q.x v)
 put_alike c q v = record { shape = refl; kind = refl }
-
--- places with one index in the list of samples are one
-pub put_other : (c : Image) (q r : Place) (v : ℤ) → IsPlaceOf c.shape q → IsPlaceOf c.shape r → (q ≡ r → ⊥)
-    → sample_at c r.z r.y r.x ≡ sample_at (put c q.z q.y q.x v) r.z r.y r.x
-unfolding sample_at
-put_other c q r v a b apart =
-    sym (get_or-set_other c.samples (index_in c.shape.columns c.shape.rows q.z q.y q.x) (index_in c.shape.columns c.shape.rows r.z r.y r.x) v (pos 0)
-    (λ e. apart (same_place _ _ _ _ tt a b (sequential_index _ _ ∙ sym e ∙ sym (sequential_index _ _)))))
 
 -- the places before it stay
 pub put_same : (o : Order) (c : Image) (q : Place) (v : ℤ) (i : ℕ) → IsPlaceOf c.shape q → place_index c.shape o q ≡ i → SameBefore o c (put c q.z q.y q.x v) i

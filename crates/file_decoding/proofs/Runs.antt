@@ -1,6 +1,7 @@
 -- Runs: what the reading end has given, several numbers at a time.
-use Rattle.std.proofs.Common.{◌≡◌, ◌+◌, ◌<◌, ℕ, zero, suc, Bool, List, [], ◌∷◌, ◌++◌, length, drop, replicate, Some, Err, append_assoc, length-append, ◌∙◌, arith}
-use Rattle.std.specs.List.{AllByRecursion, slice_get, slice_index}
+use Rattle.std.proofs.Common.{◌≡◌, ◌+◌, ◌<◌, ℕ, Bool, List, ◌++◌, length, drop, replicate, Some, Err, append_assoc, length-append, ◌∙◌}
+use Rattle.std.proofs.Common.{arith}
+use Rattle.std.specs.List.{slice_get}
 use Rattle.std.proofs.lemmas.List.{length-replicate}
 use Rattle.std.proofs.lemmas.Option.{slice_get_within}
 use Rattle.cube_core.specs.declared.fault.Fault.{Fault}
@@ -57,9 +58,3 @@ pub gives_both : (p : Params) (mid new : Decoder) (numbers : List ℕ) (bits unr
     → GivesAll p new numbers bits unread left (xs ++ ys)
 gives_both p mid new numbers bits unread now left xs ys g m =
     (all_append _ _ _ g.0 m.0, g.1 ++ m.1, rw (append_assoc g.1 m.1 left, ← m.2) g.2, rw (append_assoc numbers xs ys, append_assoc bits g.1 m.1) at m.3)
-
--- each of some numbers in range
-pub each_below : (limit : ℕ) (list : List ℕ) → AllByRecursion (λ n. n < limit) list → (i : ℕ) → i < length list → slice_index list i < limit
-each_below limit [] h i lt = absurd (omega (arith, lt))
-each_below limit (x ∷ xs) h zero lt = h.0
-each_below limit (x ∷ xs) h (suc i) lt = each_below limit xs h.1 i (omega (arith, lt))

@@ -1,11 +1,12 @@
 -- Runs that a coder gives at once.
-use Rattle.std.proofs.Common.{◌≡◌, ◌+◌, ◌<◌, ◌≤◌, ◌^◌, ℕ, zero, suc, Bool, List, [], ◌∷◌, ◌++◌, length, take, drop, Some, Result, Ok, Err, IfOk}
+use Rattle.std.proofs.Common.{◌≡◌, ◌+◌, ◌<◌, ◌≤◌, ◌^◌, ℕ, Bool, List, ◌++◌, length, drop, Result, Ok, Err, IfOk}
 use Rattle.std.proofs.Common.{length-drop, take-append-drop, arith}
 use Rattle.std.specs.Prelude.{MatchResult}
-use Rattle.std.specs.List.{AllByRecursion, slice_get}
+use Rattle.std.specs.List.{AllByRecursion}
 use Rattle.cube_core.specs.declared.fault.Fault.{Fault}
 use Rattle.cube_core.specs.declared.order.Place.{Place}
 use Rattle.cube_core.specs.Order.{places}
+use Rattle.cube_core.proofs.Lists.{all_taken}
 use Rattle.header_bits.specs.declared.params.Params.{Params}
 use Rattle.header_bits.specs.Bits.{Unread}
 use Rattle.header_bits.specs.Reading.{Reads}
@@ -41,22 +42,11 @@ words_given (Err fault) p old new unread left numbers list bits h kept fits did 
     let all = rw (take-append-drop (length list) (drop (length numbers) (places p.shape p.order))) at longer in
     rest_refused p _ _ _ _ _ h.0.coder h.1 (omega (arith, fits)) h.0.text all
 
--- the first places, so many, are there, and of one band
-all_first : (ps : List Place) (count z : ℕ) → ((i : ℕ) → i < count → (q : Place) × (slice_get ps i ≡ Some q) × (q.z ≡ z))
-    → (count ≤ length ps) × AllByRecursion (λ q. q.z ≡ z) (take count ps)
-all_first ps zero z h = (omega arith, tt)
-all_first [] (suc n) z h = absurd (let none = (h 0 (omega arith)).1 in cc)
-all_first (p ∷ ps) (suc n) z h =
-    let first = h 0 (omega arith) in
-    let here : p ≡ first.0 = (let at = first.1 in cc) in
-    let rest = all_first ps n z (λ i lt. h (suc i) (omega (arith, lt))) in
-    (omega (arith, rest.0), (rw here first.2, rest.1))
-
 pub run_given : (r : Result (Unit {0}) Fault) (z t place : ℕ) (old new : Counts) (unread : Unread) (left : List Bool) (list : List ℕ)
     → GetsRun z t place r old unread new left list → (length new.bands ≡ length old.bands) × (new.bits ≡ old.bits) → 0 < length list
     → GivesRun z t place r (Samples old) unread (Samples new) left list
 run_given r z t place old new unread left list gets kept some p numbers bits lawful h ask at =
-    let there = all_first _ _ _ (asked_at p numbers _ _ (length list) ask) in
+    let there = all_taken _ _ _ (asked_at p numbers _ _ (length list) ask) in
     let fits : length numbers + length list ≤ length (places p.shape p.order) = omega (arith, there.0, some, length-drop {A = Place}) in
     let time : t ≡ length (of_band p numbers z) = omega (arith, (ask 0 numbers some (omega arith)).3) in
     let long = places_long p numbers (omega (arith, fits)) in

@@ -18,15 +18,17 @@ use Rattle.predict_core.specs.Precedence.{AreAlike}
 use Rattle.predict_core.specs.Residual.{mapped_residual}
 use Rattle.predict_core.specs.Walked.{AreAlong, residuals_at}
 use Rattle.cube_core.proofs.Come.{time_of}
-use Rattle.cube_core.proofs.Lists.{first_of, get_drop}
+use Rattle.cube_core.specs.Tiles.{place_in}
+use Rattle.cube_core.proofs.Tiles.{within, item_in, time_at, room_for}
+use Rattle.cube_core.proofs.Lists.{first_of, get_drop, map_taken}
 use Rattle.predict_core.proofs.Walking.{gone_by, gone_count, length-residuals_at, residuals_whole}
 use Rattle.file_decoding.specs.declared.decoder.Decoder.{Decoder}
 use Rattle.file_decoding.specs.declared.tile.Tile.{Tile}
 use Rattle.file_decoding.specs.Decoding.{HasGiven, TakesCube, MayAskEach, GivesAll}
-use Rattle.file_decoding.specs.Tiles.{IsTile, AreReady, ComeTo, IsFilled, start_of, place_in, band_in, time_in}
+use Rattle.file_decoding.specs.Tiles.{IsInOrder, AreReady, ComeTo, IsFilled, start_of, band_in, time_in}
 use Rattle.file_decoding.proofs.Givers.{given_whole}
 use Rattle.file_decoding.proofs.Kept.{residuals_same}
-use Rattle.file_decoding.proofs.Tiles.{within, item_in, time_at, map_first, numbers_in, room_for}
+use Rattle.file_decoding.proofs.Tiles.{numbers_in}
 
 -- the reading end has given the residuals that the image has at the places gone by, and has read the bits from `start` on
 pub record IsWalked (p : Params) (c : Image) (left : List Place) (bands : List Learner) (d : Decoder) (start now : List Bool) : Type 0 where
@@ -85,7 +87,7 @@ module _ {p : Params} {c : Image} {left : List Place} {bands : List Learner} {d 
 
 -- the tile that comes next
 module _ {p : Params} {c : Image} {left : List Place} {bands : List Learner} {d : Decoder} {start now : List Bool} {tile : Tile} (lawful : IsLawful p)
-    (w : IsWalked p c left bands d start now) (is : IsTile p tile) (next : slice_get left 0 ≡ Some tile.place) where
+    (w : IsWalked p c left bands d start now) (is : IsInOrder p tile) (next : slice_get left 0 ≡ Some tile.place) where
   pub at : gone_count p left ≡ start_of p tile
   at = sym (next_place lawful w tile.place next).index
 
@@ -115,7 +117,7 @@ module _ {p : Params} {c : Image} {left : List Place} {bands : List Learner} {d 
     lawful = lawful;
     given = w.given;
     stands = omega (arith, stands, numbers_long lawful w);
-    ask = rw whole (numbers_in lawful.order is t _ (numbers_long lawful w ∙ at) time);
+    ask = rw whole (numbers_in p tile t _ lawful.order is (numbers_long lawful w ∙ at) time);
   }
 
   -- the residuals of the tile were given: the image with its samples has them
@@ -125,7 +127,7 @@ module _ {p : Params} {c : Image} {left : List Place} {bands : List Learner} {d 
     value : (k : ℕ) → k < length deltas
         → (q : Place) × (slice_get left k ≡ Some q) × (mapped_residual p e q.z (q.y * e.shape.columns + q.x) ≡ slice_index deltas k)
     value k lt =
-        let v = within tile k is.some.1 (omega (arith, lt, long)) in
+        let v = within tile.columns tile.bands k is.some.1 (omega (arith, lt, long)) in
         let item = ap (λ (ps : List Place). slice_get ps k) w.rest ∙ get_drop (places p.shape p.order) (gone_count p left) k
         ∙ ap (λ (n : ℕ). slice_get (places p.shape p.order) (n + k)) at ∙ item_in lawful.order is k (omega (arith, lt, long)) in
         let q : Place = place_in tile.place (k / tile.bands) (k % tile.bands) in
@@ -142,7 +144,7 @@ module _ {p : Params} {c : Image} {left : List Place} {bands : List Learner} {d 
         ∙ ap (λ (ps : List Place). gone_by p left ++ take (length deltas) ps) (sym w.rest) in
         let before = sym (residuals_same lawful w.shape alike left (rw at filled.same)) ∙ w.same in
         ap (residuals_at p e) whole ∙ map-append _ (gone_by p left) (take (length deltas) left)
-        ∙ ap₂ (λ (ms ns : List ℕ). ms ++ ns) before (map_first _ _ _ value)
+        ∙ ap₂ (λ (ms ns : List ℕ). ms ++ ns) before (map_taken _ _ _ value)
 
     pub walked_more : IsWalked p e (drop (length deltas) left) after new start behind
     walked_more = record {

@@ -1,10 +1,10 @@
 -- The places that are decoded together: columns of one row, each with the same bands.
 use Rattle.std.specs.Prelude.{ℕ, ◌≡◌, ◌+◌, ◌*◌, ◌/◌, ◌%◌, ◌<◌, ◌≤◌, List, length, slice_get, slice_index, Some}
 use Rattle.cube_core.specs.declared.order.Order.{Order}
-use Rattle.cube_core.specs.declared.order.Order.TheVariants.{Bsq, Bi}
 use Rattle.cube_core.specs.declared.order.Place.{Place}
 use Rattle.cube_core.specs.Image.{Image, sample_at}
 use Rattle.cube_core.specs.Order.{IsPlaceOf, place_index}
+use Rattle.cube_core.specs.Tiles.{IsTiled, most_bands}
 use Rattle.header_bits.specs.declared.params.Params.{Params}
 use Rattle.header_bits.specs.Lawful.{IsLawful}
 use Rattle.predict_core.specs.Following.{Learner}
@@ -12,24 +12,14 @@ use Rattle.predict_core.specs.Residual.{mapped_residual}
 use Rattle.predict_core.specs.Walked.{AreAlong}
 use Rattle.file_decoding.specs.declared.tile.Tile.{Tile}
 
--- how many bands the largest group of an order has
-abbrev pub most_bands : Order → ℕ
-most_bands Bsq = 1
-most_bands (Bi depth) = depth
-
--- the place of a tile in its column i and its band b
-abbrev pub place_in : Place → ℕ → ℕ → Place
-place_in q i b = record { z = q.z + b; y = q.y; x = q.x + i }
-
 -- the places of a tile follow one another in encoding order, column after column, and in each from its lowest band on
+abbrev pub IsInOrder : Params → Tile → Type 0
+IsInOrder p tile = IsTiled p.shape p.order tile.place tile.columns tile.bands
+
+-- so do these, in at most 64 columns of bands of a group
 pub record IsTile (p : Params) (tile : Tile) : Type 0 where
-  pub place : IsPlaceOf p.shape tile.place
-  pub some : (1 ≤ tile.columns) × (1 ≤ tile.bands)
   pub few : (tile.columns ≤ 64) × (tile.bands ≤ most_bands p.order)
-  pub columns : tile.place.x + tile.columns ≤ p.shape.columns
-  pub bands : tile.place.z + tile.bands ≤ p.shape.bands
-  pub index : (i b : ℕ) → i < tile.columns → b < tile.bands
-      → place_index p.shape p.order (place_in tile.place i b) ≡ place_index p.shape p.order tile.place + (i * tile.bands + b)
+  pub in-order : IsInOrder p tile
 
 -- the band of a tile's k-th place, and how many of that band's places come before it, where t come before the tile
 abbrev pub band_in : Tile → ℕ → ℕ
@@ -57,7 +47,7 @@ AreReady c tile bands =
 pub record ComeTo (p : Params) (c : Image) (tile : Tile) (bands : List Learner) : Type 0 where
   pub lawful : IsLawful p
   pub shape : c.shape ≡ p.shape
-  pub is : IsTile p tile
+  pub is : IsInOrder p tile
   pub along : AreAlong p c (start_of p tile) bands
 
 -- two images that are one at all places of an index below i in an order

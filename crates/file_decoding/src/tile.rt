@@ -2,11 +2,12 @@
 
 ghost use Rattle.std.specs.Prelude.{◌≡◌, ◌+◌, ◌*◌, ◌^◌, ◌<◌, ◌≤◌, ℕ, length, slice_index, slice_index_or};
 ghost use Rattle.cube_core.specs.Order.{IsPlaceOf};
+ghost use Rattle.cube_core.specs.Tiles.{most_bands as bands_of_group};
 ghost use Rattle.header_bits.specs.declared.params.Params.{Params as Parameters};
 ghost use Rattle.header_bits.specs.Lawful.{IsLawful};
 ghost use Rattle.predict_core.specs.Precedence.{AreAlike};
 ghost use Rattle.file_decoding.specs.Decoding.{MayAskEach, GivesEach};
-ghost use Rattle.file_decoding.specs.Tiles.{IsTile, AreReady, ComeTo, IsFilled, band_in, time_in, most_bands as bands_of_group};
+ghost use Rattle.file_decoding.specs.Tiles.{IsTile, AreReady, ComeTo, IsFilled, band_in, time_in};
 
 use crate::decoder::Decoder;
 use cube_core::cube::Cube;

@@ -6,11 +6,10 @@ use Rattle.std.proofs.Math.Arith.{digits_lt}
 use Rattle.std.proofs.lemmas.Result.{err_from_is_err_and}
 use Rattle.cube_core.specs.declared.order.Place.{Place}
 use Rattle.cube_core.specs.Image.{Image}
-use Rattle.cube_core.proofs.Lists.{none_first}
+use Rattle.cube_core.proofs.Lists.{none_first, each_below}
 use Rattle.file_decoding.specs.Decoding.{MayAskEach, GivesAll}
 use Rattle.file_decoding.specs.Files.{behind_body}
 use Rattle.file_decoding.specs.Tiles.{band_in, time_in}
-use Rattle.file_decoding.proofs.Runs.{each_below}
 use Rattle.file_decoding.proofs.TileWalk.{walked_first, walked_more, walked_whole, all_places, next_place, fits, come, bands_ready, may_read, kept_length}
 use Rattle.file_decoding.proofs.decode.take_cube.Goals as goal
 use Rattle.file_decoding.proofs.decode.take_cube.Goals.{After-read-arg-in-Some-1, After-deref_mut-in-Some}
@@ -48,7 +47,7 @@ abbrev may : (c : After-read-arg-in-Some-1) → MayAskEach c.loop-place.decoder 
     (c.sample_count-count.result - c.left.result) (length (take c.count.result c.deref_mut.result.now))
 may c =
     let time = c.time_of.ensures ∙ ap (λ (q : Place). q.y * c.args.params.now.shape.columns + q.x) (sym c.at-tile.ensures.place) in
-    may_read c.requires c.loop-place.invariant.walked c.at-tile.ensures.tile (next c) _ _ _ time
+    may_read c.requires c.loop-place.invariant.walked c.at-tile.ensures.tile.in-order (next c) _ _ _ time
     (omega (arith, c.left.ensures, c.sample_count-count.ensures.value)) (long c)
 
 pub read-requires-clause-small : goal.read-requires-clause-small
@@ -57,7 +56,7 @@ read-requires-clause-small c =
     let place = (next_place c.requires walked _ (sym c.peek.ensures ∙ c.in-Some.is)).place in
     let row = digits_lt place.row place.column in
     let most = mul-le c.args.params.now.shape.rows c.args.params.now.shape.columns 65536 65536 c.requires.sizes.rows.1 c.requires.sizes.columns.1 in
-    let all = fits c.requires walked c.at-tile.ensures.tile (next c) in
+    let all = fits c.requires walked c.at-tile.ensures.tile.in-order (next c) in
     (omega (arith, c.time_of.ensures, row, most), omega (arith, c.left.ensures, c.sample_count-count.ensures, long c, all, all_places c.requires walked))
 
 pub read-requires-clause-may : goal.read-requires-clause-may
@@ -88,7 +87,7 @@ gives c =
 pub fill-requires-clause-ready : goal.fill-requires-clause-ready
 fill-requires-clause-ready c =
     let d = (goal.at.fill-requires-clause-ready c).After-read-arg-in-Some-1 in
-    rw c.deref_mut-in-Some.ensures.value (bands_ready c.requires c.loop-place.invariant.walked c.at-tile.ensures.tile (next d))
+    rw c.deref_mut-in-Some.ensures.value (bands_ready c.requires c.loop-place.invariant.walked c.at-tile.ensures.tile.in-order (next d))
 
 pub fill-requires-clause-residuals_in : goal.fill-requires-clause-residuals_in
 fill-requires-clause-residuals_in c k lt =
@@ -99,9 +98,9 @@ fill-requires-clause-residuals_in c k lt =
 pub loop-place-smaller : goal.loop-place-smaller
 loop-place-smaller c =
     let d = (goal.at.loop-place-smaller c).After-read-arg-in-Some-1 in
-    let some = c.at-tile.ensures.tile.some in
+    let some = c.at-tile.ensures.tile.in-order.some in
     let one = mul-le 1 1 c.at-tile.result.columns c.at-tile.result.bands some.0 some.1 in
-    let all = fits c.requires c.loop-place.invariant.walked c.at-tile.ensures.tile (next d) in
+    let all = fits c.requires c.loop-place.invariant.walked c.at-tile.ensures.tile.in-order (next d) in
     omega (arith, ap length c.go_by.ensures, length-drop c.count-in-Some.result c.loop-place.places, c.count-in-Some.ensures, one, all)
 
 pub loop-place-preserved : goal.loop-place-preserved
@@ -109,7 +108,7 @@ loop-place-preserved c =
     let d = (goal.at.loop-place-preserved c).After-read-arg-in-Some-1 in
     let e = (goal.at.loop-place-preserved c).After-deref_mut-in-Some in
     let known = c.loop-place.invariant in
-    let is = c.at-tile.ensures.tile in
+    let is = c.at-tile.ensures.tile.in-order in
     let count : length c.read.new.deltas ≡ c.at-tile.result.columns * c.at-tile.result.bands = c.in_ok-read.ensures.long ∙ long d in
     let behind = c.go_by.ensures ∙ ap (λ (n : ℕ). drop n c.loop-place.places) (c.count-in-Some.ensures ∙ sym count) in
     let lent = c.deref_mut-in-Some.ensures.value in

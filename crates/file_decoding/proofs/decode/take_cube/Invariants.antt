@@ -1,5 +1,5 @@
 use Rattle.std.proofs.Common.{◌≡◌, ◌*◌, length}
-use Rattle.file_decoding.specs.Tiles.{most_bands}
+use Rattle.cube_core.specs.Tiles.{most_bands}
 use Rattle.file_decoding.proofs.TileWalk.{IsWalked}
 use Rattle.file_decoding.proofs.decode.take_cube.Given as goal
 

@@ -8,8 +8,8 @@ returns-in-Ok-clause-given c = λ p numbers bits lawful given.
 
 pub returns-in-Err-clause-given : goal.returns-in-Err-clause-given
 returns-in-Err-clause-given c = λ p numbers bits lawful given.
-    rw c.placed.ensures (samples_given (Err _) _ _ c.args.place _ c.get.new.self _ c.get.new.reader.left c.in-Err.ensures.taken c.get.ensures.bands p numbers bits lawful
-    (rw c.in-Samples.is at given))
+    let got = samples_given (Err _) _ _ c.args.place _ c.get.new.self _ c.get.new.reader.left c.in-Err.ensures.taken c.get.ensures.bands in
+    rw c.placed.ensures (got p numbers bits lawful (rw c.in-Samples.is at given))
 
 pub returns-in-Blocks-clause-given : goal.returns-in-Blocks-clause-given
 returns-in-Blocks-clause-given c = λ p numbers bits lawful given.

@@ -1,5 +1,5 @@
 use Rattle.std.proofs.Common.{◌∙◌, ◌*◌, ◌/◌, ℕ, inl, inr, ap, arith}
-use Rattle.file_decoding.proofs.Tiles.{is_tile}
+use Rattle.cube_core.proofs.Tiles.{is_tiled}
 use Rattle.file_decoding.proofs.tile.Tile.at.Goals as goal
 use Rattle.file_decoding.proofs.tile.Tile.at.Goals.{then-place-first, else-place-first}
 
@@ -11,9 +11,11 @@ returns-clause-tile c =
     elim c.if-place-first.branch [
       | then-place-first w ↦
           (let start = w.if-place-first.true ∙ ap (λ (d : ℕ). c.args.place.z / d * d) c.most_bands-depth.ensures in
-          is_tile _ _ _ _ c.requires.lawful.order place (omega (arith, w.result-is, w.min.ensures)) (omega (arith, w.result-is, w.min.ensures))
-          (omega (arith, w.result-is, w.min.ensures)) (omega (arith, bands)) (inr start))
+          let tiled = is_tiled _ _ _ _ _ c.requires.lawful.order place (omega (arith, w.result-is, w.min.ensures)) (omega (arith, w.result-is, w.min.ensures))
+          (omega (arith, bands)) (inr start) in
+          record { few = (omega (arith, w.result-is, w.min.ensures), tiled.1); in-order = tiled.0 })
       | else-place-first w ↦
-          is_tile _ _ _ _ c.requires.lawful.order place (omega (arith, w.result-is)) (omega (arith, w.result-is)) (omega (arith, w.result-is))
-          (omega (arith, bands)) (inl w.result-is)
+          (let tiled = is_tiled _ _ _ _ _ c.requires.lawful.order place (omega (arith, w.result-is)) (omega (arith, w.result-is)) (omega (arith, bands))
+          (inl w.result-is) in
+          record { few = (omega (arith, w.result-is), tiled.1); in-order = tiled.0 })
     ]
