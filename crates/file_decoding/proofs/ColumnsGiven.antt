@@ -32,32 +32,33 @@ all_up (p ∷ ps) (suc n) z h =
 pub column_given : (r : Result (Unit {0}) Fault) (z t place : ℕ) (old new : Counts) (unread : Unread) (left : List Bool) (list : List ℕ)
     → GetsColumn z t place r old unread new left list → (length new.bands ≡ length old.bands) × (new.bits ≡ old.bits) → 0 < length list
     → GivesColumn z t place r (Samples old) unread (Samples new) left list
-column_given r z t place old new unread left list gets kept some p numbers bits lawful h ask at =
-    words_given r _ _ _ _ _ _ _ _ h kept fits (gets (settings p) _ _ numbers (long 0 some) (run_count p _ _ fits) whole.1 h.0.taken times at)
+column_given r z t place old new unread left list gets kept some m =
+    words_given r _ _ _ _ _ _ _ _ m.given kept fits
+    (gets (settings m.params) _ _ m.numbers (long 0 some) (run_count m.params _ _ fits) whole.1 m.given.0.taken times m.stands)
   where
     -- the places of the column, and how far they reach
-    placed : (n : ℕ) → n ≤ length list → (n ≤ length (drop (length numbers) (places p.shape p.order))) × AreUpFrom z (places_behind p numbers n)
-    placed n le = all_up _ _ _ (λ i lt. asked_at p numbers _ _ (length list) ask i (omega (arith, lt, le)))
+    placed : (n : ℕ) → n ≤ length list → (n ≤ length (drop (length m.numbers) (places m.params.shape m.params.order))) × AreUpFrom z (places_behind m.params m.numbers n)
+    placed n le = all_up _ _ _ (λ i lt. asked_at m i (omega (arith, lt, le)))
 
-    whole : (length list ≤ length (drop (length numbers) (places p.shape p.order))) × AreUpFrom z (places_behind p numbers (length list))
+    whole : (length list ≤ length (drop (length m.numbers) (places m.params.shape m.params.order))) × AreUpFrom z (places_behind m.params m.numbers (length list))
     whole = placed (length list) (omega arith)
 
-    fits : length numbers + length list ≤ length (places p.shape p.order)
+    fits : length m.numbers + length list ≤ length (places m.params.shape m.params.order)
     fits = omega (arith, whole.0, some, length-drop {A = Place})
 
-    long : (i : ℕ) → i < length list → length numbers ≡ length (places_of p numbers)
-    long i lt = places_long p numbers (omega (arith, fits))
+    long : (i : ℕ) → i < length list → length m.numbers ≡ length (places_of m.params m.numbers)
+    long i lt = places_long m.params m.numbers (omega (arith, fits))
 
-    -- a band that is above so many others has no more numbers by theirs
-    time_there : (i : ℕ) → i < length list → t ≡ length (of_band p numbers (z + i))
+    -- a band that is above so many others has no more m.numbers by theirs
+    time_there : (i : ℕ) → i < length list → t ≡ length (of_band m.params m.numbers (z + i))
     time_there i lt =
-        let next = ask i (numbers ++ replicate i 0) lt (more_long numbers i) in
-        let many = run_count p numbers i (omega (arith, lt, fits)) in
-        let all : places_of p (numbers ++ replicate i 0) ≡ places_of p numbers ++ places_behind p numbers i =
-        rw (more_long numbers i) (take-add (length numbers) i (places p.shape p.order)) in
-        let beside = bands_beside z (z + i) (places_behind p numbers i) (replicate i 0) (places_of p numbers) numbers (long i lt)
+        let next = m.ask i (m.numbers ++ replicate i 0) lt (more_long m.numbers i) in
+        let many = run_count m.params m.numbers i (omega (arith, lt, fits)) in
+        let all : places_of m.params (m.numbers ++ replicate i 0) ≡ places_of m.params m.numbers ++ places_behind m.params m.numbers i =
+        rw (more_long m.numbers i) (take-add (length m.numbers) i (places m.params.shape m.params.order)) in
+        let beside = bands_beside z (z + i) (places_behind m.params m.numbers i) (replicate i 0) (places_of m.params m.numbers) m.numbers (long i lt)
         (omega (arith, length-replicate {A = ℕ} i 0, many)) (placed i (omega (arith, lt))).1 (omega (arith, many)) in
         rw all at next.3 ∙ beside
 
-    times : (b : ℕ) → z ≤ b → b < z + length list → t ≡ length (of_band p numbers b)
+    times : (b : ℕ) → z ≤ b → b < z + length list → t ≡ length (of_band m.params m.numbers b)
     times b ge below = let is : z + (b - z) ≡ b = omega (arith, ge) in rw is at (time_there (b - z) (omega (arith, ge, below)))

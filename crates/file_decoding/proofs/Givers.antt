@@ -159,15 +159,13 @@ pub blocks_run : (r : Result (Unit {0}) Fault) (zs ts : ℕ → ℕ) (place : �
     → length list ≡ length was → GivesRun old unread r new left list
     → new.cut ≡ old.cut → IfOk r (λ _. given_count new ≡ given_count old + length was) → new.block ≤ new.cut.count
     → GivesEach zs ts place r (Blocks old) unread (Blocks new) left list
-blocks_run (Ok x) zs ts place old new unread left was list long gives kept counted inside p numbers bits lawful h ask at =
-    let did = gives _ bits h.given in
-    (rw (cut_bits p old.cut h.cut) at did.0, did.1, did.2, blocks_more _ _ h kept (omega (arith, counted, long)) inside did.3)
-blocks_run (Err fault) zs ts place old new unread left was list long gives kept counted inside p numbers bits lawful h ask at =
-    blocks_refused _ _ _ _ _ h.coder h.cut (gives _ bits h.given)
+blocks_run (Ok x) zs ts place old new unread left was list long gives kept counted inside m =
+    let did = gives _ m.bits m.given.given in
+    (rw (cut_bits m.params old.cut m.given.cut) at did.0, did.1, did.2, blocks_more _ _ m.given kept (omega (arith, counted, long)) inside did.3)
+blocks_run (Err fault) zs ts place old new unread left was list long gives kept counted inside m =
+    blocks_refused _ _ _ _ _ m.given.coder m.given.cut (gives _ m.bits m.given.given)
 
--- ---- by either
-
--- where all are given, the bits are a body of them
+-- ---- by either: where all are given, the bits are a body of them
 
 whole_sample : (p : Params) (coder : Coder) (numbers : List ℕ) (bits : List Bool) → IsSample coder
     → bits ≡ sample_body (settings p) (places p.shape p.order) numbers → IsBodyBy coder p numbers bits

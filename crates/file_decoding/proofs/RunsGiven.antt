@@ -45,9 +45,10 @@ words_given (Err fault) p old new unread left numbers list bits h kept fits did 
 pub run_given : (r : Result (Unit {0}) Fault) (z t place : ℕ) (old new : Counts) (unread : Unread) (left : List Bool) (list : List ℕ)
     → GetsRun z t place r old unread new left list → (length new.bands ≡ length old.bands) × (new.bits ≡ old.bits) → 0 < length list
     → GivesRun z t place r (Samples old) unread (Samples new) left list
-run_given r z t place old new unread left list gets kept some p numbers bits lawful h ask at =
-    let there = all_taken _ _ _ (asked_at p numbers _ _ (length list) ask) in
-    let fits : length numbers + length list ≤ length (places p.shape p.order) = omega (arith, there.0, some, length-drop {A = Place}) in
-    let time : t ≡ length (of_band p numbers z) = omega (arith, (ask 0 numbers some (omega arith)).3) in
-    let long = places_long p numbers (omega (arith, fits)) in
-    words_given r _ _ _ _ _ _ _ _ h kept fits (gets (settings p) _ _ numbers long (run_count p _ _ fits) there.1 h.0.taken time at)
+run_given r z t place old new unread left list gets kept some m =
+    let there = all_taken _ _ _ (asked_at m) in
+    let fits : length m.numbers + length list ≤ length (places m.params.shape m.params.order) = omega (arith, there.0, some, length-drop {A = Place}) in
+    let time : t ≡ length (of_band m.params m.numbers z) = omega (arith, (m.ask 0 m.numbers some (omega arith)).3) in
+    let long = places_long m.params m.numbers (omega (arith, fits)) in
+    words_given r _ _ _ _ _ _ _ _ m.given kept fits
+    (gets (settings m.params) _ _ m.numbers long (run_count m.params _ _ fits) there.1 m.given.0.taken time m.stands)

@@ -1,5 +1,5 @@
 -- The numbers of the places of a tile, and of a run and a column of it.
-use Rattle.std.proofs.Common.{◌≡◌, ◌+◌, ◌*◌, ◌/◌, ◌%◌, ◌<◌, ℕ, refl, ap, ◌∙◌, arith}
+use Rattle.std.proofs.Common.{◌≡◌, ◌+◌, ◌*◌, ◌/◌, ◌%◌, ◌<◌, ℕ, Bool, List, ◌++◌, length, refl, ap, ◌∙◌, length-append, arith}
 use Rattle.std.specs.List.{slice_get}
 use Rattle.std.proofs.lemmas.Nat.{row_fits, div-mul-add, mod-mul-add}
 use Rattle.std.proofs.Math.Nat.{div-one, mod-one}
@@ -9,7 +9,8 @@ use Rattle.cube_core.proofs.Tiles.{nth, item_in}
 use Rattle.header_bits.specs.declared.params.Params.{Params}
 use Rattle.file_coding.proofs.Endings.{time_of_place}
 use Rattle.file_decoding.specs.declared.tile.Tile.{Tile}
-use Rattle.file_decoding.specs.Decoding.{AreEach}
+use Rattle.file_decoding.specs.declared.decoder.Decoder.{Decoder}
+use Rattle.file_decoding.specs.Decoding.{AreEach, MayAskEach, MayAskAll, MayAskColumn, GivesAll}
 use Rattle.file_decoding.specs.Tiles.{IsInOrder, start_of, band_in, time_in}
 
 pub numbers_in : (p : Params) (tile : Tile) (t n : ℕ) → IsOrder p.shape p.order → IsInOrder p tile → n ≡ start_of p tile → t ≡ time_of p.shape tile.place
@@ -34,3 +35,28 @@ column_asked p tile t i n m count column at whole ask j numbers lt long =
     let inside = row_fits i tile.bands tile.columns tile.bands column (omega arith) in
     rw (mod-mul-add i tile.bands j here, div-mul-add i tile.bands j here) at
     (ask (i * tile.bands + j) numbers (omega (arith, inside, here)) (omega (arith, long, at)))
+
+module _ (tile : Tile) (t : ℕ) {index count : ℕ} {d : Decoder} (m : MayAskEach d (band_in tile) (time_in tile t) index count) where
+  abbrev pub as_run : tile.bands ≡ 1 → MayAskAll d tile.place.z t index count
+  as_run one = record {
+    params = m.params;
+    numbers = m.numbers;
+    bits = m.bits;
+    lawful = m.lawful;
+    given = m.given;
+    stands = m.stands;
+    ask = run_asked m.params tile _ _ _ one m.ask;
+  }
+
+  abbrev pub as_column : (i size : ℕ) (mid : Decoder) (unread now : List Bool) (xs : List ℕ) → i < tile.columns → length xs ≡ i * tile.bands
+      → size ≡ tile.bands → count ≡ tile.columns * tile.bands → GivesAll m.params mid m.numbers m.bits unread now xs
+      → MayAskColumn mid tile.place.z (t + i) (index + i * tile.bands) size
+  as_column i size mid unread now xs lt long whole all g = record {
+    params = m.params;
+    numbers = m.numbers ++ xs;
+    bits = m.bits ++ g.1;
+    lawful = m.lawful;
+    given = g.3;
+    stands = omega (arith, m.stands, long, length-append m.numbers xs);
+    ask = column_asked m.params tile t i _ _ _ lt (omega (arith, long, length-append m.numbers xs)) whole (rw all at m.ask);
+  }

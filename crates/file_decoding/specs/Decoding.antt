@@ -94,12 +94,12 @@ abbrev pub GivesAll : Params → Decoder → List ℕ → List Bool → List Boo
 GivesAll p new numbers bits unread left list =
     AllByRecursion (λ n. n < 2 ^ p.kind.bits) list × (read : List Bool) × (unread ≡ read ++ left) × HasGiven p new (numbers ++ list) (bits ++ read)
 
--- whatever numbers were given before: the next ones, of such bands, are given, or the refusal is that of the body
+-- wherever the next ones, of such bands, may be asked for: they are given, or the refusal is that of the body
 abbrev pub GivesEach : (ℕ → ℕ) → (ℕ → ℕ) → ℕ → Result (Unit {0}) Fault → Decoder → Unread → Decoder → List Bool → List ℕ → Type 0
 GivesEach zs ts place result old unread new left list =
-    (p : Params) (numbers : List ℕ) (bits : List Bool) → IsLawful p → HasGiven p old numbers bits → AreEach p (length numbers) zs ts (length list)
-    → place ≡ length numbers
-    → MatchResult result (λ _. GivesAll p new numbers bits unread.left left list) (λ fault. behind_body unread.count p (bits ++ unread.left) ≡ Err fault)
+    (m : MayAskEach old zs ts place (length list))
+    → MatchResult result (λ _. GivesAll m.params new m.numbers m.bits unread.left left list)
+    (λ fault. behind_body unread.count m.params (m.bits ++ unread.left) ≡ Err fault)
 
 -- those of band z, from its number t on
 abbrev pub GivesRun : ℕ → ℕ → ℕ → Result (Unit {0}) Fault → Decoder → Unread → Decoder → List Bool → List ℕ → Type 0

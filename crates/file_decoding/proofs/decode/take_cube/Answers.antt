@@ -43,12 +43,12 @@ long c =
     let most = mul-le c.at-tile.result.columns c.at-tile.result.bands 64 _ few.0 few.1 in
     omega (arith, length-take {A = ℕ}, c.count.ensures, ap length c.deref_mut.ensures.value, c.loop-place.invariant.room, most)
 
-abbrev may : (c : After-read-arg-in-Some-1) → MayAskEach c.loop-place.decoder (band_in c.at-tile.result) (time_in c.at-tile.result c.time_of.result)
-    (c.sample_count-count.result - c.left.result) (length (take c.count.result c.deref_mut.result.now))
-may c =
+abbrev may : (c : After-read-arg-in-Some-1) (count : ℕ) → count ≡ c.at-tile.result.columns * c.at-tile.result.bands
+    → MayAskEach c.loop-place.decoder (band_in c.at-tile.result) (time_in c.at-tile.result c.time_of.result) (c.sample_count-count.result - c.left.result) count
+may c count whole =
     let time = c.time_of.ensures ∙ ap (λ (q : Place). q.y * c.args.params.now.shape.columns + q.x) (sym c.at-tile.ensures.place) in
     may_read c.requires c.loop-place.invariant.walked c.at-tile.ensures.tile.in-order (next c) _ _ _ time
-    (omega (arith, c.left.ensures, c.sample_count-count.ensures.value)) (long c)
+    (omega (arith, c.left.ensures, c.sample_count-count.ensures.value)) whole
 
 pub read-requires-clause-small : goal.read-requires-clause-small
 read-requires-clause-small c =
@@ -60,15 +60,14 @@ read-requires-clause-small c =
     (omega (arith, c.time_of.ensures, row, most), omega (arith, c.left.ensures, c.sample_count-count.ensures, long c, all, all_places c.requires walked))
 
 pub read-requires-clause-may : goal.read-requires-clause-may
-read-requires-clause-may c = may c
+read-requires-clause-may c = may c _ (long c)
 
 pub returns-in_err-read-clause-refused : goal.returns-in_err-read-clause-refused
 returns-in_err-read-clause-refused c =
     let d = (goal.at.returns-in_err-read-clause-refused c).After-read-arg-in-Some-1 in
     let known = c.loop-place.invariant in
-    let m = may d in
     let got = c.in_err-read.ensures in
-    let bad = got.given m.params m.numbers m.bits m.lawful m.given (rw got.long m.ask) m.stands in
+    let bad = got.given (may d _ (got.long ∙ long d)) in
     let body : behind_body c.args.reader.now.count c.args.params.now c.args.reader.now.left ≡ Err c.in_err-read.field-0.0 =
     rw (known.count, ← known.walked.text) at bad in
     let told = err_from_is_err_and c.from_residual-in_err-read.result c.from_residual-in_err-read.ensures.1 in
@@ -80,9 +79,8 @@ gives : (c : After-deref_mut-in-Some) → GivesAll c.args.params.now c.read.new.
     c.loop-place.invariant.walked.read c.loop-place.reader.left c.read.new.reader.left c.read.new.deltas
 gives c =
     let d = (goal.at.fill-requires-clause-ready c).After-read-arg-in-Some-1 in
-    let m = may d in
     let got = c.in_ok-read.ensures in
-    got.given m.params m.numbers m.bits m.lawful m.given (rw got.long m.ask) m.stands
+    got.given (may d _ (got.long ∙ long d))
 
 pub fill-requires-clause-ready : goal.fill-requires-clause-ready
 fill-requires-clause-ready c =

@@ -13,10 +13,9 @@ next_of_blocks-requires c =
     omega (arith, last, c.requires.small)
 
 pub returns-in-Samples-clause-given : goal.returns-in-Samples-clause-given
-returns-in-Samples-clause-given c = λ p numbers bits lawful given.
+returns-in-Samples-clause-given c =
     let got = c.get_run.ensures in
-    run_given _ _ _ _ _ _ _ _ _ got.taken got.bands (omega (arith, got.long, c.requires.small)) p numbers bits lawful (rw c.in-Samples.is at given)
+    rw c.in-Samples.is (run_given _ _ _ _ _ _ _ _ _ got.taken got.bands (omega (arith, got.long, c.requires.small)))
 
 pub returns-in-Blocks-clause-given : goal.returns-in-Blocks-clause-given
-returns-in-Blocks-clause-given c = λ p numbers bits lawful given.
-    c.next_of_blocks.ensures.given (λ i. c.args.z) (λ i. c.args.t + i) c.args.place p numbers bits lawful (rw c.in-Blocks.is at given)
+returns-in-Blocks-clause-given c = rw c.in-Blocks.is (c.next_of_blocks.ensures.given (λ i. c.args.z) (λ i. c.args.t + i) c.args.place)
