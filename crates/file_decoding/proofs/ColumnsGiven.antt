@@ -34,17 +34,15 @@ pub column_given : (r : Result (Unit {0}) Fault) (z t place : ℕ) (old new : Co
     → GivesColumn z t place r (Samples old) unread (Samples new) left list
 column_given r z t place old new unread left list gets kept some m =
     words_given r _ _ _ _ _ _ _ _ m.given kept fits
-    (gets (settings m.params) _ _ m.numbers (long 0 some) (run_count m.params _ _ fits) whole.1 m.given.0.taken times m.stands)
+    (gets (settings m.params) _ _ m.numbers (long 0 some) (run_count m.params _ _ fits) (placed _ (omega arith)).1 m.given.0.taken times m.stands)
   where
     -- the places of the column, and how far they reach
-    placed : (n : ℕ) → n ≤ length list → (n ≤ length (drop (length m.numbers) (places m.params.shape m.params.order))) × AreUpFrom z (places_behind m.params m.numbers n)
+    placed : (n : ℕ) → n ≤ length list
+        → (n ≤ length (drop (length m.numbers) (places m.params.shape m.params.order))) × AreUpFrom z (places_behind m.params m.numbers n)
     placed n le = all_up _ _ _ (λ i lt. asked_at m i (omega (arith, lt, le)))
 
-    whole : (length list ≤ length (drop (length m.numbers) (places m.params.shape m.params.order))) × AreUpFrom z (places_behind m.params m.numbers (length list))
-    whole = placed (length list) (omega arith)
-
     fits : length m.numbers + length list ≤ length (places m.params.shape m.params.order)
-    fits = omega (arith, whole.0, some, length-drop {A = Place})
+    fits = omega (arith, (placed (length list) (omega arith)).0, some, length-drop {A = Place})
 
     long : (i : ℕ) → i < length list → length m.numbers ≡ length (places_of m.params m.numbers)
     long i lt = places_long m.params m.numbers (omega (arith, fits))

@@ -1,10 +1,9 @@
 -- Files: what is written is one, a file has no fault, and is a file of one cube alone.
-use Rattle.std.proofs.Common.{◌≡◌, ◌*◌, ◌/◌, ◌%◌, ◌-◌, ◌<◌, ◌≤◌, ◌^◌, ℕ, zero, suc, Bool, false, leb, List, [], ◌∷◌, ◌++◌, length, take, drop, replicate, Ok}
+use Rattle.std.proofs.Common.{◌≡◌, ◌*◌, ◌/◌, ◌%◌, ◌-◌, ◌<◌, ◌≤◌, ◌^◌, ℕ, zero, suc, Bool, false, List, [], ◌∷◌, ◌++◌, length, take, drop, replicate, Ok}
 use Rattle.std.proofs.Common.{refl, sym, ap, ◌∙◌, append_assoc, length-append, arith, subst}
 use Rattle.std.specs.List.{AllByRecursion}
-use Rattle.std.proofs.lemmas.List.{append_cancel_left, length-replicate, length-map, take-append-drop, length-take, length-drop}
+use Rattle.std.proofs.lemmas.List.{append_cancel_left, length-map, take-append-drop, length-take, length-drop}
 use Rattle.std.proofs.lemmas.Nat.{mod_below}
-use Rattle.std.proofs.lemmas.Bool.{lt-leb}
 use Rattle.cube_core.specs.Steps.{◌>>=◌}
 use Rattle.cube_core.specs.Shape.{sample_count}
 use Rattle.cube_core.specs.Kind.{SampleKind}
@@ -15,7 +14,6 @@ use Rattle.header_bits.specs.declared.params.Params.{Params}
 use Rattle.header_bits.specs.declared.params.Coder.{Coder}
 use Rattle.header_bits.specs.declared.params.Coder.TheVariants.{Sample, Block}
 use Rattle.header_bits.specs.Bits.{bits_of_bytes}
-use Rattle.header_bits.specs.Parts.{fine}
 use Rattle.header_bits.specs.Lawful.{IsLawful, IsCoder}
 use Rattle.header_bits.specs.Header.{header_of}
 use Rattle.header_bits.proofs.Bytes.{length-bits_of_bytes}
@@ -35,9 +33,10 @@ use Rattle.block_adaptive.specs.declared.options.CodeSet.{CodeSet}
 use Rattle.file_coding.specs.File.{body_of, body_by, fill_length, packed_from, packed, file_bits, file_of_residuals, file_of}
 use Rattle.sample_adaptive.proofs.ForSamples.{settings_bits}
 use Rattle.file_coding.proofs.Packed.{filled_whole}
-use Rattle.file_decoding.specs.Files.{IsBodyBy, IsBody, IsCubeOf, IsFile, behind_by, behind_body, some_one, fill_test, body_test, head_at, file_test}
+use Rattle.file_decoding.specs.Files.{IsBodyBy, IsBody, IsCubeOf, IsFile, behind_by, behind_body, body_test, head_at, file_test}
 use Rattle.file_decoding.specs.Laws.{ChosenIsFile, FileIsFine, NoShorterFile, OneFile}
 use Rattle.file_decoding.specs.Least.{least_length}
+use Rattle.file_decoding.proofs.Fills.{zeros_pass}
 use Rattle.file_decoding.proofs.Long.{body_long, least_passes}
 use Rattle.file_decoding.proofs.OneCube.{residuals_inside, one_cube}
 
@@ -120,15 +119,6 @@ unfolding behind_body
 behind_again p count numbers body rest lawful range long coded = by_coder_again _ _ _ _ _ _ lawful.coder lawful.order range long coded
 
 -- ---- a file has no fault
-
-no_ones : (n : ℕ) → some_one (replicate n false) ≡ false
-no_ones zero = refl
-no_ones (suc n) = no_ones n
-
-pub zeros_pass : (word n : ℕ) → n < 8 * word → fill_test word (replicate n false) ≡ fine
-zeros_pass word n lt =
-    let few : leb (8 * word) (length (replicate n false)) ≡ false = rw (length-replicate n false) (lt-leb _ _ lt) in
-    rw (few, no_ones _) refl
 
 file_text : (bytes : List ℕ) (p : Params) (c : Image) → (f : IsFile bytes p c) → bits_of_bytes bytes ≡ f.header ++ (f.body ++ replicate f.fill false)
 file_text bytes p c f = f.text ∙ append_assoc f.header f.body (replicate f.fill false)

@@ -101,12 +101,6 @@ header_first bytes r file refused e h = elim (head_first bytes r file refused e 
   | inr (w, (x, header, t)) ↦ absurd (let both = sym header ∙ h in cc)
 ]
 
-pub fault_named : (bits : List Bool) (r : Result (Params × Image) Fault) → IfErr r (IsRefusal bits)
-    → IfErr r (λ e. (e ≡ WantOfMemory) ⊎ (file_test bits ≡ Err e))
-fault_named bits (Ok found) refused = tt
-fault_named bits (Err e) (inl t) = inr t
-fault_named bits (Err e) (inr (w, cause)) = inl w
-
 pub none_else : (bytes : List ℕ) (r : Result (Params × Image) Fault) → IfErr r (IsRefusal (bits_of_bytes bytes))
     → IfErr r (λ e. (e ≡ WantOfMemory) ⊎ IsNoFile bytes)
 none_else bytes (Ok found) refused = tt

@@ -19,24 +19,8 @@ numbers_in p tile t n lawful is at time k numbers lt long =
     let item = ap (slice_get (places p.shape p.order)) (long ∙ ap (λ (m : ℕ). m + k) at) ∙ item_in lawful is k lt in
     (nth tile.place tile.bands k, item, refl, omega (arith, time, time_of_place p numbers (nth tile.place tile.bands k) lawful item))
 
--- of one band: those of a run
-pub run_asked : (p : Params) (tile : Tile) (t n count : ℕ) → tile.bands ≡ 1 → AreEach p n (band_in tile) (time_in tile t) count
-    → AreEach p n (λ i. tile.place.z) (λ i. t + i) count
-run_asked p tile t n count one ask i numbers lt long =
-    let band : tile.place.z + i % tile.bands ≡ tile.place.z = rw one (let none = mod-one i in omega (arith, none)) in
-    let time : t + i / tile.bands ≡ t + i = rw one (ap (λ (k : ℕ). t + k) (div-one i)) in
-    rw (band, time) at (ask i numbers lt long)
-
--- of one column
-pub column_asked : (p : Params) (tile : Tile) (t i n m count : ℕ) → i < tile.columns → m ≡ n + i * tile.bands → count ≡ tile.bands
-    → AreEach p n (band_in tile) (time_in tile t) (tile.columns * tile.bands) → AreEach p m (λ j. tile.place.z + j) (λ j. t + i) count
-column_asked p tile t i n m count column at whole ask j numbers lt long =
-    let here : j < tile.bands = omega (arith, lt, whole) in
-    let inside = row_fits i tile.bands tile.columns tile.bands column (omega arith) in
-    rw (mod-mul-add i tile.bands j here, div-mul-add i tile.bands j here) at
-    (ask (i * tile.bands + j) numbers (omega (arith, inside, here)) (omega (arith, long, at)))
-
 module _ (tile : Tile) (t : ℕ) {index count : ℕ} {d : Decoder} (m : MayAskEach d (band_in tile) (time_in tile t) index count) where
+  -- of one band: those of a run
   abbrev pub as_run : tile.bands ≡ 1 → MayAskAll d tile.place.z t index count
   as_run one = record {
     params = m.params;
@@ -45,18 +29,26 @@ module _ (tile : Tile) (t : ℕ) {index count : ℕ} {d : Decoder} (m : MayAskEa
     lawful = m.lawful;
     given = m.given;
     stands = m.stands;
-    ask = run_asked m.params tile _ _ _ one m.ask;
+    ask = λ i numbers lt long.
+        let band : tile.place.z + i % tile.bands ≡ tile.place.z = rw one (let none = mod-one i in omega (arith, none)) in
+        let time : t + i / tile.bands ≡ t + i = rw one (ap (λ (k : ℕ). t + k) (div-one i)) in
+        rw (band, time) at (m.ask i numbers lt long);
   }
 
+  -- of one column, behind those before it
   abbrev pub as_column : (i size : ℕ) (mid : Decoder) (unread now : List Bool) (xs : List ℕ) → i < tile.columns → length xs ≡ i * tile.bands
       → size ≡ tile.bands → count ≡ tile.columns * tile.bands → GivesAll m.params mid m.numbers m.bits unread now xs
       → MayAskColumn mid tile.place.z (t + i) (index + i * tile.bands) size
-  as_column i size mid unread now xs lt long whole all g = record {
+  as_column i size mid unread now xs column before whole all g = record {
     params = m.params;
     numbers = m.numbers ++ xs;
     bits = m.bits ++ g.1;
     lawful = m.lawful;
     given = g.3;
-    stands = omega (arith, m.stands, long, length-append m.numbers xs);
-    ask = column_asked m.params tile t i _ _ _ lt (omega (arith, long, length-append m.numbers xs)) whole (rw all at m.ask);
+    stands = omega (arith, m.stands, before, length-append m.numbers xs);
+    ask = λ j numbers lt long.
+        let here : j < tile.bands = omega (arith, lt, whole) in
+        let inside = row_fits i tile.bands tile.columns tile.bands column (omega arith) in
+        rw (mod-mul-add i tile.bands j here, div-mul-add i tile.bands j here) at
+        (m.ask (i * tile.bands + j) numbers (omega (arith, inside, here, all)) (omega (arith, long, before, length-append m.numbers xs)));
   }

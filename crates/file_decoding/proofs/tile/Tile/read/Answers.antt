@@ -48,12 +48,6 @@ next_column-requires-clause-may c =
     let d = (goal.at.next_column-requires-clause-may c).In-loop-i in
     next d _ (column d) c.requires.may
 
-pub next_column-requires-clause-small : goal.next_column-requires-clause-small
-next_column-requires-clause-small c =
-    let d = (goal.at.next_column-requires-clause-small c).In-loop-i in
-    let long = column d in
-    (omega (arith, c.requires.some.1), omega (arith, c.requires.few.1), omega (arith, inside d, c.loop-i.invariant.long, c.requires.small.1, c.requires.some.1))
-
 pub returns-in_err-next_column-clause-given : goal.returns-in_err-next_column-clause-given
 returns-in_err-next_column-clause-given c =
     let d = (goal.at.returns-in_err-next_column-clause-given c).In-loop-i in
