@@ -19,8 +19,7 @@ use Rattle.predict_core.proofs.OneSample.{one_sample_lem}
 use Rattle.predict_core.specs.Walked.{residuals_at}
 use Rattle.predict_core.proofs.Walking.{next_goes, gone_by, gone_count, residuals_push, residuals_whole}
 use Rattle.file_decoding.specs.Files.{IsCubeOf}
-use Rattle.file_decoding.proofs.Alike.{agree_at, mapped_at, scaled_alike}
-use Rattle.file_decoding.proofs.Kept.{wide_of, put_alike, put_same, residuals_kept}
+use Rattle.file_decoding.proofs.Kept.{agree_at, mapped_at, scaled_alike, wide_of, put_alike, put_same, residuals_kept}
 use Rattle.file_decoding.proofs.OneCube.{scaled_inside}
 
 -- ---- another sample

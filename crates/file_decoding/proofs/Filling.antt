@@ -20,8 +20,7 @@ use Rattle.predict_core.specs.RunPlaces.{AreAlikeBeside}
 use Rattle.predict_core.proofs.Frame.{weights_same}
 use Rattle.file_decoding.specs.declared.tile.Tile.{Tile}
 use Rattle.file_decoding.specs.Tiles.{IsReady, AreReady, ComeTo, SameBefore, HasResiduals, IsFilled, start_of}
-use Rattle.file_decoding.proofs.Alike.{residual_same}
-use Rattle.file_decoding.proofs.Kept.{wide_of, all_follow}
+use Rattle.file_decoding.proofs.Kept.{residual_same, wide_of, all_follow}
 
 -- band z, one of the tile's first n, has gone over the tile's columns
 pub record IsPast (tile : Tile) (c d : Image) (bands : List Learner) (n z : ℕ) (g : Learner) : Type 0 where

@@ -26,8 +26,7 @@ use Rattle.predict_core.specs.declared.predictor.Predictor.{Predictor}
 use Rattle.cube_core.proofs.Come.{time_of}
 use Rattle.file_decoding.specs.Laws.{OneCube}
 use Rattle.file_decoding.specs.Tiles.{SameBefore}
-use Rattle.file_decoding.proofs.Alike.{agree_at, mapped_at, scaled_alike}
-use Rattle.file_decoding.proofs.Kept.{wide_of}
+use Rattle.file_decoding.proofs.Kept.{agree_at, mapped_at, scaled_alike, wide_of}
 
 -- ---- predictions are in range
 

@@ -1,34 +1,80 @@
 -- The walk from tile to tile: what is known where the next one begins, and behind it.
 use mathlib.Core.List.{map-append}
-use Rattle.std.proofs.Common.{ap₂, ◌≡◌, ◌+◌, ◌-◌, ◌*◌, ◌/◌, ◌%◌, ◌<◌, ◌≤◌, ℕ, Bool, List, [], ◌++◌, length, take, drop, Some, refl, sym, ap, ◌∙◌}
-use Rattle.std.proofs.Common.{arith, append_assoc, length-append, length-take, length-drop}
 use Rattle.std.specs.List.{slice_get, slice_index}
+use Rattle.std.proofs.Common.{◌≡◌, ◌+◌, ◌*◌, ◌/◌, ◌%◌, ◌<◌, ℕ, Bool, List, ◌++◌, length, refl, ap, ◌∙◌, length-append, arith, ap₂, ◌-◌, ◌≤◌, [], take, drop}
+use Rattle.std.proofs.Common.{Some, sym, append_assoc, length-take, length-drop}
+use Rattle.std.proofs.lemmas.Nat.{row_fits, div-mul-add, mod-mul-add}
+use Rattle.std.proofs.Math.Nat.{div-one, mod-one}
 use Rattle.std.proofs.lemmas.List.{drop-drop}
 use Rattle.std.proofs.Math.Seq.{take-add}
+use Rattle.cube_core.specs.Order.{IsOrder, places}
 use Rattle.cube_core.specs.declared.order.Place.{Place}
 use Rattle.cube_core.specs.Shape.{Sizes, sample_count}
 use Rattle.cube_core.specs.Image.{Image, IsCube}
-use Rattle.cube_core.specs.Order.{places}
+use Rattle.cube_core.specs.Tiles.{place_in}
+use Rattle.cube_core.proofs.Come.{time_of}
+use Rattle.cube_core.proofs.Tiles.{nth, item_in, within, time_at, room_for}
 use Rattle.cube_core.proofs.Orders.{StandsAt, length-places}
 use Rattle.cube_core.proofs.Raws.{next_stands}
+use Rattle.cube_core.proofs.Lists.{first_of, get_drop, map_taken}
 use Rattle.header_bits.specs.declared.params.Params.{Params}
 use Rattle.header_bits.specs.Lawful.{IsLawful}
 use Rattle.predict_core.specs.Following.{Learner}
 use Rattle.predict_core.specs.Precedence.{AreAlike}
 use Rattle.predict_core.specs.Residual.{mapped_residual}
 use Rattle.predict_core.specs.Walked.{AreAlong, residuals_at}
-use Rattle.cube_core.proofs.Come.{time_of}
-use Rattle.cube_core.specs.Tiles.{place_in}
-use Rattle.cube_core.proofs.Tiles.{within, item_in, time_at, room_for}
-use Rattle.cube_core.proofs.Lists.{first_of, get_drop, map_taken}
 use Rattle.predict_core.proofs.Walking.{gone_by, gone_count, length-residuals_at, residuals_whole}
-use Rattle.file_decoding.specs.declared.decoder.Decoder.{Decoder}
+use Rattle.file_coding.proofs.Endings.{time_of_place}
 use Rattle.file_decoding.specs.declared.tile.Tile.{Tile}
-use Rattle.file_decoding.specs.Decoding.{HasGiven, TakesCube, MayAskEach, GivesAll}
-use Rattle.file_decoding.specs.Tiles.{IsInOrder, AreReady, ComeTo, IsFilled, start_of, band_in, time_in}
+use Rattle.file_decoding.specs.declared.decoder.Decoder.{Decoder}
+use Rattle.file_decoding.specs.Decoding.{AreEach, MayAskEach, MayAskAll, MayAskColumn, GivesAll, HasGiven, TakesCube}
+use Rattle.file_decoding.specs.Tiles.{IsInOrder, start_of, band_in, time_in, AreReady, ComeTo, IsFilled}
 use Rattle.file_decoding.proofs.Givers.{given_whole}
 use Rattle.file_decoding.proofs.Kept.{residuals_same}
-use Rattle.file_decoding.proofs.Tiles.{numbers_in}
+
+-- ---- the numbers of its places
+
+pub numbers_in : (p : Params) (tile : Tile) (t n : ℕ) → IsOrder p.shape p.order → IsInOrder p tile → n ≡ start_of p tile → t ≡ time_of p.shape tile.place
+    → AreEach p n (band_in tile) (time_in tile t) (tile.columns * tile.bands)
+numbers_in p tile t n lawful is at time k numbers lt long =
+    let item = ap (slice_get (places p.shape p.order)) (long ∙ ap (λ (m : ℕ). m + k) at) ∙ item_in lawful is k lt in
+    (nth tile.place tile.bands k, item, refl, omega (arith, time, time_of_place p numbers (nth tile.place tile.bands k) lawful item))
+
+module _ (tile : Tile) (t : ℕ) {index count : ℕ} {d : Decoder} (m : MayAskEach d (band_in tile) (time_in tile t) index count) where
+  -- of one band: those of a run
+  abbrev pub as_run : tile.bands ≡ 1 → MayAskAll d tile.place.z t index count
+  as_run one = record {
+    params = m.params;
+    numbers = m.numbers;
+    bits = m.bits;
+    lawful = m.lawful;
+    given = m.given;
+    stands = m.stands;
+    ask = λ i numbers lt long.
+        let band : tile.place.z + i % tile.bands ≡ tile.place.z = rw one (let none = mod-one i in omega (arith, none)) in
+        let time : t + i / tile.bands ≡ t + i = rw one (ap (λ (k : ℕ). t + k) (div-one i)) in
+        rw (band, time) at (m.ask i numbers lt long);
+  }
+
+  -- of one column, behind those before it
+  abbrev pub as_column : (i size : ℕ) (mid : Decoder) (unread now : List Bool) (xs : List ℕ) → i < tile.columns → length xs ≡ i * tile.bands
+      → size ≡ tile.bands → count ≡ tile.columns * tile.bands → GivesAll m.params mid m.numbers m.bits unread now xs
+      → MayAskColumn mid tile.place.z (t + i) (index + i * tile.bands) size
+  as_column i size mid unread now xs column before whole all g = record {
+    params = m.params;
+    numbers = m.numbers ++ xs;
+    bits = m.bits ++ g.1;
+    lawful = m.lawful;
+    given = g.3;
+    stands = omega (arith, m.stands, before, length-append m.numbers xs);
+    ask = λ j numbers lt long.
+        let here : j < tile.bands = omega (arith, lt, whole) in
+        let inside = row_fits i tile.bands tile.columns tile.bands column (omega arith) in
+        rw (mod-mul-add i tile.bands j here, div-mul-add i tile.bands j here) at
+        (m.ask (i * tile.bands + j) numbers (omega (arith, inside, here, all)) (omega (arith, long, before, length-append m.numbers xs)));
+  }
+
+-- ---- where a tile begins
 
 -- the reading end has given the residuals that the image has at the places gone by, and has read the bits from `start` on
 pub record IsWalked (p : Params) (c : Image) (left : List Place) (bands : List Learner) (d : Decoder) (start now : List Bool) : Type 0 where

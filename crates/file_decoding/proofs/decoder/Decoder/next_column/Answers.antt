@@ -1,6 +1,5 @@
 use Rattle.std.proofs.Common.{◌+◌, ◌-◌, length, arith}
-use Rattle.file_decoding.proofs.Runs.{may_reach}
-use Rattle.file_decoding.proofs.ColumnsGiven.{column_given}
+use Rattle.file_decoding.proofs.Runs.{may_reach, column_given}
 use Rattle.file_decoding.proofs.decoder.Decoder.next_column.Goals as goal
 
 pub get_column-requires-clause-inside : goal.get_column-requires-clause-inside

@@ -1,6 +1,5 @@
 use Rattle.std.proofs.Common.{◌+◌, ◌-◌, length, arith}
-use Rattle.file_decoding.proofs.Runs.{may_reach}
-use Rattle.file_decoding.proofs.RunsGiven.{run_given}
+use Rattle.file_decoding.proofs.Runs.{may_reach, run_given}
 use Rattle.file_decoding.proofs.decoder.Decoder.next_run.Goals as goal
 
 pub get_run-requires-clause-band : goal.get_run-requires-clause-band
