@@ -1,5 +1,5 @@
 -- What a decoder finds, read as a file or as its first fault.
-use Rattle.std.proofs.Common.{◌≡◌, ◌⊎◌, ◌*◌, ℕ, false, Bool, List, ◌++◌, length, take, drop, replicate, Result, Ok, Err, IfOk, IfErr, refl, sym, ap, ◌∙◌, inl}
+use Rattle.std.proofs.Common.{◌≡◌, ◌⊎◌, ◌*◌, ℕ, Bool, List, length, take, drop, Result, Ok, Err, IfOk, IfErr, refl, sym, ◌∙◌, inl}
 use Rattle.std.proofs.Common.{inr, append_assoc}
 use Rattle.std.proofs.lemmas.List.{take-append-drop}
 use Rattle.cube_core.specs.declared.fault.Fault.{Fault}
@@ -62,7 +62,6 @@ pub found_file : (bytes : List ℕ) (p : Params) (c : Image) (n : ℕ) (left : L
 found_file bytes p c n left spelt t f =
     let zeros = passed _ _ f in
     let bits : List Bool = bits_of_bytes bytes in
-    let text = sym (take-append-drop n bits) ∙ ap (λ (x : List Bool). take n bits ++ x) (t.text ∙ ap (λ (x : List Bool). t.body ++ x) zeros.1) in
     record {
       cube = t.cube;
       header = take n bits;
@@ -71,7 +70,7 @@ found_file bytes p c n left spelt t f =
       spelt = spelt;
       coded = t.coded;
       few = zeros.0;
-      text = text ∙ sym (append_assoc (take n bits) t.body (replicate (length left) false));
+      text = rw (append_assoc (take n bits) t.body _, ← zeros.1, ← t.text, take-append-drop n bits) refl;
     }
 
 -- ---- and of nothing else

@@ -1,6 +1,5 @@
 -- Images that are one at all places up to one in the order: what is predicted there, residuals, weights, and what bands follow.
-use Rattle.std.proofs.Common.{◌≡◌, ◌+◌, ◌*◌, ◌<◌, ◌≤◌, ℕ, suc, zero, ℤ, false, List, [], ◌∷◌, refl, sym, ap, ap₂, ◌∙◌, subst, inl, inr, arith, ◌/◌, ◌%◌}
-use Rattle.std.proofs.lemmas.Bool.{cases_order}
+use Rattle.std.proofs.Common.{◌≡◌, ◌+◌, ◌*◌, ◌<◌, ◌≤◌, ℕ, suc, zero, ℤ, false, List, refl, sym, ap, ap₂, ◌∙◌, arith, ◌/◌, ◌%◌}
 use Rattle.std.proofs.Math.Arith.{digits_lt}
 use Rattle.std.proofs.lemmas.Nat.{div_below, mod_below, div-add-mod'}
 use Rattle.cube_core.specs.declared.order.Order.{Order}
@@ -8,10 +7,9 @@ use Rattle.cube_core.specs.declared.order.Place.{Place}
 use Rattle.cube_core.specs.Shape.{Sizes}
 use Rattle.cube_core.specs.Kind.{SampleKind}
 use Rattle.cube_core.specs.Image.{Image, sample_at, put}
-use Rattle.cube_core.specs.Order.{IsOrder, IsPlaceOf, place_key, place_index, IsBefore}
+use Rattle.cube_core.specs.Order.{IsOrder, IsPlaceOf, place_index}
 use Rattle.cube_core.specs.Along.{HasCome}
-use Rattle.cube_core.proofs.Keys.{order_is_by_key, item_of_index, index_of_item}
-use Rattle.cube_core.proofs.Raws.{same_place}
+use Rattle.cube_core.proofs.Keys.{key_increases, order_is_by_key, index_of_item}
 use Rattle.cube_core.proofs.Come.{time_of}
 use Rattle.cube_core.proofs.Orders.{StandsAt}
 use Rattle.cube_core.proofs.Images.{put_other}
@@ -32,31 +30,10 @@ use Rattle.file_decoding.specs.Tiles.{SameBefore}
 
 -- ---- earlier places
 
-before_once : (xs ys : List ℕ) → IsBefore xs ys → IsBefore ys xs → ⊥
-before_once [] ys h k = h
-before_once (x ∷ xs) [] h k = h
-before_once (x ∷ xs) (y ∷ ys) (inl h) (inl k) = absurd (omega (arith, h, k))
-before_once (x ∷ xs) (y ∷ ys) (inl h) (inr k) = absurd (omega (arith, h, k.0))
-before_once (x ∷ xs) (y ∷ ys) (inr h) (inl k) = absurd (omega (arith, h.0, k))
-before_once (x ∷ xs) (y ∷ ys) (inr h) (inr k) = before_once xs ys h.1 k.1
-
 -- what comes earlier in a band, or lies below it, comes earlier in the order
-pub earlier_index : (s : Sizes) (o : Order) (place earlier : Place) → IsOrder s o → IsPlaceOf s place → IsPlaceOf s earlier
+earlier_index : (s : Sizes) (o : Order) (place earlier : Place) → IsOrder s o → IsPlaceOf s place → IsPlaceOf s earlier
     → IsEarlier place.z (time_of s place) earlier.z (time_of s earlier) → place_index s o earlier < place_index s o place
-earlier_index s o place earlier lawful a b e =
-    elim (cases_order (place_index s o earlier) (place_index s o place)) [
-      | inl same ↦ absurd (before_once _ _ (twice same) (twice same))
-      | inr (inl lt) ↦ lt
-      | inr (inr gt) ↦
-          absurd (before_once _ _ here
-          ((order_is_by_key s o lawful).increasing _ _ place earlier gt (item_of_index s o place lawful a) (item_of_index s o earlier lawful b)))
-    ]
-  where
-    here : IsBefore (place_key o earlier) (place_key o place)
-    here = before_is _ _ _ _ a.column b.column e
-
-    twice : place_index s o earlier ≡ place_index s o place → IsBefore (place_key o place) (place_key o place)
-    twice same = subst (λ (r : Place). IsBefore (place_key o r) (place_key o place)) (same_place _ _ _ _ lawful b a same) here
+earlier_index s o place earlier lawful a b e = key_increases _ _ _ _ lawful b a (before_is _ _ _ _ a.column b.column e)
 
 pub agree_at : (o : Order) (c d : Image) (i : ℕ) (q : Place) (t : ℕ) → IsOrder c.shape o → AreAlike c d → SameBefore o c d i → IsPlaceOf c.shape q
     → t ≡ time_of c.shape q → place_index c.shape o q ≤ i → Agree c d q.z t
