@@ -105,6 +105,10 @@ packed_again bits e = packed_bits _ _ (omega (arith, e))
 
 -- ---- residuals of a cube of the parameters
 
+-- numbers in range, as many as there are samples
+abbrev pub AreAll : Params → List ℕ → Type 0
+AreAll p numbers = AllByRecursion (λ v. v < 2 ^ p.kind.bits) numbers × (length numbers ≡ sample_count p.shape)
+
 module _ (p : Params) (c : Image) (lawful : IsLawful p) (cube : IsCubeOf p c) where
   order_of_cube : IsOrder c.shape p.order
   order_of_cube = rw cube.shape lawful.order
@@ -112,9 +116,9 @@ module _ (p : Params) (c : Image) (lawful : IsLawful p) (cube : IsCubeOf p c) wh
   pub inside : AllByRecursion (λ v. v < 2 ^ p.kind.bits) (residuals p c)
   inside = subst (λ (k : SampleKind). AllByRecursion (λ v. v < 2 ^ k.bits) (residuals p c)) cube.kind (residuals_inside p c order_of_cube cube.cube)
 
-  pub length-residuals : length (residuals p c) ≡ sample_count p.shape
+  pub all_of_cube : AreAll p (residuals p c)
   unfolding residuals
-  length-residuals = length-map (places c.shape p.order) _ ∙ length-places _ _ order_of_cube ∙ ap sample_count cube.shape
+  all_of_cube = (inside, length-map (places c.shape p.order) _ ∙ length-places _ _ order_of_cube ∙ ap sample_count cube.shape)
 
 -- ---- what is written
 
@@ -149,22 +153,21 @@ even_again count s half reference n numbers body rest least long coded =
     rw read refl
 
 by_coder_again : (p : Params) (count : ℕ) (coder : Coder) (numbers : List ℕ) (body rest : List Bool) → IsCoder p coder → IsOrder p.shape p.order
-    → AllByRecursion (λ v. v < 2 ^ p.kind.bits) numbers → length numbers ≡ sample_count p.shape
-    → IsBodyBy coder p numbers body → behind_by coder count p (body ++ rest) ≡ Ok rest
-by_coder_again p count (Sample umax gamma_star gamma_zero start) numbers body rest lawful order range long coded =
-    let along : length numbers ≡ length (places p.shape p.order) = long ∙ sym (length-places _ _ order) in
-    let numbers-are : AreNumbers (settings p).bits numbers = rw (settings_bits _) range in
+    → AreAll p numbers → IsBodyBy coder p numbers body → behind_by coder count p (body ++ rest) ≡ Ok rest
+by_coder_again p count (Sample umax gamma_star gamma_zero start) numbers body rest lawful order all coded =
+    let along : length numbers ≡ length (places p.shape p.order) = all.1 ∙ sym (length-places _ _ order) in
+    let numbers-are : AreNumbers (settings p).bits numbers = rw (settings_bits _) all.0 in
     let read = (samples.body_is_read count (settings p) (places p.shape p.order) numbers (body ++ rest) rest along).0 numbers-are
     (ap (λ (x : List Bool). x ++ rest) coded) in
     rw read refl
-by_coder_again p count (Block size restricted reference) numbers body rest lawful order range long coded =
+by_coder_again p count (Block size restricted reference) numbers body rest lawful order all coded =
     let half : size ≡ 2 * (size / 2) = sym (size_halved _ lawful.0) in
-    rw half (even_again count _ (size / 2) reference _ numbers body rest lawful.2.0 long (rw half at coded))
+    rw half (even_again count _ (size / 2) reference _ numbers body rest lawful.2.0 all.1 (rw half at coded))
 
-pub behind_again : (p : Params) (count : ℕ) (numbers : List ℕ) (body rest : List Bool) → IsLawful p → AllByRecursion (λ v. v < 2 ^ p.kind.bits) numbers
-    → length numbers ≡ sample_count p.shape → IsBody p numbers body → behind_body count p (body ++ rest) ≡ Ok rest
+pub behind_again : (p : Params) (count : ℕ) (numbers : List ℕ) (body rest : List Bool) → IsLawful p → AreAll p numbers → IsBody p numbers body
+    → behind_body count p (body ++ rest) ≡ Ok rest
 unfolding behind_body
-behind_again p count numbers body rest lawful range long coded = by_coder_again _ _ _ _ _ _ lawful.coder lawful.order range long coded
+behind_again p count numbers body rest lawful all coded = by_coder_again _ _ _ _ _ _ lawful.coder lawful.order all coded
 
 -- ---- a file has no fault
 
@@ -172,7 +175,7 @@ file_text : (bytes : List ℕ) (p : Params) (c : Image) → (f : IsFile bytes p 
 file_text bytes p c f = f.text ∙ append_assoc f.header f.body (replicate f.fill false)
 
 body_of_file_long : (bytes : List ℕ) (p : Params) (c : Image) → IsLawful p → (f : IsFile bytes p c) → least_length p ≤ length f.body
-body_of_file_long bytes p c lawful f = body_long _ _ _ lawful (length-residuals _ _ lawful f.cube) f.coded
+body_of_file_long bytes p c lawful f = body_long _ _ _ lawful (all_of_cube _ _ lawful f.cube).1 f.coded
 
 pub no_shorter_file : NoShorterFile
 no_shorter_file bytes p c lawful f =
@@ -185,23 +188,22 @@ file_is_fine bytes p c lawful f =
     let rest : List Bool = replicate f.fill false in
     let count : ℕ = length (f.header ++ (f.body ++ rest)) in
     let header = header_exact.again p f.header (f.body ++ rest) f.spelt in
-    let body = behind_again p count (residuals _ c) f.body rest lawful (inside p c lawful f.cube) (length-residuals p c lawful f.cube) f.coded in
+    let body = behind_again p count (residuals _ c) f.body rest lawful (all_of_cube p c lawful f.cube) f.coded in
     let enough = least_passes count p (f.body ++ rest) (omega (arith, body_of_file_long bytes p c lawful f, length-append f.body rest)) in
     rw (file_text bytes p c f, header, enough, body) (zeros_pass p.word f.fill f.few)
 
 -- ---- one file
 
 -- no body of residuals begins a body of others
-same_numbers : (p : Params) (coder : Coder) (ms ns : List ℕ) (a b x y : List Bool) → IsCoder p coder → IsOrder p.shape p.order
-    → AllByRecursion (λ v. v < 2 ^ p.kind.bits) ms → AllByRecursion (λ v. v < 2 ^ p.kind.bits) ns → length ms ≡ sample_count p.shape
-    → length ns ≡ sample_count p.shape → IsBodyBy coder p ms a → IsBodyBy coder p ns b → a ++ x ≡ b ++ y → ms ≡ ns
-same_numbers p (Sample umax gamma_star gamma_zero start) ms ns a b x y lawful order rm rn lm ln s t e =
-    let whole = length-places _ _ order in
-    (samples.one_body (settings p) (places p.shape p.order) ms ns x y (lm ∙ sym whole) (ln ∙ sym whole) (rw (settings_bits _) rm) (rw (settings_bits _) rn)
+same_numbers : (p : Params) (coder : Coder) (ms ns : List ℕ) (a b x y : List Bool) → IsCoder p coder → IsOrder p.shape p.order → AreAll p ms → AreAll p ns
+    → IsBodyBy coder p ms a → IsBodyBy coder p ns b → a ++ x ≡ b ++ y → ms ≡ ns
+same_numbers p (Sample umax gamma_star gamma_zero start) ms ns a b x y lawful order m n s t e =
+    let whole = sym (length-places _ _ order) in
+    (samples.one_body (settings p) (places p.shape p.order) ms ns x y (m.1 ∙ whole) (n.1 ∙ whole) (rw (settings_bits _) m.0) (rw (settings_bits _) n.0)
     (rw (s, t) at e)).0
-same_numbers p (Block size restricted reference) ms ns a b x y lawful order rm rn lm ln s t e =
+same_numbers p (Block size restricted reference) ms ns a b x y lawful order m n s t e =
     let half : size ≡ 2 * (size / 2) = sym (size_halved _ lawful.0) in
-    (blocks.one_body _ (size / 2) reference ms ns a b x y (omega (arith, half, size_least _ lawful.0)) (lm ∙ sym ln) (rw half at s) (rw half at t) e).0
+    (blocks.one_body _ (size / 2) reference ms ns a b x y (omega (arith, half, size_least _ lawful.0)) (m.1 ∙ sym n.1) (rw half at s) (rw half at t) e).0
 
 pub one_file : OneFile
 one_file bytes p q c d lawful f g =
@@ -214,6 +216,6 @@ one_file bytes p q c d lawful f g =
     same e k h =
         let cube : IsCubeOf p d = rw e k.cube in
         let coded : IsBody p (residuals _ d) k.body = rw e k.coded in
-        let numbers = same_numbers _ _ _ _ _ k.body _ _ lawful.coder lawful.order (inside _ _ lawful f.cube) (inside _ _ lawful cube)
-        (length-residuals _ _ lawful f.cube) (length-residuals _ _ lawful cube) f.coded coded h in
+        let numbers = same_numbers _ _ _ _ _ k.body _ _ lawful.coder lawful.order (all_of_cube _ _ lawful f.cube) (all_of_cube _ _ lawful cube)
+        f.coded coded h in
         one_cube p c d lawful f.cube cube numbers

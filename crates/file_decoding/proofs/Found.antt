@@ -16,7 +16,7 @@ use Rattle.header_bits.proofs.SpeltLawful.{spelt_is_lawful}
 use Rattle.file_decoding.specs.Decoding.{TakesCube, AnswersOr, IsNoFile, IsRefusal}
 use Rattle.file_decoding.specs.Files.{IsFile, behind_body, fill_test, body_test, head_at, file_test}
 use Rattle.file_decoding.specs.Least.{least_test}
-use Rattle.file_decoding.proofs.FileLaws.{inside, length-residuals, behind_again, file_is_fine, one_file}
+use Rattle.file_decoding.proofs.FileLaws.{all_of_cube, behind_again, file_is_fine, one_file}
 use Rattle.file_decoding.proofs.Fills.{passed}
 
 -- ---- a refusal is the file's first fault
@@ -52,7 +52,7 @@ module _ (bytes : List ℕ) (p : Params) (count : ℕ) (rest : List Bool) (e : F
       → file_test (bits_of_bytes bytes) ≡ Err e
   unfolding file_test body_test
   fill_refused c left lawful t f =
-      let body = behind_again p (length (bits_of_bytes bytes)) _ t.body left lawful (inside p c lawful t.cube) (length-residuals p c lawful t.cube) t.coded in
+      let body = behind_again p (length (bits_of_bytes bytes)) _ t.body left lawful (all_of_cube p c lawful t.cube) t.coded in
       rw (head, t.text, body) f
 
 -- ---- where nothing is refused, the bytes are a file
