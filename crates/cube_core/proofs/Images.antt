@@ -11,11 +11,6 @@ use Rattle.cube_core.proofs.Bounds.{index_below}
 use Rattle.cube_core.proofs.Raws.{place_of, same_place}
 use Rattle.cube_core.proofs.Walks.{sequential_index}
 
-pub sample_inside : (c : Image) (q : Place) → IsCube c → IsPlaceOf c.shape q → IsSample c.kind (sample_at c q.z q.y q.x)
-unfolding sample_at
-sample_inside c q cube place =
-    cube.range (index_in c.shape.columns c.shape.rows q.z q.y q.x) (omega (arith, cube.whole, index_below _ _ _ _ _ _ place.band place.row place.column))
-
 -- places with one index in the list of samples are one, so another sample at one place changes none at others
 pub put_other : (c : Image) (q r : Place) (v : ℤ) → IsPlaceOf c.shape q → IsPlaceOf c.shape r → (q ≡ r → ⊥)
     → sample_at c r.z r.y r.x ≡ sample_at (put c q.z q.y q.x v) r.z r.y r.x

@@ -89,23 +89,6 @@ pub record IsWalked (p : Params) (c : Image) (left : List Place) (bands : List L
   pub text : start ≡ read ++ now
   pub given : HasGiven p d numbers read
 
-pub walked_first : (p : Params) (c : Image) (bands : List Learner) (d : Decoder) (start : List Bool) → IsLawful p → c.shape ≡ p.shape → c.kind ≡ p.kind
-    → length bands ≡ p.shape.bands → AreAlong p c 0 bands → HasGiven p d [] [] → IsWalked p c (places p.shape p.order) bands d start start
-walked_first p c bands d start lawful shape kind many along given =
-    let none : gone_count p (places p.shape p.order) ≡ 0 = omega (arith, length-places p.shape p.order lawful.order) in
-    record {
-      shape = shape;
-      kind = kind;
-      many = many;
-      rest = rw none refl;
-      along = rw none along;
-      numbers = [];
-      same = rw none refl;
-      read = [];
-      text = refl;
-      given = given;
-    }
-
 module _ {p : Params} {c : Image} {left : List Place} {bands : List Learner} {d : Decoder} {start now : List Bool} (lawful : IsLawful p)
     (w : IsWalked p c left bands d start now) where
   pub all_places : gone_count p left + length left ≡ sample_count p.shape

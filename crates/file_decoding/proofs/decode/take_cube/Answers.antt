@@ -1,4 +1,4 @@
-use Rattle.std.proofs.Common.{◌≡◌, ◌∙◌, ◌*◌, ◌^◌, ◌+◌, ◌-◌, ℕ, length, take, drop, Some, Err, inr, refl, sym, ap, arith, length-take, length-drop}
+use Rattle.std.proofs.Common.{◌≡◌, ◌∙◌, ◌*◌, ◌^◌, ◌+◌, ◌-◌, [], ℕ, length, take, drop, Some, Err, inr, refl, sym, ap, arith, length-take, length-drop}
 use Rattle.std.specs.List.{slice_get}
 use Rattle.std.proofs.lemmas.List.{take_at}
 use Rattle.std.proofs.lemmas.Nat.{mul-le}
@@ -7,22 +7,35 @@ use Rattle.std.proofs.lemmas.Result.{err_from_is_err_and}
 use Rattle.cube_core.specs.declared.order.Place.{Place}
 use Rattle.cube_core.specs.Image.{Image}
 use Rattle.cube_core.proofs.Lists.{none_first, each_below}
+use Rattle.cube_core.proofs.Orders.{length-places}
+use Rattle.predict_core.proofs.Walking.{gone_count}
 use Rattle.file_decoding.specs.Decoding.{MayAskEach, GivesAll}
 use Rattle.file_decoding.specs.Files.{behind_body}
 use Rattle.file_decoding.specs.Tiles.{band_in, time_in}
-use Rattle.file_decoding.proofs.TileWalk.{walked_first, walked_more, walked_whole, all_places, next_place, fits, come, bands_ready, may_read, kept_length}
+use Rattle.file_decoding.proofs.TileWalk.{walked_more, walked_whole, all_places, next_place, fits, come, bands_ready, may_read, kept_length}
 use Rattle.file_decoding.proofs.decode.take_cube.Goals as goal
 use Rattle.file_decoding.proofs.decode.take_cube.Goals.{After-read-arg-in-Some-1, After-deref_mut-in-Some}
 
 pub loop-place-init : goal.loop-place-init
 loop-place-init c =
     let cube = c.in_ok-cube.ensures.zeros in
+    let none : gone_count c.args.params.now c.new-places.result ≡ 0 =
+    omega (arith, ap length c.new-places.ensures, length-places c.args.params.now.shape c.args.params.now.order c.requires.order) in
     record {
       count = refl;
       room = omega (arith, c.in_ok-room.ensures.len, c.in_ok-room.room.ok.0, c.most_bands.ensures);
-      walked = rw c.new-places.ensures (walked_first _ _ _ _ _ c.requires (ap (λ (image : Image). image.shape) cube) (ap (λ (image : Image). image.kind) cube)
-          (omega (arith, c.in_ok-bands.ensures.len, c.in_ok-bands.bands.ok.0)) (c.in_ok-bands.ensures.along c.in_ok-cube.cube)
-          c.in_ok-decoder.ensures.given);
+      walked = record {
+        shape = ap (λ (image : Image). image.shape) cube;
+        kind = ap (λ (image : Image). image.kind) cube;
+        many = omega (arith, c.in_ok-bands.ensures.len, c.in_ok-bands.bands.ok.0);
+        rest = rw none c.new-places.ensures;
+        along = rw none (c.in_ok-bands.ensures.along c.in_ok-cube.cube);
+        numbers = [];
+        same = rw none refl;
+        read = [];
+        text = refl;
+        given = c.in_ok-decoder.ensures.given;
+      };
     }
 
 pub at-tile-requires-clause-place : goal.at-tile-requires-clause-place
