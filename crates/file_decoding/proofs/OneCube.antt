@@ -1,5 +1,5 @@
 -- A cube's residuals are in range, and no other cube has them.
-use Rattle.std.proofs.Common.{◌≡◌, ◌⊎◌, ◌+◌, ◌*◌, ◌<◌, ◌≤◌, ◌^◌, ◌-◌, ℕ, suc, zero, ℤ, pos, ◌≤ℤ◌, ◌*ℤ◌, ◌+ℤ◌, false, List, map}
+use Rattle.std.proofs.Common.{◌≡◌, ◌≢◌, ◌⊎◌, ◌+◌, ◌*◌, ◌<◌, ◌≤◌, ◌^◌, ◌-◌, ℕ, suc, zero, ℤ, pos, ◌≤ℤ◌, ◌*ℤ◌, ◌+ℤ◌, false, List, map}
 use Rattle.std.proofs.Common.{refl, sym, ap, ◌∙◌, subst, inl, inr, arith}
 use Rattle.std.specs.List.{AllByRecursion}
 use Rattle.std.proofs.lemmas.Int.{ints, int_max_is, int_min_is}
@@ -38,20 +38,17 @@ clip_inside : (low high a : ℤ) → low ≤ℤ high → (low ≤ℤ int_max low
 clip_inside low high a h = (let most = int_max_is low (int_min a high) in let least = int_min_is a high in (omega (arith, ints), omega (arith, ints)))
 
 first_inside : (p : Predictor) (c : Image) (z : ℕ) → IsCube c → z < c.shape.bands → IsScaled c.kind (first_scaled p c z)
-first_inside p c z cube band = elim (cases_eq p.previous 0) [
-  | inl e ↦ middle (inl e)
-  | inr n ↦ elim (cases_eq z 0) [
-    | inl e ↦ middle (inr (n, e))
-    | inr m ↦
-        (let rows = cube.sizes.rows.0 in
-        let columns = cube.sizes.columns.0 in
-        rw (first_from_below p c z n m) (twice_inside c.kind _ (sample_within c cube (z - 1) 0 0
-        (record { band = omega (arith, band); row = omega (arith, rows); column = omega (arith, columns) }))))
-  ]
-]
+first_inside p c z cube band =
+    elim (cases_eq p.previous 0) [ inl e ↦ middle (inl e) | inr n ↦ elim (cases_eq z 0) [ inl e ↦ middle (inr (n, e)) | inr m ↦ below n m ] ]
   where
     middle : (p.previous ≡ 0) ⊎ ((p.previous ≡ 0 → ⊥) × (z ≡ 0)) → IsScaled c.kind (first_scaled p c z)
     middle h = rw (first_from_middle p c z h) (twice_inside c.kind (smid c.kind) (least_inside c.kind, middle_inside c.kind cube.bits))
+
+    below : p.previous ≢ 0 → z ≢ 0 → IsScaled c.kind (first_scaled p c z)
+    below n m =
+        let place : IsPlaceOf c.shape (record { z = z - 1; y = 0; x = 0 }) =
+        record { band = omega (arith, band); row = omega (arith, cube.sizes.rows.0); column = omega (arith, cube.sizes.columns.0) } in
+        rw (first_from_below p c z n m) (twice_inside c.kind _ (sample_within c cube _ _ _ place))
 
 there_inside : (p : Predictor) (c : Image) (z y x : ℕ) (ws : List ℤ) → IsCube c → IsScaled c.kind (scaled_there p c z y x ws)
 unfolding scaled_there scaled_by

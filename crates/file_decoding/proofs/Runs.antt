@@ -2,7 +2,7 @@
 use Rattle.std.specs.Prelude.{MatchResult}
 use Rattle.std.specs.List.{slice_get, AllByRecursion}
 use Rattle.std.proofs.Common.{◌≡◌, ◌+◌, ◌<◌, ℕ, Bool, List, ◌++◌, length, drop, replicate, Some, Result, Ok, Err, append_assoc, length-append, ◌∙◌, arith, ◌≤◌}
-use Rattle.std.proofs.Common.{◌^◌, IfOk, length-drop, take-append-drop, ◌-◌, zero, suc, [], ◌∷◌, take}
+use Rattle.std.proofs.Common.{◌^◌, IfOk, take-append-drop, ◌-◌, zero, suc, [], ◌∷◌, take}
 use Rattle.std.proofs.lemmas.List.{length-replicate}
 use Rattle.std.proofs.lemmas.Option.{slice_get_within}
 use Rattle.std.proofs.Math.Seq.{take-add}
@@ -55,6 +55,12 @@ module _ {d : Decoder} {zs ts : ℕ → ℕ} {place count : ℕ} (m : MayAskEach
       let whole = length-places m.params.shape m.params.order m.lawful.order in
       (omega (arith, within, more_long m.numbers i, whole), omega (arith, there.band, next.2))
 
+pub all_fit : {d : Decoder} {zs ts : ℕ → ℕ} {place count : ℕ} (m : MayAskEach d zs ts place count) → 0 < count
+    → length m.numbers + count ≤ length (places m.params.shape m.params.order)
+all_fit {count = count} m some =
+    let last = asked_within m (count - 1) (omega (arith, some)) in
+    omega (arith, last.0, length-places m.params.shape m.params.order m.lawful.order)
+
 -- a coder has room for i numbers more and another of band z
 abbrev MayReach : Decoder → ℕ → ℕ → Type 0
 MayReach (Samples v) z i = z < length v.bands
@@ -95,54 +101,49 @@ pub run_given : (r : Result (Unit {0}) Fault) (z t place : ℕ) (old new : Count
     → GetsRun z t place r old unread new left list → (length new.bands ≡ length old.bands) × (new.bits ≡ old.bits) → 0 < length list
     → GivesRun z t place r (Samples old) unread (Samples new) left list
 run_given r z t place old new unread left list gets kept some m =
-    let there = all_taken _ _ _ (asked_at m) in
-    let fits : length m.numbers + length list ≤ length (places m.params.shape m.params.order) = omega (arith, there.0, some, length-drop {A = Place}) in
+    let fits = all_fit m some in
     let time : t ≡ length (of_band m.params m.numbers z) = omega (arith, (m.ask 0 m.numbers some (omega arith)).3) in
     let long = places_long m.params m.numbers (omega (arith, fits)) in
     words_given r _ _ _ _ _ _ _ _ m.given kept fits
-    (gets (settings m.params) _ _ m.numbers long (run_count m.params _ _ fits) there.1 m.given.0.taken time m.stands)
+    (gets (settings m.params) _ _ m.numbers long (run_count m.params _ _ fits) (all_taken _ _ _ (asked_at m)).1 m.given.0.taken time m.stands)
 
 -- ---- columns by samples
 
--- the first places, so many, are there, and of bands one above another
-all_up : (ps : List Place) (count z : ℕ) → ((i : ℕ) → i < count → (q : Place) × (slice_get ps i ≡ Some q) × (q.z ≡ z + i))
-    → (count ≤ length ps) × AreUpFrom z (take count ps)
-all_up ps zero z h = (omega arith, tt)
-all_up [] (suc n) z h = absurd (let none = (h 0 (omega arith)).1 in cc)
+all_up : (ps : List Place) (count z : ℕ) → ((i : ℕ) → i < count → (q : Place) × (slice_get ps i ≡ Some q) × (q.z ≡ z + i)) → AreUpFrom z (take count ps)
+all_up ps zero z h = tt
+all_up [] (suc n) z h = tt
 all_up (p ∷ ps) (suc n) z h =
     let first = h 0 (omega arith) in
     let here : p ≡ first.0 = (let at = first.1 in cc) in
     let rest = all_up ps n (suc z) (λ i lt. let next = h (suc i) (omega (arith, lt)) in (next.0, next.1, omega (arith, next.2))) in
-    (omega (arith, rest.0), (rw here (omega (arith, first.2)), rest.1))
+    (rw here (omega (arith, first.2)), rest)
 
 pub column_given : (r : Result (Unit {0}) Fault) (z t place : ℕ) (old new : Counts) (unread : Unread) (left : List Bool) (list : List ℕ)
     → GetsColumn z t place r old unread new left list → (length new.bands ≡ length old.bands) × (new.bits ≡ old.bits) → 0 < length list
     → GivesColumn z t place r (Samples old) unread (Samples new) left list
 column_given r z t place old new unread left list gets kept some m =
     words_given r _ _ _ _ _ _ _ _ m.given kept fits
-    (gets (settings m.params) _ _ m.numbers (long 0 some) (run_count m.params _ _ fits) (placed _ (omega arith)).1 m.given.0.taken times m.stands)
+    (gets (settings m.params) _ _ m.numbers long (run_count m.params _ _ fits) (up _ (omega arith)) m.given.0.taken times m.stands)
   where
-    -- the places of the column, and how far they reach
-    placed : (n : ℕ) → n ≤ length list
-        → (n ≤ length (drop (length m.numbers) (places m.params.shape m.params.order))) × AreUpFrom z (places_behind m.params m.numbers n)
-    placed n le = all_up _ _ _ (λ i lt. asked_at m i (omega (arith, lt, le)))
-
     fits : length m.numbers + length list ≤ length (places m.params.shape m.params.order)
-    fits = omega (arith, (placed (length list) (omega arith)).0, some, length-drop {A = Place})
+    fits = all_fit m some
 
-    long : (i : ℕ) → i < length list → length m.numbers ≡ length (places_of m.params m.numbers)
-    long i lt = places_long m.params m.numbers (omega (arith, fits))
+    long : length m.numbers ≡ length (places_of m.params m.numbers)
+    long = places_long m.params m.numbers (omega (arith, fits))
 
-    -- a band that is above so many others has no more m.numbers by theirs
-    time_there : (i : ℕ) → i < length list → t ≡ length (of_band m.params m.numbers (z + i))
-    time_there i lt =
+    up : (n : ℕ) → n ≤ length list → AreUpFrom z (places_behind m.params m.numbers n)
+    up n le = all_up _ _ _ (λ i lt. asked_at m i (omega (arith, lt, le)))
+
+    -- a band that is above so many others has no more numbers by theirs
+    times : (b : ℕ) → z ≤ b → b < z + length list → t ≡ length (of_band m.params m.numbers b)
+    times b ge below =
+        let i : ℕ = b - z in
+        let lt : b - z < length list = omega (arith, ge, below) in
+        let is : z + (b - z) ≡ b = omega (arith, ge) in
         let next = m.ask i (m.numbers ++ replicate i 0) lt (more_long m.numbers i) in
         let many = run_count m.params m.numbers i (omega (arith, lt, fits)) in
         let all : places_of m.params (m.numbers ++ replicate i 0) ≡ places_of m.params m.numbers ++ places_behind m.params m.numbers i =
         rw (more_long m.numbers i) (take-add (length m.numbers) i (places m.params.shape m.params.order)) in
-        let beside = bands_beside z (z + i) (places_behind m.params m.numbers i) (replicate i 0) (places_of m.params m.numbers) m.numbers (long i lt)
-        (omega (arith, length-replicate {A = ℕ} i 0, many)) (placed i (omega (arith, lt))).1 (omega (arith, many)) in
-        rw all at next.3 ∙ beside
-
-    times : (b : ℕ) → z ≤ b → b < z + length list → t ≡ length (of_band m.params m.numbers b)
-    times b ge below = let is : z + (b - z) ≡ b = omega (arith, ge) in rw is at (time_there (b - z) (omega (arith, ge, below)))
+        let beside = bands_beside z b (places_behind m.params m.numbers i) (replicate i 0) (places_of m.params m.numbers) m.numbers long
+        (omega (arith, length-replicate {A = ℕ} i 0, many)) (up i (omega (arith, lt))) (omega (arith, many, ge)) in
+        rw (is, all) at next.3 ∙ beside
