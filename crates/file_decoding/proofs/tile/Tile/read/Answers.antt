@@ -7,15 +7,17 @@ use Rattle.std.proofs.lemmas.Slice.{take-put_mid}
 use Rattle.file_decoding.specs.Decoding.{MayAskEach, MayAskColumn}
 use Rattle.file_decoding.specs.Tiles.{band_in, time_in}
 use Rattle.file_decoding.proofs.Runs.{gives_behind}
-use Rattle.file_decoding.proofs.TileWalk.{as_run, as_column}
+use Rattle.file_decoding.proofs.TileWalk.{run_bands, run_times, as_column}
 use Rattle.file_decoding.proofs.tile.Tile.read.Goals as goal
 use Rattle.file_decoding.proofs.tile.Tile.read.Goals.{In-loop-i}
 
 pub next_run-requires-clause-may : goal.next_run-requires-clause-may
-next_run-requires-clause-may c = as_run c.args.self.now _ c.requires.may c.if-self-eq1.true
+next_run-requires-clause-may c =
+    rw (run_bands c.args.self.now c.if-self-eq1.true, run_times c.args.self.now c.args.t c.if-self-eq1.true) at c.requires.may
 
 pub returns-then-self-eq1-clause-given : goal.returns-then-self-eq1-clause-given
-returns-then-self-eq1-clause-given c = λ m. c.next_run.ensures.given (as_run c.args.self.now _ m c.if-self-eq1.true)
+returns-then-self-eq1-clause-given c =
+    rw (run_bands c.args.self.now c.if-self-eq1.true, run_times c.args.self.now c.args.t c.if-self-eq1.true) c.next_run.ensures.given
 
 -- ---- a column of several
 
