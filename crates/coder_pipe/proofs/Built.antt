@@ -9,7 +9,7 @@ use Rattle.cube_core.specs.Shape.{sample_count}
 use Rattle.cube_core.specs.Kind.{SampleKind, IsSample, smid}
 use Rattle.cube_core.specs.Image.{Image, IsCube, sample_at, index_in, put}
 use Rattle.cube_core.specs.Order.{IsOrder, IsPlaceOf, places}
-use Rattle.cube_core.proofs.Bounds.{index_below, middle_inside}
+use Rattle.cube_core.proofs.Bounds.{index_below, least_inside, middle_inside}
 use Rattle.cube_core.proofs.Orders.{StandsAt, length-places}
 use Rattle.header_bits.specs.declared.params.Params.{Params}
 use Rattle.header_bits.specs.Lawful.{IsLawful}
@@ -19,9 +19,8 @@ use Rattle.predict_core.proofs.OneSample.{one_sample_lem}
 use Rattle.predict_core.specs.Walked.{residuals_at}
 use Rattle.predict_core.proofs.Walking.{next_goes, gone_by, gone_count, residuals_push, residuals_whole}
 use Rattle.file_decoding.specs.Files.{IsCubeOf}
-use Rattle.file_decoding.proofs.Alike.{agree_at, mapped_at, scaled_alike}
-use Rattle.file_decoding.proofs.Kept.{wide_of, put_alike, put_same, residuals_kept}
-use Rattle.file_decoding.proofs.OneCube.{scaled_inside, least_inside}
+use Rattle.file_decoding.proofs.Kept.{agree_at, mapped_at, scaled_alike, wide_of, put_alike, put_same, residuals_kept}
+use Rattle.file_decoding.proofs.OneCube.{scaled_inside}
 
 -- ---- another sample
 
@@ -125,7 +124,7 @@ middles_cube p lawful = record {
     sizes = lawful.sizes;
     bits = lawful.kind;
     whole = length-replicate (sample_count p.shape) (smid p.kind);
-    range = middle_range p.kind (sample_count p.shape) (least_inside p.kind lawful.kind, middle_inside p.kind lawful.kind);
+    range = middle_range p.kind (sample_count p.shape) (least_inside p.kind, middle_inside p.kind lawful.kind);
   };
   shape = refl;
   kind = refl;

@@ -2,7 +2,7 @@
 use Rattle.std.proofs.Common.{◌≡◌, ◌+◌, ◌*◌, ◌<◌, ◌≤◌, ◌-◌, ◌^◌, ℕ, suc, Bool, true, false, pos, ◌≤ℤ◌, ◌-ℤ◌, ◌%◌, to_z, of_z, w32, arith, pow_mono, pow-suc}
 use Rattle.std.proofs.lemmas.Int.{ints, to_z_pos}
 use Rattle.std.proofs.lemmas.Nat.{mul-add-lt, one_shl}
-use Rattle.cube_core.specs.Kind.{SampleKind, IsKind, smid, smax}
+use Rattle.cube_core.specs.Kind.{SampleKind, IsKind, smin, smid, smax}
 use Rattle.cube_core.specs.Image.{index_in}
 
 -- a place's index is below the number of samples
@@ -31,3 +31,10 @@ middle_by false d a b = let p = power_grows (suc (d - 1)) d (omega arith) in let
 
 pub middle_inside : (k : SampleKind) → IsKind k → smid k ≤ℤ smax k
 middle_inside k h = middle_by k.signed k.bits h.0 h.1
+
+least_by : (signed : Bool) (bits : ℕ) → smin (record { signed = signed; bits = bits }) ≤ℤ smid (record { signed = signed; bits = bits })
+least_by true bits = omega (arith, ints)
+least_by false bits = omega (arith, ints)
+
+pub least_inside : (k : SampleKind) → smin k ≤ℤ smid k
+least_inside k = least_by k.signed k.bits

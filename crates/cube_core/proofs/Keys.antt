@@ -1,7 +1,7 @@
 -- The encoding order is the order of the places' keys.
-use Rattle.std.proofs.Common.{◌≡◌, ◌⊎◌, ◌+◌, ◌*◌, ◌/◌, ◌<◌, ◌≤◌, ◌-◌, ℕ, suc, min, get_or, refl, sym, ap, ◌∙◌, subst, arith, inl, inr, Some, [], ◌∷◌}
+use Rattle.std.proofs.Common.{◌≡◌, ◌⊎◌, ◌+◌, ◌*◌, ◌/◌, ◌<◌, ◌≤◌, ◌-◌, ℕ, suc, min, List, get_or, refl, sym, ap, ◌∙◌, subst, arith, inl, inr, Some, [], ◌∷◌}
 use Rattle.std.proofs.lemmas.Nat.{mul-add-lt, mul-le}
-use Rattle.std.proofs.lemmas.Bool.{cases_lt}
+use Rattle.std.proofs.lemmas.Bool.{cases_lt, cases_order}
 use Rattle.std.proofs.Math.Nat.{div-mul-le_self, lt-div-mul-add}
 use Rattle.std.proofs.lemmas.Option.{slice_get_within, get_or_from_slice_get}
 use Rattle.std.specs.List.{slice_get}
@@ -12,7 +12,7 @@ use Rattle.cube_core.specs.Shape.{Sizes, sample_count}
 use Rattle.cube_core.specs.Order.{IsOrder, IsPlaceOf, places, place_index, place_key, IsBefore}
 use Rattle.cube_core.specs.Laws.{OrderIsByKey, ItemOfIndex, IndexOfItem}
 use Rattle.cube_core.proofs.Orders.{StandsAt, place_at_index, length-places, item_from_index, place_index_below}
-use Rattle.cube_core.proofs.Raws.{place_of}
+use Rattle.cube_core.proofs.Raws.{place_of, same_place}
 
 -- ---- the first digit decides, then the second
 
@@ -136,3 +136,21 @@ order_is_by_key s o lawful = record {
   increasing = λ i j p q lt e f. before s o p q lawful (found s o i p lawful e).place (found s o j q lawful f).place
       (omega (arith, lt, index_of_item s o p i lawful e, index_of_item s o q j lawful f));
 }
+
+-- ---- and a place of an earlier key stands earlier
+
+before_once : (xs ys : List ℕ) → IsBefore xs ys → IsBefore ys xs → ⊥
+before_once [] ys h k = h
+before_once (x ∷ xs) [] h k = h
+before_once (x ∷ xs) (y ∷ ys) (inl h) (inl k) = absurd (omega arith)
+before_once (x ∷ xs) (y ∷ ys) (inl h) (inr k) = absurd (omega (arith, k.0))
+before_once (x ∷ xs) (y ∷ ys) (inr h) (inl k) = absurd (omega (arith, h.0))
+before_once (x ∷ xs) (y ∷ ys) (inr h) (inr k) = before_once xs ys h.1 k.1
+
+pub key_increases : (s : Sizes) (o : Order) (p q : Place) → IsOrder s o → IsPlaceOf s p → IsPlaceOf s q → IsBefore (place_key o p) (place_key o q)
+    → place_index s o p < place_index s o q
+key_increases s o p q lawful a b lt = elim (cases_order (place_index s o p) (place_index s o q)) [
+  | inl same ↦ (let twice = rw (ap (place_key o) (same_place s o p q lawful a b same)) at lt in absurd (before_once _ _ twice twice))
+  | inr (inl h) ↦ h
+  | inr (inr h) ↦ absurd (before_once _ _ lt (before s o q p lawful b a h))
+]

@@ -1,6 +1,7 @@
 pub mod Bounds
 pub mod Come
 pub mod Fitting
+pub mod Images
 pub mod Offsets
 pub mod Keys
 pub mod Lists
@@ -13,4 +14,5 @@ pub mod Putting
 pub mod Raws
 pub mod Scales
 pub mod Spelled
+pub mod Tiles
 pub mod Walks

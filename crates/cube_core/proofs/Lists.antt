@@ -1,9 +1,9 @@
 -- Items of lists, and lists of lists of numbers from a first one on.
-use Rattle.std.proofs.Common.{◌≡◌, ◌≢◌, ◌⊎◌, ◌+◌, ◌*◌, ◌<◌, ◌≤◌, ℕ, suc, zero, List, [], ◌∷◌, ◌++◌, length, take, drop, set, get_or, Some, None, refl, ap}
+use Rattle.std.proofs.Common.{◌≡◌, ◌≢◌, ◌⊎◌, ◌+◌, ◌*◌, ◌<◌, ◌≤◌, ℕ, suc, zero, List, [], ◌∷◌, ◌++◌, length, map, take, drop, set, get_or, Some, None, refl, ap}
 use Rattle.std.proofs.Common.{◌∙◌, inl, inr, arith}
 use Rattle.std.proofs.lemmas.List.{get_or-append-add, get_or_append_left, length-append, take_more}
 use Rattle.std.proofs.lemmas.Option.{slice_get_within, get_or_from_slice_get}
-use Rattle.std.specs.List.{flat_map, slice_get}
+use Rattle.std.specs.List.{AllByRecursion, flat_map, slice_get, slice_index}
 use Rattle.cube_core.specs.Order.{from}
 
 pub length-from : (a n : ℕ) → length (from a n) ≡ n
@@ -76,3 +76,52 @@ get_push [] x y zero e = inr (refl, cc)
 get_push [] x y (suc k) e = absurd (cc)
 get_push (z ∷ zs) x y zero e = inl e
 get_push (z ∷ zs) x y (suc k) e = elim (get_push zs x y k e) [ inl h ↦ inl h | inr (h, g) ↦ inr (ap suc h, g) ]
+
+-- ---- lists of what is found of items
+
+pub all_mapped : {A B : Type 0} (P : B → Type 0) (f : A → B) (xs : List A) → ((i : ℕ) (x : A) → slice_get xs i ≡ Some x → P (f x))
+    → AllByRecursion P (map f xs)
+all_mapped P f [] h = tt
+all_mapped P f (x ∷ xs) h = (h 0 x refl, all_mapped P f xs (λ i y e. h (suc i) y e))
+
+-- the first items, so many, are there, and P holds of each
+pub all_taken : {A : Type 0} (P : A → Type 0) (xs : List A) (n : ℕ) → ((i : ℕ) → i < n → (x : A) × (slice_get xs i ≡ Some x) × P x)
+    → (n ≤ length xs) × AllByRecursion P (take n xs)
+all_taken P xs zero h = (omega arith, tt)
+all_taken P [] (suc n) h = absurd (let none = (h 0 (omega arith)).1 in cc)
+all_taken P (x ∷ xs) (suc n) h =
+    let first = h 0 (omega arith) in
+    let here : x ≡ first.0 = (let at = first.1 in cc) in
+    let rest = all_taken P xs n (λ i lt. h (suc i) (omega arith)) in
+    (omega (arith, rest.0), (rw here first.2, rest.1))
+
+pub map_taken : {A : Type 0} (f : A → ℕ) (xs : List A) (ns : List ℕ)
+    → ((i : ℕ) → i < length ns → (x : A) × (slice_get xs i ≡ Some x) × (f x ≡ slice_index ns i)) → map f (take (length ns) xs) ≡ ns
+map_taken f xs [] h = refl
+map_taken f [] (n ∷ ns) h = absurd (let none = (h 0 (omega arith)).1 in cc)
+map_taken f (x ∷ xs) (n ∷ ns) h =
+    let first = h 0 (omega arith) in
+    let here : f x ≡ n = (let at = first.1 in let number = first.2 in cc) in
+    let rest = map_taken f xs ns (λ i lt. h (suc i) (omega arith)) in
+    cc
+
+pub map_taken_same : {A B : Type 0} (f g : A → B) (n : ℕ) (xs : List A) → ((i : ℕ) (x : A) → i < n → slice_get xs i ≡ Some x → f x ≡ g x)
+    → map f (take n xs) ≡ map g (take n xs)
+map_taken_same f g zero xs h = refl
+map_taken_same f g (suc n) [] h = refl
+map_taken_same f g (suc n) (x ∷ xs) h =
+    let first = h 0 x (omega arith) refl in
+    let rest = map_taken_same f g n xs (λ i y lt e. h (suc i) y (omega arith) e) in
+    cc
+
+-- functions that map a list to one list are one at its items
+pub map_same : {A B : Type 0} (f g : A → B) (xs : List A) (i : ℕ) (x : A) → map f xs ≡ map g xs → slice_get xs i ≡ Some x → f x ≡ g x
+map_same f g [] i x e h = absurd (cc)
+map_same f g (y ∷ xs) zero x e h = cc
+map_same f g (y ∷ xs) (suc i) x e h = map_same f g xs i x (cc) h
+
+-- each of some numbers in range
+pub each_below : (limit : ℕ) (list : List ℕ) → AllByRecursion (λ n. n < limit) list → (i : ℕ) → i < length list → slice_index list i < limit
+each_below limit [] h i lt = absurd (omega arith)
+each_below limit (x ∷ xs) h zero lt = h.0
+each_below limit (x ∷ xs) h (suc i) lt = each_below limit xs h.1 i (omega arith)

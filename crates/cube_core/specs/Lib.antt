@@ -13,3 +13,4 @@ pub mod Rows
 pub mod Scale
 pub mod Shape
 pub mod Steps
+pub mod Tiles

@@ -1,26 +1,32 @@
 -- What stands behind a body.
 use Rattle.std.proofs.Common.{◌≡◌, ◌*◌, ◌<◌, ℕ, zero, suc, Bool, true, false, leb, List, [], ◌∷◌, ◌++◌, length, replicate, Err, refl, ap, ◌∙◌, length-append}
-use Rattle.std.proofs.Common.{append-nil, arith}
+use Rattle.std.proofs.Common.{append-nil, arith, sym}
 use Rattle.std.proofs.lemmas.List.{length-replicate}
 use Rattle.std.proofs.lemmas.Bool.{leb-false, lt-leb}
 use Rattle.cube_core.specs.declared.fault.Fault.TheVariants.{BadFill}
+use Rattle.cube_core.specs.Steps.{refuse_if}
 use Rattle.header_bits.specs.Parts.{fine}
 use Rattle.file_decoding.specs.Files.{some_one, fill_test}
-use Rattle.file_decoding.proofs.FileLaws.{zeros_pass}
 
-one_found : (zeros : ℕ) (new : List Bool) → some_one (replicate zeros false ++ true ∷ new) ≡ true
-one_found zero new = refl
-one_found (suc zeros) new = one_found zeros new
+ones_behind : (n : ℕ) (bits : List Bool) → some_one (replicate n false ++ bits) ≡ some_one bits
+ones_behind zero bits = refl
+ones_behind (suc n) bits = ones_behind n bits
 
-pub fill_bad : (word zeros : ℕ) (left new : List Bool) → length left < 8 * word → left ≡ replicate zeros false ++ true ∷ new → fill_test word left ≡ Err BadFill
-fill_bad word zeros left new few e = rw (lt-leb (8 * word) (length left) few, ap some_one e ∙ one_found zeros new) refl
+-- few bits are tested for a one behind their zeros
+test_behind : (word n : ℕ) (left bits : List Bool) → length left < 8 * word → left ≡ replicate n false ++ bits
+    → fill_test word left ≡ refuse_if (some_one bits) BadFill
+test_behind word n left bits few e = rw (lt-leb (8 * word) (length left) few, ap some_one e ∙ ones_behind n bits) refl
 
-none_behind : (n : ℕ) (left new : List Bool) → n ≡ length left → left ≡ replicate n false ++ new → left ≡ replicate n false
-none_behind n left [] long e = e ∙ append-nil (replicate n false)
-none_behind n left (b ∷ new) long e = absurd (omega (arith, long, ap (λ (x : List Bool). length x) e, length-append {A = Bool}, length-replicate n false))
+pub fill_bad : (word n : ℕ) (left new : List Bool) → length left < 8 * word → left ≡ replicate n false ++ true ∷ new → fill_test word left ≡ Err BadFill
+fill_bad word n left new few e = test_behind word n left _ few e
 
 pub fill_good : (word n : ℕ) (left new : List Bool) → length left < 8 * word → n ≡ length left → left ≡ replicate n false ++ new → fill_test word left ≡ fine
-fill_good word n left new few long e = ap (fill_test word) (none_behind n left new long e) ∙ zeros_pass word n (omega (arith, few, long))
+fill_good word n left [] few long e = test_behind word n left _ few e
+fill_good word n left (b ∷ new) few long e =
+    absurd (omega (arith, long, ap (λ (x : List Bool). length x) e, length-append {A = Bool}, length-replicate n false))
+
+pub zeros_pass : (word n : ℕ) → n < 8 * word → fill_test word (replicate n false) ≡ fine
+zeros_pass word n lt = test_behind word n _ [] (rw (length-replicate n false) lt) (sym (append-nil (replicate n false)))
 
 -- ---- where the test passes
 

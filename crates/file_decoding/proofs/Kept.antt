@@ -1,39 +1,99 @@
--- What stays for images that are one before a place of the order: residuals, weights, and what bands follow.
-use Rattle.std.proofs.Common.{ap₂, ◌≡◌, ◌*◌, ◌/◌, ◌%◌, ◌+◌, ◌<◌, ◌≤◌, ℕ, suc, zero, ℤ, pos, false, List, map, take, Some, refl, sym, ap, ◌∙◌, arith, ◌∷◌, []}
-use Rattle.std.specs.List.{slice_get}
-use Rattle.std.proofs.lemmas.List.{get_or-set_other}
+-- Images that are one at all places up to one in the order: what is predicted there, residuals, weights, and what bands follow.
+use Rattle.std.proofs.Common.{◌≡◌, ◌+◌, ◌*◌, ◌<◌, ◌≤◌, ℕ, suc, zero, ℤ, false, List, refl, sym, ap, ap₂, ◌∙◌, arith, ◌/◌, ◌%◌}
+use Rattle.std.proofs.Math.Arith.{digits_lt}
 use Rattle.std.proofs.lemmas.Nat.{div_below, mod_below, div-add-mod'}
 use Rattle.cube_core.specs.declared.order.Order.{Order}
 use Rattle.cube_core.specs.declared.order.Place.{Place}
 use Rattle.cube_core.specs.Shape.{Sizes}
-use Rattle.cube_core.specs.Image.{Image, sample_at, index_in, put}
+use Rattle.cube_core.specs.Kind.{SampleKind}
+use Rattle.cube_core.specs.Image.{Image, sample_at, put}
 use Rattle.cube_core.specs.Order.{IsOrder, IsPlaceOf, place_index}
-use Rattle.cube_core.proofs.Keys.{order_is_by_key, index_of_item}
+use Rattle.cube_core.specs.Along.{HasCome}
+use Rattle.cube_core.proofs.Keys.{key_increases, order_is_by_key, index_of_item}
+use Rattle.cube_core.proofs.Come.{time_of}
 use Rattle.cube_core.proofs.Orders.{StandsAt}
-use Rattle.cube_core.proofs.Raws.{same_place}
-use Rattle.cube_core.proofs.Walks.{sequential_index}
+use Rattle.cube_core.proofs.Images.{put_other}
+use Rattle.cube_core.proofs.Lists.{map_taken_same}
 use Rattle.header_bits.specs.declared.params.Params.{Params}
 use Rattle.header_bits.specs.Lawful.{IsLawful}
+use Rattle.predict_core.specs.Prediction.{weight_vector, scaled_prediction, next_weights}
+use Rattle.predict_core.specs.Predictor.{predictor_of}
+use Rattle.predict_core.specs.Precedence.{AreAlike, Agree, IsEarlier}
+use Rattle.predict_core.specs.Residual.{mapped, mapped_residual}
 use Rattle.predict_core.specs.Following.{Learner, Follows}
-use Rattle.predict_core.specs.Precedence.{AreAlike}
-use Rattle.predict_core.specs.Prediction.{weight_vector}
-use Rattle.predict_core.specs.Residual.{mapped_residual}
 use Rattle.predict_core.specs.Walked.{IsAlong, residuals_at}
-use Rattle.cube_core.specs.Along.{HasCome}
-use Rattle.cube_core.proofs.Come.{time_of}
+use Rattle.predict_core.proofs.Following.{row_is, column_is}
+use Rattle.predict_core.proofs.Frame.{weights_same, scaled_same, place_same, scaled_there_same, exponent_same}
+use Rattle.predict_core.proofs.Earlier.{before_is}
 use Rattle.predict_core.proofs.Walking.{gone_by, gone_count}
 use Rattle.file_decoding.specs.Tiles.{SameBefore}
-use Rattle.file_decoding.proofs.Alike.{agree_at, residual_same, weights_behind}
+
+-- ---- earlier places
+
+-- what comes earlier in a band, or lies below it, comes earlier in the order
+earlier_index : (s : Sizes) (o : Order) (place earlier : Place) → IsOrder s o → IsPlaceOf s place → IsPlaceOf s earlier
+    → IsEarlier place.z (time_of s place) earlier.z (time_of s earlier) → place_index s o earlier < place_index s o place
+earlier_index s o place earlier lawful a b e = key_increases _ _ _ _ lawful b a (before_is _ _ _ _ a.column b.column e)
+
+pub agree_at : (o : Order) (c d : Image) (i : ℕ) (q : Place) (t : ℕ) → IsOrder c.shape o → AreAlike c d → SameBefore o c d i → IsPlaceOf c.shape q
+    → t ≡ time_of c.shape q → place_index c.shape o q ≤ i → Agree c d q.z t
+agree_at o c d i q t lawful alike same place e le = record {
+  alike = alike;
+  samples = λ z' y' x' there earlier.
+      let r : Place = record { z = z'; y = y'; x = x' } in
+      let lt = earlier_index c.shape o q r lawful place there (rw e at earlier) in
+      same r there (omega (arith, lt, le));
+}
+
+-- ---- residuals
+
+pub mapped_at : (p : Params) (c : Image) (q : Place) (t : ℕ) → t ≡ q.y * c.shape.columns + q.x → q.x < c.shape.columns
+    → mapped_residual p c q.z t ≡ mapped c.kind (scaled_prediction p c q.z t) (sample_at c q.z q.y q.x)
+unfolding mapped_residual
+mapped_at p c q t e lt = rw (row_is _ _ _ _ e lt, column_is _ _ _ _ e lt) refl
+
+module _ (p : Params) (c d : Image) (q : Place) (t : ℕ) (wide : p.column ≡ false → 2 ≤ c.shape.columns) (place : IsPlaceOf c.shape q)
+    (e : t ≡ time_of c.shape q) (agree : Agree c d q.z t) where
+  pub scaled_alike : scaled_prediction p c q.z t ≡ scaled_prediction p d q.z t
+  scaled_alike =
+      let within = digits_lt place.row place.column in
+      scaled_same _ _ _ _ place.band (omega (arith, place.column)) wide _ (omega (arith, e, within)) agree
+
+  -- the residual at a place, of images that are one there and before
+  pub residual_same : sample_at c q.z q.y q.x ≡ sample_at d q.z q.y q.x → mapped_residual p c q.z t ≡ mapped_residual p d q.z t
+  residual_same sample =
+      let columns = ap (λ (s : Sizes). s.columns) agree.alike.shape in
+      mapped_at _ _ _ _ e place.column
+      ∙ ap (λ (k : SampleKind). mapped k (scaled_prediction p c q.z t) (sample_at c q.z q.y q.x)) agree.alike.kind
+      ∙ ap₂ (λ (scaled sample : ℤ). mapped d.kind scaled sample) scaled_alike sample
+      ∙ sym (mapped_at _ _ _ _ (e ∙ ap (λ (n : ℕ). q.y * n + q.x) columns) (omega (arith, columns, place.column)))
+
+-- ---- weights
+
+-- the weights behind a place, of images that are one there and before
+pub weights_behind : (p : Params) (c d : Image) (q : Place) (t : ℕ) → (p.column ≡ false → 2 ≤ c.shape.columns) → IsPlaceOf c.shape q → t ≡ time_of c.shape q
+    → Agree c d q.z t → sample_at c q.z q.y q.x ≡ sample_at d q.z q.y q.x → weight_vector p c q.z (suc t) ≡ weight_vector p d q.z (suc t)
+unfolding weight_vector next_weights
+weights_behind p c d q zero wide place e agree sample = refl
+weights_behind p c d q (suc t) wide place e agree sample =
+    let columns : c.shape.columns ≡ d.shape.columns = ap (λ (s : Sizes). s.columns) agree.alike.shape in
+    let some : 0 < c.shape.columns = omega (arith, place.column) in
+    let inside : suc t < c.shape.rows * c.shape.columns = omega (arith, e, digits_lt place.row place.column) in
+    let there : suc t ≡ q.y * d.shape.columns + q.x = e ∙ ap (λ (n : ℕ). q.y * n + q.x) columns in
+    let lt : q.x < d.shape.columns = omega (arith, columns, place.column) in
+    let row = row_is c.shape.columns (suc t) q.y q.x e place.column in
+    let column = column_is c.shape.columns (suc t) q.y q.x e place.column in
+    let row' = row_is d.shape.columns (suc t) q.y q.x there lt in
+    let column' = column_is d.shape.columns (suc t) q.y q.x there lt in
+    let r = rw (row, column) at (place_same (predictor_of p) c d q.z place.band some wide (suc t) (omega arith) inside agree) in
+    let w = weights_same p c d q.z place.band some wide (suc t) (omega (arith, inside)) agree in
+    let s = scaled_there_same (predictor_of p) c d q.z q.y q.x (weight_vector p c q.z (suc t)) agree.alike.kind r.1 r.0 in
+    rw (row, column, row', column', s, r.0, sample, exponent_same (predictor_of p) c d (suc t) agree.alike, w) refl
+
+-- ---- what stays before a place
 
 pub wide_of : (p : Params) (c : Image) → IsLawful p → c.shape ≡ p.shape → p.column ≡ false → 2 ≤ c.shape.columns
 wide_of p c lawful shape h = omega (arith, lawful.sums h, ap (λ (s : Sizes). s.columns) shape)
-
-map_take_same : (f g : Place → ℕ) (i : ℕ) (ps : List Place) → ((j : ℕ) (r : Place) → j < i → slice_get ps j ≡ Some r → f r ≡ g r)
-    → map f (take i ps) ≡ map g (take i ps)
-map_take_same f g zero ps h = refl
-map_take_same f g (suc i) [] h = refl
-map_take_same f g (suc i) (p ∷ ps) h =
-    ap₂ (λ (n : ℕ) (ns : List ℕ). n ∷ ns) (h 0 p (omega arith) refl) (map_take_same f g i ps (λ j r lt e. h (suc j) r (omega (arith, lt)) e))
 
 module _ {p : Params} {c d : Image} (lawful : IsLawful p) (shape : c.shape ≡ p.shape) (alike : AreAlike c d) where
   order_kept : IsOrder c.shape p.order
@@ -61,7 +121,7 @@ module _ {p : Params} {c d : Image} (lawful : IsLawful p) (shape : c.shape ≡ p
 
   pub residuals_same : (left : List Place) → SameBefore p.order c d (gone_count p left) → residuals_at p c (gone_by p left) ≡ residuals_at p d (gone_by p left)
   residuals_same left same =
-      map_take_same (λ r. mapped_residual p c r.z (r.y * c.shape.columns + r.x)) (λ r. mapped_residual p d r.z (r.y * d.shape.columns + r.x)) _ _
+      map_taken_same (λ r. mapped_residual p c r.z (r.y * c.shape.columns + r.x)) (λ r. mapped_residual p d r.z (r.y * d.shape.columns + r.x)) _ _
       (λ j r lt e.
       let place : IsPlaceOf c.shape r = rw shape ((order_is_by_key p.shape p.order lawful.order).only j r e) in
       let index = ap (λ (s : Sizes). place_index s p.order r) shape ∙ index_of_item p.shape p.order r j lawful.order e in
@@ -74,14 +134,6 @@ module _ {p : Params} {c d : Image} (lawful : IsLawful p) (shape : c.shape ≡ p
 
 pub put_alike : (c : Image) (q : Place) (v : ℤ) → AreAlike c (put c q.z q.y q.x v)
 put_alike c q v = record { shape = refl; kind = refl }
-
--- places with one index in the list of samples are one
-pub put_other : (c : Image) (q r : Place) (v : ℤ) → IsPlaceOf c.shape q → IsPlaceOf c.shape r → (q ≡ r → ⊥)
-    → sample_at c r.z r.y r.x ≡ sample_at (put c q.z q.y q.x v) r.z r.y r.x
-unfolding sample_at
-put_other c q r v a b apart =
-    sym (get_or-set_other c.samples (index_in c.shape.columns c.shape.rows q.z q.y q.x) (index_in c.shape.columns c.shape.rows r.z r.y r.x) v (pos 0)
-    (λ e. apart (same_place _ _ _ _ tt a b (sequential_index _ _ ∙ sym e ∙ sym (sequential_index _ _)))))
 
 -- the places before it stay
 pub put_same : (o : Order) (c : Image) (q : Place) (v : ℤ) (i : ℕ) → IsPlaceOf c.shape q → place_index c.shape o q ≡ i → SameBefore o c (put c q.z q.y q.x v) i

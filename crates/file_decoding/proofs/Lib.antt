@@ -1,15 +1,9 @@
-pub mod Alike
 pub mod FileLaws
 pub mod Fills
 pub mod Found
 pub mod Givers
 pub mod Kept
 pub mod Runs
-pub mod Tiles
 pub mod TileWalk
 pub mod Filling
-pub mod Decoded
-pub mod Long
 pub mod OneCube
-pub mod RunsGiven
-pub mod ColumnsGiven

@@ -1,146 +1,187 @@
--- The walk from tile to tile: what comes next, and what is known behind a tile.
+-- The walk from tile to tile: what is known where the next one begins, and behind it.
 use mathlib.Core.List.{map-append}
-use Rattle.std.proofs.Common.{ap₂, ◌≡◌, ◌+◌, ◌*◌, ◌/◌, ◌%◌, ◌<◌, ◌≤◌, ℕ, zero, suc, Bool, List, [], ◌∷◌, ◌++◌, length, take, drop, Some, refl, sym, ap, ◌∙◌}
-use Rattle.std.proofs.Common.{arith, append_assoc, length-append, length-take, length-drop}
 use Rattle.std.specs.List.{slice_get, slice_index}
+use Rattle.std.proofs.Common.{◌≡◌, ◌+◌, ◌*◌, ◌/◌, ◌%◌, ◌<◌, ℕ, Bool, List, ◌++◌, length, refl, ap, ◌∙◌, length-append, arith, ap₂, ◌-◌, ◌≤◌, [], take, drop}
+use Rattle.std.proofs.Common.{Some, sym, append_assoc, length-take, length-drop}
+use Rattle.std.proofs.lemmas.Nat.{row_fits, div-mul-add, mod-mul-add}
+use Rattle.std.proofs.Math.Path.{fun_ext}
+use Rattle.std.proofs.Math.Nat.{div-one, mod-one}
 use Rattle.std.proofs.lemmas.List.{drop-drop}
 use Rattle.std.proofs.Math.Seq.{take-add}
+use Rattle.cube_core.specs.Order.{IsOrder, places}
 use Rattle.cube_core.specs.declared.order.Place.{Place}
 use Rattle.cube_core.specs.Shape.{Sizes, sample_count}
-use Rattle.cube_core.specs.Image.{Image}
-use Rattle.cube_core.specs.Order.{IsOrder, IsPlaceOf, place_index, places}
+use Rattle.cube_core.specs.Image.{Image, IsCube}
+use Rattle.cube_core.specs.Tiles.{place_in}
+use Rattle.cube_core.proofs.Come.{time_of}
+use Rattle.cube_core.proofs.Tiles.{nth, item_in, within, time_at, room_for}
 use Rattle.cube_core.proofs.Orders.{StandsAt, length-places}
 use Rattle.cube_core.proofs.Raws.{next_stands}
+use Rattle.cube_core.proofs.Lists.{first_of, get_drop, map_taken}
 use Rattle.header_bits.specs.declared.params.Params.{Params}
 use Rattle.header_bits.specs.Lawful.{IsLawful}
 use Rattle.predict_core.specs.Following.{Learner}
 use Rattle.predict_core.specs.Precedence.{AreAlike}
 use Rattle.predict_core.specs.Residual.{mapped_residual}
 use Rattle.predict_core.specs.Walked.{AreAlong, residuals_at}
-use Rattle.cube_core.specs.Along.{HasCome}
-use Rattle.cube_core.proofs.Come.{time_of, come_here}
-use Rattle.cube_core.proofs.Lists.{first_of, get_drop}
-use Rattle.predict_core.proofs.Walking.{gone_by, gone_count}
-use Rattle.file_decoding.specs.declared.decoder.Decoder.{Decoder}
+use Rattle.predict_core.proofs.Walking.{gone_by, gone_count, length-residuals_at, residuals_whole}
+use Rattle.file_coding.proofs.Endings.{time_of_place}
 use Rattle.file_decoding.specs.declared.tile.Tile.{Tile}
-use Rattle.file_decoding.specs.Decoding.{GivesAll}
-use Rattle.file_decoding.specs.Tiles.{IsTile, AreReady, SameBefore, HasResiduals, place_in}
-use Rattle.file_decoding.proofs.Decoded.{IsDecoded}
+use Rattle.file_decoding.specs.declared.decoder.Decoder.{Decoder}
+use Rattle.file_decoding.specs.Decoding.{AreEach, MayAskEach, MayAskColumn, GivesAll, HasGiven, TakesCube}
+use Rattle.file_decoding.specs.Tiles.{IsInOrder, start_of, band_in, time_in, AreReady, ComeTo, IsFilled}
+use Rattle.file_decoding.proofs.Givers.{given_whole}
 use Rattle.file_decoding.proofs.Kept.{residuals_same}
-use Rattle.file_decoding.proofs.Tiles.{within, placed, item_in, come_beside, map_first}
 
--- ---- the place that comes next
+-- ---- the numbers of its places
 
-pub record ComesFirst (p : Params) (left : List Place) (q : Place) : Type 0 where
-  pub place : IsPlaceOf p.shape q
-  pub index : place_index p.shape p.order q ≡ gone_count p left
-  pub some : 1 ≤ length left
-  pub whole : gone_count p left + length left ≡ sample_count p.shape
+pub numbers_in : (p : Params) (tile : Tile) (t n : ℕ) → IsOrder p.shape p.order → IsInOrder p tile → n ≡ start_of p tile → t ≡ time_of p.shape tile.place
+    → AreEach p n (band_in tile) (time_in tile t) (tile.columns * tile.bands)
+numbers_in p tile t n lawful is at time k numbers lt long =
+    let item = ap (slice_get (places p.shape p.order)) (long ∙ ap (λ (m : ℕ). m + k) at) ∙ item_in lawful is k lt in
+    (nth tile.place tile.bands k, item, refl, omega (arith, time, time_of_place p numbers (nth tile.place tile.bands k) lawful item))
 
-pub comes_first : (p : Params) (left : List Place) (q : Place) → IsOrder p.shape p.order → left ≡ drop (gone_count p left) (places p.shape p.order)
-    → slice_get left 0 ≡ Some q → ComesFirst p left q
-comes_first p left q lawful rest first =
-    let next = first_of _ _ first in
-    let stands = next_stands p.shape p.order (gone_count p left) q next.0 lawful (sym rest ∙ next.1) in
-    let long = ap length next.1 in
-    record {
-      place = stands.1.place;
-      index = stands.1.index;
-      some = omega (arith, long);
-      whole = omega (arith, ap length rest, length-drop (gone_count p left) (places p.shape p.order), length-places p.shape p.order lawful, stands.0, long);
-    }
+-- a tile of one band is a run
+pub run_bands : (tile : Tile) → tile.bands ≡ 1 → band_in tile ≡ (λ i. tile.place.z)
+run_bands tile one = fun_ext (λ i. rw one (let none = mod-one i in omega (arith, none)))
 
--- ---- the bands of a tile are at its first column
+pub run_times : (tile : Tile) (t : ℕ) → tile.bands ≡ 1 → time_in tile t ≡ (λ i. t + i)
+run_times tile t one = fun_ext (λ i. rw one (ap (λ (k : ℕ). t + k) (div-one i)))
 
--- the bands of a column that lie below one of them are a tile, too
-below_band : (p : Params) (tile : Tile) (b : ℕ) → IsTile p tile → suc b ≤ tile.bands → IsTile p (record { place = tile.place; columns = 1; bands = suc b })
-below_band p tile b is le = record {
-  place = is.place;
-  some = (omega arith, omega arith);
-  few = (omega arith, omega (arith, is.few.1, le));
-  columns = omega (arith, is.place.column);
-  bands = omega (arith, is.bands, le);
-  index = λ i k column band.
-      let none : i ≡ 0 = omega (arith, column) in
-      rw none (let here = is.index 0 k (omega (arith, is.some.0)) (omega (arith, band, le)) in omega (arith, here));
+-- a column of a tile, behind those before it
+abbrev pub as_column : (tile : Tile) (t : ℕ) {index count : ℕ} {d : Decoder} (m : MayAskEach d (band_in tile) (time_in tile t) index count) (i size : ℕ)
+    (mid : Decoder) (unread now : List Bool) (xs : List ℕ) → i < tile.columns → length xs ≡ i * tile.bands → size ≡ tile.bands
+    → count ≡ tile.columns * tile.bands → GivesAll m.params mid m.numbers m.bits unread now xs
+    → MayAskColumn mid tile.place.z (t + i) (index + i * tile.bands) size
+as_column tile t m i size mid unread now xs column before whole all g = record {
+  params = m.params;
+  numbers = m.numbers ++ xs;
+  bits = m.bits ++ g.1;
+  lawful = m.lawful;
+  given = g.3;
+  stands = omega (arith, m.stands, before, length-append m.numbers xs);
+  ask = λ j numbers lt long.
+      let here : j < tile.bands = omega (arith, lt, whole) in
+      let inside = row_fits i tile.bands tile.columns tile.bands column (omega arith) in
+      rw (mod-mul-add i tile.bands j here, div-mul-add i tile.bands j here) at
+      (m.ask (i * tile.bands + j) numbers (omega (arith, inside, here, all)) (omega (arith, long, before, length-append m.numbers xs)));
 }
 
-band_there : (bands : List Learner) (z : ℕ) → z < length bands → (f : Learner) × (slice_get bands z ≡ Some f)
-band_there [] z lt = absurd (omega (arith, lt))
-band_there (f ∷ bands) zero lt = (f, refl)
-band_there (f ∷ bands) (suc z) lt = band_there bands z (omega (arith, lt))
+-- ---- where a tile begins
 
-module _ {p : Params} {tile : Tile} (lawful : IsOrder p.shape p.order) (is : IsTile p tile) (n : ℕ) (at : n ≡ place_index p.shape p.order tile.place) where
-  come_up : (b t : ℕ) → b < tile.bands → HasCome p.shape p.order (tile.place.z + b) n t → HasCome p.shape p.order (tile.place.z + b) (n + b) t
-  come_up zero t lt come = let none : n + 0 ≡ n = omega arith in rw none come
-  come_up (suc b) t lt come =
-      let beside = come_beside lawful (below_band p tile b is (omega (arith, lt))) (tile.place.z + suc b) t n (λ k less e. omega (arith, less, e)) at come in
-      let one : n + 1 * suc b ≡ n + suc b = omega arith in
-      rw one at beside
+-- the reading end has given the residuals that the image has at the places gone by, and has read the bits from `start` on
+pub record IsWalked (p : Params) (c : Image) (left : List Place) (bands : List Learner) (d : Decoder) (start now : List Bool) : Type 0 where
+  pub shape : c.shape ≡ p.shape
+  pub kind : c.kind ≡ p.kind
+  pub many : length bands ≡ p.shape.bands
+  pub rest : left ≡ drop (gone_count p left) (places p.shape p.order)
+  pub along : AreAlong p c (gone_count p left) bands
+  pub numbers : List ℕ
+  pub same : residuals_at p c (gone_by p left) ≡ numbers
+  pub read : List Bool
+  pub text : start ≡ read ++ now
+  pub given : HasGiven p d numbers read
 
-  time_at : (b t : ℕ) → b < tile.bands → HasCome p.shape p.order (tile.place.z + b) n t → time_of p.shape tile.place ≡ t
-  time_at b t lt come =
-      let some : 0 < tile.columns = omega (arith, is.some.0) in
-      let stands : StandsAt p.shape p.order (place_in tile.place 0 b) (n + b) =
-      record { place = placed is 0 b some lt; index = omega (arith, is.index 0 b some lt, at) } in
-      let time = come_here _ _ _ _ _ _ lawful (come_up b t lt come) stands refl in
-      omega (arith, time)
+module _ {p : Params} {c : Image} {left : List Place} {bands : List Learner} {d : Decoder} {start now : List Bool} (lawful : IsLawful p)
+    (w : IsWalked p c left bands d start now) where
+  pub all_places : gone_count p left + length left ≡ sample_count p.shape
+  all_places = omega (arith, ap length w.rest, length-drop (gone_count p left) (places p.shape p.order), length-places p.shape p.order lawful.order)
 
-  pub bands_ready : (c : Image) (bands : List Learner) → c.shape ≡ p.shape → c.kind ≡ p.kind → length bands ≡ p.shape.bands → AreAlong p c n bands
-      → AreReady c tile bands
-  bands_ready c bands shape kind many along b lt =
-      let band = band_there bands (tile.place.z + b) (omega (arith, lt, is.bands, many)) in
-      let here = along _ (omega (arith, lt, is.bands)) band.0 band.1 in (
-        band.0,
-        band.1,
-        record {
-          shape = shape ∙ sym here.follows.made.shape;
-          kind = kind ∙ sym here.follows.made.kind;
-          band = here.band;
-          place = sym (time_at b _ lt here.come) ∙ ap (λ (s : Sizes). tile.place.y * s.columns + tile.place.x) (sym shape);
-        },
-      )
+  pub next_place : (q : Place) → slice_get left 0 ≡ Some q → StandsAt p.shape p.order q (gone_count p left)
+  next_place q first =
+      let next = first_of _ _ first in
+      (next_stands p.shape p.order (gone_count p left) q next.0 lawful.order (sym w.rest ∙ next.1)).1
 
--- ---- behind a tile
+  pub numbers_long : length w.numbers ≡ gone_count p left
+  numbers_long =
+      omega (arith, ap length w.same, length-residuals_at p c (gone_by p left), length-take {A = Place}, all_places, length-places p.shape p.order lawful.order)
 
-pub gone_more : (p : Params) (left : List Place) (count : ℕ) → gone_count p left + length left ≡ sample_count p.shape → count ≤ length left
-    → gone_count p (drop count left) ≡ gone_count p left + count
-gone_more p left count whole le = omega (arith, whole, le, length-drop count left)
+  pub walked_whole : left ≡ [] → IsCube c → TakesCube p c start now
+  walked_whole none cube =
+      let all : gone_by p left ≡ gone_by p [] = ap (gone_by p) none in
+      let same = sym (residuals_whole p c lawful.order w.shape) ∙ ap (residuals_at p c) (sym all) ∙ w.same in
+      record {
+        cube = record { cube = cube; shape = w.shape; kind = w.kind };
+        body = w.read;
+        coded = rw same (given_whole p d w.numbers w.read lawful w.given (omega (arith, numbers_long, ap length none)));
+        text = w.text;
+      }
 
-pub rest_more : (p : Params) (left : List Place) (count : ℕ) → left ≡ drop (gone_count p left) (places p.shape p.order)
-    → gone_count p (drop count left) ≡ gone_count p left + count → drop count left ≡ drop (gone_count p (drop count left)) (places p.shape p.order)
-rest_more p left count rest gone =
-    ap (drop count) rest ∙ drop-drop count (gone_count p left) (places p.shape p.order) ∙ ap (λ (n : ℕ). drop n (places p.shape p.order)) (omega (arith, gone))
+-- the tile that comes next
+module _ {p : Params} {c : Image} {left : List Place} {bands : List Learner} {d : Decoder} {start now : List Bool} {tile : Tile} (lawful : IsLawful p)
+    (w : IsWalked p c left bands d start now) (is : IsInOrder p tile) (next : slice_get left 0 ≡ Some tile.place) where
+  pub at : gone_count p left ≡ start_of p tile
+  at = sym (next_place lawful w tile.place next).index
 
--- the residuals of a tile were given: the image with its samples has them
-module _ {p : Params} {c d : Image} {left : List Place} {tile : Tile} {old : Decoder} {start now next : List Bool} (new : Decoder) (deltas : List ℕ)
-    (lawful : IsLawful p) (shape : c.shape ≡ p.shape) (alike : AreAlike c d) (same : SameBefore p.order c d (gone_count p left))
-    (rest : left ≡ drop (gone_count p left) (places p.shape p.order)) (gone : gone_count p (drop (length deltas) left) ≡ gone_count p left + length deltas)
-    (at : gone_count p left ≡ place_index p.shape p.order tile.place) (is : IsTile p tile) (long : length deltas ≡ tile.columns * tile.bands)
-    (decoded : IsDecoded p c left old start now) (gives : GivesAll p new (residuals_at p c (gone_by p left)) decoded.read now next deltas)
-    (has : HasResiduals p d tile deltas) where
-  value : (k : ℕ) → k < length deltas
-      → (q : Place) × (slice_get left k ≡ Some q) × (mapped_residual p d q.z (q.y * d.shape.columns + q.x) ≡ slice_index deltas k)
-  value k lt =
-      let w = within tile k is.some.1 (omega (arith, lt, long)) in
-      let item = ap (λ (ps : List Place). slice_get ps k) rest ∙ get_drop (places p.shape p.order) (gone_count p left) k
-      ∙ ap (λ (n : ℕ). slice_get (places p.shape p.order) (n + k)) at ∙ item_in lawful.order is k (omega (arith, lt, long)) in
-      (place_in tile.place (k / tile.bands) (k % tile.bands), item, has _ _ w.column w.band ∙ ap (slice_index deltas) w.split)
+  pub fits : tile.columns * tile.bands ≤ length left
+  fits = omega (arith, room_for lawful.order is, at, all_places lawful w)
 
-  all : residuals_at p d (gone_by p (drop (length deltas) left)) ≡ residuals_at p c (gone_by p left) ++ deltas
-  all =
-      let whole : gone_by p (drop (length deltas) left) ≡ gone_by p left ++ take (length deltas) left =
-      ap (λ (n : ℕ). take n (places p.shape p.order)) gone ∙ take-add (gone_count p left) (length deltas) (places p.shape p.order)
-      ∙ ap (λ (ps : List Place). gone_by p left ++ take (length deltas) ps) (sym rest) in
-      ap (residuals_at p d) whole ∙ map-append _ (gone_by p left) (take (length deltas) left)
-      ∙ ap₂ (λ (ms ns : List ℕ). ms ++ ns) (sym (residuals_same lawful shape alike _ same)) (map_first _ _ _ value)
+  pub come : ComeTo p c tile bands
+  come = record { lawful = lawful; shape = w.shape; is = is; along = rw at at w.along }
 
-  pub decoded_more : IsDecoded p d (drop (length deltas) left) new start next
-  decoded_more = record {
-    read = decoded.read ++ gives.1;
-    text = decoded.text ∙ ap (λ (x : List Bool). decoded.read ++ x) gives.2 ∙ sym (append_assoc decoded.read gives.1 next);
-    given = rw all gives.3;
+  pub bands_ready : AreReady c tile bands
+  bands_ready z f low high there =
+      let here = come.along z (omega (arith, high, is.bands)) f there in
+      record {
+        shape = w.shape ∙ sym here.follows.made.shape;
+        kind = w.kind ∙ sym here.follows.made.kind;
+        band = here.band;
+        place = rw w.shape (sym (time_at lawful.order is z _ here.come low high));
+      }
+
+  -- its residuals may be asked for
+  abbrev pub may_read : (t place count : ℕ) → t ≡ time_of p.shape tile.place → place ≡ sample_count p.shape - length left → count ≡ tile.columns * tile.bands
+      → MayAskEach d (band_in tile) (time_in tile t) place count
+  may_read t place count time stands whole = record {
+    params = p;
+    numbers = w.numbers;
+    bits = w.read;
+    lawful = lawful;
+    given = w.given;
+    stands = omega (arith, stands, numbers_long lawful w);
+    ask = rw whole (numbers_in p tile t _ lawful.order is (numbers_long lawful w ∙ at) time);
   }
+
+  -- the residuals of the tile were given: the image with its samples has them
+  module _ {e : Image} {after : List Learner} (new : Decoder) {behind : List Bool} (deltas : List ℕ) (filled : IsFilled p c e tile after deltas)
+      (alike : AreAlike c e) (gives : GivesAll p new w.numbers w.read now behind deltas) (long : length deltas ≡ tile.columns * tile.bands)
+      (many : length after ≡ length bands) where
+    value : (k : ℕ) → k < length deltas
+        → (q : Place) × (slice_get left k ≡ Some q) × (mapped_residual p e q.z (q.y * e.shape.columns + q.x) ≡ slice_index deltas k)
+    value k lt =
+        let v = within tile.columns tile.bands k is.some.1 (omega (arith, lt, long)) in
+        let item = ap (λ (ps : List Place). slice_get ps k) w.rest ∙ get_drop (places p.shape p.order) (gone_count p left) k
+        ∙ ap (λ (n : ℕ). slice_get (places p.shape p.order) (n + k)) at ∙ item_in lawful.order is k (omega (arith, lt, long)) in
+        let q : Place = place_in tile.place (k / tile.bands) (k % tile.bands) in
+        let shapes = ap (λ (s : Sizes). mapped_residual p e q.z (q.y * s.columns + q.x)) (sym alike.shape ∙ w.shape) in
+        (q, item, shapes ∙ filled.residuals _ _ v.column v.band ∙ ap (slice_index deltas) v.split)
+
+    gone : gone_count p (drop (length deltas) left) ≡ gone_count p left + length deltas
+    gone = omega (arith, all_places lawful w, fits, long, length-drop (length deltas) left)
+
+    all : residuals_at p e (gone_by p (drop (length deltas) left)) ≡ w.numbers ++ deltas
+    all =
+        let whole : gone_by p (drop (length deltas) left) ≡ gone_by p left ++ take (length deltas) left =
+        ap (λ (n : ℕ). take n (places p.shape p.order)) gone ∙ take-add (gone_count p left) (length deltas) (places p.shape p.order)
+        ∙ ap (λ (ps : List Place). gone_by p left ++ take (length deltas) ps) (sym w.rest) in
+        let before = sym (residuals_same lawful w.shape alike left (rw at filled.same)) ∙ w.same in
+        ap (residuals_at p e) whole ∙ map-append _ (gone_by p left) (take (length deltas) left)
+        ∙ ap₂ (λ (ms ns : List ℕ). ms ++ ns) before (map_taken _ _ _ value)
+
+    pub walked_more : IsWalked p e (drop (length deltas) left) after new start behind
+    walked_more = record {
+      shape = sym alike.shape ∙ w.shape;
+      kind = sym alike.kind ∙ w.kind;
+      many = many ∙ w.many;
+      rest = ap (drop (length deltas)) w.rest ∙ drop-drop (length deltas) (gone_count p left) (places p.shape p.order)
+          ∙ ap (λ (n : ℕ). drop n (places p.shape p.order)) (omega (arith, gone));
+      along = rw (gone, at) filled.along;
+      numbers = w.numbers ++ deltas;
+      same = all;
+      read = w.read ++ gives.1;
+      text = w.text ∙ ap (λ (x : List Bool). w.read ++ x) gives.2 ∙ sym (append_assoc w.read gives.1 behind);
+      given = gives.3;
+    }
 
 -- ---- rooms
 

@@ -1,5 +1,5 @@
 -- The coder in the direction of reading: which residuals it has given, in encoding order.
-use Rattle.std.specs.Prelude.{ℕ, ◌≡◌, ◌+◌, ◌^◌, ◌<◌, ◌≤◌, Bool, List, [], ◌∷◌, ◌++◌, length, Option, option_map, Result, Ok, Err, MatchResult}
+use Rattle.std.specs.Prelude.{ℕ, ◌≡◌, ◌⊎◌, ◌+◌, ◌^◌, ◌<◌, ◌≤◌, Bool, List, [], ◌∷◌, ◌++◌, length, Option, option_map, Result, Ok, Err, MatchResult}
 use Rattle.std.specs.List.{AllByRecursion}
 use Rattle.cube_core.specs.declared.fault.Fault.{Fault}
 use Rattle.cube_core.specs.declared.fault.Fault.TheVariants.{WantOfMemory, BadCode}
@@ -7,6 +7,7 @@ use Rattle.cube_core.specs.Image.{Image}
 use Rattle.cube_core.specs.Shape.{sample_count}
 use Rattle.header_bits.specs.declared.params.Params.{Params}
 use Rattle.header_bits.specs.Bits.{Unread}
+use Rattle.header_bits.specs.Header.{BeginsWithTable}
 use Rattle.header_bits.specs.Lawful.{IsLawful}
 use Rattle.predict_core.specs.Residual.{residuals}
 use Rattle.block_adaptive.specs.Settings.{IsBlock, IsCutOf, cut_by}
@@ -15,7 +16,7 @@ use Rattle.block_adaptive.specs.DataSets.{capacity}
 use Rattle.file_coding.specs.Coding.{SamplesTaken, IsNumber}
 use Rattle.file_decoding.specs.declared.decoder.Decoder.{Decoder}
 use Rattle.file_decoding.specs.declared.decoder.Decoder.TheVariants.{Samples, Blocks}
-use Rattle.file_decoding.specs.Files.{IsBody, IsCubeOf, IsFile, behind_body}
+use Rattle.file_decoding.specs.Files.{IsBody, IsCubeOf, IsFile, behind_body, head_at, file_test}
 
 -- the block-adaptive coder has given the numbers, and has read the bits
 pub record BlocksGiven (p : Params) (v : Unpacked) (numbers : List ℕ) (bits : List Bool) : Type 0 where
@@ -93,12 +94,12 @@ abbrev pub GivesAll : Params → Decoder → List ℕ → List Bool → List Boo
 GivesAll p new numbers bits unread left list =
     AllByRecursion (λ n. n < 2 ^ p.kind.bits) list × (read : List Bool) × (unread ≡ read ++ left) × HasGiven p new (numbers ++ list) (bits ++ read)
 
--- whatever numbers were given before: the next ones, of such bands, are given, or the refusal is that of the body
+-- wherever the next ones, of such bands, may be asked for: they are given, or the refusal is that of the body
 abbrev pub GivesEach : (ℕ → ℕ) → (ℕ → ℕ) → ℕ → Result (Unit {0}) Fault → Decoder → Unread → Decoder → List Bool → List ℕ → Type 0
 GivesEach zs ts place result old unread new left list =
-    (p : Params) (numbers : List ℕ) (bits : List Bool) → IsLawful p → HasGiven p old numbers bits → AreEach p (length numbers) zs ts (length list)
-    → place ≡ length numbers
-    → MatchResult result (λ _. GivesAll p new numbers bits unread.left left list) (λ fault. behind_body unread.count p (bits ++ unread.left) ≡ Err fault)
+    (m : MayAskEach old zs ts place (length list))
+    → MatchResult result (λ _. GivesAll m.params new m.numbers m.bits unread.left left list)
+    (λ fault. behind_body unread.count m.params (m.bits ++ unread.left) ≡ Err fault)
 
 -- those of band z, from its number t on
 abbrev pub GivesRun : ℕ → ℕ → ℕ → Result (Unit {0}) Fault → Decoder → Unread → Decoder → List Bool → List ℕ → Type 0
@@ -123,3 +124,8 @@ AnswersOr (Err e) p c = e ≡ WantOfMemory
 -- the bytes are a file of no parameters and no cube
 abbrev pub IsNoFile : List ℕ → Type 0
 IsNoFile bytes = (p : Params) (c : Image) → IsFile bytes p c → ⊥
+
+-- why no file was read: the bytes' first fault; or there is no memory for the header's tables, or none behind a head without a fault
+abbrev pub IsRefusal : List Bool → Fault → Type 0
+IsRefusal bits e =
+    (file_test bits ≡ Err e) ⊎ ((e ≡ WantOfMemory) × (BeginsWithTable bits ⊎ ((head : Params × List Bool) × (head_at bits ≡ Ok head))))

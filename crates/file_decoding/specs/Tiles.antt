@@ -1,33 +1,25 @@
 -- The places that are decoded together: columns of one row, each with the same bands.
-use Rattle.std.specs.Prelude.{ℕ, ◌≡◌, ◌+◌, ◌*◌, ◌/◌, ◌%◌, ◌<◌, ◌≤◌, List, slice_get, slice_index, Some}
+use Rattle.std.specs.Prelude.{ℕ, ◌≡◌, ◌+◌, ◌*◌, ◌/◌, ◌%◌, ◌<◌, ◌≤◌, List, length, slice_get, slice_index, Some}
 use Rattle.cube_core.specs.declared.order.Order.{Order}
-use Rattle.cube_core.specs.declared.order.Order.TheVariants.{Bsq, Bi}
 use Rattle.cube_core.specs.declared.order.Place.{Place}
 use Rattle.cube_core.specs.Image.{Image, sample_at}
 use Rattle.cube_core.specs.Order.{IsPlaceOf, place_index}
+use Rattle.cube_core.specs.Tiles.{IsTiled, most_bands}
 use Rattle.header_bits.specs.declared.params.Params.{Params}
+use Rattle.header_bits.specs.Lawful.{IsLawful}
 use Rattle.predict_core.specs.Following.{Learner}
 use Rattle.predict_core.specs.Residual.{mapped_residual}
+use Rattle.predict_core.specs.Walked.{AreAlong}
 use Rattle.file_decoding.specs.declared.tile.Tile.{Tile}
 
--- how many bands the largest group of an order has
-abbrev pub most_bands : Order → ℕ
-most_bands Bsq = 1
-most_bands (Bi depth) = depth
-
--- the place of a tile in its column i and its band b
-abbrev pub place_in : Place → ℕ → ℕ → Place
-place_in q i b = record { z = q.z + b; y = q.y; x = q.x + i }
-
 -- the places of a tile follow one another in encoding order, column after column, and in each from its lowest band on
+abbrev pub IsInOrder : Params → Tile → Type 0
+IsInOrder p tile = IsTiled p.shape p.order tile.place tile.columns tile.bands
+
+-- so do these, in at most 64 columns of bands of a group
 pub record IsTile (p : Params) (tile : Tile) : Type 0 where
-  pub place : IsPlaceOf p.shape tile.place
-  pub some : (1 ≤ tile.columns) × (1 ≤ tile.bands)
   pub few : (tile.columns ≤ 64) × (tile.bands ≤ most_bands p.order)
-  pub columns : tile.place.x + tile.columns ≤ p.shape.columns
-  pub bands : tile.place.z + tile.bands ≤ p.shape.bands
-  pub index : (i b : ℕ) → i < tile.columns → b < tile.bands
-      → place_index p.shape p.order (place_in tile.place i b) ≡ place_index p.shape p.order tile.place + (i * tile.bands + b)
+  pub in-order : IsInOrder p tile
 
 -- the band of a tile's k-th place, and how many of that band's places come before it, where t come before the tile
 abbrev pub band_in : Tile → ℕ → ℕ
@@ -36,22 +28,40 @@ band_in tile k = tile.place.z + k % tile.bands
 abbrev pub time_in : Tile → ℕ → ℕ → ℕ
 time_in tile t k = t + k / tile.bands
 
--- each band of a tile is at the tile's first column, of an image of so many columns
-pub record IsReady (c : Image) (tile : Tile) (b : ℕ) (f : Learner) : Type 0 where
+-- where a tile's first place stands in the order
+abbrev pub start_of : Params → Tile → ℕ
+start_of p tile = place_index p.shape p.order tile.place
+
+-- band z of a tile is at the tile's first column
+pub record IsReady (c : Image) (tile : Tile) (z : ℕ) (f : Learner) : Type 0 where
   pub shape : c.shape ≡ f.shape
   pub kind : c.kind ≡ f.kind
-  pub band : f.band ≡ tile.place.z + b
+  pub band : f.band ≡ z
   pub place : f.place ≡ tile.place.y * c.shape.columns + tile.place.x
 
 abbrev pub AreReady : Image → Tile → List Learner → Type 0
-AreReady c tile bands = (b : ℕ) → b < tile.bands → (f : Learner) × (slice_get bands (tile.place.z + b) ≡ Some f) × IsReady c tile b f
+AreReady c tile bands =
+    (z : ℕ) (f : Learner) → tile.place.z ≤ z → z < tile.place.z + tile.bands → slice_get bands z ≡ Some f → IsReady c tile z f
+
+-- bands have come to a tile, and follow the image as far
+pub record ComeTo (p : Params) (c : Image) (tile : Tile) (bands : List Learner) : Type 0 where
+  pub lawful : IsLawful p
+  pub shape : c.shape ≡ p.shape
+  pub is : IsInOrder p tile
+  pub along : AreAlong p c (start_of p tile) bands
 
 -- two images that are one at all places of an index below i in an order
 abbrev pub SameBefore : Order → Image → Image → ℕ → Type 0
 SameBefore o c d i = (r : Place) → IsPlaceOf c.shape r → place_index c.shape o r < i → sample_at c r.z r.y r.x ≡ sample_at d r.z r.y r.x
 
--- an image has these residuals at the places of a tile
-abbrev pub HasResiduals : Params → Image → Tile → List ℕ → Type 0
-HasResiduals p c tile deltas =
-    (i b : ℕ) → i < tile.columns → b < tile.bands
-    → mapped_residual p c (tile.place.z + b) (tile.place.y * c.shape.columns + (tile.place.x + i)) ≡ slice_index deltas (i * tile.bands + b)
+-- an image has these residuals at the places of a tile's first n bands
+abbrev pub HasResiduals : Params → Image → Tile → List ℕ → ℕ → Type 0
+HasResiduals p c tile deltas n =
+    (i b : ℕ) → i < tile.columns → b < n
+    → mapped_residual p c (tile.place.z + b) (tile.place.y * p.shape.columns + (tile.place.x + i)) ≡ slice_index deltas (i * tile.bands + b)
+
+-- d is c with these residuals at the places of the tile, and bands have come behind them
+pub record IsFilled (p : Params) (c d : Image) (tile : Tile) (bands : List Learner) (deltas : List ℕ) : Type 0 where
+  pub same : SameBefore p.order c d (start_of p tile)
+  pub residuals : HasResiduals p d tile deltas tile.bands
+  pub along : AreAlong p d (start_of p tile + length deltas) bands

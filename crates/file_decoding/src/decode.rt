@@ -11,7 +11,7 @@ ghost use Rattle.header_bits.specs.Lawful.{IsLawful};
 ghost use Rattle.header_bits.specs.Header.{header_at, BeginsWithTable};
 ghost use Rattle.file_decoding.specs.Files.{IsFile, behind_body, fill_test, head_at, file_test};
 ghost use Rattle.cube_core.specs.Order.{IsPlaceOf, goes_along_rows};
-ghost use Rattle.file_decoding.specs.Decoding.{TakesCube, AnswersOr, IsNoFile};
+ghost use Rattle.file_decoding.specs.Decoding.{TakesCube, AnswersOr, IsNoFile, IsRefusal};
 
 use crate::decoder::Decoder;
 use crate::least::test_length;
@@ -53,9 +53,7 @@ fn read_file(alloc: Global, bytes: &[u8]) -> Result<(Params, Cube), Fault>
     requires { length bytes.now ≤ 2 ^ 60 }
     ensures lawful { IfOk result (λ found. IsLawful found.0) }
     ensures file { IfOk result (λ found. IsFile bytes.now found.0 found.1) }
-    ensures head { (e : Refusal) → head_at (bits_of_bytes bytes.now) ≡ Err e
-        → (result ≡ Err e) ⊎ ((result ≡ Err WantOfMemory) × BeginsWithTable (bits_of_bytes bytes.now)) }
-    ensures fault { IfErr result (λ e. (e ≡ WantOfMemory) ⊎ (file_test (bits_of_bytes bytes.now) ≡ Err e)) }
+    ensures refused { IfErr result (IsRefusal (bits_of_bytes bytes.now)) }
 {
     let (params, size) = read_header(alloc, bytes)?;
     let mut reader = reader_behind(bytes, size);

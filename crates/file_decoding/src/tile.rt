@@ -1,13 +1,13 @@
 //! The places that are decoded together: columns of one row, each with the bands of a group.
 
 ghost use Rattle.std.specs.Prelude.{◌≡◌, ◌+◌, ◌*◌, ◌^◌, ◌<◌, ◌≤◌, ℕ, length, slice_index, slice_index_or};
-ghost use Rattle.cube_core.specs.Order.{IsPlaceOf, place_index};
+ghost use Rattle.cube_core.specs.Order.{IsPlaceOf};
+ghost use Rattle.cube_core.specs.Tiles.{most_bands as bands_of_group};
 ghost use Rattle.header_bits.specs.declared.params.Params.{Params as Parameters};
 ghost use Rattle.header_bits.specs.Lawful.{IsLawful};
 ghost use Rattle.predict_core.specs.Precedence.{AreAlike};
-ghost use Rattle.predict_core.specs.Walked.{AreAlong};
 ghost use Rattle.file_decoding.specs.Decoding.{MayAskEach, GivesEach};
-ghost use Rattle.file_decoding.specs.Tiles.{IsTile, AreReady, SameBefore, HasResiduals, band_in, time_in, most_bands as bands_of_group};
+ghost use Rattle.file_decoding.specs.Tiles.{IsTile, AreReady, ComeTo, IsFilled, band_in, time_in};
 
 use crate::decoder::Decoder;
 use cube_core::cube::Cube;
@@ -120,15 +120,13 @@ impl Tile {
         requires few { (self.now.columns ≤ 64) × (self.now.bands ≤ 2 ^ 16) }
         requires columns { self.now.place.x + self.now.columns ≤ cube.old.shape.columns }
         requires place { (1 ≤ self.now.columns) × IsPlaceOf cube.old.shape self.now.place }
-        requires inside { self.now.place.z + self.now.bands ≤ cube.old.shape.bands }
+        requires inside { (self.now.place.z + self.now.bands ≤ cube.old.shape.bands) × (length bands.old ≡ cube.old.shape.bands) }
         requires ready { AreReady cube.old self.now bands.old }
         requires whole { length deltas.now ≡ self.now.columns * self.now.bands }
         requires residuals_in { (k : ℕ) → k < length deltas.now → slice_index deltas.now k < 2 ^ cube.old.kind.bits }
         ensures alike { AreAlike cube.old cube.new }
         ensures many { length bands.new ≡ length bands.old }
-        ensures filled { (p : Parameters) → IsLawful p → cube.old.shape ≡ p.shape → IsTile p self.now → AreAlong p cube.old (place_index p.shape p.order self.now.place) bands.old
-            → SameBefore p.order cube.old cube.new (place_index p.shape p.order self.now.place) × HasResiduals p cube.new self.now deltas.now
-            × AreAlong p cube.new (place_index p.shape p.order self.now.place + length deltas.now) bands.new }
+        ensures filled { (p : Parameters) → ComeTo p cube.old self.now bands.old → IsFilled p cube.old cube.new self.now bands.new deltas.now }
     {
         let Place { z, y, x } = self.place;
         for b in 0..self.bands {

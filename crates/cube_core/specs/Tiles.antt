@@ -1,0 +1,24 @@
+-- Places that follow one another in encoding order: columns of one row, each with the same bands.
+use Rattle.std.specs.Prelude.{ℕ, ◌≡◌, ◌+◌, ◌*◌, ◌<◌, ◌≤◌}
+use Rattle.cube_core.specs.declared.order.Order.{Order}
+use Rattle.cube_core.specs.declared.order.Order.TheVariants.{Bsq, Bi}
+use Rattle.cube_core.specs.declared.order.Place.{Place}
+use Rattle.cube_core.specs.Shape.{Sizes}
+use Rattle.cube_core.specs.Order.{IsPlaceOf, place_index}
+
+-- how many bands the largest group of an order has
+abbrev pub most_bands : Order → ℕ
+most_bands Bsq = 1
+most_bands (Bi depth) = depth
+
+-- the place i columns behind another, b bands above it
+abbrev pub place_in : Place → ℕ → ℕ → Place
+place_in q i b = record { z = q.z + b; y = q.y; x = q.x + i }
+
+-- from the place q on, in each of so many columns so many bands: column after column, and in each from its lowest band on
+pub record IsTiled (s : Sizes) (o : Order) (q : Place) (width depth : ℕ) : Type 0 where
+  pub place : IsPlaceOf s q
+  pub some : (1 ≤ width) × (1 ≤ depth)
+  pub columns : q.x + width ≤ s.columns
+  pub bands : q.z + depth ≤ s.bands
+  pub index : (i b : ℕ) → i < width → b < depth → place_index s o (place_in q i b) ≡ place_index s o q + (i * depth + b)
