@@ -8,6 +8,7 @@ mod differences;
 mod exponent;
 mod fills;
 mod inverse_chain;
+mod known_run;
 pub mod laws;
 mod lines;
 mod mapping;

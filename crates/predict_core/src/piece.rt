@@ -4,7 +4,8 @@ ghost use Rattle.std.specs.Prelude.{◌≡◌, ◌<◌, ◌≤◌, take, length,
 ghost use Rattle.predict_core.specs.Following.{IsPieceNext, HoldsPiece};
 
 use crate::band::Band;
-use crate::run::{LEAST, predict_run};
+use crate::known_run::predict_run;
+use crate::run::LEAST;
 use cube_core::cube::Cube;
 
 impl Band {

@@ -1,6 +1,6 @@
 use Rattle.std.proofs.Common.{◌≡◌, ◌+◌, ◌*◌, arith, ap, ◌∙◌}
 use Rattle.predict_core.proofs.RunChains.{predicted}
-use Rattle.predict_core.proofs.run.predict_by.Goals as goal
+use Rattle.predict_core.proofs.known_run.predict_by.Goals as goal
 
 pub returns-then-this-ne0-clause-predicted : goal.returns-then-this-ne0-clause-predicted
 returns-then-this-ne0-clause-predicted g c =

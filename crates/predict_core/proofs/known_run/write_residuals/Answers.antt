@@ -7,9 +7,9 @@ use Rattle.predict_core.specs.Residual.{mapped_residual}
 use Rattle.predict_core.specs.RunChains.{IsFollowed}
 use Rattle.predict_core.proofs.RunChains.{at_first}
 use Rattle.predict_core.proofs.WholeRuns.{run_is, mapped_at, with_first}
-use Rattle.predict_core.proofs.run.write_residuals.Given as given
-use Rattle.predict_core.proofs.run.write_residuals.Goals as goal
-use Rattle.predict_core.proofs.run.write_residuals.Goals.{After-map_run}
+use Rattle.predict_core.proofs.known_run.write_residuals.Given as given
+use Rattle.predict_core.proofs.known_run.write_residuals.Goals as goal
+use Rattle.predict_core.proofs.known_run.write_residuals.Goals.{After-map_run}
 
 -- the residuals of the places that have weights
 later_is : (g : given.Over) (c : After-map_run g) (p : Params) (begun ws : List ℤ)
