@@ -1,5 +1,5 @@
 -- Runs whose samples are known: a run begun, and its first places.
-use Rattle.std.proofs.Common.{◌≡◌, ℕ, ◌+◌, ◌*◌, ◌^◌, ◌<◌, ◌≤◌, Bool, ℤ, List, length, take, slice_index, sym, ap, ◌∙◌, subst, arith, inl, inr}
+use Rattle.std.proofs.Common.{◌≡◌, ℕ, ◌+◌, ◌*◌, ◌^◌, ◌<◌, ◌≤◌, Bool, ℤ, List, take, slice_index_or, sym, ap, ◌∙◌, subst, arith, inl, inr}
 use Rattle.std.proofs.lemmas.Bool.{cases_eq}
 use Rattle.header_bits.specs.declared.params.Params.{Params}
 use Rattle.cube_core.specs.Image.{Image}
@@ -60,19 +60,19 @@ same_steps s other c fraction bits exponent y x same kind h = record {
 }
 
 -- a run is predicted where its chain was followed to its end and its residuals are written
-pub predicted : (s : Settings) (c : Image) (y x first : ℕ) (old new parts : List ℤ) (n : ℕ) (rs : List ℕ) → IsFirstLater y x first
-    → IsFollowed s c y x first old n new parts → AllWithin (2 ^ (s.predictor.fraction + 2)) new
-    → ((i : ℕ) → i < length rs → slice_index rs i < 2 ^ c.kind.bits)
+pub predicted : (s : Settings) (c : Image) (y x first n : ℕ) (old ws new parts : List ℤ) (rs : List ℕ) → IsFirstLater y x first
+    → IsFollowed s c y x first old n ws parts → AllWithin (2 ^ (s.predictor.fraction + 2)) ws
+    → ((i : ℕ) → i < n → slice_index_or rs i 0 < 2 ^ c.kind.bits)
     → ((p : Params) (begun ws : List ℤ) → AreWeightsAt p s.predictor c s.band (y * c.shape.columns + x) (take s.count begun)
-    → IsFollowed s c y x first begun n ws parts → rs ≡ run_residuals p c s.band (y * c.shape.columns + x) n)
-    → HasPredicted s c y x old new n rs
-predicted s c y x first old new parts n rs at followed within bound written = record {
+    → IsFollowed s c y x first begun n ws parts → take n rs ≡ run_residuals p c s.band (y * c.shape.columns + x) n)
+    → new ≡ ws → HasPredicted s c y x n old new rs
+predicted s c y x first n old ws new parts rs at followed within bound written same = rw same (record {
   bound = bound;
-  residuals = λ p f. written p old new f followed;
+  residuals = λ p f. written p old ws f followed;
   weights = λ p f. followed.weights p (at_first p s.predictor c s.band y x first (take s.count old) at f)
       ∙ ap (weight_vector p c s.band) (place y c.shape.columns);
   within = within;
-}
+})
   where
     place : (y columns : ℕ) → y * columns + (x + n) ≡ y * columns + x + n
     place y columns = omega arith

@@ -1,5 +1,5 @@
 -- The chain of a run whose samples are known: what it needs, and how far it has come.
-use Rattle.std.specs.Prelude.{ℕ, ◌≡◌, ◌+◌, ◌*◌, ◌^◌, ◌<◌, ◌≤◌, Bool, false, ℤ, pos, unsigned_abs, List, length, take, slice_index, slice_index_or}
+use Rattle.std.specs.Prelude.{ℕ, ◌≡◌, ◌+◌, ◌*◌, ◌^◌, ◌<◌, ◌≤◌, Bool, false, ℤ, pos, unsigned_abs, List, take, slice_index_or}
 use Rattle.header_bits.specs.declared.params.Params.{Params}
 use Rattle.cube_core.specs.Image.{Image, IsPlace}
 use Rattle.predict_core.specs.declared.room.Quad.{Quad}
@@ -57,10 +57,10 @@ pub record CanPredict (s : Settings) (c : Image) (y x n : ℕ) (ws : List ℤ) :
   pub weights_in : AllWithin (2 ^ (s.predictor.fraction + 2)) ws
 
 -- their residuals, and the weights behind them
-pub record HasPredicted (s : Settings) (c : Image) (y x : ℕ) (old new : List ℤ) (n : ℕ) (rs : List ℕ) : Type 0 where
-  pub bound : (i : ℕ) → i < length rs → slice_index rs i < 2 ^ c.kind.bits
+pub record HasPredicted (s : Settings) (c : Image) (y x n : ℕ) (old new : List ℤ) (rs : List ℕ) : Type 0 where
+  pub bound : (i : ℕ) → i < n → slice_index_or rs i 0 < 2 ^ c.kind.bits
   pub residuals : (p : Params) → AreWeightsAt p s.predictor c s.band (y * c.shape.columns + x) (take s.count old)
-      → rs ≡ run_residuals p c s.band (y * c.shape.columns + x) n
+      → take n rs ≡ run_residuals p c s.band (y * c.shape.columns + x) n
   pub weights : (p : Params) → AreWeightsAt p s.predictor c s.band (y * c.shape.columns + x) (take s.count old)
       → take s.count new ≡ weight_vector p c s.band (y * c.shape.columns + x + n)
   pub within : AllWithin (2 ^ (s.predictor.fraction + 2)) new

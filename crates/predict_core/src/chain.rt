@@ -216,6 +216,28 @@ fn follow_place<const Q: usize, const N: usize, const WRAPS: bool>(
     );
 }
 
+/// What a band has at hand along a run: its weights, the predicted central differences of the run's places, and then
+/// their mapped residuals.
+#[derive(Drop)]
+pub(crate) struct RunState {
+    pub weights: [i32; 18],
+    pub parts: [i32; 64],
+    pub residuals: [u16; 64],
+}
+
+impl RunState {
+    /// Returns the state before a run.
+    pub(crate) fn new(weights: [i32; 18]) -> RunState
+        ensures { result.weights ≡ weights }
+    {
+        RunState {
+            weights,
+            parts: [0; 64],
+            residuals: [0; 64],
+        }
+    }
+}
+
 /// Writes the predicted central differences of the places `first..last` of a run, and updates the weights; with
 /// `PAIR` also those of the same places of another run, a step of one beside a step of the other.
 ///
@@ -230,11 +252,9 @@ pub(crate) fn follow_places<const Q: usize, const N: usize, const WRAPS: bool, c
     last: usize,
     steps: Steps,
     run: KnownRun<Q>,
-    parts: &mut [i32; 64],
-    weights: &mut [i32; 18],
+    state: &mut RunState,
     other: KnownRun<Q>,
-    other_parts: &mut [i32; 64],
-    other_weights: &mut [i32; 18],
+    beside: &mut RunState,
 )
     requires run { CanFollow Q N WRAPS run.settings.now cube.now y x last run.sums.now run.own.now run.quads.now }
     requires other { CanFollow Q N WRAPS other.settings.now cube.now y x last other.sums.now other.own.now other.quads.now }
@@ -242,20 +262,20 @@ pub(crate) fn follow_places<const Q: usize, const N: usize, const WRAPS: bool, c
     requires later { 0 < y + (x + first) }
     requires steps { (i : ℕ) → first ≤ i → i < last → AreStepsThere run.settings.now cube.now steps.fraction steps.bits steps.exponent y (x + i) }
     requires same { other.settings.now.predictor ≡ run.settings.now.predictor }
-    requires weights_in { AllWithin (2 ^ (run.settings.now.predictor.fraction + 2)) weights.old }
-    requires other_weights_in { AllWithin (2 ^ (run.settings.now.predictor.fraction + 2)) other_weights.old }
-    ensures followed { (start : ℕ) (begun : List ℤ) → IsFollowed run.entry.settings.now cube.now y x start begun first weights.old parts.old
-        → IsFollowed run.entry.settings.now cube.now y x start begun last weights.new parts.new }
+    requires weights_in { AllWithin (2 ^ (run.settings.now.predictor.fraction + 2)) state.old.weights }
+    requires other_weights_in { AllWithin (2 ^ (run.settings.now.predictor.fraction + 2)) beside.old.weights }
+    ensures followed { (start : ℕ) (begun : List ℤ) → IsFollowed run.entry.settings.now cube.now y x start begun first state.old.weights state.old.parts
+        → IsFollowed run.entry.settings.now cube.now y x start begun last state.new.weights state.new.parts }
     ensures other_followed { PAIR ≡ true → (start : ℕ) (begun : List ℤ)
-        → IsFollowed other.entry.settings.now cube.now y x start begun first other_weights.old other_parts.old
-        → IsFollowed other.entry.settings.now cube.now y x start begun last other_weights.new other_parts.new }
-    ensures bound { AllWithin (2 ^ (run.entry.settings.now.predictor.fraction + 2)) weights.new }
-    ensures other_bound { AllWithin (2 ^ (run.entry.settings.now.predictor.fraction + 2)) other_weights.new }
+        → IsFollowed other.entry.settings.now cube.now y x start begun first beside.old.weights beside.old.parts
+        → IsFollowed other.entry.settings.now cube.now y x start begun last beside.new.weights beside.new.parts }
+    ensures bound { AllWithin (2 ^ (run.entry.settings.now.predictor.fraction + 2)) state.new.weights }
+    ensures other_bound { AllWithin (2 ^ (run.entry.settings.now.predictor.fraction + 2)) beside.new.weights }
 {
-    let mut working = *weights;
-    let mut other_working = *other_weights;
+    let mut working = state.weights;
+    let mut second = beside.weights;
     for i in first..last {
-        follow_place::<Q, N, WRAPS>(cube, y, x, i, steps, run, parts, &mut working);
+        follow_place::<Q, N, WRAPS>(cube, y, x, i, steps, run, &mut state.parts, &mut working);
         if PAIR {
             follow_place::<Q, N, WRAPS>(
                 cube,
@@ -264,11 +284,11 @@ pub(crate) fn follow_places<const Q: usize, const N: usize, const WRAPS: bool, c
                 i,
                 steps,
                 other,
-                other_parts,
-                &mut other_working,
+                &mut beside.parts,
+                &mut second,
             );
         }
     }
-    *weights = working;
-    *other_weights = other_working;
+    state.weights = working;
+    beside.weights = second;
 }

@@ -9,57 +9,35 @@ ghost use Rattle.predict_core.specs.Rooms.{IsRoom, quads_of};
 ghost use Rattle.predict_core.specs.RunChains.{IsFirstLater, IsFollowed, CanPredict, HasPredicted};
 
 use crate::band::first_residual;
-use crate::chain::KnownRun;
+use crate::chain::{KnownRun, RunState};
 use crate::mapping::map_run;
 use crate::pieces::follow_run;
 use crate::room::{Quad, fill_run};
 use crate::settings::Settings;
 use cube_core::cube::Cube;
 
-/// Writes the mapped residuals of a run, and updates the weights; with `PAIR` also those of the same places of
-/// another band, which uses as many weights.
+/// Finds the mapped residuals of a run of `count` places, and updates the weights; with `PAIR` also those of the same
+/// places of another band, which uses as many weights.
 pub(crate) fn predict_run<const PAIR: bool>(
     cube: &Cube,
     y: u32,
     x: u32,
+    count: usize,
     settings: &Settings,
-    weights: &mut [i32; 18],
-    residuals: &mut [u16],
+    state: &mut RunState,
     other: &Settings,
-    other_weights: &mut [i32; 18],
-    other_residuals: &mut [u16],
+    beside: &mut RunState,
 )
-    requires run { CanPredict settings.now cube.now y x (length residuals.old) weights.old }
-    requires other { CanPredict other.now cube.now y x (length residuals.old) other_weights.old }
+    requires run { CanPredict settings.now cube.now y x count state.old.weights }
+    requires other { CanPredict other.now cube.now y x count beside.old.weights }
     requires alike { (other.now.predictor ≡ settings.now.predictor) × (other.now.count ≡ settings.now.count) }
-    requires long { PAIR ≡ true → length other_residuals.old ≡ length residuals.old }
-    ensures predicted { HasPredicted settings.now cube.now y x weights.old weights.new (length residuals.old) residuals.new }
-    ensures other_predicted { PAIR ≡ true → HasPredicted other.now cube.now y x other_weights.old other_weights.new (length residuals.old) other_residuals.new }
+    ensures predicted { HasPredicted settings.now cube.now y x count state.old.weights state.new.weights state.new.residuals }
+    ensures other_predicted { PAIR ≡ true → HasPredicted other.now cube.now y x count beside.old.weights beside.new.weights beside.new.residuals }
 {
     if settings.predictor.register < 46 {
-        predict_in::<true, PAIR>(
-            cube,
-            y,
-            x,
-            settings,
-            weights,
-            residuals,
-            other,
-            other_weights,
-            other_residuals,
-        );
+        predict_in::<true, PAIR>(cube, y, x, count, settings, state, other, beside);
     } else {
-        predict_in::<false, PAIR>(
-            cube,
-            y,
-            x,
-            settings,
-            weights,
-            residuals,
-            other,
-            other_weights,
-            other_residuals,
-        );
+        predict_in::<false, PAIR>(cube, y, x, count, settings, state, other, beside);
     }
 }
 
@@ -70,94 +48,32 @@ fn predict_in<const WRAPS: bool, const PAIR: bool>(
     cube: &Cube,
     y: u32,
     x: u32,
+    count: usize,
     settings: &Settings,
-    weights: &mut [i32; 18],
-    residuals: &mut [u16],
+    state: &mut RunState,
     other: &Settings,
-    other_weights: &mut [i32; 18],
-    other_residuals: &mut [u16],
+    beside: &mut RunState,
 )
     requires register { WRAPS ≡ false → 46 ≤ settings.now.predictor.register }
-    requires run { CanPredict settings.now cube.now y x (length residuals.old) weights.old }
-    requires other { CanPredict other.now cube.now y x (length residuals.old) other_weights.old }
+    requires run { CanPredict settings.now cube.now y x count state.old.weights }
+    requires other { CanPredict other.now cube.now y x count beside.old.weights }
     requires alike { (other.now.predictor ≡ settings.now.predictor) × (other.now.count ≡ settings.now.count) }
-    requires long { PAIR ≡ true → length other_residuals.old ≡ length residuals.old }
-    ensures predicted { HasPredicted settings.now cube.now y x weights.old weights.new (length residuals.old) residuals.new }
-    ensures other_predicted { PAIR ≡ true → HasPredicted other.now cube.now y x other_weights.old other_weights.new (length residuals.old) other_residuals.new }
+    ensures predicted { HasPredicted settings.now cube.now y x count state.old.weights state.new.weights state.new.residuals }
+    ensures other_predicted { PAIR ≡ true → HasPredicted other.now cube.now y x count beside.old.weights beside.new.weights beside.new.residuals }
 {
-    let count = settings.count;
-    if count == 0 {
-        predict_by::<0, 0, WRAPS, PAIR>(
-            cube,
-            y,
-            x,
-            settings,
-            weights,
-            residuals,
-            other,
-            other_weights,
-            other_residuals,
-        );
-    } else if count <= 4 {
-        predict_by::<1, 4, WRAPS, PAIR>(
-            cube,
-            y,
-            x,
-            settings,
-            weights,
-            residuals,
-            other,
-            other_weights,
-            other_residuals,
-        );
-    } else if count <= 8 {
-        predict_by::<2, 8, WRAPS, PAIR>(
-            cube,
-            y,
-            x,
-            settings,
-            weights,
-            residuals,
-            other,
-            other_weights,
-            other_residuals,
-        );
-    } else if count <= 12 {
-        predict_by::<3, 12, WRAPS, PAIR>(
-            cube,
-            y,
-            x,
-            settings,
-            weights,
-            residuals,
-            other,
-            other_weights,
-            other_residuals,
-        );
-    } else if count <= 16 {
-        predict_by::<4, 16, WRAPS, PAIR>(
-            cube,
-            y,
-            x,
-            settings,
-            weights,
-            residuals,
-            other,
-            other_weights,
-            other_residuals,
-        );
+    let weights = settings.count;
+    if weights == 0 {
+        predict_by::<0, 0, WRAPS, PAIR>(cube, y, x, count, settings, state, other, beside);
+    } else if weights <= 4 {
+        predict_by::<1, 4, WRAPS, PAIR>(cube, y, x, count, settings, state, other, beside);
+    } else if weights <= 8 {
+        predict_by::<2, 8, WRAPS, PAIR>(cube, y, x, count, settings, state, other, beside);
+    } else if weights <= 12 {
+        predict_by::<3, 12, WRAPS, PAIR>(cube, y, x, count, settings, state, other, beside);
+    } else if weights <= 16 {
+        predict_by::<4, 16, WRAPS, PAIR>(cube, y, x, count, settings, state, other, beside);
     } else {
-        predict_by::<5, 18, WRAPS, PAIR>(
-            cube,
-            y,
-            x,
-            settings,
-            weights,
-            residuals,
-            other,
-            other_weights,
-            other_residuals,
-        );
+        predict_by::<5, 18, WRAPS, PAIR>(cube, y, x, count, settings, state, other, beside);
     }
 }
 
@@ -169,123 +85,123 @@ fn predict_by<const Q: usize, const N: usize, const WRAPS: bool, const PAIR: boo
     cube: &Cube,
     y: u32,
     x: u32,
+    count: usize,
     settings: &Settings,
-    weights: &mut [i32; 18],
-    residuals: &mut [u16],
+    state: &mut RunState,
     other: &Settings,
-    other_weights: &mut [i32; 18],
-    other_residuals: &mut [u16],
+    beside: &mut RunState,
 )
     requires few { N ≤ 18 }
     requires enough { settings.now.count ≤ N }
     requires quads { Q ≡ quads_of settings.now.count }
     requires register { WRAPS ≡ false → 46 ≤ settings.now.predictor.register }
-    requires run { CanPredict settings.now cube.now y x (length residuals.old) weights.old }
-    requires other { CanPredict other.now cube.now y x (length residuals.old) other_weights.old }
+    requires run { CanPredict settings.now cube.now y x count state.old.weights }
+    requires other { CanPredict other.now cube.now y x count beside.old.weights }
     requires alike { (other.now.predictor ≡ settings.now.predictor) × (other.now.count ≡ settings.now.count) }
-    requires long { PAIR ≡ true → length other_residuals.old ≡ length residuals.old }
-    ensures predicted { HasPredicted settings.now cube.now y x weights.old weights.new (length residuals.old) residuals.new }
-    ensures other_predicted { PAIR ≡ true → HasPredicted other.now cube.now y x other_weights.old other_weights.new (length residuals.old) other_residuals.new }
+    ensures predicted { HasPredicted settings.now cube.now y x count state.old.weights state.new.weights state.new.residuals }
+    ensures other_predicted { PAIR ≡ true → HasPredicted other.now cube.now y x count beside.old.weights beside.new.weights beside.new.residuals }
 {
-    let count = residuals.len();
-    let none = Quad {
-        places: [[0; 4]; 64],
-    };
-    let mut sums = [0i32; 64];
-    let mut own = [0i32; 64];
-    let mut quads = [none; Q];
-    let mut parts = [0i32; 64];
-    fill_run::<Q>(settings, cube, y, x, count, &mut sums, &mut own, &mut quads);
+    let first = first_later(y, x);
+    let mut room = Room::<Q>::empty();
+    room.fill(settings, cube, y, x, count);
     let run = KnownRun {
         settings,
-        sums: &sums,
-        own: &own,
-        quads: &quads,
+        sums: &room.sums,
+        own: &room.own,
+        quads: &room.quads,
     };
-    let mut other_parts = [0i32; 64];
-    let first = first_later(y, x);
     if PAIR {
-        let mut other_sums = [0i32; 64];
-        let mut other_own = [0i32; 64];
-        let mut other_quads = [none; Q];
-        fill_run::<Q>(
-            other,
-            cube,
-            y,
-            x,
-            count,
-            &mut other_sums,
-            &mut other_own,
-            &mut other_quads,
-        );
-        let other_run = KnownRun {
+        let mut next_room = Room::<Q>::empty();
+        next_room.fill(other, cube, y, x, count);
+        let next = KnownRun {
             settings: other,
-            sums: &other_sums,
-            own: &other_own,
-            quads: &other_quads,
+            sums: &next_room.sums,
+            own: &next_room.own,
+            quads: &next_room.quads,
         };
-        follow_run::<Q, N, WRAPS, PAIR>(
-            cube,
-            y,
-            x,
-            first,
-            count,
-            run,
-            &mut parts,
-            weights,
-            other_run,
-            &mut other_parts,
-            other_weights,
-        );
-        write_residuals::<Q>(cube, y, x, first, run, &parts, residuals);
-        write_residuals::<Q>(cube, y, x, first, other_run, &other_parts, other_residuals);
+        follow_run::<Q, N, WRAPS, PAIR>(cube, y, x, first, count, run, state, next, beside);
+        write_residuals::<Q>(cube, y, x, first, count, run, state);
+        write_residuals::<Q>(cube, y, x, first, count, next, beside);
     } else {
-        follow_run::<Q, N, WRAPS, PAIR>(
-            cube,
-            y,
-            x,
-            first,
-            count,
-            run,
-            &mut parts,
-            weights,
-            run,
-            &mut other_parts,
-            other_weights,
-        );
-        write_residuals::<Q>(cube, y, x, first, run, &parts, residuals);
+        follow_run::<Q, N, WRAPS, PAIR>(cube, y, x, first, count, run, state, run, beside);
+        write_residuals::<Q>(cube, y, x, first, count, run, state);
     }
 }
 
-/// Writes the mapped residuals of a run, all at once, when the differences from its place `first` on are predicted.
+/// Room for what the samples tell of a run.
+#[derive(Drop)]
+struct Room<const Q: usize> {
+    sums: [i32; 64],
+    own: [i32; 64],
+    quads: [Quad; Q],
+}
+
+impl<const Q: usize> Room<Q> {
+    /// Returns room in which nothing was written.
+    #[inline(always)]
+    fn empty() -> Room<Q> {
+        let none = Quad {
+            places: [[0; 4]; 64],
+        };
+        Room {
+            sums: [0; 64],
+            own: [0; 64],
+            quads: [none; Q],
+        }
+    }
+
+    /// Writes what the samples tell of a run of `count` places.
+    #[inline(always)]
+    fn fill(&mut self, settings: &Settings, cube: &Cube, y: u32, x: u32, count: usize)
+        requires place { IsPlace cube.now.shape settings.now.band y x }
+        requires columns { cube.now.shape.columns ≡ settings.now.columns }
+        requires some { 1 ≤ count }
+        requires few { count ≤ 64 }
+        requires inside { x + count ≤ cube.now.shape.columns }
+        requires enough { quads_of settings.now.count ≤ Q }
+        ensures { IsRoom settings.now.predictor cube.now settings.now.band y x count settings.now.count self.new.sums self.new.own self.new.quads }
+    {
+        let sums = &mut self.sums;
+        let own = &mut self.own;
+        let quads = &mut self.quads;
+        fill_run::<Q>(settings, cube, y, x, count, sums, own, quads);
+    }
+}
+
+/// Writes the mapped residuals of a run of `count` places, all at once, when the differences from its place `first` on
+/// are predicted.
 #[inline(always)]
 fn write_residuals<const Q: usize>(
     cube: &Cube,
     y: u32,
     x: u32,
     first: usize,
+    count: usize,
     run: KnownRun<Q>,
-    parts: &[i32; 64],
-    residuals: &mut [u16],
+    state: &mut RunState,
 )
-    requires room { IsRoom run.settings.now.predictor cube.now run.settings.now.band y x (length residuals.old) run.settings.now.count run.sums.now
+    requires room { IsRoom run.settings.now.predictor cube.now run.settings.now.band y x count run.settings.now.count run.sums.now
         run.own.now run.quads.now }
     requires place { IsPlace cube.now.shape run.settings.now.band y x }
     requires kind { cube.now.kind ≡ run.settings.now.range.kind }
-    requires some { 1 ≤ length residuals.old }
-    requires few { length residuals.old ≤ 64 }
-    requires inside { x + length residuals.old ≤ cube.now.shape.columns }
+    requires some { 1 ≤ count }
+    requires few { count ≤ 64 }
+    requires inside { x + count ≤ cube.now.shape.columns }
     requires first { IsFirstLater y x first }
-    requires parts_in { (i : ℕ) → first ≤ i → i < length residuals.old → unsigned_abs (slice_index_or parts.now i (pos 0)) ≤ 18 * 2 ^ 20 }
-    ensures bound { (i : ℕ) → i < length residuals.new → slice_index residuals.new i < 2 ^ cube.now.kind.bits }
+    requires parts_in { (i : ℕ) → first ≤ i → i < count → unsigned_abs (slice_index_or state.old.parts i (pos 0)) ≤ 18 * 2 ^ 20 }
+    ensures bound { (i : ℕ) → i < count → slice_index_or state.new.residuals i 0 < 2 ^ cube.now.kind.bits }
     ensures residuals { (p : Parameters) (begun ws : List ℤ) → AreWeightsAt p run.entry.settings.now.predictor cube.now run.entry.settings.now.band
         (y * cube.now.shape.columns + x) (take run.entry.settings.now.count begun)
-        → IsFollowed run.entry.settings.now cube.now y x first begun (length residuals.old) ws parts.now
-        → residuals.new ≡ run_residuals p cube.now run.entry.settings.now.band (y * cube.now.shape.columns + x) (length residuals.old) }
+        → IsFollowed run.entry.settings.now cube.now y x first begun count ws state.old.parts
+        → take count state.new.residuals ≡ run_residuals p cube.now run.entry.settings.now.band (y * cube.now.shape.columns + x) count }
+    ensures weights { state.new.weights ≡ state.old.weights }
 {
-    map_run(run.settings, cube, y, x, parts, run.sums, residuals);
+    let mut residuals = [0; 64];
+    let room = &mut residuals[..count];
+    map_run(run.settings, cube, y, x, &state.parts, run.sums, room);
+    state.residuals = residuals;
     if first == 1 {
-        residuals[0] = first_residual(run.settings, cube, y, x);
+        state.residuals[0] = first_residual(run.settings, cube, y, x);
     }
 }
 

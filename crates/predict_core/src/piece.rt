@@ -4,6 +4,7 @@ ghost use Rattle.std.specs.Prelude.{◌≡◌, ◌<◌, ◌≤◌, take, length,
 ghost use Rattle.predict_core.specs.Following.{IsPieceNext, HoldsPiece};
 
 use crate::band::Band;
+use crate::chain::RunState;
 use crate::known_run::predict_run;
 use crate::run::LEAST;
 use cube_core::cube::Cube;
@@ -41,23 +42,16 @@ impl Band {
             other.predict_piece(cube, y, x, count);
             return;
         }
-        let mut piece = [0; 64];
-        let mut other_piece = [0; 64];
         self.next += count as u64;
         other.next += count as u64;
-        predict_run::<true>(
-            cube,
-            y,
-            x,
-            &self.settings,
-            &mut self.weights,
-            &mut piece[..count],
-            &other.settings,
-            &mut other.weights,
-            &mut other_piece[..count],
-        );
-        self.piece = piece;
-        other.piece = other_piece;
+        let (settings, others) = (&self.settings, &other.settings);
+        let mut state = RunState::new(self.weights);
+        let mut beside = RunState::new(other.weights);
+        predict_run::<true>(cube, y, x, count, settings, &mut state, others, &mut beside);
+        self.weights = state.weights;
+        self.piece = state.residuals;
+        other.weights = beside.weights;
+        other.piece = beside.residuals;
     }
 
     /// Returns the mapped residual of place `i`, counted from 0, of the last piece.

@@ -4,7 +4,7 @@ ghost use Rattle.std.specs.Prelude.{◌≡◌, ◌+◌, ◌^◌, ◌<◌, ◌≤
 ghost use Rattle.predict_core.specs.Bounds.{AllWithin};
 ghost use Rattle.predict_core.specs.RunChains.{CanFollow, IsFollowed};
 
-use crate::chain::{KnownRun, Steps, follow_places};
+use crate::chain::{KnownRun, RunState, Steps, follow_places};
 use crate::exponent::{exponent_at, places_alike};
 use cube_core::cube::Cube;
 
@@ -21,23 +21,21 @@ pub(crate) fn follow_run<const Q: usize, const N: usize, const WRAPS: bool, cons
     first: usize,
     last: usize,
     run: KnownRun<Q>,
-    parts: &mut [i32; 64],
-    weights: &mut [i32; 18],
+    state: &mut RunState,
     other: KnownRun<Q>,
-    other_parts: &mut [i32; 64],
-    other_weights: &mut [i32; 18],
+    beside: &mut RunState,
 )
     requires run { CanFollow Q N WRAPS run.settings.now cube.now y x last run.sums.now run.own.now run.quads.now }
     requires other { CanFollow Q N WRAPS other.settings.now cube.now y x last other.sums.now other.own.now other.quads.now }
     requires order { first ≤ last }
     requires later { 0 < y + (x + first) }
     requires same { other.settings.now.predictor ≡ run.settings.now.predictor }
-    requires weights_in { AllWithin (2 ^ (run.settings.now.predictor.fraction + 2)) weights.old }
-    requires other_weights_in { AllWithin (2 ^ (run.settings.now.predictor.fraction + 2)) other_weights.old }
-    ensures followed { IsFollowed run.entry.settings.now cube.now y x first weights.old last weights.new parts.new }
-    ensures other_followed { PAIR ≡ true → IsFollowed other.entry.settings.now cube.now y x first other_weights.old last other_weights.new other_parts.new }
-    ensures bound { AllWithin (2 ^ (run.entry.settings.now.predictor.fraction + 2)) weights.new }
-    ensures other_bound { AllWithin (2 ^ (run.entry.settings.now.predictor.fraction + 2)) other_weights.new }
+    requires weights_in { AllWithin (2 ^ (run.settings.now.predictor.fraction + 2)) state.old.weights }
+    requires other_weights_in { AllWithin (2 ^ (run.settings.now.predictor.fraction + 2)) beside.old.weights }
+    ensures followed { IsFollowed run.entry.settings.now cube.now y x first state.old.weights last state.new.weights state.new.parts }
+    ensures other_followed { PAIR ≡ true → IsFollowed other.entry.settings.now cube.now y x first beside.old.weights last beside.new.weights beside.new.parts }
+    ensures bound { AllWithin (2 ^ (run.entry.settings.now.predictor.fraction + 2)) state.new.weights }
+    ensures other_bound { AllWithin (2 ^ (run.entry.settings.now.predictor.fraction + 2)) beside.new.weights }
 {
     cube.prove_is_cube();
     let predictor = &run.settings.predictor;
@@ -53,20 +51,7 @@ pub(crate) fn follow_run<const Q: usize, const N: usize, const WRAPS: bool, cons
             bits,
             exponent: exponent_at(predictor, columns, bits, t),
         };
-        follow_places::<Q, N, WRAPS, PAIR>(
-            cube,
-            y,
-            x,
-            at,
-            next,
-            steps,
-            run,
-            parts,
-            weights,
-            other,
-            other_parts,
-            other_weights,
-        );
+        follow_places::<Q, N, WRAPS, PAIR>(cube, y, x, at, next, steps, run, state, other, beside);
         at = next;
     }
 }

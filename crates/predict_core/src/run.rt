@@ -7,6 +7,7 @@ ghost use Rattle.predict_core.specs.Residual.{run_residuals};
 ghost use Rattle.predict_core.specs.Following.{Follows, MovesBy};
 
 use crate::band::Band;
+use crate::chain::RunState;
 use crate::known_run::predict_run;
 use cube_core::cube::Cube;
 
@@ -41,20 +42,12 @@ impl Band {
         }
         self.next += count as u64;
         let settings = &self.settings;
-        let weights = &mut self.weights;
+        let mut state = RunState::new(self.weights);
         // No other band goes beside it.
-        let mut spare = *weights;
-        predict_run::<false>(
-            cube,
-            y,
-            x,
-            settings,
-            weights,
-            residuals,
-            settings,
-            &mut spare,
-            &mut [],
-        );
+        let mut none = RunState::new(self.weights);
+        predict_run::<false>(cube, y, x, count, settings, &mut state, settings, &mut none);
+        self.weights = state.weights;
+        residuals.copy_from_slice(&state.residuals[..count]);
     }
 
     /// Does the same, one place after another.

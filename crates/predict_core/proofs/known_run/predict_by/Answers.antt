@@ -1,19 +1,21 @@
-use Rattle.std.proofs.Common.{◌≡◌, ◌+◌, ◌*◌, arith, ap, ◌∙◌}
+use Rattle.std.proofs.Common.{◌≡◌}
 use Rattle.predict_core.proofs.RunChains.{predicted}
 use Rattle.predict_core.proofs.known_run.predict_by.Goals as goal
 
 pub returns-then-this-ne0-clause-predicted : goal.returns-then-this-ne0-clause-predicted
 returns-then-this-ne0-clause-predicted g c =
-    predicted _ _ _ _ _ _ _ _ _ _ c.first_later-first.ensures c.follow_run.ensures.followed c.follow_run.ensures.bound c.write_residuals.ensures.bound
-    c.write_residuals.ensures.residuals
+    let told = c.write_residuals.ensures in
+    predicted _ _ _ _ _ _ _ _ _ _ _ c.first_later-first.ensures c.follow_run.ensures.followed c.follow_run.ensures.bound told.bound told.residuals
+    told.weights
 
 pub returns-then-this-ne0-clause-other_predicted : goal.returns-then-this-ne0-clause-other_predicted
 returns-then-this-ne0-clause-other_predicted g c h =
-    predicted _ _ _ _ _ _ _ _ _ _ c.first_later-first.ensures (c.follow_run.ensures.other_followed h)
-    (rw c.requires.alike.0 c.follow_run.ensures.other_bound) c.write_residuals-then-this-ne0.ensures.bound
-    (rw (c.requires.long h) at c.write_residuals-then-this-ne0.ensures.residuals)
+    let told = c.write_residuals-then-this-ne0.ensures in
+    predicted _ _ _ _ _ _ _ _ _ _ _ c.first_later-first.ensures (c.follow_run.ensures.other_followed h)
+    (rw c.requires.alike.0 c.follow_run.ensures.other_bound) told.bound told.residuals told.weights
 
 pub returns-else-this-ne0-clause-predicted : goal.returns-else-this-ne0-clause-predicted
 returns-else-this-ne0-clause-predicted g c =
-    predicted _ _ _ _ _ _ _ _ _ _ c.first_later-first.ensures c.follow_run-else-this-ne0.ensures.followed c.follow_run-else-this-ne0.ensures.bound
-    c.write_residuals-else-this-ne0.ensures.bound c.write_residuals-else-this-ne0.ensures.residuals
+    let told = c.write_residuals-else-this-ne0.ensures in
+    let followed = c.follow_run-else-this-ne0.ensures in
+    predicted _ _ _ _ _ _ _ _ _ _ _ c.first_later-first.ensures followed.followed followed.bound told.bound told.residuals told.weights
