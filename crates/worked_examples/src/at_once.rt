@@ -90,8 +90,9 @@ fn two_bands_hold_what_each_holds_alone(rt: HostRuntime) {
             for (reduced, column) in [(false, true), (true, true), (false, false), (true, false)] {
                 for register in [36, 64] {
                     let bands = previous + 2;
-                    let params =
-                        params_of(&rt, columns, bands, previous, reduced, column, register);
+                    let params = params_of(
+                        &rt, columns, bands, previous, reduced, column, register,
+                    );
                     for z in [0, previous] {
                         are_the_same(&rt, rt.alloc(), &params, z, 20_261_126);
                     }
