@@ -102,22 +102,29 @@ fn predict_by<const Q: usize, const N: usize, const WRAPS: bool, const PAIR: boo
     ensures other_predicted { PAIR ≡ true → HasPredicted other.now cube.now y x count beside.old.weights beside.new.weights beside.new.residuals }
 {
     let first = first_later(y, x);
-    let mut room = Room::<Q>::empty();
-    room.fill(settings, cube, y, x, count);
+    let none = Quad {
+        places: [[0; 4]; 64],
+    };
+    let mut sums = [0; 64];
+    let mut own = [0; 64];
+    let mut quads = [none; Q];
+    fill_run::<Q>(settings, cube, y, x, count, &mut sums, &mut own, &mut quads);
     let run = KnownRun {
         settings,
-        sums: &room.sums,
-        own: &room.own,
-        quads: &room.quads,
+        sums: &sums,
+        own: &own,
+        quads: &quads,
     };
     if PAIR {
-        let mut next_room = Room::<Q>::empty();
-        next_room.fill(other, cube, y, x, count);
+        let mut sums = [0; 64];
+        let mut own = [0; 64];
+        let mut quads = [none; Q];
+        fill_run::<Q>(other, cube, y, x, count, &mut sums, &mut own, &mut quads);
         let next = KnownRun {
             settings: other,
-            sums: &next_room.sums,
-            own: &next_room.own,
-            quads: &next_room.quads,
+            sums: &sums,
+            own: &own,
+            quads: &quads,
         };
         follow_run::<Q, N, WRAPS, PAIR>(cube, y, x, first, count, run, state, next, beside);
         write_residuals::<Q>(cube, y, x, first, count, run, state);
@@ -125,46 +132,6 @@ fn predict_by<const Q: usize, const N: usize, const WRAPS: bool, const PAIR: boo
     } else {
         follow_run::<Q, N, WRAPS, PAIR>(cube, y, x, first, count, run, state, run, beside);
         write_residuals::<Q>(cube, y, x, first, count, run, state);
-    }
-}
-
-/// Room for what the samples tell of a run.
-#[derive(Drop)]
-struct Room<const Q: usize> {
-    sums: [i32; 64],
-    own: [i32; 64],
-    quads: [Quad; Q],
-}
-
-impl<const Q: usize> Room<Q> {
-    /// Returns room in which nothing was written.
-    #[inline(always)]
-    fn empty() -> Room<Q> {
-        let none = Quad {
-            places: [[0; 4]; 64],
-        };
-        Room {
-            sums: [0; 64],
-            own: [0; 64],
-            quads: [none; Q],
-        }
-    }
-
-    /// Writes what the samples tell of a run of `count` places.
-    #[inline(always)]
-    fn fill(&mut self, settings: &Settings, cube: &Cube, y: u32, x: u32, count: usize)
-        requires place { IsPlace cube.now.shape settings.now.band y x }
-        requires columns { cube.now.shape.columns ≡ settings.now.columns }
-        requires some { 1 ≤ count }
-        requires few { count ≤ 64 }
-        requires inside { x + count ≤ cube.now.shape.columns }
-        requires enough { quads_of settings.now.count ≤ Q }
-        ensures { IsRoom settings.now.predictor cube.now settings.now.band y x count settings.now.count self.new.sums self.new.own self.new.quads }
-    {
-        let sums = &mut self.sums;
-        let own = &mut self.own;
-        let quads = &mut self.quads;
-        fill_run::<Q>(settings, cube, y, x, count, sums, own, quads);
     }
 }
 
