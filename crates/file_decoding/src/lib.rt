@@ -5,3 +5,4 @@ pub mod decode;
 pub mod decoder;
 pub mod least;
 mod tile;
+pub mod worked;

@@ -2,11 +2,12 @@
 #![tactic(auto, unfolding(crate::specs::Everything::everything))]
 
 ghost use Rattle.std.specs.Prelude.{◌≡◌, ◌∷◌, [], replicate, pos, negsuc, true, false};
-ghost use Rattle.header_bits.specs.Rows.{common};
+ghost use Rattle.cube_core.specs.declared.order.Order.TheVariants.{Bi, Bsq};
+ghost use Rattle.header_bits.specs.Rows.{block, common, cube_a, deep, with_constants, with_sample_coder, with_weights};
 ghost use Rattle.file_coding.specs.File.{file_of, file_of_residuals};
-ghost use Rattle.worked_files.specs.Rows.{bytes, file, cube, one_below, coarse_steps, growing_steps, signed_sixteen, short_limit, four_byte_words};
-ghost use Rattle.worked_files.specs.Rows.{register_of, two_below, table_of, coarse_table, with_constants, block, few_bits, of_cube_a, samples_a};
-ghost use Rattle.worked_files.specs.Rows.{interleaved_a, blocks_a, middles};
+ghost use Rattle.file_decoding.specs.Rows.{bytes, cube, file};
+ghost use Rattle.worked_files.specs.Rows.{one_below, coarse_steps, growing_steps, signed_sixteen, four_byte_words, two_below, coarse_table};
+ghost use Rattle.worked_files.specs.Rows.{blocks_a, few_bits, middles, samples_a};
 
 /// One sample is written in its bits.
 pub fn one_sample()
@@ -45,32 +46,32 @@ pub fn signed_sixteen_bits()
 
 /// A number whose quotient reaches the unary length limit is written by an escape.
 pub fn escape()
-    ensures { file short_limit (200 ∷ 210 ∷ []) ≡ bytes 22 0x00000100020001110000080002A09259004220900013 }
+    ensures { file (with_sample_coder 8 6 1 0) (200 ∷ 210 ∷ []) ≡ bytes 22 0x00000100020001110000080002A09259004220900013 }
 {}
 
 /// Cube A, band after band.
 pub fn cube_a_bsq()
-    ensures { file of_cube_a samples_a ≡ bytes 26 0x0000030002000211000008000420925900822637BD84C2935AE0 }
+    ensures { file (cube_a Bsq) samples_a ≡ bytes 26 0x0000030002000211000008000420925900822637BD84C2935AE0 }
 {}
 
 /// Cube A, interleaved by line.
 pub fn cube_a_bil()
-    ensures { file (interleaved_a 1) samples_a ≡ bytes 26 0x0000030002000210000108000420925900822637BD149A84DAE0 }
+    ensures { file (cube_a (Bi 1)) samples_a ≡ bytes 26 0x0000030002000210000108000420925900822637BD149A84DAE0 }
 {}
 
 /// Cube A, interleaved by pixel.
 pub fn cube_a_bip()
-    ensures { file (interleaved_a 2) samples_a ≡ bytes 26 0x000003000200021000020800042092590082263714B9DA8C9760 }
+    ensures { file (cube_a (Bi 2)) samples_a ≡ bytes 26 0x000003000200021000020800042092590082263714B9DA8C9760 }
 {}
 
 /// A register of 32 bits wraps.
 pub fn register_wraps()
-    ensures { file (register_of 32) (4 ∷ 0 ∷ 0 ∷ 0 ∷ []) ≡ bytes 26 0x00000100020002170000080006A0F259008226FEE800E0001FFC }
+    ensures { file (deep 32) (4 ∷ 0 ∷ 0 ∷ 0 ∷ []) ≡ bytes 26 0x00000100020002170000080006A0F259008226FEE800E0001FFC }
 {}
 
 /// One of 64 bits doesn't.
 pub fn register_is_wide()
-    ensures { file (register_of 64) (4 ∷ 0 ∷ 0 ∷ 0 ∷ []) ≡ bytes 23 0x0000010002000217000008000680F259008226FEE800F0 }
+    ensures { file (deep 64) (4 ∷ 0 ∷ 0 ∷ 0 ∷ []) ≡ bytes 23 0x0000010002000217000008000680F259008226FEE800F0 }
 {}
 
 /// Zeros fill an output word of four bytes.
@@ -80,32 +81,32 @@ pub fn four_byte_output_words()
 
 /// A block of one sample and seven filled values.
 pub fn filled_block()
-    ensures { file (block 1 1 1 1) (200 ∷ []) ≡ bytes 26 0x000001000100011100000C0002A09259000001A00FF000000000 }
+    ensures { file (block 1 1 1 false 1) (200 ∷ []) ≡ bytes 26 0x000001000100011100000C0002A09259000001A00FF000000000 }
 {}
 
 /// A zero block.
 pub fn one_zero_block()
-    ensures { file (block 1 1 1 1) (128 ∷ []) ≡ bytes 20 0x000001000100011100000C0002A0925900000108 }
+    ensures { file (block 1 1 1 false 1) (128 ∷ []) ≡ bytes 20 0x000001000100011100000C0002A0925900000108 }
 {}
 
 /// Six zero blocks, one more than the rest code needs, to the end of the image.
 pub fn zero_run_to_segment_end()
-    ensures { file (block 1 48 1 8) (middles 48) ≡ bytes 21 0x000001003000011100000C0002A092590000080080 }
+    ensures { file (block 1 48 1 false 8) (middles 48) ≡ bytes 21 0x000001003000011100000C0002A092590000080080 }
 {}
 
 /// Four zero blocks.
 pub fn zero_run_of_four()
-    ensures { file (block 1 32 1 8) (middles 32) ≡ bytes 20 0x000001002000011100000C0002A0925900000801 }
+    ensures { file (block 1 32 1 false 8) (middles 32) ≡ bytes 20 0x000001002000011100000C0002A0925900000801 }
 {}
 
 /// A run ends where the reference interval does.
 pub fn zero_run_to_reference_end()
-    ensures { file (block 1 48 1 4) (middles 48) ≡ bytes 21 0x000001003000011100000C0002A092590000040104 }
+    ensures { file (block 1 48 1 false 4) (middles 48) ≡ bytes 21 0x000001003000011100000C0002A092590000040104 }
 {}
 
 /// A run ends at 64 blocks.
 pub fn zero_run_of_a_whole_segment()
-    ensures { file (block 1 1040 1 4096) (middles 1040) ≡ bytes 22 0x000001041000011100000C0002A09259000000008041 }
+    ensures { file (block 1 1040 1 false 4096) (middles 1040) ≡ bytes 22 0x000001041000011100000C0002A09259000000008041 }
 {}
 
 /// Cube A with the block-adaptive coder.
@@ -125,7 +126,12 @@ pub fn four_bits_restricted()
 
 /// A custom weight start.
 pub fn weights_from_a_table()
-    ensures { file (table_of 3 (negsuc 0)) (100 ∷ 110 ∷ 50 ∷ 60 ∷ []) ≡ bytes 24 0x00000100020002110000080006A0925963E08226372D8C70 }
+    ensures { file (with_weights 1 2 2 1 3 (negsuc 0 ∷ [])) (100 ∷ 110 ∷ 50 ∷ 60 ∷ []) ≡ bytes 24 0x00000100020002110000080006A0925963E08226372D8C70 }
+{}
+
+/// Without previous bands a table has no entries, and no bytes.
+pub fn table_of_no_weights()
+    ensures { file (with_weights 1 1 1 0 3 []) (200 ∷ []) ≡ bytes 20 0x00000100010001110000080002A0925963822690 }
 {}
 
 /// An accumulator constant from a table.
@@ -140,7 +146,7 @@ pub fn constants_of_two_bands()
 
 /// Segments of 64 blocks are counted from the reference interval's border.
 pub fn segments_from_each_reference_border()
-    ensures { file (block 1 1040 1 65) (middles 1040) ≡ bytes 23 0x000001041000011100000C0002A0925900004100840210 }
+    ensures { file (block 1 1040 1 false 65) (middles 1040) ≡ bytes 23 0x000001041000011100000C0002A0925900004100840210 }
 {}
 
 /// Of two equally short options, uncoded comes before the second extension.
@@ -186,5 +192,5 @@ pub fn exponent_grows_from_the_second_row()
 
 /// Twelve residuals of zero.
 pub fn twelve_zeros()
-    ensures { file_of_residuals (replicate 12 0) (interleaved_a 2) ≡ bytes 26 0x0000030002000210000208000420925900822600008888924900 }
+    ensures { file_of_residuals (replicate 12 0) (cube_a (Bi 2)) ≡ bytes 26 0x0000030002000210000208000420925900822600008888924900 }
 {}

@@ -2,18 +2,21 @@
 #![tactic(auto, unfolding(crate::specs::Everything::everything))]
 
 ghost use Rattle.std.specs.Prelude.{◌≡◌, ◌∷◌, [], map, pos};
+ghost use Rattle.cube_core.specs.declared.order.Order.TheVariants.{Bi};
+ghost use Rattle.header_bits.specs.Rows.{cube_a};
 ghost use Rattle.cube_predictors.specs.Weave.{parts, weave};
-ghost use Rattle.worked_files.specs.Rows.{cube, interleaved_a, samples_a};
+ghost use Rattle.file_decoding.specs.Rows.{cube};
+ghost use Rattle.worked_files.specs.Rows.{samples_a};
 
 /// A predictor for each band.
 pub fn a_band_each()
-    ensures { parts 2 (0 ∷ 1 ∷ []) (interleaved_a 2) (cube (interleaved_a 2) (map pos samples_a)) ≡ (55 ∷ 3 ∷ 5 ∷ 0 ∷ 4 ∷ 2 ∷ [])
+    ensures { parts 2 (0 ∷ 1 ∷ []) (cube_a (Bi 2)) (cube (cube_a (Bi 2)) (map pos samples_a)) ≡ (55 ∷ 3 ∷ 5 ∷ 0 ∷ 4 ∷ 2 ∷ [])
         ∷ (20 ∷ 1 ∷ 2 ∷ 2 ∷ 1 ∷ 2 ∷ []) ∷ [] }
 {}
 
 /// One predictor owns both bands, and one owns none.
 pub fn all_bands_to_one()
-    ensures { parts 2 (0 ∷ 0 ∷ []) (interleaved_a 2) (cube (interleaved_a 2) (map pos samples_a)) ≡ (55 ∷ 20 ∷ 3 ∷ 1 ∷ 5 ∷ 2 ∷ 0 ∷ 2 ∷ 4 ∷ 1 ∷ 2 ∷ 2 ∷ [])
+    ensures { parts 2 (0 ∷ 0 ∷ []) (cube_a (Bi 2)) (cube (cube_a (Bi 2)) (map pos samples_a)) ≡ (55 ∷ 20 ∷ 3 ∷ 1 ∷ 5 ∷ 2 ∷ 0 ∷ 2 ∷ 4 ∷ 1 ∷ 2 ∷ 2 ∷ [])
         ∷ [] ∷ [] }
 {}
 

@@ -1,11 +1,10 @@
 //! Worked files by the restricted set of code options.
 #![tactic(auto, unfolding(crate::specs::Everything::everything))]
 
-ghost use Rattle.std.specs.Prelude.{◌≡◌, ◌∷◌, [], Err, replicate, true};
-ghost use Rattle.cube_core.specs.declared.fault.Fault.TheVariants.{Disagree};
-ghost use Rattle.cube_core.specs.declared.fault.Rule.TheVariants as rule;
+ghost use Rattle.std.specs.Prelude.{◌≡◌, ◌∷◌, [], replicate, true};
 ghost use Rattle.file_coding.specs.File.{file_of_residuals};
-ghost use Rattle.worked_files.specs.Rows.{bytes, few_bits, file, test};
+ghost use Rattle.file_decoding.specs.Rows.{bytes, file};
+ghost use Rattle.worked_files.specs.Rows.{few_bits};
 
 /// Two bits: the residual 0 makes a zero block.
 pub fn zero_block_of_two_bits()
@@ -21,9 +20,4 @@ pub fn second_extension_of_two_bits()
 /// Two bits: a block of the greatest residual is uncoded, after one bit.
 pub fn uncoded_block_of_two_bits()
     ensures { file_of_residuals (replicate 8 3) (few_bits 8 2 true) ≡ bytes 22 0x000001000800010500000C0002A09259001001FFFF80 }
-{}
-
-/// Five bits are too many for the restricted set.
-pub fn five_bits_restricted()
-    ensures { test 20 0x000001000100010B00000C0002A0925900100100 ≡ Err (Disagree rule.RestrictedOverFour) }
 {}

@@ -1,22 +1,22 @@
-//! Worked files whose headers hold tables: which are written, and the first fault of others.
+//! Files whose headers hold tables: the first fault of each.
 #![tactic(auto, unfolding(crate::specs::Everything::everything))]
 
 ghost use Rattle.std.specs.Prelude.{◌≡◌, ◌++◌, ◌∷◌, [], Err, negsuc, replicate};
 ghost use Rattle.cube_core.specs.declared.fault.Fault.TheVariants.{ShortHeader, Reserved, Disagree, TableElsewhere, Truncated};
 ghost use Rattle.cube_core.specs.declared.fault.Rule.TheVariants as rule;
 ghost use Rattle.header_bits.specs.Parts.{fine};
-ghost use Rattle.worked_files.specs.Rows.{bytes, file, no_weights, table_of, test, tests_of_cuts, with_constants};
+ghost use Rattle.header_bits.specs.Rows.{with_constants, with_weights};
+ghost use Rattle.file_decoding.specs.Rows.{file, test, tests_of_cuts};
 
 /// Without previous bands a table has no entries, and no bytes.
 pub fn table_of_no_weights()
-    ensures written { file no_weights (200 ∷ []) ≡ bytes 20 0x00000100010001110000080002A0925963822690 }
-    ensures read { test 20 0x00000100010001110000080002A0925963822690 ≡ fine }
+    ensures { test 20 0x00000100010001110000080002A0925963822690 ≡ fine }
 {}
 
 /// The file of one weight, cut off after each of its bytes but the last.
 pub fn weights_cut_off_behind_each_byte()
-    ensures header { tests_of_cuts (file (table_of 3 (negsuc 0)) (100 ∷ 110 ∷ 50 ∷ 60 ∷ [])) 0 20 ≡ replicate 20 (Err ShortHeader) }
-    ensures body { tests_of_cuts (file (table_of 3 (negsuc 0)) (100 ∷ 110 ∷ 50 ∷ 60 ∷ [])) 20 4 ≡ Err (Truncated 160) ∷ Err (Truncated 168)
+    ensures header { tests_of_cuts (file (with_weights 1 2 2 1 3 (negsuc 0 ∷ [])) (100 ∷ 110 ∷ 50 ∷ 60 ∷ [])) 0 20 ≡ replicate 20 (Err ShortHeader) }
+    ensures body { tests_of_cuts (file (with_weights 1 2 2 1 3 (negsuc 0 ∷ [])) (100 ∷ 110 ∷ 50 ∷ 60 ∷ [])) 20 4 ≡ Err (Truncated 160) ∷ Err (Truncated 168)
         ∷ Err (Truncated 176) ∷ Err (Truncated 184) ∷ [] }
 {}
 

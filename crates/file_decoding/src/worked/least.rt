@@ -1,13 +1,13 @@
 //! Files that are too short for their number of samples.
 #![tactic(auto, unfolding(crate::specs::Everything::everything))]
 
-ghost use Rattle.std.specs.Prelude.{◌≡◌, ◌++◌, ◌∷◌, [], Err, replicate};
+ghost use Rattle.std.specs.Prelude.{◌≡◌, ◌++◌, ◌∷◌, [], Err, false, replicate};
 ghost use Rattle.cube_core.specs.declared.fault.Fault.TheVariants.{ShortHeader, Truncated};
 ghost use Rattle.header_bits.specs.Bits.{bits_of};
 ghost use Rattle.header_bits.specs.Parts.{fine};
-ghost use Rattle.header_bits.specs.Rows.{sizes};
+ghost use Rattle.header_bits.specs.Rows.{block, sizes, with_sample_coder};
 ghost use Rattle.file_decoding.specs.Least.{least_test};
-ghost use Rattle.worked_files.specs.Rows.{block, bytes, short_limit, test, tests_of_cuts};
+ghost use Rattle.file_decoding.specs.Rows.{bytes, test, tests_of_cuts};
 
 /// 32 bits for 33 samples, though they contain a bad code word.
 pub fn fewer_bits_than_samples()
@@ -16,7 +16,7 @@ pub fn fewer_bits_than_samples()
 
 /// As many bits as samples are not too few.
 pub fn as_many_bits_as_samples()
-    ensures { least_test 184 (record short_limit { shape = sizes 1 32 1 }) (bits_of 32 0x90000300) ≡ fine }
+    ensures { least_test 184 (record (with_sample_coder 8 6 1 0) { shape = sizes 1 32 1 }) (bits_of 32 0x90000300) ≡ fine }
 {}
 
 /// The greatest sizes, and nothing after the header.
@@ -27,8 +27,8 @@ pub fn nothing_behind_the_header()
 
 /// Three bits for each segment, and one bit fewer: 130 blocks in one reference interval are three segments.
 pub fn three_bits_for_each_segment()
-    ensures enough { least_test 161 (block 1 1040 1 4096) (bits_of 9 0) ≡ fine }
-    ensures too_few { least_test 160 (block 1 1040 1 4096) (bits_of 8 0) ≡ Err (Truncated 160) }
+    ensures enough { least_test 161 (block 1 1040 1 false 4096) (bits_of 9 0) ≡ fine }
+    ensures too_few { least_test 160 (block 1 1040 1 false 4096) (bits_of 8 0) ≡ Err (Truncated 160) }
 {}
 
 /// Two equal samples' file, cut off after each of its bytes but the last.

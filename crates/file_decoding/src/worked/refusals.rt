@@ -2,9 +2,10 @@
 #![tactic(auto, unfolding(crate::specs::Everything::everything))]
 
 ghost use Rattle.std.specs.Prelude.{◌≡◌, Err};
-ghost use Rattle.cube_core.specs.declared.fault.Fault.TheVariants.{ShortHeader, Reserved, Truncated, BadCode, BadOption, RunPastSegment, BadFill, TooLong};
+ghost use Rattle.cube_core.specs.declared.fault.Fault.TheVariants.{ShortHeader, Reserved, Disagree, Truncated, BadCode, BadOption, RunPastSegment, BadFill, TooLong};
+ghost use Rattle.cube_core.specs.declared.fault.Rule.TheVariants as rule;
 ghost use Rattle.header_bits.specs.Parts.{fine};
-ghost use Rattle.worked_files.specs.Rows.{test};
+ghost use Rattle.file_decoding.specs.Rows.{test};
 
 /// The last bit of two equal samples' file is one.
 pub fn a_bit_behind_the_body_is_one()
@@ -114,4 +115,9 @@ pub fn end_inside_the_header()
 /// A reserved bit is one, and the body is missing.
 pub fn header_before_body()
     ensures { test 19 0x00000100020001110000080102A09259008226 ≡ Err (Reserved 95) }
+{}
+
+/// Five bits are too many for the restricted set.
+pub fn five_bits_restricted()
+    ensures { test 20 0x000001000100010B00000C0002A0925900100100 ≡ Err (Disagree rule.RestrictedOverFour) }
 {}
