@@ -1,9 +1,9 @@
 //! A reader of blocks, which returns their values one after another.
 
-ghost use Rattle.std.specs.Prelude.{◌≡◌, ℕ, ◌+◌, ◌%◌, ◌<◌, ◌≤◌, Bool, List, [], ◌∷◌, ◌++◌, Ok, Err, Some, None, IfOk, IfErr, OnErr, MatchResult, length, take};
+ghost use Rattle.std.specs.Prelude.{◌≡◌, ℕ, ◌+◌, ◌*◌, ◌%◌, ◌<◌, ◌≤◌, Bool, List, [], ◌∷◌, ◌++◌, Ok, Err, Some, None, IfOk, IfErr, OnErr, MatchResult, length, replicate, take};
 ghost use Rattle.cube_core.specs.declared.fault.Fault.{Fault};
 ghost use Rattle.header_bits.specs.Reading.{Reads};
-ghost use Rattle.block_adaptive.specs.DataSets.{Cut, left_at, capacity};
+ghost use Rattle.block_adaptive.specs.DataSets.{Cut, left_at, capacity, values_of};
 ghost use Rattle.cube_core.specs.Shape.{sample_count};
 ghost use Rattle.block_adaptive.specs.Settings.{AreForBlocks, IsCutOf, cut_by};
 ghost use Rattle.block_adaptive.specs.Given.{Unpacked, given_count, GivesFirst, GivesFront, GivesNext, GivesAll, GivesRun, HasGiven, next_data_set, in_hand};
@@ -211,17 +211,12 @@ impl BlockReader {
             }
             Ok(Found::Run(blocks)) => {
                 *reader = ahead;
-                self.at = self.size;
-                self.zeros = blocks * self.size;
-                self.block += u64::from(blocks);
+                self.hold_zeros(blocks);
                 Ok(())
             }
             Ok(Found::RestOfSegment) => {
-                let left = blocks_left(&place);
                 *reader = ahead;
-                self.at = self.size;
-                self.zeros = left * self.size;
-                self.block += u64::from(left);
+                self.hold_zeros(blocks_left(&place));
                 Ok(())
             }
             Err(fault) => {
@@ -231,6 +226,19 @@ impl BlockReader {
                 Err(fault)
             }
         }
+    }
+
+    /// Keeps so many blocks of zeros, as far as the segment goes.
+    #[tactic(auto, using(crate::proofs::Handed::rest_most, crate::proofs::Handed::rest_small, crate::proofs::Handed::run_parts, header_bits::proofs::Places::run_in_hand))]
+    fn hold_zeros(&mut self, blocks: u32)
+        requires { (0 < blocks) × (blocks ≤ left_at self.old.cut self.old.block) }
+        ensures zeros { self.new ≡ record self.old { block = self.old.block + blocks; held = values_of (replicate blocks (replicate self.old.cut.size 0)) } }
+        ensures some { 0 < length self.new.held }
+        ensures counted { given_count self.new ≡ self.old.block * self.old.cut.size }
+    {
+        self.at = self.size;
+        self.zeros = blocks * self.size;
+        self.block += u64::from(blocks);
     }
 
     /// Returns the first value held.
