@@ -3,6 +3,7 @@ pub mod Triangles
 pub mod Again
 pub mod Bodies
 pub mod Calls
+pub mod Exact
 pub mod Counts
 pub mod Costs
 pub mod Sums

@@ -60,7 +60,7 @@ module _ (plan : Dealing) (c : Image) (lawful : IsPlan plan) (cube : IsCubeOf pl
         ∙ part_share q (owners plan.deal plan.params) (residuals plan.params c) whole;
     range = λ q f lt.
         let all =
-        part_inside (2 ^ plan.params.kind.bits) q (owners plan.deal plan.params) (residuals plan.params c) (inside plan.params c lawful.lawful cube) in
+        part_inside (2 ^ plan.params.kind.bits) q (owners plan.deal plan.params) (residuals plan.params c) (inside plan.params lawful.lawful c cube) in
         rw (feed_at c plan q f lt) (All-from_recursion (λ n. n < 2 ^ plan.params.kind.bits) (of q) all);
   }
 

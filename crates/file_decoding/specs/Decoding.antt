@@ -1,12 +1,12 @@
 -- The coder in the direction of reading: which residuals it has given, in encoding order.
-use Rattle.std.specs.Prelude.{ℕ, ◌≡◌, ◌⊎◌, ◌+◌, ◌^◌, ◌<◌, ◌≤◌, Bool, List, [], ◌∷◌, ◌++◌, length, Option, option_map, Result, Ok, Err, MatchResult}
+use Rattle.std.specs.Prelude.{ℕ, ◌≡◌, ◌⊎◌, ◌+◌, ◌^◌, ◌<◌, ◌≤◌, Bool, List, [], ◌∷◌, ◌++◌, length, Option, option_map, Result, Ok, Err, IfOk, IfErr, MatchResult}
 use Rattle.std.specs.List.{AllByRecursion}
 use Rattle.cube_core.specs.declared.fault.Fault.{Fault}
 use Rattle.cube_core.specs.declared.fault.Fault.TheVariants.{WantOfMemory, BadCode}
 use Rattle.cube_core.specs.Image.{Image}
 use Rattle.cube_core.specs.Shape.{sample_count}
 use Rattle.header_bits.specs.declared.params.Params.{Params}
-use Rattle.header_bits.specs.Bits.{Unread}
+use Rattle.header_bits.specs.Bits.{Unread, bits_of_bytes}
 use Rattle.header_bits.specs.Header.{BeginsWithTable}
 use Rattle.header_bits.specs.Lawful.{IsLawful}
 use Rattle.predict_core.specs.Residual.{residuals}
@@ -129,3 +129,9 @@ IsNoFile bytes = (p : Params) (c : Image) → IsFile bytes p c → ⊥
 abbrev pub IsRefusal : List Bool → Fault → Type 0
 IsRefusal bits e =
     (file_test bits ≡ Err e) ⊎ ((e ≡ WantOfMemory) × (BeginsWithTable bits ⊎ ((head : Params × List Bool) × (head_at bits ≡ Ok head))))
+
+-- what reading a file answers: lawful parameters and a cube that the bytes are a file of, or why no file was read
+pub record ReadsFile (bytes : List ℕ) (r : Result (Params × Image) Fault) : Type 0 where
+  pub lawful : IfOk r (λ found. IsLawful found.0)
+  pub file : IfOk r (λ found. IsFile bytes found.0 found.1)
+  pub refused : IfErr r (IsRefusal (bits_of_bytes bytes))

@@ -11,7 +11,7 @@ ghost use Rattle.header_bits.specs.Lawful.{IsLawful};
 ghost use Rattle.header_bits.specs.Header.{header_at, BeginsWithTable};
 ghost use Rattle.file_decoding.specs.Files.{IsFile, behind_body, fill_test, head_at, file_test};
 ghost use Rattle.cube_core.specs.Order.{IsPlaceOf, goes_along_rows};
-ghost use Rattle.file_decoding.specs.Decoding.{TakesCube, AnswersOr, IsNoFile, IsRefusal};
+ghost use Rattle.file_decoding.specs.Decoding.{TakesCube, AnswersOr, IsNoFile, ReadsFile};
 
 use crate::decoder::Decoder;
 use crate::least::test_length;
@@ -34,6 +34,7 @@ use std::alloc::Global;
 /// `TooLong` if the bits of an output word or more follow the body; `BadFill` if one of the fill bits is a one. So
 /// nothing is allocated before the first `Truncated` where the header has no table. `Truncated` has the number of the
 /// file's bits.
+#[tactic(auto, using(crate::proofs::Found::only_one, crate::proofs::Found::header_first))]
 pub fn decode(alloc: Global, bytes: &[u8]) -> Result<(Params, Cube), Fault>
     requires { length bytes.now ≤ 2 ^ 60 }
     ensures lawful { IfOk result (λ found. IsLawful found.0) }
@@ -51,9 +52,7 @@ pub fn decode(alloc: Global, bytes: &[u8]) -> Result<(Params, Cube), Fault>
 /// Reads header, body and fill, one after another. The cube is allocated once the file is long enough to hold one.
 fn read_file(alloc: Global, bytes: &[u8]) -> Result<(Params, Cube), Fault>
     requires { length bytes.now ≤ 2 ^ 60 }
-    ensures lawful { IfOk result (λ found. IsLawful found.0) }
-    ensures file { IfOk result (λ found. IsFile bytes.now found.0 found.1) }
-    ensures refused { IfErr result (IsRefusal (bits_of_bytes bytes.now)) }
+    ensures { ReadsFile bytes.now result }
 {
     let (params, size) = read_header(alloc, bytes)?;
     let mut reader = reader_behind(bytes, size);
@@ -67,7 +66,7 @@ fn read_file(alloc: Global, bytes: &[u8]) -> Result<(Params, Cube), Fault>
 fn reader_behind(bytes: &[u8], size: usize) -> BitReader<'_>
     requires small { length bytes.now ≤ 2 ^ 60 }
     requires within { size ≤ length bytes.now }
-    ensures count { result.count ≡ 8 * length bytes.now }
+    ensures count { result.count ≡ length (bits_of_bytes bytes.now) }
     ensures left { result.left ≡ drop (8 * size) (bits_of_bytes bytes.now) }
 {
     let mut reader = BitReader::new(bytes);
@@ -109,6 +108,7 @@ fn take_cube(alloc: Global, params: &Params, reader: &mut BitReader) -> Result<C
 }
 
 /// Tests the fill bits behind the body: they are zeros, and fewer than an output word of `word` bytes has.
+#[tactic(auto, using(crate::proofs::Fills::ones_fail, crate::proofs::Fills::zeros_pass))]
 fn test_fill(word: u32, reader: &BitReader) -> Result<(), Fault>
     requires { InRange 1 8 word }
     ensures { result ≡ fill_test word reader.now.left }
@@ -117,8 +117,9 @@ fn test_fill(word: u32, reader: &BitReader) -> Result<(), Fault>
     if bits >= u64::from(8 * word) {
         return Err(Fault::TooLong { bits });
     }
-    if reader.fork().count_zeros(bits).unwrap() < bits {
-        return Err(Fault::BadFill);
+    // Zeros can't be counted where no one ends them.
+    match reader.fork().count_zeros(u64::MAX) {
+        Ok(_) => Err(Fault::BadFill),
+        Err(_) => Ok(()),
     }
-    Ok(())
 }
