@@ -21,6 +21,7 @@ use Rattle.header_bits.proofs.Fronts.{bind_ok}
 use Rattle.header_bits.proofs.Headers.{header_exact}
 use Rattle.header_bits.proofs.Reading.{ok_is}
 use Rattle.header_bits.proofs.SpeltLawful.{spelt_is_lawful}
+use Rattle.predict_core.specs.Cubes.{IsCubeOf}
 use Rattle.predict_core.specs.Residual.{residuals}
 use Rattle.sample_adaptive.specs.Settings.{settings}
 use Rattle.sample_adaptive.specs.Body.{sample_body}
@@ -36,7 +37,7 @@ use Rattle.block_adaptive.proofs.Bodies as blocks
 use Rattle.block_adaptive.proofs.Calls.{told_length}
 use Rattle.block_adaptive.proofs.Handed.{size_halved, size_least}
 use Rattle.sample_adaptive.proofs.ForSamples.{settings_bits}
-use Rattle.file_decoding.specs.Files.{IsBodyBy, IsBody, IsCubeOf, IsFile, behind_by, behind_body, fill_test, body_test, head_at, file_test}
+use Rattle.file_decoding.specs.Files.{IsBodyBy, IsBody, IsFile, behind_by, behind_body, fill_test, body_test, head_at, file_test}
 use Rattle.file_decoding.specs.Least.{least_test}
 use Rattle.file_decoding.specs.Laws.{FineIsFile}
 use Rattle.file_decoding.proofs.Fills.{passed}

@@ -24,7 +24,9 @@ use Rattle.header_bits.proofs.Bytes.{length-bits_of_bytes}
 use Rattle.header_bits.proofs.Exact.{one_spelling}
 use Rattle.header_bits.proofs.Headers.{header_exact}
 use Rattle.header_bits.proofs.Chosen.{chosen_is_spelt}
+use Rattle.predict_core.specs.Cubes.{IsCubeOf}
 use Rattle.predict_core.specs.Residual.{residuals}
+use Rattle.predict_core.proofs.OneCube.{residuals_inside, one_cube}
 use Rattle.sample_adaptive.specs.declared.code_word.Code.{Code}
 use Rattle.sample_adaptive.specs.Statistics.{CoderSettings}
 use Rattle.sample_adaptive.specs.Settings.{settings}
@@ -40,11 +42,10 @@ use Rattle.block_adaptive.proofs.Handed.{size_least, size_halved}
 use Rattle.block_adaptive.proofs.Segmented.{no_shorter_body}
 use Rattle.file_coding.specs.File.{body_of, body_by, fill_length, packed_from, packed, file_bits, file_of_residuals, file_of}
 use Rattle.file_coding.proofs.Packed.{filled_whole}
-use Rattle.file_decoding.specs.Files.{IsBodyBy, IsBody, IsCubeOf, IsFile, behind_by, behind_body, body_test, head_at, file_test}
+use Rattle.file_decoding.specs.Files.{IsBodyBy, IsBody, IsFile, behind_by, behind_body, body_test, head_at, file_test}
 use Rattle.file_decoding.specs.Least.{least_by, least_length, least_test}
 use Rattle.file_decoding.specs.Laws.{ChosenIsFile, FileIsFine, NoShorterFile, OneFile}
 use Rattle.file_decoding.proofs.Fills.{zeros_pass}
-use Rattle.file_decoding.proofs.OneCube.{residuals_inside, one_cube}
 use Rattle.sample_adaptive.proofs.Bodies as samples
 use Rattle.block_adaptive.proofs.Bodies as blocks
 

@@ -4,23 +4,23 @@ use Rattle.std.specs.List.{slice_get, slice_index}
 use Rattle.std.proofs.lemmas.Bool.{cases_lt}
 use Rattle.std.proofs.lemmas.List.{length-set, get_or-map}
 use Rattle.std.proofs.lemmas.Nat.{row_fits}
+use Rattle.std.proofs.Math.Arith.{digits_lt}
 use Rattle.cube_core.specs.declared.order.Place.{Place}
 use Rattle.cube_core.specs.Shape.{Sizes}
 use Rattle.cube_core.specs.Image.{Image}
-use Rattle.cube_core.specs.Order.{IsPlaceOf, place_index, from}
+use Rattle.cube_core.specs.Order.{place_index, from}
 use Rattle.cube_core.proofs.Come.{time_of}
-use Rattle.cube_core.specs.Tiles.{place_in}
 use Rattle.cube_core.proofs.Tiles.{placed, come_within, come_beside}
 use Rattle.cube_core.proofs.Lists.{get_set, get_or-from, length-from}
 use Rattle.header_bits.specs.declared.params.Params.{Params}
 use Rattle.predict_core.specs.Following.{Learner, Follows, MovesBy}
-use Rattle.predict_core.specs.Precedence.{AreAlike, Agree}
+use Rattle.predict_core.specs.Precedence.{AreAlike, Agree, SameBefore}
 use Rattle.predict_core.specs.Residual.{mapped_residual, run_residuals}
 use Rattle.predict_core.specs.RunPlaces.{AreAlikeBeside}
-use Rattle.predict_core.proofs.Frame.{weights_same}
+use Rattle.predict_core.proofs.Frame.{weights_same, residual_same}
+use Rattle.predict_core.proofs.Kept.{wide_of, along_kept}
 use Rattle.file_decoding.specs.declared.tile.Tile.{Tile}
-use Rattle.file_decoding.specs.Tiles.{IsReady, AreReady, ComeTo, SameBefore, HasResiduals, IsFilled, start_of}
-use Rattle.file_decoding.proofs.Kept.{residual_same, wide_of, all_follow}
+use Rattle.file_decoding.specs.Tiles.{IsReady, AreReady, ComeTo, HasResiduals, IsFilled, start_of}
 
 -- band z, one of the tile's first n, has gone over the tile's columns
 pub record IsPast (tile : Tile) (c d : Image) (bands : List Learner) (n z : ℕ) (g : Learner) : Type 0 where
@@ -64,11 +64,11 @@ module _ {tile : Tile} {c d e : Image} {bands now : List Learner} {deltas run : 
   ready = are-ready _ _ (omega arith) (omega (arith, lt)) (at_turn filled at)
 
   -- nothing changes at lower bands
-  agree : (z t : ℕ) → z < f.band → Agree d e z t
-  agree z t below = record {
+  agree : (z t u : ℕ) → z < f.band → Agree d e z t u
+  agree z t u below = record {
     alike = beside.alike;
-    samples = λ z' y' x' there earlier. beside.samples z' y' x' there (λ same row column.
-        absurd (elim earlier [ inl h ↦ omega (arith, same, h.0, below) | inr h ↦ omega (arith, same, h.0, below) ]));
+    own = λ y' x' there lt. beside.samples z y' x' there (λ same row column. absurd (omega (arith, same, below)));
+    under = λ z' y' x' there low lt. beside.samples z' y' x' there (λ same row column. absurd (omega (arith, same, low, below)));
   }
 
   more : (p : Params) → ComeTo p c tile bands
@@ -85,13 +85,13 @@ module _ {tile : Tile} {c d e : Image} {bands now : List Learner} {deltas run : 
       turn : Follows p f d
       turn =
           let here : tile.place.z + n < p.shape.bands = omega (arith, lt, m.is.bands) in
-          all_follow m.lawful m.shape filled.alike (filled.same p m) here (m.along _ here f (at_turn filled at))
+          (along_kept m.lawful m.shape filled.alike (filled.same p m) here (m.along _ here f (at_turn filled at))).follows
 
       lower : (h : Learner) → h.band < f.band → h.place ≤ p.shape.rows * p.shape.columns → Follows p h d → Follows p h e
       lower h below within before = record {
         made = before.made;
         weights = before.weights ∙ weights_same p d e h.band (rw shape (omega (arith, below, band))) (rw shape (omega (arith, m.is.place.column)))
-            (wide_of p d m.lawful shape) h.place (rw shape within) (agree h.band h.place below);
+            (wide_of p d m.lawful shape) h.place (rw shape within) (agree h.band h.place h.place below);
       }
 
       same : SameBefore p.order c e (start_of p tile)
@@ -120,10 +120,11 @@ module _ {tile : Tile} {c d e : Image} {bands now : List Learner} {deltas run : 
       residuals i b column below = elim (cases_lt b n) [
         | inr not ↦ (let is-n : b ≡ n = omega (arith, not, below) in rw is-n (top i column))
         | inl less ↦
-            (let there : IsPlaceOf d.shape (place_in tile.place i b) = rw shape (placed m.lawful.order m.is i b column (omega (arith, less, lt))) in
+            (let there = placed m.lawful.order m.is i b column (omega (arith, less, lt)) in
             let low : tile.place.z + b < f.band = omega (arith, less, ready.band) in
-            let stays = beside.samples _ _ _ there (λ own row behind. absurd (omega (arith, own, low))) in
-            sym (residual_same p d e (place_in tile.place i b) _ (wide_of p d m.lawful shape) there (rw shape refl) (agree _ _ low) stays)
+            let some : 0 < p.shape.columns = omega (arith, there.column) in
+            let inside = digits_lt there.row there.column in
+            sym (residual_same p d e _ (rw shape there.band) (rw shape some) (wide_of p d m.lawful shape) _ (rw shape inside) (agree _ _ _ low))
             ∙ filled.residuals p m i b column less)
       ]
 
@@ -169,7 +170,7 @@ filled_whole {tile} {c} filled long p m = record {
         record {
           band = before.band;
           inside = before.inside;
-          follows = all_follow m.lawful m.shape filled.alike (filled.same p m) lt before;
+          follows = (along_kept m.lawful m.shape filled.alike (filled.same p m) lt before).follows;
           come = come_beside m.lawful.order m.is z _ before.come out;
         })
     | inr past ↦

@@ -25,13 +25,13 @@ use Rattle.predict_core.specs.Precedence.{AreAlike}
 use Rattle.predict_core.specs.Residual.{mapped_residual}
 use Rattle.predict_core.specs.Walked.{AreAlong, residuals_at}
 use Rattle.predict_core.proofs.Walking.{gone_by, gone_count, length-residuals_at, residuals_whole}
+use Rattle.predict_core.proofs.Kept.{residuals_same}
 use Rattle.file_coding.proofs.Endings.{time_of_place}
 use Rattle.file_decoding.specs.declared.tile.Tile.{Tile}
 use Rattle.file_decoding.specs.declared.decoder.Decoder.{Decoder}
 use Rattle.file_decoding.specs.Decoding.{AreEach, MayAskEach, MayAskColumn, GivesAll, HasGiven, TakesCube}
 use Rattle.file_decoding.specs.Tiles.{IsInOrder, start_of, band_in, time_in, AreReady, ComeTo, IsFilled}
 use Rattle.file_decoding.proofs.Givers.{given_whole}
-use Rattle.file_decoding.proofs.Kept.{residuals_same}
 
 -- ---- the numbers of its places
 

@@ -1,13 +1,12 @@
 -- The places that are decoded together: columns of one row, each with the same bands.
 use Rattle.std.specs.Prelude.{ℕ, ◌≡◌, ◌+◌, ◌*◌, ◌/◌, ◌%◌, ◌<◌, ◌≤◌, List, length, slice_get, slice_index, Some}
-use Rattle.cube_core.specs.declared.order.Order.{Order}
-use Rattle.cube_core.specs.declared.order.Place.{Place}
-use Rattle.cube_core.specs.Image.{Image, sample_at}
-use Rattle.cube_core.specs.Order.{IsPlaceOf, place_index}
+use Rattle.cube_core.specs.Image.{Image}
+use Rattle.cube_core.specs.Order.{place_index}
 use Rattle.cube_core.specs.Tiles.{IsTiled, most_bands}
 use Rattle.header_bits.specs.declared.params.Params.{Params}
 use Rattle.header_bits.specs.Lawful.{IsLawful}
 use Rattle.predict_core.specs.Following.{Learner}
+use Rattle.predict_core.specs.Precedence.{SameBefore}
 use Rattle.predict_core.specs.Residual.{mapped_residual}
 use Rattle.predict_core.specs.Walked.{AreAlong}
 use Rattle.file_decoding.specs.declared.tile.Tile.{Tile}
@@ -49,10 +48,6 @@ pub record ComeTo (p : Params) (c : Image) (tile : Tile) (bands : List Learner) 
   pub shape : c.shape ≡ p.shape
   pub is : IsInOrder p tile
   pub along : AreAlong p c (start_of p tile) bands
-
--- two images that are one at all places of an index below i in an order
-abbrev pub SameBefore : Order → Image → Image → ℕ → Type 0
-SameBefore o c d i = (r : Place) → IsPlaceOf c.shape r → place_index c.shape o r < i → sample_at c r.z r.y r.x ≡ sample_at d r.z r.y r.x
 
 -- an image has these residuals at the places of a tile's first n bands
 abbrev pub HasResiduals : Params → Image → Tile → List ℕ → ℕ → Type 0

@@ -12,15 +12,13 @@ use Rattle.header_bits.specs.declared.params.Params.{Params}
 use Rattle.predict_core.specs.declared.predictor.Predictor.{Predictor}
 use Rattle.predict_core.specs.Predictor.{previous_bands, component_count}
 use Rattle.predict_core.specs.Differences.{central_difference, spectral_differences, directional_differences, difference_vector}
-use Rattle.predict_core.specs.Precedence.{Agree, IsEarlier}
-use Rattle.predict_core.specs.Residual.{mapped, mapped_residual, run_residuals}
+use Rattle.predict_core.specs.Residual.{mapped_residual, run_residuals}
 use Rattle.predict_core.specs.RunPlaces.{AreAlikeBeside}
 use Rattle.predict_core.specs.Rooms.{quads_of}
 use Rattle.predict_core.specs.OpenPart.{IsOpenPart, open_sum, open_directions}
 use Rattle.predict_core.proofs.Directions.{reduced_vector_is, full_vector_is, reduced_count, full_count, heads_dropped, heads_taken}
 use Rattle.predict_core.proofs.Filling.{spectral_length}
-use Rattle.predict_core.proofs.Following.{row_is, column_is}
-use Rattle.predict_core.proofs.Frame.{local_sum_same, scaled_same}
+use Rattle.predict_core.proofs.Frame.{agree_less, local_sum_same, residual_same}
 use Rattle.predict_core.proofs.Inverting.{sample_put_beside, agree_put}
 use Rattle.predict_core.proofs.RunSteps.{one_more}
 use Rattle.predict_core.proofs.Opening.{open_sum_same, open_directions_same}
@@ -42,25 +40,11 @@ beside_next c d z y x i v place whole a = record {
 
 module _ (p : Params) (c : Image) (z y x : ℕ) (v : ℤ) (place : IsPlace c.shape z y x) (whole : length c.samples ≡ sample_count c.shape)
     (wide : p.column ≡ false → 2 ≤ c.shape.columns) where
-  agree_earlier : (t : ℕ) → t < y * c.shape.columns + x → Agree c (put c z y x v) z t
-  agree_earlier t l = record {
-    alike = record { shape = refl; kind = refl };
-    samples = λ z' y' x' q e. (agree_put c z y x v place whole).samples z' y' x' q (later (y' * c.shape.columns + x') z' e);
-  }
-    where
-      later : (t' z' : ℕ) → IsEarlier z t z' t' → IsEarlier z (y * c.shape.columns + x) z' t'
-      later t' z' (inl (b, m)) = inl (b, omega (arith, m, l))
-      later t' z' (inr (b, m)) = inr (b, omega (arith, m, l))
-
   residual_kept : (k : ℕ) → k < x → mapped_residual p c z (y * c.shape.columns + k) ≡ mapped_residual p (put c z y x v) z (y * c.shape.columns + k)
-  unfolding mapped_residual
   residual_kept k l =
-      let inside : k < c.shape.columns = omega (arith, place.column, l) in
-      let scaled =
-      scaled_same p c (put c z y x v) z place.band (omega (arith, inside)) wide _ (digits_lt place.row inside) (agree_earlier _ (omega (arith, l))) in
-      let here : IsPlace c.shape z y k = record { band = place.band; row = place.row; column = inside } in
-      rw (row_is c.shape.columns _ y k refl inside, column_is c.shape.columns _ y k refl inside)
-      (ap₂ (mapped c.kind) scaled (sample_put_beside c z y x v place whole z y k here (λ e f g. omega (arith, g, l))))
+      let within = digits_lt place.row (let inside : k < c.shape.columns = omega (arith, place.column, l) in inside) in
+      residual_same p c (put c z y x v) z place.band (let q = place.column in omega arith) wide _ within
+      (agree_less _ _ (omega (arith, l)) (omega (arith, l)) (agree_put c z y x v place whole))
 
 same_list : (f g : ℕ → ℕ) (a n : ℕ) → ((k : ℕ) → k < n → f (a + k) ≡ g (a + k)) → map f (from a n) ≡ map g (from a n)
 same_list f g a zero h = refl
