@@ -14,7 +14,7 @@ use Rattle.cube_core.specs.Shape.{Sizes, sample_count}
 use Rattle.cube_core.specs.Image.{Image, IsCube}
 use Rattle.cube_core.specs.Tiles.{place_in}
 use Rattle.cube_core.proofs.Come.{time_of}
-use Rattle.cube_core.proofs.Tiles.{nth, item_in, within, time_at, room_for}
+use Rattle.cube_core.proofs.Tiles.{nth, item_in, within, room_for}
 use Rattle.cube_core.proofs.Orders.{StandsAt, length-places}
 use Rattle.cube_core.proofs.Raws.{next_stands}
 use Rattle.cube_core.proofs.Lists.{first_of, get_drop, map_taken}
@@ -30,7 +30,7 @@ use Rattle.file_coding.proofs.Endings.{time_of_place}
 use Rattle.file_decoding.specs.declared.tile.Tile.{Tile}
 use Rattle.file_decoding.specs.declared.decoder.Decoder.{Decoder}
 use Rattle.file_decoding.specs.Decoding.{AreEach, MayAskEach, MayAskColumn, GivesAll, HasGiven, TakesCube}
-use Rattle.file_decoding.specs.Tiles.{IsInOrder, start_of, band_in, time_in, AreReady, ComeTo, IsFilled}
+use Rattle.file_decoding.specs.Tiles.{IsInOrder, start_of, band_in, time_in, ComeTo, IsFilled}
 use Rattle.file_decoding.proofs.Givers.{given_whole}
 
 -- ---- the numbers of its places
@@ -117,17 +117,7 @@ module _ {p : Params} {c : Image} {left : List Place} {bands : List Learner} {d 
   fits = omega (arith, room_for lawful.order is, at, all_places lawful w)
 
   pub come : ComeTo p c tile bands
-  come = record { lawful = lawful; shape = w.shape; is = is; along = rw at at w.along }
-
-  pub bands_ready : AreReady c tile bands
-  bands_ready z f low high there =
-      let here = come.along z (omega (arith, high, is.bands)) f there in
-      record {
-        shape = w.shape ∙ sym here.follows.made.shape;
-        kind = w.kind ∙ sym here.follows.made.kind;
-        band = here.band;
-        place = rw w.shape (sym (time_at lawful.order is z _ here.come low high));
-      }
+  come = record { lawful = lawful; shape = w.shape; kind = w.kind; is = is; along = rw at at w.along }
 
   -- its residuals may be asked for
   abbrev pub may_read : (t place count : ℕ) → t ≡ time_of p.shape tile.place → place ≡ sample_count p.shape - length left → count ≡ tile.columns * tile.bands

@@ -1,5 +1,5 @@
 -- The places that are decoded together: columns of one row, each with the same bands.
-use Rattle.std.specs.Prelude.{ℕ, ◌≡◌, ◌+◌, ◌*◌, ◌/◌, ◌%◌, ◌<◌, ◌≤◌, List, length, slice_get, slice_index, Some}
+use Rattle.std.specs.Prelude.{ℕ, ◌≡◌, ◌+◌, ◌*◌, ◌/◌, ◌%◌, ◌<◌, ◌≤◌, List, length, slice_index}
 use Rattle.cube_core.specs.Image.{Image}
 use Rattle.cube_core.specs.Order.{place_index}
 use Rattle.cube_core.specs.Tiles.{IsTiled, most_bands}
@@ -31,21 +31,11 @@ time_in tile t k = t + k / tile.bands
 abbrev pub start_of : Params → Tile → ℕ
 start_of p tile = place_index p.shape p.order tile.place
 
--- band z of a tile is at the tile's first column
-pub record IsReady (c : Image) (tile : Tile) (z : ℕ) (f : Learner) : Type 0 where
-  pub shape : c.shape ≡ f.shape
-  pub kind : c.kind ≡ f.kind
-  pub band : f.band ≡ z
-  pub place : f.place ≡ tile.place.y * c.shape.columns + tile.place.x
-
-abbrev pub AreReady : Image → Tile → List Learner → Type 0
-AreReady c tile bands =
-    (z : ℕ) (f : Learner) → tile.place.z ≤ z → z < tile.place.z + tile.bands → slice_get bands z ≡ Some f → IsReady c tile z f
-
 -- bands have come to a tile, and follow the image as far
 pub record ComeTo (p : Params) (c : Image) (tile : Tile) (bands : List Learner) : Type 0 where
   pub lawful : IsLawful p
   pub shape : c.shape ≡ p.shape
+  pub kind : c.kind ≡ p.kind
   pub is : IsInOrder p tile
   pub along : AreAlong p c (start_of p tile) bands
 

@@ -12,7 +12,7 @@ use Rattle.predict_core.proofs.Walking.{gone_count}
 use Rattle.file_decoding.specs.Decoding.{MayAskEach, GivesAll}
 use Rattle.file_decoding.specs.Files.{behind_body}
 use Rattle.file_decoding.specs.Tiles.{band_in, time_in}
-use Rattle.file_decoding.proofs.TileWalk.{walked_more, walked_whole, all_places, next_place, fits, come, bands_ready, may_read, kept_length}
+use Rattle.file_decoding.proofs.TileWalk.{walked_more, walked_whole, all_places, next_place, fits, come, may_read, kept_length}
 use Rattle.file_decoding.proofs.decode.take_cube.Goals as goal
 use Rattle.file_decoding.proofs.decode.take_cube.Goals.{After-read-arg-in-Some-1, After-deref_mut-in-Some}
 
@@ -91,14 +91,14 @@ returns-in_err-read-clause-refused c =
 gives : (c : After-deref_mut-in-Some) → GivesAll c.args.params.now c.read.new.decoder c.loop-place.invariant.walked.numbers
     c.loop-place.invariant.walked.read c.loop-place.reader.left c.read.new.reader.left c.read.new.deltas
 gives c =
-    let d = (goal.at.fill-requires-clause-ready c).After-read-arg-in-Some-1 in
+    let d = (goal.at.fill-requires-clause-come c).After-read-arg-in-Some-1 in
     let got = c.in_ok-read.ensures in
     got.given (may d _ (got.long ∙ long d))
 
-pub fill-requires-clause-ready : goal.fill-requires-clause-ready
-fill-requires-clause-ready c =
-    let d = (goal.at.fill-requires-clause-ready c).After-read-arg-in-Some-1 in
-    rw c.deref_mut-in-Some.ensures.value (bands_ready c.requires c.loop-place.invariant.walked c.at-tile.ensures.tile.in-order (next d))
+pub fill-requires-clause-come : goal.fill-requires-clause-come
+fill-requires-clause-come c =
+    let d = (goal.at.fill-requires-clause-come c).After-read-arg-in-Some-1 in
+    (c.args.params.now, rw c.deref_mut-in-Some.ensures.value (come c.requires c.loop-place.invariant.walked c.at-tile.ensures.tile.in-order (next d)))
 
 pub fill-requires-clause-residuals_in : goal.fill-requires-clause-residuals_in
 fill-requires-clause-residuals_in c k lt =
