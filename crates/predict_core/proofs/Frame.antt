@@ -17,6 +17,7 @@ use Rattle.predict_core.specs.Differences.{central_difference, spectral_differen
 use Rattle.predict_core.specs.Prediction.{scaled_there, next_weights, weight_vector, first_scaled, scaled_prediction}
 use Rattle.predict_core.specs.Residual.{mapped_residual}
 use Rattle.predict_core.specs.Precedence.{Agree, PlacesPrecede}
+use Rattle.predict_core.specs.RunPlaces.{AreAlikeBeside}
 use Rattle.predict_core.proofs.Padding.{first_from_middle, first_from_below}
 use Rattle.predict_core.proofs.Directions.{directional_first, directional_left, directional_inside}
 use Rattle.predict_core.proofs.Earlier.{before_is}
@@ -78,47 +79,57 @@ module _ (p : Predictor) (c d : Image) (same : c.shape.columns ≡ d.shape.colum
       ]
 
 -- what is read at a place of one band
-module _ (p : Predictor) (c d : Image) (z y x : ℕ) (place : IsPlace c.shape z y x) (later : 0 < y + x) (wide : p.column ≡ false → 2 ≤ c.shape.columns)
-    (agree : Agree c d z (y * c.shape.columns + x) (suc (y * c.shape.columns + x))) where
-  same_columns : c.shape.columns ≡ d.shape.columns
-  same_columns = ap (λ (s : Sizes). s.columns) agree.alike.shape
+module _ (p : Predictor) (c d : Image) (z y x : ℕ) (place : IsPlace c.shape z y x) (later : 0 < y + x) (wide : p.column ≡ false → 2 ≤ c.shape.columns) where
+  -- of the bands below
+  module _ {t : ℕ} (agree : Agree c d z t (suc (y * c.shape.columns + x))) where
+    same_columns : c.shape.columns ≡ d.shape.columns
+    same_columns = ap (λ (s : Sizes). s.columns) agree.alike.shape
 
-  own : (y' x' : ℕ) → x' < c.shape.columns → y' * c.shape.columns + x' < y * c.shape.columns + x → y' ≤ y → sample_at c z y' x' ≡ sample_at d z y' x'
-  own y' x' h l k = agree.own y' x' (record { band = place.band; row = (let r = place.row in omega arith); column = h }) l
+    under : (z' y' x' : ℕ) → z' < z → x' < c.shape.columns → y' * c.shape.columns + x' ≤ y * c.shape.columns + x → y' ≤ y
+        → sample_at c z' y' x' ≡ sample_at d z' y' x'
+    under z' y' x' b h l k =
+        agree.under z' y' x' (record { band = (let r = place.band in omega arith); row = (let r = place.row in omega arith); column = h }) b (omega arith)
 
-  under : (z' y' x' : ℕ) → z' < z → x' < c.shape.columns → y' * c.shape.columns + x' ≤ y * c.shape.columns + x → y' ≤ y
-      → sample_at c z' y' x' ≡ sample_at d z' y' x'
-  under z' y' x' b h l k =
-      agree.under z' y' x' (record { band = (let r = place.band in omega arith); row = (let r = place.row in omega arith); column = h }) b (omega arith)
+    central_same : (z' : ℕ) → z' < z → central_difference p c z' y x ≡ central_difference p d z' y x
+    unfolding central_difference
+    central_same z' b =
+        let s = under z' y x b place.column (omega arith) (omega arith) in
+        let m = local_sum_same p c d same_columns z' y x later wide place.column (λ y' x' h l k. under z' y' x' b h (omega arith) k) in
+        rw (s, m) refl
 
-  central_same : (z' : ℕ) → z' < z → central_difference p c z' y x ≡ central_difference p d z' y x
-  unfolding central_difference
-  central_same z' b =
-      let s = under z' y x b place.column (omega arith) (omega arith) in
-      let m = local_sum_same p c d same_columns z' y x later wide place.column (λ y' x' h l k. under z' y' x' b h (omega arith) k) in
-      rw (s, m) refl
+    pub spectral_same : (n : ℕ) → n ≤ z → spectral_differences p c z y x n ≡ spectral_differences p d z y x n
+    unfolding spectral_differences
+    spectral_same zero h = refl
+    spectral_same (suc n) h =
+        let a = spectral_same n (omega arith) in
+        let b = central_same (z - suc n) (omega arith) in
+        rw (a, b) refl
 
-  spectral_same : (n : ℕ) → n ≤ z → spectral_differences p c z y x n ≡ spectral_differences p d z y x n
-  unfolding spectral_differences
-  spectral_same zero h = refl
-  spectral_same (suc n) h =
-      let a = spectral_same n (omega arith) in
-      let b = central_same (z - suc n) (omega arith) in
-      rw (a, b) refl
+  module _ (agree : Agree c d z (y * c.shape.columns + x) (suc (y * c.shape.columns + x))) where
+    own : (y' x' : ℕ) → x' < c.shape.columns → y' * c.shape.columns + x' < y * c.shape.columns + x → y' ≤ y → sample_at c z y' x' ≡ sample_at d z y' x'
+    own y' x' h l k = agree.own y' x' (record { band = place.band; row = (let r = place.row in omega arith); column = h }) l
 
-  pub sum_same : local_sum p c z y x ≡ local_sum p d z y x
-  sum_same = local_sum_same p c d same_columns z y x later wide place.column own
+    pub sum_same : local_sum p c z y x ≡ local_sum p d z y x
+    sum_same = local_sum_same p c d (same_columns agree) z y x later wide place.column own
 
-  pub vector_same : difference_vector p c z y x ≡ difference_vector p d z y x
-  unfolding difference_vector
-  vector_same =
-      let a = spectral_same (previous_bands p z) (omega arith) in
-      let b = directional_same p c d same_columns z y x later wide place.column own in
-      rw (a, b) refl
+    pub vector_same : difference_vector p c z y x ≡ difference_vector p d z y x
+    unfolding difference_vector
+    vector_same =
+        let a = spectral_same agree (previous_bands p z) (omega arith) in
+        let b = directional_same p c d (same_columns agree) z y x later wide place.column own in
+        rw (a, b) refl
 
-  pub scaled_there_same : (ws : List ℤ) → scaled_there p c z y x ws ≡ scaled_there p d z y x ws
-  unfolding scaled_there
-  scaled_there_same ws = rw (sum_same, vector_same, agree.alike.kind) refl
+    pub scaled_there_same : (ws : List ℤ) → scaled_there p c z y x ws ≡ scaled_there p d z y x ws
+    unfolding scaled_there
+    scaled_there_same ws = rw (sum_same, vector_same, agree.alike.kind) refl
+
+-- images that are one beside a run of a band agree on the bands below it
+pub beside_agree : {c d : Image} {z y x n : ℕ} → AreAlikeBeside c d z y x n → (z' t u : ℕ) → z' ≤ z → (z' ≡ z → t ≡ 0) → Agree c d z' t u
+beside_agree a z' t u low none = record {
+  alike = a.alike;
+  own = λ y x q l. a.samples z' y x q (λ e f g. absurd (let first = none e in omega arith));
+  under = λ z'' y x q b l. a.samples z'' y x q (λ e f g. absurd (omega (arith, e, b, low)));
+}
 
 -- images that agree so far agree less far
 pub agree_less : {c d : Image} {z t u : ℕ} (s v : ℕ) → s ≤ t → v ≤ u → Agree c d z t u → Agree c d z s v

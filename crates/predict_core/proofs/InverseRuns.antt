@@ -11,14 +11,14 @@ use Rattle.cube_core.specs.Order.{from}
 use Rattle.header_bits.specs.declared.params.Params.{Params}
 use Rattle.predict_core.specs.declared.predictor.Predictor.{Predictor}
 use Rattle.predict_core.specs.Predictor.{previous_bands, component_count}
-use Rattle.predict_core.specs.Differences.{central_difference, spectral_differences, directional_differences, difference_vector}
+use Rattle.predict_core.specs.Differences.{spectral_differences, directional_differences, difference_vector}
 use Rattle.predict_core.specs.Residual.{mapped_residual, run_residuals}
 use Rattle.predict_core.specs.RunPlaces.{AreAlikeBeside}
 use Rattle.predict_core.specs.Rooms.{quads_of}
 use Rattle.predict_core.specs.OpenPart.{IsOpenPart, open_sum, open_directions}
 use Rattle.predict_core.proofs.Directions.{reduced_vector_is, full_vector_is, reduced_count, full_count, heads_dropped, heads_taken}
 use Rattle.predict_core.proofs.Filling.{spectral_length}
-use Rattle.predict_core.proofs.Frame.{agree_less, local_sum_same, residual_same}
+use Rattle.predict_core.proofs.Frame.{agree_less, beside_agree, residual_same, spectral_same}
 use Rattle.predict_core.proofs.Inverting.{sample_put_beside, agree_put}
 use Rattle.predict_core.proofs.RunSteps.{one_more}
 use Rattle.predict_core.proofs.Opening.{open_sum_same, open_directions_same}
@@ -75,24 +75,8 @@ residuals_next p d z y x i v deltas place whole wide l before e =
 
 module _ (q : Predictor) (c d : Image) (z y first n x : ℕ) (place : IsPlace c.shape z y x) (below : 0 < y) (wide : q.column ≡ false → 2 ≤ c.shape.columns)
     (a : AreAlikeBeside c d z y first n) where
-  under : (z' y' x' : ℕ) → z' < z → x' < c.shape.columns → y' ≤ y → sample_at c z' y' x' ≡ sample_at d z' y' x'
-  under z' y' x' b h k =
-      a.samples z' y' x' (record { band = (let r = place.band in omega arith); row = (let r = place.row in omega arith); column = h })
-      (λ e f l. absurd (omega (arith, e, b)))
-
   same_columns : c.shape.columns ≡ d.shape.columns
   same_columns = ap (λ (s : Sizes). s.columns) a.alike.shape
-
-  central_below : (z' : ℕ) → z' < z → central_difference q c z' y x ≡ central_difference q d z' y x
-  unfolding central_difference
-  central_below z' b =
-      let m = local_sum_same q c d same_columns z' y x (omega (arith, below)) wide place.column (λ y' x' h l k. under z' y' x' b h k) in
-      rw (under z' y x b place.column (omega arith), m) refl
-
-  spectral_below : (k : ℕ) → k ≤ z → spectral_differences q c z y x k ≡ spectral_differences q d z y x k
-  unfolding spectral_differences
-  spectral_below zero h = refl
-  spectral_below (suc k) h = rw (spectral_below k (omega arith), central_below (z - suc k) (omega arith)) refl
 
   abbrev lower : List ℤ
   lower = spectral_differences q c z y x (previous_bands q z)
@@ -113,7 +97,7 @@ module _ (q : Predictor) (c d : Image) (z y first n x : ℕ) (place : IsPlace c.
     lower_from : drop k room ≡ spectral_differences q d z y x (previous_bands q z) ++ replicate (18 - count) (pos 0)
     lower_from =
         ap (drop k) gathered ∙ heads_dropped _ _ k heads_long
-        ∙ ap (λ us. us ++ replicate (18 - count) (pos 0)) (spectral_below (previous_bands q z) (omega arith))
+        ∙ ap (λ us. us ++ replicate (18 - count) (pos 0)) (spectral_same q c d z y x place (omega (arith, below)) wide (beside_agree a z 0 _ (omega arith) (λ e. refl)) (previous_bands q z) (omega arith))
 
     heads_from : take k room ≡ take k components
     heads_from = ap (take k) gathered ∙ heads_taken _ _ k heads_long
