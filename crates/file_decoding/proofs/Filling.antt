@@ -15,8 +15,8 @@ use Rattle.predict_core.specs.Precedence.{AreAlike, Agree, SameBefore}
 use Rattle.predict_core.specs.Residual.{run_residuals}
 use Rattle.predict_core.specs.RunPlaces.{AreAlikeBeside}
 use Rattle.predict_core.specs.Walked.{IsAlong}
-use Rattle.predict_core.proofs.Frame.{residual_same}
-use Rattle.predict_core.proofs.Kept.{wide_of, along_same, along_kept}
+use Rattle.predict_core.proofs.Frame.{beside_agree, residual_same}
+use Rattle.predict_core.proofs.Kept.{wide_of, along_same, along_kept, same_beside}
 use Rattle.predict_core.proofs.RunSteps.{run_at}
 use Rattle.file_decoding.specs.declared.tile.Tile.{Tile}
 use Rattle.file_decoding.specs.Tiles.{ComeTo, HasResiduals, IsFilled, start_of}
@@ -63,18 +63,12 @@ module _ {tile : Tile} {c d e : Image} {bands now : List Learner} {deltas run : 
 
     -- nothing changes at lower bands
     agree : (z t u : ℕ) → z < tile.place.z + n → Agree d e z t u
-    agree z t u below = record {
-      alike = beside.alike;
-      own = λ y x there _. beside.samples z y x there (λ same row column. absurd (omega (arith, same, turn.band, below)));
-      under = λ z' y x there low _. beside.samples z' y x there (λ same row column. absurd (omega (arith, same, turn.band, low, below)));
-    }
+    agree z t u below = beside_agree beside z t u (omega (arith, turn.band, below)) (λ same. absurd (omega (arith, same, turn.band, below)))
 
     same : SameBefore p.order c e (start_of p tile)
     same r there before =
-        known.same r there before ∙ beside.samples r.z r.y r.x (rw (← filled.alike.shape) there) (λ own row column.
-        let line = ap (λ (n : ℕ). n * p.shape.columns) row in
-        let early = (turn.come r (rw m.shape at there) (own ∙ turn.band)).0 (rw m.shape at before) in
-        absurd (omega (arith, early, here, line, column)))
+        known.same r there before
+        ∙ same_beside shape turn (omega (arith, here)) beside r (rw (← filled.alike.shape) there) (rw (← filled.alike.shape) before)
 
     residuals : HasResiduals p e tile deltas (n + 1)
     residuals i b column below = elim (cases_lt b n) [

@@ -16,6 +16,7 @@ use Rattle.header_bits.specs.Lawful.{IsLawful}
 use Rattle.predict_core.specs.Precedence.{AreAlike, Agree, SameBefore}
 use Rattle.predict_core.specs.Residual.{mapped_residual}
 use Rattle.predict_core.specs.Following.{Learner, Follows}
+use Rattle.predict_core.specs.RunPlaces.{AreAlikeBeside}
 use Rattle.predict_core.specs.Walked.{IsAlong, residuals_at}
 use Rattle.predict_core.proofs.Earlier.{low_index}
 use Rattle.predict_core.proofs.Frame.{weights_same, residual_same}
@@ -40,6 +41,14 @@ along_same {p} {c} lawful shape band along agree = record {
   };
   come = along.come;
 }
+
+-- images that are one beside a run of a band from its next place on are so at all places before it
+pub same_beside : {p : Params} {c d : Image} {i z y x n : ℕ} {f : Learner} → c.shape ≡ p.shape → IsAlong p c i z f → f.place ≡ y * p.shape.columns + x
+    → AreAlikeBeside c d f.band y x n → SameBefore p.order c d i
+same_beside {p} {c} shape along next beside r there before = beside.samples r.z r.y r.x there (λ own row column.
+    let early = (along.come r (rw shape at there) (own ∙ along.band)).0 (rw shape at before) in
+    let line = ap (λ (n : ℕ). n * p.shape.columns) row in
+    absurd (omega (arith, early, next, line, column)))
 
 module _ {p : Params} {c d : Image} (lawful : IsLawful p) (shape : c.shape ≡ p.shape) (alike : AreAlike c d) where
   order_kept : IsOrder c.shape p.order
