@@ -7,29 +7,23 @@ use Rattle.std.proofs.lemmas.Bool.{cases_eq}
 use Rattle.cube_core.specs.declared.order.Place.{Place}
 use Rattle.cube_core.specs.Shape.{sample_count}
 use Rattle.cube_core.specs.Kind.{SampleKind, IsSample, smid}
-use Rattle.cube_core.specs.Image.{Image, IsCube, sample_at, index_in, put}
-use Rattle.cube_core.specs.Order.{IsOrder, IsPlaceOf, places}
-use Rattle.cube_core.proofs.Bounds.{index_below, least_inside, middle_inside}
-use Rattle.cube_core.proofs.Orders.{StandsAt, length-places}
+use Rattle.cube_core.specs.Image.{Image, IsCube, index_in, put}
+use Rattle.cube_core.specs.Order.{IsPlaceOf, places}
+use Rattle.cube_core.proofs.Bounds.{least_inside, middle_inside}
+use Rattle.cube_core.proofs.Orders.{length-places}
 use Rattle.header_bits.specs.declared.params.Params.{Params}
 use Rattle.header_bits.specs.Lawful.{IsLawful}
 use Rattle.predict_core.specs.Prediction.{scaled_prediction}
-use Rattle.predict_core.specs.Residual.{mapped, mapped_residual, residuals}
+use Rattle.predict_core.specs.Residual.{mapped_residual, residuals}
 use Rattle.predict_core.proofs.OneSample.{one_sample_lem}
 use Rattle.predict_core.specs.Walked.{residuals_at}
 use Rattle.predict_core.proofs.Walking.{next_goes, gone_by, gone_count, residuals_push, residuals_whole}
-use Rattle.file_decoding.specs.Files.{IsCubeOf}
-use Rattle.file_decoding.proofs.Kept.{agree_at, mapped_at, scaled_alike, wide_of, put_alike, put_same, residuals_kept}
-use Rattle.file_decoding.proofs.OneCube.{scaled_inside}
+use Rattle.predict_core.specs.Cubes.{IsCubeOf}
+use Rattle.predict_core.proofs.Inverting.{put_residual}
+use Rattle.predict_core.proofs.Kept.{wide_of, residuals_kept}
+use Rattle.predict_core.proofs.OneCube.{scaled_inside}
 
 -- ---- another sample
-
-inside_of : (c : Image) (q : Place) → IsCube c → IsPlaceOf c.shape q → index_in c.shape.columns c.shape.rows q.z q.y q.x < length c.samples
-inside_of c q cube place = omega (arith, cube.whole, index_below c.shape.columns c.shape.rows c.shape.bands q.z q.y q.x place.band place.row place.column)
-
-sample_put : (c : Image) (q : Place) (v : ℤ) → IsCube c → IsPlaceOf c.shape q → sample_at (put c q.z q.y q.x v) q.z q.y q.x ≡ v
-unfolding sample_at
-sample_put c q v cube place = get_or-set_same c.samples (index_in c.shape.columns c.shape.rows q.z q.y q.x) v (pos 0) (inside_of c q cube place)
 
 set_range : (k : SampleKind) (xs : List ℤ) (i : ℕ) (v : ℤ) → IsSample k v → ((j : ℕ) → j < length xs → IsSample k (get_or xs j (pos 0))) → (j : ℕ)
     → j < length (set xs i v) → IsSample k (get_or (set xs i v) j (pos 0))
@@ -54,24 +48,12 @@ record HasResidual (p : Params) (c : Image) (q : Place) (n : ℕ) : Type 0 where
   inside : IsSample c.kind sample
   residual : mapped_residual p (put c q.z q.y q.x sample) q.z (q.y * c.shape.columns + q.x) ≡ n
 
-has_residual : (p : Params) (c : Image) (q : Place) (n i : ℕ) → IsOrder c.shape p.order → (p.column ≡ false → 2 ≤ c.shape.columns) → IsCube c
-    → StandsAt c.shape p.order q i → n < 2 ^ c.kind.bits → HasResidual p c q n
-has_residual p c q n i order wide cube stands lt =
-    let t : ℕ = q.y * c.shape.columns + q.x in
-    let place : IsPlaceOf c.shape q = stands.place in
-    let scaled : ℤ = scaled_prediction p c q.z t in
-    let found = (one_sample_lem c.kind scaled cube.bits (scaled_inside p c q.z t cube place.band)).1 n lt in
-    let d : Image = put c q.z q.y q.x found.0 in
-    let agree =
-    agree_at p.order c d i q t order (put_alike c q found.0) (put_same p.order c q found.0 i place stands.index) place refl (omega (arith, stands.index)) in
-    let alike = scaled_alike p c d q t wide place refl agree in
-    record {
-      sample = found.0;
-      inside = found.1;
-      residual =
-          mapped_at p d q t refl place.column ∙ ap (λ (s : ℤ). mapped c.kind s (sample_at d q.z q.y q.x)) (sym alike)
-          ∙ ap (mapped c.kind scaled) (sample_put c q found.0 cube place) ∙ found.2;
-    }
+has_residual : (p : Params) (c : Image) (q : Place) (n : ℕ) → (p.column ≡ false → 2 ≤ c.shape.columns) → IsCube c → IsPlaceOf c.shape q → n < 2 ^ c.kind.bits
+    → HasResidual p c q n
+has_residual p c q n wide cube place lt =
+    let scaled : ℤ = scaled_prediction p c q.z (q.y * c.shape.columns + q.x) in
+    let found = (one_sample_lem c.kind scaled cube.bits (scaled_inside p c q.z _ cube place.band)).1 n lt in
+    record { sample = found.0; inside = found.1; residual = put_residual c q.z q.y q.x found.0 place cube.whole p wide ∙ found.2 }
 
 -- ---- sample after sample
 
@@ -99,10 +81,9 @@ build p lawful [] c (n ∷ ns) is cube long range = absurd (omega arith)
 build p lawful (q ∷ left) c [] is cube long range = absurd (omega arith)
 build p lawful (q ∷ left) c (n ∷ ns) is cube long range =
     let goes = next_goes p q (q ∷ left) left lawful.order is refl in
-    let stands : StandsAt c.shape p.order q (gone_count p (q ∷ left)) = rw cube.shape goes.stands in
-    let order : IsOrder c.shape p.order = rw cube.shape lawful.order in
+    let place : IsPlaceOf c.shape q = rw cube.shape goes.stands.place in
     let below : n < 2 ^ c.kind.bits = rw cube.kind range.0 in
-    let h = has_residual p c q n (gone_count p (q ∷ left)) order (wide_of p c lawful cube.shape) cube.cube stands below in
+    let h = has_residual p c q n (wide_of p c lawful cube.shape) cube.cube place below in
     let after : IsCubeOf p (put c q.z q.y q.x h.sample) = record { cube = put_cube c q h.sample cube.cube h.inside; shape = cube.shape; kind = cube.kind } in
     let others = build p lawful left (put c q.z q.y q.x h.sample) ns goes.others after (omega arith) range.1 in
     subst (Built p) (ap (λ (x : List ℕ). x ++ ns) (pushed p c q left n lawful cube.shape is h)

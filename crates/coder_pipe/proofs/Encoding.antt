@@ -15,7 +15,7 @@ use Rattle.predict_core.specs.Following.{Learner}
 use Rattle.predict_core.specs.Residual.{residuals}
 use Rattle.file_coding.specs.Ends.{Ending, HasCoded, MayCodeAll}
 use Rattle.predict_core.specs.Walked.{IsAlong, AreAlong}
-use Rattle.file_decoding.proofs.OneCube.{residuals_inside}
+use Rattle.predict_core.proofs.OneCube.{residuals_inside}
 use Rattle.cube_predictors.specs.Own.{own, own_residuals}
 use Rattle.cube_predictors.specs.Sends.{IsSeen, IsAt, AreAt, AreFresh, bands_of}
 use Rattle.cube_predictors.specs.Weave.{owners_of, part}

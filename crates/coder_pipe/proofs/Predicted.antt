@@ -13,7 +13,8 @@ use Rattle.cube_core.proofs.Lists.{length-from, get_or-from}
 use Rattle.cube_core.proofs.Orders.{length-places}
 use Rattle.predict_core.specs.Residual.{residuals}
 use Rattle.file_coding.specs.File.{file_of}
-use Rattle.file_decoding.specs.Files.{IsCubeOf, IsFile}
+use Rattle.predict_core.specs.Cubes.{IsCubeOf}
+use Rattle.file_decoding.specs.Files.{IsFile}
 use Rattle.file_decoding.proofs.FileLaws.{inside, chosen_is_file}
 use Rattle.cube_predictors.specs.Plans.{Dealing, IsPlan}
 use Rattle.cube_predictors.specs.Sends.{Predicting, part_of}

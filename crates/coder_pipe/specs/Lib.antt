@@ -11,6 +11,7 @@ pub use Rattle.cube_predictors.specs.Weave
 pub use Rattle.file_coding.specs.Coding
 pub use Rattle.file_coding.specs.Ends
 pub use Rattle.file_coding.specs.File
+pub use Rattle.predict_core.specs.Cubes
 pub use Rattle.predict_core.specs.Walked
 pub use Rattle.file_decoding.specs.Decoding
 pub use Rattle.file_decoding.specs.Files

@@ -1,7 +1,8 @@
 //! Laws of the definitions alone.
 
 ghost use Rattle.file_coding.specs.Coding.{TimeOfPlace};
-ghost use Rattle.file_decoding.specs.Laws.{ChosenIsFile, FileIsFine, FineIsFile, NoShorterFile, OneCube, OneFile};
+ghost use Rattle.file_decoding.specs.Laws.{ChosenIsFile, FileIsFine, FineIsFile, NoShorterFile, OneFile};
+ghost use Rattle.predict_core.specs.Cubes.{OneCube};
 ghost use Rattle.cube_predictors.specs.Own.{OwnIsPart};
 ghost use Rattle.cube_predictors.specs.Plans.{PlanFaultIsExact};
 ghost use Rattle.cube_predictors.specs.Weave.{PartsOfWeave, WeaveOfParts, WeaveOfTaken};

@@ -26,7 +26,9 @@ use Rattle.header_bits.proofs.Bytes.{length-bits_of_bytes}
 use Rattle.header_bits.proofs.Exact.{one_spelling}
 use Rattle.header_bits.proofs.Headers.{header_exact}
 use Rattle.header_bits.proofs.Chosen.{chosen_is_spelt}
+use Rattle.predict_core.specs.Cubes.{IsCubeOf}
 use Rattle.predict_core.specs.Residual.{residuals}
+use Rattle.predict_core.proofs.OneCube.{residuals_inside, one_cube}
 use Rattle.sample_adaptive.specs.Settings.{settings}
 use Rattle.sample_adaptive.specs.Reading.{sample_body_at}
 use Rattle.sample_adaptive.proofs.Bodies as samples
@@ -39,11 +41,11 @@ use Rattle.block_adaptive.proofs.Handed.{size_least}
 use Rattle.block_adaptive.proofs.Segmented.{no_shorter_body}
 use Rattle.file_coding.specs.File.{body_of, body_by, fill_length, packed_from, packed, file_bits, file_of_residuals, file_of}
 use Rattle.file_coding.proofs.Packed.{filled_whole}
-use Rattle.file_decoding.specs.Files.{IsBodyBy, IsBody, IsCubeOf, IsFile, behind_by, behind_body, body_test, head_at, file_test}
+use Rattle.file_decoding.specs.Files.{IsBodyBy, IsBody, IsFile, behind_by, behind_body, body_test, head_at, file_test}
 use Rattle.file_decoding.specs.Least.{least_by, least_length, least_test}
 use Rattle.file_decoding.specs.Laws.{ChosenIsFile, FileIsFine, NoShorterFile, OneFile}
 use Rattle.file_decoding.proofs.Fills.{zeros_pass}
-use Rattle.file_decoding.proofs.OneCube.{residuals_inside, one_cube}
+use Rattle.predict_core.proofs.OneCube.{residuals_inside, one_cube}
 
 -- ---- what bodies are, by either coder
 

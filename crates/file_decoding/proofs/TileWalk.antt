@@ -3,35 +3,31 @@ use mathlib.Core.List.{map-append}
 use Rattle.std.specs.List.{slice_get, slice_index}
 use Rattle.std.proofs.Common.{◌≡◌, ◌+◌, ◌*◌, ◌/◌, ◌%◌, ◌<◌, ℕ, Bool, List, ◌++◌, length, refl, ap, ◌∙◌, length-append, arith, ap₂, ◌-◌, ◌≤◌, [], take, drop}
 use Rattle.std.proofs.Common.{Some, sym, append_assoc, length-take, length-drop}
-use Rattle.std.proofs.lemmas.Nat.{row_fits, div-mul-add, mod-mul-add}
+use Rattle.std.proofs.lemmas.Nat.{row_fits, mul-le, div-mul-add, mod-mul-add}
 use Rattle.std.proofs.Math.Path.{fun_ext}
 use Rattle.std.proofs.Math.Nat.{div-one, mod-one}
-use Rattle.std.proofs.lemmas.List.{drop-drop}
-use Rattle.std.proofs.Math.Seq.{take-add}
 use Rattle.cube_core.specs.Order.{IsOrder, places}
 use Rattle.cube_core.specs.declared.order.Place.{Place}
 use Rattle.cube_core.specs.Shape.{Sizes, sample_count}
 use Rattle.cube_core.specs.Image.{Image, IsCube}
-use Rattle.cube_core.specs.Tiles.{place_in}
 use Rattle.cube_core.proofs.Come.{time_of}
-use Rattle.cube_core.proofs.Tiles.{nth, item_in, within, time_at, room_for}
-use Rattle.cube_core.proofs.Orders.{StandsAt, length-places}
-use Rattle.cube_core.proofs.Raws.{next_stands}
-use Rattle.cube_core.proofs.Lists.{first_of, get_drop, map_taken}
+use Rattle.cube_core.proofs.Tiles.{nth, item_in, within}
+use Rattle.cube_core.proofs.Orders.{length-places}
+use Rattle.cube_core.proofs.Lists.{map_taken}
 use Rattle.header_bits.specs.declared.params.Params.{Params}
 use Rattle.header_bits.specs.Lawful.{IsLawful}
 use Rattle.predict_core.specs.Following.{Learner}
 use Rattle.predict_core.specs.Precedence.{AreAlike}
 use Rattle.predict_core.specs.Residual.{mapped_residual}
-use Rattle.predict_core.specs.Walked.{AreAlong, residuals_at}
-use Rattle.predict_core.proofs.Walking.{gone_by, gone_count, length-residuals_at, residuals_whole}
+use Rattle.predict_core.specs.Walked.{residuals_at}
+use Rattle.predict_core.proofs.Walking.{IsOnWalk, all_places, gone_by, gone_count, goes_by, length-residuals_at, next_place, residuals_whole, tile_fits, tile_item}
+use Rattle.predict_core.proofs.Kept.{residuals_same}
 use Rattle.file_coding.proofs.Endings.{time_of_place}
 use Rattle.file_decoding.specs.declared.tile.Tile.{Tile}
 use Rattle.file_decoding.specs.declared.decoder.Decoder.{Decoder}
 use Rattle.file_decoding.specs.Decoding.{AreEach, MayAskEach, MayAskColumn, GivesAll, HasGiven, TakesCube}
-use Rattle.file_decoding.specs.Tiles.{IsInOrder, start_of, band_in, time_in, AreReady, ComeTo, IsFilled}
+use Rattle.file_decoding.specs.Tiles.{IsInOrder, start_of, band_in, time_in, ComeTo, IsFilled}
 use Rattle.file_decoding.proofs.Givers.{given_whole}
-use Rattle.file_decoding.proofs.Kept.{residuals_same}
 
 -- ---- the numbers of its places
 
@@ -73,115 +69,79 @@ as_column tile t m i size mid unread now xs column before whole all g = record {
 pub record IsWalked (p : Params) (c : Image) (left : List Place) (bands : List Learner) (d : Decoder) (start now : List Bool) : Type 0 where
   pub shape : c.shape ≡ p.shape
   pub kind : c.kind ≡ p.kind
-  pub many : length bands ≡ p.shape.bands
-  pub rest : left ≡ drop (gone_count p left) (places p.shape p.order)
-  pub along : AreAlong p c (gone_count p left) bands
-  pub numbers : List ℕ
-  pub same : residuals_at p c (gone_by p left) ≡ numbers
+  pub walk : IsOnWalk p c left bands
   pub read : List Bool
   pub text : start ≡ read ++ now
-  pub given : HasGiven p d numbers read
+  pub given : HasGiven p d (residuals_at p c (gone_by p left)) read
 
 module _ {p : Params} {c : Image} {left : List Place} {bands : List Learner} {d : Decoder} {start now : List Bool} (lawful : IsLawful p)
     (w : IsWalked p c left bands d start now) where
-  pub all_places : gone_count p left + length left ≡ sample_count p.shape
-  all_places = omega (arith, ap length w.rest, length-drop (gone_count p left) (places p.shape p.order), length-places p.shape p.order lawful.order)
-
-  pub next_place : (q : Place) → slice_get left 0 ≡ Some q → StandsAt p.shape p.order q (gone_count p left)
-  next_place q first =
-      let next = first_of _ _ first in
-      (next_stands p.shape p.order (gone_count p left) q next.0 lawful.order (sym w.rest ∙ next.1)).1
-
-  pub numbers_long : length w.numbers ≡ gone_count p left
+  pub numbers_long : length (residuals_at p c (gone_by p left)) ≡ gone_count p left
   numbers_long =
-      omega (arith, ap length w.same, length-residuals_at p c (gone_by p left), length-take {A = Place}, all_places, length-places p.shape p.order lawful.order)
+      let all = all_places p lawful.order w.walk.rest in
+      omega (arith, length-residuals_at p c (gone_by p left), length-take {A = Place}, all, length-places p.shape p.order lawful.order)
 
   pub walked_whole : left ≡ [] → IsCube c → TakesCube p c start now
-  walked_whole none cube =
-      let all : gone_by p left ≡ gone_by p [] = ap (gone_by p) none in
-      let same = sym (residuals_whole p c lawful.order w.shape) ∙ ap (residuals_at p c) (sym all) ∙ w.same in
-      record {
-        cube = record { cube = cube; shape = w.shape; kind = w.kind };
-        body = w.read;
-        coded = rw same (given_whole p d w.numbers w.read lawful w.given (omega (arith, numbers_long, ap length none)));
-        text = w.text;
-      }
-
--- the tile that comes next
-module _ {p : Params} {c : Image} {left : List Place} {bands : List Learner} {d : Decoder} {start now : List Bool} {tile : Tile} (lawful : IsLawful p)
-    (w : IsWalked p c left bands d start now) (is : IsInOrder p tile) (next : slice_get left 0 ≡ Some tile.place) where
-  pub at : gone_count p left ≡ start_of p tile
-  at = sym (next_place lawful w tile.place next).index
-
-  pub fits : tile.columns * tile.bands ≤ length left
-  fits = omega (arith, room_for lawful.order is, at, all_places lawful w)
-
-  pub come : ComeTo p c tile bands
-  come = record { lawful = lawful; shape = w.shape; is = is; along = rw at at w.along }
-
-  pub bands_ready : AreReady c tile bands
-  bands_ready z f low high there =
-      let here = come.along z (omega (arith, high, is.bands)) f there in
-      record {
-        shape = w.shape ∙ sym here.follows.made.shape;
-        kind = w.kind ∙ sym here.follows.made.kind;
-        band = here.band;
-        place = rw w.shape (sym (time_at lawful.order is z _ here.come low high));
-      }
-
-  -- its residuals may be asked for
-  abbrev pub may_read : (t place count : ℕ) → t ≡ time_of p.shape tile.place → place ≡ sample_count p.shape - length left → count ≡ tile.columns * tile.bands
-      → MayAskEach d (band_in tile) (time_in tile t) place count
-  may_read t place count time stands whole = record {
-    params = p;
-    numbers = w.numbers;
-    bits = w.read;
-    lawful = lawful;
-    given = w.given;
-    stands = omega (arith, stands, numbers_long lawful w);
-    ask = rw whole (numbers_in p tile t _ lawful.order is (numbers_long lawful w ∙ at) time);
+  walked_whole none cube = record {
+    cube = record { cube = cube; shape = w.shape; kind = w.kind };
+    body = w.read;
+    coded = rw (← residuals_whole p c lawful.order w.shape)
+        (given_whole p d _ w.read lawful (rw none at w.given) (let long = rw none at numbers_long in omega (arith, long)));
+    text = w.text;
   }
 
-  -- the residuals of the tile were given: the image with its samples has them
-  module _ {e : Image} {after : List Learner} (new : Decoder) {behind : List Bool} (deltas : List ℕ) (filled : IsFilled p c e tile after deltas)
-      (alike : AreAlike c e) (gives : GivesAll p new w.numbers w.read now behind deltas) (long : length deltas ≡ tile.columns * tile.bands)
-      (many : length after ≡ length bands) where
-    value : (k : ℕ) → k < length deltas
-        → (q : Place) × (slice_get left k ≡ Some q) × (mapped_residual p e q.z (q.y * e.shape.columns + q.x) ≡ slice_index deltas k)
-    value k lt =
-        let v = within tile.columns tile.bands k is.some.1 (omega (arith, lt, long)) in
-        let item = ap (λ (ps : List Place). slice_get ps k) w.rest ∙ get_drop (places p.shape p.order) (gone_count p left) k
-        ∙ ap (λ (n : ℕ). slice_get (places p.shape p.order) (n + k)) at ∙ item_in lawful.order is k (omega (arith, lt, long)) in
-        let q : Place = place_in tile.place (k / tile.bands) (k % tile.bands) in
-        let shapes = ap (λ (s : Sizes). mapped_residual p e q.z (q.y * s.columns + q.x)) (sym alike.shape ∙ w.shape) in
-        (q, item, shapes ∙ filled.residuals _ _ v.column v.band ∙ ap (slice_index deltas) v.split)
+  -- the tile that comes next
+  module _ {tile : Tile} (is : IsInOrder p tile) (next : slice_get left 0 ≡ Some tile.place) where
+    pub at : gone_count p left ≡ start_of p tile
+    at = sym (next_place p lawful.order w.walk.rest tile.place next).index
 
-    gone : gone_count p (drop (length deltas) left) ≡ gone_count p left + length deltas
-    gone = omega (arith, all_places lawful w, fits, long, length-drop (length deltas) left)
+    pub fits : (1 ≤ tile.columns * tile.bands) × (tile.columns * tile.bands ≤ length left)
+    fits = (mul-le 1 1 tile.columns tile.bands is.some.0 is.some.1, tile_fits p lawful.order w.walk.rest is next)
 
-    all : residuals_at p e (gone_by p (drop (length deltas) left)) ≡ w.numbers ++ deltas
-    all =
-        let whole : gone_by p (drop (length deltas) left) ≡ gone_by p left ++ take (length deltas) left =
-        ap (λ (n : ℕ). take n (places p.shape p.order)) gone ∙ take-add (gone_count p left) (length deltas) (places p.shape p.order)
-        ∙ ap (λ (ps : List Place). gone_by p left ++ take (length deltas) ps) (sym w.rest) in
-        let before = sym (residuals_same lawful w.shape alike left (rw at filled.same)) ∙ w.same in
-        ap (residuals_at p e) whole ∙ map-append _ (gone_by p left) (take (length deltas) left)
-        ∙ ap₂ (λ (ms ns : List ℕ). ms ++ ns) before (map_taken _ _ _ value)
+    pub come : ComeTo p c tile bands
+    come = record { lawful = lawful; shape = w.shape; kind = w.kind; is = is; along = rw at at w.walk.along }
 
-    pub walked_more : IsWalked p e (drop (length deltas) left) after new start behind
-    walked_more = record {
-      shape = sym alike.shape ∙ w.shape;
-      kind = sym alike.kind ∙ w.kind;
-      many = many ∙ w.many;
-      rest = ap (drop (length deltas)) w.rest ∙ drop-drop (length deltas) (gone_count p left) (places p.shape p.order)
-          ∙ ap (λ (n : ℕ). drop n (places p.shape p.order)) (omega (arith, gone));
-      along = rw (gone, at) filled.along;
-      numbers = w.numbers ++ deltas;
-      same = all;
-      read = w.read ++ gives.1;
-      text = w.text ∙ ap (λ (x : List Bool). w.read ++ x) gives.2 ∙ sym (append_assoc w.read gives.1 behind);
-      given = gives.3;
+    -- its residuals may be asked for
+    abbrev pub may_read : (t place count : ℕ) → t ≡ time_of p.shape tile.place → place ≡ sample_count p.shape - length left
+        → count ≡ tile.columns * tile.bands → MayAskEach d (band_in tile) (time_in tile t) place count
+    may_read t place count time stands whole = record {
+      params = p;
+      numbers = residuals_at p c (gone_by p left);
+      bits = w.read;
+      lawful = lawful;
+      given = w.given;
+      stands = omega (arith, stands, numbers_long);
+      ask = rw whole (numbers_in p tile t _ lawful.order is (numbers_long ∙ at) time);
     }
+
+    -- the residuals of the tile were given: the image with its samples has them
+    module _ {e : Image} {after : List Learner} (new : Decoder) {behind : List Bool} (deltas : List ℕ) (filled : IsFilled p c e tile after deltas)
+        (alike : AreAlike c e) (gives : GivesAll p new (residuals_at p c (gone_by p left)) w.read now behind deltas)
+        (long : length deltas ≡ tile.columns * tile.bands) (many : length after ≡ length bands) where
+      value : (k : ℕ) → k < length deltas
+          → (q : Place) × (slice_get left k ≡ Some q) × (mapped_residual p e q.z (q.y * e.shape.columns + q.x) ≡ slice_index deltas k)
+      value k lt =
+          let v = within tile.columns tile.bands k is.some.1 (omega (arith, lt, long)) in
+          let shapes = ap (λ (s : Sizes). mapped_residual p e (tile.place.z + k % tile.bands) (tile.place.y * s.columns + (tile.place.x + k / tile.bands))) (sym alike.shape ∙ w.shape) in (
+            _,
+            tile_item p lawful.order w.walk.rest is next k (omega (arith, lt, long)),
+            shapes ∙ filled.residuals _ _ v.column v.band ∙ ap (slice_index deltas) v.split,
+          )
+
+      pub walked_more : IsWalked p e (drop (length deltas) left) after new start behind
+      walked_more =
+          let goes = goes_by p lawful.order w.walk.rest (length deltas) (omega (arith, long, fits.1)) in
+          let before = residuals_same lawful w.shape alike left (rw at filled.same) in
+          let all = ap (residuals_at p e) goes.gone ∙ map-append _ (gone_by p left) (take (length deltas) left)
+          ∙ ap₂ (λ (ms ns : List ℕ). ms ++ ns) (sym before) (map_taken _ _ _ value) in
+          record {
+            shape = sym alike.shape ∙ w.shape;
+            kind = sym alike.kind ∙ w.kind;
+            walk = record { rest = goes.others; many = many ∙ w.walk.many; along = rw (goes.count, at) filled.along };
+            read = w.read ++ gives.1;
+            text = w.text ∙ ap (λ (x : List Bool). w.read ++ x) gives.2 ∙ sym (append_assoc w.read gives.1 behind);
+            given = rw all gives.3;
+          }
 
 -- ---- rooms
 

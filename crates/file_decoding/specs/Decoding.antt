@@ -9,6 +9,7 @@ use Rattle.header_bits.specs.declared.params.Params.{Params}
 use Rattle.header_bits.specs.Bits.{Unread, bits_of_bytes}
 use Rattle.header_bits.specs.Header.{BeginsWithTable}
 use Rattle.header_bits.specs.Lawful.{IsLawful}
+use Rattle.predict_core.specs.Cubes.{IsCubeOf}
 use Rattle.predict_core.specs.Residual.{residuals}
 use Rattle.block_adaptive.specs.Settings.{IsBlock, IsCutOf, cut_by}
 use Rattle.block_adaptive.specs.Given.{Unpacked, given_count, HasGiven as HaveGiven}
@@ -16,7 +17,7 @@ use Rattle.block_adaptive.specs.DataSets.{capacity}
 use Rattle.file_coding.specs.Coding.{SamplesTaken, IsNumber}
 use Rattle.file_decoding.specs.declared.decoder.Decoder.{Decoder}
 use Rattle.file_decoding.specs.declared.decoder.Decoder.TheVariants.{Samples, Blocks}
-use Rattle.file_decoding.specs.Files.{IsBody, IsCubeOf, IsFile, behind_body, head_at, file_test}
+use Rattle.file_decoding.specs.Files.{IsBody, IsFile, behind_body, head_at, file_test}
 
 -- the block-adaptive coder has given the numbers, and has read the bits
 pub record BlocksGiven (p : Params) (v : Unpacked) (numbers : List ℕ) (bits : List Bool) : Type 0 where

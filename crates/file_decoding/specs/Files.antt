@@ -4,7 +4,7 @@ use Rattle.cube_core.specs.declared.fault.Fault.{Fault}
 use Rattle.cube_core.specs.declared.fault.Fault.TheVariants.{TooLong, BadFill}
 use Rattle.cube_core.specs.Steps.{Test, ◌>>=◌, ◌>>◌, refuse_if}
 use Rattle.cube_core.specs.Shape.{sample_count}
-use Rattle.cube_core.specs.Image.{Image, IsCube}
+use Rattle.cube_core.specs.Image.{Image}
 use Rattle.cube_core.specs.Order.{places}
 use Rattle.header_bits.specs.declared.params.Params.{Params}
 use Rattle.header_bits.specs.declared.params.Coder.{Coder}
@@ -12,6 +12,7 @@ use Rattle.header_bits.specs.declared.params.Coder.TheVariants.{Sample, Block}
 use Rattle.header_bits.specs.Bits.{bits_of_bytes}
 use Rattle.header_bits.specs.Reading.{Reading}
 use Rattle.header_bits.specs.Header.{header_at, SpellsHeader}
+use Rattle.predict_core.specs.Cubes.{IsCubeOf}
 use Rattle.predict_core.specs.Residual.{residuals}
 use Rattle.sample_adaptive.specs.Settings.{settings}
 use Rattle.sample_adaptive.specs.Body.{sample_body}
@@ -28,12 +29,6 @@ IsBodyBy (Block size restricted reference) p numbers bits = IsBlockBody (record 
 -- the bits are a body of residuals, by the coder that the parameters name
 abbrev pub IsBody : Params → List ℕ → List Bool → Type 0
 IsBody p numbers bits = IsBodyBy p.coder p numbers bits
-
--- a cube of the parameters' shape and kind
-pub record IsCubeOf (p : Params) (c : Image) : Type 0 where
-  pub cube : IsCube c
-  pub shape : c.shape ≡ p.shape
-  pub kind : c.kind ≡ p.kind
 
 -- the bytes are a header of the parameters, a body of the cube's residuals, and fewer zeros than an output word has bits
 pub record IsFile (bytes : List ℕ) (p : Params) (c : Image) : Type 0 where

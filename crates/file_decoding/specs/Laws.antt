@@ -5,9 +5,9 @@ use Rattle.header_bits.specs.declared.params.Params.{Params}
 use Rattle.header_bits.specs.Bits.{bits_of_bytes}
 use Rattle.header_bits.specs.Parts.{fine}
 use Rattle.header_bits.specs.Lawful.{IsLawful}
-use Rattle.predict_core.specs.Residual.{residuals}
+use Rattle.predict_core.specs.Cubes.{IsCubeOf}
 use Rattle.file_coding.specs.File.{file_of}
-use Rattle.file_decoding.specs.Files.{IsCubeOf, IsFile, file_test}
+use Rattle.file_decoding.specs.Files.{IsFile, file_test}
 use Rattle.file_decoding.specs.Least.{least_length}
 
 -- the file that is written of a cube is a file of it
@@ -27,10 +27,6 @@ abbrev pub NoShorterFile : Type 0
 NoShorterFile =
     (bytes : List ℕ) (p : Params) (c : Image) → IsLawful p → (f : IsFile bytes p c)
     → length f.header + least_length p ≤ 8 * length bytes
-
--- two cubes that have the same residuals are one
-abbrev pub OneCube : Type 0
-OneCube = (p : Params) (c d : Image) → IsLawful p → IsCubeOf p c → IsCubeOf p d → residuals p c ≡ residuals p d → c ≡ d
 
 -- no bytes are a file of two pairs of parameters and cube
 abbrev pub OneFile : Type 0

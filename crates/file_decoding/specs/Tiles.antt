@@ -1,13 +1,12 @@
 -- The places that are decoded together: columns of one row, each with the same bands.
-use Rattle.std.specs.Prelude.{ℕ, ◌≡◌, ◌+◌, ◌*◌, ◌/◌, ◌%◌, ◌<◌, ◌≤◌, List, length, slice_get, slice_index, Some}
-use Rattle.cube_core.specs.declared.order.Order.{Order}
-use Rattle.cube_core.specs.declared.order.Place.{Place}
-use Rattle.cube_core.specs.Image.{Image, sample_at}
-use Rattle.cube_core.specs.Order.{IsPlaceOf, place_index}
+use Rattle.std.specs.Prelude.{ℕ, ◌≡◌, ◌+◌, ◌*◌, ◌/◌, ◌%◌, ◌<◌, ◌≤◌, List, length, slice_index}
+use Rattle.cube_core.specs.Image.{Image}
+use Rattle.cube_core.specs.Order.{place_index}
 use Rattle.cube_core.specs.Tiles.{IsTiled, most_bands}
 use Rattle.header_bits.specs.declared.params.Params.{Params}
 use Rattle.header_bits.specs.Lawful.{IsLawful}
 use Rattle.predict_core.specs.Following.{Learner}
+use Rattle.predict_core.specs.Precedence.{SameBefore}
 use Rattle.predict_core.specs.Residual.{mapped_residual}
 use Rattle.predict_core.specs.Walked.{AreAlong}
 use Rattle.file_decoding.specs.declared.tile.Tile.{Tile}
@@ -32,27 +31,13 @@ time_in tile t k = t + k / tile.bands
 abbrev pub start_of : Params → Tile → ℕ
 start_of p tile = place_index p.shape p.order tile.place
 
--- band z of a tile is at the tile's first column
-pub record IsReady (c : Image) (tile : Tile) (z : ℕ) (f : Learner) : Type 0 where
-  pub shape : c.shape ≡ f.shape
-  pub kind : c.kind ≡ f.kind
-  pub band : f.band ≡ z
-  pub place : f.place ≡ tile.place.y * c.shape.columns + tile.place.x
-
-abbrev pub AreReady : Image → Tile → List Learner → Type 0
-AreReady c tile bands =
-    (z : ℕ) (f : Learner) → tile.place.z ≤ z → z < tile.place.z + tile.bands → slice_get bands z ≡ Some f → IsReady c tile z f
-
 -- bands have come to a tile, and follow the image as far
 pub record ComeTo (p : Params) (c : Image) (tile : Tile) (bands : List Learner) : Type 0 where
   pub lawful : IsLawful p
   pub shape : c.shape ≡ p.shape
+  pub kind : c.kind ≡ p.kind
   pub is : IsInOrder p tile
   pub along : AreAlong p c (start_of p tile) bands
-
--- two images that are one at all places of an index below i in an order
-abbrev pub SameBefore : Order → Image → Image → ℕ → Type 0
-SameBefore o c d i = (r : Place) → IsPlaceOf c.shape r → place_index c.shape o r < i → sample_at c r.z r.y r.x ≡ sample_at d r.z r.y r.x
 
 -- an image has these residuals at the places of a tile's first n bands
 abbrev pub HasResiduals : Params → Image → Tile → List ℕ → ℕ → Type 0

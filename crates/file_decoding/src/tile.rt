@@ -7,7 +7,7 @@ ghost use Rattle.header_bits.specs.declared.params.Params.{Params as Parameters}
 ghost use Rattle.header_bits.specs.Lawful.{IsLawful};
 ghost use Rattle.predict_core.specs.Precedence.{AreAlike};
 ghost use Rattle.file_decoding.specs.Decoding.{MayAskEach, GivesEach};
-ghost use Rattle.file_decoding.specs.Tiles.{IsTile, AreReady, ComeTo, IsFilled, band_in, time_in};
+ghost use Rattle.file_decoding.specs.Tiles.{IsTile, ComeTo, IsFilled, band_in, time_in};
 
 use crate::decoder::Decoder;
 use cube_core::cube::Cube;
@@ -121,7 +121,7 @@ impl Tile {
         requires columns { self.now.place.x + self.now.columns ≤ cube.old.shape.columns }
         requires place { (1 ≤ self.now.columns) × IsPlaceOf cube.old.shape self.now.place }
         requires inside { (self.now.place.z + self.now.bands ≤ cube.old.shape.bands) × (length bands.old ≡ cube.old.shape.bands) }
-        requires ready { AreReady cube.old self.now bands.old }
+        requires come { (p : Parameters) × ComeTo p cube.old self.now bands.old }
         requires whole { length deltas.now ≡ self.now.columns * self.now.bands }
         requires residuals_in { (k : ℕ) → k < length deltas.now → slice_index deltas.now k < 2 ^ cube.old.kind.bits }
         ensures alike { AreAlike cube.old cube.new }

@@ -4,10 +4,13 @@ use Rattle.std.proofs.Common.{arith, ap, mul-le-mul_right, le_antisymm}
 use Rattle.std.proofs.Math.Nat.{div-mul-le_self, div-zero}
 use Rattle.std.proofs.lemmas.Nat.{le-div}
 use Rattle.std.proofs.lemmas.Bool.{cases_lt, cases_order}
-use Rattle.cube_core.specs.Order.{place_key, IsBefore}
+use Rattle.cube_core.specs.Shape.{Sizes}
+use Rattle.cube_core.specs.Order.{IsOrder, IsPlaceOf, place_index, place_key, IsBefore}
 use Rattle.cube_core.specs.declared.order.Order.{Order}
 use Rattle.cube_core.specs.declared.order.Order.TheVariants.{Bsq, Bi}
 use Rattle.cube_core.specs.declared.order.Place.{Place}
+use Rattle.cube_core.proofs.Come.{time_of, time_increases}
+use Rattle.cube_core.proofs.Keys.{key_increases}
 use Rattle.predict_core.specs.Precedence.{IsEarlier}
 
 row_order : (columns y x y' x' : ℕ) → x < columns → x' < columns → y' * columns + x' ≤ y * columns + x → (y' < y) ⊎ ((y' ≡ y) × (x' ≤ x))
@@ -57,3 +60,14 @@ pub before_is : (order : Order) (columns : ℕ) (place earlier : Place) → plac
     → IsEarlier place.z (place.y * columns + place.x) earlier.z (earlier.y * columns + earlier.x) → IsBefore (place_key order earlier) (place_key order place)
 before_is Bsq columns place earlier h k e = by_bands columns place.z place.y place.x earlier.z earlier.y earlier.x h k e
 before_is (Bi depth) columns place earlier h k e = by_groups depth columns place.z place.y place.x earlier.z earlier.y earlier.x h k e
+
+-- a place that stands no further in its band than one of that band or of one above stands no further in the order
+pub low_index : (s : Sizes) (o : Order) (p q : Place) → IsOrder s o → IsPlaceOf s p → IsPlaceOf s q → p.z ≤ q.z → time_of s p ≤ time_of s q
+    → place_index s o p ≤ place_index s o q
+low_index s o p q lawful a b low le = elim (cases_lt p.z q.z) [
+  | inl below ↦ (let g = key_increases s o p q lawful a b (before_is o s.columns q p b.column a.column (inl (below, le))) in omega arith)
+  | inr same ↦ elim (cases_lt (place_index s o q) (place_index s o p)) [
+    | inl lt ↦ absurd (omega (arith, le, time_increases s o q p lawful b a (omega (arith, low, same)) lt))
+    | inr not ↦ not
+  ]
+]

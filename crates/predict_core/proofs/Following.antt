@@ -2,6 +2,7 @@
 use Rattle.std.proofs.Common.{◌≡◌, ◌+◌, ◌*◌, ◌/◌, ◌%◌, ◌<◌, ℕ, zero, suc, ℤ, pos, ◌-ℤ◌, ◌*ℤ◌, int_lt, List, arith, refl, ◌∙◌, ap, add-one}
 use Rattle.std.proofs.lemmas.Nat.{div-mul-add, mod-mul-add}
 use Rattle.header_bits.specs.declared.params.Params.{Params}
+use Rattle.cube_core.specs.declared.order.Place.{Place}
 use Rattle.cube_core.specs.Image.{Image, sample_at}
 use Rattle.predict_core.specs.declared.predictor.Predictor.{Predictor}
 use Rattle.predict_core.specs.Predictor.{predictor_of}
@@ -16,6 +17,11 @@ row_is columns t y x e h = rw e (div-mul-add y columns x h)
 
 pub column_is : (columns t y x : ℕ) → t ≡ y * columns + x → x < columns → t % columns ≡ x
 column_is columns t y x e h = rw e (mod-mul-add y columns x h)
+
+pub mapped_at : (p : Params) (c : Image) (q : Place) (t : ℕ) → t ≡ q.y * c.shape.columns + q.x → q.x < c.shape.columns
+    → mapped_residual p c q.z t ≡ mapped c.kind (scaled_prediction p c q.z t) (sample_at c q.z q.y q.x)
+unfolding mapped_residual
+mapped_at p c q t e lt = rw (row_is _ _ _ _ e lt, column_is _ _ _ _ e lt) refl
 
 pub next_is : (p : Predictor) (c : Image) (z t y x : ℕ) (ws new : List ℤ) (scaled sample : ℤ) → t ≡ y * c.shape.columns + x → x < c.shape.columns
     → scaled ≡ scaled_there p c z y x ws → sample ≡ sample_at c z y x

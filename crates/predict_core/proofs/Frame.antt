@@ -1,10 +1,10 @@
 -- What is read at a place is earlier.
 use Rattle.std.proofs.Common.{◌≡◌, ◌≢◌, ◌⊎◌, inl, inr, ◌+◌, ◌-◌, ◌*◌, ◌/◌, ◌%◌, ◌<◌, ◌≤◌, ℕ, zero, suc, ℤ, pos, ◌*ℤ◌, true, false, List}
-use Rattle.std.proofs.Common.{arith, refl, ◌∙◌, sym, ap, ap₂, subst, div-add-mod'}
+use Rattle.std.proofs.Common.{arith, refl, ◌∙◌, sym, ap, div-add-mod'}
 use Rattle.std.proofs.Math.Nat.{mod-lt}
 use Rattle.std.proofs.Math.Arith.{digits_lt}
 use Rattle.std.proofs.lemmas.Nat.{div_below}
-use Rattle.std.proofs.lemmas.Bool.{cases_eq, cases_lt, cases_Bool}
+use Rattle.std.proofs.lemmas.Bool.{cases_eq, cases_Bool}
 use Rattle.std.proofs.lemmas.Bool.Decides.{nat_tests}
 use Rattle.header_bits.specs.declared.params.Params.{Params}
 use Rattle.cube_core.specs.Shape.{Sizes}
@@ -14,9 +14,10 @@ use Rattle.predict_core.specs.declared.predictor.Predictor.{Predictor}
 use Rattle.predict_core.specs.Predictor.{predictor_of, previous_bands}
 use Rattle.predict_core.specs.LocalSum.{local_sum}
 use Rattle.predict_core.specs.Differences.{central_difference, spectral_differences, directional_differences, difference_vector}
-use Rattle.predict_core.specs.Weights.{step_exponent}
-use Rattle.predict_core.specs.Prediction.{scaled_by, scaled_there, next_weights, weight_vector, first_scaled, scaled_prediction}
-use Rattle.predict_core.specs.Precedence.{AreAlike, Agree, IsEarlier, PlacesPrecede}
+use Rattle.predict_core.specs.Prediction.{scaled_there, next_weights, weight_vector, first_scaled, scaled_prediction}
+use Rattle.predict_core.specs.Residual.{mapped_residual}
+use Rattle.predict_core.specs.Precedence.{Agree, PlacesPrecede}
+use Rattle.predict_core.specs.RunPlaces.{AreAlikeBeside}
 use Rattle.predict_core.proofs.Padding.{first_from_middle, first_from_below}
 use Rattle.predict_core.proofs.Directions.{directional_first, directional_left, directional_inside}
 use Rattle.predict_core.proofs.Earlier.{before_is}
@@ -78,83 +79,67 @@ module _ (p : Predictor) (c d : Image) (same : c.shape.columns ≡ d.shape.colum
       ]
 
 -- what is read at a place of one band
-module _ (p : Predictor) (c d : Image) (z y x : ℕ) (place : IsPlace c.shape z y x)
-    (later : 0 < y + x) (wide : p.column ≡ false → 2 ≤ c.shape.columns) (agree : Agree c d z (y * c.shape.columns + x)) where
-  own : (y' x' : ℕ) → x' < c.shape.columns → y' * c.shape.columns + x' < y * c.shape.columns + x → y' ≤ y → sample_at c z y' x' ≡ sample_at d z y' x'
-  own y' x' h l k = agree.samples z y' x' (record { band = place.band; row = (let r = place.row in omega arith); column = h }) (inr (refl, l))
+module _ (p : Predictor) (c d : Image) (z y x : ℕ) (place : IsPlace c.shape z y x) (later : 0 < y + x) (wide : p.column ≡ false → 2 ≤ c.shape.columns) where
+  -- of the bands below
+  module _ {t : ℕ} (agree : Agree c d z t (suc (y * c.shape.columns + x))) where
+    same_columns : c.shape.columns ≡ d.shape.columns
+    same_columns = ap (λ (s : Sizes). s.columns) agree.alike.shape
 
-  under : (z' y' x' : ℕ) → z' < z → x' < c.shape.columns → y' * c.shape.columns + x' ≤ y * c.shape.columns + x → y' ≤ y
-      → sample_at c z' y' x' ≡ sample_at d z' y' x'
-  under z' y' x' b h l k =
-      agree.samples z' y' x' (record { band = (let r = place.band in omega arith); row = (let r = place.row in omega arith); column = h }) (inl (b, l))
+    under : (z' y' x' : ℕ) → z' < z → x' < c.shape.columns → y' * c.shape.columns + x' ≤ y * c.shape.columns + x → y' ≤ y
+        → sample_at c z' y' x' ≡ sample_at d z' y' x'
+    under z' y' x' b h l k =
+        agree.under z' y' x' (record { band = (let r = place.band in omega arith); row = (let r = place.row in omega arith); column = h }) b (omega arith)
 
-  central_same : (z' : ℕ) → z' < z → central_difference p c z' y x ≡ central_difference p d z' y x
-  unfolding central_difference
-  central_same z' b =
-      let s = under z' y x b place.column (omega arith) (omega arith) in
-      let m = local_sum_same p c d (ap (λ (s : Sizes). s.columns) agree.alike.shape) z' y x later wide place.column
-      (λ y' x' h l k. under z' y' x' b h (omega arith) k) in
-      rw (s, m) refl
+    central_same : (z' : ℕ) → z' < z → central_difference p c z' y x ≡ central_difference p d z' y x
+    unfolding central_difference
+    central_same z' b =
+        let s = under z' y x b place.column (omega arith) (omega arith) in
+        let m = local_sum_same p c d same_columns z' y x later wide place.column (λ y' x' h l k. under z' y' x' b h (omega arith) k) in
+        rw (s, m) refl
 
-  spectral_same : (n : ℕ) → n ≤ z → spectral_differences p c z y x n ≡ spectral_differences p d z y x n
-  unfolding spectral_differences
-  spectral_same zero h = refl
-  spectral_same (suc n) h =
-      let a = spectral_same n (omega arith) in
-      let b = central_same (z - suc n) (omega arith) in
-      rw (a, b) refl
+    pub spectral_same : (n : ℕ) → n ≤ z → spectral_differences p c z y x n ≡ spectral_differences p d z y x n
+    unfolding spectral_differences
+    spectral_same zero h = refl
+    spectral_same (suc n) h =
+        let a = spectral_same n (omega arith) in
+        let b = central_same (z - suc n) (omega arith) in
+        rw (a, b) refl
 
-  pub sum_same : local_sum p c z y x ≡ local_sum p d z y x
-  sum_same = local_sum_same p c d (ap (λ (s : Sizes). s.columns) agree.alike.shape) z y x later wide place.column own
+  module _ (agree : Agree c d z (y * c.shape.columns + x) (suc (y * c.shape.columns + x))) where
+    own : (y' x' : ℕ) → x' < c.shape.columns → y' * c.shape.columns + x' < y * c.shape.columns + x → y' ≤ y → sample_at c z y' x' ≡ sample_at d z y' x'
+    own y' x' h l k = agree.own y' x' (record { band = place.band; row = (let r = place.row in omega arith); column = h }) l
 
-  pub vector_same : difference_vector p c z y x ≡ difference_vector p d z y x
-  unfolding difference_vector
-  vector_same =
-      let a = spectral_same (previous_bands p z) (omega arith) in
-      let b = directional_same p c d (ap (λ (s : Sizes). s.columns) agree.alike.shape) z y x later wide place.column own in
-      rw (a, b) refl
+    pub sum_same : local_sum p c z y x ≡ local_sum p d z y x
+    sum_same = local_sum_same p c d (same_columns agree) z y x later wide place.column own
 
-pub exponent_same : (p : Predictor) (c d : Image) (t : ℕ) → AreAlike c d
-    → step_exponent p c.shape.columns c.kind.bits t ≡ step_exponent p d.shape.columns d.kind.bits t
-exponent_same p c d t k = ap₂ (λ n m. step_exponent p n m t) (ap (λ (s : Sizes). s.columns) k.shape) (ap (λ (s : SampleKind). s.bits) k.kind)
+    pub vector_same : difference_vector p c z y x ≡ difference_vector p d z y x
+    unfolding difference_vector
+    vector_same =
+        let a = spectral_same agree (previous_bands p z) (omega arith) in
+        let b = directional_same p c d (same_columns agree) z y x later wide place.column own in
+        rw (a, b) refl
 
-pub scaled_there_same : (p : Predictor) (c d : Image) (z y x : ℕ) (ws : List ℤ) → c.kind ≡ d.kind → local_sum p c z y x ≡ local_sum p d z y x
-    → difference_vector p c z y x ≡ difference_vector p d z y x → scaled_there p c z y x ws ≡ scaled_there p d z y x ws
-unfolding scaled_there
-scaled_there_same p c d z y x ws k s u =
-    ap (λ kind. scaled_by p kind (local_sum p c z y x) ws (difference_vector p c z y x)) k
-    ∙ ap₂ (λ sum us. scaled_by p d.kind sum ws us) s u
+    pub scaled_there_same : (ws : List ℤ) → scaled_there p c z y x ws ≡ scaled_there p d z y x ws
+    unfolding scaled_there
+    scaled_there_same ws = rw (sum_same, vector_same, agree.alike.kind) refl
 
--- images that agree before a place agree before each earlier one
-agree_before : (c d : Image) (z s t : ℕ) → s ≤ t → Agree c d z t → Agree c d z s
-agree_before c d z s t h a = record { alike = a.alike; samples = λ z' y' x' q e. a.samples z' y' x' q (weaken z' (y' * c.shape.columns + x') e) }
-  where
-    weaken : (z' t' : ℕ) → IsEarlier z s z' t' → IsEarlier z t z' t'
-    weaken z' t' (inl (b, l)) = inl (b, omega arith)
-    weaken z' t' (inr (b, l)) = inr (b, omega arith)
+-- images that are one beside a run of a band agree on the bands below it
+pub beside_agree : {c d : Image} {z y x n : ℕ} → AreAlikeBeside c d z y x n → (z' t u : ℕ) → z' ≤ z → (z' ≡ z → t ≡ 0) → Agree c d z' t u
+beside_agree a z' t u low none = record {
+  alike = a.alike;
+  own = λ y x q l. a.samples z' y x q (λ e f g. absurd (let first = none e in omega arith));
+  under = λ z'' y x q b l. a.samples z'' y x q (λ e f g. absurd (omega (arith, e, b, low)));
+}
 
--- the row and the column of a place that is not the first
-module _ (c : Image) (z t : ℕ) (band : z < c.shape.bands) (some : 0 < c.shape.columns) (inside : t < c.shape.rows * c.shape.columns) where
-  place_of : IsPlace c.shape z (t / c.shape.columns) (t % c.shape.columns)
-  place_of = record { band = band; row = div_below t c.shape.columns c.shape.rows some inside; column = mod-lt t some }
+-- images that agree so far agree less far
+pub agree_less : {c d : Image} {z t u : ℕ} (s v : ℕ) → s ≤ t → v ≤ u → Agree c d z t u → Agree c d z s v
+agree_less s v h k a = record { alike = a.alike; own = λ y x q l. a.own y x q (omega arith); under = λ z' y x q b l. a.under z' y x q b (omega arith) }
 
-  index_of : t / c.shape.columns * c.shape.columns + t % c.shape.columns ≡ t
-  index_of = div-add-mod' t c.shape.columns
+pub later_place : (columns y x : ℕ) → 0 < y * columns + x → 0 < y + x
+later_place columns zero x l = omega (arith, l)
+later_place columns (suc y) x l = omega arith
 
-  later_of : 0 < t → 0 < t / c.shape.columns + t % c.shape.columns
-  later_of h = elim (cases_lt 0 (t / c.shape.columns + t % c.shape.columns)) [ inl l ↦ l | inr l ↦ absurd (none l) ]
-    where
-      none : t / c.shape.columns + t % c.shape.columns ≤ 0 → ⊥
-      none l =
-          let a : t / c.shape.columns ≡ 0 = omega arith in
-          let e : 0 * c.shape.columns + t % c.shape.columns ≡ t = rw a at index_of in
-          omega (arith, e)
-
-rows_some : (a b : ℕ) → 0 < a * b → 0 < a
-rows_some zero b h = absurd (omega arith)
-rows_some (suc a) b h = omega arith
-
-pub first_scaled_same : (p : Predictor) (c d : Image) (z : ℕ) → z < c.shape.bands → 0 < c.shape.columns → 0 < c.shape.rows → Agree c d z 0
+pub first_scaled_same : (p : Predictor) (c d : Image) (z : ℕ) → z < c.shape.bands → 0 < c.shape.columns → 0 < c.shape.rows → Agree c d z 0 1
     → first_scaled p c z ≡ first_scaled p d z
 first_scaled_same p c d z band some rows a =
     elim (cases_eq p.previous 0) [
@@ -167,75 +152,72 @@ first_scaled_same p c d z band some rows a =
 
     below : p.previous ≢ 0 → z ≢ 0 → first_scaled p c z ≡ first_scaled p d z
     below n m =
-        let s = a.samples (z - 1) 0 0 (record { band = omega arith; row = rows; column = some }) (inl (omega arith, omega arith)) in
+        let s = a.under (z - 1) 0 0 (record { band = omega arith; row = rows; column = some }) (omega arith) (omega arith) in
         first_from_below p c z n m ∙ ap (λ v. pos 2 *ℤ v) s ∙ sym (first_from_below p d z n m)
 
--- what a place of one band reads
-module _ (p : Predictor) (c d : Image) (z : ℕ) (band : z < c.shape.bands) (some : 0 < c.shape.columns) (wide : p.column ≡ false → 2 ≤ c.shape.columns) where
-  row_same : (t : ℕ) → Agree c d z t → t / d.shape.columns ≡ t / c.shape.columns
-  row_same t a = ap (λ (s : Sizes). t / s.columns) (sym a.alike.shape)
-
-  column_same : (t : ℕ) → Agree c d z t → t % d.shape.columns ≡ t % c.shape.columns
-  column_same t a = ap (λ (s : Sizes). t % s.columns) (sym a.alike.shape)
-
-  pub place_same : (t : ℕ) → 0 < t → t < c.shape.rows * c.shape.columns → Agree c d z t
-      → (difference_vector p c z (t / c.shape.columns) (t % c.shape.columns) ≡ difference_vector p d z (t / c.shape.columns) (t % c.shape.columns))
-      × (local_sum p c z (t / c.shape.columns) (t % c.shape.columns) ≡ local_sum p d z (t / c.shape.columns) (t % c.shape.columns))
-  place_same t h k a =
-      let e = index_of c z t band some k in
-      let b : Agree c d z (t / c.shape.columns * c.shape.columns + t % c.shape.columns) = subst (Agree c d z) (sym e) a in (
-        vector_same p c d z (t / c.shape.columns) (t % c.shape.columns) (place_of c z t band some k) (later_of c z t band some k h) wide b,
-        sum_same p c d z (t / c.shape.columns) (t % c.shape.columns) (place_of c z t band some k) (later_of c z t band some k h) wide b,
-      )
-
-  next_same : (t : ℕ) (ws : List ℤ) → 0 < t → t < c.shape.rows * c.shape.columns → Agree c d z (suc t) → next_weights p c z t ws ≡ next_weights p d z t ws
-  unfolding next_weights
-  next_same t ws h k a =
-      let before = agree_before c d z t (suc t) (omega arith) a in
-      let r = place_same t h k before in
-      let v : sample_at c z (t / c.shape.columns) (t % c.shape.columns) ≡ sample_at d z (t / c.shape.columns) (t % c.shape.columns) =
-      a.samples z (t / c.shape.columns) (t % c.shape.columns) (place_of c z t band some k)
-      (inr (refl, (let e = index_of c z t band some k in omega (arith, e)))) in
-      let s = scaled_there_same p c d z (t / c.shape.columns) (t % c.shape.columns) ws a.alike.kind r.1 r.0 in
-      rw (row_same t before, column_same t before, s, r.0, v, exponent_same p c d t a.alike) refl
-
--- what is known of a band at each of its places
+-- what is known of a band at its place t
 module _ (p : Params) (c d : Image) (z : ℕ) (band : z < c.shape.bands) (some : 0 < c.shape.columns) (wide : p.column ≡ false → 2 ≤ c.shape.columns) where
-  pub weights_same : (t : ℕ) → t ≤ c.shape.rows * c.shape.columns → Agree c d z t → weight_vector p c z t ≡ weight_vector p d z t
+  module _ (t : ℕ) (inside : t < c.shape.rows * c.shape.columns) where
+    abbrev y : ℕ
+    y = t / c.shape.columns
+
+    abbrev x : ℕ
+    x = t % c.shape.columns
+
+    index : y * c.shape.columns + x ≡ t
+    index = div-add-mod' t c.shape.columns
+
+    place : IsPlace c.shape z y x
+    place = record { band = band; row = div_below t c.shape.columns c.shape.rows some inside; column = mod-lt t some }
+
+    module _ (later : 0 < t) (agree : Agree c d z t (suc t)) where
+      before : 0 < y + x
+      before = later_place c.shape.columns y x (omega (arith, index))
+
+      scaled_at_same : (ws : List ℤ) → scaled_there (predictor_of p) c z y x ws ≡ scaled_there (predictor_of p) d z y x ws
+      scaled_at_same ws = scaled_there_same (predictor_of p) c d z y x place before wide (rw index agree) ws
+
+      next_same : (ws : List ℤ) → sample_at c z y x ≡ sample_at d z y x → next_weights (predictor_of p) c z t ws ≡ next_weights (predictor_of p) d z t ws
+      unfolding next_weights
+      next_same ws sample =
+          let differences = vector_same (predictor_of p) c d z y x place before wide (rw index agree) in
+          rw (scaled_at_same ws, differences, sample, agree.alike.shape, agree.alike.kind) refl
+
+  pub weights_same : (t : ℕ) → t ≤ c.shape.rows * c.shape.columns → Agree c d z t t → weight_vector p c z t ≡ weight_vector p d z t
   unfolding weight_vector
   weights_same zero h a = refl
   weights_same (suc zero) h a = refl
   weights_same (suc (suc t)) h a =
-      let before = agree_before c d z (suc t) (suc (suc t)) (omega arith) a in
-      next_same (predictor_of p) c d z band some wide (suc t) (weight_vector p c z (suc t)) (omega arith) (omega arith) a
-      ∙ ap (next_weights (predictor_of p) d z (suc t)) (weights_same (suc t) (omega arith) before)
+      next_same (suc t) h (omega arith) (agree_less _ _ (omega arith) (omega arith) a) (weight_vector p c z (suc t))
+      (a.own _ _ (place (suc t) h) (let e = index (suc t) h in omega arith))
+      ∙ ap (next_weights (predictor_of p) d z (suc t)) (weights_same (suc t) (omega arith) (agree_less _ _ (omega arith) (omega arith) a))
 
-  pub scaled_same : (t : ℕ) → t < c.shape.rows * c.shape.columns → Agree c d z t → scaled_prediction p c z t ≡ scaled_prediction p d z t
+  pub scaled_same : (t : ℕ) → t < c.shape.rows * c.shape.columns → Agree c d z t (suc t) → scaled_prediction p c z t ≡ scaled_prediction p d z t
   unfolding scaled_prediction
-  scaled_same zero h a = first_scaled_same (predictor_of p) c d z band some (omega (arith, rows_some c.shape.rows c.shape.columns h)) a
+  scaled_same zero h a = first_scaled_same (predictor_of p) c d z band some (let row = (place zero h).row in omega arith) a
   scaled_same (suc t) h a =
-      let r = place_same (predictor_of p) c d z band some wide (suc t) (omega arith) h a in
-      let w = weights_same (suc t) (omega arith) a in
-      let s = scaled_there_same (predictor_of p) c d z (suc t / c.shape.columns) (suc t % c.shape.columns) (weight_vector p c z (suc t)) a.alike.kind r.1 r.0 in
-      rw (row_same (predictor_of p) c d z band some wide (suc t) a, column_same (predictor_of p) c d z band some wide (suc t) a, s, w) refl
+      let weights = weights_same (suc t) (omega arith) (agree_less _ _ (omega arith) (omega arith) a) in
+      rw (scaled_at_same (suc t) h (omega arith) a (weight_vector p c z (suc t)), weights, a.alike.shape) refl
 
-pub later_place : (columns y x : ℕ) → 0 < y * columns + x → 0 < y + x
-later_place columns zero x l = omega (arith, l)
-later_place columns (suc y) x l = omega arith
+  pub residual_same : (t : ℕ) → t < c.shape.rows * c.shape.columns → Agree c d z (suc t) (suc t) → mapped_residual p c z t ≡ mapped_residual p d z t
+  unfolding mapped_residual
+  residual_same t h a =
+      let sample = a.own _ _ (place t h) (let e = index t h in omega arith) in
+      rw (scaled_same t h (agree_less _ _ (omega arith) (omega arith) a), sample, a.alike.shape, a.alike.kind) refl
 
 pub places_precede_lem : PlacesPrecede
 places_precede_lem p order c d place wide alike there reads =
     let some : 0 < c.shape.columns = (let q = there.column in omega arith) in
     let t : ℕ = place.y * c.shape.columns + place.x in
-    let agree : Agree c d place.z t = record {
+    let agree : Agree c d place.z t (suc t) = record {
       alike = alike;
-      samples = λ z' y' x' q e. reads (record { z = z'; y = y'; x = x' }) q
-          (before_is order c.shape.columns place (record { z = z'; y = y'; x = x' }) there.column q.column e);
+      own = λ y x q l. reads _ q (before_is order c.shape.columns place _ there.column q.column (inr (refl, l)));
+      under = λ z y x q b l. reads _ q (before_is order c.shape.columns place _ there.column q.column (inl (b, omega arith)));
     } in
     let within : t < c.shape.rows * c.shape.columns = digits_lt there.row there.column in
     record {
       sum = λ l. sum_same (predictor_of p) c d place.z place.y place.x there (later_place c.shape.columns place.y place.x l) wide agree;
       differences = λ l. vector_same (predictor_of p) c d place.z place.y place.x there (later_place c.shape.columns place.y place.x l) wide agree;
-      weights = weights_same p c d place.z there.band some wide t (omega (arith, within)) agree;
+      weights = weights_same p c d place.z there.band some wide t (omega (arith, within)) (agree_less _ _ (omega arith) (omega arith) agree);
       scaled = scaled_same p c d place.z there.band some wide t within agree;
     }

@@ -11,16 +11,14 @@ use Rattle.cube_core.specs.Order.{from}
 use Rattle.header_bits.specs.declared.params.Params.{Params}
 use Rattle.predict_core.specs.declared.predictor.Predictor.{Predictor}
 use Rattle.predict_core.specs.Predictor.{previous_bands, component_count}
-use Rattle.predict_core.specs.Differences.{central_difference, spectral_differences, directional_differences, difference_vector}
-use Rattle.predict_core.specs.Precedence.{Agree, IsEarlier}
-use Rattle.predict_core.specs.Residual.{mapped, mapped_residual, run_residuals}
+use Rattle.predict_core.specs.Differences.{spectral_differences, directional_differences, difference_vector}
+use Rattle.predict_core.specs.Residual.{mapped_residual, run_residuals}
 use Rattle.predict_core.specs.RunPlaces.{AreAlikeBeside}
 use Rattle.predict_core.specs.Rooms.{quads_of}
 use Rattle.predict_core.specs.OpenPart.{IsOpenPart, open_sum, open_directions}
 use Rattle.predict_core.proofs.Directions.{reduced_vector_is, full_vector_is, reduced_count, full_count, heads_dropped, heads_taken}
 use Rattle.predict_core.proofs.Filling.{spectral_length}
-use Rattle.predict_core.proofs.Following.{row_is, column_is}
-use Rattle.predict_core.proofs.Frame.{local_sum_same, scaled_same}
+use Rattle.predict_core.proofs.Frame.{agree_less, beside_agree, residual_same, spectral_same}
 use Rattle.predict_core.proofs.Inverting.{sample_put_beside, agree_put}
 use Rattle.predict_core.proofs.RunSteps.{one_more}
 use Rattle.predict_core.proofs.Opening.{open_sum_same, open_directions_same}
@@ -42,25 +40,11 @@ beside_next c d z y x i v place whole a = record {
 
 module _ (p : Params) (c : Image) (z y x : ℕ) (v : ℤ) (place : IsPlace c.shape z y x) (whole : length c.samples ≡ sample_count c.shape)
     (wide : p.column ≡ false → 2 ≤ c.shape.columns) where
-  agree_earlier : (t : ℕ) → t < y * c.shape.columns + x → Agree c (put c z y x v) z t
-  agree_earlier t l = record {
-    alike = record { shape = refl; kind = refl };
-    samples = λ z' y' x' q e. (agree_put c z y x v place whole).samples z' y' x' q (later (y' * c.shape.columns + x') z' e);
-  }
-    where
-      later : (t' z' : ℕ) → IsEarlier z t z' t' → IsEarlier z (y * c.shape.columns + x) z' t'
-      later t' z' (inl (b, m)) = inl (b, omega (arith, m, l))
-      later t' z' (inr (b, m)) = inr (b, omega (arith, m, l))
-
   residual_kept : (k : ℕ) → k < x → mapped_residual p c z (y * c.shape.columns + k) ≡ mapped_residual p (put c z y x v) z (y * c.shape.columns + k)
-  unfolding mapped_residual
   residual_kept k l =
-      let inside : k < c.shape.columns = omega (arith, place.column, l) in
-      let scaled =
-      scaled_same p c (put c z y x v) z place.band (omega (arith, inside)) wide _ (digits_lt place.row inside) (agree_earlier _ (omega (arith, l))) in
-      let here : IsPlace c.shape z y k = record { band = place.band; row = place.row; column = inside } in
-      rw (row_is c.shape.columns _ y k refl inside, column_is c.shape.columns _ y k refl inside)
-      (ap₂ (mapped c.kind) scaled (sample_put_beside c z y x v place whole z y k here (λ e f g. omega (arith, g, l))))
+      let within = digits_lt place.row (let inside : k < c.shape.columns = omega (arith, place.column, l) in inside) in
+      residual_same p c (put c z y x v) z place.band (let q = place.column in omega arith) wide _ within
+      (agree_less _ _ (omega (arith, l)) (omega (arith, l)) (agree_put c z y x v place whole))
 
 same_list : (f g : ℕ → ℕ) (a n : ℕ) → ((k : ℕ) → k < n → f (a + k) ≡ g (a + k)) → map f (from a n) ≡ map g (from a n)
 same_list f g a zero h = refl
@@ -91,24 +75,8 @@ residuals_next p d z y x i v deltas place whole wide l before e =
 
 module _ (q : Predictor) (c d : Image) (z y first n x : ℕ) (place : IsPlace c.shape z y x) (below : 0 < y) (wide : q.column ≡ false → 2 ≤ c.shape.columns)
     (a : AreAlikeBeside c d z y first n) where
-  under : (z' y' x' : ℕ) → z' < z → x' < c.shape.columns → y' ≤ y → sample_at c z' y' x' ≡ sample_at d z' y' x'
-  under z' y' x' b h k =
-      a.samples z' y' x' (record { band = (let r = place.band in omega arith); row = (let r = place.row in omega arith); column = h })
-      (λ e f l. absurd (omega (arith, e, b)))
-
   same_columns : c.shape.columns ≡ d.shape.columns
   same_columns = ap (λ (s : Sizes). s.columns) a.alike.shape
-
-  central_below : (z' : ℕ) → z' < z → central_difference q c z' y x ≡ central_difference q d z' y x
-  unfolding central_difference
-  central_below z' b =
-      let m = local_sum_same q c d same_columns z' y x (omega (arith, below)) wide place.column (λ y' x' h l k. under z' y' x' b h k) in
-      rw (under z' y x b place.column (omega arith), m) refl
-
-  spectral_below : (k : ℕ) → k ≤ z → spectral_differences q c z y x k ≡ spectral_differences q d z y x k
-  unfolding spectral_differences
-  spectral_below zero h = refl
-  spectral_below (suc k) h = rw (spectral_below k (omega arith), central_below (z - suc k) (omega arith)) refl
 
   abbrev lower : List ℤ
   lower = spectral_differences q c z y x (previous_bands q z)
@@ -129,7 +97,7 @@ module _ (q : Predictor) (c d : Image) (z y first n x : ℕ) (place : IsPlace c.
     lower_from : drop k room ≡ spectral_differences q d z y x (previous_bands q z) ++ replicate (18 - count) (pos 0)
     lower_from =
         ap (drop k) gathered ∙ heads_dropped _ _ k heads_long
-        ∙ ap (λ us. us ++ replicate (18 - count) (pos 0)) (spectral_below (previous_bands q z) (omega arith))
+        ∙ ap (λ us. us ++ replicate (18 - count) (pos 0)) (spectral_same q c d z y x place (omega (arith, below)) wide (beside_agree a z 0 _ (omega arith) (λ e. refl)) (previous_bands q z) (omega arith))
 
     heads_from : take k room ≡ take k components
     heads_from = ap (take k) gathered ∙ heads_taken _ _ k heads_long

@@ -1,21 +1,22 @@
 -- An image with another sample at a place is predicted there as before.
-use Rattle.std.proofs.Common.{◌≡◌, inl, inr, ◌+◌, ◌*◌, ◌<◌, ◌≤◌, ℕ, ℤ, pos, ◌-ℤ◌, ◌*ℤ◌, int_lt, false, List, length, arith, refl, ◌∙◌, sym, ap, subst}
-use Rattle.std.proofs.lemmas.Nat.{same_from_place}
-use Rattle.std.proofs.lemmas.List.{get_or-set_other, get_or-set_same}
+use Rattle.std.proofs.Common.{◌≡◌, ◌+◌, ◌*◌, ◌<◌, ◌≤◌, ℕ, suc, ℤ, pos, ◌-ℤ◌, ◌*ℤ◌, int_lt, false, List, length, arith, refl, ◌∙◌, sym, ap, ap₂, subst}
+use Rattle.std.proofs.lemmas.List.{get_or-set_same}
 use Rattle.std.proofs.Math.Arith.{digits_lt}
 use Rattle.header_bits.specs.declared.params.Params.{Params}
+use Rattle.cube_core.specs.declared.order.Place.{Place}
 use Rattle.cube_core.specs.Shape.{sample_count}
 use Rattle.cube_core.specs.Image.{Image, IsPlace, sample_at, index_in, put}
 use Rattle.cube_core.proofs.Bounds.{index_below}
+use Rattle.cube_core.proofs.Images.{put_other}
 use Rattle.predict_core.specs.declared.predictor.Predictor.{Predictor}
 use Rattle.predict_core.specs.Predictor.{predictor_of}
 use Rattle.predict_core.specs.Differences.{difference_vector}
 use Rattle.predict_core.specs.Weights.{step_exponent, updated_weights}
-use Rattle.predict_core.specs.Prediction.{scaled_there, next_weights, weight_vector, first_scaled}
+use Rattle.predict_core.specs.Prediction.{scaled_there, next_weights, weight_vector, first_scaled, scaled_prediction}
 use Rattle.predict_core.specs.Residual.{mapped, mapped_residual}
-use Rattle.predict_core.specs.Precedence.{Agree, IsEarlier}
-use Rattle.predict_core.proofs.Frame.{weights_same, first_scaled_same, vector_same, sum_same, scaled_there_same}
-use Rattle.predict_core.proofs.Following.{next_is, follows_first, follows_by, residual_by, first_residual_is}
+use Rattle.predict_core.specs.Precedence.{Agree}
+use Rattle.predict_core.proofs.Frame.{agree_less, weights_same, scaled_same, first_scaled_same, vector_same, scaled_there_same}
+use Rattle.predict_core.proofs.Following.{mapped_at, next_is, follows_first, follows_by, residual_by, first_residual_is}
 
 module _ (c : Image) (z y x : ℕ) (v : ℤ) (place : IsPlace c.shape z y x) (whole : length c.samples ≡ sample_count c.shape) where
   pub sample_put : sample_at (put c z y x v) z y x ≡ v
@@ -26,28 +27,16 @@ module _ (c : Image) (z y x : ℕ) (v : ℤ) (place : IsPlace c.shape z y x) (wh
 
   -- the samples at all other places stay
   pub sample_put_beside : (z' y' x' : ℕ) → IsPlace c.shape z' y' x' → (z' ≡ z → y' ≡ y → x' ≡ x → ⊥) → sample_at c z' y' x' ≡ sample_at (put c z y x v) z' y' x'
-  unfolding sample_at
   sample_put_beside z' y' x' q apart =
-      sym (get_or-set_other c.samples (index_in c.shape.columns c.shape.rows z y x) (index_in c.shape.columns c.shape.rows z' y' x') v (pos 0)
-      (λ same. apart (rows_equal same).0 (rows_equal same).1 (equal same).1))
-    where
-      equal : index_in c.shape.columns c.shape.rows z' y' x' ≡ index_in c.shape.columns c.shape.rows z y x
-          → (z' * c.shape.rows + y' ≡ z * c.shape.rows + y) × (x' ≡ x)
-      equal s = same_from_place (z' * c.shape.rows + y') x' (z * c.shape.rows + y) x c.shape.columns q.column place.column s
+      put_other c (record { z = z; y = y; x = x }) (record { z = z'; y = y'; x = x' }) v place q
+      (λ e. apart (ap (λ (r : Place). r.z) (sym e)) (ap (λ (r : Place). r.y) (sym e)) (ap (λ (r : Place). r.x) (sym e)))
 
-      rows_equal : index_in c.shape.columns c.shape.rows z' y' x' ≡ index_in c.shape.columns c.shape.rows z y x → (z' ≡ z) × (y' ≡ y)
-      rows_equal s = same_from_place z' y' z y c.shape.rows q.row place.row (equal s).0
-
-  sample_put_other : (z' y' x' : ℕ) → IsPlace c.shape z' y' x' → IsEarlier z (y * c.shape.columns + x) z' (y' * c.shape.columns + x')
-      → sample_at c z' y' x' ≡ sample_at (put c z y x v) z' y' x'
-  sample_put_other z' y' x' q e = sample_put_beside z' y' x' q (apart e)
-    where
-      apart : IsEarlier z (y * c.shape.columns + x) z' (y' * c.shape.columns + x') → z' ≡ z → y' ≡ y → x' ≡ x → ⊥
-      apart (inl (b, l)) r s g = omega arith
-      apart (inr (b, l)) r s g = let f : y' * c.shape.columns ≡ y * c.shape.columns = ap (λ n. n * c.shape.columns) s in omega (arith, f)
-
-  pub agree_put : Agree c (put c z y x v) z (y * c.shape.columns + x)
-  agree_put = record { alike = record { shape = refl; kind = refl }; samples = sample_put_other }
+  pub agree_put : Agree c (put c z y x v) z (y * c.shape.columns + x) (suc (y * c.shape.columns + x))
+  agree_put = record {
+    alike = record { shape = refl; kind = refl };
+    own = λ y' x' q l. sample_put_beside z y' x' q (λ e f g. let row = ap (λ (n : ℕ). n * c.shape.columns) f in omega (arith, row, l, g));
+    under = λ z' y' x' q b l. sample_put_beside z' y' x' q (λ e f g. omega (arith, b, e));
+  }
 
   module _ (p : Predictor) (wide : p.column ≡ false → 2 ≤ c.shape.columns) where
     some : 0 < c.shape.columns
@@ -61,11 +50,10 @@ module _ (c : Image) (z y x : ℕ) (v : ℤ) (place : IsPlace c.shape z y x) (wh
 
     -- the prediction at the place does not read the sample there
     pub scaled_put : 0 < y + x → (ws : List ℤ) → scaled_there p c z y x ws ≡ scaled_there p (put c z y x v) z y x ws
-    scaled_put later ws =
-        scaled_there_same p c (put c z y x v) z y x ws refl (sum_same p c (put c z y x v) z y x place later wide agree_put) (vector_put later)
+    scaled_put later ws = scaled_there_same p c (put c z y x v) z y x place later wide agree_put ws
 
-    pub first_put : 0 ≡ y * c.shape.columns + x → first_scaled p c z ≡ first_scaled p (put c z y x v) z
-    first_put at = first_scaled_same p c (put c z y x v) z place.band some rows (subst (Agree c (put c z y x v) z) (sym at) agree_put)
+    pub first_put : first_scaled p c z ≡ first_scaled p (put c z y x v) z
+    first_put = first_scaled_same p c (put c z y x v) z place.band some rows (agree_less 0 1 (omega arith) (omega arith) agree_put)
 
     -- and the weights move after the new sample
     pub moved_put : (t : ℕ) (ws new : List ℤ) (scaled : ℤ) → 0 < y + x → t ≡ y * c.shape.columns + x → scaled ≡ scaled_there p c z y x ws
@@ -76,6 +64,13 @@ module _ (c : Image) (z y x : ℕ) (v : ℤ) (place : IsPlace c.shape z y x) (wh
         next_is p (put c z y x v) z t y x ws new scaled v at place.column (b ∙ scaled_put later ws) (sym sample_put)
         (e ∙ ap (updated_weights p.fraction (step_exponent p c.shape.columns c.kind.bits t) (int_lt (pos 2 *ℤ v -ℤ scaled) (pos 0)) ws) (vector_put later))
 
+  -- the residual at the place is that of the new sample
+  pub put_residual : (p : Params) → (p.column ≡ false → 2 ≤ c.shape.columns)
+      → mapped_residual p (put c z y x v) z (y * c.shape.columns + x) ≡ mapped c.kind (scaled_prediction p c z (y * c.shape.columns + x)) v
+  put_residual p wide =
+      let scaled = scaled_same p c (put c z y x v) z place.band (let q = place.column in omega arith) wide _ (digits_lt place.row place.column) agree_put in
+      mapped_at p (put c z y x v) (record { z = z; y = y; x = x }) _ refl place.column ∙ ap₂ (mapped c.kind) (sym scaled) sample_put
+
 -- a band that follows an image follows it with the new sample
 module _ (p : Params) (made : Predictor) (c : Image) (z y x t : ℕ) (v : ℤ) (ws : List ℤ) (place : IsPlace c.shape z y x)
     (whole : length c.samples ≡ sample_count c.shape)
@@ -85,7 +80,7 @@ module _ (p : Params) (made : Predictor) (c : Image) (z y x t : ℕ) (v : ℤ) (
 
   follows_put : ws ≡ weight_vector p (put c z y x v) z t
   follows_put = follows ∙ weights_same p c (put c z y x v) z place.band (let q = place.column in omega arith) wide t within
-      (subst (Agree c (put c z y x v) z) (sym at) (agree_put c z y x v place whole))
+      (agree_less t t (omega (arith, at)) (omega (arith, at)) (agree_put c z y x v place whole))
 
   pub residual_put : 0 < t → (n : ℕ) → mapped c.kind (scaled_there made (put c z y x v) z y x ws) v ≡ n → mapped_residual p (put c z y x v) z t ≡ n
   residual_put later n e =

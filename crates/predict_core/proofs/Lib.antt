@@ -6,6 +6,8 @@ pub mod Earlier
 pub mod Frame
 pub mod Inverting
 pub mod InverseRuns
+pub mod Kept
+pub mod OneCube
 pub mod LocalSums
 pub mod Moves
 pub mod Gathered

@@ -3,8 +3,10 @@ use Rattle.std.proofs.Common.{◌≡◌, ℕ, zero, suc, ◌+◌, ◌<◌, List,
 use Rattle.std.proofs.Common.{get_or-set_same, get_or-set_other}
 use Rattle.std.proofs.Math.Seq.{take-suc-set}
 use Rattle.std.proofs.lemmas.Bool.{cases_eq}
+use Rattle.std.proofs.lemmas.List.{get_or-map}
 use Rattle.cube_core.specs.Image.{Image}
 use Rattle.cube_core.specs.Order.{from}
+use Rattle.cube_core.proofs.Lists.{length-from, get_or-from}
 use Rattle.header_bits.specs.declared.params.Params.{Params}
 use Rattle.predict_core.specs.Following.{Learner, MovesOn, MovesBy}
 use Rattle.predict_core.specs.Residual.{mapped_residual, run_residuals}
@@ -12,6 +14,9 @@ use Rattle.predict_core.specs.Residual.{mapped_residual, run_residuals}
 pub one_more : (f : ℕ → ℕ) (a n : ℕ) → map f (from a (suc n)) ≡ map f (from a n) ++ f (a + n) ∷ []
 one_more f a zero = ap (λ k. f k ∷ []) (omega arith)
 one_more f a (suc n) = ap (λ ks. f a ∷ ks) (one_more f (suc a) n ∙ ap (λ k. map f (from (suc a) n) ++ f k ∷ []) (omega arith))
+
+pub run_at : (p : Params) (c : Image) (z t n i : ℕ) → i < n → get_or (run_residuals p c z t n) i 0 ≡ mapped_residual p c z (t + i)
+run_at p c z t n i lt = get_or-map (mapped_residual p c z) (from t n) i 0 0 (rw length-from lt) ∙ ap (mapped_residual p c z) (get_or-from t n i 0 lt)
 
 pub run_next : (p : Params) (c : Image) (z t i : ℕ) (rs : List ℕ) (r : ℕ) → i < length rs → r ≡ mapped_residual p c z (t + i)
     → take i rs ≡ run_residuals p c z t i

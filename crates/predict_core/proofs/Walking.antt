@@ -1,17 +1,20 @@
 -- One step of the walk along the encoding order.
-use Rattle.std.proofs.Common.{◌≡◌, ◌≢◌, ◌+◌, ◌*◌, ◌-◌, ◌<◌, ℕ, List, [], ◌∷◌, ◌++◌, length, take, drop, set, Some, refl, sym, ap, ◌∙◌, subst, inl, inr}
+use Rattle.std.proofs.Common.{◌≡◌, ◌≢◌, ◌+◌, ◌*◌, ◌-◌, ◌<◌, ◌≤◌, ℕ, List, [], ◌∷◌, ◌++◌, length, take, drop, set, Some, refl, sym, ap, ◌∙◌, subst, inl, inr}
 use Rattle.std.proofs.Common.{length-drop, arith}
-use Rattle.std.proofs.lemmas.List.{length-set, length-map, map-append, take_all}
+use Rattle.std.proofs.lemmas.List.{length-set, length-map, map-append, take_all, drop-drop}
+use Rattle.std.proofs.Math.Seq.{take-add}
 use Rattle.std.proofs.Math.Arith.{digits_lt}
 use Rattle.std.specs.List.{slice_get}
 use Rattle.cube_core.specs.declared.order.Place.{Place}
 use Rattle.cube_core.specs.Shape.{Sizes, sample_count}
 use Rattle.cube_core.specs.Image.{Image}
 use Rattle.cube_core.specs.Order.{IsOrder, places}
-use Rattle.cube_core.proofs.Lists.{get_set, take_next}
-use Rattle.cube_core.proofs.Orders.{StandsAt, length-places, item_from_index}
-use Rattle.cube_core.proofs.Raws.{next_stands}
+use Rattle.cube_core.specs.Tiles.{IsTiled}
+use Rattle.cube_core.proofs.Keys.{index_of_item, order_is_by_key}
+use Rattle.cube_core.proofs.Lists.{get_set, get_drop, get-drop}
+use Rattle.cube_core.proofs.Orders.{StandsAt, length-places}
 use Rattle.cube_core.proofs.Come.{time_of, come_start, come_here, come_step, come_other}
+use Rattle.cube_core.proofs.Tiles.{nth, item_in, room_for}
 use Rattle.header_bits.specs.declared.params.Params.{Params}
 use Rattle.predict_core.specs.Following.{Learner, Follows, MovesOn}
 use Rattle.predict_core.specs.Residual.{mapped_residual, residuals}
@@ -79,6 +82,42 @@ pub record IsOnWalk (p : Params) (c : Image) (left : List Place) (bands : List L
   pub many : length bands ≡ p.shape.bands
   pub along : AreAlong p c (gone_count p left) bands
 
+-- so many places more go by
+pub record Goes (p : Params) (left : List Place) (k : ℕ) : Type 0 where
+  pub count : gone_count p (drop k left) ≡ gone_count p left + k
+  pub gone : gone_by p (drop k left) ≡ gone_by p left ++ take k left
+  pub others : drop k left ≡ drop (gone_count p (drop k left)) (places p.shape p.order)
+
+module _ (p : Params) {left : List Place} (lawful : IsOrder p.shape p.order) (rest : left ≡ drop (gone_count p left) (places p.shape p.order)) where
+  pub all_places : gone_count p left + length left ≡ sample_count p.shape
+  all_places = omega (arith, ap length rest, length-drop (gone_count p left) (places p.shape p.order), length-places p.shape p.order lawful)
+
+  pub goes_by : (k : ℕ) → k ≤ length left → Goes p left k
+  goes_by k le =
+      let count : gone_count p (drop k left) ≡ gone_count p left + k = omega (arith, le, all_places, length-drop k left) in
+      record {
+        count = count;
+        gone = ap (λ (n : ℕ). take n (places p.shape p.order)) count ∙ take-add (gone_count p left) k (places p.shape p.order)
+            ∙ ap (λ (ps : List Place). gone_by p left ++ take k ps) (sym rest);
+        others = ap (drop k) rest ∙ drop-drop k (gone_count p left) (places p.shape p.order)
+            ∙ ap (λ (n : ℕ). drop n (places p.shape p.order)) (omega (arith, count));
+      }
+
+  pub next_place : (q : Place) → slice_get left 0 ≡ Some q → StandsAt p.shape p.order q (gone_count p left)
+  next_place q first =
+      let item = sym (get-drop (places p.shape p.order) (gone_count p left)) ∙ ap (λ (ps : List Place). slice_get ps 0) (sym rest) ∙ first in
+      record { place = (order_is_by_key p.shape p.order lawful).only _ q item; index = index_of_item p.shape p.order q _ lawful item }
+
+  -- a tile that begins at the next place
+  module _ {q : Place} {width depth : ℕ} (is : IsTiled p.shape p.order q width depth) (first : slice_get left 0 ≡ Some q) where
+    pub tile_fits : width * depth ≤ length left
+    tile_fits = omega (arith, room_for lawful is, (next_place q first).index, all_places)
+
+    pub tile_item : (k : ℕ) → k < width * depth → slice_get left k ≡ Some (nth q depth k)
+    tile_item k lt =
+        ap (λ (ps : List Place). slice_get ps k) rest ∙ get_drop (places p.shape p.order) (gone_count p left) k
+        ∙ ap (λ (n : ℕ). slice_get (places p.shape p.order) (n + k)) (sym (next_place q first).index) ∙ item_in lawful is k lt
+
 pub record NextGoes (p : Params) (q : Place) (left rest : List Place) : Type 0 where
   pub stands : StandsAt p.shape p.order q (gone_count p left)
   pub below : gone_count p left < sample_count p.shape
@@ -89,13 +128,10 @@ pub record NextGoes (p : Params) (q : Place) (left rest : List Place) : Type 0 w
 pub next_goes : (p : Params) (q : Place) (left rest : List Place) → IsOrder p.shape p.order → left ≡ drop (gone_count p left) (places p.shape p.order)
     → left ≡ q ∷ rest → NextGoes p q left rest
 next_goes p q left rest lawful is e =
-    let all : List Place = places p.shape p.order in
-    let i : ℕ = gone_count p left in
-    let next = next_stands p.shape p.order i q rest lawful (sym is ∙ e) in
-    let long : length rest ≡ length all - (i + 1) = rw (next.2, length-drop) refl in
-    let count : gone_count p rest ≡ i + 1 = omega (arith, next.0, length-places p.shape p.order lawful, long) in
-    let item = item_from_index p.shape p.order q i lawful next.1.place next.1.index next.0 in
-    record { stands = next.1; below = next.0; count = count; gone = rw count (take_next all i q item).1; others = rw count next.2 }
+    let here = rw e at is in
+    let goes = goes_by p lawful here 1 (omega arith) in
+    let all = all_places p lawful here in
+    rw e (record { stands = next_place p lawful here q refl; below = omega arith; count = goes.count; gone = goes.gone; others = goes.others })
 
 -- one step of the walk
 pub on_walk_more : (p : Params) (c e : Image) (left rest : List Place) (bands : List Learner) (q : Place) (b d : Learner)

@@ -10,7 +10,7 @@ use Rattle.predict_core.specs.declared.predictor.Predictor.{Predictor}
 use Rattle.predict_core.specs.Predictor.{predictor_of}
 use Rattle.predict_core.specs.Prediction.{first_scaled, scaled_prediction, weight_vector}
 use Rattle.predict_core.specs.Residual.{mapped, mapped_residual, run_residuals}
-use Rattle.predict_core.proofs.Following.{row_is, column_is, follows_first, first_residual_is}
+use Rattle.predict_core.proofs.Following.{mapped_at as residual_of, follows_first, first_residual_is}
 
 -- a list is told by its entries
 listed : (f : ℕ → ℕ) (t : ℕ) (rs : List ℕ) → ((i : ℕ) → i < length rs → get_or rs i 0 ≡ f (t + i)) → rs ≡ map f (from t (length rs))
@@ -24,17 +24,13 @@ pub run_is : (p : Params) (c : Image) (z t n : ℕ) (rs : List ℕ) → length r
     → rs ≡ run_residuals p c z t n
 run_is p c z t n rs l h = listed (mapped_residual p c z) t rs h ∙ ap (λ m. map (mapped_residual p c z) (from t m)) l
 
-by_place : (p : Params) (c : Image) (z t y x r : ℕ) (s : ℤ) → t ≡ y * c.shape.columns + x → x < c.shape.columns → scaled_prediction p c z t ≡ s
-    → r ≡ mapped c.kind s (sample_at c z y x) → r ≡ mapped_residual p c z t
-unfolding mapped_residual
-by_place p c z t y x r s is inside f m = rw (row_is c.shape.columns t y x is inside, column_is c.shape.columns t y x is inside, f) m
-
 -- a residual from its scaled prediction
 pub mapped_at : (p : Params) (c : Image) (z y x i r : ℕ) (s : ℤ) → x + i < c.shape.columns → scaled_prediction p c z (y * c.shape.columns + (x + i)) ≡ s
     → r ≡ mapped c.kind s (sample_at c z y (x + i))
     → r ≡ mapped_residual p c z (y * c.shape.columns + x + i)
 mapped_at p c z y x i r s inside e m =
-    by_place p c z (y * c.shape.columns + (x + i)) y (x + i) r s refl inside e m ∙ ap (mapped_residual p c z) (place y c.shape.columns)
+    m ∙ ap (λ v. mapped c.kind v (sample_at c z y (x + i))) (sym e) ∙ sym (residual_of p c (record { z = z; y = y; x = x + i }) _ refl inside)
+    ∙ ap (mapped_residual p c z) (place y c.shape.columns)
   where
     place : (y columns : ℕ) → y * columns + (x + i) ≡ y * columns + x + i
     place y columns = omega arith

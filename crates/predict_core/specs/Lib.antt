@@ -1,6 +1,7 @@
 pub mod Arithmetic
 pub mod Bounds
 pub mod Chain
+pub mod Cubes
 pub mod Differences
 pub mod Following
 pub mod OffsetSum

@@ -4,7 +4,7 @@ use Rattle.header_bits.specs.declared.params.Params.{Params}
 use Rattle.cube_core.specs.declared.order.Order.{Order}
 use Rattle.cube_core.specs.declared.order.Place.{Place}
 use Rattle.cube_core.specs.Image.{Image, IsPlace, sample_at}
-use Rattle.cube_core.specs.Order.{place_key, IsBefore}
+use Rattle.cube_core.specs.Order.{IsPlaceOf, place_index, place_key, IsBefore}
 use Rattle.predict_core.specs.Predictor.{predictor_of}
 use Rattle.predict_core.specs.LocalSum.{local_sum}
 use Rattle.predict_core.specs.Differences.{difference_vector}
@@ -19,16 +19,21 @@ pub record AreAlike (c d : Image) : Type 0 where
 abbrev pub IsEarlier : ℕ → ℕ → ℕ → ℕ → Type 0
 IsEarlier z t z' t' = ((z' < z) × (t' ≤ t)) ⊎ ((z' ≡ z) × (t' < t))
 
--- two images that are one at each such place
-pub record Agree (c d : Image) (z t : ℕ) : Type 0 where
+-- two images that are one at the first t places of band z, and at the first u places of each band below it
+pub record Agree (c d : Image) (z t u : ℕ) : Type 0 where
   pub alike : AreAlike c d
-  pub samples : (z' y' x' : ℕ) → IsPlace c.shape z' y' x' → IsEarlier z t z' (y' * c.shape.columns + x') → sample_at c z' y' x' ≡ sample_at d z' y' x'
+  pub own : (y x : ℕ) → IsPlace c.shape z y x → y * c.shape.columns + x < t → sample_at c z y x ≡ sample_at d z y x
+  pub under : (z' y x : ℕ) → IsPlace c.shape z' y x → z' < z → y * c.shape.columns + x < u → sample_at c z' y x ≡ sample_at d z' y x
 
 -- two images that are one at each place that comes before one in an order
 abbrev pub AgreeBefore : Order → Image → Image → Place → Type 0
 AgreeBefore order c d place =
     (earlier : Place) → IsPlace c.shape earlier.z earlier.y earlier.x → IsBefore (place_key order earlier) (place_key order place)
     → sample_at c earlier.z earlier.y earlier.x ≡ sample_at d earlier.z earlier.y earlier.x
+
+-- two images that are one at each place of an index below i in an order
+abbrev pub SameBefore : Order → Image → Image → ℕ → Type 0
+SameBefore order c d i = (r : Place) → IsPlaceOf c.shape r → place_index c.shape order r < i → sample_at c r.z r.y r.x ≡ sample_at d r.z r.y r.x
 
 -- what is predicted at place t of band z, and from what, is the same for two images
 pub record PredictAlike (p : Params) (c d : Image) (z y x t : ℕ) : Type 0 where

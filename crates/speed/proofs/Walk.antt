@@ -13,7 +13,7 @@ use Rattle.predict_core.specs.Following.{Learner}
 use Rattle.predict_core.specs.Residual.{mapped_residual, residuals}
 use Rattle.predict_core.specs.Walked.{residuals_at}
 use Rattle.predict_core.proofs.Walking.{IsOnWalk, next_goes, band_here, gone_by, gone_count, residuals_push, residuals_whole}
-use Rattle.file_decoding.proofs.Kept.{residuals_kept}
+use Rattle.predict_core.proofs.Kept.{residuals_kept}
 
 -- the first i numbers are the residuals of the places gone by
 pub record AreResiduals (p : Params) (c : Image) (left : List Place) (i : ℕ) (numbers : List ℕ) : Type 0 where

@@ -1,4 +1,4 @@
-use Rattle.file_decoding.proofs.OneCube.{one_cube}
+use Rattle.predict_core.proofs.OneCube.{one_cube}
 use Rattle.coder_pipe.proofs.laws.one_cube.Goals as goal
 
 pub returns : goal.returns

@@ -1,4 +1,4 @@
-use Rattle.std.proofs.Common.{◌≡◌, ◌∙◌, ◌*◌, ◌^◌, ◌+◌, ◌-◌, [], ℕ, length, take, drop, Some, Err, inr, refl, sym, ap, arith, length-take, length-drop}
+use Rattle.std.proofs.Common.{◌≡◌, ◌∙◌, ◌*◌, ◌^◌, ◌-◌, [], ℕ, length, take, drop, Some, Err, inr, refl, sym, ap, arith, length-take, length-drop}
 use Rattle.std.specs.List.{slice_get}
 use Rattle.std.proofs.lemmas.List.{take_at}
 use Rattle.std.proofs.lemmas.Nat.{mul-le}
@@ -6,43 +6,46 @@ use Rattle.std.proofs.Math.Arith.{digits_lt}
 use Rattle.std.proofs.lemmas.Result.{err_from_is_err_and}
 use Rattle.cube_core.specs.declared.order.Place.{Place}
 use Rattle.cube_core.specs.Image.{Image}
+use Rattle.cube_core.specs.Order.{places}
+use Rattle.cube_core.proofs.Come.{time_of}
 use Rattle.cube_core.proofs.Lists.{none_first, each_below}
 use Rattle.cube_core.proofs.Orders.{length-places}
-use Rattle.predict_core.proofs.Walking.{gone_count}
+use Rattle.predict_core.specs.Walked.{residuals_at}
+use Rattle.predict_core.proofs.Walking.{all_places, gone_by, gone_count, next_place, on_walk_first}
 use Rattle.file_decoding.specs.Decoding.{MayAskEach, GivesAll}
 use Rattle.file_decoding.specs.Files.{behind_body}
 use Rattle.file_decoding.specs.Tiles.{band_in, time_in}
-use Rattle.file_decoding.proofs.TileWalk.{walked_more, walked_whole, all_places, next_place, fits, come, bands_ready, may_read, kept_length}
+use Rattle.file_decoding.proofs.TileWalk.{walked_more, walked_whole, fits, come, may_read, kept_length}
 use Rattle.file_decoding.proofs.decode.take_cube.Goals as goal
 use Rattle.file_decoding.proofs.decode.take_cube.Goals.{After-read-arg-in-Some-1, After-deref_mut-in-Some}
 
 pub loop-place-init : goal.loop-place-init
 loop-place-init c =
+    let p = c.args.params.now in
     let cube = c.in_ok-cube.ensures.zeros in
-    let none : gone_count c.args.params.now c.new-places.result ≡ 0 =
-    omega (arith, ap length c.new-places.ensures, length-places c.args.params.now.shape c.args.params.now.order c.requires.order) in
-    record {
+    let many = c.in_ok-bands.ensures.len in
+    let walk = on_walk_first p c.in_ok-cube.cube _ c.requires.order (omega (arith, many, c.in_ok-bands.bands.ok.0)) (c.in_ok-bands.ensures.along c.in_ok-cube.cube) in
+    let none : gone_count p (places p.shape p.order) ≡ 0 = omega (arith, length-places p.shape p.order c.requires.order) in
+    rw c.new-places.ensures (record {
       count = refl;
       room = omega (arith, c.in_ok-room.ensures.len, c.in_ok-room.room.ok.0, c.most_bands.ensures);
       walked = record {
         shape = ap (λ (image : Image). image.shape) cube;
         kind = ap (λ (image : Image). image.kind) cube;
-        many = omega (arith, c.in_ok-bands.ensures.len, c.in_ok-bands.bands.ok.0);
-        rest = rw none c.new-places.ensures;
-        along = rw none (c.in_ok-bands.ensures.along c.in_ok-cube.cube);
-        numbers = [];
-        same = rw none refl;
+        walk = walk;
         read = [];
         text = refl;
-        given = c.in_ok-decoder.ensures.given;
+        given = rw none c.in_ok-decoder.ensures.given;
       };
-    }
+    })
 
 pub at-tile-requires-clause-place : goal.at-tile-requires-clause-place
-at-tile-requires-clause-place c = (next_place c.requires c.loop-place.invariant.walked _ (sym c.peek.ensures ∙ c.in-Some.is)).place
+at-tile-requires-clause-place c = (next_place c.args.params.now c.requires.order c.loop-place.invariant.walked.walk.rest _ (sym c.peek.ensures ∙ c.in-Some.is)).place
 
 pub overflow_sub-index : goal.overflow_sub-index
-overflow_sub-index c = omega (arith, all_places c.requires c.loop-place.invariant.walked, c.left.ensures, c.sample_count-count.ensures.value)
+overflow_sub-index c =
+    let all = all_places c.args.params.now c.requires.order c.loop-place.invariant.walked.walk.rest in
+    omega (arith, all, c.left.ensures, c.sample_count-count.ensures.value)
 
 -- ---- the next tile
 
@@ -56,21 +59,23 @@ long c =
     let most = mul-le c.at-tile.result.columns c.at-tile.result.bands 64 _ few.0 few.1 in
     omega (arith, length-take {A = ℕ}, c.count.ensures, ap length c.deref_mut.ensures.value, c.loop-place.invariant.room, most)
 
+time : (c : After-read-arg-in-Some-1) → c.time_of.result ≡ time_of c.args.params.now.shape c.at-tile.result.place
+time c = rw c.at-tile.ensures.place c.time_of.ensures
+
 abbrev may : (c : After-read-arg-in-Some-1) (count : ℕ) → count ≡ c.at-tile.result.columns * c.at-tile.result.bands
     → MayAskEach c.loop-place.decoder (band_in c.at-tile.result) (time_in c.at-tile.result c.time_of.result) (c.sample_count-count.result - c.left.result) count
 may c count whole =
-    let time = c.time_of.ensures ∙ ap (λ (q : Place). q.y * c.args.params.now.shape.columns + q.x) (sym c.at-tile.ensures.place) in
-    may_read c.requires c.loop-place.invariant.walked c.at-tile.ensures.tile.in-order (next c) _ _ _ time
+    may_read c.requires c.loop-place.invariant.walked c.at-tile.ensures.tile.in-order (next c) _ _ _ (time c)
     (omega (arith, c.left.ensures, c.sample_count-count.ensures.value)) whole
 
 pub read-requires-clause-small : goal.read-requires-clause-small
 read-requires-clause-small c =
     let walked = c.loop-place.invariant.walked in
-    let place = (next_place c.requires walked _ (sym c.peek.ensures ∙ c.in-Some.is)).place in
-    let row = digits_lt place.row place.column in
+    let is = c.at-tile.ensures.tile.in-order in
+    let row = digits_lt is.place.row is.place.column in
     let most = mul-le c.args.params.now.shape.rows c.args.params.now.shape.columns 65536 65536 c.requires.sizes.rows.1 c.requires.sizes.columns.1 in
-    let all = fits c.requires walked c.at-tile.ensures.tile.in-order (next c) in
-    (omega (arith, c.time_of.ensures, row, most), omega (arith, c.left.ensures, c.sample_count-count.ensures, long c, all, all_places c.requires walked))
+    let all = all_places c.args.params.now c.requires.order walked.walk.rest in
+    (omega (arith, time c, row, most), omega (arith, c.left.ensures, c.sample_count-count.ensures, long c, (fits c.requires walked is (next c)).1, all))
 
 pub read-requires-clause-may : goal.read-requires-clause-may
 read-requires-clause-may c = may c _ (long c)
@@ -88,17 +93,18 @@ returns-in_err-read-clause-refused c =
 
 -- ---- its residuals and samples
 
-gives : (c : After-deref_mut-in-Some) → GivesAll c.args.params.now c.read.new.decoder c.loop-place.invariant.walked.numbers
+gives : (c : After-deref_mut-in-Some) → GivesAll c.args.params.now c.read.new.decoder
+    (residuals_at c.args.params.now c.loop-place.cube (gone_by c.args.params.now c.loop-place.places))
     c.loop-place.invariant.walked.read c.loop-place.reader.left c.read.new.reader.left c.read.new.deltas
 gives c =
-    let d = (goal.at.fill-requires-clause-ready c).After-read-arg-in-Some-1 in
+    let d = (goal.at.fill-requires-clause-come c).After-read-arg-in-Some-1 in
     let got = c.in_ok-read.ensures in
     got.given (may d _ (got.long ∙ long d))
 
-pub fill-requires-clause-ready : goal.fill-requires-clause-ready
-fill-requires-clause-ready c =
-    let d = (goal.at.fill-requires-clause-ready c).After-read-arg-in-Some-1 in
-    rw c.deref_mut-in-Some.ensures.value (bands_ready c.requires c.loop-place.invariant.walked c.at-tile.ensures.tile.in-order (next d))
+pub fill-requires-clause-come : goal.fill-requires-clause-come
+fill-requires-clause-come c =
+    let d = (goal.at.fill-requires-clause-come c).After-read-arg-in-Some-1 in
+    (c.args.params.now, rw c.deref_mut-in-Some.ensures.value (come c.requires c.loop-place.invariant.walked c.at-tile.ensures.tile.in-order (next d)))
 
 pub fill-requires-clause-residuals_in : goal.fill-requires-clause-residuals_in
 fill-requires-clause-residuals_in c k lt =
@@ -109,10 +115,8 @@ fill-requires-clause-residuals_in c k lt =
 pub loop-place-smaller : goal.loop-place-smaller
 loop-place-smaller c =
     let d = (goal.at.loop-place-smaller c).After-read-arg-in-Some-1 in
-    let some = c.at-tile.ensures.tile.in-order.some in
-    let one = mul-le 1 1 c.at-tile.result.columns c.at-tile.result.bands some.0 some.1 in
-    let all = fits c.requires c.loop-place.invariant.walked c.at-tile.ensures.tile.in-order (next d) in
-    omega (arith, ap length c.go_by.ensures, length-drop c.count-in-Some.result c.loop-place.places, c.count-in-Some.ensures, one, all)
+    let room = fits c.requires c.loop-place.invariant.walked c.at-tile.ensures.tile.in-order (next d) in
+    omega (arith, ap length c.go_by.ensures, length-drop c.count-in-Some.result c.loop-place.places, c.count-in-Some.ensures, room)
 
 pub loop-place-preserved : goal.loop-place-preserved
 loop-place-preserved c =

@@ -11,7 +11,7 @@ returns-clause-inverse c =
     rw (
       to_z-of_z fits,
       ← first_put c.args.cube.now s.band c.args.y c.args.x c.sample_of.result c.requires.place c.prove_is_cube.ensures.whole s.predictor
-          (rw c.requires.columns s.wide) c.requires.first,
+          (rw c.requires.columns s.wide),
       ← c.first_scaled-scaled.ensures.value,
     )
     e

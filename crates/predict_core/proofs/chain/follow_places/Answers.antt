@@ -1,4 +1,4 @@
-use Rattle.std.proofs.Common.{◌≡◌, arith, sym, ◌∙◌}
+use Rattle.std.proofs.Common.{arith, sym, ◌∙◌}
 use Rattle.predict_core.proofs.RunChains.{first_of_run, same_steps}
 use Rattle.predict_core.proofs.chain.follow_places.Goals as goal
 

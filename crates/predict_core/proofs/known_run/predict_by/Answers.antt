@@ -1,4 +1,3 @@
-use Rattle.std.proofs.Common.{◌≡◌}
 use Rattle.predict_core.proofs.RunChains.{predicted}
 use Rattle.predict_core.proofs.known_run.predict_by.Goals as goal
 

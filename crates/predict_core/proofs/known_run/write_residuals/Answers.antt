@@ -1,4 +1,4 @@
-use Rattle.std.proofs.Common.{◌≡◌, ◌≤◌, ◌<◌, ◌+◌, ◌*◌, pos, ℕ, ℤ, List, take, length, slice_index_or, slice_index, slice_set, rules, arith, sym, ◌∙◌, ap, subst}
+use Rattle.std.proofs.Common.{◌≡◌, ◌≤◌, ◌<◌, ◌+◌, ◌*◌, pos, ℕ, ℤ, List, take, length, slice_index_or, slice_index, slice_set, rules, arith, ◌∙◌, ap}
 use Rattle.std.proofs.Common.{length-set}
 use Rattle.std.proofs.lemmas.List.{take_at, set-append_left}
 use Rattle.header_bits.specs.declared.params.Params.{Params}

@@ -1,4 +1,4 @@
-use Rattle.std.proofs.Common.{to_z-of_z, arith, refl}
+use Rattle.std.proofs.Common.{◌≤◌, ◌^◌, unsigned_abs, to_z-of_z, arith, refl, sym, subst}
 use Rattle.predict_core.proofs.Raising.{bit_at_place, raised_bound, SFits-raised_up}
 use Rattle.predict_core.proofs.register.raised.Goals as goal
 
@@ -17,9 +17,5 @@ returns-clause-value c =
 
 pub returns-clause-bound : goal.returns-clause-bound
 returns-clause-bound c =
-    rw (
-      bit_at_place c.args.fraction (omega arith),
-      to_z-of_z c.ranges.distance,
-      to_z-of_z (SFits-raised_up c.args.fraction c.args.distance c.requires.fraction_in c.requires.distance_in),
-    )
+    subst (λ d. unsigned_abs d ≤ 2 ^ 37) (sym (returns-clause-value c))
     (raised_bound c.args.fraction c.args.distance c.requires.fraction_in c.requires.distance_in)

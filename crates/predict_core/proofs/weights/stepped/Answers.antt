@@ -1,4 +1,4 @@
-use Rattle.std.proofs.Common.{◌≤◌, ◌^◌, ◌+ℤ◌, ◌*ℤ◌, unsigned_abs, pos, SFits, w32, to_z-of_z, arith, refl}
+use Rattle.std.proofs.Common.{◌≤◌, ◌^◌, ◌+ℤ◌, ◌*ℤ◌, unsigned_abs, pos, SFits, w32, to_z-of_z, arith, refl, sym, subst}
 use Rattle.std.proofs.lemmas.Int.{ints, fits_signed_from_abs}
 use Rattle.predict_core.specs.Arithmetic.{floor_div}
 use Rattle.predict_core.proofs.Moves.{bit_in_word, raised_within, half_added, stepped_within, SFits-26, SFits-27}
@@ -44,14 +44,4 @@ returns-clause-value c =
     ) refl
 
 pub returns-clause-bound : goal.returns-clause-bound
-returns-clause-bound c =
-    let s = (goal.at.returns-clause-bound c).Start in
-    let up = c.args.form.up_in in
-    rw (
-      to_z-of_z c.ranges.size,
-      bit_in_word c.args.form.up (omega (arith, up)),
-      to_z-of_z (product_fits s),
-      to_z-of_z (half_fits s),
-      to_z-of_z (SFits-27 (c.args.size *ℤ pos (2 ^ c.args.form.up) +ℤ c.args.form.half) (within s)),
-      to_z-of_z (SFits-27 (floor_div (c.args.size *ℤ pos (2 ^ c.args.form.up) +ℤ c.args.form.half) (2 ^ c.args.form.down)) (small s)),
-    ) (small s)
+returns-clause-bound c = subst (λ v. unsigned_abs v ≤ 2 ^ 27) (sym (returns-clause-value c)) (small (goal.at.returns-clause-bound c).Start)

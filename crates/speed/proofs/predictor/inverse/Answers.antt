@@ -6,7 +6,7 @@ use Rattle.predict_core.specs.Following.{Learner}
 use Rattle.predict_core.specs.Walked.{IsAlong}
 use Rattle.cube_core.proofs.Come.{time_of}
 use Rattle.predict_core.proofs.Walking.{NextGoes, next_goes, band_here, gone_count, on_walk_first, on_walk_more}
-use Rattle.file_decoding.proofs.Kept.{others_follow}
+use Rattle.predict_core.proofs.Kept.{others_follow}
 use Rattle.speed.proofs.Walk.{AreResiduals, none_yet, all_residuals, read_more}
 use Rattle.speed.proofs.predictor.inverse.Goals as goal
 use Rattle.speed.proofs.predictor.inverse.Goals.{In-Some, After-index_mut}

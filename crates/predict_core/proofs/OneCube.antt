@@ -1,33 +1,33 @@
 -- A cube's residuals are in range, and no other cube has them.
-use Rattle.std.proofs.Common.{◌≡◌, ◌≢◌, ◌⊎◌, ◌+◌, ◌*◌, ◌<◌, ◌≤◌, ◌^◌, ◌-◌, ℕ, suc, zero, ℤ, pos, ◌≤ℤ◌, ◌*ℤ◌, ◌+ℤ◌, false, List, map}
-use Rattle.std.proofs.Common.{refl, sym, ap, ◌∙◌, subst, inl, inr, arith}
+use Rattle.std.proofs.Common.{◌≡◌, ◌+◌, ◌*◌, ◌<◌, ◌≤◌, ◌^◌, ◌-◌, ◌==◌, ◌||◌, ℕ, suc, zero, ℤ, pos, ◌≤ℤ◌, ◌*ℤ◌, ◌+ℤ◌, false, List, map, refl, sym, ap, ◌∙◌, subst}
+use Rattle.std.proofs.Common.{inl, inr, arith}
 use Rattle.std.specs.List.{AllByRecursion}
 use Rattle.std.proofs.lemmas.Int.{ints, int_max_is, int_min_is}
 use Rattle.std.specs.Int.{int_max, int_min}
-use Rattle.std.proofs.lemmas.Bool.{cases_lt, cases_eq}
+use Rattle.std.proofs.lemmas.Bool.{cases_lt, cases_Bool}
 use Rattle.cube_core.specs.declared.order.Place.{Place}
 use Rattle.cube_core.specs.Shape.{Sizes, sample_count}
 use Rattle.cube_core.specs.Kind.{SampleKind, IsSample, smin, smax, smid}
 use Rattle.cube_core.specs.Image.{Image, IsCube, sample_at}
 use Rattle.cube_core.specs.Order.{IsOrder, IsPlaceOf, places, place_index}
 use Rattle.cube_core.proofs.Bounds.{least_inside, middle_inside}
-use Rattle.cube_core.proofs.Keys.{order_is_by_key, item_of_index}
+use Rattle.cube_core.proofs.Come.{time_of}
+use Rattle.cube_core.proofs.Keys.{order_is_by_key, item_of_index, key_increases}
 use Rattle.cube_core.proofs.Images.{same_cube}
 use Rattle.cube_core.proofs.Lists.{all_mapped, map_same}
 use Rattle.cube_core.proofs.Orders.{place_index_below}
 use Rattle.header_bits.specs.declared.params.Params.{Params}
-use Rattle.predict_core.specs.Precedence.{AreAlike}
-use Rattle.predict_core.specs.Prediction.{scaled_prediction, scaled_there, scaled_by, first_scaled}
-use Rattle.predict_core.specs.Mapping.{IsScaled}
-use Rattle.predict_core.specs.Residual.{mapped, mapped_residual, residuals}
-use Rattle.predict_core.proofs.OneSample.{one_sample_lem}
-use Rattle.predict_core.proofs.Ranges.{sample_within}
-use Rattle.predict_core.proofs.Padding.{first_from_middle, first_from_below}
 use Rattle.predict_core.specs.declared.predictor.Predictor.{Predictor}
-use Rattle.cube_core.proofs.Come.{time_of}
-use Rattle.file_decoding.specs.Laws.{OneCube}
-use Rattle.file_decoding.specs.Tiles.{SameBefore}
-use Rattle.file_decoding.proofs.Kept.{agree_at, mapped_at, scaled_alike, wide_of}
+use Rattle.predict_core.specs.Cubes.{OneCube}
+use Rattle.predict_core.specs.Precedence.{AreAlike, SameBefore}
+use Rattle.predict_core.specs.Prediction.{scaled_prediction, scaled_there, scaled_by, first_scaled}
+use Rattle.predict_core.specs.Mapping.{IsScaled, unmapped_between}
+use Rattle.predict_core.specs.Residual.{mapped, mapped_residual, residuals}
+use Rattle.predict_core.proofs.Following.{mapped_at}
+use Rattle.predict_core.proofs.Frame.{places_precede_lem}
+use Rattle.predict_core.proofs.Kept.{wide_of}
+use Rattle.predict_core.proofs.OneSample.{one_sample_lem, sample_back}
+use Rattle.predict_core.proofs.Ranges.{sample_within}
 
 -- ---- predictions are in range
 
@@ -38,17 +38,14 @@ clip_inside : (low high a : ℤ) → low ≤ℤ high → (low ≤ℤ int_max low
 clip_inside low high a h = (let most = int_max_is low (int_min a high) in let least = int_min_is a high in (omega (arith, ints), omega (arith, ints)))
 
 first_inside : (p : Predictor) (c : Image) (z : ℕ) → IsCube c → z < c.shape.bands → IsScaled c.kind (first_scaled p c z)
-first_inside p c z cube band =
-    elim (cases_eq p.previous 0) [ inl e ↦ middle (inl e) | inr n ↦ elim (cases_eq z 0) [ inl e ↦ middle (inr (n, e)) | inr m ↦ below n m ] ]
-  where
-    middle : (p.previous ≡ 0) ⊎ ((p.previous ≡ 0 → ⊥) × (z ≡ 0)) → IsScaled c.kind (first_scaled p c z)
-    middle h = rw (first_from_middle p c z h) (twice_inside c.kind (smid c.kind) (least_inside c.kind, middle_inside c.kind cube.bits))
-
-    below : p.previous ≢ 0 → z ≢ 0 → IsScaled c.kind (first_scaled p c z)
-    below n m =
-        let place : IsPlaceOf c.shape (record { z = z - 1; y = 0; x = 0 }) =
-        record { band = omega (arith, band); row = omega (arith, cube.sizes.rows.0); column = omega (arith, cube.sizes.columns.0) } in
-        rw (first_from_below p c z n m) (twice_inside c.kind _ (sample_within c cube _ _ _ place))
+unfolding first_scaled
+first_inside p c z cube band = elim (cases_Bool (p.previous == 0 || z == 0)) [
+  | inl e ↦ rw e (twice_inside c.kind (smid c.kind) (least_inside c.kind, middle_inside c.kind cube.bits))
+  | inr e ↦
+      (let place : IsPlaceOf c.shape (record { z = z - 1; y = 0; x = 0 }) =
+      record { band = omega (arith, band); row = omega (arith, cube.sizes.rows.0); column = omega (arith, cube.sizes.columns.0) } in
+      rw e (twice_inside c.kind _ (sample_within c cube _ _ _ place)))
+]
 
 there_inside : (p : Predictor) (c : Image) (z y x : ℕ) (ws : List ℤ) → IsCube c → IsScaled c.kind (scaled_there p c z y x ws)
 unfolding scaled_there scaled_by
@@ -64,10 +61,9 @@ scaled_inside p c z (suc t) cube band = there_inside _ _ _ _ _ _ cube
 
 -- ---- so are residuals
 
-pub residual_inside : (p : Params) (c : Image) (q : Place) → IsCube c → IsPlaceOf c.shape q
-    → mapped_residual p c q.z (q.y * c.shape.columns + q.x) < 2 ^ c.kind.bits
+residual_inside : (p : Params) (c : Image) (q : Place) → IsCube c → IsPlaceOf c.shape q → mapped_residual p c q.z (time_of c.shape q) < 2 ^ c.kind.bits
 residual_inside p c q cube place =
-    rw (mapped_at p c q (q.y * c.shape.columns + q.x) refl place.column)
+    rw (mapped_at p c q (time_of c.shape q) refl place.column)
     ((one_sample_lem c.kind (scaled_prediction p c q.z _) cube.bits (scaled_inside _ _ _ _ cube place.band)).0 _ (sample_within c cube _ _ _ place))
 
 pub residuals_inside : (p : Params) (c : Image) → IsOrder c.shape p.order → IsCube c → AllByRecursion (λ v. v < 2 ^ c.kind.bits) (residuals p c)
@@ -85,18 +81,15 @@ module _ (p : Params) (c d : Image) (lawful : IsOrder c.shape p.order) (wide : p
   next_same q place before =
       let t : ℕ = time_of c.shape q in
       let columns : c.shape.columns ≡ d.shape.columns = ap (λ (s : Sizes). s.columns) alike.shape in
-      let agree = agree_at p.order c d _ q t lawful alike before place refl (omega arith) in
-      let scaled = scaled_alike p c d q t wide place refl agree in
       let value : ℤ = scaled_prediction p c q.z t in
-      let law = one_sample_lem c.kind value one.bits (scaled_inside p c q.z t one place.band) in
-      let mine = sample_within c one _ _ _ place in
+      let scaled = (places_precede_lem p p.order c d q wide alike place (λ r there e. before r there (key_increases _ _ r q lawful there place e))).scaled in
+      let here = mapped_at p c q t refl place.column in
+      let there = mapped_at p d q t (ap (λ (n : ℕ). q.y * n + q.x) columns) (omega (arith, columns, place.column)) in
+      let number : mapped c.kind value (sample_at c q.z q.y q.x) ≡ mapped c.kind value (sample_at d q.z q.y q.x) =
+      sym here ∙ same q place ∙ there ∙ rw (scaled, alike.kind) refl in
       let yours : IsSample c.kind (sample_at d q.z q.y q.x) = rw alike.kind (sample_within d other _ _ _ (rw alike.shape at place)) in
-      let number : mapped c.kind value (sample_at d q.z q.y q.x) ≡ mapped c.kind value (sample_at c q.z q.y q.x) =
-      ap (λ (k : SampleKind). mapped k value (sample_at d q.z q.y q.x)) alike.kind ∙ ap (λ (v : ℤ). mapped d.kind v (sample_at d q.z q.y q.x)) scaled
-      ∙ sym (mapped_at p d q t (ap (λ (n : ℕ). q.y * n + q.x) columns) (omega (arith, columns, place.column)))
-      ∙ sym (same q place) ∙ mapped_at p c q t refl place.column in
-      let found = law.1 (mapped c.kind value (sample_at c q.z q.y q.x)) (law.0 (sample_at c q.z q.y q.x) mine) in
-      found.3 (sample_at c q.z q.y q.x) mine refl ∙ sym (found.3 (sample_at d q.z q.y q.x) yours number)
+      let back = sample_back (smin c.kind) (smax c.kind) value (scaled_inside p c q.z t one place.band).0 (scaled_inside p c q.z t one place.band).1 in
+      sym (back _ (sample_within c one _ _ _ place)) ∙ ap (unmapped_between (smin c.kind) (smax c.kind) value) number ∙ back _ yours
 
   all_same : (i : ℕ) → SameBefore p.order c d i
   all_same zero r place lt = absurd (omega arith)

@@ -1,0 +1,16 @@
+-- Cubes of parameters, and that their residuals determine them.
+use Rattle.std.specs.Prelude.{◌≡◌}
+use Rattle.cube_core.specs.Image.{Image, IsCube}
+use Rattle.header_bits.specs.declared.params.Params.{Params}
+use Rattle.header_bits.specs.Lawful.{IsLawful}
+use Rattle.predict_core.specs.Residual.{residuals}
+
+-- a cube of the parameters' shape and kind
+pub record IsCubeOf (p : Params) (c : Image) : Type 0 where
+  pub cube : IsCube c
+  pub shape : c.shape ≡ p.shape
+  pub kind : c.kind ≡ p.kind
+
+-- two cubes that have the same residuals are one
+abbrev pub OneCube : Type 0
+OneCube = (p : Params) (c d : Image) → IsLawful p → IsCubeOf p c → IsCubeOf p d → residuals p c ≡ residuals p d → c ≡ d
