@@ -1,9 +1,11 @@
 -- Bodies, word after word.
-use Rattle.std.proofs.Common.{◌≡◌, ℕ, suc, ◌^◌, ◌<◌, ◌≤◌, Bool, true, false, cond, eqb, List, [], ◌∷◌, ◌++◌, length, Ok, refl, sym, ap, subst, ◌∙◌}
-use Rattle.std.proofs.Common.{append_assoc, arith}
+use Rattle.std.proofs.Common.{◌≡◌, ℕ, suc, ◌^◌, ◌<◌, ◌≤◌, Bool, true, false, cond, eqb, List, [], ◌∷◌, ◌++◌, length, Result, Ok, Err, refl, sym, ap, ap₂, subst, ◌∙◌}
+use Rattle.std.proofs.Common.{append_assoc, append-nil, arith}
 use Rattle.std.proofs.Math.Pow.{pow_mono}
 use Rattle.cube_core.specs.declared.order.Place.{Place}
 use Rattle.cube_core.specs.Steps.{◌>>=◌}
+use Rattle.cube_core.specs.declared.fault.Fault.{Fault}
+use Rattle.header_bits.proofs.Each.{bind_same}
 use Rattle.header_bits.proofs.Reading.{ok_is}
 use Rattle.header_bits.proofs.Fronts.{bind_ok}
 use Rattle.sample_adaptive.specs.declared.code_word.Code.{Code}
@@ -11,7 +13,7 @@ use Rattle.sample_adaptive.specs.declared.statistics.Statistics.{Statistics}
 use Rattle.sample_adaptive.specs.Statistics.{CoderSettings, AreStatistics, first_statistics, next_statistics, statistics_from, statistics}
 use Rattle.sample_adaptive.specs.Words.{code_word, code_at}
 use Rattle.sample_adaptive.specs.Body.{band_numbers, words_after, sample_body}
-use Rattle.sample_adaptive.specs.Reading.{word_at, words_at, sample_body_at}
+use Rattle.sample_adaptive.specs.Reading.{AreRead, word_at, words_at, sample_body_at}
 use Rattle.sample_adaptive.specs.Laws.{AreNumbers, OneBody, BodyIsRead, AreSettings, AccumulatorBound}
 use Rattle.sample_adaptive.proofs.Counting.{start_in_range, next_in_range}
 use Rattle.sample_adaptive.proofs.Refusals.{word_again, word_takes}
@@ -68,12 +70,84 @@ words_takes count c gone before (p ∷ ps) bits x e =
           ∙ sym (append_assoc (code_word code a.0.0) (words_after c (gone ++ p ∷ []) (before ++ a.0.0 ∷ []) ps b.0.0) b.0.1);
     })
 
+then_then : {A B C : Type 0} (r : Result A Fault) (f : A → Result B Fault) (g : B → Result C Fault) → ((r >>= f) >>= g) ≡ (r >>= λ x. f x >>= g)
+then_then (Ok x) f g = refl
+then_then (Err e) f g = refl
+
+as_it_is : {A B : Type 0} (r : Result (A × B) Fault) → r ≡ (r >>= λ x. Ok (x.0, x.1))
+as_it_is (Ok x) = refl
+as_it_is (Err e) = refl
+
+-- numbers behind others
+abbrev pub behind : List ℕ → List ℕ × List Bool → Result (List ℕ × List Bool) Fault
+behind xs read = Ok (xs ++ read.0, read.1)
+
+cons_then : (n : ℕ) (r : Result (List ℕ × List Bool) Fault) (f g : List ℕ × List Bool → Result (List ℕ × List Bool) Fault)
+    → ((a : List ℕ × List Bool) → f a ≡ g (n ∷ a.0, a.1))
+    → ((r >>= λ a. f a >>= behind a.0) >>= behind (n ∷ [])) ≡ ((r >>= behind (n ∷ [])) >>= λ a. g a >>= behind a.0)
+cons_then n (Ok a) f g same = rw (same a) (then_then (g (n ∷ a.0, a.1)) (behind a.0) (behind (n ∷ [])))
+cons_then n (Err e) f g same = refl
+
+-- numbers along places, and along others behind them
+pub words_at_append : (count : ℕ) (c : CoderSettings) (gone : List Place) (before : List ℕ) (ps qs : List Place) (bits : List Bool)
+    → words_at count c gone before (ps ++ qs) bits
+    ≡ (words_at count c gone before ps bits >>= λ a. words_at count c (gone ++ ps) (before ++ a.0) qs a.1 >>= behind a.0)
+unfolding words_at
+words_at_append count c gone before [] qs bits = rw (append-nil gone, append-nil before) (as_it_is (words_at count c gone before qs bits))
+words_at_append count c gone before (p ∷ ps) qs bits =
+    let first = word_at count (length before) (code_at c p.z (band_numbers p.z gone before)) bits in
+    let few = λ (n : ℕ × List Bool). words_at count c (gone ++ p ∷ []) (before ++ n.0 ∷ []) ps n.1 in
+    let rest = λ (a : List ℕ × List Bool). words_at count c (gone ++ (p ∷ ps)) (before ++ a.0) qs a.1 in
+    bind_same first _ _ (λ n.
+    ap (λ read. read >>= behind (n.0 ∷ [])) (words_at_append count c (gone ++ p ∷ []) (before ++ n.0 ∷ []) ps qs n.1)
+    ∙ cons_then n.0 (few n) _ rest (λ a. ap₂ (λ (ps : List Place) (ns : List ℕ). words_at count c ps ns qs a.1)
+    (append_assoc gone (p ∷ []) ps) (append_assoc before (n.0 ∷ []) a.0)))
+    ∙ sym (then_then first (λ n. few n >>= behind (n.0 ∷ [])) (λ a. rest a >>= behind a.0))
+
 pub body_is_read : BodyIsRead
 unfolding sample_body sample_body_at
 body_is_read count c places ns bits rest len = (
   λ h text. rw text (words_again count c [] [] places ns rest len h),
   λ e. let h = words_takes count c [] [] places bits (ns, rest) e in (h.numbers, h.text),
 )
+
+-- ---- numbers that were read
+
+pub none_read : (c : CoderSettings) → AreRead c [] [] []
+unfolding words_at sample_body_at
+none_read c count left = refl
+
+-- the bits of numbers that are all numbers of some places
+pub read_are : (c : CoderSettings) (places : List Place) (numbers : List ℕ) (bits : List Bool) → AreRead c places numbers bits
+    → AreWords c [] [] places bits (numbers, [])
+unfolding sample_body_at
+read_are c places numbers bits h = rw append-nil at (words_takes 0 c [] [] places (bits ++ []) (numbers, []) (h 0 []))
+
+-- the words of places behind them are read
+pub read_more : (count : ℕ) (c : CoderSettings) (gone ps : List Place) (before xs : List ℕ) (bits unread left : List Bool) → AreRead c gone before bits
+    → words_at count c gone before ps unread ≡ Ok (xs, left)
+    → AreNumbers c.bits xs × (read : List Bool) × (unread ≡ read ++ left) × AreRead c (gone ++ ps) (before ++ xs) (bits ++ read)
+unfolding sample_body_at
+read_more count c gone ps before xs bits unread left h more =
+    let words = words_takes count c gone before ps unread (xs, left) more in
+    let read : List Bool = words_after c gone before ps xs in (
+      words.numbers,
+      read,
+      words.text,
+      λ other rest. rw (
+        append_assoc bits read rest,
+        words_at_append other c [] [] gone ps (bits ++ (read ++ rest)),
+        h other (read ++ rest),
+        words_again other c gone before ps xs rest words.count words.numbers,
+      ) refl,
+    )
+
+-- or they are refused, and so is the body
+pub read_refused : (count : ℕ) (c : CoderSettings) (gone ps qs : List Place) (before : List ℕ) (bits unread : List Bool) (e : Fault)
+    → AreRead c gone before bits → words_at count c gone before ps unread ≡ Err e → sample_body_at count c (gone ++ (ps ++ qs)) (bits ++ unread) ≡ Err e
+unfolding sample_body_at
+read_refused count c gone ps qs before bits unread e h bad =
+    rw (words_at_append count c [] [] gone (ps ++ qs) (bits ++ unread), h count unread, words_at_append count c gone before ps qs unread, bad) refl
 
 pub one_body : OneBody
 unfolding sample_body
