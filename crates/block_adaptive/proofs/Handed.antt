@@ -4,8 +4,10 @@ use Rattle.std.proofs.Common.{append_assoc, length, replicate}
 use Rattle.std.proofs.lemmas.List.{append-nil, take_at}
 use Rattle.header_bits.specs.Bits.{Unread}
 use Rattle.block_adaptive.specs.Segments.{segment_rest}
+use Rattle.header_bits.specs.declared.params.Coder.{Coder}
+use Rattle.header_bits.specs.declared.params.Coder.TheVariants.{Sample, Block}
 use Rattle.block_adaptive.specs.declared.options.CodeSet.{CodeSet}
-use Rattle.block_adaptive.specs.Settings.{IsSize, IsCut, IsCutOf}
+use Rattle.block_adaptive.specs.Settings.{IsBlock, IsSize, IsCut, IsCutOf}
 use Rattle.block_adaptive.specs.Holding.{AreParts}
 use Rattle.block_adaptive.specs.Reading.{site_of, data_set_at}
 use Rattle.block_adaptive.proofs.Lawful.{rest_least}
@@ -100,3 +102,7 @@ given_whole v s size reference numbers bits room is inside given h =
       text = rw is at h.text;
       told = ap (take (length numbers)) (rw is at h.told) ∙ take_at numbers v.held (length numbers) refl;
     }
+
+pub block_is : (k : Coder) → IsBlock k → (size : ℕ) × (restricted : Bool) × (reference : ℕ) × (k ≡ Block size restricted reference)
+block_is (Block size restricted reference) is = (size, restricted, reference, refl)
+block_is (Sample umax gamma_star gamma_zero start) is = absurd is

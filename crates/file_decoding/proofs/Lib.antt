@@ -3,7 +3,6 @@ pub mod Fills
 pub mod Found
 pub mod Givers
 pub mod Kept
-pub mod Runs
 pub mod TileWalk
 pub mod Filling
 pub mod OneCube

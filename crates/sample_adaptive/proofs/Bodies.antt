@@ -13,7 +13,7 @@ use Rattle.sample_adaptive.specs.declared.statistics.Statistics.{Statistics}
 use Rattle.sample_adaptive.specs.Statistics.{CoderSettings, AreStatistics, first_statistics, next_statistics, statistics_from, statistics}
 use Rattle.sample_adaptive.specs.Words.{code_word, code_at}
 use Rattle.sample_adaptive.specs.Body.{band_numbers, words_after, sample_body}
-use Rattle.sample_adaptive.specs.Reading.{AreRead, word_at, words_at, sample_body_at}
+use Rattle.sample_adaptive.specs.Reading.{word_at, words_at, sample_body_at}
 use Rattle.sample_adaptive.specs.Laws.{AreNumbers, OneBody, BodyIsRead, AreSettings, AccumulatorBound}
 use Rattle.sample_adaptive.proofs.Counting.{start_in_range, next_in_range}
 use Rattle.sample_adaptive.proofs.Refusals.{word_again, word_takes}
@@ -110,44 +110,6 @@ body_is_read count c places ns bits rest len = (
   λ h text. rw text (words_again count c [] [] places ns rest len h),
   λ e. let h = words_takes count c [] [] places bits (ns, rest) e in (h.numbers, h.text),
 )
-
--- ---- numbers that were read
-
-pub none_read : (c : CoderSettings) → AreRead c [] [] []
-unfolding words_at sample_body_at
-none_read c count left = refl
-
--- the bits of numbers that are all numbers of some places
-pub read_are : (c : CoderSettings) (places : List Place) (numbers : List ℕ) (bits : List Bool) → AreRead c places numbers bits
-    → AreWords c [] [] places bits (numbers, [])
-unfolding sample_body_at
-read_are c places numbers bits h = rw append-nil at (words_takes 0 c [] [] places (bits ++ []) (numbers, []) (h 0 []))
-
--- the words of places behind them are read
-pub read_more : (count : ℕ) (c : CoderSettings) (gone ps : List Place) (before xs : List ℕ) (bits unread left : List Bool) → AreRead c gone before bits
-    → words_at count c gone before ps unread ≡ Ok (xs, left)
-    → AreNumbers c.bits xs × (read : List Bool) × (unread ≡ read ++ left) × AreRead c (gone ++ ps) (before ++ xs) (bits ++ read)
-unfolding sample_body_at
-read_more count c gone ps before xs bits unread left h more =
-    let words = words_takes count c gone before ps unread (xs, left) more in
-    let read : List Bool = words_after c gone before ps xs in (
-      words.numbers,
-      read,
-      words.text,
-      λ other rest. rw (
-        append_assoc bits read rest,
-        words_at_append other c [] [] gone ps (bits ++ (read ++ rest)),
-        h other (read ++ rest),
-        words_again other c gone before ps xs rest words.count words.numbers,
-      ) refl,
-    )
-
--- or they are refused, and so is the body
-pub read_refused : (count : ℕ) (c : CoderSettings) (gone ps qs : List Place) (before : List ℕ) (bits unread : List Bool) (e : Fault)
-    → AreRead c gone before bits → words_at count c gone before ps unread ≡ Err e → sample_body_at count c (gone ++ (ps ++ qs)) (bits ++ unread) ≡ Err e
-unfolding sample_body_at
-read_refused count c gone ps qs before bits unread e h bad =
-    rw (words_at_append count c [] [] gone (ps ++ qs) (bits ++ unread), h count unread, words_at_append count c gone before ps qs unread, bad) refl
 
 pub one_body : OneBody
 unfolding sample_body

@@ -1,5 +1,5 @@
 -- Numbers along places, of whatever bands, read one after another.
-use Rattle.std.proofs.Common.{◌≡◌, ◌+◌, ◌<◌, ◌≤◌, ℕ, Bool, List, [], ◌∷◌, ◌++◌, length, take, drop, set, add-one, Result, Ok, Err, IfOk, refl, ◌∙◌, append_assoc}
+use Rattle.std.proofs.Common.{◌≡◌, ◌+◌, ◌<◌, ◌≤◌, ℕ, Bool, List, [], ◌∷◌, ◌++◌, length, take, drop, set, add-one, Result, Ok, Err, refl, ◌∙◌, append_assoc}
 use Rattle.std.proofs.Common.{append-nil, length-append, length-drop, take-append-drop, take-suc-set, arith}
 use Rattle.std.proofs.lemmas.List.{take_all}
 use Rattle.cube_core.specs.declared.fault.Fault.{Fault}
@@ -11,7 +11,7 @@ use Rattle.sample_adaptive.specs.Statistics.{CoderSettings, next_statistics, cod
 use Rattle.sample_adaptive.specs.Words.{code_at}
 use Rattle.sample_adaptive.specs.Body.{band_numbers}
 use Rattle.sample_adaptive.specs.Reading.{word_at, words_at}
-use Rattle.sample_adaptive.specs.Taken.{Counts, HasTaken, GetsAt, GetsEach, Reaches, code_by, counted, with_band}
+use Rattle.sample_adaptive.specs.Taken.{Counts, GetsEach, Reaches, code_by, counted, with_band}
 use Rattle.sample_adaptive.proofs.Running.{later_inside, later_code, later_counted}
 use Rattle.sample_adaptive.proofs.Taking.{taken_along, taken_more, word_there}
 
@@ -52,20 +52,6 @@ module _ (zs ts : ℕ → ℕ) (i place : ℕ) (old new : Counts) (unread : Unre
   refused fault numbers read some c gone (p ∷ ps) before e f h taken at =
       let word = word_there _ _ place old unread (Err fault) c gone before p lt read h.0 taken h.1 at in
       (rw word refl, tt)
-
--- one number, as `get` reads it
-pub single : (r : Result ℕ Fault) (z t place : ℕ) (old new : Counts) (unread : Unread) (left : List Bool) → GetsAt z t place r old unread new left
-    → (c : CoderSettings) (gone : List Place) (before : List ℕ) (p : Place) → length before ≡ length gone → p.z ≡ z
-    → t ≡ length (band_numbers z gone before) → HasTaken c old (λ b. band_numbers b gone before) → place ≡ length before
-    → Reads (λ number. number ∷ []) r left (words_at unread.count c gone before (p ∷ []) unread.left)
-    × IfOk r (λ number. HasTaken c new (λ b. band_numbers b (gone ++ p ∷ []) (before ++ number ∷ [])))
-unfolding words_at
-single (Ok number) z t place old new unread left gets c gone before p e own is taken at =
-    let did = gets c (λ b. band_numbers b gone before) taken is in
-    (rw (own, ← at, did.0) refl, taken_along c new gone before p number e (rw own did.1))
-single (Err fault) z t place old new unread left gets c gone before p e own is taken at =
-    let did = gets c (λ b. band_numbers b gone before) taken is in
-    (rw (own, ← at, did.0) refl, tt)
 
 -- ---- the first numbers of a list
 

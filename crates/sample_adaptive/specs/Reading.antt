@@ -1,5 +1,5 @@
 -- Reading code words and bodies, with the first fault that is met.
-use Rattle.std.specs.Prelude.{ℕ, ◌≡◌, ◌+◌, ◌*◌, ◌/◌, ◌^◌, nat_lt, Bool, if◌then◌else◌, List, [], ◌∷◌, ◌++◌, length, Result, Ok, Err, Option, Some, None}
+use Rattle.std.specs.Prelude.{ℕ, ◌+◌, ◌*◌, ◌/◌, ◌^◌, nat_lt, Bool, if◌then◌else◌, List, [], ◌∷◌, ◌++◌, length, Result, Ok, Err, Option, Some, None}
 use Rattle.cube_core.specs.declared.fault.Fault.{Fault}
 use Rattle.cube_core.specs.declared.fault.Fault.TheVariants.{BadCode}
 use Rattle.cube_core.specs.declared.order.Place.{Place}
@@ -44,10 +44,6 @@ words_at count c gone before (p ∷ places) bits = do
 -- the numbers of a body
 unfoldable pub sample_body_at : ℕ → CoderSettings → List Place → Reading (List ℕ)
 sample_body_at count c places bits = words_at count c [] [] places bits
-
--- bits are read as these numbers along places, whatever bits stand behind them
-abbrev pub AreRead : CoderSettings → List Place → List ℕ → List Bool → Type 0
-AreRead c places numbers bits = (count : ℕ) (left : List Bool) → sample_body_at count c places (bits ++ left) ≡ Ok (numbers, left)
 
 -- the refusal, where there is one
 abbrev pub fault_of : {X : Type 0} → Result X Fault → Option Fault

@@ -1,10 +1,14 @@
 use Rattle.std.proofs.Common.{[], ◌∷◌}
-use Rattle.file_decoding.proofs.Givers.{blocks_given}
-use Rattle.file_decoding.proofs.Runs.{samples_next}
+use Rattle.sample_adaptive.specs.Settings.{settings}
+use Rattle.sample_adaptive.proofs.Given.{next_given}
+use Rattle.file_decoding.proofs.Givers.{samples_given, blocks_given}
 use Rattle.file_decoding.proofs.decoder.Decoder.next.Goals as goal
 
 pub returns-in-Samples-clause-given : goal.returns-in-Samples-clause-given
-returns-in-Samples-clause-given c = rw c.in-Samples.is (samples_next _ _ _ _ _ _ _ _ c.get_at.ensures.taken c.get_at.ensures.bands.0)
+returns-in-Samples-clause-given c =
+    let got = c.get_at.ensures in
+    rw c.in-Samples.is (λ p numbers bits lawful h next at. samples_given (λ number. number ∷ []) _ p _ _ numbers bits _ _ h got.bands.0
+    (next_given _ c.args.z c.args.t c.args.place (settings p) _ _ _ numbers bits _ _ got.taken h.given at next))
 
 pub returns-in-Blocks-clause-given : goal.returns-in-Blocks-clause-given
 returns-in-Blocks-clause-given c =

@@ -1,5 +1,5 @@
 use Rattle.std.proofs.Common.{◌+◌, ◌-◌, length, arith}
-use Rattle.file_decoding.proofs.Runs.{may_reach, samples_each}
+use Rattle.file_decoding.proofs.Givers.{may_reach, samples_each}
 use Rattle.file_decoding.proofs.decoder.Decoder.next_column.Goals as goal
 
 pub get_column-requires-clause-inside : goal.get_column-requires-clause-inside
