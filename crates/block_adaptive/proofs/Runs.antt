@@ -9,7 +9,7 @@ use Rattle.header_bits.proofs.Reading.{ok_is}
 use Rattle.header_bits.proofs.Fronts.{bind_ok}
 use Rattle.block_adaptive.specs.Settings.{IsCut}
 use Rattle.block_adaptive.specs.Reading.{data_sets_at}
-use Rattle.block_adaptive.specs.Given.{Unpacked, HasGiven, GivesFront, GivesAll, holding, next_data_set, GivesNext}
+use Rattle.block_adaptive.specs.Given.{Unpacked, HasGiven, GivesFront, GivesAll, holding, next_data_set}
 use Rattle.block_adaptive.proofs.Handed.{data_set_given}
 use Rattle.header_bits.proofs.Items.{all_append, all_first, all_last, all_replicate}
 use Rattle.std.proofs.lemmas.Grind.{flat_map-append}
@@ -78,11 +78,6 @@ taken_run v held new reader left list cut more none e front given bits h =
 -- the refusal that was met is as before
 pub taken_kept : (v held : Unpacked) (reader : Unread) (left : List Bool) → next_data_set v reader ≡ Ok (held, left) → held.refused ≡ v.refused
 taken_kept v held reader left e = grind arith
-
--- one value
-pub gives_next : (old new : Unpacked) (reader : Unread) (value : ℕ) (left : List Bool) → ((given : List ℕ) (bits : List Bool) → HasGiven old given bits
-    → GivesAll old given bits reader.left new left (value ∷ [])) → GivesNext old reader (Ok value) new left
-gives_next old new reader value left gives given bits h = (let g = gives given bits h in (g.0.0, g.1, g.2, g.3))
 
 -- ---- one run behind another
 

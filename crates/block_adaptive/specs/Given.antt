@@ -48,22 +48,22 @@ GivesFirst v value new = (v.held ≡ value ∷ new.held) × (new ≡ record v { 
 abbrev pub GivesFront : Unpacked → List ℕ → Unpacked → Type 0
 GivesFront v values new = (v.held ≡ values ++ new.held) × (new ≡ record v { held = new.held })
 
--- what was given before, and one number more, in range; the bits between were read. Or the refusal is that of the whole body
-abbrev pub GivesNext : Unpacked → Unread → Result ℕ Fault → Unpacked → List Bool → Type 0
-GivesNext old reader result new left =
-    (given : List ℕ) (bits : List Bool) → HasGiven old given bits
-    → MatchResult result (λ value. (value < 2 ^ old.cut.set.bits) × (read : List Bool) × (reader.left ≡ read ++ left)
-    × HasGiven new (given ++ value ∷ []) (bits ++ read))
-    (λ fault. data_sets_at reader.count old.cut old.cut.count 0 (bits ++ reader.left) ≡ Err fault)
-
 -- bits were read, and with them these numbers more are given, each in range
 abbrev pub GivesAll : Unpacked → List ℕ → List Bool → List Bool → Unpacked → List Bool → List ℕ → Type 0
 GivesAll old given bits unread new left list =
     AllByRecursion (λ v. v < 2 ^ old.cut.set.bits) list × (read : List Bool) × (unread ≡ read ++ left) × HasGiven new (given ++ list) (bits ++ read)
 
--- whatever was given before: these numbers more are given. Or the refusal is that of the whole body
-abbrev pub GivesRun : Unpacked → Unread → Result (Unit {0}) Fault → Unpacked → List Bool → List ℕ → Type 0
-GivesRun old reader result new left list =
+-- whatever was given before: the numbers of the answer more are given. Or the refusal is that of the whole body
+abbrev pub GivesMore : {X : Type 0} → (X → List ℕ) → Unpacked → Unread → Result X Fault → Unpacked → List Bool → Type 0
+GivesMore numbers_of old reader result new left =
     (given : List ℕ) (bits : List Bool) → HasGiven old given bits
-    → MatchResult result (λ _. GivesAll old given bits reader.left new left list)
+    → MatchResult result (λ answer. GivesAll old given bits reader.left new left (numbers_of answer))
     (λ fault. data_sets_at reader.count old.cut old.cut.count 0 (bits ++ reader.left) ≡ Err fault)
+
+-- one number more
+abbrev pub GivesNext : Unpacked → Unread → Result ℕ Fault → Unpacked → List Bool → Type 0
+GivesNext old reader result new left = GivesMore (λ value. value ∷ []) old reader result new left
+
+-- these numbers more
+abbrev pub GivesRun : Unpacked → Unread → Result (Unit {0}) Fault → Unpacked → List Bool → List ℕ → Type 0
+GivesRun old reader result new left list = GivesMore (λ _. list) old reader result new left

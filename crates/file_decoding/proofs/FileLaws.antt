@@ -45,7 +45,6 @@ use Rattle.file_decoding.specs.Files.{IsBodyBy, IsBody, IsFile, behind_by, behin
 use Rattle.file_decoding.specs.Least.{least_by, least_length, least_test}
 use Rattle.file_decoding.specs.Laws.{ChosenIsFile, FileIsFine, NoShorterFile, OneFile}
 use Rattle.file_decoding.proofs.Fills.{zeros_pass}
-use Rattle.predict_core.proofs.OneCube.{residuals_inside, one_cube}
 
 -- ---- what bodies are, by either coder
 

@@ -2,6 +2,5 @@ pub mod FileLaws
 pub mod Fills
 pub mod Found
 pub mod Givers
-pub mod Runs
 pub mod TileWalk
 pub mod Filling

@@ -2,22 +2,33 @@
 use Rattle.std.specs.Prelude.{ℕ, ◌≡◌, ◌⊎◌, ◌+◌, ◌^◌, ◌<◌, ◌≤◌, Bool, List, [], ◌∷◌, ◌++◌, length, Option, option_map, Result, Ok, Err, IfOk, IfErr, MatchResult}
 use Rattle.std.specs.List.{AllByRecursion}
 use Rattle.cube_core.specs.declared.fault.Fault.{Fault}
-use Rattle.cube_core.specs.declared.fault.Fault.TheVariants.{WantOfMemory, BadCode}
+use Rattle.cube_core.specs.declared.fault.Fault.TheVariants.{WantOfMemory}
 use Rattle.cube_core.specs.Image.{Image}
 use Rattle.cube_core.specs.Shape.{sample_count}
+use Rattle.cube_core.specs.Order.{places}
 use Rattle.header_bits.specs.declared.params.Params.{Params}
 use Rattle.header_bits.specs.Bits.{Unread, bits_of_bytes}
 use Rattle.header_bits.specs.Header.{BeginsWithTable}
 use Rattle.header_bits.specs.Lawful.{IsLawful}
 use Rattle.predict_core.specs.Cubes.{IsCubeOf}
 use Rattle.predict_core.specs.Residual.{residuals}
+use Rattle.sample_adaptive.specs.Settings.{settings, IsSample}
+use Rattle.sample_adaptive.specs.Reading.{placed_at}
+use Rattle.sample_adaptive.specs.Taken.{Counts}
+use Rattle.sample_adaptive.specs.Given.{HasGiven as GivenBySamples}
 use Rattle.block_adaptive.specs.Settings.{IsBlock, IsCutOf, cut_by}
-use Rattle.block_adaptive.specs.Given.{Unpacked, given_count, HasGiven as HaveGiven}
+use Rattle.block_adaptive.specs.Given.{Unpacked, given_count, HasGiven as GivenByBlocks}
 use Rattle.block_adaptive.specs.DataSets.{capacity}
-use Rattle.file_coding.specs.Coding.{SamplesTaken, IsNumber}
+use Rattle.file_coding.specs.Coding.{IsNumber}
 use Rattle.file_decoding.specs.declared.decoder.Decoder.{Decoder}
 use Rattle.file_decoding.specs.declared.decoder.Decoder.TheVariants.{Samples, Blocks}
 use Rattle.file_decoding.specs.Files.{IsBody, IsFile, behind_body, head_at, file_test}
+
+-- the sample-adaptive coder has given the numbers, and the bits are read as they are
+pub record SamplesGiven (p : Params) (v : Counts) (numbers : List ℕ) (bits : List Bool) : Type 0 where
+  pub coder : IsSample p.coder
+  pub bands : length v.bands ≡ p.shape.bands
+  pub given : GivenBySamples (settings p) (places p.shape p.order) v numbers bits
 
 -- the block-adaptive coder has given the numbers, and has read the bits
 pub record BlocksGiven (p : Params) (v : Unpacked) (numbers : List ℕ) (bits : List Bool) : Type 0 where
@@ -25,18 +36,13 @@ pub record BlocksGiven (p : Params) (v : Unpacked) (numbers : List ℕ) (bits : 
   pub cut : v.cut ≡ cut_by p
   pub room : IsCutOf (sample_count p.shape) v.cut
   pub inside : v.block ≤ v.cut.count
-  pub given : HaveGiven v numbers bits
+  pub given : GivenByBlocks v numbers bits
   pub count : given_count v ≡ length numbers
 
--- the coder of parameters has given the numbers, each in range, and has read the bits
+-- the coder of parameters has given the numbers, and has read the bits
 abbrev pub HasGiven : Params → Decoder → List ℕ → List Bool → Type 0
-HasGiven p (Samples v) numbers bits = SamplesTaken p v numbers bits × AllByRecursion (λ n. n < 2 ^ p.kind.bits) numbers
+HasGiven p (Samples v) numbers bits = SamplesGiven p v numbers bits
 HasGiven p (Blocks v) numbers bits = BlocksGiven p v numbers bits
-
--- a bad code word is refused by its place in encoding order
-abbrev pub placed_at : ℕ → Fault → Fault
-placed_at place (BadCode t) = BadCode place
-placed_at place fault = fault
 
 -- what every call is refused for, where one was refused
 abbrev pub refusal_at : ℕ → Decoder → Option Fault
@@ -48,17 +54,22 @@ abbrev pub MayAsk : Decoder → ℕ → Type 0
 MayAsk (Samples v) z = z < length v.bands
 MayAsk (Blocks v) z = given_count v < capacity v.cut
 
--- bits were read, and with them one number more is given
-abbrev pub GivesMore : Params → Decoder → List ℕ → List Bool → List Bool → List Bool → ℕ → Type 0
-GivesMore p new numbers bits unread left number =
-    (number < 2 ^ p.kind.bits) × (read : List Bool) × (unread ≡ read ++ left) × HasGiven p new (numbers ++ number ∷ []) (bits ++ read)
+-- bits were read, and with them these numbers more are given, each in range
+abbrev pub GivesAll : Params → Decoder → List ℕ → List Bool → List Bool → List Bool → List ℕ → Type 0
+GivesAll p new numbers bits unread left list =
+    AllByRecursion (λ n. n < 2 ^ p.kind.bits) list × (read : List Bool) × (unread ≡ read ++ left) × HasGiven p new (numbers ++ list) (bits ++ read)
+
+-- the numbers of the answer more are given, or the refusal is that of the body
+abbrev pub GivesMore : {X : Type 0} → (X → List ℕ) → Result X Fault → Params → List ℕ → List Bool → Unread → Decoder → List Bool → Type 0
+GivesMore numbers_of result p numbers bits unread new left =
+    MatchResult result (λ answer. GivesAll p new numbers bits unread.left left (numbers_of answer))
+    (λ fault. behind_body unread.count p (bits ++ unread.left) ≡ Err fault)
 
 -- whatever numbers were given before: the next one is given, or the refusal is that of the body
 abbrev pub GivesNumber : ℕ → ℕ → ℕ → Result ℕ Fault → Decoder → Unread → Decoder → List Bool → Type 0
 GivesNumber z t place result old unread new left =
     (p : Params) (numbers : List ℕ) (bits : List Bool) → IsLawful p → HasGiven p old numbers bits → IsNumber p numbers z t → place ≡ length numbers
-    → MatchResult result (λ number. GivesMore p new numbers bits unread.left left number) (λ fault. behind_body unread.count p (bits ++ unread.left)
-    ≡ Err fault)
+    → GivesMore (λ number. number ∷ []) result p numbers bits unread new left
 
 -- so many numbers behind the first n, whatever these are, are numbers of such bands, at such places of each
 abbrev pub AreEach : Params → ℕ → (ℕ → ℕ) → (ℕ → ℕ) → ℕ → Type 0
@@ -90,17 +101,10 @@ MayAskAll d z t place count = MayAskEach d (λ i. z) (λ i. t + i) place count
 abbrev pub MayAskColumn : Decoder → ℕ → ℕ → ℕ → ℕ → Type 0
 MayAskColumn d z t place count = MayAskEach d (λ i. z + i) (λ i. t) place count
 
--- bits were read, and with them these numbers more are given
-abbrev pub GivesAll : Params → Decoder → List ℕ → List Bool → List Bool → List Bool → List ℕ → Type 0
-GivesAll p new numbers bits unread left list =
-    AllByRecursion (λ n. n < 2 ^ p.kind.bits) list × (read : List Bool) × (unread ≡ read ++ left) × HasGiven p new (numbers ++ list) (bits ++ read)
-
 -- wherever the next ones, of such bands, may be asked for: they are given, or the refusal is that of the body
 abbrev pub GivesEach : (ℕ → ℕ) → (ℕ → ℕ) → ℕ → Result (Unit {0}) Fault → Decoder → Unread → Decoder → List Bool → List ℕ → Type 0
 GivesEach zs ts place result old unread new left list =
-    (m : MayAskEach old zs ts place (length list))
-    → MatchResult result (λ _. GivesAll m.params new m.numbers m.bits unread.left left list)
-    (λ fault. behind_body unread.count m.params (m.bits ++ unread.left) ≡ Err fault)
+    (m : MayAskEach old zs ts place (length list)) → GivesMore (λ _. list) result m.params m.numbers m.bits unread new left
 
 -- those of band z, from its number t on
 abbrev pub GivesRun : ℕ → ℕ → ℕ → Result (Unit {0}) Fault → Decoder → Unread → Decoder → List Bool → List ℕ → Type 0

@@ -8,7 +8,7 @@ ghost use Rattle.block_adaptive.specs.Settings.{IsBlock};
 ghost use Rattle.block_adaptive.specs.Given.{given_count};
 ghost use Rattle.block_adaptive.specs.DataSets.{capacity};
 ghost use Rattle.file_decoding.specs.declared.decoder.Decoder.TheVariants.{Blocks};
-ghost use Rattle.file_decoding.specs.Decoding.{HasGiven, MayAsk, MayAskAll, MayAskColumn, GivesNumber, GivesEach, GivesRun, GivesColumn, placed_at, refusal_at};
+ghost use Rattle.file_decoding.specs.Decoding.{HasGiven, MayAsk, MayAskAll, MayAskColumn, GivesNumber, GivesEach, GivesRun, GivesColumn, refusal_at};
 
 use block_adaptive::block_reader::BlockReader;
 use cube_core::fault::Fault;
@@ -57,10 +57,7 @@ impl Decoder {
         ensures count { reader.new.count ≡ reader.old.count }
     {
         match self {
-            Decoder::Samples(stats) => match stats.get(z, t, reader) {
-                Ok(number) => Ok(number),
-                Err(fault) => Err(placed(fault, place)),
-            },
+            Decoder::Samples(stats) => stats.get_at(z, t, place, reader),
             Decoder::Blocks(blocks) => blocks.next(reader),
         }
     }
@@ -130,14 +127,4 @@ fn next_of_blocks(
     ensures long { length deltas.new ≡ length deltas.old }
 {
     blocks.next_run(reader, deltas)
-}
-
-/// Returns the fault of a code word with its index in encoding order.
-fn placed(fault: Fault, place: u64) -> Fault
-    ensures { result ≡ placed_at place fault }
-{
-    match fault {
-        Fault::BadCode { .. } => Fault::BadCode { place },
-        other => other,
-    }
 }

@@ -1,12 +1,14 @@
 -- Bodies, word after word.
-use Rattle.std.proofs.Common.{◌≡◌, ℕ, suc, ◌^◌, ◌<◌, ◌≤◌, Bool, true, false, cond, eqb, List, [], ◌∷◌, ◌++◌, length, Ok, refl, sym, ap, subst, ◌∙◌}
-use Rattle.std.proofs.Common.{append_assoc, length-append, replicate, arith}
+use Rattle.std.proofs.Common.{◌≡◌, ℕ, suc, ◌^◌, ◌<◌, ◌≤◌, Bool, true, false, cond, eqb, List, [], ◌∷◌, ◌++◌, length, Result, Ok, Err, refl, sym, ap, ap₂, subst, ◌∙◌}
+use Rattle.std.proofs.Common.{append_assoc, append-nil, length-append, replicate, arith}
 use Rattle.std.specs.List.{AllByRecursion}
 use Rattle.std.proofs.Math.Pow.{pow_mono}
 use Rattle.cube_core.specs.declared.order.Place.{Place}
 use Rattle.cube_core.specs.Steps.{◌>>=◌}
+use Rattle.cube_core.specs.declared.fault.Fault.{Fault}
 use Rattle.header_bits.specs.Bits.{bits_of}
 use Rattle.header_bits.specs.Parts.{IsExact}
+use Rattle.header_bits.proofs.Each.{bind_same}
 use Rattle.header_bits.proofs.Numbers.{length-bits_of}
 use Rattle.header_bits.proofs.Reading.{ok_is}
 use Rattle.header_bits.proofs.Fronts.{bind_ok}
@@ -82,6 +84,40 @@ body_exact count c places = record {
       let words = words_takes count c [] [] places bits (ns, rest) e in
       (sample_body c places ns, (words.count, words.numbers, refl), words.text);
 }
+
+then_then : {A B C : Type 0} (r : Result A Fault) (f : A → Result B Fault) (g : B → Result C Fault) → ((r >>= f) >>= g) ≡ (r >>= λ x. f x >>= g)
+then_then (Ok x) f g = refl
+then_then (Err e) f g = refl
+
+as_it_is : {A B : Type 0} (r : Result (A × B) Fault) → r ≡ (r >>= λ x. Ok (x.0, x.1))
+as_it_is (Ok x) = refl
+as_it_is (Err e) = refl
+
+-- numbers behind others
+abbrev pub behind : List ℕ → List ℕ × List Bool → Result (List ℕ × List Bool) Fault
+behind xs read = Ok (xs ++ read.0, read.1)
+
+cons_then : (n : ℕ) (r : Result (List ℕ × List Bool) Fault) (f g : List ℕ × List Bool → Result (List ℕ × List Bool) Fault)
+    → ((a : List ℕ × List Bool) → f a ≡ g (n ∷ a.0, a.1))
+    → ((r >>= λ a. f a >>= behind a.0) >>= behind (n ∷ [])) ≡ ((r >>= behind (n ∷ [])) >>= λ a. g a >>= behind a.0)
+cons_then n (Ok a) f g same = rw (same a) (then_then (g (n ∷ a.0, a.1)) (behind a.0) (behind (n ∷ [])))
+cons_then n (Err e) f g same = refl
+
+-- numbers along places, and along others behind them
+pub words_at_append : (count : ℕ) (c : CoderSettings) (gone : List Place) (before : List ℕ) (ps qs : List Place) (bits : List Bool)
+    → words_at count c gone before (ps ++ qs) bits
+    ≡ (words_at count c gone before ps bits >>= λ a. words_at count c (gone ++ ps) (before ++ a.0) qs a.1 >>= behind a.0)
+unfolding words_at
+words_at_append count c gone before [] qs bits = rw (append-nil gone, append-nil before) (as_it_is (words_at count c gone before qs bits))
+words_at_append count c gone before (p ∷ ps) qs bits =
+    let first = word_at count (length before) (code_at c p.z (band_numbers p.z gone before)) bits in
+    let few = λ (n : ℕ × List Bool). words_at count c (gone ++ p ∷ []) (before ++ n.0 ∷ []) ps n.1 in
+    let rest = λ (a : List ℕ × List Bool). words_at count c (gone ++ (p ∷ ps)) (before ++ a.0) qs a.1 in
+    bind_same first _ _ (λ n.
+    ap (λ read. read >>= behind (n.0 ∷ [])) (words_at_append count c (gone ++ p ∷ []) (before ++ n.0 ∷ []) ps qs n.1)
+    ∙ cons_then n.0 (few n) _ rest (λ a. ap₂ (λ (ps : List Place) (ns : List ℕ). words_at count c ps ns qs a.1)
+    (append_assoc gone (p ∷ []) ps) (append_assoc before (n.0 ∷ []) a.0)))
+    ∙ sym (then_then first (λ n. few n >>= behind (n.0 ∷ [])) (λ a. rest a >>= behind a.0))
 
 pub body_is_read : BodyIsRead
 unfolding sample_body sample_body_at

@@ -34,3 +34,8 @@ for_samples p h s = record { coder = s; lawful = by_coder p p.coder h.kind h.cod
 pub settings_bits : (p : Params) → (settings p).bits ≡ p.kind.bits
 settings_bits p =
     elim p.coder as (λ k. (coder_settings p.kind.bits k).bits ≡ p.kind.bits) [ Sample umax star zero start ↦ refl | Block size restricted reference ↦ refl ]
+
+pub sample_is : (k : Coder) → IsSample k
+    → (umax : ℕ) × (gamma_star : ℕ) × (gamma_zero : ℕ) × (start : CountStart) × (k ≡ Sample umax gamma_star gamma_zero start)
+sample_is (Sample umax gamma_star gamma_zero start) is = (umax, gamma_star, gamma_zero, start, refl)
+sample_is (Block size restricted reference) is = absurd is

@@ -5,7 +5,7 @@ use Rattle.std.proofs.lemmas.List.{get_or-map, get_or_default, get_or-set_same, 
 use Rattle.sample_adaptive.specs.declared.run_codes.RunCodes.{RunCodes}
 use Rattle.sample_adaptive.specs.declared.statistics.Statistics.{Statistics}
 use Rattle.sample_adaptive.specs.declared.tracked.Tracked.{Tracked}
-use Rattle.sample_adaptive.specs.Taken.{Counts, HasSettings, of_band, no_statistics}
+use Rattle.sample_adaptive.specs.Taken.{Counts, HasSettings, of_band, no_statistics, with_band}
 use Rattle.sample_adaptive.specs.Tracked.{IsTracked, AreTracked, kept_of, no_tracked, statistics_of}
 
 pub statistics_count : (bands : List Tracked) → length (statistics_of bands) ≡ length bands
@@ -16,6 +16,11 @@ statistics_at bands z lt = get_or-map (λ (t : Tracked). t.statistics) bands z n
 
 pub statistics_set : (bands : List Tracked) (z : ℕ) (t : Tracked) → statistics_of (set bands z t) ≡ set (statistics_of bands) z t.statistics
 statistics_set bands z t = map-set (λ (t : Tracked). t.statistics) bands z t
+
+-- bands whose statistics a coder has, and what is kept of one of them anew
+pub column_set : (v : Counts) (bands : List Tracked) {z b : ℕ} (t : Tracked) → z ≡ b
+    → with_band (record v { bands = statistics_of bands }) b t.statistics ≡ record v { bands = statistics_of (set bands z t) }
+column_set v bands {b = b} t same = rw (same, statistics_set bands b t) refl
 
 -- what is kept of one band anew
 pub tracked_set : (run : RunCodes) (bands : List Tracked) (at : ℕ) (t : Tracked) → at < length bands → IsTracked run t → AreTracked run bands

@@ -1,5 +1,6 @@
 pub mod Body
 pub mod Everything
+pub mod Given
 pub mod Laws
 pub mod Reading
 pub mod Rows

@@ -28,6 +28,11 @@ word_at count place c bits = do
   quotient ← zeros_at count c.limit bits
   if nat_lt quotient.0 c.limit then plain_at count place c quotient.0 quotient.1 else escape_at count place c quotient.1
 
+-- a fault of a code word that stands at a place
+abbrev pub placed_at : ℕ → Fault → Fault
+placed_at place (BadCode other) = BadCode place
+placed_at place fault = fault
+
 -- the numbers along places, each by the earlier numbers of its band; some places and numbers went before
 unfoldable pub words_at : ℕ → CoderSettings → List Place → List ℕ → List Place → Reading (List ℕ)
 words_at count c gone before [] bits = Ok ([], bits)

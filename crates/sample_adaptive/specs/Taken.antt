@@ -1,5 +1,5 @@
 -- What a coder of one image keeps, and which numbers it has taken.
-use Rattle.std.specs.Prelude.{ℕ, suc, ◌≡◌, ◌+◌, ◌<◌, ◌≤◌, ◌==◌, Bool, if◌then◌else◌, List, [], ◌∷◌, ◌++◌, length, slice_index_or, slice_set, Option, None}
+use Rattle.std.specs.Prelude.{ℕ, suc, ◌≡◌, ◌+◌, ◌<◌, ◌==◌, Bool, if◌then◌else◌, List, [], ◌∷◌, ◌++◌, length, slice_index_or, slice_set, Option, None}
 use Rattle.std.specs.Prelude.{Result, IfOk, take}
 use Rattle.std.specs.List.{AllByRecursion}
 use Rattle.cube_core.specs.declared.fault.Fault.{Fault}
@@ -84,41 +84,42 @@ PutsColumn z t (number ∷ numbers) old written new written_now =
     (mid : Counts) × (written_mid : List Bool) × (length mid.bands ≡ length old.bands) × (mid.bits ≡ old.bits)
     × PutsNumber z t number old written mid written_mid × PutsColumn (suc z) t numbers mid written_mid new written_now
 
--- whatever numbers were taken before, of which band z has t: the number whose code word stands next was taken, or the first fault is answered
-abbrev pub GetsNumber : ℕ → ℕ → Result ℕ Fault → Counts → Unread → Counts → List Bool → Type 0
-GetsNumber z t result old unread new left =
+-- whatever numbers were taken before, of which band z has t: the number whose code word stands next was taken, or the first fault is answered, at a place
+abbrev pub GetsAt : ℕ → ℕ → ℕ → Result ℕ Fault → Counts → Unread → Counts → List Bool → Type 0
+GetsAt z t place result old unread new left =
     (c : CoderSettings) (taken : ℕ → List ℕ) → HasTaken c old taken → t ≡ length (taken z)
-    → Reads (λ number. number) result left (word_at unread.count t (code_at c z (taken z)) unread.left)
+    → Reads (λ number. number) result left (word_at unread.count place (code_at c z (taken z)) unread.left)
     × IfOk result (λ number. HasTaken c new (with_number taken z number))
 
--- numbers of one band that follow one another: whatever numbers were taken along places before, of which the band has t, those whose code words stand next
--- were given and taken; or the answer is the first fault of so many places
+-- the place of the fault is the number's own in its band
+abbrev pub GetsNumber : ℕ → ℕ → Result ℕ Fault → Counts → Unread → Counts → List Bool → Type 0
+GetsNumber z t result old unread new left = GetsAt z t t result old unread new left
+
+-- places of bands zs i, zs (i + 1), ..: before each, its band has ts i, ts (i + 1), .. numbers, whatever the numbers between are
+abbrev pub AreEach : (ℕ → ℕ) → (ℕ → ℕ) → ℕ → List Place → List ℕ → List Place → Type 0
+AreEach zs ts i gone before [] = Unit {0}
+AreEach zs ts i gone before (p ∷ places) =
+    (p.z ≡ zs i) × (ts i ≡ length (band_numbers (zs i) gone before))
+    × ((number : ℕ) → AreEach zs ts (i + 1) (gone ++ p ∷ []) (before ++ number ∷ []) places)
+
+-- numbers at such places: whatever numbers were taken along places before, those whose code words stand next were given and taken; or the answer is the
+-- first fault of so many places
+abbrev pub GetsEach : (ℕ → ℕ) → (ℕ → ℕ) → ℕ → ℕ → Result (Unit {0}) Fault → Counts → Unread → Counts → List Bool → List ℕ → Type 0
+GetsEach zs ts i place result old unread new left numbers =
+    (c : CoderSettings) (gone places : List Place) (before : List ℕ) → length before ≡ length gone → length numbers ≡ length places
+    → AreEach zs ts i gone before places → HasTaken c old (λ b. band_numbers b gone before) → place ≡ length before
+    → Reads (λ _. numbers) result left (words_at unread.count c gone before places unread.left)
+    × IfOk result (λ _. HasTaken c new (λ b. band_numbers b (gone ++ places) (before ++ numbers)))
+
+-- numbers of one band that follow one another, from its number t on
 abbrev pub GetsRun : ℕ → ℕ → ℕ → Result (Unit {0}) Fault → Counts → Unread → Counts → List Bool → List ℕ → Type 0
-GetsRun z t place result old unread new left numbers =
-    (c : CoderSettings) (gone places : List Place) (before : List ℕ) → length before ≡ length gone → length numbers ≡ length places
-    → AllByRecursion (λ p. p.z ≡ z) places
-    → HasTaken c old (λ b. band_numbers b gone before) → t ≡ length (band_numbers z gone before) → place ≡ length before
-    → Reads (λ _. numbers) result left (words_at unread.count c gone before places unread.left)
-    × IfOk result (λ _. HasTaken c new (λ b. band_numbers b (gone ++ places) (before ++ numbers)))
+GetsRun z t place result old unread new left numbers = GetsEach (λ i. z) (λ i. t + i) 0 place result old unread new left numbers
 
--- places of bands one above another, the first of band z
-abbrev pub AreUpFrom : ℕ → List Place → Type 0
-AreUpFrom z [] = Unit {0}
-AreUpFrom z (p ∷ places) = (p.z ≡ z) × AreUpFrom (suc z) places
-
--- one number each of bands one above another: whatever numbers were taken along places before, of which each of the bands has t, those whose code words
--- stand next were given and taken; or the answer is the first fault of so many places
+-- number t of each of bands one above another, from band z on
 abbrev pub GetsColumn : ℕ → ℕ → ℕ → Result (Unit {0}) Fault → Counts → Unread → Counts → List Bool → List ℕ → Type 0
-GetsColumn z t place result old unread new left numbers =
-    (c : CoderSettings) (gone places : List Place) (before : List ℕ) → length before ≡ length gone → length numbers ≡ length places
-    → AreUpFrom z places
-    → HasTaken c old (λ b. band_numbers b gone before)
-    → ((b : ℕ) → z ≤ b → b < z + length numbers → t ≡ length (band_numbers b gone before)) → place ≡ length before
-    → Reads (λ _. numbers) result left (words_at unread.count c gone before places unread.left)
-    × IfOk result (λ _. HasTaken c new (λ b. band_numbers b (gone ++ places) (before ++ numbers)))
+GetsColumn z t place result old unread new left numbers = GetsEach (λ i. z + i) (λ i. t) 0 place result old unread new left numbers
 
--- whatever comes behind the first i numbers, is a column with them
-abbrev pub Reaches : ℕ → ℕ → ℕ → ℕ → Counts → List Statistics → Unread → Unread → List ℕ → Type 0
-Reaches z t place i v bands first now numbers =
-    (r : Result (Unit {0}) Fault) (new : Counts) (left : List Bool) (ys : List ℕ)
-    → GetsColumn (z + i) t (place + i) r (record v { bands = bands }) now new left ys → GetsColumn z t place r v first new left (take i numbers ++ ys)
+-- whatever comes behind the first i numbers, is one list with them
+pub record Reaches (zs ts : ℕ → ℕ) (k place i : ℕ) (v w : Counts) (first now : Unread) (numbers : List ℕ) : Type 0 where
+  pub behind : (r : Result (Unit {0}) Fault) (new : Counts) (left : List Bool) (ys : List ℕ)
+      → GetsEach zs ts (k + i) (place + i) r w now new left ys → GetsEach zs ts k place r v first new left (take i numbers ++ ys)

@@ -6,7 +6,7 @@ ghost use Rattle.header_bits.specs.Bits.{bits_of};
 ghost use Rattle.header_bits.specs.Reading.{Reads};
 ghost use Rattle.header_bits.specs.Windows.{IsAhead};
 ghost use Rattle.sample_adaptive.specs.Words.{IsCode, code_word};
-ghost use Rattle.sample_adaptive.specs.Reading.{word_at};
+ghost use Rattle.sample_adaptive.specs.Reading.{placed_at, word_at};
 
 use cube_core::fault::Fault;
 use header_bits::bit_reader::{BitReader, bits_behind};
@@ -89,6 +89,7 @@ pub(crate) fn take_word(code: Code, place: u64, reader: &mut BitReader) -> Resul
     ensures below { IfOk result (λ number. number < 2 ^ code.bits) }
     ensures count { reader.new.count ≡ reader.old.count }
     ensures same { OnErr result (reader.new ≡ reader.old) }
+    ensures placed { IfErr result (λ fault. placed_at place fault ≡ fault) }
 {
     match reader.peek() {
         Some(word) => take_from(code, place, word, reader),
@@ -116,6 +117,7 @@ pub(crate) fn take_from(
     ensures below { IfOk result (λ number. number < 2 ^ code.bits) }
     ensures count { reader.new.count ≡ reader.old.count }
     ensures same { OnErr result (reader.new ≡ reader.old) }
+    ensures placed { IfErr result (λ fault. placed_at place fault ≡ fault) }
 {
     let zeros = word.leading_zeros();
     if zeros < code.limit {
@@ -150,6 +152,7 @@ fn take_last(
     }) reader.old.left) }
     ensures below { IfOk result (λ number. number < 2 ^ bits) }
     ensures count { reader.new.count ≡ reader.old.count }
+    ensures placed { IfErr result (λ fault. placed_at place fault ≡ fault) }
 {
     let code = Code { limit, low, bits };
     let zeros = reader.count_zeros(u64::from(code.limit))?;

@@ -2,10 +2,10 @@
 
 ghost use Rattle.std.specs.Prelude.{◌≡◌, ◌+◌, ◌^◌, ◌<◌, ◌≤◌, ◌==◌, length, Some, IfOk, IfErr, OnErr, ℕ};
 ghost use Rattle.cube_core.specs.declared.fault.Fault.{Fault};
-ghost use Rattle.sample_adaptive.specs.Reading.{word_at};
+ghost use Rattle.sample_adaptive.specs.Reading.{placed_at, word_at};
 ghost use Rattle.header_bits.specs.Reading.{Reads};
 ghost use Rattle.header_bits.specs.Windows.{IsAhead};
-ghost use Rattle.sample_adaptive.specs.Taken.{Counts, HasSettings, GetsColumn, Reaches, code_by, counted, of_band, with_band};
+ghost use Rattle.sample_adaptive.specs.Taken.{Counts, HasSettings, GetsEach, GetsColumn, Reaches, code_by, counted, of_band, with_band};
 ghost use Rattle.sample_adaptive.specs.Tracked.{IsTracked, AreTracked, statistics_of};
 
 use crate::code_word::{Code, take_from, take_word};
@@ -126,7 +126,7 @@ fn take_ready(
     requires inside { z + length numbers.old ≤ length bands.old }
     requires long { (length numbers.old ≤ 2 ^ 16) × (place < 2 ^ 48) }
     ensures taken { (v : Counts) (t : ℕ) → 0 < t → v.bands ≡ statistics_of bands.old → HasSettings v run.bits run.limit run.rescaling.size
-        → Reaches z t place result v (statistics_of bands.new) reader.old reader.new numbers.new }
+        → Reaches (λ i. z + i) (λ i. t) 0 place result v (record v { bands = statistics_of bands.new }) reader.old reader.new numbers.new }
     ensures tracked { AreTracked run bands.new }
     ensures within { result ≤ length numbers.new }
     ensures count { reader.new.count ≡ reader.old.count }
@@ -193,8 +193,9 @@ fn take_each(
     requires tracked { AreTracked run bands.old }
     requires inside { z + length numbers.old ≤ length bands.old }
     requires long { (length numbers.old ≤ 2 ^ 16) × (place < 2 ^ 49) }
-    ensures taken { (v : Counts) (t : ℕ) → first ≡ (t == 0) → v.bands ≡ statistics_of bands.old → HasSettings v run.bits run.limit run.rescaling.size
-        → GetsColumn z t place result v reader.old (record v { bands = statistics_of bands.new }) reader.new.left numbers.new }
+    ensures taken { (v : Counts) (b t k : ℕ) → z ≡ b + k → first ≡ (t == 0) → v.bands ≡ statistics_of bands.old
+        → HasSettings v run.bits run.limit run.rescaling.size
+        → GetsEach (λ i. b + i) (λ i. t) k place result v reader.old (record v { bands = statistics_of bands.new }) reader.new.left numbers.new }
     ensures tracked { AreTracked run bands.new }
     ensures count { reader.new.count ≡ reader.old.count }
     ensures long { length numbers.new ≡ length numbers.old }
@@ -228,6 +229,7 @@ pub(crate) fn take_number(
     ensures below { IfOk result (λ number. number < 2 ^ run.bits) }
     ensures count { reader.new.count ≡ reader.old.count }
     ensures same { OnErr result (reader.new ≡ reader.old) }
+    ensures placed { IfErr result (λ fault. placed_at place fault ≡ fault) }
 {
     if first {
         let code = Code {

@@ -6,6 +6,7 @@ pub mod column;
 pub mod laws;
 mod run_codes;
 pub mod run_words;
+pub mod single_word;
 pub mod statistics;
 pub mod stats;
 mod tracked;

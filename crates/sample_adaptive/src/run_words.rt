@@ -6,7 +6,7 @@ ghost use Rattle.cube_core.specs.declared.fault.Fault.TheVariants.{WantOfMemory}
 ghost use Rattle.sample_adaptive.specs.Statistics.{next_statistics, code_parameter};
 ghost use Rattle.header_bits.specs.Bits.{bits_of};
 ghost use Rattle.sample_adaptive.specs.Words.{code_word};
-ghost use Rattle.sample_adaptive.specs.Taken.{Counts, HasSettings, PutsRun, GetsRun, of_band, with_band};
+ghost use Rattle.sample_adaptive.specs.Taken.{Counts, HasSettings, PutsRun, GetsEach, GetsRun, Reaches, of_band, with_band};
 ghost use Rattle.sample_adaptive.specs.Tracked.{IsTracked};
 
 use crate::code_word::{Code, Word, push_both, take_from, take_word, word_of};
@@ -144,9 +144,9 @@ fn take_later(
 ) -> Result<(), Fault>
     requires tracked { IsTracked run tracked.old }
     requires long { (length numbers.old ≤ 2 ^ 16) × (place ≤ 2 ^ 48) }
-    ensures taken { (v : Counts) (z t : ℕ) → z < length v.bands → HasSettings v run.bits run.limit run.rescaling.size
-        → of_band v.bands z ≡ tracked.old.statistics → 0 < t
-        → GetsRun z t place result v reader.old (with_band v z tracked.new.statistics) reader.new.left numbers.new }
+    ensures taken { (v : Counts) (z t k : ℕ) → z < length v.bands → HasSettings v run.bits run.limit run.rescaling.size
+        → of_band v.bands z ≡ tracked.old.statistics → 0 < t + k
+        → GetsEach (λ i. z) (λ i. t + i) k place result v reader.old (with_band v z tracked.new.statistics) reader.new.left numbers.new }
     ensures tracked { IsTracked run tracked.new }
     ensures count { reader.new.count ≡ reader.old.count }
     ensures long { length numbers.new ≡ length numbers.old }
@@ -178,9 +178,9 @@ fn take_ready(
 ) -> usize
     requires tracked { IsTracked run tracked.old }
     requires long { (length numbers.old ≤ 2 ^ 16) × (place ≤ 2 ^ 48) }
-    ensures taken { (v : Counts) (z t : ℕ) → z < length v.bands → HasSettings v run.bits run.limit run.rescaling.size
-        → of_band v.bands z ≡ tracked.old.statistics → 0 < t
-        → GetsRun z t place (Ok tt) v reader.old (with_band v z tracked.new.statistics) reader.new.left (take result numbers.new) }
+    ensures taken { (v : Counts) (z t k : ℕ) → z < length v.bands → HasSettings v run.bits run.limit run.rescaling.size
+        → of_band v.bands z ≡ tracked.old.statistics → 0 < t + k
+        → Reaches (λ i. z) (λ i. t + i) k place result v (with_band v z tracked.new.statistics) reader.old reader.new numbers.new }
     ensures tracked { IsTracked run tracked.new }
     ensures within { result ≤ length numbers.new }
     ensures count { reader.new.count ≡ reader.old.count }
@@ -221,9 +221,9 @@ fn take_rest(
 ) -> Result<(), Fault>
     requires tracked { IsTracked run tracked.old }
     requires long { (length numbers.old ≤ 2 ^ 16) × (place ≤ 2 ^ 49) }
-    ensures taken { (v : Counts) (z t : ℕ) → z < length v.bands → HasSettings v run.bits run.limit run.rescaling.size
-        → of_band v.bands z ≡ tracked.old.statistics → 0 < t
-        → GetsRun z t place result v reader.old (with_band v z tracked.new.statistics) reader.new.left numbers.new }
+    ensures taken { (v : Counts) (z t k : ℕ) → z < length v.bands → HasSettings v run.bits run.limit run.rescaling.size
+        → of_band v.bands z ≡ tracked.old.statistics → 0 < t + k
+        → GetsEach (λ i. z) (λ i. t + i) k place result v reader.old (with_band v z tracked.new.statistics) reader.new.left numbers.new }
     ensures tracked { IsTracked run tracked.new }
     ensures count { reader.new.count ≡ reader.old.count }
     ensures long { length numbers.new ≡ length numbers.old }

@@ -6,10 +6,9 @@ ghost use Rattle.cube_core.specs.declared.fault.Fault.{Fault};
 ghost use Rattle.cube_core.specs.declared.fault.Fault.TheVariants.{WantOfMemory};
 ghost use Rattle.sample_adaptive.specs.Settings.{AreForSamples, HasEntries, settings};
 ghost use Rattle.sample_adaptive.specs.Statistics.{constant_of, start_statistics};
-ghost use Rattle.sample_adaptive.specs.Taken.{Counts, HasTaken, HasSettings, PutsNumber, PutsRun, GetsNumber, GetsRun, of_band};
+ghost use Rattle.sample_adaptive.specs.Taken.{Counts, HasTaken, HasSettings, PutsNumber, PutsRun, GetsRun, of_band};
 ghost use Rattle.sample_adaptive.specs.Tracked.{AreTracked, statistics_of};
 
-use crate::column::take_number;
 use crate::run_codes::RunCodes;
 use crate::run_words::{LaterRun, make_room, put_words, take_words};
 use crate::statistics::{Rescaling, first};
@@ -154,39 +153,6 @@ impl Stats {
             numbers,
         };
         self.bands[z as usize] = replace_with(writer, run, put_words);
-    }
-
-    /// Reads number `t` of band `z`, whose code word stands next, returns it, and updates the band's statistics.
-    ///
-    /// `t` counts the band's numbers from 0. Where no code word stands next, it returns `BadCode` with `t` as the place
-    /// if the bits are of a code word's form but no number's (a needless escape, or a number above 2^D - 1), and
-    /// `Truncated` otherwise. Then the reader keeps its position, every later call returns the same, and nothing else
-    /// was changed.
-    #[inline(always)]
-    pub fn get(&mut self, z: u32, t: u64, reader: &mut BitReader) -> Result<u16, Fault>
-        requires { z < length self.old.bands }
-        ensures taken { GetsNumber z t result self.old reader.old self.new reader.new.left }
-        ensures below { IfOk result (λ number. number < 2 ^ self.old.bits) }
-        ensures again { (fault : Fault) → self.old.refused ≡ Some fault → result ≡ Err fault }
-        ensures kept { IfErr result (λ fault. self.new ≡ record self.old { refused = Some fault }) }
-        ensures same { OnErr result (reader.new ≡ reader.old) }
-        ensures count { reader.new.count ≡ reader.old.count }
-        ensures bands { (length self.new.bands ≡ length self.old.bands) × (self.new.bits ≡ self.old.bits) }
-    {
-        if let Some(fault) = self.refused {
-            return Err(fault);
-        }
-        let mut tracked = self.bands[z as usize];
-        match take_number(self.codes, t == 0, t, &mut tracked, reader) {
-            Ok(number) => {
-                self.bands[z as usize] = tracked;
-                Ok(number)
-            }
-            Err(fault) => {
-                self.refused = Some(fault);
-                Err(fault)
-            }
-        }
     }
 
     /// Reads numbers `t`, `t + 1`, .. of band `z`, whose code words stand next, into `numbers`, and updates the band's

@@ -1,8 +1,8 @@
 use Rattle.std.proofs.Common.{rules}
-use Rattle.file_decoding.proofs.Givers.{blocks_run}
+use Rattle.file_decoding.proofs.Givers.{blocks_given}
 use Rattle.file_decoding.proofs.decoder.next_of_blocks.Goals as goal
 
 pub returns-clause-given : goal.returns-clause-given
-returns-clause-given c = λ zs ts place.
-    blocks_run _ _ _ _ _ _ _ _ _
-    c.next_run.new.numbers (search rules) c.next_run.ensures.given c.next_run.ensures.cut c.next_run.ensures.counted c.next_run.ensures.inside
+returns-clause-given c = λ zs ts place m.
+    let did = c.next_run.ensures in
+    blocks_given (λ _. c.next_run.new.numbers) _ m.params _ _ m.numbers m.bits _ _ m.given did.given did.cut (search rules) did.inside

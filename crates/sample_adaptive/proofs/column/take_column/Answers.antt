@@ -1,24 +1,26 @@
-use Rattle.std.proofs.Common.{refl, sym, eq-eqb, arith}
+use Rattle.std.proofs.Common.{◌≡◌, ◌+◌, refl, sym, eq-eqb, arith}
 use Rattle.std.proofs.lemmas.Bool.{ne_eqb}
 use Rattle.sample_adaptive.specs.Tracked.{statistics_of}
-use Rattle.sample_adaptive.proofs.ColumnsRead.{column_ends}
+use Rattle.sample_adaptive.proofs.PlacesRead.{ends}
 use Rattle.sample_adaptive.proofs.Running.{behind_first}
 use Rattle.sample_adaptive.proofs.Tracking.{settings_stay}
 use Rattle.sample_adaptive.proofs.column.take_column.Goals as goal
 
 pub returns-then-t-eq0-clause-taken : goal.returns-then-t-eq0-clause-taken
-returns-then-t-eq0-clause-taken c = λ v same settings. c.take_each.ensures.taken v c.args.t (sym (eq-eqb c.args.t 0 c.if-t-eq0.true)) same settings
+returns-then-t-eq0-clause-taken c = λ v same settings.
+    c.take_each.ensures.taken v c.args.z c.args.t 0 (omega arith) (sym (eq-eqb c.args.t 0 c.if-t-eq0.true)) same settings
 
 pub returns-then-done-numbers-clause-taken : goal.returns-then-done-numbers-clause-taken
 returns-then-done-numbers-clause-taken c = λ v same settings.
-    column_ends _ c.args.t _ _ v _ _ _ _ (omega (arith, c.if-done-numbers.true))
-    (c.take_ready-done.ensures.taken v c.args.t (omega (arith, c.if-t-eq0.false)) same settings)
+    ends (c.take_ready-done.ensures.taken v c.args.t (omega (arith, c.if-t-eq0.false)) same settings) (omega (arith, c.if-done-numbers.true))
 
 -- the rest is taken behind them
 pub returns-clause-taken : goal.returns-clause-taken
 returns-clause-taken c = λ v same settings.
     let e = c.take_ready-done.ensures in
+    let first : 0 + c.take_ready-done.result ≡ c.take_ready-done.result = omega arith in
     let later = sym (ne_eqb c.args.t 0 c.if-t-eq0.false) in
-    let rest = c.take_each-2.ensures.taken (record v { bands = statistics_of c.take_ready-done.new.bands }) c.args.t later refl (settings_stay settings) in
-    let behind = e.taken v c.args.t (omega (arith, c.if-t-eq0.false)) same settings _ _ _ _ rest in
-    rw (behind_first c.take_ready-done.new.numbers c.take_each-2.new.numbers c.take_ready-done.result e.within c.take_each-2.ensures.long) behind
+    let rest = c.take_each-2.ensures.taken (record v { bands = statistics_of c.take_ready-done.new.bands }) c.args.z c.args.t c.take_ready-done.result refl
+    later refl (settings_stay settings) in
+    rw (behind_first c.take_ready-done.new.numbers c.take_each-2.new.numbers c.take_ready-done.result e.within c.take_each-2.ensures.long)
+    ((e.taken v c.args.t (omega (arith, c.if-t-eq0.false)) same settings).behind _ _ _ _ (rw first rest))

@@ -1,14 +1,15 @@
-use Rattle.std.proofs.Common.{◌+◌, ◌<◌, length, refl, ◌∙◌, arith}
+use Rattle.std.proofs.Common.{◌≡◌, ◌+◌, ◌<◌, length, refl, sym, ap, ◌∙◌, arith}
 use Rattle.std.proofs.lemmas.List.{length-set}
+use Rattle.sample_adaptive.specs.Taken.{of_band}
 use Rattle.sample_adaptive.specs.Tracked.{statistics_of}
-use Rattle.sample_adaptive.proofs.ColumnsRead.{column_starts, column_steps, column_stops, column_ends}
-use Rattle.sample_adaptive.proofs.Tracking.{settings_stay, statistics_at, tracked_set}
+use Rattle.sample_adaptive.proofs.PlacesRead.{starts, steps, stops, ends}
+use Rattle.sample_adaptive.proofs.Tracking.{settings_stay, statistics_at, statistics_count, column_set, tracked_set}
 use Rattle.sample_adaptive.proofs.column.take_each.Goals as goal
 
 pub loop-i-init : goal.loop-i-init
 loop-i-init c =
     record {
-      taken = λ v t is same settings. column_starts c.args.z t c.args.place v (statistics_of c.args.bands.now) c.args.reader.now c.args.numbers.now same;
+      taken = λ v b t k at is same settings. starts (rw (← same) refl);
       tracked = c.requires.tracked;
       count = refl;
       long = refl;
@@ -16,15 +17,15 @@ loop-i-init c =
     }
 
 pub returns-in-Err-clause-taken : goal.returns-in-Err-clause-taken
-returns-in-Err-clause-taken c = λ v t is same settings.
+returns-in-Err-clause-taken c = λ v b t k at is same settings.
     let was = c.loop-i.invariant in
     let bands = c.loop-i.bands in
     let within : c.loop-i.i < length c.loop-i.numbers = omega (arith, c.loop-i-test.true, was.long) in
     let inside : c.args.z + c.loop-i.i < length bands = omega (arith, c.loop-i-test.true, was.bands, c.requires.inside) in
-    let own = statistics_at bands (c.args.z + c.loop-i.i) inside in
-    let read = c.in-Err.ensures.reads (record v { bands = statistics_of bands }) (c.args.z + c.loop-i.i) t is (settings_stay settings) own in
-    column_stops c.args.z t c.args.place c.loop-i.i c.in-Err.fault v v bands c.args.reader.now c.loop-i.reader c.loop-i.reader.left c.loop-i.numbers
-    inside within (was.taken v t is same settings) read
+    let here : c.args.z + c.loop-i.i ≡ b + (k + c.loop-i.i) = omega (arith, at) in
+    let own = ap (of_band (statistics_of bands)) (sym here) ∙ statistics_at bands _ inside in
+    stops (was.taken v b t k at is same settings) _ v c.loop-i.reader.left (omega (arith, inside, here, statistics_count bands)) within
+    (c.in-Err.ensures.reads (record v { bands = statistics_of bands }) _ t is (settings_stay settings) own)
 
 pub loop-i-preserved : goal.loop-i-preserved
 loop-i-preserved c =
@@ -33,11 +34,12 @@ loop-i-preserved c =
     let within : c.loop-i.i < length c.loop-i.numbers = omega (arith, c.loop-i-test.true, was.long) in
     let inside : c.args.z + c.loop-i.i < length bands = omega (arith, c.loop-i-test.true, was.bands, c.requires.inside) in
     record {
-      taken = λ v t is same settings.
-          let own = statistics_at bands (c.args.z + c.loop-i.i) inside in
-          let read = c.in-Ok.ensures.reads (record v { bands = statistics_of bands }) (c.args.z + c.loop-i.i) t is (settings_stay settings) own in
-          let counts = c.in-Ok.ensures.counts (record v { bands = statistics_of bands }) (c.args.z + c.loop-i.i) t is (settings_stay settings) own in
-          column_steps _ t _ _ _ v bands _ _ _ _ _ inside within (was.taken v t is same settings) read c.in-Ok.ensures.count counts;
+      taken = λ v b t k at is same settings.
+          let here : c.args.z + c.loop-i.i ≡ b + (k + c.loop-i.i) = omega (arith, at) in
+          let own = ap (of_band (statistics_of bands)) (sym here) ∙ statistics_at bands _ inside in
+          steps (was.taken v b t k at is same settings) (omega (arith, inside, here, statistics_count bands)) within
+          (c.in-Ok.ensures.reads (record v { bands = statistics_of bands }) _ t is (settings_stay settings) own) c.in-Ok.ensures.count
+          (c.in-Ok.ensures.counts (record v { bands = statistics_of bands }) _ t is (settings_stay settings) own ∙ column_set v bands _ here);
       tracked = tracked_set c.args.run bands _ _ inside c.in-Ok.ensures.tracked was.tracked;
       count = c.in-Ok.ensures.count ∙ was.count;
       long = length-set c.loop-i.numbers c.loop-i.i c.in-Ok.number ∙ was.long;
@@ -45,5 +47,4 @@ loop-i-preserved c =
     }
 
 pub returns-clause-taken : goal.returns-clause-taken
-returns-clause-taken c = λ v t is same settings.
-    column_ends _ t _ _ v _ _ _ _ (omega arith) (c.loop-i.invariant.taken v t is same settings)
+returns-clause-taken c = λ v b t k at is same settings. ends (c.loop-i.invariant.taken v b t k at is same settings) (omega arith)

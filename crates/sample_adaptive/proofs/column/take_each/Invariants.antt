@@ -1,4 +1,4 @@
-use Rattle.std.proofs.Common.{◌≡◌, ℕ, eqb, length}
+use Rattle.std.proofs.Common.{◌≡◌, ◌+◌, ℕ, eqb, length}
 use Rattle.sample_adaptive.specs.Taken.{Counts, HasSettings, Reaches}
 use Rattle.sample_adaptive.specs.Tracked.{AreTracked, statistics_of}
 use Rattle.sample_adaptive.proofs.column.take_each.Given as goal
@@ -6,9 +6,9 @@ use Rattle.sample_adaptive.proofs.column.take_each.Given as goal
 abbrev pub invariant-loop-i : goal.invariant-loop-i
 invariant-loop-i l =
     record {
-      taken : (v : Counts) (t : ℕ) → l.fn.first ≡ eqb t 0 → v.bands ≡ statistics_of l.initial.bands
+      taken : (v : Counts) (b t k : ℕ) → l.fn.z ≡ b + k → l.fn.first ≡ eqb t 0 → v.bands ≡ statistics_of l.initial.bands
           → HasSettings v l.fn.run.bits l.fn.run.limit l.fn.run.rescaling.size
-          → Reaches l.fn.z t l.fn.place l.i v (statistics_of l.bands) l.initial.reader l.reader l.numbers;
+          → Reaches (λ i. b + i) (λ i. t) k l.fn.place l.i v (record v { bands = statistics_of l.bands }) l.initial.reader l.reader l.numbers;
       tracked : AreTracked l.fn.run l.bands;
       count : l.reader.count ≡ l.initial.reader.count;
       long : length l.numbers ≡ length l.initial.numbers;

@@ -1,16 +1,16 @@
-use Rattle.std.proofs.Common.{◌+◌, ◌<◌, length, refl, ap, ◌∙◌, arith}
+use Rattle.std.proofs.Common.{◌≡◌, ◌+◌, ◌<◌, length, refl, sym, ap, ◌∙◌, arith}
 use Rattle.std.proofs.lemmas.List.{set-get_or, length-set}
 use Rattle.header_bits.specs.Bits.{Unread}
+use Rattle.sample_adaptive.specs.Taken.{of_band}
 use Rattle.sample_adaptive.specs.Tracked.{statistics_of}
-use Rattle.sample_adaptive.proofs.ColumnsRead.{column_starts, column_steps}
-use Rattle.sample_adaptive.proofs.Tracking.{settings_stay, statistics_at, tracked_set}
+use Rattle.sample_adaptive.proofs.PlacesRead.{starts, steps}
+use Rattle.sample_adaptive.proofs.Tracking.{settings_stay, statistics_at, statistics_count, column_set, tracked_set}
 use Rattle.sample_adaptive.proofs.column.take_ready.Goals as goal
 
 pub loop-i-init : goal.loop-i-init
 loop-i-init c =
     record {
-      taken = λ v t some same settings. rw c.fork-ahead.ensures
-          (column_starts c.args.z t c.args.place v (statistics_of c.args.bands.now) c.args.reader.now c.args.numbers.now same);
+      taken = λ v t some same settings. rw c.fork-ahead.ensures (starts (rw (← same) refl));
       tracked = c.requires.tracked;
       count = ap (λ (u : Unread). u.count) c.fork-ahead.ensures;
       long = refl;
@@ -24,12 +24,13 @@ loop-i-preserved c =
     let bands = c.loop-i.bands in
     let within : c.loop-i.i < length c.loop-i.numbers = omega (arith, c.loop-i-test.true, was.long) in
     let inside : c.args.z + c.loop-i.i < length bands = omega (arith, c.loop-i-test.true, was.bands, c.requires.inside) in
+    let here : c.args.z + c.loop-i.i ≡ c.args.z + (0 + c.loop-i.i) = omega arith in
+    let own = ap (of_band (statistics_of bands)) (sym here) ∙ statistics_at bands _ inside in
     record {
       taken = λ v t some same settings.
-          let own = statistics_at bands (c.args.z + c.loop-i.i) inside in
-          let read = c.in-Ok.ensures.reads (record v { bands = statistics_of bands }) (c.args.z + c.loop-i.i) t some (settings_stay settings) own in
-          let counts = c.in-Ok.ensures.counts (record v { bands = statistics_of bands }) (c.args.z + c.loop-i.i) t some (settings_stay settings) own in
-          column_steps _ t _ _ _ v bands _ _ _ _ _ inside within (was.taken v t some same settings) read c.in-Ok.ensures.count counts;
+          steps (was.taken v t some same settings) (omega (arith, inside, statistics_count bands)) within
+          (c.in-Ok.ensures.reads (record v { bands = statistics_of bands }) _ t some (settings_stay settings) own) c.in-Ok.ensures.count
+          (c.in-Ok.ensures.counts (record v { bands = statistics_of bands }) _ t some (settings_stay settings) own ∙ column_set v bands _ here);
       tracked = tracked_set c.args.run bands _ _ inside c.in-Ok.ensures.tracked was.tracked;
       count = c.in-Ok.ensures.count ∙ was.count;
       long = length-set c.loop-i.numbers c.loop-i.i c.in-Ok.number ∙ was.long;

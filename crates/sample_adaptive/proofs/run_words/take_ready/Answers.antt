@@ -1,16 +1,13 @@
-use Rattle.std.proofs.Common.{◌<◌, length, refl, sym, ◌∙◌}
-use Rattle.std.proofs.Common.{arith}
+use Rattle.std.proofs.Common.{◌<◌, length, refl, sym, ◌∙◌, arith}
 use Rattle.std.proofs.lemmas.List.{length-set}
 use Rattle.sample_adaptive.proofs.Running.{same_band}
-use Rattle.sample_adaptive.proofs.RunsRead.{gets_none, gets_step}
+use Rattle.sample_adaptive.proofs.PlacesRead.{starts, run_steps}
 use Rattle.sample_adaptive.proofs.run_words.take_ready.Goals as goal
 
 pub loop-i-init : goal.loop-i-init
 loop-i-init c =
-    let same = c.fork-ahead.ensures in
-    rw same (record {
-      taken = λ v z t within settings own some.
-          rw (same_band v z _ (sym own)) (gets_none z t _ v _);
+    rw c.fork-ahead.ensures (record {
+      taken = λ v z t k within settings own some. starts (same_band v z _ (sym own));
       tracked = c.requires.tracked;
       count = refl;
       long = refl;
@@ -22,10 +19,9 @@ loop-i-preserved c =
     let was = c.loop-i.invariant in
     let lt : c.loop-i.i < length c.loop-i.numbers = omega (arith, c.loop-i-test.true, was.long) in
     record {
-      taken = λ v z t within settings own some.
-          gets_step z t c.args.place c.loop-i.i v c.loop-i.band.statistics c.args.reader.now c.loop-i.ahead c.take_from.new.reader.left c.loop-i.numbers
-          within some lt was.count (was.taken v z t within settings own some) c.in-Ok.number c.next-band.result.statistics
-          (rw (settings.umax_is, settings.bits_are, ← c.settled-band.ensures.value) c.in-Ok.ensures.reads)
+      taken = λ v z t k within settings own some.
+          run_steps t c.loop-i.band.statistics (was.taken v z t k within settings own some) within some lt
+          (rw (settings.umax_is, settings.bits_are, ← c.settled-band.ensures.value) c.in-Ok.ensures.reads) c.in-Ok.ensures.count
           (rw (settings.size_is, ← c.settled-band.ensures.statistics) c.next-band.ensures.value);
       tracked = c.next-band.ensures.tracked;
       count = c.in-Ok.ensures.count ∙ was.count;
@@ -34,5 +30,5 @@ loop-i-preserved c =
     }
 
 pub returns-in_default-take_from-clause-taken : goal.returns-in_default-take_from-clause-taken
-returns-in_default-take_from-clause-taken c = λ v z t within settings own some.
-    rw (c.in_default-take_from.ensures.same, c.settled-band.ensures.statistics) (c.loop-i.invariant.taken v z t within settings own some)
+returns-in_default-take_from-clause-taken c = λ v z t k within settings own some.
+    rw (c.in_default-take_from.ensures.same, c.settled-band.ensures.statistics) (c.loop-i.invariant.taken v z t k within settings own some)

@@ -1,14 +1,14 @@
-use Rattle.std.proofs.Common.{◌≡◌, ◌-◌, ◌<◌, ◌≤◌, ℕ, length, take, Ok}
-use Rattle.sample_adaptive.specs.Taken.{Counts, HasSettings, GetsRun, of_band, with_band}
+use Rattle.std.proofs.Common.{◌≡◌, ◌+◌, ◌-◌, ◌<◌, ◌≤◌, ℕ, length}
+use Rattle.sample_adaptive.specs.Taken.{Counts, HasSettings, Reaches, of_band, with_band}
 use Rattle.sample_adaptive.specs.Tracked.{IsTracked}
 use Rattle.sample_adaptive.proofs.run_words.take_ready.Given as goal
 
 abbrev pub invariant-loop-i : goal.invariant-loop-i
 invariant-loop-i l =
     record {
-      taken : (v : Counts) (z t : ℕ) → z < length v.bands → HasSettings v l.fn.run.bits l.fn.run.limit l.fn.run.rescaling.size
-          → of_band v.bands z ≡ l.initial.band.statistics → 0 < t
-          → GetsRun z t l.fn.place (Ok tt) v l.initial.reader (with_band v z l.band.statistics) l.ahead.left (take l.i l.numbers);
+      taken : (v : Counts) (z t k : ℕ) → z < length v.bands → HasSettings v l.fn.run.bits l.fn.run.limit l.fn.run.rescaling.size
+          → of_band v.bands z ≡ l.initial.band.statistics → 0 < t + k
+          → Reaches (λ i. z) (λ i. t + i) k l.fn.place l.i v (with_band v z l.band.statistics) l.initial.reader l.ahead l.numbers;
       tracked : IsTracked l.fn.run l.band;
       count : l.ahead.count ≡ l.initial.reader.count;
       long : length l.numbers ≡ length l.initial.numbers;

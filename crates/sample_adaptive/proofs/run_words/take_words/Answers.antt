@@ -1,36 +1,32 @@
-use Rattle.std.proofs.Common.{◌≡◌, ◌∷◌, [], Ok, Err, sym, arith}
+use Rattle.std.proofs.Common.{◌≡◌, ◌∷◌, Ok, Err, sym, arith}
 use Rattle.std.proofs.lemmas.List.{nil_from_length}
 use Rattle.std.proofs.lemmas.Result.{err_from_is_err_and}
 use Rattle.sample_adaptive.specs.Reading.{word_at}
-use Rattle.sample_adaptive.specs.Taken.{code_by, with_band}
+use Rattle.sample_adaptive.specs.Taken.{code_by}
 use Rattle.sample_adaptive.proofs.Running.{same_band}
-use Rattle.sample_adaptive.proofs.RunsRead.{gets_none, gets_one, gets_behind, gets_refused}
+use Rattle.sample_adaptive.proofs.PlacesRead.{none, cons, refused}
 use Rattle.sample_adaptive.proofs.run_words.take_words.Goals as goal
 
 pub returns-then-t-ge1-clause-taken : goal.returns-then-t-ge1-clause-taken
-returns-then-t-ge1-clause-taken c = λ v z within settings own. c.take_later.ensures.taken v z c.args.t within settings own c.if-t-ge1.true
+returns-then-t-ge1-clause-taken c = λ v z within settings own. c.take_later.ensures.taken v z c.args.t 0 within settings own (omega (arith, c.if-t-ge1.true))
 
 pub returns-in_err-first-in-Some-clause-taken : goal.returns-in_err-first-in-Some-clause-taken
 returns-in_err-first-in-Some-clause-taken c = λ v z within settings own.
     let told = err_from_is_err_and c.from_residual.result c.from_residual.ensures.1 in
     let none : c.args.t ≡ 0 = omega (arith, c.if-t-ge1.false) in
-    let read : word_at c.args.reader.now.count c.args.place (code_by v z c.args.t) c.args.reader.now.left ≡ Err c.in_err-first-in-Some.field-0.0 =
-    rw (none, settings.bits_are) c.in_err-first-in-Some.ensures.reads in
-    rw (told.1, told.2)
-    (gets_refused z c.args.t c.args.place c.in_err-first-in-Some.field-0.0 v (with_band v z c.args.tracked.now.statistics) c.args.reader.now
-    c.take_word.new.reader.left (c.in-Some.first.now ∷ c.in-Some.later.now) within read (omega arith))
+    let read : word_at c.args.reader.now.count c.args.place (code_by v z 0) c.args.reader.now.left ≡ Err c.in_err-first-in-Some.field-0.0 =
+    rw settings.bits_are c.in_err-first-in-Some.ensures.reads in
+    rw (told.1, told.2, none)
+    (refused _ _ 0 _ v v _ c.take_word.new.reader.left within _ (c.in-Some.first.now ∷ c.in-Some.later.now) read (omega arith))
 
 pub returns-in_ok-first-in-Some-clause-taken : goal.returns-in_ok-first-in-Some-clause-taken
 returns-in_ok-first-in-Some-clause-taken c = λ v z within settings own.
     let none : c.args.t ≡ 0 = omega (arith, c.if-t-ge1.false) in
     let read : word_at c.args.reader.now.count c.args.place (code_by v z 0) c.args.reader.now.left
     ≡ Ok (c.in_ok-first-in-Some.field-0, c.take_word.new.reader.left) = rw settings.bits_are c.in_ok-first-in-Some.ensures.reads in
-    let one = gets_one z 0 c.args.place c.in_ok-first-in-Some.field-0 v c.args.reader.now c.take_word.new.reader.left within read in
-    let rest = c.take_later-in-Some.ensures.taken v z 1 within settings own (omega arith) in
-    rw none
-    (gets_behind z 0 _ _ (c.in_ok-first-in-Some.field-0 ∷ []) _ v v (with_band v z _) _ _ _
-    c.in_ok-first-in-Some.ensures.count one rest)
+    rw none (cons _ _ 0 _ v _ _ _ within _ _ _ _ read c.in_ok-first-in-Some.ensures.count
+    (c.take_later-in-Some.ensures.taken v z 0 1 within settings own (omega arith)))
 
 pub returns-in-None-clause-taken : goal.returns-in-None-clause-taken
 returns-in-None-clause-taken c = λ v z within settings own.
-    rw (nil_from_length c.args.numbers.now (omega (arith, c.in-None.ensures.cases)), same_band v z _ (sym own)) (gets_none z _ _ v _)
+    rw (nil_from_length c.args.numbers.now (omega (arith, c.in-None.ensures.cases)), same_band v z _ (sym own)) (none _ _ 0 _ v _)

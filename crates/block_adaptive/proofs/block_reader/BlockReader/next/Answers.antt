@@ -6,7 +6,7 @@ use Rattle.block_adaptive.proofs.Counts.{data_set_left}
 use Rattle.block_adaptive.proofs.block_reader.BlockReader.next.Goals as goal
 use Rattle.block_adaptive.proofs.block_reader.BlockReader.next.Goals.{then-self+then-self-eq0+in_ok-take_data_set, else-self}
 use Rattle.block_adaptive.proofs.block_reader.BlockReader.next.Goals.{else-self-via-then-self+else-self-eq0, else-self-via-else-self}
-use Rattle.block_adaptive.proofs.Runs.{taken_run, held_run, gives_next}
+use Rattle.block_adaptive.proofs.Runs.{taken_run, held_run}
 use Rattle.header_bits.proofs.Places.{empty_hand}
 
 pub returns-clause-given : goal.returns-clause-given
@@ -15,9 +15,9 @@ returns-clause-given c =
     elim c.if-self.branch [
       | then-self+then-self-eq0+in_ok-take_data_set w ↦
           (let none : c.args.self.now.held ≡ [] = (λ i. ((sym c.self.view_is) i).held) ∙ empty_hand _ _ _ _ w.if-self.true w.if-self-eq0.true in
-          rw w.reader-is (gives_next _ _ c.args.reader.now _ _ (taken_run _ _ _ _ _ (c.give.result ∷ []) cut (data_set_left c.args.self.now c.requires none)
-          none w.in_ok-take_data_set.ensures.read (rw w.self-is at c.give.ensures.first))))
-      | else-self w ↦ rw w.reader-is (gives_next _ _ c.args.reader.now _ _ (held_run _ _ _ _ (rw w.self-is at c.give.ensures.first)))
+          rw w.reader-is (taken_run _ _ _ _ _ (c.give.result ∷ []) cut (data_set_left c.args.self.now c.requires none)
+          none w.in_ok-take_data_set.ensures.read (rw w.self-is at c.give.ensures.first)))
+      | else-self w ↦ rw w.reader-is (held_run _ _ _ _ (rw w.self-is at c.give.ensures.first))
     ]
 
 pub returns-in_err-take_data_set-clause-given : goal.returns-in_err-take_data_set-clause-given

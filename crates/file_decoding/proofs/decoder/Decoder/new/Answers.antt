@@ -1,5 +1,5 @@
 use Rattle.sample_adaptive.proofs.ForSamples.{for_samples}
-use Rattle.file_coding.proofs.Coders.{samples_none}
+use Rattle.sample_adaptive.proofs.Given.{none_given}
 use Rattle.file_decoding.proofs.decoder.Decoder.new.Goals as goal
 
 pub new-requires : goal.new-requires
@@ -7,4 +7,5 @@ new-requires c = for_samples _ c.requires (rw c.in-Sample.is tt)
 
 pub returns-in_ok-new-in-Sample-clause-given : goal.returns-in_ok-new-in-Sample-clause-given
 returns-in_ok-new-in-Sample-clause-given c =
-    (samples_none _ _ (rw c.in-Sample.is tt) c.in_ok-new-in-Sample.ensures.bands c.in_ok-new-in-Sample.ensures.taken, tt)
+    let new = c.in_ok-new-in-Sample.ensures in
+    record { coder = rw c.in-Sample.is tt; bands = new.bands; given = none_given _ _ _ new.taken }

@@ -1,5 +1,5 @@
 use Rattle.std.proofs.Common.{◌+◌, ◌-◌, length, arith}
-use Rattle.file_decoding.proofs.Runs.{may_reach, column_given}
+use Rattle.file_decoding.proofs.Givers.{may_reach, samples_each}
 use Rattle.file_decoding.proofs.decoder.Decoder.next_column.Goals as goal
 
 pub get_column-requires-clause-inside : goal.get_column-requires-clause-inside
@@ -14,8 +14,7 @@ next_of_blocks-requires c =
 
 pub returns-in-Samples-clause-given : goal.returns-in-Samples-clause-given
 returns-in-Samples-clause-given c =
-    let got = c.get_column.ensures in
-    rw c.in-Samples.is (column_given _ _ _ _ _ _ _ _ _ got.taken got.bands (omega (arith, got.long, c.requires.small)))
+    rw c.in-Samples.is (samples_each _ _ _ _ _ _ _ _ _ c.get_column.ensures.taken c.get_column.ensures.bands.0)
 
 pub returns-in-Blocks-clause-given : goal.returns-in-Blocks-clause-given
 returns-in-Blocks-clause-given c = rw c.in-Blocks.is (c.next_of_blocks.ensures.given (λ i. c.args.z + i) (λ i. c.args.t) c.args.place)

@@ -1,5 +1,5 @@
 use Rattle.std.proofs.Common.{◌+◌, ◌-◌, length, arith}
-use Rattle.file_decoding.proofs.Runs.{may_reach, run_given}
+use Rattle.file_decoding.proofs.Givers.{may_reach, samples_each}
 use Rattle.file_decoding.proofs.decoder.Decoder.next_run.Goals as goal
 
 pub get_run-requires-clause-band : goal.get_run-requires-clause-band
@@ -13,8 +13,7 @@ next_of_blocks-requires c =
 
 pub returns-in-Samples-clause-given : goal.returns-in-Samples-clause-given
 returns-in-Samples-clause-given c =
-    let got = c.get_run.ensures in
-    rw c.in-Samples.is (run_given _ _ _ _ _ _ _ _ _ got.taken got.bands (omega (arith, got.long, c.requires.small)))
+    rw c.in-Samples.is (samples_each _ _ _ _ _ _ _ _ _ c.get_run.ensures.taken c.get_run.ensures.bands.0)
 
 pub returns-in-Blocks-clause-given : goal.returns-in-Blocks-clause-given
 returns-in-Blocks-clause-given c = rw c.in-Blocks.is (c.next_of_blocks.ensures.given (λ i. c.args.z) (λ i. c.args.t + i) c.args.place)

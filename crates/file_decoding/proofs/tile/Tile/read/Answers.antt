@@ -6,7 +6,7 @@ use Rattle.std.proofs.lemmas.Result.{err_from_is_err_and}
 use Rattle.std.proofs.lemmas.Slice.{take-put_mid}
 use Rattle.file_decoding.specs.Decoding.{MayAskEach, MayAskColumn}
 use Rattle.file_decoding.specs.Tiles.{band_in, time_in}
-use Rattle.file_decoding.proofs.Runs.{gives_behind}
+use Rattle.file_decoding.proofs.Givers.{gives_behind}
 use Rattle.file_decoding.proofs.TileWalk.{run_bands, run_times, as_column}
 use Rattle.file_decoding.proofs.tile.Tile.read.Goals as goal
 use Rattle.file_decoding.proofs.tile.Tile.read.Goals.{In-loop-i}

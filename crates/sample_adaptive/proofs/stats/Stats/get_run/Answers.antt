@@ -12,3 +12,10 @@ returns-in-Ok-clause-taken c =
     let own = band_own v items same c.args.z c.requires.band c.index.result.now c.index.ensures in
     let run = c.in-Ok.ensures.taken v c.args.z c.requires.band (settings_seen v _ c.self.view_is) own in
     rw (statistics_set items c.args.z c.take_words.new.tracked, ← c.self.view_is) (rw (c.fork-ahead.ensures, ← c.self.view_is) at run)
+
+pub returns-in-Err-clause-taken : goal.returns-in-Err-clause-taken
+returns-in-Err-clause-taken c =
+    let v = c.args.self.now in
+    let same : statistics_of c.self.inside.bands.items ≡ v.bands = ap (λ (w : Counts). w.bands) c.self.view_is in
+    let own = band_own v c.self.inside.bands.items same c.args.z c.requires.band c.index.result.now c.index.ensures in
+    rw c.fork-ahead.ensures at (c.in-Err.ensures.taken v c.args.z c.requires.band (settings_seen v _ c.self.view_is) own)

@@ -3,7 +3,7 @@ use Rattle.sample_adaptive.specs.Taken.{Counts}
 use Rattle.sample_adaptive.specs.Tracked.{statistics_of}
 use Rattle.sample_adaptive.proofs.Taking.{code_is, taken_more}
 use Rattle.sample_adaptive.proofs.Tracking.{settings_seen, band_own, statistics_set}
-use Rattle.sample_adaptive.proofs.stats.Stats.get.Goals as goal
+use Rattle.sample_adaptive.proofs.stats.Stats.take_next.Goals as goal
 
 pub returns-in-Ok-clause-taken : goal.returns-in-Ok-clause-taken
 returns-in-Ok-clause-taken c = λ settings taken h next.

@@ -1,0 +1,103 @@
+//! Single code words, read back.
+
+ghost use Rattle.std.specs.Prelude.{◌≡◌, ◌^◌, ◌<◌, length, Err, Some, None, IfOk, IfErr, OnErr, option_map};
+ghost use Rattle.cube_core.specs.declared.fault.Fault.{Fault};
+ghost use Rattle.sample_adaptive.specs.Reading.{placed_at};
+ghost use Rattle.sample_adaptive.specs.Taken.{Counts, GetsAt, GetsNumber};
+
+use crate::column::take_number;
+use crate::stats::Stats;
+use cube_core::fault::Fault;
+use header_bits::bit_reader::BitReader;
+
+impl Stats {
+    /// Reads number `t` of band `z`, whose code word stands next, returns it, and updates the band's statistics.
+    ///
+    /// `t` counts the band's numbers from 0. Where no code word stands next, it returns `BadCode` with `t` as the place
+    /// if the bits are of a code word's form but no number's (a needless escape, or a number above 2^D - 1), and
+    /// `Truncated` otherwise. Then the reader keeps its position, every later call returns the same, and nothing else
+    /// was changed.
+    #[inline(always)]
+    pub fn get(&mut self, z: u32, t: u64, reader: &mut BitReader) -> Result<u16, Fault>
+        requires { z < length self.old.bands }
+        ensures taken { GetsNumber z t result self.old reader.old self.new reader.new.left }
+        ensures below { IfOk result (λ number. number < 2 ^ self.old.bits) }
+        ensures again { (fault : Fault) → self.old.refused ≡ Some fault → result ≡ Err fault }
+        ensures kept { IfErr result (λ fault. self.new ≡ record self.old { refused = Some fault }) }
+        ensures same { OnErr result (reader.new ≡ reader.old) }
+        ensures count { reader.new.count ≡ reader.old.count }
+        ensures bands { (length self.new.bands ≡ length self.old.bands) × (self.new.bits ≡ self.old.bits) }
+    {
+        if let Some(fault) = self.refused {
+            return Err(fault);
+        }
+        self.take_next(z, t, t, reader)
+    }
+
+    /// Reads number `t` of band `z`, as `get` does, where a `BadCode` has `place` for its place: the number's index in
+    /// encoding order, say. So has one that a later call returns, with the later call's place.
+    #[inline(always)]
+    pub fn get_at(
+        &mut self,
+        z: u32,
+        t: u64,
+        place: u64,
+        reader: &mut BitReader,
+    ) -> Result<u16, Fault>
+        requires { z < length self.old.bands }
+        ensures taken { GetsAt z t place result self.old reader.old self.new reader.new.left }
+        ensures below { IfOk result (λ number. number < 2 ^ self.old.bits) }
+        ensures again { (fault : Fault) → self.old.refused ≡ Some fault → result ≡ Err (placed_at place fault) }
+        ensures kept { IfErr result (λ fault. option_map (placed_at place) self.new.refused ≡ Some fault) }
+        ensures rest { IfErr result (λ fault. self.new ≡ record self.old { refused = self.new.refused }) }
+        ensures same { OnErr result (reader.new ≡ reader.old) }
+        ensures count { reader.new.count ≡ reader.old.count }
+        ensures bands { (length self.new.bands ≡ length self.old.bands) × (self.new.bits ≡ self.old.bits) }
+    {
+        if let Some(fault) = self.refused {
+            return Err(placed(fault, place));
+        }
+        self.take_next(z, t, place, reader)
+    }
+
+    /// Reads number `t` of band `z`, where none was refused.
+    #[inline(always)]
+    fn take_next(
+        &mut self,
+        z: u32,
+        t: u64,
+        place: u64,
+        reader: &mut BitReader,
+    ) -> Result<u16, Fault>
+        requires { z < length self.old.bands }
+        ensures taken { GetsAt z t place result self.old reader.old self.new reader.new.left }
+        ensures below { IfOk result (λ number. number < 2 ^ self.old.bits) }
+        ensures placed { IfErr result (λ fault. placed_at place fault ≡ fault) }
+        ensures kept { IfErr result (λ fault. self.new ≡ record self.old { refused = Some fault }) }
+        ensures same { OnErr result (reader.new ≡ reader.old) }
+        ensures count { reader.new.count ≡ reader.old.count }
+        ensures bands { (length self.new.bands ≡ length self.old.bands) × (self.new.bits ≡ self.old.bits) }
+    {
+        let mut tracked = self.bands[z as usize];
+        match take_number(self.codes, t == 0, place, &mut tracked, reader) {
+            Ok(number) => {
+                self.bands[z as usize] = tracked;
+                Ok(number)
+            }
+            Err(fault) => {
+                self.refused = Some(fault);
+                Err(fault)
+            }
+        }
+    }
+}
+
+/// Returns the fault of a code word that stands at a place.
+fn placed(fault: Fault, place: u64) -> Fault
+    ensures { result ≡ placed_at place fault }
+{
+    match fault {
+        Fault::BadCode { .. } => Fault::BadCode { place },
+        other => other,
+    }
+}
