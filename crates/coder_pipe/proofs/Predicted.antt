@@ -14,7 +14,7 @@ use Rattle.cube_core.proofs.Orders.{length-places}
 use Rattle.predict_core.specs.Residual.{residuals}
 use Rattle.file_coding.specs.File.{file_of}
 use Rattle.file_decoding.specs.Files.{IsCubeOf, IsFile}
-use Rattle.file_decoding.proofs.FileLaws.{inside, chosen_is_file}
+use Rattle.file_decoding.proofs.FileLaws.{inside}
 use Rattle.cube_predictors.specs.Plans.{Dealing, IsPlan}
 use Rattle.cube_predictors.specs.Sends.{Predicting, part_of}
 use Rattle.cube_predictors.specs.Weave.{owners, part, parts}
@@ -22,6 +22,7 @@ use Rattle.cube_predictors.proofs.Parts.{length-residuals}
 use Rattle.std.proofs.lemmas.List.Elements.{All-from_recursion}
 use Rattle.cube_predictors.proofs.Weaves.{part_share, length-owners, weave_of_parts}
 use Rattle.coder_pipe.specs.Piping.{carried, AreFeeds, IsPiped, MayStop, IsFileOf, MayStopPart}
+use Rattle.coder_pipe.proofs.WrittenFiles.{chosen_is_file}
 
 -- the feeds of a cube
 abbrev pub feed_of : Image → Dealing → ℕ → Predicting
