@@ -24,7 +24,7 @@ use Rattle.header_bits.proofs.Headers.{header_exact}
 use Rattle.predict_core.specs.Residual.{residuals}
 use Rattle.sample_adaptive.specs.Settings.{settings}
 use Rattle.sample_adaptive.specs.Reading.{sample_body_at}
-use Rattle.sample_adaptive.proofs.Bodies as samples
+use Rattle.sample_adaptive.proofs.Exact as samples
 use Rattle.sample_adaptive.proofs.ForSamples.{settings_bits}
 use Rattle.block_adaptive.specs.declared.options.CodeSet.{CodeSet}
 use Rattle.block_adaptive.specs.Reading.{block_body_at}
