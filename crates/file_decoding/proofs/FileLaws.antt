@@ -1,14 +1,14 @@
--- What a body is by either coder; a file has no fault, and is a file of one cube alone.
+-- What a body is by either coder, and what stands behind it; a file has no fault, and is a file of one cube alone.
 use Rattle.std.specs.List.{AllByRecursion}
-use Rattle.std.proofs.Common.{◌≡◌, ◌≤◌, ◌<◌, ◌^◌, ℕ, Bool, false, List, ◌++◌, length, replicate, Result, Ok, Err, refl, sym, ap, subst, ◌∙◌, append_assoc}
-use Rattle.std.proofs.Common.{length-append, arith}
-use Rattle.std.proofs.lemmas.Bool.{le-ltb}
-use Rattle.std.proofs.lemmas.List.{append_cancel_left, length-map}
-use Rattle.cube_core.specs.declared.fault.Fault.{Fault}
+use Rattle.std.proofs.Common.{◌≡◌, ◌≤◌, ◌<◌, ◌^◌, ◌*◌, ℕ, zero, suc, Bool, true, false, leb, List, [], ◌∷◌, ◌++◌, length, replicate, Ok, Err, refl, sym, ap}
+use Rattle.std.proofs.Common.{subst, ◌∙◌, append_assoc, length-append, arith}
+use Rattle.std.proofs.lemmas.Bool.{le-ltb, leb-false, lt-leb}
+use Rattle.std.proofs.lemmas.List.{append_cancel_left, length-map, length-replicate}
+use Rattle.cube_core.specs.declared.fault.Fault.TheVariants.{BadFill}
 use Rattle.cube_core.specs.declared.order.Place.{Place}
-use Rattle.cube_core.specs.Order.{IsOrder, places}
+use Rattle.cube_core.specs.Order.{places}
 use Rattle.cube_core.specs.Shape.{sample_count}
-use Rattle.cube_core.specs.Steps.{◌>>=◌}
+use Rattle.cube_core.specs.Steps.{◌>>=◌, refuse_if}
 use Rattle.cube_core.specs.Kind.{SampleKind}
 use Rattle.cube_core.specs.Image.{Image}
 use Rattle.cube_core.proofs.Orders.{length-places}
@@ -17,7 +17,7 @@ use Rattle.header_bits.specs.declared.params.Coder.{Coder}
 use Rattle.header_bits.specs.declared.params.Coder.TheVariants.{Sample, Block}
 use Rattle.header_bits.specs.Bits.{bits_of_bytes}
 use Rattle.header_bits.specs.Reading.{Reading}
-use Rattle.header_bits.specs.Parts.{fine, as_at, IsExact}
+use Rattle.header_bits.specs.Parts.{fine, IsExact}
 use Rattle.header_bits.specs.Lawful.{IsLawful, IsCoder}
 use Rattle.header_bits.proofs.Exact.{one_spelling}
 use Rattle.header_bits.proofs.Headers.{header_exact}
@@ -27,14 +27,12 @@ use Rattle.sample_adaptive.specs.Reading.{sample_body_at}
 use Rattle.sample_adaptive.proofs.Exact as samples
 use Rattle.sample_adaptive.proofs.ForSamples.{settings_bits}
 use Rattle.block_adaptive.specs.declared.options.CodeSet.{CodeSet}
-use Rattle.block_adaptive.specs.Reading.{block_body_at}
 use Rattle.block_adaptive.proofs.Exact as blocks
 use Rattle.block_adaptive.proofs.Handed.{size_least}
 use Rattle.block_adaptive.proofs.Segmented.{no_shorter_body}
-use Rattle.file_decoding.specs.Files.{IsBodyBy, IsBody, IsCubeOf, IsFile, behind_by, behind_body, body_test, head_at, file_test}
+use Rattle.file_decoding.specs.Files.{IsBodyBy, IsBody, IsCubeOf, IsFile, behind_by, behind_body, some_one, fill_test, body_test, head_at, file_test}
 use Rattle.file_decoding.specs.Least.{least_by, least_length, least_test}
 use Rattle.file_decoding.specs.Laws.{FileIsFine, OneFile}
-use Rattle.file_decoding.proofs.Fills.{zeros_pass}
 use Rattle.file_decoding.proofs.OneCube.{residuals_inside, one_cube}
 
 -- ---- what bodies are, by either coder
@@ -47,8 +45,7 @@ IsBodyOf p coder numbers body = (length numbers ≡ sample_count p.shape) × All
 abbrev pub numbers_at : Coder → ℕ → Params → Reading (List ℕ)
 numbers_at (Sample umax gamma_star gamma_zero start) count p = sample_body_at count (settings p) (places p.shape p.order)
 numbers_at (Block size restricted reference) count p =
-    let set : CodeSet = record { bits = p.kind.bits; restricted = restricted } in
-    as_at (blocks.numbers_of set size reference (sample_count p.shape)) (block_body_at count set size reference (sample_count p.shape))
+    blocks.numbers_at count (record { bits = p.kind.bits; restricted = restricted }) size reference (sample_count p.shape)
 
 -- exactly the bodies are read, and none is shorter than the least
 pub record AreBodies (p : Params) (coder : Coder) : Type 0 where
@@ -56,14 +53,7 @@ pub record AreBodies (p : Params) (coder : Coder) : Type 0 where
   pub behind : (count : ℕ) (bits : List Bool) → behind_by coder count p bits ≡ (numbers_at coder count p bits >>= λ read. Ok read.1)
   pub least : (numbers : List ℕ) (body : List Bool) → IsBodyOf p coder numbers body → least_by coder (sample_count p.shape) ≤ length body
 
--- what is read in another form leaves the same bits
-same_rest : {X Y : Type 0} (form : X → Y) (r : Result (X × List Bool) Fault) → (r >>= λ x. Ok x.1)
-    ≡ (◌>>=◌ {B = Y × List Bool} r (λ x. Ok (form x.0, x.1)) >>= λ y. Ok y.1)
-same_rest form (Ok x) = refl
-same_rest form (Err e) = refl
-
 bodies : (p : Params) (coder : Coder) → IsLawful p → IsCoder p coder → AreBodies p coder
-unfolding as_at
 bodies p (Sample umax gamma_star gamma_zero start) lawful h =
     let along : List Place = places p.shape p.order in
     let whole = length-places p.shape p.order lawful.order in
@@ -75,10 +65,11 @@ bodies p (Sample umax gamma_star gamma_zero start) lawful h =
     }
 bodies p (Block size restricted reference) lawful h =
     let set : CodeSet = record { bits = p.kind.bits; restricted = restricted } in
+    let two : 2 ≤ size = omega (arith, size_least size h.0) in
     record {
       exact = λ count. blocks.body_exact count set size reference (sample_count p.shape) h.0 h.2.0;
-      behind = λ count bits. same_rest (blocks.numbers_of set size reference (sample_count p.shape)) (block_body_at count set size reference _ bits);
-      least = λ numbers body b. rw b.0 at (no_shorter_body set size reference numbers body (omega (arith, lawful.kind)) (omega (arith, size_least size h.0)) h.2.0 b.2);
+      behind = λ count bits. blocks.same_left count set size reference (sample_count p.shape) bits;
+      least = λ numbers body b. rw b.0 at (no_shorter_body set size reference numbers body (omega (arith, lawful.kind)) two h.2.0 b.2);
     }
 
 module _ (p : Params) (lawful : IsLawful p) where
@@ -92,17 +83,50 @@ module _ (p : Params) (lawful : IsLawful p) where
 
   -- ---- residuals of a cube of the parameters
 
-  order_of_cube : (c : Image) → IsCubeOf p c → IsOrder c.shape p.order
-  order_of_cube c cube = rw cube.shape lawful.order
-
   pub inside : (c : Image) → IsCubeOf p c → AllByRecursion (λ v. v < 2 ^ p.kind.bits) (residuals p c)
   inside c cube =
-      subst (λ (k : SampleKind). AllByRecursion (λ v. v < 2 ^ k.bits) (residuals p c)) cube.kind (residuals_inside p c (order_of_cube c cube) cube.cube)
+      let range = residuals_inside p c (rw cube.shape lawful.order) cube.cube in
+      subst (λ (k : SampleKind). AllByRecursion (λ v. v < 2 ^ k.bits) (residuals p c)) cube.kind range
 
   pub body_of_cube : (c : Image) (body : List Bool) → IsCubeOf p c → IsBody p (residuals p c) body → IsBodyOf p p.coder (residuals p c) body
   unfolding residuals
   body_of_cube c body cube coded =
-      (length-map (places c.shape p.order) _ ∙ length-places _ _ (order_of_cube c cube) ∙ ap sample_count cube.shape, inside c cube, coded)
+      let whole = length-places c.shape p.order (rw cube.shape lawful.order) in
+      (length-map (places c.shape p.order) _ ∙ whole ∙ ap sample_count cube.shape, inside c cube, coded)
+
+-- ---- what stands behind a body: few bits, and no one among them
+
+none_one : (n : ℕ) → some_one (replicate n false) ≡ false
+none_one zero = refl
+none_one (suc n) = none_one n
+
+all_zeros : (left : List Bool) → some_one left ≡ false → left ≡ replicate (length left) false
+all_zeros [] h = refl
+all_zeros (true ∷ left) h = absurd (cc)
+all_zeros (false ∷ left) h = ap (λ (bs : List Bool). false ∷ bs) (all_zeros left h)
+
+-- few bits are tested for a one
+few_tested : (word : ℕ) (left : List Bool) → length left < 8 * word → fill_test word left ≡ refuse_if (some_one left) BadFill
+few_tested word left few = rw (lt-leb (8 * word) (length left) few) refl
+
+pub zeros_pass : (word n : ℕ) → n < 8 * word → fill_test word (replicate n false) ≡ fine
+zeros_pass word n few = few_tested word (replicate n false) (rw (length-replicate n false) few) ∙ rw (none_one n) refl
+
+pub ones_fail : (word : ℕ) (left : List Bool) → length left < 8 * word → (left ≡ replicate (length left) false → ⊥) → fill_test word left ≡ Err BadFill
+ones_fail word left few ones = few_tested word left few ∙ by_ones (some_one left) refl
+  where
+    by_ones : (b : Bool) → some_one left ≡ b → refuse_if b BadFill ≡ Err BadFill
+    by_ones true e = refl
+    by_ones false e = absurd (ones (all_zeros left e))
+
+pub passed : (word : ℕ) (left : List Bool) → fill_test word left ≡ fine → (length left < 8 * word) × (left ≡ replicate (length left) false)
+passed word left h = by_tests (leb (8 * word) (length left)) (some_one left) refl refl
+  where
+    by_tests : (long one : Bool) → leb (8 * word) (length left) ≡ long → some_one left ≡ one
+        → (length left < 8 * word) × (left ≡ replicate (length left) false)
+    by_tests true one e f = absurd (let g = rw e at h in cc)
+    by_tests false true e f = absurd (let g = rw (e, f) at h in cc)
+    by_tests false false e f = (leb-false _ _ e, all_zeros left f)
 
 -- ---- a file has no fault, and there is one of its bytes
 
