@@ -1,7 +1,10 @@
 -- Exactly the bodies of numbers are read.
-use Rattle.std.proofs.Common.{◌≡◌, ℕ, ◌*◌, ◌/◌, ◌^◌, ◌<◌, ◌≤◌, Bool, List, length, take, refl, sym, arith}
+use Rattle.std.proofs.Common.{◌≡◌, ℕ, ◌*◌, ◌/◌, ◌^◌, ◌<◌, ◌≤◌, Bool, List, length, take, Result, Ok, Err, refl, sym, arith}
 use Rattle.std.specs.List.{AllByRecursion}
 use Rattle.std.proofs.lemmas.List.{length-take}
+use Rattle.cube_core.specs.declared.fault.Fault.{Fault}
+use Rattle.cube_core.specs.Steps.{◌>>=◌}
+use Rattle.header_bits.specs.Reading.{Reading}
 use Rattle.header_bits.specs.Parts.{as_at, SpellsAs, IsExact}
 use Rattle.header_bits.proofs.Exact.{as_exact}
 use Rattle.header_bits.proofs.Items.{all_take}
@@ -23,6 +26,21 @@ IsBodyOf s size reference n numbers bits =
 abbrev pub numbers_of : CodeSet → ℕ → ℕ → ℕ → List CodedDataSet → List ℕ
 numbers_of s size reference n data_sets = take n (values_of (blocks_told (cut_of s size reference n) 0 data_sets))
 
+-- the numbers of a body
+abbrev pub numbers_at : ℕ → CodeSet → ℕ → ℕ → ℕ → Reading (List ℕ)
+numbers_at count s size reference n = as_at (numbers_of s size reference n) (block_body_at count s size reference n)
+
+-- the same bits are left behind them
+pub same_left : (count : ℕ) (s : CodeSet) (size reference n : ℕ) (bits : List Bool) → (block_body_at count s size reference n bits >>= λ read. Ok read.1)
+    ≡ (numbers_at count s size reference n bits >>= λ read. Ok read.1)
+unfolding as_at
+same_left count s size reference n bits = by_read (block_body_at count s size reference n bits)
+  where
+    by_read : (r : Result (List CodedDataSet × List Bool) Fault) → (r >>= λ read. Ok read.1)
+        ≡ (◌>>=◌ {B = List ℕ × List Bool} r (λ read. Ok (numbers_of s size reference n read.0, read.1)) >>= λ read. Ok read.1)
+    by_read (Ok x) = refl
+    by_read (Err e) = refl
+
 module _ (count : ℕ) (s : CodeSet) (size reference n : ℕ) (sized : IsSize size) (least : 1 ≤ reference) where
   abbrev cut : Cut
   cut = cut_of s size reference n
@@ -42,10 +60,10 @@ module _ (count : ℕ) (s : CodeSet) (size reference n : ℕ) (sized : IsSize si
         (spelling s ts, (read.0, refl), read.1);
   }
 
-  told_exact : IsExact (as_at (numbers_of s size reference n) (block_body_at count s size reference n)) (SpellsAs (numbers_of s size reference n) AreSpelled)
+  told_exact : IsExact (numbers_at count s size reference n) (SpellsAs (numbers_of s size reference n) AreSpelled)
   told_exact = as_exact (numbers_of s size reference n) (block_body_at count s size reference n) AreSpelled data_sets_exact
 
-  pub body_exact : IsExact (as_at (numbers_of s size reference n) (block_body_at count s size reference n)) (IsBodyOf s size reference n)
+  pub body_exact : IsExact (numbers_at count s size reference n) (IsBodyOf s size reference n)
   body_exact = record {
     again = λ ns bits rest h.
         told_exact.again ns bits rest (record { from = h.2.data_sets; same = rw h.0 at h.2.told; spells = (rw h.0 at h.2.lawful, h.2.text) });

@@ -7,3 +7,4 @@ pub mod Predicted
 pub mod Standings
 pub mod Taking
 pub mod Weaving
+pub mod WrittenFiles

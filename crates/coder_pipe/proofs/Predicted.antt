@@ -15,7 +15,7 @@ use Rattle.predict_core.specs.Residual.{residuals}
 use Rattle.file_coding.specs.File.{file_of}
 use Rattle.predict_core.specs.Cubes.{IsCubeOf}
 use Rattle.file_decoding.specs.Files.{IsFile}
-use Rattle.file_decoding.proofs.FileLaws.{inside, chosen_is_file}
+use Rattle.file_decoding.proofs.FileLaws.{inside}
 use Rattle.cube_predictors.specs.Plans.{Dealing, IsPlan}
 use Rattle.cube_predictors.specs.Sends.{Predicting, part_of}
 use Rattle.cube_predictors.specs.Weave.{owners, part, parts}
@@ -23,6 +23,7 @@ use Rattle.cube_predictors.proofs.Parts.{length-residuals}
 use Rattle.std.proofs.lemmas.List.Elements.{All-from_recursion}
 use Rattle.cube_predictors.proofs.Weaves.{part_share, length-owners, weave_of_parts}
 use Rattle.coder_pipe.specs.Piping.{carried, AreFeeds, IsPiped, MayStop, IsFileOf, MayStopPart}
+use Rattle.coder_pipe.proofs.WrittenFiles.{chosen_is_file}
 
 -- the feeds of a cube
 abbrev pub feed_of : Image → Dealing → ℕ → Predicting

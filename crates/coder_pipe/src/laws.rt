@@ -8,6 +8,7 @@ ghost use Rattle.cube_predictors.specs.Plans.{PlanFaultIsExact};
 ghost use Rattle.cube_predictors.specs.Weave.{PartsOfWeave, WeaveOfParts, WeaveOfTaken};
 
 /// The file that is written for a cube is a file of it.
+#[tactic(auto, using(crate::proofs::WrittenFiles::chosen_is_file))]
 pub fn chosen_is_file()
     ensures { ChosenIsFile }
 {}
@@ -18,6 +19,7 @@ pub fn file_is_fine()
 {}
 
 /// Bytes without a fault are a file.
+#[tactic(auto, using(crate::proofs::FineFiles::fine_is_file))]
 pub fn fine_is_file()
     ensures { FineIsFile }
 {}
@@ -38,11 +40,13 @@ pub fn one_file()
 {}
 
 /// The parts of all predictors, woven together along the encoding order, are the residuals.
+#[tactic(auto, using(cube_predictors::proofs::Weaves::weave_of_parts))]
 pub fn weave_of_parts()
     ensures { WeaveOfParts }
 {}
 
 /// Numbers along the first places are what their parts are woven to.
+#[tactic(auto, using(cube_predictors::proofs::Weaves::weave_of_taken))]
 pub fn weave_of_taken()
     ensures { WeaveOfTaken }
 {}
@@ -53,16 +57,19 @@ pub fn parts_of_weave()
 {}
 
 /// As many numbers of a band come before a place in encoding order as the band has places before it.
+#[tactic(auto, using(file_coding::proofs::Endings::time_of_place))]
 pub fn time_of_place()
     ensures { TimeOfPlace }
 {}
 
 /// A plan has no refusal exactly where it may be made.
+#[tactic(auto, using(cube_predictors::proofs::Planning::plan_fault_is_exact))]
 pub fn plan_fault_is_exact()
     ensures { PlanFaultIsExact }
 {}
 
 /// A predictor's part of an image's residuals is those of its own bands, in encoding order.
+#[tactic(auto, using(cube_predictors::proofs::Owning::own_is_part))]
 pub fn own_is_part()
     ensures { OwnIsPart }
 {}

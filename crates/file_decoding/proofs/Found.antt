@@ -1,20 +1,23 @@
 -- What a decoder finds, read as a file or as its first fault.
-use Rattle.std.proofs.Common.{◌≡◌, ◌⊎◌, ℕ, Bool, List, ◌++◌, length, drop, Result, Ok, Err, IfOk, IfErr, IsErrAnd, refl, sym, subst, ◌∙◌, inl, inr}
+use Rattle.std.proofs.Common.{◌≡◌, ◌⊎◌, ℕ, Bool, List, ◌++◌, length, Result, Ok, Err, IfOk, IfErr, IsErrAnd, refl, sym, subst, ◌∙◌, inl, inr}
 use Rattle.std.proofs.Common.{append_assoc}
 use Rattle.cube_core.specs.declared.fault.Fault.{Fault}
 use Rattle.cube_core.specs.declared.fault.Fault.TheVariants.{WantOfMemory}
 use Rattle.cube_core.specs.Image.{Image}
 use Rattle.header_bits.specs.declared.params.Params.{Params}
-use Rattle.header_bits.specs.Bits.{Unread, bits_of_bytes}
+use Rattle.header_bits.specs.Bits.{bits_of_bytes}
 use Rattle.header_bits.specs.Parts.{fine}
 use Rattle.header_bits.specs.Lawful.{IsLawful}
 use Rattle.header_bits.specs.Header.{header_at, SpellsHeader, BeginsWithTable}
+use Rattle.header_bits.proofs.Bytes.{length-bits_of_bytes}
 use Rattle.header_bits.proofs.SpeltLawful.{spelt_is_lawful}
 use Rattle.file_decoding.specs.Decoding.{TakesCube, AnswersOr, IsNoFile, IsRefusal, ReadsFile}
 use Rattle.file_decoding.specs.Files.{IsFile, behind_body, fill_test, body_test, head_at, file_test}
 use Rattle.file_decoding.specs.Least.{least_test}
-use Rattle.file_decoding.proofs.FileLaws.{body_of_cube, behind_again, file_is_fine, one_file}
-use Rattle.file_decoding.proofs.Fills.{passed}
+use Rattle.file_decoding.proofs.FileLaws.{body_of_cube, behind_again, passed, file_is_fine, one_file}
+
+-- how many bits bytes have
+pub ruleset byte_bits = (length-bits_of_bytes)
 
 -- ---- a refusal is the file's first fault
 
@@ -36,26 +39,24 @@ pub stopped : (bits : List Bool) (e : Fault) → (header_at bits ≡ Err e) ⊎ 
 stopped bits e (inl h) = inl (head_refused _ _ (header_refused _ _ h))
 stopped bits e (inr (w, table)) = inr (w, inl table)
 
--- a reader stands behind a header
-module _ (bits : List Bool) (p : Params) (n : ℕ) (reader : Unread) (e : Fault) (header : header_at bits ≡ Ok (p, drop n bits))
-    (all : reader.count ≡ length bits) (is : reader.left ≡ drop n bits) where
+module _ (bits : List Bool) (p : Params) (left : List Bool) (e : Fault) (header : header_at bits ≡ Ok (p, left)) where
   -- fewer bits are left than the shortest body has
-  pub short_refused : Err e ≡ least_test reader.count p reader.left → IsRefusal bits e
+  pub short_refused : Err e ≡ least_test (length bits) p left → IsRefusal bits e
   unfolding file_test head_at
-  short_refused short = inl (rw (header, ← is, ← all, ← short) refl)
+  short_refused short = inl (rw (header, ← short) refl)
 
   -- a body wasn't read
-  pub body_refused : fine ≡ least_test reader.count p reader.left → (e ≡ WantOfMemory) ⊎ (behind_body reader.count p reader.left ≡ Err e) → IsRefusal bits e
+  pub body_refused : fine ≡ least_test (length bits) p left → (e ≡ WantOfMemory) ⊎ (behind_body (length bits) p left ≡ Err e) → IsRefusal bits e
   unfolding file_test head_at body_test
-  body_refused enough (inl w) = inr (w, inr ((p, reader.left), rw (header, ← is, ← all, ← enough) refl))
-  body_refused enough (inr b) = inl (rw (header, ← is, ← all, ← enough, b) refl)
+  body_refused enough (inl w) = inr (w, inr ((p, left), rw (header, ← enough) refl))
+  body_refused enough (inr b) = inl (rw (header, ← enough, b) refl)
 
-  pub fill_refused : fine ≡ least_test reader.count p reader.left → (c : Image) (left : List Bool) → IsLawful p → TakesCube p c reader.left left
-      → Err e ≡ fill_test p.word left → IsRefusal bits e
+  pub fill_refused : fine ≡ least_test (length bits) p left → (c : Image) (fill : List Bool) → IsLawful p → TakesCube p c left fill
+      → Err e ≡ fill_test p.word fill → IsRefusal bits e
   unfolding file_test head_at body_test
-  fill_refused enough c left lawful t f =
-      let body = behind_again p lawful reader.count _ t.body left (body_of_cube p lawful c t.body t.cube t.coded) in
-      inl (rw (header, ← is, ← all, ← enough, t.text, body, ← f) refl)
+  fill_refused enough c fill lawful t f =
+      let body = behind_again p lawful (length bits) _ t.body fill (body_of_cube p lawful c t.body t.cube t.coded) in
+      inl (rw (header, ← enough, t.text, body, ← f) refl)
 
 -- ---- where nothing is refused, the bytes are a file
 

@@ -1,5 +1,4 @@
 pub mod FileLaws
-pub mod Fills
 pub mod Found
 pub mod Givers
 pub mod TileWalk

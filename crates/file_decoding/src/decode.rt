@@ -63,11 +63,11 @@ fn read_file(alloc: Global, bytes: &[u8]) -> Result<(Params, Cube), Fault>
 }
 
 /// Returns a reader of bytes that has taken the first `size` of them.
+#[tactic(auto, using(crate::proofs::Found::byte_bits))]
 fn reader_behind(bytes: &[u8], size: usize) -> BitReader<'_>
     requires small { length bytes.now ≤ 2 ^ 60 }
     requires within { size ≤ length bytes.now }
-    ensures count { result.count ≡ length (bits_of_bytes bytes.now) }
-    ensures left { result.left ≡ drop (8 * size) (bits_of_bytes bytes.now) }
+    ensures { result ≡ record { count = length (bits_of_bytes bytes.now); left = drop (8 * size) (bits_of_bytes bytes.now) } }
 {
     let mut reader = BitReader::new(bytes);
     reader.skip(8 * size as u64);
@@ -108,7 +108,7 @@ fn take_cube(alloc: Global, params: &Params, reader: &mut BitReader) -> Result<C
 }
 
 /// Tests the fill bits behind the body: they are zeros, and fewer than an output word of `word` bytes has.
-#[tactic(auto, using(crate::proofs::Fills::ones_fail, crate::proofs::Fills::zeros_pass))]
+#[tactic(auto, using(crate::proofs::FileLaws::ones_fail, crate::proofs::FileLaws::zeros_pass))]
 fn test_fill(word: u32, reader: &BitReader) -> Result<(), Fault>
     requires { InRange 1 8 word }
     ensures { result ≡ fill_test word reader.now.left }

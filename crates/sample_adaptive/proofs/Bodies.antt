@@ -1,21 +1,17 @@
 -- Bodies, word after word.
 use Rattle.std.proofs.Common.{◌≡◌, ℕ, suc, ◌^◌, ◌<◌, ◌≤◌, Bool, true, false, cond, eqb, List, [], ◌∷◌, ◌++◌, length, Result, Ok, Err, refl, sym, ap, ap₂, subst, ◌∙◌}
-use Rattle.std.proofs.Common.{append_assoc, append-nil, length-append, replicate, arith}
-use Rattle.std.specs.List.{AllByRecursion}
+use Rattle.std.proofs.Common.{append_assoc, append-nil, arith}
 use Rattle.std.proofs.Math.Pow.{pow_mono}
 use Rattle.cube_core.specs.declared.order.Place.{Place}
 use Rattle.cube_core.specs.Steps.{◌>>=◌}
 use Rattle.cube_core.specs.declared.fault.Fault.{Fault}
-use Rattle.header_bits.specs.Bits.{bits_of}
-use Rattle.header_bits.specs.Parts.{IsExact}
 use Rattle.header_bits.proofs.Each.{bind_same}
-use Rattle.header_bits.proofs.Numbers.{length-bits_of}
 use Rattle.header_bits.proofs.Reading.{ok_is}
 use Rattle.header_bits.proofs.Fronts.{bind_ok}
 use Rattle.sample_adaptive.specs.declared.code_word.Code.{Code}
 use Rattle.sample_adaptive.specs.declared.statistics.Statistics.{Statistics}
 use Rattle.sample_adaptive.specs.Statistics.{CoderSettings, AreStatistics, first_statistics, next_statistics, statistics_from, statistics}
-use Rattle.sample_adaptive.specs.Words.{Form, Plain, Escape, form_text, form_of, code_word, code_at}
+use Rattle.sample_adaptive.specs.Words.{code_word, code_at}
 use Rattle.sample_adaptive.specs.Body.{band_numbers, words_after, sample_body}
 use Rattle.sample_adaptive.specs.Reading.{word_at, words_at, sample_body_at}
 use Rattle.sample_adaptive.specs.Laws.{AreNumbers, OneBody, BodyIsRead, AreSettings, AccumulatorBound}
@@ -74,17 +70,6 @@ words_takes count c gone before (p ∷ ps) bits x e =
           ∙ sym (append_assoc (code_word code a.0.0) (words_after c (gone ++ p ∷ []) (before ++ a.0.0 ∷ []) ps b.0.0) b.0.1);
     })
 
--- exactly the bodies of so many numbers, each in range, are read
-pub body_exact : (count : ℕ) (c : CoderSettings) (places : List Place) → IsExact (sample_body_at count c places)
-    (λ numbers bits. (length numbers ≡ length places) × AllByRecursion (λ n. n < 2 ^ c.bits) numbers × (bits ≡ sample_body c places numbers))
-unfolding sample_body sample_body_at
-body_exact count c places = record {
-  again = λ ns body rest s. rw s.2 (words_again count c [] [] places ns rest s.0 s.1);
-  found = λ ns bits rest e.
-      let words = words_takes count c [] [] places bits (ns, rest) e in
-      (sample_body c places ns, (words.count, words.numbers, refl), words.text);
-}
-
 then_then : {A B C : Type 0} (r : Result A Fault) (f : A → Result B Fault) (g : B → Result C Fault) → ((r >>= f) >>= g) ≡ (r >>= λ x. f x >>= g)
 then_then (Ok x) f g = refl
 then_then (Err e) f g = refl
@@ -118,7 +103,6 @@ words_at_append count c gone before (p ∷ ps) qs bits =
     ∙ cons_then n.0 (few n) _ rest (λ a. ap₂ (λ (ps : List Place) (ns : List ℕ). words_at count c ps ns qs a.1)
     (append_assoc gone (p ∷ []) ps) (append_assoc before (n.0 ∷ []) a.0)))
     ∙ sym (then_then first (λ n. few n >>= behind (n.0 ∷ [])) (λ a. rest a >>= behind a.0))
-
 pub body_is_read : BodyIsRead
 unfolding sample_body sample_body_at
 body_is_read count c places ns bits rest len = (
@@ -132,30 +116,6 @@ one_body c places ms ns x y hm hn p q e =
     let same = ok_is (ms, x) (ns, y) (sym (words_again 0 c [] [] places ms x hm p) ∙ ap (λ (bits : List Bool). words_at 0 c [] [] places bits) e
     ∙ words_again 0 c [] [] places ns y hn q) in
     (ap (λ (r : List ℕ × List Bool). r.0) same, ap (λ (r : List ℕ × List Bool). r.1) same)
-
--- ---- how long a body is
-
--- a code word has a bit at least
-word_some : (c : Code) (f : Form) → 1 ≤ c.bits → 1 ≤ length (form_text c f)
-unfolding form_text
-word_some c (Plain count low) some = omega (arith, length-append (replicate count false) (true ∷ bits_of c.low low))
-word_some c (Escape number) some = omega (arith, length-append (replicate c.limit false) (bits_of c.bits number), length-bits_of c.bits number)
-
-words_long : (c : CoderSettings) (gone : List Place) (before : List ℕ) (places : List Place) (numbers : List ℕ) → 1 ≤ c.bits
-    → length numbers ≡ length places → length numbers ≤ length (words_after c gone before places numbers)
-unfolding words_after
-words_long c gone before [] [] some len = omega arith
-words_long c gone before (p ∷ ps) (n ∷ ns) some len =
-    let code : Code = code_at c p.z (band_numbers p.z gone before) in
-    let one = word_some code (form_of code n) (omega (arith, code_bits c p.z (band_numbers p.z gone before))) in
-    omega (arith, one, words_long c (gone ++ p ∷ []) (before ++ n ∷ []) ps ns some (omega arith), length-append {A = Bool})
-words_long c gone before places numbers some len = absurd (omega arith)
-
--- a body has a bit at least for each number
-pub no_shorter_body : (c : CoderSettings) (places : List Place) (numbers : List ℕ) → 1 ≤ c.bits → length numbers ≡ length places
-    → length numbers ≤ length (sample_body c places numbers)
-unfolding sample_body
-no_shorter_body c places numbers some len = words_long c [] [] places numbers some len
 
 -- ---- one number more
 

@@ -1,4 +1,4 @@
-use Rattle.file_decoding.proofs.FileLaws.{no_shorter_file}
+use Rattle.coder_pipe.proofs.WrittenFiles.{no_shorter_file}
 use Rattle.coder_pipe.proofs.laws.no_shorter_file.Goals as goal
 
 pub returns : goal.returns

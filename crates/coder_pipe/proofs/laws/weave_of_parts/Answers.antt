@@ -1,5 +1,0 @@
-use Rattle.cube_predictors.proofs.Weaves.{weave_of_parts}
-use Rattle.coder_pipe.proofs.laws.weave_of_parts.Goals as goal
-
-pub returns : goal.returns
-returns c = weave_of_parts
