@@ -3,12 +3,11 @@ use Rattle.std.proofs.Common.{◌≡◌, ◌⊎◌, ◌+◌, ◌*◌, ◌<◌, �
 use Rattle.std.specs.List.{slice_get, slice_index}
 use Rattle.std.proofs.lemmas.Bool.{cases_lt}
 use Rattle.std.proofs.lemmas.List.{length-set}
-use Rattle.std.proofs.lemmas.Nat.{row_fits}
 use Rattle.std.proofs.Math.Arith.{digits_lt}
 use Rattle.cube_core.specs.Image.{Image}
 use Rattle.cube_core.proofs.Come.{time_of}
 use Rattle.cube_core.proofs.Lists.{get_set}
-use Rattle.cube_core.proofs.Tiles.{placed, time_at, come_within, come_beside}
+use Rattle.cube_core.proofs.Tiles.{placed, time_at}
 use Rattle.header_bits.specs.declared.params.Params.{Params}
 use Rattle.predict_core.specs.Following.{Learner, Follows, MovesBy}
 use Rattle.predict_core.specs.Precedence.{AreAlike, Agree, SameBefore}
@@ -18,6 +17,7 @@ use Rattle.predict_core.specs.Walked.{IsAlong}
 use Rattle.predict_core.proofs.Frame.{beside_agree, residual_same}
 use Rattle.predict_core.proofs.Kept.{wide_of, along_same, along_kept, same_beside}
 use Rattle.predict_core.proofs.RunSteps.{run_at}
+use Rattle.predict_core.proofs.Walking.{along_beside, along_within}
 use Rattle.file_decoding.specs.declared.tile.Tile.{Tile}
 use Rattle.file_decoding.specs.Tiles.{ComeTo, HasResiduals, IsFilled, start_of}
 
@@ -89,15 +89,8 @@ module _ {tile : Tile} {c d e : Image} {bands now : List Learner} {deltas run : 
     along : (z : ℕ) (h : Learner) → slice_get (set now (tile.place.z + n) g) z ≡ Some h → tile.place.z ≤ z → z < tile.place.z + (n + 1)
         → IsAlong p e (start_of p tile + tile.columns * tile.bands) z h
     along z h there low high = elim (get_set now _ _ g h there) [
-      | inl (k, is) ↦
-          (let row = row_fits _ p.shape.columns _ p.shape.columns m.is.place.row (omega arith) in
-          let gone : g.place ≡ time_of p.shape tile.place + tile.columns = omega (arith, moved.place, long, here) in
-          rw (is, k) (record {
-            band = moved.band ∙ turn.band;
-            inside = omega (arith, gone, row, m.is.columns);
-            follows = follows p turn.follows;
-            come = rw gone (come_within m.lawful.order m.is _ _ turn.come (omega arith) (omega (arith, lt)));
-          }))
+      | inl (k, is) ↦ rw (is, k)
+          (along_within m.lawful.order m.is turn (omega arith) (omega (arith, lt)) (rw long at moved) (follows p turn.follows))
       | inr (apart, old) ↦
           (let below : z < tile.place.z + n = omega (arith, apart, high) in
           along_same m.lawful shape (omega (arith, below, lt, m.is.bands)) (known.along z h old low below) (agree z _ _ below))
@@ -127,9 +120,7 @@ filled_whole filled long p m =
       same = known.same;
       residuals = known.residuals;
       along = λ z lt g at. rw long (elim (filled.each z g at) [
-        | inl (was, out) ↦
-            (let kept = along_kept m.lawful m.shape filled.alike known.same lt (m.along z lt g was) in
-            record { band = kept.band; inside = kept.inside; follows = kept.follows; come = come_beside m.lawful.order m.is z _ kept.come out })
+        | inl (was, out) ↦ along_beside m.lawful.order m.is (along_kept m.lawful m.shape filled.alike known.same lt (m.along z lt g was)) out
         | inr (low, high) ↦ known.along z g at low high
       ]);
     }

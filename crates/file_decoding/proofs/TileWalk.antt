@@ -2,7 +2,7 @@
 use mathlib.Core.List.{map-append}
 use Rattle.std.specs.List.{slice_get, slice_index}
 use Rattle.std.proofs.Common.{◌≡◌, ◌+◌, ◌*◌, ◌/◌, ◌%◌, ◌<◌, ℕ, Bool, List, ◌++◌, length, refl, ap, ◌∙◌, length-append, arith, ap₂, ◌-◌, ◌≤◌, [], take, drop}
-use Rattle.std.proofs.Common.{Some, sym, append_assoc, length-take, length-drop}
+use Rattle.std.proofs.Common.{Some, sym, append_assoc, length-take}
 use Rattle.std.proofs.lemmas.Nat.{row_fits, mul-le, div-mul-add, mod-mul-add}
 use Rattle.std.proofs.Math.Path.{fun_ext}
 use Rattle.std.proofs.Math.Nat.{div-one, mod-one}
@@ -142,9 +142,3 @@ module _ {p : Params} {c : Image} {left : List Place} {bands : List Learner} {d 
             text = w.text ∙ ap (λ (x : List Bool). w.read ++ x) gives.2 ∙ sym (append_assoc w.read gives.1 behind);
             given = rw all gives.3;
           }
-
--- ---- rooms
-
--- a room in which a part was written is as long as before
-pub kept_length : (part room : List ℕ) (n : ℕ) → length room ≡ n → length (take n (part ++ drop (length part) room)) ≡ n
-kept_length part room n long = omega (arith, long, length-take {A = ℕ}, length-append {A = ℕ}, length-drop {A = ℕ})

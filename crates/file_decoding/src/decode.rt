@@ -90,9 +90,11 @@ fn take_cube(alloc: Global, params: &Params, reader: &mut BitReader) -> Result<C
     ensures count { reader.new.count ≡ reader.old.count }
 {
     let mut cube = Cube::new(alloc, params.shape, params.kind)?;
-    let mut bands = all_bands(alloc, params)?;
+    let mut predictors = all_bands(alloc, params)?;
+    let bands = &mut predictors[..];
     let mut decoder = Decoder::new(alloc, params)?;
-    let mut room = vec![in alloc; 0u16; COLUMNS * most_bands(params.order) as usize]?;
+    let mut residuals = vec![in alloc; 0u16; COLUMNS * most_bands(params.order) as usize]?;
+    let room = &mut residuals[..];
     let count = params.shape.sample_count();
     let mut places = Places::new(params.shape, params.order);
     while let Some(place) = places.peek() {
@@ -100,7 +102,7 @@ fn take_cube(alloc: Global, params: &Params, reader: &mut BitReader) -> Result<C
         let deltas = &mut room[..tile.count()];
         let index = count - places.left();
         tile.read(&mut decoder, time_of(params, place), index, reader, deltas)?;
-        tile.fill(&mut cube, &mut bands, deltas);
+        tile.fill(&mut cube, bands, deltas);
         places.go_by(tile.count() as u64);
     }
     cube.prove_is_cube();

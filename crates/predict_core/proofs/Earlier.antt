@@ -1,6 +1,6 @@
 -- Earlier is before, in each order.
 use Rattle.std.proofs.Common.{◌≡◌, ◌⊎◌, inl, inr, ◌+◌, ◌*◌, ◌/◌, ◌<◌, ◌≤◌, ℕ, suc, [], ◌∷◌}
-use Rattle.std.proofs.Common.{arith, ap, mul-le-mul_right, le_antisymm}
+use Rattle.std.proofs.Common.{arith, ap, mul-le-mul_right}
 use Rattle.std.proofs.Math.Nat.{div-mul-le_self, div-zero}
 use Rattle.std.proofs.lemmas.Nat.{le-div}
 use Rattle.std.proofs.lemmas.Bool.{cases_lt, cases_order}
@@ -43,18 +43,13 @@ by_bands columns z y x z' y' x' h k (inr (b, l)) =
 by_groups : (m columns z y x z' y' x' : ℕ) → x < columns → x' < columns → IsEarlier z (y * columns + x) z' (y' * columns + x')
     → IsBefore (y' ∷ z' / m ∷ x' ∷ z' ∷ []) (y ∷ z / m ∷ x ∷ z ∷ [])
 by_groups m columns z y x z' y' x' h k (inl (b, l)) =
-    elim (row_order columns y x y' x' h k l) [
-      | inl a ↦ inl a
-      | inr q ↦ inr (
-        q.0,
-        elim (cases_lt (z' / m) (z / m)) [
-          | inl a ↦ inl a
-          | inr a ↦ inr (le_antisymm (div_le z' z m (omega arith)) a, elim (cases_lt x' x) [ inl g ↦ inl g | inr g ↦ inr (le_antisymm q.1 g, inl b) ])
-        ],
-      )
-    ]
+    let rows = row_order columns y x y' x' h k l in
+    let groups = div_le z' z m (omega arith) in
+    grind (arith, rows, groups)
 by_groups m columns z y x z' y' x' h k (inr (b, l)) =
-    elim (row_order columns y x y' x' h k (omega arith)) [ inl a ↦ inl a | inr q ↦ inr (q.0, inr (ap (λ n. n / m) b, inl (same_row columns y x y' x' q.0 l))) ]
+    let rows = row_order columns y x y' x' h k (omega arith) in
+    let row = λ (e : y' ≡ y). same_row columns y x y' x' e l in
+    grind (arith, rows, row, ap (λ n. n / m) b)
 
 pub before_is : (order : Order) (columns : ℕ) (place earlier : Place) → place.x < columns → earlier.x < columns
     → IsEarlier place.z (place.y * columns + place.x) earlier.z (earlier.y * columns + earlier.x) → IsBefore (place_key order earlier) (place_key order place)

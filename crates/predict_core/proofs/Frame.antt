@@ -1,10 +1,9 @@
 -- What is read at a place is earlier.
-use Rattle.std.proofs.Common.{◌≡◌, ◌≢◌, ◌⊎◌, inl, inr, ◌+◌, ◌-◌, ◌*◌, ◌/◌, ◌%◌, ◌<◌, ◌≤◌, ℕ, zero, suc, ℤ, pos, ◌*ℤ◌, true, false, List}
-use Rattle.std.proofs.Common.{arith, refl, ◌∙◌, sym, ap, div-add-mod'}
+use Rattle.std.proofs.Common.{◌≡◌, ◌≢◌, inl, inr, ◌+◌, ◌-◌, ◌*◌, ◌/◌, ◌%◌, ◌<◌, ◌≤◌, ℕ, zero, suc, ℤ, false, List}
+use Rattle.std.proofs.Common.{arith, refl, ◌∙◌, ap, div-add-mod'}
 use Rattle.std.proofs.Math.Nat.{mod-lt}
 use Rattle.std.proofs.Math.Arith.{digits_lt}
 use Rattle.std.proofs.lemmas.Nat.{div_below}
-use Rattle.std.proofs.lemmas.Bool.{cases_eq, cases_Bool}
 use Rattle.std.proofs.lemmas.Bool.Decides.{nat_tests}
 use Rattle.header_bits.specs.declared.params.Params.{Params}
 use Rattle.cube_core.specs.Shape.{Sizes}
@@ -18,8 +17,6 @@ use Rattle.predict_core.specs.Prediction.{scaled_there, next_weights, weight_vec
 use Rattle.predict_core.specs.Residual.{mapped_residual}
 use Rattle.predict_core.specs.Precedence.{Agree, PlacesPrecede}
 use Rattle.predict_core.specs.RunPlaces.{AreAlikeBeside}
-use Rattle.predict_core.proofs.Padding.{first_from_middle, first_from_below}
-use Rattle.predict_core.proofs.Directions.{directional_first, directional_left, directional_inside}
 use Rattle.predict_core.proofs.Earlier.{before_is}
 
 row_more : (a b k : ℕ) → suc a ≡ b → a * k + k ≡ b * k
@@ -40,43 +37,21 @@ module _ (p : Predictor) (c d : Image) (same : c.shape.columns ≡ d.shape.colum
   left : x ≢ 0 → sample_at c z y (x - 1) ≡ sample_at d z y (x - 1)
   left n = reads y (x - 1) (omega arith) (omega arith) (omega arith)
 
-  first_row : y ≡ 0 → local_sum p c z y x ≡ local_sum p d z y x
-  unfolding local_sum
-  first_row e = let l = left (omega arith) in grind (arith, nat_tests)
-
-  by_column : y ≢ 0 → p.column ≡ true → local_sum p c z y x ≡ local_sum p d z y x
-  unfolding local_sum
-  by_column n e = let u = above x column n in grind (arith, nat_tests)
-
-  in_rows : y ≢ 0 → p.column ≡ false → local_sum p c z y x ≡ local_sum p d z y x
-  unfolding local_sum
-  in_rows n e =
-      let w = wide e in
-      let here = above x column n in
-      let west = left in
-      let north_west = above (x - 1) (omega (arith, column)) n in
-      let north_east = λ (l : x + 1 < c.shape.columns). above (x + 1) l n in
-      grind (arith, nat_tests, same, here, west, north_west, north_east, w)
-
   pub local_sum_same : local_sum p c z y x ≡ local_sum p d z y x
-  local_sum_same = elim (cases_eq y 0) [ inl e ↦ first_row e | inr n ↦ elim (cases_Bool p.column) [ inl e ↦ by_column n e | inr e ↦ in_rows n e ] ]
+  unfolding local_sum
+  local_sum_same =
+      let here = above x column in
+      let north_west = above (x - 1) (omega (arith, column)) in
+      let north_east = λ (l : x + 1 < c.shape.columns). above (x + 1) l in
+      let first : y ≡ 0 → x ≢ 0 = λ e f. omega (arith, later, e, f) in
+      grind (arith, nat_tests, same, here, left, north_west, north_east, wide, first)
 
   directional_same : directional_differences p c z y x ≡ directional_differences p d z y x
+  unfolding directional_differences
   directional_same =
-      elim (cases_eq y 0) [
-        | inl e ↦ directional_first p c z y x e ∙ sym (directional_first p d z y x e)
-        | inr n ↦ elim (cases_eq x 0) [
-          | inl h ↦ rw (directional_left p c z y x n h, directional_left p d z y x n h, local_sum_same, above x column n) refl
-          | inr h ↦ rw (
-            directional_inside p c z y x n h,
-            directional_inside p d z y x n h,
-            local_sum_same,
-            above x column n,
-            above (x - 1) (omega (arith, column)) n,
-            left h,
-          ) refl
-        ]
-      ]
+      let here = above x column in
+      let north_west = above (x - 1) (omega (arith, column)) in
+      grind (arith, nat_tests, local_sum_same, here, left, north_west)
 
 -- what is read at a place of one band
 module _ (p : Predictor) (c d : Image) (z y x : ℕ) (place : IsPlace c.shape z y x) (later : 0 < y + x) (wide : p.column ≡ false → 2 ≤ c.shape.columns) where
@@ -141,19 +116,11 @@ later_place columns (suc y) x l = omega arith
 
 pub first_scaled_same : (p : Predictor) (c d : Image) (z : ℕ) → z < c.shape.bands → 0 < c.shape.columns → 0 < c.shape.rows → Agree c d z 0 1
     → first_scaled p c z ≡ first_scaled p d z
+unfolding first_scaled
 first_scaled_same p c d z band some rows a =
-    elim (cases_eq p.previous 0) [
-      | inl e ↦ middle (inl e)
-      | inr n ↦ elim (cases_eq z 0) [ inl e ↦ middle (inr (n, e)) | inr m ↦ below n m ]
-    ]
-  where
-    middle : (p.previous ≡ 0) ⊎ ((p.previous ≡ 0 → ⊥) × (z ≡ 0)) → first_scaled p c z ≡ first_scaled p d z
-    middle h = first_from_middle p c z h ∙ ap (λ (k : SampleKind). pos 2 *ℤ smid k) a.alike.kind ∙ sym (first_from_middle p d z h)
-
-    below : p.previous ≢ 0 → z ≢ 0 → first_scaled p c z ≡ first_scaled p d z
-    below n m =
-        let s = a.under (z - 1) 0 0 (record { band = omega arith; row = rows; column = some }) (omega arith) (omega arith) in
-        first_from_below p c z n m ∙ ap (λ v. pos 2 *ℤ v) s ∙ sym (first_from_below p d z n m)
+    let kind = ap (λ (k : SampleKind). smid k) a.alike.kind in
+    let below = λ (n : 0 < z). a.under (z - 1) 0 0 (record { band = omega arith; row = rows; column = some }) (omega arith) (omega arith) in
+    grind (arith, nat_tests, kind, below)
 
 -- what is known of a band at its place t
 module _ (p : Params) (c d : Image) (z : ℕ) (band : z < c.shape.bands) (some : 0 < c.shape.columns) (wide : p.column ≡ false → 2 ≤ c.shape.columns) where

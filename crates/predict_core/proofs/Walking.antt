@@ -3,20 +3,21 @@ use Rattle.std.proofs.Common.{◌≡◌, ◌≢◌, ◌+◌, ◌*◌, ◌-◌, �
 use Rattle.std.proofs.Common.{length-drop, arith}
 use Rattle.std.proofs.lemmas.List.{length-set, length-map, map-append, take_all, drop-drop}
 use Rattle.std.proofs.Math.Seq.{take-add}
+use Rattle.std.proofs.lemmas.Nat.{row_fits}
 use Rattle.std.proofs.Math.Arith.{digits_lt}
 use Rattle.std.specs.List.{slice_get}
 use Rattle.cube_core.specs.declared.order.Place.{Place}
 use Rattle.cube_core.specs.Shape.{Sizes, sample_count}
 use Rattle.cube_core.specs.Image.{Image}
-use Rattle.cube_core.specs.Order.{IsOrder, places}
+use Rattle.cube_core.specs.Order.{IsOrder, places, place_index}
 use Rattle.cube_core.specs.Tiles.{IsTiled}
 use Rattle.cube_core.proofs.Keys.{index_of_item, order_is_by_key}
 use Rattle.cube_core.proofs.Lists.{get_set, get_drop, get-drop}
 use Rattle.cube_core.proofs.Orders.{StandsAt, length-places}
 use Rattle.cube_core.proofs.Come.{time_of, come_start, come_here, come_step, come_other}
-use Rattle.cube_core.proofs.Tiles.{nth, item_in, room_for}
+use Rattle.cube_core.proofs.Tiles.{nth, item_in, room_for, time_at, come_within, come_beside}
 use Rattle.header_bits.specs.declared.params.Params.{Params}
-use Rattle.predict_core.specs.Following.{Learner, Follows, MovesOn}
+use Rattle.predict_core.specs.Following.{Learner, Follows, MovesOn, MovesBy}
 use Rattle.predict_core.specs.Residual.{mapped_residual, residuals}
 use Rattle.predict_core.specs.Walked.{IsAlong, AreAlong, residuals_at}
 
@@ -66,6 +67,26 @@ along_more p c e i bands q b d lawful all stands at moves follows others-follow 
       follows = others-follow z f lt h before;
       come = come_other p.shape p.order z i f.place q lawful before.come stands (λ r. h (sym r));
     }
+
+-- behind a tile
+module _ {p : Params} {c : Image} {q : Place} {width depth z : ℕ} {f : Learner} (lawful : IsOrder p.shape p.order)
+    (is : IsTiled p.shape p.order q width depth) (along : IsAlong p c (place_index p.shape p.order q) z f) where
+  -- a band that has no place in it stands where it stood
+  pub along_beside : (q.z ≤ z → q.z + depth ≤ z) → IsAlong p c (place_index p.shape p.order q + width * depth) z f
+  along_beside apart = record { band = along.band; inside = along.inside; follows = along.follows; come = come_beside lawful is z _ along.come apart }
+
+  -- and each of its bands as many places further as it has columns
+  pub along_within : {e : Image} {g : Learner} → q.z ≤ z → z < q.z + depth → MovesBy width f g → Follows p g e
+      → IsAlong p e (place_index p.shape p.order q + width * depth) z g
+  along_within {g = g} low high moved follows =
+      let row = row_fits _ p.shape.columns _ p.shape.columns is.place.row (omega arith) in
+      let gone : g.place ≡ time_of p.shape q + width = omega (arith, moved.place, time_at lawful is z _ along.come low high) in
+      record {
+        band = moved.band ∙ along.band;
+        inside = omega (arith, gone, row, is.columns);
+        follows = follows;
+        come = rw gone (come_within lawful is z _ along.come low high);
+      }
 
 -- ---- along the places that are left
 
