@@ -1,20 +1,17 @@
 -- What a reader has in hand.
 use Rattle.std.proofs.Common.{◌≡◌, ℕ, ◌+◌, ◌-◌, ◌*◌, ◌<◌, ◌≤◌, Bool, List, [], ◌∷◌, ◌++◌, take, drop, None, Ok, ◌/◌, refl, sym, ap, ◌∙◌, arith}
-use Rattle.std.proofs.Common.{append_assoc, length, replicate}
-use Rattle.std.proofs.lemmas.List.{append-nil, take_at}
+use Rattle.std.proofs.Common.{append_assoc, replicate}
+use Rattle.std.proofs.lemmas.List.{append-nil}
 use Rattle.header_bits.specs.Bits.{Unread}
 use Rattle.block_adaptive.specs.Segments.{segment_rest}
-use Rattle.header_bits.specs.declared.params.Coder.{Coder}
-use Rattle.header_bits.specs.declared.params.Coder.TheVariants.{Sample, Block}
-use Rattle.block_adaptive.specs.declared.options.CodeSet.{CodeSet}
-use Rattle.block_adaptive.specs.Settings.{IsBlock, IsSize, IsCut, IsCutOf}
+use Rattle.block_adaptive.specs.Settings.{IsSize, IsCut}
 use Rattle.block_adaptive.specs.Holding.{AreParts}
 use Rattle.block_adaptive.specs.Reading.{site_of, data_set_at}
 use Rattle.block_adaptive.proofs.Lawful.{rest_least}
 use Rattle.block_adaptive.proofs.Taken.{data_set_is_taken}
 use Rattle.block_adaptive.specs.DataSets.{CodedDataSet, Cut, IsCodedDataSet, AreCodedDataSets, left_at, blocks_in, blocks_of, blocks_told, values_of, spelled}
-use Rattle.block_adaptive.specs.DataSets.{IsBlockBody, cut_of, spelling}
-use Rattle.block_adaptive.specs.Given.{Unpacked, HasGiven, given_count, holding, next_data_set}
+use Rattle.block_adaptive.specs.DataSets.{spelling}
+use Rattle.block_adaptive.specs.Given.{Unpacked, HasGiven, holding, next_data_set}
 use Rattle.std.proofs.lemmas.Grind.{flat_map-append}
 use Rattle.header_bits.proofs.Places.{run_in_hand, zeros}
 
@@ -89,20 +86,3 @@ data_set_given v reader given bits left t cut more none h e =
         working = h.working;
       },
     )
-
--- where as many were given as the cut is of, the bits are a body of them
-pub given_whole : (v : Unpacked) (s : CodeSet) (size reference : ℕ) (numbers : List ℕ) (bits : List Bool) → IsCutOf (length numbers) v.cut
-    → v.cut ≡ cut_of s size reference (length numbers) → v.block ≤ v.cut.count → given_count v ≡ length numbers → HasGiven v numbers bits
-    → IsBlockBody s size reference numbers bits
-given_whole v s size reference numbers bits room is inside given h =
-    let last : v.block ≡ v.cut.count = omega (arith, inside, room.least v.block (omega (arith, given))) in
-    record {
-      data_sets = h.data_sets;
-      lawful = rw is at (rw last at h.lawful);
-      text = rw is at h.text;
-      told = ap (take (length numbers)) (rw is at h.told) ∙ take_at numbers v.held (length numbers) refl;
-    }
-
-pub block_is : (k : Coder) → IsBlock k → (size : ℕ) × (restricted : Bool) × (reference : ℕ) × (k ≡ Block size restricted reference)
-block_is (Block size restricted reference) is = (size, restricted, reference, refl)
-block_is (Sample umax gamma_star gamma_zero start) is = absurd is

@@ -20,6 +20,7 @@ pub mod Fours
 pub mod Twos
 pub mod Streaming
 pub mod Handed
+pub mod Given
 pub mod Runs
 pub mod Emits
 pub mod Gathers

@@ -1,9 +1,12 @@
 -- What a reader of blocks holds, and which numbers it has given.
-use Rattle.std.specs.Prelude.{ℕ, ◌≡◌, ◌+◌, ◌-◌, ◌*◌, ◌^◌, ◌<◌, Bool, List, [], ◌∷◌, ◌++◌, length, Result, Ok, Err, MatchResult, Option, None}
+use Rattle.std.specs.Prelude.{ℕ, ◌≡◌, ◌+◌, ◌-◌, ◌*◌, ◌^◌, ◌<◌, ◌≤◌, Bool, List, [], ◌∷◌, ◌++◌, length, Result, Ok, Err, MatchResult, Option, None}
 use Rattle.std.specs.List.{AllByRecursion}
 use Rattle.cube_core.specs.declared.fault.Fault.{Fault}
 use Rattle.cube_core.specs.Steps.{◌>>=◌}
+use Rattle.cube_core.specs.Shape.{sample_count}
+use Rattle.header_bits.specs.declared.params.Params.{Params}
 use Rattle.header_bits.specs.Bits.{Unread}
+use Rattle.block_adaptive.specs.Settings.{IsBlock, IsCutOf, cut_by}
 use Rattle.block_adaptive.specs.DataSets.{CodedDataSet, Cut, AreCodedDataSets, left_at, blocks_in, blocks_of, blocks_told, spelling, values_of}
 use Rattle.block_adaptive.specs.Reading.{site_of, data_set_at, data_sets_at}
 
@@ -67,3 +70,23 @@ GivesNext old reader result new left = GivesMore (λ value. value ∷ []) old re
 -- these numbers more
 abbrev pub GivesRun : Unpacked → Unread → Result (Unit {0}) Fault → Unpacked → List Bool → List ℕ → Type 0
 GivesRun old reader result new left list = GivesMore (λ _. list) old reader result new left
+
+-- of an image: the numbers were given, and no more blocks were read than it has
+pub record HasGivenOf (p : Params) (v : Unpacked) (numbers : List ℕ) (bits : List Bool) : Type 0 where
+  pub coder : IsBlock p.coder
+  pub cut : v.cut ≡ cut_by p
+  pub room : IsCutOf (sample_count p.shape) v.cut
+  pub inside : v.block ≤ v.cut.count
+  pub given : HasGiven v numbers bits
+  pub count : given_count v ≡ length numbers
+
+-- bits were read, and with them these numbers more are given, each in range
+abbrev pub GivesAllOf : Params → List ℕ → List Bool → List Bool → Unpacked → List Bool → List ℕ → Type 0
+GivesAllOf p numbers bits unread new left list =
+    AllByRecursion (λ n. n < 2 ^ p.kind.bits) list × (read : List Bool) × (unread ≡ read ++ left) × HasGivenOf p new (numbers ++ list) (bits ++ read)
+
+-- the numbers of the answer more are given, or the refusal is that of the body
+abbrev pub GivesMoreOf : {X : Type 0} → (X → List ℕ) → Result X Fault → Params → List ℕ → List Bool → Unread → Unpacked → List Bool → Type 0
+GivesMoreOf numbers_of result p numbers bits unread new left =
+    MatchResult result (λ answer. GivesAllOf p numbers bits unread.left new left (numbers_of answer))
+    (λ fault. data_sets_at unread.count (cut_by p) (cut_by p).count 0 (bits ++ unread.left) ≡ Err fault)

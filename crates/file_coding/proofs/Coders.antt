@@ -21,6 +21,7 @@ use Rattle.sample_adaptive.proofs.ForSamples.{settings_bits}
 use Rattle.sample_adaptive.proofs.Running.{body_run}
 use Rattle.sample_adaptive.proofs.Taking.{taken_along}
 use Rattle.block_adaptive.specs.Settings.{IsBlock, IsCutOf, cut_by, coder_cut}
+use Rattle.block_adaptive.proofs.Given.{cut_bits}
 use Rattle.block_adaptive.specs.Chosen.{chosen_block_body}
 use Rattle.block_adaptive.specs.DataSets.{Cut}
 use Rattle.block_adaptive.specs.Segments.{block_count}
@@ -139,11 +140,6 @@ blocks_end v written now ends p numbers bits h lawful long =
     let count : block_count v.cut.size (length numbers) ≡ v.cut.count = ap (block_count v.cut.size) long ∙ sym h.room.blocks in
     let did = ends numbers bits h.taken count in
     (did.0, did.1, did.2 ∙ block_body_is p v.cut numbers h.coder h.cut)
-
-pub cut_bits : (p : Params) (c : Cut) → c ≡ cut_by p → c.set.bits ≡ p.kind.bits
-cut_bits p c e =
-    let cut : Coder → Cut = coder_cut p.kind.bits (sample_count p.shape) in
-    rw e (elim p.coder as (λ k. (cut k).set.bits ≡ p.kind.bits) [ Block size restricted reference ↦ refl | Sample umax star zero start ↦ refl ])
 
 -- ---- what may be put
 

@@ -18,7 +18,7 @@ use Rattle.file_coding.specs.declared.encoder.Encoder.{Encoder}
 use Rattle.file_coding.specs.declared.encoder.Encoder.TheVariants.{Samples, Blocks}
 use Rattle.file_coding.specs.Coding.{HasTaken, IsRun, IsBySamples, IsByBlocks, MayPutRun, MayPutBlocks, PutsRun, PutsBlocks}
 use Rattle.file_coding.specs.Ends.{Ending, HasCoded, MayCodeAll, MayCodeRun, CodesAll}
-use Rattle.file_coding.proofs.Coders.{cut_bits}
+use Rattle.block_adaptive.proofs.Given.{cut_bits}
 use Rattle.file_coding.proofs.Endings.{place_left, time_next, length-left, comes_next, coded_behind}
 
 -- ---- numbers behind others

@@ -1,48 +1,28 @@
 -- The coder in the direction of reading: which residuals it has given, in encoding order.
-use Rattle.std.specs.Prelude.{ℕ, ◌≡◌, ◌⊎◌, ◌+◌, ◌^◌, ◌<◌, ◌≤◌, Bool, List, [], ◌∷◌, ◌++◌, length, Option, option_map, Result, Ok, Err, IfOk, IfErr, MatchResult}
+use Rattle.std.specs.Prelude.{ℕ, ◌≡◌, ◌⊎◌, ◌+◌, ◌^◌, ◌<◌, Bool, List, [], ◌∷◌, ◌++◌, length, Option, option_map, Result, Ok, Err, IfOk, IfErr, MatchResult}
 use Rattle.std.specs.List.{AllByRecursion}
 use Rattle.cube_core.specs.declared.fault.Fault.{Fault}
 use Rattle.cube_core.specs.declared.fault.Fault.TheVariants.{WantOfMemory}
 use Rattle.cube_core.specs.Image.{Image}
-use Rattle.cube_core.specs.Shape.{sample_count}
-use Rattle.cube_core.specs.Order.{places}
 use Rattle.header_bits.specs.declared.params.Params.{Params}
 use Rattle.header_bits.specs.Bits.{Unread, bits_of_bytes}
 use Rattle.header_bits.specs.Header.{BeginsWithTable}
 use Rattle.header_bits.specs.Lawful.{IsLawful}
 use Rattle.predict_core.specs.Cubes.{IsCubeOf}
 use Rattle.predict_core.specs.Residual.{residuals}
-use Rattle.sample_adaptive.specs.Settings.{settings, IsSample}
 use Rattle.sample_adaptive.specs.Reading.{placed_at}
-use Rattle.sample_adaptive.specs.Taken.{Counts}
 use Rattle.sample_adaptive.specs.Given.{HasGiven as GivenBySamples}
-use Rattle.block_adaptive.specs.Settings.{IsBlock, IsCutOf, cut_by}
-use Rattle.block_adaptive.specs.Given.{Unpacked, given_count, HasGiven as GivenByBlocks}
+use Rattle.block_adaptive.specs.Given.{given_count, HasGivenOf}
 use Rattle.block_adaptive.specs.DataSets.{capacity}
 use Rattle.file_coding.specs.Coding.{IsNumber}
 use Rattle.file_decoding.specs.declared.decoder.Decoder.{Decoder}
 use Rattle.file_decoding.specs.declared.decoder.Decoder.TheVariants.{Samples, Blocks}
 use Rattle.file_decoding.specs.Files.{IsBody, IsFile, behind_body, head_at, file_test}
 
--- the sample-adaptive coder has given the numbers, and the bits are read as they are
-pub record SamplesGiven (p : Params) (v : Counts) (numbers : List ℕ) (bits : List Bool) : Type 0 where
-  pub coder : IsSample p.coder
-  pub bands : length v.bands ≡ p.shape.bands
-  pub given : GivenBySamples (settings p) (places p.shape p.order) v numbers bits
-
--- the block-adaptive coder has given the numbers, and has read the bits
-pub record BlocksGiven (p : Params) (v : Unpacked) (numbers : List ℕ) (bits : List Bool) : Type 0 where
-  pub coder : IsBlock p.coder
-  pub cut : v.cut ≡ cut_by p
-  pub room : IsCutOf (sample_count p.shape) v.cut
-  pub inside : v.block ≤ v.cut.count
-  pub given : GivenByBlocks v numbers bits
-  pub count : given_count v ≡ length numbers
-
 -- the coder of parameters has given the numbers, and has read the bits
 abbrev pub HasGiven : Params → Decoder → List ℕ → List Bool → Type 0
-HasGiven p (Samples v) numbers bits = SamplesGiven p v numbers bits
-HasGiven p (Blocks v) numbers bits = BlocksGiven p v numbers bits
+HasGiven p (Samples v) numbers bits = GivenBySamples p v numbers bits
+HasGiven p (Blocks v) numbers bits = HasGivenOf p v numbers bits
 
 -- what every call is refused for, where one was refused
 abbrev pub refusal_at : ℕ → Decoder → Option Fault

@@ -8,6 +8,8 @@ use Rattle.std.proofs.Math.Seq.{take-add, drop-cons}
 use Rattle.cube_core.specs.declared.fault.Fault.{Fault}
 use Rattle.cube_core.specs.declared.order.Place.{Place}
 use Rattle.cube_core.proofs.Lists.{take_next}
+use Rattle.cube_core.specs.Order.{places}
+use Rattle.header_bits.specs.declared.params.Params.{Params}
 use Rattle.header_bits.specs.Bits.{Unread}
 use Rattle.header_bits.specs.Reading.{Reads}
 use Rattle.sample_adaptive.specs.Statistics.{CoderSettings}
@@ -15,15 +17,17 @@ use Rattle.sample_adaptive.specs.Words.{code_at}
 use Rattle.sample_adaptive.specs.Body.{band_numbers, words_after, sample_body}
 use Rattle.sample_adaptive.specs.Reading.{word_at, words_at, sample_body_at}
 use Rattle.sample_adaptive.specs.Taken.{Counts, HasTaken, AreEach, GetsAt, GetsEach, with_number}
-use Rattle.sample_adaptive.specs.Given.{AreRead, HasGiven, IsNext, GivesMore}
+use Rattle.sample_adaptive.specs.Given.{AreRead, HasGiven, IsNext, GivesMore, places_of}
 use Rattle.sample_adaptive.proofs.Bodies.{AreWords, words_again, words_takes, words_at_append}
+use Rattle.sample_adaptive.specs.Settings.{IsSample, settings}
+use Rattle.sample_adaptive.proofs.ForSamples.{settings_bits}
 use Rattle.sample_adaptive.proofs.Taking.{taken_along}
 
 -- ---- what was given
 
-pub none_given : (c : CoderSettings) (places : List Place) (v : Counts) → HasTaken c v (λ z. []) → HasGiven c places v [] []
+pub none_given : (p : Params) (v : Counts) → IsSample p.coder → length v.bands ≡ p.shape.bands → HasTaken (settings p) v (λ z. []) → HasGiven p v [] []
 unfolding words_at sample_body_at band_numbers
-none_given c places v taken = record { taken = taken; read = λ count left. refl }
+none_given p v coder bands taken = record { coder = coder; bands = bands; taken = taken; read = λ count left. refl }
 
 words_given : {c : CoderSettings} {places : List Place} {numbers : List ℕ} {bits : List Bool} → AreRead c places numbers bits
     → AreWords c [] [] places bits (numbers, [])
@@ -31,33 +35,37 @@ unfolding sample_body_at
 words_given h = rw append-nil at (words_takes 0 _ [] [] _ _ _ (h 0 []))
 
 -- where there is a number for each place, the bits are their body
-pub given_whole : (c : CoderSettings) (places : List Place) (v : Counts) (numbers : List ℕ) (bits : List Bool) → HasGiven c places v numbers bits
-    → length numbers ≡ length places → bits ≡ sample_body c places numbers
+pub given_whole : (p : Params) (v : Counts) (numbers : List ℕ) (bits : List Bool) → HasGiven p v numbers bits
+    → length numbers ≡ length (places p.shape p.order) → bits ≡ sample_body (settings p) (places p.shape p.order) numbers
 unfolding sample_body
-given_whole c places v numbers bits h long =
-    rw (append-nil, take_all (length numbers) places (omega (arith, long))) at (words_given h.read).text
+given_whole p v numbers bits h long =
+    rw (append-nil, take_all (length numbers) (places p.shape p.order) (omega (arith, long))) at (words_given h.read).text
 
 -- ---- what is given behind it
 
 -- what is read at so many places
-gives_more : {X : Type 0} (numbers_of : X → List ℕ) (r : Result X Fault) (c : CoderSettings) (places : List Place) (old new : Counts) (numbers : List ℕ)
-    (bits : List Bool) (unread : Unread) (left : List Bool) (count : ℕ) → HasGiven c places old numbers bits → ((x : X) → length (numbers_of x) ≡ count)
-    → (let gone = take (length numbers) places in let next = take count (drop (length numbers) places) in
-    Reads numbers_of r left (words_at unread.count c gone numbers next unread.left)
-    × IfOk r (λ x. HasTaken c new (λ z. band_numbers z (gone ++ next) (numbers ++ numbers_of x))))
-    → GivesMore numbers_of r c places numbers bits unread new left
+gives_more : {X : Type 0} (numbers_of : X → List ℕ) (r : Result X Fault) (p : Params) (old new : Counts) (numbers : List ℕ) (bits : List Bool)
+    (unread : Unread) (left : List Bool) (count : ℕ) → HasGiven p old numbers bits → length new.bands ≡ length old.bands
+    → ((x : X) → length (numbers_of x) ≡ count)
+    → (let next = take count (drop (length numbers) (places p.shape p.order)) in
+    Reads numbers_of r left (words_at unread.count (settings p) (places_of p numbers) numbers next unread.left)
+    × IfOk r (λ x. HasTaken (settings p) new (λ z. band_numbers z (places_of p numbers ++ next) (numbers ++ numbers_of x))))
+    → GivesMore numbers_of r p numbers bits unread new left
 unfolding sample_body_at
-gives_more numbers_of (Ok x) c places old new numbers bits unread left count h many did =
-    let gone : List Place = take (length numbers) places in
-    let next : List Place = take count (drop (length numbers) places) in
+gives_more numbers_of (Ok x) p old new numbers bits unread left count h kept many did =
+    let c : CoderSettings = settings p in
+    let gone : List Place = places_of p numbers in
+    let next : List Place = take count (drop (length numbers) (places p.shape p.order)) in
     let words = words_takes unread.count c gone numbers next unread.left (numbers_of x, left) did.0 in
     let read : List Bool = words_after c gone numbers next (numbers_of x) in
-    let whole : take (length (numbers ++ numbers_of x)) places ≡ gone ++ next =
-    rw (length-append numbers (numbers_of x), many x) (take-add (length numbers) count places) in (
-      words.numbers,
+    let whole : places_of p (numbers ++ numbers_of x) ≡ gone ++ next =
+    rw (length-append numbers (numbers_of x), many x) (take-add (length numbers) count (places p.shape p.order)) in (
+      rw (settings_bits p) at words.numbers,
       read,
       words.text,
       record {
+        coder = h.coder;
+        bands = kept ∙ h.bands;
         taken = subst (λ (ps : List Place). HasTaken c new (λ z. band_numbers z ps (numbers ++ numbers_of x))) (sym whole) did.1;
         read = λ other rest. rw (
           whole,
@@ -68,16 +76,17 @@ gives_more numbers_of (Ok x) c places old new numbers bits unread left count h m
         ) refl;
       },
     )
-gives_more numbers_of (Err fault) c places old new numbers bits unread left count h many did =
-    let gone : List Place = take (length numbers) places in
-    let behind : List Place = drop (length numbers) places in
+gives_more numbers_of (Err fault) p old new numbers bits unread left count h kept many did =
+    let c : CoderSettings = settings p in
+    let gone : List Place = places_of p numbers in
+    let behind : List Place = drop (length numbers) (places p.shape p.order) in
     let bad : words_at unread.count c [] [] (gone ++ (take count behind ++ drop count behind)) (bits ++ unread.left) ≡ Err fault = rw (
       words_at_append unread.count c [] [] gone (take count behind ++ drop count behind) (bits ++ unread.left),
       h.read unread.count unread.left,
       words_at_append unread.count c gone numbers (take count behind) (drop count behind) unread.left,
       did.0,
     ) refl in
-    rw (take-append-drop count behind, take-append-drop (length numbers) places) at bad
+    rw (take-append-drop count behind, take-append-drop (length numbers) (places p.shape p.order)) at bad
 
 -- the place of the next number stands first behind those of the numbers before it
 next_first : (places : List Place) (n : ℕ) (p : Place) (count : ℕ) → slice_get places n ≡ Some p
@@ -86,46 +95,45 @@ next_first places n p count at =
     ap (take (suc count)) (drop-cons places n p (slice_get_within places _ p at)) ∙ rw (get_or_from_slice_get places _ p p at, add-one) refl
 
 -- numbers each of which is the next one, behind those between
-module _ (places : List Place) (n count : ℕ) (zs ts : ℕ → ℕ)
-    (next : (i : ℕ) (numbers : List ℕ) → i < count → length numbers ≡ n + i → IsNext places numbers (zs i) (ts i)) where
+module _ (p : Params) (n count : ℕ) (zs ts : ℕ → ℕ)
+    (next : (i : ℕ) (numbers : List ℕ) → i < count → length numbers ≡ n + i → IsNext p numbers (zs i) (ts i)) where
   are_each : (k i : ℕ) (numbers : List ℕ) → i + k ≡ count → length numbers ≡ n + i
-      → (let behind = take k (drop (length numbers) places) in
-      AreEach zs ts i (take (length numbers) places) numbers behind × (k ≡ length behind))
+      → (let behind = take k (drop (length numbers) (places p.shape p.order)) in
+      AreEach zs ts i (places_of p numbers) numbers behind × (k ≡ length behind))
   are_each zero i numbers all long = (tt, refl)
   are_each (suc k) i numbers all long =
-      let p = next i numbers (omega (arith, all)) long in
+      let q = next i numbers (omega (arith, all)) long in
       let more : (number : ℕ) → length (numbers ++ number ∷ []) ≡ length numbers + 1 = λ number. length-append numbers (number ∷ []) in
       let others = λ (number : ℕ). are_each k (i + 1) (numbers ++ number ∷ []) (omega (arith, all)) (omega (arith, more number, long)) in
-      rw (next_first places _ p.0 k p.1)
-      ((p.2, p.3, λ number. rw (more number, (take_next places _ p.0 p.1).1) at (others number).0), ap suc (rw (more 0) at (others 0).1))
+      rw (next_first (places p.shape p.order) _ q.0 k q.1)
+      ((q.2, q.3, λ number. rw (more number, (take_next (places p.shape p.order) _ q.0 q.1).1) at (others number).0), ap suc (rw (more 0) at (others 0).1))
 
-pub each_given : (r : Result (Unit {0}) Fault) (zs ts : ℕ → ℕ) (place : ℕ) (c : CoderSettings) (places : List Place) (old new : Counts)
-    (numbers list : List ℕ) (bits : List Bool) (unread : Unread) (left : List Bool) → GetsEach zs ts 0 place r old unread new left list
-    → HasGiven c places old numbers bits → place ≡ length numbers
-    → ((i : ℕ) (before : List ℕ) → i < length list → length before ≡ length numbers + i → IsNext places before (zs i) (ts i))
-    → GivesMore (λ _. list) r c places numbers bits unread new left
-each_given r zs ts place c places old new numbers list bits unread left gets h at next =
-    let each = are_each places (length numbers) (length list) zs ts next (length list) 0 numbers (omega arith) (omega arith) in
-    gives_more (λ _. list) r c places old new numbers bits unread left (length list) h (λ _. refl)
-    (gets c _ _ numbers (words_given h.read).count each.1 each.0 h.taken at)
+pub each_given : (r : Result (Unit {0}) Fault) (zs ts : ℕ → ℕ) (place : ℕ) (p : Params) (old new : Counts) (numbers list : List ℕ) (bits : List Bool)
+    (unread : Unread) (left : List Bool) → GetsEach zs ts 0 place r old unread new left list → length new.bands ≡ length old.bands
+    → HasGiven p old numbers bits → place ≡ length numbers
+    → ((i : ℕ) (before : List ℕ) → i < length list → length before ≡ length numbers + i → IsNext p before (zs i) (ts i))
+    → GivesMore (λ _. list) r p numbers bits unread new left
+each_given r zs ts place p old new numbers list bits unread left gets kept h at next =
+    let each = are_each p (length numbers) (length list) zs ts next (length list) 0 numbers (omega arith) (omega arith) in
+    gives_more (λ _. list) r p old new numbers bits unread left (length list) h kept (λ _. refl)
+    (gets (settings p) _ _ numbers (words_given h.read).count each.1 each.0 h.taken at)
 
-pub next_given : (r : Result ℕ Fault) (z t place : ℕ) (c : CoderSettings) (places : List Place) (old new : Counts) (numbers : List ℕ) (bits : List Bool)
-    (unread : Unread) (left : List Bool) → GetsAt z t place r old unread new left → HasGiven c places old numbers bits → place ≡ length numbers
-    → IsNext places numbers z t → GivesMore (λ number. number ∷ []) r c places numbers bits unread new left
+pub next_given : (r : Result ℕ Fault) (z t place : ℕ) (p : Params) (old new : Counts) (numbers : List ℕ) (bits : List Bool) (unread : Unread)
+    (left : List Bool) → GetsAt z t place r old unread new left → length new.bands ≡ length old.bands → HasGiven p old numbers bits
+    → place ≡ length numbers → IsNext p numbers z t → GivesMore (λ number. number ∷ []) r p numbers bits unread new left
 unfolding words_at
-next_given r z t place c places old new numbers bits unread left gets h at next =
-    gives_more (λ number. number ∷ []) r c places old new numbers bits unread left 1 h (λ _. refl)
-    (rw (next_first places _ next.0 0 next.1) (one r ((rw at at gets) c _ h.taken next.3)))
+next_given r z t place p old new numbers bits unread left gets kept h at next =
+    gives_more (λ number. number ∷ []) r p old new numbers bits unread left 1 h kept (λ _. refl)
+    (rw (next_first (places p.shape p.order) _ next.0 0 next.1) (one r ((rw at at gets) (settings p) _ h.taken next.3)))
   where
     gone : List Place
-    gone = take (length numbers) places
+    gone = places_of p numbers
 
-    one : (r : Result ℕ Fault) → Reads (λ number. number) r left (word_at unread.count (length numbers) (code_at c z (band_numbers z gone numbers)) unread.left)
-        × IfOk r (λ number. HasTaken c new (with_number (λ z. band_numbers z gone numbers) z number))
-        → Reads (λ number. number ∷ []) r left (words_at unread.count c gone numbers (next.0 ∷ []) unread.left)
-        × IfOk r (λ number. HasTaken c new (λ z. band_numbers z (gone ++ next.0 ∷ []) (numbers ++ number ∷ [])))
-    one (Ok number) did = (
-      rw (next.2, did.0) refl,
-      taken_along c new gone numbers next.0 number (words_given h.read).count (rw next.2 did.1),
-    )
+    one : (r : Result ℕ Fault)
+        → Reads (λ number. number) r left (word_at unread.count (length numbers) (code_at (settings p) z (band_numbers z gone numbers)) unread.left)
+        × IfOk r (λ number. HasTaken (settings p) new (with_number (λ z. band_numbers z gone numbers) z number))
+        → Reads (λ number. number ∷ []) r left (words_at unread.count (settings p) gone numbers (next.0 ∷ []) unread.left)
+        × IfOk r (λ number. HasTaken (settings p) new (λ z. band_numbers z (gone ++ next.0 ∷ []) (numbers ++ number ∷ [])))
+    one (Ok number) did =
+        (rw (next.2, did.0) refl, taken_along (settings p) new gone numbers next.0 number (words_given h.read).count (rw next.2 did.1))
     one (Err fault) did = (rw (next.2, did.0) refl, tt)

@@ -3,7 +3,7 @@ use Rattle.std.proofs.lemmas.List.{take_more, take_all}
 use Rattle.block_adaptive.specs.Taken.{HasTaken}
 use Rattle.file_coding.specs.File.{body_of}
 use Rattle.speed.specs.Bodies.{AreOfBits}
-use Rattle.file_coding.proofs.Coders.{cut_bits}
+use Rattle.block_adaptive.proofs.Given.{cut_bits}
 use Rattle.speed.proofs.Powers.{power_is}
 use Rattle.speed.proofs.Coded.{blocks_ended, whole_text, none_greater}
 use Rattle.speed.proofs.block_coder.encoded.Goals as goal

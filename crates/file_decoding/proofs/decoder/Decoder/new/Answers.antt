@@ -7,5 +7,4 @@ new-requires c = for_samples _ c.requires (rw c.in-Sample.is tt)
 
 pub returns-in_ok-new-in-Sample-clause-given : goal.returns-in_ok-new-in-Sample-clause-given
 returns-in_ok-new-in-Sample-clause-given c =
-    let new = c.in_ok-new-in-Sample.ensures in
-    record { coder = rw c.in-Sample.is tt; bands = new.bands; given = none_given _ _ _ new.taken }
+    none_given _ _ (rw c.in-Sample.is tt) c.in_ok-new-in-Sample.ensures.bands c.in_ok-new-in-Sample.ensures.taken

@@ -1,15 +1,14 @@
-use Rattle.std.proofs.Common.{◌+◌, ◌-◌, length, arith}
-use Rattle.file_decoding.proofs.Givers.{may_reach, samples_each}
+use Rattle.std.proofs.Common.{◌+◌, arith}
+use Rattle.file_decoding.proofs.Givers.{may_give, samples_each}
 use Rattle.file_decoding.proofs.decoder.Decoder.next_run.Goals as goal
 
 pub get_run-requires-clause-band : goal.get_run-requires-clause-band
-get_run-requires-clause-band c =
-    rw c.in-Samples.is at (may_reach _ c.requires.may 0 (omega (arith, c.requires.small)))
+get_run-requires-clause-band c = (rw c.in-Samples.is at (may_give _ c.requires.may c.requires.small.0)) 0 c.requires.small.0
 
 pub next_of_blocks-requires : goal.next_of_blocks-requires
 next_of_blocks-requires c =
-    let last = rw c.in-Blocks.is at (may_reach _ c.requires.may (length c.args.deltas.now - 1) (omega (arith, c.requires.small))) in
-    omega (arith, last, c.requires.small)
+    let room = rw c.in-Blocks.is at (may_give _ c.requires.may c.requires.small.0) in
+    omega (arith, room)
 
 pub returns-in-Samples-clause-given : goal.returns-in-Samples-clause-given
 returns-in-Samples-clause-given c =
