@@ -119,7 +119,7 @@ fn test_fill(word: u32, reader: &BitReader) -> Result<(), Fault>
     if bits >= u64::from(8 * word) {
         return Err(Fault::TooLong { bits });
     }
-    // Zeros can't be counted where no one ends them.
+    // Counting zeros up to a one fails exactly where all bits are zeros.
     match reader.fork().count_zeros(u64::MAX) {
         Ok(_) => Err(Fault::BadFill),
         Err(_) => Ok(()),
