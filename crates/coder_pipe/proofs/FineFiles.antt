@@ -1,7 +1,7 @@
 -- Bytes without a fault are a file.
 use Rattle.std.proofs.Common.{◌≡◌, Bool, true, false, List, ◌++◌, length, Ok, sym, ap, ◌∙◌}
 use Rattle.cube_core.specs.declared.fault.Fault.{Fault}
-use Rattle.cube_core.specs.Steps.{◌>>=◌, ◌>>◌, refuse_if}
+use Rattle.cube_core.specs.Steps.{◌>>◌, refuse_if}
 use Rattle.header_bits.specs.declared.params.Params.{Params}
 use Rattle.header_bits.specs.Bits.{bits_of_bytes}
 use Rattle.header_bits.specs.Header.{header_at}

@@ -1,8 +1,11 @@
 -- What is written is a file, and no file is shorter than its header and the shortest body.
 use Rattle.std.specs.List.{AllByRecursion}
-use Rattle.std.proofs.Common.{◌≡◌, ◌*◌, ◌%◌, ◌-◌, ◌<◌, ◌^◌, ℕ, zero, suc, Bool, List, [], ◌∷◌, ◌++◌, length, take, drop, refl, ap, length-append, arith}
-use Rattle.std.proofs.lemmas.List.{take-append-drop, length-take, length-drop}
-use Rattle.std.proofs.lemmas.Nat.{mod_below}
+use Rattle.std.proofs.Common.{◌≡◌, ◌+◌, ◌*◌, ◌/◌, ◌%◌, ◌-◌, ◌<◌, ◌≤◌, ◌^◌, ℕ, zero, suc, Bool, List, [], ◌∷◌, ◌++◌, length, take, drop, refl, ap, inl, inr}
+use Rattle.std.proofs.Common.{length-append, arith}
+use Rattle.std.proofs.lemmas.Bool.{cases_eq}
+use Rattle.std.proofs.lemmas.List.{take-append-drop, length-take, length-drop, length-replicate}
+use Rattle.std.proofs.lemmas.Nat.{mod_below, div-add-mod'}
+use Rattle.std.proofs.Math.Nat.{mod-eq_of_lt, mod_self, sub-zero}
 use Rattle.header_bits.specs.declared.params.Params.{Params}
 use Rattle.header_bits.specs.declared.params.Coder.{Coder}
 use Rattle.header_bits.specs.declared.params.Coder.TheVariants.{Sample, Block}
@@ -15,8 +18,7 @@ use Rattle.header_bits.proofs.Chosen.{chosen_is_spelt}
 use Rattle.predict_core.specs.Residual.{residuals}
 use Rattle.block_adaptive.proofs.Bodies.{chosen_is_body}
 use Rattle.block_adaptive.proofs.Handed.{size_least}
-use Rattle.file_coding.specs.File.{body_of, body_by, fill_length, packed_from, packed, file_bits, file_of_residuals, file_of}
-use Rattle.file_coding.proofs.Packed.{filled_whole}
+use Rattle.file_coding.specs.File.{body_of, body_by, fill_length, filled, packed_from, packed, file_bits, file_of_residuals, file_of}
 use Rattle.file_decoding.specs.Files.{IsBodyBy}
 use Rattle.file_decoding.specs.Laws.{ChosenIsFile, NoShorterFile}
 use Rattle.file_decoding.proofs.FileLaws.{inside, file_text, body_long}
@@ -34,6 +36,23 @@ packed_bits (suc n) bits e =
 packed_again : (bits : List Bool) → length bits % 8 ≡ 0 → bits_of_bytes (packed bits) ≡ bits
 unfolding packed
 packed_again bits e = packed_bits _ _ (omega (arith, e))
+
+-- a length and its fill are whole output words
+whole_words : (n unit : ℕ) → 0 < unit → (q : ℕ) × (n + (unit - n % unit) % unit ≡ unit * q)
+whole_words n unit some =
+    let split = div-add-mod' n unit in
+    elim (cases_eq (n % unit) 0) [
+      | inl h ↦ (n / unit, rw (h, sub-zero, mod_self) (omega (arith, split, h)))
+      | inr h ↦
+          let rest : (unit - n % unit) % unit ≡ unit - n % unit = mod-eq_of_lt (omega (arith, h)) in
+          (n / unit + 1, rw rest (omega (arith, split, mod_below n unit some)))
+    ]
+
+-- filled bits are whole bytes
+filled_whole : (word : ℕ) (bits : List Bool) → 1 ≤ word → length (filled word bits) % 8 ≡ 0
+filled_whole word bits a =
+    let f = whole_words (length bits) (8 * word) (omega arith) in
+    rw (length-append, length-replicate, f.1) (omega arith)
 
 chosen_body : (p : Params) (coder : Coder) (numbers : List ℕ) → IsCoder p coder → AllByRecursion (λ v. v < 2 ^ p.kind.bits) numbers
     → IsBodyBy coder p numbers (body_by coder p numbers)

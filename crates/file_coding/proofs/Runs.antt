@@ -11,8 +11,8 @@ use Rattle.cube_core.proofs.Orders.{length-places}
 use Rattle.cube_core.proofs.Rows.{row_band}
 use Rattle.header_bits.specs.declared.params.Params.{Params}
 use Rattle.header_bits.specs.declared.params.Coder.TheVariants.{Sample, Block}
+use Rattle.header_bits.proofs.Items.{all_take, all_drop}
 use Rattle.sample_adaptive.specs.Settings.{IsSample}
-use Rattle.sample_adaptive.proofs.Running.{all_take, all_drop}
 use Rattle.block_adaptive.specs.Settings.{IsBlock}
 use Rattle.file_coding.specs.declared.encoder.Encoder.{Encoder}
 use Rattle.file_coding.specs.declared.encoder.Encoder.TheVariants.{Samples, Blocks}

@@ -249,6 +249,7 @@ fn put_fill(word: u32, writer: &mut BitWriter) -> Result<(), Fault>
 }
 
 /// Lemma: bytes are their own bits, packed. The call does nothing.
+#[tactic(auto, using(crate::proofs::Packed::packed_is))]
 fn prove_packed(bytes: &[u8])
     ensures { bytes.now ≡ packed (bits_of_bytes bytes.now) }
 {}

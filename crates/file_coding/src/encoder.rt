@@ -27,6 +27,7 @@ impl Encoder {
     ///
     /// Returns `WantOfMemory` if the statistics of all bands can't be allocated; the block-adaptive coder allocates
     /// nothing.
+    #[tactic(auto, using(sample_adaptive::proofs::ForSamples::for_samples, crate::proofs::Coders::samples_none))]
     pub fn new(alloc: Global, params: &Params) -> Result<Encoder, Fault>
         requires { IsLawful params.now }
         ensures taken { IfOk result (λ coder. HasTaken params.now coder [] []) }

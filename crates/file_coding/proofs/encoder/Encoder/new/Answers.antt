@@ -1,9 +1,0 @@
-use Rattle.sample_adaptive.proofs.ForSamples.{for_samples}
-use Rattle.file_coding.proofs.Coders.{samples_none}
-use Rattle.file_coding.proofs.encoder.Encoder.new.Goals as goal
-
-pub new-requires : goal.new-requires
-new-requires c = for_samples c.args.params.now c.requires (rw c.in-Sample.is tt)
-
-pub returns-in_ok-new-in-Sample-clause-taken : goal.returns-in_ok-new-in-Sample-clause-taken
-returns-in_ok-new-in-Sample-clause-taken c = samples_none _ _ (rw c.in-Sample.is tt) c.in_ok-new-in-Sample.ensures.bands c.in_ok-new-in-Sample.ensures.taken
