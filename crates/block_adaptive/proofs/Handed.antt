@@ -1,6 +1,6 @@
 -- What a reader has in hand.
-use Rattle.std.proofs.Common.{◌≡◌, ℕ, ◌+◌, ◌-◌, ◌*◌, ◌<◌, ◌≤◌, Bool, List, [], ◌∷◌, ◌++◌, take, drop, None, Ok, ◌/◌, refl, sym, ap, ◌∙◌, arith}
-use Rattle.std.proofs.Common.{append_assoc, replicate}
+use Rattle.std.proofs.Common.{◌≡◌, ℕ, ◌+◌, ◌-◌, ◌*◌, ◌<◌, ◌≤◌, Bool, List, [], ◌∷◌, ◌++◌, None, Ok, ◌/◌, refl, sym, ap, ◌∙◌, arith}
+use Rattle.std.proofs.Common.{append_assoc}
 use Rattle.std.proofs.lemmas.List.{append-nil}
 use Rattle.header_bits.specs.Bits.{Unread}
 use Rattle.block_adaptive.specs.Segments.{segment_rest}
@@ -11,9 +11,8 @@ use Rattle.block_adaptive.proofs.Lawful.{rest_least}
 use Rattle.block_adaptive.proofs.Taken.{data_set_is_taken}
 use Rattle.block_adaptive.specs.DataSets.{CodedDataSet, Cut, IsCodedDataSet, AreCodedDataSets, left_at, blocks_in, blocks_of, blocks_told, values_of, spelled}
 use Rattle.block_adaptive.specs.DataSets.{spelling}
-use Rattle.block_adaptive.specs.Given.{Unpacked, HasGiven, holding, next_data_set}
+use Rattle.block_adaptive.specs.Given.{Unpacked, HasGiven, holding}
 use Rattle.std.proofs.lemmas.Grind.{flat_map-append}
-use Rattle.header_bits.proofs.Places.{run_in_hand, zeros}
 
 pub nothing_held : (v : Unpacked) → v.block ≡ 0 → v.held ≡ [] → v.refused ≡ None → HasGiven v [] []
 unfolding AreCodedDataSets blocks_told
@@ -39,17 +38,8 @@ unfolding segment_rest
 rest_small reference count i = omega arith
 
 -- a run in hand keeps the parts in range
-pub run_parts : (c : Cut) (i given counted n : ℕ) → AreParts c i given counted → n ≤ left_at c i → left_at c i ≤ 64 → AreParts c (i + n) c.size (n * c.size)
-run_parts c i given counted n h le most = grind (arith, rest_most)
-
--- ---- data sets in hand
-
--- n zero blocks
-pub zeros_held : (v : Unpacked) (reader : Unread) (n : ℕ) (t : CodedDataSet) (values : List ℕ) (left : List Bool)
-    → holding v t ≡ record v { block = v.block + n; held = values_of (replicate n (zeros v.cut.size)) }
-    → data_set_at (site_of reader v.block) v.cut.set v.cut.size (left_at v.cut v.block) reader.left ≡ Ok (t, left)
-    → next_data_set v reader ≡ Ok (record v { block = v.block + n; held = drop v.cut.size (take v.cut.size values) ++ zeros (n * v.cut.size) }, left)
-zeros_held v reader n t values left is e = grind (arith, run_in_hand)
+pub run_parts : (c : Cut) (i given counted n : ℕ) → AreParts c i given counted → n ≤ left_at c i → AreParts c (i + n) c.size (n * c.size)
+run_parts c i given counted n h le = (let most : left_at c i ≤ 64 = rest_small c.reference c.count i in grind (arith, rest_most))
 
 -- ---- one data set more
 

@@ -1,6 +1,7 @@
 //! A reader of blocks, which returns their values one after another.
 
-ghost use Rattle.std.specs.Prelude.{◌≡◌, ℕ, ◌+◌, ◌*◌, ◌%◌, ◌<◌, ◌≤◌, Bool, List, [], ◌∷◌, ◌++◌, Ok, Err, Some, None, IfOk, IfErr, OnErr, MatchResult, length, replicate, take};
+ghost use Rattle.std.specs.Prelude.{◌≡◌, ℕ, ◌+◌, ◌*◌, ◌%◌, ◌<◌, ◌≤◌, Bool, List, [], ◌∷◌, ◌++◌, Ok, Err, Some, None, IfOk, IfErr, OnErr};
+ghost use Rattle.std.specs.Prelude.{MatchResult, length, replicate, take};
 ghost use Rattle.cube_core.specs.declared.fault.Fault.{Fault};
 ghost use Rattle.header_bits.specs.Reading.{Reads};
 ghost use Rattle.block_adaptive.specs.DataSets.{Cut, left_at, capacity, values_of};
@@ -229,7 +230,7 @@ impl BlockReader {
     }
 
     /// Keeps so many blocks of zeros, as far as the segment goes.
-    #[tactic(auto, using(crate::proofs::Handed::rest_most, crate::proofs::Handed::rest_small, crate::proofs::Handed::run_parts, header_bits::proofs::Places::run_in_hand))]
+    #[tactic(auto, using(crate::proofs::Handed::rest_most, header_bits::proofs::Places::run_in_hand))]
     fn hold_zeros(&mut self, blocks: u32)
         requires { (0 < blocks) × (blocks ≤ left_at self.old.cut self.old.block) }
         ensures zeros { self.new ≡ record self.old { block = self.old.block + blocks; held = values_of (replicate blocks (replicate self.old.cut.size 0)) } }

@@ -20,7 +20,8 @@ use Rattle.predict_core.specs.Following.{Learner}
 use Rattle.predict_core.specs.Precedence.{AreAlike}
 use Rattle.predict_core.specs.Residual.{mapped_residual}
 use Rattle.predict_core.specs.Walked.{residuals_at}
-use Rattle.predict_core.proofs.Walking.{IsOnWalk, all_places, gone_by, gone_count, goes_by, length-residuals_at, next_place, residuals_whole, tile_fits, tile_item}
+use Rattle.predict_core.proofs.Walking.{IsOnWalk, all_places, gone_by, gone_count, goes_by, length-residuals_at, next_place, residuals_whole}
+use Rattle.predict_core.proofs.Walking.{tile_fits, tile_item}
 use Rattle.predict_core.proofs.Kept.{residuals_same}
 use Rattle.file_coding.proofs.Endings.{time_of_place}
 use Rattle.file_decoding.specs.declared.tile.Tile.{Tile}
@@ -122,7 +123,8 @@ module _ {p : Params} {c : Image} {left : List Place} {bands : List Learner} {d 
           → (q : Place) × (slice_get left k ≡ Some q) × (mapped_residual p e q.z (q.y * e.shape.columns + q.x) ≡ slice_index deltas k)
       value k lt =
           let v = within tile.columns tile.bands k is.some.1 (omega (arith, lt, long)) in
-          let shapes = ap (λ (s : Sizes). mapped_residual p e (tile.place.z + k % tile.bands) (tile.place.y * s.columns + (tile.place.x + k / tile.bands))) (sym alike.shape ∙ w.shape) in (
+          let shapes = ap (λ (s : Sizes). mapped_residual p e (tile.place.z + k % tile.bands) (tile.place.y * s.columns + (tile.place.x + k / tile.bands)))
+          (sym alike.shape ∙ w.shape) in (
             _,
             tile_item p lawful.order w.walk.rest is next k (omega (arith, lt, long)),
             shapes ∙ filled.residuals _ _ v.column v.band ∙ ap (slice_index deltas) v.split,

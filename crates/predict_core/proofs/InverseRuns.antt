@@ -97,7 +97,8 @@ module _ (q : Predictor) (c d : Image) (z y first n x : ℕ) (place : IsPlace c.
     lower_from : drop k room ≡ spectral_differences q d z y x (previous_bands q z) ++ replicate (18 - count) (pos 0)
     lower_from =
         ap (drop k) gathered ∙ heads_dropped _ _ k heads_long
-        ∙ ap (λ us. us ++ replicate (18 - count) (pos 0)) (spectral_same q c d z y x place (omega (arith, below)) wide (beside_agree a z 0 _ (omega arith) (λ e. refl)) (previous_bands q z) (omega arith))
+        ∙ ap (λ us. us ++ replicate (18 - count) (pos 0)) (spectral_same q c d z y x place (omega (arith, below)) wide
+        (beside_agree a z 0 _ (omega arith) (λ e. refl)) (previous_bands q z) (omega arith))
 
     heads_from : take k room ≡ take k components
     heads_from = ap (take k) gathered ∙ heads_taken _ _ k heads_long

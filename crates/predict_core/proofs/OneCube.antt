@@ -1,6 +1,6 @@
 -- A cube's residuals are in range, and no other cube has them.
-use Rattle.std.proofs.Common.{◌≡◌, ◌+◌, ◌*◌, ◌<◌, ◌≤◌, ◌^◌, ◌-◌, ◌==◌, ◌||◌, ℕ, suc, zero, ℤ, pos, ◌≤ℤ◌, ◌*ℤ◌, ◌+ℤ◌, false, List, map, refl, sym, ap, ◌∙◌, subst}
-use Rattle.std.proofs.Common.{inl, inr, arith}
+use Rattle.std.proofs.Common.{◌≡◌, ◌+◌, ◌*◌, ◌<◌, ◌≤◌, ◌^◌, ◌-◌, ◌==◌, ◌||◌, ℕ, suc, zero, ℤ, pos, ◌≤ℤ◌, ◌*ℤ◌, ◌+ℤ◌, false, List, map, refl, sym}
+use Rattle.std.proofs.Common.{ap, ◌∙◌, subst, inl, inr, arith}
 use Rattle.std.specs.List.{AllByRecursion}
 use Rattle.std.proofs.lemmas.Int.{ints, int_max_is, int_min_is}
 use Rattle.std.specs.Int.{int_max, int_min}

@@ -22,7 +22,8 @@ loop-place-init c =
     let p = c.args.params.now in
     let cube = c.in_ok-cube.ensures.zeros in
     let none : gone_count p (places p.shape p.order) ≡ 0 = omega (arith, length-places p.shape p.order c.requires.order) in
-    let many : length c.deref_mut.result.now ≡ p.shape.bands = omega (arith, c.in_ok-predictors.ensures.len, c.in_ok-predictors.predictors.ok.0, c.deref_mut.ensures.len) in
+    let many : length c.deref_mut.result.now ≡ p.shape.bands =
+    omega (arith, c.in_ok-predictors.ensures.len, c.in_ok-predictors.predictors.ok.0, c.deref_mut.ensures.len) in
     rw c.new-places.ensures (record {
       count = refl;
       walked = record {
@@ -73,7 +74,8 @@ module _ (c : After-time_of) where
       )
 
   abbrev may : (count : ℕ) → count ≡ c.at-tile.result.columns * c.at-tile.result.bands
-      → MayAskEach c.loop-place.decoder (band_in c.at-tile.result) (time_in c.at-tile.result c.time_of.result) (c.sample_count-count.result - c.left.result) count
+      → MayAskEach c.loop-place.decoder (band_in c.at-tile.result) (time_in c.at-tile.result c.time_of.result)
+      (c.sample_count-count.result - c.left.result) count
   may count whole =
       may_read c.requires c.loop-place.invariant.walked c.at-tile.ensures.tile.in-order next _ _ _ time
       (omega (arith, c.left.ensures, c.sample_count-count.ensures.value)) whole
@@ -134,7 +136,8 @@ loop-place-preserved c =
     let filled = c.fill.ensures.filled c.args.params.now (come c.requires known.walked is (next d)) in
     rw behind (record {
       count = c.in_ok-read.ensures.count ∙ known.count;
-      walked = walked_more c.requires known.walked is (next d) _ _ filled c.fill.ensures.alike (c.in_ok-read.ensures.given (may d _ count)) count c.fill.ensures.many;
+      walked = walked_more c.requires known.walked is (next d) _ _ filled c.fill.ensures.alike
+          (c.in_ok-read.ensures.given (may d _ count)) count c.fill.ensures.many;
     })
 
 pub returns-clause-taken : goal.returns-clause-taken
