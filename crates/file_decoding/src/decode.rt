@@ -90,6 +90,7 @@ fn take_cube(alloc: Global, params: &Params, reader: &mut BitReader) -> Result<C
     ensures count { reader.new.count ≡ reader.old.count }
 {
     let mut cube = Cube::new(alloc, params.shape, params.kind)?;
+    // Both are borrowed as slices, whose lengths stay.
     let mut predictors = all_bands(alloc, params)?;
     let bands = &mut predictors[..];
     let mut decoder = Decoder::new(alloc, params)?;
