@@ -103,6 +103,7 @@ words_at_append count c gone before (p ∷ ps) qs bits =
     ∙ cons_then n.0 (few n) _ rest (λ a. ap₂ (λ (ps : List Place) (ns : List ℕ). words_at count c ps ns qs a.1)
     (append_assoc gone (p ∷ []) ps) (append_assoc before (n.0 ∷ []) a.0)))
     ∙ sym (then_then first (λ n. few n >>= behind (n.0 ∷ [])) (λ a. rest a >>= behind a.0))
+
 pub body_is_read : BodyIsRead
 unfolding sample_body sample_body_at
 body_is_read count c places ns bits rest len = (
