@@ -95,7 +95,7 @@ predictor_held p h = (
             (
               (omega (arith, h.register), h.register.1),
               (
-                (h.fraction.0, omega (arith, h.fraction.1)),
+                (h.omega.0, omega (arith, h.omega.1)),
                 (
                   (h.interval.0, omega (arith, h.interval.1)),
                   (
@@ -106,7 +106,7 @@ predictor_held p h = (
                         lit< tt,
                         (
                           (omega arith, flag_small (is_custom p.start)),
-                          ((omega arith, flag_small (is_custom p.start)), ((omega arith, resolution_small p p.start h.fraction.1 h.start), tt)),
+                          ((omega arith, flag_small (is_custom p.start)), ((omega arith, resolution_small p p.start h.omega.1 h.start), tt)),
                         ),
                       ),
                     ),

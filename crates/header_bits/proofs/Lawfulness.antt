@@ -160,7 +160,7 @@ record IsPredictor (p : Params) : Type 0 where
   mode : p.reduced ≡ false → 2 ≤ p.shape.columns
   sums : p.column ≡ false → 2 ≤ p.shape.columns
   register : InRange 32 64 p.register
-  fraction : InRange 4 19 p.omega
+  omega : InRange 4 19 p.omega
   wide : p.kind.bits + p.omega + 2 ≤ p.register
   interval : InRange 4 11 p.interval_log
   vmin : IsExponent p.vmin
@@ -183,7 +183,7 @@ predictor_ok p some e =
       mode = columns_ok p.reduced p.shape.columns some (refuse_ok _ _ b.0);
       sums = columns_ok p.column p.shape.columns some (refuse_ok _ _ c.0);
       register = in_range_ok _ 32 64 p.register d.0;
-      fraction = in_range_ok _ 4 19 p.omega f.0;
+      omega = in_range_ok _ 4 19 p.omega f.0;
       wide = ltb-false p.register (p.kind.bits + p.omega + 2) (refuse_ok _ _ g.0);
       interval = in_range_ok _ 4 11 p.interval_log h.0;
       vmin = exponent_ok _ p.vmin i.0;
@@ -195,7 +195,7 @@ predictor_fine : (p : Params) → IsLawful p → predictor_fault p ≡ fine
 predictor_fine p h =
     in_range_fine field.Previous 0 15 p.previous (omega arith, h.previous) then_fine refuse_fine _ _ (columns_fine p.reduced p.shape.columns h.mode)
     then_fine refuse_fine _ _ (columns_fine p.column p.shape.columns h.sums) then_fine in_range_fine field.Register 32 64 p.register h.register
-    then_fine in_range_fine field.Omega 4 19 p.omega h.fraction then_fine refuse_fine _ _ (le-ltb p.register (p.kind.bits + p.omega + 2) h.wide)
+    then_fine in_range_fine field.Omega 4 19 p.omega h.omega then_fine refuse_fine _ _ (le-ltb p.register (p.kind.bits + p.omega + 2) h.wide)
     then_fine in_range_fine field.Interval 4 11 p.interval_log h.interval then_fine exponent_fine field.VMin p.vmin h.vmin
     then_fine exponent_fine field.VMax p.vmax h.vmax then_fine refuse_fine _ _ (false_lt p.vmax p.vmin h.exponents)
 
@@ -225,7 +225,7 @@ fine_is_lawful p sizes kind e =
       mode = h.mode;
       sums = h.sums;
       register = h.register;
-      fraction = h.fraction;
+      omega = h.omega;
       wide = h.wide;
       interval = h.interval;
       vmin = h.vmin;

@@ -81,7 +81,7 @@ record IsPredictorPart (i : ImagePart) (p : PredictorPart) : Type 0 where
   mode : p.reduced ≡ false → 2 ≤ i.shape.columns
   sums : p.column ≡ false → 2 ≤ i.shape.columns
   register : InRange 32 64 p.register
-  fraction : InRange 4 19 p.omega
+  omega : InRange 4 19 p.omega
   wide : i.kind.bits + p.omega + 2 ≤ p.register
   interval : InRange 4 11 p.interval_log
   vmin : IsExponent p.vmin
@@ -131,7 +131,7 @@ predictor_said i v some h e =
       mode = flag_said (get_or v 2 0) i.shape.columns (held_at predictor_fields v 2 h (lit< tt)).1 some (refuse_ok _ _ b.0);
       sums = flag_said (get_or v 4 0) i.shape.columns (held_at predictor_fields v 4 h (lit< tt)).1 some (refuse_ok _ _ d.0);
       register = (ltb-false (get_or v 6 0) 32 (refuse_ok _ _ g.0), (held_at predictor_fields v 6 h (lit< tt)).1);
-      fraction = (fraction.0, omega (arith, fraction));
+      omega = (fraction.0, omega (arith, fraction));
       wide = ltb-false (get_or v 6 0) (i.kind.bits + get_or v 7 0 + 2) (refuse_ok _ _ j.0);
       interval = (interval.0, ltb-false 11 (get_or v 8 0) (refuse_ok _ _ k.0));
       vmin = exponent_said (get_or v 9 0) (held_at predictor_fields v 9 h (lit< tt)).1;
@@ -272,7 +272,7 @@ spelt_is_lawful p bits s = subst (λ (x : Params). IsLawful x) s.same said
           mode = second.mode;
           sums = second.sums;
           register = second.register;
-          fraction = second.fraction;
+          omega = second.omega;
           wide = second.wide;
           interval = second.interval;
           vmin = second.vmin;
@@ -292,4 +292,4 @@ start_read i p bits one rest first second =
     let a = (part_exact image).found i bits one first in
     let b = (part_exact (predictor i)).found p one rest second in
     let facts = predictor_spelt i p b.0 (image_spelt i a.0 a.1).sizes.columns.0 b.1 in
-    (facts.previous, omega (arith, facts.few, facts.fraction), (λ custom. omega (arith, facts.start custom)))
+    (facts.previous, omega (arith, facts.few, facts.omega), (λ custom. omega (arith, facts.start custom)))

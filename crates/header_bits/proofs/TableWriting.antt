@@ -101,4 +101,4 @@ pub weights_lawful : (p : Params) (q : ℕ) (values : List ℤ) → IsLawful p �
 weights_lawful p q values h e =
     let t = table_lawful p p.start q values e h.start in
     let bound = weight_bound p.previous p.reduced p.shape.bands h.previous in
-    record { least = omega (arith, t.0); most = omega (arith, t.0, h.fraction); count = omega (arith, t.1, bound, h.sizes.bands); signed = t.2 }
+    record { least = omega (arith, t.0); most = omega (arith, t.0, h.omega); count = omega (arith, t.1, bound, h.sizes.bands); signed = t.2 }

@@ -60,7 +60,7 @@ pub record IsLawful (p : Params) : Type 0 where
   pub mode : p.reduced ≡ false → 2 ≤ p.shape.columns
   pub sums : p.column ≡ false → 2 ≤ p.shape.columns
   pub register : InRange 32 64 p.register
-  pub fraction : InRange 4 19 p.omega
+  pub omega : InRange 4 19 p.omega
   pub wide : p.kind.bits + p.omega + 2 ≤ p.register
   pub interval : InRange 4 11 p.interval_log
   pub vmin : IsExponent p.vmin

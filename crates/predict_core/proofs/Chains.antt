@@ -36,25 +36,25 @@ module _ (q : Predictor) (c : Image) (z y x n m : ℕ) (room differences : List 
   scaled_from_room =
       sym (scaled_of_product q c (local_sum q c z y x) (take m room) (take m differences) (take n room) (difference_vector q c z y x) product) ∙ scaled
 
-  moved : (new : List ℤ) (own exponent : ℤ) → take m new ≡ updated_weights q.fraction exponent (int_le own part) (take m room) (take m differences)
-      → take n new ≡ updated_weights q.fraction exponent (int_le own part) (take n room) (difference_vector q c z y x)
+  moved : (new : List ℤ) (own exponent : ℤ) → take m new ≡ updated_weights q.omega exponent (int_le own part) (take m room) (take m differences)
+      → take n new ≡ updated_weights q.omega exponent (int_le own part) (take n room) (difference_vector q c z y x)
   moved new own exponent h =
-      update_in_use q.fraction exponent (int_le own part) room (difference_vector q c z y x) new n m (18 - n) long enough (omega arith)
-      (h ∙ ap (λ us. updated_weights q.fraction exponent (int_le own part) (take m room) (take m us)) same)
+      update_in_use q.omega exponent (int_le own part) room (difference_vector q c z y x) new n m (18 - n) long enough (omega arith)
+      (h ∙ ap (λ us. updated_weights q.omega exponent (int_le own part) (take m room) (take m us)) same)
 
   pub next_from_room : (new : List ℤ) (own exponent : ℤ) → own ≡ central_difference q c z y x
       → exponent ≡ step_exponent q c.shape.columns c.kind.bits (y * c.shape.columns + x)
-      → take m new ≡ updated_weights q.fraction exponent (int_le own part) (take m room) (take m differences)
+      → take m new ≡ updated_weights q.omega exponent (int_le own part) (take m room) (take m differences)
       → take n new ≡ next_weights q c z (y * c.shape.columns + x) (take n room)
   next_from_room new own exponent a b h =
       next_by_difference q c z y x (take n room) cube place (take n new) own part a scaled_from_room
-      (moved new own exponent h ∙ ap (λ t. updated_weights q.fraction t (int_le own part) (take n room) (difference_vector q c z y x)) b)
+      (moved new own exponent h ∙ ap (λ t. updated_weights q.omega t (int_le own part) (take n room) (difference_vector q c z y x)) b)
 
   -- the same of a sample that is found by its residual
   pub moved_from_room : (new : List ℤ) (sample own exponent : ℤ) → IsSample c.kind sample → own ≡ pos 4 *ℤ sample -ℤ local_sum q c z y x
       → exponent ≡ step_exponent q c.shape.columns c.kind.bits (y * c.shape.columns + x)
-      → take m new ≡ updated_weights q.fraction exponent (int_le own part) (take m room) (take m differences)
-      → take n new ≡ updated_weights q.fraction (step_exponent q c.shape.columns c.kind.bits
+      → take m new ≡ updated_weights q.omega exponent (int_le own part) (take m room) (take m differences)
+      → take n new ≡ updated_weights q.omega (step_exponent q c.shape.columns c.kind.bits
       (y * c.shape.columns + x)) (int_lt (pos 2 *ℤ sample -ℤ scaled_there q c z y x (take n room)) (pos 0)) (take n room) (difference_vector q c z y x)
   moved_from_room new sample own exponent h a b u =
       let sign = sign_by_difference c.kind (local_sum q c z y x) sample part (scaled_there q c z y x (take n room)) h scaled_from_room in

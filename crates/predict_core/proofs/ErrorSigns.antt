@@ -20,24 +20,24 @@ use Rattle.predict_core.proofs.Runs.{later_place}
 
 -- the scaled prediction where the register holds all of the sum
 pub unwrapped_by : (p : Predictor) (k : SampleKind) (sum : ℤ) (ws us : List ℤ) → 46 ≤ p.register
-    → unsigned_abs (inner_product ws us +ℤ pos (2 ^ p.fraction) *ℤ (sum -ℤ pos 4 *ℤ smid k)) < 2 ^ 45
+    → unsigned_abs (inner_product ws us +ℤ pos (2 ^ p.omega) *ℤ (sum -ℤ pos 4 *ℤ smid k)) < 2 ^ 45
     → scaled_by p k sum ws us
-    ≡ clip (floor_div (floor_div (inner_product ws us) (2 ^ p.fraction) +ℤ (sum -ℤ pos 4 *ℤ smid k)) 2 +ℤ pos 2 *ℤ smid k +ℤ pos 1) (pos 2 *ℤ smin k)
+    ≡ clip (floor_div (floor_div (inner_product ws us) (2 ^ p.omega) +ℤ (sum -ℤ pos 4 *ℤ smid k)) 2 +ℤ pos 2 *ℤ smid k +ℤ pos 1) (pos 2 *ℤ smin k)
     (pos 2 *ℤ smax k +ℤ pos 1)
 unfolding scaled_by
 unwrapped_by p k sum ws us wide small =
-    let e = kept p.register (inner_product ws us +ℤ pos (2 ^ p.fraction) *ℤ (sum -ℤ pos 4 *ℤ smid k)) (omega arith)
-    (below_power 45 (p.register - 1) (inner_product ws us +ℤ pos (2 ^ p.fraction) *ℤ (sum -ℤ pos 4 *ℤ smid k)) (omega arith) small) in
-    rw (e, upper_part p.fraction (inner_product ws us) (sum -ℤ pos 4 *ℤ smid k)) refl
+    let e = kept p.register (inner_product ws us +ℤ pos (2 ^ p.omega) *ℤ (sum -ℤ pos 4 *ℤ smid k)) (omega arith)
+    (below_power 45 (p.register - 1) (inner_product ws us +ℤ pos (2 ^ p.omega) *ℤ (sum -ℤ pos 4 *ℤ smid k)) (omega arith) small) in
+    rw (e, upper_part p.omega (inner_product ws us) (sum -ℤ pos 4 *ℤ smid k)) refl
 
 -- and the sign of its error
 pub sign_by : (p : Predictor) (k : SampleKind) (sum sample : ℤ) (ws us : List ℤ) → 46 ≤ p.register
-    → unsigned_abs (inner_product ws us +ℤ pos (2 ^ p.fraction) *ℤ (sum -ℤ pos 4 *ℤ smid k)) < 2 ^ 45 → IsSample k sample
-    → int_lt (pos 2 *ℤ sample -ℤ scaled_by p k sum ws us) (pos 0) ≡ int_le (pos 4 *ℤ sample -ℤ sum) (floor_div (inner_product ws us) (2 ^ p.fraction))
+    → unsigned_abs (inner_product ws us +ℤ pos (2 ^ p.omega) *ℤ (sum -ℤ pos 4 *ℤ smid k)) < 2 ^ 45 → IsSample k sample
+    → int_lt (pos 2 *ℤ sample -ℤ scaled_by p k sum ws us) (pos 0) ≡ int_le (pos 4 *ℤ sample -ℤ sum) (floor_div (inner_product ws us) (2 ^ p.omega))
 sign_by p k sum sample ws us wide small h =
-    sign_of_center (smin k) (smax k) sample (floor_div (floor_div (inner_product ws us) (2 ^ p.fraction) +ℤ (sum -ℤ pos 4 *ℤ smid k)) 2 +ℤ pos 2 *ℤ smid k
+    sign_of_center (smin k) (smax k) sample (floor_div (floor_div (inner_product ws us) (2 ^ p.omega) +ℤ (sum -ℤ pos 4 *ℤ smid k)) 2 +ℤ pos 2 *ℤ smid k
     +ℤ pos 1) (scaled_by p k sum ws us) h.0 h.1 (unwrapped_by p k sum ws us wide small)
-    ∙ sign_of_part sample sum (smid k) (floor_div (inner_product ws us) (2 ^ p.fraction))
+    ∙ sign_of_part sample sum (smid k) (floor_div (inner_product ws us) (2 ^ p.omega))
 
 scaled_at : (p : Params) (c : Image) (z t y x : ℕ) → 0 < t → t ≡ y * c.shape.columns + x → x < c.shape.columns
     → scaled_prediction p c z t ≡ scaled_by (predictor_of p) c.kind (local_sum (predictor_of p) c z y x) (weight_vector p c z t)

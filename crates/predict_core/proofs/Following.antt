@@ -25,7 +25,7 @@ mapped_at p c q t e lt = rw (row_is _ _ _ _ e lt, column_is _ _ _ _ e lt) refl
 
 pub next_is : (p : Predictor) (c : Image) (z t y x : ℕ) (ws new : List ℤ) (scaled sample : ℤ) → t ≡ y * c.shape.columns + x → x < c.shape.columns
     → scaled ≡ scaled_there p c z y x ws → sample ≡ sample_at c z y x
-    → new ≡ updated_weights p.fraction (step_exponent p c.shape.columns c.kind.bits t) (int_lt (pos 2 *ℤ sample -ℤ scaled) (pos 0)) ws
+    → new ≡ updated_weights p.omega (step_exponent p c.shape.columns c.kind.bits t) (int_lt (pos 2 *ℤ sample -ℤ scaled) (pos 0)) ws
     (difference_vector p c z y x)
     → new ≡ next_weights p c z t ws
 unfolding next_weights

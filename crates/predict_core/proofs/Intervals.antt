@@ -43,7 +43,7 @@ unfolding step_exponent
 alike_later p columns bits t k h e =
     let s : t + k - columns ≡ t - columns + k = omega arith in
     let m : columns ≤ t + k = omega arith in
-    ap (λ v. v +ℤ pos bits -ℤ pos p.fraction) (behind_first_row p columns (t + k) m ∙ ap (λ n. clip (p.vmin +ℤ pos (n / 2 ^ p.interval_log)) p.vmin p.vmax) s
+    ap (λ v. v +ℤ pos bits -ℤ pos p.omega) (behind_first_row p columns (t + k) m ∙ ap (λ n. clip (p.vmin +ℤ pos (n / 2 ^ p.interval_log)) p.vmin p.vmax) s
     ∙ e ∙ sym (behind_first_row p columns t h))
 
 -- from where the exponent is the greatest

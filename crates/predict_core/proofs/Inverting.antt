@@ -57,12 +57,12 @@ module _ (c : Image) (z y x : ℕ) (v : ℤ) (place : IsPlace c.shape z y x) (wh
 
     -- and the weights move after the new sample
     pub moved_put : (t : ℕ) (ws new : List ℤ) (scaled : ℤ) → 0 < y + x → t ≡ y * c.shape.columns + x → scaled ≡ scaled_there p c z y x ws
-        → new ≡ updated_weights p.fraction (step_exponent p c.shape.columns c.kind.bits t) (int_lt (pos 2 *ℤ v -ℤ scaled) (pos 0)) ws
+        → new ≡ updated_weights p.omega (step_exponent p c.shape.columns c.kind.bits t) (int_lt (pos 2 *ℤ v -ℤ scaled) (pos 0)) ws
         (difference_vector p c z y x)
         → new ≡ next_weights p (put c z y x v) z t ws
     moved_put t ws new scaled later at b e =
         next_is p (put c z y x v) z t y x ws new scaled v at place.column (b ∙ scaled_put later ws) (sym sample_put)
-        (e ∙ ap (updated_weights p.fraction (step_exponent p c.shape.columns c.kind.bits t) (int_lt (pos 2 *ℤ v -ℤ scaled) (pos 0)) ws) (vector_put later))
+        (e ∙ ap (updated_weights p.omega (step_exponent p c.shape.columns c.kind.bits t) (int_lt (pos 2 *ℤ v -ℤ scaled) (pos 0)) ws) (vector_put later))
 
   -- the residual at the place is that of the new sample
   pub put_residual : (p : Params) → (p.column ≡ false → 2 ≤ c.shape.columns)

@@ -46,20 +46,20 @@ by_mode : (n : ℕ) (b : Bool) (xs : List ℤ) → AllWithin n xs → AllWithin 
 by_mode n true xs h = h
 by_mode n false xs h = within_append n (replicate 3 (pos 0)) xs (zeros_within n 3) h
 
-default_within : (p : Predictor) (z : ℕ) → 3 ≤ p.fraction → AllWithin (2 ^ (p.fraction + 2)) (default_weights p z)
+default_within : (p : Predictor) (z : ℕ) → 3 ≤ p.omega → AllWithin (2 ^ (p.omega + 2)) (default_weights p z)
 unfolding default_weights
 default_within p z least =
-    let e : (p.fraction - 3) + 5 ≡ p.fraction + 2 = omega arith in
-    let power : 2 ^ (p.fraction + 2) ≡ 2 ^ (p.fraction - 3) * 2 ^ 5 = ap (λ k. 2 ^ k) (sym e) ∙ pow-add 2 (p.fraction - 3) 5 in
-    by_mode (2 ^ (p.fraction + 2)) p.reduced (eighths (pos (7 * 2 ^ (p.fraction - 3))) (previous_bands p z))
-    (eighths_within (2 ^ (p.fraction + 2)) (pos (7 * 2 ^ (p.fraction - 3))) (previous_bands p z) (omega (arith, power)))
+    let e : (p.omega - 3) + 5 ≡ p.omega + 2 = omega arith in
+    let power : 2 ^ (p.omega + 2) ≡ 2 ^ (p.omega - 3) * 2 ^ 5 = ap (λ k. 2 ^ k) (sym e) ∙ pow-add 2 (p.omega - 3) 5 in
+    by_mode (2 ^ (p.omega + 2)) p.reduced (eighths (pos (7 * 2 ^ (p.omega - 3))) (previous_bands p z))
+    (eighths_within (2 ^ (p.omega + 2)) (pos (7 * 2 ^ (p.omega - 3))) (previous_bands p z) (omega (arith, power)))
 
 start_within : (p : Params) (z : ℕ) → IsLawful p → AllWithin (2 ^ (p.omega + 2)) (start_weights p z)
 unfolding weights_by
 start_within p z lawful = by_start p.start lawful.start
   where
     by_start : (s : WeightStart) → IsWeightStart p s → AllWithin (2 ^ (p.omega + 2)) (weights_by (predictor_of p) s z)
-    by_start Usual l = default_within (predictor_of p) z (let h = lawful.fraction.0 in omega arith)
+    by_start Usual l = default_within (predictor_of p) z (let h = lawful.omega.0 in omega arith)
     by_start (Table q values) l = table_within p q values z l.0.0 l.0.1 l.2
 
 -- a weight that is held between the least and the greatest
@@ -114,18 +114,18 @@ both_small a b n most h k = omega (arith, ints, h, k)
 
 -- what is predicted from at a place of a cube, by weights between their bounds
 module _ (q : Predictor) (c : Image) (z y x : ℕ) (ws : List ℤ) (cube : IsCube c) (place : IsPlace c.shape z y x)
-    (later : 0 < y + x) (wide : q.column ≡ false → 2 ≤ c.shape.columns) (few : q.previous ≤ 15) (most : q.fraction ≤ 19)
-    (within : AllWithin (2 ^ (q.fraction + 2)) ws) where
-  pub products_small : unsigned_abs (inner_product ws (difference_vector q c z y x)) ≤ 18 * (2 ^ (q.fraction + 2) * 2 ^ 18)
+    (later : 0 < y + x) (wide : q.column ≡ false → 2 ≤ c.shape.columns) (few : q.previous ≤ 15) (most : q.omega ≤ 19)
+    (within : AllWithin (2 ^ (q.omega + 2)) ws) where
+  pub products_small : unsigned_abs (inner_product ws (difference_vector q c z y x)) ≤ 18 * (2 ^ (q.omega + 2) * 2 ^ 18)
   products_small =
       let us : List ℤ = difference_vector q c z y x in
       let bits : c.kind.bits ≤ 16 = cube.bits.1 in
       let vector = within_most c.kind.bits us bits (vector_within q c cube y x later wide z place) in
       let short : length us ≤ 18 = omega (arith, vector_length q c z y x, few_components q z few) in
-      le_trans (inner_within (2 ^ (q.fraction + 2)) ws us within vector)
-      (mul-le (length us) (2 ^ (q.fraction + 2) * 2 ^ 18) 18 (2 ^ (q.fraction + 2) * 2 ^ 18) short (omega arith))
+      le_trans (inner_within (2 ^ (q.omega + 2)) ws us within vector)
+      (mul-le (length us) (2 ^ (q.omega + 2) * 2 ^ 18) 18 (2 ^ (q.omega + 2) * 2 ^ 18) short (omega arith))
 
-  pub register_small : unsigned_abs (inner_product ws (difference_vector q c z y x) +ℤ pos (2 ^ q.fraction) *ℤ (local_sum q c z y x -ℤ pos 4 *ℤ smid c.kind))
+  pub register_small : unsigned_abs (inner_product ws (difference_vector q c z y x) +ℤ pos (2 ^ q.omega) *ℤ (local_sum q c z y x -ℤ pos 4 *ℤ smid c.kind))
       < 2 ^ 45
   register_small =
       let bits : c.kind.bits ≤ 16 = cube.bits.1 in
@@ -134,8 +134,8 @@ module _ (q : Predictor) (c : Image) (z y x : ℕ) (ws : List ℤ) (cube : IsCub
       let near = apart (smin c.kind) (smax c.kind) (smid c.kind) (local_sum q c z y x) (2 ^ c.kind.bits) (span c.kind cube.bits) middle
       (sum_within q c cube y x later wide z place) in
       let small = turned (pos 4 *ℤ smid c.kind) (local_sum q c z y x) (2 ^ 18) (omega (arith, near, power)) in
-      both_small (inner_product ws (difference_vector q c z y x)) (pos (2 ^ q.fraction) *ℤ (local_sum q c z y x -ℤ pos 4 *ℤ smid c.kind)) (2 ^ (q.fraction + 2))
-      (limit_within q.fraction most) products_small (raised_small q.fraction (local_sum q c z y x -ℤ pos 4 *ℤ smid c.kind) most small)
+      both_small (inner_product ws (difference_vector q c z y x)) (pos (2 ^ q.omega) *ℤ (local_sum q c z y x -ℤ pos 4 *ℤ smid c.kind)) (2 ^ (q.omega + 2))
+      (limit_within q.omega most) products_small (raised_small q.omega (local_sum q c z y x -ℤ pos 4 *ℤ smid c.kind) most small)
 
 -- and by those of a cube
 wide_enough : (p : Params) (c : Image) → IsLawful p → c.shape ≡ p.shape → p.column ≡ false → 2 ≤ c.shape.columns
@@ -146,9 +146,9 @@ pub products_within : (p : Params) (c : Image) (z y x : ℕ) → IsLawful p → 
     ≤ 18 * (2 ^ (p.omega + 2) * 2 ^ 18)
 products_within p c z y x lawful cube shape place later =
     products_small (predictor_of p) c z y x (weight_vector p c z (y * c.shape.columns + x)) cube place later
-    (wide_enough p c lawful shape) lawful.previous lawful.fraction.1 (weights_within p c z (y * c.shape.columns + x) lawful)
+    (wide_enough p c lawful shape) lawful.previous lawful.omega.1 (weights_within p c z (y * c.shape.columns + x) lawful)
 
 pub register_bound : RegisterBound
 register_bound p c z y x lawful cube shape kind place later =
     register_small (predictor_of p) c z y x (weight_vector p c z (y * c.shape.columns + x)) cube place later
-    (wide_enough p c lawful shape) lawful.previous lawful.fraction.1 (weights_within p c z (y * c.shape.columns + x) lawful)
+    (wide_enough p c lawful shape) lawful.previous lawful.omega.1 (weights_within p c z (y * c.shape.columns + x) lawful)

@@ -28,10 +28,10 @@ module _ (q : Predictor) (c : Image) (z y x : ℕ) (ws : List ℤ) (cube : IsCub
 
   pub next_by_difference : (new : List ℤ) (own part : ℤ) → own ≡ central_difference q c z y x
       → scaled_there q c z y x ws ≡ scaled_by_difference c.kind part (local_sum q c z y x)
-      → new ≡ updated_weights q.fraction (step_exponent q c.shape.columns c.kind.bits (y * c.shape.columns + x)) (int_le own part) ws
+      → new ≡ updated_weights q.omega (step_exponent q c.shape.columns c.kind.bits (y * c.shape.columns + x)) (int_le own part) ws
       (difference_vector q c z y x)
       → new ≡ next_weights q c z (y * c.shape.columns + x) ws
   next_by_difference new own part a e h =
       next_is q c z (y * c.shape.columns + x) y x ws new (scaled_there q c z y x ws) (sample_at c z y x) refl place.column refl refl
-      (h ∙ ap (λ t. updated_weights q.fraction (step_exponent q c.shape.columns c.kind.bits (y * c.shape.columns + x)) t ws (difference_vector q c z y x))
+      (h ∙ ap (λ t. updated_weights q.omega (step_exponent q c.shape.columns c.kind.bits (y * c.shape.columns + x)) t ws (difference_vector q c z y x))
       (rw a (sym (sign part e))))

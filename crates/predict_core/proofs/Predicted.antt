@@ -23,8 +23,8 @@ of_scaled k sum scaled part h e =
 
 -- where nothing wraps, the rounded sum of the products leads to it
 pub of_product : (p : Predictor) (k : SampleKind) (sum part : ℤ) (ws us : List ℤ)
-    → wrapped p.register (inner_product ws us +ℤ pos (2 ^ p.fraction) *ℤ (sum -ℤ pos 4 *ℤ smid k))
-    ≡ inner_product ws us +ℤ pos (2 ^ p.fraction) *ℤ (sum -ℤ pos 4 *ℤ smid k)
-    → part ≡ floor_div (inner_product ws us) (2 ^ p.fraction) → scaled_by p k sum ws us ≡ scaled_by_difference k part sum
+    → wrapped p.register (inner_product ws us +ℤ pos (2 ^ p.omega) *ℤ (sum -ℤ pos 4 *ℤ smid k))
+    ≡ inner_product ws us +ℤ pos (2 ^ p.omega) *ℤ (sum -ℤ pos 4 *ℤ smid k)
+    → part ≡ floor_div (inner_product ws us) (2 ^ p.omega) → scaled_by p k sum ws us ≡ scaled_by_difference k part sum
 unfolding scaled_by
-of_product p k sum part ws us kept e = rw (kept, upper_part p.fraction (inner_product ws us) (sum -ℤ pos 4 *ℤ smid k), e) refl
+of_product p k sum part ws us kept e = rw (kept, upper_part p.omega (inner_product ws us) (sum -ℤ pos 4 *ℤ smid k), e) refl

@@ -54,14 +54,14 @@ at_first p made c z y x first ws h f =
 pub same_steps : (s other : Settings) (c : Image) (fraction bits : ℕ) (exponent : ℤ) (y x : ℕ) → other.predictor ≡ s.predictor
     → other.range.kind ≡ s.range.kind → AreStepsThere s c fraction bits exponent y x → AreStepsThere other c fraction bits exponent y x
 same_steps s other c fraction bits exponent y x same kind h = record {
-  fraction_is = h.fraction_is ∙ ap (λ (p : Predictor). p.fraction) (sym same);
+  omega_is = h.omega_is ∙ ap (λ (p : Predictor). p.omega) (sym same);
   bits_are = h.bits_are ∙ s.range.bits_is ∙ ap (λ k. k.bits) (sym kind) ∙ sym other.range.bits_is;
   exponent_is = h.exponent_is ∙ ap (λ p. step_exponent p c.shape.columns c.kind.bits (y * c.shape.columns + x)) (sym same);
 }
 
 -- a run is predicted where its chain was followed to its end and its residuals are written
 pub predicted : (s : Settings) (c : Image) (y x first n : ℕ) (old ws new parts : List ℤ) (rs : List ℕ) → IsFirstLater y x first
-    → IsFollowed s c y x first old n ws parts → AllWithin (2 ^ (s.predictor.fraction + 2)) ws
+    → IsFollowed s c y x first old n ws parts → AllWithin (2 ^ (s.predictor.omega + 2)) ws
     → ((i : ℕ) → i < n → slice_index_or rs i 0 < 2 ^ c.kind.bits)
     → ((p : Params) (begun ws : List ℤ) → AreWeightsAt p s.predictor c s.band (y * c.shape.columns + x) (take s.count begun)
     → IsFollowed s c y x first begun n ws parts → take n rs ≡ run_residuals p c s.band (y * c.shape.columns + x) n)

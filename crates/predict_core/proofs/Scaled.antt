@@ -9,8 +9,8 @@ use Rattle.predict_core.specs.Prediction.{inner_product, scaled_by}
 use Rattle.predict_core.specs.Weights.{growth, step_exponent}
 
 pub scaled_is : (p : Predictor) (k : SampleKind) (sum : ℤ) (ws us : List ℤ) (product register upper middle low high r : ℤ)
-    → product ≡ inner_product ws us → middle ≡ smid k → register ≡ wrapped p.register (product +ℤ pos (2 ^ p.fraction) *ℤ (sum -ℤ pos 4 *ℤ middle))
-    → upper ≡ floor_div register (2 ^ (p.fraction + 1)) → low ≡ smin k → high ≡ smax k
+    → product ≡ inner_product ws us → middle ≡ smid k → register ≡ wrapped p.register (product +ℤ pos (2 ^ p.omega) *ℤ (sum -ℤ pos 4 *ℤ middle))
+    → upper ≡ floor_div register (2 ^ (p.omega + 1)) → low ≡ smin k → high ≡ smax k
     → r ≡ clip (upper +ℤ pos 2 *ℤ middle +ℤ pos 1) (pos 2 *ℤ low) (pos 2 *ℤ high +ℤ pos 1) → r ≡ scaled_by p k sum ws us
 unfolding scaled_by
 scaled_is p k sum ws us product register upper middle low high r a b d e f g h = h ∙ rw (e, d, a, b, f, g) refl
@@ -29,7 +29,7 @@ pub growth_is : (p : Predictor) (columns t : ℕ) (intervals r : ℤ) → interv
 unfolding growth
 growth_is p columns t intervals r a b = b ∙ rw a refl
 
-pub exponent_is : (p : Predictor) (columns bits t : ℕ) (grown r : ℤ) → grown ≡ growth p columns t → r ≡ grown +ℤ pos bits -ℤ pos p.fraction
+pub exponent_is : (p : Predictor) (columns bits t : ℕ) (grown r : ℤ) → grown ≡ growth p columns t → r ≡ grown +ℤ pos bits -ℤ pos p.omega
     → r ≡ step_exponent p columns bits t
 unfolding step_exponent
 exponent_is p columns bits t grown r a e = e ∙ rw a refl

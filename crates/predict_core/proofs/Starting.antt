@@ -42,37 +42,37 @@ pub shrinks_small : (w : ℤ) → unsigned_abs w ≤ 2 ^ 20 → SFits w32 (floor
 shrinks_small w h = (fits_signed_from_abs w32 (floor_div w 8) (omega (arith, halved_shrinks w 8)), omega (arith, halved_shrinks w 8))
 
 module _ (made : Predictor) (z : ℕ) (weights : List ℤ) where
-  reduced_usual : made.reduced ≡ true → default_weights made z ≡ eighths (pos (7 * 2 ^ (made.fraction - 3))) (previous_bands made z)
+  reduced_usual : made.reduced ≡ true → default_weights made z ≡ eighths (pos (7 * 2 ^ (made.omega - 3))) (previous_bands made z)
   unfolding default_weights
   reduced_usual h = rw h refl
 
-  full_usual : made.reduced ≡ false → default_weights made z ≡ replicate 3 (pos 0) ++ eighths (pos (7 * 2 ^ (made.fraction - 3))) (previous_bands made z)
+  full_usual : made.reduced ≡ false → default_weights made z ≡ replicate 3 (pos 0) ++ eighths (pos (7 * 2 ^ (made.omega - 3))) (previous_bands made z)
   unfolding default_weights
   full_usual h = rw h refl
 
   pub reduced_start : made.reduced ≡ true → (k : ℕ)
-      → weights ≡ replicate 0 (pos 0) ++ eighths (pos (7 * 2 ^ (made.fraction - 3))) (previous_bands made z) ++ replicate k (pos 0)
+      → weights ≡ replicate 0 (pos 0) ++ eighths (pos (7 * 2 ^ (made.omega - 3))) (previous_bands made z) ++ replicate k (pos 0)
       → take (component_count made z) weights ≡ default_weights made z
   reduced_start h k e =
-      let n = eighths_length (pos (7 * 2 ^ (made.fraction - 3))) (previous_bands made z) in
-      let t : take (previous_bands made z) weights ≡ eighths (pos (7 * 2 ^ (made.fraction - 3))) (previous_bands made z) =
-      rw e (heads_taken (eighths (pos (7 * 2 ^ (made.fraction - 3))) (previous_bands made z)) (replicate k (pos 0)) (previous_bands made z) n) in
+      let n = eighths_length (pos (7 * 2 ^ (made.omega - 3))) (previous_bands made z) in
+      let t : take (previous_bands made z) weights ≡ eighths (pos (7 * 2 ^ (made.omega - 3))) (previous_bands made z) =
+      rw e (heads_taken (eighths (pos (7 * 2 ^ (made.omega - 3))) (previous_bands made z)) (replicate k (pos 0)) (previous_bands made z) n) in
       ap (λ j. take j weights) (reduced_count made z h) ∙ t ∙ sym (reduced_usual h)
 
   pub full_start : made.reduced ≡ false → (k : ℕ)
-      → weights ≡ replicate 3 (pos 0) ++ eighths (pos (7 * 2 ^ (made.fraction - 3))) (previous_bands made z) ++ replicate k (pos 0)
+      → weights ≡ replicate 3 (pos 0) ++ eighths (pos (7 * 2 ^ (made.omega - 3))) (previous_bands made z) ++ replicate k (pos 0)
       → take (component_count made z) weights ≡ default_weights made z
   full_start h k e =
-      let n = eighths_length (pos (7 * 2 ^ (made.fraction - 3))) (previous_bands made z) in
-      let l : length (replicate 3 (pos 0) ++ eighths (pos (7 * 2 ^ (made.fraction - 3))) (previous_bands made z)) ≡ 3 + previous_bands made z =
+      let n = eighths_length (pos (7 * 2 ^ (made.omega - 3))) (previous_bands made z) in
+      let l : length (replicate 3 (pos 0) ++ eighths (pos (7 * 2 ^ (made.omega - 3))) (previous_bands made z)) ≡ 3 + previous_bands made z =
       omega (arith, n) in
-      let t : take (3 + previous_bands made z) weights ≡ replicate 3 (pos 0) ++ eighths (pos (7 * 2 ^ (made.fraction - 3))) (previous_bands made z) =
-      rw e (heads_taken (replicate 3 (pos 0) ++ eighths (pos (7 * 2 ^ (made.fraction - 3))) (previous_bands made z)) (replicate k (pos 0))
+      let t : take (3 + previous_bands made z) weights ≡ replicate 3 (pos 0) ++ eighths (pos (7 * 2 ^ (made.omega - 3))) (previous_bands made z) =
+      rw e (heads_taken (replicate 3 (pos 0) ++ eighths (pos (7 * 2 ^ (made.omega - 3))) (previous_bands made z)) (replicate k (pos 0))
       (3 + previous_bands made z) l) in
       ap (λ j. take j weights) (full_count made z h) ∙ t ∙ sym (full_usual h)
 
   pub start_is : (first k : ℕ) → first ≡ (if made.reduced then 0 else 3)
-      → weights ≡ replicate first (pos 0) ++ eighths (pos (7 * 2 ^ (made.fraction - 3))) (previous_bands made z) ++ replicate k (pos 0)
+      → weights ≡ replicate first (pos 0) ++ eighths (pos (7 * 2 ^ (made.omega - 3))) (previous_bands made z) ++ replicate k (pos 0)
       → take (first + previous_bands made z) weights ≡ default_weights made z
   start_is first k f e =
       elim (cases_Bool made.reduced) [

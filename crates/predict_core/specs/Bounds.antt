@@ -11,7 +11,7 @@ AllWithin n xs = (i : ℕ) → i < length xs → unsigned_abs (slice_index_or xs
 pub record IsPredictor (p : Predictor) : Type 0 where
   pub few : p.previous ≤ 15
   pub register : InRange 32 64 p.register
-  pub fraction : InRange 4 19 p.fraction
+  pub omega : InRange 4 19 p.omega
   pub interval : InRange 4 11 p.interval_log
   pub least : negsuc 5 ≤ℤ p.vmin
   pub order : p.vmin ≤ℤ p.vmax

@@ -8,4 +8,4 @@ pub record IsLearner (s : Settings) (shape : Sizes) (weights : List ℤ) : Type 
   pub rows : shape.rows ≤ 65536
   pub columns : s.columns ≡ shape.columns
   pub inside : s.band < shape.bands
-  pub bounded : AllWithin (2 ^ (s.predictor.fraction + 2)) weights
+  pub bounded : AllWithin (2 ^ (s.predictor.omega + 2)) weights

@@ -20,8 +20,8 @@ inner_product (w ∷ ws) (u ∷ us) = w *ℤ u +ℤ inner_product ws us
 -- twice a predicted sample, from a local sum, weights and differences
 unfoldable pub scaled_by : Predictor → SampleKind → ℤ → List ℤ → List ℤ → ℤ
 scaled_by p k sum ws us =
-    let register = wrapped p.register (inner_product ws us +ℤ pos (2 ^ p.fraction) *ℤ (sum -ℤ pos 4 *ℤ smid k)) in
-    clip (floor_div register (2 ^ (p.fraction + 1)) +ℤ pos 2 *ℤ smid k +ℤ pos 1) (pos 2 *ℤ smin k) (pos 2 *ℤ smax k +ℤ pos 1)
+    let register = wrapped p.register (inner_product ws us +ℤ pos (2 ^ p.omega) *ℤ (sum -ℤ pos 4 *ℤ smid k)) in
+    clip (floor_div register (2 ^ (p.omega + 1)) +ℤ pos 2 *ℤ smid k +ℤ pos 1) (pos 2 *ℤ smin k) (pos 2 *ℤ smax k +ℤ pos 1)
 
 -- the same at a place that is not the first of its band
 unfoldable pub scaled_there : Predictor → Image → ℕ → ℕ → ℕ → List ℤ → ℤ
@@ -33,7 +33,7 @@ next_weights p c z t ws =
     let y = t / c.shape.columns in
     let x = t % c.shape.columns in
     let error = pos 2 *ℤ sample_at c z y x -ℤ scaled_there p c z y x ws in
-    updated_weights p.fraction (step_exponent p c.shape.columns c.kind.bits t) (int_lt error (pos 0)) ws (difference_vector p c z y x)
+    updated_weights p.omega (step_exponent p c.shape.columns c.kind.bits t) (int_lt error (pos 0)) ws (difference_vector p c z y x)
 
 -- the weights at place t; the first two places have those of the start
 unfoldable pub weight_vector : Params → Image → ℕ → ℕ → List ℤ

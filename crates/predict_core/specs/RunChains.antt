@@ -26,8 +26,8 @@ pub record CanFollow (q n : ℕ) (wraps : Bool) (s : Settings) (c : Image) (y x 
   pub room : IsRoom s.predictor c s.band y x count s.count sums own quads
 
 -- the steps of the weights at row y, column x have this exponent
-pub record AreStepsThere (s : Settings) (c : Image) (fraction bits : ℕ) (exponent : ℤ) (y x : ℕ) : Type 0 where
-  pub fraction_is : fraction ≡ s.predictor.fraction
+pub record AreStepsThere (s : Settings) (c : Image) (omega bits : ℕ) (exponent : ℤ) (y x : ℕ) : Type 0 where
+  pub omega_is : omega ≡ s.predictor.omega
   pub bits_are : bits ≡ s.range.bits
   pub exponent_is : exponent ≡ step_exponent s.predictor c.shape.columns c.kind.bits (y * c.shape.columns + x)
 
@@ -54,7 +54,7 @@ pub record CanPredict (s : Settings) (c : Image) (y x n : ℕ) (ws : List ℤ) :
   pub some : 1 ≤ n
   pub few : n ≤ 64
   pub inside : x + n ≤ c.shape.columns
-  pub weights_in : AllWithin (2 ^ (s.predictor.fraction + 2)) ws
+  pub weights_in : AllWithin (2 ^ (s.predictor.omega + 2)) ws
 
 -- their residuals, and the weights behind them
 pub record HasPredicted (s : Settings) (c : Image) (y x n : ℕ) (old new : List ℤ) (rs : List ℕ) : Type 0 where
@@ -63,4 +63,4 @@ pub record HasPredicted (s : Settings) (c : Image) (y x n : ℕ) (old new : List
       → take n rs ≡ run_residuals p c s.band (y * c.shape.columns + x) n
   pub weights : (p : Params) → AreWeightsAt p s.predictor c s.band (y * c.shape.columns + x) (take s.count old)
       → take s.count new ≡ weight_vector p c s.band (y * c.shape.columns + x + n)
-  pub within : AllWithin (2 ^ (s.predictor.fraction + 2)) new
+  pub within : AllWithin (2 ^ (s.predictor.omega + 2)) new

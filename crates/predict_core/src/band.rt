@@ -190,13 +190,13 @@ fn next_residual(
     requires t_is { t ≡ y * cube.now.shape.columns + x }
     requires t_in { t < 2 ^ 32 }
     requires later { 0 < t }
-    requires weights_in { AllWithin (2 ^ (settings.now.predictor.fraction + 2)) weights.old }
+    requires weights_in { AllWithin (2 ^ (settings.now.predictor.omega + 2)) weights.old }
     ensures value { result ≡ mapped cube.now.kind (scaled_there settings.now.predictor cube.now settings.now.band y x
         (take (component_count settings.now.predictor settings.now.band) weights.old)) (sample_at cube.now settings.now.band y x) }
     ensures range { result < 2 ^ cube.now.kind.bits }
     ensures weights { take (component_count settings.now.predictor settings.now.band) weights.new ≡ next_weights settings.now.predictor cube.now
         settings.now.band t (take (component_count settings.now.predictor settings.now.band) weights.old) }
-    ensures bound { AllWithin (2 ^ (settings.now.predictor.fraction + 2)) weights.new }
+    ensures bound { AllWithin (2 ^ (settings.now.predictor.omega + 2)) weights.new }
 {
     let prediction = predict(settings, cube, y, x, weights);
     let sample = cube.sample(settings.band, y, x);
@@ -238,14 +238,14 @@ fn next_sample(
     requires t_is { t ≡ y * cube.now.shape.columns + x }
     requires t_in { t < 2 ^ 32 }
     requires later { 0 < t }
-    requires weights_in { AllWithin (2 ^ (settings.now.predictor.fraction + 2)) weights.old }
+    requires weights_in { AllWithin (2 ^ (settings.now.predictor.omega + 2)) weights.old }
     requires residual { delta < 2 ^ cube.now.kind.bits }
     ensures range { IsSample cube.now.kind result }
     ensures inverse { mapped cube.now.kind (scaled_there settings.now.predictor (put cube.now settings.now.band y x result) settings.now.band y x
         (take (component_count settings.now.predictor settings.now.band) weights.old)) result ≡ delta }
     ensures weights { take (component_count settings.now.predictor settings.now.band) weights.new ≡ next_weights settings.now.predictor
         (put cube.now settings.now.band y x result) settings.now.band t (take (component_count settings.now.predictor settings.now.band) weights.old) }
-    ensures bound { AllWithin (2 ^ (settings.now.predictor.fraction + 2)) weights.new }
+    ensures bound { AllWithin (2 ^ (settings.now.predictor.omega + 2)) weights.new }
 {
     cube.prove_is_cube();
     let prediction = predict(settings, cube, y, x, weights);

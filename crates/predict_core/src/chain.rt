@@ -26,10 +26,10 @@ use cube_core::cube::Cube;
 /// What the steps of the weights have in common, over places with the same exponent.
 #[derive(Clone, Copy)]
 pub(crate) struct Steps {
-    pub fraction: u32,
+    pub omega: u32,
     pub bits: u32,
     pub exponent: i32,
-    pub ghost fraction_in: { fraction ≤ 19 },
+    pub ghost omega_in: { omega ≤ 19 },
     pub ghost bits_in: { (2 ≤ bits) × (bits ≤ 16) },
     pub ghost least: { (pos bits -ℤ pos 25) ≤ℤ exponent },
     pub ghost most: { exponent ≤ℤ pos 21 },
@@ -49,15 +49,15 @@ fn follow<const N: usize>(
     requires few { N ≤ 18 }
     requires own_in { unsigned_abs own ≤ 2 ^ 18 }
     requires predicted_in { unsigned_abs predicted ≤ 18 * 2 ^ 20 }
-    requires weights_in { AllWithin (2 ^ (steps.fraction + 2)) weights.old }
+    requires weights_in { AllWithin (2 ^ (steps.omega + 2)) weights.old }
     requires differences_in { AllWithin (4 * 2 ^ steps.bits) differences.now }
-    ensures weights { take N weights.new ≡ updated_weights steps.fraction steps.exponent (int_le own predicted) (take N weights.old) (take N differences.now) }
-    ensures bound { AllWithin (2 ^ (steps.fraction + 2)) weights.new }
+    ensures weights { take N weights.new ≡ updated_weights steps.omega steps.exponent (int_le own predicted) (take N weights.old) (take N differences.now) }
+    ensures bound { AllWithin (2 ^ (steps.omega + 2)) weights.new }
 {
     update_by::<N>(
         weights,
         differences,
-        steps.fraction,
+        steps.omega,
         steps.exponent,
         form_of(steps.bits, steps.exponent),
         turn_of_error(own, predicted),
@@ -143,13 +143,13 @@ fn follow_at<const N: usize, const WRAPS: bool>(
     requires columns { cube.now.shape.columns ≡ settings.now.columns }
     requires kind { cube.now.kind ≡ settings.now.range.kind }
     requires later { 0 < y + x }
-    requires fraction { steps.fraction ≡ settings.now.predictor.fraction }
+    requires omega { steps.omega ≡ settings.now.predictor.omega }
     requires bits { steps.bits ≡ settings.now.range.bits }
     requires exponent { steps.exponent ≡ step_exponent settings.now.predictor cube.now.shape.columns cube.now.kind.bits (y * cube.now.shape.columns + x) }
     requires sum_is { pos 4 *ℤ smin cube.now.kind +ℤ sum ≡ local_sum settings.now.predictor cube.now settings.now.band y x }
     requires sum_in { (pos 0 ≤ℤ sum) × (sum ≤ℤ pos 262140) }
     requires own_is { own ≡ central_difference settings.now.predictor cube.now settings.now.band y x }
-    requires weights_in { AllWithin (2 ^ (steps.fraction + 2)) weights.old }
+    requires weights_in { AllWithin (2 ^ (steps.omega + 2)) weights.old }
     requires differences_are { differences.now ≡ difference_vector settings.now.predictor cube.now settings.now.band y x ++ replicate
         (18 - settings.now.count) (pos 0) }
     ensures scaled { scaled_there settings.now.predictor cube.now settings.now.band y x (take settings.now.count weights.old)
@@ -157,7 +157,7 @@ fn follow_at<const N: usize, const WRAPS: bool>(
     ensures small { unsigned_abs result ≤ 18 * 2 ^ 20 }
     ensures weights { take settings.now.count weights.new ≡ next_weights settings.now.predictor cube.now settings.now.band (y * cube.now.shape.columns + x)
         (take settings.now.count weights.old) }
-    ensures bound { AllWithin (2 ^ (steps.fraction + 2)) weights.new }
+    ensures bound { AllWithin (2 ^ (steps.omega + 2)) weights.new }
 {
     cube.prove_is_cube();
     let predicted = predicted_difference::<N, WRAPS>(
@@ -195,11 +195,11 @@ fn follow_place<const Q: usize, const N: usize, const WRAPS: bool>(
 )
     requires run { CanFollow Q N WRAPS run.settings.now cube.now y x (i + 1) run.sums.now run.own.now run.quads.now }
     requires later { 0 < y + (x + i) }
-    requires steps { AreStepsThere run.settings.now cube.now steps.fraction steps.bits steps.exponent y (x + i) }
-    requires weights_in { AllWithin (2 ^ (run.settings.now.predictor.fraction + 2)) weights.old }
+    requires steps { AreStepsThere run.settings.now cube.now steps.omega steps.bits steps.exponent y (x + i) }
+    requires weights_in { AllWithin (2 ^ (run.settings.now.predictor.omega + 2)) weights.old }
     ensures followed { (first : ℕ) (begun : List ℤ) → IsFollowed run.entry.settings.now cube.now y x first begun i weights.old parts.old
         → IsFollowed run.entry.settings.now cube.now y x first begun (i + 1) weights.new parts.new }
-    ensures bound { AllWithin (2 ^ (run.entry.settings.now.predictor.fraction + 2)) weights.new }
+    ensures bound { AllWithin (2 ^ (run.entry.settings.now.predictor.omega + 2)) weights.new }
 {
     cube.prove_is_cube();
     let differences = differences_at::<Q>(run.quads, i);
@@ -260,17 +260,17 @@ pub(crate) fn follow_places<const Q: usize, const N: usize, const WRAPS: bool, c
     requires other { CanFollow Q N WRAPS other.settings.now cube.now y x last other.sums.now other.own.now other.quads.now }
     requires order { first ≤ last }
     requires later { 0 < y + (x + first) }
-    requires steps { (i : ℕ) → first ≤ i → i < last → AreStepsThere run.settings.now cube.now steps.fraction steps.bits steps.exponent y (x + i) }
+    requires steps { (i : ℕ) → first ≤ i → i < last → AreStepsThere run.settings.now cube.now steps.omega steps.bits steps.exponent y (x + i) }
     requires same { other.settings.now.predictor ≡ run.settings.now.predictor }
-    requires weights_in { AllWithin (2 ^ (run.settings.now.predictor.fraction + 2)) state.old.weights }
-    requires other_weights_in { AllWithin (2 ^ (run.settings.now.predictor.fraction + 2)) beside.old.weights }
+    requires weights_in { AllWithin (2 ^ (run.settings.now.predictor.omega + 2)) state.old.weights }
+    requires other_weights_in { AllWithin (2 ^ (run.settings.now.predictor.omega + 2)) beside.old.weights }
     ensures followed { (start : ℕ) (begun : List ℤ) → IsFollowed run.entry.settings.now cube.now y x start begun first state.old.weights state.old.parts
         → IsFollowed run.entry.settings.now cube.now y x start begun last state.new.weights state.new.parts }
     ensures other_followed { PAIR ≡ true → (start : ℕ) (begun : List ℤ)
         → IsFollowed other.entry.settings.now cube.now y x start begun first beside.old.weights beside.old.parts
         → IsFollowed other.entry.settings.now cube.now y x start begun last beside.new.weights beside.new.parts }
-    ensures bound { AllWithin (2 ^ (run.entry.settings.now.predictor.fraction + 2)) state.new.weights }
-    ensures other_bound { AllWithin (2 ^ (run.entry.settings.now.predictor.fraction + 2)) beside.new.weights }
+    ensures bound { AllWithin (2 ^ (run.entry.settings.now.predictor.omega + 2)) state.new.weights }
+    ensures other_bound { AllWithin (2 ^ (run.entry.settings.now.predictor.omega + 2)) beside.new.weights }
 {
     let mut working = state.weights;
     let mut second = beside.weights;

@@ -19,7 +19,7 @@ pub(crate) fn exponent_at(predictor: &Predictor, columns: u32, bits: u32, t: u64
     ensures least { (pos bits -ℤ pos 25) ≤ℤ result }
     ensures most { result ≤ℤ pos 21 }
 {
-    growth_at(predictor, columns, t) + bits as i32 - predictor.fraction as i32
+    growth_at(predictor, columns, t) + bits as i32 - predictor.omega as i32
 }
 
 /// Returns how far the exponent has grown at place `t`.

@@ -70,7 +70,7 @@ pub(crate) fn invert_places<const Q: usize, const N: usize, const WRAPS: bool>(
     requires residuals_in { (i : ℕ) → i < length run.deltas.now → slice_index run.deltas.now i < 2 ^ cube.kind.bits }
     requires parts { (i : ℕ) → i < length run.deltas.now → IsOpenPart run.settings.now.predictor cube run.settings.now.band run.y (run.x + i)
         run.settings.now.count (slice_index_or run.sums.now i (pos 0)) (components_at (quads_of run.settings.now.count) run.quads.now i) }
-    requires weights_in { AllWithin (2 ^ (run.settings.now.predictor.fraction + 2)) run.weights }
+    requires weights_in { AllWithin (2 ^ (run.settings.now.predictor.omega + 2)) run.weights }
     ensures beside { AreAlikeBeside cube result.0 run.entry.settings.now.band run.entry.y run.entry.x (length run.entry.deltas.now) }
     ensures residuals { (p : Parameters) → AreWeightsAt p run.entry.settings.now.predictor cube run.entry.settings.now.band
         (run.entry.y * cube.shape.columns + run.entry.x) (take run.entry.settings.now.count run.entry.weights)
@@ -80,7 +80,7 @@ pub(crate) fn invert_places<const Q: usize, const N: usize, const WRAPS: bool>(
         (run.entry.y * cube.shape.columns + run.entry.x) (take run.entry.settings.now.count run.entry.weights)
         → take run.entry.settings.now.count result.1 ≡ weight_vector p result.0 run.entry.settings.now.band
         (run.entry.y * cube.shape.columns + run.entry.x + length run.entry.deltas.now) }
-    ensures within { AllWithin (2 ^ (run.entry.settings.now.predictor.fraction + 2)) result.1 }
+    ensures within { AllWithin (2 ^ (run.entry.settings.now.predictor.omega + 2)) result.1 }
 {
     cube.prove_is_cube();
     let OpenRun {
@@ -205,7 +205,7 @@ fn sample_there<const N: usize, const WRAPS: bool>(
     requires sum_is { local_sum settings.now.predictor cube.now settings.now.band y x ≡ pos 4 *ℤ smin cube.now.kind +ℤ pos sum }
     requires sum_in { sum ≤ 262140 }
     requires west { IsWest cube.now settings.now.band y x west }
-    requires weights_in { AllWithin (2 ^ (settings.now.predictor.fraction + 2)) weights.old }
+    requires weights_in { AllWithin (2 ^ (settings.now.predictor.omega + 2)) weights.old }
     requires directions { settings.now.predictor.reduced ≡ false
         → take 3 components.now ≡ open_directions settings.now.predictor cube.now settings.now.band y x }
     requires lower { drop (if settings.now.predictor.reduced then 0 else 3) components.now ≡ spectral_differences settings.now.predictor cube.now
@@ -218,7 +218,7 @@ fn sample_there<const N: usize, const WRAPS: bool>(
         (take settings.now.count weights.old)) result ≡ delta }
     ensures weights { take settings.now.count weights.new ≡ next_weights settings.now.predictor (put cube.now settings.now.band y x result)
         settings.now.band (y * cube.now.shape.columns + x) (take settings.now.count weights.old) }
-    ensures bound { AllWithin (2 ^ (settings.now.predictor.fraction + 2)) weights.new }
+    ensures bound { AllWithin (2 ^ (settings.now.predictor.omega + 2)) weights.new }
 {
     cube.prove_is_cube();
     let predictor = &settings.predictor;
@@ -234,7 +234,7 @@ fn sample_there<const N: usize, const WRAPS: bool>(
     update_by::<N>(
         weights,
         &differences,
-        predictor.fraction,
+        predictor.omega,
         exponent,
         form,
         found.1,

@@ -30,12 +30,12 @@ pub(crate) fn follow_run<const Q: usize, const N: usize, const WRAPS: bool, cons
     requires order { first ≤ last }
     requires later { 0 < y + (x + first) }
     requires same { other.settings.now.predictor ≡ run.settings.now.predictor }
-    requires weights_in { AllWithin (2 ^ (run.settings.now.predictor.fraction + 2)) state.old.weights }
-    requires other_weights_in { AllWithin (2 ^ (run.settings.now.predictor.fraction + 2)) beside.old.weights }
+    requires weights_in { AllWithin (2 ^ (run.settings.now.predictor.omega + 2)) state.old.weights }
+    requires other_weights_in { AllWithin (2 ^ (run.settings.now.predictor.omega + 2)) beside.old.weights }
     ensures followed { IsFollowed run.entry.settings.now cube.now y x first state.old.weights last state.new.weights state.new.parts }
     ensures other_followed { PAIR ≡ true → IsFollowed other.entry.settings.now cube.now y x first beside.old.weights last beside.new.weights beside.new.parts }
-    ensures bound { AllWithin (2 ^ (run.entry.settings.now.predictor.fraction + 2)) state.new.weights }
-    ensures other_bound { AllWithin (2 ^ (run.entry.settings.now.predictor.fraction + 2)) beside.new.weights }
+    ensures bound { AllWithin (2 ^ (run.entry.settings.now.predictor.omega + 2)) state.new.weights }
+    ensures other_bound { AllWithin (2 ^ (run.entry.settings.now.predictor.omega + 2)) beside.new.weights }
 {
     cube.prove_is_cube();
     let predictor = &run.settings.predictor;
@@ -47,7 +47,7 @@ pub(crate) fn follow_run<const Q: usize, const N: usize, const WRAPS: bool, cons
         let t = start + at as u64;
         let next = at + places_alike(predictor, columns, t, last - at);
         let steps = Steps {
-            fraction: predictor.fraction,
+            omega: predictor.omega,
             bits,
             exponent: exponent_at(predictor, columns, bits, t),
         };

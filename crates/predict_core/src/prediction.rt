@@ -26,7 +26,7 @@ pub(crate) fn scaled_by(
 ) -> i32
     requires lawful { IsPredictor predictor.now }
     requires count_in { count ≤ 18 }
-    requires weights_in { AllWithin (2 ^ (predictor.now.fraction + 2)) weights.now }
+    requires weights_in { AllWithin (2 ^ (predictor.now.omega + 2)) weights.now }
     requires differences_in { AllWithin (2 ^ 18) differences.now }
     requires sum_in { (negsuc 131071 ≤ℤ sum) × (sum ≤ℤ pos 262140) }
     ensures value { (us : List ℤ) → length us ≡ count → differences.now ≡ us ++ replicate (18 - count) (pos 0)
@@ -49,9 +49,9 @@ fn scaled_by_product(predictor: &Predictor, range: &Range, sum: i32, product: i6
     let middle = range.smid;
     let register = wrapped_value(
         predictor.register,
-        register_of(predictor.fraction, product, sum, middle),
+        register_of(predictor.omega, product, sum, middle),
     );
-    let upper = floor_shift(register, predictor.fraction + 1);
+    let upper = floor_shift(register, predictor.omega + 1);
     scaled_from(range.smin, range.smax, middle, upper)
 }
 
@@ -71,14 +71,14 @@ pub(crate) fn predicted_difference<const N: usize, const WRAPS: bool>(
     requires few { N ≤ 18 }
     requires lawful { IsPredictor predictor.now }
     requires register { WRAPS ≡ false → 46 ≤ predictor.now.register }
-    requires weights_in { AllWithin (2 ^ (predictor.now.fraction + 2)) weights.now }
+    requires weights_in { AllWithin (2 ^ (predictor.now.omega + 2)) weights.now }
     requires differences_in { AllWithin (2 ^ 18) differences.now }
     requires sum_in { (negsuc 131071 ≤ℤ sum) × (sum ≤ℤ pos 262140) }
     ensures scaled { scaled_of predictor.now range.now.kind sum (take N weights.now) (take N differences.now) ≡ scaled_by_difference range.now.kind result sum }
     ensures bound { unsigned_abs result ≤ 18 * 2 ^ 20 }
 {
     let product = product_of_first::<N>(weights, differences);
-    let part = whole_product(predictor.fraction, product);
+    let part = whole_product(predictor.omega, product);
     if may_wrap::<WRAPS>(predictor, range, sum, product, part) {
         wrapped_difference(predictor, range, sum, product)
     } else {
@@ -100,11 +100,11 @@ fn may_wrap<const WRAPS: bool>(
 ) -> bool
     requires lawful { IsPredictor predictor.now }
     requires register { WRAPS ≡ false → 46 ≤ predictor.now.register }
-    requires part_is { part ≡ floor_div product (2 ^ predictor.now.fraction) }
+    requires part_is { part ≡ floor_div product (2 ^ predictor.now.omega) }
     requires part_in { unsigned_abs part ≤ 18 * 2 ^ 20 }
     requires sum_in { (negsuc 131071 ≤ℤ sum) × (sum ≤ℤ pos 262140) }
-    ensures kept { result ≡ false → wrapped predictor.now.register (product +ℤ pos (2 ^ predictor.now.fraction) *ℤ (sum -ℤ pos 4 *ℤ smid range.now.kind))
-        ≡ product +ℤ pos (2 ^ predictor.now.fraction) *ℤ (sum -ℤ pos 4 *ℤ smid range.now.kind) }
+    ensures kept { result ≡ false → wrapped predictor.now.register (product +ℤ pos (2 ^ predictor.now.omega) *ℤ (sum -ℤ pos 4 *ℤ smid range.now.kind))
+        ≡ product +ℤ pos (2 ^ predictor.now.omega) *ℤ (sum -ℤ pos 4 *ℤ smid range.now.kind) }
 {
     let upper = part + (sum - 4 * range.smid);
     WRAPS && register_limit(predictor) <= upper.unsigned_abs()
@@ -114,9 +114,9 @@ fn may_wrap<const WRAPS: bool>(
 #[inline(always)]
 fn register_limit(predictor: &Predictor) -> u32
     requires { IsPredictor predictor.now }
-    ensures { result * 2 ^ predictor.now.fraction ≤ 2 ^ (predictor.now.register - 1) }
+    ensures { result * 2 ^ predictor.now.omega ≤ 2 ^ (predictor.now.register - 1) }
 {
-    1 << (predictor.register - 1 - predictor.fraction).min(30)
+    1 << (predictor.register - 1 - predictor.omega).min(30)
 }
 
 /// Returns the predicted central difference where the register wraps, from the sum of the products.
@@ -134,13 +134,13 @@ fn wrapped_difference(predictor: &Predictor, range: &Range, sum: i32, product: i
 
 /// Returns the sum of the products, without the weights' fraction, rounded down.
 #[inline(always)]
-fn whole_product(fraction: u32, product: i64) -> i32
-    requires fraction_in { fraction ≤ 19 }
-    requires product_in { unsigned_abs product ≤ 18 * (2 ^ (fraction + 2) * 2 ^ 18) }
-    ensures value { result ≡ floor_div product (2 ^ fraction) }
+fn whole_product(omega: u32, product: i64) -> i32
+    requires omega_in { omega ≤ 19 }
+    requires product_in { unsigned_abs product ≤ 18 * (2 ^ (omega + 2) * 2 ^ 18) }
+    ensures value { result ≡ floor_div product (2 ^ omega) }
     ensures bound { unsigned_abs result ≤ 18 * 2 ^ 20 }
 {
-    floor_shift(product, fraction) as i32
+    floor_shift(product, omega) as i32
 }
 
 /// Returns the predicted central difference that leads to a scaled prediction, where the local sum is `sum`.

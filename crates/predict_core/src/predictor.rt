@@ -19,7 +19,7 @@ pub struct Predictor {
     /// R, the number of bits of the register.
     pub register: u32,
     /// Ω, the number of fractional bits of a weight.
-    pub fraction: u32,
+    pub omega: u32,
     /// The logarithm of the interval at which the exponent of the steps grows.
     pub interval_log: u32,
     /// v_min, the least weight update scaling exponent.
@@ -40,7 +40,7 @@ impl Predictor {
             reduced: params.reduced,
             column: params.column,
             register: params.register,
-            fraction: params.omega,
+            omega: params.omega,
             interval_log: params.interval_log,
             vmin: params.vmin,
             vmax: params.vmax,

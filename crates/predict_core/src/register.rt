@@ -27,15 +27,15 @@ pub(crate) fn floor_shift(value: i64, by: u32) -> i64
 
 /// Returns what goes into the register: the sum of the products, and the distance of the local sum from four
 /// times the middle.
-pub(crate) fn register_of(fraction: u32, product: i64, sum: i32, middle: i32) -> i64
-    requires fraction_in { fraction ≤ 19 }
+pub(crate) fn register_of(omega: u32, product: i64, sum: i32, middle: i32) -> i64
+    requires omega_in { omega ≤ 19 }
     requires product_in { unsigned_abs product ≤ 2 ^ 44 }
     requires sum_in { (negsuc 131071 ≤ℤ sum) × (sum ≤ℤ pos 262140) }
     requires middle_in { (pos 0 ≤ℤ middle) × (middle ≤ℤ pos 32768) }
-    ensures value { result ≡ product +ℤ pos (2 ^ fraction) *ℤ (sum -ℤ pos 4 *ℤ middle) }
+    ensures value { result ≡ product +ℤ pos (2 ^ omega) *ℤ (sum -ℤ pos 4 *ℤ middle) }
     ensures bound { unsigned_abs result < 2 ^ 45 }
 {
-    product + raised(fraction, distance_of(sum, middle))
+    product + raised(omega, distance_of(sum, middle))
 }
 
 /// Returns the distance of a local sum from four times the middle.
@@ -49,11 +49,11 @@ fn distance_of(sum: i32, middle: i32) -> i64
 }
 
 /// Returns a distance with the fractional bits of the weights.
-fn raised(fraction: u32, distance: i64) -> i64
-    requires fraction_in { fraction ≤ 19 }
+fn raised(omega: u32, distance: i64) -> i64
+    requires omega_in { omega ≤ 19 }
     requires distance_in { unsigned_abs distance ≤ 2 ^ 18 }
-    ensures value { result ≡ pos (2 ^ fraction) *ℤ distance }
+    ensures value { result ≡ pos (2 ^ omega) *ℤ distance }
     ensures bound { unsigned_abs result ≤ 2 ^ 37 }
 {
-    (1i64 << fraction) * distance
+    (1i64 << omega) * distance
 }

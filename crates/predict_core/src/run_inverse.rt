@@ -122,14 +122,14 @@ fn invert_run<const WRAPS: bool>(
     requires few { length deltas.now ≤ 64 }
     requires inside { x + length deltas.now ≤ cube.old.shape.columns }
     requires residuals_in { (i : ℕ) → i < length deltas.now → slice_index deltas.now i < 2 ^ cube.old.kind.bits }
-    requires weights_in { AllWithin (2 ^ (settings.now.predictor.fraction + 2)) weights.old }
+    requires weights_in { AllWithin (2 ^ (settings.now.predictor.omega + 2)) weights.old }
     ensures beside { AreAlikeBeside cube.old cube.new settings.now.band y x (length deltas.now) }
     ensures residuals { (p : Parameters) → AreWeightsAt p settings.now.predictor cube.old settings.now.band (y * cube.old.shape.columns + x)
         (take settings.now.count weights.old) → run_residuals p cube.new settings.now.band (y * cube.old.shape.columns + x) (length deltas.now) ≡ deltas.now }
     ensures weights { (p : Parameters) → AreWeightsAt p settings.now.predictor cube.old settings.now.band (y * cube.old.shape.columns + x)
         (take settings.now.count weights.old) → take settings.now.count weights.new ≡ weight_vector p cube.new settings.now.band (y * cube.old.shape.columns
         + x + length deltas.now) }
-    ensures within { AllWithin (2 ^ (settings.now.predictor.fraction + 2)) weights.new }
+    ensures within { AllWithin (2 ^ (settings.now.predictor.omega + 2)) weights.new }
 {
     let count = settings.count;
     if count == 0 {
@@ -173,14 +173,14 @@ fn invert_by<const Q: usize, const N: usize, const WRAPS: bool>(
     requires few { length deltas.now ≤ 64 }
     requires inside { x + length deltas.now ≤ cube.old.shape.columns }
     requires residuals_in { (i : ℕ) → i < length deltas.now → slice_index deltas.now i < 2 ^ cube.old.kind.bits }
-    requires weights_in { AllWithin (2 ^ (settings.now.predictor.fraction + 2)) weights.old }
+    requires weights_in { AllWithin (2 ^ (settings.now.predictor.omega + 2)) weights.old }
     ensures beside { AreAlikeBeside cube.old cube.new settings.now.band y x (length deltas.now) }
     ensures residuals { (p : Parameters) → AreWeightsAt p settings.now.predictor cube.old settings.now.band (y * cube.old.shape.columns + x)
         (take settings.now.count weights.old) → run_residuals p cube.new settings.now.band (y * cube.old.shape.columns + x) (length deltas.now) ≡ deltas.now }
     ensures weights { (p : Parameters) → AreWeightsAt p settings.now.predictor cube.old settings.now.band (y * cube.old.shape.columns + x)
         (take settings.now.count weights.old) → take settings.now.count weights.new ≡ weight_vector p cube.new settings.now.band (y * cube.old.shape.columns
         + x + length deltas.now) }
-    ensures within { AllWithin (2 ^ (settings.now.predictor.fraction + 2)) weights.new }
+    ensures within { AllWithin (2 ^ (settings.now.predictor.omega + 2)) weights.new }
 {
     cube.prove_is_cube();
     let count = deltas.len();

@@ -79,7 +79,7 @@ pub(crate) fn predict(
     requires columns { cube.now.shape.columns ≡ settings.now.columns }
     requires kind { cube.now.kind ≡ settings.now.range.kind }
     requires later { 0 < y + x }
-    requires weights_in { AllWithin (2 ^ (settings.now.predictor.fraction + 2)) weights.now }
+    requires weights_in { AllWithin (2 ^ (settings.now.predictor.omega + 2)) weights.now }
     ensures differences { result.differences ≡ vector settings.now.predictor cube.now settings.now.band y x ++ replicate
         (18 - component_count settings.now.predictor settings.now.band) (pos 0) }
     ensures bound { AllWithin (4 * 2 ^ settings.now.range.bits) result.differences }
@@ -127,14 +127,14 @@ pub(crate) fn learn(
     sample: i32,
 )
     requires t_in { t < 2 ^ 32 }
-    requires weights_in { AllWithin (2 ^ (settings.now.predictor.fraction + 2)) weights.old }
+    requires weights_in { AllWithin (2 ^ (settings.now.predictor.omega + 2)) weights.old }
     requires differences_in { AllWithin (4 * 2 ^ settings.now.range.bits) prediction.now.differences }
     requires scaled_in { IsScaled settings.now.range.kind prediction.now.scaled }
     requires sample_in { (negsuc 32767 ≤ℤ sample) × (sample ≤ℤ pos 65535) }
     ensures value { (us : List ℤ) → length us ≡ settings.now.count → prediction.now.differences ≡ us ++ replicate (18 - settings.now.count) (pos 0)
-        → take settings.now.count weights.new ≡ updated_weights settings.now.predictor.fraction (step_exponent settings.now.predictor settings.now.columns
+        → take settings.now.count weights.new ≡ updated_weights settings.now.predictor.omega (step_exponent settings.now.predictor settings.now.columns
         settings.now.range.bits t) (int_lt (pos 2 *ℤ sample -ℤ prediction.now.scaled) (pos 0)) (take settings.now.count weights.old) us }
-    ensures bound { AllWithin (2 ^ (settings.now.predictor.fraction + 2)) weights.new }
+    ensures bound { AllWithin (2 ^ (settings.now.predictor.omega + 2)) weights.new }
 {
     let exponent = exponent_at(
         &settings.predictor,
@@ -147,7 +147,7 @@ pub(crate) fn learn(
         settings.count,
         weights,
         &prediction.differences,
-        settings.predictor.fraction,
+        settings.predictor.omega,
         settings.range.bits,
         exponent,
         negative,

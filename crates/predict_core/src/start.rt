@@ -34,14 +34,14 @@ pub(crate) fn start_of(params: &Params, z: u32, first: usize, near: usize) -> [i
 /// Returns the default weights: 0 for the `first` directional components; of the `count` bands below seven
 /// eighths for the nearest, and an eighth of the weight before for each other
 /// (CCSDS 123.0-B-1, "Weight Initialization").
-pub(crate) fn default_weights(fraction: u32, first: usize, count: usize) -> [i32; 18]
-    requires fraction_in { (4 ≤ fraction) × (fraction ≤ 19) }
+pub(crate) fn default_weights(omega: u32, first: usize, count: usize) -> [i32; 18]
+    requires omega_in { (4 ≤ omega) × (omega ≤ 19) }
     requires room { first + count ≤ 18 }
-    ensures value { result ≡ replicate first (pos 0) ++ eighths (pos (7 * 2 ^ (fraction - 3))) count ++ replicate (18 - first - count) (pos 0) }
-    ensures bound { AllWithin (2 ^ (fraction + 2)) result }
+    ensures value { result ≡ replicate first (pos 0) ++ eighths (pos (7 * 2 ^ (omega - 3))) count ++ replicate (18 - first - count) (pos 0) }
+    ensures bound { AllWithin (2 ^ (omega + 2)) result }
 {
     let mut weights = [0i32; 18];
-    let mut weight = 7i32 << (fraction - 3);
+    let mut weight = 7i32 << (omega - 3);
     for i in 0..count {
         weights[first + i] = weight;
         weight >>= 3;
@@ -73,41 +73,41 @@ fn entries_before(z: u32, first: usize, previous: u32) -> usize
 
 /// Returns the weights that entries of `q` bits stand for: the bits of an entry are the highest of a weight,
 /// and the bits below them are ones.
-fn table_start(fraction: u32, q: u32, entries: &[i32]) -> [i32; 18]
-    requires fraction_in { (4 ≤ fraction) × (fraction ≤ 19) }
-    requires bits { InRange 3 (fraction + 3) q }
+fn table_start(omega: u32, q: u32, entries: &[i32]) -> [i32; 18]
+    requires omega_in { (4 ≤ omega) × (omega ≤ 19) }
+    requires bits { InRange 3 (omega + 3) q }
     requires few { length entries.now ≤ 18 }
     requires signed { AllByRecursion (IsSigned q) entries.now }
-    ensures value { take (length entries.now) result ≡ map (weight_from fraction q) entries.now }
-    ensures bound { AllWithin (2 ^ (fraction + 2)) result }
+    ensures value { take (length entries.now) result ≡ map (weight_from omega q) entries.now }
+    ensures bound { AllWithin (2 ^ (omega + 2)) result }
 {
     let mut weights = [0i32; 18];
     for i in 0..entries.len() {
-        weights[i] = table_weight(fraction, q, entries[i]);
+        weights[i] = table_weight(omega, q, entries[i]);
     }
     weights
 }
 
 /// Returns the weight that an entry of `q` bits stands for.
-fn table_weight(fraction: u32, q: u32, entry: i32) -> i32
-    requires fraction_in { (4 ≤ fraction) × (fraction ≤ 19) }
-    requires bits { InRange 3 (fraction + 3) q }
+fn table_weight(omega: u32, q: u32, entry: i32) -> i32
+    requires omega_in { (4 ≤ omega) × (omega ≤ 19) }
+    requires bits { InRange 3 (omega + 3) q }
     requires signed { IsSigned q entry }
-    ensures value { result ≡ weight_from fraction q entry }
-    ensures bound { unsigned_abs result ≤ 2 ^ (fraction + 2) }
+    ensures value { result ≡ weight_from omega q entry }
+    ensures bound { unsigned_abs result ≤ 2 ^ (omega + 2) }
 {
-    let scale = power(fraction + 3 - q);
-    entry * scale + ones_below(fraction, q)
+    let scale = power(omega + 3 - q);
+    entry * scale + ones_below(omega, q)
 }
 
 /// Returns the bits of a weight below those of an entry, which are all ones.
-fn ones_below(fraction: u32, q: u32) -> i32
-    requires fraction_in { fraction ≤ 19 }
-    requires bits { InRange 3 (fraction + 3) q }
-    ensures value { result ≡ pos (if nat_le q (fraction + 2) then 2 ^ (fraction + 2 - q) - 1 else 0) }
+fn ones_below(omega: u32, q: u32) -> i32
+    requires omega_in { omega ≤ 19 }
+    requires bits { InRange 3 (omega + 3) q }
+    ensures value { result ≡ pos (if nat_le q (omega + 2) then 2 ^ (omega + 2 - q) - 1 else 0) }
 {
-    if q <= fraction + 2 {
-        power(fraction + 2 - q) - 1
+    if q <= omega + 2 {
+        power(omega + 2 - q) - 1
     } else {
         0
     }

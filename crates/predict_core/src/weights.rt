@@ -57,30 +57,30 @@ pub(crate) fn update(
     count: usize,
     weights: &mut [i32; 18],
     differences: &[i32; 18],
-    fraction: u32,
+    omega: u32,
     bits: u32,
     exponent: i32,
     negative: bool,
 )
     requires count_in { count ≤ 18 }
-    requires fraction_in { fraction ≤ 19 }
+    requires omega_in { omega ≤ 19 }
     requires bits_in { (2 ≤ bits) × (bits ≤ 16) }
     requires exponent_least { (pos bits -ℤ pos 25) ≤ℤ exponent }
     requires exponent_most { exponent ≤ℤ pos 21 }
-    requires weights_in { AllWithin (2 ^ (fraction + 2)) weights.old }
+    requires weights_in { AllWithin (2 ^ (omega + 2)) weights.old }
     requires differences_in { AllWithin (4 * 2 ^ bits) differences.now }
     ensures value { (us : List ℤ) → length us ≡ count → differences.now ≡ us ++ replicate (18 - count) (pos 0)
-        → take count weights.new ≡ updated_weights fraction exponent negative (take count weights.old) us }
-    ensures bound { AllWithin (2 ^ (fraction + 2)) weights.new }
+        → take count weights.new ≡ updated_weights omega exponent negative (take count weights.old) us }
+    ensures bound { AllWithin (2 ^ (omega + 2)) weights.new }
 {
     if count == 0 {
         return;
     }
     let turn = turn_of(negative);
     if count <= 8 {
-        update_first::<8>(weights, differences, fraction, bits, exponent, turn);
+        update_first::<8>(weights, differences, omega, bits, exponent, turn);
     } else {
-        update_first::<18>(weights, differences, fraction, bits, exponent, turn);
+        update_first::<18>(weights, differences, omega, bits, exponent, turn);
     }
 }
 
@@ -91,28 +91,28 @@ pub(crate) fn update(
 fn update_first<const N: usize>(
     weights: &mut [i32; 18],
     differences: &[i32; 18],
-    fraction: u32,
+    omega: u32,
     bits: u32,
     exponent: i32,
     turn: i32,
 )
     requires few { N ≤ 18 }
     requires turn_in { (negsuc 0 ≤ℤ turn) × (turn ≤ℤ pos 0) }
-    requires fraction_in { fraction ≤ 19 }
+    requires omega_in { omega ≤ 19 }
     requires bits_in { (2 ≤ bits) × (bits ≤ 16) }
     requires exponent_least { (pos bits -ℤ pos 25) ≤ℤ exponent }
     requires exponent_most { exponent ≤ℤ pos 21 }
-    requires weights_in { AllWithin (2 ^ (fraction + 2)) weights.old }
+    requires weights_in { AllWithin (2 ^ (omega + 2)) weights.old }
     requires differences_in { AllWithin (4 * 2 ^ bits) differences.now }
-    ensures value { take N weights.new ≡ updated_weights fraction exponent (int_lt turn (pos 0)) (take N weights.old) (take N differences.now) }
-    ensures bound { AllWithin (2 ^ (fraction + 2)) weights.new }
+    ensures value { take N weights.new ≡ updated_weights omega exponent (int_lt turn (pos 0)) (take N weights.old) (take N differences.now) }
+    ensures bound { AllWithin (2 ^ (omega + 2)) weights.new }
 {
     if exponent < 0 {
         let form = raising((-1 - exponent) as u32);
-        update_by::<N>(weights, differences, fraction, exponent, form, turn);
+        update_by::<N>(weights, differences, omega, exponent, form, turn);
     } else {
         let form = halving(exponent as u32);
-        update_by::<N>(weights, differences, fraction, exponent, form, turn);
+        update_by::<N>(weights, differences, omega, exponent, form, turn);
     }
 }
 
@@ -187,39 +187,39 @@ fn halving(by: u32) -> Form
 pub(crate) fn update_by<const N: usize>(
     weights: &mut [i32; 18],
     differences: &[i32; 18],
-    fraction: u32,
+    omega: u32,
     exponent: i32,
     form: Form,
     turn: i32,
 )
     requires few { N ≤ 18 }
     requires turn_in { (negsuc 0 ≤ℤ turn) × (turn ≤ℤ pos 0) }
-    requires fraction_in { fraction ≤ 19 }
+    requires omega_in { omega ≤ 19 }
     requires steps { (a : ℤ) → floor_div (a *ℤ pos (2 ^ form.up) +ℤ form.half) (2 ^ form.down) ≡ step exponent a }
-    requires weights_in { AllWithin (2 ^ (fraction + 2)) weights.old }
+    requires weights_in { AllWithin (2 ^ (omega + 2)) weights.old }
     requires differences_in { AllWithin (2 ^ (26 - form.up)) differences.now }
-    ensures value { take N weights.new ≡ updated_weights fraction exponent (int_lt turn (pos 0)) (take N weights.old) (take N differences.now) }
-    ensures bound { AllWithin (2 ^ (fraction + 2)) weights.new }
+    ensures value { take N weights.new ≡ updated_weights omega exponent (int_lt turn (pos 0)) (take N weights.old) (take N differences.now) }
+    ensures bound { AllWithin (2 ^ (omega + 2)) weights.new }
 {
     for i in 0..N {
-        weights[i] = moved(fraction, exponent, form, turn, weights[i], differences[i]);
+        weights[i] = moved(omega, exponent, form, turn, weights[i], differences[i]);
     }
 }
 
 /// Returns one weight after an error.
 #[inline(always)]
-fn moved(fraction: u32, exponent: i32, form: Form, turn: i32, weight: i32, difference: i32) -> i32
+fn moved(omega: u32, exponent: i32, form: Form, turn: i32, weight: i32, difference: i32) -> i32
     requires turn_in { (negsuc 0 ≤ℤ turn) × (turn ≤ℤ pos 0) }
-    requires fraction_in { fraction ≤ 19 }
+    requires omega_in { omega ≤ 19 }
     requires steps { (a : ℤ) → floor_div (a *ℤ pos (2 ^ form.up) +ℤ form.half) (2 ^ form.down) ≡ step exponent a }
     requires weight_in { unsigned_abs weight ≤ 2 ^ 21 }
     requires difference_in { unsigned_abs difference ≤ 2 ^ (26 - form.up) }
-    ensures value { result ≡ updated fraction exponent (int_lt turn (pos 0)) weight difference }
-    ensures bound { unsigned_abs result ≤ 2 ^ (fraction + 2) }
+    ensures value { result ≡ updated omega exponent (int_lt turn (pos 0)) weight difference }
+    ensures bound { unsigned_abs result ≤ 2 ^ (omega + 2) }
 {
     // Both are found while the error isn't known yet: the next prediction waits for the choice alone.
-    let raised = clip_weight(fraction, weight, stepped(form, difference));
-    let lowered = clip_weight(fraction, weight, stepped(form, -difference));
+    let raised = clip_weight(omega, weight, stepped(form, difference));
+    let lowered = clip_weight(omega, weight, stepped(form, -difference));
     chosen(turn, raised, lowered)
 }
 
@@ -256,14 +256,14 @@ fn stepped(form: Form, size: i32) -> i32
 
 /// Returns the weight plus a step, clipped to the range of weights.
 #[inline(always)]
-fn clip_weight(fraction: u32, weight: i32, step: i32) -> i32
-    requires fraction_in { fraction ≤ 19 }
+fn clip_weight(omega: u32, weight: i32, step: i32) -> i32
+    requires omega_in { omega ≤ 19 }
     requires weight_in { unsigned_abs weight ≤ 2 ^ 21 }
     requires step_in { unsigned_abs step ≤ 2 ^ 27 }
-    ensures value { result ≡ clip (weight +ℤ step) (weight_min fraction) (weight_max fraction) }
-    ensures bound { unsigned_abs result ≤ 2 ^ (fraction + 2) }
+    ensures value { result ≡ clip (weight +ℤ step) (weight_min omega) (weight_max omega) }
+    ensures bound { unsigned_abs result ≤ 2 ^ (omega + 2) }
 {
-    let limit = 1i32 << (fraction + 2);
+    let limit = 1i32 << (omega + 2);
     let least = -limit;
     let greatest = limit - 1;
     (weight + step).min(greatest).max(least)

@@ -69,6 +69,6 @@ returns-clause-weights g c =
     let fits : SFits w32 c.predicted_difference-predicted.result = search rules in
     let moved = (simp (to_z-of_z c.ranges.own, to_z-of_z fits) at c.follow.ensures.weights)
     ∙ ap (λ f. updated_weights f c.args.steps.exponent (int_le c.args.own c.predicted_difference-predicted.result) (take g.row.N c.args.weights.now)
-    (take g.row.N c.args.differences.now)) c.requires.fraction in
+    (take g.row.N c.args.differences.now)) c.requires.omega in
     next_from_room s.predictor _ s.band _ _ s.count g.row.N _ _ c.prove_is_cube.ensures c.requires.place s.count_is c.requires.enough c.requires.few
     c.requires.differences_are _ (from_difference g d) _ _ _ c.requires.own_is c.requires.exponent moved

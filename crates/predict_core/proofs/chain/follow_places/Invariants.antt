@@ -10,6 +10,6 @@ invariant-loop-i g l = record {
   other : not (nat_eq g.row.PAIR 0) ≡ true → (start : ℕ) (begun : List ℤ)
       → IsFollowed l.fn.other.settings.now l.fn.cube l.fn.y l.fn.x start begun l.fn.first l.fn.beside.weights l.fn.beside.parts
       → IsFollowed l.fn.other.settings.now l.fn.cube l.fn.y l.fn.x start begun l.i l.second l.beside.parts;
-  bound : AllWithin (2 ^ (l.fn.run.settings.now.predictor.fraction + 2)) l.working;
-  other_bound : AllWithin (2 ^ (l.fn.run.settings.now.predictor.fraction + 2)) l.second;
+  bound : AllWithin (2 ^ (l.fn.run.settings.now.predictor.omega + 2)) l.working;
+  other_bound : AllWithin (2 ^ (l.fn.run.settings.now.predictor.omega + 2)) l.second;
 }

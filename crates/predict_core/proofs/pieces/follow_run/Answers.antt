@@ -30,8 +30,8 @@ follow_places-requires g c =
         (ap (λ k. k.bits) c.requires.run.kind ∙ sym s.range.bits_is) place)
 
     steps : (i : ℕ) → c.loop-at.at ≤ i → i < c.loop-at.at + c.places_alike.result → AreStepsThere c.args.run.settings.now c.args.cube.now
-        c.args.run.settings.now.predictor.fraction c.args.run.settings.now.range.bits (to_z w32 (of_z w32 c.exponent_at.result)) c.args.y (c.args.x + i)
-    steps i l m = record { fraction_is = refl; bits_are = refl; exponent_is = exponent i l m }
+        c.args.run.settings.now.predictor.omega c.args.run.settings.now.range.bits (to_z w32 (of_z w32 c.exponent_at.result)) c.args.y (c.args.x + i)
+    steps i l m = record { omega_is = refl; bits_are = refl; exponent_is = exponent i l m }
 
 pub loop-at-preserved : goal.loop-at-preserved
 loop-at-preserved g c =

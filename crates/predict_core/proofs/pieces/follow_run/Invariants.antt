@@ -10,8 +10,8 @@ invariant-loop-at g l = record {
   followed : IsFollowed l.run.settings.now l.cube l.y l.x l.first l.initial.state.weights l.at l.state.weights l.state.parts;
   other : not (nat_eq g.row.PAIR 0) ≡ true
       → IsFollowed l.other.settings.now l.cube l.y l.x l.first l.initial.beside.weights l.at l.beside.weights l.beside.parts;
-  bound : AllWithin (2 ^ (l.run.settings.now.predictor.fraction + 2)) l.state.weights;
-  other_bound : AllWithin (2 ^ (l.run.settings.now.predictor.fraction + 2)) l.beside.weights;
+  bound : AllWithin (2 ^ (l.run.settings.now.predictor.omega + 2)) l.state.weights;
+  other_bound : AllWithin (2 ^ (l.run.settings.now.predictor.omega + 2)) l.beside.weights;
 }
 
 abbrev pub decreases-loop-at : goal.decreases-loop-at

@@ -21,10 +21,10 @@ returns-then-this-ne0 g c = record {
       let r = c.args.range.now in
       let sum = c.requires.sum_in in
       let upper = upper_is c.args.part c.args.sum r.smid c.requires.part_in sum.0 sum.1 r.mid.0 r.mid.1 in
-      let size : c.unsigned_abs.result ≡ unsigned_abs (floor_div c.args.product (2 ^ p.fraction) +ℤ (c.args.sum -ℤ pos 4 *ℤ smid r.kind)) =
+      let size : c.unsigned_abs.result ≡ unsigned_abs (floor_div c.args.product (2 ^ p.omega) +ℤ (c.args.sum -ℤ pos 4 *ℤ smid r.kind)) =
       rw (upper, r.smid_is, c.requires.part_is) at c.unsigned_abs.ensures.value in
       let small : c.unsigned_abs.result < c.register_limit.result = leb-false _ _ h in
-      kept p.register _ (omega (arith, c.requires.lawful.register)) (sum_below _ _ _ _ _ (pow_pos p.fraction) (rw size at small) c.register_limit.ensures);
+      kept p.register _ (omega (arith, c.requires.lawful.register)) (sum_below _ _ _ _ _ (pow_pos p.omega) (rw size at small) c.register_limit.ensures);
 }
 
 pub returns-else-this-ne0 : goal.returns-else-this-ne0
@@ -34,9 +34,9 @@ returns-else-this-ne0 g c = record {
       let r = c.args.range.now in
       let sum = c.requires.sum_in in
       let wide : 46 ≤ p.register = c.requires.register (rw c.if-this-ne0.false refl) in
-      let part : unsigned_abs (floor_div c.args.product (2 ^ p.fraction)) ≤ 18 * 2 ^ 20 = rw c.requires.part_is at c.requires.part_in in
-      let small : unsigned_abs (floor_div c.args.product (2 ^ p.fraction) +ℤ (c.args.sum -ℤ pos 4 *ℤ smid r.kind)) < 2 ^ 26 =
+      let part : unsigned_abs (floor_div c.args.product (2 ^ p.omega)) ≤ 18 * 2 ^ 20 = rw c.requires.part_is at c.requires.part_in in
+      let small : unsigned_abs (floor_div c.args.product (2 ^ p.omega) +ℤ (c.args.sum -ℤ pos 4 *ℤ smid r.kind)) < 2 ^ 26 =
       rw (← r.smid_is) (omega (arith, ints, part, sum.0, sum.1, r.mid.0, r.mid.1)) in
-      let room : 2 ^ 26 * 2 ^ p.fraction ≤ 2 ^ (p.register - 1) = rw (← pow-add 2 26 p.fraction) (pow_mono (omega (arith, wide, c.requires.lawful.fraction))) in
-      kept p.register _ (omega (arith, wide)) (sum_below _ _ _ _ _ (pow_pos p.fraction) small room);
+      let room : 2 ^ 26 * 2 ^ p.omega ≤ 2 ^ (p.register - 1) = rw (← pow-add 2 26 p.omega) (pow_mono (omega (arith, wide, c.requires.lawful.omega))) in
+      kept p.register _ (omega (arith, wide)) (sum_below _ _ _ _ _ (pow_pos p.omega) small room);
 }

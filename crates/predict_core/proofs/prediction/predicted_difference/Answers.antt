@@ -5,7 +5,7 @@ use Rattle.predict_core.proofs.prediction.predicted_difference.Goals as goal
 
 pub product_of_first-product-requires-clause-weights_in : goal.product_of_first-product-requires-clause-weights_in
 product_of_first-product-requires-clause-weights_in g c =
-    λ i l. le_trans (c.requires.weights_in i l) (limit_within c.args.predictor.now.fraction c.requires.lawful.fraction.1)
+    λ i l. le_trans (c.requires.weights_in i l) (limit_within c.args.predictor.now.omega c.requires.lawful.omega.1)
 
 pub returns-then-may_wrap-clause-scaled : goal.returns-then-may_wrap-clause-scaled
 returns-then-may_wrap-clause-scaled g c =

@@ -4,7 +4,7 @@ use Rattle.predict_core.proofs.prediction.scaled_by.Goals as goal
 
 pub product_of-product-requires-clause-weights_in : goal.product_of-product-requires-clause-weights_in
 product_of-product-requires-clause-weights_in c =
-    λ i l. le_trans (c.requires.weights_in i l) (limit_within c.args.predictor.now.fraction c.requires.lawful.fraction.1)
+    λ i l. le_trans (c.requires.weights_in i l) (limit_within c.args.predictor.now.omega c.requires.lawful.omega.1)
 
 pub returns-clause-value : goal.returns-clause-value
 returns-clause-value c us l same =

@@ -4,18 +4,18 @@ use Rattle.predict_core.proofs.register.raised.Goals as goal
 
 pub overflow_mul-result : goal.overflow_mul-result
 overflow_mul-result c =
-    rw (bit_at_place c.args.fraction (omega arith), to_z-of_z c.ranges.distance)
-    (SFits-raised_up c.args.fraction c.args.distance c.requires.fraction_in c.requires.distance_in)
+    rw (bit_at_place c.args.omega (omega arith), to_z-of_z c.ranges.distance)
+    (SFits-raised_up c.args.omega c.args.distance c.requires.omega_in c.requires.distance_in)
 
 pub returns-clause-value : goal.returns-clause-value
 returns-clause-value c =
     rw (
-      bit_at_place c.args.fraction (omega arith),
+      bit_at_place c.args.omega (omega arith),
       to_z-of_z c.ranges.distance,
-      to_z-of_z (SFits-raised_up c.args.fraction c.args.distance c.requires.fraction_in c.requires.distance_in),
+      to_z-of_z (SFits-raised_up c.args.omega c.args.distance c.requires.omega_in c.requires.distance_in),
     ) refl
 
 pub returns-clause-bound : goal.returns-clause-bound
 returns-clause-bound c =
     subst (λ d. unsigned_abs d ≤ 2 ^ 37) (sym (returns-clause-value c))
-    (raised_bound c.args.fraction c.args.distance c.requires.fraction_in c.requires.distance_in)
+    (raised_bound c.args.omega c.args.distance c.requires.omega_in c.requires.distance_in)

@@ -9,12 +9,12 @@ use Rattle.predict_core.proofs.start.default_weights.Goals as goal
 
 pub loop-i-init : goal.loop-i-init
 loop-i-init c = record {
-  begun = begun_first c.args.fraction c.args.first c.args.count c.requires.fraction_in.0 c.requires.fraction_in.1 c.requires.room;
+  begun = begun_first c.args.omega c.args.first c.args.count c.requires.omega_in.0 c.requires.omega_in.1 c.requires.room;
   rest = refl;
   long = refl;
-  small = small_first c.args.fraction c.args.first c.args.count c.requires.fraction_in.0 c.requires.fraction_in.1 c.requires.room;
-  least = begun_within c.args.fraction c.requires.fraction_in.0 c.requires.fraction_in.1;
-  bounded = zeros_within (2 ^ (c.args.fraction + 2)) 18;
+  small = small_first c.args.omega c.args.first c.args.count c.requires.omega_in.0 c.requires.omega_in.1 c.requires.room;
+  least = begun_within c.args.omega c.requires.omega_in.0 c.requires.omega_in.1;
+  bounded = zeros_within (2 ^ (c.args.omega + 2)) 18;
 }
 
 pub loop-i-preserved : goal.loop-i-preserved
@@ -24,7 +24,7 @@ loop-i-preserved c =
     let long = c.loop-i.invariant.long in
     let inside : at < length c.loop-i.weights = omega arith in
     let small : unsigned_abs w ≤ 2 ^ 20 = rw c.loop-i.weight-is at c.loop-i.invariant.small in
-    let least : unsigned_abs w ≤ 2 ^ (c.args.fraction + 2) = rw c.loop-i.weight-is at c.loop-i.invariant.least in
+    let least : unsigned_abs w ≤ 2 ^ (c.args.omega + 2) = rw c.loop-i.weight-is at c.loop-i.invariant.least in
     let s = shrinks_small w small in
     let begun = rw c.loop-i.weight-is at c.loop-i.invariant.begun in
     let next : c.args.first + (c.loop-i.i + 1) ≡ at + 1 = omega arith in
@@ -36,7 +36,7 @@ loop-i-preserved c =
       long = rw length-set long;
       small = s.1;
       least = le_trans (halved_shrinks w 8) least;
-      bounded = step_bound (2 ^ (c.args.fraction + 2)) c.loop-i.weights at w c.loop-i.invariant.bounded least;
+      bounded = step_bound (2 ^ (c.args.omega + 2)) c.loop-i.weights at w c.loop-i.invariant.bounded least;
     })
 
 pub returns-clause-value : goal.returns-clause-value

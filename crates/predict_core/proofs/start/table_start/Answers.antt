@@ -7,15 +7,15 @@ use Rattle.predict_core.proofs.start.table_start.Goals as goal
 pub loop-i-preserved : goal.loop-i-preserved
 loop-i-preserved c =
     let entries = c.args.entries.now in
-    let f = c.args.fraction in
+    let f = c.args.omega in
     let q = c.args.q in
     let i = c.loop-i.i in
     let long = c.loop-i.invariant.long in
     let inside : i < length c.loop-i.weights = omega (arith, long, c.requires.few, c.loop-i-test.true) in
     let is : c.table_weight.result ≡ table_weight f q (get_or entries i (pos 0)) =
     c.table_weight.ensures.value
-    ∙ ap (table_weight f q) (read_entry f q entries i c.requires.fraction_in.1 c.requires.bits.1 c.requires.signed c.loop-i-test.true) in
-    let fits : SFits w32 c.table_weight.result = rw is (weight_fits f q (get_or entries i (pos 0)) c.requires.fraction_in.1 c.requires.bits.0 c.requires.bits.1
+    ∙ ap (table_weight f q) (read_entry f q entries i c.requires.omega_in.1 c.requires.bits.1 c.requires.signed c.loop-i-test.true) in
+    let fits : SFits w32 c.table_weight.result = rw is (weight_fits f q (get_or entries i (pos 0)) c.requires.omega_in.1 c.requires.bits.0 c.requires.bits.1
     (entry_signed q entries i c.requires.signed c.loop-i-test.true)) in
     rw (to_z-of_z fits)
     (record {

@@ -5,7 +5,7 @@ use Rattle.predict_core.proofs.start.table_start.Given as goal
 
 abbrev pub invariant-loop-i : goal.invariant-loop-i
 invariant-loop-i l = record {
-  told : take l.i l.weights ≡ map (table_weight l.fraction l.q) (take l.i l.entries);
+  told : take l.i l.weights ≡ map (table_weight l.omega l.q) (take l.i l.entries);
   long : length l.weights ≡ 18;
-  bounded : AllWithin (2 ^ (l.fraction + 2)) l.weights;
+  bounded : AllWithin (2 ^ (l.omega + 2)) l.weights;
 }

@@ -8,27 +8,27 @@ plain e r k f s v = rw (v, to_z-of_z f, to_z-of_z (power_fits k s)) refl
 
 module _ (c : goal.After-ones_below) where
   whole : to_z w32 (of_z w32 (to_z w32 (of_z w32 c.args.entry) *ℤ to_z w32 (of_z w32 c.power-scale.result))) +ℤ to_z w32 (of_z w32 c.ones_below.result)
-      ≡ table_weight c.args.fraction c.args.q c.args.entry
+      ≡ table_weight c.args.omega c.args.q c.args.entry
   whole =
-      let o = ones_fit c.args.fraction c.args.q c.requires.fraction_in.1 in
-      let product = product_fits c.args.fraction c.args.q c.args.entry c.requires.fraction_in.1 c.requires.bits.0 c.requires.bits.1 c.requires.signed in
+      let o = ones_fit c.args.omega c.args.q c.requires.omega_in.1 in
+      let product = product_fits c.args.omega c.args.q c.args.entry c.requires.omega_in.1 c.requires.bits.0 c.requires.bits.1 c.requires.signed in
       rw (
-        plain c.args.entry c.power-scale.result (c.args.fraction + 3 - c.args.q) c.ranges.entry
-            (scale_small c.args.fraction c.args.q c.requires.fraction_in.1 c.requires.bits.0) c.power-scale.ensures.value,
+        plain c.args.entry c.power-scale.result (c.args.omega + 3 - c.args.q) c.ranges.entry
+            (scale_small c.args.omega c.args.q c.requires.omega_in.1 c.requires.bits.0) c.power-scale.ensures.value,
         to_z-of_z product,
         c.ones_below.ensures.value,
         to_z-of_z o,
       )
-      (weight_is c.args.fraction c.args.q c.args.entry c.requires.fraction_in.1 c.requires.bits.0 c.requires.bits.1 c.requires.signed)
+      (weight_is c.args.omega c.args.q c.args.entry c.requires.omega_in.1 c.requires.bits.0 c.requires.bits.1 c.requires.signed)
 
-  fits : SFits w32 (table_weight c.args.fraction c.args.q c.args.entry)
-  fits = weight_fits c.args.fraction c.args.q c.args.entry c.requires.fraction_in.1 c.requires.bits.0 c.requires.bits.1 c.requires.signed
+  fits : SFits w32 (table_weight c.args.omega c.args.q c.args.entry)
+  fits = weight_fits c.args.omega c.args.q c.args.entry c.requires.omega_in.1 c.requires.bits.0 c.requires.bits.1 c.requires.signed
 
 pub overflow_mul-result : goal.overflow_mul-result
 overflow_mul-result c =
-    rw (plain c.args.entry c.power-scale.result (c.args.fraction + 3 - c.args.q) c.ranges.entry
-    (scale_small c.args.fraction c.args.q c.requires.fraction_in.1 c.requires.bits.0) c.power-scale.ensures.value)
-    (product_fits c.args.fraction c.args.q c.args.entry c.requires.fraction_in.1 c.requires.bits.0 c.requires.bits.1 c.requires.signed)
+    rw (plain c.args.entry c.power-scale.result (c.args.omega + 3 - c.args.q) c.ranges.entry
+    (scale_small c.args.omega c.args.q c.requires.omega_in.1 c.requires.bits.0) c.power-scale.ensures.value)
+    (product_fits c.args.omega c.args.q c.args.entry c.requires.omega_in.1 c.requires.bits.0 c.requires.bits.1 c.requires.signed)
 
 pub overflow_add-result : goal.overflow_add-result
 overflow_add-result c = rw (whole c) (fits c)

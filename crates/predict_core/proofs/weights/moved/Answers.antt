@@ -18,12 +18,12 @@ stepped-requires-2 c = rw (to_z-of_z c.ranges.difference, to_z-of_z (turned (goa
 pub chosen-requires-clause-raised_in : goal.chosen-requires-clause-raised_in
 chosen-requires-clause-raised_in c =
     let fits : SFits w32 c.clip_weight-raised.result = search rules in
-    rw (to_z-of_z fits) (le_trans c.clip_weight-raised.ensures.bound (limit_within c.args.fraction c.requires.fraction_in))
+    rw (to_z-of_z fits) (le_trans c.clip_weight-raised.ensures.bound (limit_within c.args.omega c.requires.omega_in))
 
 pub chosen-requires-clause-lowered_in : goal.chosen-requires-clause-lowered_in
 chosen-requires-clause-lowered_in c =
     let fits : SFits w32 c.clip_weight-lowered.result = search rules in
-    rw (to_z-of_z fits) (le_trans c.clip_weight-lowered.ensures.bound (limit_within c.args.fraction c.requires.fraction_in))
+    rw (to_z-of_z fits) (le_trans c.clip_weight-lowered.ensures.bound (limit_within c.args.omega c.requires.omega_in))
 
 pub returns-clause-value : goal.returns-clause-value
 returns-clause-value c =
@@ -51,5 +51,5 @@ returns-clause-bound c =
     let lowered_fits : SFits w32 c.clip_weight-lowered.result = search rules in
     let fits : SFits w32 c.chosen.result = search rules in
     let is = simp (to_z-of_z c.ranges.turn, to_z-of_z raised_fits, to_z-of_z lowered_fits) at c.chosen.ensures in
-    rw (to_z-of_z fits, is) (either_within (2 ^ (c.args.fraction + 2)) (int_lt c.args.turn (pos 0)) _ _ c.clip_weight-raised.ensures.bound
+    rw (to_z-of_z fits, is) (either_within (2 ^ (c.args.omega + 2)) (int_lt c.args.turn (pos 0)) _ _ c.clip_weight-raised.ensures.bound
     c.clip_weight-lowered.ensures.bound)

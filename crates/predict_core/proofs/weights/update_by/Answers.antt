@@ -8,7 +8,7 @@ use Rattle.predict_core.proofs.weights.update_by.Goals as goal
 
 pub loop-i-init : goal.loop-i-init
 loop-i-init g c = rw (to_z-of_z c.ranges.turn, to_z-of_z c.ranges.exponent) (record {
-  done = update_none c.args.fraction c.args.exponent (int_lt c.args.turn (pos 0)) c.args.weights.now c.args.differences.now;
+  done = update_none c.args.omega c.args.exponent (int_lt c.args.turn (pos 0)) c.args.weights.now c.args.differences.now;
   kept = refl;
   bound = c.requires.weights_in;
   long = c.told-weights;
@@ -17,7 +17,7 @@ loop-i-init g c = rw (to_z-of_z c.ranges.turn, to_z-of_z c.ranges.exponent) (rec
 pub moved-requires-clause-weight_in : goal.moved-requires-clause-weight_in
 moved-requires-clause-weight_in g c =
     let b : unsigned_abs (get_or c.loop-i.weights c.loop-i.i (pos 0)) ≤ 2 ^ 21 =
-    le_trans (c.loop-i.invariant.bound c.loop-i.i (omega arith)) (limit_within c.args.fraction c.requires.fraction_in) in
+    le_trans (c.loop-i.invariant.bound c.loop-i.i (omega arith)) (limit_within c.args.omega c.requires.omega_in) in
     omega (arith, ints, b)
 
 pub loop-i-preserved : goal.loop-i-preserved
@@ -31,15 +31,15 @@ loop-i-preserved g c =
     let us_long : i < length us = omega arith in
     let fits : SFits w32 c.moved.result = search rules in
     let weight_fits : SFits w32 (get_or now i (pos 0)) =
-    SFits-small (get_or now i (pos 0)) (le_trans (c.loop-i.invariant.bound i now_long) (limit_within c.args.fraction c.requires.fraction_in)) in
+    SFits-small (get_or now i (pos 0)) (le_trans (c.loop-i.invariant.bound i now_long) (limit_within c.args.omega c.requires.omega_in)) in
     let difference_fits : SFits w32 (get_or us i (pos 0)) =
     (let r = room_word c.args.form.up in let u = c.requires.differences_in i us_long in SFits-26 (get_or us i (pos 0)) (omega (arith, r, u))) in
     let e = simp (to_z-of_z c.ranges.turn, to_z-of_z c.ranges.exponent, to_z-of_z weight_fits, to_z-of_z difference_fits) at c.moved.ensures.value in
     let done = rw (to_z-of_z c.ranges.turn, to_z-of_z c.ranges.exponent) at c.loop-i.invariant.done in
     rw (to_z-of_z fits, to_z-of_z c.ranges.turn, to_z-of_z c.ranges.exponent)
     (record {
-      done = update_next c.args.fraction c.args.exponent (int_lt c.args.turn (pos 0)) old us now i _ now_long old_long us_long c.loop-i.invariant.kept e done;
+      done = update_next c.args.omega c.args.exponent (int_lt c.args.turn (pos 0)) old us now i _ now_long old_long us_long c.loop-i.invariant.kept e done;
       kept = step_kept old now i _ now_long old_long c.loop-i.invariant.kept;
-      bound = step_bound (2 ^ (c.args.fraction + 2)) now i _ c.loop-i.invariant.bound c.moved.ensures.bound;
+      bound = step_bound (2 ^ (c.args.omega + 2)) now i _ c.loop-i.invariant.bound c.moved.ensures.bound;
       long = rw length-set c.loop-i.invariant.long;
     })
