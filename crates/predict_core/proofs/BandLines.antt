@@ -43,10 +43,7 @@ module _ (p : Predictor) (c : Image) (z y x count : ℕ) (row above current line
       rw (directional_inside p c z y (x + i) (omega arith) (omega arith), a, b, d) refl
 
   at_left : 1 ≤ count → 0 < y → x ≡ 0 → directional_differences p c z y x ≡ replicate 3 (line_north (p.column || y == 0) current line_above 0)
-  at_left some h e =
-      let n : x + 0 ≡ x = omega arith in
-      let a = rw n at (north 0 (omega arith) h) in
-      rw (directional_left p c z y x (omega arith) e, a) refl
+  at_left some h e = let n : x + 0 ≡ x = omega arith in let a = rw n at (north 0 (omega arith) h) in rw (directional_left p c z y x (omega arith) e, a) refl
 
   pub band_lines : 1 ≤ count → AreBandLines p c z y x count current line_above
   band_lines some = record { sum = whole; central = own; directions = all_directions; first_directions = at_left some }

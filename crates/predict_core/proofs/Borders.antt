@@ -17,9 +17,7 @@ border_inside before row after (suc k) h l = let e : suc k - 1 ≡ k = omega ari
 
 pub border_after : (before : ℕ) (row : List ℕ) (after k : ℕ) → k ≡ length row + 1 → get_or (bordered before row after) k 0 ≡ after
 border_after before row after zero e = absurd (omega arith)
-border_after before row after (suc k) e =
-    let n : k ≡ length row + 0 = omega arith in
-    rw n (get_or-append-add row (after ∷ []) 0 0)
+border_after before row after (suc k) e = let n : k ≡ length row + 0 = omega arith in rw n (get_or-append-add row (after ∷ []) 0 0)
 
 pub border_before : (before : ℕ) (row : List ℕ) (after k : ℕ) → k ≡ 0 → get_or (bordered before row after) k 0 ≡ before
 border_before before row after k e = rw e refl
@@ -82,12 +80,8 @@ module _ (y : ℕ) (row above : List ℕ) (x count after : ℕ) (current upper :
 
   four : (i : ℕ) → i < count → line_sum false current upper i ≡ offset_sum false y row above (x + i)
   four i l =
-      let a = near_west i l in
-      let b = far_west i l in
-      let d = far_north i l in
-      let e = far_east i l in
-      let f = far_last i l in
-      let g = near_first in
+      let a = near_west i l in let b = far_west i l in let d = far_north i l in
+      let e = far_east i l in let f = far_last i l in let g = near_first in
       let h = far_first in
       grind (arith, nat_tests, a, b, d, e, f, g, h, wide, same, later)
 

@@ -106,10 +106,7 @@ pub west_inside : (c : Image) (z y x west : ℕ) → x ≢ 0 → IsWest c z y x 
 west_inside c z y x west n h = let no : (x == 0) ≡ false = grind (arith, nat_tests) in rw no at h
 
 pub west_left : (c : Image) (z y x west : ℕ) → x ≡ 0 → IsWest c z y x west → sample_at c z (y - 1) x ≡ smin c.kind +ℤ pos west
-west_left c z y x west e h =
-    let yes : (x == 0) ≡ true = grind (arith, nat_tests) in
-    let same : x - 1 ≡ x = omega (arith, e) in
-    rw (yes, same) at h
+west_left c z y x west e h = let yes : (x == 0) ≡ true = grind (arith, nat_tests) in let same : x - 1 ≡ x = omega (arith, e) in rw (yes, same) at h
 
 pub is_west : (c : Image) (z y x west : ℕ) → x ≢ 0 → sample_at c z y (x - 1) ≡ smin c.kind +ℤ pos west → IsWest c z y x west
 is_west c z y x west n h = let no : (x == 0) ≡ false = grind (arith, nat_tests) in rw no h

@@ -20,9 +20,7 @@ row_order columns y x y' x' h k l = elim (cases_order y' y) [ inl e ↦ inr (e, 
     same e = let f : y' * columns ≡ y * columns = ap (λ n. n * columns) e in omega (arith, f)
 
     not_above : y < y' → ⊥
-    not_above a =
-        let f : suc y * columns ≤ y' * columns = mul-le-mul_right columns a in
-        omega (arith, f)
+    not_above a = let f : suc y * columns ≤ y' * columns = mul-le-mul_right columns a in omega (arith, f)
 
 div_le : (a b k : ℕ) → a ≤ b → a / k ≤ b / k
 div_le a b k h = elim (cases_lt 0 k) [ inl l ↦ le-div (a / k) b k l (omega (arith, div-mul-le_self a k)) | inr l ↦ none (omega arith) ]
@@ -43,8 +41,7 @@ by_bands columns z y x z' y' x' h k (inr (b, l)) =
 by_groups : (m columns z y x z' y' x' : ℕ) → x < columns → x' < columns → IsEarlier z (y * columns + x) z' (y' * columns + x')
     → IsBefore (y' ∷ z' / m ∷ x' ∷ z' ∷ []) (y ∷ z / m ∷ x ∷ z ∷ [])
 by_groups m columns z y x z' y' x' h k (inl (b, l)) =
-    let rows = row_order columns y x y' x' h k l in
-    let groups = div_le z' z m (omega arith) in
+    let rows = row_order columns y x y' x' h k l in let groups = div_le z' z m (omega arith) in
     grind (arith, rows, groups)
 by_groups m columns z y x z' y' x' h k (inr (b, l)) =
     let rows = row_order columns y x y' x' h k (omega arith) in

@@ -43,6 +43,4 @@ filled_next p c z y x first i heads out v a b d e =
 pub filled_none : (p : Predictor) (c : Image) (z y x first : ℕ) (out : List ℤ) → drop first out ≡ replicate (18 - first) (pos 0)
     → out ≡ take first out ++ spectral_differences p c z y x 0 ++ replicate (18 - first - 0) (pos 0)
 unfolding spectral_differences
-filled_none p c z y x first out h =
-    let e : 18 - first - 0 ≡ 18 - first = omega arith in
-    rw (e, append-nil, ← h) (sym (take-append-drop first out))
+filled_none p c z y x first out h = let e : 18 - first - 0 ≡ 18 - first = omega arith in rw (e, append-nil, ← h) (sym (take-append-drop first out))

@@ -15,8 +15,7 @@ times_sum n a b = let e = ap (λ k. n * k) (sum_is_lem a b) in omega (arith, int
 
 times_difference : (n : ℕ) (a b : ℤ) → pos n *ℤ (a -ℤ b) ≡ pos n *ℤ a -ℤ pos n *ℤ b
 times_difference n a b =
-    let e = times_sum n (a -ℤ b) b in
-    let f : (a -ℤ b) +ℤ b ≡ a = omega (arith, ints) in
+    let e = times_sum n (a -ℤ b) b in let f : (a -ℤ b) +ℤ b ≡ a = omega (arith, ints) in
     let g : pos n *ℤ ((a -ℤ b) +ℤ b) ≡ pos n *ℤ a = ap (λ v. pos n *ℤ v) f in
     omega (arith, ints, e, g)
 
@@ -41,24 +40,18 @@ none_above n (negsuc k) h = omega (arith, ints)
 
 -- which of two numbers is greater, by their multiples
 pub not_above : (n : ℕ) (a b : ℤ) → (pos n *ℤ a +ℤ pos 1) ≤ℤ (pos n *ℤ b +ℤ pos n) → a ≤ℤ b
-not_above n a b h =
-    let e = times_difference n a b in
-    let l = none_above n (a -ℤ b) (omega (arith, ints, e, h)) in
-    omega (arith, ints, l)
+not_above n a b h = let e = times_difference n a b in let l = none_above n (a -ℤ b) (omega (arith, ints, e, h)) in omega (arith, ints, l)
 
 pub floor_is : (a q : ℤ) (n : ℕ) → 0 < n → (pos n *ℤ q) ≤ℤ a → (a +ℤ pos 1) ≤ℤ (pos n *ℤ q +ℤ pos n) → floor_div a n ≡ q
 floor_is a q n some low high =
-    let under = floor_low a n some in
-    let over = floor_high a n some in
+    let under = floor_low a n some in let over = floor_high a n some in
     let up = not_above n (floor_div a n) q (omega (arith, ints, under, high)) in
     let down = not_above n q (floor_div a n) (omega (arith, ints, low, over)) in
     omega (arith, ints, up, down)
 
 pub floor_of_sum : (a g : ℤ) (n : ℕ) → 0 < n → floor_div (a +ℤ pos n *ℤ g) n ≡ floor_div a n +ℤ g
 floor_of_sum a g n some =
-    let under = floor_low a n some in
-    let over = floor_high a n some in
-    let e = times_sum n (floor_div a n) g in
+    let under = floor_low a n some in let over = floor_high a n some in let e = times_sum n (floor_div a n) g in
     floor_is (a +ℤ pos n *ℤ g) (floor_div a n +ℤ g) n some (omega (arith, ints, under, e)) (omega (arith, ints, over, e))
 
 -- a half of a quotient, both rounded down
@@ -145,10 +138,8 @@ below_power i j a h l = let p : 2 ^ i ≤ 2 ^ j = pow_mono h in omega arith
 pub sum_below : (product distance : ℤ) (limit n top : ℕ) → 0 < n → unsigned_abs (floor_div product n +ℤ distance) < limit → limit * n ≤ top
     → unsigned_abs (product +ℤ pos n *ℤ distance) < top
 sum_below product distance limit n top some small fits =
-    let under = floor_low product n some in
-    let over = floor_high product n some in
-    let e = times_sum n (floor_div product n) distance in
-    let size = times_size n (floor_div product n +ℤ distance) in
+    let under = floor_low product n some in let over = floor_high product n some in
+    let e = times_sum n (floor_div product n) distance in let size = times_size n (floor_div product n +ℤ distance) in
     let room : n * (unsigned_abs (floor_div product n +ℤ distance) + 1) ≤ n * limit = mul-le-mul_left n (omega (arith, small)) in
     let split : n * (unsigned_abs (floor_div product n +ℤ distance) + 1) ≡ n * unsigned_abs (floor_div product n +ℤ distance) + n = omega arith in
     let turn : n * limit ≡ limit * n = mul_comm n limit in

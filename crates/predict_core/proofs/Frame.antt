@@ -40,8 +40,7 @@ module _ (p : Predictor) (c d : Image) (same : c.shape.columns ≡ d.shape.colum
   pub local_sum_same : local_sum p c z y x ≡ local_sum p d z y x
   unfolding local_sum
   local_sum_same =
-      let here = above x column in
-      let north_west = above (x - 1) (omega (arith, column)) in
+      let here = above x column in let north_west = above (x - 1) (omega (arith, column)) in
       let north_east = λ (l : x + 1 < c.shape.columns). above (x + 1) l in
       let first : y ≡ 0 → x ≢ 0 = λ e f. omega (arith, later, e, f) in
       grind (arith, nat_tests, same, here, left, north_west, north_east, wide, first)
@@ -49,8 +48,7 @@ module _ (p : Predictor) (c d : Image) (same : c.shape.columns ≡ d.shape.colum
   directional_same : directional_differences p c z y x ≡ directional_differences p d z y x
   unfolding directional_differences
   directional_same =
-      let here = above x column in
-      let north_west = above (x - 1) (omega (arith, column)) in
+      let here = above x column in let north_west = above (x - 1) (omega (arith, column)) in
       grind (arith, nat_tests, local_sum_same, here, left, north_west)
 
 -- what is read at a place of one band
@@ -75,10 +73,7 @@ module _ (p : Predictor) (c d : Image) (z y x : ℕ) (place : IsPlace c.shape z 
     pub spectral_same : (n : ℕ) → n ≤ z → spectral_differences p c z y x n ≡ spectral_differences p d z y x n
     unfolding spectral_differences
     spectral_same zero h = refl
-    spectral_same (suc n) h =
-        let a = spectral_same n (omega arith) in
-        let b = central_same (z - suc n) (omega arith) in
-        rw (a, b) refl
+    spectral_same (suc n) h = let a = spectral_same n (omega arith) in let b = central_same (z - suc n) (omega arith) in rw (a, b) refl
 
   module _ (agree : Agree c d z (y * c.shape.columns + x) (suc (y * c.shape.columns + x))) where
     own : (y' x' : ℕ) → x' < c.shape.columns → y' * c.shape.columns + x' < y * c.shape.columns + x → y' ≤ y → sample_at c z y' x' ≡ sample_at d z y' x'

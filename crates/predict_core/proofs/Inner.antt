@@ -10,9 +10,7 @@ within_tail : (n : ℕ) (x : ℤ) (xs : List ℤ) → AllWithin n (x ∷ xs) →
 within_tail n x xs h i l = h (suc i) (omega (arith, l))
 
 pub within_take : (n k : ℕ) (xs : List ℤ) → AllWithin n xs → AllWithin n (take k xs)
-within_take n k xs h i l =
-    let e = length-take k xs in
-    rw (get_or-take k xs i (pos 0) (omega (arith, l, e))) (h i (omega (arith, l, e)))
+within_take n k xs h i l = let e = length-take k xs in rw (get_or-take k xs i (pos 0) (omega (arith, l, e))) (h i (omega (arith, l, e)))
 
 pub inner_within : (n : ℕ) (ws us : List ℤ) → AllWithin n ws → AllWithin (2 ^ 18) us → unsigned_abs (inner_product ws us) ≤ length us * (n * 2 ^ 18)
 unfolding inner_product

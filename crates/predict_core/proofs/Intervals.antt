@@ -10,10 +10,8 @@ use Rattle.predict_core.specs.declared.predictor.Predictor.{Predictor}
 -- the end of an interval
 pub interval_end : (l t q : ℕ) → l ≤ 11 → t < 2 ^ 32 → q ≡ t / 2 ^ l → t < (q + 1) * 2 ^ l % 2 ^ 64
 interval_end l t q h k e =
-    let low = div-mul-le_self t (2 ^ l) in
-    let high : t < t / 2 ^ l * 2 ^ l + 2 ^ l = lt-div-mul-add (pow_pos l) in
-    let p : 2 ^ l ≤ 2 ^ 11 = pow_mono h in
-    let fits : (t / 2 ^ l + 1) * 2 ^ l < 2 ^ 64 = omega (arith, low, p) in
+    let low = div-mul-le_self t (2 ^ l) in let high : t < t / 2 ^ l * 2 ^ l + 2 ^ l = lt-div-mul-add (pow_pos l) in
+    let p : 2 ^ l ≤ 2 ^ 11 = pow_mono h in let fits : (t / 2 ^ l + 1) * 2 ^ l < 2 ^ 64 = omega (arith, low, p) in
     rw (e, mod-eq_of_lt fits) (omega (arith, high))
 
 below_zero : (a : ℤ) (n : ℕ) → a <ℤ pos 0 → floor_div a n <ℤ pos 0
@@ -41,8 +39,7 @@ pub alike_later : (p : Predictor) (columns bits t k : ℕ) → columns ≤ t
     → step_exponent p columns bits (t + k) ≡ step_exponent p columns bits t
 unfolding step_exponent
 alike_later p columns bits t k h e =
-    let s : t + k - columns ≡ t - columns + k = omega arith in
-    let m : columns ≤ t + k = omega arith in
+    let s : t + k - columns ≡ t - columns + k = omega arith in let m : columns ≤ t + k = omega arith in
     ap (λ v. v +ℤ pos bits -ℤ pos p.omega) (behind_first_row p columns (t + k) m ∙ ap (λ n. clip (p.vmin +ℤ pos (n / 2 ^ p.interval_log)) p.vmin p.vmax) s
     ∙ e ∙ sym (behind_first_row p columns t h))
 

@@ -93,8 +93,7 @@ module _ (p : Params) (c : Image) (q : Place) (v : ℤ) where
 
   pub residuals_kept : (left : List Place) → IsLawful p → c.shape ≡ p.shape → StandsAt p.shape p.order q (gone_count p left)
       → residuals_at p c (gone_by p left) ≡ residuals_at p (put c q.z q.y q.x v) (gone_by p left)
-  residuals_kept left lawful shape stands =
-      residuals_same lawful shape (record { shape = refl; kind = refl }) _ (put_same (gone_count p left) shape stands)
+  residuals_kept left lawful shape stands = residuals_same lawful shape (record { shape = refl; kind = refl }) _ (put_same (gone_count p left) shape stands)
 
   -- a band that isn't at its turn follows it, too
   pub others_follow : (i z : ℕ) (f : Learner) → IsLawful p → c.shape ≡ p.shape → StandsAt p.shape p.order q i

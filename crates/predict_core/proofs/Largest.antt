@@ -118,8 +118,7 @@ module _ (q : Predictor) (c : Image) (z y x : ℕ) (ws : List ℤ) (cube : IsCub
     (within : AllWithin (2 ^ (q.omega + 2)) ws) where
   pub products_small : unsigned_abs (inner_product ws (difference_vector q c z y x)) ≤ 18 * (2 ^ (q.omega + 2) * 2 ^ 18)
   products_small =
-      let us : List ℤ = difference_vector q c z y x in
-      let bits : c.kind.bits ≤ 16 = cube.bits.1 in
+      let us : List ℤ = difference_vector q c z y x in let bits : c.kind.bits ≤ 16 = cube.bits.1 in
       let vector = within_most c.kind.bits us bits (vector_within q c cube y x later wide z place) in
       let short : length us ≤ 18 = omega (arith, vector_length q c z y x, few_components q z few) in
       le_trans (inner_within (2 ^ (q.omega + 2)) ws us within vector)
@@ -128,8 +127,7 @@ module _ (q : Predictor) (c : Image) (z y x : ℕ) (ws : List ℤ) (cube : IsCub
   pub register_small : unsigned_abs (inner_product ws (difference_vector q c z y x) +ℤ pos (2 ^ q.omega) *ℤ (local_sum q c z y x -ℤ pos 4 *ℤ smid c.kind))
       < 2 ^ 45
   register_small =
-      let bits : c.kind.bits ≤ 16 = cube.bits.1 in
-      let middle = middle_between c.kind.signed c.kind.bits cube.bits.0 in
+      let bits : c.kind.bits ≤ 16 = cube.bits.1 in let middle = middle_between c.kind.signed c.kind.bits cube.bits.0 in
       let power : 2 ^ c.kind.bits ≤ 2 ^ 16 = pow_mono bits in
       let near = apart (smin c.kind) (smax c.kind) (smid c.kind) (local_sum q c z y x) (2 ^ c.kind.bits) (span c.kind cube.bits) middle
       (sum_within q c cube y x later wide z place) in

@@ -97,15 +97,12 @@ chosen_weight fraction exponent false weight difference raised lowered r up down
 -- differences of samples of few bits may be raised by more
 pub within_room : (bits by : ℕ) (us : List ℤ) → bits + by ≤ 24 → AllWithin (4 * 2 ^ bits) us → AllWithin (2 ^ (26 - by)) us
 within_room bits by us h w i l =
-    let k : bits + 2 ≤ 26 - by = omega arith in
-    let p : 2 ^ (bits + 2) ≤ 2 ^ (26 - by) = pow_mono k in
+    let k : bits + 2 ≤ 26 - by = omega arith in let p : 2 ^ (bits + 2) ≤ 2 ^ (26 - by) = pow_mono k in
     let e : 2 ^ (bits + 2) ≡ 2 ^ bits * 2 ^ 2 = pow-add 2 bits 2 in
     le_trans (w i l) (omega (arith, p, e))
 
 pub within_most : (bits : ℕ) (us : List ℤ) → bits ≤ 16 → AllWithin (4 * 2 ^ bits) us → AllWithin (2 ^ 18) us
-within_most bits us h w i l =
-    let p : 2 ^ bits ≤ 2 ^ 16 = pow_mono h in
-    le_trans (w i l) (omega (arith, p))
+within_most bits us h w i l = let p : 2 ^ bits ≤ 2 ^ 16 = pow_mono h in le_trans (w i l) (omega (arith, p))
 
 pub room_word : (by : ℕ) → 2 ^ (26 - by) ≤ 2 ^ 26
 room_word by = let k : 26 - by ≤ 26 = omega arith in pow_mono k

@@ -39,8 +39,7 @@ pub number_is : (g t h turned : ℤ) → pos 0 ≤ℤ t → (pos 0 ≤ℤ (pos 2
     → int_min turned (pos (unsigned_abs (h -ℤ floor_div t 2)) +ℤ pos (theta_between (pos 0) g (floor_div t 2))) ≡ pos (mapped_between (pos 0) g t h)
 unfolding mapped_between
 number_is g t h turned some up down =
-    let p : ℤ = floor_div t 2 in
-    let whole = parts_of t some in
+    let p : ℤ = floor_div t 2 in let whole = parts_of t some in
     let far : pos 2 *ℤ h -ℤ t ≡ pos 2 *ℤ (h -ℤ p) -ℤ pos (unsigned_abs t % 2) = omega (arith, ints, whole) in
     lesser_by (theta_between (pos 0) g p) (unsigned_abs (h -ℤ p)) (mapped_between (pos 0) g t h) turned (agrees t (h -ℤ p))
     (turns (unsigned_abs t) (h -ℤ p) (pos 2 *ℤ h -ℤ t) turned (agrees t (h -ℤ p)) (agrees_cases t (h -ℤ p) _ refl) far up down)
@@ -58,8 +57,7 @@ same_half a b = floor_of_sum a b 2 (omega arith)
 pub shifted : (low high t h : ℤ) → mapped_between low high (t +ℤ pos 2 *ℤ low) (low +ℤ h) ≡ mapped_between (pos 0) (high -ℤ low) t h
 unfolding mapped_between
 shifted low high t h =
-    let p : ℤ = floor_div t 2 in
-    let e : (low +ℤ h) -ℤ (p +ℤ low) ≡ h -ℤ p = omega (arith, ints) in
+    let p : ℤ = floor_div t 2 in let e : (low +ℤ h) -ℤ (p +ℤ low) ≡ h -ℤ p = omega (arith, ints) in
     let under : (p +ℤ low) -ℤ low ≡ p -ℤ pos 0 = omega (arith, ints) in
     let over : high -ℤ (p +ℤ low) ≡ (high -ℤ low) -ℤ p = omega (arith, ints) in
     let theta : theta_between low high (p +ℤ low) ≡ theta_between (pos 0) (high -ℤ low) p = ap₂ min (ap unsigned_abs under) (ap unsigned_abs over) in

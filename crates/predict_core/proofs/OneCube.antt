@@ -50,8 +50,7 @@ first_inside p c z cube band = elim (cases_Bool (p.previous == 0 || z == 0)) [
 there_inside : (p : Predictor) (c : Image) (z y x : ℕ) (ws : List ℤ) → IsCube c → IsScaled c.kind (scaled_there p c z y x ws)
 unfolding scaled_there scaled_by
 there_inside p c z y x ws cube =
-    let low = least_inside c.kind in
-    let high = middle_inside c.kind cube.bits in
+    let low = least_inside c.kind in let high = middle_inside c.kind cube.bits in
     clip_inside (pos 2 *ℤ smin c.kind) (pos 2 *ℤ smax c.kind +ℤ pos 1) _ (omega (arith, ints, low, high))
 
 pub scaled_inside : (p : Params) (c : Image) (z t : ℕ) → IsCube c → z < c.shape.bands → IsScaled c.kind (scaled_prediction p c z t)
@@ -68,8 +67,7 @@ residual_inside p c q cube place =
 
 pub residuals_inside : (p : Params) (c : Image) → IsOrder c.shape p.order → IsCube c → AllByRecursion (λ v. v < 2 ^ c.kind.bits) (residuals p c)
 unfolding residuals
-residuals_inside p c lawful cube =
-    all_mapped _ _ _ (λ i q e. residual_inside _ _ _ cube ((order_is_by_key c.shape p.order lawful).only i q e))
+residuals_inside p c lawful cube = all_mapped _ _ _ (λ i q e. residual_inside _ _ _ cube ((order_is_by_key c.shape p.order lawful).only i q e))
 
 -- ---- one cube
 
@@ -102,8 +100,7 @@ module _ (p : Params) (c d : Image) (lawful : IsOrder c.shape p.order) (wide : p
 pub one_cube : OneCube
 unfolding residuals
 one_cube p c d lawful a b e =
-    let shape : c.shape ≡ d.shape = a.shape ∙ sym b.shape in
-    let kind : c.kind ≡ d.kind = a.kind ∙ sym b.kind in
+    let shape : c.shape ≡ d.shape = a.shape ∙ sym b.shape in let kind : c.kind ≡ d.kind = a.kind ∙ sym b.kind in
     let order : IsOrder c.shape p.order = rw a.shape lawful.order in
     let lists = e ∙ ap (λ (s : Sizes). map (λ q. mapped_residual p d q.z (q.y * s.columns + q.x)) (places s p.order)) (sym shape) in
     let same : (q : Place) → IsPlaceOf c.shape q → mapped_residual p c q.z (time_of c.shape q) ≡ mapped_residual p d q.z (time_of c.shape q) =

@@ -100,8 +100,7 @@ module _ (low high scaled : ℤ) (least : (pos 2 *ℤ low) ≤ℤ scaled) (most 
   pub number_in : (v : ℤ) → Between low high v → pos (mapped_between low high scaled v) ≤ℤ (high -ℤ low)
   unfolding mapped_between
   number_in v h =
-      let p : ℤ = floor_div scaled 2 in
-      let w = whole in
+      let p : ℤ = floor_div scaled 2 in let w = whole in
       let small : mapped_between low high scaled v ≤ unsigned_abs (p -ℤ low) + unsigned_abs (high -ℤ p) =
       small_number _ (unsigned_abs (p -ℤ low)) (unsigned_abs (high -ℤ p)) 0 (mapped_between low high scaled v) (v -ℤ p) _ refl (error_bounds v h).0
       (error_bounds v h).1
@@ -119,9 +118,7 @@ module _ (low high scaled : ℤ) (least : (pos 2 *ℤ low) ≤ℤ scaled) (most 
   pub sample_in : (n : ℕ) → pos n ≤ℤ (high -ℤ low) → Between low high (unmapped_between low high scaled n)
   unfolding unmapped_between
   sample_in n h =
-      let p : ℤ = floor_div scaled 2 in
-      let w = whole in
-      let i = inside in
+      let p : ℤ = floor_div scaled 2 in let w = whole in let i = inside in
       let s = small_error (theta_between low high p) (unsigned_abs (p -ℤ low)) (unsigned_abs (high -ℤ p)) (unsigned_abs scaled) n _ refl
       (omega (arith, ints)) (error_cases (theta_between low high p) (unsigned_abs (p -ℤ low)) (unsigned_abs scaled) n _ refl) in
       (omega (arith, ints), omega (arith, ints))
@@ -129,8 +126,7 @@ module _ (low high scaled : ℤ) (least : (pos 2 *ℤ low) ≤ℤ scaled) (most 
   pub number_back : (n : ℕ) → pos n ≤ℤ (high -ℤ low) → mapped_between low high scaled (unmapped_between low high scaled n) ≡ n
   unfolding mapped_between unmapped_between
   number_back n h =
-      let p : ℤ = floor_div scaled 2 in
-      let w = whole in
+      let p : ℤ = floor_div scaled 2 in let w = whole in
       let e : ℤ = error_of (theta_between low high p) (unsigned_abs (p -ℤ low)) (unsigned_abs scaled) n in
       let same : (p +ℤ e) -ℤ p ≡ e = back p e in
       rw same

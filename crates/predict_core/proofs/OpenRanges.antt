@@ -31,8 +31,7 @@ module _ (p : Predictor) (c : Image) (cube : IsCube c) (z y x : ℕ) (later : 0 
 
   pub sum_in : Between (pos 0) (pos 262140) (open_sum p c z y x)
   sum_in =
-      let q = place.column in
-      let a = above_in x place.column in
+      let q = place.column in let a = above_in x place.column in
       elim (cases_Bool p.column) [
         | inl e ↦ (let s = open_by_column p c z y x e in (omega (arith, ints, s, a.0, a.1), omega (arith, ints, s, a.0, a.1)))
         | inr e ↦ (let w = wide e in elim (cases_eq x 0) [
@@ -49,9 +48,7 @@ module _ (p : Predictor) (c : Image) (cube : IsCube c) (z y x : ℕ) (later : 0 
   directions_within : AllWithin 2097152 (open_directions p c z y x)
   unfolding open_directions
   directions_within =
-      let s = sum_in in
-      let q = place.column in
-      let a = above_in x place.column in
+      let s = sum_in in let q = place.column in let a = above_in x place.column in
       let b = above_in (x - 1) (omega arith) in
       within_three 2097152 _ _ _ (omega (arith, ints, s.0, s.1, a.0, a.1)) (omega (arith, ints, s.0, s.1)) (omega (arith, ints, s.0, s.1, b.0, b.1))
 

@@ -37,8 +37,7 @@ one_quad quads q i h = components_more 0 quads q i h ∙ ap (λ us. us ++ get_or
 from_append : (f : ℕ → ℤ) (a m n : ℕ) → map f (from a (m + n)) ≡ map f (from a m) ++ map f (from (a + m) n)
 from_append f a zero n = let e : 0 + n ≡ n = omega arith in let d : a + 0 ≡ a = omega arith in rw (e, d) refl
 from_append f a (suc m) n =
-    let e : suc m + n ≡ suc (m + n) = omega arith in
-    let d : a + suc m ≡ suc a + m = omega arith in
+    let e : suc m + n ≡ suc (m + n) = omega arith in let d : a + suc m ≡ suc a + m = omega arith in
     rw (e, d) (ap (λ xs. f a ∷ xs) (from_append f (suc a) m n))
 
 module _ (p : Predictor) (c : Image) (z y x : ℕ) where
@@ -50,8 +49,7 @@ module _ (p : Predictor) (c : Image) (z y x : ℕ) where
       ∷ lower_difference p c z y x (k + 3) ∷ [] ≡ lower_differences p c z y x k 4
   unfolding lower_differences
   lower_four k =
-      let a : k + 1 ≡ suc k = omega arith in
-      let b : k + 2 ≡ suc (suc k) = omega arith in
+      let a : k + 1 ≡ suc k = omega arith in let b : k + 2 ≡ suc (suc k) = omega arith in
       let d : k + 3 ≡ suc (suc (suc k)) = omega arith in
       rw (a, b, d) refl
 
@@ -62,8 +60,7 @@ module _ (p : Predictor) (c : Image) (z y x : ℕ) where
   pub lower_two : (k : ℕ) → previous_bands p z ≤ k + 1
       → lower_difference p c z y x k ∷ lower_difference p c z y x (k + 1) ∷ pos 0 ∷ pos 0 ∷ [] ≡ lower_differences p c z y x k 4
   lower_two k h =
-      let third = lower_none (k + 2) (omega (arith, h)) in
-      let fourth = lower_none (k + 3) (omega (arith, h)) in
+      let third = lower_none (k + 2) (omega (arith, h)) in let fourth = lower_none (k + 3) (omega (arith, h)) in
       ap₂ (λ u v. lower_difference p c z y x k ∷ lower_difference p c z y x (k + 1) ∷ u ∷ v ∷ []) (sym third) (sym fourth) ∙ lower_four k
 
   pub lower_one : (k : ℕ) → lower_differences p c z y x k 1 ≡ lower_difference p c z y x k ∷ []
@@ -83,8 +80,7 @@ module _ (p : Predictor) (c : Image) (z y x : ℕ) where
   unfolding spectral_differences lower_differences
   lower_spectral zero h = refl
   lower_spectral (suc n) h =
-      let e : suc n ≡ n + 1 = omega arith in
-      let d : 1 + n ≡ suc n = omega arith in
+      let e : suc n ≡ n + 1 = omega arith in let d : 1 + n ≡ suc n = omega arith in
       ap (λ m. lower_differences p c z y x 1 m) e ∙ lower_append 1 n 1
       ∙ ap₂ (λ us vs. us ++ vs) (lower_spectral n (omega (arith, h))) (ap (λ k. lower_differences p c z y x k 1) d ∙ lower_one (suc n)
       ∙ ap (λ v. v ∷ []) (lower_is (suc n) h))

@@ -13,9 +13,7 @@ SFits-div (pos a) d f = record { sfits = lt_of_le_of_lt (div-le_self a d) f.sfit
 SFits-div (negsuc a) d f = record { sfits = lt_of_le_of_lt (div-le_self a d) f.sfits }
 
 pub raised_bound : (k : ℕ) (d : ℤ) → k ≤ 19 → unsigned_abs d ≤ 2 ^ 18 → unsigned_abs (pos (2 ^ k) *ℤ d) ≤ 2 ^ 37
-raised_bound k d h b =
-    let p : 2 ^ k ≤ 2 ^ 19 = pow_mono h in
-    rw (unsigned_abs-mul (pos (2 ^ k)) d) (mul-le (2 ^ k) (unsigned_abs d) (2 ^ 19) (2 ^ 18) p b)
+raised_bound k d h b = let p : 2 ^ k ≤ 2 ^ 19 = pow_mono h in rw (unsigned_abs-mul (pos (2 ^ k)) d) (mul-le (2 ^ k) (unsigned_abs d) (2 ^ 19) (2 ^ 18) p b)
 
 pub SFits-raised_up : (k : ℕ) (d : ℤ) → k ≤ 19 → unsigned_abs d ≤ 2 ^ 18 → SFits w64 (pos (2 ^ k) *ℤ d)
 SFits-raised_up k d h b = fits_signed_from_abs w64 (pos (2 ^ k) *ℤ d) (lt_of_le_of_lt (raised_bound k d h b) (lit< tt))

@@ -60,9 +60,7 @@ module _ (p : Predictor) (c : Image) (cube : IsCube c) (y x : ℕ) (later : 0 < 
 
     pub sum_within : Between (pos 4 *ℤ smin c.kind) (pos 4 *ℤ smax c.kind) (local_sum p c z y x)
     sum_within =
-        let l = left in
-        let u = up x column in
-        let b = up (x - 1) before in
+        let l = left in let u = up x column in let b = up (x - 1) before in
         elim (cases_eq y 0) [
           | inl e ↦ rw (sum_in_first_row p c z y x e) (omega (arith, ints, l.0, l.1), omega (arith, ints, l.0, l.1))
           | inr n ↦ elim (cases_Bool p.column) [

@@ -28,15 +28,11 @@ pub eighths_next : (w v : ℤ) (i n : ℕ) (ws all : List ℤ) → i < length ws
     → take (i + 1) (set ws i w) ++ eighths v (n - 1) ≡ all
 unfolding eighths
 eighths_next w v i zero ws all l h e a = absurd (omega arith)
-eighths_next w v i (suc n) ws all l h e a =
-    let s : suc n - 1 ≡ n = omega arith in
-    rw (add-one, take-suc-set ws i w l, s, e, append_assoc) a
+eighths_next w v i (suc n) ws all l h e a = let s : suc n - 1 ≡ n = omega arith in rw (add-one, take-suc-set ws i w l, s, e, append_assoc) a
 
 pub eighths_last : (w : ℤ) (i n m : ℕ) (ws all rest : List ℤ) → n ≡ 0 → take i ws ++ eighths w n ≡ all → drop i ws ≡ rest → ws ≡ all ++ rest
 unfolding eighths
-eighths_last w i n m ws all rest h a d =
-    let b : take i ws ≡ all = sym (append-nil (take i ws)) ∙ (rw h at a) in
-    sym (take-append-drop i ws) ∙ rw (b, d) refl
+eighths_last w i n m ws all rest h a d = let b : take i ws ≡ all = sym (append-nil (take i ws)) ∙ (rw h at a) in sym (take-append-drop i ws) ∙ rw (b, d) refl
 
 pub shrinks_small : (w : ℤ) → unsigned_abs w ≤ 2 ^ 20 → SFits w32 (floor_div w 8) × (unsigned_abs (floor_div w 8) ≤ 2 ^ 20)
 shrinks_small w h = (fits_signed_from_abs w32 (floor_div w 8) (omega (arith, halved_shrinks w 8)), omega (arith, halved_shrinks w 8))
@@ -102,8 +98,7 @@ module _ (fraction first count : ℕ) (least : 4 ≤ fraction) (most : fraction 
   pub begun_first : take (first + 0) (replicate 18 (pos 0)) ++ eighths (to_z w32 ((7 * 2 ^ (fraction - 3)) % 2 ^ 32)) (count - 0)
       ≡ replicate first (pos 0) ++ eighths (pos (7 * 2 ^ (fraction - 3))) count
   begun_first =
-      let a : first + 0 ≡ first = omega arith in
-      let b : count - 0 ≡ count = omega arith in
+      let a : first + 0 ≡ first = omega arith in let b : count - 0 ≡ count = omega arith in
       rw (a, b, first_weight (fraction - 3) (omega arith))
       (ap (λ xs. xs ++ eighths (pos (7 * 2 ^ (fraction - 3))) count) (take-replicate first 18 (pos 0) (omega arith)))
 

@@ -28,8 +28,7 @@ ones_below f q = if nat_le q (f + 2) then 2 ^ (f + 2 - q) - 1 else 0
 
 ones_small : (f q : ℕ) → q ≤ f + 3 → ones_below f q + 1 ≤ 2 ^ (f + 3 - q)
 ones_small f q h =
-    let s : 1 ≤ 2 ^ (f + 3 - q) = pow_pos (f + 3 - q) in
-    let t : 1 ≤ 2 ^ (f + 2 - q) = pow_pos (f + 2 - q) in
+    let s : 1 ≤ 2 ^ (f + 3 - q) = pow_pos (f + 3 - q) in let t : 1 ≤ 2 ^ (f + 2 - q) = pow_pos (f + 2 - q) in
     elim (cases_Bool (nat_le q (f + 2))) [
       | inl e ↦ (let p : 2 ^ (f + 2 - q) ≤ 2 ^ (f + 3 - q) = pow_mono (omega arith) in rw e (omega (arith, p, t)))
       | inr e ↦ rw e s
@@ -126,8 +125,7 @@ mul_two m = grind arith
 triangle_next : (n : ℕ) → (n + 1) * (n + 1 - 1) / 2 ≡ n * (n - 1) / 2 + n
 triangle_next zero = refl
 triangle_next (suc m) =
-    let up : suc m + 1 - 1 ≡ suc m = omega arith in
-    let down : suc m - 1 ≡ m = omega arith in
+    let up : suc m + 1 - 1 ≡ suc m = omega arith in let down : suc m - 1 ≡ m = omega arith in
     let two : (suc m + 1) * suc m ≡ suc m * m + 2 * suc m = mul_two m in
     rw (up, down, two) (omega arith)
 
@@ -143,15 +141,12 @@ in_front_is p first f (suc z) =
     let count : first + min z p.previous ≡ component_count p z = count_is p z first f in
     elim (cases_lt z p.previous) [
       | inl close ↦ (let near : min z p.previous ≡ z = omega (arith, close) in
-          let next : min (suc z) p.previous ≡ z + 1 = omega (arith, close) in
-          let t = triangle_next z in
-          let b = rw near at before in
-          let k = rw near at count in
+          let next : min (suc z) p.previous ≡ z + 1 = omega (arith, close) in let t = triangle_next z in
+          let b = rw near at before in let k = rw near at count in
           rw (near, next) (grind (arith, b, k, t)))
       | inr far_off ↦ (let near : min z p.previous ≡ p.previous = omega (arith, far_off) in
           let next : min (suc z) p.previous ≡ p.previous = omega (arith, far_off) in
-          let far : suc z - p.previous ≡ (z - p.previous) + 1 = omega (arith, far_off) in
-          let b = rw near at before in
+          let far : suc z - p.previous ≡ (z - p.previous) + 1 = omega (arith, far_off) in let b = rw near at before in
           let k = rw near at count in
           rw (near, next, far) (grind (arith, b, k)))
     ]
@@ -180,8 +175,7 @@ pub entries_there : (p : Params) (z : ℕ) → z < p.shape.bands
 unfolding entries_before
 entries_there p z l =
     let g = counts_grow p.previous p.reduced (suc z) (p.shape.bands - suc z) in
-    let same : p.shape.bands - suc z + suc z ≡ p.shape.bands = omega (arith, l) in
-    let agree = counts_agree p (suc z) in
+    let same : p.shape.bands - suc z + suc z ≡ p.shape.bands = omega (arith, l) in let agree = counts_agree p (suc z) in
     rw (← agree, same) at g
 
 signed_taken : (q n : ℕ) (es : List ℤ) → AllByRecursion (IsSigned q) es → AllByRecursion (IsSigned q) (take n es)

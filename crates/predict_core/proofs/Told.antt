@@ -40,8 +40,7 @@ module _ (p : Predictor) (c : Image) (z y x count components : ℕ) (current upp
 
   sum_in : (i : ℕ) → i < count → 0 < y + (x + i) → (pos 0 ≤ℤ get_or sums i (pos 0)) × (get_or sums i (pos 0) ≤ℤ pos 262140)
   sum_in i l h =
-      let bits = cube.bits in
-      let power : 2 ^ c.kind.bits ≤ 2 ^ 16 = pow_mono (bits.1) in
+      let bits = cube.bits in let power : 2 ^ c.kind.bits ≤ 2 ^ 16 = pow_mono (bits.1) in
       offset_sum_most (smin c.kind) (smax c.kind) (local_sum p c z y (x + i)) (get_or sums i (pos 0)) (2 ^ c.kind.bits) (span c.kind bits) power
       (sum_within p c cube y (x + i) h wide z (along i l)) (sum i l h)
 

@@ -149,9 +149,7 @@ pub record NextGoes (p : Params) (q : Place) (left rest : List Place) : Type 0 w
 pub next_goes : (p : Params) (q : Place) (left rest : List Place) → IsOrder p.shape p.order → left ≡ drop (gone_count p left) (places p.shape p.order)
     → left ≡ q ∷ rest → NextGoes p q left rest
 next_goes p q left rest lawful is e =
-    let here = rw e at is in
-    let goes = goes_by p lawful here 1 (omega arith) in
-    let all = all_places p lawful here in
+    let here = rw e at is in let goes = goes_by p lawful here 1 (omega arith) in let all = all_places p lawful here in
     rw e (record { stands = next_place p lawful here q refl; below = omega arith; count = goes.count; gone = goes.gone; others = goes.others })
 
 -- one step of the walk

@@ -33,8 +33,7 @@ shifted_back H K q k b = elim (cases_lt q H) [ inl h ↦ low h | inr h ↦ high 
     high h =
         let f : ltb (q * K) (H * K) ≡ false = le-ltb (q * K) (H * K) (mul-le-mul_right K h) in
         let e : (q + H) % (H + H) ≡ q - H = remainder_is (q + H) (H + H) 1 (q - H) (omega arith) (omega arith) in
-        let p : ℕ = H + H - suc q in
-        let whole : (H + H) * K ≡ (p + suc q) * K = ap (λ n. n * K) (omega arith) in
+        let p : ℕ = H + H - suc q in let whole : (H + H) * K ≡ (p + suc q) * K = ap (λ n. n * K) (omega arith) in
         let d : ((H + H) * K - suc (q * K)) / K ≡ p = quotient_is ((H + H) * K - suc (q * K)) K p (K - 1) (omega arith) (omega (arith, whole)) in
         rw (f, e, d) (omega (arith, ints))
 
@@ -55,16 +54,10 @@ powers r low high =
 pub by_shifts : (r : ℕ) (v : ℤ) → SFits w64 v → 32 ≤ r → r ≤ 64 → shr_z (to_z w64 ((of_z w64 v * 2 ^ (64 - r)) % 2 ^ 64)) (2 ^ (64 - r)) ≡ wrapped r v
 unfolding wrapped
 by_shifts r v f low high =
-    let H : ℕ = 2 ^ (r - 1) in
-    let K : ℕ = 2 ^ (64 - r) in
-    let double : 2 ^ r ≡ H + H = (powers r low high).0 in
-    let top : H * K ≡ 2 ^ 63 = (powers r low high).1 in
-    let all : (H + H) * K ≡ 2 ^ 64 = omega (arith, top) in
-    let h : 0 < H = pow_pos (r - 1) in
-    let k : 0 < K = pow_pos (64 - r) in
-    let u : ℕ = of_z w64 v in
-    let q : ℕ = u % (H + H) in
-    let below : q < H + H = mod-lt u (omega arith) in
+    let H : ℕ = 2 ^ (r - 1) in let K : ℕ = 2 ^ (64 - r) in let double : 2 ^ r ≡ H + H = (powers r low high).0 in
+    let top : H * K ≡ 2 ^ 63 = (powers r low high).1 in let all : (H + H) * K ≡ 2 ^ 64 = omega (arith, top) in
+    let h : 0 < H = pow_pos (r - 1) in let k : 0 < K = pow_pos (64 - r) in let u : ℕ = of_z w64 v in
+    let q : ℕ = u % (H + H) in let below : q < H + H = mod-lt u (omega arith) in
     let cut : (u * K) % 2 ^ 64 ≡ q * K =
     rw (← all) (remainder_is (u * K) ((H + H) * K) (u / (H + H)) (q * K) (mul-lt-mul_of_pos_right below k)
     (ap (λ n. n * K) (sym (div-add-mod' u (H + H))) ∙ omega arith)) in

@@ -4,8 +4,7 @@ use Rattle.predict_core.proofs.band.first_sample.Goals as goal
 
 pub returns-clause-inverse : goal.returns-clause-inverse
 returns-clause-inverse c =
-    let s = c.args.settings.now in
-    let fits : SFits w32 c.sample_of.result = search rules in
+    let s = c.args.settings.now in let fits : SFits w32 c.sample_of.result = search rules in
     let scaled_fits : SFits w32 c.first_scaled-scaled.result = search rules in
     let e = rw (← c.requires.kind) at (simp (to_z-of_z scaled_fits) at c.sample_of.ensures.inverse) in
     rw (

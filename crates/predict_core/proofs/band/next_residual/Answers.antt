@@ -7,8 +7,7 @@ use Rattle.predict_core.proofs.band.next_residual.Goals as goal
 
 pub returns-clause-weights : goal.returns-clause-weights
 returns-clause-weights c =
-    let s = c.args.settings.now in
-    let fits : SFits w32 c.sample-sample.result = search rules in
+    let s = c.args.settings.now in let fits : SFits w32 c.sample-sample.result = search rules in
     let bits : s.range.bits ≡ c.args.cube.now.kind.bits = s.range.bits_is ∙ ap (λ (k : SampleKind). k.bits) (sym c.requires.kind) in
     let us = difference_vector s.predictor c.args.cube.now s.band c.args.y c.args.x in
     let long : length us ≡ s.count = vector_length s.predictor c.args.cube.now s.band c.args.y c.args.x ∙ sym s.count_is in

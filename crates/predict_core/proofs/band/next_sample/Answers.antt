@@ -9,8 +9,7 @@ use Rattle.predict_core.proofs.band.next_sample.Goals as goal
 
 pub returns-clause-inverse : goal.returns-clause-inverse
 returns-clause-inverse c =
-    let s = c.args.settings.now in
-    let fits : SFits w32 c.sample_of-found.result = search rules in
+    let s = c.args.settings.now in let fits : SFits w32 c.sample_of-found.result = search rules in
     let scaled_fits : SFits w32 c.predict-prediction.result.scaled = search rules in
     let e = rw (← c.requires.kind) at (simp (to_z-of_z scaled_fits) at c.sample_of-found.ensures.inverse) in
     rw (
@@ -24,8 +23,7 @@ returns-clause-inverse c =
 
 pub returns-clause-weights : goal.returns-clause-weights
 returns-clause-weights c =
-    let s = c.args.settings.now in
-    let fits : SFits w32 c.sample_of-found.result = search rules in
+    let s = c.args.settings.now in let fits : SFits w32 c.sample_of-found.result = search rules in
     let bits : s.range.bits ≡ c.args.cube.now.kind.bits = s.range.bits_is ∙ ap (λ (k : SampleKind). k.bits) (sym c.requires.kind) in
     let us = difference_vector s.predictor c.args.cube.now s.band c.args.y c.args.x in
     let long : length us ≡ s.count = vector_length s.predictor c.args.cube.now s.band c.args.y c.args.x ∙ sym s.count_is in

@@ -19,8 +19,7 @@ reckoned low sum h k = let a = h.0 in let b = h.1 in let d = k.0 in let e = k.1 
 
 pub predicted_difference-predicted-requires-clause-differences_in : goal.predicted_difference-predicted-requires-clause-differences_in
 predicted_difference-predicted-requires-clause-differences_in g c =
-    let s = c.args.settings.now in
-    let bits : c.args.cube.now.kind.bits ≤ 16 = c.prove_is_cube.ensures.bits.1 in
+    let s = c.args.settings.now in let bits : c.args.cube.now.kind.bits ≤ 16 = c.prove_is_cube.ensures.bits.1 in
     within_most c.args.cube.now.kind.bits c.args.differences.now bits
     (rw c.requires.differences_are (padded_within s.predictor _ c.prove_is_cube.ensures _ _ c.requires.later (rw c.requires.columns s.wide)
     s.band c.requires.place (18 - s.count)))
@@ -47,16 +46,14 @@ module _ (g : given.Over) (c : After-predicted_difference-predicted g) where
       ≡ scaled_by_difference c.args.cube.now.kind c.predicted_difference-predicted.result
       (local_sum c.args.settings.now.predictor c.args.cube.now c.args.settings.now.band c.args.y c.args.x)
   from_difference =
-      let s = c.args.settings.now in
-      let r = s.range in
+      let s = c.args.settings.now in let r = s.range in
       let sum : pos 4 *ℤ r.smin +ℤ c.args.sum ≡ local_sum s.predictor c.args.cube.now s.band c.args.y c.args.x =
       rw (r.smin_is, ← c.requires.kind) c.requires.sum_is in
       rw (← sum, c.requires.kind) (rw (reckoned r.smin c.args.sum r.low c.requires.sum_in) at c.predicted_difference-predicted.ensures.scaled)
 
 pub returns-clause-scaled : goal.returns-clause-scaled
 returns-clause-scaled g c =
-    let d = (goal.at.returns-clause-scaled g c).After-predicted_difference-predicted in
-    let s = c.args.settings.now in
+    let d = (goal.at.returns-clause-scaled g c).After-predicted_difference-predicted in let s = c.args.settings.now in
     let fits : SFits w32 c.predicted_difference-predicted.result = search rules in
     rw (to_z-of_z fits)
     (scaled_from_room s.predictor c.args.cube.now s.band c.args.y c.args.x s.count g.row.N c.args.weights.now c.args.differences.now c.prove_is_cube.ensures
@@ -64,8 +61,7 @@ returns-clause-scaled g c =
 
 pub returns-clause-weights : goal.returns-clause-weights
 returns-clause-weights g c =
-    let d = (goal.at.returns-clause-weights g c).After-predicted_difference-predicted in
-    let s = c.args.settings.now in
+    let d = (goal.at.returns-clause-weights g c).After-predicted_difference-predicted in let s = c.args.settings.now in
     let fits : SFits w32 c.predicted_difference-predicted.result = search rules in
     let moved = (simp (to_z-of_z c.ranges.own, to_z-of_z fits) at c.follow.ensures.weights)
     ∙ ap (λ f. updated_weights f c.args.steps.exponent (int_le c.args.own c.predicted_difference-predicted.result) (take g.row.N c.args.weights.now)

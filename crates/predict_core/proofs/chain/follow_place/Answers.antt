@@ -13,8 +13,7 @@ use Rattle.predict_core.proofs.chain.follow_place.Goals as goal
 
 pub follow_at-requires-clause-differences_are : goal.follow_at-requires-clause-differences_are
 follow_at-requires-clause-differences_are g c =
-    let s = c.args.run.settings.now in
-    let run = c.requires.run in
+    let s = c.args.run.settings.now in let run = c.requires.run in
     let e = rw (← run.needed) at (run.room.vector c.args.i (omega arith) c.requires.later) in
     gathered_is (difference_vector s.predictor _ s.band _ (c.args.x + c.args.i)) (components_at g.row.Q c.args.run.quads.now c.args.i) _ s.count
     (4 * g.row.Q - s.count) (vector_length s.predictor _ s.band _ (c.args.x + c.args.i) ∙ sym s.count_is) s.few e c.differences_at-differences.ensures
@@ -30,8 +29,7 @@ follow_at-requires-clause-sum_in g c =
 
 pub returns-clause-followed : goal.returns-clause-followed
 returns-clause-followed g c first begun h =
-    let s = c.args.run.settings.now in
-    let fits : SFits w32 c.follow_at.result = search rules in
+    let s = c.args.run.settings.now in let fits : SFits w32 c.follow_at.result = search rules in
     let within : c.args.i < length c.args.parts.now = search rules in
     let column : c.args.x + c.args.i < c.args.cube.now.shape.columns = omega (arith, c.requires.run.inside) in
     let there : (p : Params) → AreWeightsAt p s.predictor c.args.cube.now s.band

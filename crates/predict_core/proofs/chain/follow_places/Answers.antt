@@ -1,4 +1,4 @@
-use Rattle.std.proofs.Common.{arith, sym, ◌∙◌}
+use Rattle.std.proofs.Common.{arith, sym, ◌∙◌, rules}
 use Rattle.predict_core.proofs.RunChains.{first_of_run, same_steps}
 use Rattle.predict_core.proofs.chain.follow_places.Goals as goal
 
@@ -9,7 +9,15 @@ follow_place-requires g c =
 
 pub follow_place-requires-then-this-ne0 : goal.follow_place-requires-then-this-ne0
 follow_place-requires-then-this-ne0 g c =
-    let same = c.requires.same in
-    let run = first_of_run _ _ _ _ _ _ _ _ _ _ _ _ (omega arith) c.requires.other in
+    let same = c.requires.same in let run = first_of_run _ _ _ _ _ _ _ _ _ _ _ _ (omega arith) c.requires.other in
     let steps = same_steps _ _ _ _ _ _ _ _ same (sym c.requires.other.kind ∙ c.requires.run.kind) (c.requires.steps c.loop-i.i (omega arith) (omega arith)) in
     (omega arith, (run, (omega (arith, c.requires.later), (steps, rw same c.loop-i.invariant.other_bound))))
+
+pub loop-i-preserved : goal.loop-i-preserved
+loop-i-preserved g c = search rules
+
+pub returns-clause-followed : goal.returns-clause-followed
+returns-clause-followed g c = search rules
+
+pub returns-clause-other_followed : goal.returns-clause-other_followed
+returns-clause-other_followed g c = search rules

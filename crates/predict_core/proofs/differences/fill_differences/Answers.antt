@@ -6,8 +6,7 @@ pub fill_spectral-requires-clause-small : goal.fill_spectral-requires-clause-sma
 fill_spectral-requires-clause-small c = rw c.requires.clear (zeros_within 262144 18)
 
 pub returns-then-predictor-clause-value : goal.returns-then-predictor-clause-value
-returns-then-predictor-clause-value c =
-    reduced_filled _ _ _ _ _ [] _ c.if-predictor.true (rw c.requires.near_is at c.fill_spectral.ensures.value)
+returns-then-predictor-clause-value c = reduced_filled _ _ _ _ _ [] _ c.if-predictor.true (rw c.requires.near_is at c.fill_spectral.ensures.value)
 
 pub fill_spectral-requires-else-predictor-clause-clear : goal.fill_spectral-requires-else-predictor-clause-clear
 fill_spectral-requires-else-predictor-clause-clear c =

@@ -1,4 +1,4 @@
-use Rattle.std.proofs.Common.{arith}
+use Rattle.std.proofs.Common.{arith, rules}
 use Rattle.predict_core.proofs.Intervals.{interval_end}
 use Rattle.predict_core.proofs.exponent.left_of_interval.Goals as goal
 
@@ -7,3 +7,6 @@ overflow_sub-result c = let e = interval_end _ _ _ c.requires.interval_in c.requ
 
 pub returns-clause-some : goal.returns-clause-some
 returns-clause-some c = let e = interval_end _ _ _ c.requires.interval_in c.requires.t_in c.requires.intervals_are in omega (arith, e)
+
+pub returns-clause-alike : goal.returns-clause-alike
+returns-clause-alike c = search rules

@@ -6,8 +6,7 @@ use Rattle.predict_core.proofs.fills.fill_directions.Goals as goal
 
 pub loop-i-preserved : goal.loop-i-preserved
 loop-i-preserved c =
-    let kept = c.loop-i.invariant in
-    let own_fits : SFits w32 c.difference_of.result = search rules in
+    let kept = c.loop-i.invariant in let own_fits : SFits w32 c.difference_of.result = search rules in
     let north_fits : SFits w32 c.difference_of-north.result = search rules in
     let west_fits : SFits w32 c.difference_of-west.result = search rules in
     let north_west_fits : SFits w32 c.difference_of-north_west.result = search rules in

@@ -6,8 +6,7 @@ use Rattle.predict_core.proofs.fills.fill_own.Goals as goal
 
 pub loop-i-preserved : goal.loop-i-preserved
 loop-i-preserved c =
-    let kept = c.loop-i.invariant in
-    let fits : SFits w32 c.difference_of.result = search rules in
+    let kept = c.loop-i.invariant in let fits : SFits w32 c.difference_of.result = search rules in
     let sum : to_z w32 c.sum_of_lines-sum.result ≡ pos (line_sum c.args.column c.args.lines.now.current c.args.lines.now.above c.loop-i.i) =
     to_z_pos w32 c.sum_of_lines-sum.result (omega (arith, c.sum_of_lines-sum.ensures.bound)) ∙ ap pos c.sum_of_lines-sum.ensures.value in
     let own = to_z-of_z fits ∙ (rw c.sum_of_lines-sum.ensures.value at c.difference_of.ensures.value) in

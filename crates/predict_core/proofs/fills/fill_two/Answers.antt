@@ -5,8 +5,7 @@ use Rattle.predict_core.proofs.fills.fill_two.Goals as goal
 
 pub loop-i-preserved : goal.loop-i-preserved
 loop-i-preserved c =
-    let kept = c.loop-i.invariant in
-    let first_fits : SFits w32 c.central_at.result = search rules in
+    let kept = c.loop-i.invariant in let first_fits : SFits w32 c.central_at.result = search rules in
     let second_fits : SFits w32 c.central_at-in-loop-i.result = search rules in
     let inside : c.loop-i.i < length c.loop-i.out = omega (arith, kept.long, c.loop-i-test.true) in
     record {

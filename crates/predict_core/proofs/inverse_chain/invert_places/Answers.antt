@@ -32,31 +32,27 @@ module _ (g : given.Over) (c : In-loop-i g) where
 
   sum_fits : SFits w32 (get_or c.args.run.sums.now c.loop-i.i (pos 0))
   sum_fits =
-      let s = c.args.run.settings.now in
-      let part = c.requires.parts c.loop-i.i c.loop-i-test.true in
+      let s = c.args.run.settings.now in let part = c.requires.parts c.loop-i.i c.loop-i-test.true in
       let b = sum_in s.predictor c.args.cube c.prove_is_cube.ensures s.band c.args.run.y (c.args.run.x + c.loop-i.i) c.requires.later
       (rw c.requires.columns s.wide) place in
       rw part.sum_is (fits_signed_from_abs w32 _ (omega (arith, ints, b.0, b.1)))
 
 pub sum_with_west-sum-requires-clause-sum : goal.sum_with_west-sum-requires-clause-sum
 sum_with_west-sum-requires-clause-sum g c =
-    let d = (goal.at.sum_with_west-sum-requires-clause-sum g c).In-loop-i in
-    let s = c.args.run.settings.now in
+    let d = (goal.at.sum_with_west-sum-requires-clause-sum g c).In-loop-i in let s = c.args.run.settings.now in
     rw (to_z-of_z (sum_fits g d))
     (sum_kept s.predictor c.args.cube c.loop-i.cube _ _ _ _ _ (place g d) c.requires.later (rw c.requires.columns s.wide) c.loop-i.invariant.beside
     s.count _ _ _ s.count_is s.few (c.requires.parts c.loop-i.i c.loop-i-test.true) refl)
 
 pub sample_there-sample-requires-clause-directions : goal.sample_there-sample-requires-clause-directions
 sample_there-sample-requires-clause-directions g c =
-    let d = (goal.at.sample_there-sample-requires-clause-directions g c).In-loop-i in
-    let s = c.args.run.settings.now in
+    let d = (goal.at.sample_there-sample-requires-clause-directions g c).In-loop-i in let s = c.args.run.settings.now in
     directions_kept s.predictor c.args.cube c.loop-i.cube _ _ _ _ _ (place g d) c.requires.later (rw c.requires.columns s.wide) c.loop-i.invariant.beside
     s.count _ _ _ s.count_is s.few (c.requires.parts c.loop-i.i c.loop-i-test.true) (rw c.requires.quads at c.differences_at-components.ensures)
 
 pub sample_there-sample-requires-clause-lower : goal.sample_there-sample-requires-clause-lower
 sample_there-sample-requires-clause-lower g c =
-    let d = (goal.at.sample_there-sample-requires-clause-lower g c).In-loop-i in
-    let s = c.args.run.settings.now in
+    let d = (goal.at.sample_there-sample-requires-clause-lower g c).In-loop-i in let s = c.args.run.settings.now in
     lower_kept s.predictor c.args.cube c.loop-i.cube _ _ _ _ _ (place g d) c.requires.later (rw c.requires.columns s.wide) c.loop-i.invariant.beside
     s.count _ _ _ s.count_is s.few (c.requires.parts c.loop-i.i c.loop-i-test.true) (rw c.requires.quads at c.differences_at-components.ensures)
 
@@ -71,12 +67,8 @@ sample_there-sample-requires-clause-steps g c =
 
 pub loop-i-preserved : goal.loop-i-preserved
 loop-i-preserved g c =
-    let kept = c.loop-i.invariant in
-    let d : Image = c.loop-i.cube in
-    let r = c.args.run in
-    let s = c.args.run.settings.now in
-    let x : ℕ = c.args.run.x + c.loop-i.i in
-    let v = c.sample_there-sample.result in
+    let kept = c.loop-i.invariant in let d : Image = c.loop-i.cube in let r = c.args.run in
+    let s = c.args.run.settings.now in let x : ℕ = c.args.run.x + c.loop-i.i in let v = c.sample_there-sample.result in
     let fits : SFits w32 c.sample_there-sample.result = search rules in
     let is : c.set.new.self ≡ put d s.band r.y x v = simp (to_z-of_z fits) at c.set.ensures in
     let place = rw kept.beside.alike.shape at (place g (goal.at.loop-i-preserved g c).In-loop-i) in

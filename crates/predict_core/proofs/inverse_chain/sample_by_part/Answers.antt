@@ -17,10 +17,7 @@ below_span width n power e l = omega (arith, ints, e, l)
 
 -- from the least offset to the greatest
 width : (r : Range) → to_z w32 (of_z w32 (to_z w32 (of_z w32 r.smax) -ℤ to_z w32 (of_z w32 r.smin))) ≡ smax r.kind -ℤ smin r.kind
-width r =
-    let low = r.low in
-    let high = r.high in
-    rw (← r.smin_is, ← r.smax_is) (omega (arith, ints, low.0, low.1, high.0, high.1))
+width r = let low = r.low in let high = r.high in rw (← r.smin_is, ← r.smax_is) (omega (arith, ints, low.0, low.1, high.0, high.1))
 
 pub unmap_by_center-offset-requires-clause-delta_in : goal.unmap_by_center-offset-requires-clause-delta_in
 unmap_by_center-offset-requires-clause-delta_in c =
@@ -53,9 +50,7 @@ module _ (c : After-unmap_by_center-offset) where
   sample_found : to_z w32 (of_z w32 (to_z w32 (of_z w32 c.args.range.now.smin) +ℤ to_z w32 (of_z w32 c.unmap_by_center-offset.result.0)))
       ≡ smin c.args.range.now.kind +ℤ c.unmap_by_center-offset.result.0
   sample_found =
-      let r = c.args.range.now in
-      let low = r.low in
-      let high = r.high in
+      let r = c.args.range.now in let low = r.low in let high = r.high in
       sample_is r.smin (smax r.kind) _ low.0 low.1 within.0 (rw r.smin_is within.1) (rw (← r.smax_is) high.1)
       ∙ ap (λ v. v +ℤ c.unmap_by_center-offset.result.0) r.smin_is
 

@@ -42,8 +42,7 @@ predicted_difference-part-requires-clause-differences_in g c =
 
 pub update_by-requires-clause-differences_in : goal.update_by-requires-clause-differences_in
 update_by-requires-clause-differences_in g c =
-    let s = c.args.settings.now in
-    let d = (goal.at.update_by-requires-clause-differences_in g c).After-put_west in
+    let s = c.args.settings.now in let d = (goal.at.update_by-requires-clause-differences_in g c).After-put_west in
     let bits : s.range.bits ≡ c.args.cube.now.kind.bits = s.range.bits_is ∙ ap (λ (k : SampleKind). k.bits) (sym c.requires.kind) in
     within_room s.range.bits c.args.form.up c.put_west.new.components (rw bits c.requires.steps.room) (small g d)
 
@@ -75,8 +74,7 @@ module _ (g : given.Over) (c : After-update_by g) where
 pub returns-clause-inverse : goal.returns-clause-inverse
 returns-clause-inverse g c =
     let d = (goal.at.returns-clause-inverse g c).After-update_by in
-    let filled = filled g (goal.at.returns-clause-inverse g c).After-put_west in
-    let s = c.args.settings.now in
+    let filled = filled g (goal.at.returns-clause-inverse g c).After-put_west in let s = c.args.settings.now in
     let fits : SFits w32 c.sample_by_part-found.result.0 = search rules in
     let part_fits : SFits w32 c.predicted_difference-part.result = search rules in
     let scaled = scaled_from_room s.predictor c.args.cube.now s.band c.args.y c.args.x s.count g.row.N c.args.weights.now c.put_west.new.components
@@ -92,8 +90,7 @@ returns-clause-inverse g c =
 pub returns-clause-weights : goal.returns-clause-weights
 returns-clause-weights g c =
     let d = (goal.at.returns-clause-weights g c).After-update_by in
-    let filled = filled g (goal.at.returns-clause-weights g c).After-put_west in
-    let s = c.args.settings.now in
+    let filled = filled g (goal.at.returns-clause-weights g c).After-put_west in let s = c.args.settings.now in
     let found = c.sample_by_part-found.result.0 in
     let fits : SFits w32 c.sample_by_part-found.result.0 = search rules in
     let part_fits : SFits w32 c.predicted_difference-part.result = search rules in

@@ -15,6 +15,5 @@ returns-then-this-ne0-clause-other_predicted g c h =
 
 pub returns-else-this-ne0-clause-predicted : goal.returns-else-this-ne0-clause-predicted
 returns-else-this-ne0-clause-predicted g c =
-    let told = c.write_residuals-else-this-ne0.ensures in
-    let followed = c.follow_run-else-this-ne0.ensures in
+    let told = c.write_residuals-else-this-ne0.ensures in let followed = c.follow_run-else-this-ne0.ensures in
     predicted _ _ _ _ _ _ _ _ _ _ _ c.first_later-first.ensures followed.followed followed.bound told.bound told.residuals told.weights

@@ -21,8 +21,7 @@ later_is : (g : given.Over) (c : After-map_run g) (p : Params) (begun ws : List 
     → slice_index c.map_run.new.residuals i
     ≡ mapped_residual p c.args.cube.now c.args.run.settings.now.band (c.args.y * c.args.cube.now.shape.columns + c.args.x + i)
 later_is g c p begun ws f followed long i l m =
-    let s = c.args.run.settings.now in
-    let later = c.requires.first.later in
+    let s = c.args.run.settings.now in let later = c.requires.first.later in
     let there = at_first p s.predictor c.args.cube.now s.band c.args.y c.args.x c.args.first (take s.count begun) c.requires.first f in
     mapped_at p c.args.cube.now s.band c.args.y c.args.x i (slice_index c.map_run.new.residuals i) (scaled_by_difference c.args.cube.now.kind
     (slice_index_or c.args.state.now.parts i (pos 0)) (local_sum s.predictor c.args.cube.now s.band c.args.y (c.args.x + i)))
@@ -31,8 +30,7 @@ later_is g c p begun ws f followed long i l m =
 
 pub returns-then-first-eq1-clause-residuals : goal.returns-then-first-eq1-clause-residuals
 returns-then-first-eq1-clause-residuals g c p old ws f followed =
-    let d = (goal.at.returns-then-first-eq1-clause-residuals g c).After-map_run in
-    let s = c.args.run.settings.now in
+    let d = (goal.at.returns-then-first-eq1-clause-residuals g c).After-map_run in let s = c.args.run.settings.now in
     let long : length c.map_run.new.residuals ≡ c.args.count = search rules in
     let begins : c.args.y + c.args.x ≡ 0 = c.requires.first.start c.if-first-eq1.true in
     ap (take c.args.count) (set-append_left c.map_run.new.residuals _ 0 c.first_residual.result (omega (arith, long)))
@@ -45,8 +43,7 @@ returns-then-first-eq1-clause-residuals g c p old ws f followed =
 
 pub returns-else-first-eq1-clause-residuals : goal.returns-else-first-eq1-clause-residuals
 returns-else-first-eq1-clause-residuals g c p old ws f followed =
-    let d = (goal.at.returns-else-first-eq1-clause-residuals g c).After-map_run in
-    let s = c.args.run.settings.now in
+    let d = (goal.at.returns-else-first-eq1-clause-residuals g c).After-map_run in let s = c.args.run.settings.now in
     let long : length c.map_run.new.residuals ≡ c.args.count = search rules in
     let none : c.args.first ≡ 0 = omega (arith, c.if-first-eq1.false, c.requires.first.most) in
     take_at _ _ _ long

@@ -1,6 +1,7 @@
 use Rattle.std.proofs.Common.{◌≡◌, ℕ, ◌+◌, ◌-◌, ◌≤◌, List, ◌++◌, length, get_or, drop, replicate, arith, ap, ◌∙◌}
 use Rattle.std.proofs.lemmas.List.{get_or-append-add, get_or-drop, length-take-le}
 use Rattle.predict_core.proofs.Quads.{zero_at}
+use Rattle.std.proofs.lemmas.Grind.{common_steps}
 use Rattle.predict_core.proofs.mapping.copy_offsets.Goals as goal
 
 -- what stands behind those that were written
@@ -14,3 +15,6 @@ returns-else-count-eq64-clause-rest c k l =
     let long : length c.copy_from_slice-else-count-eq64.new.self ≡ c.args.count =
     c.copy_from_slice-else-count-eq64.ensures.len ∙ length-take-le _ _ (omega arith) in
     behind c.copy_from_slice-else-count-eq64.new.self c.args.offsets.now c.args.count k long l c.requires.clear
+
+pub returns-else-count-eq64-clause-written : goal.returns-else-count-eq64-clause-written
+returns-else-count-eq64-clause-written c = grind (arith, common_steps)

@@ -22,9 +22,7 @@ module _ (c : After-copy_offsets) where
   width : to_z w32 (of_z w32 (to_z w32 (of_z w32 c.args.settings.now.range.smax) -ℤ to_z w32 (of_z w32 c.args.settings.now.range.smin)))
       ≡ smax c.args.cube.now.kind -ℤ smin c.args.cube.now.kind
   width =
-      let r = c.args.settings.now.range in
-      let low = r.low in
-      let high = r.high in
+      let r = c.args.settings.now.range in let low = r.low in let high = r.high in
       let least : r.smin ≡ smin c.args.cube.now.kind = r.smin_is ∙ ap (λ (k : SampleKind). smin k) (sym c.requires.kind) in
       let most : r.smax ≡ smax c.args.cube.now.kind = r.smax_is ∙ ap (λ (k : SampleKind). smax k) (sym c.requires.kind) in
       rw (← least, ← most) (omega (arith, ints, low.0, low.1, high.0, high.1))
@@ -50,8 +48,7 @@ module _ (c : After-copy_from_slice) (i : ℕ) (l : i < length c.copy_from_slice
 pub returns-clause-bound : goal.returns-clause-bound
 returns-clause-bound c i l =
     let d = (goal.at.returns-clause-bound c).After-copy_offsets in
-    let e = (goal.at.returns-clause-bound c).After-copy_from_slice in
-    let within = within e i l in
+    let e = (goal.at.returns-clause-bound c).After-copy_from_slice in let within = within e i l in
     let few = c.requires.few in
     rw (written e i l) (in_power _ _ _ (powers d) (rw (width d) at c.map_places.ensures.bound i (omega arith)))
 
@@ -59,13 +56,9 @@ pub returns-clause-values : goal.returns-clause-values
 unfolding offset_number
 returns-clause-values c i l h =
     let d = (goal.at.returns-clause-values c).After-copy_offsets in
-    let e = (goal.at.returns-clause-values c).After-copy_from_slice in
-    let s = c.args.settings.now in
-    let k : SampleKind = c.args.cube.now.kind in
-    let within = within e i l in
-    let few = c.requires.few in
-    let part : ℤ = get_or c.args.parts.now i (pos 0) in
-    let sum : ℤ = get_or c.args.sums.now i (pos 0) in
+    let e = (goal.at.returns-clause-values c).After-copy_from_slice in let s = c.args.settings.now in
+    let k : SampleKind = c.args.cube.now.kind in let within = within e i l in let few = c.requires.few in
+    let part : ℤ = get_or c.args.parts.now i (pos 0) in let sum : ℤ = get_or c.args.sums.now i (pos 0) in
     let number = rw (width d) at (c.map_places.ensures.values i (omega arith) (c.requires.parts_in i within h) (c.requires.sum_least i within h)
     (c.requires.sum_most i within h)) in
     let sample = (c.row-row.ensures.samples (c.args.x + i) (omega (arith, within, c.requires.inside))).1 in

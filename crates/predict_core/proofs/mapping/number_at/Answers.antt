@@ -16,9 +16,7 @@ beyond_is a b h k = omega (arith, ints)
 
 pub overflow_sub-offset : goal.overflow_sub-offset
 overflow_sub-offset c =
-    let t = c.requires.twice_in in
-    let h = c.requires.offset_in in
-    let g = c.requires.greatest_in in
+    let t = c.requires.twice_in in let h = c.requires.offset_in in let g = c.requires.greatest_in in
     fits_signed_from_abs w32 (to_z w32 (of_z w32 (pos 2 *ℤ to_z w32 (of_z w32 c.args.offset))) -ℤ to_z w32 (of_z w32 c.args.twice))
     (omega (arith, ints, t.0, t.1, h.0, h.1, g.0, g.1))
 
@@ -28,9 +26,7 @@ by_turns-requires c = let t = c.requires.twice_in in let h = c.requires.offset_i
 
 value : (c : After-min) → to_z w32 (of_z w32 c.min.result) ≡ pos (mapped_between (pos 0) c.args.greatest c.args.twice c.args.offset)
 value c =
-    let g = c.requires.greatest_in in
-    let t = c.requires.twice_in in
-    let h = c.requires.offset_in in
+    let g = c.requires.greatest_in in let t = c.requires.twice_in in let h = c.requires.offset_in in
     let half_fits : SFits w32 c.prediction_of-value.result = search rules in
     let turned_fits : SFits w32 c.by_turns.result = search rules in
     let min_fits : SFits w32 c.min.result = search rules in
@@ -47,9 +43,7 @@ returns-clause-value c = value (goal.at.returns-clause-value c).After-min
 
 pub returns-clause-bounds : goal.returns-clause-bounds
 returns-clause-bounds c =
-    let e = value (goal.at.returns-clause-bounds c).After-min in
-    let t = c.requires.twice_in in
-    let h = c.requires.offset_in in
-    let g = c.requires.greatest_in in
+    let e = value (goal.at.returns-clause-bounds c).After-min in let t = c.requires.twice_in in
+    let h = c.requires.offset_in in let g = c.requires.greatest_in in
     let most = number_in (pos 0) c.args.greatest c.args.twice (omega (arith, ints, t.0)) t.1 c.args.offset h in
     rw e (omega (arith, ints), omega (arith, ints, most))

@@ -19,15 +19,13 @@ held c =
     let g = c.requires.greatest_in in
     let more = one_more c.prediction_of-upper.result
     ((of_z w32 c.args.part + of_z w32 c.args.sum) % 4294967296) (mod-lt _ (lit< tt)) c.prediction_of-upper.ensures.high c.prediction_of-upper.ensures.low in
-    let min_fits : SFits w32 c.min.result = search rules in
-    let max_fits : SFits w32 c.max.result = search rules in
+    let min_fits : SFits w32 c.min.result = search rules in let max_fits : SFits w32 c.max.result = search rules in
     let a = rw (more, top_is c.args.greatest g.0 g.1) at c.min.ensures.value in
     to_z-of_z max_fits ∙ rw (to_z-of_z min_fits, a) at c.max.ensures.value
 
 pub returns-clause-bounds : goal.returns-clause-bounds
 returns-clause-bounds c =
-    let e = held (goal.at.returns-clause-bounds c).After-max in
-    let g = c.requires.greatest_in in
+    let e = held (goal.at.returns-clause-bounds c).After-max in let g = c.requires.greatest_in in
     rw e (omega (arith, ints, clamps, g.0), omega (arith, ints, clamps, g.0))
 
 pub returns-clause-value : goal.returns-clause-value

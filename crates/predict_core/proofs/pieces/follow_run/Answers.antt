@@ -7,8 +7,7 @@ use Rattle.predict_core.proofs.pieces.follow_run.Goals as goal
 
 pub follow_places-requires : goal.follow_places-requires
 follow_places-requires g c =
-    let kept = c.loop-at.invariant in
-    let few = c.places_alike.ensures.few in
+    let kept = c.loop-at.invariant in let few = c.places_alike.ensures.few in
     let run = first_of_run _ _ _ _ _ _ _ _ _ _ _ _ (omega (arith, few)) c.requires.run in
     let other = first_of_run _ _ _ _ _ _ _ _ _ _ _ _ (omega (arith, few)) c.requires.other in
     let later : 0 < c.args.y + (c.args.x + c.loop-at.at) = omega (arith, c.requires.later, kept.begun) in
@@ -18,8 +17,7 @@ follow_places-requires g c =
         → to_z w32 (of_z w32 c.exponent_at.result) ≡ step_exponent c.args.run.settings.now.predictor c.args.cube.now.shape.columns c.args.cube.now.kind.bits
         (c.args.y * c.args.cube.now.shape.columns + (c.args.x + i))
     exponent i l m =
-        let s = c.args.run.settings.now in
-        let fits : SFits w32 c.exponent_at.result = search rules in
+        let s = c.args.run.settings.now in let fits : SFits w32 c.exponent_at.result = search rules in
         let e = c.requires.run.columns in
         let place : c.args.y * s.columns + c.args.x + c.loop-at.at + (i - c.loop-at.at) ≡ c.args.y * c.args.cube.now.shape.columns + (c.args.x + i) =
         rw e (omega (arith, l)) in
@@ -35,8 +33,7 @@ follow_places-requires g c =
 
 pub loop-at-preserved : goal.loop-at-preserved
 loop-at-preserved g c =
-    let kept = c.loop-at.invariant in
-    let next = c.follow_places.ensures in
+    let kept = c.loop-at.invariant in let next = c.follow_places.ensures in
     record {
       begun = omega (arith, kept.begun);
       within = omega (arith, c.places_alike.ensures.few);

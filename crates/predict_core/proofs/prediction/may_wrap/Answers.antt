@@ -17,9 +17,7 @@ upper_is part sum middle a b d e f = omega (arith, ints, a, b, d, e, f)
 pub returns-then-this-ne0 : goal.returns-then-this-ne0
 returns-then-this-ne0 g c = record {
   kept = λ h.
-      let p = c.args.predictor.now in
-      let r = c.args.range.now in
-      let sum = c.requires.sum_in in
+      let p = c.args.predictor.now in let r = c.args.range.now in let sum = c.requires.sum_in in
       let upper = upper_is c.args.part c.args.sum r.smid c.requires.part_in sum.0 sum.1 r.mid.0 r.mid.1 in
       let size : c.unsigned_abs.result ≡ unsigned_abs (floor_div c.args.product (2 ^ p.omega) +ℤ (c.args.sum -ℤ pos 4 *ℤ smid r.kind)) =
       rw (upper, r.smid_is, c.requires.part_is) at c.unsigned_abs.ensures.value in
@@ -30,9 +28,7 @@ returns-then-this-ne0 g c = record {
 pub returns-else-this-ne0 : goal.returns-else-this-ne0
 returns-else-this-ne0 g c = record {
   kept = λ h.
-      let p = c.args.predictor.now in
-      let r = c.args.range.now in
-      let sum = c.requires.sum_in in
+      let p = c.args.predictor.now in let r = c.args.range.now in let sum = c.requires.sum_in in
       let wide : 46 ≤ p.register = c.requires.register (rw c.if-this-ne0.false refl) in
       let part : unsigned_abs (floor_div c.args.product (2 ^ p.omega)) ≤ 18 * 2 ^ 20 = rw c.requires.part_is at c.requires.part_in in
       let small : unsigned_abs (floor_div c.args.product (2 ^ p.omega) +ℤ (c.args.sum -ℤ pos 4 *ℤ smid r.kind)) < 2 ^ 26 =

@@ -17,8 +17,7 @@ returns-then-may_wrap-clause-scaled g c =
 
 pub returns-else-may_wrap-clause-scaled : goal.returns-else-may_wrap-clause-scaled
 returns-else-may_wrap-clause-scaled g c =
-    let p = c.args.predictor.now in
-    let product_fits : SFits w64 c.product_of_first-product.result = search rules in
+    let p = c.args.predictor.now in let product_fits : SFits w64 c.product_of_first-product.result = search rules in
     let result_fits : SFits w32 c.whole_product-part.result = search rules in
     let kept = rw c.product_of_first-product.ensures.value at
     (simp (to_z-of_z product_fits, to_z-of_z c.ranges.sum) at (c.if-may_wrap.ensures.kept refl)) in

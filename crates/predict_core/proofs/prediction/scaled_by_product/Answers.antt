@@ -1,4 +1,4 @@
-use Rattle.std.proofs.Common.{SFits, w32, w64, to_z-of_z, rules}
+use Rattle.std.proofs.Common.{SFits, w32, w64, to_z-of_z, rules, arith}
 use Rattle.std.proofs.lemmas.Int.{ints}
 use Rattle.predict_core.proofs.Scaled.{scaled_is}
 use Rattle.predict_core.proofs.prediction.scaled_by_product.Goals as goal
@@ -33,3 +33,9 @@ returns-clause-scaled c =
     let result_fits : SFits w32 c.scaled_from.result = search rules in
     rw (to_z-of_z result_fits, ← c.args.range.now.smin_is, ← c.args.range.now.smax_is)
     (simp (to_z-of_z (low_fits at)) at c.scaled_from.ensures.low_end, simp (to_z-of_z (high_fits at)) at c.scaled_from.ensures.high_end)
+
+pub register_of-requires-clause-omega_in : goal.register_of-requires-clause-omega_in
+register_of-requires-clause-omega_in c = omega arith
+
+pub scaled_from-requires-clause-low_in : goal.scaled_from-requires-clause-low_in
+scaled_from-requires-clause-low_in c = omega (arith, ints)

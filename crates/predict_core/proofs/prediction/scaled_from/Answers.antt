@@ -24,12 +24,10 @@ returns-clause-value c =
 
 pub returns-clause-low_end : goal.returns-clause-low_end
 returns-clause-low_end c =
-    let wide : SFits w64 c.clamp.result = search rules in
-    let d = (goal.at.returns-clause-low_end c).After-clamp in
+    let wide : SFits w64 c.clamp.result = search rules in let d = (goal.at.returns-clause-low_end c).After-clamp in
     rw (to_z-of_z wide, to_z-of_z (narrow d)) (low_is d)
 
 pub returns-clause-high_end : goal.returns-clause-high_end
 returns-clause-high_end c =
-    let wide : SFits w64 c.clamp.result = search rules in
-    let d = (goal.at.returns-clause-high_end c).After-clamp in
+    let wide : SFits w64 c.clamp.result = search rules in let d = (goal.at.returns-clause-high_end c).After-clamp in
     rw (to_z-of_z wide, to_z-of_z (narrow d)) (high_is d)

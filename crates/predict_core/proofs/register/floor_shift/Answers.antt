@@ -1,4 +1,4 @@
-use Rattle.std.proofs.Common.{to_z-of_z, ◌^◌}
+use Rattle.std.proofs.Common.{to_z-of_z, ◌^◌, rules}
 use Rattle.predict_core.proofs.Scaled.{halved_bound, halved_shrinks}
 use Rattle.predict_core.proofs.Raising.{SFits-div}
 use Rattle.predict_core.proofs.register.floor_shift.Goals as goal
@@ -9,3 +9,6 @@ returns-clause-bound c h = rw (to_z-of_z c.ranges.value, to_z-of_z (SFits-div c.
 pub returns-clause-shrinks : goal.returns-clause-shrinks
 returns-clause-shrinks c =
     rw (to_z-of_z c.ranges.value, to_z-of_z (SFits-div c.args.value (2 ^ c.args.by) c.ranges.value)) (halved_shrinks c.args.value (2 ^ c.args.by))
+
+pub returns-clause-value : goal.returns-clause-value
+returns-clause-value c = search rules

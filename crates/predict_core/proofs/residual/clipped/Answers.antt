@@ -13,8 +13,7 @@ bottom_is low h k = omega (arith, ints)
 
 held : (c : After-max) → to_z w32 (of_z w32 c.max.result) ≡ int_max (int_min c.args.center (pos 2 *ℤ c.args.high +ℤ pos 1)) (pos 2 *ℤ c.args.low)
 held c =
-    let min_fits : SFits w32 c.min.result = search rules in
-    let max_fits : SFits w32 c.max.result = search rules in
+    let min_fits : SFits w32 c.min.result = search rules in let max_fits : SFits w32 c.max.result = search rules in
     let top = top_is c.args.high (omega (arith, ints, c.requires.low_in, c.requires.order)) c.requires.high_top in
     let bottom = bottom_is c.args.low c.requires.low_in (omega (arith, ints, c.requires.order, c.requires.high_top)) in
     let a = rw (top, to_z-of_z c.ranges.center) at c.min.ensures.value in
@@ -27,6 +26,4 @@ pub returns-clause-least : goal.returns-clause-least
 returns-clause-least c = let d = (goal.at.returns-clause-least c).After-max in rw (held d) (omega (arith, ints, clamps))
 
 pub returns-clause-most : goal.returns-clause-most
-returns-clause-most c =
-    let d = (goal.at.returns-clause-most c).After-max in
-    rw (held d) (omega (arith, ints, clamps, c.requires.order))
+returns-clause-most c = let d = (goal.at.returns-clause-most c).After-max in rw (held d) (omega (arith, ints, clamps, c.requires.order))

@@ -15,9 +15,7 @@ inside c =
     within _ _ _ _ c.requires.scaled_low c.requires.scaled_high a b
 
 error_fits : (c : After-has_sign-sign) → SFits w32 (c.args.v -ℤ c.prediction_of-predicted.result)
-error_fits c =
-    let i = inside c in
-    SFits-near c.prediction_of-predicted.result c.args.v (omega (arith, ints)) (omega (arith, ints))
+error_fits c = let i = inside c in SFits-near c.prediction_of-predicted.result c.args.v (omega (arith, ints)) (omega (arith, ints))
 
 size_is : (c : After-has_sign-sign) → c.unsigned_abs-size.result ≡ unsigned_abs (c.args.v -ℤ c.prediction_of-predicted.result)
 size_is c = simp (to_z-of_z c.ranges.v, to_z-of_z (predicted_fits c), to_z-of_z (error_fits c)) at c.unsigned_abs-size.ensures.value

@@ -55,8 +55,7 @@ module _ (c : After-unsigned_abs) where
   whole : scaled ≡ c.args.center
   whole =
       let l = simp (to_z-of_z c.ranges.center) at c.prediction_of-predicted.ensures.low in
-      let h = simp (to_z-of_z c.ranges.center) at c.prediction_of-predicted.ensures.high in
-      let a = least in
+      let h = simp (to_z-of_z c.ranges.center) at c.prediction_of-predicted.ensures.high in let a = least in
       let b = most in
       omega (arith, ints, clamps, l, h, a, b)
 

@@ -15,8 +15,7 @@ returns-then-y-eq0-clause-quad c = λ i l h.
 
 pub returns-then-x-eq0-clause-quad : goal.returns-then-x-eq0-clause-quad
 returns-then-x-eq0-clause-quad c = λ i l h.
-    let s = c.args.settings.now in
-    let column = under_top s.predictor.column c.args.y c.if-y-eq0.false in
+    let s = c.args.settings.now in let column = under_top s.predictor.column c.args.y c.if-y-eq0.false in
     let below = rw column at (c.fill_below.ensures i l h) in
     elim (cases_eq i 0) [
       | inl e ↦ (let first = c.fill_directions.ensures.quads 0 (omega arith) in
@@ -32,8 +31,7 @@ returns-then-x-eq0-clause-quad c = λ i l h.
 
 pub returns-else-x-eq0-clause-quad : goal.returns-else-x-eq0-clause-quad
 returns-else-x-eq0-clause-quad c = λ i l h.
-    let s = c.args.settings.now in
-    let column = under_top s.predictor.column c.args.y c.if-y-eq0.false in
+    let s = c.args.settings.now in let column = under_top s.predictor.column c.args.y c.if-y-eq0.false in
     let below = rw column at (c.fill_below.ensures i l h) in
     let along = rw column at (c.requires.lines.directions i l (omega arith) (omega arith)) in
     first_under s.predictor c.args.cube.now s.band c.args.y (c.args.x + i) _ _ _ _ _ below along (c.fill_directions.ensures.quads i (omega arith))

@@ -22,8 +22,7 @@ module _ (g : given.Over) (c : After-fill_line_above g) where
 
 pub returns-then-settings : goal.returns-then-settings
 returns-then-settings g c = λ i l.
-    let d = (goal.at.returns-then-settings g c).After-fill_line_above in
-    let s = c.args.settings.now in
+    let d = (goal.at.returns-then-settings g c).After-fill_line_above in let s = c.args.settings.now in
     reduced_part s.predictor c.args.cube.now s.band c.args.y (c.args.x + i) s.count _ _ c.if-settings.true s.count_is
     (c.fill_open_sums.ensures i (omega arith) ∙ summed g d i l)
     (c.fill_spectral.ensures i l (omega arith) ∙ ap (λ us. us
@@ -35,10 +34,8 @@ module _ (g : given.Over) (c : After-fill_spectral-else-settings g) where
 
   some : 0 < length c.args.quads.now
   some =
-      let s = c.args.settings.now in
-      let three = s.count_is ∙ full_count s.predictor s.band c.if-settings.false in
-      let enough = c.requires.enough in
-      let long = c.told-quads in
+      let s = c.args.settings.now in let three = s.count_is ∙ full_count s.predictor s.band c.if-settings.false in
+      let enough = c.requires.enough in let long = c.told-quads in
       omega (arith, three, enough, long)
 
   below : ℕ → ℤ

@@ -8,8 +8,7 @@ use Rattle.predict_core.proofs.room.fill_run.Goals as goal
 
 pub returns-then-settings : goal.returns-then-settings
 returns-then-settings g c =
-    let s = c.args.settings.now in
-    let sums = rw c.is_column-column.ensures at c.fill_own.ensures.sums in
+    let s = c.args.settings.now in let sums = rw c.is_column-column.ensures at c.fill_own.ensures.sums in
     let own = rw c.is_column-column.ensures at c.fill_own.ensures.own in
     let vectors : (i : ℕ) → i < c.args.count → 0 < c.args.y + (c.args.x + i) → components_at (quads_of s.count) c.fill_spectral.new.quads i
     ≡ difference_vector s.predictor c.args.cube.now s.band c.args.y (c.args.x + i) ++ replicate (4 * quads_of s.count - s.count) (pos 0) =
@@ -21,8 +20,7 @@ returns-then-settings g c =
 
 pub returns-else-settings : goal.returns-else-settings
 returns-else-settings g c =
-    let s = c.args.settings.now in
-    let three = s.count_is ∙ full_count s.predictor s.band c.if-settings.false in
+    let s = c.args.settings.now in let three = s.count_is ∙ full_count s.predictor s.band c.if-settings.false in
     let some : 0 < length c.args.quads.now = (let enough = c.requires.enough in let long = c.told-quads in omega (arith, three, enough, long)) in
     let head : (i : ℕ) → i < c.args.count → 0 < c.args.y + (c.args.x + i)
     → components_at 1 (set c.args.quads.now 0 c.fill_first.new.quad) i ≡ directional_differences s.predictor c.args.cube.now s.band c.args.y (c.args.x + i)

@@ -8,9 +8,7 @@ use Rattle.predict_core.proofs.settings.predict.Goals as goal
 
 pub returns-clause-value : goal.returns-clause-value
 returns-clause-value c =
-    let s = c.args.settings.now in
-    let r = s.range in
-    let fits : SFits w32 c.scaled_by-scaled.result = search rules in
+    let s = c.args.settings.now in let r = s.range in let fits : SFits w32 c.scaled_by-scaled.result = search rules in
     let low : smin c.args.cube.now.kind ≡ r.smin = ap (λ (k : SampleKind). smin k) c.requires.kind ∙ sym r.smin_is in
     let us = difference_vector s.predictor c.args.cube.now s.band c.args.y c.args.x in
     let long : length us ≡ s.count = vector_length s.predictor c.args.cube.now s.band c.args.y c.args.x ∙ sym s.count_is in

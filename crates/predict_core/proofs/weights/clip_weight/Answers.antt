@@ -45,8 +45,7 @@ pub returns-clause-bound : goal.returns-clause-bound
 returns-clause-bound c =
     let p = limit_within c.args.omega c.requires.omega_in in
     let q : 1 ≤ 2 ^ (c.args.omega + 2) = pow_pos (c.args.omega + 2) in
-    let fits : SFits w32 c.max.result = search rules in
-    let e = clipped (goal.at.returns-clause-bound c).After-max in
+    let fits : SFits w32 c.max.result = search rules in let e = clipped (goal.at.returns-clause-bound c).After-max in
     rw (to_z-of_z fits) (held_within (2 ^ (c.args.omega + 2)) _ q
     (clipped_low (c.args.weight +ℤ c.args.step) (pos 0 -ℤ pos (2 ^ (c.args.omega + 2))) (pos (2 ^ (c.args.omega + 2)) -ℤ pos 1) _ e) (clipped_high
     (c.args.weight +ℤ c.args.step) (pos 0 -ℤ pos (2 ^ (c.args.omega + 2))) (pos (2 ^ (c.args.omega + 2)) -ℤ pos 1) _ (omega (arith, ints, q)) e))

@@ -5,8 +5,7 @@ use Rattle.predict_core.proofs.weights.halving.Goals as goal
 
 pub invariant_of-result : goal.invariant_of-result
 invariant_of-result c =
-    let few = c.requires in
-    let power : 2 ^ c.args.by ≤ 2 ^ 21 = pow_mono few in
+    let few = c.requires in let power : 2 ^ c.args.by ≤ 2 ^ 21 = pow_mono few in
     let half : to_z w32 (1 * 2 ^ c.args.by % 2 ^ 32) ≡ pos (2 ^ c.args.by) = bit_in_word c.args.by (omega (arith, few)) in
     record { up_in = omega arith; half_in = (rw half (omega (arith, ints)), rw half (omega (arith, ints, power))); down_in = omega (arith, few) }
 

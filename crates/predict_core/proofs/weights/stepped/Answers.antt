@@ -26,14 +26,12 @@ module _ (c : Start) where
 
 pub overflow_add-result : goal.overflow_add-result
 overflow_add-result c =
-    let s = (goal.at.overflow_add-result c).Start in
-    let up = c.args.form.up_in in
+    let s = (goal.at.overflow_add-result c).Start in let up = c.args.form.up_in in
     rw (to_z-of_z c.ranges.size, bit_in_word c.args.form.up (omega (arith, up)), to_z-of_z (product_fits s), to_z-of_z (half_fits s)) (SFits-27 _ (within s))
 
 pub returns-clause-value : goal.returns-clause-value
 returns-clause-value c =
-    let s = (goal.at.returns-clause-value c).Start in
-    let up = c.args.form.up_in in
+    let s = (goal.at.returns-clause-value c).Start in let up = c.args.form.up_in in
     rw (
       to_z-of_z c.ranges.size,
       bit_in_word c.args.form.up (omega (arith, up)),

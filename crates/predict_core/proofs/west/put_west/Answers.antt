@@ -50,14 +50,12 @@ module _ (c : After-prove_is_cube) where
   directions : reduced ≡ false → directional_differences c.args.settings.now.predictor c.args.cube.now c.args.settings.now.band c.args.y c.args.x ≡ full
   unfolding open_directions
   directions r =
-      let s = c.args.settings.now in
-      let h = three_heads c.args.components.now _ _ _ (c.requires.directions r) in
+      let s = c.args.settings.now in let h = three_heads c.args.components.now _ _ _ (c.requires.directions r) in
       rw (h.0, h.1, h.2) (closed_directions s.predictor c.args.cube.now s.band c.args.y c.args.x c.args.west (omega (arith, c.requires.later)) c.requires.west)
 
   small : reduced ≡ false → AllWithin 262144 full
   small r i l =
-      let s = c.args.settings.now in
-      let cube = c.prove_is_cube.ensures in
+      let s = c.args.settings.now in let cube = c.prove_is_cube.ensures in
       let power : 2 ^ c.args.cube.now.kind.bits ≤ 2 ^ 16 = pow_mono (cube.bits.1) in
       let w = directional_within s.predictor c.args.cube.now cube c.args.y c.args.x (omega (arith, c.requires.later)) (rw c.requires.columns s.wide) s.band
       c.requires.place in
@@ -116,8 +114,7 @@ with_west-north_west-requires-clause-once_in c =
 
 pub with_west-below-requires-clause-west_in : goal.with_west-below-requires-clause-west_in
 with_west-below-requires-clause-west_in c =
-    let d = (goal.at.with_west-below-requires-clause-west_in c).After-prove_is_cube in
-    let w = c.ranges.west.fits in
+    let d = (goal.at.with_west-below-requires-clause-west_in c).After-prove_is_cube in let w = c.ranges.west.fits in
     rw (offset d) (omega (arith, ints), omega (arith, ints, w))
 
 -- what is written, with the offset added where the masks let it through
@@ -128,35 +125,30 @@ module _ (c : After-with_west-below) where
   north_is : (b : Bool) → reduced from ≡ b
       → to_z w32 (of_z w32 c.with_west-north.result) ≡ lane (part from 0) (pos 0) (unless (b || column from)) (pos c.args.west)
   north_is b r =
-      let m = c.args.settings.now.west_is in
-      let fits : SFits w32 c.with_west-north.result = search rules in
+      let m = c.args.settings.now.west_is in let fits : SFits w32 c.with_west-north.result = search rules in
       to_z-of_z fits ∙ (rw (m.four_north, m.once_north, part_is from 0 (omega arith), once_is from, offset from, r) at c.with_west-north.ensures)
 
   west_is : (b : Bool) → reduced from ≡ b
       → to_z w32 (of_z w32 c.with_west-west.result) ≡ lane (part from 1) (unless b) (unless (b || column from)) (pos c.args.west)
   west_is b r =
-      let m = c.args.settings.now.west_is in
-      let fits : SFits w32 c.with_west-west.result = search rules in
+      let m = c.args.settings.now.west_is in let fits : SFits w32 c.with_west-west.result = search rules in
       to_z-of_z fits ∙ (rw (m.four_west, m.once_west, part_is from 1 (omega arith), once_is from, four_is from, offset from, r) at c.with_west-west.ensures)
 
   north_west_is : (b : Bool) → reduced from ≡ b
       → to_z w32 (of_z w32 c.with_west-north_west.result) ≡ lane (part from 2) (pos 0) (unless (b || column from)) (pos c.args.west)
   north_west_is b r =
-      let m = c.args.settings.now.west_is in
-      let fits : SFits w32 c.with_west-north_west.result = search rules in
+      let m = c.args.settings.now.west_is in let fits : SFits w32 c.with_west-north_west.result = search rules in
       to_z-of_z fits ∙ (rw (m.four_north_west, m.once_north_west, part_is from 2 (omega arith), once_is from, offset from, r) at c.with_west-north_west.ensures)
 
   below_is : to_z w32 (of_z w32 c.with_west-below.result) ≡ part from 3
   below_is =
-      let m = c.args.settings.now.west_is in
-      let fits : SFits w32 c.with_west-below.result = search rules in
+      let m = c.args.settings.now.west_is in let fits : SFits w32 c.with_west-below.result = search rules in
       to_z-of_z fits ∙ (rw (m.four_below, m.once_below, part_is from 3 (omega arith)) at c.with_west-below.ensures)
       ∙ lane_kept (part from 3) (to_z w32 c.args.west)
 
 pub returns-clause-full : goal.returns-clause-full
 returns-clause-full c r =
-    let d = from c in
-    let long = c.told-components in
+    let d = from c in let long = c.told-components in
     rw (directions d r)
     (three_over_four c.args.components.now _ _ _ _ (omega (arith, long)) (below_is c)
     ∙ ap₂ (λ a bs. a ∷ bs) (north_is c false r ∙ full_lane (part d 0) c.args.west (column d))
@@ -165,7 +157,6 @@ returns-clause-full c r =
 
 pub returns-clause-reduced : goal.returns-clause-reduced
 returns-clause-reduced c r =
-    let d = from c in
-    let long = c.told-components in
+    let d = from c in let long = c.told-components in
     four_kept c.args.components.now _ _ _ _ (omega (arith, long)) (below_is c) (north_is c true r ∙ reduced_lane (part d 0) c.args.west (column d))
     (west_is c true r ∙ reduced_west_lane (part d 1) c.args.west (column d)) (north_west_is c true r ∙ reduced_lane (part d 2) c.args.west (column d))

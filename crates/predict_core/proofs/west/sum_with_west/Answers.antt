@@ -25,9 +25,7 @@ module _ (c : After-masked) where
 
   within : (pos 0 ≤ℤ (c.args.sum +ℤ c.masked.result)) × ((c.args.sum +ℤ c.masked.result) ≤ℤ pos 262140)
   within =
-      let s = c.args.settings.now in
-      let cube = c.prove_is_cube.ensures in
-      let k = c.args.cube.now.kind in
+      let s = c.args.settings.now in let cube = c.prove_is_cube.ensures in let k = c.args.cube.now.kind in
       offset_sum_most (smin k) (smax k) _ (c.args.sum +ℤ c.masked.result) (2 ^ k.bits) (span k cube.bits) (pow_mono (cube.bits.1))
       (sum_within s.predictor c.args.cube.now cube c.args.y c.args.x (omega (arith, c.requires.later)) (rw c.requires.columns s.wide) s.band
       c.requires.place) (sym whole)
@@ -39,20 +37,15 @@ module _ (c : After-masked) where
   fits = let b = within in fits_signed_from_abs w32 (c.args.sum +ℤ c.masked.result) (omega (arith, ints, b.0, b.1))
 
 pub overflow_add-result : goal.overflow_add-result
-overflow_add-result c =
-    let d = (goal.at.overflow_add-result c).After-masked in
-    rw (to_z-of_z c.ranges.sum, to_z-of_z (part_fits d)) (fits d)
+overflow_add-result c = let d = (goal.at.overflow_add-result c).After-masked in rw (to_z-of_z c.ranges.sum, to_z-of_z (part_fits d)) (fits d)
 
 pub overflow_cast-result : goal.overflow_cast-result
 overflow_cast-result c =
-    let d = (goal.at.overflow_cast-result c).After-masked in
-    let b = within d in
+    let d = (goal.at.overflow_cast-result c).After-masked in let b = within d in
     rw (to_z-of_z c.ranges.sum, to_z-of_z (part_fits d), to_z-of_z (fits d)) (search (b, rules, arith, ints), omega (arith, ints, b.0, b.1))
 
 pub returns-clause-bound : goal.returns-clause-bound
-returns-clause-bound c =
-    let b = within c in
-    rw (to_z-of_z c.ranges.sum, to_z-of_z (part_fits c), to_z-of_z (fits c)) (omega (arith, ints, b.0, b.1))
+returns-clause-bound c = let b = within c in rw (to_z-of_z c.ranges.sum, to_z-of_z (part_fits c), to_z-of_z (fits c)) (omega (arith, ints, b.0, b.1))
 
 pub returns-clause-value : goal.returns-clause-value
 returns-clause-value c =

@@ -24,8 +24,7 @@ module _ (c : After-masked-2) where
 
   change_fits : SFits w32 (c.masked.result -ℤ c.masked-2.result)
   change_fits =
-      let a = c.masked.ensures.bound in
-      let b = c.masked-2.ensures.bound in
+      let a = c.masked.ensures.bound in let b = c.masked-2.ensures.bound in
       fits_signed_from_abs w32 (c.masked.result -ℤ c.masked-2.result) (omega (arith, ints, a.0, a.1, b.0, b.1))
 
   whole : c.args.part +ℤ (c.masked.result -ℤ c.masked-2.result)
@@ -41,5 +40,4 @@ overflow_add-result c =
     rw (to_z-of_z c.ranges.part, to_z-of_z (added_fits d), to_z-of_z (taken_fits d), to_z-of_z (change_fits d)) (fits d)
 
 pub returns : goal.returns
-returns c =
-    rw (to_z-of_z c.ranges.part, to_z-of_z (added_fits c), to_z-of_z (taken_fits c), to_z-of_z (change_fits c), to_z-of_z (fits c)) (whole c)
+returns c = rw (to_z-of_z c.ranges.part, to_z-of_z (added_fits c), to_z-of_z (taken_fits c), to_z-of_z (change_fits c), to_z-of_z (fits c)) (whole c)

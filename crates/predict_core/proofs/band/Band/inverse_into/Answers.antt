@@ -18,11 +18,7 @@ returns-clause-written c =
     rw (to_z-of_z fits) (is s)
 
 pub returns-clause-residual : goal.returns-clause-residual
-returns-clause-residual c p f =
-    let s = (goal.at.returns-clause-residual c).After-set in
-    rw (is s) (c.inverse-sample.ensures.residual p f)
+returns-clause-residual c p f = let s = (goal.at.returns-clause-residual c).After-set in rw (is s) (c.inverse-sample.ensures.residual p f)
 
 pub returns-clause-follows : goal.returns-clause-follows
-returns-clause-follows c p f =
-    let s = (goal.at.returns-clause-follows c).After-set in
-    rw (is s) (c.inverse-sample.ensures.follows p f)
+returns-clause-follows c p f = let s = (goal.at.returns-clause-follows c).After-set in rw (is s) (c.inverse-sample.ensures.follows p f)

@@ -1,4 +1,4 @@
-use Rattle.std.proofs.Common.{◌∙◌, ap, sym, refl}
+use Rattle.std.proofs.Common.{◌∙◌, ap, sym, refl, rules}
 use Rattle.predict_core.specs.Predictor.{predictor_of, component_count}
 use Rattle.predict_core.specs.declared.predictor.Predictor.{Predictor}
 use Rattle.predict_core.proofs.Starting.{count_is, start_told}
@@ -15,3 +15,6 @@ returns-clause-follows c d = record {
   made = record { predictor = c.of-predictor.ensures.value; shape = refl; kind = c.of.ensures };
   weights = rw c.min-previous.ensures (start_told c.args.params.now d c.args.z c.start_of.result _ (rw c.min-previous.ensures at c.start_of.ensures.value));
 }
+
+pub returns-clause-made : goal.returns-clause-made
+returns-clause-made c = search rules
