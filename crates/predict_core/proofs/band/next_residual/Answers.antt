@@ -15,3 +15,12 @@ returns-clause-weights c =
     let e = rw (s.count_is, bits, ← c.requires.columns) at (simp (to_z-of_z fits) at c.learn.ensures.value us long padded) in
     next_is s.predictor c.args.cube.now s.band c.args.t c.args.y c.args.x _ _ c.predict-prediction.result.scaled _
     c.requires.t_is c.requires.place.column c.predict-prediction.ensures.value c.sample-sample.ensures.value e
+
+pub predict-prediction-requires-clause-later : goal.predict-prediction-requires-clause-later
+predict-prediction-requires-clause-later c = search rules
+
+pub learn-requires-clause-t_in : goal.learn-requires-clause-t_in
+learn-requires-clause-t_in c = search rules
+
+pub residual_of-requires-clause-scaled : goal.residual_of-requires-clause-scaled
+residual_of-requires-clause-scaled c = search rules

@@ -30,3 +30,6 @@ loop-i-preserved c =
       own_long = rw length-set kept.own_long;
       long = rw length-set kept.long;
     }
+
+pub returns-clause-sums : goal.returns-clause-sums
+returns-clause-sums c = search rules

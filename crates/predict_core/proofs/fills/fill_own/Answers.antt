@@ -18,3 +18,6 @@ loop-i-preserved c =
       sums_long = rw length-set kept.sums_long;
       own_long = rw length-set kept.own_long;
     }
+
+pub returns-clause-sums : goal.returns-clause-sums
+returns-clause-sums c = search rules

@@ -104,3 +104,12 @@ returns-clause-residuals g c p f =
     let kept = c.loop-i.invariant in
     let done : c.loop-i.i ≡ length c.args.run.deltas.now = omega (arith, c.loop-i-test.false, c.loop-i.auto.i-end) in
     rw kept.beside.alike.shape ((rw done at (kept.residuals p f)) ∙ take_all _ _ (omega arith))
+
+pub west_of-west-requires-clause-later : goal.west_of-west-requires-clause-later
+west_of-west-requires-clause-later g c = omega arith
+
+pub stretch_at-stretch-requires-clause-here : goal.stretch_at-stretch-requires-clause-here
+stretch_at-stretch-requires-clause-here g c = omega arith
+
+pub set-requires-clause-range : goal.set-requires-clause-range
+set-requires-clause-range g c = search rules

@@ -1,5 +1,5 @@
 use Rattle.std.proofs.Common.{◌^◌, ◌*ℤ◌, ◌≡◌, ◌≤◌, ◌+◌, ◌/◌, ℕ, ℤ, pos, ◌+ℤ◌, ◌-ℤ◌, ◌≤ℤ◌, int_lt, unsigned_abs, false, w32, to_z, of_z, to_z-of_z, arith, sym}
-use Rattle.std.proofs.Common.{ap, ap₂, ◌∙◌, Bool, subst}
+use Rattle.std.proofs.Common.{ap, ap₂, ◌∙◌, Bool, subst, rules}
 use Rattle.std.proofs.lemmas.Int.{ints, clamps}
 use Rattle.predict_core.specs.Arithmetic.{floor_div, clip}
 use Rattle.predict_core.specs.Mapping.{Between, unmapped_between}
@@ -122,3 +122,12 @@ returns-else-delta-unsigned_abs-eq0-clause-turn c =
     let d = (goal.at.returns-else-delta-unsigned_abs-eq0-clause-turn c).After-unsigned_abs in
     sign_of d _ _ (returns-else-delta-unsigned_abs-eq0-clause-value c)
     (odd_turn _ _ _ _ _ (half d) (least d) (most d) (rw (parity d) at c.if-delta-unsigned_abs-eq0.false))
+
+pub clipped-requires-clause-order : goal.clipped-requires-clause-order
+clipped-requires-clause-order c = search rules
+
+pub unmap_far-requires-clause-low_in : goal.unmap_far-requires-clause-low_in
+unmap_far-requires-clause-low_in c = search rules
+
+pub returns-then-below-low-clause-value : goal.returns-then-below-low-clause-value
+returns-then-below-low-clause-value c = search rules
