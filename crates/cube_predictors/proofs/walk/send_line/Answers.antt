@@ -3,8 +3,9 @@ use Rattle.std.specs.List.{flat_map}
 use Rattle.cube_core.specs.Order.{upto, group}
 use Rattle.cube_predictors.specs.Own.{own, row_of, line_of}
 use Rattle.cube_predictors.specs.Sends.{bands_of}
-use Rattle.cube_predictors.proofs.Sending.{Steps, none_yet, stepped, upto_rest, parted_put}
+use Rattle.cube_predictors.proofs.Sending.{Steps, none_yet, stepped, upto_rest, parted_put, bands_put}
 use Rattle.cube_predictors.proofs.Groups.{IsGroup, is_group, line_alone}
+use Rattle.std.proofs.lemmas.Grind.{common_steps}
 use Rattle.cube_predictors.proofs.walk.send_line.Goals as goal
 use Rattle.cube_predictors.proofs.walk.send_line.Goals.{After-count_own-count}
 use Rattle.cube_predictors.proofs.walk.send_line.Given.{Over}
@@ -73,3 +74,6 @@ pub loop-i-init : goal.loop-i-init
 loop-i-init g c =
     let sent = none_yet g.met.T.Taker.laws c.requires.may in
     record { first = omega arith; slot = refl; parted = record { done = tt; left = c.requires.at; same = refl }; sent = sent }
+
+pub returns-then-not-send_row-clause-same : goal.returns-then-not-send_row-clause-same
+returns-then-not-send_row-clause-same g c = grind (arith, common_steps, bands_put)
