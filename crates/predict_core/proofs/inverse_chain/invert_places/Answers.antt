@@ -11,6 +11,7 @@ use Rattle.predict_core.proofs.Directions.{is_west}
 use Rattle.predict_core.proofs.Inverting.{residual_put, sample_put, weights_put}
 use Rattle.predict_core.proofs.Runs.{later_place}
 use Rattle.predict_core.proofs.inverse_chain.invert_places.Given as given
+use Rattle.std.proofs.lemmas.Grind.{common_steps}
 use Rattle.predict_core.proofs.inverse_chain.invert_places.Goals as goal
 use Rattle.predict_core.proofs.inverse_chain.invert_places.Goals.{In-loop-i}
 
@@ -113,3 +114,6 @@ stretch_at-stretch-requires-clause-here g c = omega arith
 
 pub set-requires-clause-range : goal.set-requires-clause-range
 set-requires-clause-range g c = search rules
+
+pub returns-clause-weights : goal.returns-clause-weights
+returns-clause-weights g c = grind (arith, common_steps)

@@ -73,3 +73,6 @@ returns-clause-inverse c =
     let center = simp (to_z-of_z c.ranges.part) at c.center_of-center.ensures.value in
     let e = rw (width c.args.range.now, center) at (simp (to_z-of_z center_fits) at c.unmap_by_center-offset.ensures.inverse) in
     rw (sample_found d) (back_from_offset (smin k) (smid k) (smax k) c.args.part (pos c.args.sum) _ _ c.args.delta refl e)
+
+pub returns-clause-range : goal.returns-clause-range
+returns-clause-range c = search rules

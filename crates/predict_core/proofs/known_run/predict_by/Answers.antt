@@ -1,4 +1,5 @@
 use Rattle.predict_core.proofs.RunChains.{predicted}
+use Rattle.std.proofs.Common.{rules}
 use Rattle.predict_core.proofs.known_run.predict_by.Goals as goal
 
 pub returns-then-this-ne0-clause-predicted : goal.returns-then-this-ne0-clause-predicted
@@ -17,3 +18,6 @@ pub returns-else-this-ne0-clause-predicted : goal.returns-else-this-ne0-clause-p
 returns-else-this-ne0-clause-predicted g c =
     let told = c.write_residuals-else-this-ne0.ensures in let followed = c.follow_run-else-this-ne0.ensures in
     predicted _ _ _ _ _ _ _ _ _ _ _ c.first_later-first.ensures followed.followed followed.bound told.bound told.residuals told.weights
+
+pub follow_run-requires : goal.follow_run-requires
+follow_run-requires g c = search rules
