@@ -75,4 +75,6 @@ returns-clause-inverse c =
     rw (sample_found d) (back_from_offset (smin k) (smid k) (smax k) c.args.part (pos c.args.sum) _ _ c.args.delta refl e)
 
 pub returns-clause-range : goal.returns-clause-range
-returns-clause-range c = search rules
+returns-clause-range c =
+    let d = (goal.at.returns-clause-range c).After-unmap_by_center-offset in
+    let w = within d in rw (sample_found d) (omega (arith, ints, w.0), omega (arith, ints, w.1))
