@@ -1,3 +1,4 @@
+use Rattle.std.proofs.lemmas.Grind.{common_steps}
 use Rattle.std.proofs.Common.{rules, arith, ap, sym, ◌∙◌, ◌++◌, false, List, Bool, length, replicate, Err}
 use Rattle.cube_core.specs.declared.fault.Fault.TheVariants.{Truncated}
 use Rattle.header_bits.specs.Bits.{bits_of_bytes}
@@ -52,3 +53,12 @@ returns-clause-reads c =
 
 pub returns-then-zeros-most-clause-taken : goal.returns-then-zeros-most-clause-taken
 returns-then-zeros-most-clause-taken c = search rules
+
+pub returns-clause-taken : goal.returns-clause-taken
+returns-clause-taken c = search rules
+
+pub returns-clause-short : goal.returns-clause-short
+returns-clause-short c = search rules
+
+pub returns-then-most-limit-clause-short : goal.returns-then-most-limit-clause-short
+returns-then-most-limit-clause-short c = grind (arith, common_steps)
