@@ -19,3 +19,6 @@ pub returns-in_err-push-clause-within : goal.returns-in_err-push-clause-within
 returns-in_err-push-clause-within c = λ h.
     let never = c.in_err-push.ensures.within (omega (arith, h, total_left c.args.slots.now c.loop-i.i c.loop-i-test.true)) in
     absurd cc
+
+pub code-requires-clause-value : goal.code-requires-clause-value
+code-requires-clause-value c = (next_fits c.args.slots.now c.args.values.now c.loop-i.i c.loop-i-test.true (omega arith) c.loop-i.invariant.fit).0

@@ -1,4 +1,5 @@
-use Rattle.std.proofs.Common.{arith, ap, sym, ◌∙◌, ◌++◌, false, List, Bool, length, replicate, Err}
+use Rattle.std.proofs.lemmas.Grind.{common_steps}
+use Rattle.std.proofs.Common.{rules, arith, ap, sym, ◌∙◌, ◌++◌, false, List, Bool, length, replicate, Err}
 use Rattle.cube_core.specs.declared.fault.Fault.TheVariants.{Truncated}
 use Rattle.header_bits.specs.Bits.{bits_of_bytes}
 use Rattle.header_bits.proofs.Reading.{ends_at, full_at, short_at, no_one}
@@ -49,3 +50,15 @@ invariant_of-self-2 c =
 pub returns-clause-reads : goal.returns-clause-reads
 returns-clause-reads c =
     full_at _ _ _ _ (bits_of_bytes c.self.inside.bytes.now) _ (omega arith) (ap (λ w. w.left) c.self.view_is) c.zeros_ahead-zeros.ensures.zeros
+
+pub returns-then-zeros-most-clause-taken : goal.returns-then-zeros-most-clause-taken
+returns-then-zeros-most-clause-taken c = search rules
+
+pub returns-clause-taken : goal.returns-clause-taken
+returns-clause-taken c = search rules
+
+pub returns-clause-short : goal.returns-clause-short
+returns-clause-short c = search rules
+
+pub returns-then-most-limit-clause-short : goal.returns-then-most-limit-clause-short
+returns-then-most-limit-clause-short c = grind (arith, common_steps)

@@ -1,3 +1,4 @@
+use Rattle.std.proofs.lemmas.Grind.{common_steps}
 use Rattle.std.proofs.Common.{ap, arith}
 use Rattle.header_bits.proofs.Windows.{left_length}
 use Rattle.header_bits.proofs.bit_reader.BitReader.skip.Goals as goal
@@ -11,3 +12,6 @@ pub invariant_of-self : goal.invariant_of-self
 invariant_of-self c =
     let place = left_length c.self.inside.at c.self.inside.bytes.now c.args.self.now.left c.self.invariant.0 (ap (λ w. w.left) c.self.view_is) in
     (omega (arith, place, c.requires), c.self.invariant.1)
+
+pub returns-clause-left : goal.returns-clause-left
+returns-clause-left c = grind (arith, common_steps)

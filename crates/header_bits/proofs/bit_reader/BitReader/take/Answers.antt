@@ -27,3 +27,12 @@ returns-clause-reads c =
     sym (ap (λ w. w.left) c.self.view_is) ∙ c.number_of_bits-number.ensures.bits in
     ap (number_at c.args.self.now.count c.args.n) front ∙ number_again _ _ _ after c.number_of_bits-number.ensures.below
     ∙ ap (λ (k : ℕ). Ok (c.number_of_bits-number.result, drop (c.self.inside.at + k) (bits_of_bytes c.self.inside.bytes.now))) (sym c.from-2.ensures)
+
+pub returns-clause-taken : goal.returns-clause-taken
+returns-clause-taken c = cc
+
+pub returns-then-left-from-clause-enough : goal.returns-then-left-from-clause-enough
+returns-then-left-from-clause-enough c = (λ h. absurd cc, λ h. absurd (omega arith))
+
+pub returns-then-left-from-clause-short : goal.returns-then-left-from-clause-short
+returns-then-left-from-clause-short c = λ _. omega arith

@@ -27,3 +27,12 @@ returns-clause-bounded c = omega (
   ap (λ w. w.room) c.self.view_is,
   written_length _ _ c.self.inside.part _ (ap (λ w. w.bits) c.self.view_is),
 )
+
+pub overflow_add-more : goal.overflow_add-more
+overflow_add-more c = omega arith
+
+pub overflow_add-more-2 : goal.overflow_add-more-2
+overflow_add-more-2 c = omega arith
+
+pub returns-in_err-grow-clause-within : goal.returns-in_err-grow-clause-within
+returns-in_err-grow-clause-within c = grind arith

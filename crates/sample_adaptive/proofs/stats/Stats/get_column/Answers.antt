@@ -20,3 +20,9 @@ returns-in-Err-clause-taken c =
     let same : c.args.self.now.bands ≡ statistics_of c.deref_mut.result.now =
     ap (λ (v : Counts). v.bands) (sym c.self.view_is) ∙ ap statistics_of (sym c.deref_mut.ensures.value) in
     rw c.fork-ahead.ensures at (c.in-Err.ensures.taken c.args.self.now same settings)
+
+pub returns-in-Err-clause-kept : goal.returns-in-Err-clause-kept
+returns-in-Err-clause-kept c = search
+
+pub returns-in-Err-clause-same : goal.returns-in-Err-clause-same
+returns-in-Err-clause-same c = search

@@ -1,4 +1,4 @@
-use Rattle.std.proofs.Common.{◌≡◌, ap}
+use Rattle.std.proofs.Common.{rules, ◌≡◌, ap}
 use Rattle.sample_adaptive.specs.Taken.{Counts}
 use Rattle.sample_adaptive.specs.Tracked.{statistics_of}
 use Rattle.sample_adaptive.proofs.Tracking.{settings_seen, band_own, statistics_set}
@@ -19,3 +19,9 @@ returns-in-Err-clause-taken c =
     let same : statistics_of c.self.inside.bands.items ≡ v.bands = ap (λ (w : Counts). w.bands) c.self.view_is in
     let own = band_own v c.self.inside.bands.items same c.args.z c.requires.band c.index.result.now c.index.ensures in
     rw c.fork-ahead.ensures at (c.in-Err.ensures.taken v c.args.z c.requires.band (settings_seen v _ c.self.view_is) own)
+
+pub returns-in-Err-clause-kept : goal.returns-in-Err-clause-kept
+returns-in-Err-clause-kept c = search rules
+
+pub returns-in-Err-clause-same : goal.returns-in-Err-clause-same
+returns-in-Err-clause-same c = search

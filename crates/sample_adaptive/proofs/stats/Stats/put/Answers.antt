@@ -1,4 +1,4 @@
-use Rattle.std.proofs.Common.{◌≡◌, List, Bool, ◌++◌, refl, ap, ◌∙◌}
+use Rattle.std.proofs.Common.{rules, ◌≡◌, List, Bool, ◌++◌, refl, ap, ◌∙◌}
 use Rattle.sample_adaptive.specs.Taken.{Counts}
 use Rattle.sample_adaptive.specs.Tracked.{statistics_of}
 use Rattle.sample_adaptive.proofs.Taking.{puts_number}
@@ -18,3 +18,6 @@ returns-clause-taken c =
     let counts = c.next_word-word.ensures.counts v c.args.z c.args.t refl known own in
     let puts = rw counts at (puts_number c.args.z c.args.t c.args.delta v _ _ c.requires.band text) in
     rw (statistics_set items c.args.z kept, ← c.self.view_is) (rw (← c.self.view_is) at puts)
+
+pub returns-in_err-push-clause-same : goal.returns-in_err-push-clause-same
+returns-in_err-push-clause-same c = search rules

@@ -1,4 +1,4 @@
-use Rattle.std.proofs.Common.{◌≡◌, ◌∷◌, [], arith}
+use Rattle.std.proofs.Common.{rules, ◌≡◌, ◌∷◌, [], arith}
 use Rattle.std.proofs.lemmas.List.{nil_from_length}
 use Rattle.sample_adaptive.proofs.Running.{run_none, run_one, run_behind}
 use Rattle.sample_adaptive.proofs.stats.Stats.put_run.Goals as goal
@@ -17,3 +17,6 @@ pub returns-in_default-clause-taken : goal.returns-in_default-clause-taken
 returns-in_default-clause-taken c =
     let none = nil_from_length c.args.numbers.now (omega (arith, c.in_default.ensures.cases)) in
     rw (← c.in_ok-make_room.ensures.same, none) (run_none c.args.z c.args.t c.args.self.now c.make_room.new.writer.bits)
+
+pub put_later-requires-in-Some-clause-room : goal.put_later-requires-in-Some-clause-room
+put_later-requires-in-Some-clause-room c = search rules

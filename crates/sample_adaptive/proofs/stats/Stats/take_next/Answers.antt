@@ -1,4 +1,4 @@
-use Rattle.std.proofs.Common.{◌≡◌, refl, ap}
+use Rattle.std.proofs.Common.{rules, ◌≡◌, refl, ap}
 use Rattle.sample_adaptive.specs.Taken.{Counts}
 use Rattle.sample_adaptive.specs.Tracked.{statistics_of}
 use Rattle.sample_adaptive.proofs.Taking.{code_is, taken_more}
@@ -25,3 +25,9 @@ returns-in-Err-clause-taken c = λ settings taken h next.
     let own = band_own v c.self.inside.bands.items same c.args.z c.requires c.index.result.now c.index.ensures in
     let code = code_is settings v taken c.args.z c.args.t h c.requires next in
     (rw (← code) (c.in-Err.ensures.reads v c.args.z c.args.t refl (settings_seen v _ c.self.view_is) own), tt)
+
+pub returns-in-Err-clause-kept : goal.returns-in-Err-clause-kept
+returns-in-Err-clause-kept c = search rules
+
+pub returns-in-Err-clause-same : goal.returns-in-Err-clause-same
+returns-in-Err-clause-same c = search rules

@@ -1,5 +1,5 @@
-use Rattle.std.proofs.Common.{arith}
-use Rattle.sample_adaptive.specs.Statistics.{AreStatistics}
+use Rattle.std.proofs.Common.{rules, arith}
+use Rattle.sample_adaptive.specs.Statistics.{next_statistics, AreStatistics}
 use Rattle.sample_adaptive.proofs.Counting.{counter_range, halved_in_range, product_whole}
 use Rattle.sample_adaptive.proofs.tracked.Tracked.next.Goals as goal
 
@@ -15,3 +15,11 @@ returns-clause-tracked c =
       one = c.requires.one;
       scaled = product_whole _ _ (counter_range _ _ rescaling.size_in.1 halved).1 (omega (arith, c.requires.low, c.args.run.bits_in));
     }
+
+pub returns-then-statistics-run-clause-value : goal.returns-then-statistics-run-clause-value
+unfolding next_statistics
+returns-then-statistics-run-clause-value c = search rules
+
+pub returns-then-statistics-run-clause-tracked : goal.returns-then-statistics-run-clause-tracked
+unfolding next_statistics
+returns-then-statistics-run-clause-tracked c = search rules

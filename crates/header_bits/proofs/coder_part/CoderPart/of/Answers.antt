@@ -1,0 +1,7 @@
+use Rattle.header_bits.proofs.coder_part.CoderPart.of.Goals as goal
+
+pub returns-in-Each : goal.returns-in-Each
+returns-in-Each c = cc
+
+pub returns-in_default : goal.returns-in_default
+returns-in_default c = cc

@@ -1,0 +1,4 @@
+use Rattle.header_bits.proofs.tables.ConstantTable.new.Goals as goal
+
+pub returns : goal.returns
+returns c = search

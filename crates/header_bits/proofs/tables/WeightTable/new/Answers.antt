@@ -1,0 +1,4 @@
+use Rattle.header_bits.proofs.tables.WeightTable.new.Goals as goal
+
+pub returns : goal.returns
+returns c = search

@@ -1,0 +1,5 @@
+use Rattle.std.proofs.Common.{rules}
+use Rattle.sample_adaptive.proofs.statistics.halved.Goals as goal
+
+pub returns : goal.returns
+returns c = search rules
