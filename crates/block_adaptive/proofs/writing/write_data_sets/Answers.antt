@@ -3,10 +3,6 @@ use Rattle.block_adaptive.proofs.Sums.{zero_tests}
 use Rattle.block_adaptive.specs.Segments.{segment_rest}
 use Rattle.block_adaptive.proofs.writing.write_data_sets.Goals as goal
 
-pub returns-then-total-ne0-clause-appended : goal.returns-then-total-ne0-clause-appended
-unfolding segment_rest
-returns-then-total-ne0-clause-appended c = grind (arith, zero_tests)
-
 pub returns-then-zeros-left-clause-appended : goal.returns-then-zeros-left-clause-appended
 unfolding segment_rest
 returns-then-zeros-left-clause-appended c = grind (arith, zero_tests)

@@ -28,12 +28,6 @@ loop-first-preserved-then-numbers-first c =
 pub hold-requires-clause-few : goal.hold-requires-clause-few
 hold-requires-clause-few c = search rules
 
-pub hold-requires-clause-more : goal.hold-requires-clause-more
-hold-requires-clause-more c = grind (arith, common_steps)
-
-pub put-requires-clause-number : goal.put-requires-clause-number
-put-requires-clause-number c = grind (arith, common_steps)
-
 pub put-requires-clause-more : goal.put-requires-clause-more
 put-requires-clause-more c = grind (arith, common_steps)
 
