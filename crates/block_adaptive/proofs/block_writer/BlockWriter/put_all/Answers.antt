@@ -2,7 +2,11 @@ use Rattle.std.proofs.Common.{◌≡◌, ◌∙◌, ◌+◌, ◌-◌, ◌≤◌,
 use Rattle.std.proofs.lemmas.List.{length-take}
 use Rattle.block_adaptive.proofs.Holds.{hold_more, block_more, number_more, held_counted, after_refusal}
 use Rattle.std.proofs.lemmas.Grind.{common_steps}
+use Rattle.header_bits.proofs.Items.{all_take, all_drop}
 use Rattle.block_adaptive.proofs.block_writer.BlockWriter.put_all.Goals as goal
+
+pub put_block-taken-requires-clause-range : goal.put_block-taken-requires-clause-range
+put_block-taken-requires-clause-range c = rw c.loop-first.invariant.cut (all_take _ _ _ (all_drop _ _ _ c.requires.numbers))
 
 pub put_block-taken-requires-clause-more : goal.put_block-taken-requires-clause-more
 put_block-taken-requires-clause-more c = grind (arith, common_steps)
@@ -24,6 +28,9 @@ loop-first-preserved-then-numbers-first c =
       cut = c.put_block-taken.ensures.cut ∙ c.loop-first.invariant.cut;
       within = omega (arith, c.if-numbers-first.true, c.loop-first.invariant.within);
     }
+
+pub hold-requires-clause-numbers : goal.hold-requires-clause-numbers
+hold-requires-clause-numbers c = rw c.loop-first.invariant.cut (all_take _ _ _ (all_drop _ _ _ c.requires.numbers))
 
 pub hold-requires-clause-few : goal.hold-requires-clause-few
 hold-requires-clause-few c = search rules
