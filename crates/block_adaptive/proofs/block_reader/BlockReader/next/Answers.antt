@@ -3,7 +3,8 @@ use Rattle.std.proofs.lemmas.Result.{err_from_is_err_and}
 use Rattle.block_adaptive.specs.Settings.{IsCut}
 use Rattle.block_adaptive.proofs.Calls.{next_refused}
 use Rattle.block_adaptive.proofs.Counts.{data_set_left}
-use Rattle.block_adaptive.proofs.block_reader.BlockReader.next.Goals.{then-self+then-self-eq0+in_ok-take_data_set, else-self, else-self-via-then-self+else-self-eq0, else-self-via-else-self}
+use Rattle.block_adaptive.proofs.block_reader.BlockReader.next.Goals.{then-self+then-self-eq0+in_ok-take_data_set, else-self}
+use Rattle.block_adaptive.proofs.block_reader.BlockReader.next.Goals.{else-self-via-then-self+else-self-eq0, else-self-via-else-self}
 use Rattle.block_adaptive.proofs.Runs.{taken_run, held_run}
 use Rattle.header_bits.proofs.Places.{empty_hand}
 use Rattle.std.proofs.lemmas.Grind.{common_steps}
