@@ -5,12 +5,8 @@ use Rattle.block_adaptive.specs.Given.{Unpacked, given_count}
 use Rattle.block_adaptive.specs.Taken.{Packed, taken_count}
 use Rattle.header_bits.proofs.Powers.{block_left}
 
--- ---- a writer
-
 pub room_left : (v : Packed) → taken_count v < capacity v.cut → v.start + v.zeros < v.cut.count
 room_left v few = block_left v.cut.size v.cut.count (v.start + v.zeros) (length v.held) few
-
--- ---- a reader
 
 pub data_set_left : (v : Unpacked) → given_count v < capacity v.cut → v.held ≡ [] → v.block < v.cut.count
 data_set_left v few none = block_left v.cut.size v.cut.count v.block 0 (omega (arith, few, ap length none))

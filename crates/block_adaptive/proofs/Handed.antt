@@ -18,8 +18,6 @@ pub nothing_held : (v : Unpacked) → v.block ≡ 0 → v.held ≡ [] → v.refu
 unfolding AreCodedDataSets blocks_told
 nothing_held v at_start none working = record { data_sets = []; lawful = sym at_start; text = refl; told = sym none; working = working }
 
--- ---- sizes
-
 pub size_most : (size : ℕ) → IsSize size → size ≤ 64
 size_most size h = grind arith
 

@@ -21,12 +21,8 @@ pub record LeadsTried (s : CodeSet) (vs : List ℕ) (longer : Bool) (first k : �
   pub tried : IsTried longer first k o
   pub leads : (p : Choice) → IsTried longer first k p → Leads s vs o p
 
--- ---- the first two
-
 pub shorter_leads : (s : CodeSet) (vs : List ℕ) → LeadsTried s vs false 0 0 (shorter s vs Uncoded Second)
 shorter_leads s vs = grind arith
-
--- ---- one k more
 
 module _ {s : CodeSet} {vs : List ℕ} {longer : Bool} {first k : ℕ} {o : Choice} where
   pub next_leads : first ≤ k → LeadsTried s vs longer first k o → cost s (Split k) vs < cost s o vs → LeadsTried s vs longer first (k + 1) (Split k)

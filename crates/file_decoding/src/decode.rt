@@ -34,7 +34,6 @@ use std::alloc::Global;
 /// `TooLong` if the bits of an output word or more follow the body; `BadFill` if one of the fill bits is a one. So
 /// nothing is allocated before the first `Truncated` where the header has no table. `Truncated` has the number of the
 /// file's bits.
-#[tactic(auto, using(crate::proofs::Found::only_one, crate::proofs::Found::header_first))]
 pub fn decode(alloc: Global, bytes: &[u8]) -> Result<(Params, Cube), Fault>
     requires { length bytes.now ≤ 2 ^ 60 }
     ensures lawful { IfOk result (λ found. IsLawful found.0) }

@@ -43,3 +43,6 @@ pub returns-clause-ok : goal.returns-clause-ok
 returns-clause-ok g c =
     let lt : c.args.q < length c.args.stages.now.items = search rules in
     rw (map-set, at_of (λ s. s.handed) c.args.stages.now.items c.args.q _ [] lt c.index_mut-stage.ensures.value, c.next_run-count.ensures.handed)
+
+pub returns-clause-most : goal.returns-clause-most
+returns-clause-most g c = search rules

@@ -1,4 +1,4 @@
-use Rattle.std.proofs.Common.{◌≡◌, ◌≤◌, ℕ, List, length, take, length-take, arith, rules, IfErr}
+use Rattle.std.proofs.Common.{◌≡◌, ◌≤◌, ℕ, List, length, take, length-take, arith, rules, IfErr, refl}
 use Rattle.coder_pipe.specs.Standings.{feeds_of, gates_of, handed_of, IsAhead}
 use Rattle.coder_pipe.specs.Stops.{MayStopAt}
 use Rattle.coder_pipe.proofs.Taking.{woven_first, woven_ahead}
@@ -6,7 +6,7 @@ use Rattle.coder_pipe.proofs.run.weave.Goals as goal
 use Rattle.coder_pipe.proofs.run.weave.Goals.{then-along_rows, else-along_rows}
 
 pub loop-taken-init : goal.loop-taken-init
-loop-taken-init g c = record { feeds = search rules; gates = search rules; many = search rules; woven = woven_first _ _ _ _ c.requires.woven c.requires.fresh }
+loop-taken-init g c = record { feeds = refl; gates = refl; many = refl; woven = woven_first _ _ _ _ c.requires.woven c.requires.fresh }
 
 pub loop-taken-preserved : goal.loop-taken-preserved
 loop-taken-preserved g c =

@@ -2,6 +2,7 @@ use Rattle.std.proofs.Common.{◌≡◌, ◌∙◌, ◌*◌, ◌^◌, ◌-◌, [
 use Rattle.std.specs.List.{slice_get}
 use Rattle.std.proofs.lemmas.Nat.{mul-le}
 use Rattle.std.proofs.Math.Arith.{digits_lt}
+use Rattle.std.proofs.lemmas.Grind.{common_steps}
 use Rattle.std.proofs.lemmas.Result.{err_from_is_err_and}
 use Rattle.cube_core.specs.declared.order.Place.{Place}
 use Rattle.cube_core.specs.Image.{Image}
@@ -80,6 +81,18 @@ module _ (c : After-time_of) where
       may_read c.requires c.loop-place.invariant.walked c.at-tile.ensures.tile.in-order next _ _ _ time
       (omega (arith, c.left.ensures, c.sample_count-count.ensures.value)) whole
 
+pub count-requires : goal.count-requires
+count-requires c = omega arith
+
+pub slice_bounds-deltas-end-in-Some : goal.slice_bounds-deltas-end-in-Some
+slice_bounds-deltas-end-in-Some c = grind (arith, common_steps)
+
+pub read-requires-clause-some : goal.read-requires-clause-some
+read-requires-clause-some c = c.at-tile.ensures.tile.in-order.some
+
+pub read-requires-clause-few : goal.read-requires-clause-few
+read-requires-clause-few c = omega arith
+
 pub read-requires-clause-small : goal.read-requires-clause-small
 read-requires-clause-small c =
     let d = (goal.at.read-requires-clause-small c).After-time_of in
@@ -89,6 +102,9 @@ read-requires-clause-small c =
     let most = mul-le c.args.params.now.shape.rows c.args.params.now.shape.columns 65536 65536 c.requires.sizes.rows.1 c.requires.sizes.columns.1 in
     let all = all_places c.args.params.now c.requires.order walked.walk.rest in
     (omega (arith, time d, row, most), omega (arith, c.left.ensures, c.sample_count-count.ensures, long d, (fits c.requires walked is (next d)).1, all))
+
+pub read-requires-clause-whole : goal.read-requires-clause-whole
+read-requires-clause-whole c = long ((goal.at.read-requires-clause-whole c).After-time_of)
 
 pub read-requires-clause-may : goal.read-requires-clause-may
 read-requires-clause-may c = let d = (goal.at.read-requires-clause-may c).After-time_of in may d _ (long d)
@@ -110,6 +126,9 @@ pub fill-requires-clause-come : goal.fill-requires-clause-come
 fill-requires-clause-come c =
     let d = (goal.at.fill-requires-clause-come c).After-time_of in
     (c.args.params.now, come c.requires c.loop-place.invariant.walked c.at-tile.ensures.tile.in-order (next d))
+
+pub fill-requires-clause-whole : goal.fill-requires-clause-whole
+fill-requires-clause-whole c = grind (arith, common_steps)
 
 pub fill-requires-clause-residuals_in : goal.fill-requires-clause-residuals_in
 fill-requires-clause-residuals_in c k lt =

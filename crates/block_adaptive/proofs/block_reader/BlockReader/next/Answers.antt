@@ -1,13 +1,34 @@
-use Rattle.std.proofs.Common.{◌≡◌, [], sym, ◌∙◌, ◌∷◌}
+use Rattle.std.proofs.Common.{◌≡◌, [], sym, ◌∙◌, ◌∷◌, arith}
 use Rattle.std.proofs.lemmas.Result.{err_from_is_err_and}
 use Rattle.block_adaptive.specs.Settings.{IsCut}
 use Rattle.block_adaptive.proofs.Calls.{next_refused}
 use Rattle.block_adaptive.proofs.Counts.{data_set_left}
-use Rattle.block_adaptive.proofs.block_reader.BlockReader.next.Goals as goal
 use Rattle.block_adaptive.proofs.block_reader.BlockReader.next.Goals.{then-self+then-self-eq0+in_ok-take_data_set, else-self}
 use Rattle.block_adaptive.proofs.block_reader.BlockReader.next.Goals.{else-self-via-then-self+else-self-eq0, else-self-via-else-self}
 use Rattle.block_adaptive.proofs.Runs.{taken_run, held_run}
 use Rattle.header_bits.proofs.Places.{empty_hand}
+use Rattle.std.proofs.lemmas.Grind.{common_steps}
+use Rattle.block_adaptive.proofs.block_reader.BlockReader.next.Goals as goal
+
+pub take_data_set-requires-clause-empty : goal.take_data_set-requires-clause-empty
+take_data_set-requires-clause-empty c = grind (arith, common_steps)
+
+pub take_data_set-requires-clause-more : goal.take_data_set-requires-clause-more
+take_data_set-requires-clause-more c = grind (arith, common_steps)
+
+pub returns-in_err-take_data_set-clause-first : goal.returns-in_err-take_data_set-clause-first
+returns-in_err-take_data_set-clause-first c = grind (arith, common_steps)
+
+pub returns-in_err-take_data_set-clause-given : goal.returns-in_err-take_data_set-clause-given
+returns-in_err-take_data_set-clause-given c =
+    let cut : IsCut c.args.self.now.cut = rw (← c.self.view_is) c.self.invariant.cut in
+    let none : c.args.self.now.held ≡ [] = (λ i. ((sym c.self.view_is) i).held) ∙ empty_hand c.self.inside.size c.self.inside.at c.self.inside.zeros
+    c.self.inside.values c.if-self.true c.if-self-eq0.true in
+    let p = err_from_is_err_and c.from_residual.result c.from_residual.ensures.1 in
+    rw (p.1, p.2) (next_refused c.args.self.now c.args.reader.now c.in_err-take_data_set.field-0.0 cut c.requires none c.in_err-take_data_set.ensures.read)
+
+pub returns-clause-first : goal.returns-clause-first
+returns-clause-first c = grind (arith, common_steps)
 
 pub returns-clause-given : goal.returns-clause-given
 returns-clause-given c =
@@ -19,11 +40,3 @@ returns-clause-given c =
           none w.in_ok-take_data_set.ensures.read (rw w.self-is at c.give.ensures.first)))
       | else-self w ↦ rw w.reader-is (held_run _ _ _ _ (rw w.self-is at c.give.ensures.first))
     ]
-
-pub returns-in_err-take_data_set-clause-given : goal.returns-in_err-take_data_set-clause-given
-returns-in_err-take_data_set-clause-given c =
-    let cut : IsCut c.args.self.now.cut = rw (← c.self.view_is) c.self.invariant.cut in
-    let none : c.args.self.now.held ≡ [] = (λ i. ((sym c.self.view_is) i).held) ∙ empty_hand c.self.inside.size c.self.inside.at c.self.inside.zeros
-    c.self.inside.values c.if-self.true c.if-self-eq0.true in
-    let p = err_from_is_err_and c.from_residual.result c.from_residual.ensures.1 in
-    rw (p.1, p.2) (next_refused c.args.self.now c.args.reader.now c.in_err-take_data_set.field-0.0 cut c.requires none c.in_err-take_data_set.ensures.read)

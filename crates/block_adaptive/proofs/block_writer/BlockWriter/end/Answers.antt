@@ -1,4 +1,4 @@
-use Rattle.std.proofs.Common.{◌≡◌, ◌∙◌, length, take, refl, arith}
+use Rattle.std.proofs.Common.{◌≡◌, ◌∙◌, length, take, refl, arith, rules}
 use Rattle.std.proofs.lemmas.List.{length-take}
 use Rattle.std.proofs.lemmas.Nat.{pow_pos}
 use Rattle.header_bits.proofs.Places.{on_ok_of}
@@ -6,10 +6,17 @@ use Rattle.block_adaptive.specs.Segments.{filled}
 use Rattle.block_adaptive.specs.contracts.block_writer.BlockWriter.{the_view}
 use Rattle.block_adaptive.proofs.Handed.{size_most}
 use Rattle.block_adaptive.proofs.Packing.{nothing_left, last_block, range_filled}
+use Rattle.std.proofs.lemmas.Grind.{common_steps}
 use Rattle.block_adaptive.proofs.block_writer.BlockWriter.end.Goals as goal
 
 pub returns-then-self-eq0-clause-ended : goal.returns-then-self-eq0-clause-ended
 returns-then-self-eq0-clause-ended c = grind (arith, nothing_left)
+
+pub returns-then-self-eq0-clause-behind : goal.returns-then-self-eq0-clause-behind
+returns-then-self-eq0-clause-behind c = search rules
+
+pub pack-requires-clause-total : goal.pack-requires-clause-total
+pack-requires-clause-total c = grind (arith, common_steps)
 
 pub returns-clause-ended : goal.returns-clause-ended
 returns-clause-ended c =
@@ -23,3 +30,9 @@ returns-clause-ended c =
     rw (← c.self.view_is) (on_ok_of c.pack-2.result _ _ (λ p. last_block (the_view c.self.inside) _ _ was.cut (omega (arith, size, c.if-self-eq0.false))
     (omega (arith, was.few)) some (range_filled _ _ _ (pow_pos c.self.inside.set.bits) was.range) p)
     (rw (← c.self.view_is, block-is) at c.pack-2.ensures.appended))
+
+pub returns-clause-behind : goal.returns-clause-behind
+returns-clause-behind c = grind (arith, common_steps)
+
+pub returns-clause-memory : goal.returns-clause-memory
+returns-clause-memory c = grind (arith, common_steps)

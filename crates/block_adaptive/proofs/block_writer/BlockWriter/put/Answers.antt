@@ -7,10 +7,14 @@ use Rattle.block_adaptive.proofs.Counts.{room_left}
 use Rattle.block_adaptive.proofs.Handed.{size_most}
 use Rattle.block_adaptive.proofs.Packing.{values_held, values_packed}
 use Rattle.block_adaptive.proofs.Stored.{total_few}
+use Rattle.std.proofs.lemmas.Grind.{common_steps}
 use Rattle.block_adaptive.proofs.block_writer.BlockWriter.put.Goals as goal
 
 pub overflow_add-self-then-self : goal.overflow_add-self-then-self
 overflow_add-self-then-self c = record { fits = omega (arith, total_few _ _ _ c.self.inside.total _ c.self.invariant, c.from.ensures, c.ranges.delta.fits) }
+
+pub invariant_of-self : goal.invariant_of-self
+invariant_of-self c = grind (arith, common_steps)
 
 pub returns-then-self-clause-taken : goal.returns-then-self-clause-taken
 returns-then-self-clause-taken c =
@@ -31,3 +35,9 @@ returns-clause-taken c =
     (rw (← c.self.view_is) at (room_left c.args.self.now c.requires.more)) len (all_append _ held (c.args.delta ∷ []) was.range
     (rw (← c.self.view_is) at c.requires.number, tt)) p q) (rw (← c.self.view_is) at c.put_last.ensures.appended)
     (rw (← c.self.view_is) at c.put_last.ensures.packed))
+
+pub returns-clause-counted : goal.returns-clause-counted
+returns-clause-counted c = grind (arith, common_steps)
+
+pub returns-clause-memory : goal.returns-clause-memory
+returns-clause-memory c = grind (arith, common_steps)

@@ -1,4 +1,4 @@
-use Rattle.std.proofs.Common.{◌≡◌, ◌∙◌, ◌+◌, ◌-◌, ◌++◌, length, take, ap, arith}
+use Rattle.std.proofs.Common.{◌≡◌, ◌∙◌, ◌+◌, ◌-◌, ◌++◌, length, take, ap, arith, rules}
 use Rattle.std.proofs.lemmas.List.{take_all}
 use Rattle.block_adaptive.specs.Taken.{Packed}
 use Rattle.block_adaptive.proofs.Counts.{room_left}
@@ -14,6 +14,12 @@ returns-in-Ok-clause-taken c =
     rw (take_all (c.self.inside.size - 1 + 1) c.args.block.now (omega (arith, size))) (values_packed c.args.self.now c.pack.new.self _ _ c.args.block.now
     (rw (← c.self.view_is) c.self.invariant.cut) more (ap length all ∙ c.requires.whole) (rw all c.requires.range) (rw all c.in-Ok.ensures.appended)
     (rw all c.in-Ok.ensures.packed))
+
+pub returns-in-Ok-clause-counted : goal.returns-in-Ok-clause-counted
+returns-in-Ok-clause-counted c = search rules
+
+pub returns-in-Ok-clause-memory : goal.returns-in-Ok-clause-memory
+returns-in-Ok-clause-memory c = search rules
 
 pub returns-in-Err-clause-taken : goal.returns-in-Err-clause-taken
 returns-in-Err-clause-taken c =

@@ -1,5 +1,6 @@
 use Rattle.file_coding.proofs.Endings.{place_comes}
 use Rattle.coder_pipe.proofs.Weaving.{along_one}
+use Rattle.std.proofs.Common.{rules}
 use Rattle.coder_pipe.proofs.weaver.Weaver.take.Goals as goal
 
 pub unreachable-requires : goal.unreachable-requires
@@ -7,3 +8,6 @@ unreachable-requires c = place_comes c.self.inside.end c.args.residual (rw (← 
 
 pub invariant_of-self : goal.invariant_of-self
 invariant_of-self c = along_one c.put.result _ c.self.inside.order _ c.self.inside.end _ c.in-Some.place c.put.ensures.moved c.put.ensures.same c.self.invariant
+
+pub returns-clause-woven : goal.returns-clause-woven
+returns-clause-woven c = search rules

@@ -1,5 +1,6 @@
 use Rattle.file_coding.specs.Ends.{MayCodeAll}
 use Rattle.coder_pipe.proofs.Weaving.{along_all, weaves_some}
+use Rattle.std.proofs.Common.{rules}
 use Rattle.coder_pipe.proofs.weaver.Weaver.take_all.Goals as goal
 
 pub invariant_of-self : goal.invariant_of-self
@@ -9,3 +10,6 @@ invariant_of-self c =
 
 pub returns-clause-some : goal.returns-clause-some
 returns-clause-some c = rw (← c.self.view_is) (weaves_some c.put_all.result _ _ _ _ c.put_all.ensures.some)
+
+pub returns-clause-woven : goal.returns-clause-woven
+returns-clause-woven c = search rules

@@ -7,3 +7,6 @@ returns-in-Samples-clause-ended c = rw c.in-Samples.is (samples_end c.in-Samples
 
 pub returns-in-Blocks-clause-ended : goal.returns-in-Blocks-clause-ended
 returns-in-Blocks-clause-ended c = rw c.in-Blocks.is (on_ok_weaker _ (blocks_end _ _ _) c.end.ensures.ended)
+
+pub returns-in-Samples-clause-memory : goal.returns-in-Samples-clause-memory
+returns-in-Samples-clause-memory c = tt
