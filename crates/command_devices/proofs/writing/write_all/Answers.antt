@@ -34,3 +34,6 @@ returns-in_default-2-clause-cut g c =
       rw append-nil at took,
       inl (rises_is_rose _ _ (rw c.loop-written.invariant.failures at c.in_default.ensures.failed.0)),
     )
+
+pub returns-clause-worked : goal.returns-clause-worked
+returns-clause-worked g c = search

@@ -1,0 +1,5 @@
+use Rattle.std.proofs.Common.{rules}
+use Rattle.band_rings.proofs.sender.LaneSender.slots.Goals as goal
+
+pub returns : goal.returns
+returns c = search rules
