@@ -1,3 +1,4 @@
+use Rattle.std.proofs.Common.{rules}
 use Rattle.clap.specs.Matches.{found_of}
 use Rattle.clap.specs.Walk.{rows_of}
 use Rattle.command_words.proofs.Refused.{passed, no_size, no_reference}
@@ -11,3 +12,6 @@ pub returns-in_err-number-clause-refused : goal.returns-in_err-number-clause-ref
 returns-in_err-number-clause-refused c =
     passed _ _ _ c.from_residual-in_err-number.ensures.1
     (c.in_err-number.ensures.refused.0, no_reference (rows_of (found_of c.args.matches.now)) c.in_err-number.ensures.refused.1)
+
+pub returns-clause-read : goal.returns-clause-read
+returns-clause-read c = search rules
