@@ -1,5 +1,6 @@
 //! Lanes and workers through their public calls.
 
+mod checks;
 mod gates;
 mod lanes;
 mod runs;

@@ -1,5 +1,6 @@
 //! Plans, predictors and the files that they make.
 
+mod checks;
 mod cubes;
 mod gates;
 mod lanes;

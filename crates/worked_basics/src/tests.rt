@@ -1,5 +1,6 @@
 //! What the lowest crates do at values from outside.
 
+mod checks;
 mod cubes;
 mod faults;
 mod great_header;

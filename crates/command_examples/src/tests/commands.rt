@@ -4,6 +4,7 @@ ghost use Rattle.std.specs.Prelude.{◌≡◌, ◌≢◌, codes};
 ghost use Rattle.ccsds_command.specs.Command.{HasLayout};
 
 use super::support::{ONE_BYTE, TWO_EQUAL_FILE, inspected, two_equal};
+use crate::tests::checks::same;
 use ccsds_command::command::run_command;
 use ccsds_command::opener::Opener;
 use command_devices::sink::Sink;
@@ -123,17 +124,17 @@ fn name(rt: &HostRuntime, text: &str) -> Result<String, Fail> {
 fn compress_and_expand_go_from_file_to_file(rt: HostRuntime) -> Result<(), Fail> {
     let settings = Settings::Compress(two_equal()?, name(&rt, "in")?, name(&rt, "out")?);
     let file = written(&rt, rt.alloc(), &[], &[200, 200], &settings)?;
-    assert_eq!(rt; file.as_slice(), TWO_EQUAL_FILE.as_slice());
+    same(&rt, file.as_slice(), TWO_EQUAL_FILE.as_slice());
     let settings = CompressSettings {
         predictors: 2,
         ..two_equal()?
     };
     let settings = Settings::Compress(settings, name(&rt, "in")?, name(&rt, "out")?);
     let file = written(&rt, rt.alloc(), &[], &[200, 200], &settings)?;
-    assert_eq!(rt; file.as_slice(), TWO_EQUAL_FILE.as_slice());
+    same(&rt, file.as_slice(), TWO_EQUAL_FILE.as_slice());
     let settings = Settings::Expand(ONE_BYTE, name(&rt, "in")?, name(&rt, "out")?);
     let raw = written(&rt, rt.alloc(), &[], &TWO_EQUAL_FILE, &settings)?;
-    assert_eq!(rt; raw.as_slice(), [200u8, 200].as_slice());
+    same(&rt, raw.as_slice(), [200u8, 200].as_slice());
     Ok(())
 }
 
@@ -147,11 +148,12 @@ fn show_and_inspect_go_between_the_standard_streams(rt: HostRuntime) -> Result<(
         &Settings::Show,
     )?;
     let text = b"00000100020001110000080002a092590082269080\n";
-    assert_eq!(rt; shown.as_slice(), text.as_slice());
+    same(&rt, shown.as_slice(), text.as_slice());
     let told = written(&rt, rt.alloc(), &TWO_EQUAL_FILE, &[], &Settings::Inspect)?;
-    assert_eq!(rt;
+    same(
+        &rt,
         told.as_slice(),
-        inspected(&rt, &TWO_EQUAL_FILE)?.as_slice()
+        inspected(&rt, &TWO_EQUAL_FILE)?.as_slice(),
     );
     Ok(())
 }
@@ -160,10 +162,10 @@ fn show_and_inspect_go_between_the_standard_streams(rt: HostRuntime) -> Result<(
 fn ends_that_are_not_there_are_told(rt: HostRuntime) -> Result<(), Fail> {
     let settings = Settings::Expand(ONE_BYTE, name(&rt, "other")?, name(&rt, "out")?);
     let refused = written(&rt, rt.alloc(), &[], &TWO_EQUAL_FILE, &settings);
-    assert_eq!(rt; refused.err(), Some(Fault::Read));
+    same(&rt, refused.err(), Some(Fault::Read));
     let settings = Settings::Expand(ONE_BYTE, name(&rt, "in")?, name(&rt, "in")?);
     let refused = written(&rt, rt.alloc(), &[], &TWO_EQUAL_FILE, &settings);
-    assert_eq!(rt; refused.err(), Some(Fault::Write { written: 0 }));
+    same(&rt, refused.err(), Some(Fault::Write { written: 0 }));
     Ok(())
 }
 
@@ -186,8 +188,8 @@ fn each_file_is_asked_for_once(rt: HostRuntime) -> Result<(), Fail> {
         let settings = Settings::Compress(settings, name(&rt, "in")?, name(&rt, "out")?);
         let memory = Memory::new(rt.alloc(), &[], raw);
         let ended = run_command(&rt, rt.alloc(), &memory, &settings)?;
-        assert_eq!(rt; ended.answer.err(), refused);
-        assert_eq!(rt; memory.asked(), (1, 1));
+        same(&rt, ended.answer.err(), refused);
+        same(&rt, memory.asked(), (1, 1));
     }
     for (file, refused) in [
         (TWO_EQUAL_FILE.as_slice(), None),
@@ -196,8 +198,8 @@ fn each_file_is_asked_for_once(rt: HostRuntime) -> Result<(), Fail> {
         let settings = Settings::Expand(ONE_BYTE, name(&rt, "in")?, name(&rt, "out")?);
         let memory = Memory::new(rt.alloc(), &[], file);
         let ended = run_command(&rt, rt.alloc(), &memory, &settings)?;
-        assert_eq!(rt; ended.answer.err(), refused);
-        assert_eq!(rt; memory.asked(), (1, 1));
+        same(&rt, ended.answer.err(), refused);
+        same(&rt, memory.asked(), (1, 1));
     }
     Ok(())
 }

@@ -2,6 +2,7 @@
 
 ghost use Rattle.std.specs.Prelude.{◌≡◌, None};
 
+use crate::tests::checks::same;
 use command_devices::cut::{CutSink, CutSource};
 use command_devices::reading::{read_file, read_up_to};
 use command_devices::source::{Failed, Source};
@@ -15,12 +16,12 @@ const BYTES: [u8; 5] = [10, 20, 30, 40, 50];
 fn a_source_is_read_to_its_end_or_a_limit(rt: HostRuntime) -> Result<(), Fail> {
     for piece in [1, 2, 5, 100] {
         let all = read_file(rt.alloc(), &mut CutSource::new(&BYTES, piece, None))?;
-        assert_eq!(rt; all.as_slice(), BYTES.as_slice());
+        same(&rt, all.as_slice(), BYTES.as_slice());
         for limit in 0..7 {
             let mut source = CutSource::new(&BYTES, piece, None);
             let front = read_up_to(rt.alloc(), &mut source, limit)?;
             let most = BYTES.len().min(limit as usize);
-            assert_eq!(rt; Some(front.as_slice()), BYTES.get(..most));
+            same(&rt, Some(front.as_slice()), BYTES.get(..most));
         }
     }
     Ok(())
@@ -31,19 +32,19 @@ fn a_source_that_fails_is_read(rt: HostRuntime) {
     for call in 0..6 {
         let mut source = CutSource::new(&BYTES, 1, Some(call));
         let answer = read_file(rt.alloc(), &mut source);
-        assert_eq!(rt; answer.err(), Some(Fault::Read));
+        same(&rt, answer.err(), Some(Fault::Read));
     }
 }
 
 #[test]
 fn what_a_sink_took_is_told(rt: HostRuntime) -> Result<(), Fail> {
     let mut whole = CutSink::new(rt.alloc(), 5, 2, None)?;
-    assert_eq!(rt; write_all(&mut whole, &BYTES), Ok(()));
-    assert_eq!(rt; whole.taken(), BYTES.as_slice());
+    same(&rt, write_all(&mut whole, &BYTES), Ok(()));
+    same(&rt, whole.taken(), BYTES.as_slice());
     let mut small = CutSink::new(rt.alloc(), 3, 2, None)?;
     let answer = write_all(&mut small, &BYTES);
-    assert_eq!(rt; answer, Err(Fault::Write { written: 2 }));
-    assert_eq!(rt; Some(small.taken()), BYTES.get(..2));
+    same(&rt, answer, Err(Fault::Write { written: 2 }));
+    same(&rt, Some(small.taken()), BYTES.get(..2));
     Ok(())
 }
 
@@ -85,7 +86,7 @@ fn the_memory_grows_with_what_came(rt: HostRuntime) -> Result<(), Fail> {
                 too_much: false,
             };
             let bytes = read_up_to(rt.alloc(), &mut source, limit)?;
-            assert_eq!(rt; bytes.len(), size);
+            same(&rt, bytes.len(), size);
             assert!(rt; bytes.capacity() <= 2 * PIECE.max(size));
             assert!(rt; !source.too_much);
         }

@@ -3,6 +3,7 @@
 use super::support::{
     ONE_BYTE, TWO_BYTES, TWO_EQUAL_FILE, band, compressed, expanded, inspected, two_equal,
 };
+use crate::tests::checks::same;
 use ccsds_command::compress::run_compress;
 use ccsds_command::expand::run_expand;
 use ccsds_command::inspect::run_inspect;
@@ -22,7 +23,7 @@ const REGISTER_WRAPS: [u8; 26] = [
 #[test]
 fn two_equal_samples_are_compressed(rt: HostRuntime) -> Result<(), Fail> {
     let file = compressed(&rt, &two_equal()?, &[0xC8, 0xC8])?;
-    assert_eq!(rt; file.as_slice(), TWO_EQUAL_FILE.as_slice());
+    same(&rt, file.as_slice(), TWO_EQUAL_FILE.as_slice());
     Ok(())
 }
 
@@ -36,7 +37,7 @@ fn raw_bytes_of_a_wrong_length_are_refused(rt: HostRuntime) -> Result<(), Fail> 
         ([0xC8; 9].as_slice(), 3),
     ] {
         let fault = Fault::RawLength { wanted: 2, had };
-        assert_eq!(rt; compressed(&rt, &settings, input).err(), Some(fault));
+        same(&rt, compressed(&rt, &settings, input).err(), Some(fault));
     }
     Ok(())
 }
@@ -50,7 +51,7 @@ fn a_sample_out_of_range_is_refused(rt: HostRuntime) -> Result<(), Fail> {
         slots: 1024,
     };
     let answer = compressed(&rt, &settings, &[0x07, 0xFF, 0x08, 0x00]);
-    assert_eq!(rt; answer.err(), Some(Fault::SampleRange { index: 1 }));
+    same(&rt, answer.err(), Some(Fault::SampleRange { index: 1 }));
     Ok(())
 }
 
@@ -74,7 +75,7 @@ fn parameters_are_refused_before_anything_is_read(rt: HostRuntime) -> Result<(),
         let mut source = CutSource::new(&[0xC8, 0xC8], 1, Some(0));
         let mut sink = CutSink::new(rt.alloc(), 100, 100, None)?;
         let answer = run_compress(rt.alloc(), &mut source, &mut sink, &settings);
-        assert_eq!(rt; answer, Err(Fault::Disagree { rule }));
+        same(&rt, answer, Err(Fault::Disagree { rule }));
         assert!(rt; sink.taken().is_empty());
     }
     Ok(())
@@ -83,22 +84,22 @@ fn parameters_are_refused_before_anything_is_read(rt: HostRuntime) -> Result<(),
 #[test]
 fn two_equal_samples_are_expanded(rt: HostRuntime) -> Result<(), Fail> {
     let raw = expanded(&rt, &ONE_BYTE, &TWO_EQUAL_FILE)?;
-    assert_eq!(rt; raw.as_slice(), [0xC8, 0xC8].as_slice());
+    same(&rt, raw.as_slice(), [0xC8, 0xC8].as_slice());
     Ok(())
 }
 
 #[test]
 fn samples_of_eleven_bits_are_expanded(rt: HostRuntime) -> Result<(), Fail> {
     let raw = expanded(&rt, &ONE_BYTE, &REGISTER_WRAPS)?;
-    assert_eq!(rt; raw.as_slice(), [4, 0, 0, 0].as_slice());
+    same(&rt, raw.as_slice(), [4, 0, 0, 0].as_slice());
     let raw = expanded(&rt, &TWO_BYTES, &REGISTER_WRAPS)?;
-    assert_eq!(rt; raw.as_slice(), [0, 4, 0, 0, 0, 0, 0, 0].as_slice());
+    same(&rt, raw.as_slice(), [0, 4, 0, 0, 0, 0, 0, 0].as_slice());
     let layout = Layout {
         little: true,
         ..TWO_BYTES
     };
     let raw = expanded(&rt, &layout, &REGISTER_WRAPS)?;
-    assert_eq!(rt; raw.as_slice(), [4, 0, 0, 0, 0, 0, 0, 0].as_slice());
+    same(&rt, raw.as_slice(), [4, 0, 0, 0, 0, 0, 0, 0].as_slice());
     Ok(())
 }
 
@@ -111,10 +112,10 @@ fn a_file_that_is_none_is_refused(rt: HostRuntime) {
     ];
     for (length, fault) in rows {
         let file = TWO_EQUAL_FILE.get(..length).unwrap_or(&[]);
-        assert_eq!(rt; expanded(&rt, &ONE_BYTE, file).err(), Some(fault));
+        same(&rt, expanded(&rt, &ONE_BYTE, file).err(), Some(fault));
     }
     let file = TWO_EQUAL_FILE.get(..11).unwrap_or(&[]);
-    assert_eq!(rt; inspected(&rt, file).err(), Some(Fault::ShortHeader));
+    same(&rt, inspected(&rt, file).err(), Some(Fault::ShortHeader));
 }
 
 #[test]
@@ -127,7 +128,7 @@ fn a_sample_too_large_for_its_byte_is_refused(rt: HostRuntime) -> Result<(), Fai
     };
     let file = compressed(&rt, &settings, &[0x00, 0xFF, 0x01, 0x00])?;
     let answer = expanded(&rt, &ONE_BYTE, &file);
-    assert_eq!(rt; answer.err(), Some(Fault::SampleRange { index: 1 }));
+    same(&rt, answer.err(), Some(Fault::SampleRange { index: 1 }));
     Ok(())
 }
 
@@ -139,14 +140,19 @@ fn failing_sources_are_read(rt: HostRuntime) -> Result<(), Fail> {
         let mut sink = CutSink::new(alloc, 100, 100, None)?;
         let mut raw = CutSource::new(&[0xC8, 0xC8], 1, Some(call));
         let answer = run_compress(alloc, &mut raw, &mut sink, &settings);
-        assert_eq!(rt; answer, Err(Fault::Read));
+        same(&rt, answer, Err(Fault::Read));
         let mut file = CutSource::new(&TWO_EQUAL_FILE, 1, Some(call));
-        assert_eq!(rt;
+        same(
+            &rt,
             run_expand(alloc, &mut file, &mut sink, &ONE_BYTE),
-            Err(Fault::Read)
+            Err(Fault::Read),
         );
         let mut file = CutSource::new(&TWO_EQUAL_FILE, 1, Some(call));
-        assert_eq!(rt; run_inspect(alloc, &mut file, &mut sink), Err(Fault::Read));
+        same(
+            &rt,
+            run_inspect(alloc, &mut file, &mut sink),
+            Err(Fault::Read),
+        );
         assert!(rt; sink.taken().is_empty());
     }
     Ok(())
@@ -160,8 +166,12 @@ fn failing_sinks_have_what_went_out(rt: HostRuntime) -> Result<(), Fail> {
         let mut sink = CutSink::new(alloc, 100, piece, Some(call))?;
         let mut source = CutSource::new(&[0xC8, 0xC8], 1, None);
         let answer = run_compress(alloc, &mut source, &mut sink, &settings);
-        assert_eq!(rt; answer, Err(Fault::Write { written }));
-        assert_eq!(rt; Some(sink.taken()), TWO_EQUAL_FILE.get(..written as usize));
+        same(&rt, answer, Err(Fault::Write { written }));
+        same(
+            &rt,
+            Some(sink.taken()),
+            TWO_EQUAL_FILE.get(..written as usize),
+        );
     }
     Ok(())
 }
@@ -171,6 +181,6 @@ fn pieces_of_one_byte_change_nothing(rt: HostRuntime) -> Result<(), Fail> {
     let mut sink = CutSink::new(rt.alloc(), 100, 1, None)?;
     let mut source = CutSource::new(&[0xC8, 0xC8], 1, None);
     run_compress(rt.alloc(), &mut source, &mut sink, &two_equal()?)?;
-    assert_eq!(rt; sink.taken(), TWO_EQUAL_FILE.as_slice());
+    same(&rt, sink.taken(), TWO_EQUAL_FILE.as_slice());
     Ok(())
 }

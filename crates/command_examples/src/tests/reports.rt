@@ -1,6 +1,7 @@
 //! What the program reports of each fault, and what is told of bytes and headers.
 
 use super::support::{TWO_EQUAL_FILE, inspected};
+use crate::tests::checks::same;
 use command_reports::hexadecimal::hexadecimal;
 use command_reports::lines::header_lines;
 use command_reports::report::{fault_line, status_of};
@@ -168,14 +169,18 @@ fn great_numbers_are_told(rt: HostRuntime) -> Result<(), Fail> {
 fn a_fault_is_a_line(rt: HostRuntime) -> Result<(), Fail> {
     let fault = Fault::RawLength { wanted: 6, had: 0 };
     let line = fault_line(rt.alloc(), &fault)?;
-    assert_eq!(rt; line.as_slice(), b"ccsds: 14 RawLength 6 0\n".as_slice());
+    same(
+        &rt,
+        line.as_slice(),
+        b"ccsds: 14 RawLength 6 0\n".as_slice(),
+    );
     Ok(())
 }
 
 #[test]
 fn bytes_are_digits(rt: HostRuntime) -> Result<(), Fail> {
     let text = hexadecimal(rt.alloc(), &[0x00, 0xFF, 0x1A])?;
-    assert_eq!(rt; text.as_slice(), b"00ff1a\n".as_slice());
+    same(&rt, text.as_slice(), b"00ff1a\n".as_slice());
     Ok(())
 }
 
@@ -183,9 +188,10 @@ fn bytes_are_digits(rt: HostRuntime) -> Result<(), Fail> {
 fn lines_of_a_header_are_those_of_its_file(rt: HostRuntime) -> Result<(), Fail> {
     let (params, size) = read_header(rt.alloc(), &TWO_EQUAL_FILE)?;
     let lines = header_lines(rt.alloc(), &params, size)?;
-    assert_eq!(rt;
+    same(
+        &rt,
         lines.as_slice(),
-        inspected(&rt, &TWO_EQUAL_FILE)?.as_slice()
+        inspected(&rt, &TWO_EQUAL_FILE)?.as_slice(),
     );
     Ok(())
 }

@@ -2,6 +2,7 @@
 
 ghost use Rattle.std.specs.Prelude.{◌≡◌, ◌<◌, [], Some};
 
+use crate::tests::checks::same;
 use ccsds_command::show::run_show;
 use command_devices::cut::{CutSink, CutSource};
 use command_devices::sink::Sink;
@@ -47,8 +48,8 @@ fn cubes_are_shown(rt: HostRuntime) -> Result<(), Fail> {
     ];
     for (input, text) in rows {
         let mut out = sink(&rt, 100, None)?;
-        assert_eq!(rt; shown(&rt, input, 100, &mut out), Ok(()));
-        assert_eq!(rt; out.taken(), text.as_bytes());
+        same(&rt, shown(&rt, input, 100, &mut out), Ok(()));
+        same(&rt, out.taken(), text.as_bytes());
     }
     Ok(())
 }
@@ -56,8 +57,8 @@ fn cubes_are_shown(rt: HostRuntime) -> Result<(), Fail> {
 #[test]
 fn pieces_of_one_byte_change_nothing(rt: HostRuntime) -> Result<(), Fail> {
     let mut out = sink(&rt, 1, None)?;
-    assert_eq!(rt; shown(&rt, &TWO_EQUAL, 1, &mut out), Ok(()));
-    assert_eq!(rt; out.taken(), TWO_EQUAL_SHOWN.as_bytes());
+    same(&rt, shown(&rt, &TWO_EQUAL, 1, &mut out), Ok(()));
+    same(&rt, out.taken(), TWO_EQUAL_SHOWN.as_bytes());
     Ok(())
 }
 
@@ -79,7 +80,7 @@ fn wrong_lengths_are_refused(rt: HostRuntime) -> Result<(), Fail> {
                 &mut CutSource::new(input, piece, None),
                 &mut out,
             );
-            assert_eq!(rt; answer, Err(Fault::RawLength { wanted, had }));
+            same(&rt, answer, Err(Fault::RawLength { wanted, had }));
             assert!(rt; out.taken().is_empty());
         }
     }
@@ -91,9 +92,10 @@ fn a_failing_source_is_read(rt: HostRuntime) -> Result<(), Fail> {
     for call in 0..9 {
         let mut out = sink(&rt, 100, None)?;
         let mut source = CutSource::new(&TWO_EQUAL, 1, Some(call));
-        assert_eq!(rt;
+        same(
+            &rt,
             run_show(rt.alloc(), &mut source, &mut out),
-            Err(Fault::Read)
+            Err(Fault::Read),
         );
         assert!(rt; out.taken().is_empty());
     }
@@ -105,10 +107,11 @@ fn a_failing_sink_has_what_went_out(rt: HostRuntime) -> Result<(), Fail> {
     for (piece, call, written) in [(1, 42, 42), (1, 0, 0), (4, 2, 8), (100, 0, 0)] {
         let mut out = sink(&rt, piece, Some(call))?;
         let answer = shown(&rt, &TWO_EQUAL, 100, &mut out);
-        assert_eq!(rt; answer, Err(Fault::Write { written }));
-        assert_eq!(rt;
+        same(&rt, answer, Err(Fault::Write { written }));
+        same(
+            &rt,
             Some(out.taken()),
-            TWO_EQUAL_SHOWN.as_bytes().get(..written as usize)
+            TWO_EQUAL_SHOWN.as_bytes().get(..written as usize),
         );
     }
     Ok(())
@@ -139,16 +142,16 @@ impl Sink for StuckSink {
 fn a_sink_that_takes_nothing_is_a_write_refusal(rt: HostRuntime) {
     let mut source = CutSource::new(&TWO_EQUAL, 100, None);
     let answer = run_show(rt.alloc(), &mut source, &mut StuckSink { stalls: 0 });
-    assert_eq!(rt; answer, Err(Fault::Write { written: 0 }));
+    same(&rt, answer, Err(Fault::Write { written: 0 }));
 }
 
 #[test]
 fn streams_are_sources_and_sinks(rt: HostRuntime) -> Result<(), Fail> {
     let mut source = ReaderSource::new(TWO_EQUAL.as_slice());
     let mut out = WriterSink::new(Vec::new(rt.alloc()));
-    assert_eq!(rt; run_show(rt.alloc(), &mut source, &mut out), Ok(()));
+    same(&rt, run_show(rt.alloc(), &mut source, &mut out), Ok(()));
     let mut rest = [0; 4];
-    assert_eq!(rt; source.read(&mut rest), Ok(0));
-    assert_eq!(rt; out.write(&[]), Ok(0));
+    same(&rt, source.read(&mut rest), Ok(0));
+    same(&rt, out.write(&[]), Ok(0));
     Ok(())
 }

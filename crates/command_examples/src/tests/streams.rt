@@ -1,5 +1,6 @@
 //! Sources and sinks over readers and writers that fail once, and that count how often they are asked.
 
+use crate::tests::checks::same;
 use ccsds_command::show::run_show;
 use command_devices::cut::{CutSink, CutSource};
 use command_devices::device::{InputDevice, OutputDevice};
@@ -101,15 +102,15 @@ fn a_read_asks_the_reader_once_and_answers_as_it_did(rt: HostRuntime) {
                 let mut buffer = [0; 4];
                 let answer = source.read(&mut buffer);
                 if call == fail_at {
-                    assert_eq!(rt; answer, Err(Failed));
+                    same(&rt, answer, Err(Failed));
                 } else if given < TWO_EQUAL.len() {
-                    assert_eq!(rt; answer, Ok(1));
-                    assert_eq!(rt; buffer[0], TWO_EQUAL[given]);
+                    same(&rt, answer, Ok(1));
+                    same(&rt, buffer[0], TWO_EQUAL[given]);
                     given += 1;
                 } else {
-                    assert_eq!(rt; answer, Ok(0));
+                    same(&rt, answer, Ok(0));
                 }
-                assert_eq!(rt; source.reader().calls, call + 1);
+                same(&rt, source.reader().calls, call + 1);
             }
         }
     }
@@ -124,16 +125,16 @@ fn a_write_asks_the_writer_once_and_answers_as_it_did(rt: HostRuntime) {
             for call in 0..calls {
                 let answer = sink.write(&[1, 2, 3]);
                 if call == fail_at {
-                    assert_eq!(rt; answer, Err(Failed));
+                    same(&rt, answer, Err(Failed));
                 } else if call == stall_at {
-                    assert_eq!(rt; answer, Ok(0));
+                    same(&rt, answer, Ok(0));
                 } else {
-                    assert_eq!(rt; answer, Ok(2));
+                    same(&rt, answer, Ok(2));
                     taken = taken.saturating_add(2);
                 }
             }
             let writer = sink.into_writer();
-            assert_eq!(rt; (writer.calls, writer.taken), (calls, taken));
+            same(&rt, (writer.calls, writer.taken), (calls, taken));
         }
     }
 }
@@ -145,8 +146,8 @@ fn a_reader_that_fails_once_ends_a_command(rt: HostRuntime) -> Result<(), Fail> 
         let mut source = ReaderSource::new(reader);
         let mut sink = CutSink::new(rt.alloc(), 100, 100, None)?;
         let answer = run_show(rt.alloc(), &mut source, &mut sink);
-        assert_eq!(rt; answer, Err(Fault::Read));
-        assert_eq!(rt; source.reader().calls, fail_at + 1);
+        same(&rt, answer, Err(Fault::Read));
+        same(&rt, source.reader().calls, fail_at + 1);
         assert!(rt; sink.taken().is_empty());
     }
     Ok(())
@@ -160,9 +161,9 @@ fn a_writer_that_fails_or_stalls_once_ends_a_command(rt: HostRuntime) {
             let mut sink = WriterSink::new(writer);
             let answer = run_show(rt.alloc(), &mut source, &mut sink);
             let written = 2 * call;
-            assert_eq!(rt; answer, Err(Fault::Write { written }));
+            same(&rt, answer, Err(Fault::Write { written }));
             let writer = sink.into_writer();
-            assert_eq!(rt; (writer.calls, writer.taken), (call + 1, written));
+            same(&rt, (writer.calls, writer.taken), (call + 1, written));
         }
     }
 }

@@ -1,5 +1,6 @@
 //! Lanes on one thread.
 
+use crate::tests::checks::same;
 use band_rings::lane::lane;
 use band_rings::settled::settle;
 use cube_core::fault::{Fault, Field};
@@ -23,10 +24,10 @@ fn every_slot_takes_a_number(rt: HostRuntime) -> Result<(), Fail> {
         for number in 0..slots {
             assert!(rt; sender.try_send(number as u16).is_ok());
         }
-        assert_eq!(rt; sender.try_send(7), Err(7));
-        assert_eq!(rt; receiver.try_recv(), Some(0));
-        assert_eq!(rt; sender.try_send(7), Ok(()));
-        assert_eq!(rt; sender.sent_count(), u64::from(slots) + 1);
+        same(&rt, sender.try_send(7), Err(7));
+        same(&rt, receiver.try_recv(), Some(0));
+        same(&rt, sender.try_send(7), Ok(()));
+        same(&rt, sender.sent_count(), u64::from(slots) + 1);
     }
     Ok(())
 }
@@ -34,19 +35,19 @@ fn every_slot_takes_a_number(rt: HostRuntime) -> Result<(), Fail> {
 #[test]
 fn third_number_comes_back(rt: HostRuntime) -> Result<(), Fail> {
     let (mut sender, mut receiver) = lane(rt.alloc(), 2)?;
-    assert_eq!(rt; receiver.try_recv(), None);
-    assert_eq!(rt; sender.try_send(5), Ok(()));
-    assert_eq!(rt; sender.try_send(6), Ok(()));
-    assert_eq!(rt; sender.try_send(7), Err(7));
-    assert_eq!(rt; receiver.try_recv(), Some(5));
+    same(&rt, receiver.try_recv(), None);
+    same(&rt, sender.try_send(5), Ok(()));
+    same(&rt, sender.try_send(6), Ok(()));
+    same(&rt, sender.try_send(7), Err(7));
+    same(&rt, receiver.try_recv(), Some(5));
     let closed = sender.close();
-    assert_eq!(rt; closed.sent_count(), 2);
+    same(&rt, closed.sent_count(), 2);
     let mut settled = settle(receiver, closed);
-    assert_eq!(rt; settled.sent_count(), 2);
-    assert_eq!(rt; settled.received_count(), 1);
-    assert_eq!(rt; settled.take_left(), Some(6));
-    assert_eq!(rt; settled.take_left(), None);
-    assert_eq!(rt; settled.received_count(), 2);
+    same(&rt, settled.sent_count(), 2);
+    same(&rt, settled.received_count(), 1);
+    same(&rt, settled.take_left(), Some(6));
+    same(&rt, settled.take_left(), None);
+    same(&rt, settled.received_count(), 2);
     Ok(())
 }
 
@@ -54,11 +55,11 @@ fn third_number_comes_back(rt: HostRuntime) -> Result<(), Fail> {
 fn runs_on_two_slots(rt: HostRuntime) -> Result<(), Fail> {
     let (mut sender, _receiver) = lane(rt.alloc(), 2)?;
     assert!(rt; !sender.send_run(&[5, 6, 7]));
-    assert_eq!(rt; sender.sent_count(), 0);
+    same(&rt, sender.sent_count(), 0);
     assert!(rt; sender.send_run(&[5, 6]));
     assert!(rt; sender.send_run(&[]));
     assert!(rt; !sender.send_run(&[7]));
-    assert_eq!(rt; sender.close().sent_count(), 2);
+    same(&rt, sender.close().sent_count(), 2);
     Ok(())
 }
 
@@ -66,18 +67,18 @@ fn runs_on_two_slots(rt: HostRuntime) -> Result<(), Fail> {
 fn room_takes_what_is_there(rt: HostRuntime) -> Result<(), Fail> {
     let (mut sender, mut receiver) = lane(rt.alloc(), 4)?;
     let mut room = [0; 3];
-    assert_eq!(rt; receiver.recv_run(&mut room), 0);
+    same(&rt, receiver.recv_run(&mut room), 0);
     assert!(rt; sender.send_run(&[5, 6]));
-    assert_eq!(rt; receiver.recv_run(&mut room), 2);
-    assert_eq!(rt; room, [5, 6, 0]);
+    same(&rt, receiver.recv_run(&mut room), 2);
+    same(&rt, room, [5, 6, 0]);
     // These go round the end of the ring.
     assert!(rt; sender.send_run(&[7, 8, 9, 10]));
-    assert_eq!(rt; receiver.recv_run(&mut room), 3);
-    assert_eq!(rt; room, [7, 8, 9]);
-    assert_eq!(rt; receiver.recv_run(&mut []), 0);
+    same(&rt, receiver.recv_run(&mut room), 3);
+    same(&rt, room, [7, 8, 9]);
+    same(&rt, receiver.recv_run(&mut []), 0);
     let mut settled = settle(receiver, sender.close());
-    assert_eq!(rt; settled.received_count(), 5);
-    assert_eq!(rt; settled.take_left(), Some(10));
-    assert_eq!(rt; settled.take_left(), None);
+    same(&rt, settled.received_count(), 5);
+    same(&rt, settled.take_left(), Some(10));
+    same(&rt, settled.take_left(), None);
     Ok(())
 }

@@ -1,6 +1,7 @@
 //! What a feed sends past a gate, in which runs, and what the gate is asked.
 
 use super::gates::{Noted, StopAt, TakesOne};
+use crate::tests::checks::same;
 use band_rings::lane::lane;
 use lane_workers::feed::Feed;
 use lane_workers::gate::OpenGate;
@@ -24,10 +25,10 @@ fn open_gate_stops_nobody(rt: HostRuntime) -> Result<(), Fail> {
         };
         let end = feed.run(&rt, sender, &OpenGate);
         assert!(rt; end.whole);
-        assert_eq!(rt; end.closed.sent_count(), 6);
+        same(&rt, end.closed.sent_count(), 6);
         let mut room = [0; 7];
-        assert_eq!(rt; receiver.recv_run(&mut room), 6);
-        assert_eq!(rt; room, [55, 3, 5, 0, 4, 2, 0]);
+        same(&rt, receiver.recv_run(&mut room), 6);
+        same(&rt, room, [55, 3, 5, 0, 4, 2, 0]);
     }
     Ok(())
 }
@@ -64,11 +65,11 @@ fn stops_behind_a_run_of_two(rt: HostRuntime) -> Result<(), Fail> {
     };
     let end = feed.run(&rt, sender, &gate);
     assert!(rt; !end.whole);
-    assert_eq!(rt; end.closed.sent_count(), 2);
+    same(&rt, end.closed.sent_count(), 2);
     assert!(rt; gate.was_asked(&[(0, 3, 0)]));
-    assert_eq!(rt; receiver.try_recv(), Some(55));
-    assert_eq!(rt; receiver.try_recv(), Some(3));
-    assert_eq!(rt; receiver.try_recv(), None);
+    same(&rt, receiver.try_recv(), Some(55));
+    same(&rt, receiver.try_recv(), Some(3));
+    same(&rt, receiver.try_recv(), None);
     Ok(())
 }
 
@@ -86,12 +87,12 @@ fn numbers_before_the_stop_go_singly(rt: HostRuntime) -> Result<(), Fail> {
     };
     let end = feed.run(&rt, sender, &gate);
     assert!(rt; !end.whole);
-    assert_eq!(rt; end.closed.sent_count(), 2);
+    same(&rt, end.closed.sent_count(), 2);
     // Each is asked for again before it goes, and the one at which the gate stops is not.
     assert!(rt; gate.was_asked(&[(0, 3, 0), (0, 2, 0)]));
     let mut room = [0; 3];
-    assert_eq!(rt; receiver.recv_run(&mut room), 2);
-    assert_eq!(rt; room, [55, 3, 0]);
+    same(&rt, receiver.recv_run(&mut room), 2);
+    same(&rt, room, [55, 3, 0]);
     Ok(())
 }
 
@@ -129,7 +130,7 @@ fn comes_back_until_it_is_stopped(rt: HostRuntime) -> Result<(), Fail> {
     };
     let end = feed.run(&rt, sender, &gate);
     assert!(rt; !end.whole);
-    assert_eq!(rt; end.closed.sent_count(), 1);
+    same(&rt, end.closed.sent_count(), 1);
     assert!(rt;
         gate.was_asked(&[
             (0, 2, 0),
@@ -155,7 +156,7 @@ fn first_of_a_refused_run_goes_alone(rt: HostRuntime) -> Result<(), Fail> {
     };
     let end = feed.run(&rt, sender, &gate);
     assert!(rt; end.whole);
-    assert_eq!(rt; end.closed.sent_count(), 17);
+    same(&rt, end.closed.sent_count(), 17);
     let questions = [
         // The first run goes, and the second is refused,
         (0, 8, 0),

@@ -2,6 +2,7 @@
 
 ghost use Rattle.std.specs.Prelude.{◌≡◌};
 
+use crate::tests::checks::same;
 use band_rings::closed::ClosedLane;
 use band_rings::lane::lane;
 use band_rings::receiver::LaneReceiver;
@@ -117,10 +118,10 @@ fn one_slot_sixty_four(rt: HostRuntime) -> Result<(), Fail> {
         { receive_singly(receiver, &mut received) },
     );
     let mut settled = settle(receiver, closed);
-    assert_eq!(rt; settled.sent_count(), 64);
-    assert_eq!(rt; settled.received_count(), 64);
-    assert_eq!(rt; settled.take_left(), None);
-    assert_eq!(rt; received, sent);
+    same(&rt, settled.sent_count(), 64);
+    same(&rt, settled.received_count(), 64);
+    same(&rt, settled.take_left(), None);
+    same(&rt, received, sent);
     Ok(())
 }
 
@@ -139,9 +140,9 @@ fn runs_go_through_five_slots(rt: HostRuntime) -> Result<(), Fail> {
         { receive_in_runs(receiver, &mut received) },
     );
     let mut settled = settle(receiver, closed);
-    assert_eq!(rt; settled.sent_count(), 64);
-    assert_eq!(rt; settled.received_count(), 64);
-    assert_eq!(rt; settled.take_left(), None);
-    assert_eq!(rt; received, sent);
+    same(&rt, settled.sent_count(), 64);
+    same(&rt, settled.received_count(), 64);
+    same(&rt, settled.take_left(), None);
+    same(&rt, received, sent);
     Ok(())
 }

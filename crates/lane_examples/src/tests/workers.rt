@@ -4,6 +4,7 @@ ghost use Rattle.std.specs.Prelude.{◌≡◌, [], length};
 ghost use Rattle.cube_core.specs.Shape.{InRange};
 
 use super::gates::StopAt;
+use crate::tests::checks::same;
 use cube_core::fault::Fault;
 use lane_workers::gate::{Gate, OpenGate};
 use lane_workers::list_feed::ListFeed;
@@ -118,8 +119,8 @@ fn list_is_handed_on(rt: HostRuntime) -> Result<(), Fail> {
             sent: 200,
             received: 200,
         };
-        assert_eq!(rt; outcome, whole);
-        assert_eq!(rt; room, list);
+        same(&rt, outcome, whole);
+        same(&rt, room, list);
     }
     Ok(())
 }
@@ -149,8 +150,8 @@ fn stopped_worker_is_told(rt: HostRuntime) -> Result<(), Fail> {
                 sent: nth,
                 joined: Some(nth),
             };
-            assert_eq!(rt; outcome, stopped);
-            assert_eq!(rt; room[..nth as usize], list[..nth as usize]);
+            same(&rt, outcome, stopped);
+            same(&rt, room[..nth as usize], list[..nth as usize]);
         }
     }
     Ok(())
@@ -178,8 +179,8 @@ fn gate_behind_the_list_stops_nobody(rt: HostRuntime) -> Result<(), Fail> {
         sent: 6,
         received: 6,
     };
-    assert_eq!(rt; outcome, whole);
-    assert_eq!(rt; room, list);
+    same(&rt, outcome, whole);
+    same(&rt, room, list);
     Ok(())
 }
 
@@ -201,7 +202,7 @@ fn worker_ends_whose_numbers_are_dropped(rt: HostRuntime) -> Result<(), Fail> {
         let outcome = thread::scope(thread::scope_env(), &rt, |scope| {
             skipped(scope, &rt, ready, &gate, &over)
         })?;
-        assert_eq!(rt; outcome, (true, stopped));
+        same(&rt, outcome, (true, stopped));
     }
     Ok(())
 }

@@ -6,6 +6,7 @@ ghost use Rattle.coder_pipe.specs.Sends.{AreFresh, IsSeen};
 
 use super::cubes::{params_of, plan_and_cube};
 use super::gates::StopAt;
+use crate::tests::checks::same;
 use band_rings::lane::lane;
 use band_rings::receiver::LaneReceiver;
 use band_rings::sender::LaneSender;
@@ -99,14 +100,14 @@ fn stopped_where_nothing_is_received(rt: HostRuntime) -> Result<(), Fail> {
         let (sender, receiver) = lane(rt.alloc(), slots)?;
         let end = run_first(&rt, &cube, &plan, bands, sender, &gate);
         assert!(rt; !end.whole);
-        assert_eq!(rt; end.closed.sent_count(), sent.len() as u64);
+        same(&rt, end.closed.sent_count(), sent.len() as u64);
         let mut settled = settle(receiver, end.closed);
-        assert_eq!(rt; settled.received_count(), 0);
+        same(&rt, settled.received_count(), 0);
         for number in sent {
-            assert_eq!(rt; settled.take_left(), Some(*number));
+            same(&rt, settled.take_left(), Some(*number));
         }
-        assert_eq!(rt; settled.take_left(), None);
-        assert_eq!(rt; settled.received_count(), sent.len() as u64);
+        same(&rt, settled.take_left(), None);
+        same(&rt, settled.received_count(), sent.len() as u64);
     }
     Ok(())
 }
@@ -121,7 +122,7 @@ fn stopped_where_nobody_receives(rt: HostRuntime) -> Result<(), Fail> {
         drop(receiver);
         let end = run_first(&rt, &cube, &plan, bands, sender, &gate);
         assert!(rt; !end.whole);
-        assert_eq!(rt; end.closed.sent_count(), sent);
+        same(&rt, end.closed.sent_count(), sent);
     }
     Ok(())
 }
@@ -148,9 +149,9 @@ fn stopped_while_another_thread_receives(rt: HostRuntime) -> Result<(), Fail> {
     );
     assert!(rt; !end.whole);
     let mut settled = settle(receiver, end.closed);
-    assert_eq!(rt; settled.sent_count(), 2);
-    assert_eq!(rt; settled.received_count(), 2);
-    assert_eq!(rt; settled.take_left(), None);
-    assert_eq!(rt; room, [55, 3]);
+    same(&rt, settled.sent_count(), 2);
+    same(&rt, settled.received_count(), 2);
+    same(&rt, settled.take_left(), None);
+    same(&rt, room, [55, 3]);
     Ok(())
 }

@@ -1,6 +1,7 @@
 //! What predictors in threads make of cube A.
 
 use super::cubes::{BY_PIXEL, by_blocks, by_one, params_of, piped};
+use crate::tests::checks::same;
 use coder_pipe::OpenGate;
 use cube_core::order::Order;
 use header_bits::params::Coder;
@@ -15,11 +16,11 @@ fn a_band_each(rt: HostRuntime) -> Result<(), Fail> {
     let params = params_of(&rt, Order::Bi(2), Coder::plain());
     for slots in [1, 2, 8, 1024] {
         let made = piped(&rt, rt.alloc(), &params, 2, &[0, 1], slots, &OpenGate)?;
-        assert_eq!(rt; made.file.as_slice(), BY_PIXEL.as_slice());
-        assert_eq!(rt; made.lanes.len(), 2);
+        same(&rt, made.file.as_slice(), BY_PIXEL.as_slice());
+        same(&rt, made.lanes.len(), 2);
         for lane in &made.lanes {
-            assert_eq!(rt; lane.sent_count(), 6);
-            assert_eq!(rt; lane.received_count(), 6);
+            same(&rt, lane.sent_count(), 6);
+            same(&rt, lane.received_count(), 6);
         }
     }
     Ok(())
@@ -30,10 +31,10 @@ fn a_band_each(rt: HostRuntime) -> Result<(), Fail> {
 fn all_bands_to_one(rt: HostRuntime) -> Result<(), Fail> {
     let params = params_of(&rt, Order::Bi(2), Coder::plain());
     let made = piped(&rt, rt.alloc(), &params, 2, &[0, 0], 1, &OpenGate)?;
-    assert_eq!(rt; made.file.as_slice(), BY_PIXEL.as_slice());
-    assert_eq!(rt; made.lanes.len(), 2);
-    assert_eq!(rt; made.lanes[0].sent_count(), 12);
-    assert_eq!(rt; made.lanes[1].sent_count(), 0);
+    same(&rt, made.file.as_slice(), BY_PIXEL.as_slice());
+    assert!(rt; made.lanes.len() == 2);
+    same(&rt, made.lanes[0].sent_count(), 12);
+    same(&rt, made.lanes[1].sent_count(), 0);
     Ok(())
 }
 
@@ -42,10 +43,10 @@ fn all_bands_to_one(rt: HostRuntime) -> Result<(), Fail> {
 fn all_bands_to_the_last_of_64(rt: HostRuntime) -> Result<(), Fail> {
     let params = params_of(&rt, Order::Bi(2), Coder::plain());
     let made = piped(&rt, rt.alloc(), &params, 64, &[63, 63], 1, &OpenGate)?;
-    assert_eq!(rt; made.file.as_slice(), BY_PIXEL.as_slice());
-    assert_eq!(rt; made.lanes.len(), 64);
+    same(&rt, made.file.as_slice(), BY_PIXEL.as_slice());
+    same(&rt, made.lanes.len(), 64);
     for lane in made.lanes.iter().take(63) {
-        assert_eq!(rt; lane.sent_count(), 0);
+        same(&rt, lane.sent_count(), 0);
     }
     Ok(())
 }
@@ -59,7 +60,7 @@ fn as_one_thread(rt: HostRuntime) -> Result<(), Fail> {
             let wanted = by_one(&rt, rt.alloc(), &params)?;
             for deal in [[0, 1], [1, 0], [1, 1]] {
                 let made = piped(&rt, rt.alloc(), &params, 3, &deal, 2, &OpenGate)?;
-                assert_eq!(rt; made.file.as_slice(), wanted.as_slice());
+                same(&rt, made.file.as_slice(), wanted.as_slice());
             }
         }
     }

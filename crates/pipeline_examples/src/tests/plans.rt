@@ -1,6 +1,7 @@
 //! Which plans are refused.
 
 use super::cubes::{compressed, params_of};
+use crate::tests::checks::same;
 use coder_pipe::OpenGate;
 use coder_pipe::plan::Plan;
 use cube_core::fault::{Fault, Field};
@@ -26,26 +27,26 @@ fn refusal(
 #[test]
 fn numbers_are_judged_in_order(rt: HostRuntime) {
     let none = range(Field::Predictors, 0);
-    assert_eq!(rt; refusal(&rt, rt.alloc(), 0, &[0, 2], 0), none);
+    same(&rt, refusal(&rt, rt.alloc(), 0, &[0, 2], 0), none);
     let many = range(Field::Predictors, 65);
-    assert_eq!(rt; refusal(&rt, rt.alloc(), 65, &[0, 1], 1), many);
+    same(&rt, refusal(&rt, rt.alloc(), 65, &[0, 1], 1), many);
     let none = range(Field::Slots, 0);
-    assert_eq!(rt; refusal(&rt, rt.alloc(), 2, &[0, 2], 0), none);
+    same(&rt, refusal(&rt, rt.alloc(), 2, &[0, 2], 0), none);
     let many = range(Field::Slots, 65_537);
-    assert_eq!(rt; refusal(&rt, rt.alloc(), 2, &[0, 1], 65_537), many);
-    assert_eq!(rt; refusal(&rt, rt.alloc(), 2, &[0, 1], 65_536), None);
-    assert_eq!(rt; refusal(&rt, rt.alloc(), 64, &[63, 0], 1), None);
+    same(&rt, refusal(&rt, rt.alloc(), 2, &[0, 1], 65_537), many);
+    same(&rt, refusal(&rt, rt.alloc(), 2, &[0, 1], 65_536), None);
+    same(&rt, refusal(&rt, rt.alloc(), 64, &[63, 0], 1), None);
 }
 
 /// The first wrong entry of a deal before its length.
 #[test]
 fn entries_are_judged_before_the_length(rt: HostRuntime) {
-    assert_eq!(rt; refusal(&rt, rt.alloc(), 2, &[0, 2], 1), band(1));
-    assert_eq!(rt; refusal(&rt, rt.alloc(), 2, &[0], 1), band(1));
-    assert_eq!(rt; refusal(&rt, rt.alloc(), 2, &[], 1), band(0));
-    assert_eq!(rt; refusal(&rt, rt.alloc(), 2, &[0, 0, 0], 1), band(2));
-    assert_eq!(rt; refusal(&rt, rt.alloc(), 2, &[0, 0, 0, 2], 1), band(3));
-    assert_eq!(rt; refusal(&rt, rt.alloc(), 1, &[1, 0, 0], 1), band(0));
+    same(&rt, refusal(&rt, rt.alloc(), 2, &[0, 2], 1), band(1));
+    same(&rt, refusal(&rt, rt.alloc(), 2, &[0], 1), band(1));
+    same(&rt, refusal(&rt, rt.alloc(), 2, &[], 1), band(0));
+    same(&rt, refusal(&rt, rt.alloc(), 2, &[0, 0, 0], 1), band(2));
+    same(&rt, refusal(&rt, rt.alloc(), 2, &[0, 0, 0, 2], 1), band(3));
+    same(&rt, refusal(&rt, rt.alloc(), 1, &[1, 0, 0], 1), band(0));
 }
 
 /// A command that has no plan tells why.
@@ -59,7 +60,7 @@ fn a_command_without_a_plan_is_refused(rt: HostRuntime) {
     ] {
         let params = params_of(&rt, Order::Bi(2), Coder::plain());
         let answer = compressed(&rt, rt.alloc(), params, predictors, slots, &OpenGate);
-        assert_eq!(rt; answer.err(), range(field, value));
+        same(&rt, answer.err(), range(field, value));
     }
 }
 

@@ -2,6 +2,7 @@
 
 use super::cubes::{compressed, params_of, piped};
 use super::gates::StopTwo;
+use crate::tests::checks::same;
 use cube_core::fault::Fault;
 use cube_core::order::Order;
 use header_bits::params::Coder;
@@ -32,10 +33,15 @@ fn fault<R: Threads + Wait + Sync + Abort>(
 fn the_first_is_stopped(rt: HostRuntime) {
     for sent in 0..NEVER {
         let stopped = Some(Fault::Stopped { predictor: 0, sent });
-        assert_eq!(rt; fault(&rt, rt.alloc(), Order::Bsq, 1, sent, NEVER), stopped);
-        assert_eq!(rt;
+        same(
+            &rt,
+            fault(&rt, rt.alloc(), Order::Bsq, 1, sent, NEVER),
+            stopped,
+        );
+        same(
+            &rt,
             fault(&rt, rt.alloc(), Order::Bi(2), 8, sent, NEVER),
-            stopped
+            stopped,
         );
     }
 }
@@ -45,10 +51,15 @@ fn the_first_is_stopped(rt: HostRuntime) {
 fn the_second_is_stopped(rt: HostRuntime) {
     for sent in 0..NEVER {
         let stopped = Some(Fault::Stopped { predictor: 1, sent });
-        assert_eq!(rt; fault(&rt, rt.alloc(), Order::Bsq, 8, NEVER, sent), stopped);
-        assert_eq!(rt;
+        same(
+            &rt,
+            fault(&rt, rt.alloc(), Order::Bsq, 8, NEVER, sent),
+            stopped,
+        );
+        same(
+            &rt,
             fault(&rt, rt.alloc(), Order::Bi(2), 1, NEVER, sent),
-            stopped
+            stopped,
         );
     }
 }
@@ -56,7 +67,11 @@ fn the_second_is_stopped(rt: HostRuntime) {
 /// A residual that there isn't stops nobody.
 #[test]
 fn none_is_stopped_behind_the_last(rt: HostRuntime) {
-    assert_eq!(rt; fault(&rt, rt.alloc(), Order::Bi(2), 1, NEVER, NEVER), None);
+    same(
+        &rt,
+        fault(&rt, rt.alloc(), Order::Bi(2), 1, NEVER, NEVER),
+        None,
+    );
 }
 
 /// Of two that are stopped the first is named, though the other is met first.
@@ -66,7 +81,7 @@ fn the_first_of_two_is_named(rt: HostRuntime) {
         predictor: 0,
         sent: 2,
     });
-    assert_eq!(rt; fault(&rt, rt.alloc(), Order::Bi(2), 1, 2, 0), stopped);
+    same(&rt, fault(&rt, rt.alloc(), Order::Bi(2), 1, 2, 0), stopped);
 }
 
 /// A command tells the same.
@@ -80,6 +95,6 @@ fn a_command_is_stopped(rt: HostRuntime) {
         };
         let answer = compressed(&rt, rt.alloc(), params, 2, 1, &gate);
         let stopped = Some(Fault::Stopped { predictor: 0, sent });
-        assert_eq!(rt; answer.err(), stopped);
+        same(&rt, answer.err(), stopped);
     }
 }

@@ -1,6 +1,7 @@
 //! What predictors in threads make of cubes whose parameters hold tables, or name the restricted set of code options.
 
 use super::cubes::BYTES;
+use crate::tests::checks::same;
 use coder_pipe::OpenGate;
 use coder_pipe::encode_predicted::encode_predicted;
 use coder_pipe::plan::Plan;
@@ -57,10 +58,10 @@ fn makes<R: Threads + Wait + Sync + Abort>(
         let plan = Plan::new(alloc, params, 2, &[0, 1], slots)?;
         let cube = Cube::from_raw(alloc, params.shape, params.kind, BYTES, samples)?;
         let made = encode_predicted(rt, alloc, &cube, &plan, &OpenGate)?;
-        assert_eq!(rt; made.file.as_slice(), file);
+        same(rt, made.file.as_slice(), file);
         for lane in &made.lanes {
-            assert_eq!(rt; lane.sent_count(), 2);
-            assert_eq!(rt; lane.received_count(), 2);
+            same(rt, lane.sent_count(), 2);
+            same(rt, lane.received_count(), 2);
         }
     }
     Ok(())

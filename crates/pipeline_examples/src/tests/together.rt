@@ -2,6 +2,7 @@
 
 use super::cubes::{BY_PIXEL, compressed, params_of, piped};
 use super::gates::{FirstWaits, Meeting};
+use crate::tests::checks::same;
 use cube_core::order::Order;
 use header_bits::params::Coder;
 use std::test::Fail;
@@ -13,10 +14,10 @@ fn gate_first_waits_for_second(rt: HostRuntime) -> Result<(), Fail> {
         let gate = FirstWaits::new(u64::from(slots));
         let params = params_of(&rt, Order::Bi(2), Coder::plain());
         let made = piped(&rt, rt.alloc(), &params, 2, &[0, 1], slots, &gate)?;
-        assert_eq!(rt; made.file.as_slice(), BY_PIXEL.as_slice());
+        same(&rt, made.file.as_slice(), BY_PIXEL.as_slice());
         let gate = FirstWaits::new(u64::from(slots));
         let file = compressed(&rt, rt.alloc(), params, 2, slots, &gate)?;
-        assert_eq!(rt; file.as_slice(), BY_PIXEL.as_slice());
+        same(&rt, file.as_slice(), BY_PIXEL.as_slice());
     }
     Ok(())
 }
@@ -27,11 +28,11 @@ fn gates_meet(rt: HostRuntime) -> Result<(), Fail> {
     let params = params_of(&rt, Order::Bi(2), Coder::plain());
     let meeting = Meeting::new();
     let made = piped(&rt, rt.alloc(), &params, 2, &[0, 1], 1, &meeting)?;
-    assert_eq!(rt; made.file.as_slice(), BY_PIXEL.as_slice());
+    same(&rt, made.file.as_slice(), BY_PIXEL.as_slice());
     assert!(rt; meeting.took_place());
     let meeting = Meeting::new();
     let file = compressed(&rt, rt.alloc(), params, 2, 1, &meeting)?;
-    assert_eq!(rt; file.as_slice(), BY_PIXEL.as_slice());
+    same(&rt, file.as_slice(), BY_PIXEL.as_slice());
     assert!(rt; meeting.took_place());
     Ok(())
 }

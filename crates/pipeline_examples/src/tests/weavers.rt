@@ -6,6 +6,7 @@ ghost use Rattle.coder_pipe.specs.Piping.{AreFeeds};
 
 use super::cubes::{params_of, plan_and_cube};
 use super::weaving::weave_all;
+use crate::tests::checks::same;
 use coder_pipe::OpenGate;
 use coder_pipe::pipeline::encode_piped;
 use coder_pipe::plan::Plan;
@@ -34,11 +35,12 @@ fn predictors_are_wanted_by_turns(rt: HostRuntime) -> Result<(), Fail> {
         Vec::from_slice(alloc, &[0; 6])?,
     ];
     let woven = weave_all(&rt, alloc, &plan, &lists)?;
-    assert_eq!(rt;
+    same(
+        &rt,
         woven.wanted.as_slice(),
-        [0, 1, 0, 1, 0, 1, 0, 1, 0, 1, 0, 1].as_slice()
+        [0, 1, 0, 1, 0, 1, 0, 1, 0, 1, 0, 1].as_slice(),
     );
-    assert_eq!(rt; woven.file.as_slice(), ZEROS.as_slice());
+    same(&rt, woven.file.as_slice(), ZEROS.as_slice());
     Ok(())
 }
 
@@ -69,11 +71,11 @@ fn feeds_of_zeros_are_woven(rt: HostRuntime) -> Result<(), Fail> {
     let zeros = [0; 6];
     let feeds = feeds(rt.alloc(), &plan, &zeros)?;
     let made = encode_piped(&rt, rt.alloc(), plan.params(), &plan, feeds, &OpenGate)?;
-    assert_eq!(rt; made.file.as_slice(), ZEROS.as_slice());
-    assert_eq!(rt; made.lanes.len(), 2);
+    same(&rt, made.file.as_slice(), ZEROS.as_slice());
+    same(&rt, made.lanes.len(), 2);
     for lane in &made.lanes {
-        assert_eq!(rt; lane.sent_count(), 6);
-        assert_eq!(rt; lane.received_count(), 6);
+        same(&rt, lane.sent_count(), 6);
+        same(&rt, lane.received_count(), 6);
     }
     Ok(())
 }

@@ -2,6 +2,7 @@
 
 ghost use Rattle.std.specs.Prelude.{◌≡◌, ◌<◌};
 
+use crate::tests::checks::same;
 use coder_pipe::plan::Plan;
 use coder_pipe::weaver::Weaver;
 use cube_core::fault::Fault;
@@ -35,7 +36,7 @@ pub(crate) fn weave_all(
         weaver.take(residual)?;
         wanted.push(predictor)?;
     }
-    assert_eq!(rt; weaver.wants(), None);
+    same(rt, weaver.wants(), None);
     Ok(Woven {
         wanted,
         file: weaver.finish()?,

@@ -5,6 +5,7 @@ ghost use Rattle.coder_pipe.specs.Sends.{IsSeen};
 
 use super::cubes::{by_blocks, params_of, plan_and_cube};
 use super::weaving::weave_all;
+use crate::tests::checks::same;
 use coder_pipe::OpenGate;
 use coder_pipe::encode_predicted::encode_predicted;
 use coder_pipe::plan::Plan;
@@ -127,11 +128,11 @@ fn as_whole_lists(rt: HostRuntime) -> Result<(), Fail> {
                 let (plan, cube) = plan_and_cube(&rt, rt.alloc(), &params, predictors, &deal, 1)?;
                 let (file, lengths) = by_whole_lists(&rt, rt.alloc(), &cube, &plan)?;
                 let made = encode_predicted(&rt, rt.alloc(), &cube, &plan, &OpenGate)?;
-                assert_eq!(rt; made.file, file);
-                assert_eq!(rt; made.lanes.len(), lengths.len());
+                same(&rt, made.file, file);
+                same(&rt, made.lanes.len(), lengths.len());
                 for (lane, length) in made.lanes.iter().zip(&lengths) {
-                    assert_eq!(rt; lane.sent_count(), *length);
-                    assert_eq!(rt; lane.received_count(), *length);
+                    same(&rt, lane.sent_count(), *length);
+                    same(&rt, lane.received_count(), *length);
                 }
             }
         }

@@ -3,6 +3,7 @@
 ghost use Rattle.cube_core.specs.Layout.{IsLayout};
 
 use super::places::shape_of;
+use crate::tests::checks::same;
 use cube_core::cube::Cube;
 use cube_core::cursor::Places;
 use cube_core::fault::{Fault, Field};
@@ -20,12 +21,12 @@ fn sizes_and_bits_out_of_range(rt: HostRuntime) {
         field: Field::DynamicRange,
         value: 17,
     };
-    assert_eq!(rt; Kind::new(false, 17), Err(bits));
+    same(&rt, Kind::new(false, 17), Err(bits));
     let columns = Fault::FieldRange {
         field: Field::Columns,
         value: 0,
     };
-    assert_eq!(rt; Shape::new(0, 1, 1), Err(columns));
+    same(&rt, Shape::new(0, 1, 1), Err(columns));
     assert!(rt; Shape::new(65_536, 65_536, 65_536).is_ok());
 }
 
@@ -36,9 +37,9 @@ fn new_cube_is_zero_until_set(rt: HostRuntime) -> Result<(), Fail> {
     assert!(rt; kind.smax() == 127);
     let shape = shape_of(&rt, 1, 1, 1);
     let mut cube = Cube::new(rt.alloc(), shape, kind)?;
-    assert_eq!(rt; cube.sample(0, 0, 0), 0);
+    same(&rt, cube.sample(0, 0, 0), 0);
     cube.set(0, 0, 0, -128);
-    assert_eq!(rt; cube.sample(0, 0, 0), -128);
+    same(&rt, cube.sample(0, 0, 0), -128);
     Ok(())
 }
 
@@ -57,14 +58,16 @@ fn lone_sample(rt: &impl Abort, alloc: Global, bytes: &[u8]) -> Result<i32, Faul
 #[test]
 fn lone_samples_of_eleven_bits(rt: HostRuntime) {
     let alloc = rt.alloc();
-    assert_eq!(rt;
+    same(
+        &rt,
         lone_sample(&rt, alloc, &[0x00, 0x08]),
-        Err(Fault::SampleRange { index: 0 })
+        Err(Fault::SampleRange { index: 0 }),
     );
-    assert_eq!(rt; lone_sample(&rt, alloc, &[0xFF, 0x07]), Ok(2047));
-    assert_eq!(rt;
+    same(&rt, lone_sample(&rt, alloc, &[0xFF, 0x07]), Ok(2047));
+    same(
+        &rt,
         lone_sample(&rt, alloc, &[0xFF]),
-        Err(Fault::RawLength { wanted: 2, had: 1 })
+        Err(Fault::RawLength { wanted: 2, had: 1 }),
     );
 }
 
@@ -108,7 +111,7 @@ fn each_layout_is_read_to_one_cube(rt: HostRuntime) -> Result<(), Fail> {
             };
             let cube = Cube::from_raw(rt.alloc(), shape, kind, layout, &bytes)?;
             let again = cube.to_raw(rt.alloc(), layout)?;
-            assert_eq!(rt; again.as_slice(), bytes.as_slice());
+            same(&rt, again.as_slice(), bytes.as_slice());
             let mut i = 0;
             for place in Places::new(shape, Order::Bsq) {
                 assert!(rt; place.z < 3);
@@ -116,7 +119,7 @@ fn each_layout_is_read_to_one_cube(rt: HostRuntime) -> Result<(), Fail> {
                 assert!(rt; place.x < 2);
                 assert!(rt; i < 12);
                 let sample = cube.sample(place.z, place.y, place.x);
-                assert_eq!(rt; sample, i32::from(samples_in(RawOrder::Bsq)[i]));
+                same(&rt, sample, i32::from(samples_in(RawOrder::Bsq)[i]));
                 i += 1;
             }
         }
@@ -172,7 +175,7 @@ fn each_layout_is_written_and_read_in_each_shape(rt: HostRuntime) -> Result<(), 
             for (wide, little) in [(false, false), (true, false), (true, true)] {
                 let layout = layout_of(order, wide, little);
                 let back = there_and_back(&rt, rt.alloc(), shape, layout, &bytes)?;
-                assert_eq!(rt; back.as_slice(), bytes.as_slice());
+                same(&rt, back.as_slice(), bytes.as_slice());
             }
         }
     }
@@ -201,10 +204,10 @@ fn lone_samples_as_raw_bytes(rt: HostRuntime) -> Result<(), Fail> {
     let nine = Kind::new(false, 9).expect(&rt, "a kind");
     let narrow = layout_of(RawOrder::Bsq, false, false);
     let refused = lone_bytes(&rt, rt.alloc(), nine, 256, narrow);
-    assert_eq!(rt; refused.err(), Some(Fault::SampleRange { index: 0 }));
+    same(&rt, refused.err(), Some(Fault::SampleRange { index: 0 }));
     let sixteen = Kind::new(true, 16).expect(&rt, "a kind");
     let wide = layout_of(RawOrder::Bsq, true, false);
     let bytes = lone_bytes(&rt, rt.alloc(), sixteen, -32_768, wide)?;
-    assert_eq!(rt; bytes.as_slice(), [0x80u8, 0x00].as_slice());
+    same(&rt, bytes.as_slice(), [0x80u8, 0x00].as_slice());
     Ok(())
 }

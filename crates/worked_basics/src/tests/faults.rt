@@ -1,5 +1,6 @@
 //! The line that each fault prints.
 
+use crate::tests::checks::same;
 use cube_core::fault::{Fault, Field, Rule};
 use std::test::Fail;
 
@@ -53,7 +54,7 @@ fn each_fault_prints_number_name_and_values(rt: HostRuntime) -> Result<(), Fail>
     ];
     for (fault, line) in lines {
         let printed = format!(in rt.alloc(); "{fault}")?;
-        assert_eq!(rt; printed.as_str(), line);
+        same(&rt, printed.as_str(), line);
     }
     Ok(())
 }

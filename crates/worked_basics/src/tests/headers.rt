@@ -1,5 +1,6 @@
 //! Headers written and read, and what is refused.
 
+use crate::tests::checks::same;
 use cube_core::fault::{Fault, Field, Rule};
 use cube_core::kind::Kind;
 use cube_core::shape::Shape;
@@ -31,7 +32,7 @@ fn one_sample_is_written(rt: HostRuntime) -> Result<(), Fail> {
     let params = one_sample()?;
     assert!(rt; params.check().is_ok());
     let bytes = write_header(rt.alloc(), &params)?;
-    assert_eq!(rt; bytes.as_slice(), ONE_SAMPLE.as_slice());
+    same(&rt, bytes.as_slice(), ONE_SAMPLE.as_slice());
     Ok(())
 }
 
@@ -44,9 +45,10 @@ fn a_header_is_put_behind_other_bits(rt: HostRuntime) -> Result<(), Fail> {
     put_header(&params, &mut writer)?;
     assert!(rt; writer.bit_count() == 160);
     let bytes = writer.into_bytes();
-    assert_eq!(rt;
+    same(
+        &rt,
         bytes.as_slice().split_first(),
-        Some((&0xFF, ONE_SAMPLE.as_slice()))
+        Some((&0xFF, ONE_SAMPLE.as_slice())),
     );
     Ok(())
 }
@@ -57,11 +59,11 @@ fn any_depth_is_read_and_zeros_are_written(rt: HostRuntime) -> Result<(), Fail> 
     bytes[8] = 0x12;
     bytes[9] = 0x34;
     let (params, size) = read_header(rt.alloc(), &bytes)?;
-    assert_eq!(rt; size, 19);
-    assert_eq!(rt; params.shape.columns(), 1);
-    assert_eq!(rt; params.vmin, -1);
+    same(&rt, size, 19);
+    same(&rt, params.shape.columns(), 1);
+    same(&rt, params.vmin, -1);
     let again = write_header(rt.alloc(), &params)?;
-    assert_eq!(rt; again.as_slice(), ONE_SAMPLE.as_slice());
+    same(&rt, again.as_slice(), ONE_SAMPLE.as_slice());
     Ok(())
 }
 
@@ -94,9 +96,10 @@ fn refused_headers(rt: HostRuntime) {
             "at {place}"
         );
     }
-    assert_eq!(rt;
+    same(
+        &rt,
         read_header(rt.alloc(), &ONE_SAMPLE[..18]).err(),
-        Some(Fault::ShortHeader)
+        Some(Fault::ShortHeader),
     );
 }
 
@@ -108,14 +111,15 @@ fn refused_parameters(rt: HostRuntime) -> Result<(), Fail> {
         field: Field::VMin,
         value: -7,
     };
-    assert_eq!(rt; params.check(), Err(least));
+    same(&rt, params.check(), Err(least));
     params.vmin = 3;
     params.vmax = 2;
-    assert_eq!(rt;
+    same(
+        &rt,
         params.check(),
         Err(Fault::Disagree {
-            rule: Rule::ExponentOrder
-        })
+            rule: Rule::ExponentOrder,
+        }),
     );
     Ok(())
 }

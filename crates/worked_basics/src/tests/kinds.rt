@@ -1,5 +1,6 @@
 //! Kinds of samples: their ranges, and the offsets of samples from the least one.
 
+use crate::tests::checks::same;
 use cube_core::kind::Kind;
 use std::test::Fail;
 
@@ -12,9 +13,9 @@ fn ranges_of_kinds(rt: HostRuntime) -> Result<(), Fail> {
         (true, 16, -32_768, 0, 32_767),
     ] {
         let kind = Kind::new(signed, bits)?;
-        assert_eq!(rt; kind.smin(), least);
-        assert_eq!(rt; kind.smid(), middle);
-        assert_eq!(rt; kind.smax(), greatest);
+        same(&rt, kind.smin(), least);
+        same(&rt, kind.smid(), middle);
+        same(&rt, kind.smax(), greatest);
         assert!(rt; !kind.has(kind.smin().saturating_sub(1)));
         assert!(rt; kind.has(least));
         assert!(rt; kind.has(greatest));
@@ -28,9 +29,9 @@ fn offsets_of_samples(rt: HostRuntime) -> Result<(), Fail> {
     let kind = Kind::new(true, 16)?;
     for (sample, offset) in [(-32_768, 0), (-1, 32_767), (0, 32_768), (32_767, 65_535)] {
         assert!(rt; kind.has(sample));
-        assert_eq!(rt; kind.offset_of(sample), offset);
+        same(&rt, kind.offset_of(sample), offset);
         assert!(rt; kind.bits() == 16);
-        assert_eq!(rt; kind.sample_of(offset), sample);
+        same(&rt, kind.sample_of(offset), sample);
     }
     Ok(())
 }

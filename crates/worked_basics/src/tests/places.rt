@@ -3,6 +3,7 @@
 ghost use Rattle.std.specs.Prelude.{◌≡◌};
 ghost use Rattle.cube_core.specs.Order.{IsOrder};
 
+use crate::tests::checks::same;
 use cube_core::cursor::Places;
 use cube_core::order::{Order, Place, index_of, place_at};
 use cube_core::shape::Shape;
@@ -36,14 +37,15 @@ fn places_of_three_bands_two_a_group(rt: HostRuntime) {
     let mut walk = Places::new(shape, Order::Bi(2));
     for (i, place) in first.into_iter().enumerate() {
         assert!(rt; (i as u64) < shape.sample_count());
-        assert_eq!(rt; place_at(&shape, Order::Bi(2), i as u64), place);
-        assert_eq!(rt; walk.peek(), Some(place));
-        assert_eq!(rt; walk.next(), Some(place));
+        same(&rt, place_at(&shape, Order::Bi(2), i as u64), place);
+        same(&rt, walk.peek(), Some(place));
+        same(&rt, walk.next(), Some(place));
     }
-    assert_eq!(rt; walk.left(), 5);
-    assert_eq!(rt;
+    same(&rt, walk.left(), 5);
+    same(
+        &rt,
         index_of(&shape, Order::Bi(2), Place { z: 2, y: 0, x: 1 }),
-        5
+        5,
     );
 }
 
@@ -54,14 +56,14 @@ fn walk_through(rt: &impl Abort, shape: Shape, order: Order)
     let mut i = 0;
     for place in Places::new(shape, order) {
         assert!(rt; i < shape.sample_count());
-        assert_eq!(rt; place_at(&shape, order, i), place);
+        same(rt, place_at(&shape, order, i), place);
         assert!(rt; place.z < shape.bands());
         assert!(rt; place.y < shape.rows());
         assert!(rt; place.x < shape.columns());
-        assert_eq!(rt; index_of(&shape, order, place), i);
+        same(rt, index_of(&shape, order, place), i);
         i += 1;
     }
-    assert_eq!(rt; i, shape.sample_count());
+    same(rt, i, shape.sample_count());
 }
 
 /// Goes by many places at once, from each place on, and finds what comes next by its item.
@@ -79,7 +81,7 @@ fn go_by_many(rt: &impl Abort, shape: Shape, order: Order)
             } else {
                 None
             };
-            assert_eq!(rt; walk.peek(), expected);
+            same(rt, walk.peek(), expected);
         }
     }
 }
@@ -96,8 +98,8 @@ fn go_along_columns(rt: &impl Abort, shape: Shape, order: Order)
         for i in 0..walk.column() {
             assert!(rt; i < count - item);
             let place = place_at(&shape, order, item + i);
-            assert_eq!(rt; u64::from(place.z), u64::from(first.z) + i);
-            assert_eq!(rt; (place.y, place.x), (first.y, first.x));
+            same(rt, u64::from(place.z), u64::from(first.z) + i);
+            same(rt, (place.y, place.x), (first.y, first.x));
         }
     }
 }

@@ -1,23 +1,28 @@
 //! Bits read, and refused.
 
+use crate::tests::checks::same;
 use cube_core::fault::Fault;
 use header_bits::bit_reader::{BitReader, bits_behind};
 
 #[test]
 fn zeros_end_in_a_one_that_is_taken(rt: HostRuntime) {
     let mut reader = BitReader::new(&[1]);
-    assert_eq!(rt; reader.count_zeros(10), Ok(7));
-    assert_eq!(rt; reader.left(), 0);
+    same(&rt, reader.count_zeros(10), Ok(7));
+    same(&rt, reader.left(), 0);
     let mut reader = BitReader::new(&[1]);
-    assert_eq!(rt; reader.count_zeros(7), Ok(7));
-    assert_eq!(rt; reader.left(), 1);
+    same(&rt, reader.count_zeros(7), Ok(7));
+    same(&rt, reader.left(), 1);
 }
 
 #[test]
 fn zeros_end_too_early(rt: HostRuntime) {
     let mut reader = BitReader::new(&[0]);
-    assert_eq!(rt; reader.count_zeros(10), Err(Fault::Truncated { bit: 8 }));
-    assert_eq!(rt; reader.left(), 8);
+    same(
+        &rt,
+        reader.count_zeros(10),
+        Err(Fault::Truncated { bit: 8 }),
+    );
+    same(&rt, reader.left(), 8);
 }
 
 #[test]
@@ -25,11 +30,11 @@ fn zeros_over_words(rt: HostRuntime) {
     let mut bytes = [0; 20];
     bytes[18] = 0x10; // 147 zeros, a one, 12 zeros
     let mut reader = BitReader::new(&bytes);
-    assert_eq!(rt; reader.take(5), Ok(0));
-    assert_eq!(rt; reader.fork().count_zeros(100), Ok(100));
-    assert_eq!(rt; reader.count_zeros(1000), Ok(142));
-    assert_eq!(rt; reader.count(), 160);
-    assert_eq!(rt; reader.left(), 12);
+    same(&rt, reader.take(5), Ok(0));
+    same(&rt, reader.fork().count_zeros(100), Ok(100));
+    same(&rt, reader.count_zeros(1000), Ok(142));
+    same(&rt, reader.count(), 160);
+    same(&rt, reader.left(), 12);
 }
 
 #[test]
@@ -61,10 +66,10 @@ fn words_ahead(rt: HostRuntime) {
 fn numbers_over_bytes(rt: HostRuntime) {
     let bytes = [0xA5, 0x0F, 0xFF, 0x00, 0x12, 0x34, 0x56, 0x78, 0x9A, 0xBC];
     let mut reader = BitReader::new(&bytes);
-    assert_eq!(rt; reader.take(0), Ok(0));
-    assert_eq!(rt; reader.take(3), Ok(5));
-    assert_eq!(rt; reader.take(64), Ok(0x287F_F800_91A2_B3C4));
-    assert_eq!(rt; reader.take(14), Err(Fault::Truncated { bit: 80 }));
-    assert_eq!(rt; reader.take(13), Ok(0x1ABC));
-    assert_eq!(rt; reader.left(), 0);
+    same(&rt, reader.take(0), Ok(0));
+    same(&rt, reader.take(3), Ok(5));
+    same(&rt, reader.take(64), Ok(0x287F_F800_91A2_B3C4));
+    same(&rt, reader.take(14), Err(Fault::Truncated { bit: 80 }));
+    same(&rt, reader.take(13), Ok(0x1ABC));
+    same(&rt, reader.left(), 0);
 }

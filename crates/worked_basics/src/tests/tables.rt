@@ -1,5 +1,6 @@
 //! Tables of weights and of accumulator constants hold the numbers that they were made from.
 
+use crate::tests::checks::same;
 use header_bits::tables::{ConstantTable, WeightTable};
 use std::test::Fail;
 
@@ -9,8 +10,8 @@ fn weights_are_given_back(rt: HostRuntime) -> Result<(), Fail> {
     weights.push(-4)?;
     weights.push(3)?;
     let table = WeightTable::new(weights);
-    assert_eq!(rt; table.as_slice(), [-4, 3].as_slice());
-    assert_eq!(rt; table.into_vec().as_slice(), [-4, 3].as_slice());
+    same(&rt, table.as_slice(), [-4, 3].as_slice());
+    same(&rt, table.into_vec().as_slice(), [-4, 3].as_slice());
     Ok(())
 }
 
@@ -20,7 +21,7 @@ fn constants_are_given_back(rt: HostRuntime) -> Result<(), Fail> {
     constants.push(0)?;
     constants.push(14)?;
     let table = ConstantTable::new(constants);
-    assert_eq!(rt; table.as_slice(), [0, 14].as_slice());
-    assert_eq!(rt; table.into_vec().as_slice(), [0, 14].as_slice());
+    same(&rt, table.as_slice(), [0, 14].as_slice());
+    same(&rt, table.into_vec().as_slice(), [0, 14].as_slice());
     Ok(())
 }

@@ -1,5 +1,6 @@
 //! Bits pushed, and refused.
 
+use crate::tests::checks::same;
 use cube_core::fault::Fault;
 use header_bits::bit_writer::BitWriter;
 
@@ -8,7 +9,7 @@ fn a_word_behind_one_bit(rt: HostRuntime) {
     let mut writer = BitWriter::new(rt.alloc());
     assert!(rt; writer.push(1, 1).is_ok());
     assert!(rt; writer.push(u64::MAX, 64).is_ok());
-    assert_eq!(rt; writer.bit_count(), 65);
+    same(&rt, writer.bit_count(), 65);
     assert!(rt; writer.push(0, 7).is_ok());
     assert!(rt;
         bytes_are(
@@ -27,15 +28,15 @@ fn reserved_bits_are_pushed(rt: HostRuntime) {
     }
     assert!(rt; writer.push(0, 0).is_ok());
     assert!(rt; writer.push(3, 2).is_ok());
-    assert_eq!(rt; writer.bit_count(), 72);
+    same(&rt, writer.bit_count(), 72);
     assert!(rt; bytes_are(writer, &[0, 20, 0, 32, 4, 64, 0, 1, 255]));
 }
 
 #[test]
 fn more_than_the_most_bits_are_refused(rt: HostRuntime) {
     let mut writer = BitWriter::new(rt.alloc());
-    assert_eq!(rt; writer.reserve(u64::MAX), Err(Fault::WantOfMemory));
-    assert_eq!(rt; writer.bit_count(), 0);
+    same(&rt, writer.reserve(u64::MAX), Err(Fault::WantOfMemory));
+    same(&rt, writer.bit_count(), 0);
 }
 
 fn bytes_are(writer: BitWriter, wanted: &[u8]) -> bool {
