@@ -151,7 +151,7 @@ fn stopped_worker_is_told(rt: HostRuntime) -> Result<(), Fail> {
                 joined: Some(nth),
             };
             same(&rt, outcome, stopped);
-            same(&rt, room[..nth as usize], list[..nth as usize]);
+            same(&rt, &room[..nth as usize], &list[..nth as usize]);
         }
     }
     Ok(())
