@@ -1,6 +1,9 @@
 PREFIX ?= /usr/local
 PROGRAM = crates/ccsds/out/ccsds
 
+# A proof or a must-fail edit for each processor, as long as the memory holds 4 GB for each of them.
+LANES = $(shell awk -v most="$$(nproc)" '/^MemAvailable/ { n = int($$2 / 4000000); print n < 1 ? 1 : n < most ? n : most }' /proc/meminfo)
+
 SCRIPTS = $(addprefix tests/, command.sh limits.sh options.py sizes.py pipelines.py refused.py guards.py fuzz)
 
 .PHONY: all show install test interop rows bench beside plain $(SCRIPTS)
@@ -22,7 +25,7 @@ install: all
 # sizes, with predictors in threads, with each of its calls for memory, reads and writes refused, and on damaged files;
 # and looks whether each promise has its edits. These scripts run side by side, and each tells what it has to tell when it ends.
 test:
-	rt ci
+	RT_JOBS=$(LANES) rt ci
 	@$(MAKE) --no-print-directory --jobs="$$(nproc)" --output-sync $(SCRIPTS)
 
 $(SCRIPTS):
