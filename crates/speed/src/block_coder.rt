@@ -28,32 +28,22 @@ use std::alloc::{AllocError, Global};
 pub fn measure(report: &Report) -> Result<()> {
     let shape = report.shape()?;
     let numbers = residuals(report.alloc(), shape.sample_count())?;
-    let twelve_bits = Kind::new(false, 12)?;
-    coded(report, "8", &params(shape, twelve_bits, 8, false), &numbers)?;
-    coded(
-        report,
-        "16",
-        &params(shape, twelve_bits, 16, false),
-        &numbers,
-    )?;
-    coded(
-        report,
-        "32",
-        &params(shape, twelve_bits, 32, false),
-        &numbers,
-    )?;
-    coded(
-        report,
-        "64",
-        &params(shape, twelve_bits, 64, false),
-        &numbers,
-    )?;
-    for (name, bits) in [("restricted_4", 4), ("restricted_2", 2)] {
-        let kind = Kind::new(false, bits)?;
-        let low = low_bits(report.alloc(), &numbers, kind)?;
-        coded(report, name, &params(shape, kind, 16, true), &low)?;
-    }
-    Ok(())
+    let kind = Kind::new(false, 12)?;
+    coded(report, "8", &params(shape, kind, 8, false), &numbers)?;
+    coded(report, "16", &params(shape, kind, 16, false), &numbers)?;
+    coded(report, "32", &params(shape, kind, 32, false), &numbers)?;
+    coded(report, "64", &params(shape, kind, 64, false), &numbers)?;
+    restricted(report, "restricted_4", shape, 4, &numbers)?;
+    restricted(report, "restricted_2", shape, 2, &numbers)
+}
+
+/// Measures the restricted set of code options, by the low bits of numbers.
+fn restricted(report: &Report, name: &str, shape: Shape, bits: u32, numbers: &[u16]) -> Result<()>
+    requires { length numbers.now ≡ sample_count shape }
+{
+    let kind = Kind::new(false, bits)?;
+    let low = low_bits(report.alloc(), numbers, kind)?;
+    coded(report, name, &params(shape, kind, 16, true), &low)
 }
 
 /// As many of the low bits of numbers as a sample has.

@@ -4,13 +4,12 @@ ghost use Rattle.std.specs.Prelude.{◌≡◌};
 ghost use Rattle.header_bits.specs.Lawful.{IsLawful};
 
 use crate::cube::sum_of_cube;
-use crate::predictor::{params_of, synthetic_cube};
+use crate::predictor::{orders, params_of, synthetic_cube};
 use crate::report::Report;
 use crate::synthetic::sum_of_bytes;
 use anyhow::Result;
 use coder_pipe::decode::decode;
 use coder_pipe::encode::encode_one;
-use cube_core::order::Order;
 use header_bits::params::{Coder, Params};
 
 /// The longest file that can be decoded.
@@ -19,11 +18,7 @@ const MOST_BYTES: usize = 1 << 60;
 /// Measures both coders in each order, in full mode with three previous bands.
 pub fn measure(report: &Report) -> Result<()> {
     let shape = report.shape()?;
-    for (name, order) in [
-        ("bsq", Order::Bsq),
-        ("bil", Order::Bi(1)),
-        ("bip", Order::Bi(shape.bands())),
-    ] {
+    for (name, order) in orders(shape.bands()) {
         let params = params_of(shape, false, 3, order, Coder::plain())?;
         there_and_back(report, "sample", name, &params)?;
         let blocks = Coder::Block {
@@ -37,26 +32,39 @@ pub fn measure(report: &Report) -> Result<()> {
     Ok(())
 }
 
-/// Measures both directions.
+/// Measures both directions, and holds no more than either way needs.
 fn there_and_back(report: &Report, coder: &str, order: &str, params: &Params) -> Result<()>
     requires { IsLawful params.now }
 {
+    let file = there(report, coder, order, params)?;
+    back(report, coder, order, params, &file)
+}
+
+/// Measures how a file is written, and returns it.
+fn there(report: &Report, coder: &str, order: &str, params: &Params) -> Result<Vec<u8>>
+    requires { IsLawful params.now }
+{
     let alloc = report.alloc();
-    let count = params.shape.sample_count();
     let cube = synthetic_cube(alloc, params.shape, params.kind)?;
     let start = report.start()?;
     let file = encode_one(alloc, &cube, params)?;
     let time = report.since(start)?;
     let name = format!(in alloc; "encode_{coder}_{order}")?;
+    let count = params.shape.sample_count();
     report.line(name.as_str(), count, time, sum_of_bytes(&file))?;
-    // So that no more is held than either way needs.
-    drop(cube);
+    Ok(file)
+}
+
+/// Measures how the file is read.
+fn back(report: &Report, coder: &str, order: &str, params: &Params, file: &[u8]) -> Result<()> {
+    let alloc = report.alloc();
     if file.len() > MOST_BYTES {
         return Ok(());
     }
     let start = report.start()?;
-    let (_params, cube) = decode(alloc, &file)?;
+    let (_params, cube) = decode(alloc, file)?;
     let time = report.since(start)?;
     let name = format!(in alloc; "decode_{coder}_{order}")?;
+    let count = params.shape.sample_count();
     report.line(name.as_str(), count, time, sum_of_cube(&cube))
 }

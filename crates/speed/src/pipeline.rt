@@ -1,9 +1,9 @@
 //! The speed of the pipeline: predictors in threads of their own beside the coder.
 
-ghost use Rattle.std.specs.Prelude.{◌≤◌};
+ghost use Rattle.std.specs.Prelude.{◌≡◌, ◌≤◌};
 ghost use Rattle.header_bits.specs.Lawful.{IsLawful};
 
-use crate::predictor::{params_of, synthetic_cube};
+use crate::predictor::{orders, params_of, synthetic_cube};
 use crate::report::Report;
 use crate::synthetic::sum_of_bytes;
 use anyhow::Result;
@@ -12,7 +12,6 @@ use coder_pipe::encode::encode_one;
 use coder_pipe::encode_predicted::encode_predicted;
 use coder_pipe::plan::Plan;
 use cube_core::cube::Cube;
-use cube_core::order::Order;
 use header_bits::params::{Coder, Params};
 use std::alloc::Global;
 use std::sync::Wait;
@@ -24,11 +23,7 @@ const MOST: u32 = 3;
 /// Measures the sample-adaptive coder in each order, in full mode with three previous bands: by one thread, and by predictors beside it.
 pub fn measure<R: Threads + Wait + Sync>(rt: &R, report: &Report) -> Result<()> {
     let shape = report.shape()?;
-    for (name, order) in [
-        ("bsq", Order::Bsq),
-        ("bil", Order::Bi(1)),
-        ("bip", Order::Bi(shape.bands())),
-    ] {
+    for (name, order) in orders(shape.bands()) {
         let params = params_of(shape, false, 3, order, Coder::plain())?;
         measure_order(rt, report, name, &params)?;
     }
@@ -44,26 +39,54 @@ fn measure_order<R: Threads + Wait + Sync>(
 ) -> Result<()>
     requires { IsLawful params.now }
 {
-    let alloc = report.alloc();
-    let cube = synthetic_cube(alloc, params.shape, params.kind)?;
-    let start = report.start()?;
-    let file = encode_one(alloc, &cube, params)?;
-    let time = report.since(start)?;
-    let name = format!(in alloc; "pipeline_{order}_one_thread")?;
-    let count = params.shape.sample_count();
-    report.line(name.as_str(), count, time, sum_of_bytes(&file))?;
+    let cube = synthetic_cube(report.alloc(), params.shape, params.kind)?;
+    by_one_thread(report, order, params, &cube)?;
     for predictors in 1..MOST + 1 {
         for slots in [1024, 65_536] {
-            let deal = dealt(alloc, params.shape.bands(), predictors)?;
-            let plan = Plan::new(alloc, params, predictors, &deal, slots)?;
-            let start = report.start()?;
-            let piped = encode_predicted(rt, alloc, &cube, &plan, &OpenGate)?;
-            let time = report.since(start)?;
-            let name = format!(in alloc; "pipeline_{order}_{predictors}_by_{slots}")?;
-            report.line(name.as_str(), count, time, sum_of_bytes(&piped.file))?;
+            by_predictors(rt, report, order, params, &cube, predictors, slots)?;
         }
     }
     Ok(())
+}
+
+/// Measures one thread.
+fn by_one_thread(report: &Report, order: &str, params: &Params, cube: &Cube) -> Result<()>
+    requires lawful { IsLawful params.now }
+    requires shape { cube.now.shape ≡ params.now.shape }
+    requires kind { cube.now.kind ≡ params.now.kind }
+{
+    let start = report.start()?;
+    let file = encode_one(report.alloc(), cube, params)?;
+    let time = report.since(start)?;
+    let name = format!(in report.alloc(); "pipeline_{order}_one_thread")?;
+    let count = params.shape.sample_count();
+    report.line(name.as_str(), count, time, sum_of_bytes(&file))
+}
+
+/// Measures so many predictors, each with so many slots.
+fn by_predictors<R: Threads + Wait + Sync>(
+    rt: &R,
+    report: &Report,
+    order: &str,
+    params: &Params,
+    cube: &Cube,
+    predictors: u32,
+    slots: u32,
+) -> Result<()>
+    requires lawful { IsLawful params.now }
+    requires shape { cube.now.shape ≡ params.now.shape }
+    requires kind { cube.now.kind ≡ params.now.kind }
+    requires few { (1 ≤ predictors) × (predictors ≤ 64) }
+{
+    let alloc = report.alloc();
+    let deal = dealt(alloc, params.shape.bands(), predictors)?;
+    let plan = Plan::new(alloc, params, predictors, &deal, slots)?;
+    let start = report.start()?;
+    let piped = encode_predicted(rt, alloc, cube, &plan, &OpenGate)?;
+    let time = report.since(start)?;
+    let name = format!(in alloc; "pipeline_{order}_{predictors}_by_{slots}")?;
+    let count = params.shape.sample_count();
+    report.line(name.as_str(), count, time, sum_of_bytes(&piped.file))
 }
 
 /// A deal of bands to predictors by turns.

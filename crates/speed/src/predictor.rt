@@ -27,22 +27,34 @@ use std::alloc::{AllocError, Global};
 
 /// Measures `forward` and `inverse` in each mode and order, and in full mode from a weight table.
 pub fn measure(report: &Report) -> Result<()> {
-    let shape = report.shape()?;
-    for (mode, reduced, previous) in [("full_3", false, 3), ("reduced_0", true, 0)] {
-        for (name, order) in [
-            ("bsq", Order::Bsq),
-            ("bil", Order::Bi(1)),
-            ("bip", Order::Bi(shape.bands())),
-        ] {
-            let params = params_of(shape, reduced, previous, order, Coder::plain())?;
-            there_and_back(report, mode, name, &params)?;
-        }
-    }
-    for (name, order) in [
+    measure_orders(report, "full_3", false, 3)?;
+    measure_orders(report, "reduced_0", true, 0)?;
+    measure_tables(report)
+}
+
+/// The orders that are measured, by their names.
+pub fn orders(bands: u32) -> [(&'static str, Order); 3] {
+    [
         ("bsq", Order::Bsq),
         ("bil", Order::Bi(1)),
-        ("bip", Order::Bi(shape.bands())),
-    ] {
+        ("bip", Order::Bi(bands)),
+    ]
+}
+
+/// Measures a mode in each order.
+fn measure_orders(report: &Report, mode: &str, reduced: bool, previous: u32) -> Result<()> {
+    let shape = report.shape()?;
+    for (name, order) in orders(shape.bands()) {
+        let params = params_of(shape, reduced, previous, order, Coder::plain())?;
+        there_and_back(report, mode, name, &params)?;
+    }
+    Ok(())
+}
+
+/// Measures full mode from a weight table, in each order.
+fn measure_tables(report: &Report) -> Result<()> {
+    let shape = report.shape()?;
+    for (name, order) in orders(shape.bands()) {
         let params = params_of(shape, false, 3, order, Coder::plain())?;
         let params = with_table(report.alloc(), params)?;
         there_and_back(report, "table_3", name, &params)?;
@@ -118,21 +130,41 @@ pub fn params_of(
 fn there_and_back(report: &Report, mode: &str, order: &str, params: &Params) -> Result<()>
     requires { IsLawful params.now }
 {
-    let shape = params.shape;
-    let count = shape.sample_count();
+    let residuals = there(report, mode, order, params)?;
+    back(report, mode, order, params, &residuals)
+}
+
+/// Measures `forward`, and returns the residuals.
+fn there(report: &Report, mode: &str, order: &str, params: &Params) -> Result<Vec<u16>>
+    requires { IsLawful params.now }
+    ensures count { IfOk result (λ r. length r.items ≡ sample_count params.now.shape) }
+    ensures below { IfOk result (λ r. (i : ℕ) → i < length r.items → slice_index r.items i < 2 ^ params.now.kind.bits) }
+{
+    let count = params.shape.sample_count();
     let alloc = report.alloc();
-    let cube = synthetic_cube(alloc, shape, params.kind)?;
+    let cube = synthetic_cube(alloc, params.shape, params.kind)?;
     let mut residuals = vec![in alloc; 0u16; count as usize]?;
     let start = report.start()?;
     forward(alloc, &cube, params, &mut residuals)?;
     let time = report.since(start)?;
     let name = format!(in alloc; "forward_{mode}_{order}")?;
     report.line(name.as_str(), count, time, sum_of(&residuals))?;
-    let mut back = Cube::new(alloc, shape, params.kind)?;
+    Ok(residuals)
+}
+
+/// Measures `inverse`.
+fn back(report: &Report, mode: &str, order: &str, params: &Params, residuals: &[u16]) -> Result<()>
+    requires lawful { IsLawful params.now }
+    requires all { length residuals.now ≡ sample_count params.now.shape }
+    requires below { (i : ℕ) → i < length residuals.now → slice_index residuals.now i < 2 ^ params.now.kind.bits }
+{
+    let alloc = report.alloc();
+    let mut back = Cube::new(alloc, params.shape, params.kind)?;
     let start = report.start()?;
-    inverse(alloc, &mut back, params, &residuals)?;
+    inverse(alloc, &mut back, params, residuals)?;
     let time = report.since(start)?;
     let name = format!(in alloc; "inverse_{mode}_{order}")?;
+    let count = params.shape.sample_count();
     report.line(name.as_str(), count, time, sum_of_cube(&back))
 }
 
