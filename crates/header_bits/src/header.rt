@@ -13,10 +13,7 @@ ghost use Rattle.header_bits.specs.Header.{header_of, said, AreThere, coder_by_p
 use crate::bit_reader::BitReader;
 use crate::bit_writer::BitWriter;
 use crate::coder_part::{self, CoderPart};
-use crate::fields::{
-    self, BLOCK_FIELDS, SAMPLE_FIELDS, block_row, coder_bits, image_row, predictor_end,
-    predictor_row, sample_row,
-};
+use crate::fields::{block_row, coder_bits, image_row, predictor_end, predictor_row, sample_row};
 use crate::image_part::ImagePart;
 use crate::layout::write_values;
 use crate::params::{Coder, Params};
@@ -214,12 +211,7 @@ fn put_coder(part: CoderPart, writer: &mut BitWriter) -> Result<(), Fault>
             constant,
             table,
         } => {
-            let mut numbers = [0; SAMPLE_FIELDS];
-            numbers[fields::UMAX.index] = umax;
-            numbers[fields::GAMMA_STAR.index] = gamma_star;
-            numbers[fields::GAMMA_ZERO.index] = gamma_zero;
-            numbers[fields::CONSTANT.index] = constant;
-            numbers[fields::ACCUMULATOR_TABLE.index] = u32::from(table);
+            let numbers = [umax, gamma_star, gamma_zero, constant, u32::from(table)];
             write_values(&sample_row!(), &numbers, writer)
         }
         CoderPart::Block {
@@ -227,10 +219,12 @@ fn put_coder(part: CoderPart, writer: &mut BitWriter) -> Result<(), Fault>
             restricted,
             reference,
         } => {
-            let mut numbers = [0; BLOCK_FIELDS];
-            numbers[fields::BLOCK_SIZE.index] = coder_part::size_code(size);
-            numbers[fields::RESTRICTED.index] = u32::from(restricted);
-            numbers[fields::REFERENCE.index] = reference;
+            let numbers = [
+                0,
+                coder_part::size_code(size),
+                u32::from(restricted),
+                reference,
+            ];
             write_values(&block_row!(), &numbers, writer)
         }
     }
