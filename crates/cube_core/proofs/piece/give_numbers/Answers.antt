@@ -36,3 +36,6 @@ loop-x-preserved g c =
           λ small. each_more (λ j. HasBytes k l (sample_of k (get_or hs (p.at + j) 0))) x (f.fits.0 (omega arith)) (c.loop-x.invariant.greatest (omega arith));
       reached = λ all. omega (arith, f.fits.1 (all x (omega arith)), c.loop-x.invariant.reached (λ j lt. all j (omega arith)));
     }
+
+pub returns-clause-given : goal.returns-clause-given
+returns-clause-given g c = λ x lt. c.loop-x.invariant.given x (omega (arith, lt, c.loop-x-test.false))
