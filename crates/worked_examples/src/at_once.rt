@@ -3,6 +3,7 @@
 ghost use Rattle.std.specs.Prelude.{◌≡◌, ◌<◌};
 ghost use Rattle.header_bits.specs.Lawful.{IsLawful};
 
+use crate::checks::same;
 use crate::runs::{Draw, Twice, cube_of, params_of};
 use cube_core::cube::Cube;
 use header_bits::params::Params;
@@ -53,32 +54,76 @@ fn alone(rt: &impl Abort, alloc: Global, params: &Params, z: u32, seed: u64) -> 
     }
 }
 
-/// Goes over all rows of bands `z` and `z + 1` by pieces of 64 places, and by single places.
-fn are_the_same(rt: &impl Abort, alloc: Global, params: &Params, z: u32, seed: u64)
+/// Bands `z` and `z + 1` of such a cube.
+fn together(rt: &impl Abort, alloc: Global, params: &Params, z: u32, seed: u64) -> Both
     requires { IsLawful params.now }
 {
     assert!(rt; z < params.shape.bands() - 1);
-    let mut both = Both {
+    Both {
         cube: cube_of(rt, alloc, params, &mut Draw(seed)),
         lower: Band::new(alloc, params, z).expect(rt, "a band"),
         upper: Band::new(alloc, params, z + 1).expect(rt, "a band"),
-    };
-    let mut lower = alone(rt, alloc, params, z, seed);
-    let mut upper = alone(rt, alloc, params, z + 1, seed);
-    let columns = params.shape.columns();
-    for y in 0..5 {
+    }
+}
+
+/// Two bands at once, and each of them alone.
+#[derive(Drop)]
+struct Beside {
+    both: Both,
+    lower: Twice,
+    upper: Twice,
+}
+
+impl Beside {
+    /// Goes over a piece of a row, and over its single places.
+    fn piece_is_the_same(&mut self, rt: &impl Abort, y: u32, x: u32, count: u32) {
+        self.both.go(rt, y, x, count);
+        for i in 0..count.min(64) {
+            let lower = self.both.lower.piece_residual(i as usize);
+            let upper = self.both.upper.piece_residual(i as usize);
+            let x = x.saturating_add(i);
+            same(rt, lower, self.lower.single(rt, y, x));
+            same(rt, upper, self.upper.single(rt, y, x));
+        }
+    }
+
+    /// Goes over a row by pieces of 64 places, and by single places.
+    fn row_is_the_same(&mut self, rt: &impl Abort, y: u32) {
+        let columns = self.both.cube.shape().columns();
         let mut x = 0u32;
         for _ in 0..columns {
             let count = columns.saturating_sub(x).min(64);
             if count > 0 {
-                both.go(rt, y, x, count);
+                self.piece_is_the_same(rt, y, x, count);
             }
-            for i in 0..count as usize {
-                assert_eq!(rt; both.lower.piece_residual(i), lower.single(rt, y, x));
-                assert_eq!(rt; both.upper.piece_residual(i), upper.single(rt, y, x));
-                x = x.saturating_add(1);
-            }
+            x = x.saturating_add(count);
         }
+    }
+}
+
+/// Goes over all rows of bands `z` and `z + 1`.
+fn are_the_same(rt: &impl Abort, alloc: Global, params: &Params, z: u32, seed: u64)
+    requires { IsLawful params.now }
+{
+    assert!(rt; z < u32::MAX);
+    let mut beside = Beside {
+        both: together(rt, alloc, params, z, seed),
+        lower: alone(rt, alloc, params, z, seed),
+        upper: alone(rt, alloc, params, z + 1, seed),
+    };
+    for y in 0..5 {
+        beside.row_is_the_same(rt, y);
+    }
+}
+
+/// The same for bands with so many weights, in rows of so many columns.
+fn bands_are_the_same(rt: &impl Abort, alloc: Global, columns: u32, previous: u32, register: u32) {
+    assert!(rt; previous <= 15);
+    for (reduced, column) in [(false, true), (true, true), (false, false), (true, false)] {
+        let bands = previous + 2;
+        let params = params_of(rt, columns, bands, previous, reduced, column, register);
+        are_the_same(rt, alloc, &params, 0, 20_261_126);
+        are_the_same(rt, alloc, &params, previous, 20_261_126);
     }
 }
 
@@ -87,17 +132,8 @@ fn are_the_same(rt: &impl Abort, alloc: Global, params: &Params, z: u32, seed: u
 fn two_bands_hold_what_each_holds_alone(rt: HostRuntime) {
     for columns in [2, 8, 9, 64, 65, 129] {
         for previous in [0, 1, 3, 7, 15] {
-            for (reduced, column) in [(false, true), (true, true), (false, false), (true, false)] {
-                for register in [36, 64] {
-                    let bands = previous + 2;
-                    let params = params_of(
-                        &rt, columns, bands, previous, reduced, column, register,
-                    );
-                    for z in [0, previous] {
-                        are_the_same(&rt, rt.alloc(), &params, z, 20_261_126);
-                    }
-                }
-            }
+            bands_are_the_same(&rt, rt.alloc(), columns, previous, 36);
+            bands_are_the_same(&rt, rt.alloc(), columns, previous, 64);
         }
     }
 }

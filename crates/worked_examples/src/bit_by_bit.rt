@@ -2,6 +2,7 @@
 
 ghost use Rattle.std.specs.Prelude.{◌≤◌};
 
+use crate::checks::same;
 use crate::rows::{
     BLOCK_ROWS, CUBE_A_ROWS, REGISTER_ROWS, RESTRICTED_ROWS, RUN_ROWS, SEGMENT_ROWS, SMALL_ROWS,
     TABLE_ROWS, WEIGHT_ROWS,
@@ -95,35 +96,92 @@ fn packed(rt: &impl Abort, alloc: Global, bits: &[bool]) -> Vec<u8> {
     bytes
 }
 
+/// That both readers count as many zeros.
+fn zeros_agree(rt: &impl Abort, reader: &mut BitReader, slow: &mut SlowReader, limit: u64) {
+    same(rt, reader.count_zeros(limit).ok(), slow.count_zeros(limit));
+}
+
+/// What both writers are given.
+#[derive(Drop)]
+struct Written {
+    writer: BitWriter,
+    bits: Vec<bool>,
+}
+
+impl Written {
+    fn new(alloc: Global) -> Written {
+        Written {
+            writer: BitWriter::new(alloc),
+            bits: Vec::new(alloc),
+        }
+    }
+
+    /// That both readers take the same number, which is then written by both writers.
+    fn take_and_push(
+        &mut self,
+        rt: &impl Abort,
+        reader: &mut BitReader,
+        slow: &mut SlowReader,
+        n: u32,
+    )
+        requires { n ≤ 64 }
+    {
+        match reader.take(n) {
+            Ok(number) => {
+                same(rt, slow.take(n), Some(number));
+                self.writer.push(number, n).expect(rt, "memory");
+                push(rt, &mut self.bits, number, n);
+            }
+            Err(_) => same(rt, slow.take(n), None),
+        }
+    }
+
+    /// That both writers have the same bytes, filled with zeros.
+    fn agrees(mut self, rt: &impl Abort, alloc: Global) {
+        same(rt, self.writer.bit_count(), self.bits.len() as u64);
+        for _ in 0..self.writer.bit_count().wrapping_neg() % 8 {
+            self.writer.push(0, 1).expect(rt, "memory");
+        }
+        assert!(rt; self.writer.bit_count() % 8 == 0);
+        let bytes = self.writer.into_bytes();
+        same(
+            rt,
+            bytes.as_slice(),
+            packed(rt, alloc, &self.bits).as_slice(),
+        );
+    }
+}
+
 /// That both read the same out of bytes, and write the same of what was read.
 fn agree(rt: &impl Abort, alloc: Global, draw: &mut Draw, bytes: &[u8]) {
     assert!(rt; bytes.len() <= 1000);
     let mut reader = BitReader::new(bytes);
     let mut slow = SlowReader { bytes, at: 0 };
-    let mut writer = BitWriter::new(alloc);
-    let mut bits = Vec::new(alloc);
+    let mut written = Written::new(alloc);
     for _ in 0..400 {
         let n = (draw.next() % 65) as u32;
         if draw.next() % 3 == 0 {
-            let limit = draw.next() % 20;
-            assert_eq!(rt; reader.count_zeros(limit).ok(), slow.count_zeros(limit));
+            zeros_agree(rt, &mut reader, &mut slow, draw.next() % 20);
         }
-        match reader.take(n) {
-            Ok(number) => {
-                assert_eq!(rt; slow.take(n), Some(number));
-                writer.push(number, n).expect(rt, "memory");
-                push(rt, &mut bits, number, n);
-            }
-            Err(_) => assert_eq!(rt; slow.take(n), None),
+        written.take_and_push(rt, &mut reader, &mut slow, n);
+        same(
+            rt,
+            reader.left(),
+            reader.count().wrapping_sub(slow.at as u64),
+        );
+    }
+    written.agrees(rt, alloc);
+}
+
+/// The same of each row's file, eight times over.
+fn rows_agree(rt: &impl Abort, alloc: Global, draw: &mut Draw, rows: &str) {
+    for row in rows.split('\n') {
+        let [_name, _settings, _samples, header, body] = parts_of(rt, row);
+        let file = file_of(rt, alloc, header, body);
+        for _ in 0..8 {
+            agree(rt, alloc, draw, &file);
         }
-        assert_eq!(rt; reader.left(), reader.count().wrapping_sub(slow.at as u64));
     }
-    assert_eq!(rt; writer.bit_count(), bits.len() as u64);
-    for _ in 0..writer.bit_count().wrapping_neg() % 8 {
-        writer.push(0, 1).expect(rt, "memory");
-    }
-    assert_eq!(rt; writer.bit_count() % 8, 0);
-    assert!(rt; writer.into_bytes().as_slice() == packed(rt, alloc, &bits).as_slice());
 }
 
 #[test]
@@ -140,34 +198,29 @@ fn worked_files_bit_by_bit(rt: HostRuntime) {
         TABLE_ROWS,
         RESTRICTED_ROWS,
     ] {
-        for row in rows.split('\n') {
-            let [_name, _settings, _samples, header, body] = parts_of(&rt, row);
-            for _ in 0..8 {
-                agree(
-                    &rt,
-                    rt.alloc(),
-                    &mut draw,
-                    &file_of(&rt, rt.alloc(), header, body),
-                );
-            }
-        }
+        rows_agree(&rt, rt.alloc(), &mut draw, rows);
     }
+}
+
+/// So many bytes. Half of them are zero, so that runs of zeros are long.
+fn random_bytes(rt: &impl Abort, alloc: Global, draw: &mut Draw, size: u32) -> Vec<u8> {
+    let mut bytes = Vec::new(alloc);
+    for _ in 0..size {
+        let byte = if draw.next() % 2 == 0 {
+            0
+        } else {
+            draw.next() % 256
+        };
+        bytes.push(byte as u8).expect(rt, "memory");
+    }
+    bytes
 }
 
 #[test]
 fn random_bytes_bit_by_bit(rt: HostRuntime) {
     let mut draw = Draw(2);
     for size in 0..200 {
-        let mut bytes = Vec::new(rt.alloc());
-        for _ in 0..size {
-            // Half of the bytes are zero, so that runs of zeros are long.
-            let byte = if draw.next() % 2 == 0 {
-                0
-            } else {
-                draw.next() % 256
-            };
-            bytes.push(byte as u8).expect(&rt, "memory");
-        }
+        let bytes = random_bytes(&rt, rt.alloc(), &mut draw, size);
         agree(&rt, rt.alloc(), &mut draw, &bytes);
     }
 }

@@ -4,7 +4,8 @@ ghost use Rattle.std.specs.Prelude.{◌≡◌, ◌+◌, ◌^◌, ◌<◌, ◌≤
 ghost use Rattle.cube_core.specs.Shape.{sample_count};
 ghost use Rattle.block_adaptive.specs.Settings.{AreForBlocks, IsSize};
 
-use crate::texts::{bytes_of, fault_of, number_of, numbers_of, parts_of, same, same_fault};
+use crate::checks::{same_bytes, same_fault};
+use crate::texts::{bytes_of, fault_of, number_of, numbers_of, parts_of};
 use block_adaptive::block_reader::BlockReader;
 use block_adaptive::block_writer::BlockWriter;
 use cube_core::fault::Fault;
@@ -17,7 +18,7 @@ use std::alloc::Global;
 use std::process::Abort;
 
 /// What a test tells the coder.
-#[derive(Clone, Copy)]
+#[derive(Clone, Copy, Debug)]
 pub(crate) struct Settings {
     pub(crate) bits: u32,
     pub(crate) restricted: bool,
@@ -124,18 +125,36 @@ fn sample_numbers(alloc: Global, bits: u32, count: u32, seed: u64) -> Result<Vec
     Ok(numbers)
 }
 
-/// Whether so many numbers are written and read back, with fewer than eight bits behind them.
-fn come_back(rt: &impl Abort, alloc: Global, s: Settings) -> bool
+/// The body of as many numbers as the settings say.
+fn body_of(rt: &impl Abort, alloc: Global, s: Settings, numbers: &[u16]) -> Vec<u8> {
+    let params = params_of(rt, s);
+    assert!(rt; numbers.len() as u64 == params.shape.sample_count());
+    written(rt, alloc, &params, numbers).expect(rt, "a body")
+}
+
+/// That these numbers, and fewer than eight bits behind them, are read of a body.
+pub(crate) fn is_read_as(
+    rt: &impl Abort,
+    alloc: Global,
+    s: Settings,
+    body: &[u8],
+    numbers: &[u16],
+) {
+    let params = params_of(rt, s);
+    let (back, left) = read(rt, alloc, &params, body).expect(rt, "numbers");
+    assert!(rt; back.as_slice() == numbers, "{s:?}");
+    assert!(rt; left < 8, "{s:?}");
+}
+
+/// That so many numbers are written and read back.
+fn come_back(rt: &impl Abort, alloc: Global, s: Settings)
     requires bits { (2 ≤ s.bits) × (s.bits ≤ 16) }
     requires size { s.size < 4 }
 {
-    let params = params_of(rt, s);
     let seed = u64::from(s.bits * 100 + s.size);
     let numbers = sample_numbers(alloc, s.bits, s.count, seed).expect(rt, "memory");
-    assert!(rt; numbers.len() as u64 == params.shape.sample_count());
-    let bytes = written(rt, alloc, &params, &numbers).expect(rt, "a body");
-    let (back, left) = read(rt, alloc, &params, &bytes).expect(rt, "numbers");
-    back.as_slice() == numbers.as_slice() && left < 8
+    let body = body_of(rt, alloc, s, &numbers);
+    is_read_as(rt, alloc, s, &body, &numbers);
 }
 
 #[test]
@@ -158,10 +177,7 @@ fn numbers_come_back(rt: HostRuntime) {
                         reference,
                         count,
                     };
-                    assert!(rt;
-                        come_back(&rt, rt.alloc(), settings),
-                        "at {bits} bits, size {size}, r {reference}, {count} numbers"
-                    );
+                    come_back(&rt, rt.alloc(), settings);
                 }
             }
         }
@@ -175,10 +191,7 @@ fn is_body(rt: &impl Abort, alloc: Global, settings: Settings, numbers: &[u16], 
         count: numbers.len() as u32,
         ..settings
     };
-    let params = params_of(rt, s);
-    assert!(rt; numbers.len() as u64 == params.shape.sample_count());
-    let found = written(rt, alloc, &params, numbers).expect(rt, "a body");
-    same(rt, &found, body, "a body");
+    same_bytes(rt, &body_of(rt, alloc, s, numbers), body, "a body");
 }
 
 /// Bits of a sample, reference interval, numbers in blocks of 8, their body, and which set of options.
@@ -199,24 +212,25 @@ const BODIES: &str = "\
 2 | 1 | 2 0 2 0 2 0 0 1 | c4 40 80 | restricted
 4 | 1 | 2 | 23 c0 | restricted";
 
+/// That a row's numbers are written as its body.
+fn row_is_body(rt: &impl Abort, alloc: Global, row: &str) {
+    let [bits, reference, numbers, body, set] = parts_of(rt, row);
+    let numbers = numbers_of(rt, alloc, numbers);
+    let body = bytes_of(rt, alloc, body);
+    let settings = Settings {
+        bits: number_of(rt, bits),
+        restricted: set == "restricted",
+        size: 0,
+        reference: number_of(rt, reference),
+        count: 0,
+    };
+    is_body(rt, alloc, settings, &numbers, &body);
+}
+
 #[test]
 fn bodies(rt: HostRuntime) {
     for row in BODIES.split('\n') {
-        let [bits, reference, numbers, body, set] = parts_of(&rt, row);
-        let settings = Settings {
-            bits: number_of(&rt, bits),
-            restricted: set == "restricted",
-            size: 0,
-            reference: number_of(&rt, reference),
-            count: 0,
-        };
-        is_body(
-            &rt,
-            rt.alloc(),
-            settings,
-            &numbers_of(&rt, rt.alloc(), numbers),
-            &bytes_of(&rt, rt.alloc(), body),
-        );
+        row_is_body(&rt, rt.alloc(), row);
     }
 }
 
@@ -249,12 +263,17 @@ k = 5 and eight zeros | 8 | 1 | c0 00 | BadOption 0
 k = 5 and five zeros | 8 | 1 | c0 | Truncated 8
 number 10 is the pair (4, 0), above two bits | 2 | 1 | 10 03 c0 | BadOption 0";
 
+/// That a row's body is refused for its fault.
+fn row_is_refused(rt: &impl Abort, alloc: Global, row: &str) {
+    let [name, bits, reference, body, fault] = parts_of(rt, row);
+    let body = bytes_of(rt, alloc, body);
+    let found = refusal_of(rt, number_of(rt, bits), number_of(rt, reference), &body);
+    same_fault(rt, found, fault_of(rt, fault), name);
+}
+
 #[test]
 fn refusals(rt: HostRuntime) {
     for row in REFUSALS.split('\n') {
-        let [name, bits, reference, body, fault] = parts_of(&rt, row);
-        let body = bytes_of(&rt, rt.alloc(), body);
-        let found = refusal_of(&rt, number_of(&rt, bits), number_of(&rt, reference), &body);
-        same_fault(&rt, found, fault_of(&rt, fault), name);
+        row_is_refused(&rt, rt.alloc(), row);
     }
 }

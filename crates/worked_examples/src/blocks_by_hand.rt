@@ -2,8 +2,9 @@
 
 ghost use Rattle.std.specs.Prelude.{◌≡◌, ◌*◌, ◌%◌, ◌^◌, ◌≤◌, length};
 
-use crate::blocks::{Settings, params_of, read};
-use crate::texts::{bytes_of, number_of, numbers_of, parts_of, same_fault};
+use crate::blocks::{Settings, is_read_as, params_of, read};
+use crate::checks::same_fault;
+use crate::texts::{bytes_of, number_of, numbers_of, parts_of};
 use block_adaptive::options::Choice;
 use cube_core::fault::Fault;
 use header_bits::bit_writer::BitWriter;
@@ -76,14 +77,6 @@ fn settings(reference: u32, count: u32) -> Settings {
         reference,
         count,
     }
-}
-
-/// That these numbers, and fewer than eight bits behind them, are read of a body.
-fn is_read_as(rt: &impl Abort, alloc: Global, s: Settings, body: &[u8], numbers: &[u16]) {
-    let params = params_of(rt, s);
-    let (back, left) = read(rt, alloc, &params, body).expect(rt, "numbers");
-    assert_eq!(rt; back.as_slice(), numbers);
-    assert!(rt; left < 8);
 }
 
 /// Two blocks.
@@ -178,15 +171,19 @@ const RUNS_PAST: &str = "\
 1 | 1 | 00 00 00 00 00 00 00 00 00 00 00
 8 | 48 | 00 00 00 00 00 00 00 00 00 00 00";
 
+/// That a row's body is refused.
+fn run_is_refused(rt: &impl Abort, alloc: Global, row: &str) {
+    let [reference, count, body, _, _] = parts_of(rt, row);
+    let s = settings(number_of(rt, reference), number_of(rt, count));
+    let past = Fault::RunPastSegment { block: 0 };
+    is_refused(rt, alloc, s, &bytes_of(rt, alloc, body), past);
+}
+
 /// Borders of reference intervals and of 64 blocks, and how many zeros a run code may have.
 #[test]
 fn borders_of_runs(rt: HostRuntime) {
-    let past = Fault::RunPastSegment { block: 0 };
     for row in RUNS_PAST.split('\n') {
-        let [reference, count, body, _, _] = parts_of(&rt, row);
-        let s = settings(number_of(&rt, reference), number_of(&rt, count));
-        let body = bytes_of(&rt, rt.alloc(), body);
-        is_refused(&rt, rt.alloc(), s, &body, past);
+        run_is_refused(&rt, rt.alloc(), row);
     }
     is_read_as(&rt, rt.alloc(), settings(8, 40), &[0x00, 0x40], &[0; 40]);
 }

@@ -1,20 +1,16 @@
 //! Code words that are read or written several at a time: of one band, and of bands one above another.
 
-use crate::sample_words::{Settings, params_of, params_of_bands, short_codes};
-use crate::texts::{bytes_of, same_fault};
+use crate::checks::same_fault;
+use crate::sample_words::{short_codes, stats_of};
 use cube_core::fault::Fault;
 use header_bits::bit_reader::BitReader;
 use header_bits::bit_writer::BitWriter;
-use sample_adaptive::stats::Stats;
 
 /// A run of a band: its first number in eight bits, then an escape.
 #[test]
 fn a_run_is_read(rt: HostRuntime) {
-    let params = params_of(&rt, short_codes(8));
-    let mut stats = Stats::new(rt.alloc(), &params).expect(&rt, "memory");
-    let bytes = bytes_of(&rt, rt.alloc(), "90 00 13");
-    assert!(rt; bytes.len() < 1_000_000);
-    let mut reader = BitReader::new(&bytes);
+    let mut stats = stats_of(&rt, rt.alloc(), 1, short_codes(8));
+    let mut reader = BitReader::new(&[0x90, 0x00, 0x13]);
     let mut numbers = [0; 2];
     stats
         .get_run(0, 0, 0, &mut reader, &mut numbers)
@@ -26,11 +22,8 @@ fn a_run_is_read(rt: HostRuntime) {
 /// Columns of two bands: their first numbers in eight bits each, then as many zeros as the number says, and a one.
 #[test]
 fn columns_are_read(rt: HostRuntime) {
-    let params = params_of_bands(&rt, 2, short_codes(8));
-    let mut stats = Stats::new(rt.alloc(), &params).expect(&rt, "memory");
-    let bytes = bytes_of(&rt, rt.alloc(), "90 13 14");
-    assert!(rt; bytes.len() < 1_000_000);
-    let mut reader = BitReader::new(&bytes);
+    let mut stats = stats_of(&rt, rt.alloc(), 2, short_codes(8));
+    let mut reader = BitReader::new(&[0x90, 0x13, 0x14]);
     let mut numbers = [0; 2];
     stats
         .get_column(0, 0, 0, &mut reader, &mut numbers)
@@ -46,12 +39,7 @@ fn columns_are_read(rt: HostRuntime) {
 /// The same columns are written so.
 #[test]
 fn columns_are_put(rt: HostRuntime) {
-    let settings = Settings {
-        bits: 8,
-        ..short_codes(8)
-    };
-    let params = params_of_bands(&rt, 2, settings);
-    let mut stats = Stats::new(rt.alloc(), &params).expect(&rt, "memory");
+    let mut stats = stats_of(&rt, rt.alloc(), 2, short_codes(8));
     let mut writer = BitWriter::new(rt.alloc());
     stats
         .put_column(0, 0, &[144, 19], &mut writer)
@@ -68,11 +56,8 @@ fn columns_are_put(rt: HostRuntime) {
 /// The upper band's second number is a needless escape, at place 3 of the body. It is refused so for ever.
 #[test]
 fn a_column_is_refused(rt: HostRuntime) {
-    let params = params_of_bands(&rt, 2, short_codes(8));
-    let mut stats = Stats::new(rt.alloc(), &params).expect(&rt, "memory");
-    let bytes = bytes_of(&rt, rt.alloc(), "90 13 10 00 30");
-    assert!(rt; bytes.len() < 1_000_000);
-    let mut reader = BitReader::new(&bytes);
+    let mut stats = stats_of(&rt, rt.alloc(), 2, short_codes(8));
+    let mut reader = BitReader::new(&[0x90, 0x13, 0x10, 0x00, 0x30]);
     let mut numbers = [0; 2];
     stats
         .get_column(0, 0, 0, &mut reader, &mut numbers)

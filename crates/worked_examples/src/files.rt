@@ -3,12 +3,13 @@
 ghost use Rattle.std.specs.Prelude.{◌≡◌};
 ghost use Rattle.cube_core.specs.Layout.{IsLayout};
 
+use crate::checks::same_bytes;
 use crate::rows::{
     BLOCK_ROWS, CUBE_A_ROWS, REGISTER_ROWS, RESTRICTED_ROWS, RUN_ROWS, SEGMENT_ROWS, SMALL_ROWS,
     TABLE_ROWS, WEIGHT_ROWS,
 };
 use crate::settings::params_of;
-use crate::texts::{file_of, header_of, parts_of, same, samples_of};
+use crate::texts::{file_of, header_of, parts_of, samples_of};
 use coder_pipe::decode::decode;
 use coder_pipe::encode::encode_one;
 use cube_core::cube::Cube;
@@ -68,21 +69,26 @@ pub(super) fn decodes_to(
     let (params, cube) = decoded(rt, alloc, file).expect(rt, name);
     assert!(rt; params.check().is_ok(), "{name}");
     let again = write_header(alloc, &params).expect(rt, name);
-    same(rt, &again, header, name);
+    same_bytes(rt, &again, header, name);
     let back = cube.to_raw(alloc, layout).expect(rt, name);
-    same(rt, &back, raw, name);
+    same_bytes(rt, &back, raw, name);
 }
 
-/// That the file of each row is written of its cube, and read back.
+/// That the file of a row is written of its cube, and read back.
+fn row_holds(rt: &impl Abort, alloc: Global, row: &str) {
+    let [name, settings, samples, header, body] = parts_of(rt, row);
+    let samples = samples_of(rt, alloc, samples);
+    let file = file_of(rt, alloc, header, body);
+    let written = encoded(rt, alloc, name, settings, BYTES, &samples);
+    same_bytes(rt, &written, &file, name);
+    let header = header_of(rt, alloc, header);
+    decodes_to(rt, alloc, name, &file, &header, BYTES, &samples);
+}
+
+/// The same of each row.
 fn rows_hold(rt: &impl Abort, alloc: Global, rows: &str) {
     for row in rows.split('\n') {
-        let [name, settings, samples, header, body] = parts_of(rt, row);
-        let samples = samples_of(rt, alloc, samples);
-        let file = file_of(rt, alloc, header, body);
-        let written = encoded(rt, alloc, name, settings, BYTES, &samples);
-        same(rt, &written, &file, name);
-        let header = header_of(rt, alloc, header);
-        decodes_to(rt, alloc, name, &file, &header, BYTES, &samples);
+        row_holds(rt, alloc, row);
     }
 }
 
@@ -108,7 +114,7 @@ fn two_bytes_a_sample(rt: HostRuntime) {
     let raw = [0x80, 0x00];
     let file = file_of(&rt, alloc, "7:81", "ff ff");
     let written = encoded(&rt, alloc, name, "signed=1 bits=16", layout, &raw);
-    same(&rt, &written, &file, name);
+    same_bytes(&rt, &written, &file, name);
     let header = header_of(&rt, alloc, "7:81");
     decodes_to(&rt, alloc, name, &file, &header, layout, &raw);
 }
@@ -123,14 +129,18 @@ a plain code for the rest of a segment | 4:28 10:0c 17:00 18:08 | 4:28 10:0c 17:
 the last pair | 4:08 7:05 10:0c 17:00 18:01 | 4:08 7:05 10:0c 17:00 18:01 | 10 00 00 0f | 0 7*3
 any filled values | 10:0c 17:00 18:01 | 10:0c 17:00 18:01 | f2 1f ff ff ff ff ff ff e0 | 200";
 
+/// That a row's file is read, and its parameters are written by the header that a coder chooses.
+fn row_is_read(rt: &impl Abort, alloc: Global, row: &str) {
+    let [name, header, chosen, body, samples] = parts_of(rt, row);
+    let file = file_of(rt, alloc, header, body);
+    let chosen = header_of(rt, alloc, chosen);
+    let samples = samples_of(rt, alloc, samples);
+    decodes_to(rt, alloc, name, &file, &chosen, BYTES, &samples);
+}
+
 #[test]
 fn other_spellings_are_read(rt: HostRuntime) {
-    let alloc = rt.alloc();
     for row in OTHER_SPELLINGS.split('\n') {
-        let [name, header, chosen, body, samples] = parts_of(&rt, row);
-        let file = file_of(&rt, alloc, header, body);
-        let chosen = header_of(&rt, alloc, chosen);
-        let samples = samples_of(&rt, alloc, samples);
-        decodes_to(&rt, alloc, name, &file, &chosen, BYTES, &samples);
+        row_is_read(&rt, rt.alloc(), row);
     }
 }

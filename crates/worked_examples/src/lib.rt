@@ -10,6 +10,8 @@ mod blocks;
 #[cfg(test)]
 mod blocks_by_hand;
 #[cfg(test)]
+mod checks;
+#[cfg(test)]
 mod columns;
 #[cfg(test)]
 mod cubes;

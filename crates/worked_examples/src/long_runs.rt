@@ -5,14 +5,14 @@ ghost use Rattle.std.specs.List.{AllByRecursion};
 ghost use Rattle.cube_core.specs.Shape.{sample_count};
 ghost use Rattle.header_bits.specs.Lawful.{IsLawful};
 
-use crate::sample_words::{self, Settings};
+use crate::checks::same;
+use crate::sample_words::{Settings, stats_of};
 use cube_core::kind::Kind;
 use cube_core::order::Order;
 use cube_core::shape::Shape;
 use file_coding::coding_end::CodingEnd;
 use header_bits::bit_writer::BitWriter;
 use header_bits::params::{Coder, CountStart, Params};
-use sample_adaptive::stats::Stats;
 use std::alloc::Global;
 use std::process::Abort;
 
@@ -98,13 +98,12 @@ fn a_long_run_is_put(rt: HostRuntime) {
         gamma_zero: 1,
         constant: 0,
     };
-    let params = sample_words::params_of(&rt, settings);
     let zeros = zeros(&rt, rt.alloc(), LONGEST);
-    let mut stats = Stats::new(rt.alloc(), &params).expect(&rt, "memory");
+    let mut stats = stats_of(&rt, rt.alloc(), 1, settings);
     let mut writer = BitWriter::new(rt.alloc());
     stats
         .put_run(0, 0, &zeros, &mut writer)
         .expect(&rt, "memory");
     // The first is written in eight bits, and each other in one.
-    assert_eq!(rt; writer.bit_count(), 8 + 65_535);
+    same(&rt, writer.bit_count(), 8 + 65_535);
 }

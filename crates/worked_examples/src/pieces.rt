@@ -33,26 +33,31 @@ fn samples(rt: &impl Abort, alloc: Global, count: u64) -> Vec<u8> {
     samples
 }
 
-/// That the file of samples by these settings gives them back.
-fn comes_back(rt: &impl Abort, alloc: Global, settings: &str) {
+/// The header by these settings, and samples for a cube of theirs.
+fn header_and_samples(rt: &impl Abort, alloc: Global, settings: &str) -> (Vec<u8>, Vec<u8>) {
     let params = params_of(rt, alloc, settings);
-    let raw = samples(rt, alloc, params.shape.sample_count());
-    let file = encoded(rt, alloc, settings, settings, BYTES, &raw);
     assert!(rt; params.check().is_ok(), "{settings}");
     let header = write_header(alloc, &params).expect(rt, settings);
-    decodes_to(rt, alloc, settings, &file, &header, BYTES, &raw);
+    let raw = samples(rt, alloc, params.shape.sample_count());
+    (header, raw)
+}
+
+/// That the file of samples by these settings gives them back.
+fn comes_back(rt: &impl Abort, alloc: Global, columns: &str, depth: &str, coder: &str) {
+    let settings = format!(in alloc; "rows=2 bands=3 previous=1 {columns} {depth} {coder}").expect(
+        rt, "memory",
+    );
+    let (header, raw) = header_and_samples(rt, alloc, &settings);
+    let file = encoded(rt, alloc, &settings, &settings, BYTES, &raw);
+    decodes_to(rt, alloc, &settings, &file, &header, BYTES, &raw);
 }
 
 #[test]
 fn rows_around_a_piece_come_back_in_each_order(rt: HostRuntime) {
-    let alloc = rt.alloc();
     for columns in COLUMNS {
         for depth in DEPTHS {
             for coder in CODERS {
-                let settings = format!(in alloc;
-                    "rows=2 bands=3 previous=1 {columns} {depth} {coder}"
-                ).expect(&rt, "memory");
-                comes_back(&rt, alloc, &settings);
+                comes_back(&rt, rt.alloc(), columns, depth, coder);
             }
         }
     }

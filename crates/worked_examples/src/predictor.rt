@@ -5,6 +5,7 @@ ghost use Rattle.cube_core.specs.Order.{IsOrder};
 ghost use Rattle.header_bits.specs.Lawful.{IsLawful};
 ghost use Rattle.predict_core.specs.Rows.{sizes, unsigned};
 
+use crate::checks::same;
 use crate::texts::numbers_of;
 use cube_core::cube::Cube;
 use cube_core::cursor::Places;
@@ -157,7 +158,7 @@ fn is_coded_as(rt: &impl Abort, alloc: Global, order: Order, residuals: &str)
     let expected = numbers_of(rt, alloc, residuals);
     for (own, later) in [(255, 7), (0, 255), (128, 0)] {
         let (residuals, back) = forward_and_back(rt, alloc, order, own, later);
-        assert_eq!(rt; residuals.as_slice(), expected.as_slice());
+        same(rt, residuals.as_slice(), expected.as_slice());
         is_cube_a(rt, &back);
     }
 }
@@ -176,7 +177,7 @@ fn is_cube_a(rt: &impl Abort, cube: &CubeOfA) {
         for y in 0..2u32 {
             for x in 0..3u32 {
                 let place = (z * 6 + y * 3 + x) as usize;
-                assert_eq!(rt; cube.cube.sample(z, y, x), i32::from(CUBE_A[place]));
+                same(rt, cube.cube.sample(z, y, x), i32::from(CUBE_A[place]));
             }
         }
     }
@@ -190,8 +191,8 @@ fn is_mapped(rt: &impl Abort, scaled: u16, sample: u8, residual: u8)
     let scaled = i32::from(scaled);
     let sample = i32::from(sample);
     let residual = u16::from(residual);
-    assert_eq!(rt; map_residual(kind, scaled, sample), residual);
-    assert_eq!(rt; unmap_residual(kind, scaled, residual), sample);
+    same(rt, map_residual(kind, scaled, sample), residual);
+    same(rt, unmap_residual(kind, scaled, residual), sample);
 }
 
 #[test]
@@ -217,14 +218,18 @@ fn coded_row(rt: &impl Abort, coder: &mut BandOfA, cube: &CubeOfA, y: u32) -> [u
     ]
 }
 
+/// That the two rows of a band of cube A, as pieces, have these residuals.
+fn rows_are_coded_as(rt: &impl Abort, alloc: Global, z: u32, upper: [u16; 3], lower: [u16; 3])
+    requires { z < 2 }
+{
+    let cube = cube_of_a(rt, alloc, &CUBE_A);
+    let mut coder = band_of_a(rt, alloc, z);
+    same(rt, coded_row(rt, &mut coder, &cube, 0), upper);
+    same(rt, coded_row(rt, &mut coder, &cube, 1), lower);
+}
+
 #[test]
 fn rows_of_cube_a_as_pieces(rt: HostRuntime) {
-    let alloc = rt.alloc();
-    let cube = cube_of_a(&rt, alloc, &CUBE_A);
-    let mut first = band_of_a(&rt, alloc, 0);
-    let mut second = band_of_a(&rt, alloc, 1);
-    assert_eq!(rt; coded_row(&rt, &mut first, &cube, 0), [55, 3, 5]);
-    assert_eq!(rt; coded_row(&rt, &mut second, &cube, 0), [20, 1, 2]);
-    assert_eq!(rt; coded_row(&rt, &mut first, &cube, 1), [0, 4, 2]);
-    assert_eq!(rt; coded_row(&rt, &mut second, &cube, 1), [2, 1, 2]);
+    rows_are_coded_as(&rt, rt.alloc(), 0, [55, 3, 5], [0, 4, 2]);
+    rows_are_coded_as(&rt, rt.alloc(), 1, [20, 1, 2], [2, 1, 2]);
 }

@@ -16,131 +16,60 @@ fn refused(rt: &impl Abort, alloc: Global, file: &[u8], fault: Fault) {
     );
 }
 
-#[test]
-fn headers(rt: HostRuntime) {
-    let rows: [(&str, Fault); 10] = [
-        (
-            "7:03",
-            Fault::FieldRange {
-                field: Field::DynamicRange,
-                value: 1,
-            },
-        ),
-        (
-            "17:3a",
-            Fault::FieldRange {
-                field: Field::Umax,
-                value: 7,
-            },
-        ),
-        (
-            "17:86",
-            Fault::FieldRange {
-                field: Field::GammaStar,
-                value: 10,
-            },
-        ),
-        (
-            "18:2e",
-            Fault::Disagree {
-                rule: Rule::StartConstant,
-            },
-        ),
-        (
-            "13:20",
-            Fault::Disagree {
-                rule: Rule::NeighbourOneColumn,
-            },
-        ),
-        ("11:01", Fault::Reserved { bit: 95 }),
-        ("16:80", Fault::Reserved { bit: 128 }),
-        (
-            "16:20",
-            Fault::Disagree {
-                rule: Rule::DefaultWithTable,
-            },
-        ),
-        (
-            "16:01",
-            Fault::Disagree {
-                rule: Rule::DefaultWithResolution,
-            },
-        ),
-        (
-            "12:00",
-            Fault::Disagree {
-                rule: Rule::FullOneColumn,
-            },
-        ),
-    ];
-    for (header, fault) in rows {
-        header_refused(&rt, rt.alloc(), header, fault);
-    }
-}
-
 /// That a header is refused for this fault, with a body and without: a fault of the header comes before one of the body.
 fn header_refused(rt: &impl Abort, alloc: Global, header: &str, fault: Fault) {
     refused(rt, alloc, &file_of(rt, alloc, header, "90"), fault);
     refused(rt, alloc, &header_of(rt, alloc, header), fault);
 }
 
+/// The same for a field out of its range.
+fn field_refused(rt: &impl Abort, alloc: Global, header: &str, field: Field, value: i64) {
+    header_refused(rt, alloc, header, Fault::FieldRange { field, value });
+}
+
+/// The same for fields that disagree.
+fn rule_refused(rt: &impl Abort, alloc: Global, header: &str, rule: Rule) {
+    header_refused(rt, alloc, header, Fault::Disagree { rule });
+}
+
+/// The same for a reserved bit that isn't zero.
+fn bit_refused(rt: &impl Abort, alloc: Global, header: &str, bit: u64) {
+    header_refused(rt, alloc, header, Fault::Reserved { bit });
+}
+
+#[test]
+fn headers(rt: HostRuntime) {
+    let alloc = rt.alloc();
+    field_refused(&rt, alloc, "7:03", Field::DynamicRange, 1);
+    field_refused(&rt, alloc, "17:3a", Field::Umax, 7);
+    field_refused(&rt, alloc, "17:86", Field::GammaStar, 10);
+    rule_refused(&rt, alloc, "18:2e", Rule::StartConstant);
+    rule_refused(&rt, alloc, "13:20", Rule::NeighbourOneColumn);
+    bit_refused(&rt, alloc, "11:01", 95);
+    bit_refused(&rt, alloc, "16:80", 128);
+    rule_refused(&rt, alloc, "16:20", Rule::DefaultWithTable);
+    rule_refused(&rt, alloc, "16:01", Rule::DefaultWithResolution);
+    rule_refused(&rt, alloc, "12:00", Rule::FullOneColumn);
+}
+
 #[test]
 fn headers_with_weights(rt: HostRuntime) {
-    let rows: [(&str, Fault); 5] = [
-        ("16:40", Fault::TableElsewhere),
-        (
-            "16:62",
-            Fault::FieldRange {
-                field: Field::Resolution,
-                value: 2,
-            },
-        ),
-        (
-            "16:71",
-            Fault::Disagree {
-                rule: Rule::ResolutionOverOmega,
-            },
-        ),
-        ("4:02 6:02 12:06 16:63 17+e1", Fault::Reserved { bit: 143 }),
-        ("4:02 6:02 12:06 16:63 17+f0", Fault::Reserved { bit: 139 }),
-    ];
-    for (header, fault) in rows {
-        header_refused(&rt, rt.alloc(), header, fault);
-    }
+    let alloc = rt.alloc();
+    header_refused(&rt, alloc, "16:40", Fault::TableElsewhere);
+    field_refused(&rt, alloc, "16:62", Field::Resolution, 2);
+    rule_refused(&rt, alloc, "16:71", Rule::ResolutionOverOmega);
+    bit_refused(&rt, alloc, "4:02 6:02 12:06 16:63 17+e1", 143);
+    bit_refused(&rt, alloc, "4:02 6:02 12:06 16:63 17+f0", 139);
 }
 
 #[test]
 fn headers_with_constants(rt: HostRuntime) {
-    let rows: [(&str, Fault); 5] = [
-        (
-            "4:02 18:3f 19+70",
-            Fault::Disagree {
-                rule: Rule::AccumulatorEntry,
-            },
-        ),
-        ("4:02 18:3f 19+31", Fault::Reserved { bit: 159 }),
-        (
-            "4:02 18:37 19+30",
-            Fault::Disagree {
-                rule: Rule::ConstantWithTable,
-            },
-        ),
-        (
-            "4:02 18:3e",
-            Fault::Disagree {
-                rule: Rule::StartConstant,
-            },
-        ),
-        (
-            "10:0c 17:10 18:01",
-            Fault::Disagree {
-                rule: Rule::RestrictedOverFour,
-            },
-        ),
-    ];
-    for (header, fault) in rows {
-        header_refused(&rt, rt.alloc(), header, fault);
-    }
+    let alloc = rt.alloc();
+    rule_refused(&rt, alloc, "4:02 18:3f 19+70", Rule::AccumulatorEntry);
+    bit_refused(&rt, alloc, "4:02 18:3f 19+31", 159);
+    rule_refused(&rt, alloc, "4:02 18:37 19+30", Rule::ConstantWithTable);
+    rule_refused(&rt, alloc, "4:02 18:3e", Rule::StartConstant);
+    rule_refused(&rt, alloc, "10:0c 17:10 18:01", Rule::RestrictedOverFour);
 }
 
 /// Headers, bodies and how long the header is: two equal samples, the same by a table of one constant, and one weight.
@@ -149,21 +78,25 @@ const CUT_FILES: &str = "\
 4:02 18:3f 19+30 | 90 80 | 20
 4:02 6:02 12:06 16:63 17+e0 | 37 2d 8c 70 | 20";
 
+/// That a file with a header of so many bytes is refused wherever it is cut.
+fn cuts_refused(rt: &impl Abort, alloc: Global, file: &[u8], length: usize) {
+    assert!(rt; file.len() <= 1000);
+    for n in 0..file.len() {
+        let fault = if n < length {
+            Fault::ShortHeader
+        } else {
+            Fault::Truncated { bit: 8 * n as u64 }
+        };
+        refused(rt, alloc, &file[..n], fault);
+    }
+}
+
 #[test]
 fn files_cut_short(rt: HostRuntime) {
     for row in CUT_FILES.split('\n') {
         let [header, body, length, _, _] = parts_of(&rt, row);
         let file = file_of(&rt, rt.alloc(), header, body);
-        let length = number_of(&rt, length) as usize;
-        assert!(rt; file.len() <= 1000);
-        for n in 0..file.len() {
-            let fault = if n < length {
-                Fault::ShortHeader
-            } else {
-                Fault::Truncated { bit: 8 * n as u64 }
-            };
-            refused(&rt, rt.alloc(), &file[..n], fault);
-        }
+        cuts_refused(&rt, rt.alloc(), &file, number_of(&rt, length) as usize);
     }
 }
 

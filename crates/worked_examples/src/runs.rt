@@ -3,6 +3,7 @@
 ghost use Rattle.std.specs.Prelude.{◌≡◌, ◌<◌};
 ghost use Rattle.header_bits.specs.Lawful.{IsLawful};
 
+use crate::checks::same;
 use cube_core::cube::Cube;
 use cube_core::kind::Kind;
 use cube_core::layout::{Layout, RawOrder};
@@ -63,6 +64,32 @@ impl Twice {
         assert!(rt; self.singles.next() == place);
         self.singles.forward(&self.cube, y, x)
     }
+
+    /// Goes over so many places by a run, and by single places.
+    fn run_is_the_same(&mut self, rt: &impl Abort, y: u32, x: u32, count: u32) {
+        assert!(rt; count <= 64);
+        let mut room = [0u16; 64];
+        let residuals = &mut room[..count as usize];
+        self.run(rt, y, x, residuals);
+        let mut x = x;
+        for residual in residuals {
+            same(rt, *residual, self.single(rt, y, x));
+            x = x.saturating_add(1);
+        }
+    }
+
+    /// Goes over a row by runs of so many places, the last one shorter, and by single places.
+    fn row_is_the_same(&mut self, rt: &impl Abort, y: u32, most: u32) {
+        let columns = self.cube.shape().columns();
+        let mut x = 0u32;
+        for _ in 0..columns {
+            let count = most.min(columns.saturating_sub(x));
+            if count > 0 {
+                self.run_is_the_same(rt, y, x, count);
+            }
+            x = x.saturating_add(count);
+        }
+    }
 }
 
 /// Parameters of five rows, whose exponent grows every 16 places.
@@ -118,30 +145,37 @@ pub(crate) fn cube_of(rt: &impl Abort, alloc: Global, params: &Params, draw: &mu
     Cube::from_raw(alloc, shape, params.kind, layout, &bytes).expect(rt, "a cube")
 }
 
-/// Goes over all rows of band `z` by runs of so many places, the last of a row shorter, and by single places.
+/// Goes over all rows of band `z` by runs of so many places, and by single places.
 fn are_the_same(rt: &impl Abort, alloc: Global, params: &Params, z: u32, most: u32, draw: &mut Draw)
     requires { IsLawful params.now }
 {
     assert!(rt; z < params.shape.bands());
-    assert!(rt; most <= 64);
     let mut twice = Twice {
         cube: cube_of(rt, alloc, params, draw),
         runs: Band::new(alloc, params, z).expect(rt, "a band"),
         singles: Band::new(alloc, params, z).expect(rt, "a band"),
     };
-    let columns = params.shape.columns();
     for y in 0..5 {
-        let mut x = 0;
-        for _ in 0..columns {
-            let count = most.min(columns.saturating_sub(x)) as usize;
-            let mut room = [0u16; 64];
-            let residuals = &mut room[..count];
-            if count > 0 {
-                twice.run(rt, y, x, residuals);
-            }
-            for residual in residuals {
-                assert_eq!(rt; *residual, twice.single(rt, y, x));
-                x = x.saturating_add(1);
+        twice.row_is_the_same(rt, y, most);
+    }
+}
+
+/// The same for bands with so many weights, in rows of so many columns, by runs of 64 places.
+fn bands_are_the_same(
+    rt: &impl Abort,
+    alloc: Global,
+    columns: u32,
+    previous: u32,
+    draw: &mut Draw,
+) {
+    assert!(rt; previous <= 15);
+    for (reduced, column) in [(false, true), (true, true), (false, false), (true, false)] {
+        // One column alone asks for reduced mode and column-oriented sums.
+        if columns > 1 || (reduced && column) {
+            for register in [32 + previous % 14, 46 + previous * 7 % 19] {
+                let bands = previous + 1;
+                let params = params_of(rt, columns, bands, previous, reduced, column, register);
+                are_the_same(rt, alloc, &params, previous, 64, draw);
             }
         }
     }
@@ -151,24 +185,8 @@ fn are_the_same(rt: &impl Abort, alloc: Global, params: &Params, z: u32, most: u
 fn runs_are_as_single_places(rt: HostRuntime) {
     let mut draw = Draw(20_261_123);
     for columns in [1, 2, 63, 64, 65, 129] {
-        for previous in 0..16u32 {
-            for (reduced, column) in [(false, true), (true, true), (false, false), (true, false)] {
-                // One column alone asks for reduced mode and column-oriented sums.
-                if columns > 1 || (reduced && column) {
-                    for register in [32 + previous % 14, 46 + previous * 7 % 19] {
-                        let params = params_of(
-                            &rt,
-                            columns,
-                            previous + 1,
-                            previous,
-                            reduced,
-                            column,
-                            register,
-                        );
-                        are_the_same(&rt, rt.alloc(), &params, previous, 64, &mut draw);
-                    }
-                }
-            }
+        for previous in 0..16 {
+            bands_are_the_same(&rt, rt.alloc(), columns, previous, &mut draw);
         }
     }
 }

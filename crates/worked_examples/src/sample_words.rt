@@ -3,7 +3,8 @@
 ghost use Rattle.std.specs.Prelude.{◌≡◌, ◌+◌, ◌^◌, ◌<◌, ◌≤◌, length};
 ghost use Rattle.sample_adaptive.specs.Settings.{AreForSamples};
 
-use crate::texts::{bytes_of, fault_of, number_of, numbers_of, parts_of, same, same_fault};
+use crate::checks::{same, same_bytes, same_fault};
+use crate::texts::{bytes_of, fault_of, number_of, numbers_of, parts_of};
 use cube_core::fault::Fault;
 use cube_core::kind::Kind;
 use cube_core::shape::Shape;
@@ -15,7 +16,7 @@ use std::alloc::Global;
 use std::process::Abort;
 
 /// What a test tells the coder.
-#[derive(Clone, Copy)]
+#[derive(Clone, Copy, Debug)]
 pub(crate) struct Settings {
     pub(crate) bits: u32,
     pub(crate) umax: u32,
@@ -24,34 +25,44 @@ pub(crate) struct Settings {
     pub(crate) constant: u32,
 }
 
-/// Parameters of one band, whose settings are lawful.
-pub(crate) fn params_of(rt: &impl Abort, s: Settings) -> Params
-    ensures lawful { AreForSamples result }
-    ensures bands { 1 ≤ result.shape.bands }
-    ensures bits { result.kind.bits ≡ s.bits }
+/// That a number is one of a range.
+fn is_within(rt: &impl Abort, number: u32, least: u32, most: u32)
+    ensures { (least ≤ number) × (number ≤ most) }
 {
-    params_of_bands(rt, 1, s)
+    assert!(rt; least <= number);
+    assert!(rt; number <= most);
+}
+
+/// A shape of so many bands.
+fn shape_of(rt: &impl Abort, bands: u32) -> Shape
+    ensures { result.bands ≡ bands }
+{
+    let shape = Shape::new(1, 64, bands).expect(rt, "a shape");
+    assert!(rt; shape.bands() == bands);
+    shape
+}
+
+/// Unsigned samples of so many bits.
+fn kind_of(rt: &impl Abort, bits: u32) -> Kind
+    ensures { result.bits ≡ bits }
+{
+    let kind = Kind::new(false, bits).expect(rt, "a kind");
+    assert!(rt; kind.bits() == bits);
+    kind
 }
 
 /// Parameters of so many bands, whose settings are lawful.
-pub(crate) fn params_of_bands(rt: &impl Abort, bands: u32, s: Settings) -> Params
+fn params_of_bands(rt: &impl Abort, bands: u32, s: Settings) -> Params
     ensures lawful { AreForSamples result }
     ensures bands { result.shape.bands ≡ bands }
     ensures bits { result.kind.bits ≡ s.bits }
 {
-    assert!(rt; s.umax >= 8);
-    assert!(rt; s.umax <= 32);
-    assert!(rt; s.gamma_zero >= 1);
-    assert!(rt; s.gamma_zero <= 8);
-    assert!(rt; s.gamma_star >= 4);
-    assert!(rt; s.gamma_star <= 9);
+    is_within(rt, s.umax, 8, 32);
+    is_within(rt, s.gamma_zero, 1, 8);
+    is_within(rt, s.gamma_star, 4, 9);
+    is_within(rt, s.bits, 2, 16);
     assert!(rt; s.gamma_zero < s.gamma_star);
-    assert!(rt; s.bits >= 2);
     assert!(rt; s.constant <= s.bits - 2);
-    let shape = Shape::new(1, 64, bands).expect(rt, "a shape");
-    let kind = Kind::new(false, s.bits).expect(rt, "a kind");
-    assert!(rt; shape.bands() == bands);
-    assert!(rt; kind.bits() == s.bits);
     Params {
         coder: Coder::Sample {
             umax: s.umax,
@@ -59,19 +70,26 @@ pub(crate) fn params_of_bands(rt: &impl Abort, bands: u32, s: Settings) -> Param
             gamma_zero: s.gamma_zero,
             start: CountStart::Constant(s.constant),
         },
-        ..Params::plain(shape, kind)
+        ..Params::plain(shape_of(rt, bands), kind_of(rt, s.bits))
     }
 }
 
-/// The body of a band's numbers, with the zeros that fill its last byte.
-fn written(rt: &impl Abort, alloc: Global, params: &Params, numbers: &[u16]) -> Vec<u8>
-    requires lawful { AreForSamples params.now }
-    requires bands { 1 ≤ params.now.shape.bands }
+/// The coder of so many bands, which has taken no number.
+pub(crate) fn stats_of(rt: &impl Abort, alloc: Global, bands: u32, s: Settings) -> Stats
+    ensures bands { length result.bands ≡ bands }
+    ensures bits { result.bits ≡ s.bits }
 {
-    let mut stats = Stats::new(alloc, params).expect(rt, "memory");
+    let params = params_of_bands(rt, bands, s);
+    Stats::new(alloc, &params).expect(rt, "memory")
+}
+
+/// The body of a band's numbers, with the zeros that fill its last byte.
+fn written(rt: &impl Abort, alloc: Global, s: Settings, numbers: &[u16]) -> Vec<u8> {
+    assert!(rt; s.bits <= 16);
+    let mut stats = stats_of(rt, alloc, 1, s);
     let mut writer = BitWriter::new(alloc);
     for (t, number) in numbers.iter().enumerate() {
-        assert!(rt; u32::from(*number) < 1 << params.kind.bits());
+        assert!(rt; u32::from(*number) < 1 << s.bits);
         stats
             .put(0, t as u64, *number, &mut writer)
             .expect(rt, "memory");
@@ -83,18 +101,9 @@ fn written(rt: &impl Abort, alloc: Global, params: &Params, numbers: &[u16]) -> 
 }
 
 /// So many numbers of one band, and how many bits are left behind them.
-fn read(
-    rt: &impl Abort,
-    alloc: Global,
-    params: &Params,
-    bytes: &[u8],
-    count: u64,
-) -> (Vec<u16>, u64)
-    requires lawful { AreForSamples params.now }
-    requires bands { 1 ≤ params.now.shape.bands }
-{
+fn read(rt: &impl Abort, alloc: Global, s: Settings, bytes: &[u8], count: u64) -> (Vec<u16>, u64) {
     assert!(rt; bytes.len() < 1_000_000);
-    let mut stats = Stats::new(alloc, params).expect(rt, "memory");
+    let mut stats = stats_of(rt, alloc, 1, s);
     let mut reader = BitReader::new(bytes);
     let mut numbers = Vec::new(alloc);
     for t in 0..count {
@@ -127,16 +136,16 @@ fn sample_numbers(alloc: Global, bits: u32, seed: u64) -> Result<Vec<u16>, Fault
     Ok(numbers)
 }
 
-/// Whether numbers are written and read back, with fewer than eight bits behind them.
-fn come_back(rt: &impl Abort, alloc: Global, s: Settings) -> bool
+/// That numbers are written and read back, with fewer than eight bits behind them.
+fn come_back(rt: &impl Abort, alloc: Global, s: Settings)
     requires { (2 ≤ s.bits) × (s.bits ≤ 16) × (s.constant < 16) }
 {
-    let params = params_of(rt, s);
     let seed = u64::from(s.bits * 100 + s.constant);
     let numbers = sample_numbers(alloc, s.bits, seed).expect(rt, "memory");
-    let bytes = written(rt, alloc, &params, &numbers);
-    let (back, left) = read(rt, alloc, &params, &bytes, numbers.len() as u64);
-    back.as_slice() == numbers.as_slice() && left < 8
+    let bytes = written(rt, alloc, s, &numbers);
+    let (back, left) = read(rt, alloc, s, &bytes, numbers.len() as u64);
+    assert!(rt; back.as_slice() == numbers.as_slice(), "{s:?}");
+    assert!(rt; left < 8, "{s:?}");
 }
 
 #[test]
@@ -151,10 +160,7 @@ fn numbers_come_back(rt: HostRuntime) {
                     gamma_zero,
                     constant,
                 };
-                assert!(rt;
-                    come_back(&rt, rt.alloc(), settings),
-                    "at {bits} bits, k {constant}, {umax} {gamma_star} {gamma_zero}"
-                );
+                come_back(&rt, rt.alloc(), settings);
             }
         }
     }
@@ -162,9 +168,8 @@ fn numbers_come_back(rt: HostRuntime) {
 
 /// That these numbers are written as this body.
 fn is_body(rt: &impl Abort, alloc: Global, s: Settings, numbers: &str, body: &str) {
-    let params = params_of(rt, s);
-    let found = written(rt, alloc, &params, &numbers_of(rt, alloc, numbers));
-    same(rt, &found, &bytes_of(rt, alloc, body), numbers);
+    let found = written(rt, alloc, s, &numbers_of(rt, alloc, numbers));
+    same_bytes(rt, &found, &bytes_of(rt, alloc, body), numbers);
 }
 
 #[test]
@@ -180,7 +185,9 @@ fn rescaling_rounds_up(rt: HostRuntime) {
 }
 
 /// Settings under which codes soon end in an escape.
-pub(crate) fn short_codes(bits: u32) -> Settings {
+pub(crate) fn short_codes(bits: u32) -> Settings
+    ensures { result.bits ≡ bits }
+{
     Settings {
         bits,
         umax: 8,
@@ -198,14 +205,13 @@ fn escape(rt: HostRuntime) {
 /// What the second number of a band is refused for, and that it is refused so for ever.
 fn is_refused(rt: &impl Abort, alloc: Global, s: Settings, bytes: &[u8], fault: Fault, name: &str) {
     assert!(rt; bytes.len() < 1_000_000);
-    let params = params_of(rt, s);
-    let mut stats = Stats::new(alloc, &params).expect(rt, "memory");
+    let mut stats = stats_of(rt, alloc, 1, s);
     let mut reader = BitReader::new(bytes);
     stats.get(0, 0, &mut reader).expect(rt, "a number");
     let left = reader.left();
     same_fault(rt, stats.get(0, 1, &mut reader).err(), fault, name);
     same_fault(rt, stats.get(0, 1, &mut reader).err(), fault, name);
-    assert_eq!(rt; reader.left(), left);
+    same(rt, reader.left(), left);
 }
 
 /// The bits of a sample, a body, and what its second number is refused for.
@@ -215,19 +221,17 @@ const BAD_CODES: &str = "\
 144, then eight zeros and 3 in eight bits | 8 | 90 00 03 | BadCode 1
 144, and then seven of the eight zeros of an escape | 8 | 90 | Truncated 8";
 
+/// That a row's body is refused for its fault.
+fn row_is_refused(rt: &impl Abort, alloc: Global, row: &str) {
+    let [name, bits, body, fault, _] = parts_of(rt, row);
+    let settings = short_codes(number_of(rt, bits));
+    let fault = fault_of(rt, fault);
+    is_refused(rt, alloc, settings, &bytes_of(rt, alloc, body), fault, name);
+}
+
 #[test]
 fn bad_codes(rt: HostRuntime) {
     for row in BAD_CODES.split('\n') {
-        let [name, bits, body, fault, _] = parts_of(&rt, row);
-        let body = bytes_of(&rt, rt.alloc(), body);
-        let fault = fault_of(&rt, fault);
-        is_refused(
-            &rt,
-            rt.alloc(),
-            short_codes(number_of(&rt, bits)),
-            &body,
-            fault,
-            name,
-        );
+        row_is_refused(&rt, rt.alloc(), row);
     }
 }

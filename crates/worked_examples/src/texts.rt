@@ -67,18 +67,23 @@ pub(crate) fn samples_of(rt: &impl Abort, alloc: Global, words: &str) -> Vec<u8>
 /// The common header with other bytes at some places, as in `4:02 16:63 17+e0`; behind a `+` stands a byte that is put in.
 pub(crate) fn header_of(rt: &impl Abort, alloc: Global, changes: &str) -> Vec<u8> {
     let mut header = bytes_of(rt, alloc, HEADER);
-    for change in changes.split_whitespace() {
-        if let Some((place, byte)) = change.split_once('+') {
-            let place = number_of(rt, place) as usize;
-            assert!(rt; place <= header.len(), "{change}");
-            header.insert(place, byte_of(rt, byte)).expect(rt, "memory");
-        } else {
-            let (place, byte) = change.split_once(':').expect(rt, "a place");
-            let place = number_of(rt, place) as usize;
-            *header.get_mut(place).expect(rt, change) = byte_of(rt, byte);
-        }
+    for words in changes.split_whitespace() {
+        change(rt, &mut header, words);
     }
     header
+}
+
+/// One change.
+fn change(rt: &impl Abort, header: &mut Vec<u8>, words: &str) {
+    if let Some((place, byte)) = words.split_once('+') {
+        let place = number_of(rt, place) as usize;
+        assert!(rt; place <= header.len(), "{words}");
+        header.insert(place, byte_of(rt, byte)).expect(rt, "memory");
+    } else {
+        let (place, byte) = words.split_once(':').expect(rt, "a place");
+        let place = number_of(rt, place) as usize;
+        *header.get_mut(place).expect(rt, words) = byte_of(rt, byte);
+    }
 }
 
 /// The bytes of a file, by the changes of its header and by its body.
@@ -104,14 +109,4 @@ pub(crate) fn fault_of(rt: &impl Abort, words: &str) -> Fault {
             Fault::BadFill
         }
     }
-}
-
-/// That bytes are those that are expected.
-pub(crate) fn same(rt: &impl Abort, found: &[u8], expected: &[u8], name: &str) {
-    assert_eq!(rt; found, expected, "{name}");
-}
-
-/// That a fault is the one that is expected.
-pub(crate) fn same_fault(rt: &impl Abort, found: Option<Fault>, expected: Fault, name: &str) {
-    assert_eq!(rt; found, Some(expected), "{name}");
 }
