@@ -13,7 +13,6 @@ use cube_core::order::Order;
 use cube_core::shape::Shape;
 use std::alloc::Global;
 use std::process::Abort;
-use std::test::Fail;
 
 #[test]
 fn sizes_and_bits_out_of_range(rt: HostRuntime) {
@@ -31,16 +30,15 @@ fn sizes_and_bits_out_of_range(rt: HostRuntime) {
 }
 
 #[test]
-fn new_cube_is_zero_until_set(rt: HostRuntime) -> Result<(), Fail> {
+fn new_cube_is_zero_until_set(rt: HostRuntime) {
     let kind = Kind::new(true, 8).expect(&rt, "a kind");
     assert!(rt; kind.smin() == -128);
     assert!(rt; kind.smax() == 127);
     let shape = shape_of(&rt, 1, 1, 1);
-    let mut cube = Cube::new(rt.alloc(), shape, kind)?;
+    let mut cube = Cube::new(rt.alloc(), shape, kind).expect(&rt, "memory");
     same(&rt, cube.sample(0, 0, 0), 0);
     cube.set(0, 0, 0, -128);
     same(&rt, cube.sample(0, 0, 0), -128);
-    Ok(())
 }
 
 /// What a lone sample of eleven bits is read as.
@@ -87,44 +85,55 @@ fn samples_in(order: RawOrder) -> [u16; 12] {
 }
 
 /// These samples in two bytes each.
-fn bytes_in(alloc: Global, order: RawOrder, little: bool) -> Result<Vec<u8>, Fault> {
+fn bytes_in(rt: &impl Abort, alloc: Global, order: RawOrder, little: bool) -> Vec<u8> {
     let mut bytes = Vec::new(alloc);
     for sample in samples_in(order) {
         let [high, low] = sample.to_be_bytes();
-        bytes.push(if little { low } else { high })?;
-        bytes.push(if little { high } else { low })?;
+        let two = if little { [low, high] } else { [high, low] };
+        bytes.extend_from_slice(&two).expect(rt, "memory");
     }
-    Ok(bytes)
+    bytes
+}
+
+/// That a cube has the shape and the samples of the one that is read.
+fn has_samples(rt: &impl Abort, cube: &Cube) {
+    let shape = cube.shape();
+    same(rt, shape, shape_of(rt, 2, 2, 3));
+    let mut i = 0;
+    for place in Places::new(shape, Order::Bsq) {
+        assert!(rt; place.z < shape.bands());
+        assert!(rt; place.y < shape.rows());
+        assert!(rt; place.x < shape.columns());
+        assert!(rt; i < 12);
+        let sample = cube.sample(place.z, place.y, place.x);
+        same(rt, sample, i32::from(samples_in(RawOrder::Bsq)[i]));
+        i += 1;
+    }
+}
+
+/// That the samples are read from a layout, and written to it again.
+fn layout_is_read(rt: &impl Abort, alloc: Global, order: RawOrder, little: bool) {
+    let kind = Kind::new(false, 12).expect(rt, "a kind");
+    let shape = shape_of(rt, 2, 2, 3);
+    let layout = Layout {
+        order,
+        bytes: 2,
+        little,
+    };
+    let bytes = bytes_in(rt, alloc, order, little);
+    let cube = Cube::from_raw(alloc, shape, kind, layout, &bytes).expect(rt, "a cube");
+    has_samples(rt, &cube);
+    let again = cube.to_raw(alloc, layout).expect(rt, "memory");
+    same(rt, again.as_slice(), bytes.as_slice());
 }
 
 #[test]
-fn each_layout_is_read_to_one_cube(rt: HostRuntime) -> Result<(), Fail> {
-    let kind = Kind::new(false, 12).expect(&rt, "a kind");
-    let shape = shape_of(&rt, 2, 2, 3);
+fn each_layout_is_read_to_one_cube(rt: HostRuntime) {
     for order in [RawOrder::Bsq, RawOrder::Bil, RawOrder::Bip] {
         for little in [false, true] {
-            let bytes = bytes_in(rt.alloc(), order, little)?;
-            let layout = Layout {
-                order,
-                bytes: 2,
-                little,
-            };
-            let cube = Cube::from_raw(rt.alloc(), shape, kind, layout, &bytes)?;
-            let again = cube.to_raw(rt.alloc(), layout)?;
-            same(&rt, again.as_slice(), bytes.as_slice());
-            let mut i = 0;
-            for place in Places::new(shape, Order::Bsq) {
-                assert!(rt; place.z < 3);
-                assert!(rt; place.y < 2);
-                assert!(rt; place.x < 2);
-                assert!(rt; i < 12);
-                let sample = cube.sample(place.z, place.y, place.x);
-                same(&rt, sample, i32::from(samples_in(RawOrder::Bsq)[i]));
-                i += 1;
-            }
+            layout_is_read(&rt, rt.alloc(), order, little);
         }
     }
-    Ok(())
 }
 
 /// A layout of one byte a sample, or of two.
@@ -153,33 +162,39 @@ fn there_and_back(
     shape: Shape,
     layout: Layout,
     bytes: &[u8],
-) -> Result<Vec<u8>, Fault>
+) -> Vec<u8>
     requires { IsLayout layout }
 {
     let plain = layout_of(RawOrder::Bsq, false, false);
     let kind = Kind::new(true, 8).expect(rt, "a kind");
-    let cube = Cube::from_raw(alloc, shape, kind, plain, bytes)?;
-    let raw = cube.to_raw(alloc, layout)?;
-    let again = Cube::from_raw(alloc, shape, kind, layout, &raw)?;
-    again.to_raw(alloc, plain)
+    let cube = Cube::from_raw(alloc, shape, kind, plain, bytes).expect(rt, "a cube");
+    let raw = cube.to_raw(alloc, layout).expect(rt, "memory");
+    let again = Cube::from_raw(alloc, shape, kind, layout, &raw).expect(rt, "a cube");
+    again.to_raw(alloc, plain).expect(rt, "memory")
+}
+
+/// Twelve samples of eight signed bits.
+const TWELVE: [u8; 12] = [
+    0x00, 0x01, 0x7F, 0x80, 0xFF, 0x10, 0x90, 0xA5, 0x5A, 0x81, 0x7E, 0xFE,
+];
+
+/// That twelve samples of a shape are written in each layout, and read again.
+fn each_layout_is_written_and_read(rt: &impl Abort, alloc: Global, shape: Shape) {
+    for order in [RawOrder::Bsq, RawOrder::Bil, RawOrder::Bip] {
+        for (wide, little) in [(false, false), (true, false), (true, true)] {
+            let layout = layout_of(order, wide, little);
+            let back = there_and_back(rt, alloc, shape, layout, &TWELVE);
+            same(rt, back.as_slice(), TWELVE.as_slice());
+        }
+    }
 }
 
 #[test]
-fn each_layout_is_written_and_read_in_each_shape(rt: HostRuntime) -> Result<(), Fail> {
-    let bytes = [
-        0x00u8, 0x01, 0x7F, 0x80, 0xFF, 0x10, 0x90, 0xA5, 0x5A, 0x81, 0x7E, 0xFE,
-    ];
+fn each_layout_is_written_and_read_in_each_shape(rt: HostRuntime) {
     for (columns, rows, bands) in [(1, 3, 4), (4, 1, 3), (4, 3, 1), (2, 2, 3)] {
         let shape = shape_of(&rt, columns, rows, bands);
-        for order in [RawOrder::Bsq, RawOrder::Bil, RawOrder::Bip] {
-            for (wide, little) in [(false, false), (true, false), (true, true)] {
-                let layout = layout_of(order, wide, little);
-                let back = there_and_back(&rt, rt.alloc(), shape, layout, &bytes)?;
-                same(&rt, back.as_slice(), bytes.as_slice());
-            }
-        }
+        each_layout_is_written_and_read(&rt, rt.alloc(), shape);
     }
-    Ok(())
 }
 
 /// The raw bytes of a lone sample.
@@ -194,20 +209,23 @@ fn lone_bytes(
 {
     assert!(rt; kind.smin() <= sample);
     assert!(rt; sample <= kind.smax());
-    let mut cube = Cube::new(alloc, shape_of(rt, 1, 1, 1), kind)?;
+    let mut cube = Cube::new(alloc, shape_of(rt, 1, 1, 1), kind).expect(rt, "memory");
     cube.set(0, 0, 0, sample);
     cube.to_raw(alloc, layout)
 }
 
 #[test]
-fn lone_samples_as_raw_bytes(rt: HostRuntime) -> Result<(), Fail> {
+fn nine_bits_in_one_byte(rt: HostRuntime) {
     let nine = Kind::new(false, 9).expect(&rt, "a kind");
     let narrow = layout_of(RawOrder::Bsq, false, false);
     let refused = lone_bytes(&rt, rt.alloc(), nine, 256, narrow);
     same(&rt, refused.err(), Some(Fault::SampleRange { index: 0 }));
+}
+
+#[test]
+fn sixteen_bits_in_two_bytes(rt: HostRuntime) {
     let sixteen = Kind::new(true, 16).expect(&rt, "a kind");
     let wide = layout_of(RawOrder::Bsq, true, false);
-    let bytes = lone_bytes(&rt, rt.alloc(), sixteen, -32_768, wide)?;
+    let bytes = lone_bytes(&rt, rt.alloc(), sixteen, -32_768, wide).expect(&rt, "bytes");
     same(&rt, bytes.as_slice(), [0x80u8, 0x00].as_slice());
-    Ok(())
 }

@@ -8,7 +8,7 @@ use header_bits::header::{read_header, write_header};
 use header_bits::params::{Coder, CountStart, Params, WeightStart};
 use header_bits::tables::{ConstantTable, WeightTable};
 use std::alloc::Global;
-use std::test::Fail;
+use std::process::Abort;
 
 /// The most bands.
 const BANDS: u32 = 65_536;
@@ -40,53 +40,80 @@ fn constants(alloc: Global) -> Result<Vec<u8>, Fault> {
     Ok(constants)
 }
 
-fn params(alloc: Global) -> Result<Params, Fault> {
-    Ok(Params {
+/// The weights as the predictor's start.
+fn start(rt: &impl Abort, alloc: Global) -> WeightStart {
+    WeightStart::Table {
+        q: 22,
+        values: WeightTable::new(weights(alloc).expect(rt, "memory")),
+    }
+}
+
+/// The sample-adaptive coder by the constants.
+fn coder(rt: &impl Abort, alloc: Global) -> Coder {
+    Coder::Sample {
+        umax: 16,
+        gamma_star: 6,
+        gamma_zero: 1,
+        start: CountStart::Each(ConstantTable::new(constants(alloc).expect(rt, "memory"))),
+    }
+}
+
+/// The parameters with the longest header.
+fn params(rt: &impl Abort, alloc: Global) -> Params {
+    let shape = Shape::new(2, 1, BANDS).expect(rt, "a shape");
+    let kind = Kind::new(false, 8).expect(rt, "a kind");
+    Params {
         previous: 15,
         reduced: false,
         column: false,
         register: 64,
         omega: 19,
-        start: WeightStart::Table {
-            q: 22,
-            values: WeightTable::new(weights(alloc)?),
-        },
-        coder: Coder::Sample {
-            umax: 16,
-            gamma_star: 6,
-            gamma_zero: 1,
-            start: CountStart::Each(ConstantTable::new(constants(alloc)?)),
-        },
-        ..Params::plain(Shape::new(2, 1, BANDS)?, Kind::new(false, 8)?)
-    })
-}
-
-/// Whether the tables of parameters are those of the longest header.
-fn has_tables(alloc: Global, params: &Params) -> Result<bool, Fault> {
-    let (weights, constants) = (weights(alloc)?, constants(alloc)?);
-    match (&params.start, &params.coder) {
-        (
-            WeightStart::Table { q: 22, values },
-            Coder::Sample {
-                start: CountStart::Each(table),
-                ..
-            },
-        ) => Ok(
-            values.as_slice() == weights.as_slice() && table.as_slice() == constants.as_slice(),
-        ),
-        _ => Ok(false),
+        start: start(rt, alloc),
+        coder: coder(rt, alloc),
+        ..Params::plain(shape, kind)
     }
 }
 
-#[test]
-fn the_longest_header_is_written_and_read(rt: HostRuntime) -> Result<(), Fail> {
-    let params = params(rt.alloc())?;
+/// Whether a start has the weights, in their 22 bits.
+fn has_weights(rt: &impl Abort, alloc: Global, start: &WeightStart) -> bool {
+    let weights = weights(alloc).expect(rt, "memory");
+    match start {
+        WeightStart::Table { q: 22, values } => values.as_slice() == weights.as_slice(),
+        _ => false,
+    }
+}
+
+/// Whether a coder has the constants.
+fn has_constants(rt: &impl Abort, alloc: Global, coder: &Coder) -> bool {
+    let constants = constants(alloc).expect(rt, "memory");
+    match coder {
+        Coder::Sample {
+            start: CountStart::Each(table),
+            ..
+        } => table.as_slice() == constants.as_slice(),
+        _ => false,
+    }
+}
+
+/// The bytes of the longest header.
+fn written(rt: &impl Abort, alloc: Global) -> Vec<u8> {
+    let params = params(rt, alloc);
     assert!(rt; params.check().is_ok());
-    let bytes = write_header(rt.alloc(), &params)?;
-    assert_eq!(rt; bytes.len(), LENGTH);
-    let (again, size) = read_header(rt.alloc(), &bytes)?;
-    same(&rt, size, LENGTH);
-    same(&rt, again.shape.bands(), BANDS);
-    assert!(rt; has_tables(rt.alloc(), &again)?);
-    Ok(())
+    write_header(alloc, &params).expect(rt, "memory")
+}
+
+/// That bytes are read to the end, as the longest header.
+fn are_longest_header(rt: &impl Abort, alloc: Global, bytes: &[u8]) {
+    assert!(rt; bytes.len() == LENGTH);
+    let (params, size) = read_header(alloc, bytes).expect(rt, "a header");
+    same(rt, size, LENGTH);
+    same(rt, params.shape.bands(), BANDS);
+    assert!(rt; has_weights(rt, alloc, &params.start));
+    assert!(rt; has_constants(rt, alloc, &params.coder));
+}
+
+#[test]
+fn the_longest_header_is_written_and_read(rt: HostRuntime) {
+    let bytes = written(&rt, rt.alloc());
+    are_longest_header(&rt, rt.alloc(), &bytes);
 }

@@ -1,5 +1,8 @@
 //! Headers written and read, and what is refused.
 
+ghost use Rattle.std.specs.Prelude.{◌<◌};
+ghost use Rattle.header_bits.specs.Lawful.{IsLawful};
+
 use crate::tests::checks::same;
 use cube_core::fault::{Fault, Field, Rule};
 use cube_core::kind::Kind;
@@ -7,7 +10,8 @@ use cube_core::shape::Shape;
 use header_bits::bit_writer::BitWriter;
 use header_bits::header::{put_header, read_header, write_header};
 use header_bits::params::Params;
-use std::test::Fail;
+use std::alloc::Global;
+use std::process::Abort;
 
 /// The header of a lone sample of eight bits.
 const ONE_SAMPLE: [u8; 19] = [
@@ -23,79 +27,94 @@ const ONE_SAMPLE: [u8; 19] = [
     0x82, 0x26, // unary limit 16, rescaling size 6, first exponent 1, constant 3
 ];
 
-fn one_sample() -> Result<Params, Fault> {
-    Ok(Params::plain(Shape::new(1, 1, 1)?, Kind::new(false, 8)?))
+/// The parameters of that sample.
+fn one_sample(rt: &impl Abort) -> Params
+    ensures { IsLawful result }
+{
+    let shape = Shape::new(1, 1, 1).expect(rt, "a shape");
+    let kind = Kind::new(false, 8).expect(rt, "a kind");
+    let params = Params::plain(shape, kind);
+    assert!(rt; params.check().is_ok());
+    params
 }
 
 #[test]
-fn one_sample_is_written(rt: HostRuntime) -> Result<(), Fail> {
-    let params = one_sample()?;
-    assert!(rt; params.check().is_ok());
-    let bytes = write_header(rt.alloc(), &params)?;
+fn one_sample_is_written(rt: HostRuntime) {
+    let params = one_sample(&rt);
+    let bytes = write_header(rt.alloc(), &params).expect(&rt, "memory");
     same(&rt, bytes.as_slice(), ONE_SAMPLE.as_slice());
-    Ok(())
+}
+
+/// A byte of ones, and the header behind it.
+fn behind_ones(rt: &impl Abort, alloc: Global) -> Vec<u8> {
+    let params = one_sample(rt);
+    let mut writer = BitWriter::new(alloc);
+    writer.push(0xFF, 8).expect(rt, "memory");
+    put_header(&params, &mut writer).expect(rt, "memory");
+    assert!(rt; writer.bit_count() == 160);
+    writer.into_bytes()
 }
 
 #[test]
-fn a_header_is_put_behind_other_bits(rt: HostRuntime) -> Result<(), Fail> {
-    let params = one_sample()?;
-    assert!(rt; params.check().is_ok());
-    let mut writer = BitWriter::new(rt.alloc());
-    writer.push(0xFF, 8)?;
-    put_header(&params, &mut writer)?;
-    assert!(rt; writer.bit_count() == 160);
-    let bytes = writer.into_bytes();
+fn a_header_is_put_behind_other_bits(rt: HostRuntime) {
+    let bytes = behind_ones(&rt, rt.alloc());
     same(
         &rt,
         bytes.as_slice().split_first(),
         Some((&0xFF, ONE_SAMPLE.as_slice())),
     );
-    Ok(())
 }
 
 #[test]
-fn any_depth_is_read_and_zeros_are_written(rt: HostRuntime) -> Result<(), Fail> {
+fn any_depth_is_read_and_zeros_are_written(rt: HostRuntime) {
     let mut bytes = ONE_SAMPLE;
     bytes[8] = 0x12;
     bytes[9] = 0x34;
-    let (params, size) = read_header(rt.alloc(), &bytes)?;
+    let (params, size) = read_header(rt.alloc(), &bytes).expect(&rt, "a header");
     same(&rt, size, 19);
     same(&rt, params.shape.columns(), 1);
     same(&rt, params.vmin, -1);
-    let again = write_header(rt.alloc(), &params)?;
+    let again = write_header(rt.alloc(), &params).expect(&rt, "memory");
     same(&rt, again.as_slice(), ONE_SAMPLE.as_slice());
-    Ok(())
+}
+
+/// What the header with another byte at a place is refused for.
+fn refusal(alloc: Global, place: usize, byte: u8) -> Option<Fault>
+    requires { place < 19 }
+{
+    let mut bytes = ONE_SAMPLE;
+    bytes[place] = byte;
+    read_header(alloc, &bytes).err()
 }
 
 #[test]
 fn refused_headers(rt: HostRuntime) {
-    for (place, byte, wanted) in [
-        (11, 0x01, Fault::Reserved { bit: 95 }),
-        (
-            16,
-            0x20,
-            Fault::Disagree {
-                rule: Rule::DefaultWithTable,
-            },
-        ),
-        (16, 0x80, Fault::Reserved { bit: 128 }),
-        (
-            17,
-            0x3A,
-            Fault::FieldRange {
-                field: Field::Umax,
-                value: 7,
-            },
-        ),
-    ] {
-        let mut bytes = ONE_SAMPLE;
-        bytes[place] = byte;
-        assert_eq!(rt;
-            read_header(rt.alloc(), &bytes).err(),
-            Some(wanted),
-            "at {place}"
-        );
-    }
+    let alloc = rt.alloc();
+    same(
+        &rt,
+        refusal(alloc, 11, 0x01),
+        Some(Fault::Reserved { bit: 95 }),
+    );
+    let rule = Rule::DefaultWithTable;
+    same(
+        &rt,
+        refusal(alloc, 16, 0x20),
+        Some(Fault::Disagree { rule }),
+    );
+    same(
+        &rt,
+        refusal(alloc, 16, 0x80),
+        Some(Fault::Reserved { bit: 128 }),
+    );
+    let umax = Fault::FieldRange {
+        field: Field::Umax,
+        value: 7,
+    };
+    same(&rt, refusal(alloc, 17, 0x3A), Some(umax));
+}
+
+#[test]
+fn a_header_cut_short(rt: HostRuntime) {
     same(
         &rt,
         read_header(rt.alloc(), &ONE_SAMPLE[..18]).err(),
@@ -104,8 +123,8 @@ fn refused_headers(rt: HostRuntime) {
 }
 
 #[test]
-fn refused_parameters(rt: HostRuntime) -> Result<(), Fail> {
-    let mut params = one_sample()?;
+fn refused_parameters(rt: HostRuntime) {
+    let mut params = one_sample(&rt);
     params.vmin = -7;
     let least = Fault::FieldRange {
         field: Field::VMin,
@@ -114,12 +133,6 @@ fn refused_parameters(rt: HostRuntime) -> Result<(), Fail> {
     same(&rt, params.check(), Err(least));
     params.vmin = 3;
     params.vmax = 2;
-    same(
-        &rt,
-        params.check(),
-        Err(Fault::Disagree {
-            rule: Rule::ExponentOrder,
-        }),
-    );
-    Ok(())
+    let rule = Rule::ExponentOrder;
+    same(&rt, params.check(), Err(Fault::Disagree { rule }));
 }

@@ -37,29 +37,32 @@ fn zeros_over_words(rt: HostRuntime) {
     same(&rt, reader.left(), 12);
 }
 
+/// What 57 bits are ahead, where so many are.
+fn next_57_bits(reader: &BitReader) -> Option<u64> {
+    reader.peek().map(|word| word >> 7)
+}
+
 #[test]
 fn words_ahead(rt: HostRuntime) {
     let bytes = [0xA5, 0x0F, 0xFF, 0x00, 0x12, 0x34, 0x56, 0x78, 0x9A];
     let mut reader = BitReader::new(&bytes);
-    assert_eq!(rt; reader.peek(), Some(0xA50F_FF00_1234_5678));
+    assert!(rt; reader.left() == 72);
+    same(&rt, reader.peek(), Some(0xA50F_FF00_1234_5678));
     reader.skip(12);
-    // 57 bits of these are looked at.
-    assert_eq!(rt;
-        reader.peek().map(|word| word >> 7),
-        Some(0xFFF0_0123_4567_89A0 >> 7)
-    );
+    same(&rt, next_57_bits(&reader), Some(0xFFF0_0123_4567_89A0 >> 7));
     reader.skip(3);
-    assert_eq!(rt; reader.left(), 57);
-    assert_eq!(rt;
-        reader.peek().map(|word| word >> 7),
-        Some(0x01FF_0012_3456_789A)
-    );
+    assert!(rt; reader.left() == 57);
+    same(&rt, next_57_bits(&reader), Some(0x01FF_0012_3456_789A));
     reader.skip(1);
-    assert_eq!(rt; reader.peek(), None);
+    same(&rt, reader.peek(), None);
     reader.skip(56);
-    assert_eq!(rt; reader.left(), 0);
-    assert_eq!(rt; bits_behind(0xA50F_FF00_1234_5678, 4, 12), 0x50F);
-    assert_eq!(rt; bits_behind(0xA50F_FF00_1234_5678, 63, 0), 0);
+    same(&rt, reader.left(), 0);
+}
+
+#[test]
+fn bits_within_a_word(rt: HostRuntime) {
+    same(&rt, bits_behind(0xA50F_FF00_1234_5678, 4, 12), 0x50F);
+    same(&rt, bits_behind(0xA50F_FF00_1234_5678, 63, 0), 0);
 }
 
 #[test]

@@ -3,6 +3,7 @@
 use crate::tests::checks::same;
 use cube_core::fault::Fault;
 use header_bits::bit_writer::BitWriter;
+use std::process::Abort;
 
 #[test]
 fn a_word_behind_one_bit(rt: HostRuntime) {
@@ -19,12 +20,18 @@ fn a_word_behind_one_bit(rt: HostRuntime) {
     );
 }
 
+/// Pushes a number of fourteen bits.
+fn push_fourteen(rt: &impl Abort, writer: &mut BitWriter, number: u64) {
+    assert!(rt; number < 1 << 14);
+    assert!(rt; writer.push(number, 14).is_ok());
+}
+
 #[test]
 fn reserved_bits_are_pushed(rt: HostRuntime) {
     let mut writer = BitWriter::new(rt.alloc());
     assert!(rt; writer.reserve(72).is_ok());
     for number in [0x5, 0x2, 0x11, 0, 0x7f] {
-        assert!(rt; writer.push(number, 14).is_ok());
+        push_fourteen(&rt, &mut writer, number);
     }
     assert!(rt; writer.push(0, 0).is_ok());
     assert!(rt; writer.push(3, 2).is_ok());
