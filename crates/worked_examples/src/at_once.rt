@@ -4,7 +4,7 @@ ghost use Rattle.std.specs.Prelude.{◌≡◌, ◌<◌};
 ghost use Rattle.header_bits.specs.Lawful.{IsLawful};
 
 use crate::checks::same;
-use crate::runs::{Draw, Twice, cube_of, params_of};
+use crate::runs::{Draw, Twice, cube_of, number_of_place, params_of};
 use cube_core::cube::Cube;
 use header_bits::params::Params;
 use predict_core::band::Band;
@@ -29,12 +29,7 @@ struct Both {
 impl Both {
     /// Has both go over so many places.
     fn go(&mut self, rt: &impl Abort, y: u32, x: u32, count: u32) {
-        let shape = self.cube.shape();
-        let place = u64::from(y) * u64::from(shape.columns()) + u64::from(x);
-        assert!(rt; y < shape.rows());
-        assert!(rt; x < shape.columns());
-        assert!(rt; count <= 64);
-        assert!(rt; u64::from(x) + u64::from(count) <= u64::from(shape.columns()));
+        let place = number_of_place(rt, self.cube.shape(), y, x, count as usize);
         assert!(rt; self.lower.next() == place);
         assert!(rt; self.upper.next() == place);
         self.lower

@@ -173,14 +173,19 @@ fn agree(rt: &impl Abort, alloc: Global, draw: &mut Draw, bytes: &[u8]) {
     written.agrees(rt, alloc);
 }
 
-/// The same of each row's file, eight times over.
+/// The same of a row's file, eight times over.
+fn row_agrees(rt: &impl Abort, alloc: Global, draw: &mut Draw, row: &str) {
+    let [_name, _settings, _samples, header, body] = parts_of(rt, row);
+    let file = file_of(rt, alloc, header, body);
+    for _ in 0..8 {
+        agree(rt, alloc, draw, &file);
+    }
+}
+
+/// The same of each row.
 fn rows_agree(rt: &impl Abort, alloc: Global, draw: &mut Draw, rows: &str) {
     for row in rows.split('\n') {
-        let [_name, _settings, _samples, header, body] = parts_of(rt, row);
-        let file = file_of(rt, alloc, header, body);
-        for _ in 0..8 {
-            agree(rt, alloc, draw, &file);
-        }
+        row_agrees(rt, alloc, draw, row);
     }
 }
 

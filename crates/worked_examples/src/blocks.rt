@@ -5,6 +5,7 @@ ghost use Rattle.cube_core.specs.Shape.{sample_count};
 ghost use Rattle.block_adaptive.specs.Settings.{AreForBlocks, IsSize};
 
 use crate::checks::{same_bytes, same_fault};
+use crate::fills::filled;
 use crate::texts::{bytes_of, fault_of, number_of, numbers_of, parts_of};
 use block_adaptive::block_reader::BlockReader;
 use block_adaptive::block_writer::BlockWriter;
@@ -61,12 +62,7 @@ pub(crate) fn params_of(rt: &impl Abort, s: Settings) -> Params
 }
 
 /// The body of numbers, with the zeros that fill its last byte.
-fn written(
-    rt: &impl Abort,
-    alloc: Global,
-    params: &Params,
-    numbers: &[u16],
-) -> Result<Vec<u8>, Fault>
+fn written(rt: &impl Abort, alloc: Global, params: &Params, numbers: &[u16]) -> Vec<u8>
     requires lawful { AreForBlocks params.now }
     requires count { length numbers.now ≡ sample_count params.now.shape }
 {
@@ -74,13 +70,10 @@ fn written(
     let mut writer = BitWriter::new(alloc);
     for number in numbers {
         assert!(rt; u32::from(*number) < 1 << params.kind.bits());
-        blocks.put(*number, &mut writer)?;
+        blocks.put(*number, &mut writer).expect(rt, "memory");
     }
     blocks.end(&mut writer).expect(rt, "memory");
-    let fill = (8 - writer.bit_count() % 8) % 8;
-    writer.push(0, fill as u32).expect(rt, "memory");
-    assert!(rt; writer.bit_count() % 8 == 0);
-    Ok(writer.into_bytes())
+    filled(rt, writer)
 }
 
 /// All numbers of a body, and how many bits are left behind them.
@@ -129,7 +122,7 @@ fn sample_numbers(alloc: Global, bits: u32, count: u32, seed: u64) -> Result<Vec
 fn body_of(rt: &impl Abort, alloc: Global, s: Settings, numbers: &[u16]) -> Vec<u8> {
     let params = params_of(rt, s);
     assert!(rt; numbers.len() as u64 == params.shape.sample_count());
-    written(rt, alloc, &params, numbers).expect(rt, "a body")
+    written(rt, alloc, &params, numbers)
 }
 
 /// That these numbers, and fewer than eight bits behind them, are read of a body.

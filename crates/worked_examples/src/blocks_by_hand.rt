@@ -4,6 +4,7 @@ ghost use Rattle.std.specs.Prelude.{◌≡◌, ◌*◌, ◌%◌, ◌^◌, ◌≤
 
 use crate::blocks::{Settings, is_read_as, params_of, read};
 use crate::checks::same_fault;
+use crate::fills::filled;
 use crate::texts::{bytes_of, number_of, numbers_of, parts_of};
 use block_adaptive::options::Choice;
 use cube_core::fault::Fault;
@@ -58,14 +59,6 @@ fn append_block(rt: &impl Abort, writer: &mut BitWriter, option: Choice, values:
             append_low_bits(rt, writer, values, k);
         }
     }
-}
-
-/// The bytes of what was appended, filled with zeros.
-fn filled(rt: &impl Abort, mut writer: BitWriter) -> Vec<u8> {
-    let fill = (8 - writer.bit_count() % 8) % 8;
-    writer.push(0, fill as u32).expect(rt, "memory");
-    assert!(rt; writer.bit_count() % 8 == 0);
-    writer.into_bytes()
 }
 
 /// The settings of so many numbers of 8 bits, in blocks of 8.

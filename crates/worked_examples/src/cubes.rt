@@ -2,6 +2,7 @@
 
 ghost use Rattle.std.specs.Prelude.{◌≡◌, length};
 
+use crate::checks::same;
 use cube_core::cube::Cube;
 use cube_core::kind::Kind;
 use cube_core::shape::Shape;
@@ -20,5 +21,5 @@ fn a_cube_has_as_many_samples_as_places(rt: HostRuntime) {
     let shape = Shape::new(3, 2, 4).expect(&rt, "a shape");
     let kind = Kind::new(true, 12).expect(&rt, "a kind");
     let cube = Cube::new(rt.alloc(), shape, kind).expect(&rt, "memory");
-    assert_eq!(rt; sample_count_of(&cube), 24);
+    same(&rt, sample_count_of(&cube), 24);
 }

@@ -54,6 +54,12 @@ pub(super) fn encoded(
     encode_one(alloc, &cube, &params).expect(rt, name)
 }
 
+/// The header that is written of parameters.
+pub(super) fn header_by(rt: &impl Abort, alloc: Global, params: &Params, name: &str) -> Vec<u8> {
+    assert!(rt; params.check().is_ok(), "{name}");
+    write_header(alloc, params).expect(rt, name)
+}
+
 /// That a file is decoded to parameters with this header and a cube with these raw bytes.
 pub(super) fn decodes_to(
     rt: &impl Abort,
@@ -67,9 +73,7 @@ pub(super) fn decodes_to(
     requires { IsLayout layout }
 {
     let (params, cube) = decoded(rt, alloc, file).expect(rt, name);
-    assert!(rt; params.check().is_ok(), "{name}");
-    let again = write_header(alloc, &params).expect(rt, name);
-    same_bytes(rt, &again, header, name);
+    same_bytes(rt, &header_by(rt, alloc, &params, name), header, name);
     let back = cube.to_raw(alloc, layout).expect(rt, name);
     same_bytes(rt, &back, raw, name);
 }

@@ -18,6 +18,8 @@ mod cubes;
 #[cfg(test)]
 mod files;
 #[cfg(test)]
+mod fills;
+#[cfg(test)]
 mod long_runs;
 #[cfg(test)]
 mod pieces;

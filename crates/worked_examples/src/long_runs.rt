@@ -76,16 +76,26 @@ fn takes_all(rt: &impl Abort, alloc: Global, params: &Params)
     assert!(rt; end.place().is_none());
 }
 
+/// The same for a row of as many samples in so many bands.
+fn all_are_taken(
+    rt: &impl Abort,
+    alloc: Global,
+    columns: u32,
+    bands: u32,
+    order: Order,
+    coder: Coder,
+) {
+    let params = params_of(rt, columns, bands, order, coder);
+    takes_all(rt, alloc, &params);
+}
+
 /// A coding end takes a whole row, the columns of two bands, and blocks.
 #[test]
 fn long_runs_are_taken(rt: HostRuntime) {
     let alloc = rt.alloc();
-    let row = params_of(&rt, 65_536, 1, Order::Bsq, by_samples());
-    takes_all(&rt, alloc, &row);
-    let pairs = params_of(&rt, 32_768, 2, Order::Bi(2), by_samples());
-    takes_all(&rt, alloc, &pairs);
-    let blocks = params_of(&rt, 65_536, 1, Order::Bsq, by_blocks());
-    takes_all(&rt, alloc, &blocks);
+    all_are_taken(&rt, alloc, 65_536, 1, Order::Bsq, by_samples());
+    all_are_taken(&rt, alloc, 32_768, 2, Order::Bi(2), by_samples());
+    all_are_taken(&rt, alloc, 65_536, 1, Order::Bsq, by_blocks());
 }
 
 /// The sample-adaptive coder takes a whole row.

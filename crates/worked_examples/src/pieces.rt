@@ -1,8 +1,7 @@
 //! Rows of one piece and of more, in each order: the decoder, which goes place by place, finds every sample again.
 
-use crate::files::{BYTES, decodes_to, encoded};
+use crate::files::{BYTES, decodes_to, encoded, header_by};
 use crate::settings::params_of;
-use header_bits::header::write_header;
 use std::alloc::Global;
 use std::process::Abort;
 
@@ -33,23 +32,21 @@ fn samples(rt: &impl Abort, alloc: Global, count: u64) -> Vec<u8> {
     samples
 }
 
-/// The header by these settings, and samples for a cube of theirs.
-fn header_and_samples(rt: &impl Abort, alloc: Global, settings: &str) -> (Vec<u8>, Vec<u8>) {
+/// That the file of samples by these settings gives them back.
+fn samples_come_back(rt: &impl Abort, alloc: Global, settings: &str) {
     let params = params_of(rt, alloc, settings);
-    assert!(rt; params.check().is_ok(), "{settings}");
-    let header = write_header(alloc, &params).expect(rt, settings);
+    let header = header_by(rt, alloc, &params, settings);
     let raw = samples(rt, alloc, params.shape.sample_count());
-    (header, raw)
+    let file = encoded(rt, alloc, settings, settings, BYTES, &raw);
+    decodes_to(rt, alloc, settings, &file, &header, BYTES, &raw);
 }
 
-/// That the file of samples by these settings gives them back.
-fn comes_back(rt: &impl Abort, alloc: Global, columns: &str, depth: &str, coder: &str) {
+/// The same by settings in three words.
+fn come_back(rt: &impl Abort, alloc: Global, columns: &str, depth: &str, coder: &str) {
     let settings = format!(in alloc; "rows=2 bands=3 previous=1 {columns} {depth} {coder}").expect(
         rt, "memory",
     );
-    let (header, raw) = header_and_samples(rt, alloc, &settings);
-    let file = encoded(rt, alloc, &settings, &settings, BYTES, &raw);
-    decodes_to(rt, alloc, &settings, &file, &header, BYTES, &raw);
+    samples_come_back(rt, alloc, &settings);
 }
 
 #[test]
@@ -57,7 +54,7 @@ fn rows_around_a_piece_come_back_in_each_order(rt: HostRuntime) {
     for columns in COLUMNS {
         for depth in DEPTHS {
             for coder in CODERS {
-                comes_back(&rt, rt.alloc(), columns, depth, coder);
+                come_back(&rt, rt.alloc(), columns, depth, coder);
             }
         }
     }

@@ -1,5 +1,6 @@
 //! Files that are refused, and the fault that is named.
 
+use crate::checks::same_fault;
 use crate::files::decoded;
 use crate::texts::{fault_of, file_of, header_of, number_of, parts_of};
 use cube_core::fault::{Fault, Field, Rule};
@@ -7,19 +8,14 @@ use std::alloc::Global;
 use std::process::Abort;
 
 /// That a file is refused for this fault.
-fn refused(rt: &impl Abort, alloc: Global, file: &[u8], fault: Fault) {
-    assert_eq!(rt;
-        decoded(rt, alloc, file).err(),
-        Some(fault),
-        "{} bytes",
-        file.len()
-    );
+fn refused(rt: &impl Abort, alloc: Global, file: &[u8], fault: Fault, name: &str) {
+    same_fault(rt, decoded(rt, alloc, file).err(), fault, name);
 }
 
 /// That a header is refused for this fault, with a body and without: a fault of the header comes before one of the body.
 fn header_refused(rt: &impl Abort, alloc: Global, header: &str, fault: Fault) {
-    refused(rt, alloc, &file_of(rt, alloc, header, "90"), fault);
-    refused(rt, alloc, &header_of(rt, alloc, header), fault);
+    refused(rt, alloc, &file_of(rt, alloc, header, "90"), fault, header);
+    refused(rt, alloc, &header_of(rt, alloc, header), fault, header);
 }
 
 /// The same for a field out of its range.
@@ -79,7 +75,7 @@ const CUT_FILES: &str = "\
 4:02 6:02 12:06 16:63 17+e0 | 37 2d 8c 70 | 20";
 
 /// That a file with a header of so many bytes is refused wherever it is cut.
-fn cuts_refused(rt: &impl Abort, alloc: Global, file: &[u8], length: usize) {
+fn cuts_refused(rt: &impl Abort, alloc: Global, file: &[u8], length: usize, name: &str) {
     assert!(rt; file.len() <= 1000);
     for n in 0..file.len() {
         let fault = if n < length {
@@ -87,16 +83,21 @@ fn cuts_refused(rt: &impl Abort, alloc: Global, file: &[u8], length: usize) {
         } else {
             Fault::Truncated { bit: 8 * n as u64 }
         };
-        refused(rt, alloc, &file[..n], fault);
+        refused(rt, alloc, &file[..n], fault, name);
     }
+}
+
+/// The same of a row's file.
+fn row_cuts_refused(rt: &impl Abort, alloc: Global, row: &str) {
+    let [header, body, length, _, _] = parts_of(rt, row);
+    let file = file_of(rt, alloc, header, body);
+    cuts_refused(rt, alloc, &file, number_of(rt, length) as usize, row);
 }
 
 #[test]
 fn files_cut_short(rt: HostRuntime) {
     for row in CUT_FILES.split('\n') {
-        let [header, body, length, _, _] = parts_of(&rt, row);
-        let file = file_of(&rt, rt.alloc(), header, body);
-        cuts_refused(&rt, rt.alloc(), &file, number_of(&rt, length) as usize);
+        row_cuts_refused(&rt, rt.alloc(), row);
     }
 }
 
@@ -120,15 +121,16 @@ const BODIES: &str = "\
 10:0c 17:00 18:01 | a0 0f f0 00 00 00 | Truncated 200
 10:0c 17:00 18:01 | | Truncated 152";
 
+/// That a row's file is refused for its fault.
+fn row_refused(rt: &impl Abort, alloc: Global, row: &str) {
+    let [header, body, fault, _, _] = parts_of(rt, row);
+    let file = file_of(rt, alloc, header, body);
+    refused(rt, alloc, &file, fault_of(rt, fault), row);
+}
+
 #[test]
 fn bodies_and_fills(rt: HostRuntime) {
     for row in BODIES.split('\n') {
-        let [header, body, fault, _, _] = parts_of(&rt, row);
-        refused(
-            &rt,
-            rt.alloc(),
-            &file_of(&rt, rt.alloc(), header, body),
-            fault_of(&rt, fault),
-        );
+        row_refused(&rt, rt.alloc(), row);
     }
 }

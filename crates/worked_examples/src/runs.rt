@@ -1,6 +1,6 @@
 //! A band that moves on by runs has the residuals of one that goes place after place.
 
-ghost use Rattle.std.specs.Prelude.{◌≡◌, ◌<◌};
+ghost use Rattle.std.specs.Prelude.{◌≡◌, ◌+◌, ◌*◌, ◌<◌, ◌≤◌};
 ghost use Rattle.header_bits.specs.Lawful.{IsLawful};
 
 use crate::checks::same;
@@ -42,25 +42,32 @@ pub(crate) struct Twice {
     ghost singles_inside: { singles.band < cube.shape.bands },
 }
 
+/// The number within its band of a place where so many begin, all in one row.
+pub(crate) fn number_of_place(rt: &impl Abort, shape: Shape, y: u32, x: u32, count: usize) -> u64
+    ensures few { count ≤ 64 }
+    ensures row { y < shape.rows }
+    ensures column { x < shape.columns }
+    ensures within { x + count ≤ shape.columns }
+    ensures number { result ≡ y * shape.columns + x }
+{
+    assert!(rt; count <= 64);
+    assert!(rt; y < shape.rows());
+    assert!(rt; x < shape.columns());
+    assert!(rt; u64::from(x) + count as u64 <= u64::from(shape.columns()));
+    u64::from(y) * u64::from(shape.columns()) + u64::from(x)
+}
+
 impl Twice {
     /// The residuals of a run, as many as there is room for.
     fn run(&mut self, rt: &impl Abort, y: u32, x: u32, residuals: &mut [u16]) {
-        let shape = self.cube.shape();
-        let place = u64::from(y) * u64::from(shape.columns()) + u64::from(x);
-        assert!(rt; y < shape.rows());
-        assert!(rt; x < shape.columns());
-        assert!(rt; residuals.len() <= 64);
-        assert!(rt; u64::from(x) + residuals.len() as u64 <= u64::from(shape.columns()));
+        let place = number_of_place(rt, self.cube.shape(), y, x, residuals.len());
         assert!(rt; self.runs.next() == place);
         self.runs.forward_run(&self.cube, y, x, residuals);
     }
 
     /// The residual of one place.
     pub(crate) fn single(&mut self, rt: &impl Abort, y: u32, x: u32) -> u16 {
-        let shape = self.cube.shape();
-        let place = u64::from(y) * u64::from(shape.columns()) + u64::from(x);
-        assert!(rt; y < shape.rows());
-        assert!(rt; x < shape.columns());
+        let place = number_of_place(rt, self.cube.shape(), y, x, 1);
         assert!(rt; self.singles.next() == place);
         self.singles.forward(&self.cube, y, x)
     }

@@ -4,6 +4,7 @@ ghost use Rattle.std.specs.Prelude.{◌≡◌, ◌+◌, ◌^◌, ◌<◌, ◌≤
 ghost use Rattle.sample_adaptive.specs.Settings.{AreForSamples};
 
 use crate::checks::{same, same_bytes, same_fault};
+use crate::fills::filled;
 use crate::texts::{bytes_of, fault_of, number_of, numbers_of, parts_of};
 use cube_core::fault::Fault;
 use cube_core::kind::Kind;
@@ -94,10 +95,7 @@ fn written(rt: &impl Abort, alloc: Global, s: Settings, numbers: &[u16]) -> Vec<
             .put(0, t as u64, *number, &mut writer)
             .expect(rt, "memory");
     }
-    let fill = (8 - writer.bit_count() % 8) % 8;
-    writer.push(0, fill as u32).expect(rt, "memory");
-    assert!(rt; writer.bit_count() % 8 == 0);
-    writer.into_bytes()
+    filled(rt, writer)
 }
 
 /// So many numbers of one band, and how many bits are left behind them.

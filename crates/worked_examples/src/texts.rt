@@ -45,13 +45,18 @@ pub(crate) fn bytes_of(rt: &impl Abort, alloc: Global, words: &str) -> Vec<u8> {
 pub(crate) fn numbers_of(rt: &impl Abort, alloc: Global, words: &str) -> Vec<u16> {
     let mut numbers = Vec::new(alloc);
     for word in words.split_whitespace() {
-        let (count, number) = word.split_once('*').unwrap_or(("1", word));
-        let number = number.parse::<u16>().expect(rt, "a number");
-        for _ in 0..number_of(rt, count) {
-            numbers.push(number).expect(rt, "memory");
-        }
+        append_numbers(rt, &mut numbers, word);
     }
     numbers
+}
+
+/// Appends the numbers of one word.
+fn append_numbers(rt: &impl Abort, numbers: &mut Vec<u16>, word: &str) {
+    let (count, number) = word.split_once('*').unwrap_or(("1", word));
+    let number = number.parse::<u16>().expect(rt, "a number");
+    for _ in 0..number_of(rt, count) {
+        numbers.push(number).expect(rt, "memory");
+    }
 }
 
 /// Samples of one byte, told in the same way.

@@ -41,12 +41,17 @@ fn turned_answers_alike(rt: &impl Abort, alloc: Global, file: &mut [u8], name: &
     }
 }
 
-/// The same of each row's file.
+/// The same of a row's file.
+fn row_answers_alike(rt: &impl Abort, alloc: Global, row: &str) {
+    let [name, _settings, _samples, header, body] = parts_of(rt, row);
+    let mut file = file_of(rt, alloc, header, body);
+    turned_answers_alike(rt, alloc, &mut file, name);
+}
+
+/// The same of each row.
 fn rows_answer_alike(rt: &impl Abort, alloc: Global, rows: &str) {
     for row in rows.split('\n') {
-        let [name, _settings, _samples, header, body] = parts_of(rt, row);
-        let mut file = file_of(rt, alloc, header, body);
-        turned_answers_alike(rt, alloc, &mut file, name);
+        row_answers_alike(rt, alloc, row);
     }
 }
 
