@@ -9,7 +9,7 @@ use cube_core::cursor::Places;
 use cube_core::fault::{Fault, Field};
 use cube_core::kind::Kind;
 use cube_core::layout::{Layout, RawOrder};
-use cube_core::order::Order;
+use cube_core::order::{Order, Place};
 use cube_core::shape::Shape;
 use std::alloc::Global;
 use std::process::Abort;
@@ -95,18 +95,26 @@ fn bytes_in(rt: &impl Abort, alloc: Global, order: RawOrder, little: bool) -> Ve
     bytes
 }
 
+/// That a cube has this sample at a place.
+fn has_sample(rt: &impl Abort, cube: &Cube, place: Place, wanted: u16) {
+    let shape = cube.shape();
+    assert!(rt; place.z < shape.bands());
+    assert!(rt; place.y < shape.rows());
+    assert!(rt; place.x < shape.columns());
+    same(
+        rt,
+        cube.sample(place.z, place.y, place.x),
+        i32::from(wanted),
+    );
+}
+
 /// That a cube has the shape and the samples of the one that is read.
 fn has_samples(rt: &impl Abort, cube: &Cube) {
-    let shape = cube.shape();
-    same(rt, shape, shape_of(rt, 2, 2, 3));
+    same(rt, cube.shape(), shape_of(rt, 2, 2, 3));
     let mut i = 0;
-    for place in Places::new(shape, Order::Bsq) {
-        assert!(rt; place.z < shape.bands());
-        assert!(rt; place.y < shape.rows());
-        assert!(rt; place.x < shape.columns());
+    for place in Places::new(cube.shape(), Order::Bsq) {
         assert!(rt; i < 12);
-        let sample = cube.sample(place.z, place.y, place.x);
-        same(rt, sample, i32::from(samples_in(RawOrder::Bsq)[i]));
+        has_sample(rt, cube, place, samples_in(RawOrder::Bsq)[i]);
         i += 1;
     }
 }

@@ -22,6 +22,24 @@ pub(super) fn shape_of(rt: &impl Abort, columns: u32, rows: u32, bands: u32) -> 
     shape
 }
 
+/// That a place is found by its item, and the item by its place.
+fn is_found(rt: &impl Abort, shape: Shape, order: Order, i: u64, place: Place)
+    requires { IsOrder shape order }
+{
+    assert!(rt; i < shape.sample_count());
+    same(rt, place_at(&shape, order, i), place);
+    assert!(rt; place.z < shape.bands());
+    assert!(rt; place.y < shape.rows());
+    assert!(rt; place.x < shape.columns());
+    same(rt, index_of(&shape, order, place), i);
+}
+
+/// That a walk stands at a place, and goes on from it.
+fn stands_at(rt: &impl Abort, walk: &mut Places, place: Place) {
+    same(rt, walk.peek(), Some(place));
+    same(rt, walk.next(), Some(place));
+}
+
 /// The first places of three bands, two columns and two rows, by groups of two bands.
 const FIRST_PLACES: [Place; 7] = [
     Place { z: 0, y: 0, x: 0 },
@@ -37,11 +55,9 @@ const FIRST_PLACES: [Place; 7] = [
 fn places_of_three_bands_two_a_group(rt: HostRuntime) {
     let shape = shape_of(&rt, 2, 2, 3);
     let mut walk = Places::new(shape, Order::Bi(2));
-    for (i, place) in FIRST_PLACES.into_iter().enumerate() {
-        assert!(rt; (i as u64) < shape.sample_count());
-        same(&rt, place_at(&shape, Order::Bi(2), i as u64), place);
-        same(&rt, walk.peek(), Some(place));
-        same(&rt, walk.next(), Some(place));
+    for i in 0..FIRST_PLACES.len() {
+        is_found(&rt, shape, Order::Bi(2), i as u64, FIRST_PLACES[i]);
+        stands_at(&rt, &mut walk, FIRST_PLACES[i]);
     }
     same(&rt, walk.left(), 5);
 }
@@ -51,18 +67,6 @@ fn index_of_a_place_of_the_second_group(rt: HostRuntime) {
     let shape = shape_of(&rt, 2, 2, 3);
     let place = Place { z: 2, y: 0, x: 1 };
     same(&rt, index_of(&shape, Order::Bi(2), place), 5);
-}
-
-/// That a place is found by its item, and the item by its place.
-fn is_found(rt: &impl Abort, shape: Shape, order: Order, i: u64, place: Place)
-    requires { IsOrder shape order }
-{
-    assert!(rt; i < shape.sample_count());
-    same(rt, place_at(&shape, order, i), place);
-    assert!(rt; place.z < shape.bands());
-    assert!(rt; place.y < shape.rows());
-    assert!(rt; place.x < shape.columns());
-    same(rt, index_of(&shape, order, place), i);
 }
 
 /// Goes through an order by the walk, and finds each place by its item and each item by its place.
