@@ -13,6 +13,7 @@ use command_devices::stream::{ReaderSource, WriterSink};
 use command_settings::settings::{CompressSettings, Settings};
 use cube_core::fault::Fault;
 use std::alloc::Global;
+use std::process::Abort;
 use std::sync::Wait;
 use std::sync::atomic::{AtomicU64, Ordering};
 use std::test::Fail;
@@ -115,91 +116,120 @@ fn written<R: Threads + Wait + Sync>(
     Ok(ended.output.into_writer())
 }
 
-/// A file's name.
-fn name(rt: &HostRuntime, text: &str) -> Result<String, Fail> {
-    Ok(String::from_str(rt.alloc(), text)?)
-}
-
-#[test]
-fn compress_and_expand_go_from_file_to_file(rt: HostRuntime) -> Result<(), Fail> {
-    let settings = Settings::Compress(two_equal()?, name(&rt, "in")?, name(&rt, "out")?);
-    let file = written(&rt, rt.alloc(), &[], &[200, 200], &settings)?;
-    same(&rt, file.as_slice(), TWO_EQUAL_FILE.as_slice());
+/// To compress `in` to `out`, by so many predictors.
+fn compression(rt: &impl Abort, alloc: Global, predictors: u32) -> Settings
+    ensures { HasLayout result }
+{
     let settings = CompressSettings {
-        predictors: 2,
-        ..two_equal()?
+        predictors,
+        ..two_equal(rt)
     };
-    let settings = Settings::Compress(settings, name(&rt, "in")?, name(&rt, "out")?);
-    let file = written(&rt, rt.alloc(), &[], &[200, 200], &settings)?;
-    same(&rt, file.as_slice(), TWO_EQUAL_FILE.as_slice());
-    let settings = Settings::Expand(ONE_BYTE, name(&rt, "in")?, name(&rt, "out")?);
-    let raw = written(&rt, rt.alloc(), &[], &TWO_EQUAL_FILE, &settings)?;
-    same(&rt, raw.as_slice(), [200u8, 200].as_slice());
-    Ok(())
+    Settings::Compress(settings, name(rt, alloc, "in"), name(rt, alloc, "out"))
+}
+
+/// To expand a file to another.
+fn expansion(rt: &impl Abort, alloc: Global, from: &str, to: &str) -> Settings
+    ensures { HasLayout result }
+{
+    Settings::Expand(ONE_BYTE, name(rt, alloc, from), name(rt, alloc, to))
+}
+
+/// A file's name.
+fn name(rt: &impl Abort, alloc: Global, text: &str) -> String {
+    String::from_str(alloc, text).expect(rt, "a name")
+}
+
+/// Fails where a command over a standard input and a file writes other bytes.
+fn writes<R: Threads + Wait + Sync + Abort>(
+    rt: &R,
+    alloc: Global,
+    standard: &[u8],
+    file: &[u8],
+    settings: Settings,
+    wanted: &[u8],
+)
+    requires { HasLayout settings }
+{
+    let found = written(rt, alloc, standard, file, &settings).expect(rt, "no refusal");
+    same(rt, found.as_slice(), wanted);
 }
 
 #[test]
-fn show_and_inspect_go_between_the_standard_streams(rt: HostRuntime) -> Result<(), Fail> {
-    let shown = written(
-        &rt,
-        rt.alloc(),
-        &[0, 1, 0, 2, 0, 1, 200, 200],
-        &[],
-        &Settings::Show,
-    )?;
-    let text = b"00000100020001110000080002a092590082269080\n";
-    same(&rt, shown.as_slice(), text.as_slice());
-    let told = written(&rt, rt.alloc(), &TWO_EQUAL_FILE, &[], &Settings::Inspect)?;
-    same(
-        &rt,
-        told.as_slice(),
-        inspected(&rt, &TWO_EQUAL_FILE)?.as_slice(),
-    );
-    Ok(())
+fn compress_goes_from_file_to_file(rt: HostRuntime) {
+    let one = compression(&rt, rt.alloc(), 0);
+    writes(&rt, rt.alloc(), &[], &[200, 200], one, &TWO_EQUAL_FILE);
+    let two = compression(&rt, rt.alloc(), 2);
+    writes(&rt, rt.alloc(), &[], &[200, 200], two, &TWO_EQUAL_FILE);
 }
 
 #[test]
-fn ends_that_are_not_there_are_told(rt: HostRuntime) -> Result<(), Fail> {
-    let settings = Settings::Expand(ONE_BYTE, name(&rt, "other")?, name(&rt, "out")?);
-    let refused = written(&rt, rt.alloc(), &[], &TWO_EQUAL_FILE, &settings);
-    same(&rt, refused.err(), Some(Fault::Read));
-    let settings = Settings::Expand(ONE_BYTE, name(&rt, "in")?, name(&rt, "in")?);
-    let refused = written(&rt, rt.alloc(), &[], &TWO_EQUAL_FILE, &settings);
-    same(&rt, refused.err(), Some(Fault::Write { written: 0 }));
+fn expand_goes_from_file_to_file(rt: HostRuntime) {
+    let settings = expansion(&rt, rt.alloc(), "in", "out");
+    writes(&rt, rt.alloc(), &[], &TWO_EQUAL_FILE, settings, &[200, 200]);
+}
+
+#[test]
+fn show_goes_between_the_standard_streams(rt: HostRuntime) {
+    let cube = [0, 1, 0, 2, 0, 1, 200, 200];
+    let text = "00000100020001110000080002a092590082269080\n".as_bytes();
+    writes(&rt, rt.alloc(), &cube, &[], Settings::Show, text);
+}
+
+#[test]
+fn inspect_goes_between_the_standard_streams(rt: HostRuntime) -> Result<(), Fail> {
+    let file = &TWO_EQUAL_FILE;
+    let lines = inspected(rt.alloc(), file)?;
+    writes(&rt, rt.alloc(), file, &[], Settings::Inspect, &lines);
     Ok(())
+}
+
+/// Fails where an expansion from a file to another isn't refused, or by another fault.
+fn is_refused<R: Threads + Wait + Sync + Abort>(
+    rt: &R,
+    alloc: Global,
+    from: &str,
+    to: &str,
+    fault: Fault,
+) {
+    let settings = expansion(rt, alloc, from, to);
+    let answer = written(rt, alloc, &[], &TWO_EQUAL_FILE, &settings);
+    same(rt, answer.err(), Some(fault));
+}
+
+#[test]
+fn ends_that_are_not_there_are_told(rt: HostRuntime) {
+    is_refused(&rt, rt.alloc(), "other", "out", Fault::Read);
+    is_refused(&rt, rt.alloc(), "in", "in", Fault::Write { written: 0 });
+}
+
+/// Fails where a command over a file ends otherwise, or doesn't open its input once and create its output once.
+fn asks_once<R: Threads + Wait + Sync + Abort>(
+    rt: &R,
+    alloc: Global,
+    file: &[u8],
+    settings: Settings,
+    answer: Result<(), Fault>,
+)
+    requires { HasLayout settings }
+{
+    let memory = Memory::new(alloc, &[], file);
+    let ended = run_command(rt, alloc, &memory, &settings).expect(rt, "both ends");
+    same(rt, ended.answer, answer);
+    same(rt, memory.asked(), (1, 1));
 }
 
 /// Whether a command is refused or not, it opens its input once, and creates its output once.
 #[test]
-fn each_file_is_asked_for_once(rt: HostRuntime) -> Result<(), Fail> {
-    for (predictors, raw, refused) in [
-        (0, [200, 200].as_slice(), None),
-        (2, [200, 200].as_slice(), None),
-        (
-            0,
-            [200].as_slice(),
-            Some(Fault::RawLength { wanted: 2, had: 1 }),
-        ),
-    ] {
-        let settings = CompressSettings {
-            predictors,
-            ..two_equal()?
-        };
-        let settings = Settings::Compress(settings, name(&rt, "in")?, name(&rt, "out")?);
-        let memory = Memory::new(rt.alloc(), &[], raw);
-        let ended = run_command(&rt, rt.alloc(), &memory, &settings)?;
-        same(&rt, ended.answer.err(), refused);
-        same(&rt, memory.asked(), (1, 1));
-    }
-    for (file, refused) in [
-        (TWO_EQUAL_FILE.as_slice(), None),
-        ([].as_slice(), Some(Fault::ShortHeader)),
-    ] {
-        let settings = Settings::Expand(ONE_BYTE, name(&rt, "in")?, name(&rt, "out")?);
-        let memory = Memory::new(rt.alloc(), &[], file);
-        let ended = run_command(&rt, rt.alloc(), &memory, &settings)?;
-        same(&rt, ended.answer.err(), refused);
-        same(&rt, memory.asked(), (1, 1));
-    }
-    Ok(())
+fn each_file_is_asked_for_once(rt: HostRuntime) {
+    let compress = compression(&rt, rt.alloc(), 0);
+    asks_once(&rt, rt.alloc(), &[200, 200], compress, Ok(()));
+    let compress = compression(&rt, rt.alloc(), 2);
+    asks_once(&rt, rt.alloc(), &[200, 200], compress, Ok(()));
+    let short = Fault::RawLength { wanted: 2, had: 1 };
+    let compress = compression(&rt, rt.alloc(), 0);
+    asks_once(&rt, rt.alloc(), &[200], compress, Err(short));
+    let expand = expansion(&rt, rt.alloc(), "in", "out");
+    asks_once(&rt, rt.alloc(), &TWO_EQUAL_FILE, expand, Ok(()));
+    let expand = expansion(&rt, rt.alloc(), "in", "out");
+    asks_once(&rt, rt.alloc(), &[], expand, Err(Fault::ShortHeader));
 }

@@ -1,6 +1,6 @@
 //! Bytes read and written whole, piece by piece.
 
-ghost use Rattle.std.specs.Prelude.{◌≡◌, None};
+ghost use Rattle.std.specs.Prelude.{◌≡◌, ◌<◌, ◌^◌, None};
 
 use crate::tests::checks::same;
 use command_devices::cut::{CutSink, CutSource};
@@ -8,23 +8,39 @@ use command_devices::reading::{read_file, read_up_to};
 use command_devices::source::{Failed, Source};
 use command_devices::writing::write_all;
 use cube_core::fault::Fault;
+use std::alloc::Global;
+use std::process::Abort;
 use std::test::Fail;
 
 const BYTES: [u8; 5] = [10, 20, 30, 40, 50];
 
 #[test]
-fn a_source_is_read_to_its_end_or_a_limit(rt: HostRuntime) -> Result<(), Fail> {
+fn a_source_is_read_to_its_end(rt: HostRuntime) -> Result<(), Fail> {
     for piece in [1, 2, 5, 100] {
         let all = read_file(rt.alloc(), &mut CutSource::new(&BYTES, piece, None))?;
         same(&rt, all.as_slice(), BYTES.as_slice());
-        for limit in 0..7 {
-            let mut source = CutSource::new(&BYTES, piece, None);
-            let front = read_up_to(rt.alloc(), &mut source, limit)?;
-            let most = BYTES.len().min(limit as usize);
-            same(&rt, Some(front.as_slice()), BYTES.get(..most));
-        }
     }
     Ok(())
+}
+
+/// Fails where a source of such pieces isn't read up to a limit, or to its end below it.
+fn is_read_up_to(rt: &impl Abort, alloc: Global, piece: usize, limit: u64)
+    requires { 0 < piece }
+{
+    let mut source = CutSource::new(&BYTES, piece, None);
+    let front = read_up_to(alloc, &mut source, limit).expect(rt, "no refusal");
+    let most = BYTES.len().min(limit as usize);
+    same(rt, Some(front.as_slice()), BYTES.get(..most));
+}
+
+#[test]
+fn a_source_is_read_to_a_limit(rt: HostRuntime) {
+    for limit in 0..7 {
+        is_read_up_to(&rt, rt.alloc(), 1, limit);
+        is_read_up_to(&rt, rt.alloc(), 2, limit);
+        is_read_up_to(&rt, rt.alloc(), 5, limit);
+        is_read_up_to(&rt, rt.alloc(), 100, limit);
+    }
 }
 
 #[test]
@@ -37,14 +53,19 @@ fn a_source_that_fails_is_read(rt: HostRuntime) {
 }
 
 #[test]
-fn what_a_sink_took_is_told(rt: HostRuntime) -> Result<(), Fail> {
-    let mut whole = CutSink::new(rt.alloc(), 5, 2, None)?;
-    same(&rt, write_all(&mut whole, &BYTES), Ok(()));
-    same(&rt, whole.taken(), BYTES.as_slice());
-    let mut small = CutSink::new(rt.alloc(), 3, 2, None)?;
-    let answer = write_all(&mut small, &BYTES);
+fn a_sink_takes_all_that_it_has_room_for(rt: HostRuntime) -> Result<(), Fail> {
+    let mut sink = CutSink::new(rt.alloc(), 5, 2, None)?;
+    same(&rt, write_all(&mut sink, &BYTES), Ok(()));
+    same(&rt, sink.taken(), BYTES.as_slice());
+    Ok(())
+}
+
+#[test]
+fn what_a_small_sink_took_is_told(rt: HostRuntime) -> Result<(), Fail> {
+    let mut sink = CutSink::new(rt.alloc(), 3, 2, None)?;
+    let answer = write_all(&mut sink, &BYTES);
     same(&rt, answer, Err(Fault::Write { written: 2 }));
-    same(&rt, Some(small.taken()), BYTES.get(..2));
+    same(&rt, Some(sink.taken()), BYTES.get(..2));
     Ok(())
 }
 
@@ -76,20 +97,26 @@ impl Source for Offered {
     }
 }
 
+/// Fails where more memory is taken or offered than so many bytes are to have, or other bytes come.
+fn memory_grows_with(rt: &impl Abort, alloc: Global, size: usize, limit: u64)
+    requires { size < 2 ^ 32 }
+{
+    let mut source = Offered {
+        left: size,
+        given: 0,
+        too_much: false,
+    };
+    let bytes = read_up_to(alloc, &mut source, limit).expect(rt, "no refusal");
+    same(rt, bytes.len(), size);
+    assert!(rt; bytes.capacity() <= 2 * PIECE.max(size));
+    assert!(rt; !source.too_much);
+}
+
 #[test]
-fn the_memory_grows_with_what_came(rt: HostRuntime) -> Result<(), Fail> {
+fn the_memory_grows_with_what_came(rt: HostRuntime) {
     for size in [0, 1, PIECE - 1, PIECE, PIECE + 1, 5 * PIECE] {
         for limit in [size as u64, size as u64 + 1, 1 << 25, 1 << 48] {
-            let mut source = Offered {
-                left: size,
-                given: 0,
-                too_much: false,
-            };
-            let bytes = read_up_to(rt.alloc(), &mut source, limit)?;
-            same(&rt, bytes.len(), size);
-            assert!(rt; bytes.capacity() <= 2 * PIECE.max(size));
-            assert!(rt; !source.too_much);
+            memory_grows_with(&rt, rt.alloc(), size, limit);
         }
     }
-    Ok(())
 }

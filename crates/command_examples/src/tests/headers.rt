@@ -19,7 +19,7 @@ const TWO_BANDS_BY_PIXEL: [u8; 19] = [
 
 #[test]
 fn header_of_two_equal_samples(rt: HostRuntime) -> Result<(), Fail> {
-    let text = inspected(&rt, &TWO_EQUAL_FILE)?;
+    let text = inspected(rt.alloc(), &TWO_EQUAL_FILE)?;
     let lines =
         "user 0\ncolumns 1\nrows 2\nbands 1\nsample unsigned\nbits 8\norder bsq\nword 1\ncoder sample\nprevious 0\nmode reduced\nsums column\nregister 32\nomega 13\ninterval 64\nvmin -1\nvmax 3\nstart usual\numax 16\ngamma-star 6\ngamma-zero 1\nk 3\nheader 19\n";
     same(&rt, text.as_slice(), lines.as_bytes());
@@ -28,7 +28,7 @@ fn header_of_two_equal_samples(rt: HostRuntime) -> Result<(), Fail> {
 
 #[test]
 fn header_of_the_block_coder(rt: HostRuntime) -> Result<(), Fail> {
-    let text = inspected(&rt, &ONE_BLOCK)?;
+    let text = inspected(rt.alloc(), &ONE_BLOCK)?;
     let lines =
         "user 0\ncolumns 1\nrows 1\nbands 1\nsample unsigned\nbits 8\norder bsq\nword 1\ncoder block\nprevious 0\nmode reduced\nsums column\nregister 32\nomega 13\ninterval 64\nvmin -1\nvmax 3\nstart usual\nblock 8\nrestricted no\nreference 1\nheader 19\n";
     same(&rt, text.as_slice(), lines.as_bytes());
@@ -37,7 +37,7 @@ fn header_of_the_block_coder(rt: HostRuntime) -> Result<(), Fail> {
 
 #[test]
 fn header_of_an_interleaved_image(rt: HostRuntime) -> Result<(), Fail> {
-    let text = inspected(&rt, &TWO_BANDS_BY_PIXEL)?;
+    let text = inspected(rt.alloc(), &TWO_BANDS_BY_PIXEL)?;
     let lines =
         "user 0\ncolumns 3\nrows 2\nbands 2\nsample unsigned\nbits 8\norder bi 2\nword 1\ncoder sample\nprevious 1\nmode full\nsums neighbour\nregister 32\nomega 13\ninterval 64\nvmin -1\nvmax 3\nstart usual\numax 16\ngamma-star 6\ngamma-zero 1\nk 3\nheader 19\n";
     same(&rt, text.as_slice(), lines.as_bytes());

@@ -1,6 +1,6 @@
 //! What the tests of the engines share: settings and a file of two samples, and runs over memory.
 
-ghost use Rattle.std.specs.Prelude.{IfOk};
+ghost use Rattle.std.specs.Prelude.{◌<◌};
 ghost use Rattle.cube_core.specs.Layout.{IsLayout};
 
 use ccsds_command::compress::run_compress;
@@ -13,6 +13,8 @@ use cube_core::kind::Kind;
 use cube_core::layout::{Layout, RawOrder};
 use cube_core::shape::Shape;
 use header_bits::params::Params;
+use std::alloc::Global;
+use std::process::Abort;
 
 /// The room of a sink, and the pieces in which a run goes.
 const ROOM: usize = 1000;
@@ -38,50 +40,68 @@ pub(crate) const TWO_EQUAL_FILE: [u8; 21] = [
 ];
 
 /// The settings of that file.
-pub(crate) fn two_equal() -> Result<CompressSettings, Fault>
-    ensures { IfOk result (λ s. IsLayout s.layout) }
+pub(crate) fn two_equal(rt: &impl Abort) -> CompressSettings
+    ensures { IsLayout result.layout }
 {
-    Ok(CompressSettings {
-        params: band(1, 2, 8)?,
-        layout: ONE_BYTE,
-        predictors: 0,
-        slots: 1024,
-    })
+    one_band(rt, 1, 2, 8, ONE_BYTE)
 }
 
-/// The parameters of one unsigned band, in reduced mode with column-oriented sums.
-pub(crate) fn band(columns: u32, rows: u32, bits: u32) -> Result<Params, Fault> {
-    Ok(Params::plain(Shape::new(columns, rows, 1)?, Kind::new(false, bits)?))
+/// The settings of one unsigned band, in reduced mode with column-oriented sums.
+pub(crate) fn one_band(
+    rt: &impl Abort,
+    columns: u32,
+    rows: u32,
+    bits: u32,
+    layout: Layout,
+) -> CompressSettings
+    requires { IsLayout layout }
+    ensures { IsLayout result.layout }
+{
+    let shape = Shape::new(columns, rows, 1).expect(rt, "a shape");
+    let kind = Kind::new(false, bits).expect(rt, "a kind");
+    CompressSettings {
+        params: Params::plain(shape, kind),
+        layout,
+        predictors: 0,
+        slots: 1024,
+    }
+}
+
+/// A sink with room for 100 bytes, which takes at most so many a call, and may fail at one.
+pub(crate) fn sink(rt: &impl Abort, alloc: Global, piece: usize, fail_at: Option<u64>) -> CutSink
+    requires { 0 < piece }
+{
+    CutSink::new(alloc, 100, piece, fail_at).expect(rt, "memory")
 }
 
 /// The file that raw bytes are compressed to, in whole pieces.
 pub(crate) fn compressed(
-    rt: &HostRuntime,
+    alloc: Global,
     settings: &CompressSettings,
     raw: &[u8],
 ) -> Result<Vec<u8>, Fault>
     requires { IsLayout settings.now.layout }
 {
     let mut source = CutSource::new(raw, ROOM, None);
-    let mut sink = CutSink::new(rt.alloc(), ROOM, ROOM, None)?;
-    run_compress(rt.alloc(), &mut source, &mut sink, settings)?;
-    Ok(Vec::from_slice(rt.alloc(), sink.taken())?)
+    let mut sink = CutSink::new(alloc, ROOM, ROOM, None)?;
+    run_compress(alloc, &mut source, &mut sink, settings)?;
+    Ok(Vec::from_slice(alloc, sink.taken())?)
 }
 
 /// The raw bytes that a file is expanded to, in whole pieces.
-pub(crate) fn expanded(rt: &HostRuntime, layout: &Layout, file: &[u8]) -> Result<Vec<u8>, Fault>
+pub(crate) fn expanded(alloc: Global, layout: &Layout, file: &[u8]) -> Result<Vec<u8>, Fault>
     requires { IsLayout layout.now }
 {
     let mut source = CutSource::new(file, ROOM, None);
-    let mut sink = CutSink::new(rt.alloc(), ROOM, ROOM, None)?;
-    run_expand(rt.alloc(), &mut source, &mut sink, layout)?;
-    Ok(Vec::from_slice(rt.alloc(), sink.taken())?)
+    let mut sink = CutSink::new(alloc, ROOM, ROOM, None)?;
+    run_expand(alloc, &mut source, &mut sink, layout)?;
+    Ok(Vec::from_slice(alloc, sink.taken())?)
 }
 
 /// What is told of a file, in whole pieces.
-pub(crate) fn inspected(rt: &HostRuntime, file: &[u8]) -> Result<Vec<u8>, Fault> {
+pub(crate) fn inspected(alloc: Global, file: &[u8]) -> Result<Vec<u8>, Fault> {
     let mut source = CutSource::new(file, ROOM, None);
-    let mut sink = CutSink::new(rt.alloc(), ROOM, ROOM, None)?;
-    run_inspect(rt.alloc(), &mut source, &mut sink)?;
-    Ok(Vec::from_slice(rt.alloc(), sink.taken())?)
+    let mut sink = CutSink::new(alloc, ROOM, ROOM, None)?;
+    run_inspect(alloc, &mut source, &mut sink)?;
+    Ok(Vec::from_slice(alloc, sink.taken())?)
 }
