@@ -1,11 +1,10 @@
 //! Command lines that are refused as `Usage`.
 
-use super::support::parsed;
+use super::support::{image_with, parsed};
+use crate::tests::checks::same;
 use cube_core::fault::Fault;
-use std::test::Fail;
-
-/// An image with what is required.
-const IMAGE: &str = "compress --columns=3 --rows=2 --bands=2 --bits=8 a b";
+use std::alloc::Global;
+use std::process::Abort;
 
 /// Options, each with a value that it doesn't take.
 const VALUES: &str = "--depth 0
@@ -107,30 +106,29 @@ expand --layout pixel a b
 expand --little=true a b
 expand --little --little a b";
 
-/// Whether a line is refused.
-fn is_usage(rt: &HostRuntime, line: &str) -> bool {
-    matches!(parsed(rt, line), Err(Fault::Usage))
+/// Fails where a line isn't refused as `Usage`.
+fn is_usage(rt: &impl Abort, alloc: Global, line: &str) {
+    let refused = parsed(alloc, line).err();
+    same(rt, (line, refused), (line, Some(Fault::Usage)));
 }
 
 #[test]
-fn values_out_of_range_are_usage(rt: HostRuntime) -> Result<(), Fail> {
+fn values_out_of_range_are_usage(rt: HostRuntime) {
     for option in VALUES.split('\n') {
-        let line = format!(in rt.alloc(); "{IMAGE} {option}")?;
-        assert!(rt; is_usage(&rt, line.as_str()), "{option}");
+        is_usage(&rt, rt.alloc(), &image_with(&rt, rt.alloc(), option));
     }
-    Ok(())
 }
 
 #[test]
 fn sizes_out_of_range_are_usage(rt: HostRuntime) {
     for line in SIZES.split('\n') {
-        assert!(rt; is_usage(&rt, line), "{line}");
+        is_usage(&rt, rt.alloc(), line);
     }
 }
 
 #[test]
 fn other_lines_are_usage(rt: HostRuntime) {
     for line in OTHERS.split('\n') {
-        assert!(rt; is_usage(&rt, line), "{line}");
+        is_usage(&rt, rt.alloc(), line);
     }
 }
