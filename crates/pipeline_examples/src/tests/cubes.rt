@@ -1,6 +1,7 @@
 //! Cube A, 3 x 2 x 2, in full mode with one previous band, and what predictors make of it.
 
 ghost use Rattle.std.specs.Prelude.{◌≡◌, [], ◌∷◌, IfOk};
+ghost use Rattle.cube_core.specs.declared.order.Order.TheVariants.{Bi};
 ghost use Rattle.coder_pipe.specs.Sends.{IsSeen};
 
 use ccsds_command::piped::run_piped;
@@ -62,6 +63,15 @@ pub(crate) fn params_of(rt: &impl Abort, order: Order, coder: Coder) -> Params
     }
 }
 
+/// Its parameters interleaved by pixel, by the sample-adaptive coder.
+pub(crate) fn by_pixel(rt: &impl Abort) -> Params
+    ensures shape { result.shape ≡ record { columns = 3; rows = 2; bands = 2 } }
+    ensures kind { result.kind.bits ≡ 8 }
+    ensures order { result.order ≡ Bi 2 }
+{
+    params_of(rt, Order::Bi(2), Coder::plain())
+}
+
 /// The block-adaptive coder of the worked files.
 pub(crate) fn by_blocks() -> Coder {
     Coder::Block {
@@ -71,22 +81,36 @@ pub(crate) fn by_blocks() -> Coder {
     }
 }
 
-/// A plan for it, and the cube itself.
-pub(crate) fn plan_and_cube(
+/// The cube itself, for parameters of its shape and kind.
+pub(crate) fn cube_of(alloc: Global, params: &Params) -> Result<Cube, Fault>
+    ensures { IfOk result (λ cube. IsSeen params.now cube) }
+{
+    Cube::from_raw(alloc, params.shape, params.kind, BYTES, &SAMPLES)
+}
+
+/// A plan for it.
+pub(crate) fn plan_of(
     rt: &impl Abort,
     alloc: Global,
     params: &Params,
     predictors: u32,
     deal: &[u8],
     slots: u32,
-) -> Result<(Plan, Cube), Fault>
-    ensures plan { IfOk result (λ r. (r.0.params ≡ params.now) × (r.0.predictors ≡ predictors) × (r.0.deal ≡ deal.now)) }
-    ensures cube { IfOk result (λ r. IsSeen params.now r.1) }
+) -> Result<Plan, Fault>
+    ensures { IfOk result (λ plan. (plan.params ≡ params.now) × (plan.predictors ≡ predictors) × (plan.deal ≡ deal.now)) }
 {
     assert!(rt; params.check().is_ok());
-    let plan = Plan::new(alloc, params, predictors, deal, slots)?;
-    let cube = Cube::from_raw(alloc, params.shape, params.kind, BYTES, &SAMPLES)?;
-    Ok((plan, cube))
+    Plan::new(alloc, params, predictors, deal, slots)
+}
+
+/// A plan for it by pixel: each of two predictors has a band, and a lane of one slot.
+pub(crate) fn plan_by_pixel(rt: &impl Abort, alloc: Global) -> Result<Plan, Fault>
+    ensures plan { IfOk result (λ plan. (plan.predictors ≡ 2) × (plan.deal ≡ 0 ∷ 1 ∷ [])) }
+    ensures shape { IfOk result (λ plan. plan.params.shape ≡ record { columns = 3; rows = 2; bands = 2 }) }
+    ensures kind { IfOk result (λ plan. plan.params.kind.bits ≡ 8) }
+    ensures order { IfOk result (λ plan. plan.params.order ≡ Bi 2) }
+{
+    plan_of(rt, alloc, &by_pixel(rt), 2, &[0, 1], 1)
 }
 
 /// What predictors of a plan make of it, past a gate.
@@ -99,34 +123,40 @@ pub(crate) fn piped<R: Threads + Wait + Sync + Abort, G: Gate + Sync>(
     slots: u32,
     gate: &G,
 ) -> Result<Piped, Fault> {
-    let (plan, cube) = plan_and_cube(rt, alloc, params, predictors, deal, slots)?;
+    let plan = plan_of(rt, alloc, params, predictors, deal, slots)?;
+    let cube = cube_of(alloc, params)?;
     encode_predicted(rt, alloc, &cube, &plan, gate)
 }
 
-/// What the command makes of its raw bytes by so many predictors, past a gate.
+/// What the command makes of its raw bytes by pixel and by so many predictors, past a gate.
 pub(crate) fn compressed<R: Threads + Wait + Sync + Abort, G: Gate + Sync>(
     rt: &R,
     alloc: Global,
-    params: Params,
     predictors: u32,
     slots: u32,
     gate: &G,
 ) -> Result<Vec<u8>, Fault> {
-    let settings = CompressSettings {
-        params,
-        layout: BYTES,
-        predictors,
-        slots,
-    };
+    let settings = settings_by_pixel(rt, predictors, slots);
     let mut source = CutSource::new(&SAMPLES, ROOM, None);
     let mut sink = CutSink::new(alloc, ROOM, ROOM, None)?;
     run_piped(rt, alloc, &mut source, &mut sink, &settings, gate)?;
     Ok(Vec::from_slice(alloc, sink.taken())?)
 }
 
+/// What a command line asks for that has it compressed by pixel.
+fn settings_by_pixel(rt: &impl Abort, predictors: u32, slots: u32) -> CompressSettings
+    ensures { result.layout.bytes ≡ 1 }
+{
+    CompressSettings {
+        params: by_pixel(rt),
+        layout: BYTES,
+        predictors,
+        slots,
+    }
+}
+
 /// What one thread makes of it.
 pub(crate) fn by_one(rt: &impl Abort, alloc: Global, params: &Params) -> Result<Vec<u8>, Fault> {
     assert!(rt; params.check().is_ok());
-    let cube = Cube::from_raw(alloc, params.shape, params.kind, BYTES, &SAMPLES)?;
-    encode_one(alloc, &cube, params)
+    encode_one(alloc, &cube_of(alloc, params)?, params)
 }

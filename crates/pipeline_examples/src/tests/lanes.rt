@@ -1,28 +1,27 @@
 //! One predictor alone, which a gate stops, whatever the other end of its lane does.
 
-ghost use Rattle.std.specs.Prelude.{◌≡◌, [], ◌∷◌, IfOk, OnOk};
+ghost use Rattle.std.specs.Prelude.{◌≡◌, [], ◌∷◌, IfOk};
 ghost use Rattle.cube_core.specs.Image.{Image};
-ghost use Rattle.coder_pipe.specs.Sends.{AreFresh, IsSeen};
+ghost use Rattle.coder_pipe.specs.Sends.{AreFresh};
 
-use super::cubes::{params_of, plan_and_cube};
+use super::cubes::{cube_of, plan_by_pixel};
 use super::gates::StopAt;
 use crate::tests::checks::same;
 use band_rings::lane::lane;
 use band_rings::receiver::LaneReceiver;
 use band_rings::sender::LaneSender;
-use band_rings::settled::settle;
+use band_rings::settled::{SettledLane, settle};
 use coder_pipe::LaneEnd;
 use coder_pipe::plan::Plan;
 use coder_pipe::predict_lane::predict_lane;
-use cube_core::cube::Cube;
 use cube_core::fault::Fault;
-use cube_core::order::Order;
-use header_bits::params::Coder;
 use predict_core::band::Band;
 use std::alloc::Global;
+use std::process::Abort;
 use std::sync::Wait;
 use std::test::Fail;
 use std::thread;
+use std::thread::Threads;
 
 /// How often nothing may be there to receive, before it is given up.
 const MOST_REFUSED: u32 = 10_000_000;
@@ -40,23 +39,6 @@ const SECOND_AT_LAST: StopAt = StopAt {
     nth: 1,
     turn: 100,
 };
-
-/// Predictor 0, of the first band, at work.
-fn run_first<R: Wait>(
-    rt: &R,
-    cube: &Cube,
-    plan: &Plan,
-    bands: Vec<Band>,
-    sender: LaneSender,
-    gate: &StopAt,
-) -> LaneEnd
-    requires image { IsSeen plan.now.params cube.now }
-    requires bands { AreFresh plan.now.params 0 plan.now.deal cube.now bands.items }
-    requires sent { sender.sent ≡ [] }
-    ensures { result.closed.lane ≡ sender.lane }
-{
-    predict_lane(rt, cube, plan, 0, bands, sender, gate)
-}
 
 /// The first band, before its first place.
 fn first_band(alloc: Global, plan: &Plan) -> Result<Vec<Band>, Fault>
@@ -88,65 +70,105 @@ fn receive(receiver: LaneReceiver, room: &mut [u16]) -> LaneReceiver
     receiver
 }
 
+/// How predictor 0, of the first band, ends at a lane and a gate.
+fn run_first<R: Wait + Abort>(
+    rt: &R,
+    alloc: Global,
+    sender: LaneSender,
+    gate: &StopAt,
+) -> Result<LaneEnd, Fault>
+    requires { sender.sent ≡ [] }
+    ensures { IfOk result (λ end. end.closed.lane ≡ sender.lane) }
+{
+    let plan = plan_by_pixel(rt, alloc)?;
+    let cube = cube_of(alloc, plan.params())?;
+    let bands = first_band(alloc, &plan)?;
+    Ok(predict_lane(rt, &cube, &plan, 0, bands, sender, gate))
+}
+
+/// Fails where it isn't stopped with these numbers sent along a lane of so many slots, from which nothing is received until then.
+fn leaves<R: Wait + Abort>(
+    rt: &R,
+    alloc: Global,
+    slots: u32,
+    gate: &StopAt,
+    sent: &[u16],
+) -> Result<(), Fault> {
+    let (sender, receiver) = lane(alloc, slots)?;
+    let end = run_first(rt, alloc, sender, gate)?;
+    assert!(rt; !end.whole);
+    same(rt, end.closed.sent_count(), sent.len() as u64);
+    same_left(rt, settle(receiver, end.closed), sent);
+    Ok(())
+}
+
+/// Fails where other numbers are left of a lane, or any was received.
+fn same_left(rt: &impl Abort, settled: SettledLane, left: &[u16]) {
+    let mut settled = settled;
+    same(rt, settled.received_count(), 0);
+    for number in left {
+        same(rt, settled.take_left(), Some(*number));
+    }
+    same(rt, settled.take_left(), None);
+    same(rt, settled.received_count(), left.len() as u64);
+}
+
 #[test]
 fn stopped_where_nothing_is_received(rt: HostRuntime) -> Result<(), Fail> {
-    let params = params_of(&rt, Order::Bi(2), Coder::plain());
-    let (plan, cube) = plan_and_cube(&rt, rt.alloc(), &params, 2, &[0, 1], 1)?;
-    for (slots, gate, sent) in [
-        (2, THIRD, [55, 3].as_slice()),
-        (1, SECOND_AT_LAST, [55].as_slice()),
-    ] {
-        let bands = first_band(rt.alloc(), &plan)?;
-        let (sender, receiver) = lane(rt.alloc(), slots)?;
-        let end = run_first(&rt, &cube, &plan, bands, sender, &gate);
-        assert!(rt; !end.whole);
-        same(&rt, end.closed.sent_count(), sent.len() as u64);
-        let mut settled = settle(receiver, end.closed);
-        same(&rt, settled.received_count(), 0);
-        for number in sent {
-            same(&rt, settled.take_left(), Some(*number));
-        }
-        same(&rt, settled.take_left(), None);
-        same(&rt, settled.received_count(), sent.len() as u64);
-    }
+    leaves(&rt, rt.alloc(), 2, &THIRD, &[55, 3])?;
+    leaves(&rt, rt.alloc(), 1, &SECOND_AT_LAST, &[55])?;
+    Ok(())
+}
+
+/// Fails where it isn't stopped with so many numbers sent along a lane of so many slots, whose receiver is gone.
+fn sends_to_nobody<R: Wait + Abort>(
+    rt: &R,
+    alloc: Global,
+    slots: u32,
+    gate: &StopAt,
+    sent: u64,
+) -> Result<(), Fault> {
+    let (sender, receiver) = lane(alloc, slots)?;
+    drop(receiver);
+    let end = run_first(rt, alloc, sender, gate)?;
+    assert!(rt; !end.whole);
+    same(rt, end.closed.sent_count(), sent);
     Ok(())
 }
 
 #[test]
 fn stopped_where_nobody_receives(rt: HostRuntime) -> Result<(), Fail> {
-    let params = params_of(&rt, Order::Bi(2), Coder::plain());
-    let (plan, cube) = plan_and_cube(&rt, rt.alloc(), &params, 2, &[0, 1], 1)?;
-    for (slots, gate, sent) in [(2, THIRD, 2), (1, SECOND_AT_LAST, 1)] {
-        let bands = first_band(rt.alloc(), &plan)?;
-        let (sender, receiver) = lane(rt.alloc(), slots)?;
-        drop(receiver);
-        let end = run_first(&rt, &cube, &plan, bands, sender, &gate);
-        assert!(rt; !end.whole);
-        same(&rt, end.closed.sent_count(), sent);
-    }
+    sends_to_nobody(&rt, rt.alloc(), 2, &THIRD, 2)?;
+    sends_to_nobody(&rt, rt.alloc(), 1, &SECOND_AT_LAST, 1)?;
     Ok(())
+}
+
+/// How predictor 0 ends before its third residual, while another thread receives into a room.
+fn run_beside<R: Threads + Wait + Sync + Abort>(
+    rt: &R,
+    alloc: Global,
+    room: &mut [u16],
+) -> Result<(LaneEnd, LaneReceiver), Fault>
+    ensures { IfOk result (λ ends. ends.0.closed.lane ≡ ends.1.lane) }
+{
+    let (sender, receiver) = lane(alloc, 1)?;
+    let (end, receiver) = thread::join(
+        rt,
+        || -> Result<LaneEnd, Fault>
+            requires { sender.sent ≡ [] }
+            ensures { IfOk result (λ end. end.closed.lane ≡ sender.lane) }
+        { run_first(rt, alloc, sender, &THIRD) },
+        || -> LaneReceiver
+            ensures { result.lane ≡ receiver.lane }
+        { receive(receiver, room) },
+    );
+    Ok((end?, receiver))
 }
 
 #[test]
 fn stopped_while_another_thread_receives(rt: HostRuntime) -> Result<(), Fail> {
-    let params = params_of(&rt, Order::Bi(2), Coder::plain());
-    let (plan, cube) = plan_and_cube(&rt, rt.alloc(), &params, 2, &[0, 1], 1)?;
-    let (cube, plan) = (&cube, &plan);
-    let bands = first_band(rt.alloc(), plan)?;
-    let (sender, receiver) = lane(rt.alloc(), 1)?;
     let mut room = [0; 2];
-    let (end, receiver) = thread::join(
-        &rt,
-        || -> LaneEnd
-            requires image { IsSeen plan.now.params cube.now }
-            requires bands { AreFresh plan.now.params 0 plan.now.deal cube.now bands.items }
-            requires sent { sender.sent ≡ [] }
-            ensures { result.closed.lane ≡ sender.lane }
-        { run_first(&rt, cube, plan, bands, sender, &THIRD) },
-        || -> LaneReceiver
-            ensures { result.lane ≡ receiver.lane }
-        { receive(receiver, &mut room) },
-    );
+    let (end, receiver) = run_beside(&rt, rt.alloc(), &mut room)?;
     assert!(rt; !end.whole);
     let mut settled = settle(receiver, end.closed);
     same(&rt, settled.sent_count(), 2);

@@ -1,12 +1,10 @@
 //! Which plans are refused.
 
-use super::cubes::{compressed, params_of};
+use super::cubes::{by_pixel, compressed};
 use crate::tests::checks::same;
 use coder_pipe::OpenGate;
 use coder_pipe::plan::Plan;
 use cube_core::fault::{Fault, Field};
-use cube_core::order::Order;
-use header_bits::params::Coder;
 use std::alloc::Global;
 use std::process::Abort;
 
@@ -18,7 +16,7 @@ fn refusal(
     deal: &[u8],
     slots: u32,
 ) -> Option<Fault> {
-    let params = params_of(rt, Order::Bi(2), Coder::plain());
+    let params = by_pixel(rt);
     assert!(rt; params.check().is_ok());
     Plan::new(alloc, &params, predictors, deal, slots).err()
 }
@@ -58,8 +56,7 @@ fn a_command_without_a_plan_is_refused(rt: HostRuntime) {
         (2, 0, Field::Slots, 0),
         (64, 65_537, Field::Slots, 65_537),
     ] {
-        let params = params_of(&rt, Order::Bi(2), Coder::plain());
-        let answer = compressed(&rt, rt.alloc(), params, predictors, slots, &OpenGate);
+        let answer = compressed(&rt, rt.alloc(), predictors, slots, &OpenGate);
         same(&rt, answer.err(), range(field, value));
     }
 }

@@ -88,12 +88,11 @@ fn the_first_of_two_is_named(rt: HostRuntime) {
 #[test]
 fn a_command_is_stopped(rt: HostRuntime) {
     for sent in 0..NEVER {
-        let params = params_of(&rt, Order::Bi(2), Coder::plain());
         let gate = StopTwo {
             first: sent,
             second: NEVER,
         };
-        let answer = compressed(&rt, rt.alloc(), params, 2, 1, &gate);
+        let answer = compressed(&rt, rt.alloc(), 2, 1, &gate);
         let stopped = Some(Fault::Stopped { predictor: 0, sent });
         same(&rt, answer.err(), stopped);
     }

@@ -1,11 +1,13 @@
 //! What predictors in threads make of cubes whose parameters hold tables, or name the restricted set of code options.
 
 use super::cubes::BYTES;
-use crate::tests::checks::same;
+use crate::tests::checks::same_piped;
 use coder_pipe::OpenGate;
 use coder_pipe::encode_predicted::encode_predicted;
+use coder_pipe::pipeline::Piped;
 use coder_pipe::plan::Plan;
 use cube_core::cube::Cube;
+use cube_core::fault::Fault;
 use cube_core::kind::Kind;
 use cube_core::shape::Shape;
 use header_bits::params::{Coder, CountStart, Params, WeightStart};
@@ -53,18 +55,29 @@ fn makes<R: Threads + Wait + Sync + Abort>(
     samples: &[u8],
     file: &[u8],
 ) -> Result<(), Fail> {
-    assert!(rt; params.check().is_ok());
     for slots in [1, 8] {
-        let plan = Plan::new(alloc, params, 2, &[0, 1], slots)?;
-        let cube = Cube::from_raw(alloc, params.shape, params.kind, BYTES, samples)?;
-        let made = encode_predicted(rt, alloc, &cube, &plan, &OpenGate)?;
-        same(rt, made.file.as_slice(), file);
-        for lane in &made.lanes {
-            same(rt, lane.sent_count(), 2);
-            same(rt, lane.received_count(), 2);
-        }
+        same_piped(
+            rt,
+            &made_of(rt, alloc, params, samples, slots)?,
+            file,
+            &[2, 2],
+        );
     }
     Ok(())
+}
+
+/// What they make of four samples by so many slots.
+fn made_of<R: Threads + Wait + Sync + Abort>(
+    rt: &R,
+    alloc: Global,
+    params: &Params,
+    samples: &[u8],
+    slots: u32,
+) -> Result<Piped, Fault> {
+    assert!(rt; params.check().is_ok());
+    let plan = Plan::new(alloc, params, 2, &[0, 1], slots)?;
+    let cube = Cube::from_raw(alloc, params.shape, params.kind, BYTES, samples)?;
+    encode_predicted(rt, alloc, &cube, &plan, &OpenGate)
 }
 
 /// The weight of the second band starts from a table.

@@ -4,18 +4,19 @@ ghost use Rattle.std.specs.Prelude.{◌≡◌, [], ◌∷◌, IfOk};
 ghost use Rattle.cube_core.specs.declared.order.Order.TheVariants.{Bi};
 ghost use Rattle.coder_pipe.specs.Piping.{AreFeeds};
 
-use super::cubes::{params_of, plan_and_cube};
-use super::weaving::weave_all;
-use crate::tests::checks::same;
+use super::cubes::plan_by_pixel;
+use super::weaving::{Woven, weave_all};
+use crate::tests::checks::{same, same_piped};
 use coder_pipe::OpenGate;
-use coder_pipe::pipeline::encode_piped;
+use coder_pipe::pipeline::{Piped, encode_piped};
 use coder_pipe::plan::Plan;
 use cube_core::fault::Fault;
-use cube_core::order::Order;
-use header_bits::params::Coder;
 use lane_workers::list_feed::ListFeed;
 use std::alloc::Global;
+use std::process::Abort;
+use std::sync::Wait;
 use std::test::Fail;
+use std::thread::Threads;
 
 /// The file of twelve zeros, interleaved by pixel.
 const ZEROS: [u8; 26] = [
@@ -24,17 +25,19 @@ const ZEROS: [u8; 26] = [
     0x00, 0x00, 0x88, 0x88, 0x92, 0x49, 0x00,
 ];
 
+/// What becomes of a list of six zeros of each of two predictors.
+fn lists_woven(rt: &impl Abort, alloc: Global) -> Result<Woven, Fault> {
+    let mut lists = Vec::new(alloc);
+    for _ in 0..2 {
+        lists.push(Vec::from_slice(alloc, &[0; 6])?)?;
+    }
+    weave_all(rt, alloc, &plan_by_pixel(rt, alloc)?, &lists)
+}
+
 /// Predictors are wanted by turns, and none behind the last place.
 #[test]
 fn predictors_are_wanted_by_turns(rt: HostRuntime) -> Result<(), Fail> {
-    let alloc = rt.alloc();
-    let params = params_of(&rt, Order::Bi(2), Coder::plain());
-    let (plan, _cube) = plan_and_cube(&rt, alloc, &params, 2, &[0, 1], 1)?;
-    let lists = [
-        Vec::from_slice(alloc, &[0; 6])?,
-        Vec::from_slice(alloc, &[0; 6])?,
-    ];
-    let woven = weave_all(&rt, alloc, &plan, &lists)?;
+    let woven = lists_woven(&rt, rt.alloc())?;
     same(
         &rt,
         woven.wanted.as_slice(),
@@ -63,19 +66,18 @@ fn feeds<'a>(alloc: Global, plan: &Plan, zeros: &'a [u16]) -> Result<Vec<ListFee
     Ok(feeds)
 }
 
+/// What the pipeline makes of them.
+fn feeds_woven<R: Threads + Wait + Sync + Abort>(rt: &R, alloc: Global) -> Result<Piped, Fault> {
+    let plan = plan_by_pixel(rt, alloc)?;
+    let zeros = [0; 6];
+    let feeds = feeds(alloc, &plan, &zeros)?;
+    encode_piped(rt, alloc, plan.params(), &plan, feeds, &OpenGate)
+}
+
 /// They are woven to the same file.
 #[test]
 fn feeds_of_zeros_are_woven(rt: HostRuntime) -> Result<(), Fail> {
-    let params = params_of(&rt, Order::Bi(2), Coder::plain());
-    let (plan, _cube) = plan_and_cube(&rt, rt.alloc(), &params, 2, &[0, 1], 1)?;
-    let zeros = [0; 6];
-    let feeds = feeds(rt.alloc(), &plan, &zeros)?;
-    let made = encode_piped(&rt, rt.alloc(), plan.params(), &plan, feeds, &OpenGate)?;
-    same(&rt, made.file.as_slice(), ZEROS.as_slice());
-    same(&rt, made.lanes.len(), 2);
-    for lane in &made.lanes {
-        same(&rt, lane.sent_count(), 6);
-        same(&rt, lane.received_count(), 6);
-    }
+    let made = feeds_woven(&rt, rt.alloc())?;
+    same_piped(&rt, &made, &ZEROS, &[6, 6]);
     Ok(())
 }
