@@ -1,5 +1,6 @@
 //! What a test finds, beside what it wants.
 
+use band_rings::settled::SettledLane;
 use coder_pipe::pipeline::Piped;
 use std::fmt::Debug;
 use std::process::Abort;
@@ -16,7 +17,12 @@ pub(crate) fn same_piped(rt: &impl Abort, made: &Piped, file: &[u8], carried: &[
     same(rt, made.file.as_slice(), file);
     same(rt, made.lanes.len(), carried.len());
     for (lane, residuals) in made.lanes.iter().zip(carried) {
-        same(rt, lane.sent_count(), *residuals);
-        same(rt, lane.received_count(), *residuals);
+        same_lane(rt, lane, *residuals);
     }
+}
+
+/// Fails where not so many residuals were sent along a lane, or not all of them received.
+pub(crate) fn same_lane(rt: &impl Abort, lane: &SettledLane, residuals: u64) {
+    same(rt, lane.sent_count(), residuals);
+    same(rt, lane.received_count(), residuals);
 }

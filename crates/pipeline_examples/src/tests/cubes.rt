@@ -137,10 +137,23 @@ pub(crate) fn compressed<R: Threads + Wait + Sync + Abort, G: Gate + Sync>(
     gate: &G,
 ) -> Result<Vec<u8>, Fault> {
     let settings = settings_by_pixel(rt, predictors, slots);
-    let mut source = CutSource::new(&SAMPLES, ROOM, None);
     let mut sink = CutSink::new(alloc, ROOM, ROOM, None)?;
-    run_piped(rt, alloc, &mut source, &mut sink, &settings, gate)?;
+    compress(rt, alloc, &mut sink, &settings, gate)?;
     Ok(Vec::from_slice(alloc, sink.taken())?)
+}
+
+/// Compresses its raw bytes into a sink, past a gate.
+fn compress<R: Threads + Wait + Sync + Abort, G: Gate + Sync>(
+    rt: &R,
+    alloc: Global,
+    sink: &mut CutSink,
+    settings: &CompressSettings,
+    gate: &G,
+) -> Result<(), Fault>
+    requires { settings.now.layout.bytes ≡ 1 }
+{
+    let mut source = CutSource::new(&SAMPLES, ROOM, None);
+    run_piped(rt, alloc, &mut source, sink, settings, gate)
 }
 
 /// What a command line asks for that has it compressed by pixel.

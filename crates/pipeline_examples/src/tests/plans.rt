@@ -1,9 +1,8 @@
 //! Which plans are refused.
 
-use super::cubes::{by_pixel, compressed};
+use super::cubes::{by_pixel, compressed, plan_of};
 use crate::tests::checks::same;
 use coder_pipe::OpenGate;
-use coder_pipe::plan::Plan;
 use cube_core::fault::{Fault, Field};
 use std::alloc::Global;
 use std::process::Abort;
@@ -16,9 +15,7 @@ fn refusal(
     deal: &[u8],
     slots: u32,
 ) -> Option<Fault> {
-    let params = by_pixel(rt);
-    assert!(rt; params.check().is_ok());
-    Plan::new(alloc, &params, predictors, deal, slots).err()
+    plan_of(rt, alloc, &by_pixel(rt), predictors, deal, slots).err()
 }
 
 /// Predictors before slots, and slots before the deal.

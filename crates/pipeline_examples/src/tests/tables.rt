@@ -1,11 +1,10 @@
 //! What predictors in threads make of cubes whose parameters hold tables, or name the restricted set of code options.
 
-use super::cubes::BYTES;
+use super::cubes::{BYTES, plan_of};
 use crate::tests::checks::same_piped;
 use coder_pipe::OpenGate;
 use coder_pipe::encode_predicted::encode_predicted;
 use coder_pipe::pipeline::Piped;
-use coder_pipe::plan::Plan;
 use cube_core::cube::Cube;
 use cube_core::fault::Fault;
 use cube_core::kind::Kind;
@@ -74,8 +73,7 @@ fn made_of<R: Threads + Wait + Sync + Abort>(
     samples: &[u8],
     slots: u32,
 ) -> Result<Piped, Fault> {
-    assert!(rt; params.check().is_ok());
-    let plan = Plan::new(alloc, params, 2, &[0, 1], slots)?;
+    let plan = plan_of(rt, alloc, params, 2, &[0, 1], slots)?;
     let cube = Cube::from_raw(alloc, params.shape, params.kind, BYTES, samples)?;
     encode_predicted(rt, alloc, &cube, &plan, &OpenGate)
 }

@@ -25,13 +25,18 @@ const ZEROS: [u8; 26] = [
     0x00, 0x00, 0x88, 0x88, 0x92, 0x49, 0x00,
 ];
 
-/// What becomes of a list of six zeros of each of two predictors.
-fn lists_woven(rt: &impl Abort, alloc: Global) -> Result<Woven, Fault> {
+/// A list of six zeros for each of two predictors.
+fn lists(alloc: Global) -> Result<Vec<Vec<u16>>, Fault> {
     let mut lists = Vec::new(alloc);
     for _ in 0..2 {
         lists.push(Vec::from_slice(alloc, &[0; 6])?)?;
     }
-    weave_all(rt, alloc, &plan_by_pixel(rt, alloc)?, &lists)
+    Ok(lists)
+}
+
+/// What becomes of them.
+fn lists_woven(rt: &impl Abort, alloc: Global) -> Result<Woven, Fault> {
+    weave_all(rt, alloc, &plan_by_pixel(rt, alloc)?, &lists(alloc)?)
 }
 
 /// Predictors are wanted by turns, and none behind the last place.

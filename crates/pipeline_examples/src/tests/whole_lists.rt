@@ -5,7 +5,8 @@ ghost use Rattle.coder_pipe.specs.Sends.{IsSeen};
 
 use super::cubes::{by_blocks, cube_of, params_of, plan_of};
 use super::weaving::weave_all;
-use crate::tests::checks::same_piped;
+use crate::tests::checks::{same, same_lane};
+use band_rings::settled::SettledLane;
 use coder_pipe::OpenGate;
 use coder_pipe::encode_predicted::encode_predicted;
 use coder_pipe::plan::Plan;
@@ -41,20 +42,28 @@ fn jobs<'a>(alloc: Global, cube: &'a Cube, plan: &'a Plan) -> Result<Vec<Job<'a>
     requires seen { IsSeen plan.now.params cube.now }
     requires bands { plan.now.params.shape.bands ≡ 2 }
 {
-    plan.prove_is_plan();
-    let params = plan.params();
     let mut jobs = Vec::new(alloc);
     for predictor in 0..plan.predictors() {
-        jobs.push(Job {
-            cube,
-            plan,
-            predictor,
-            first: Band::new(alloc, params, 0)?,
-            second: Band::new(alloc, params, 1)?,
-            list: Vec::with_capacity(alloc, ALL)?,
-        })?;
+        jobs.push(job_of(alloc, cube, plan, predictor)?)?;
     }
     Ok(jobs)
+}
+
+/// A predictor's job.
+fn job_of<'a>(alloc: Global, cube: &'a Cube, plan: &'a Plan, predictor: u32) -> Result<Job<'a>, Fault>
+    requires seen { IsSeen plan.now.params cube.now }
+    requires bands { plan.now.params.shape.bands ≡ 2 }
+{
+    plan.prove_is_plan();
+    let params = plan.params();
+    Ok(Job {
+        cube,
+        plan,
+        predictor,
+        first: Band::new(alloc, params, 0)?,
+        second: Band::new(alloc, params, 1)?,
+        list: Vec::with_capacity(alloc, ALL)?,
+    })
 }
 
 /// How many residuals there are.
@@ -101,25 +110,47 @@ fn residual_at(rt: &impl Abort, cube: &Cube, band: &mut Band, place: Place) -> u
     band.forward(cube, place.y, place.x)
 }
 
-/// The file, and the length of each list.
-fn by_whole_lists<R: Threads + Sync + Abort>(
+/// The lists of all predictors.
+fn whole_lists<R: Threads + Sync + Abort>(
     rt: &R,
     alloc: Global,
     cube: &Cube,
     plan: &Plan,
-) -> Result<(Vec<u8>, Vec<u64>), Fault>
+) -> Result<Vec<Vec<u16>>, Fault>
     requires seen { IsSeen plan.now.params cube.now }
-    requires bands { (plan.now.params.shape.bands ≡ 2) × (plan.now.params.kind.bits ≡ 8) }
+    requires bands { plan.now.params.shape.bands ≡ 2 }
 {
-    let lists = thread::map_vec(rt, jobs(alloc, cube, plan)?, &|job| filled(rt, job))?;
-    let mut lengths = Vec::new(alloc);
-    for list in &lists {
-        lengths.push(list.len() as u64)?;
-    }
-    Ok((weave_all(rt, alloc, plan, &lists)?.file, lengths))
+    let jobs = jobs(alloc, cube, plan)?;
+    Ok(thread::map_vec(rt, jobs, &|job| filled(rt, job))?)
 }
 
-/// Fails where the pipeline makes another file by a plan, or where its predictors have other numbers of residuals.
+/// Fails where lanes carried other numbers of residuals than lists have.
+fn same_lengths(rt: &impl Abort, lanes: &[SettledLane], lists: &[Vec<u16>]) {
+    same(rt, lanes.len(), lists.len());
+    for (lane, list) in lanes.iter().zip(lists) {
+        same_lane(rt, lane, list.len() as u64);
+    }
+}
+
+/// Fails where the pipeline makes another file than the lists, or where its predictors have other numbers of residuals.
+fn lists_give_the_same<R: Threads + Wait + Sync + Abort>(
+    rt: &R,
+    alloc: Global,
+    cube: &Cube,
+    plan: &Plan,
+) -> Result<(), Fault>
+    requires seen { IsSeen plan.now.params cube.now }
+    requires image { (plan.now.params.shape.bands ≡ 2) × (plan.now.params.kind.bits ≡ 8) }
+{
+    let made = encode_predicted(rt, alloc, cube, plan, &OpenGate)?;
+    let lists = whole_lists(rt, alloc, cube, plan)?;
+    same_lengths(rt, &made.lanes, &lists);
+    let woven = weave_all(rt, alloc, plan, &lists)?;
+    same(rt, made.file, woven.file);
+    Ok(())
+}
+
+/// The same of a plan for cube A.
 fn plan_gives_the_same<R: Threads + Wait + Sync + Abort>(
     rt: &R,
     alloc: Global,
@@ -131,13 +162,10 @@ fn plan_gives_the_same<R: Threads + Wait + Sync + Abort>(
 {
     let plan = plan_of(rt, alloc, params, predictors, deal, 1)?;
     let cube = cube_of(alloc, params)?;
-    let made = encode_predicted(rt, alloc, &cube, &plan, &OpenGate)?;
-    let (file, lengths) = by_whole_lists(rt, alloc, &cube, &plan)?;
-    same_piped(rt, &made, &file, &lengths);
-    Ok(())
+    lists_give_the_same(rt, alloc, &cube, &plan)
 }
 
-/// Fails where one of four plans by an order and a coder does.
+/// The same of four plans by an order and a coder.
 fn plans_give_the_same<R: Threads + Wait + Sync + Abort>(
     rt: &R,
     alloc: Global,
