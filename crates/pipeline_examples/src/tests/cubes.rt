@@ -123,9 +123,21 @@ pub(crate) fn piped<R: Threads + Wait + Sync + Abort, G: Gate + Sync>(
     slots: u32,
     gate: &G,
 ) -> Result<Piped, Fault> {
-    let plan = plan_of(rt, alloc, params, predictors, deal, slots)?;
     let cube = cube_of(alloc, params)?;
+    let plan = plan_of(rt, alloc, params, predictors, deal, slots)?;
     encode_predicted(rt, alloc, &cube, &plan, gate)
+}
+
+/// What predictors of a plan make of it by pixel, past a gate.
+pub(crate) fn piped_by_pixel<R: Threads + Wait + Sync + Abort, G: Gate + Sync>(
+    rt: &R,
+    alloc: Global,
+    predictors: u32,
+    deal: &[u8],
+    slots: u32,
+    gate: &G,
+) -> Result<Piped, Fault> {
+    piped(rt, alloc, &by_pixel(rt), predictors, deal, slots, gate)
 }
 
 /// What the command makes of its raw bytes by pixel and by so many predictors, past a gate.
@@ -136,24 +148,23 @@ pub(crate) fn compressed<R: Threads + Wait + Sync + Abort, G: Gate + Sync>(
     slots: u32,
     gate: &G,
 ) -> Result<Vec<u8>, Fault> {
-    let settings = settings_by_pixel(rt, predictors, slots);
     let mut sink = CutSink::new(alloc, ROOM, ROOM, None)?;
-    compress(rt, alloc, &mut sink, &settings, gate)?;
+    compress(rt, alloc, predictors, slots, gate, &mut sink)?;
     Ok(Vec::from_slice(alloc, sink.taken())?)
 }
 
-/// Compresses its raw bytes into a sink, past a gate.
+/// Compresses them into a sink.
 fn compress<R: Threads + Wait + Sync + Abort, G: Gate + Sync>(
     rt: &R,
     alloc: Global,
-    sink: &mut CutSink,
-    settings: &CompressSettings,
+    predictors: u32,
+    slots: u32,
     gate: &G,
-) -> Result<(), Fault>
-    requires { settings.now.layout.bytes ≡ 1 }
-{
+    sink: &mut CutSink,
+) -> Result<(), Fault> {
+    let settings = settings_by_pixel(rt, predictors, slots);
     let mut source = CutSource::new(&SAMPLES, ROOM, None);
-    run_piped(rt, alloc, &mut source, sink, settings, gate)
+    run_piped(rt, alloc, &mut source, sink, &settings, gate)
 }
 
 /// What a command line asks for that has it compressed by pixel.

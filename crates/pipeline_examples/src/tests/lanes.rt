@@ -2,7 +2,7 @@
 
 ghost use Rattle.std.specs.Prelude.{◌≡◌, [], ◌∷◌, IfOk};
 ghost use Rattle.cube_core.specs.Image.{Image};
-ghost use Rattle.coder_pipe.specs.Sends.{AreFresh, IsSeen};
+ghost use Rattle.coder_pipe.specs.Sends.{AreFresh};
 
 use super::cubes::{cube_of, plan_by_pixel};
 use super::gates::StopAt;
@@ -14,7 +14,6 @@ use band_rings::settled::{SettledLane, settle};
 use coder_pipe::LaneEnd;
 use coder_pipe::plan::Plan;
 use coder_pipe::predict_lane::predict_lane;
-use cube_core::cube::Cube;
 use cube_core::fault::Fault;
 use predict_core::band::Band;
 use std::alloc::Global;
@@ -81,27 +80,24 @@ fn run_first<R: Wait + Abort>(
     requires { sender.sent ≡ [] }
     ensures { IfOk result (λ end. end.closed.lane ≡ sender.lane) }
 {
-    let plan = plan_by_pixel(rt, alloc)?;
-    let cube = cube_of(alloc, plan.params())?;
-    run_band(rt, alloc, &cube, &plan, sender, gate)
+    run_plan(rt, alloc, &plan_by_pixel(rt, alloc)?, sender, gate)
 }
 
-/// How it ends with a cube and a plan.
-fn run_band<R: Wait>(
+/// How it ends with a plan.
+fn run_plan<R: Wait>(
     rt: &R,
     alloc: Global,
-    cube: &Cube,
     plan: &Plan,
     sender: LaneSender,
     gate: &StopAt,
 ) -> Result<LaneEnd, Fault>
     requires plan { (plan.now.deal ≡ 0 ∷ 1 ∷ []) × (plan.now.params.shape.bands ≡ 2) }
-    requires image { IsSeen plan.now.params cube.now }
     requires sent { sender.sent ≡ [] }
     ensures { IfOk result (λ end. end.closed.lane ≡ sender.lane) }
 {
+    let cube = cube_of(alloc, plan.params())?;
     let bands = first_band(alloc, plan)?;
-    Ok(predict_lane(rt, cube, plan, 0, bands, sender, gate))
+    Ok(predict_lane(rt, &cube, plan, 0, bands, sender, gate))
 }
 
 /// Fails where it isn't stopped with these numbers sent along a lane of so many slots, from which nothing is received until then.

@@ -1,6 +1,6 @@
 //! What predictors in threads make of cube A.
 
-use super::cubes::{BY_PIXEL, by_blocks, by_one, by_pixel, params_of, piped};
+use super::cubes::{BY_PIXEL, by_blocks, by_one, params_of, piped, piped_by_pixel};
 use crate::tests::checks::{same, same_piped};
 use coder_pipe::{Gate, OpenGate};
 use cube_core::fault::Fault;
@@ -22,7 +22,7 @@ fn make_it<R: Threads + Wait + Sync + Abort, G: Gate + Sync>(
     gate: &G,
     carried: &[u64],
 ) -> Result<(), Fault> {
-    let made = piped(rt, alloc, &by_pixel(rt), predictors, deal, slots, gate)?;
+    let made = piped_by_pixel(rt, alloc, predictors, deal, slots, gate)?;
     same_piped(rt, &made, &BY_PIXEL, carried);
     Ok(())
 }
@@ -69,10 +69,18 @@ fn three_make_it<R: Threads + Wait + Sync + Abort>(
     order: Order,
     coder: Coder,
 ) -> Result<(), Fault> {
-    let params = params_of(rt, order, coder);
-    let wanted = by_one(rt, alloc, &params)?;
+    deals_make_it(rt, alloc, &params_of(rt, order, coder))
+}
+
+/// The same by parameters.
+fn deals_make_it<R: Threads + Wait + Sync + Abort>(
+    rt: &R,
+    alloc: Global,
+    params: &Params,
+) -> Result<(), Fault> {
+    let wanted = by_one(rt, alloc, params)?;
     for deal in [[0, 1], [1, 0], [1, 1]] {
-        deal_makes(rt, alloc, &params, &deal, &wanted)?;
+        deal_makes(rt, alloc, params, &deal, &wanted)?;
     }
     Ok(())
 }

@@ -73,8 +73,8 @@ fn made_of<R: Threads + Wait + Sync + Abort>(
     samples: &[u8],
     slots: u32,
 ) -> Result<Piped, Fault> {
-    let plan = plan_of(rt, alloc, params, 2, &[0, 1], slots)?;
     let cube = Cube::from_raw(alloc, params.shape, params.kind, BYTES, samples)?;
+    let plan = plan_of(rt, alloc, params, 2, &[0, 1], slots)?;
     encode_predicted(rt, alloc, &cube, &plan, &OpenGate)
 }
 

@@ -36,7 +36,8 @@ fn lists(alloc: Global) -> Result<Vec<Vec<u16>>, Fault> {
 
 /// What becomes of them.
 fn lists_woven(rt: &impl Abort, alloc: Global) -> Result<Woven, Fault> {
-    weave_all(rt, alloc, &plan_by_pixel(rt, alloc)?, &lists(alloc)?)
+    let lists = lists(alloc)?;
+    weave_all(rt, alloc, &plan_by_pixel(rt, alloc)?, &lists)
 }
 
 /// Predictors are wanted by turns, and none behind the last place.
@@ -72,17 +73,31 @@ fn feeds<'a>(alloc: Global, plan: &Plan, zeros: &'a [u16]) -> Result<Vec<ListFee
 }
 
 /// What the pipeline makes of them.
-fn feeds_woven<R: Threads + Wait + Sync + Abort>(rt: &R, alloc: Global) -> Result<Piped, Fault> {
-    let plan = plan_by_pixel(rt, alloc)?;
+fn feeds_woven<R: Threads + Wait + Sync + Abort>(
+    rt: &R,
+    alloc: Global,
+    plan: &Plan,
+) -> Result<Piped, Fault>
+    requires plan { (plan.now.predictors ≡ 2) × (plan.now.deal ≡ 0 ∷ 1 ∷ []) }
+    requires image { (plan.now.params.shape ≡ record { columns = 3; rows = 2; bands = 2 }) × (plan.now.params.kind.bits ≡ 8) × (plan.now.params.order ≡ Bi 2) }
+{
     let zeros = [0; 6];
-    let feeds = feeds(alloc, &plan, &zeros)?;
-    encode_piped(rt, alloc, plan.params(), &plan, feeds, &OpenGate)
+    let feeds = feeds(alloc, plan, &zeros)?;
+    encode_piped(rt, alloc, plan.params(), plan, feeds, &OpenGate)
+}
+
+/// The same by a plan by pixel.
+fn feeds_woven_by_pixel<R: Threads + Wait + Sync + Abort>(
+    rt: &R,
+    alloc: Global,
+) -> Result<Piped, Fault> {
+    feeds_woven(rt, alloc, &plan_by_pixel(rt, alloc)?)
 }
 
 /// They are woven to the same file.
 #[test]
 fn feeds_of_zeros_are_woven(rt: HostRuntime) -> Result<(), Fail> {
-    let made = feeds_woven(&rt, rt.alloc())?;
+    let made = feeds_woven_by_pixel(&rt, rt.alloc())?;
     same_piped(&rt, &made, &ZEROS, &[6, 6]);
     Ok(())
 }

@@ -50,7 +50,12 @@ fn jobs<'a>(alloc: Global, cube: &'a Cube, plan: &'a Plan) -> Result<Vec<Job<'a>
 }
 
 /// A predictor's job.
-fn job_of<'a>(alloc: Global, cube: &'a Cube, plan: &'a Plan, predictor: u32) -> Result<Job<'a>, Fault>
+fn job_of<'a>(
+    alloc: Global,
+    cube: &'a Cube,
+    plan: &'a Plan,
+    predictor: u32,
+) -> Result<Job<'a>, Fault>
     requires seen { IsSeen plan.now.params cube.now }
     requires bands { plan.now.params.shape.bands ≡ 2 }
 {
@@ -160,8 +165,8 @@ fn plan_gives_the_same<R: Threads + Wait + Sync + Abort>(
 ) -> Result<(), Fault>
     requires { (params.now.shape.bands ≡ 2) × (params.now.kind.bits ≡ 8) }
 {
-    let plan = plan_of(rt, alloc, params, predictors, deal, 1)?;
     let cube = cube_of(alloc, params)?;
+    let plan = plan_of(rt, alloc, params, predictors, deal, 1)?;
     lists_give_the_same(rt, alloc, &cube, &plan)
 }
 
@@ -172,9 +177,19 @@ fn plans_give_the_same<R: Threads + Wait + Sync + Abort>(
     order: Order,
     coder: Coder,
 ) -> Result<(), Fault> {
-    let params = params_of(rt, order, coder);
+    four_give_the_same(rt, alloc, &params_of(rt, order, coder))
+}
+
+/// The same of four plans by parameters.
+fn four_give_the_same<R: Threads + Wait + Sync + Abort>(
+    rt: &R,
+    alloc: Global,
+    params: &Params,
+) -> Result<(), Fault>
+    requires { (params.now.shape.bands ≡ 2) × (params.now.kind.bits ≡ 8) }
+{
     for (predictors, deal) in [(2, [0, 1]), (2, [0, 0]), (64, [63, 63]), (64, [40, 7])] {
-        plan_gives_the_same(rt, alloc, &params, predictors, &deal)?;
+        plan_gives_the_same(rt, alloc, params, predictors, &deal)?;
     }
     Ok(())
 }
