@@ -1,9 +1,14 @@
 //! Lanes on one thread.
 
+ghost use Rattle.cube_core.specs.Shape.{InRange};
+
 use crate::tests::checks::same;
 use band_rings::lane::lane;
-use band_rings::settled::settle;
+use band_rings::receiver::LaneReceiver;
+use band_rings::sender::LaneSender;
+use band_rings::settled::{SettledLane, settle};
 use cube_core::fault::{Fault, Field};
+use std::process::Abort;
 use std::test::Fail;
 
 #[test]
@@ -20,16 +25,24 @@ fn no_lane_of_no_slots(rt: HostRuntime) {
 #[test]
 fn every_slot_takes_a_number(rt: HostRuntime) -> Result<(), Fail> {
     for slots in [1, 2, 1024, 65_536] {
-        let (mut sender, mut receiver) = lane(rt.alloc(), slots)?;
-        for number in 0..slots {
-            assert!(rt; sender.try_send(number as u16).is_ok());
-        }
-        same(&rt, sender.try_send(7), Err(7));
-        same(&rt, receiver.try_recv(), Some(0));
-        same(&rt, sender.try_send(7), Ok(()));
-        same(&rt, sender.sent_count(), u64::from(slots) + 1);
+        let (sender, receiver) = lane(rt.alloc(), slots)?;
+        takes_so_many(&rt, slots, sender, receiver);
     }
     Ok(())
+}
+
+/// Fails where a lane doesn't take a number for each of so many slots, and the next once one is received.
+fn takes_so_many(rt: &impl Abort, slots: u32, sender: LaneSender, receiver: LaneReceiver)
+    requires { InRange 1 65536 slots }
+{
+    let (mut sender, mut receiver) = (sender, receiver);
+    for number in 0..slots {
+        assert!(rt; sender.try_send(number as u16).is_ok());
+    }
+    same(rt, sender.try_send(7), Err(7));
+    same(rt, receiver.try_recv(), Some(0));
+    same(rt, sender.try_send(7), Ok(()));
+    same(rt, sender.sent_count(), u64::from(slots) + 1);
 }
 
 #[test]
@@ -42,13 +55,18 @@ fn third_number_comes_back(rt: HostRuntime) -> Result<(), Fail> {
     same(&rt, receiver.try_recv(), Some(5));
     let closed = sender.close();
     same(&rt, closed.sent_count(), 2);
-    let mut settled = settle(receiver, closed);
-    same(&rt, settled.sent_count(), 2);
-    same(&rt, settled.received_count(), 1);
-    same(&rt, settled.take_left(), Some(6));
-    same(&rt, settled.take_left(), None);
-    same(&rt, settled.received_count(), 2);
+    one_is_left(&rt, settle(receiver, closed), 2, 1, 6);
     Ok(())
+}
+
+/// Fails where not so many numbers of a lane were sent, and so many received, or where not this one alone is left.
+fn one_is_left(rt: &impl Abort, settled: SettledLane, sent: u64, received: u64, left: u16) {
+    let mut settled = settled;
+    same(rt, settled.sent_count(), sent);
+    same(rt, settled.received_count(), received);
+    same(rt, settled.take_left(), Some(left));
+    same(rt, settled.take_left(), None);
+    same(rt, settled.received_count(), sent);
 }
 
 #[test]
@@ -76,9 +94,6 @@ fn room_takes_what_is_there(rt: HostRuntime) -> Result<(), Fail> {
     same(&rt, receiver.recv_run(&mut room), 3);
     same(&rt, room, [7, 8, 9]);
     same(&rt, receiver.recv_run(&mut []), 0);
-    let mut settled = settle(receiver, sender.close());
-    same(&rt, settled.received_count(), 5);
-    same(&rt, settled.take_left(), Some(10));
-    same(&rt, settled.take_left(), None);
+    one_is_left(&rt, settle(receiver, sender.close()), 6, 5, 10);
     Ok(())
 }

@@ -1,12 +1,19 @@
 //! What a feed sends past a gate, in which runs, and what the gate is asked.
 
+ghost use Rattle.std.specs.Prelude.{◌≡◌, []};
+
 use super::gates::{Noted, StopAt, TakesOne};
 use crate::tests::checks::same;
 use band_rings::lane::lane;
-use lane_workers::feed::Feed;
-use lane_workers::gate::OpenGate;
+use band_rings::receiver::LaneReceiver;
+use band_rings::sender::LaneSender;
+use cube_core::fault::Fault;
+use lane_workers::feed::{Feed, LaneEnd};
+use lane_workers::gate::{Gate, OpenGate};
 use lane_workers::list_feed::ListFeed;
-use std::sync::Mutex;
+use std::alloc::Global;
+use std::process::Abort;
+use std::sync::{Mutex, Wait};
 use std::test::Fail;
 
 /// A predictor's numbers.
@@ -15,57 +22,81 @@ const NUMBERS: [u16; 6] = [55, 3, 5, 0, 4, 2];
 /// Seventeen numbers.
 const MORE: [u16; 17] = [1, 2, 3, 4, 5, 6, 7, 8, 9, 10, 11, 12, 13, 14, 15, 16, 17];
 
+/// How predictor 0 ends, whose feed sends numbers past a gate.
+fn run<R: Wait, G: Gate>(rt: &R, numbers: &[u16], sender: LaneSender, gate: &G) -> LaneEnd
+    requires { sender.sent ≡ [] }
+{
+    let feed = ListFeed {
+        predictor: 0,
+        numbers,
+    };
+    feed.run(rt, sender, gate)
+}
+
+/// How it ends on a lane of so many slots, and the end of the lane that has received nothing.
+fn run_on<R: Wait, G: Gate>(
+    rt: &R,
+    alloc: Global,
+    slots: u32,
+    numbers: &[u16],
+    gate: &G,
+) -> Result<(LaneEnd, LaneReceiver), Fault> {
+    let (sender, receiver) = lane(alloc, slots)?;
+    Ok((run(rt, numbers, sender, gate), receiver))
+}
+
+/// A gate that stops a predictor at an item once it has come back so often, and knows what it was asked.
+fn noted(predictor: u32, nth: u64, turn: u64) -> Noted<StopAt> {
+    Noted::new(StopAt {
+        predictor,
+        nth,
+        turn,
+    })
+}
+
+/// Fails where a predictor was stopped though its list was to be sent, or the other way round, or where it sent more or fewer numbers.
+fn same_end(rt: &impl Abort, end: LaneEnd, whole: bool, sent: u64) {
+    same(rt, end.whole, whole);
+    same(rt, end.closed.sent_count(), sent);
+}
+
+/// Fails where a room doesn't take so many numbers of a lane, or is another then.
+fn same_room<const ROOM: usize>(
+    rt: &impl Abort,
+    receiver: LaneReceiver,
+    count: usize,
+    wanted: [u16; ROOM],
+) {
+    let mut receiver = receiver;
+    let mut room = [0; ROOM];
+    same(rt, receiver.recv_run(&mut room), count);
+    same(rt, room, wanted);
+}
+
 #[test]
 fn open_gate_stops_nobody(rt: HostRuntime) -> Result<(), Fail> {
     for slots in [6, 7, 8, 1024] {
-        let (sender, mut receiver) = lane(rt.alloc(), slots)?;
-        let feed = ListFeed {
-            predictor: 0,
-            numbers: &NUMBERS,
-        };
-        let end = feed.run(&rt, sender, &OpenGate);
-        assert!(rt; end.whole);
-        same(&rt, end.closed.sent_count(), 6);
-        let mut room = [0; 7];
-        same(&rt, receiver.recv_run(&mut room), 6);
-        same(&rt, room, [55, 3, 5, 0, 4, 2, 0]);
+        let (end, receiver) = run_on(&rt, rt.alloc(), slots, &NUMBERS, &OpenGate)?;
+        same_end(&rt, end, true, 6);
+        same_room(&rt, receiver, 6, [55, 3, 5, 0, 4, 2, 0]);
     }
     Ok(())
 }
 
 #[test]
 fn nothing_is_a_whole_list(rt: HostRuntime) -> Result<(), Fail> {
-    let gate = Noted::new(StopAt {
-        predictor: 0,
-        nth: 0,
-        turn: 0,
-    });
-    let (sender, _receiver) = lane(rt.alloc(), 1)?;
-    let feed = ListFeed {
-        predictor: 0,
-        numbers: &[],
-    };
-    let end = feed.run(&rt, sender, &gate);
-    assert!(rt; end.whole);
+    let gate = noted(0, 0, 0);
+    let (end, _receiver) = run_on(&rt, rt.alloc(), 1, &[], &gate)?;
+    same_end(&rt, end, true, 0);
     assert!(rt; gate.was_asked(&[]));
     Ok(())
 }
 
 #[test]
 fn stops_behind_a_run_of_two(rt: HostRuntime) -> Result<(), Fail> {
-    let gate = Noted::new(StopAt {
-        predictor: 0,
-        nth: 2,
-        turn: 0,
-    });
-    let (sender, mut receiver) = lane(rt.alloc(), 2)?;
-    let feed = ListFeed {
-        predictor: 0,
-        numbers: &NUMBERS,
-    };
-    let end = feed.run(&rt, sender, &gate);
-    assert!(rt; !end.whole);
-    same(&rt, end.closed.sent_count(), 2);
+    let gate = noted(0, 2, 0);
+    let (end, mut receiver) = run_on(&rt, rt.alloc(), 2, &NUMBERS, &gate)?;
+    same_end(&rt, end, false, 2);
     assert!(rt; gate.was_asked(&[(0, 3, 0)]));
     same(&rt, receiver.try_recv(), Some(55));
     same(&rt, receiver.try_recv(), Some(3));
@@ -75,72 +106,45 @@ fn stops_behind_a_run_of_two(rt: HostRuntime) -> Result<(), Fail> {
 
 #[test]
 fn numbers_before_the_stop_go_singly(rt: HostRuntime) -> Result<(), Fail> {
-    let gate = Noted::new(StopAt {
-        predictor: 0,
-        nth: 2,
-        turn: 0,
-    });
-    let (sender, mut receiver) = lane(rt.alloc(), 8)?;
-    let feed = ListFeed {
-        predictor: 0,
-        numbers: &NUMBERS,
-    };
-    let end = feed.run(&rt, sender, &gate);
-    assert!(rt; !end.whole);
-    same(&rt, end.closed.sent_count(), 2);
+    let gate = noted(0, 2, 0);
+    let (end, receiver) = run_on(&rt, rt.alloc(), 8, &NUMBERS, &gate)?;
+    same_end(&rt, end, false, 2);
     // Each is asked for again before it goes, and the one at which the gate stops is not.
     assert!(rt; gate.was_asked(&[(0, 3, 0), (0, 2, 0)]));
-    let mut room = [0; 3];
-    same(&rt, receiver.recv_run(&mut room), 2);
-    same(&rt, room, [55, 3, 0]);
+    same_room(&rt, receiver, 2, [55, 3, 0]);
     Ok(())
 }
 
 #[test]
 fn other_predictors_are_not_stopped(rt: HostRuntime) -> Result<(), Fail> {
-    let gate = Noted::new(StopAt {
-        predictor: 1,
-        nth: 2,
-        turn: 0,
-    });
-    let (sender, _receiver) = lane(rt.alloc(), 8)?;
-    let feed = ListFeed {
-        predictor: 0,
-        numbers: &NUMBERS,
-    };
-    let end = feed.run(&rt, sender, &gate);
-    assert!(rt; end.whole);
+    let gate = noted(1, 2, 0);
+    let (end, _receiver) = run_on(&rt, rt.alloc(), 8, &NUMBERS, &gate)?;
+    same_end(&rt, end, true, 6);
     assert!(rt; gate.was_asked(&[(0, 6, 0)]));
     Ok(())
 }
 
+/// How a predictor ends on a lane of one slot, whose receiver is gone.
+fn run_to_nobody<R: Wait, G: Gate>(rt: &R, alloc: Global, gate: &G) -> Result<LaneEnd, Fault> {
+    let (sender, receiver) = lane(alloc, 1)?;
+    drop(receiver);
+    Ok(run(rt, &NUMBERS, sender, gate))
+}
+
 #[test]
 fn comes_back_until_it_is_stopped(rt: HostRuntime) -> Result<(), Fail> {
-    let gate = Noted::new(StopAt {
-        predictor: 0,
-        nth: 1,
-        turn: 5,
-    });
-    // There is nobody to receive.
-    let (sender, receiver) = lane(rt.alloc(), 1)?;
-    drop(receiver);
-    let feed = ListFeed {
-        predictor: 0,
-        numbers: &NUMBERS,
-    };
-    let end = feed.run(&rt, sender, &gate);
-    assert!(rt; !end.whole);
-    same(&rt, end.closed.sent_count(), 1);
-    assert!(rt;
-        gate.was_asked(&[
-            (0, 2, 0),
-            (1, 2, 1),
-            (1, 2, 2),
-            (1, 2, 3),
-            (1, 2, 4),
-            (1, 2, 5)
-        ])
-    );
+    let gate = noted(0, 1, 5);
+    let end = run_to_nobody(&rt, rt.alloc(), &gate)?;
+    same_end(&rt, end, false, 1);
+    let questions = [
+        (0, 2, 0),
+        (1, 2, 1),
+        (1, 2, 2),
+        (1, 2, 3),
+        (1, 2, 4),
+        (1, 2, 5),
+    ];
+    assert!(rt; gate.was_asked(&questions));
     Ok(())
 }
 
@@ -150,13 +154,7 @@ fn first_of_a_refused_run_goes_alone(rt: HostRuntime) -> Result<(), Fail> {
     let gate = Noted::new(TakesOne {
         receiver: Mutex::new(receiver),
     });
-    let feed = ListFeed {
-        predictor: 0,
-        numbers: &MORE,
-    };
-    let end = feed.run(&rt, sender, &gate);
-    assert!(rt; end.whole);
-    same(&rt, end.closed.sent_count(), 17);
+    same_end(&rt, run(&rt, &MORE, sender, &gate), true, 17);
     let questions = [
         // The first run goes, and the second is refused,
         (0, 8, 0),

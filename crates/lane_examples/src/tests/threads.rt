@@ -7,7 +7,8 @@ use band_rings::closed::ClosedLane;
 use band_rings::lane::lane;
 use band_rings::receiver::LaneReceiver;
 use band_rings::sender::LaneSender;
-use band_rings::settled::settle;
+use band_rings::settled::{SettledLane, settle};
+use std::process::Abort;
 use std::test::Fail;
 use std::thread;
 
@@ -103,6 +104,14 @@ fn numbers() -> [u16; NUMBERS] {
     numbers
 }
 
+/// Fails where not all numbers went through a lane.
+fn all_went(rt: &impl Abort, settled: SettledLane) {
+    let mut settled = settled;
+    same(rt, settled.sent_count(), 64);
+    same(rt, settled.received_count(), 64);
+    same(rt, settled.take_left(), None);
+}
+
 #[test]
 fn one_slot_sixty_four(rt: HostRuntime) -> Result<(), Fail> {
     let sent = numbers();
@@ -117,10 +126,7 @@ fn one_slot_sixty_four(rt: HostRuntime) -> Result<(), Fail> {
             ensures { result.lane ≡ receiver.lane }
         { receive_singly(receiver, &mut received) },
     );
-    let mut settled = settle(receiver, closed);
-    same(&rt, settled.sent_count(), 64);
-    same(&rt, settled.received_count(), 64);
-    same(&rt, settled.take_left(), None);
+    all_went(&rt, settle(receiver, closed));
     same(&rt, received, sent);
     Ok(())
 }
@@ -139,10 +145,7 @@ fn runs_go_through_five_slots(rt: HostRuntime) -> Result<(), Fail> {
             ensures { result.lane ≡ receiver.lane }
         { receive_in_runs(receiver, &mut received) },
     );
-    let mut settled = settle(receiver, closed);
-    same(&rt, settled.sent_count(), 64);
-    same(&rt, settled.received_count(), 64);
-    same(&rt, settled.take_left(), None);
+    all_went(&rt, settle(receiver, closed));
     same(&rt, received, sent);
     Ok(())
 }

@@ -1,6 +1,6 @@
 //! Workers in threads of their own, and what is handed on of them.
 
-ghost use Rattle.std.specs.Prelude.{◌≡◌, [], length};
+ghost use Rattle.std.specs.Prelude.{◌≡◌, ◌<◌, length};
 ghost use Rattle.cube_core.specs.Shape.{InRange};
 
 use super::gates::StopAt;
@@ -10,6 +10,8 @@ use lane_workers::gate::{Gate, OpenGate};
 use lane_workers::list_feed::ListFeed;
 use lane_workers::ready::Ready;
 use lane_workers::stage::Stage;
+use std::alloc::Global;
+use std::process::Abort;
 use std::sync::Wait;
 use std::sync::atomic::{AtomicBool, Ordering};
 use std::test::Fail;
@@ -101,57 +103,105 @@ fn numbers<const COUNT: usize>() -> [u16; COUNT] {
     numbers
 }
 
-#[test]
-fn list_is_handed_on(rt: HostRuntime) -> Result<(), Fail> {
+/// What comes of predictor 3 in a thread of its own, which sends a list along a lane of so many slots past a gate.
+fn outcome_of<R: Threads + Wait + Sync, G: Gate + Sync>(
+    rt: &R,
+    alloc: Global,
+    slots: u32,
+    list: &[u16],
+    gate: &G,
+    room: &mut [u16],
+) -> Result<Outcome, Fault>
+    requires slots { InRange 1 65536 slots }
+    requires room { length room.old ≡ length list.now }
+{
+    let over = AtomicBool::new(false);
+    let feed = ListFeed {
+        predictor: 3,
+        numbers: list,
+    };
+    let ready = Ready::new(alloc, slots, feed)?;
+    thread::scope(
+        thread::scope_env(),
+        rt,
+        |scope| -> Result<Outcome, Fault>
+            requires { length room.now ≡ length ready.feed.numbers.now }
+        { run(scope, rt, ready, gate, &over, room) },
+    )
+}
+
+/// Fails where an open gate doesn't let a list of 200 numbers through.
+fn goes_through<R: Threads + Wait + Sync + Abort>(
+    rt: &R,
+    alloc: Global,
+    slots: u32,
+) -> Result<(), Fault>
+    requires { InRange 1 65536 slots }
+{
     let list = numbers::<200>();
-    for slots in [1, 2, 5, 8, 1024] {
-        let over = AtomicBool::new(false);
-        let mut room = [0; 200];
-        let feed = ListFeed {
-            predictor: 3,
-            numbers: &list,
-        };
-        let ready = Ready::new(rt.alloc(), slots, feed)?;
-        let outcome = thread::scope(thread::scope_env(), &rt, |scope| {
-            run(scope, &rt, ready, &OpenGate, &over, &mut room)
-        })?;
-        let whole = Outcome::Whole {
-            sent: 200,
-            received: 200,
-        };
-        same(&rt, outcome, whole);
-        same(&rt, room, list);
-    }
+    let mut room = [0; 200];
+    let whole = Outcome::Whole {
+        sent: 200,
+        received: 200,
+    };
+    same(
+        rt,
+        outcome_of(rt, alloc, slots, &list, &OpenGate, &mut room)?,
+        whole,
+    );
+    same(rt, room, list);
     Ok(())
 }
 
 #[test]
-fn stopped_worker_is_told(rt: HostRuntime) -> Result<(), Fail> {
+fn list_is_handed_on(rt: HostRuntime) -> Result<(), Fail> {
+    for slots in [1, 2, 5, 8, 1024] {
+        goes_through(&rt, rt.alloc(), slots)?;
+    }
+    Ok(())
+}
+
+/// Fails where a gate doesn't stop a worker at one of 200 numbers, or where others than those before it are handed on.
+fn is_told<R: Threads + Wait + Sync + Abort>(
+    rt: &R,
+    alloc: Global,
+    slots: u32,
+    nth: u64,
+) -> Result<(), Fault>
+    requires slots { InRange 1 65536 slots }
+    requires nth { nth < 200 }
+{
     let list = numbers::<200>();
+    let mut room = [0; 200];
+    let stopped = Outcome::Stopped {
+        handed: nth as usize,
+        sent: nth,
+        joined: Some(nth),
+    };
+    let gate = stop_at(nth);
+    same(
+        rt,
+        outcome_of(rt, alloc, slots, &list, &gate, &mut room)?,
+        stopped,
+    );
+    same(rt, &room[..nth as usize], &list[..nth as usize]);
+    Ok(())
+}
+
+/// A gate that stops predictor 3 at a number.
+fn stop_at(nth: u64) -> StopAt {
+    StopAt {
+        predictor: 3,
+        nth,
+        turn: 0,
+    }
+}
+
+#[test]
+fn stopped_worker_is_told(rt: HostRuntime) -> Result<(), Fail> {
     for slots in [1, 2, 5, 8, 1024] {
         for nth in [0, 1, 7, 8, 9, 63, 64, 65, 199] {
-            let gate = StopAt {
-                predictor: 3,
-                nth,
-                turn: 0,
-            };
-            let over = AtomicBool::new(false);
-            let mut room = [0; 200];
-            let feed = ListFeed {
-                predictor: 3,
-                numbers: &list,
-            };
-            let ready = Ready::new(rt.alloc(), slots, feed)?;
-            let outcome = thread::scope(thread::scope_env(), &rt, |scope| {
-                run(scope, &rt, ready, &gate, &over, &mut room)
-            })?;
-            let stopped = Outcome::Stopped {
-                handed: nth as usize,
-                sent: nth,
-                joined: Some(nth),
-            };
-            same(&rt, outcome, stopped);
-            same(&rt, &room[..nth as usize], &list[..nth as usize]);
+            is_told(&rt, rt.alloc(), slots, nth)?;
         }
     }
     Ok(())
@@ -160,21 +210,8 @@ fn stopped_worker_is_told(rt: HostRuntime) -> Result<(), Fail> {
 #[test]
 fn gate_behind_the_list_stops_nobody(rt: HostRuntime) -> Result<(), Fail> {
     let list = numbers::<6>();
-    let gate = StopAt {
-        predictor: 3,
-        nth: 6,
-        turn: 0,
-    };
-    let over = AtomicBool::new(false);
     let mut room = [0; 6];
-    let feed = ListFeed {
-        predictor: 3,
-        numbers: &list,
-    };
-    let ready = Ready::new(rt.alloc(), 1, feed)?;
-    let outcome = thread::scope(thread::scope_env(), &rt, |scope| {
-        run(scope, &rt, ready, &gate, &over, &mut room)
-    })?;
+    let outcome = outcome_of(&rt, rt.alloc(), 1, &list, &stop_at(6), &mut room)?;
     let whole = Outcome::Whole {
         sent: 6,
         received: 6,
@@ -184,25 +221,29 @@ fn gate_behind_the_list_stops_nobody(rt: HostRuntime) -> Result<(), Fail> {
     Ok(())
 }
 
+/// Whether a worker ends at a gate, though its 200 numbers are dropped, and after how many it was stopped.
+fn dropped<R: Threads + Wait + Sync>(
+    rt: &R,
+    alloc: Global,
+    gate: &StopAt,
+) -> Result<(bool, Option<u64>), Fault> {
+    let list = numbers::<200>();
+    let over = AtomicBool::new(false);
+    let feed = ListFeed {
+        predictor: 3,
+        numbers: &list,
+    };
+    let ready = Ready::new(alloc, 2, feed)?;
+    thread::scope(thread::scope_env(), rt, |scope| {
+        skipped(scope, rt, ready, gate, &over)
+    })
+}
+
 #[test]
 fn worker_ends_whose_numbers_are_dropped(rt: HostRuntime) -> Result<(), Fail> {
-    let list = numbers::<200>();
     for (nth, stopped) in [(130, Some(130)), (200, None)] {
-        let gate = StopAt {
-            predictor: 3,
-            nth,
-            turn: 0,
-        };
-        let over = AtomicBool::new(false);
-        let feed = ListFeed {
-            predictor: 3,
-            numbers: &list,
-        };
-        let ready = Ready::new(rt.alloc(), 2, feed)?;
-        let outcome = thread::scope(thread::scope_env(), &rt, |scope| {
-            skipped(scope, &rt, ready, &gate, &over)
-        })?;
-        same(&rt, outcome, (true, stopped));
+        let ended = dropped(&rt, rt.alloc(), &stop_at(nth))?;
+        same(&rt, ended, (true, stopped));
     }
     Ok(())
 }
