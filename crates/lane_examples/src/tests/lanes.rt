@@ -1,5 +1,6 @@
 //! Lanes on one thread.
 
+ghost use Rattle.std.specs.Prelude.{◌≡◌};
 ghost use Rattle.cube_core.specs.Shape.{InRange};
 
 use crate::tests::checks::same;
@@ -81,18 +82,30 @@ fn runs_on_two_slots(rt: HostRuntime) -> Result<(), Fail> {
     Ok(())
 }
 
+/// Fails where a room doesn't take so many numbers of a lane, or holds others then.
+fn room_takes(
+    rt: &impl Abort,
+    receiver: &mut LaneReceiver,
+    room: &mut [u16; 3],
+    count: usize,
+    wanted: [u16; 3],
+)
+    ensures { receiver.new.lane ≡ receiver.old.lane }
+{
+    same(rt, receiver.recv_run(room), count);
+    same(rt, *room, wanted);
+}
+
 #[test]
 fn room_takes_what_is_there(rt: HostRuntime) -> Result<(), Fail> {
     let (mut sender, mut receiver) = lane(rt.alloc(), 4)?;
     let mut room = [0; 3];
     same(&rt, receiver.recv_run(&mut room), 0);
     assert!(rt; sender.send_run(&[5, 6]));
-    same(&rt, receiver.recv_run(&mut room), 2);
-    same(&rt, room, [5, 6, 0]);
+    room_takes(&rt, &mut receiver, &mut room, 2, [5, 6, 0]);
     // These go round the end of the ring.
     assert!(rt; sender.send_run(&[7, 8, 9, 10]));
-    same(&rt, receiver.recv_run(&mut room), 3);
-    same(&rt, room, [7, 8, 9]);
+    room_takes(&rt, &mut receiver, &mut room, 3, [7, 8, 9]);
     same(&rt, receiver.recv_run(&mut []), 0);
     one_is_left(&rt, settle(receiver, sender.close()), 6, 5, 10);
     Ok(())

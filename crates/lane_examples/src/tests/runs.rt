@@ -7,11 +7,9 @@ use crate::tests::checks::same;
 use band_rings::lane::lane;
 use band_rings::receiver::LaneReceiver;
 use band_rings::sender::LaneSender;
-use cube_core::fault::Fault;
 use lane_workers::feed::{Feed, LaneEnd};
 use lane_workers::gate::{Gate, OpenGate};
 use lane_workers::list_feed::ListFeed;
-use std::alloc::Global;
 use std::process::Abort;
 use std::sync::{Mutex, Wait};
 use std::test::Fail;
@@ -33,31 +31,36 @@ fn run<R: Wait, G: Gate>(rt: &R, numbers: &[u16], sender: LaneSender, gate: &G) 
     feed.run(rt, sender, gate)
 }
 
-/// How it ends on a lane of so many slots, and the end of the lane that has received nothing.
-fn run_on<R: Wait, G: Gate>(
-    rt: &R,
-    alloc: Global,
-    slots: u32,
-    numbers: &[u16],
-    gate: &G,
-) -> Result<(LaneEnd, LaneReceiver), Fault> {
-    let (sender, receiver) = lane(alloc, slots)?;
-    Ok((run(rt, numbers, sender, gate), receiver))
-}
-
-/// A gate that stops a predictor at an item once it has come back so often, and knows what it was asked.
-fn noted(predictor: u32, nth: u64, turn: u64) -> Noted<StopAt> {
-    Noted::new(StopAt {
+/// A gate that stops a predictor at an item once it has come back so often.
+fn stop_at(predictor: u32, nth: u64, turn: u64) -> StopAt {
+    StopAt {
         predictor,
         nth,
         turn,
-    })
+    }
 }
 
 /// Fails where a predictor was stopped though its list was to be sent, or the other way round, or where it sent more or fewer numbers.
 fn same_end(rt: &impl Abort, end: LaneEnd, whole: bool, sent: u64) {
     same(rt, end.whole, whole);
     same(rt, end.closed.sent_count(), sent);
+}
+
+/// The same past a gate; fails too where that was asked other questions.
+fn ends<R: Wait + Abort>(
+    rt: &R,
+    numbers: &[u16],
+    sender: LaneSender,
+    gate: StopAt,
+    whole: bool,
+    sent: u64,
+    questions: &[(u64, u64, u64)],
+)
+    requires { sender.sent ≡ [] }
+{
+    let gate = Noted::new(gate);
+    same_end(rt, run(rt, numbers, sender, &gate), whole, sent);
+    assert!(rt; gate.was_asked(questions));
 }
 
 /// Fails where a room doesn't take so many numbers of a lane, or is another then.
@@ -76,8 +79,8 @@ fn same_room<const ROOM: usize>(
 #[test]
 fn open_gate_stops_nobody(rt: HostRuntime) -> Result<(), Fail> {
     for slots in [6, 7, 8, 1024] {
-        let (end, receiver) = run_on(&rt, rt.alloc(), slots, &NUMBERS, &OpenGate)?;
-        same_end(&rt, end, true, 6);
+        let (sender, receiver) = lane(rt.alloc(), slots)?;
+        same_end(&rt, run(&rt, &NUMBERS, sender, &OpenGate), true, 6);
         same_room(&rt, receiver, 6, [55, 3, 5, 0, 4, 2, 0]);
     }
     Ok(())
@@ -85,19 +88,23 @@ fn open_gate_stops_nobody(rt: HostRuntime) -> Result<(), Fail> {
 
 #[test]
 fn nothing_is_a_whole_list(rt: HostRuntime) -> Result<(), Fail> {
-    let gate = noted(0, 0, 0);
-    let (end, _receiver) = run_on(&rt, rt.alloc(), 1, &[], &gate)?;
-    same_end(&rt, end, true, 0);
-    assert!(rt; gate.was_asked(&[]));
+    let (sender, _receiver) = lane(rt.alloc(), 1)?;
+    ends(&rt, &[], sender, stop_at(0, 0, 0), true, 0, &[]);
     Ok(())
 }
 
 #[test]
 fn stops_behind_a_run_of_two(rt: HostRuntime) -> Result<(), Fail> {
-    let gate = noted(0, 2, 0);
-    let (end, mut receiver) = run_on(&rt, rt.alloc(), 2, &NUMBERS, &gate)?;
-    same_end(&rt, end, false, 2);
-    assert!(rt; gate.was_asked(&[(0, 3, 0)]));
+    let (sender, mut receiver) = lane(rt.alloc(), 2)?;
+    ends(
+        &rt,
+        &NUMBERS,
+        sender,
+        stop_at(0, 2, 0),
+        false,
+        2,
+        &[(0, 3, 0)],
+    );
     same(&rt, receiver.try_recv(), Some(55));
     same(&rt, receiver.try_recv(), Some(3));
     same(&rt, receiver.try_recv(), None);
@@ -106,36 +113,42 @@ fn stops_behind_a_run_of_two(rt: HostRuntime) -> Result<(), Fail> {
 
 #[test]
 fn numbers_before_the_stop_go_singly(rt: HostRuntime) -> Result<(), Fail> {
-    let gate = noted(0, 2, 0);
-    let (end, receiver) = run_on(&rt, rt.alloc(), 8, &NUMBERS, &gate)?;
-    same_end(&rt, end, false, 2);
+    let (sender, receiver) = lane(rt.alloc(), 8)?;
     // Each is asked for again before it goes, and the one at which the gate stops is not.
-    assert!(rt; gate.was_asked(&[(0, 3, 0), (0, 2, 0)]));
+    let questions = [(0, 3, 0), (0, 2, 0)];
+    ends(
+        &rt,
+        &NUMBERS,
+        sender,
+        stop_at(0, 2, 0),
+        false,
+        2,
+        &questions,
+    );
     same_room(&rt, receiver, 2, [55, 3, 0]);
     Ok(())
 }
 
 #[test]
 fn other_predictors_are_not_stopped(rt: HostRuntime) -> Result<(), Fail> {
-    let gate = noted(1, 2, 0);
-    let (end, _receiver) = run_on(&rt, rt.alloc(), 8, &NUMBERS, &gate)?;
-    same_end(&rt, end, true, 6);
-    assert!(rt; gate.was_asked(&[(0, 6, 0)]));
+    let (sender, _receiver) = lane(rt.alloc(), 8)?;
+    ends(
+        &rt,
+        &NUMBERS,
+        sender,
+        stop_at(1, 2, 0),
+        true,
+        6,
+        &[(0, 6, 0)],
+    );
     Ok(())
-}
-
-/// How a predictor ends on a lane of one slot, whose receiver is gone.
-fn run_to_nobody<R: Wait, G: Gate>(rt: &R, alloc: Global, gate: &G) -> Result<LaneEnd, Fault> {
-    let (sender, receiver) = lane(alloc, 1)?;
-    drop(receiver);
-    Ok(run(rt, &NUMBERS, sender, gate))
 }
 
 #[test]
 fn comes_back_until_it_is_stopped(rt: HostRuntime) -> Result<(), Fail> {
-    let gate = noted(0, 1, 5);
-    let end = run_to_nobody(&rt, rt.alloc(), &gate)?;
-    same_end(&rt, end, false, 1);
+    // There is nobody to receive.
+    let (sender, receiver) = lane(rt.alloc(), 1)?;
+    drop(receiver);
     let questions = [
         (0, 2, 0),
         (1, 2, 1),
@@ -144,7 +157,15 @@ fn comes_back_until_it_is_stopped(rt: HostRuntime) -> Result<(), Fail> {
         (1, 2, 4),
         (1, 2, 5),
     ];
-    assert!(rt; gate.was_asked(&questions));
+    ends(
+        &rt,
+        &NUMBERS,
+        sender,
+        stop_at(0, 1, 5),
+        false,
+        1,
+        &questions,
+    );
     Ok(())
 }
 
