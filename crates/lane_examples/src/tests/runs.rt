@@ -46,7 +46,7 @@ fn same_end(rt: &impl Abort, end: LaneEnd, whole: bool, sent: u64) {
     same(rt, end.closed.sent_count(), sent);
 }
 
-/// The same past a gate; fails too where that was asked other questions.
+/// Fails where a feed ends otherwise past a gate, or where the gate was asked other questions.
 fn ends<R: Wait + Abort>(
     rt: &R,
     numbers: &[u16],

@@ -83,7 +83,7 @@ fn run_first<R: Wait + Abort>(
     run_plan(rt, alloc, &plan_by_pixel(rt, alloc)?, sender, gate)
 }
 
-/// How it ends with a plan.
+/// How it ends by a plan that deals it the first of two bands.
 fn run_plan<R: Wait>(
     rt: &R,
     alloc: Global,

@@ -27,7 +27,7 @@ fn make_it<R: Threads + Wait + Sync + Abort, G: Gate + Sync>(
     Ok(())
 }
 
-/// Fails where two predictors, which have a band each, don't.
+/// Fails where two predictors, which have a band each, don't make its file by pixel past a gate.
 pub(crate) fn two_make_it<R: Threads + Wait + Sync + Abort, G: Gate + Sync>(
     rt: &R,
     alloc: Global,
@@ -62,7 +62,7 @@ fn all_bands_to_the_last_of_64(rt: HostRuntime) -> Result<(), Fail> {
     Ok(())
 }
 
-/// Fails where three predictors by an order and a coder don't make the file of one thread, by one of three deals.
+/// Fails where three predictors, by an order and a coder, make another file than one thread.
 fn three_make_it<R: Threads + Wait + Sync + Abort>(
     rt: &R,
     alloc: Global,
@@ -72,7 +72,7 @@ fn three_make_it<R: Threads + Wait + Sync + Abort>(
     deals_make_it(rt, alloc, &params_of(rt, order, coder))
 }
 
-/// The same by parameters.
+/// Fails where they make another file by one of three deals.
 fn deals_make_it<R: Threads + Wait + Sync + Abort>(
     rt: &R,
     alloc: Global,
@@ -85,7 +85,7 @@ fn deals_make_it<R: Threads + Wait + Sync + Abort>(
     Ok(())
 }
 
-/// Fails where they don't make a file by a deal.
+/// Fails where they make another file than this by a deal.
 fn deal_makes<R: Threads + Wait + Sync + Abort>(
     rt: &R,
     alloc: Global,

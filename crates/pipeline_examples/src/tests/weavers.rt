@@ -72,7 +72,7 @@ fn feeds<'a>(alloc: Global, plan: &Plan, zeros: &'a [u16]) -> Result<Vec<ListFee
     Ok(feeds)
 }
 
-/// What the pipeline makes of them.
+/// What the pipeline makes of them by a plan.
 fn feeds_woven<R: Threads + Wait + Sync + Abort>(
     rt: &R,
     alloc: Global,
@@ -86,7 +86,7 @@ fn feeds_woven<R: Threads + Wait + Sync + Abort>(
     encode_piped(rt, alloc, plan.params(), plan, feeds, &OpenGate)
 }
 
-/// The same by a plan by pixel.
+/// What the pipeline makes of them by the plan by pixel.
 fn feeds_woven_by_pixel<R: Threads + Wait + Sync + Abort>(
     rt: &R,
     alloc: Global,

@@ -155,7 +155,7 @@ fn lists_give_the_same<R: Threads + Wait + Sync + Abort>(
     Ok(())
 }
 
-/// The same of a plan for cube A.
+/// Fails where it does by a plan for cube A.
 fn plan_gives_the_same<R: Threads + Wait + Sync + Abort>(
     rt: &R,
     alloc: Global,
@@ -170,7 +170,7 @@ fn plan_gives_the_same<R: Threads + Wait + Sync + Abort>(
     lists_give_the_same(rt, alloc, &cube, &plan)
 }
 
-/// The same of four plans by an order and a coder.
+/// Fails where it does by one of four plans, in an order and by a coder.
 fn plans_give_the_same<R: Threads + Wait + Sync + Abort>(
     rt: &R,
     alloc: Global,
@@ -180,7 +180,7 @@ fn plans_give_the_same<R: Threads + Wait + Sync + Abort>(
     four_give_the_same(rt, alloc, &params_of(rt, order, coder))
 }
 
-/// The same of four plans by parameters.
+/// Fails where it does by one of four plans for these parameters.
 fn four_give_the_same<R: Threads + Wait + Sync + Abort>(
     rt: &R,
     alloc: Global,
