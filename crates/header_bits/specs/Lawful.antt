@@ -119,6 +119,13 @@ coder_fault p (Block size restricted reference) =
     >> refuse_if (restricted && nat_lt 4 p.kind.bits) (Disagree rule.RestrictedOverFour)
     >> in_range_or field.Reference 1 4096 reference
 
+abbrev pub update_fault : Params → Test
+update_fault p =
+    in_range_or field.Interval 4 11 p.interval_log
+    >> exponent_or field.VMin p.vmin
+    >> exponent_or field.VMax p.vmax
+    >> refuse_if (int_lt p.vmax p.vmin) (Disagree rule.ExponentOrder)
+
 abbrev pub predictor_fault : Params → Test
 predictor_fault p =
     in_range_or field.Previous 0 15 p.previous
@@ -127,10 +134,7 @@ predictor_fault p =
     >> in_range_or field.Register 32 64 p.register
     >> in_range_or field.Omega 4 19 p.omega
     >> refuse_if (nat_lt p.register (p.kind.bits + p.omega + 2)) (Disagree rule.RegisterTooSmall)
-    >> in_range_or field.Interval 4 11 p.interval_log
-    >> exponent_or field.VMin p.vmin
-    >> exponent_or field.VMax p.vmax
-    >> refuse_if (int_lt p.vmax p.vmin) (Disagree rule.ExponentOrder)
+    >> update_fault p
 
 -- the first refusal of parameters
 unfoldable pub params_fault : Params → Test

@@ -50,6 +50,16 @@ start_tests v =
     >> refuse_if (custom && nat_lt resolution 3) (FieldRange field.Resolution (pos resolution))
     >> refuse_if (nat_lt (slice_index v 7 + 3) resolution) (Disagree rule.ResolutionOverOmega)
 
+-- the refusals of the register size and the weight update, in order, and then those of the weight start
+abbrev pub number_tests : ImagePart → List ℕ → Test
+number_tests i v =
+    refuse_if (nat_lt (slice_index v 6) 32) (FieldRange field.Register (pos (slice_index v 6)))
+    >> refuse_if (nat_lt (slice_index v 6) (i.kind.bits + slice_index v 7 + 2)) (Disagree rule.RegisterTooSmall)
+    >> refuse_if (nat_lt 11 (slice_index v 8)) (FieldRange field.Interval (pos (slice_index v 8)))
+    >> refuse_if (nat_lt (slice_index v 10) (slice_index v 9)) (Disagree rule.ExponentOrder)
+    >> unused 128 1 (slice_index v 11)
+    >> start_tests v
+
 -- the refusals, in order
 abbrev pub predictor_tests : ImagePart → List ℕ → Test
 predictor_tests i v =
@@ -58,12 +68,7 @@ predictor_tests i v =
     >> unused 103 1 (slice_index v 3)
     >> refuse_if ((slice_index v 4 == 0) && (i.shape.columns == 1)) (Disagree rule.NeighbourOneColumn)
     >> unused 105 1 (slice_index v 5)
-    >> refuse_if (nat_lt (slice_index v 6) 32) (FieldRange field.Register (pos (slice_index v 6)))
-    >> refuse_if (nat_lt (slice_index v 6) (i.kind.bits + slice_index v 7 + 2)) (Disagree rule.RegisterTooSmall)
-    >> refuse_if (nat_lt 11 (slice_index v 8)) (FieldRange field.Interval (pos (slice_index v 8)))
-    >> refuse_if (nat_lt (slice_index v 10) (slice_index v 9)) (Disagree rule.ExponentOrder)
-    >> unused 128 1 (slice_index v 11)
-    >> start_tests v
+    >> number_tests i v
 
 abbrev pub predictor_says : List ℕ → PredictorPart
 predictor_says v = record {

@@ -7,8 +7,8 @@ ghost use Rattle.cube_core.specs.Steps.{refuse_if};
 ghost use Rattle.cube_core.specs.Shape.{AreSizes};
 ghost use Rattle.cube_core.specs.Kind.{IsKind};
 ghost use Rattle.header_bits.specs.TableParts.{some_above};
-ghost use Rattle.header_bits.specs.Lawful.{IsLawful, in_range_or, exponent_or, order_fault, predictor_fault, start_fault, weight_fault, entries_fault};
-ghost use Rattle.header_bits.specs.Lawful.{count_fault, block_size_fault, coder_fault, params_fault};
+ghost use Rattle.header_bits.specs.Lawful.{IsLawful, in_range_or, exponent_or, order_fault, update_fault, predictor_fault, start_fault, weight_fault};
+ghost use Rattle.header_bits.specs.Lawful.{entries_fault, count_fault, block_size_fault, coder_fault, params_fault};
 
 use crate::field::Range;
 use crate::fields::{self, GREATEST_EXPONENT, LEAST_EXPONENT, is_block_size};
@@ -103,6 +103,13 @@ fn check_predictor(params: &Params) -> Result<(), Fault>
     in_range(Field::Omega, fields::OMEGA.range, params.omega)?;
     let least = params.kind.bits() + params.omega + 2;
     disagree_if(params.register < least, Rule::RegisterTooSmall)?;
+    check_update(params)
+}
+
+/// Refuses parameters of the weight update.
+fn check_update(params: &Params) -> Result<(), Fault>
+    ensures { result ≡ update_fault params.now }
+{
     in_range(Field::Interval, fields::INTERVAL.range, params.interval_log)?;
     exponent_in_range(Field::VMin, params.vmin)?;
     exponent_in_range(Field::VMax, params.vmax)?;

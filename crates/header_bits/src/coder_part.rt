@@ -128,42 +128,31 @@ fn test_sample(image: &ImagePart, numbers: &[u32; SAMPLE_FIELDS]) -> Result<(), 
     requires { AreValues sample_fields numbers.now }
     ensures { result ≡ sample_tests image.now numbers.now }
 {
-    let table = numbers[fields::ACCUMULATOR_TABLE.index] == 1;
+    let [umax, gamma_star, gamma_zero, constant, table] = *numbers;
+    let table = table == 1;
     let most = image.kind.bits() - 2;
+    out_of_range_if(umax < fields::UMAX.range.least, Field::Umax, umax)?;
     out_of_range_if(
-        numbers[fields::UMAX.index] < fields::UMAX.range.least,
-        Field::Umax,
-        numbers[fields::UMAX.index],
-    )?;
-    out_of_range_if(
-        numbers[fields::GAMMA_STAR.index] > fields::GAMMA_STAR.range.most,
+        gamma_star > fields::GAMMA_STAR.range.most,
         Field::GammaStar,
-        numbers[fields::GAMMA_STAR.index],
+        gamma_star,
     )?;
-    disagree_if(
-        numbers[fields::GAMMA_STAR.index] < numbers[fields::GAMMA_ZERO.index] + 1,
-        Rule::CounterOrder,
-    )?;
-    disagree_if(
-        !table && most < numbers[fields::CONSTANT.index],
-        Rule::StartConstant,
-    )?;
-    disagree_if(
-        table && numbers[fields::CONSTANT.index] < BESIDE_TABLE,
-        Rule::ConstantWithTable,
-    )
+    disagree_if(gamma_star < gamma_zero + 1, Rule::CounterOrder)?;
+    disagree_if(!table && most < constant, Rule::StartConstant)?;
+    disagree_if(table && constant < BESIDE_TABLE, Rule::ConstantWithTable)
 }
 
 /// Returns the coder part that the numbers of the sample-adaptive coder's part stand for.
 fn said_sample(numbers: &[u32; SAMPLE_FIELDS]) -> CoderPart
     ensures { result ≡ sample_says numbers.now }
 {
+    let [umax, gamma_star, gamma_zero, constant, table] = *numbers;
     CoderPart::Sample {
-        umax: numbers[fields::UMAX.index],
-        gamma_star: numbers[fields::GAMMA_STAR.index],
-        gamma_zero: numbers[fields::GAMMA_ZERO.index],
-        constant: numbers[fields::CONSTANT.index],
-        table: numbers[fields::ACCUMULATOR_TABLE.index] == 1,
+        umax,
+        gamma_star,
+        gamma_zero,
+        constant,
+        table: table == 1,
     }
 }
 
@@ -186,9 +175,10 @@ fn said_block(numbers: &[u32; BLOCK_FIELDS]) -> CoderPart
     requires { AreValues block_fields numbers.now }
     ensures { result ≡ block_says numbers.now }
 {
+    let [_, size, restricted, reference] = *numbers;
     CoderPart::Block {
-        size: BLOCK_SIZES[numbers[fields::BLOCK_SIZE.index] as usize],
-        restricted: numbers[fields::RESTRICTED.index] == 1,
-        reference: numbers[fields::REFERENCE.index],
+        size: BLOCK_SIZES[size as usize],
+        restricted: restricted == 1,
+        reference,
     }
 }

@@ -61,18 +61,22 @@ impl ImagePart {
     pub(crate) fn numbers(&self) -> [u32; IMAGE_FIELDS]
         ensures { result ≡ image_numbers self.now }
     {
-        let mut numbers = [0; IMAGE_FIELDS];
-        numbers[fields::USER.index] = self.user;
-        numbers[fields::COLUMNS.index] = self.shape.columns();
-        numbers[fields::ROWS.index] = self.shape.rows();
-        numbers[fields::BANDS.index] = self.shape.bands();
-        numbers[fields::SIGNED.index] = u32::from(self.kind.is_signed());
-        numbers[fields::DYNAMIC_RANGE.index] = self.kind.bits();
-        numbers[fields::ORDER.index] = order_bit(self.order);
-        numbers[fields::DEPTH.index] = depth_number(self.order);
-        numbers[fields::WORD_SIZE.index] = self.word;
-        numbers[fields::CODER.index] = u32::from(self.block);
-        numbers
+        let reserved = 0;
+        [
+            self.user,
+            self.shape.columns(),
+            self.shape.rows(),
+            self.shape.bands(),
+            u32::from(self.kind.is_signed()),
+            reserved,
+            self.kind.bits(),
+            order_bit(self.order),
+            depth_number(self.order),
+            reserved,
+            self.word,
+            u32::from(self.block),
+            reserved,
+        ]
     }
 }
 
@@ -101,17 +105,10 @@ fn depth_number(order: Order) -> u32
 fn test(numbers: &[u32; IMAGE_FIELDS]) -> Result<(), Fault>
     ensures { result ≡ image_tests numbers.now }
 {
+    let [_, _, _, bands, _, _, bits, order, depth, ..] = *numbers;
     unused_field(0, &image_row!(), fields::AFTER_SIGNED.index, numbers)?;
-    out_of_range_if(
-        numbers[fields::DYNAMIC_RANGE.index] == 1,
-        Field::DynamicRange,
-        1,
-    )?;
-    disagree_if(
-        numbers[fields::ORDER.index] == 0
-            && numbers[fields::BANDS.index] < numbers[fields::DEPTH.index],
-        Rule::DepthOverBands,
-    )?;
+    out_of_range_if(bits == 1, Field::DynamicRange, 1)?;
+    disagree_if(order == 0 && bands < depth, Rule::DepthOverBands)?;
     unused_field(0, &image_row!(), fields::AFTER_DEPTH.index, numbers)?;
     unused_field(0, &image_row!(), fields::AFTER_CODER.index, numbers)
 }
@@ -122,25 +119,31 @@ fn said(numbers: &[u32; IMAGE_FIELDS]) -> ImagePart
     requires passed { image_tests numbers.now ≡ fine }
     ensures { result ≡ image_says numbers.now }
 {
+    let [
+        user,
+        columns,
+        rows,
+        bands,
+        signed,
+        _,
+        bits,
+        order,
+        depth,
+        _,
+        word,
+        coder,
+        _,
+    ] = *numbers;
     ImagePart {
-        user: numbers[fields::USER.index],
-        shape: Shape::new(
-            numbers[fields::COLUMNS.index],
-            numbers[fields::ROWS.index],
-            numbers[fields::BANDS.index],
-        )
-        .unwrap(),
-        kind: Kind::new(
-            numbers[fields::SIGNED.index] == 1,
-            numbers[fields::DYNAMIC_RANGE.index],
-        )
-        .unwrap(),
-        order: if numbers[fields::ORDER.index] == 0 {
-            Order::Bi(numbers[fields::DEPTH.index])
+        user,
+        shape: Shape::new(columns, rows, bands).unwrap(),
+        kind: Kind::new(signed == 1, bits).unwrap(),
+        order: if order == 0 {
+            Order::Bi(depth)
         } else {
             Order::Bsq
         },
-        word: numbers[fields::WORD_SIZE.index],
-        block: numbers[fields::CODER.index] == 1,
+        word,
+        block: coder == 1,
     }
 }

@@ -6,8 +6,8 @@ ghost use Rattle.header_bits.specs.declared.layout.Slot.TheVariants as slot;
 ghost use Rattle.header_bits.specs.Layout.{AreValues, total, width};
 ghost use Rattle.header_bits.specs.Parts.{part_at, unused};
 ghost use Rattle.header_bits.specs.ImagePart.{flag};
-ghost use Rattle.header_bits.specs.PredictorPart.{predictor, predictor_fields, predictor_tests, start_tests, predictor_says, exponent_of, exponent_code};
-ghost use Rattle.header_bits.specs.PredictorPart.{predictor_numbers};
+ghost use Rattle.header_bits.specs.PredictorPart.{predictor, predictor_fields, predictor_tests, number_tests, start_tests, predictor_says, exponent_of};
+ghost use Rattle.header_bits.specs.PredictorPart.{exponent_code, predictor_numbers};
 ghost use Rattle.header_bits.specs.Lawful.{IsExponent};
 ghost use Rattle.header_bits.specs.Header.{is_custom, resolution_of, predictor_part_of};
 
@@ -76,19 +76,24 @@ impl PredictorPart {
         requires greatest { IsExponent self.now.vmax }
         ensures { result ≡ predictor_numbers self.now }
     {
-        let mut numbers = [0; PREDICTOR_FIELDS];
-        numbers[fields::PREVIOUS.index] = self.previous;
-        numbers[fields::MODE.index] = u32::from(self.reduced);
-        numbers[fields::SUMS.index] = u32::from(self.column);
-        numbers[fields::REGISTER.index] = self.register;
-        numbers[fields::OMEGA.index] = self.omega;
-        numbers[fields::INTERVAL.index] = self.interval_log;
-        numbers[fields::VMIN.index] = exponent_code(self.vmin);
-        numbers[fields::VMAX.index] = exponent_code(self.vmax);
-        numbers[fields::WEIGHT_START.index] = u32::from(self.custom);
-        numbers[fields::WEIGHT_TABLE.index] = u32::from(self.custom);
-        numbers[fields::RESOLUTION.index] = self.resolution;
-        numbers
+        let reserved = 0;
+        [
+            reserved,
+            self.previous,
+            u32::from(self.reduced),
+            reserved,
+            u32::from(self.column),
+            reserved,
+            self.register,
+            self.omega,
+            self.interval_log,
+            exponent_code(self.vmin),
+            exponent_code(self.vmax),
+            reserved,
+            u32::from(self.custom),
+            u32::from(self.custom),
+            self.resolution,
+        ]
     }
 }
 
@@ -125,20 +130,24 @@ fn test(image: &ImagePart, numbers: &[u32; PREDICTOR_FIELDS]) -> Result<(), Faul
     requires { AreValues predictor_fields numbers.now }
     ensures { result ≡ predictor_tests image.now numbers.now }
 {
+    let [_, _, mode, _, sums, ..] = *numbers;
     let one_column = image.shape.columns() == 1;
-    let register = numbers[fields::REGISTER.index];
-    let least = image.kind.bits() + numbers[fields::OMEGA.index] + 2;
     refuse_unused(fields::BEFORE_PREVIOUS.index, numbers)?;
-    disagree_if(
-        numbers[fields::MODE.index] == 0 && one_column,
-        Rule::FullOneColumn,
-    )?;
+    disagree_if(mode == 0 && one_column, Rule::FullOneColumn)?;
     refuse_unused(fields::AFTER_MODE.index, numbers)?;
-    disagree_if(
-        numbers[fields::SUMS.index] == 0 && one_column,
-        Rule::NeighbourOneColumn,
-    )?;
+    disagree_if(sums == 0 && one_column, Rule::NeighbourOneColumn)?;
     refuse_unused(fields::AFTER_SUMS.index, numbers)?;
+    test_numbers(image, numbers)
+}
+
+/// Tests the numbers of the register size and the weight update, in order, and then those of the weight start.
+#[tactic(auto, unfolding(crate::specs::Layout::total))]
+fn test_numbers(image: &ImagePart, numbers: &[u32; PREDICTOR_FIELDS]) -> Result<(), Fault>
+    requires { AreValues predictor_fields numbers.now }
+    ensures { result ≡ number_tests image.now numbers.now }
+{
+    let [_, _, _, _, _, _, register, omega, interval, vmin, vmax, ..] = *numbers;
+    let least = image.kind.bits() + omega + 2;
     out_of_range_if(
         register < fields::REGISTER.range.least,
         Field::Register,
@@ -146,14 +155,11 @@ fn test(image: &ImagePart, numbers: &[u32; PREDICTOR_FIELDS]) -> Result<(), Faul
     )?;
     disagree_if(register < least, Rule::RegisterTooSmall)?;
     out_of_range_if(
-        numbers[fields::INTERVAL.index] > fields::INTERVAL.range.most,
+        interval > fields::INTERVAL.range.most,
         Field::Interval,
-        numbers[fields::INTERVAL.index],
+        interval,
     )?;
-    disagree_if(
-        numbers[fields::VMAX.index] < numbers[fields::VMIN.index],
-        Rule::ExponentOrder,
-    )?;
+    disagree_if(vmax < vmin, Rule::ExponentOrder)?;
     refuse_unused(fields::AFTER_VMAX.index, numbers)?;
     test_start(numbers)
 }
@@ -163,9 +169,9 @@ fn test_start(numbers: &[u32; PREDICTOR_FIELDS]) -> Result<(), Fault>
     requires { AreValues predictor_fields numbers.now }
     ensures { result ≡ start_tests numbers.now }
 {
-    let custom = numbers[fields::WEIGHT_START.index] == 1;
-    let table = numbers[fields::WEIGHT_TABLE.index] == 1;
-    let resolution = numbers[fields::RESOLUTION.index];
+    let [.., start, table, resolution] = *numbers;
+    let custom = start == 1;
+    let table = table == 1;
     disagree_if(!custom && table, Rule::DefaultWithTable)?;
     refuse_if(custom && !table, Fault::TableElsewhere)?;
     disagree_if(!custom && resolution > 0, Rule::DefaultWithResolution)?;
@@ -185,17 +191,34 @@ fn said(numbers: &[u32; PREDICTOR_FIELDS]) -> PredictorPart
     requires { AreValues predictor_fields numbers.now }
     ensures { result ≡ predictor_says numbers.now }
 {
+    let [
+        _,
+        previous,
+        mode,
+        _,
+        sums,
+        _,
+        register,
+        omega,
+        interval_log,
+        vmin,
+        vmax,
+        _,
+        start,
+        _,
+        resolution,
+    ] = *numbers;
     PredictorPart {
-        previous: numbers[fields::PREVIOUS.index],
-        reduced: numbers[fields::MODE.index] == 1,
-        column: numbers[fields::SUMS.index] == 1,
-        register: numbers[fields::REGISTER.index],
-        omega: numbers[fields::OMEGA.index],
-        interval_log: numbers[fields::INTERVAL.index],
-        vmin: exponent_of(numbers[fields::VMIN.index]),
-        vmax: exponent_of(numbers[fields::VMAX.index]),
-        custom: numbers[fields::WEIGHT_START.index] == 1,
-        resolution: numbers[fields::RESOLUTION.index],
+        previous,
+        reduced: mode == 1,
+        column: sums == 1,
+        register,
+        omega,
+        interval_log,
+        vmin: exponent_of(vmin),
+        vmax: exponent_of(vmax),
+        custom: start == 1,
+        resolution,
     }
 }
 

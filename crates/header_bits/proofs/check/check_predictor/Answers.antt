@@ -7,14 +7,5 @@ returns-in_err-disagree_if-clause-fault c = search rules
 pub returns-in_err-disagree_if-3-clause-fault : goal.returns-in_err-disagree_if-3-clause-fault
 returns-in_err-disagree_if-3-clause-fault c = search rules
 
-pub returns-in_err-in_range-4-clause-fault : goal.returns-in_err-in_range-4-clause-fault
-returns-in_err-in_range-4-clause-fault c = search rules
-
-pub returns-in_err-exponent_in_range-clause-fault : goal.returns-in_err-exponent_in_range-clause-fault
-returns-in_err-exponent_in_range-clause-fault c = search rules
-
-pub returns-in_err-exponent_in_range-2-clause-fault : goal.returns-in_err-exponent_in_range-2-clause-fault
-returns-in_err-exponent_in_range-2-clause-fault c = search rules
-
 pub returns-clause-fault : goal.returns-clause-fault
 returns-clause-fault c = search rules

@@ -2,9 +2,9 @@ use Rattle.std.proofs.Common.{rules}
 use Rattle.header_bits.specs.Layout.{total}
 use Rattle.header_bits.proofs.predictor_part.test.Goals as goal
 
-pub returns-in_err-refuse_unused-4 : goal.returns-in_err-refuse_unused-4
+pub returns-in_err-disagree_if : goal.returns-in_err-disagree_if
 unfolding total
-returns-in_err-refuse_unused-4 c = search rules
+returns-in_err-disagree_if c = search rules
 
 pub returns : goal.returns
 unfolding total
