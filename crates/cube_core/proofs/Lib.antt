@@ -7,7 +7,6 @@ pub mod Keys
 pub mod Lists
 pub mod Orders
 pub mod RawBytes
-pub mod Rows
 pub mod Pieces
 pub mod Poured
 pub mod Putting

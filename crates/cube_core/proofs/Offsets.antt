@@ -1,9 +1,9 @@
 -- Samples kept as offsets from the least one.
-use Rattle.std.proofs.Common.{◌≡◌, ◌+◌, ◌*◌, ◌<◌, ◌≤◌, ◌-◌, ◌^◌, ℕ, suc, zero, Bool, true, false, ℤ, pos, List, length, map, get_or, set}
+use Rattle.std.proofs.Common.{◌≡◌, ◌+◌, ◌*◌, ◌<◌, ◌≤◌, ◌-◌, ◌^◌, ℕ, suc, zero, Bool, true, false, ℤ, pos, ◌-ℤ◌, ◌≤ℤ◌, List, length, map, get_or, set}
 use Rattle.std.proofs.Common.{take, drop, refl, sym, ap, ◌∙◌, subst, arith, pow-suc}
 use Rattle.std.proofs.lemmas.Int.{ints}
 use Rattle.std.proofs.lemmas.List.{get_or-map, map-set, get_or-take, get_or-drop}
-use Rattle.cube_core.specs.Kind.{SampleKind, IsKind, IsSample, sample_of}
+use Rattle.cube_core.specs.Kind.{SampleKind, IsKind, IsSample, sample_of, smin}
 use Rattle.cube_core.specs.Image.{Image, sample_at, index_in, put}
 use Rattle.cube_core.specs.Shape.{Sizes}
 use Rattle.cube_core.specs.Offsets.{samples_of, AreOffsets, AreRowOffsets}
@@ -11,6 +11,12 @@ use Rattle.cube_core.specs.Offsets.{samples_of, AreOffsets, AreRowOffsets}
 pub doubled : (bits : ℕ) → 1 ≤ bits → 2 ^ bits ≡ 2 * 2 ^ (bits - 1)
 doubled zero h = absurd (omega arith)
 doubled (suc n) h = let e : suc n - 1 ≡ n = omega arith in rw (e, pow-suc 2 n) (omega arith)
+
+-- how far a sample stands above the least one
+pub offset_range : (signed : Bool) (bits : ℕ) (v : ℤ) → 1 ≤ bits → IsSample (record { signed = signed; bits = bits }) v
+    → (v -ℤ smin (record { signed = signed; bits = bits })) ≤ℤ (pos (2 ^ bits) -ℤ pos 1)
+offset_range true bits v h s = omega (arith, ints, s.1, doubled bits h)
+offset_range false bits v h s = omega (arith, ints, s.1)
 
 -- an offset within the kind's bits is a sample of the kind
 in_kind : (signed : Bool) (bits offset : ℕ) → 2 ≤ bits → offset < 2 ^ bits

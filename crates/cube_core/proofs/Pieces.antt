@@ -135,6 +135,13 @@ block_ends s P y x count z all h p place (inl low) = h p place (inl low)
 block_ends s P y x count z all h p place (inr (row, inl low)) = h p place (inr (row, inr (low, omega (arith, place.band))))
 block_ends s P y x count z all h p place (inr (row, inr (_, low))) = absurd (omega (arith, low))
 
+pub row_ends : (s : Sizes) (P : Place → Type 0) (y x : ℕ) → s.columns ≤ x → EachPast s P y x 0 0 → EachPast s P (y + 1) 0 0 0
+row_ends s P y x all h p place (inl low) = elim (cases_lt p.y y) [
+  | inl above ↦ h p place (inl above)
+  | inr here ↦ h p place (inr (omega (arith, low), inl (omega (arith, place.column))))
+]
+row_ends s P y x all h p place (inr (_, none)) = absurd (omega (arith, none))
+
 -- one more band of a block
 pub band_more : (s : Sizes) (P Q : Place → Type 0) (y x count z : ℕ) → ((p : Place) → IsPlaceOf s p → P p ⊎ IsIn p z y x count → Q p) → EachPast s P y x count z
     → EachPast s Q y x count (z + 1)

@@ -2,7 +2,7 @@
 use Rattle.std.proofs.Common.{◌≡◌, ◌⊎◌, ◌+◌, ◌*◌, ◌%◌, ◌<◌, ◌≤◌, ◌-◌, ◌^◌, ℕ, Bool, true, false, ℤ, pos, ◌-ℤ◌, arith, inl, inr}
 use Rattle.std.proofs.lemmas.Int.{ints}
 use Rattle.std.proofs.lemmas.Bool.Decides.{nat_tests}
-use Rattle.cube_core.specs.Kind.{SampleKind, IsKind, IsSample, sample_of}
+use Rattle.cube_core.specs.Kind.{SampleKind, IsKind, IsSample, sample_of, smax}
 use Rattle.cube_core.specs.Layout.{twos_complement}
 use Rattle.cube_core.specs.Scale.{half_of, zero_offset}
 use Rattle.cube_core.proofs.Bounds.{power_grows}
@@ -63,3 +63,14 @@ pub stands : (k : SampleKind) (bytes number half lift rebased : ℕ) → IsKind 
     → half ≡ half_of k.signed bytes → lift < 65536 → (lift + half) % 65536 ≡ zero_offset k → rebased ≡ (number + half) % 2 ^ (8 * bytes)
     → Stands k ((rebased + lift) % 65536) (twos_complement k.signed bytes number)
 stands k bytes number half lift rebased a = stands_by k.signed k.bits bytes number half lift rebased a.0 a.1
+
+-- the offset of 0 less half of all numbers, and that of the greatest sample
+pub zero_at : (signed : Bool) (bits offset half : ℕ) → sample_of (record { signed = signed; bits = bits }) offset ≡ pos 0 → offset < 65536 → half ≤ 65536
+    → ((offset + (65536 - half)) % 65536 + half) % 65536 ≡ zero_offset (record { signed = signed; bits = bits })
+zero_at true bits offset half e a b = let same : offset ≡ 2 ^ (bits - 1) = omega (arith, ints, e) in rw (← same) (omega arith)
+zero_at false bits offset half e a b = let same : offset ≡ 0 = omega (arith, ints, e) in rw same (omega arith)
+
+pub most_at : (signed : Bool) (bits offset : ℕ) → 1 ≤ bits
+    → sample_of (record { signed = signed; bits = bits }) offset ≡ smax (record { signed = signed; bits = bits }) → offset + 1 ≡ 2 ^ bits
+most_at true bits offset h e = omega (arith, ints, e, doubled bits h)
+most_at false bits offset h e = omega (arith, ints, e)

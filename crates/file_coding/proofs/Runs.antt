@@ -1,14 +1,18 @@
 -- What the coding end has taken, several numbers at a time: by blocks, and row by row.
-use Rattle.std.proofs.Common.{◌≡◌, ◌+◌, ◌*◌, ◌-◌, ◌<◌, ◌≤◌, ◌^◌, ℕ, Bool, List, [], ◌++◌, append-nil, length, take, drop, None, subst}
-use Rattle.std.proofs.Common.{append_assoc, length-append, length-take, length-drop, arith}
+use Rattle.std.proofs.Common.{◌≡◌, ◌+◌, ◌*◌, ◌-◌, ◌<◌, ◌≤◌, ◌^◌, ℕ, zero, suc, Bool, true, List, [], ◌∷◌, ◌++◌, append-nil, length, take, drop, Some, None}
+use Rattle.std.proofs.Common.{refl, sym, ap, ◌∙◌, subst, append_assoc, length-append, length-take, length-drop, arith}
 use Rattle.std.specs.List.{AllByRecursion, slice_get}
 use Rattle.std.proofs.Math.Seq.{take-add}
 use Rattle.std.proofs.lemmas.Nat.{mul-le}
+use Rattle.cube_core.specs.declared.order.Order.{Order}
 use Rattle.cube_core.specs.declared.order.Place.{Place}
-use Rattle.cube_core.specs.Shape.{sample_count}
-use Rattle.cube_core.specs.Order.{places}
-use Rattle.cube_core.proofs.Orders.{length-places}
-use Rattle.cube_core.proofs.Rows.{row_band}
+use Rattle.cube_core.specs.Shape.{Sizes, sample_count}
+use Rattle.cube_core.specs.Order.{IsOrder, IsPlaceOf, goes_along_rows, place_index, places}
+use Rattle.cube_core.specs.Along.{AreByRows}
+use Rattle.cube_core.proofs.Keys.{order_is_by_key, index_of_item}
+use Rattle.cube_core.proofs.Lists.{get_drop}
+use Rattle.cube_core.proofs.Orders.{length-places, item_from_index, place_index_below}
+use Rattle.cube_core.proofs.Walks.{columns_along}
 use Rattle.header_bits.specs.declared.params.Params.{Params}
 use Rattle.header_bits.specs.declared.params.Coder.TheVariants.{Sample, Block}
 use Rattle.header_bits.proofs.Items.{all_take, all_drop}
@@ -20,6 +24,34 @@ use Rattle.file_coding.specs.Coding.{HasTaken, IsRun, IsBySamples, IsByBlocks, M
 use Rattle.file_coding.specs.Ends.{Ending, HasCoded, MayCodeAll, MayCodeRun, CodesAll}
 use Rattle.block_adaptive.proofs.Given.{cut_bits}
 use Rattle.file_coding.proofs.Endings.{place_left, time_next, length-left, comes_next, coded_behind}
+
+-- ---- places that go along rows
+
+pub rows_behind : (columns n : ℕ) (ps now : List Place) → now ≡ drop n ps → AreByRows columns ps → AreByRows columns now
+rows_behind columns n ps now e h =
+    rw e (λ i q f lt. get_drop ps n (suc i) ∙ (let next : n + suc i ≡ suc (n + i) = omega arith in rw next (h (n + i) q (sym (get_drop ps n i) ∙ f) lt)))
+
+-- the places of a row are of one band
+pub row_band : (columns n : ℕ) (ps : List Place) (place : Place) → AreByRows columns ps → slice_get ps 0 ≡ Some place → place.x + n ≤ columns
+    → AllByRecursion (λ q. q.z ≡ place.z) (take n ps)
+row_band columns zero ps place h first fits = tt
+row_band columns (suc n) [] place h first fits = tt
+row_band columns (suc zero) (q ∷ ps) place h first fits = ((let same : q ≡ place = cc in ap (λ r. r.z) same), tt)
+row_band columns (suc (suc n)) (q ∷ ps) place h first fits =
+    let same : q ≡ place = cc in
+    let next = h 0 place first (omega (arith, fits)) in
+    let more : Place = record { z = place.z; y = place.y; x = place.x + 1 } in
+    (ap (λ r. r.z) same, row_band columns (suc n) ps more (rows_behind columns 1 (q ∷ ps) ps refl h) next (omega (arith, fits)))
+
+-- where places go along rows, they come row by row
+pub rows_follow : (s : Sizes) (o : Order) → IsOrder s o → goes_along_rows o ≡ true → AreByRows s.columns (places s o)
+rows_follow s o lawful along i q e lt =
+    let next : Place = record { z = q.z; y = q.y; x = q.x + 1 } in
+    let there : IsPlaceOf s q = (order_is_by_key s o lawful).only i q e in
+    let at : place_index s o q ≡ i = index_of_item s o q i lawful e in
+    let step = columns_along s o q 1 along there in
+    let place : IsPlaceOf s next = record { band = there.band; row = there.row; column = lt } in
+    item_from_index s o next (suc i) lawful place (step ∙ omega (arith, at)) (omega (arith, at, step, place_index_below s o next lawful place))
 
 -- ---- numbers behind others
 
@@ -87,7 +119,7 @@ coded_blocks old new list n may le moved columns word puts p numbers h =
 stays : (p : Params) (a b : Encoder) (ns ms : List ℕ) (bits more : List Bool) → HasTaken p a ns bits → HasTaken p b ms more → IsBySamples a → IsBySamples b
 stays p a (Samples w) ns ms bits more h k s = tt
 stays p (Samples v) (Blocks w) ns ms bits more h k s =
-    absurd (elim p.coder as (λ c. IsSample c → IsBlock c → ⊥) [ Sample umax star zero start ↦ λ a b. b | Block size restricted reference ↦ λ a b. a ]
+    absurd (elim p.coder as (λ c. IsSample c → IsBlock c → ⊥) [ Sample umax star first start ↦ λ a b. b | Block size restricted reference ↦ λ a b. a ]
     h.coder k.coder)
 stays p (Blocks v) (Blocks w) ns ms bits more h k s = absurd s
 

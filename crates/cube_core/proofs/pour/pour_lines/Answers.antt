@@ -3,7 +3,7 @@ use Rattle.cube_core.specs.declared.order.Place.{Place}
 use Rattle.cube_core.specs.Order.{IsOrder}
 use Rattle.cube_core.specs.Layout.{order_of}
 use Rattle.cube_core.specs.Pieces.{IsPoured}
-use Rattle.cube_core.proofs.Pieces.{band_more, block_ends, piece_there}
+use Rattle.cube_core.proofs.Pieces.{band_more, block_ends, row_ends, piece_there}
 use Rattle.cube_core.proofs.Putting.{IsGiven, poured_there, piece_fits}
 use Rattle.cube_core.proofs.Raws.{lawful_order}
 use Rattle.cube_core.proofs.pour.pour_lines.Goals as goal
@@ -53,3 +53,6 @@ loop-z-preserved c =
 
 pub loop-x-preserved : goal.loop-x-preserved
 loop-x-preserved c = block_ends _ (IsPoured c.args.shape c.args.kind c.args.layout c.args.offsets.now c.loop-z.bytes) _ _ _ _ (omega arith) c.loop-z.invariant
+
+pub loop-y-preserved : goal.loop-y-preserved
+loop-y-preserved c = row_ends _ _ _ _ (omega (arith, c.columns-columns.ensures.value)) c.loop-x.invariant

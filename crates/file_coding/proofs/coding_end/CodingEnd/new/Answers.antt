@@ -1,5 +1,5 @@
 use Rattle.std.proofs.Common.{sym, ◌∙◌, rules}
-use Rattle.cube_core.proofs.Rows.{rows_follow}
+use Rattle.file_coding.proofs.Runs.{rows_follow}
 use Rattle.file_coding.proofs.coding_end.CodingEnd.new.Goals as goal
 
 pub invariant_of-result-2 : goal.invariant_of-result-2

@@ -1,6 +1,6 @@
 use Rattle.std.proofs.Common.{ap₂, ◌≡◌, ◌+◌, ◌*◌, ◌∷◌, rules, refl, sym, ap, List, drop}
 use Rattle.cube_core.specs.declared.order.Place.{Place}
-use Rattle.cube_core.proofs.Rows.{rows_behind}
+use Rattle.file_coding.proofs.Runs.{rows_behind}
 use Rattle.file_coding.proofs.Endings.{may_take, coded_more}
 use Rattle.file_coding.proofs.coding_end.CodingEnd.put.Goals as goal
 

@@ -1,7 +1,6 @@
 use Rattle.std.proofs.Common.{refl, arith}
 use Rattle.std.proofs.lemmas.List.{take_all}
-use Rattle.cube_core.proofs.Rows.{rows_behind}
-use Rattle.file_coding.proofs.Runs.{may_put_blocks, coded_blocks}
+use Rattle.file_coding.proofs.Runs.{rows_behind, may_put_blocks, coded_blocks}
 use Rattle.file_coding.proofs.coding_end.CodingEnd.put_blocks.Goals as goal
 
 pub put_blocks-taken-requires : goal.put_blocks-taken-requires

@@ -1,5 +1,5 @@
 use Rattle.std.proofs.Common.{ap₂, ◌+◌, ◌*◌, refl}
-use Rattle.cube_core.proofs.Rows.{rows_behind}
+use Rattle.file_coding.proofs.Runs.{rows_behind}
 use Rattle.file_coding.proofs.Columns.{may_put_column, coded_column}
 use Rattle.file_coding.proofs.coding_end.CodingEnd.put_column.Goals as goal
 

@@ -1,6 +1,5 @@
 use Rattle.std.proofs.Common.{ap₂, ◌+◌, ◌*◌, refl}
-use Rattle.cube_core.proofs.Rows.{rows_behind}
-use Rattle.file_coding.proofs.Runs.{may_put_run, coded_run}
+use Rattle.file_coding.proofs.Runs.{rows_behind, may_put_run, coded_run}
 use Rattle.file_coding.proofs.coding_end.CodingEnd.put_run.Goals as goal
 
 pub put_run-requires : goal.put_run-requires
