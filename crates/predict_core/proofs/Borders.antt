@@ -1,5 +1,5 @@
 -- Lines of offsets, and the sums that they tell.
-use Rattle.std.proofs.Common.{◌≡◌, ◌≢◌, ℕ, zero, suc, ◌+◌, ◌-◌, ◌<◌, ◌≤◌, true, false, ◌||◌, ◌==◌, List, [], ◌∷◌, length, get_or, set, arith, refl, sym}
+use Rattle.std.proofs.Common.{◌≡◌, ◌≢◌, ℕ, zero, suc, ◌+◌, ◌-◌, ◌<◌, ◌≤◌, Bool, true, false, ◌||◌, ◌==◌, List, [], ◌∷◌, length, get_or, set, arith, refl, sym}
 use Rattle.std.proofs.Common.{ap, ◌∙◌, inl, inr, get_or-set_same, get_or-set_other, length-set}
 use Rattle.std.proofs.lemmas.Bool.{cases_eq}
 use Rattle.std.proofs.lemmas.Bool.Decides.{nat_tests}
@@ -80,10 +80,8 @@ module _ (y : ℕ) (row above : List ℕ) (x count after : ℕ) (current upper :
 
   four : (i : ℕ) → i < count → line_sum false current upper i ≡ offset_sum false y row above (x + i)
   four i l =
-      let a = near_west i l in let b = far_west i l in let d = far_north i l in
-      let e = far_east i l in let f = far_last i l in let g = near_first in
-      let h = far_first in
-      grind (arith, nat_tests, a, b, d, e, f, g, h, wide, same, later)
+      let a = near_west i l in let b = far_west i l in let d = far_north i l in let e = far_east i l in let f = far_last i l in let g = near_first in
+      let h = far_first in grind (arith, nat_tests, a, b, d, e, f, g, h, wide, same, later)
 
   pub four_lines : AreLines false y row above x count current upper
   four_lines = record {
@@ -116,3 +114,24 @@ module _ (y : ℕ) (row above : List ℕ) (x count before after : ℕ) (current 
     beside_first = λ h e. near 0 (omega arith) ∙ border_before (get_or above 0 0) row after (x + 0) (omega arith);
     sum = λ i l h. let o = over i l in let s = offsets_by_column true y row above (x + i) later refl in omega (arith, o, s);
   }
+
+-- ---- the first row
+
+pub first_lines : (column : Bool) (y : ℕ) (row above : List ℕ) (x count before after : ℕ) (current upper : List ℕ) → y ≡ 0 → x + count ≤ length row
+    → ((k : ℕ) → k < count + 2 → get_or current k 0 ≡ get_or (bordered before row after) (x + k) 0)
+    → ((i : ℕ) → i < count → get_or upper (i + 1) 0 ≡ get_or current i 0) → AreLines column y row above x count current upper
+first_lines column y row above x count before after current upper none inside near copied = record {
+  own = λ i l. near (i + 1) (omega arith) ∙ bordered_at before row after (x + (i + 1)) (x + i) (omega arith) (omega arith);
+  west = west;
+  north = λ i l h. absurd (omega arith);
+  north_west = λ i l h k. absurd (omega arith);
+  beside_first = λ h e. absurd (omega arith);
+  sum = λ i l h. let w = west i l (omega arith) in let d = copied i l in sums i w d;
+}
+  where
+    west : (i : ℕ) → i < count → 0 < x + i → get_or current i 0 ≡ get_or row (x + i - 1) 0
+    west i l h = near i (omega arith) ∙ border_inside before row after (x + i) h (omega arith)
+
+    sums : (i : ℕ) → get_or current i 0 ≡ get_or row (x + i - 1) 0 → get_or upper (i + 1) 0 ≡ get_or current i 0
+        → line_sum (column || y == 0) current upper i ≡ offset_sum column y row above (x + i)
+    sums i w d = grind (arith, nat_tests, none, w, d)

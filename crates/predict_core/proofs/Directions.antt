@@ -85,8 +85,7 @@ module _ (p : Predictor) (c : Image) (z y x : ℕ) (out new : List ℤ) where
       → new ≡ take 0 (replicate 18 (pos 0)) ++ spectral_differences p c z y x (previous_bands p z) ++ replicate (18 - 0 - previous_bands p z) (pos 0)
       → new ≡ difference_vector p c z y x ++ replicate (18 - component_count p z) (pos 0)
   reduced_filled h e =
-      let s : 18 - 0 - previous_bands p z ≡ 18 - previous_bands p z = omega arith in
-      e ∙ rw (reduced_vector_is p c z y x h, reduced_count p z h, s) refl
+      let s : 18 - 0 - previous_bands p z ≡ 18 - previous_bands p z = omega arith in e ∙ rw (reduced_vector_is p c z y x h, reduced_count p z h, s) refl
 
   pub full_filled : p.reduced ≡ false → out ≡ directional_differences p c z y x ++ replicate 15 (pos 0)
       → new ≡ take 3 out ++ spectral_differences p c z y x (previous_bands p z) ++ replicate (18 - 3 - previous_bands p z) (pos 0)

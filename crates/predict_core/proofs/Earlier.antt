@@ -41,11 +41,9 @@ by_bands columns z y x z' y' x' h k (inr (b, l)) =
 by_groups : (m columns z y x z' y' x' : ℕ) → x < columns → x' < columns → IsEarlier z (y * columns + x) z' (y' * columns + x')
     → IsBefore (y' ∷ z' / m ∷ x' ∷ z' ∷ []) (y ∷ z / m ∷ x ∷ z ∷ [])
 by_groups m columns z y x z' y' x' h k (inl (b, l)) =
-    let rows = row_order columns y x y' x' h k l in let groups = div_le z' z m (omega arith) in
-    grind (arith, rows, groups)
+    let rows = row_order columns y x y' x' h k l in let groups = div_le z' z m (omega arith) in grind (arith, rows, groups)
 by_groups m columns z y x z' y' x' h k (inr (b, l)) =
-    let rows = row_order columns y x y' x' h k (omega arith) in
-    let row = λ (e : y' ≡ y). same_row columns y x y' x' e l in
+    let rows = row_order columns y x y' x' h k (omega arith) in let row = λ (e : y' ≡ y). same_row columns y x y' x' e l in
     grind (arith, rows, row, ap (λ n. n / m) b)
 
 pub before_is : (order : Order) (columns : ℕ) (place earlier : Place) → place.x < columns → earlier.x < columns

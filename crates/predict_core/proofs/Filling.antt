@@ -11,8 +11,7 @@ pub spectral_length : (p : Predictor) (c : Image) (z y x n : ℕ) → length (sp
 unfolding spectral_differences
 spectral_length p c z y x zero = refl
 spectral_length p c z y x (suc n) =
-    let e = spectral_length p c z y x n in
-    length-append (spectral_differences p c z y x n) (central_difference p c (z - suc n) y x ∷ []) ∙ omega (arith, e)
+    let e = spectral_length p c z y x n in length-append (spectral_differences p c z y x n) (central_difference p c (z - suc n) y x ∷ []) ∙ omega (arith, e)
 
 pub spectral_next : (p : Predictor) (c : Image) (z y x n : ℕ)
     → spectral_differences p c z y x (n + 1) ≡ spectral_differences p c z y x n ++ central_difference p c (z - 1 - n) y x ∷ []
@@ -24,8 +23,7 @@ written : (heads middle : List ℤ) (m i : ℕ) (v : ℤ) → i ≡ length (head
     → set (heads ++ middle ++ replicate m (pos 0)) i v ≡ heads ++ (middle ++ v ∷ []) ++ replicate (m - 1) (pos 0)
 written heads middle zero i v e h = absurd (omega arith)
 written heads middle (suc m) i v e h =
-    let s : suc m - 1 ≡ m = omega arith in
-    rw (e, s) (set-append_seam (heads ++ middle) (pos 0) (replicate m (pos 0)) v ∙ joined)
+    let s : suc m - 1 ≡ m = omega arith in rw (e, s) (set-append_seam (heads ++ middle) (pos 0) (replicate m (pos 0)) v ∙ joined)
   where
     joined : (heads ++ middle) ++ (v ∷ replicate m (pos 0)) ≡ heads ++ (middle ++ v ∷ []) ++ replicate m (pos 0)
     joined = simp append_assoc

@@ -16,8 +16,7 @@ times_sum n a b = let e = ap (λ k. n * k) (sum_is_lem a b) in omega (arith, int
 times_difference : (n : ℕ) (a b : ℤ) → pos n *ℤ (a -ℤ b) ≡ pos n *ℤ a -ℤ pos n *ℤ b
 times_difference n a b =
     let e = times_sum n (a -ℤ b) b in let f : (a -ℤ b) +ℤ b ≡ a = omega (arith, ints) in
-    let g : pos n *ℤ ((a -ℤ b) +ℤ b) ≡ pos n *ℤ a = ap (λ v. pos n *ℤ v) f in
-    omega (arith, ints, e, g)
+    let g : pos n *ℤ ((a -ℤ b) +ℤ b) ≡ pos n *ℤ a = ap (λ v. pos n *ℤ v) f in omega (arith, ints, e, g)
 
 times_size : (n : ℕ) (a : ℤ) → unsigned_abs (pos n *ℤ a) ≡ n * unsigned_abs a
 times_size n (pos a) = refl
@@ -44,10 +43,8 @@ not_above n a b h = let e = times_difference n a b in let l = none_above n (a -�
 
 pub floor_is : (a q : ℤ) (n : ℕ) → 0 < n → (pos n *ℤ q) ≤ℤ a → (a +ℤ pos 1) ≤ℤ (pos n *ℤ q +ℤ pos n) → floor_div a n ≡ q
 floor_is a q n some low high =
-    let under = floor_low a n some in let over = floor_high a n some in
-    let up = not_above n (floor_div a n) q (omega (arith, ints, under, high)) in
-    let down = not_above n q (floor_div a n) (omega (arith, ints, low, over)) in
-    omega (arith, ints, up, down)
+    let under = floor_low a n some in let over = floor_high a n some in let up = not_above n (floor_div a n) q (omega (arith, ints, under, high)) in
+    let down = not_above n q (floor_div a n) (omega (arith, ints, low, over)) in omega (arith, ints, up, down)
 
 pub floor_of_sum : (a g : ℤ) (n : ℕ) → 0 < n → floor_div (a +ℤ pos n *ℤ g) n ≡ floor_div a n +ℤ g
 floor_of_sum a g n some =
@@ -114,16 +111,14 @@ whole_remainder r d h = let e : r ≡ 0 * d + r = omega arith in ap (λ n. n % d
 pub kept : (r : ℕ) (a : ℤ) → 1 ≤ r → unsigned_abs a < 2 ^ (r - 1) → wrapped r a ≡ a
 unfolding wrapped
 kept r a h b =
-    let e : r ≡ suc (r - 1) = omega arith in
-    let double : 2 ^ r ≡ 2 ^ (r - 1) * 2 = ap (λ k. 2 ^ k) e ∙ pow-suc 2 (r - 1) in
+    let e : r ≡ suc (r - 1) = omega arith in let double : 2 ^ r ≡ 2 ^ (r - 1) * 2 = ap (λ k. 2 ^ k) e ∙ pow-suc 2 (r - 1) in
     rw double (fits_half (2 ^ (r - 1)) a b)
   where
     fits_half : (n : ℕ) (a : ℤ) → unsigned_abs a < n → int_rem_euclid (a +ℤ pos n) (pos (n * 2)) -ℤ pos n ≡ a
     fits_half n (pos m) l = let k : (m + n) % (n * 2) ≡ m + n = whole_remainder (m + n) (n * 2) (omega arith) in rw k (omega (arith, ints))
     fits_half n (negsuc m) l =
         let e = int_rem_euclid_is (negsuc m +ℤ pos n) (pos (n * 2)) (n * 2) 0 (n - suc m) (omega arith) refl (omega (arith, ints)) in
-        let k : (n - suc m) % (n * 2) ≡ n - suc m = whole_remainder (n - suc m) (n * 2) (omega arith) in
-        rw (e, k) (omega (arith, ints))
+        let k : (n - suc m) % (n * 2) ≡ n - suc m = whole_remainder (n - suc m) (n * 2) (omega arith) in rw (e, k) (omega (arith, ints))
 
 -- a quotient is no greater than what its divisor times over would make
 pub floor_within : (a : ℤ) (m n : ℕ) → 0 < n → unsigned_abs a ≤ m * n → unsigned_abs (floor_div a n) ≤ m
@@ -142,5 +137,4 @@ sum_below product distance limit n top some small fits =
     let e = times_sum n (floor_div product n) distance in let size = times_size n (floor_div product n +ℤ distance) in
     let room : n * (unsigned_abs (floor_div product n +ℤ distance) + 1) ≤ n * limit = mul-le-mul_left n (omega (arith, small)) in
     let split : n * (unsigned_abs (floor_div product n +ℤ distance) + 1) ≡ n * unsigned_abs (floor_div product n +ℤ distance) + n = omega arith in
-    let turn : n * limit ≡ limit * n = mul_comm n limit in
-    omega (arith, ints, under, over, e, size, room, split, turn, fits)
+    let turn : n * limit ≡ limit * n = mul_comm n limit in omega (arith, ints, under, over, e, size, room, split, turn, fits)

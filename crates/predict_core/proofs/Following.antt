@@ -30,8 +30,7 @@ pub next_is : (p : Predictor) (c : Image) (z t y x : ℕ) (ws new : List ℤ) (s
     → new ≡ next_weights p c z t ws
 unfolding next_weights
 next_is p c z t y x ws new scaled sample e h b d f =
-    let r = row_is c.shape.columns t y x e h in let q = column_is c.shape.columns t y x e h in
-    f ∙ rw (r, q, b, d) refl
+    let r = row_is c.shape.columns t y x e h in let q = column_is c.shape.columns t y x e h in f ∙ rw (r, q, b, d) refl
 
 -- at a place that is not the first: the weights after it, and its residual
 pub follows_next : (p : Params) (c : Image) (z t : ℕ) (ws new : List ℤ) → 0 < t → ws ≡ weight_vector p c z t → new ≡ next_weights (predictor_of p) c z t ws

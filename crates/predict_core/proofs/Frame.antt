@@ -28,8 +28,7 @@ module _ (p : Predictor) (c d : Image) (same : c.shape.columns ≡ d.shape.colum
     → sample_at c z y' x' ≡ sample_at d z y' x') where
   row_up : (x' : ℕ) → x' < c.shape.columns → y ≢ 0 → (y - 1) * c.shape.columns + x' < y * c.shape.columns + x
   row_up x' h n =
-      let e : (y - 1) * c.shape.columns + c.shape.columns ≡ y * c.shape.columns = row_more (y - 1) y c.shape.columns (omega arith) in
-      omega (arith, e)
+      let e : (y - 1) * c.shape.columns + c.shape.columns ≡ y * c.shape.columns = row_more (y - 1) y c.shape.columns (omega arith) in omega (arith, e)
 
   above : (x' : ℕ) → x' < c.shape.columns → y ≢ 0 → sample_at c z (y - 1) x' ≡ sample_at d z (y - 1) x'
   above x' h n = reads (y - 1) x' h (row_up x' h n) (omega arith)
@@ -41,15 +40,13 @@ module _ (p : Predictor) (c d : Image) (same : c.shape.columns ≡ d.shape.colum
   unfolding local_sum
   local_sum_same =
       let here = above x column in let north_west = above (x - 1) (omega (arith, column)) in
-      let north_east = λ (l : x + 1 < c.shape.columns). above (x + 1) l in
-      let first : y ≡ 0 → x ≢ 0 = λ e f. omega (arith, later, e, f) in
+      let north_east = λ (l : x + 1 < c.shape.columns). above (x + 1) l in let first : y ≡ 0 → x ≢ 0 = λ e f. omega (arith, later, e, f) in
       grind (arith, nat_tests, same, here, left, north_west, north_east, wide, first)
 
   directional_same : directional_differences p c z y x ≡ directional_differences p d z y x
   unfolding directional_differences
   directional_same =
-      let here = above x column in let north_west = above (x - 1) (omega (arith, column)) in
-      grind (arith, nat_tests, local_sum_same, here, left, north_west)
+      let here = above x column in let north_west = above (x - 1) (omega (arith, column)) in grind (arith, nat_tests, local_sum_same, here, left, north_west)
 
 -- what is read at a place of one band
 module _ (p : Predictor) (c d : Image) (z y x : ℕ) (place : IsPlace c.shape z y x) (later : 0 < y + x) (wide : p.column ≡ false → 2 ≤ c.shape.columns) where
@@ -67,8 +64,7 @@ module _ (p : Predictor) (c d : Image) (z y x : ℕ) (place : IsPlace c.shape z 
     unfolding central_difference
     central_same z' b =
         let s = under z' y x b place.column (omega arith) (omega arith) in
-        let m = local_sum_same p c d same_columns z' y x later wide place.column (λ y' x' h l k. under z' y' x' b h (omega arith) k) in
-        rw (s, m) refl
+        let m = local_sum_same p c d same_columns z' y x later wide place.column (λ y' x' h l k. under z' y' x' b h (omega arith) k) in rw (s, m) refl
 
     pub spectral_same : (n : ℕ) → n ≤ z → spectral_differences p c z y x n ≡ spectral_differences p d z y x n
     unfolding spectral_differences
@@ -86,8 +82,7 @@ module _ (p : Predictor) (c d : Image) (z y x : ℕ) (place : IsPlace c.shape z 
     unfolding difference_vector
     vector_same =
         let a = spectral_same agree (previous_bands p z) (omega arith) in
-        let b = directional_same p c d (same_columns agree) z y x later wide place.column own in
-        rw (a, b) refl
+        let b = directional_same p c d (same_columns agree) z y x later wide place.column own in rw (a, b) refl
 
     pub scaled_there_same : (ws : List ℤ) → scaled_there p c z y x ws ≡ scaled_there p d z y x ws
     unfolding scaled_there
@@ -169,15 +164,13 @@ module _ (p : Params) (c d : Image) (z : ℕ) (band : z < c.shape.bands) (some :
 
 pub places_precede_lem : PlacesPrecede
 places_precede_lem p order c d place wide alike there reads =
-    let some : 0 < c.shape.columns = (let q = there.column in omega arith) in
-    let t : ℕ = place.y * c.shape.columns + place.x in
+    let some : 0 < c.shape.columns = (let q = there.column in omega arith) in let t : ℕ = place.y * c.shape.columns + place.x in
     let agree : Agree c d place.z t (suc t) = record {
       alike = alike;
       own = λ y x q l. reads _ q (before_is order c.shape.columns place _ there.column q.column (inr (refl, l)));
       under = λ z y x q b l. reads _ q (before_is order c.shape.columns place _ there.column q.column (inl (b, omega arith)));
     } in
-    let within : t < c.shape.rows * c.shape.columns = digits_lt there.row there.column in
-    record {
+    let within : t < c.shape.rows * c.shape.columns = digits_lt there.row there.column in record {
       sum = λ l. sum_same (predictor_of p) c d place.z place.y place.x there (later_place c.shape.columns place.y place.x l) wide agree;
       differences = λ l. vector_same (predictor_of p) c d place.z place.y place.x there (later_place c.shape.columns place.y place.x l) wide agree;
       weights = weights_same p c d place.z there.band some wide t (omega (arith, within)) (agree_less _ _ (omega arith) (omega arith) agree);

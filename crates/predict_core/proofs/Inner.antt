@@ -18,8 +18,7 @@ inner_within n [] us h k = omega arith
 inner_within n (w ∷ ws) [] h k = omega arith
 inner_within n (w ∷ ws) (u ∷ us) h k =
     let product = product_within n w u (h 0 (omega arith)) (k 0 (omega arith)) in
-    let rest = inner_within n ws us (within_tail n w ws h) (within_tail (2 ^ 18) u us k) in
-    omega (arith, ints, product, rest)
+    let rest = inner_within n ws us (within_tail n w ws h) (within_tail (2 ^ 18) u us k) in omega (arith, ints, product, rest)
   where
     product_within : (n : ℕ) (w u : ℤ) → unsigned_abs w ≤ n → unsigned_abs u ≤ 2 ^ 18 → unsigned_abs (w *ℤ u) ≤ n * 2 ^ 18
     product_within n w u h k = rw (unsigned_abs-mul w u) (mul-le (unsigned_abs w) (unsigned_abs u) n (2 ^ 18) h k)
@@ -28,6 +27,5 @@ inner_within n (w ∷ ws) (u ∷ us) h k =
 pub first_within : (n k : ℕ) (ws us : List ℤ) → k ≤ 18 → AllWithin n ws → AllWithin (2 ^ 18) us
     → unsigned_abs (inner_product (take k ws) (take k us)) ≤ 18 * (n * 2 ^ 18)
 first_within n k ws us few h l =
-    let e = length-take k us in
-    le_trans (inner_within n (take k ws) (take k us) (within_take n k ws h) (within_take (2 ^ 18) k us l))
+    let e = length-take k us in le_trans (inner_within n (take k ws) (take k us) (within_take n k ws h) (within_take (2 ^ 18) k us l))
     (mul-le (length (take k us)) (n * 2 ^ 18) 18 (n * 2 ^ 18) (omega (arith, e)) (omega arith))

@@ -49,8 +49,7 @@ module _ (p : Params) (c : Image) (z y x : ℕ) (v : ℤ) (place : IsPlace c.sha
 same_list : (f g : ℕ → ℕ) (a n : ℕ) → ((k : ℕ) → k < n → f (a + k) ≡ g (a + k)) → map f (from a n) ≡ map g (from a n)
 same_list f g a zero h = refl
 same_list f g a (suc n) h =
-    let none : a + 0 ≡ a = omega arith in
-    ap₂ (λ r rs. r ∷ rs) (rw none at (h 0 (omega arith)))
+    let none : a + 0 ≡ a = omega arith in ap₂ (λ r rs. r ∷ rs) (rw none at (h 0 (omega arith)))
     (same_list f g (suc a) n (λ k l. let e : a + suc k ≡ suc a + k = omega arith in rw e at (h (suc k) (omega (arith, l)))))
 
 pub residuals_next : (p : Params) (d : Image) (z y x i : ℕ) (v : ℤ) (deltas : List ℕ) → IsPlace d.shape z y (x + i)
@@ -59,8 +58,7 @@ pub residuals_next : (p : Params) (d : Image) (z y x i : ℕ) (v : ℤ) (deltas 
     → mapped_residual p (put d z y (x + i) v) z (y * d.shape.columns + x + i) ≡ get_or deltas i 0
     → run_residuals p (put d z y (x + i) v) z (y * d.shape.columns + x) (i + 1) ≡ take (i + 1) deltas
 residuals_next p d z y x i v deltas place whole wide l before e =
-    let more : i + 1 ≡ suc i = omega arith in
-    ap (λ n. run_residuals p (put d z y (x + i) v) z (y * d.shape.columns + x) n) more
+    let more : i + 1 ≡ suc i = omega arith in ap (λ n. run_residuals p (put d z y (x + i) v) z (y * d.shape.columns + x) n) more
     ∙ one_more (mapped_residual p (put d z y (x + i) v) z) (y * d.shape.columns + x) i
     ∙ ap₂ (λ rs r. rs ++ r ∷ []) (sym kept ∙ before) e
     ∙ rw (add-one, take-suc deltas i 0 l) refl
@@ -117,8 +115,7 @@ module _ (q : Predictor) (c d : Image) (z y first n x : ℕ) (place : IsPlace c.
 
     pub directions_kept : q.reduced ≡ false → take 3 room ≡ open_directions q d z y x
     directions_kept r =
-        let three = e ∙ full_count q z r in
-        heads_from 3 count _ components room three few (omega (arith, part.long, three)) (lower_parts false r) g
+        let three = e ∙ full_count q z r in heads_from 3 count _ components room three few (omega (arith, part.long, three)) (lower_parts false r) g
         ∙ part.directions r ∙ open_directions_same q c d z y x place.column wide same_columns a.alike.kind above
 
     pub lower_kept : drop (if q.reduced then 0 else 3) room ≡ spectral_differences q d z y x (previous_bands q z) ++ replicate (18 - count) (pos 0)

@@ -46,8 +46,7 @@ along_same {p} {c} lawful shape band along agree = record {
 pub same_beside : {p : Params} {c d : Image} {i z y x n : ℕ} {f : Learner} → c.shape ≡ p.shape → IsAlong p c i z f → f.place ≡ y * p.shape.columns + x
     → AreAlikeBeside c d f.band y x n → SameBefore p.order c d i
 same_beside {p} {c} shape along next beside r there before = beside.samples r.z r.y r.x there (λ own row column.
-    let early = (along.come r (rw shape at there) (own ∙ along.band)).0 (rw shape at before) in
-    let line = ap (λ (n : ℕ). n * p.shape.columns) row in
+    let early = (along.come r (rw shape at there) (own ∙ along.band)).0 (rw shape at before) in let line = ap (λ (n : ℕ). n * p.shape.columns) row in
     absurd (omega (arith, early, next, line, column)))
 
 module _ {p : Params} {c d : Image} (lawful : IsLawful p) (shape : c.shape ≡ p.shape) (alike : AreAlike c d) where

@@ -69,8 +69,7 @@ held_small n r low high = omega (arith, ints, low, high)
 updated_small : (fraction : ℕ) (exponent : ℤ) (negative : Bool) (w u : ℤ) → unsigned_abs (updated_weight fraction exponent negative w u) ≤ 2 ^ (fraction + 2)
 unfolding updated_weight
 updated_small fraction exponent negative w u =
-    let some : 1 ≤ 2 ^ (fraction + 2) = pow_pos (fraction + 2) in
-    let ordered : weight_min fraction ≤ℤ weight_max fraction = omega (arith, ints, some) in
+    let some : 1 ≤ 2 ^ (fraction + 2) = pow_pos (fraction + 2) in let ordered : weight_min fraction ≤ℤ weight_max fraction = omega (arith, ints, some) in
     held_small (2 ^ (fraction + 2)) _ (clipped_low _ (weight_min fraction) (weight_max fraction) _ refl)
     (clipped_high _ (weight_min fraction) (weight_max fraction) _ ordered refl)
 

@@ -20,8 +20,7 @@ SFits-26 a h = fits_signed_from_abs w32 a (omega arith)
 -- what a shift to the left makes of a difference
 pub raised_within : (a : ℤ) (k : ℕ) → k ≤ 26 → unsigned_abs a ≤ 2 ^ (26 - k) → unsigned_abs (a *ℤ pos (2 ^ k)) ≤ 2 ^ 26
 raised_within a k l h =
-    let s : (26 - k) + k ≡ 26 = omega arith in
-    let p : 2 ^ (26 - k) * 2 ^ k ≡ 2 ^ 26 = sym (pow-add 2 (26 - k) k) ∙ ap (λ n. 2 ^ n) s in
+    let s : (26 - k) + k ≡ 26 = omega arith in let p : 2 ^ (26 - k) * 2 ^ k ≡ 2 ^ 26 = sym (pow-add 2 (26 - k) k) ∙ ap (λ n. 2 ^ n) s in
     let q : unsigned_abs a * 2 ^ k ≤ 2 ^ (26 - k) * 2 ^ k = mul-le (unsigned_abs a) (2 ^ k) (2 ^ (26 - k)) (2 ^ k) h (omega arith) in
     rw (unsigned_abs-mul a (pos (2 ^ k))) (omega (arith, p, q))
 
@@ -98,8 +97,7 @@ chosen_weight fraction exponent false weight difference raised lowered r up down
 pub within_room : (bits by : ℕ) (us : List ℤ) → bits + by ≤ 24 → AllWithin (4 * 2 ^ bits) us → AllWithin (2 ^ (26 - by)) us
 within_room bits by us h w i l =
     let k : bits + 2 ≤ 26 - by = omega arith in let p : 2 ^ (bits + 2) ≤ 2 ^ (26 - by) = pow_mono k in
-    let e : 2 ^ (bits + 2) ≡ 2 ^ bits * 2 ^ 2 = pow-add 2 bits 2 in
-    le_trans (w i l) (omega (arith, p, e))
+    let e : 2 ^ (bits + 2) ≡ 2 ^ bits * 2 ^ 2 = pow-add 2 bits 2 in le_trans (w i l) (omega (arith, p, e))
 
 pub within_most : (bits : ℕ) (us : List ℤ) → bits ≤ 16 → AllWithin (4 * 2 ^ bits) us → AllWithin (2 ^ 18) us
 within_most bits us h w i l = let p : 2 ^ bits ≤ 2 ^ 16 = pow_mono h in le_trans (w i l) (omega (arith, p))

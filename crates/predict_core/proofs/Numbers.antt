@@ -58,8 +58,7 @@ pub shifted : (low high t h : ℤ) → mapped_between low high (t +ℤ pos 2 *�
 unfolding mapped_between
 shifted low high t h =
     let p : ℤ = floor_div t 2 in let e : (low +ℤ h) -ℤ (p +ℤ low) ≡ h -ℤ p = omega (arith, ints) in
-    let under : (p +ℤ low) -ℤ low ≡ p -ℤ pos 0 = omega (arith, ints) in
-    let over : high -ℤ (p +ℤ low) ≡ (high -ℤ low) -ℤ p = omega (arith, ints) in
+    let under : (p +ℤ low) -ℤ low ≡ p -ℤ pos 0 = omega (arith, ints) in let over : high -ℤ (p +ℤ low) ≡ (high -ℤ low) -ℤ p = omega (arith, ints) in
     let theta : theta_between low high (p +ℤ low) ≡ theta_between (pos 0) (high -ℤ low) p = ap₂ min (ap unsigned_abs under) (ap unsigned_abs over) in
     rw (same_half t low, e, theta, same_parity t low) refl
 
@@ -81,6 +80,5 @@ offset_mapped low middle high part sum whole offset e =
 -- a sum that doesn't wrap
 pub kept_sum : (a b : ℤ) → unsigned_abs a ≤ 18 * 2 ^ 20 → pos 0 ≤ℤ b → b ≤ℤ pos 262140 → to_z w32 ((of_z w32 a + of_z w32 b) % 4294967296) ≡ a +ℤ b
 kept_sum a b h k l =
-    let f : SFits w32 a = fits_signed_from_abs w32 a (omega arith) in
-    let g : SFits w32 b = fits_signed_from_abs w32 b (omega (arith, ints)) in
+    let f : SFits w32 a = fits_signed_from_abs w32 a (omega arith) in let g : SFits w32 b = fits_signed_from_abs w32 b (omega (arith, ints)) in
     wrapping_add_is w32 a b f g ∙ int_wrap_fits w32 (a +ℤ b) (fits_signed_from_abs w32 (a +ℤ b) (omega (arith, ints)))

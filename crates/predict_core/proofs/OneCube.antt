@@ -77,8 +77,7 @@ module _ (p : Params) (c d : Image) (lawful : IsOrder c.shape p.order) (wide : p
   -- where all places before it are the same, a place is
   next_same : (q : Place) → IsPlaceOf c.shape q → SameBefore p.order c d (place_index c.shape p.order q) → sample_at c q.z q.y q.x ≡ sample_at d q.z q.y q.x
   next_same q place before =
-      let t : ℕ = time_of c.shape q in
-      let columns : c.shape.columns ≡ d.shape.columns = ap (λ (s : Sizes). s.columns) alike.shape in
+      let t : ℕ = time_of c.shape q in let columns : c.shape.columns ≡ d.shape.columns = ap (λ (s : Sizes). s.columns) alike.shape in
       let value : ℤ = scaled_prediction p c q.z t in
       let scaled = (places_precede_lem p p.order c d q wide alike place (λ r there e. before r there (key_increases _ _ r q lawful there place e))).scaled in
       let here = mapped_at p c q t refl place.column in

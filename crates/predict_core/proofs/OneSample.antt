@@ -5,7 +5,7 @@ use Rattle.std.proofs.lemmas.Int.{ints}
 use Rattle.std.proofs.lemmas.Bool.Decides.{nat_tests}
 use Rattle.std.proofs.lemmas.Bool.{cases_lt}
 use Rattle.predict_core.proofs.Residuals.{within}
-use Rattle.predict_core.proofs.Spans.{span}
+use Rattle.predict_core.proofs.Spans.{span, below_span}
 use Rattle.cube_core.specs.Kind.{smin, smax}
 use Rattle.predict_core.specs.Arithmetic.{floor_div}
 use Rattle.predict_core.specs.Residual.{mapped_between, mapped, theta_between, agrees, number_of}
@@ -126,10 +126,8 @@ module _ (low high scaled : ℤ) (least : (pos 2 *ℤ low) ≤ℤ scaled) (most 
   pub number_back : (n : ℕ) → pos n ≤ℤ (high -ℤ low) → mapped_between low high scaled (unmapped_between low high scaled n) ≡ n
   unfolding mapped_between unmapped_between
   number_back n h =
-      let p : ℤ = floor_div scaled 2 in let w = whole in
-      let e : ℤ = error_of (theta_between low high p) (unsigned_abs (p -ℤ low)) (unsigned_abs scaled) n in
-      let same : (p +ℤ e) -ℤ p ≡ e = back p e in
-      rw same
+      let p : ℤ = floor_div scaled 2 in let w = whole in let e : ℤ = error_of (theta_between low high p) (unsigned_abs (p -ℤ low)) (unsigned_abs scaled) n in
+      let same : (p +ℤ e) -ℤ p ≡ e = back p e in rw same
       (same_number (theta_between low high p) (unsigned_abs (p -ℤ low)) (unsigned_abs (high -ℤ p)) (unsigned_abs scaled) n _ e (agrees scaled e) refl
       (omega (arith, ints))
       (error_cases (theta_between low high p) (unsigned_abs (p -ℤ low)) (unsigned_abs scaled) n e refl) (agrees_cases scaled e _ refl)
@@ -141,13 +139,12 @@ below low high n power e h = omega (arith, ints)
 
 pub one_sample_lem : OneSample
 one_sample_lem k scaled h s =
-    let width : smax k -ℤ smin k ≡ pos (2 ^ k.bits) -ℤ pos 1 = span k h in
-    let within : (n : ℕ) → n < 2 ^ k.bits → pos n ≤ℤ (smax k -ℤ smin k) = λ n l. rw width (omega (arith, ints)) in (
+    let width : smax k -ℤ smin k ≡ pos (2 ^ k.bits) -ℤ pos 1 = span k h in (
       λ sample i. below (smin k) (smax k) (mapped k scaled sample) (2 ^ k.bits) width (number_in (smin k) (smax k) scaled s.0 s.1 sample i),
       λ n l. (
         unmapped_between (smin k) (smax k) scaled n,
-        sample_in (smin k) (smax k) scaled s.0 s.1 n (within n l),
-        number_back (smin k) (smax k) scaled s.0 s.1 n (within n l),
+        sample_in (smin k) (smax k) scaled s.0 s.1 n (below_span k n l),
+        number_back (smin k) (smax k) scaled s.0 s.1 n (below_span k n l),
         λ other i e. sym (sample_back (smin k) (smax k) scaled s.0 s.1 other i) ∙ ap (unmapped_between (smin k) (smax k) scaled) e,
       ),
     )

@@ -54,10 +54,8 @@ module _ (p : Predictor) (c : Image) (z y x count : ℕ) (above upper : List ℕ
     pub open_line : (i : ℕ) → i < count → pos (line_sum p.column current upper i) ≡ open_sum p c z y (x + i)
     unfolding open_sum
     open_line i l =
-        let w = wide in let a = north i l in let b = north_west i l in
-        let d = east_inside i l in let e = λ (r : p.column ≡ false). east_last r i l in
-        let f = λ (r : p.column ≡ false). west_first r i l in let n = none i in
-        grind (arith, ints, nat_tests, a, b, d, e, f, n, w)
+        let w = wide in let a = north i l in let b = north_west i l in let d = east_inside i l in let e = λ (r : p.column ≡ false). east_last r i l in
+        let f = λ (r : p.column ≡ false). west_first r i l in let n = none i in grind (arith, ints, nat_tests, a, b, d, e, f, n, w)
 
     module _ (i : ℕ) (l : i < count) where
       north_is : line_north p.column current upper i ≡ pos 4 *ℤ offset_above c z y (x + i) -ℤ open_sum p c z y (x + i)
@@ -69,8 +67,7 @@ module _ (p : Predictor) (c : Image) (z y x count : ℕ) (above upper : List ℕ
       pub open_inner : x + i ≢ 0 → line_directions p.column current upper i ≡ open_directions p c z y (x + i)
       unfolding open_directions
       open_inner n =
-          let b = north_west i l n in let s = open_line i l in
-          ap₂ (λ a bs. a ∷ bs) north_is (ap₂ (λ b d. b ∷ d ∷ []) west_is (omega (arith, ints, b, s)))
+          let b = north_west i l n in let s = open_line i l in ap₂ (λ a bs. a ∷ bs) north_is (ap₂ (λ b d. b ∷ d ∷ []) west_is (omega (arith, ints, b, s)))
 
       pub open_first : x + i ≡ 0 → line_north p.column current upper i
           ∷ (pos (4 * get_or current i 0) -ℤ pos (line_sum p.column current upper i)) ∷ line_north p.column current upper i ∷ []

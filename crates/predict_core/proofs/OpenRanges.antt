@@ -24,15 +24,12 @@ module _ (p : Predictor) (c : Image) (cube : IsCube c) (z y x : ℕ) (later : 0 
 
   above_in : (k : ℕ) → k < c.shape.columns → Between (pos 0) (pos 65535) (offset_above c z y k)
   above_in k h =
-      let n = power in
-      let s = sample_within c cube z (y - 1) k (record { band = place.band; row = (let r = place.row in omega arith); column = h }) in
-      let e = span c.kind cube.bits in
-      (omega (arith, ints, s.0, s.1, e, n), omega (arith, ints, s.0, s.1, e, n))
+      let n = power in let s = sample_within c cube z (y - 1) k (record { band = place.band; row = (let r = place.row in omega arith); column = h }) in
+      let e = span c.kind cube.bits in (omega (arith, ints, s.0, s.1, e, n), omega (arith, ints, s.0, s.1, e, n))
 
   pub sum_in : Between (pos 0) (pos 262140) (open_sum p c z y x)
   sum_in =
-      let q = place.column in let a = above_in x place.column in
-      elim (cases_Bool p.column) [
+      let q = place.column in let a = above_in x place.column in elim (cases_Bool p.column) [
         | inl e ↦ (let s = open_by_column p c z y x e in (omega (arith, ints, s, a.0, a.1), omega (arith, ints, s, a.0, a.1)))
         | inr e ↦ (let w = wide e in elim (cases_eq x 0) [
           | inl h ↦ (let s = open_at_left p c z y x e h in let b = above_in (x + 1) (omega arith) in
@@ -48,14 +45,12 @@ module _ (p : Predictor) (c : Image) (cube : IsCube c) (z y x : ℕ) (later : 0 
   directions_within : AllWithin 2097152 (open_directions p c z y x)
   unfolding open_directions
   directions_within =
-      let s = sum_in in let q = place.column in let a = above_in x place.column in
-      let b = above_in (x - 1) (omega arith) in
+      let s = sum_in in let q = place.column in let a = above_in x place.column in let b = above_in (x - 1) (omega arith) in
       within_three 2097152 _ _ _ (omega (arith, ints, s.0, s.1, a.0, a.1)) (omega (arith, ints, s.0, s.1)) (omega (arith, ints, s.0, s.1, b.0, b.1))
 
   lower_within : (m : ℕ) → AllWithin 2097152 (spectral_differences p c z y x (previous_bands p z) ++ replicate m (pos 0))
   lower_within m =
-      let n = power in
-      within_append 2097152 _ _
+      let n = power in within_append 2097152 _ _
       (λ i k. le_trans (spectral_within p c cube y x (omega (arith, later)) wide z place (previous_bands p z) (omega arith) i k) (omega (arith, n)))
       (zeros_within 2097152 m)
 

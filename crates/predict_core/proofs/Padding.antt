@@ -43,8 +43,7 @@ padded_update f e n (w ∷ ws) (u ∷ us) zs = ap (λ xs. updated_weight f e n w
 
 pub vector_length : (p : Predictor) (c : Image) (z y x : ℕ) → length (difference_vector p c z y x) ≡ component_count p z
 vector_length p c z y x =
-    let d = directional_length p c z y x in let s = spectral_length p c z y x (previous_bands p z) in
-    elim (cases_Bool p.reduced) [
+    let d = directional_length p c z y x in let s = spectral_length p c z y x (previous_bands p z) in elim (cases_Bool p.reduced) [
       | inl e ↦ ap length (reduced_vector_is p c z y x e) ∙ s ∙ sym (reduced_count p z e)
       | inr e ↦ (let k = full_count p z e in
           ap length (full_vector_is p c z y x e) ∙ length-append (directional_differences p c z y x) _ ∙ omega (arith, d, s, k))

@@ -33,13 +33,8 @@ same_length i ws us h k = length-take-le i ws (omega arith) ∙ sym (length-take
 pub product_next : (ws us : List ℤ) (i : ℕ) (sum : ℤ) → i < length ws → i < length us → sum ≡ inner_product (take i ws) (take i us)
     → sum +ℤ get_or ws i (pos 0) *ℤ get_or us i (pos 0) ≡ inner_product (take (i + 1) ws) (take (i + 1) us)
 product_next ws us i sum h k e =
-    rw (
-      add-one,
-      take-suc ws i (pos 0) h,
-      take-suc us i (pos 0) k,
-      product_more (take i ws) (take i us) (get_or ws i (pos 0)) (get_or us i (pos 0)) (same_length i ws us h k),
-      ← e,
-    ) refl
+    let m = product_more (take i ws) (take i us) (get_or ws i (pos 0)) (get_or us i (pos 0)) (same_length i ws us h k) in
+    rw (add-one, take-suc ws i (pos 0) h, take-suc us i (pos 0) k, m, ← e) refl
 
 pub product_none : (ws us : List ℤ) → pos 0 ≡ inner_product (take 0 ws) (take 0 us)
 unfolding inner_product
@@ -54,17 +49,8 @@ pub update_next : (f : ℕ) (e : ℤ) (n : Bool) (old us now : List ℤ) (i : �
     → take (i + 1) (set now i v) ≡ updated_weights f e n (take (i + 1) old) (take (i + 1) us)
 update_next f e n old us now i v h k l d a b =
     let w = kept_at old now i h k d in
-    rw (
-      add-one,
-      take-suc-set now i v h,
-      take-suc old i (pos 0) k,
-      take-suc us i (pos 0) l,
-      update_more f e n (take i old) (take i us) (get_or old i (pos 0)) (get_or us i (pos 0)) (same_length i old us k l),
-      ← w,
-      ← a,
-      b,
-    )
-    refl
+    let m = update_more f e n (take i old) (take i us) (get_or old i (pos 0)) (get_or us i (pos 0)) (same_length i old us k l) in
+    rw (add-one, take-suc-set now i v h, take-suc old i (pos 0) k, take-suc us i (pos 0) l, m, ← w, ← a, b) refl
 
 pub update_none : (f : ℕ) (e : ℤ) (n : Bool) (ws us : List ℤ) → take 0 ws ≡ updated_weights f e n (take 0 ws) (take 0 us)
 unfolding updated_weights
@@ -82,8 +68,7 @@ take_of_take (x ∷ xs) (suc n) (suc m) h = ap (λ ys. x ∷ ys) (take_of_take x
 
 pub take_padded : (us : List ℤ) (n m k : ℕ) → length us ≡ n → n ≤ m → m ≤ n + k → take m (us ++ replicate k (pos 0)) ≡ us ++ replicate (m - n) (pos 0)
 take_padded us n m k e h l =
-    let s : length us + (m - n) ≡ m = omega (arith, e) in
-    subst (λ j. take j (us ++ replicate k (pos 0)) ≡ us ++ replicate (m - n) (pos 0)) s
+    let s : length us + (m - n) ≡ m = omega (arith, e) in subst (λ j. take j (us ++ replicate k (pos 0)) ≡ us ++ replicate (m - n) (pos 0)) s
     (take-append-add us (replicate k (pos 0)) (m - n) ∙ ap (λ ys. us ++ ys) (take-replicate (m - n) k (pos 0) (omega (arith, e))))
 
 pub product_in_use : (ws us : List ℤ) (n m k : ℕ) (r : ℤ) → length us ≡ n → n ≤ m → m ≤ n + k

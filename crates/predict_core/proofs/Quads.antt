@@ -37,8 +37,7 @@ one_quad quads q i h = components_more 0 quads q i h ∙ ap (λ us. us ++ get_or
 from_append : (f : ℕ → ℤ) (a m n : ℕ) → map f (from a (m + n)) ≡ map f (from a m) ++ map f (from (a + m) n)
 from_append f a zero n = let e : 0 + n ≡ n = omega arith in let d : a + 0 ≡ a = omega arith in rw (e, d) refl
 from_append f a (suc m) n =
-    let e : suc m + n ≡ suc (m + n) = omega arith in let d : a + suc m ≡ suc a + m = omega arith in
-    rw (e, d) (ap (λ xs. f a ∷ xs) (from_append f (suc a) m n))
+    let e : suc m + n ≡ suc (m + n) = omega arith in let d : a + suc m ≡ suc a + m = omega arith in rw (e, d) (ap (λ xs. f a ∷ xs) (from_append f (suc a) m n))
 
 module _ (p : Predictor) (c : Image) (z y x : ℕ) where
   pub lower_append : (k m n : ℕ) → lower_differences p c z y x k (m + n) ≡ lower_differences p c z y x k m ++ lower_differences p c z y x (k + m) n
@@ -49,9 +48,7 @@ module _ (p : Predictor) (c : Image) (z y x : ℕ) where
       ∷ lower_difference p c z y x (k + 3) ∷ [] ≡ lower_differences p c z y x k 4
   unfolding lower_differences
   lower_four k =
-      let a : k + 1 ≡ suc k = omega arith in let b : k + 2 ≡ suc (suc k) = omega arith in
-      let d : k + 3 ≡ suc (suc (suc k)) = omega arith in
-      rw (a, b, d) refl
+      let a : k + 1 ≡ suc k = omega arith in let b : k + 2 ≡ suc (suc k) = omega arith in let d : k + 3 ≡ suc (suc (suc k)) = omega arith in rw (a, b, d) refl
 
   pub lower_none : (k : ℕ) → previous_bands p z < k → lower_difference p c z y x k ≡ pos 0
   unfolding lower_difference
@@ -80,8 +77,7 @@ module _ (p : Predictor) (c : Image) (z y x : ℕ) where
   unfolding spectral_differences lower_differences
   lower_spectral zero h = refl
   lower_spectral (suc n) h =
-      let e : suc n ≡ n + 1 = omega arith in let d : 1 + n ≡ suc n = omega arith in
-      ap (λ m. lower_differences p c z y x 1 m) e ∙ lower_append 1 n 1
+      let e : suc n ≡ n + 1 = omega arith in let d : 1 + n ≡ suc n = omega arith in ap (λ m. lower_differences p c z y x 1 m) e ∙ lower_append 1 n 1
       ∙ ap₂ (λ us vs. us ++ vs) (lower_spectral n (omega (arith, h))) (ap (λ k. lower_differences p c z y x k 1) d ∙ lower_one (suc n)
       ∙ ap (λ v. v ∷ []) (lower_is (suc n) h))
 
@@ -98,8 +94,7 @@ module _ (p : Predictor) (c : Image) (z y x : ℕ) where
       → xs ≡ lower_differences p c z y x 1 (4 * (quads_of count - 0))
       → xs ≡ difference_vector p c z y x ++ replicate (4 * quads_of count - count) (pos 0)
   reduced_components count xs r e h =
-      let n : count ≡ previous_bands p z = e ∙ reduced_count p z r in
-      let s : 4 * (quads_of count - 0) ≡ 4 * quads_of count = omega arith in
+      let n : count ≡ previous_bands p z = e ∙ reduced_count p z r in let s : 4 * (quads_of count - 0) ≡ 4 * quads_of count = omega arith in
       h ∙ ap (λ m. lower_differences p c z y x 1 m) s ∙ lower_padded (4 * quads_of count) (omega (arith, n))
       ∙ ap₂ (λ us m. us ++ replicate (4 * quads_of count - m) (pos 0)) (sym (reduced_vector_is p c z y x r)) (sym n)
 
@@ -123,10 +118,8 @@ module _ (p : Predictor) (c : Image) (z y x : ℕ) where
   pub reduced_part : (count : ℕ) (sum : ℤ) (xs : List ℤ) → p.reduced ≡ true → count ≡ component_count p z → sum ≡ open_sum p c z y x
       → xs ≡ lower_differences p c z y x 1 (4 * (quads_of count - 0)) → IsOpenPart p c z y x count sum xs
   reduced_part count sum xs r e is h =
-      let n : count ≡ previous_bands p z = e ∙ reduced_count p z r in
-      let s : 4 * (quads_of count - 0) ≡ 4 * quads_of count = omega arith in
-      let padded = h ∙ ap (λ m. lower_differences p c z y x 1 m) s ∙ lower_padded (4 * quads_of count) (omega (arith, n)) in
-      record {
+      let n : count ≡ previous_bands p z = e ∙ reduced_count p z r in let s : 4 * (quads_of count - 0) ≡ 4 * quads_of count = omega arith in
+      let padded = h ∙ ap (λ m. lower_differences p c z y x 1 m) s ∙ lower_padded (4 * quads_of count) (omega (arith, n)) in record {
         sum_is = is;
         long = ap length h ∙ length-lower 1 (4 * (quads_of count - 0)) ∙ s;
         directions = λ f. absurd (true≢false (sym r ∙ f));
@@ -142,8 +135,7 @@ module _ (p : Predictor) (c : Image) (z y x : ℕ) where
       let n : count ≡ 3 + previous_bands p z = e ∙ full_count p z r in
       let m : 4 * quads_of count - count ≡ 1 + 4 * (quads_of count - 1) - previous_bands p z = omega (arith, n) in
       let rest = length-lower 2 (4 * (quads_of count - 1)) in
-      let long : length xs ≡ 4 + length (lower_differences p c z y x 2 (4 * (quads_of count - 1))) = ap length h ∙ omega arith in
-      record {
+      let long : length xs ≡ 4 + length (lower_differences p c z y x 2 (4 * (quads_of count - 1))) = ap length h ∙ omega arith in record {
         sum_is = is;
         long = omega (arith, long, rest, n);
         directions = λ f. ap (take 3) h ∙ front;
@@ -173,8 +165,7 @@ pub quads_next : (p : Predictor) (c : Image) (z y x first nearest q i : ℕ) (he
     → get_or v.places i [] ≡ lower_differences p c z y x (nearest + 4 * (q - first)) 4
     → components_at (q + 1) (set quads q v) i ≡ heads ++ lower_differences p c z y x nearest (4 * (q + 1 - first))
 quads_next p c z y x first nearest q i heads quads v l h a b =
-    let e : 4 * (q + 1 - first) ≡ 4 * (q - first) + 4 = omega (arith, l) in
-    components_more q quads v i h ∙ ap₂ (λ us vs. us ++ vs) a b
+    let e : 4 * (q + 1 - first) ≡ 4 * (q - first) + 4 = omega (arith, l) in components_more q quads v i h ∙ ap₂ (λ us vs. us ++ vs) a b
     ∙ append_assoc heads (lower_differences p c z y x nearest (4 * (q - first))) (lower_differences p c z y x (nearest + 4 * (q - first)) 4)
     ∙ ap (λ vs. heads ++ vs) (sym (lower_append p c z y x nearest (4 * (q - first)) 4) ∙ ap (λ n. lower_differences p c z y x nearest n) (sym e))
 

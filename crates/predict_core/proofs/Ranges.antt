@@ -60,8 +60,7 @@ module _ (p : Predictor) (c : Image) (cube : IsCube c) (y x : ℕ) (later : 0 < 
 
     pub sum_within : Between (pos 4 *ℤ smin c.kind) (pos 4 *ℤ smax c.kind) (local_sum p c z y x)
     sum_within =
-        let l = left in let u = up x column in let b = up (x - 1) before in
-        elim (cases_eq y 0) [
+        let l = left in let u = up x column in let b = up (x - 1) before in elim (cases_eq y 0) [
           | inl e ↦ rw (sum_in_first_row p c z y x e) (omega (arith, ints, l.0, l.1), omega (arith, ints, l.0, l.1))
           | inr n ↦ elim (cases_Bool p.column) [
             | inl e ↦ rw (sum_by_column p c z y x n e) (omega (arith, ints, u.0, u.1), omega (arith, ints, u.0, u.1))
@@ -107,8 +106,7 @@ module _ (p : Predictor) (c : Image) (cube : IsCube c) (y x : ℕ) (later : 0 < 
 
     pub vector_within : AllWithin (4 * 2 ^ c.kind.bits) (difference_vector p c z y x)
     vector_within =
-        let s = spectral_within (previous_bands p z) (omega arith) in
-        elim (cases_Bool p.reduced) [
+        let s = spectral_within (previous_bands p z) (omega arith) in elim (cases_Bool p.reduced) [
           | inl e ↦ subst (AllWithin (4 * 2 ^ c.kind.bits)) (sym (reduced_vector_is p c z y x e)) s
           | inr e ↦ subst (AllWithin (4 * 2 ^ c.kind.bits)) (sym (full_vector_is p c z y x e)) (within_append _ _ _ (directional_within z place) s)
         ]

@@ -1,5 +1,5 @@
 -- Runs whose samples are known: a run begun, and its first places.
-use Rattle.std.proofs.Common.{◌≡◌, ℕ, ◌+◌, ◌*◌, ◌^◌, ◌<◌, ◌≤◌, Bool, ℤ, List, take, slice_index_or, sym, ap, ◌∙◌, subst, arith, inl, inr}
+use Rattle.std.proofs.Common.{◌≡◌, ℕ, ◌+◌, ◌*◌, ◌^◌, ◌<◌, ◌≤◌, Bool, false, ℤ, List, take, slice_index_or, sym, ap, ◌∙◌, subst, arith, inl, inr}
 use Rattle.std.proofs.lemmas.Bool.{cases_eq}
 use Rattle.header_bits.specs.declared.params.Params.{Params}
 use Rattle.cube_core.specs.Image.{Image}
@@ -10,7 +10,8 @@ use Rattle.predict_core.specs.Bounds.{AllWithin}
 use Rattle.predict_core.specs.Chain.{AreWeightsAt}
 use Rattle.predict_core.specs.Prediction.{weight_vector}
 use Rattle.predict_core.specs.Residual.{run_residuals}
-use Rattle.predict_core.specs.RunChains.{CanFollow, AreStepsThere, IsFirstLater, IsFollowed, HasPredicted}
+use Rattle.predict_core.specs.RunChains.{CanFollow, CanPredict, AreStepsThere, IsFirstLater, IsFollowed, HasPredicted}
+use Rattle.predict_core.specs.Rooms.{IsRoom, quads_of}
 use Rattle.predict_core.specs.Weights.{step_exponent}
 use Rattle.predict_core.proofs.WholeRuns.{started}
 
@@ -76,3 +77,20 @@ predicted s c y x first n old ws new parts rs at followed within bound written s
   where
     place : (y columns : ℕ) → y * columns + (x + n) ≡ y * columns + x + n
     place y columns = omega arith
+
+-- what a chain needs, of what is known before a run
+pub can_follow : (q n : ℕ) (wraps : Bool) (s : Settings) (c : Image) (y x count : ℕ) (ws sums own : List ℤ) (quads : List Quad) → n ≤ 18 → s.count ≤ n
+    → q ≡ quads_of s.count → (wraps ≡ false → 46 ≤ s.predictor.register) → CanPredict s c y x count ws
+    → IsRoom s.predictor c s.band y x count s.count sums own quads → CanFollow q n wraps s c y x count sums own quads
+can_follow q n wraps s c y x count ws sums own quads few enough needed register can room = record {
+  few = few;
+  enough = enough;
+  needed = needed;
+  register = register;
+  place = can.place;
+  columns = can.columns;
+  kind = can.kind;
+  within = can.few;
+  inside = can.inside;
+  room = room;
+}

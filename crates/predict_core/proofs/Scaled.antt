@@ -17,8 +17,7 @@ scaled_is p k sum ws us product register upper middle low high r a b d e f g h =
 
 half_of : (a k : ℕ) → 1 ≤ k → a / 2 ^ k ≤ a / 2
 half_of a k h =
-    let e : 1 + (k - 1) ≡ k = omega arith in
-    subst (λ j. a / 2 ^ j ≤ a / 2) e (subst (λ q. q ≤ a / 2) (shr-shr a 1 (k - 1)) (shr_le (a / 2) (k - 1)))
+    let e : 1 + (k - 1) ≡ k = omega arith in subst (λ j. a / 2 ^ j ≤ a / 2) e (subst (λ q. q ≤ a / 2) (shr-shr a 1 (k - 1)) (shr_le (a / 2) (k - 1)))
 
 pub halved_bound : (v : ℤ) (by : ℕ) → SFits w64 v → 1 ≤ by → unsigned_abs (floor_div v (2 ^ by)) ≤ 2 ^ 62
 halved_bound (pos a) by f h = omega (arith, half_of a by h, f.sfits)

@@ -98,8 +98,7 @@ module _ (fraction first count : ℕ) (least : 4 ≤ fraction) (most : fraction 
   pub begun_first : take (first + 0) (replicate 18 (pos 0)) ++ eighths (to_z w32 ((7 * 2 ^ (fraction - 3)) % 2 ^ 32)) (count - 0)
       ≡ replicate first (pos 0) ++ eighths (pos (7 * 2 ^ (fraction - 3))) count
   begun_first =
-      let a : first + 0 ≡ first = omega arith in let b : count - 0 ≡ count = omega arith in
-      rw (a, b, first_weight (fraction - 3) (omega arith))
+      let a : first + 0 ≡ first = omega arith in let b : count - 0 ≡ count = omega arith in rw (a, b, first_weight (fraction - 3) (omega arith))
       (ap (λ xs. xs ++ eighths (pos (7 * 2 ^ (fraction - 3))) count) (take-replicate first 18 (pos 0) (omega arith)))
 
   pub small_first : unsigned_abs (to_z w32 ((7 * 2 ^ (fraction - 3)) % 2 ^ 32)) ≤ 1048576

@@ -28,8 +28,7 @@ ones_below f q = if nat_le q (f + 2) then 2 ^ (f + 2 - q) - 1 else 0
 
 ones_small : (f q : ℕ) → q ≤ f + 3 → ones_below f q + 1 ≤ 2 ^ (f + 3 - q)
 ones_small f q h =
-    let s : 1 ≤ 2 ^ (f + 3 - q) = pow_pos (f + 3 - q) in let t : 1 ≤ 2 ^ (f + 2 - q) = pow_pos (f + 2 - q) in
-    elim (cases_Bool (nat_le q (f + 2))) [
+    let s : 1 ≤ 2 ^ (f + 3 - q) = pow_pos (f + 3 - q) in let t : 1 ≤ 2 ^ (f + 2 - q) = pow_pos (f + 2 - q) in elim (cases_Bool (nat_le q (f + 2))) [
       | inl e ↦ (let p : 2 ^ (f + 2 - q) ≤ 2 ^ (f + 3 - q) = pow_mono (omega arith) in rw e (omega (arith, p, t)))
       | inr e ↦ rw e s
     ]
@@ -47,16 +46,13 @@ signed_small q e h = let low = h.0 in let high = h.1 in omega (arith, ints, low,
 sum_small : (scale half ones : ℕ) (e : ℤ) → e ≤ℤ (pos half -ℤ pos 1) → neg_ℤ (pos half) ≤ℤ e → ones + 1 ≤ scale
     → unsigned_abs (pos scale *ℤ e +ℤ pos ones) ≤ scale * half
 sum_small scale half ones (pos n) high low small =
-    let m : scale * (n + 1) ≤ scale * half = mul-le scale (n + 1) scale half (omega arith) (omega (arith, ints, high)) in
-    omega (arith, ints, m, small)
+    let m : scale * (n + 1) ≤ scale * half = mul-le scale (n + 1) scale half (omega arith) (omega (arith, ints, high)) in omega (arith, ints, m, small)
 sum_small scale half ones (negsuc n) high low small =
-    let m : scale * (n + 1) ≤ scale * half = mul-le scale (n + 1) scale half (omega arith) (omega (arith, ints, low)) in
-    omega (arith, ints, m, small)
+    let m : scale * (n + 1) ≤ scale * half = mul-le scale (n + 1) scale half (omega arith) (omega (arith, ints, low)) in omega (arith, ints, m, small)
 
 pub table_small : (f q : ℕ) (e : ℤ) → 3 ≤ q → q ≤ f + 3 → IsSigned q e → unsigned_abs (table_weight f q e) ≤ 2 ^ (f + 2)
 table_small f q e l h signed =
-    let s = sum_small (2 ^ (f + 3 - q)) (2 ^ (q - 1)) (ones_below f q) e signed.1 signed.0 (ones_small f q h) in
-    rw (powers_meet f q l h) at s
+    let s = sum_small (2 ^ (f + 3 - q)) (2 ^ (q - 1)) (ones_below f q) e signed.1 signed.0 (ones_small f q h) in rw (powers_meet f q l h) at s
 
 pub power_kept : (k : ℕ) → k ≤ 21 → to_z w32 (1 * 2 ^ k % 2 ^ 32) ≡ pos (2 ^ k)
 power_kept k h =
@@ -87,8 +83,7 @@ scale_small f q h l = omega arith
 
 pub ones_fit : (f q : ℕ) → f ≤ 19 → SFits w32 (pos (ones_below f q))
 ones_fit f q h =
-    let p : 2 ^ (f + 2 - q) ≤ 2 ^ 21 = pow_mono {j = 21} (omega (arith, h)) in
-    elim (cases_Bool (nat_le q (f + 2))) [
+    let p : 2 ^ (f + 2 - q) ≤ 2 ^ 21 = pow_mono {j = 21} (omega (arith, h)) in elim (cases_Bool (nat_le q (f + 2))) [
       | inl e ↦ rw e (fits_signed_from_abs w32 (pos (2 ^ (f + 2 - q) - 1)) (omega (arith, p)))
       | inr e ↦ rw e (fits_signed_from_abs w32 (pos 0) (omega arith))
     ]
@@ -103,8 +98,7 @@ told_next f q i ws entries w l m is told =
 
 pub entry_fits : (f q : ℕ) (e : ℤ) → f ≤ 19 → q ≤ f + 3 → IsSigned q e → SFits w32 e
 entry_fits f q e h l signed =
-    let p : 2 ^ (q - 1) ≤ 2 ^ 21 = pow_mono {j = 21} (omega (arith, h, l)) in
-    let s : unsigned_abs e ≤ 2 ^ (q - 1) = signed_small q e signed in
+    let p : 2 ^ (q - 1) ≤ 2 ^ 21 = pow_mono {j = 21} (omega (arith, h, l)) in let s : unsigned_abs e ≤ 2 ^ (q - 1) = signed_small q e signed in
     fits_signed_from_abs w32 e (omega (arith, p, s))
 
 pub entry_signed : (q : ℕ) (es : List ℤ) (i : ℕ) → AllByRecursion (IsSigned q) es → i < length es → IsSigned q (get_or es i (pos 0))
@@ -126,8 +120,7 @@ triangle_next : (n : ℕ) → (n + 1) * (n + 1 - 1) / 2 ≡ n * (n - 1) / 2 + n
 triangle_next zero = refl
 triangle_next (suc m) =
     let up : suc m + 1 - 1 ≡ suc m = omega arith in let down : suc m - 1 ≡ m = omega arith in
-    let two : (suc m + 1) * suc m ≡ suc m * m + 2 * suc m = mul_two m in
-    rw (up, down, two) (omega arith)
+    let two : (suc m + 1) * suc m ≡ suc m * m + 2 * suc m = mul_two m in rw (up, down, two) (omega arith)
 
 -- so many entries stand in front of band z
 abbrev pub in_front : ℕ → ℕ → ℕ → ℕ
@@ -137,17 +130,13 @@ pub in_front_is : (p : Predictor) (first : ℕ) → first ≡ (if p.reduced then
 unfolding entries_before
 in_front_is p first f zero = let n : min 0 p.previous ≡ 0 = omega arith in rw n (grind arith)
 in_front_is p first f (suc z) =
-    let before = in_front_is p first f z in
-    let count : first + min z p.previous ≡ component_count p z = count_is p z first f in
-    elim (cases_lt z p.previous) [
+    let before = in_front_is p first f z in let count : first + min z p.previous ≡ component_count p z = count_is p z first f in elim (cases_lt z p.previous) [
       | inl close ↦ (let near : min z p.previous ≡ z = omega (arith, close) in
           let next : min (suc z) p.previous ≡ z + 1 = omega (arith, close) in let t = triangle_next z in
-          let b = rw near at before in let k = rw near at count in
-          rw (near, next) (grind (arith, b, k, t)))
+          let b = rw near at before in let k = rw near at count in rw (near, next) (grind (arith, b, k, t)))
       | inr far_off ↦ (let near : min z p.previous ≡ p.previous = omega (arith, far_off) in
           let next : min (suc z) p.previous ≡ p.previous = omega (arith, far_off) in
-          let far : suc z - p.previous ≡ (z - p.previous) + 1 = omega (arith, far_off) in let b = rw near at before in
-          let k = rw near at count in
+          let far : suc z - p.previous ≡ (z - p.previous) + 1 = omega (arith, far_off) in let b = rw near at before in let k = rw near at count in
           rw (near, next, far) (grind (arith, b, k)))
     ]
 
@@ -156,8 +145,7 @@ pub counts_agree : (p : Params) (z : ℕ) → entries_before (predictor_of p) z 
 unfolding entries_before weight_count
 counts_agree p zero = refl
 counts_agree p (suc z) =
-    let before = counts_agree p z in
-    elim (cases_Bool p.reduced) [
+    let before = counts_agree p z in elim (cases_Bool p.reduced) [
       | inl e ↦ (let count = reduced_count (predictor_of p) z e in let none : ◌≡◌ {A = ℕ} (if p.reduced then 0 else 3) 0 = rw e refl in
           omega (arith, before, count, none))
       | inr e ↦ (let count = full_count (predictor_of p) z e in let three : ◌≡◌ {A = ℕ} (if p.reduced then 0 else 3) 3 = rw e refl in
@@ -175,8 +163,7 @@ pub entries_there : (p : Params) (z : ℕ) → z < p.shape.bands
 unfolding entries_before
 entries_there p z l =
     let g = counts_grow p.previous p.reduced (suc z) (p.shape.bands - suc z) in
-    let same : p.shape.bands - suc z + suc z ≡ p.shape.bands = omega (arith, l) in let agree = counts_agree p (suc z) in
-    rw (← agree, same) at g
+    let same : p.shape.bands - suc z + suc z ≡ p.shape.bands = omega (arith, l) in let agree = counts_agree p (suc z) in rw (← agree, same) at g
 
 signed_taken : (q n : ℕ) (es : List ℤ) → AllByRecursion (IsSigned q) es → AllByRecursion (IsSigned q) (take n es)
 signed_taken q zero es s = tt

@@ -26,9 +26,7 @@ chosen_is (negsuc (suc n)) a b l h s t = absurd (omega (arith, ints, l))
 pub masked_is : (mask n : ℤ) → negsuc 0 ≤ℤ mask → mask ≤ℤ pos 0 → unsigned_abs n ≤ 2 ^ 21
     → to_z w32 (bit_and (of_z w32 n) (of_z w32 mask)) ≡ (if int_lt mask (pos 0) then n else pos 0)
 masked_is mask n l h s =
-    let same : n -ℤ pos 0 ≡ n = omega (arith, ints) in
-    let m = rw same at (chosen_is mask (pos 0) n l h (omega arith) s) in
-    omega (arith, ints, m)
+    let same : n -ℤ pos 0 ≡ n = omega (arith, ints) in let m = rw same at (chosen_is mask (pos 0) n l h (omega arith) s) in omega (arith, ints, m)
 
 pub masked_within : (mask n : ℤ) → pos 0 ≤ℤ n → n ≤ℤ pos 262140
     → (pos 0 ≤ℤ (if int_lt mask (pos 0) then n else pos 0)) × ((if int_lt mask (pos 0) then n else pos 0) ≤ℤ pos 262140)

@@ -39,8 +39,7 @@ along_first p c z b band first follows =
 pub band_here : (p : Params) (c : Image) (i : ℕ) (bands : List Learner) (q : Place) (b : Learner) → IsOrder p.shape p.order → AreAlong p c i bands
     → StandsAt p.shape p.order q i → slice_get bands q.z ≡ Some b → IsAlong p c i q.z b × (b.place ≡ time_of p.shape q)
 band_here p c i bands q b lawful all stands e =
-    let along = all q.z stands.place.band b e in
-    (along, sym (come_here p.shape p.order q.z i b.place q lawful along.come stands refl))
+    let along = all q.z stands.place.band b e in (along, sym (come_here p.shape p.order q.z i b.place q lawful along.come stands refl))
 
 -- one place more, and with it another image, which the other bands follow as well
 along_more : (p : Params) (c e : Image) (i : ℕ) (bands : List Learner) (q : Place) (b d : Learner)
@@ -52,8 +51,7 @@ along_more p c e i bands q b d lawful all stands at moves follows others-follow 
     own : IsAlong p e (i + 1) q.z d
     own =
         let here = band_here p c i bands q b lawful all stands at in
-        let within : q.y * p.shape.columns + q.x < p.shape.rows * p.shape.columns = digits_lt stands.place.row stands.place.column in
-        record {
+        let within : q.y * p.shape.columns + q.x < p.shape.rows * p.shape.columns = digits_lt stands.place.row stands.place.column in record {
           band = moves.band ∙ here.0.band;
           inside = omega (arith, moves.place, here.1, within);
           follows = follows;
@@ -80,8 +78,7 @@ module _ {p : Params} {c : Image} {q : Place} {width depth z : ℕ} {f : Learner
       → IsAlong p e (place_index p.shape p.order q + width * depth) z g
   along_within {g = g} low high moved follows =
       let row = row_fits _ p.shape.columns _ p.shape.columns is.place.row (omega arith) in
-      let gone : g.place ≡ time_of p.shape q + width = omega (arith, moved.place, time_at lawful is z _ along.come low high) in
-      record {
+      let gone : g.place ≡ time_of p.shape q + width = omega (arith, moved.place, time_at lawful is z _ along.come low high) in record {
         band = moved.band ∙ along.band;
         inside = omega (arith, gone, row, is.columns);
         follows = follows;
@@ -115,8 +112,7 @@ module _ (p : Params) {left : List Place} (lawful : IsOrder p.shape p.order) (re
 
   pub goes_by : (k : ℕ) → k ≤ length left → Goes p left k
   goes_by k le =
-      let count : gone_count p (drop k left) ≡ gone_count p left + k = omega (arith, le, all_places, length-drop k left) in
-      record {
+      let count : gone_count p (drop k left) ≡ gone_count p left + k = omega (arith, le, all_places, length-drop k left) in record {
         count = count;
         gone = ap (λ (n : ℕ). take n (places p.shape p.order)) count ∙ take-add (gone_count p left) k (places p.shape p.order)
             ∙ ap (λ (ps : List Place). gone_by p left ++ take k ps) (sym rest);
@@ -157,8 +153,7 @@ pub on_walk_more : (p : Params) (c e : Image) (left rest : List Place) (bands : 
     → IsOrder p.shape p.order → IsOnWalk p c left bands → left ≡ q ∷ rest → slice_get bands q.z ≡ Some b → MovesOn b d → Follows p d e
     → ((z : ℕ) (f : Learner) → z < p.shape.bands → z ≢ q.z → IsAlong p c (gone_count p left) z f → Follows p f e) → IsOnWalk p e rest (set bands q.z d)
 on_walk_more p c e left rest bands q b d lawful walk is band moves follows others =
-    let next = next_goes p q left rest lawful walk.rest is in
-    record {
+    let next = next_goes p q left rest lawful walk.rest is in record {
       rest = next.others;
       many = length-set bands q.z d ∙ walk.many;
       along = subst (λ i. AreAlong p e i (set bands q.z d)) (sym next.count)

@@ -46,10 +46,8 @@ bits_of_z H K (negsuc a) e h f =
 -- the power below a register's size, and the room above it
 powers : (r : ℕ) → 32 ≤ r → r ≤ 64 → (2 ^ r ≡ 2 ^ (r - 1) + 2 ^ (r - 1)) × (2 ^ (r - 1) * 2 ^ (64 - r) ≡ 2 ^ 63)
 powers r low high =
-    let e : r ≡ suc (r - 1) = omega arith in
-    let double : 2 ^ r ≡ 2 ^ (r - 1) * 2 = ap (λ k. 2 ^ k) e ∙ pow-suc 2 (r - 1) in
-    let s : (r - 1) + (64 - r) ≡ 63 = omega arith in
-    (omega (arith, double), sym (pow-add 2 (r - 1) (64 - r)) ∙ ap (λ k. 2 ^ k) s)
+    let e : r ≡ suc (r - 1) = omega arith in let double : 2 ^ r ≡ 2 ^ (r - 1) * 2 = ap (λ k. 2 ^ k) e ∙ pow-suc 2 (r - 1) in
+    let s : (r - 1) + (64 - r) ≡ 63 = omega arith in (omega (arith, double), sym (pow-add 2 (r - 1) (64 - r)) ∙ ap (λ k. 2 ^ k) s)
 
 pub by_shifts : (r : ℕ) (v : ℤ) → SFits w64 v → 32 ≤ r → r ≤ 64 → shr_z (to_z w64 ((of_z w64 v * 2 ^ (64 - r)) % 2 ^ 64)) (2 ^ (64 - r)) ≡ wrapped r v
 unfolding wrapped

@@ -34,7 +34,8 @@ pub(crate) fn predict_run<const PAIR: bool>(
     ensures predicted { HasPredicted settings.now cube.now y x count state.old.weights state.new.weights state.new.residuals }
     ensures other_predicted { PAIR ≡ true → HasPredicted other.now cube.now y x count beside.old.weights beside.new.weights beside.new.residuals }
 {
-    if settings.predictor.register < 46 {
+    let wraps = settings.predictor.register < 46;
+    if wraps {
         predict_in::<true, PAIR>(cube, y, x, count, settings, state, other, beside);
     } else {
         predict_in::<false, PAIR>(cube, y, x, count, settings, state, other, beside);

@@ -48,7 +48,8 @@ impl Band {
             return;
         }
         self.next += count as u64;
-        if self.settings.predictor.register < 46 {
+        let wraps = self.settings.predictor.register < 46;
+        if wraps {
             invert_run::<true>(&self.settings, cube, y, x, &mut self.weights, deltas);
         } else {
             invert_run::<false>(&self.settings, cube, y, x, &mut self.weights, deltas);

@@ -24,3 +24,9 @@ learn-requires-clause-t_in c = search rules
 
 pub residual_of-requires-clause-scaled : goal.residual_of-requires-clause-scaled
 residual_of-requires-clause-scaled c = search rules
+
+pub returns-clause-value : goal.returns-clause-value
+returns-clause-value c =
+    let fits : SFits w32 c.sample-sample.result = search rules in let scaled_fits : SFits w32 c.predict-prediction.result.scaled = search rules in
+    rw (← c.predict-prediction.ensures.value, ← c.sample-sample.ensures.value)
+    (rw (← c.requires.kind) at (simp (to_z-of_z scaled_fits, to_z-of_z fits) at c.residual_of.ensures.value))

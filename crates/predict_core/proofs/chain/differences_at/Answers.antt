@@ -10,10 +10,8 @@ FitFour xs =
 
 pub returns : goal.returns
 returns g c =
-    let first : FitFour c.quad_at-first.result = search rules in
-    let second : FitFour c.quad_at-second.result = search rules in
-    let third : FitFour c.quad_at-third.result = search rules in
-    let fourth : FitFour c.quad_at-fourth.result = search rules in
+    let first : FitFour c.quad_at-first.result = search rules in let second : FitFour c.quad_at-second.result = search rules in
+    let third : FitFour c.quad_at-third.result = search rules in let fourth : FitFour c.quad_at-fourth.result = search rules in
     let fifth_0 : SFits w32 (slice_index_or c.quad_at-fifth.result 0 (pos 0)) = search rules in
     let fifth_1 : SFits w32 (slice_index_or c.quad_at-fifth.result 1 (pos 0)) = search rules in
     rw (to_z-of_z first.0, to_z-of_z first.1, to_z-of_z first.2, to_z-of_z first.3)

@@ -26,16 +26,14 @@ predicted_difference-predicted-requires-clause-differences_in g c =
 
 pub follow-requires-clause-own_in : goal.follow-requires-clause-own_in
 follow-requires-clause-own_in g c =
-    let s = c.args.settings.now in
-    let power : 2 ^ c.args.cube.now.kind.bits ≤ 2 ^ 16 = pow_mono (c.prove_is_cube.ensures.bits.1) in
+    let s = c.args.settings.now in let power : 2 ^ c.args.cube.now.kind.bits ≤ 2 ^ 16 = pow_mono (c.prove_is_cube.ensures.bits.1) in
     let small = central_within s.predictor c.args.cube.now c.prove_is_cube.ensures c.args.y c.args.x c.requires.later (rw c.requires.columns s.wide)
     s.band c.requires.place in
     rw (to_z-of_z c.ranges.own, c.requires.own_is) (omega (arith, power, small))
 
 pub follow-requires-clause-differences_in : goal.follow-requires-clause-differences_in
 follow-requires-clause-differences_in g c =
-    let s = c.args.settings.now in
-    rw (c.requires.differences_are, c.requires.bits, s.range.bits_is, ← c.requires.kind)
+    let s = c.args.settings.now in rw (c.requires.differences_are, c.requires.bits, s.range.bits_is, ← c.requires.kind)
     (padded_within s.predictor c.args.cube.now c.prove_is_cube.ensures c.args.y c.args.x c.requires.later (rw c.requires.columns s.wide)
     s.band c.requires.place (18 - s.count))
 
@@ -54,8 +52,7 @@ module _ (g : given.Over) (c : After-predicted_difference-predicted g) where
 pub returns-clause-scaled : goal.returns-clause-scaled
 returns-clause-scaled g c =
     let d = (goal.at.returns-clause-scaled g c).After-predicted_difference-predicted in let s = c.args.settings.now in
-    let fits : SFits w32 c.predicted_difference-predicted.result = search rules in
-    rw (to_z-of_z fits)
+    let fits : SFits w32 c.predicted_difference-predicted.result = search rules in rw (to_z-of_z fits)
     (scaled_from_room s.predictor c.args.cube.now s.band c.args.y c.args.x s.count g.row.N c.args.weights.now c.args.differences.now c.prove_is_cube.ensures
     c.requires.place s.count_is c.requires.enough c.requires.few c.requires.differences_are c.predicted_difference-predicted.result (from_difference g d))
 

@@ -1,6 +1,5 @@
-use Rattle.std.proofs.Common.{◌≡◌, ℤ, pos, ◌≤ℤ◌, slice_index_or, of_z, to_z, unsigned_abs, ◌≤◌, ◌<◌, ◌+◌, ◌-◌, ◌*◌, length, take, SFits, w32, to_z-of_z, rules}
+use Rattle.std.proofs.Common.{◌≡◌, pos, slice_index_or, unsigned_abs, ◌≤◌, ◌<◌, ◌+◌, ◌-◌, ◌*◌, length, take, SFits, w32, to_z-of_z, rules}
 use Rattle.std.proofs.Common.{arith, sym, ◌∙◌}
-use Rattle.std.proofs.lemmas.Int.{ints}
 use Rattle.header_bits.specs.declared.params.Params.{Params}
 use Rattle.predict_core.specs.Chain.{AreWeightsAt, scaled_by_difference}
 use Rattle.predict_core.specs.Differences.{difference_vector}
@@ -11,21 +10,31 @@ use Rattle.predict_core.proofs.Padding.{vector_length}
 use Rattle.predict_core.proofs.Runs.{gathered_is, written_place, weights_next, part_is}
 use Rattle.predict_core.proofs.chain.follow_place.Goals as goal
 
-pub follow_at-requires-clause-differences_are : goal.follow_at-requires-clause-differences_are
-follow_at-requires-clause-differences_are g c =
-    let s = c.args.run.settings.now in let run = c.requires.run in
-    let e = rw (← run.needed) at (run.room.vector c.args.i (omega arith) c.requires.later) in
-    gathered_is (difference_vector s.predictor _ s.band _ (c.args.x + c.args.i)) (components_at g.row.Q c.args.run.quads.now c.args.i) _ s.count
-    (4 * g.row.Q - s.count) (vector_length s.predictor _ s.band _ (c.args.x + c.args.i) ∙ sym s.count_is) s.few e c.differences_at-differences.ensures
-
-pub follow_at-requires-clause-sum_in : goal.follow_at-requires-clause-sum_in
-follow_at-requires-clause-sum_in g c =
-    let room = c.requires.run.room in
-    inside (slice_index_or c.args.run.sums.now c.args.i (pos 0)) (room.sum_least c.args.i (omega arith) c.requires.later)
-    (room.sum_most c.args.i (omega arith) c.requires.later)
-  where
-    inside : (v : ℤ) → pos 0 ≤ℤ v → v ≤ℤ pos 262140 → (pos 0 ≤ℤ to_z w32 (of_z w32 v)) × (to_z w32 (of_z w32 v) ≤ℤ pos 262140)
-    inside v h k = (omega (arith, ints, h, k), omega (arith, ints, h, k))
+pub follow_at-requires : goal.follow_at-requires
+follow_at-requires g c =
+    let s = c.args.run.settings.now in let run = c.requires.run in let steps = c.requires.steps in let later = c.requires.later in
+    let sum_fits : SFits w32 (slice_index_or c.args.run.sums.now c.args.i (pos 0)) = search rules in
+    let own_fits : SFits w32 (slice_index_or c.args.run.own.now c.args.i (pos 0)) = search rules in
+    let e = rw (← run.needed) at (run.room.vector c.args.i (omega arith) later) in
+    let gathered = gathered_is (difference_vector s.predictor _ s.band _ (c.args.x + c.args.i)) (components_at g.row.Q c.args.run.quads.now c.args.i) _ s.count
+    (4 * g.row.Q - s.count) (vector_length s.predictor _ s.band _ (c.args.x + c.args.i) ∙ sym s.count_is) s.few e c.differences_at-differences.ensures in
+    record {
+      few = run.few;
+      enough = run.enough;
+      register = run.register;
+      place = record { band = run.place.band; row = run.place.row; column = omega (arith, run.inside) };
+      columns = run.columns;
+      kind = run.kind;
+      later = later;
+      omega = steps.omega_is;
+      bits = steps.bits_are;
+      exponent = steps.exponent_is;
+      sum_is = rw (to_z-of_z sum_fits) (run.room.sum c.args.i (omega arith) later);
+      sum_in = rw (to_z-of_z sum_fits) (run.room.sum_least c.args.i (omega arith) later, run.room.sum_most c.args.i (omega arith) later);
+      own_is = rw (to_z-of_z own_fits) (run.room.central c.args.i (omega arith) later);
+      weights_in = rw steps.omega_is c.requires.weights_in;
+      differences_are = gathered;
+    }
 
 pub returns-clause-followed : goal.returns-clause-followed
 returns-clause-followed g c first begun h =
@@ -46,3 +55,6 @@ returns-clause-followed g c first begun h =
           (h.predicted p f);
       small = written_place (λ k v. unsigned_abs v ≤ 18874368) _ _ _ _ within c.follow_at.ensures.small h.small;
     })
+
+pub returns-clause-bound : goal.returns-clause-bound
+returns-clause-bound g c = rw c.requires.steps.omega_is at c.follow_at.ensures.bound

@@ -1,4 +1,4 @@
-use Rattle.std.proofs.Common.{arith, sym, ◌∙◌, rules}
+use Rattle.std.proofs.Common.{◌≡◌, arith, sym, ◌∙◌, rules}
 use Rattle.predict_core.proofs.RunChains.{first_of_run, same_steps}
 use Rattle.predict_core.proofs.chain.follow_places.Goals as goal
 
@@ -17,7 +17,13 @@ pub loop-i-preserved : goal.loop-i-preserved
 loop-i-preserved g c = search rules
 
 pub returns-clause-followed : goal.returns-clause-followed
-returns-clause-followed g c = search rules
+returns-clause-followed g c start begun h = let done : c.loop-i.i ≡ c.args.last = omega arith in rw (← done) (c.loop-i.invariant.followed start begun h)
 
 pub returns-clause-other_followed : goal.returns-clause-other_followed
-returns-clause-other_followed g c = search rules
+returns-clause-other_followed g c h start begun k = let done : c.loop-i.i ≡ c.args.last = omega arith in rw (← done) (c.loop-i.invariant.other h start begun k)
+
+pub returns-clause-bound : goal.returns-clause-bound
+returns-clause-bound g c = c.loop-i.invariant.bound
+
+pub returns-clause-other_bound : goal.returns-clause-other_bound
+returns-clause-other_bound g c = c.loop-i.invariant.other_bound

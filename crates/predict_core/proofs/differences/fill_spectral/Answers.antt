@@ -14,8 +14,7 @@ loop-i-init c = record {
 pub loop-i-preserved : goal.loop-i-preserved
 loop-i-preserved c =
     let fits : SFits w32 c.central.result = search rules in
-    let heads : c.args.first ≡ length (take c.args.first c.args.out.now) = sym (length-take-le c.args.first c.args.out.now (omega arith)) in
-    rw (to_z-of_z fits)
+    let heads : c.args.first ≡ length (take c.args.first c.args.out.now) = sym (length-take-le c.args.first c.args.out.now (omega arith)) in rw (to_z-of_z fits)
     (record {
       filled = filled_next _ _ _ _ _ _ _ (take c.args.first c.args.out.now) _ _ heads (omega arith) c.central.ensures.value c.loop-i.invariant.filled;
       bound = step_bound 262144 c.loop-i.out _ c.central.result c.loop-i.invariant.bound c.central.ensures.bound;

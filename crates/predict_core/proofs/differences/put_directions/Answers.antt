@@ -7,10 +7,6 @@ returns-clause-value c = rw (to_z-of_z c.ranges.north, to_z-of_z c.ranges.west, 
 
 pub returns-clause-bound : goal.returns-clause-bound
 returns-clause-bound c within =
-    rw (
-      to_z-of_z c.ranges.north,
-      to_z-of_z c.ranges.west,
-      to_z-of_z c.ranges.north_west,
-      three_written c.args.out.now c.args.north c.args.west c.args.north_west (omega arith),
-    )
+    let w = three_written c.args.out.now c.args.north c.args.west c.args.north_west (omega arith) in
+    rw (to_z-of_z c.ranges.north, to_z-of_z c.ranges.west, to_z-of_z c.ranges.north_west, w)
     (three_over 262144 c.args.out.now c.args.north c.args.west c.args.north_west c.requires.north_in c.requires.west_in c.requires.north_west_in within)

@@ -8,11 +8,9 @@ use Rattle.predict_core.proofs.differences.put_neighbours.Goals as goal
 
 pub returns-clause-value : goal.returns-clause-value
 returns-clause-value c =
-    let north_fits : SFits w32 c.difference_of-north.result = search rules in
-    let west_fits : SFits w32 c.difference_of-west.result = search rules in
+    let north_fits : SFits w32 c.difference_of-north.result = search rules in let west_fits : SFits w32 c.difference_of-west.result = search rules in
     let north_west_fits : SFits w32 c.difference_of-north_west.result = search rules in
-    let above = rw c.saturating_sub.ensures at c.row-above.ensures.samples in
-    let up = (above c.args.x c.requires.place.column).1 in
+    let above = rw c.saturating_sub.ensures at c.row-above.ensures.samples in let up = (above c.args.x c.requires.place.column).1 in
     let corner = (above (c.args.x - 1) (omega (arith, c.requires.place.column))).1 in
     let north_west_is = rw c.saturating_sub-2.ensures at c.difference_of-north_west.ensures.value in
     let written = simp (to_z-of_z north_fits, to_z-of_z west_fits, to_z-of_z north_west_fits) at c.put_directions.ensures.value in

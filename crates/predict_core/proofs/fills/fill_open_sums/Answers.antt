@@ -9,8 +9,7 @@ loop-i-preserved c =
     let kept = c.loop-i.invariant in
     let sum : to_z w32 c.sum_above.result ≡ pos (line_sum c.args.column (replicate 66 0) c.args.above.now c.loop-i.i) =
     to_z_pos w32 c.sum_above.result (omega (arith, c.sum_above.ensures.bound)) ∙ ap pos c.sum_above.ensures.value in
-    let inside : c.loop-i.i < length c.loop-i.sums = omega (arith, kept.sums_long, c.loop-i-test.true) in
-    record {
+    let inside : c.loop-i.i < length c.loop-i.sums = omega (arith, kept.sums_long, c.loop-i-test.true) in record {
       sums = written_next (pos 0) (λ k. pos (line_sum c.args.column (replicate 66 0) c.args.above.now k)) _ _ _ inside sum kept.sums;
       sums_long = rw length-set kept.sums_long;
     }

@@ -11,8 +11,7 @@ loop-i-preserved c =
     to_z_pos w32 c.sum_of_lines-sum.result (omega (arith, c.sum_of_lines-sum.ensures.bound)) ∙ ap pos c.sum_of_lines-sum.ensures.value in
     let own = to_z-of_z fits ∙ (rw c.sum_of_lines-sum.ensures.value at c.difference_of.ensures.value) in
     let sums_inside : c.loop-i.i < length c.loop-i.sums = omega (arith, kept.sums_long, c.loop-i-test.true) in
-    let own_inside : c.loop-i.i < length c.loop-i.own = omega (arith, kept.own_long, c.loop-i-test.true) in
-    record {
+    let own_inside : c.loop-i.i < length c.loop-i.own = omega (arith, kept.own_long, c.loop-i-test.true) in record {
       sums = written_next (pos 0) (λ k. pos (line_sum c.args.column c.args.lines.now.current c.args.lines.now.above k)) _ _ _ sums_inside sum kept.sums;
       own = written_next (pos 0) (line_difference c.args.column c.args.lines.now.current c.args.lines.now.above) _ _ _ own_inside own kept.own;
       sums_long = rw length-set kept.sums_long;

@@ -40,8 +40,7 @@ module _ (g : given.Over) (c : In-loop-i g) where
 
 pub sum_with_west-sum-requires-clause-sum : goal.sum_with_west-sum-requires-clause-sum
 sum_with_west-sum-requires-clause-sum g c =
-    let d = (goal.at.sum_with_west-sum-requires-clause-sum g c).In-loop-i in let s = c.args.run.settings.now in
-    rw (to_z-of_z (sum_fits g d))
+    let d = (goal.at.sum_with_west-sum-requires-clause-sum g c).In-loop-i in let s = c.args.run.settings.now in rw (to_z-of_z (sum_fits g d))
     (sum_kept s.predictor c.args.cube c.loop-i.cube _ _ _ _ _ (place g d) c.requires.later (rw c.requires.columns s.wide) c.loop-i.invariant.beside
     s.count _ _ _ s.count_is s.few (c.requires.parts c.loop-i.i c.loop-i-test.true) refl)
 
@@ -79,8 +78,7 @@ loop-i-preserved g c =
     λ p e. rw (← kept.beside.alike.shape, c.requires.columns) (rw e at s.wide) in
     let sum : (columns : ℕ) → r.y * columns + r.x + c.loop-i.i ≡ r.y * columns + (r.x + c.loop-i.i) = λ columns. omega arith in
     let next : (columns : ℕ) → r.y * columns + (r.x + (c.loop-i.i + 1)) ≡ r.y * columns + (r.x + c.loop-i.i) + 1 = λ columns. omega arith in
-    let back : r.x + (c.loop-i.i + 1) - 1 ≡ r.x + c.loop-i.i = omega arith in
-    rw is
+    let back : r.x + (c.loop-i.i + 1) - 1 ≡ r.x + c.loop-i.i = omega arith in rw is
     (record {
       beside = beside_next c.args.cube d s.band r.y r.x c.loop-i.i v place kept.whole kept.beside;
       residuals = λ p f. residuals_next p d s.band r.y r.x c.loop-i.i v r.deltas.now place kept.whole (wide p f.predictor) c.loop-i-test.true
@@ -97,13 +95,11 @@ loop-i-preserved g c =
 
 pub returns-clause-beside : goal.returns-clause-beside
 returns-clause-beside g c =
-    let done : c.loop-i.i ≡ length c.args.run.deltas.now = omega (arith, c.loop-i-test.false, c.loop-i.auto.i-end) in
-    rw (← done) c.loop-i.invariant.beside
+    let done : c.loop-i.i ≡ length c.args.run.deltas.now = omega (arith, c.loop-i-test.false, c.loop-i.auto.i-end) in rw (← done) c.loop-i.invariant.beside
 
 pub returns-clause-residuals : goal.returns-clause-residuals
 returns-clause-residuals g c p f =
-    let kept = c.loop-i.invariant in
-    let done : c.loop-i.i ≡ length c.args.run.deltas.now = omega (arith, c.loop-i-test.false, c.loop-i.auto.i-end) in
+    let kept = c.loop-i.invariant in let done : c.loop-i.i ≡ length c.args.run.deltas.now = omega (arith, c.loop-i-test.false, c.loop-i.auto.i-end) in
     rw kept.beside.alike.shape ((rw done at (kept.residuals p f)) ∙ take_all _ _ (omega arith))
 
 pub west_of-west-requires-clause-later : goal.west_of-west-requires-clause-later

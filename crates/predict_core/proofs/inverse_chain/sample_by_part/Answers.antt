@@ -56,10 +56,8 @@ module _ (c : After-unmap_by_center-offset) where
 
 pub returns-clause-turn : goal.returns-clause-turn
 returns-clause-turn c =
-    let d = (goal.at.returns-clause-turn c).After-unmap_by_center-offset in
-    let k : SampleKind = c.args.range.now.kind in
-    let center_fits : SFits w32 c.center_of-center.result = search rules in
-    let turn_fits : SFits w32 c.unmap_by_center-offset.result.1 = search rules in
+    let d = (goal.at.returns-clause-turn c).After-unmap_by_center-offset in let k : SampleKind = c.args.range.now.kind in
+    let center_fits : SFits w32 c.center_of-center.result = search rules in let turn_fits : SFits w32 c.unmap_by_center-offset.result.1 = search rules in
     let center = simp (to_z-of_z c.ranges.part) at c.center_of-center.ensures.value in
     let turn = rw (width c.args.range.now, center) at (simp (to_z-of_z center_fits) at c.unmap_by_center-offset.ensures.turn) in
     rw (to_z-of_z turn_fits, sample_found d)
@@ -67,10 +65,8 @@ returns-clause-turn c =
 
 pub returns-clause-inverse : goal.returns-clause-inverse
 returns-clause-inverse c =
-    let d = (goal.at.returns-clause-inverse c).After-unmap_by_center-offset in
-    let k : SampleKind = c.args.range.now.kind in
-    let center_fits : SFits w32 c.center_of-center.result = search rules in
-    let center = simp (to_z-of_z c.ranges.part) at c.center_of-center.ensures.value in
+    let d = (goal.at.returns-clause-inverse c).After-unmap_by_center-offset in let k : SampleKind = c.args.range.now.kind in
+    let center_fits : SFits w32 c.center_of-center.result = search rules in let center = simp (to_z-of_z c.ranges.part) at c.center_of-center.ensures.value in
     let e = rw (width c.args.range.now, center) at (simp (to_z-of_z center_fits) at c.unmap_by_center-offset.ensures.inverse) in
     rw (sample_found d) (back_from_offset (smin k) (smid k) (smax k) c.args.part (pos c.args.sum) _ _ c.args.delta refl e)
 

@@ -28,17 +28,14 @@ module _ (g : given.Over) (c : After-put_west g) where
 
   small : AllWithin (4 * 2 ^ c.args.settings.now.range.bits) c.put_west.new.components
   small =
-      let s = c.args.settings.now in
-      rw (filled, s.range.bits_is, ← c.requires.kind)
+      let s = c.args.settings.now in rw (filled, s.range.bits_is, ← c.requires.kind)
       (padded_within s.predictor c.args.cube.now c.prove_is_cube.ensures c.args.y c.args.x (omega (arith, c.requires.later)) (rw c.requires.columns s.wide)
       s.band c.requires.place (18 - s.count))
 
 pub predicted_difference-part-requires-clause-differences_in : goal.predicted_difference-part-requires-clause-differences_in
 predicted_difference-part-requires-clause-differences_in g c =
-    let s = c.args.settings.now in
-    let d = (goal.at.predicted_difference-part-requires-clause-differences_in g c).After-put_west in
-    let bits : s.range.bits ≤ 16 = rw s.range.bits_is s.range.lawful.1 in
-    within_most s.range.bits c.put_west.new.components bits (small g d)
+    let s = c.args.settings.now in let d = (goal.at.predicted_difference-part-requires-clause-differences_in g c).After-put_west in
+    let bits : s.range.bits ≤ 16 = rw s.range.bits_is s.range.lawful.1 in within_most s.range.bits c.put_west.new.components bits (small g d)
 
 pub update_by-requires-clause-differences_in : goal.update_by-requires-clause-differences_in
 update_by-requires-clause-differences_in g c =
@@ -75,27 +72,19 @@ pub returns-clause-inverse : goal.returns-clause-inverse
 returns-clause-inverse g c =
     let d = (goal.at.returns-clause-inverse g c).After-update_by in
     let filled = filled g (goal.at.returns-clause-inverse g c).After-put_west in let s = c.args.settings.now in
-    let fits : SFits w32 c.sample_by_part-found.result.0 = search rules in
-    let part_fits : SFits w32 c.predicted_difference-part.result = search rules in
+    let fits : SFits w32 c.sample_by_part-found.result.0 = search rules in let part_fits : SFits w32 c.predicted_difference-part.result = search rules in
     let scaled = scaled_from_room s.predictor c.args.cube.now s.band c.args.y c.args.x s.count g.row.N c.args.weights.now c.put_west.new.components
     c.prove_is_cube.ensures c.requires.place s.count_is c.requires.enough c.requires.few filled _ (by_difference g d) in
     let e = rw (← c.requires.kind, ← c.requires.sum_is, ← scaled) at (simp (to_z-of_z part_fits) at c.sample_by_part-found.ensures.inverse) in
-    rw (
-      to_z-of_z fits,
-      ← scaled_put c.args.cube.now s.band c.args.y c.args.x c.sample_by_part-found.result.0 c.requires.place c.prove_is_cube.ensures.whole s.predictor
-          (rw c.requires.columns s.wide) (omega (arith, c.requires.later)) (take s.count c.args.weights.now),
-    )
-    e
+    let same = scaled_put c.args.cube.now s.band c.args.y c.args.x c.sample_by_part-found.result.0 c.requires.place c.prove_is_cube.ensures.whole s.predictor
+    (rw c.requires.columns s.wide) (omega (arith, c.requires.later)) (take s.count c.args.weights.now) in rw (to_z-of_z fits, ← same) e
 
 pub returns-clause-weights : goal.returns-clause-weights
 returns-clause-weights g c =
     let d = (goal.at.returns-clause-weights g c).After-update_by in
-    let filled = filled g (goal.at.returns-clause-weights g c).After-put_west in let s = c.args.settings.now in
-    let found = c.sample_by_part-found.result.0 in
-    let fits : SFits w32 c.sample_by_part-found.result.0 = search rules in
-    let part_fits : SFits w32 c.predicted_difference-part.result = search rules in
-    let exponent_fits : SFits w32 c.exponent_at-exponent.result = search rules in
-    let turn_fits : SFits w32 c.sample_by_part-found.result.1 = search rules in
+    let filled = filled g (goal.at.returns-clause-weights g c).After-put_west in let s = c.args.settings.now in let found = c.sample_by_part-found.result.0 in
+    let fits : SFits w32 c.sample_by_part-found.result.0 = search rules in let part_fits : SFits w32 c.predicted_difference-part.result = search rules in
+    let exponent_fits : SFits w32 c.exponent_at-exponent.result = search rules in let turn_fits : SFits w32 c.sample_by_part-found.result.1 = search rules in
     let bits : s.range.bits ≡ c.args.cube.now.kind.bits = s.range.bits_is ∙ ap (λ (k : SampleKind). k.bits) (sym c.requires.kind) in
     let turn = rw (← s.range.smin_is) at (simp (to_z-of_z part_fits) at c.sample_by_part-found.ensures.turn) in
     let moved = rw turn at (simp (to_z-of_z exponent_fits, to_z-of_z turn_fits) at c.update_by.ensures.value) in
@@ -113,3 +102,15 @@ put_west-requires-clause-small g c =
     let s = c.args.settings.now in
     open_within s.predictor c.args.cube.now c.prove_is_cube.ensures s.band c.args.y c.args.x c.requires.later (rw c.requires.columns s.wide) c.requires.place
     _ _ c.requires.directions c.requires.lower
+
+pub returns-clause-bound : goal.returns-clause-bound
+returns-clause-bound g c = c.update_by.ensures.bound
+
+pub returns-clause-range : goal.returns-clause-range
+returns-clause-range g c =
+    let fits : SFits w32 c.sample_by_part-found.result.0 = search rules in rw (to_z-of_z fits, c.requires.kind) c.sample_by_part-found.ensures.range
+
+pub update_by-requires-clause-turn_in : goal.update_by-requires-clause-turn_in
+update_by-requires-clause-turn_in g c =
+    let fits : SFits w32 c.sample_by_part-found.result.1 = search rules in let found = c.sample_by_part-found.ensures in
+    rw (to_z-of_z fits) (found.least, found.most)

@@ -45,7 +45,6 @@ pub returns-else-first-eq1-clause-residuals : goal.returns-else-first-eq1-clause
 returns-else-first-eq1-clause-residuals g c p old ws f followed =
     let d = (goal.at.returns-else-first-eq1-clause-residuals g c).After-map_run in let s = c.args.run.settings.now in
     let long : length c.map_run.new.residuals ≡ c.args.count = search rules in
-    let none : c.args.first ≡ 0 = omega (arith, c.if-first-eq1.false, c.requires.first.most) in
-    take_at _ _ _ long
+    let none : c.args.first ≡ 0 = omega (arith, c.if-first-eq1.false, c.requires.first.most) in take_at _ _ _ long
     ∙ run_is p c.args.cube.now s.band (c.args.y * c.args.cube.now.shape.columns + c.args.x) c.args.count c.map_run.new.residuals long
     (λ i l. later_is g d p old ws f followed long i l (omega (arith, none)))

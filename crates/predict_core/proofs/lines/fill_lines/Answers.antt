@@ -1,6 +1,7 @@
-use Rattle.std.proofs.Common.{◌≡◌, ◌<◌, ◌+◌, ℕ, Bool, true, false, get_or, refl}
+use Rattle.std.proofs.Common.{◌≡◌, ◌<◌, ◌+◌, ℕ, Bool, true, false, get_or, refl, arith}
+use Rattle.std.proofs.lemmas.Grind.{common_steps}
 use Rattle.predict_core.specs.Lines.{bordered_above, AreLines}
-use Rattle.predict_core.proofs.Borders.{column_lines, four_lines}
+use Rattle.predict_core.proofs.Borders.{column_lines, four_lines, first_lines}
 use Rattle.predict_core.proofs.lines.fill_lines.Goals as goal
 
 pub returns-else-y-eq0 : goal.returns-else-y-eq0
@@ -11,3 +12,6 @@ returns-else-y-eq0 c = by_sums c.args.column refl c.fill_line_above.ensures
         → AreLines b c.args.y c.args.row.now c.args.above.now c.args.x c.args.count c.fill_line.new.line c.fill_line_above.new.upper
     by_sums true e far = column_lines _ _ _ _ _ _ _ _ _ c.if-y-eq0.false c.requires.inside c.requires.same c.fill_line.ensures far
     by_sums false e far = four_lines _ _ _ _ _ _ _ _ c.if-y-eq0.false c.requires.inside c.requires.same (c.requires.wide e) c.fill_line.ensures far
+
+pub returns-then-y-eq0 : goal.returns-then-y-eq0
+returns-then-y-eq0 c = first_lines _ _ _ _ _ _ _ _ _ _ c.if-y-eq0.true c.requires.inside c.fill_line.ensures (grind (arith, common_steps))

@@ -7,12 +7,9 @@ use Rattle.predict_core.specs.LocalSum.{local_sum}
 use Rattle.predict_core.specs.Residual.{mapped_between}
 use Rattle.predict_core.specs.Rooms.{offset_number}
 use Rattle.predict_core.proofs.Numbers.{offset_mapped}
-use Rattle.predict_core.proofs.Spans.{span}
+use Rattle.predict_core.proofs.Spans.{span, below_span}
 use Rattle.predict_core.proofs.mapping.map_run.Goals as goal
 use Rattle.predict_core.proofs.mapping.map_run.Goals.{After-copy_offsets, After-copy_from_slice}
-
-below_span : (width : ℤ) (h power : ℕ) → width ≡ pos power -ℤ pos 1 → h < power → pos h ≤ℤ width
-below_span width h power e l = omega (arith, ints, e, l)
 
 in_power : (width : ℤ) (h power : ℕ) → width ≡ pos power -ℤ pos 1 → pos h ≤ℤ width → h < power
 in_power width h power e l = omega (arith, ints, e, l)
@@ -32,10 +29,9 @@ module _ (c : After-copy_offsets) where
 
 pub map_places-requires-clause-offsets_in : goal.map_places-requires-clause-offsets_in
 map_places-requires-clause-offsets_in c i l =
-    let d = (goal.at.map_places-requires-clause-offsets_in c).After-copy_offsets in
-    rw (width d) (elim (cases_lt i (length c.args.residuals.now)) [
-      | inl h ↦ rw (c.copy_offsets.ensures.written i h) (below_span _ _ _ (powers d) (c.row-row.ensures.samples (c.args.x + i) (omega (arith, h))).0)
-      | inr h ↦ rw (c.copy_offsets.ensures.rest i h) (below_span _ 0 _ (powers d) (pow_pos c.args.cube.now.kind.bits))
+    let d = (goal.at.map_places-requires-clause-offsets_in c).After-copy_offsets in rw (width d) (elim (cases_lt i (length c.args.residuals.now)) [
+      | inl h ↦ rw (c.copy_offsets.ensures.written i h) (below_span c.args.cube.now.kind _ (c.row-row.ensures.samples (c.args.x + i) (omega (arith, h))).0)
+      | inr h ↦ rw (c.copy_offsets.ensures.rest i h) (below_span c.args.cube.now.kind 0 (pow_pos c.args.cube.now.kind.bits))
     ])
 
 module _ (c : After-copy_from_slice) (i : ℕ) (l : i < length c.copy_from_slice.new.self) where
@@ -48,8 +44,7 @@ module _ (c : After-copy_from_slice) (i : ℕ) (l : i < length c.copy_from_slice
 pub returns-clause-bound : goal.returns-clause-bound
 returns-clause-bound c i l =
     let d = (goal.at.returns-clause-bound c).After-copy_offsets in
-    let e = (goal.at.returns-clause-bound c).After-copy_from_slice in let within = within e i l in
-    let few = c.requires.few in
+    let e = (goal.at.returns-clause-bound c).After-copy_from_slice in let within = within e i l in let few = c.requires.few in
     rw (written e i l) (in_power _ _ _ (powers d) (rw (width d) at c.map_places.ensures.bound i (omega arith)))
 
 pub returns-clause-values : goal.returns-clause-values

@@ -27,10 +27,8 @@ by_turns-requires c = let t = c.requires.twice_in in let h = c.requires.offset_i
 value : (c : After-min) → to_z w32 (of_z w32 c.min.result) ≡ pos (mapped_between (pos 0) c.args.greatest c.args.twice c.args.offset)
 value c =
     let g = c.requires.greatest_in in let t = c.requires.twice_in in let h = c.requires.offset_in in
-    let half_fits : SFits w32 c.prediction_of-value.result = search rules in
-    let turned_fits : SFits w32 c.by_turns.result = search rules in
-    let min_fits : SFits w32 c.min.result = search rules in
-    let half = simp (to_z-of_z c.ranges.twice) at c.prediction_of-value.ensures.value in
+    let half_fits : SFits w32 c.prediction_of-value.result = search rules in let turned_fits : SFits w32 c.by_turns.result = search rules in
+    let min_fits : SFits w32 c.min.result = search rules in let half = simp (to_z-of_z c.ranges.twice) at c.prediction_of-value.ensures.value in
     let far = far_is c.args.greatest c.args.twice c.args.offset t.0 t.1 g.1 h.0 h.1 in
     let beyond = beyond_is c.apart.result c.nearer.result c.apart.ensures.bound c.nearer.ensures.bound in
     let size = rw half at (simp (to_z-of_z c.ranges.offset, to_z-of_z half_fits) at c.apart.ensures.value) in

@@ -7,8 +7,7 @@ use Rattle.predict_core.proofs.mapping.number_of_offset.Goals as goal
 pub returns-clause-value : goal.returns-clause-value
 unfolding offset_number
 returns-clause-value c p l m =
-    let scaled_fits : SFits w32 c.scaled_offset.result = search rules in
-    let number_fits : SFits w32 c.number_at.result = search rules in
+    let scaled_fits : SFits w32 c.scaled_offset.result = search rules in let number_fits : SFits w32 c.number_at.result = search rules in
     let offset : to_z w32 c.args.offset ≡ pos c.args.offset = omega (arith, ints) in
     let e = simp (to_z-of_z c.ranges.greatest, to_z-of_z scaled_fits, offset) at c.number_at.ensures.value in
     let d = (simp (to_z-of_z c.ranges.greatest, to_z-of_z c.ranges.part, to_z-of_z c.ranges.sum) at c.scaled_offset.ensures.value) p l m in

@@ -20,8 +20,7 @@ held c =
     let more = one_more c.prediction_of-upper.result
     ((of_z w32 c.args.part + of_z w32 c.args.sum) % 4294967296) (mod-lt _ (lit< tt)) c.prediction_of-upper.ensures.high c.prediction_of-upper.ensures.low in
     let min_fits : SFits w32 c.min.result = search rules in let max_fits : SFits w32 c.max.result = search rules in
-    let a = rw (more, top_is c.args.greatest g.0 g.1) at c.min.ensures.value in
-    to_z-of_z max_fits ∙ rw (to_z-of_z min_fits, a) at c.max.ensures.value
+    let a = rw (more, top_is c.args.greatest g.0 g.1) at c.min.ensures.value in to_z-of_z max_fits ∙ rw (to_z-of_z min_fits, a) at c.max.ensures.value
 
 pub returns-clause-bounds : goal.returns-clause-bounds
 returns-clause-bounds c =
@@ -30,6 +29,5 @@ returns-clause-bounds c =
 
 pub returns-clause-value : goal.returns-clause-value
 returns-clause-value c p l m =
-    let e = held (goal.at.returns-clause-value c).After-max in
-    let half = rw (kept_sum c.args.part c.args.sum p l m) at c.prediction_of-upper.ensures.value in
+    let e = held (goal.at.returns-clause-value c).After-max in let half = rw (kept_sum c.args.part c.args.sum p l m) at c.prediction_of-upper.ensures.value in
     rw (e, half) (omega (arith, ints, clamps))

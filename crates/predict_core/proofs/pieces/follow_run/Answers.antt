@@ -17,8 +17,7 @@ follow_places-requires g c =
         → to_z w32 (of_z w32 c.exponent_at.result) ≡ step_exponent c.args.run.settings.now.predictor c.args.cube.now.shape.columns c.args.cube.now.kind.bits
         (c.args.y * c.args.cube.now.shape.columns + (c.args.x + i))
     exponent i l m =
-        let s = c.args.run.settings.now in let fits : SFits w32 c.exponent_at.result = search rules in
-        let e = c.requires.run.columns in
+        let s = c.args.run.settings.now in let fits : SFits w32 c.exponent_at.result = search rules in let e = c.requires.run.columns in
         let place : c.args.y * s.columns + c.args.x + c.loop-at.at + (i - c.loop-at.at) ≡ c.args.y * c.args.cube.now.shape.columns + (c.args.x + i) =
         rw e (omega (arith, l)) in
         rw (to_z-of_z fits)
@@ -33,8 +32,7 @@ follow_places-requires g c =
 
 pub loop-at-preserved : goal.loop-at-preserved
 loop-at-preserved g c =
-    let kept = c.loop-at.invariant in let next = c.follow_places.ensures in
-    record {
+    let kept = c.loop-at.invariant in let next = c.follow_places.ensures in record {
       begun = omega (arith, kept.begun);
       within = omega (arith, c.places_alike.ensures.few);
       followed = next.followed _ _ kept.followed;
@@ -42,3 +40,17 @@ loop-at-preserved g c =
       bound = next.bound;
       other_bound = next.other_bound;
     }
+
+pub returns-clause-followed : goal.returns-clause-followed
+returns-clause-followed g c =
+    let done : c.loop-at.at ≡ c.args.last = omega (arith, c.loop-at.invariant.within, c.loop-at-test.false) in rw (← done) c.loop-at.invariant.followed
+
+pub returns-clause-other_followed : goal.returns-clause-other_followed
+returns-clause-other_followed g c h =
+    let done : c.loop-at.at ≡ c.args.last = omega (arith, c.loop-at.invariant.within, c.loop-at-test.false) in rw (← done) (c.loop-at.invariant.other h)
+
+pub returns-clause-bound : goal.returns-clause-bound
+returns-clause-bound g c = c.loop-at.invariant.bound
+
+pub returns-clause-other_bound : goal.returns-clause-other_bound
+returns-clause-other_bound g c = c.loop-at.invariant.other_bound

@@ -9,8 +9,7 @@ product_of_first-product-requires-clause-weights_in g c =
 
 pub returns-then-may_wrap-clause-scaled : goal.returns-then-may_wrap-clause-scaled
 returns-then-may_wrap-clause-scaled g c =
-    let product_fits : SFits w64 c.product_of_first-product.result = search rules in
-    let result_fits : SFits w32 c.wrapped_difference.result = search rules in
+    let product_fits : SFits w64 c.product_of_first-product.result = search rules in let result_fits : SFits w32 c.wrapped_difference.result = search rules in
     rw (to_z-of_z result_fits)
     (simp (to_z-of_z c.ranges.sum) at (c.wrapped_difference.ensures.scaled (take g.row.N c.args.weights.now) (take g.row.N c.args.differences.now)
     (rw (to_z-of_z product_fits) c.product_of_first-product.ensures.value)))

@@ -8,7 +8,6 @@ product_of-product-requires-clause-weights_in c =
 
 pub returns-clause-value : goal.returns-clause-value
 returns-clause-value c us l same =
-    let result_fits : SFits w32 c.scaled_by_product.result = search rules in
-    let product_fits : SFits w64 c.product_of-product.result = search rules in
+    let result_fits : SFits w32 c.scaled_by_product.result = search rules in let product_fits : SFits w64 c.product_of-product.result = search rules in
     rw (to_z-of_z result_fits) (simp (to_z-of_z c.ranges.sum) at (c.scaled_by_product.ensures.value (take c.args.count c.args.weights.now) us
     (rw (to_z-of_z product_fits) (c.product_of-product.ensures.value us l same))))

@@ -15,10 +15,8 @@ high_fits c = let h = c.args.range.now.high in search (rules, ints)
 
 pub returns-clause-value : goal.returns-clause-value
 returns-clause-value c ws us same =
-    let at = (goal.at.returns-clause-value c).After-scaled_from in
-    let result_fits : SFits w32 c.scaled_from.result = search rules in
-    let held_fits : SFits w64 c.register_of.result = search rules in
-    let register_fits : SFits w64 c.wrapped_value-register.result = search rules in
+    let at = (goal.at.returns-clause-value c).After-scaled_from in let result_fits : SFits w32 c.scaled_from.result = search rules in
+    let held_fits : SFits w64 c.register_of.result = search rules in let register_fits : SFits w64 c.wrapped_value-register.result = search rules in
     let upper_fits : SFits w64 c.floor_shift-upper.result = search rules in
     let a = simp (to_z-of_z c.ranges.product, to_z-of_z c.ranges.sum, to_z-of_z (middle_fits at)) at c.register_of.ensures.value in
     let b = rw a at (simp (to_z-of_z held_fits) at c.wrapped_value-register.ensures) in
@@ -29,8 +27,7 @@ returns-clause-value c ws us same =
 
 pub returns-clause-scaled : goal.returns-clause-scaled
 returns-clause-scaled c =
-    let at = (goal.at.returns-clause-scaled c).After-scaled_from in
-    let result_fits : SFits w32 c.scaled_from.result = search rules in
+    let at = (goal.at.returns-clause-scaled c).After-scaled_from in let result_fits : SFits w32 c.scaled_from.result = search rules in
     rw (to_z-of_z result_fits, ← c.args.range.now.smin_is, ← c.args.range.now.smax_is)
     (simp (to_z-of_z (low_fits at)) at c.scaled_from.ensures.low_end, simp (to_z-of_z (high_fits at)) at c.scaled_from.ensures.high_end)
 
@@ -39,3 +36,13 @@ register_of-requires-clause-omega_in c = omega arith
 
 pub scaled_from-requires-clause-low_in : goal.scaled_from-requires-clause-low_in
 scaled_from-requires-clause-low_in c = omega (arith, ints)
+
+pub scaled_from-requires-clause-upper_in : goal.scaled_from-requires-clause-upper_in
+scaled_from-requires-clause-upper_in c =
+    let fits : SFits w64 c.floor_shift-upper.result = search rules in rw (to_z-of_z fits) (c.floor_shift-upper.ensures.bound (omega arith))
+
+pub wrapped_value-register-requires-clause-least : goal.wrapped_value-register-requires-clause-least
+wrapped_value-register-requires-clause-least c = c.requires.lawful.register.0
+
+pub wrapped_value-register-requires-clause-most : goal.wrapped_value-register-requires-clause-most
+wrapped_value-register-requires-clause-most c = c.requires.lawful.register.1

@@ -14,8 +14,7 @@ narrow c = let a = low_is c in let b = high_is c in fits_signed_from_abs w32 c.c
 
 pub returns-clause-value : goal.returns-clause-value
 returns-clause-value c =
-    let wide : SFits w64 c.clamp.result = search rules in
-    let center_wide : SFits w64 c.center_of-center.result = search rules in
+    let wide : SFits w64 c.clamp.result = search rules in let center_wide : SFits w64 c.center_of-center.result = search rules in
     let a : to_z w64 (of_z w64 (to_z w32 (of_z w32 (pos 2 *ℤ to_z w32 (of_z w32 c.args.low))))) ≡ pos 2 *ℤ c.args.low = omega (arith, ints) in
     let b : to_z w64 (of_z w64 c.center_of-center.result) ≡ c.args.upper +ℤ pos 2 *ℤ c.args.middle +ℤ pos 1 = omega (arith, ints) in
     let d : to_z w64 (of_z w64 (to_z w32 (of_z w32 (to_z w32 (of_z w32 (pos 2 *ℤ to_z w32 (of_z w32 c.args.high))) +ℤ pos 1))))

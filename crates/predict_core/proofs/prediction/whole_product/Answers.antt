@@ -12,8 +12,7 @@ quotient c = simp (to_z-of_z c.ranges.product) at c.floor_shift.ensures.value
 
 small : (c : After-floor_shift) → unsigned_abs c.floor_shift.result ≤ 18 * 2 ^ 20
 small c =
-    let e : 2 ^ (c.args.omega + 2) ≡ 2 ^ c.args.omega * 2 ^ 2 = pow-add 2 c.args.omega 2 in
-    let b = c.requires.product_in in
+    let e : 2 ^ (c.args.omega + 2) ≡ 2 ^ c.args.omega * 2 ^ 2 = pow-add 2 c.args.omega 2 in let b = c.requires.product_in in
     rw (quotient c) (floor_within c.args.product (18 * 2 ^ 20) (2 ^ c.args.omega) (pow_pos c.args.omega) (omega (arith, e, b)))
 
 -- it fits 32 bits

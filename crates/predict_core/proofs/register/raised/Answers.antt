@@ -9,11 +9,8 @@ overflow_mul-result c =
 
 pub returns-clause-value : goal.returns-clause-value
 returns-clause-value c =
-    rw (
-      bit_at_place c.args.omega (omega arith),
-      to_z-of_z c.ranges.distance,
-      to_z-of_z (SFits-raised_up c.args.omega c.args.distance c.requires.omega_in c.requires.distance_in),
-    ) refl
+    let fits = SFits-raised_up c.args.omega c.args.distance c.requires.omega_in c.requires.distance_in in
+    rw (bit_at_place c.args.omega (omega arith), to_z-of_z c.ranges.distance, to_z-of_z fits) refl
 
 pub returns-clause-bound : goal.returns-clause-bound
 returns-clause-bound c =

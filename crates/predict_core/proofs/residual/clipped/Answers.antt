@@ -16,8 +16,7 @@ held c =
     let min_fits : SFits w32 c.min.result = search rules in let max_fits : SFits w32 c.max.result = search rules in
     let top = top_is c.args.high (omega (arith, ints, c.requires.low_in, c.requires.order)) c.requires.high_top in
     let bottom = bottom_is c.args.low c.requires.low_in (omega (arith, ints, c.requires.order, c.requires.high_top)) in
-    let a = rw (top, to_z-of_z c.ranges.center) at c.min.ensures.value in
-    to_z-of_z max_fits ∙ rw (bottom, to_z-of_z min_fits, a) at c.max.ensures.value
+    let a = rw (top, to_z-of_z c.ranges.center) at c.min.ensures.value in to_z-of_z max_fits ∙ rw (bottom, to_z-of_z min_fits, a) at c.max.ensures.value
 
 pub returns-clause-value : goal.returns-clause-value
 returns-clause-value c = rw (held c) (omega (arith, ints, clamps, c.requires.order))

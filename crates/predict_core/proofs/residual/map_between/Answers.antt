@@ -11,8 +11,7 @@ predicted_fits c = search rules
 inside : (c : After-has_sign-sign) → (c.args.low ≤ℤ c.prediction_of-predicted.result) × (c.prediction_of-predicted.result ≤ℤ c.args.high)
 inside c =
     let a = simp (to_z-of_z c.ranges.scaled) at c.prediction_of-predicted.ensures.low in
-    let b = simp (to_z-of_z c.ranges.scaled) at c.prediction_of-predicted.ensures.high in
-    within _ _ _ _ c.requires.scaled_low c.requires.scaled_high a b
+    let b = simp (to_z-of_z c.ranges.scaled) at c.prediction_of-predicted.ensures.high in within _ _ _ _ c.requires.scaled_low c.requires.scaled_high a b
 
 error_fits : (c : After-has_sign-sign) → SFits w32 (c.args.v -ℤ c.prediction_of-predicted.result)
 error_fits c = let i = inside c in SFits-near c.prediction_of-predicted.result c.args.v (omega (arith, ints)) (omega (arith, ints))
@@ -36,7 +35,6 @@ map_error-requires-clause-zero c h =
 
 pub returns : goal.returns
 returns c =
-    let d = (goal.at.returns c).After-has_sign-sign in
-    mapped_is c.args.low c.args.high c.args.scaled c.args.v c.prediction_of-predicted.result _ _ _ _
+    let d = (goal.at.returns c).After-has_sign-sign in mapped_is c.args.low c.args.high c.args.scaled c.args.v c.prediction_of-predicted.result _ _ _ _
     (simp (to_z-of_z c.ranges.scaled) at c.prediction_of-predicted.ensures.value)
     (theta_is d) (size_is d) (sign_is d) c.map_error.ensures.value

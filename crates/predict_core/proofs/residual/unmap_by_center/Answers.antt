@@ -1,5 +1,5 @@
-use Rattle.std.proofs.Common.{◌^◌, ◌*ℤ◌, ◌≡◌, ◌≤◌, ◌+◌, ◌/◌, ℕ, ℤ, pos, ◌+ℤ◌, ◌-ℤ◌, ◌≤ℤ◌, int_lt, unsigned_abs, false, w32, to_z, of_z, to_z-of_z, arith, sym}
-use Rattle.std.proofs.Common.{ap, ap₂, ◌∙◌, Bool, subst, rules}
+use Rattle.std.proofs.Common.{◌^◌, ◌*ℤ◌, ◌≡◌, ◌≤◌, ◌+◌, ◌/◌, ℕ, ℤ, pos, ◌+ℤ◌, ◌-ℤ◌, ◌≤ℤ◌, int_lt, unsigned_abs, false, SFits, w32, to_z, of_z, to_z-of_z}
+use Rattle.std.proofs.Common.{arith, sym, ap, ap₂, ◌∙◌, Bool, subst, rules}
 use Rattle.std.proofs.lemmas.Int.{ints, clamps}
 use Rattle.predict_core.specs.Arithmetic.{floor_div, clip}
 use Rattle.predict_core.specs.Mapping.{Between, unmapped_between}
@@ -7,7 +7,7 @@ use Rattle.predict_core.specs.Residual.{mapped_between}
 use Rattle.predict_core.proofs.NearSamples.{even_sample, odd_sample, even_turn, odd_turn}
 use Rattle.predict_core.proofs.OneSample.{sample_in, number_back}
 use Rattle.predict_core.proofs.residual.unmap_by_center.Goals as goal
-use Rattle.predict_core.proofs.residual.unmap_by_center.Goals.{After-unsigned_abs}
+use Rattle.predict_core.proofs.residual.unmap_by_center.Goals.{After-unsigned_abs, After-unmap_far}
 
 -- the samples on both sides of a prediction, as the code computes them
 below_is : (p : ℤ) (n : ℕ) → unsigned_abs p ≤ 2 ^ 26 → n ≤ 65536 → to_z w32 (of_z w32 (to_z w32 (of_z w32 p) -ℤ to_z w32 n)) ≡ p -ℤ pos n
@@ -31,10 +31,8 @@ module _ (c : After-unsigned_abs) where
 
   small : unsigned_abs c.prediction_of-predicted.result ≤ 2 ^ 26
   small =
-      let b = c.requires.center_in in
-      let l = simp (to_z-of_z c.ranges.center) at c.prediction_of-predicted.ensures.low in
-      let h = simp (to_z-of_z c.ranges.center) at c.prediction_of-predicted.ensures.high in
-      omega (arith, ints, b, l, h)
+      let b = c.requires.center_in in let l = simp (to_z-of_z c.ranges.center) at c.prediction_of-predicted.ensures.low in
+      let h = simp (to_z-of_z c.ranges.center) at c.prediction_of-predicted.ensures.high in omega (arith, ints, b, l, h)
 
   few : half_delta ≤ 65536
   few = let f = c.ranges.delta.fits in omega (arith, f)
@@ -49,14 +47,13 @@ module _ (c : After-unsigned_abs) where
   least = not_below _ _ (rw (below, to_z-of_z c.ranges.low) at c.if-below-low.false)
 
   most : (c.prediction_of-predicted.result +ℤ pos half_delta) ≤ℤ c.args.high
-  most = not_below _ _ (rw (above, to_z-of_z c.ranges.high) at c.if-high-above.false)
+  most = not_below _ _ (let a = above in let h = to_z-of_z c.ranges.high in cc)
 
   -- nothing is clipped
   whole : scaled ≡ c.args.center
   whole =
       let l = simp (to_z-of_z c.ranges.center) at c.prediction_of-predicted.ensures.low in
-      let h = simp (to_z-of_z c.ranges.center) at c.prediction_of-predicted.ensures.high in let a = least in
-      let b = most in
+      let h = simp (to_z-of_z c.ranges.center) at c.prediction_of-predicted.ensures.high in let a = least in let b = most in
       omega (arith, ints, clamps, l, h, a, b)
 
   parity : c.unsigned_abs.result ≡ unsigned_abs c.args.center
@@ -98,8 +95,7 @@ returns-then-delta-unsigned_abs-eq0-clause-inverse c =
 
 pub returns-then-delta-unsigned_abs-eq0-clause-turn : goal.returns-then-delta-unsigned_abs-eq0-clause-turn
 returns-then-delta-unsigned_abs-eq0-clause-turn c =
-    let d = (goal.at.returns-then-delta-unsigned_abs-eq0-clause-turn c).After-unsigned_abs in
-    sign_of d _ _ (returns-then-delta-unsigned_abs-eq0-clause-value c)
+    let d = (goal.at.returns-then-delta-unsigned_abs-eq0-clause-turn c).After-unsigned_abs in sign_of d _ _ (returns-then-delta-unsigned_abs-eq0-clause-value c)
     (even_turn _ _ _ _ _ (half d) (least d) (most d) (rw (parity d) at c.if-delta-unsigned_abs-eq0.true))
 
 pub returns-else-delta-unsigned_abs-eq0-clause-value : goal.returns-else-delta-unsigned_abs-eq0-clause-value
@@ -119,8 +115,7 @@ returns-else-delta-unsigned_abs-eq0-clause-inverse c =
 
 pub returns-else-delta-unsigned_abs-eq0-clause-turn : goal.returns-else-delta-unsigned_abs-eq0-clause-turn
 returns-else-delta-unsigned_abs-eq0-clause-turn c =
-    let d = (goal.at.returns-else-delta-unsigned_abs-eq0-clause-turn c).After-unsigned_abs in
-    sign_of d _ _ (returns-else-delta-unsigned_abs-eq0-clause-value c)
+    let d = (goal.at.returns-else-delta-unsigned_abs-eq0-clause-turn c).After-unsigned_abs in sign_of d _ _ (returns-else-delta-unsigned_abs-eq0-clause-value c)
     (odd_turn _ _ _ _ _ (half d) (least d) (most d) (rw (parity d) at c.if-delta-unsigned_abs-eq0.false))
 
 pub clipped-requires-clause-order : goal.clipped-requires-clause-order
@@ -129,5 +124,22 @@ clipped-requires-clause-order c = search rules
 pub unmap_far-requires-clause-low_in : goal.unmap_far-requires-clause-low_in
 unmap_far-requires-clause-low_in c = search rules
 
+-- the same by the scaled prediction, wherever in the range the sample is
+clipped_is : (c : After-unmap_far)
+    → to_z w32 (of_z w32 c.clipped.result) ≡ clip c.args.center (pos 2 *ℤ c.args.low) (pos 2 *ℤ c.args.high +ℤ pos 1)
+clipped_is c =
+    let fits : SFits w32 c.clipped.result = search rules in
+    to_z-of_z fits ∙ simp (to_z-of_z c.ranges.center, to_z-of_z c.ranges.low, to_z-of_z c.ranges.high) at c.clipped.ensures.value
+
 pub returns-then-below-low-clause-value : goal.returns-then-below-low-clause-value
-returns-then-below-low-clause-value c = search rules
+returns-then-below-low-clause-value c = rw (to_z-of_z c.ranges.low, to_z-of_z c.ranges.high, clipped_is c) at c.unmap_far.ensures.value
+
+pub returns-then-below-low-clause-range : goal.returns-then-below-low-clause-range
+returns-then-below-low-clause-range c = rw (to_z-of_z c.ranges.low, to_z-of_z c.ranges.high) at c.unmap_far.ensures.range
+
+pub returns-then-below-low-clause-inverse : goal.returns-then-below-low-clause-inverse
+returns-then-below-low-clause-inverse c = rw (to_z-of_z c.ranges.low, to_z-of_z c.ranges.high, clipped_is c) at c.unmap_far.ensures.inverse
+
+pub returns-then-below-low-clause-turn : goal.returns-then-below-low-clause-turn
+returns-then-below-low-clause-turn c =
+    rw (returns-then-below-low-clause-value c) (rw (to_z-of_z c.ranges.low, to_z-of_z c.ranges.high, clipped_is c) at c.unmap_far.ensures.turn)

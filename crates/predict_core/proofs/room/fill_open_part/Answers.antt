@@ -35,8 +35,7 @@ module _ (g : given.Over) (c : After-fill_spectral-else-settings g) where
   some : 0 < length c.args.quads.now
   some =
       let s = c.args.settings.now in let three = s.count_is ∙ full_count s.predictor s.band c.if-settings.false in
-      let enough = c.requires.enough in let long = c.told-quads in
-      omega (arith, three, enough, long)
+      let enough = c.requires.enough in let long = c.told-quads in omega (arith, three, enough, long)
 
   below : ℕ → ℤ
   below i = line_difference c.args.settings.now.predictor.column c.fill_below.new.lines.current c.fill_below.new.lines.above i
@@ -47,8 +46,7 @@ module _ (g : given.Over) (c : After-fill_spectral-else-settings g) where
       (get_or c.fill_open_directions.new.sums i (pos 0)) (components_at (quads_of c.args.settings.now.count) c.fill_spectral-else-settings.new.quads i)
   unfolding below
   done i l a b d head front =
-      let s = c.args.settings.now in
-      let column = under_top s.predictor.column c.args.y (λ e. omega (arith, e, c.requires.later)) in
+      let s = c.args.settings.now in let column = under_top s.predictor.column c.args.y (λ e. omega (arith, e, c.requires.later)) in
       full_part s.predictor c.args.cube.now s.band c.args.y (c.args.x + i) s.count _ _ a b d (below i) c.if-settings.false s.count_is
       (c.fill_open_directions.ensures.sums i (omega arith) ∙ summed g from i l) front (rw column at (c.fill_below.ensures i l (omega arith)))
       (c.fill_spectral-else-settings.ensures i l (omega arith)
@@ -65,8 +63,7 @@ module _ (g : given.Over) (c : After-fill_spectral-else-settings g) where
 pub returns-after-x-eq0 : goal.returns-after-x-eq0
 unfolding below
 returns-after-x-eq0 g c = λ i l.
-    let s = c.args.settings.now in
-    elim c.if-x-eq0.branch [
+    let s = c.args.settings.now in elim c.if-x-eq0.branch [
       | then-x-eq0 w ↦ elim (cases_eq i 0) [
         | inl e ↦ done g c i l _ _ _
             (ap (λ qs. components_at 1 qs i) w.quads-is ∙ one_quad c.args.quads.now _ i (some g c)

@@ -13,15 +13,12 @@ returns-then-band-eq0-clause-value c =
 
 pub returns-then-band-eq0-clause-scaled : goal.returns-then-band-eq0-clause-scaled
 returns-then-band-eq0-clause-scaled c =
-    let r = c.args.settings.now.range in
-    let low : smin c.args.cube.now.kind ≡ r.smin = ap (λ (k : SampleKind). smin k) c.requires.kind ∙ sym r.smin_is in
+    let r = c.args.settings.now.range in let low : smin c.args.cube.now.kind ≡ r.smin = ap (λ (k : SampleKind). smin k) c.requires.kind ∙ sym r.smin_is in
     let high : smax c.args.cube.now.kind ≡ r.smax = ap (λ (k : SampleKind). smax k) c.requires.kind ∙ sym r.smax_is in
     let a = r.low in let b = r.mid in let i = r.inside in
     rw (low, high) (omega (arith, ints, a.0, a.1, b.0, b.1, i), omega (arith, ints, a.0, a.1, b.0, b.1, i))
 
 pub returns-else-band-eq0-clause-value : goal.returns-else-band-eq0-clause-value
 returns-else-band-eq0-clause-value c =
-    rw (
-      first_from_below c.args.settings.now.predictor c.args.cube.now c.args.settings.now.band c.if-band-eq0.false.0 c.if-band-eq0.false.1,
-      ← c.sample.ensures.value,
-    ) (omega (arith, ints))
+    let e = first_from_below c.args.settings.now.predictor c.args.cube.now c.args.settings.now.band c.if-band-eq0.false.0 c.if-band-eq0.false.1 in
+    rw (e, ← c.sample.ensures.value) (omega (arith, ints))

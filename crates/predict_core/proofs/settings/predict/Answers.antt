@@ -1,4 +1,5 @@
-use Rattle.std.proofs.Common.{length, take, ◌≡◌, ◌*◌, ◌^◌, subst, SFits, w32, to_z-of_z, rules, ap, ◌∙◌, sym}
+use Rattle.std.proofs.Common.{length, take, ◌≡◌, ◌*◌, ◌^◌, subst, SFits, w32, to_z-of_z, rules, ap, ◌∙◌, sym, arith}
+use Rattle.std.proofs.lemmas.Int.{ints}
 use Rattle.cube_core.specs.Kind.{SampleKind, smin}
 use Rattle.predict_core.specs.Differences.{difference_vector}
 use Rattle.predict_core.specs.Bounds.{AllWithin}
@@ -20,8 +21,12 @@ returns-clause-value c =
 pub returns-clause-bound : goal.returns-clause-bound
 returns-clause-bound c =
     let s = c.args.settings.now in
-    let bits : s.range.bits ≡ c.args.cube.now.kind.bits = s.range.bits_is ∙ ap (λ (k : SampleKind). k.bits) (sym c.requires.kind) in
-    rw bits
+    let bits : s.range.bits ≡ c.args.cube.now.kind.bits = s.range.bits_is ∙ ap (λ (k : SampleKind). k.bits) (sym c.requires.kind) in rw bits
     (subst (AllWithin (4 * 2 ^ c.args.cube.now.kind.bits)) (sym c.fill_differences.ensures.value)
     (padded_within s.predictor c.args.cube.now c.prove_is_cube.ensures c.args.y c.args.x c.requires.later (rw c.requires.columns s.wide)
     s.band c.requires.place _))
+
+pub scaled_by-scaled-requires-clause-sum_in : goal.scaled_by-scaled-requires-clause-sum_in
+scaled_by-scaled-requires-clause-sum_in c =
+    let r = c.args.settings.now.range in let b = c.sum_at-sum.ensures.bound in let low = r.low in
+    rw (whole_sum r.smin c.sum_at-sum.result low b) (omega (arith, ints, low.0, b), omega (arith, ints, low.1, b))

@@ -20,13 +20,11 @@ loop-i-init c = record {
 pub loop-i-preserved : goal.loop-i-preserved
 loop-i-preserved c =
     let w : ℤ = c.loop-i.weight in let at : ℕ = c.args.first + c.loop-i.i in let long = c.loop-i.invariant.long in
-    let inside : at < length c.loop-i.weights = omega arith in
-    let small : unsigned_abs w ≤ 2 ^ 20 = rw c.loop-i.weight-is at c.loop-i.invariant.small in
+    let inside : at < length c.loop-i.weights = omega arith in let small : unsigned_abs w ≤ 2 ^ 20 = rw c.loop-i.weight-is at c.loop-i.invariant.small in
     let least : unsigned_abs w ≤ 2 ^ (c.args.omega + 2) = rw c.loop-i.weight-is at c.loop-i.invariant.least in
     let s = shrinks_small w small in let begun = rw c.loop-i.weight-is at c.loop-i.invariant.begun in
     let next : c.args.first + (c.loop-i.i + 1) ≡ at + 1 = omega arith in
-    let left : c.args.count - (c.loop-i.i + 1) ≡ c.args.count - c.loop-i.i - 1 = omega arith in
-    rw (c.loop-i.weight-is, to_z-of_z s.0, next, left)
+    let left : c.args.count - (c.loop-i.i + 1) ≡ c.args.count - c.loop-i.i - 1 = omega arith in rw (c.loop-i.weight-is, to_z-of_z s.0, next, left)
     (record {
       begun = eighths_next w (floor_div w 8) at (c.args.count - c.loop-i.i) c.loop-i.weights _ inside (omega arith) refl begun;
       rest = step_kept (replicate 18 (pos 0)) c.loop-i.weights at w inside (omega arith) c.loop-i.invariant.rest;

@@ -6,8 +6,7 @@ use Rattle.predict_core.proofs.start.start_of.Goals as goal
 
 pub entries_from-entries-requires : goal.entries_from-entries-requires
 entries_from-entries-requires c =
-    let p = c.args.params.now in let z = c.args.z in
-    let long = table_long p c.requires.lawful z c.requires.band c.in-Table.q c.in-Table.values c.in-Table.is in
+    let p = c.args.params.now in let z = c.args.z in let long = table_long p c.requires.lawful z c.requires.band c.in-Table.q c.in-Table.values c.in-Table.is in
     let count = count_is (predictor_of p) z c.args.first c.requires.directions in
     let from = c.entries_before-from.ensures (predictor_of p) refl c.requires.directions in
     rw (c.as_slice.ensures, c.requires.below, from) (omega (arith, long, count))
@@ -19,8 +18,7 @@ returns-in-Usual-clause-value c =
 
 pub returns-in-Table-clause-value : goal.returns-in-Table-clause-value
 returns-in-Table-clause-value c =
-    let p = c.args.params.now in let z = c.args.z in
-    let long = table_long p c.requires.lawful z c.requires.band c.in-Table.q c.in-Table.values c.in-Table.is in
+    let p = c.args.params.now in let z = c.args.z in let long = table_long p c.requires.lawful z c.requires.band c.in-Table.q c.in-Table.values c.in-Table.is in
     let count = count_is (predictor_of p) z c.args.first c.requires.directions in
     let all_of : c.args.first + c.args.near ≡ component_count (predictor_of p) z = rw c.requires.below count in
     let from = c.entries_before-from.ensures (predictor_of p) refl c.requires.directions in

@@ -6,8 +6,7 @@ use Rattle.predict_core.proofs.start.table_start.Goals as goal
 
 pub loop-i-preserved : goal.loop-i-preserved
 loop-i-preserved c =
-    let entries = c.args.entries.now in let f = c.args.omega in let q = c.args.q in
-    let i = c.loop-i.i in let long = c.loop-i.invariant.long in
+    let entries = c.args.entries.now in let f = c.args.omega in let q = c.args.q in let i = c.loop-i.i in let long = c.loop-i.invariant.long in
     let inside : i < length c.loop-i.weights = omega (arith, long, c.requires.few, c.loop-i-test.true) in
     let is : c.table_weight.result ≡ table_weight f q (get_or entries i (pos 0)) =
     c.table_weight.ensures.value

@@ -12,13 +12,9 @@ module _ (c : goal.After-ones_below) where
   whole =
       let o = ones_fit c.args.omega c.args.q c.requires.omega_in.1 in
       let product = product_fits c.args.omega c.args.q c.args.entry c.requires.omega_in.1 c.requires.bits.0 c.requires.bits.1 c.requires.signed in
-      rw (
-        plain c.args.entry c.power-scale.result (c.args.omega + 3 - c.args.q) c.ranges.entry
-            (scale_small c.args.omega c.args.q c.requires.omega_in.1 c.requires.bits.0) c.power-scale.ensures.value,
-        to_z-of_z product,
-        c.ones_below.ensures.value,
-        to_z-of_z o,
-      )
+      let scaled = plain c.args.entry c.power-scale.result (c.args.omega + 3 - c.args.q) c.ranges.entry
+      (scale_small c.args.omega c.args.q c.requires.omega_in.1 c.requires.bits.0) c.power-scale.ensures.value in
+      rw (scaled, to_z-of_z product, c.ones_below.ensures.value, to_z-of_z o)
       (weight_is c.args.omega c.args.q c.args.entry c.requires.omega_in.1 c.requires.bits.0 c.requires.bits.1 c.requires.signed)
 
   fits : SFits w32 (table_weight c.args.omega c.args.q c.args.entry)

@@ -25,16 +25,10 @@ clipped c =
     let high : SFits w32 (pos (2 ^ (c.args.omega + 2)) -ℤ pos 1) =
     fits_signed_from_abs w32 (pos (2 ^ (c.args.omega + 2)) -ℤ pos 1) (omega (arith, ints)) in
     let sum : SFits w32 (c.args.weight +ℤ c.args.step) = fits_signed_from_abs w32 (c.args.weight +ℤ c.args.step) (omega (arith, ints)) in
-    let fits : SFits w32 c.min.result = search rules in
+    let fits : SFits w32 c.min.result = search rules in let bit = bit_in_word (c.args.omega + 2) (omega arith) in
     clipped_is (c.args.weight +ℤ c.args.step) (pos 0 -ℤ pos (2 ^ (c.args.omega + 2))) (pos (2 ^ (c.args.omega + 2)) -ℤ pos 1) c.min.result c.max.result
-    (simp (
-      bit_in_word (c.args.omega + 2) (omega arith),
-      to_z-of_z c.ranges.weight,
-      to_z-of_z c.ranges.step,
-      to_z-of_z sum,
-      to_z-of_z high,
-    ) at c.min.ensures.value)
-    (simp (bit_in_word (c.args.omega + 2) (omega arith), to_z-of_z fits, to_z-of_z low) at c.max.ensures.value)
+    (simp (bit, to_z-of_z c.ranges.weight, to_z-of_z c.ranges.step, to_z-of_z sum, to_z-of_z high) at c.min.ensures.value)
+    (simp (bit, to_z-of_z fits, to_z-of_z low) at c.max.ensures.value)
 
 pub returns-clause-value : goal.returns-clause-value
 returns-clause-value c =
@@ -43,8 +37,7 @@ returns-clause-value c =
 
 pub returns-clause-bound : goal.returns-clause-bound
 returns-clause-bound c =
-    let p = limit_within c.args.omega c.requires.omega_in in
-    let q : 1 ≤ 2 ^ (c.args.omega + 2) = pow_pos (c.args.omega + 2) in
+    let p = limit_within c.args.omega c.requires.omega_in in let q : 1 ≤ 2 ^ (c.args.omega + 2) = pow_pos (c.args.omega + 2) in
     let fits : SFits w32 c.max.result = search rules in let e = clipped (goal.at.returns-clause-bound c).After-max in
     rw (to_z-of_z fits) (held_within (2 ^ (c.args.omega + 2)) _ q
     (clipped_low (c.args.weight +ℤ c.args.step) (pos 0 -ℤ pos (2 ^ (c.args.omega + 2))) (pos (2 ^ (c.args.omega + 2)) -ℤ pos 1) _ e) (clipped_high

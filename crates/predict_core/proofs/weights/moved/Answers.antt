@@ -28,8 +28,7 @@ chosen-requires-clause-lowered_in c =
 pub returns-clause-value : goal.returns-clause-value
 returns-clause-value c =
     let s = (goal.at.returns-clause-value c).Start in let up_fits : SFits w32 c.stepped.result = search rules in
-    let down_fits : SFits w32 c.stepped-2.result = search rules in
-    let raised_fits : SFits w32 c.clip_weight-raised.result = search rules in
+    let down_fits : SFits w32 c.stepped-2.result = search rules in let raised_fits : SFits w32 c.clip_weight-raised.result = search rules in
     let lowered_fits : SFits w32 c.clip_weight-lowered.result = search rules in
     let fits : SFits w32 c.chosen.result = search rules in let steps = c.requires.steps in
     let back : pos 0 -ℤ c.args.difference ≡ neg_ℤ c.args.difference = omega (arith, ints) in
@@ -45,8 +44,7 @@ returns-clause-value c =
 
 pub returns-clause-bound : goal.returns-clause-bound
 returns-clause-bound c =
-    let raised_fits : SFits w32 c.clip_weight-raised.result = search rules in
-    let lowered_fits : SFits w32 c.clip_weight-lowered.result = search rules in
+    let raised_fits : SFits w32 c.clip_weight-raised.result = search rules in let lowered_fits : SFits w32 c.clip_weight-lowered.result = search rules in
     let fits : SFits w32 c.chosen.result = search rules in
     let is = simp (to_z-of_z c.ranges.turn, to_z-of_z raised_fits, to_z-of_z lowered_fits) at c.chosen.ensures in
     rw (to_z-of_z fits, is) (either_within (2 ^ (c.args.omega + 2)) (int_lt c.args.turn (pos 0)) _ _ c.clip_weight-raised.ensures.bound

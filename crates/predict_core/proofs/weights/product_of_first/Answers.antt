@@ -10,8 +10,7 @@ loop-i-init g c = record { begun = product_none c.args.weights.now c.args.differ
 
 pub overflow_add-sum : goal.overflow_add-sum
 overflow_add-sum g c =
-    let w : ℤ = get_or c.args.weights.now c.loop-i.i (pos 0) in
-    let u : ℤ = get_or c.args.differences.now c.loop-i.i (pos 0) in
+    let w : ℤ = get_or c.args.weights.now c.loop-i.i (pos 0) in let u : ℤ = get_or c.args.differences.now c.loop-i.i (pos 0) in
     let wb : unsigned_abs w ≤ 2 ^ 21 = c.requires.weights_in c.loop-i.i (omega arith) in
     let ub : unsigned_abs u ≤ 2 ^ 18 = c.requires.differences_in c.loop-i.i (omega arith) in
     let kept : unsigned_abs c.loop-i.sum ≤ c.loop-i.i * 2 ^ 39 = rw c.loop-i.sum-is at c.loop-i.invariant.bound in
@@ -19,8 +18,7 @@ overflow_add-sum g c =
 
 pub loop-i-preserved : goal.loop-i-preserved
 loop-i-preserved g c =
-    let w : ℤ = get_or c.args.weights.now c.loop-i.i (pos 0) in
-    let u : ℤ = get_or c.args.differences.now c.loop-i.i (pos 0) in
+    let w : ℤ = get_or c.args.weights.now c.loop-i.i (pos 0) in let u : ℤ = get_or c.args.differences.now c.loop-i.i (pos 0) in
     let wb : unsigned_abs w ≤ 2 ^ 21 = c.requires.weights_in c.loop-i.i (omega arith) in
     let ub : unsigned_abs u ≤ 2 ^ 18 = c.requires.differences_in c.loop-i.i (omega arith) in
     let kept : unsigned_abs c.loop-i.sum ≤ c.loop-i.i * 2 ^ 39 = rw c.loop-i.sum-is at c.loop-i.invariant.bound in

@@ -7,8 +7,7 @@ use Rattle.predict_core.proofs.weights.stepped.Goals.{Start}
 
 pub overflow_mul-result : goal.overflow_mul-result
 overflow_mul-result c =
-    let up = c.args.form.up_in in
-    rw (to_z-of_z c.ranges.size, bit_in_word c.args.form.up (omega (arith, up)))
+    let up = c.args.form.up_in in rw (to_z-of_z c.ranges.size, bit_in_word c.args.form.up (omega (arith, up)))
     (SFits-26 (c.args.size *ℤ pos (2 ^ c.args.form.up)) (raised_within _ _ (omega (arith, up)) c.requires))
 
 module _ (c : Start) where
@@ -32,14 +31,10 @@ overflow_add-result c =
 pub returns-clause-value : goal.returns-clause-value
 returns-clause-value c =
     let s = (goal.at.returns-clause-value c).Start in let up = c.args.form.up_in in
-    rw (
-      to_z-of_z c.ranges.size,
-      bit_in_word c.args.form.up (omega (arith, up)),
-      to_z-of_z (product_fits s),
-      to_z-of_z (half_fits s),
-      to_z-of_z (SFits-27 (c.args.size *ℤ pos (2 ^ c.args.form.up) +ℤ c.args.form.half) (within s)),
-      to_z-of_z (SFits-27 (floor_div (c.args.size *ℤ pos (2 ^ c.args.form.up) +ℤ c.args.form.half) (2 ^ c.args.form.down)) (small s)),
-    ) refl
+    let sum = SFits-27 (c.args.size *ℤ pos (2 ^ c.args.form.up) +ℤ c.args.form.half) (within s) in
+    let fits = SFits-27 (floor_div (c.args.size *ℤ pos (2 ^ c.args.form.up) +ℤ c.args.form.half) (2 ^ c.args.form.down)) (small s) in
+    rw (to_z-of_z c.ranges.size, bit_in_word c.args.form.up (omega (arith, up)), to_z-of_z (product_fits s), to_z-of_z (half_fits s))
+    (rw (to_z-of_z sum, to_z-of_z fits) refl)
 
 pub returns-clause-bound : goal.returns-clause-bound
 returns-clause-bound c = subst (λ v. unsigned_abs v ≤ 2 ^ 27) (sym (returns-clause-value c)) (small (goal.at.returns-clause-bound c).Start)

@@ -24,8 +24,7 @@ pub loop-i-preserved : goal.loop-i-preserved
 loop-i-preserved g c =
     let i : ℕ = c.loop-i.i in let now : List ℤ = c.loop-i.weights in let old : List ℤ = c.args.weights.now in
     let us : List ℤ = c.args.differences.now in let now_long : i < length now = omega arith in
-    let old_long : i < length old = omega arith in let us_long : i < length us = omega arith in
-    let fits : SFits w32 c.moved.result = search rules in
+    let old_long : i < length old = omega arith in let us_long : i < length us = omega arith in let fits : SFits w32 c.moved.result = search rules in
     let weight_fits : SFits w32 (get_or now i (pos 0)) =
     SFits-small (get_or now i (pos 0)) (le_trans (c.loop-i.invariant.bound i now_long) (limit_within c.args.omega c.requires.omega_in)) in
     let difference_fits : SFits w32 (get_or us i (pos 0)) =

@@ -5,8 +5,7 @@ use Rattle.predict_core.proofs.weights.update_first.Goals as goal
 
 pub update_by-requires-clause-differences_in : goal.update_by-requires-clause-differences_in
 update_by-requires-clause-differences_in g c =
-    let under : c.args.exponent <ℤ pos 0 = search (rules, ints) in
-    let fits : SFits w32 (negsuc 0 -ℤ c.args.exponent) = search (rules, ints) in
+    let under : c.args.exponent <ℤ pos 0 = search (rules, ints) in let fits : SFits w32 (negsuc 0 -ℤ c.args.exponent) = search (rules, ints) in
     let up = simp (to_z-of_z c.ranges.exponent, to_z-of_z fits) at c.raising-form.ensures.up in
     let room : c.args.bits + c.raising-form.result.up ≤ 24 = omega (arith, ints, up) in
     within_room c.args.bits c.raising-form.result.up c.args.differences.now room c.requires.differences_in

@@ -13,8 +13,7 @@ use Rattle.predict_core.proofs.west.sum_with_west.Goals.{After-masked}
 module _ (c : After-masked) where
   added : c.masked.result ≡ west_part c.args.settings.now.predictor.column c.args.west
   added =
-      let s = c.args.settings.now in
-      let west : to_z w32 c.args.west ≡ pos c.args.west = to_z_pos w32 c.args.west (omega (arith, c.ranges.west.fits)) in
+      let s = c.args.settings.now in let west : to_z w32 c.args.west ≡ pos c.args.west = to_z_pos w32 c.args.west (omega (arith, c.ranges.west.fits)) in
       rw (s.west_is.sum, to_z-of_z (unless_fits s.predictor.column), west, masked_part s.predictor.column (pos c.args.west)) at c.masked.ensures.value
 
   whole : local_sum c.args.settings.now.predictor c.args.cube.now c.args.settings.now.band c.args.y c.args.x
@@ -49,6 +48,5 @@ returns-clause-bound c = let b = within c in rw (to_z-of_z c.ranges.sum, to_z-of
 
 pub returns-clause-value : goal.returns-clause-value
 returns-clause-value c =
-    let b = within c in
-    rw (to_z-of_z c.ranges.sum, to_z-of_z (part_fits c), to_z-of_z (fits c))
+    let b = within c in rw (to_z-of_z c.ranges.sum, to_z-of_z (part_fits c), to_z-of_z (fits c))
     (whole c ∙ ap (λ v. pos 4 *ℤ smin c.args.cube.now.kind +ℤ v) (omega (arith, ints, b.0, b.1)))

@@ -16,23 +16,20 @@ module _ (c : After-self) where
 
   wide : (p : Params) → Follows p c.args.self.now c.args.cube.now → p.column ≡ false → 2 ≤ c.args.cube.now.shape.columns
   wide p f h =
-      let g = rw (← c.self.view_is) at f in let w = (rw g.made.predictor at c.self.inside.settings.wide) h in
-      let columns = c.self.invariant.columns in
+      let g = rw (← c.self.view_is) at f in let w = (rw g.made.predictor at c.self.inside.settings.wide) h in let columns = c.self.invariant.columns in
       rw (rw (← c.self.view_is) at c.requires.shape) (omega arith)
 
 pub returns-then-t-eq0-clause-residual : goal.returns-then-t-eq0-clause-residual
 returns-then-t-eq0-clause-residual c p f =
     let d = (goal.at.returns-then-t-eq0-clause-residual c).After-self in
-    let fits : SFits w32 c.first_sample.result = search rules in let g = rw (← c.self.view_is) at f in
-    rw (← c.self.view_is, c.if-t-eq0.true, to_z-of_z fits)
+    let fits : SFits w32 c.first_sample.result = search rules in let g = rw (← c.self.view_is) at f in rw (← c.self.view_is, c.if-t-eq0.true, to_z-of_z fits)
     (first_residual_put p _ c.args.cube.now _ c.args.y c.args.x _ c.first_sample.result _ (place d) c.prove_is_cube.ensures.whole (wide d p f)
     g.made.predictor (next d) g.weights c.if-t-eq0.true c.args.delta c.first_sample.ensures.inverse)
 
 pub returns-then-t-eq0-clause-follows : goal.returns-then-t-eq0-clause-follows
 returns-then-t-eq0-clause-follows c p f =
     let d = (goal.at.returns-then-t-eq0-clause-follows c).After-self in
-    let fits : SFits w32 c.first_sample.result = search rules in let g = rw (← c.self.view_is) at f in
-    rw (← c.self.view_is, c.if-t-eq0.true, to_z-of_z fits)
+    let fits : SFits w32 c.first_sample.result = search rules in let g = rw (← c.self.view_is) at f in rw (← c.self.view_is, c.if-t-eq0.true, to_z-of_z fits)
     (record {
       made = record { predictor = g.made.predictor; shape = g.made.shape; kind = g.made.kind };
       weights = first_weights_put p _ c.args.cube.now _ c.args.y c.args.x _ c.first_sample.result _ (place d) c.prove_is_cube.ensures.whole (wide d p f)
@@ -42,8 +39,7 @@ returns-then-t-eq0-clause-follows c p f =
 pub returns-else-t-eq0-clause-residual : goal.returns-else-t-eq0-clause-residual
 returns-else-t-eq0-clause-residual c p f =
     let d = (goal.at.returns-else-t-eq0-clause-residual c).After-self in
-    let fits : SFits w32 c.next_sample.result = search rules in let g = rw (← c.self.view_is) at f in
-    rw (← c.self.view_is, to_z-of_z fits)
+    let fits : SFits w32 c.next_sample.result = search rules in let g = rw (← c.self.view_is) at f in rw (← c.self.view_is, to_z-of_z fits)
     (residual_put p _ c.args.cube.now _ c.args.y c.args.x _ c.next_sample.result _ (place d) c.prove_is_cube.ensures.whole (wide d p f)
     g.made.predictor (next d) (rw c.self.inside.settings.count_is at g.weights) (omega arith) c.args.delta c.next_sample.ensures.inverse)
 

@@ -6,6 +6,7 @@ use Rattle.predict_core.specs.Following.{Follows}
 use Rattle.predict_core.proofs.InverseRuns.{beside_none, beside_next, residuals_next}
 use Rattle.predict_core.proofs.RunSteps.{moved_none, moved_next}
 use Rattle.predict_core.proofs.band.Band.inverse_each.Goals as goal
+use Rattle.predict_core.proofs.band.Band.inverse_each.Goals.{After-loop-i}
 
 pub loop-i-init : goal.loop-i-init
 loop-i-init c = record {
@@ -18,8 +19,7 @@ loop-i-init c = record {
 
 pub loop-i-preserved : goal.loop-i-preserved
 loop-i-preserved c =
-    let kept = c.loop-i.invariant in let d : Image = c.loop-i.cube in let s = c.self.inside.settings in
-    let v = c.inverse_into.result in
+    let kept = c.loop-i.invariant in let d : Image = c.loop-i.cube in let s = c.self.inside.settings in let v = c.inverse_into.result in
     let is : c.inverse_into.new.cube ≡ put d c.args.self.now.band c.args.y (c.args.x + c.loop-i.i) v = rw kept.moved.band at c.inverse_into.ensures.written in
     let before : IsPlace c.args.cube.now.shape c.args.self.now.band c.args.y (c.args.x + c.loop-i.i) =
     record { band = c.requires.place.band; row = c.requires.place.row; column = omega (arith, c.requires.inside, c.loop-i-test.true) } in
@@ -39,8 +39,18 @@ loop-i-preserved c =
       whole = rw length-set kept.whole;
     })
 
+done : (c : After-loop-i) → c.loop-i.i ≡ length c.args.deltas.now
+done c = omega (arith, c.loop-i-test.false, c.loop-i.auto.i-end)
+
 pub returns-clause-residuals : goal.returns-clause-residuals
 returns-clause-residuals c p f =
-    let kept = c.loop-i.invariant in
-    let done : c.loop-i.i ≡ length c.args.deltas.now = omega (arith, c.loop-i-test.false, c.loop-i.auto.i-end) in
-    rw (c.requires.next, kept.beside.alike.shape) ((rw done at (kept.residuals p f)) ∙ take_all _ _ (omega arith))
+    let kept = c.loop-i.invariant in rw (c.requires.next, kept.beside.alike.shape) ((rw (done c) at (kept.residuals p f)) ∙ take_all _ _ (omega arith))
+
+pub returns-clause-beside : goal.returns-clause-beside
+returns-clause-beside c = rw (← done c) c.loop-i.invariant.beside
+
+pub returns-clause-moved : goal.returns-clause-moved
+returns-clause-moved c = rw (← done c) c.loop-i.invariant.moved
+
+pub returns-clause-follows : goal.returns-clause-follows
+returns-clause-follows c = c.loop-i.invariant.follows

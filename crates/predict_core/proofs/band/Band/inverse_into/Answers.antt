@@ -13,9 +13,7 @@ is c =
 
 pub returns-clause-written : goal.returns-clause-written
 returns-clause-written c =
-    let s = (goal.at.returns-clause-written c).After-set in
-    let fits : SFits w32 c.inverse-sample.result = search rules in
-    rw (to_z-of_z fits) (is s)
+    let s = (goal.at.returns-clause-written c).After-set in let fits : SFits w32 c.inverse-sample.result = search rules in rw (to_z-of_z fits) (is s)
 
 pub returns-clause-residual : goal.returns-clause-residual
 returns-clause-residual c p f = let s = (goal.at.returns-clause-residual c).After-set in rw (is s) (c.inverse-sample.ensures.residual p f)

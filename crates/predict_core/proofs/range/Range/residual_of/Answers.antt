@@ -8,8 +8,7 @@ use Rattle.predict_core.proofs.range.Range.residual_of.Goals.{After-map_between}
 value : (c : After-map_between) → c.map_between.result ≡ mapped c.args.self.now.kind c.args.scaled c.args.sample
 value c =
     let r = c.args.self.now in let low_fits : SFits w32 r.smin = (let h = r.low in search (rules, ints)) in
-    let high_fits : SFits w32 r.smax = (let h = r.high in search (rules, ints)) in
-    rw (← r.smin_is, ← r.smax_is)
+    let high_fits : SFits w32 r.smax = (let h = r.high in search (rules, ints)) in rw (← r.smin_is, ← r.smax_is)
     (simp (to_z-of_z low_fits, to_z-of_z high_fits, to_z-of_z c.ranges.scaled, to_z-of_z c.ranges.sample) at c.map_between.ensures)
 
 pub returns-clause-value : goal.returns-clause-value

@@ -1,0 +1,8 @@
+use Rattle.std.proofs.Common.{SFits, w32, to_z-of_z, rules, ◌∙◌}
+use Rattle.predict_core.proofs.settings.form_at.Goals as goal
+
+pub returns : goal.returns
+returns c =
+    let fits : SFits w32 c.exponent_at.result = search rules in
+    let e = to_z-of_z fits ∙ rw (c.from.ensures, c.from-2.ensures, c.from-3.ensures) at c.exponent_at.ensures.value in
+    record { steps = λ a. rw e at (c.form_of.ensures.steps a); room = c.form_of.ensures.room }
