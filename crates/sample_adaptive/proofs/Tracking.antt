@@ -1,7 +1,7 @@
 -- What is kept of bands, and their statistics.
-use Rattle.std.proofs.Common.{◌≡◌, ◌<◌, ℕ, List, length, get_or, set, refl, sym, ap, subst, ◌∙◌, inl, inr, arith}
+use Rattle.std.proofs.Common.{◌≡◌, ◌<◌, ◌≤◌, ◌++◌, ℕ, List, length, take, get_or, set, refl, sym, ap, subst, ◌∙◌, inl, inr, arith}
 use Rattle.std.proofs.lemmas.Bool.{cases_eq}
-use Rattle.std.proofs.lemmas.List.{get_or-map, get_or_default, get_or-set_same, get_or-set_other, length-map, length-set, map-set}
+use Rattle.std.proofs.lemmas.List.{get_or-map, get_or_default, get_or-set_same, get_or-set_other, length-map, length-set, map-set, take_at}
 use Rattle.sample_adaptive.specs.declared.run_codes.RunCodes.{RunCodes}
 use Rattle.sample_adaptive.specs.declared.statistics.Statistics.{Statistics}
 use Rattle.sample_adaptive.specs.declared.tracked.Tracked.{Tracked}
@@ -42,6 +42,9 @@ settings_stay h = record { bits_are = h.bits_are; umax_is = h.umax_is; size_is =
 pub settings_seen : (v w : Counts) → w ≡ v → HasSettings v w.bits w.umax w.gamma_star
 settings_seen v w e = rw (← e) (record { bits_are = refl; umax_is = refl; size_is = refl })
 
+pub bands_seen : {v w : Counts} → w ≡ v → w.bands ≡ v.bands
+bands_seen e = ap (λ (w : Counts). w.bands) e
+
 module _ (v : Counts) (items : List Tracked) (same : statistics_of items ≡ v.bands) (z : ℕ) (lt : z < length v.bands) where
   pub band_inside : z < length items
   band_inside = omega (arith, lt, ap length same, statistics_count items)
@@ -50,3 +53,29 @@ module _ (v : Counts) (items : List Tracked) (same : statistics_of items ≡ v.b
   band_own t is =
       rw (← same) (statistics_at items z band_inside)
       ∙ ap (λ (k : Tracked). k.statistics) (sym (is ∙ get_or_default items z t no_tracked band_inside))
+
+  -- what is kept of it, and what is kept of it anew
+  module _ (run : RunCodes) (was : AreTracked run items) (t : Tracked) where
+    pub tracked_own : t ≡ get_or items z t → IsTracked run t
+    tracked_own is = subst (IsTracked run) (sym (is ∙ get_or_default items z t no_tracked band_inside)) (was z band_inside)
+
+    pub tracked_anew : IsTracked run t → AreTracked run (set items z t)
+    tracked_anew here = tracked_set run items z t band_inside here was
+
+  pub count_stays : (t : Tracked) → length (statistics_of (set items z t)) ≡ length v.bands
+  count_stays t = omega (arith, statistics_count (set items z t), length-set items z t, statistics_count items, ap length same)
+
+-- all of them in a slice, and others in its place
+module _ (v : Counts) (items : List Tracked) (same : statistics_of items ≡ v.bands) (slice : List Tracked) (is : slice ≡ items) where
+  pub slice_holds : (n : ℕ) → n ≤ length v.bands → n ≤ length slice
+  slice_holds n le = omega (arith, le, ap length same, statistics_count items, ap length is)
+
+  module _ (len : ℕ) (new rest : List Tracked) (long : length new ≡ length slice) (full : length slice ≡ len) where
+    pub slice_is_new : take len (new ++ rest) ≡ new
+    slice_is_new = take_at new rest len (long ∙ full)
+
+    pub slice_tracked : (run : RunCodes) → AreTracked run new → AreTracked run (take len (new ++ rest))
+    slice_tracked run h = rw slice_is_new h
+
+    pub slice_count : length (statistics_of (take len (new ++ rest))) ≡ length v.bands
+    slice_count = rw slice_is_new (omega (arith, statistics_count new, statistics_count items, ap length same, long, ap length is))

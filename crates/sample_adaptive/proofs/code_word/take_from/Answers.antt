@@ -40,3 +40,9 @@ returns-in_err-number-2-clause-reads c =
     escape_refused c.args.reader.now.count c.args.place c.args.code c.args.reader.now.left c.args.word c.bits_behind.result c.requires.code c.ranges.word.fits
     c.requires.ahead c.if-zeros-code.false c.bits_behind.ensures c.in_err-number-2.ensures.needed.1 in
     search rules
+
+pub escaped-requires-clause-number : goal.escaped-requires-clause-number
+escaped-requires-clause-number c = search rules
+
+pub returns-in_ok-number-2-clause-below : goal.returns-in_ok-number-2-clause-below
+returns-in_ok-number-2-clause-below c = search rules

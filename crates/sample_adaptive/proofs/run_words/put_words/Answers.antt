@@ -1,5 +1,6 @@
 use Rattle.std.proofs.Common.{◌≡◌, ◌+◌, ◌<◌, ◌≤◌, ◌++◌, List, Bool, length, get_or, refl, sym, ap, ◌∙◌, arith}
 use Rattle.std.proofs.lemmas.List.{take_all}
+use Rattle.cube_core.proofs.Lists.{each_below}
 use Rattle.sample_adaptive.specs.Statistics.{code_parameter}
 use Rattle.sample_adaptive.specs.Words.{code_word}
 use Rattle.sample_adaptive.proofs.Running.{run_none, run_step, same_band, two_words}
@@ -55,3 +56,13 @@ returns-clause-taken c = λ v z t within settings own some.
     within some lt refl (rw (settings.umax_is, settings.bits_are) text) (rw settings.size_is c.word_within-last.ensures.next)
     (c.loop-i.invariant.run v z t within settings own some) in
     rw (take_all (c.loop-i.i + 1) numbers (omega (arith, c.loop-i-test.false))) at last
+
+pub word_within-first-requires-clause-number : goal.word_within-first-requires-clause-number
+word_within-first-requires-clause-number c = each_below _ c.args.run.numbers.now c.requires.numbers _ (omega (arith, c.loop-i-test.true))
+
+pub word_within-second-requires-clause-number : goal.word_within-second-requires-clause-number
+word_within-second-requires-clause-number c = each_below _ c.args.run.numbers.now c.requires.numbers _ (c.loop-i-test.true)
+
+pub word_within-last-requires-clause-number : goal.word_within-last-requires-clause-number
+word_within-last-requires-clause-number c =
+    each_below _ c.args.run.numbers.now c.requires.numbers _ (omega (arith, c.loop-i.invariant.within, c.if-i-numbers.false))

@@ -1,5 +1,6 @@
 use Rattle.std.proofs.Common.{◌≡◌, ◌+◌, ◌<◌, ◌++◌, List, Bool, ℕ, length, get_or, set, refl, ap, ◌∙◌, arith}
 use Rattle.std.proofs.lemmas.List.{length-set}
+use Rattle.cube_core.proofs.Lists.{each_below}
 use Rattle.sample_adaptive.specs.declared.tracked.Tracked.{Tracked}
 use Rattle.sample_adaptive.specs.Words.{code_word}
 use Rattle.sample_adaptive.specs.Taken.{Counts, code_by}
@@ -78,3 +79,12 @@ pub returns-clause-tracked : goal.returns-clause-tracked
 returns-clause-tracked c =
     let inside : c.args.z + c.loop-i.i < length c.loop-i.bands = omega arith in
     tracked_set _ _ (c.args.z + c.loop-i.i) _ inside c.next_word-last.ensures.tracked c.loop-i.invariant.tracked
+
+pub next_word-one-requires-clause-number : goal.next_word-one-requires-clause-number
+next_word-one-requires-clause-number c = each_below _ c.args.numbers.now c.requires.numbers _ (omega (arith, c.loop-i-test.true))
+
+pub next_word-two-requires-clause-number : goal.next_word-two-requires-clause-number
+next_word-two-requires-clause-number c = each_below _ c.args.numbers.now c.requires.numbers _ (c.loop-i-test.true)
+
+pub next_word-last-requires-clause-number : goal.next_word-last-requires-clause-number
+next_word-last-requires-clause-number c = each_below _ c.args.numbers.now c.requires.numbers _ (omega (arith, c.loop-i.invariant.within, c.if-i-numbers.false))

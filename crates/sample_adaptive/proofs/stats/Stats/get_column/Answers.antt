@@ -2,8 +2,32 @@ use Rattle.std.proofs.Common.{◌≡◌, length, ap, sym, ◌∙◌, arith}
 use Rattle.std.proofs.lemmas.List.{take_at}
 use Rattle.sample_adaptive.specs.Taken.{Counts}
 use Rattle.sample_adaptive.specs.Tracked.{statistics_of}
-use Rattle.sample_adaptive.proofs.Tracking.{settings_seen}
+use Rattle.sample_adaptive.proofs.Tracking.{settings_seen, bands_seen, slice_holds, slice_tracked, slice_count}
 use Rattle.sample_adaptive.proofs.stats.Stats.get_column.Goals as goal
+
+pub take_column-requires-clause-inside : goal.take_column-requires-clause-inside
+take_column-requires-clause-inside c =
+    slice_holds c.args.self.now _ (bands_seen c.self.view_is) c.deref_mut.result.now c.deref_mut.ensures.value _ c.requires.inside
+
+pub invariant_of-self : goal.invariant_of-self
+invariant_of-self c =
+    slice_tracked c.args.self.now _ (bands_seen c.self.view_is) c.deref_mut.result.now c.deref_mut.ensures.value
+    _ c.take_column.new.bands _ c.in-Ok.ensures.bands c.deref_mut.ensures.len _ c.in-Ok.ensures.tracked
+
+pub returns-in-Ok-clause-bands : goal.returns-in-Ok-clause-bands
+returns-in-Ok-clause-bands c =
+    let count = slice_count c.args.self.now _ (bands_seen c.self.view_is) c.deref_mut.result.now c.deref_mut.ensures.value _ c.take_column.new.bands _
+    c.in-Ok.ensures.bands c.deref_mut.ensures.len in (count, ap (λ (v : Counts). v.bits) c.self.view_is)
+
+pub invariant_of-self-in-Err : goal.invariant_of-self-in-Err
+invariant_of-self-in-Err c =
+    slice_tracked c.args.self.now _ (bands_seen c.self.view_is) c.deref_mut.result.now c.deref_mut.ensures.value
+    _ c.take_column.new.bands _ c.in-Err.ensures.bands c.deref_mut.ensures.len _ c.in-Err.ensures.tracked
+
+pub returns-in-Err-clause-bands : goal.returns-in-Err-clause-bands
+returns-in-Err-clause-bands c =
+    let count = slice_count c.args.self.now _ (bands_seen c.self.view_is) c.deref_mut.result.now c.deref_mut.ensures.value _ c.take_column.new.bands _
+    c.in-Err.ensures.bands c.deref_mut.ensures.len in (count, ap (λ (v : Counts). v.bits) c.self.view_is)
 
 pub returns-in-Ok-clause-taken : goal.returns-in-Ok-clause-taken
 returns-in-Ok-clause-taken c =

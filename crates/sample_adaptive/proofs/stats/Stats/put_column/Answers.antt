@@ -3,8 +3,25 @@ use Rattle.std.proofs.lemmas.List.{take_at}
 use Rattle.header_bits.specs.Bits.{Written}
 use Rattle.sample_adaptive.specs.Taken.{Counts}
 use Rattle.sample_adaptive.specs.Tracked.{statistics_of}
-use Rattle.sample_adaptive.proofs.Tracking.{settings_seen}
+use Rattle.sample_adaptive.proofs.Tracking.{settings_seen, bands_seen, slice_holds, slice_tracked, slice_count}
 use Rattle.sample_adaptive.proofs.stats.Stats.put_column.Goals as goal
+
+pub put_words_of-requires-clause-inside : goal.put_words_of-requires-clause-inside
+put_words_of-requires-clause-inside c =
+    slice_holds c.args.self.now _ (bands_seen c.self.view_is) c.deref_mut.result.now c.deref_mut.ensures.value _ c.requires.inside
+
+pub put_words_of-requires-clause-numbers : goal.put_words_of-requires-clause-numbers
+put_words_of-requires-clause-numbers c = rw (← c.self.view_is) at c.requires.numbers
+
+pub invariant_of-self : goal.invariant_of-self
+invariant_of-self c =
+    slice_tracked c.args.self.now _ (bands_seen c.self.view_is) c.deref_mut.result.now c.deref_mut.ensures.value
+    _ c.put_words_of.new.bands _ c.put_words_of.ensures.bands c.deref_mut.ensures.len _ c.put_words_of.ensures.tracked
+
+pub returns-clause-bands : goal.returns-clause-bands
+returns-clause-bands c =
+    let count = slice_count c.args.self.now _ (bands_seen c.self.view_is) c.deref_mut.result.now c.deref_mut.ensures.value _ c.put_words_of.new.bands _
+    c.put_words_of.ensures.bands c.deref_mut.ensures.len in (count, ap (λ (v : Counts). v.bits) c.self.view_is)
 
 pub returns-clause-taken : goal.returns-clause-taken
 returns-clause-taken c =

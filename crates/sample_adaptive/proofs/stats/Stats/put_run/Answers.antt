@@ -20,3 +20,6 @@ returns-in_default-clause-taken c =
 
 pub put_later-requires-in-Some-clause-room : goal.put_later-requires-in-Some-clause-room
 put_later-requires-in-Some-clause-room c = search rules
+
+pub put_later-requires-in-Some-clause-numbers : goal.put_later-requires-in-Some-clause-numbers
+put_later-requires-in-Some-clause-numbers c = (rw (← c.in-Ok.ensures.bands.1, c.in-Some.ensures.cases.0) at c.requires.numbers).1
