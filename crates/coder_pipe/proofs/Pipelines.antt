@@ -1,9 +1,10 @@
 -- What the parts of a run come to.
-use Rattle.std.proofs.Common.{◌≡◌, ◌<◌, ℕ, Bool, List, [], ◌∷◌, length, map, get_or, sym, ap, ◌∙◌, IsTrue, arith}
+use Rattle.std.proofs.Common.{◌≡◌, ◌<◌, ℕ, Bool, List, [], ◌∷◌, length, map, get_or, sym, ap, ◌∙◌, IsTrue, Vec, Global, vec_len, arith}
 use Rattle.std.specs.List.{All}
 use Rattle.std.proofs.Math.ListN.{drop_of_length-le}
 use Rattle.std.proofs.lemmas.List.{length-map, get_or-map}
 use Rattle.band_rings.specs.Lane.{Lane}
+use Rattle.cube_core.specs.declared.fault.Fault.{Fault}
 use Rattle.cube_core.specs.Shape.{sample_count}
 use Rattle.cube_core.specs.Order.{IsOrder, places}
 use Rattle.cube_core.proofs.Orders.{length-places}
@@ -13,7 +14,7 @@ use Rattle.file_coding.specs.File.{file_of_residuals}
 use Rattle.cube_predictors.specs.Plans.{Dealing, IsPlan}
 use Rattle.cube_predictors.specs.Weave.{owners, part, weave}
 use Rattle.cube_predictors.proofs.Weaves.{weave_is, part_share, owned, length-owners}
-use Rattle.coder_pipe.specs.Piping.{carried, AreFeeds, IsPiped, MayStop}
+use Rattle.coder_pipe.specs.Piping.{carried, AreFeeds, IsPiped, EndsEarly, MayStop}
 use Rattle.coder_pipe.specs.Standings.{feeds_of, handed_of, IsWoven}
 use Rattle.coder_pipe.specs.Stops.{MayStopAt}
 use Rattle.coder_pipe.specs.Woven.{Weaving, HasWoven}
@@ -31,6 +32,16 @@ one_gate may_stop gate items feeds now gates q n same all long at =
     let here : get_or gates q gate ≡ gate = all q gate (omega (arith, at.0)) in
     let stop : IsTrue (may_stop (get_or gates q gate) q n) = (at.1 f gate).0 in
     rw (← same) (at.0, rw here at stop, λ f. (at.1 f gate).1)
+
+-- as many workers as before, where the feeds are the same
+pub as_many : {F G : Type 0} (was now : Vec (Standing F G) Global) → feeds_of now.items ≡ feeds_of was.items → vec_len now ≡ vec_len was
+as_many was now same =
+    let feeds = ap (λ (fs : List _). length fs) same in
+    omega (arith, feeds, length-map now.items (λ s. s.feed), length-map was.items (λ s. s.feed), now.ok.0, was.ok.0)
+
+-- an early end whose cause is another's cause
+pub early : (e : Fault) (P Q : ℕ → ℕ → Type 0) → ((q n : ℕ) → P q n → Q q n) → EndsEarly e P → EndsEarly e Q
+early e P Q f h = grind arith
 
 -- a number was taken for each place
 whole_places : (p : Params) (deal numbers : List ℕ) → IsOrder p.shape p.order → length numbers ≡ sample_count p.shape → length numbers ≡ length (owners deal p)

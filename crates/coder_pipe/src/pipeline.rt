@@ -1,9 +1,11 @@
 //! The pipeline: predictors in threads of their own, and the coding end in the thread that calls.
 
-ghost use Rattle.std.specs.Prelude.{◌≡◌, ◌≤◌, [], length, map, IfOk, IfErr, IfSome, vec_len, vec_capacity};
-ghost use Rattle.cube_core.specs.Shape.{InRange};
+ghost use Rattle.std.specs.Prelude.{◌≡◌, ◌≤◌, [], length, map, All, IfOk, IfErr, IfSome, vec_len, vec_capacity};
+ghost use Rattle.cube_core.specs.Shape.{InRange, sample_count};
 ghost use Rattle.cube_core.specs.declared.fault.Fault.TheVariants.{WantOfMemory};
 ghost use Rattle.coder_pipe.specs.Piping.{AreFeeds, IsPiped, MayStop, EndsEarly};
+ghost use Rattle.coder_pipe.specs.Standings.{feeds_of, gates_of, handed_of, IsWoven};
+ghost use Rattle.coder_pipe.specs.Stops.{MayStopAt};
 ghost use Rattle.coder_pipe.specs.Woven.{HasWoven};
 
 use crate::run::{Woven, drain, finish_all, join_all, start_all, stop_all, weave};
@@ -161,11 +163,10 @@ fn run_in<'s, E, R: Threads + Wait + Sync + 's, F: Feed + Send + 's, G: Gate + S
     ensures piped { IfOk result (λ p. IsPiped F.items plan.now (map (λ r. r.feed) readies.items) p.file.items p.lanes.items) }
     ensures early { IfErr result (λ e. EndsEarly e (λ q n. MayStop G.may_stop gate.now F.items (map (λ r. r.feed) readies.items) q n)) }
 {
-    plan.prove_is_plan();
     let Room {
         stages,
         lanes,
-        mut weaver,
+        weaver,
     } = room;
     let (mut stages, all) = start_all(scope, rt, readies, stages, gate, overs);
     if !all {
@@ -173,12 +174,32 @@ fn run_in<'s, E, R: Threads + Wait + Sync + 's, F: Feed + Send + 's, G: Gate + S
         join_all(rt, stages);
         return Err(Fault::SpawnRefused);
     }
+    weave_all(rt, plan, stages, lanes, weaver, overs)
+}
+
+/// Weaves what all workers send, and joins them.
+fn weave_all<R: Threads + Wait, F: Feed, G: Gate>(
+    rt: &R,
+    plan: &Plan,
+    stages: Vec<Stage<F, G>>,
+    lanes: Vec<SettledLane>,
+    weaver: Weaver,
+    overs: &[AtomicBool],
+) -> Result<Piped, Fault>
+    requires many { vec_len stages ≡ plan.now.predictors }
+    requires overs { vec_len stages ≤ length overs.now }
+    requires room { vec_len stages ≤ vec_capacity lanes }
+    requires empty { (lanes.items ≡ []) × HasWoven plan.now.params plan.now.deal weaver [] }
+    requires fresh { All (λ r. r ≡ []) (handed_of stages.items) }
+    requires lists { AreFeeds F.predictor F.items plan.now (feeds_of stages.items) }
+    ensures piped { IfOk result (λ p. IsPiped F.items plan.now (feeds_of stages.items) p.file.items p.lanes.items) }
+    ensures early { IfErr result (λ e. EndsEarly e (λ q n. MayStopAt G.may_stop F.items (feeds_of stages.items) (gates_of stages.items) q n)) }
+{
+    plan.prove_is_plan();
+    let mut stages = stages;
+    let mut weaver = weaver;
     match weave(rt, plan, &mut stages, overs, &mut weaver) {
-        Woven::Whole => {
-            let lanes = finish_all(rt, stages, lanes);
-            let file = weaver.finish()?;
-            Ok(Piped { file, lanes })
-        }
+        Woven::Whole => finish_woven(rt, plan, stages, lanes, weaver),
         Woven::Stopped(q, n) => {
             drain(rt, &mut stages, overs);
             match stop_all(rt, stages) {
@@ -195,4 +216,25 @@ fn run_in<'s, E, R: Threads + Wait + Sync + 's, F: Feed + Send + 's, G: Gate + S
             Err(Fault::WantOfMemory)
         }
     }
+}
+
+/// Joins all workers, once a residual was taken for each place, and returns the file and their lanes.
+fn finish_woven<R: Threads, F: Feed, G: Gate>(
+    rt: &R,
+    plan: &Plan,
+    stages: Vec<Stage<F, G>>,
+    lanes: Vec<SettledLane>,
+    weaver: Weaver,
+) -> Result<Piped, Fault>
+    requires room { vec_len stages ≤ vec_capacity lanes }
+    requires empty { lanes.items ≡ [] }
+    requires lists { AreFeeds F.predictor F.items plan.now (feeds_of stages.items) }
+    requires woven { IsWoven plan.now.params plan.now.deal weaver (handed_of stages.items) (sample_count plan.now.params.shape) }
+    ensures piped { IfOk result (λ p. IsPiped F.items plan.now (feeds_of stages.items) p.file.items p.lanes.items) }
+    ensures refused { IfErr result (λ e. e ≡ WantOfMemory) }
+{
+    plan.prove_is_plan();
+    let lanes = finish_all(rt, stages, lanes);
+    let file = weaver.finish()?;
+    Ok(Piped { file, lanes })
 }

@@ -1,16 +1,13 @@
-use Rattle.std.proofs.Common.{◌≡◌, ℕ, sym, subst, arith}
-use Rattle.cube_core.specs.declared.fault.Fault.{Fault}
+use Rattle.std.proofs.Common.{◌≡◌, ℕ, sym, subst}
 use Rattle.std.proofs.lemmas.Result.{IfOk-weaker, IfErr-weaker}
 use Rattle.predict_core.specs.Cubes.{IsCubeOf}
 use Rattle.cube_predictors.specs.Sends.{Predicting, part_of}
-use Rattle.coder_pipe.specs.Piping.{AreFeeds, EndsEarly, MayStop, MayStopPart}
+use Rattle.coder_pipe.specs.Piping.{AreFeeds, MayStop, MayStopPart}
+use Rattle.coder_pipe.proofs.Pipelines.{early}
 use Rattle.coder_pipe.proofs.Predicted.{feeds_from, are_feeds, is_file_of, may_stop_part}
 use Rattle.coder_pipe.proofs.encode_predicted.encode_predicted.Goals as goal
 use Rattle.coder_pipe.proofs.encode_predicted.encode_predicted.Goals.{After-params}
 use Rattle.coder_pipe.proofs.encode_predicted.encode_predicted.Given.{Over}
-
-early : (e : Fault) (P Q : ℕ → ℕ → Type 0) → ((q n : ℕ) → P q n → Q q n) → EndsEarly e P → EndsEarly e Q
-early e P Q f h = grind arith
 
 module _ (g : Over) (c : After-params g) where
   cube_of : IsCubeOf c.args.plan.now.params c.args.cube.now

@@ -1,6 +1,6 @@
-use Rattle.std.proofs.Common.{◌≡◌, ◌+◌, ◌∷◌, [], ◌++◌, ◌<◌, ◌≤◌, length, take, get_or, length-append, length-take, length-set, arith, ap, sym, ◌∙◌, Some, ℕ}
+use Rattle.std.proofs.Common.{◌≡◌, ◌+◌, ◌∷◌, [], ◌++◌, ◌<◌, ◌≤◌, length, take, get_or, length-append, length-take, arith, ap, sym, ◌∙◌, Some, ℕ}
 use Rattle.std.specs.List.{slice_get}
-use Rattle.std.proofs.lemmas.List.{length-map, take_more_set}
+use Rattle.std.proofs.lemmas.List.{length-map, length-set, take_more_set}
 use Rattle.std.proofs.lemmas.List.Elements.{All-push}
 use Rattle.std.proofs.lemmas.Option.{slice_get-get_or}
 use Rattle.cube_predictors.specs.Weave.{owners}
@@ -65,9 +65,8 @@ loop-i-preserved g c =
     let was = c.loop-i.invariant in
     let room : c.loop-i.i < length c.loop-i.run = omega (arith, c.loop-i-test.true, was.long, c.wanted_column-owners.ensures.most) in
     let cut = take_more_set c.loop-i.run c.loop-i.i c.in-Ok.number room in
-    let ahead =
-    ahead_more _ _ _ _ (handed_of c.next_one_of.new.stages.items) _ c.from-owner.result (take c.loop-i.i c.loop-i.run) (c.in-Ok.number ∷ []) was.ahead
-    (λ j lt. rw (first_only _ j lt) (sym (next g d))) (handed_within g d) c.in-Ok.ensures.ok in
+    let ahead = ahead_more _ _ _ _ (handed_of c.next_one_of.new.stages.items) _ c.from-owner.result (take c.loop-i.i c.loop-i.run) (c.in-Ok.number ∷ [])
+    was.ahead (λ j lt. rw (first_only _ j lt) (sym (next g d))) (handed_within g d) c.in-Ok.ensures.ok in
     let range = All-push (λ n. n ≤ c.greatest-most.result) (take c.loop-i.i c.loop-i.run) c.in-Ok.number was.range c.in-Ok.ensures.most in
     record {
       feeds = c.in-Ok.ensures.feeds ∙ was.feeds;
@@ -77,6 +76,11 @@ loop-i-preserved g c =
       ahead = rw cut ahead;
       range = rw cut range;
     }
+
+pub returns-clause-ahead : goal.returns-clause-ahead
+returns-clause-ahead g c =
+    let all : c.loop-i.i ≡ length c.wanted_column-owners.result.now = omega (arith, c.loop-i-test.false, c.loop-i.auto.i-end) in
+    rw all at c.loop-i.invariant.ahead
 
 pub returns-clause-within : goal.returns-clause-within
 returns-clause-within g c =
@@ -89,9 +93,7 @@ returns-clause-may g c =
     let all : c.loop-i.i ≡ length c.wanted_column-owners.result.now = omega (arith, c.loop-i-test.false, c.loop-i.auto.i-end) in
     let most = rw c.params.ensures at c.greatest-most.ensures in
     let from = c.wanted_column-owners.ensures.owned _ _ _ was.ahead.woven in
-    let few =
-    owners_fit c.args.plan.now.params c.args.plan.now.deal _ c.wanted_column-owners.result.now c.prove_is_plan.ensures.lawful.order
+    let few = owners_fit c.args.plan.now.params c.args.plan.now.deal _ c.wanted_column-owners.result.now c.prove_is_plan.ensures.lawful.order
     (omega (arith, was.ahead.long, c.requires.more)) from in
-    may_take _ _ _ was.ahead.numbers
-    (take (length c.wanted_column-owners.result.now) c.loop-i.run) c.greatest-most.result was.ahead.woven c.prove_is_plan.ensures.lawful
-    (omega (arith, few, length-take (length c.wanted_column-owners.result.now) c.loop-i.run)) most (rw all at was.range)
+    may_take _ _ _ was.ahead.numbers (take (length c.wanted_column-owners.result.now) c.loop-i.run) c.greatest-most.result was.ahead.woven
+    c.prove_is_plan.ensures.lawful (omega (arith, few, length-take (length c.wanted_column-owners.result.now) c.loop-i.run)) most (rw all at was.range)

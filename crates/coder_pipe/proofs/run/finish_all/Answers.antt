@@ -26,3 +26,15 @@ loop-stage-preserved g c =
       lanes = rw (more, c.push_reserved.ensures.items) (copy_step (map (λ f. carried (items f)) (feeds_of xs)) _ n c.finish.result was.lanes
           (rw (length-map, length-map) h.below) one);
     }
+
+pub finish-requires : goal.finish-requires
+finish-requires g c =
+    let was = c.loop-stage.invariant in let n = vec_len c.loop-stage.lanes in
+    let h = drop_head c.args.stages.items _ n c.in-Some.stage (sym was.left ∙ c.in-Some.ensures.steps.0) in
+    rw (h.here c.in-Some.stage) at (c.requires.whole n c.in-Some.stage h.below)
+
+pub push_reserved-requires : goal.push_reserved-requires
+push_reserved-requires g c =
+    let was = c.loop-stage.invariant in let n = vec_len c.loop-stage.lanes in
+    let h = drop_head c.args.stages.items _ n c.in-Some.stage (sym was.left ∙ c.in-Some.ensures.steps.0) in
+    omega (arith, h.below, was.room, c.requires.room, c.args.stages.ok.0)

@@ -25,3 +25,9 @@ returns-clause-owned c = λ p deal numbers h.
     (column_owned _ c.in-Some.place c.min-count.result
     (λ i lt. c.column.ensures.along i c.in-Some.place (omega (arith, lt, c.min-count.ensures)) (sym c.in-Some.ensures)) few p deal numbers
     (rw (← c.self.view_is) at h))
+
+pub returns-clause-some : goal.returns-clause-some
+returns-clause-some c = λ more.
+    let few = fits (goal.at.returns-clause-some c).After-deref-2 in
+    let one = c.column.ensures.some c.in-Some.place (sym c.in-Some.ensures) in
+    omega (arith, few, one, c.min-count.ensures, c.requires)
