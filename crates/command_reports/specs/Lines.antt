@@ -37,26 +37,32 @@ abbrev pub constant_text : CountStart → List ℕ
 constant_text (Constant k) = decimal k
 constant_text (Each values) = codes "table"
 
-unfoldable pub image_lines : Params → List ℕ
-image_lines p =
+unfoldable pub size_lines : Params → List ℕ
+size_lines p =
     line (codes "user") (decimal p.user)
     ++ line (codes "columns") (decimal p.shape.columns)
     ++ line (codes "rows") (decimal p.shape.rows)
     ++ line (codes "bands") (decimal p.shape.bands)
-    ++ line (codes "sample") (choice p.kind.signed (codes "signed") (codes "unsigned"))
+
+unfoldable pub sample_lines : Params → List ℕ
+sample_lines p =
+    line (codes "sample") (choice p.kind.signed (codes "signed") (codes "unsigned"))
     ++ line (codes "bits") (decimal p.kind.bits)
     ++ line (codes "order") (order_text p.order)
     ++ line (codes "word") (decimal p.word)
     ++ line (codes "coder") (coder_text p.coder)
 
-unfoldable pub predictor_lines : Params → List ℕ
-predictor_lines p =
+unfoldable pub prediction_lines : Params → List ℕ
+prediction_lines p =
     line (codes "previous") (decimal p.previous)
     ++ line (codes "mode") (choice p.reduced (codes "reduced") (codes "full"))
     ++ line (codes "sums") (choice p.column (codes "column") (codes "neighbour"))
     ++ line (codes "register") (decimal p.register)
     ++ line (codes "omega") (decimal p.omega)
-    ++ line (codes "interval") (decimal (2 ^ p.interval_log))
+
+unfoldable pub weight_lines : Params → List ℕ
+weight_lines p =
+    line (codes "interval") (decimal (2 ^ p.interval_log))
     ++ line (codes "vmin") (signed_decimal p.vmin)
     ++ line (codes "vmax") (signed_decimal p.vmax)
     ++ line (codes "start") (start_text p.start)
@@ -72,6 +78,12 @@ coder_lines (Block size restricted reference) =
     ++ line (codes "restricted") (choice restricted (codes "yes") (codes "no"))
     ++ line (codes "reference") (decimal reference)
 
--- the lines of a header with these parameters and so many bytes
+-- the lines of a header with these parameters and so many bytes: image, predictor, coder, length
 unfoldable pub header_lines : Params → ℕ → List ℕ
-header_lines p size = image_lines p ++ predictor_lines p ++ coder_lines p.coder ++ line (codes "header") (decimal size)
+header_lines p size =
+    size_lines p
+    ++ sample_lines p
+    ++ prediction_lines p
+    ++ weight_lines p
+    ++ coder_lines p.coder
+    ++ line (codes "header") (decimal size)

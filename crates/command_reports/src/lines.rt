@@ -4,7 +4,9 @@ ghost use Rattle.std.specs.Prelude.{◌≡◌, ◌++◌, ◌≤◌, ◌^◌, ℕ
 ghost use Rattle.std.specs.Fmt.{signed_decimal};
 ghost use Rattle.cube_core.specs.declared.fault.Fault.TheVariants.{WantOfMemory};
 ghost use Rattle.header_bits.specs.Lawful.{IsLawful};
-ghost use Rattle.command_reports.specs.Lines.{line, choice, coder_text, order_text, start_text, constant_text, image_lines, predictor_lines, coder_lines};
+ghost use Rattle.header_bits.specs.declared.params.Coder.TheVariants.{Sample, Block};
+ghost use Rattle.command_reports.specs.Lines.{line, choice, coder_text, order_text, start_text, constant_text};
+ghost use Rattle.command_reports.specs.Lines.{size_lines, sample_lines, prediction_lines, weight_lines, coder_lines};
 ghost use Rattle.command_reports.specs.Lines.{header_lines as lines_of};
 
 use cube_core::fault::Fault;
@@ -23,22 +25,31 @@ pub fn header_lines(alloc: Global, params: &Params, size: usize) -> Result<Vec<u
     ensures refused { IfErr result (λ e. e ≡ WantOfMemory) }
 {
     let mut text = String::new(alloc);
-    put_image(alloc, &mut text, params)?;
-    put_predictor(alloc, &mut text, params)?;
+    put_sizes(alloc, &mut text, params)?;
+    put_samples(alloc, &mut text, params)?;
+    put_prediction(alloc, &mut text, params)?;
+    put_weights(alloc, &mut text, params)?;
     put_coder(alloc, &mut text, &params.coder)?;
     put_line(alloc, &mut text, "header", size)?;
     Ok(text.into_bytes())
 }
 
-/// Appends the lines of the image part.
-fn put_image(alloc: Global, text: &mut String, params: &Params) -> Result<(), Fault>
-    ensures lines { OnOk result (string_bytes text.new ≡ string_bytes text.old ++ image_lines params.now) }
+/// Appends the lines of the image's user number and sizes.
+fn put_sizes(alloc: Global, text: &mut String, params: &Params) -> Result<(), Fault>
+    ensures lines { OnOk result (string_bytes text.new ≡ string_bytes text.old ++ size_lines params.now) }
     ensures refused { IfErr result (λ e. e ≡ WantOfMemory) }
 {
     put_number(alloc, text, fields::USER, params.user)?;
     put_number(alloc, text, fields::COLUMNS, params.shape.columns())?;
     put_number(alloc, text, fields::ROWS, params.shape.rows())?;
-    put_number(alloc, text, fields::BANDS, params.shape.bands())?;
+    put_number(alloc, text, fields::BANDS, params.shape.bands())
+}
+
+/// Appends the lines of what the image's samples are, and how they are ordered and coded.
+fn put_samples(alloc: Global, text: &mut String, params: &Params) -> Result<(), Fault>
+    ensures lines { OnOk result (string_bytes text.new ≡ string_bytes text.old ++ sample_lines params.now) }
+    ensures refused { IfErr result (λ e. e ≡ WantOfMemory) }
+{
     put_flag(alloc, text, fields::SIGNED, params.kind.is_signed())?;
     put_number(alloc, text, fields::DYNAMIC_RANGE, params.kind.bits())?;
     put_line(
@@ -48,22 +59,27 @@ fn put_image(alloc: Global, text: &mut String, params: &Params) -> Result<(), Fa
         order_text(alloc, params.order)?,
     )?;
     put_number(alloc, text, fields::WORD_SIZE, params.word)?;
-    put_line(alloc, text, fields::CODER.name, coder_text(&params.coder))?;
-    Ok(())
+    put_line(alloc, text, fields::CODER.name, coder_text(&params.coder))
 }
 
-/// Appends the lines of the predictor part.
-fn put_predictor(alloc: Global, text: &mut String, params: &Params) -> Result<(), Fault>
-    requires { IsLawful params.now }
-    ensures lines { OnOk result (string_bytes text.new ≡ string_bytes text.old ++ predictor_lines params.now) }
+/// Appends the lines of how a sample is predicted.
+fn put_prediction(alloc: Global, text: &mut String, params: &Params) -> Result<(), Fault>
+    ensures lines { OnOk result (string_bytes text.new ≡ string_bytes text.old ++ prediction_lines params.now) }
     ensures refused { IfErr result (λ e. e ≡ WantOfMemory) }
 {
-    let start = start_text(alloc, &params.start)?;
     put_number(alloc, text, fields::PREVIOUS, params.previous)?;
     put_flag(alloc, text, fields::MODE, params.reduced)?;
     put_flag(alloc, text, fields::SUMS, params.column)?;
     put_number(alloc, text, fields::REGISTER, params.register)?;
-    put_number(alloc, text, fields::OMEGA, params.omega)?;
+    put_number(alloc, text, fields::OMEGA, params.omega)
+}
+
+/// Appends the lines of how the weights change, and of their start.
+fn put_weights(alloc: Global, text: &mut String, params: &Params) -> Result<(), Fault>
+    requires { IsLawful params.now }
+    ensures lines { OnOk result (string_bytes text.new ≡ string_bytes text.old ++ weight_lines params.now) }
+    ensures refused { IfErr result (λ e. e ≡ WantOfMemory) }
+{
     put_number(alloc, text, fields::INTERVAL, interval(params.interval_log))?;
     put_line(
         alloc,
@@ -77,8 +93,12 @@ fn put_predictor(alloc: Global, text: &mut String, params: &Params) -> Result<()
         fields::VMAX.name,
         signed_text(alloc, params.vmax)?,
     )?;
-    put_line(alloc, text, fields::WEIGHT_START.name, start)?;
-    Ok(())
+    put_line(
+        alloc,
+        text,
+        fields::WEIGHT_START.name,
+        start_text(alloc, &params.start)?,
+    )
 }
 
 /// Appends the lines of the coder part.
@@ -92,28 +112,52 @@ fn put_coder(alloc: Global, text: &mut String, coder: &Coder) -> Result<(), Faul
             gamma_star,
             gamma_zero,
             start,
-        } => {
-            put_number(alloc, text, fields::UMAX, *umax)?;
-            put_number(alloc, text, fields::GAMMA_STAR, *gamma_star)?;
-            put_number(alloc, text, fields::GAMMA_ZERO, *gamma_zero)?;
-            put_line(
-                alloc,
-                text,
-                fields::CONSTANT.name,
-                constant_text(alloc, start)?,
-            )?;
-        }
+        } => put_sample_coder(alloc, text, *umax, *gamma_star, *gamma_zero, start),
         Coder::Block {
             size,
             restricted,
             reference,
-        } => {
-            put_number(alloc, text, fields::BLOCK_SIZE, *size)?;
-            put_flag(alloc, text, fields::RESTRICTED, *restricted)?;
-            put_number(alloc, text, fields::REFERENCE, *reference)?;
-        }
+        } => put_block_coder(alloc, text, *size, *restricted, *reference),
     }
-    Ok(())
+}
+
+/// Appends the lines of the sample-adaptive coder.
+fn put_sample_coder(
+    alloc: Global,
+    text: &mut String,
+    umax: u32,
+    gamma_star: u32,
+    gamma_zero: u32,
+    start: &CountStart,
+) -> Result<(), Fault>
+    ensures lines { OnOk result (string_bytes text.new ≡ string_bytes text.old ++ coder_lines (Sample umax gamma_star gamma_zero start.now)) }
+    ensures refused { IfErr result (λ e. e ≡ WantOfMemory) }
+{
+    put_number(alloc, text, fields::UMAX, umax)?;
+    put_number(alloc, text, fields::GAMMA_STAR, gamma_star)?;
+    put_number(alloc, text, fields::GAMMA_ZERO, gamma_zero)?;
+    put_line(
+        alloc,
+        text,
+        fields::CONSTANT.name,
+        constant_text(alloc, start)?,
+    )
+}
+
+/// Appends the lines of the block-adaptive coder.
+fn put_block_coder(
+    alloc: Global,
+    text: &mut String,
+    size: u32,
+    restricted: bool,
+    reference: u32,
+) -> Result<(), Fault>
+    ensures lines { OnOk result (string_bytes text.new ≡ string_bytes text.old ++ coder_lines (Block size restricted reference)) }
+    ensures refused { IfErr result (λ e. e ≡ WantOfMemory) }
+{
+    put_number(alloc, text, fields::BLOCK_SIZE, size)?;
+    put_flag(alloc, text, fields::RESTRICTED, restricted)?;
+    put_number(alloc, text, fields::REFERENCE, reference)
 }
 
 /// Appends the line of a number.

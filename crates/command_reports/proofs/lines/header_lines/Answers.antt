@@ -7,5 +7,13 @@ unfolding lines_of
 returns-clause-lines c =
     let header = c.in_ok-put_line.ensures.line (decimal c.args.size) refl in
     rw c.into_bytes.ensures.value
-    (rw (header, c.in_ok-put_coder.ensures.lines, c.in_ok-put_predictor.ensures.lines, c.in_ok-put_image.ensures.lines, c.new-text.ensures.bytes)
+    (rw (
+      header,
+      c.in_ok-put_coder.ensures.lines,
+      c.in_ok-put_weights.ensures.lines,
+      c.in_ok-put_prediction.ensures.lines,
+      c.in_ok-put_samples.ensures.lines,
+      c.in_ok-put_sizes.ensures.lines,
+      c.new-text.ensures.bytes,
+    )
     (simp append_assoc))
