@@ -1,4 +1,4 @@
-use Rattle.std.proofs.Common.{◌⊎◌, Result, Ok, Err, IfErr, inr}
+use Rattle.std.proofs.Common.{◌⊎◌, Result, Ok, Err, IfErr, inr, rules}
 use Rattle.ccsds.proofs.run_words.Goals as goal
 
 -- what is refused by these settings is refused by some that were asked for
@@ -9,3 +9,9 @@ refused_by (Err e) Before Between Asked Refused s asked h = inr (inr (s, asked, 
 
 pub returns-clause-refused : goal.returns-clause-refused
 returns-clause-refused g c = refused_by c.run_command.result _ _ _ _ c.in_ok-settings.settings c.in_ok-settings.ensures.asked c.run_command.ensures.refused
+
+pub returns-clause-ran : goal.returns-clause-ran
+returns-clause-ran g c = search rules
+
+pub returns-in_err-settings-clause-refused : goal.returns-in_err-settings-clause-refused
+returns-in_err-settings-clause-refused g c = search rules

@@ -1,8 +1,12 @@
-use Rattle.std.proofs.Common.{◌≡◌, ◌≢◌, ◌⊎◌, ℕ, Result, Ok, Err, IfErr, OnOk, inl, inr, sym, ap, ◌∙◌}
+use Rattle.std.proofs.Common.{◌≡◌, ◌≢◌, ◌⊎◌, ℕ, Result, Ok, Err, IfErr, OnOk, inl, inr, sym, ap, ◌∙◌, refl}
 use Rattle.cube_core.specs.declared.fault.Fault.{Fault}
 use Rattle.command_settings.specs.declared.settings.Settings.{Settings}
 use Rattle.command_settings.specs.declared.settings.Settings.TheVariants.{Show, Compress, Expand, Inspect}
+use Rattle.header_bits.specs.Lawful.{params_fault}
+use Rattle.ccsds_command.specs.Compress.{Compresses}
+use Rattle.ccsds_command.specs.Expand.{Expands, IsExpandFault}
 use Rattle.ccsds_command.specs.Piped.{IsPipedFault}
+use Rattle.ccsds_command.proofs.Runs.{given}
 use Rattle.ccsds_command.proofs.command.run_between.Goals as goal
 
 -- a refusal with no predictors, and one with some
@@ -22,7 +26,9 @@ predictors (Expand layout from to) = 0
 predictors Inspect = 0
 
 pub returns-in-Compress-clause-done : goal.returns-in-Compress-clause-done
-returns-in-Compress-clause-done g c = rw c.in-Compress.is c.run_compress.ensures.compressed
+returns-in-Compress-clause-done g c =
+    rw c.in-Compress.is (given (λ s. OnOk c.run_compress.result (Compresses s (g.S.Source.left c.args.source.now) (g.K.Sink.taken c.args.sink.now)
+    (g.K.Sink.taken c.run_compress.new.sink))) c.in-Compress.settings _ c.run_compress.ensures.compressed refl)
 
 pub returns-in-Compress-clause-refused : goal.returns-in-Compress-clause-refused
 returns-in-Compress-clause-refused g c = rw c.in-Compress.is (with_none _ _ _ c.run_compress.result c.if-settings-eq0.true c.run_compress.ensures.refused)
@@ -36,7 +42,9 @@ returns-in-Compress-2-clause-refused g c = rw c.in-Compress-2.is
     (with_some _ _ _ _ c.run_piped.result (ap predictors (sym c.in-Compress.is ∙ c.in-Compress-2.is)) c.if-settings-eq0.false c.run_piped.ensures.refused)
 
 pub returns-in-Expand-clause-done : goal.returns-in-Expand-clause-done
-returns-in-Expand-clause-done g c = rw c.in-Expand.is c.run_expand.ensures.expanded
+returns-in-Expand-clause-done g c =
+    rw c.in-Expand.is (given (λ l. OnOk c.run_expand.result (Expands l (g.S.Source.left c.args.source.now) (g.K.Sink.taken c.args.sink.now)
+    (g.K.Sink.taken c.run_expand.new.sink))) c.in-Expand.layout _ c.run_expand.ensures.expanded refl)
 
 -- what holds whatever the answer
 in_any : {U : Type 0} {P : Type 0} (r : Result U Fault) → P → OnOk r P
@@ -54,3 +62,14 @@ returns-in-Expand-clause-planned g c = rw c.in-Expand.is (in_any c.run_expand.re
 
 pub returns-in-Inspect-clause-planned : goal.returns-in-Inspect-clause-planned
 returns-in-Inspect-clause-planned g c = rw c.in-Inspect.is (in_any c.run_inspect.result tt)
+
+pub returns-in-Compress-clause-checked : goal.returns-in-Compress-clause-checked
+returns-in-Compress-clause-checked g c =
+    rw c.in-Compress.is (λ p fault same refuses. c.run_compress.ensures.checked fault (given (λ q. params_fault q ≡ Err fault) _ _ refuses cc))
+
+pub returns-in-Expand-clause-refused : goal.returns-in-Expand-clause-refused
+returns-in-Expand-clause-refused g c =
+    rw c.in-Expand.is (given (λ l. IfErr c.run_expand.result (IsExpandFault l (g.S.Source.left c.args.source.now) (g.S.Source.failures c.args.source.now)
+    (g.S.Source.failures c.run_expand.new.source) (g.K.Sink.taken c.args.sink.now) (g.K.Sink.taken c.run_expand.new.sink)
+    (g.K.Sink.failures c.args.sink.now) (g.K.Sink.failures c.run_expand.new.sink) (g.K.Sink.stalls c.args.sink.now)
+    (g.K.Sink.stalls c.run_expand.new.sink))) c.in-Expand.layout _ c.run_expand.ensures.refused refl)

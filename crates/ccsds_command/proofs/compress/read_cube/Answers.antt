@@ -7,3 +7,6 @@ returns-clause-cube g c = search rules
 
 pub returns-clause-refused : goal.returns-clause-refused
 returns-clause-refused g c = grind (arith, common_steps)
+
+pub returns-in_err-raw-clause-told : goal.returns-in_err-raw-clause-told
+returns-in_err-raw-clause-told g c = search rules

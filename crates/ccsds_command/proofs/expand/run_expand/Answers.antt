@@ -1,5 +1,5 @@
 use Rattle.std.proofs.Common.{inl, refl}
-use Rattle.std.proofs.lemmas.Result.{err_from_is_err_and}
+use Rattle.std.proofs.lemmas.Result.{err_from_is_err_and, on_ok_weaker}
 use Rattle.command_devices.specs.Devices.{Took}
 use Rattle.ccsds_command.specs.Expand.{HasRaw, Expands, IsExpandFault}
 use Rattle.command_devices.specs.Writing.{IsCutShort}
@@ -25,3 +25,6 @@ unfolding IsExpandFault
 returns-in_err-raw-clause-refused g c =
     let p = err_from_is_err_and c.from_residual.result c.from_residual.ensures.1 in
     rw (p.1, p.2) (inl (c.in_err-raw.ensures.refused, refl))
+
+pub returns-clause-worked : goal.returns-clause-worked
+returns-clause-worked g c = on_ok_weaker c.write_all.result (λ h. (c.in_ok-raw.ensures.worked, h.0, h.1)) c.write_all.ensures.worked

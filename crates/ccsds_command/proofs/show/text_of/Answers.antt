@@ -1,4 +1,4 @@
-use Rattle.std.proofs.Common.{◌≡◌, ◌∙◌, Result, Ok, Err, sym, inl, inr, ap, arith, subst}
+use Rattle.std.proofs.Common.{◌≡◌, ◌∙◌, Result, Ok, Err, sym, inl, inr, ap, arith, subst, rules}
 use Rattle.cube_core.specs.declared.fault.Fault.{Fault}
 use Rattle.cube_core.specs.Kind.{SampleKind}
 use Rattle.ccsds_command.specs.Show.{shown_kind, shown_layout}
@@ -17,3 +17,6 @@ returns-in-Err-clause-refused c =
       | inr (inr h) ↦ absurd (bytes_are_samples c.args.raw.now c.in-Err.fault (λ i. omega (arith, c.type_inv.raw i)) (subst (λ (k : SampleKind).
           IsBadSample k shown_layout c.args.raw.now c.in-Err.fault) (eight c.unwrap-kind.result (sym c.unwrap-kind.ensures ∙ c.new.ensures.value)) h))
     ]
+
+pub returns-clause-text : goal.returns-clause-text
+returns-clause-text c = search rules

@@ -15,3 +15,6 @@ returns-in_err-number-clause-refused c =
 
 pub returns-clause-read : goal.returns-clause-read
 returns-clause-read c = search rules
+
+pub returns-then-not-is_block_size-clause-refused : goal.returns-then-not-is_block_size-clause-refused
+returns-then-not-is_block_size-clause-refused c = search rules

@@ -1,3 +1,4 @@
+use Rattle.std.proofs.Common.{rules}
 use Rattle.command_words.proofs.Refused.{passed}
 use Rattle.command_words.proofs.words.shape.Goals as goal
 
@@ -12,3 +13,6 @@ returns-in_err-rows-clause-refused c = passed _ _ _ c.from_residual-in_err-rows.
 pub returns-in_err-bands-clause-refused : goal.returns-in_err-bands-clause-refused
 returns-in_err-bands-clause-refused c = passed _ _ _ c.from_residual-in_err-bands.ensures.1
     (c.in_err-bands.ensures.refused.0, λ s of ranges. c.in_err-bands.ensures.refused.1 s.bands of.bands ranges.bands)
+
+pub returns-clause-read : goal.returns-clause-read
+returns-clause-read c = search rules
