@@ -28,13 +28,21 @@ use std::alloc::{AllocError, Global};
 pub fn measure(report: &Report) -> Result<()> {
     let shape = report.shape()?;
     let numbers = residuals(report.alloc(), shape.sample_count())?;
-    let kind = Kind::new(false, 12)?;
-    coded(report, "8", &params(shape, kind, 8, false), &numbers)?;
-    coded(report, "16", &params(shape, kind, 16, false), &numbers)?;
-    coded(report, "32", &params(shape, kind, 32, false), &numbers)?;
-    coded(report, "64", &params(shape, kind, 64, false), &numbers)?;
+    of_size(report, "8", shape, 8, &numbers)?;
+    of_size(report, "16", shape, 16, &numbers)?;
+    of_size(report, "32", shape, 32, &numbers)?;
+    of_size(report, "64", shape, 64, &numbers)?;
     restricted(report, "restricted_4", shape, 4, &numbers)?;
     restricted(report, "restricted_2", shape, 2, &numbers)
+}
+
+/// Measures blocks of this size, by numbers of twelve bits.
+fn of_size(report: &Report, name: &str, shape: Shape, size: u32, numbers: &[u16]) -> Result<()>
+    requires size { IsSize size }
+    requires count { length numbers.now ≡ sample_count shape }
+{
+    let kind = Kind::new(false, 12)?;
+    coded(report, name, &params(shape, kind, size, false), numbers)
 }
 
 /// Measures the restricted set of code options, by the low bits of numbers.

@@ -95,22 +95,36 @@ pub fn measure(report: &Report) -> Result<()> {
 
 /// Measures `from_raw` and `to_raw` of a layout.
 fn raw(report: &Report, order_name: &str, order: RawOrder, format: Format) -> Result<()> {
+    let format_name = format.name();
+    let name = format!(in report.alloc(); "{order_name}_{format_name}")?;
+    let cube = from_raw(report, name.as_str(), order, format)?;
+    to_raw(report, name.as_str(), format.layout(order), &cube)
+}
+
+/// Measures `from_raw`, and returns the cube.
+fn from_raw(report: &Report, name: &str, order: RawOrder, format: Format) -> Result<Cube> {
     let shape = report.shape()?;
     let count = shape.sample_count();
     let kind = Kind::new(false, format.bits())?;
-    let layout = format.layout(order);
-    let format_name = format.name();
     let bytes = raw_bytes(report.alloc(), format, count)?;
     let start = report.start()?;
-    let cube = Cube::from_raw(report.alloc(), shape, kind, layout, &bytes)?;
+    let cube = Cube::from_raw(report.alloc(), shape, kind, format.layout(order), &bytes)?;
     let time = report.since(start)?;
-    let name = format!(in report.alloc(); "from_raw_{order_name}_{format_name}")?;
-    report.line(name.as_str(), count, time, sum_of_cube(&cube))?;
+    let line = format!(in report.alloc(); "from_raw_{name}")?;
+    report.line(line.as_str(), count, time, sum_of_cube(&cube))?;
+    Ok(cube)
+}
+
+/// Measures `to_raw`.
+fn to_raw(report: &Report, name: &str, layout: Layout, cube: &Cube) -> Result<()>
+    requires { IsLayout layout }
+{
+    let count = cube.shape().sample_count();
     let start = report.start()?;
-    let again = cube.to_raw(report.alloc(), layout)?;
+    let bytes = cube.to_raw(report.alloc(), layout)?;
     let time = report.since(start)?;
-    let name = format!(in report.alloc(); "to_raw_{order_name}_{format_name}")?;
-    report.line(name.as_str(), count, time, sum_of_bytes(&again))
+    let line = format!(in report.alloc(); "to_raw_{name}")?;
+    report.line(line.as_str(), count, time, sum_of_bytes(&bytes))
 }
 
 /// Measures a walk over all places.
