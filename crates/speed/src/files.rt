@@ -10,6 +10,7 @@ use crate::synthetic::sum_of_bytes;
 use anyhow::Result;
 use coder_pipe::decode::decode;
 use coder_pipe::encode::encode_one;
+use cube_core::order::Order;
 use header_bits::params::{Coder, Params};
 
 /// The longest file that can be decoded.
@@ -19,25 +20,28 @@ const MOST_BYTES: usize = 1 << 60;
 pub fn measure(report: &Report) -> Result<()> {
     let shape = report.shape()?;
     for (name, order) in orders(shape.bands()) {
-        let params = params_of(shape, false, 3, order, Coder::plain())?;
-        there_and_back(report, "sample", name, &params)?;
+        there_and_back(report, "sample", name, order, Coder::plain())?;
         let blocks = Coder::Block {
             size: 16,
             restricted: false,
             reference: 64,
         };
-        let params = params_of(shape, false, 3, order, blocks)?;
-        there_and_back(report, "block", name, &params)?;
+        there_and_back(report, "block", name, order, blocks)?;
     }
     Ok(())
 }
 
-/// Measures both directions, and holds no more than either way needs.
-fn there_and_back(report: &Report, coder: &str, order: &str, params: &Params) -> Result<()>
-    requires { IsLawful params.now }
-{
-    let file = there(report, coder, order, params)?;
-    back(report, coder, order, params, &file)
+/// Measures both directions of a coder in an order, and holds no more than either way needs.
+fn there_and_back(
+    report: &Report,
+    coder_name: &str,
+    order_name: &str,
+    order: Order,
+    coder: Coder,
+) -> Result<()> {
+    let params = params_of(report.shape()?, false, 3, order, coder)?;
+    let file = there(report, coder_name, order_name, &params)?;
+    back(report, coder_name, order_name, &params, &file)
 }
 
 /// Measures how a file is written, and returns it.

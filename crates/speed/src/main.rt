@@ -29,16 +29,7 @@ fn main(rt: HostRuntime) -> Result<()> {
     let mut words = env::args(&rt)?;
     let _program = words.next();
     match words.next() {
-        None => {
-            let report = Report::of_checksums(&rt);
-            cube::measure(&report)?;
-            predictor::measure(&report)?;
-            sample_coder::measure(&report)?;
-            block_coder::measure(&report)?;
-            files::measure(&report)?;
-            lanes::measure(&rt, &report)?;
-            pipeline::measure(&rt, &report)
-        }
+        None => measure_all(&rt, &Report::of_checksums(&rt)),
         Some(subject) => {
             let report = Report::of_times(&rt);
             for _ in 0..ROUNDS {
@@ -47,6 +38,17 @@ fn main(rt: HostRuntime) -> Result<()> {
             Ok(())
         }
     }
+}
+
+/// Measures the loops of all subjects.
+fn measure_all<R: Threads + Wait + Sync>(rt: &R, report: &Report) -> Result<()> {
+    cube::measure(report)?;
+    predictor::measure(report)?;
+    sample_coder::measure(report)?;
+    block_coder::measure(report)?;
+    files::measure(report)?;
+    lanes::measure(rt, report)?;
+    pipeline::measure(rt, report)
 }
 
 /// Measures the loops of a subject.

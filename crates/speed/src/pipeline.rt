@@ -81,12 +81,26 @@ fn by_predictors<R: Threads + Wait + Sync>(
     let alloc = report.alloc();
     let deal = dealt(alloc, params.shape.bands(), predictors)?;
     let plan = Plan::new(alloc, params, predictors, &deal, slots)?;
-    let start = report.start()?;
-    let piped = encode_predicted(rt, alloc, cube, &plan, &OpenGate)?;
-    let time = report.since(start)?;
     let name = format!(in alloc; "pipeline_{order}_{predictors}_by_{slots}")?;
-    let count = params.shape.sample_count();
-    report.line(name.as_str(), count, time, sum_of_bytes(&piped.file))
+    by_plan(rt, report, name.as_str(), cube, &plan)
+}
+
+/// Measures a plan.
+fn by_plan<R: Threads + Wait + Sync>(
+    rt: &R,
+    report: &Report,
+    name: &str,
+    cube: &Cube,
+    plan: &Plan,
+) -> Result<()>
+    requires shape { cube.now.shape ≡ plan.now.params.shape }
+    requires kind { cube.now.kind ≡ plan.now.params.kind }
+{
+    let start = report.start()?;
+    let piped = encode_predicted(rt, report.alloc(), cube, plan, &OpenGate)?;
+    let time = report.since(start)?;
+    let count = cube.shape().sample_count();
+    report.line(name, count, time, sum_of_bytes(&piped.file))
 }
 
 /// A deal of bands to predictors by turns.

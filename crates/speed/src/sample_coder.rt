@@ -25,14 +25,24 @@ const MOST: u16 = 4095;
 
 /// Measures `put` and `get` on the numbers of one band.
 pub fn measure(report: &Report) -> Result<()> {
-    let params = params(report.shape()?, Kind::new(false, 12)?);
-    let count = params.shape.sample_count();
-    let numbers = residuals(report.alloc(), count)?;
+    let shape = report.shape()?;
+    let kind = Kind::new(false, 12)?;
+    let numbers = residuals(report.alloc(), shape.sample_count())?;
+    coded(report, &params(shape, kind), &numbers)
+}
+
+/// Measures how numbers are written as the parameters say, and read.
+fn coded(report: &Report, params: &Params, numbers: &[u16]) -> Result<()>
+    requires lawful { AreForSamples params.now }
+    requires bits { params.now.kind.bits ≡ 12 }
+    requires bands { 1 ≤ params.now.shape.bands }
+{
     let start = report.start()?;
-    let body = encoded(report.alloc(), &params, &numbers)?;
+    let body = encoded(report.alloc(), params, numbers)?;
     let time = report.since(start)?;
+    let count = params.shape.sample_count();
     report.line("sample_encode", count, time, sum_of_bytes(&body))?;
-    decode(report, &params, count, &body)
+    decode(report, params, count, &body)
 }
 
 /// Parameters for samples of twelve bits.
