@@ -1,62 +1,12 @@
 -- Places that follow one another, column after column of some bands: each of them, and how far the bands come along by them.
-use Rattle.std.proofs.Common.{◌≡◌, ◌≢◌, ◌⊎◌, ◌+◌, ◌-◌, ◌*◌, ◌/◌, ◌%◌, ◌<◌, ◌≤◌, ℕ, min, Some, refl, sym, ap, ◌∙◌, inl, inr, arith}
-use Rattle.std.specs.List.{slice_get}
+use Rattle.std.proofs.Common.{◌≡◌, ◌≢◌, ◌+◌, ◌-◌, ◌*◌, ◌/◌, ◌%◌, ◌<◌, ◌≤◌, ℕ, Some, sym, ap, ◌∙◌, inl, inr, arith}
 use Rattle.std.proofs.lemmas.Bool.{cases_lt}
 use Rattle.std.proofs.lemmas.Nat.{mul-le, mul-add-lt, div_below, mod_below, div-add-mod'}
-use Rattle.std.proofs.Math.Nat.{div-mul-le_self, lt-div-mul-add, div-one}
-use Rattle.cube_core.specs.declared.order.Order.{Order}
-use Rattle.cube_core.specs.declared.order.Order.TheVariants.{Bsq, Bi}
-use Rattle.cube_core.specs.declared.order.Place.{Place}
-use Rattle.cube_core.specs.Along.{HasCome}
-use Rattle.cube_core.specs.Order.{IsOrder, IsPlaceOf, places, place_index}
-use Rattle.cube_core.specs.Shape.{Sizes, sample_count}
-use Rattle.cube_core.specs.Tiles.{IsTiled, most_bands, place_in}
+use Rattle.cube_core.proofs.Words.{Order, Place, IsOrder, IsPlaceOf, places, place_index, Sizes, sample_count, slice_get, HasCome}
+use Rattle.cube_core.specs.Tiles.{IsTiled, place_in}
 use Rattle.cube_core.proofs.Come.{time_of, time_increases, come_here}
 use Rattle.cube_core.proofs.Orders.{StandsAt, item_from_index, place_index_below}
 use Rattle.cube_core.proofs.Raws.{same_place}
-use Rattle.cube_core.proofs.Walks.{group_kept}
-
--- ---- where they stand
-
--- whole columns of a group, or a part of one
-index_in_tile : (s : Sizes) (o : Order) (q : Place) (width depth : ℕ) → IsOrder s o → IsPlaceOf s q
-    → depth ≡ min s.bands (q.z / most_bands o * most_bands o + most_bands o) - q.z → (width ≡ 1) ⊎ (q.z ≡ q.z / most_bands o * most_bands o)
-    → (i b : ℕ) → i < width → b < depth → place_index s o (place_in q i b) ≡ place_index s o q + (i * depth + b)
-unfolding place_index
-index_in_tile s Bsq q width depth lawful place is case i b column band =
-    let one : depth ≡ 1 = omega (arith, is, div-one q.z, place.band) in
-    let none : b ≡ 0 = omega (arith, band, one) in
-    rw (one, none) (omega arith)
-index_in_tile s (Bi size) q width depth lawful place is case i b column band =
-    let low = div-mul-le_self q.z size in
-    let group : (q.z + b) / size * size ≡ q.z / size * size =
-    sym (group_kept size (q.z / size * size) q.z (q.z + b) refl (omega (arith, low)) (omega (arith, is, band))) in
-    rw group (elim case [
-      | inl one ↦ (let none : i ≡ 0 = omega (arith, one, column) in rw none (omega (arith, low)))
-      | inr start ↦ (let whole : depth ≡ min size (s.bands - q.z / size * size) = omega (arith, is, start, low) in rw whole (omega (arith, low)))
-    ])
-
-some_bands : (s : Sizes) (o : Order) → IsOrder s o → 1 ≤ most_bands o
-some_bands s Bsq lawful = omega arith
-some_bands s (Bi depth) lawful = lawful.0
-
--- some columns of all bands of a group, or the rest of one column
-pub is_tiled : (s : Sizes) (o : Order) (q : Place) (width depth : ℕ) → IsOrder s o → IsPlaceOf s q → 1 ≤ width → q.x + width ≤ s.columns
-    → depth ≡ min s.bands (q.z / most_bands o * most_bands o + most_bands o) - q.z → (width ≡ 1) ⊎ (q.z ≡ q.z / most_bands o * most_bands o)
-    → IsTiled s o q width depth × (depth ≤ most_bands o)
-is_tiled s o q width depth lawful place some fits is case =
-    let low = div-mul-le_self q.z (most_bands o) in
-    let high : q.z < q.z / most_bands o * most_bands o + most_bands o = lt-div-mul-add (some_bands s o lawful) in
-    let all : IsTiled s o q width depth = record {
-      place = place;
-      some = (some, omega (arith, is, high, place.band));
-      columns = fits;
-      bands = omega (arith, is, high, place.band);
-      index = index_in_tile _ _ _ _ _ lawful place is case;
-    } in
-    (all, omega (arith, is, low))
-
--- ---- the k-th of them
 
 pub record Within (width depth k : ℕ) : Type 0 where
   pub column : k / depth < width
@@ -73,8 +23,7 @@ module _ {s : Sizes} {o : Order} {q : Place} {width depth : ℕ} (lawful : IsOrd
   pub placed : (i b : ℕ) → i < width → b < depth → IsPlaceOf s (place_in q i b)
   placed i b column band = record { band = omega (arith, band, is.bands); row = is.place.row; column = omega (arith, column, is.columns) }
 
-  stands : (k : ℕ) → k < width * depth
-      → Within width depth k × IsPlaceOf s (nth q depth k) × (place_index s o (nth q depth k) ≡ place_index s o q + k)
+  stands : (k : ℕ) → k < width * depth → Within width depth k × IsPlaceOf s (nth q depth k) × (place_index s o (nth q depth k) ≡ place_index s o q + k)
   stands k lt =
       let w = within width depth k is.some.1 lt in
       let index = is.index _ _ w.column w.band in

@@ -1,5 +1,6 @@
 pub mod FileLaws
 pub mod Found
 pub mod Givers
+mod Tiling
 pub mod TileWalk
 pub mod Filling

@@ -1,5 +1,5 @@
 use Rattle.std.proofs.Common.{◌∙◌, ◌*◌, ◌/◌, ℕ, inl, inr, ap, arith}
-use Rattle.cube_core.proofs.Tiles.{is_tiled}
+use Rattle.file_decoding.proofs.Tiling.{is_tiled}
 use Rattle.file_decoding.proofs.tile.Tile.at.Goals as goal
 use Rattle.file_decoding.proofs.tile.Tile.at.Goals.{then-place-first, else-place-first}
 
