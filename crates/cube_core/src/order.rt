@@ -66,6 +66,7 @@ pub fn index_of(shape: &Shape, order: Order, place: Place) -> u64
     }
 }
 
+/// The place with index `i` in band sequential order.
 fn sequential_place(shape: Shape, i: u64) -> Place
     requires { i < sample_count shape }
     ensures place { IsPlaceOf shape result }
@@ -80,6 +81,7 @@ fn sequential_place(shape: Shape, i: u64) -> Place
     }
 }
 
+/// The place with index `i` in interleaved order.
 fn interleaved_place(shape: Shape, depth: u32, i: u64) -> Place
     requires depth { InRange 1 shape.bands depth }
     requires within { i < sample_count shape }
@@ -91,17 +93,20 @@ fn interleaved_place(shape: Shape, depth: u32, i: u64) -> Place
     let columns = u64::from(shape.columns());
     let bands = u64::from(shape.bands());
     let depth = u64::from(depth);
-    let in_line = i % (bands * columns);
-    let first = in_line / (depth * columns) * depth;
+    let line = bands * columns;
+    let whole_group = depth * columns;
+    let in_line = i % line;
+    let first = in_line / whole_group * depth;
     let size = depth.min(bands - first);
-    let in_group = in_line % (depth * columns);
+    let in_group = in_line % whole_group;
     Place {
         z: (first + in_group % size) as u32,
-        y: (i / (bands * columns)) as u32,
+        y: (i / line) as u32,
         x: (in_group / size) as u32,
     }
 }
 
+/// The index of a place in band sequential order.
 fn sequential_index(shape: Shape, place: Place) -> u64
     requires { IsPlaceOf shape place }
     ensures { result ≡ place_index shape Order.Bsq place }
@@ -110,6 +115,7 @@ fn sequential_index(shape: Shape, place: Place) -> u64
     row * u64::from(shape.columns()) + u64::from(place.x)
 }
 
+/// The index of a place in interleaved order.
 fn interleaved_index(shape: Shape, depth: u32, place: Place) -> u64
     requires depth { InRange 1 shape.bands depth }
     requires place { IsPlaceOf shape place }
