@@ -2,15 +2,10 @@
 use Rattle.std.proofs.Common.{◌≡◌, ◌≢◌, ◌⊎◌, ◌+◌, ◌*◌, ◌/◌, ◌%◌, ◌<◌, ◌≤◌, ℕ, suc, refl, sym, ap, ◌∙◌, inl, inr, arith}
 use Rattle.std.proofs.lemmas.Nat.{mul-le, mul-add-lt, div_below, mod_below, div-add-mod'}
 use Rattle.std.proofs.lemmas.Bool.{cases_lt, cases_order}
-use Rattle.cube_core.specs.declared.order.Order.{Order}
-use Rattle.cube_core.specs.declared.order.Order.TheVariants.{Bsq, Bi}
-use Rattle.cube_core.specs.declared.order.Place.{Place}
-use Rattle.cube_core.specs.Shape.{Sizes}
-use Rattle.cube_core.specs.Order.{IsOrder, IsPlaceOf, IsBefore, place_index, place_key}
+use Rattle.cube_core.proofs.Words.{Order, Bsq, Bi, Place, Sizes, IsOrder, IsPlaceOf, IsBefore, place_index, place_key, HasCome}
 use Rattle.cube_core.proofs.Keys.{item_of_index, order_is_by_key}
 use Rattle.cube_core.proofs.Orders.{StandsAt}
 use Rattle.cube_core.proofs.Raws.{same_place}
-use Rattle.cube_core.specs.Along.{HasCome}
 
 -- where a place stands in its band
 abbrev pub time_of : Sizes → Place → ℕ

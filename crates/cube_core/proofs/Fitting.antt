@@ -1,13 +1,8 @@
 -- Samples that were taken in from bytes have their bytes.
 use Rattle.std.proofs.Common.{◌≡◌, ◌+◌, ◌*◌, ◌<◌, ◌≤◌, ℕ, Bool, true, false, leb, List, length, get_or, refl, arith, inl, inr}
 use Rattle.std.proofs.lemmas.Bool.{leb-true, leb-false}
-use Rattle.std.proofs.lemmas.Int.{ints}
-use Rattle.cube_core.specs.declared.layout.Layout.{Layout}
-use Rattle.cube_core.specs.Shape.{Sizes, sample_count}
-use Rattle.cube_core.specs.Kind.{SampleKind, IsSample}
-use Rattle.cube_core.specs.Offsets.{samples_of}
-use Rattle.cube_core.specs.Layout.{IsLayout, order_of, twos_complement, raw_value, bytes_at, HasBytes, HaveBytes}
-use Rattle.cube_core.specs.Raw.{AreOffsetsOf}
+use Rattle.cube_core.proofs.Words.{Layout, Sizes, sample_count, SampleKind, IsSample, samples_of, IsLayout, order_of, twos_complement, raw_value, bytes_at}
+use Rattle.cube_core.proofs.Words.{HasBytes, HaveBytes, AreOffsetsOf, ints}
 use Rattle.cube_core.proofs.Poured.{sample_there}
 use Rattle.cube_core.proofs.RawBytes.{AreBytes, bytes_at_small, sample_spelled}
 use Rattle.cube_core.proofs.Raws.{place_of, lawful_order}

@@ -1,12 +1,7 @@
 -- Samples of images, place by place.
 use Rattle.std.proofs.Common.{◌≡◌, ℤ, pos, List, refl, sym, ap, ◌∙◌, arith}
 use Rattle.std.proofs.lemmas.List.{ext_get_or, get_or-set_other}
-use Rattle.cube_core.specs.declared.order.Order.TheVariants.{Bsq}
-use Rattle.cube_core.specs.declared.order.Place.{Place}
-use Rattle.cube_core.specs.Image.{Image, IsCube, sample_at, index_in, put}
-use Rattle.cube_core.specs.Kind.{SampleKind}
-use Rattle.cube_core.specs.Order.{IsPlaceOf}
-use Rattle.cube_core.specs.Shape.{Sizes, sample_count}
+use Rattle.cube_core.proofs.Words.{Bsq, Place, Image, IsCube, sample_at, index_in, put, SampleKind, IsPlaceOf, Sizes, sample_count}
 use Rattle.cube_core.proofs.Raws.{place_of, same_place}
 use Rattle.cube_core.proofs.Walks.{sequential_index}
 

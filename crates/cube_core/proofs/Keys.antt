@@ -4,12 +4,7 @@ use Rattle.std.proofs.lemmas.Nat.{mul-add-lt, mul-le}
 use Rattle.std.proofs.lemmas.Bool.{cases_lt, cases_order}
 use Rattle.std.proofs.Math.Nat.{div-mul-le_self, lt-div-mul-add}
 use Rattle.std.proofs.lemmas.Option.{slice_get_within, get_or_from_slice_get}
-use Rattle.std.specs.List.{slice_get}
-use Rattle.cube_core.specs.declared.order.Order.{Order}
-use Rattle.cube_core.specs.declared.order.Order.TheVariants.{Bsq, Bi}
-use Rattle.cube_core.specs.declared.order.Place.{Place}
-use Rattle.cube_core.specs.Shape.{Sizes, sample_count}
-use Rattle.cube_core.specs.Order.{IsOrder, IsPlaceOf, places, place_index, place_key, IsBefore}
+use Rattle.cube_core.proofs.Words.{Order, Bsq, Bi, Place, Sizes, sample_count, IsOrder, IsPlaceOf, places, place_index, place_key, IsBefore, slice_get}
 use Rattle.cube_core.specs.Laws.{OrderIsByKey, ItemOfIndex, IndexOfItem}
 use Rattle.cube_core.proofs.Orders.{StandsAt, place_at_index, length-places, item_from_index, place_index_below}
 use Rattle.cube_core.proofs.Raws.{place_of, same_place}

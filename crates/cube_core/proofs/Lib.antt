@@ -15,3 +15,4 @@ pub mod Scales
 pub mod Spelled
 pub mod Tiles
 pub mod Walks
+mod Words

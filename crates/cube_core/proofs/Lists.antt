@@ -79,8 +79,7 @@ get_push (z ∷ zs) x y (suc k) e = elim (get_push zs x y k e) [ inl h ↦ inl h
 
 -- ---- lists of what is found of items
 
-pub all_mapped : {A B : Type 0} (P : B → Type 0) (f : A → B) (xs : List A) → ((i : ℕ) (x : A) → slice_get xs i ≡ Some x → P (f x))
-    → AllByRecursion P (map f xs)
+pub all_mapped : {A B : Type 0} (P : B → Type 0) (f : A → B) (xs : List A) → ((i : ℕ) (x : A) → slice_get xs i ≡ Some x → P (f x)) → AllByRecursion P (map f xs)
 all_mapped P f [] h = tt
 all_mapped P f (x ∷ xs) h = (h 0 x refl, all_mapped P f xs (λ i y e. h (suc i) y e))
 

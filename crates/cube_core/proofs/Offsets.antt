@@ -1,22 +1,23 @@
 -- Samples kept as offsets from the least one.
 use Rattle.std.proofs.Common.{◌≡◌, ◌+◌, ◌*◌, ◌<◌, ◌≤◌, ◌-◌, ◌^◌, ℕ, suc, zero, Bool, true, false, ℤ, pos, ◌-ℤ◌, ◌≤ℤ◌, List, length, map, get_or, set}
 use Rattle.std.proofs.Common.{take, drop, refl, sym, ap, ◌∙◌, subst, arith, pow-suc}
-use Rattle.std.proofs.lemmas.Int.{ints}
 use Rattle.std.proofs.lemmas.List.{get_or-map, map-set, get_or-take, get_or-drop}
-use Rattle.cube_core.specs.Kind.{SampleKind, IsKind, IsSample, sample_of, smin}
-use Rattle.cube_core.specs.Image.{Image, sample_at, index_in, put}
-use Rattle.cube_core.specs.Shape.{Sizes}
-use Rattle.cube_core.specs.Offsets.{samples_of, AreOffsets, AreRowOffsets}
+use Rattle.cube_core.proofs.Words.{SampleKind, IsKind, IsSample, sample_of, smin, Image, sample_at, index_in, put, Sizes, samples_of, AreOffsets, ints}
+use Rattle.cube_core.proofs.Words.{AreRowOffsets}
+use Rattle.cube_core.proofs.Bounds.{power_grows}
 
 pub doubled : (bits : ℕ) → 1 ≤ bits → 2 ^ bits ≡ 2 * 2 ^ (bits - 1)
 doubled zero h = absurd (omega arith)
 doubled (suc n) h = let e : suc n - 1 ≡ n = omega arith in rw (e, pow-suc 2 n) (omega arith)
 
--- how far a sample stands above the least one
-pub offset_range : (signed : Bool) (bits : ℕ) (v : ℤ) → 1 ≤ bits → IsSample (record { signed = signed; bits = bits }) v
+-- how far a sample stands above the least one, and how many samples there are at most
+range_by : (signed : Bool) (bits : ℕ) (v : ℤ) → 1 ≤ bits → IsSample (record { signed = signed; bits = bits }) v
     → (v -ℤ smin (record { signed = signed; bits = bits })) ≤ℤ (pos (2 ^ bits) -ℤ pos 1)
-offset_range true bits v h s = omega (arith, ints, s.1, doubled bits h)
-offset_range false bits v h s = omega (arith, ints, s.1)
+range_by true bits v h s = omega (arith, ints, s.1, doubled bits h)
+range_by false bits v h s = omega (arith, ints, s.1)
+
+pub offset_range : (k : SampleKind) (v : ℤ) → IsKind k → IsSample k v → ((v -ℤ smin k) ≤ℤ (pos (2 ^ k.bits) -ℤ pos 1)) × (2 ^ k.bits ≤ 2 ^ 16)
+offset_range k v kind s = (range_by k.signed k.bits v (omega (arith, kind)) s, power_grows k.bits 16 kind.1)
 
 -- an offset within the kind's bits is a sample of the kind
 in_kind : (signed : Bool) (bits offset : ℕ) → 2 ≤ bits → offset < 2 ^ bits

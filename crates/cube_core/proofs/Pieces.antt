@@ -4,18 +4,9 @@ use Rattle.std.proofs.Common.{set, sym, ap, ◌∙◌, arith, inl, inr}
 use Rattle.std.proofs.lemmas.List.{get_or-set_same, get_or-set_other}
 use Rattle.std.proofs.lemmas.Bool.{cases_eq, cases_lt}
 use Rattle.std.proofs.lemmas.Nat.{div-mul-add}
-use Rattle.cube_core.specs.declared.order.Order.TheVariants.{Bsq, Bi}
-use Rattle.cube_core.specs.declared.order.Place.{Place}
-use Rattle.cube_core.specs.declared.layout.Layout.{Layout}
+use Rattle.cube_core.proofs.Words.{Bsq, Bi, Place, Layout, Sizes, sample_count, SampleKind, index_in, IsOrder, IsPlaceOf, place_index, IsLayout, order_of}
+use Rattle.cube_core.proofs.Words.{LieEvenly, IsOffsetOf, AreOffsetsOf, AreSamples, StandsFor}
 use Rattle.cube_core.specs.declared.layout.RawOrder.TheVariants as raw
-use Rattle.cube_core.specs.Shape.{Sizes, sample_count}
-use Rattle.cube_core.specs.Kind.{SampleKind}
-use Rattle.cube_core.specs.Image.{index_in}
-use Rattle.cube_core.specs.Order.{IsOrder, IsPlaceOf, place_index}
-use Rattle.cube_core.specs.Layout.{IsLayout, order_of}
-use Rattle.cube_core.specs.Pieces.{LieEvenly}
-use Rattle.cube_core.specs.Raw.{IsOffsetOf, AreOffsetsOf, AreSamples}
-use Rattle.cube_core.specs.Scale.{StandsFor}
 use Rattle.cube_core.proofs.Bounds.{index_below}
 use Rattle.cube_core.proofs.Orders.{place_index_below}
 use Rattle.cube_core.proofs.Raws.{same_place, bytes_there}

@@ -2,16 +2,10 @@
 use Rattle.std.proofs.Common.{◌≡◌, ◌+◌, ◌*◌, ◌<◌, ℕ, pos, List, length, get_or, refl, sym, ap, ◌∙◌, subst, arith, inl, inr}
 use Rattle.std.proofs.lemmas.List.{get_or-map, length-map}
 use Rattle.std.proofs.lemmas.Bool.{cases_eq}
-use Rattle.cube_core.specs.declared.order.Place.{Place}
-use Rattle.cube_core.specs.declared.layout.Layout.{Layout}
-use Rattle.cube_core.specs.Shape.{Sizes, sample_count}
-use Rattle.cube_core.specs.Kind.{SampleKind}
-use Rattle.cube_core.specs.Offsets.{samples_of}
-use Rattle.cube_core.specs.Image.{Image, index_in, sample_at}
-use Rattle.cube_core.specs.Order.{IsOrder, IsPlaceOf, places, place_index}
-use Rattle.cube_core.specs.Layout.{order_of, bytes_at, sample_bytes, raw_bytes, samples_in, HasBytesAt, HaveBytes}
+use Rattle.cube_core.proofs.Words.{Place, Layout, Sizes, sample_count, SampleKind, samples_of, Image, index_in, sample_at, IsOrder, IsPlaceOf, places}
+use Rattle.cube_core.proofs.Words.{place_index, order_of, bytes_at, sample_bytes, raw_bytes, samples_in, HasBytesAt, HaveBytes, sample_by, ArePoured}
+use Rattle.cube_core.proofs.Words.{CanBePoured}
 use Rattle.cube_core.proofs.Orders.{StandsAt, place_at_index, place_index_below, length-places}
-use Rattle.cube_core.specs.Pieces.{sample_by, ArePoured, CanBePoured}
 use Rattle.cube_core.proofs.Bounds.{index_below}
 use Rattle.cube_core.proofs.Offsets.{sample_at_offset}
 use Rattle.cube_core.proofs.RawBytes.{pieces_whole}

@@ -7,21 +7,18 @@ use Rattle.std.proofs.lemmas.Slice.{take-put_mid, take-put_mid_below, drop-put_m
 use Rattle.std.proofs.Math.Seq.{drop-append_seam}
 use Rattle.std.proofs.lemmas.Bool.{cases_eq, cases_lt}
 use Rattle.std.proofs.lemmas.Nat.{mul-le}
-use Rattle.cube_core.specs.declared.order.Order.TheVariants.{Bsq}
-use Rattle.cube_core.specs.declared.order.Place.{Place}
-use Rattle.cube_core.specs.declared.layout.Layout.{Layout}
+use Rattle.cube_core.proofs.Words.{Bsq, Place, Layout, Sizes, sample_count, SampleKind, sample_of, index_in, IsOrder, IsPlaceOf, place_index, HasBytes}
+use Rattle.cube_core.proofs.Words.{order_of, bytes_at, LieEvenly, IsPoured, ArePoured, CanBePoured, SpellOffset}
 use Rattle.cube_core.specs.declared.layout.RawOrder.TheVariants as raw
-use Rattle.cube_core.specs.Shape.{Sizes, sample_count}
-use Rattle.cube_core.specs.Kind.{SampleKind, sample_of}
-use Rattle.cube_core.specs.Image.{index_in}
-use Rattle.cube_core.specs.Order.{IsOrder, IsPlaceOf, place_index}
-use Rattle.cube_core.specs.Layout.{HasBytes, order_of, bytes_at}
-use Rattle.cube_core.specs.Pieces.{LieEvenly, IsPoured, ArePoured, CanBePoured}
-use Rattle.cube_core.specs.Scale.{SpellOffset}
 use Rattle.cube_core.proofs.Bounds.{index_below}
 use Rattle.cube_core.proofs.Raws.{same_place, place_of}
 use Rattle.cube_core.proofs.Walks.{sequential_index}
 use Rattle.cube_core.proofs.Pieces.{IsIn}
+
+-- a width that is not one byte
+pub two_wide : (bytes width : ℕ) → bytes ≡ width → (width ≡ 1) ⊎ (width ≡ 2) → width ≢ 1 → bytes ≡ 2
+two_wide bytes width e (inl one) n = absurd (n one)
+two_wide bytes width e (inr two) n = e ∙ two
 
 single : (xs : List ℕ) (i : ℕ) → i < length xs → take 1 (drop i xs) ≡ get_or xs i 0 ∷ []
 single xs i lt = rw (drop-cons xs i 0 lt) refl

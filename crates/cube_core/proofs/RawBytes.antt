@@ -2,21 +2,11 @@
 use Rattle.std.proofs.Common.{◌≡◌, ◌+◌, ◌*◌, ◌/◌, ◌%◌, ◌^◌, ◌<◌, ◌≤◌, ◌-◌, ℕ, suc, zero, pos, negsuc, ◌-ℤ◌, Bool, true, false, leb, List, [], ◌∷◌, length, take}
 use Rattle.std.proofs.Common.{drop, replicate, get_or, refl, sym, ap, ◌∙◌, subst, arith, inl, inr, length-take, length-drop}
 use Rattle.std.proofs.lemmas.List.{take-append-drop, drop-drop, nil_from_length, get_or-take, get_or-drop, get_or_past, length-map}
-use Rattle.std.proofs.lemmas.Int.{ints}
-use Rattle.std.specs.Prelude.{if◌then◌else◌, ◌&&◌}
 use Rattle.std.proofs.lemmas.Bool.{cases_lt}
-use Rattle.std.specs.List.{flat_map}
-use Rattle.cube_core.specs.declared.order.Order.TheVariants.{Bsq}
+use Rattle.cube_core.proofs.Words.{Bsq, Place, Layout, Sizes, AreSizes, sample_count, SampleKind, IsKind, sample_of, Image, IsCube, index_in, sample_at, ints}
+use Rattle.cube_core.proofs.Words.{samples_of, AreOffsets, places, IsLayout, order_of, raw_code, twos_complement, raw_value, bytes_at, sample_bytes, flat_map}
+use Rattle.cube_core.proofs.Words.{raw_bytes, AreOffsetsOf, if◌then◌else◌, ◌&&◌}
 use Rattle.cube_core.proofs.Walks.{sequential_index}
-use Rattle.cube_core.specs.declared.order.Place.{Place}
-use Rattle.cube_core.specs.declared.layout.Layout.{Layout}
-use Rattle.cube_core.specs.Shape.{Sizes, AreSizes, sample_count}
-use Rattle.cube_core.specs.Kind.{SampleKind, IsKind, sample_of}
-use Rattle.cube_core.specs.Image.{Image, IsCube, index_in, sample_at}
-use Rattle.cube_core.specs.Offsets.{samples_of, AreOffsets}
-use Rattle.cube_core.specs.Order.{places}
-use Rattle.cube_core.specs.Layout.{IsLayout, order_of, raw_code, twos_complement, raw_value, bytes_at, sample_bytes, raw_bytes}
-use Rattle.cube_core.specs.Raw.{AreOffsetsOf}
 use Rattle.cube_core.proofs.Bounds.{index_below}
 use Rattle.cube_core.proofs.Offsets.{sample_at_offset, sample_read, offset_is_sample}
 use Rattle.cube_core.proofs.Orders.{StandsAt, place_at_index, length-places}

@@ -3,18 +3,10 @@ use Rattle.std.proofs.Common.{◌≡◌, ◌+◌, ◌*◌, ◌/◌, ◌%◌, ◌
 use Rattle.std.proofs.Common.{add-one, drop-cons, inl, inr, min}
 use Rattle.std.proofs.lemmas.List.{length-drop}
 use Rattle.std.proofs.lemmas.Bool.{cases_eq}
-use Rattle.cube_core.specs.declared.order.Order.{Order}
-use Rattle.cube_core.specs.declared.order.Order.TheVariants.{Bsq, Bi}
-use Rattle.cube_core.specs.declared.order.Place.{Place}
-use Rattle.cube_core.specs.declared.layout.Layout.{Layout}
-use Rattle.cube_core.specs.declared.layout.RawOrder.{RawOrder}
+use Rattle.cube_core.proofs.Words.{Order, Bsq, Bi, Place, Layout, RawOrder, Sizes, sample_count, SampleKind, IsSample, IsOrder, IsPlaceOf, place_index}
+use Rattle.cube_core.proofs.Words.{places, IsLayout, order_of, raw_value, bytes_at, AreSamples}
 use Rattle.cube_core.specs.declared.layout.RawOrder.TheVariants as raw
 use Rattle.std.proofs.lemmas.Nat.{mul-le}
-use Rattle.cube_core.specs.Shape.{Sizes, sample_count}
-use Rattle.cube_core.specs.Kind.{SampleKind, IsSample}
-use Rattle.cube_core.specs.Order.{IsOrder, IsPlaceOf, place_index, places}
-use Rattle.cube_core.specs.Layout.{IsLayout, order_of, raw_value, bytes_at}
-use Rattle.cube_core.specs.Raw.{AreSamples}
 use Rattle.cube_core.proofs.Orders.{StandsAt, sequential_place_is, interleaved_place_is, place_at_index, length-places}
 
 factor_positive : (a c i : ℕ) → i < a * c → 0 < c

@@ -1,10 +1,7 @@
 -- The offset of a number, found modulo 2^16.
-use Rattle.std.proofs.Common.{◌≡◌, ◌⊎◌, ◌+◌, ◌*◌, ◌%◌, ◌<◌, ◌≤◌, ◌-◌, ◌^◌, ℕ, Bool, true, false, ℤ, pos, ◌-ℤ◌, arith, inl, inr}
-use Rattle.std.proofs.lemmas.Int.{ints}
+use Rattle.std.proofs.Common.{◌≡◌, ◌⊎◌, ◌↔◌, ◌+◌, ◌*◌, ◌%◌, ◌<◌, ◌≤◌, ◌-◌, ◌^◌, ℕ, Bool, true, false, ℤ, pos, negsuc, ◌+ℤ◌, ◌-ℤ◌, arith, inl, inr}
 use Rattle.std.proofs.lemmas.Bool.Decides.{nat_tests}
-use Rattle.cube_core.specs.Kind.{SampleKind, IsKind, IsSample, sample_of, smax}
-use Rattle.cube_core.specs.Layout.{twos_complement}
-use Rattle.cube_core.specs.Scale.{half_of, zero_offset}
+use Rattle.cube_core.proofs.Words.{SampleKind, IsKind, IsSample, sample_of, smax, twos_complement, raw_code, half_of, zero_offset, number_of_rebased, ints}
 use Rattle.cube_core.proofs.Bounds.{power_grows}
 use Rattle.cube_core.proofs.Offsets.{doubled}
 
@@ -74,3 +71,44 @@ pub most_at : (signed : Bool) (bits offset : ℕ) → 1 ≤ bits
     → sample_of (record { signed = signed; bits = bits }) offset ≡ smax (record { signed = signed; bits = bits }) → offset + 1 ≡ 2 ^ bits
 most_at true bits offset h e = omega (arith, ints, e, doubled bits h)
 most_at false bits offset h e = omega (arith, ints, e)
+
+-- a rebased number of one byte, as the code finds it
+pub one_number : (signed : Bool) (half rebased : ℕ) → half ≡ half_of signed 1 → (rebased + (65536 - half)) % 65536 % 256 ≡ number_of_rebased signed 1 rebased
+one_number true half rebased e = rw e (omega arith)
+one_number false half rebased e = rw e (omega arith)
+
+-- an offset rebased by a lift, as the code finds it
+abbrev taken_off : ℕ → ℕ → ℕ
+taken_off offset lift = (offset + (65536 - lift)) % 65536
+
+-- it fits in bytes where the sample does, and is half above it
+abbrev Rebased : ℕ → SampleKind → ℕ → ℕ → Type 0
+Rebased bytes k offset t = ((t < 2 ^ (8 * bytes)) ↔ IsSample (record { signed = k.signed; bits = 8 * bytes }) (sample_of k offset))
+    × (t < 2 ^ (8 * bytes) → raw_code bytes (sample_of k offset) ≡ number_of_rebased k.signed bytes t)
+
+coded_one : (v : ℤ) (t : ℕ) → v +ℤ pos 128 ≡ pos t → t < 256 → raw_code 1 v ≡ (t + 128) % 256
+coded_one (pos n) t e h = omega (arith, ints, e)
+coded_one (negsuc n) t e h = omega (arith, ints, e)
+
+coded_two : (v : ℤ) (t : ℕ) → v +ℤ pos 32768 ≡ pos t → t < 65536 → raw_code 2 v ≡ (t + 32768) % 65536
+coded_two (pos n) t e h = omega (arith, ints, e)
+coded_two (negsuc n) t e h = omega (arith, ints, e)
+
+rebased_by : (signed : Bool) (bits bytes offset half lift : ℕ) → (bytes ≡ 1) ⊎ (bytes ≡ 2) → 2 ^ bits ≡ 2 * 2 ^ (bits - 1) → 2 ^ bits ≤ 2 ^ 16
+    → offset < 2 ^ bits → half ≡ half_of signed bytes → lift < 65536 → (lift + half) % 65536 ≡ zero_offset (record { signed = signed; bits = bits })
+    → Rebased bytes (record { signed = signed; bits = bits }) offset (taken_off offset lift)
+rebased_by true bits bytes offset half lift (inl e) twice most h f l z =
+    let half_is : half ≡ 128 = rw e at f in
+    let v = sample_of (record { signed = true; bits = bits }) offset in
+    rw e ((λ t. omega (arith, ints), λ s. omega (arith, ints, s)), λ t. coded_one v (taken_off offset lift) (omega (arith, ints)) t)
+rebased_by true bits bytes offset half lift (inr e) twice most h f l z =
+    let half_is : half ≡ 32768 = rw e at f in
+    let v = sample_of (record { signed = true; bits = bits }) offset in
+    rw e ((λ t. omega (arith, ints), λ s. omega (arith, ints, s)), λ t. coded_two v (taken_off offset lift) (omega (arith, ints)) t)
+rebased_by false bits bytes offset half lift (inl e) twice most h f l z = rw e ((λ t. omega (arith, ints), λ s. omega (arith, ints, s)), λ t. omega arith)
+rebased_by false bits bytes offset half lift (inr e) twice most h f l z = rw e ((λ t. omega (arith, ints), λ s. omega (arith, ints, s)), λ t. omega arith)
+
+pub rebased_is : (k : SampleKind) (bytes offset half lift : ℕ) → IsKind k → (bytes ≡ 1) ⊎ (bytes ≡ 2) → offset < 2 ^ k.bits → half ≡ half_of k.signed bytes
+    → lift < 65536 → (lift + half) % 65536 ≡ zero_offset k → Rebased bytes k offset (taken_off offset lift)
+rebased_is k bytes offset half lift kind width =
+    rebased_by k.signed k.bits bytes offset half lift width (doubled k.bits (omega (arith, kind))) (power_grows k.bits 16 kind.1)

@@ -1,12 +1,9 @@
 -- The bytes that a sample's code is written in.
 use Rattle.std.proofs.Common.{◌≡◌, ◌/◌, ◌%◌, ◌<◌, ℕ, true, false, [], ◌∷◌, ℤ, refl, arith, Bool, ◌≤◌, ◌-◌, ◌^◌, ◌*◌}
 use Rattle.byteorder.specs.Endian.{little_bytes, big_bytes}
-use Rattle.cube_core.specs.declared.layout.Layout.{Layout}
-use Rattle.std.proofs.lemmas.Int.{ints}
-use Rattle.cube_core.specs.Kind.{IsSample}
+use Rattle.cube_core.proofs.Words.{Layout, IsSample, raw_code, sample_bytes, ints}
 use Rattle.cube_core.specs.Laws.{WideEnough}
 use Rattle.cube_core.proofs.Bounds.{power_grows}
-use Rattle.cube_core.specs.Layout.{raw_code, sample_bytes}
 
 pub one_byte : (l : Layout) (v : ℤ) (number : ℕ) → l.bytes ≡ 1 → number ≡ raw_code l.bytes v → number ∷ [] ≡ sample_bytes l v
 unfolding sample_bytes

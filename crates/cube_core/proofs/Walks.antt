@@ -1,20 +1,14 @@
 -- A walk's steps from place to place.
 use Rattle.std.proofs.Common.{◌≡◌, ◌+◌, ◌*◌, ◌/◌, ◌<◌, ◌≤◌, ◌-◌, ℕ, zero, suc, min, true, false, List, [], ◌∷◌, Some, length, drop, refl, sym, ap, ◌∙◌, subst}
 use Rattle.std.proofs.Common.{arith, drop-cons, length-drop}
-use Rattle.std.specs.List.{slice_get}
 use Rattle.std.proofs.lemmas.Bool.{eqb-true, true≢false}
 use Rattle.std.proofs.lemmas.List.{drop-drop}
 use Rattle.std.proofs.lemmas.Nat.{div-mul-add}
 use Rattle.std.proofs.Math.ListN.{drop_of_length-le}
 use Rattle.std.proofs.Math.Seq.{drop-nil}
 use Rattle.std.proofs.Math.Nat.{lt_of_mul-lt-mul_left, div-mul-le_self, lt-div-mul-add, zero-div, div-one, min-eq_left}
-use Rattle.cube_core.specs.declared.order.Order.{Order}
-use Rattle.cube_core.specs.declared.order.Order.TheVariants.{Bsq, Bi}
-use Rattle.cube_core.specs.declared.order.Place.{Place}
-use Rattle.cube_core.specs.declared.cursor.Spot.{Spot}
-use Rattle.cube_core.specs.Shape.{Sizes, sample_count}
-use Rattle.cube_core.specs.Order.{IsOrder, IsPlaceOf, goes_along_rows, place_index, places}
-use Rattle.cube_core.specs.Cursor.{IsSpot, IsWalk, places_left}
+use Rattle.cube_core.proofs.Words.{Order, Bsq, Bi, Place, Spot, Sizes, sample_count, IsOrder, IsPlaceOf, goes_along_rows, place_index, places, IsSpot}
+use Rattle.cube_core.proofs.Words.{IsWalk, places_left, slice_get}
 use Rattle.cube_core.proofs.Lists.{get-drop}
 use Rattle.cube_core.proofs.Orders.{length-places, place_at_index, place_index_below}
 

@@ -1,6 +1,5 @@
 use Rattle.std.proofs.Common.{◌≡◌, ◌∙◌, ◌+◌, ◌*◌, ◌-◌, arith}
-use Rattle.cube_core.specs.declared.order.Order.TheVariants.{Bi}
-use Rattle.cube_core.specs.Order.{place_index}
+use Rattle.cube_core.proofs.Words.{Bi, place_index}
 use Rattle.cube_core.proofs.Orders.{interleaved_index_is, place_index_below}
 use Rattle.cube_core.proofs.order.interleaved_index.Goals as goal
 use Rattle.cube_core.proofs.order.interleaved_index.Goals.{After-from-4}

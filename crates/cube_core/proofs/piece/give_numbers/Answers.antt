@@ -1,8 +1,5 @@
 use Rattle.std.proofs.Common.{ℕ, ◌≡◌, ◌↔◌, ◌*◌, ◌+◌, ◌<◌, ◌^◌, arith, get_or}
-use Rattle.cube_core.specs.declared.layout.Layout.{Layout}
-use Rattle.cube_core.specs.Kind.{SampleKind, IsSample, sample_of}
-use Rattle.cube_core.specs.Layout.{HasBytes, bytes_at, raw_code}
-use Rattle.cube_core.specs.Scale.{SpellOffset, number_of_rebased}
+use Rattle.cube_core.proofs.Words.{Layout, SampleKind, IsSample, sample_of, HasBytes, bytes_at, raw_code, SpellOffset, number_of_rebased}
 use Rattle.cube_core.proofs.Putting.{given_more, others_more, each_more}
 use Rattle.cube_core.proofs.piece.give_numbers.Goals as goal
 
@@ -37,5 +34,19 @@ loop-x-preserved g c =
       reached = λ all. omega (arith, f.fits.1 (all x (omega arith)), c.loop-x.invariant.reached (λ j lt. all j (omega arith)));
     }
 
-pub returns-clause-given : goal.returns-clause-given
-returns-clause-given g c = λ x lt. c.loop-x.invariant.given x (omega (arith, lt, c.loop-x-test.false))
+pub rebased-rebased-requires : goal.rebased-rebased-requires
+rebased-rebased-requires g c = record { width = rw c.requires.scale c.requires.width; offset = c.requires.range c.loop-x.x c.loop-x-test.true }
+
+pub put_number-requires : goal.put_number-requires
+put_number-requires g c =
+    let r = c.requires in let there = r.there c.loop-x.x c.loop-x-test.true in
+    record { width = r.width; form = r.form; end = r.end; small = omega (arith, r.small); there = omega (arith, there); number = c.number-number.ensures.below }
+
+pub returns : goal.returns
+returns g c =
+    let kept = c.loop-x.invariant in let fit = c.spells.ensures in
+    record {
+      given = λ x lt. kept.given x (omega (arith, lt, c.loop-x-test.false));
+      others = λ i apart. kept.others i (λ x lt. apart x (omega (arith, lt)));
+      good = (λ t x lt. kept.greatest (fit.0 t) x (omega (arith, lt)), λ all. fit.1 (kept.reached (λ x lt. all x (omega (arith, lt)))));
+    }

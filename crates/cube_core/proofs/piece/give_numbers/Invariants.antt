@@ -1,7 +1,5 @@
 use Rattle.std.proofs.Common.{ℕ, ◌≡◌, ◌≢◌, ◌*◌, ◌+◌, ◌<◌, ◌^◌, slice_index}
-use Rattle.cube_core.specs.Kind.{sample_of}
-use Rattle.cube_core.specs.Layout.{HasBytes, bytes_at}
-use Rattle.cube_core.specs.Scale.{SpellOffset}
+use Rattle.cube_core.proofs.Words.{sample_of, HasBytes, bytes_at, SpellOffset}
 use Rattle.cube_core.proofs.piece.give_numbers.Given as goal
 
 abbrev pub invariant-loop-x : goal.invariant-loop-x

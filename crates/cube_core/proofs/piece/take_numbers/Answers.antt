@@ -1,8 +1,5 @@
 use Rattle.std.proofs.Common.{ℕ, ◌≡◌, ◌*◌, ◌+◌, ◌<◌, ◌≤◌, ◌^◌, length, arith, List}
-use Rattle.cube_core.specs.declared.layout.Layout.{Layout}
-use Rattle.cube_core.specs.Kind.{SampleKind, IsSample, sample_of}
-use Rattle.cube_core.specs.Layout.{raw_number, bytes_at, twos_complement}
-use Rattle.cube_core.specs.Scale.{StandsFor}
+use Rattle.cube_core.proofs.Words.{Layout, SampleKind, IsSample, sample_of, raw_number, bytes_at, twos_complement, StandsFor}
 use Rattle.cube_core.proofs.Pieces.{item_more, others_stay, all_but_last}
 use Rattle.cube_core.proofs.piece.take_numbers.Goals as goal
 

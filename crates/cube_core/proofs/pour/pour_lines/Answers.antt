@@ -1,8 +1,5 @@
-use Rattle.std.proofs.Common.{◌≡◌, ◌+◌, ◌*◌, ◌<◌, ◌≤◌, ℕ, length, arith, IsTrue, true, rules, sym}
-use Rattle.cube_core.specs.declared.order.Place.{Place}
-use Rattle.cube_core.specs.Order.{IsOrder}
-use Rattle.cube_core.specs.Layout.{order_of}
-use Rattle.cube_core.specs.Pieces.{IsPoured}
+use Rattle.std.proofs.Common.{◌≡◌, ◌+◌, ◌*◌, ◌<◌, ◌≤◌, ℕ, length, arith, sym, refl}
+use Rattle.cube_core.proofs.Words.{Place, IsOrder, order_of, IsPoured}
 use Rattle.cube_core.proofs.Pieces.{band_more, block_ends, row_ends, piece_there}
 use Rattle.cube_core.proofs.Putting.{IsGiven, poured_there, piece_fits}
 use Rattle.cube_core.proofs.Raws.{lawful_order}
@@ -34,7 +31,6 @@ loop-z-preserved c =
     let p = c.new-piece.result in
     let s = c.args.shape in
     let counted : c.min-count.result ≡ c.new-piece.result.count = sym c.new-piece.ensures.count in
-    let t : IsTrue true = search rules in
     let given : IsGiven c.args.shape c.args.kind c.args.layout c.args.offsets.now c.loop-z.bytes c.give_piece.new.bytes c.loop-z.z c.loop-y.y c.loop-x.x p.at
     c.min-count.result p.first p.step = record {
       band = omega (arith, c.bands-z-end.ensures.value);
@@ -43,7 +39,7 @@ loop-z-preserved c =
       at_is = c.new-piece.ensures.at;
       items = c.new-piece.ensures.items;
       given = rw (counted, ← c.new-scale.ensures.0) c.give_piece.ensures.given;
-      good = rw (counted, ← c.new-scale.ensures.0) (c.if-not-give_piece.ensures.good.0 t);
+      good = rw (counted, ← c.new-scale.ensures.0) (c.if-not-give_piece.ensures.good.0 refl);
       others = rw counted c.give_piece.ensures.others;
     } in
     band_more s (IsPoured s c.args.kind c.args.layout c.args.offsets.now c.loop-z.bytes)

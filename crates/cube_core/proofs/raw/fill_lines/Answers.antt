@@ -1,7 +1,5 @@
-use Rattle.std.proofs.Common.{◌≡◌, ◌+◌, ◌*◌, ◌<◌, ◌≤◌, ℕ, length, arith, IsTrue, true, rules, sym}
-use Rattle.cube_core.specs.declared.order.Place.{Place}
-use Rattle.cube_core.specs.Shape.{sample_count}
-use Rattle.cube_core.specs.Raw.{IsOffsetOf}
+use Rattle.std.proofs.Common.{◌≡◌, ◌+◌, ◌*◌, ◌<◌, ◌≤◌, ℕ, length, arith, sym, refl}
+use Rattle.cube_core.proofs.Words.{Place, sample_count, IsOffsetOf}
 use Rattle.cube_core.proofs.Pieces.{IsTaken, offset_there, band_more, piece_there, piece_good}
 use Rattle.cube_core.proofs.Raws.{lawful_order}
 use Rattle.cube_core.proofs.raw.fill_lines.Goals as goal
@@ -30,7 +28,6 @@ loop-z-preserved c =
     let p = c.new-piece.result in
     let s = c.args.shape in
     let counted : c.min-count.result ≡ c.new-piece.result.count = sym c.new-piece.ensures.count in
-    let t : IsTrue true = search rules in
     let taken : IsTaken c.args.shape c.args.kind c.args.layout c.args.bytes.now c.loop-z.offsets c.take_piece.new.offsets c.loop-z.z c.loop-y.y c.loop-x.x p.at
     c.min-count.result p.first p.step = record {
       band = omega (arith, c.bands-z-end.ensures.value);
@@ -39,7 +36,7 @@ loop-z-preserved c =
       at_is = c.new-piece.ensures.at;
       items = c.new-piece.ensures.items;
       taken = rw (counted, ← c.new-scale.ensures.0) c.take_piece.ensures.taken;
-      good = rw (counted, ← c.new-scale.ensures.0) (c.if-not-take_piece.ensures.good.0 t);
+      good = rw (counted, ← c.new-scale.ensures.0) (c.if-not-take_piece.ensures.good.0 refl);
       others = rw counted c.take_piece.ensures.others;
     } in
     band_more s (IsOffsetOf s c.args.kind c.args.layout c.args.bytes.now c.loop-z.offsets)

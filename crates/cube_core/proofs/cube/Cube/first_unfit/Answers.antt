@@ -1,9 +1,6 @@
-use Rattle.std.proofs.Common.{◌≡◌, ◌+◌, ◌<◌, ◌≤◌, ◌∙◌, sym, arith, ap, drop, length, length-drop, SFits, w32, to_z-of_z, rules, IsTrue, true, false, ℕ, pos}
-use Rattle.std.proofs.Common.{slice_index_or}
-use Rattle.cube_core.specs.Shape.{Sizes, sample_count}
-use Rattle.cube_core.specs.Order.{IsOrder, places}
-use Rattle.cube_core.specs.declared.layout.RawOrder.{RawOrder}
-use Rattle.cube_core.specs.Layout.{order_of, samples_in, HasBytesAt}
+use Rattle.std.proofs.Common.{◌≡◌, ◌+◌, ◌<◌, ◌≤◌, ◌∙◌, sym, arith, ap, drop, length, length-drop, SFits, w32, to_z-of_z, ℕ, pos, refl, slice_index_or}
+use Rattle.std.proofs.lemmas.Bool.{false≢true}
+use Rattle.cube_core.proofs.Words.{Sizes, sample_count, IsOrder, places, RawOrder, order_of, samples_in, HasBytesAt}
 use Rattle.cube_core.proofs.Orders.{StandsAt, length-places}
 use Rattle.cube_core.proofs.Raws.{next_stands, lawful_order}
 use Rattle.cube_core.proofs.Poured.{sample_there, length-samples_in, bytes_more}
@@ -30,9 +27,6 @@ sample_is c lt there =
     sample_there _ _ _ _ (lawful _ _ _ _ c.shape-shape.ensures c.sample_count-count.ensures.value c.sample_count-count.ensures.range.0) lt there
     ∙ sym c.sample-sample.ensures.value
 
-narrow : (c : After-sample-sample) → SFits w32 c.sample-sample.result
-narrow c = search rules
-
 pub loop-place-init : goal.loop-place-init
 loop-place-init c = record { left = simp (c.order.ensures, c.shape-shape.ensures) at c.new-places.ensures; fit = λ j lt. absurd (omega (arith, lt)) }
 
@@ -43,13 +37,12 @@ pub returns-then-not-has : goal.returns-then-not-has
 returns-then-not-has c =
     let d = (goal.at.returns-then-not-has c).After-sample-sample in
     let s = stands (goal.at.returns-then-not-has c).In-Some in
-    let g = narrow d in
-    let no : IsTrue false → ⊥ = search rules in
+    let g : SFits w32 c.sample-sample.result = record { sfits = c.sample-sample.type_inv } in
     let spelled = simp (to_z-of_z g, c.in_bytes-spelled.ensures, c.kind-kind.ensures) at c.if-not-has.ensures.1 in
     record {
       there = rw (length-samples_in c.args.self.now c.args.layout
           (lawful c.args.layout.order _ _ _ c.shape-shape.ensures c.sample_count-count.ensures.value c.sample_count-count.ensures.range.0)) s.0;
-      unfit = λ h. no (spelled (rw (sample_is d s.0 s.1) at h));
+      unfit = λ h. false≢true (spelled (rw (sample_is d s.0 s.1) at h));
       first = c.loop-place.invariant.fit;
     }
 
@@ -62,10 +55,9 @@ pub loop-place-preserved : goal.loop-place-preserved
 loop-place-preserved c =
     let d = (goal.at.loop-place-preserved c).After-sample-sample in
     let s = stands (goal.at.loop-place-preserved c).In-Some in
-    let g = narrow d in
-    let yes : IsTrue true = search rules in
+    let g : SFits w32 c.sample-sample.result = record { sfits = c.sample-sample.type_inv } in
     let fits = simp (to_z-of_z g, c.in_bytes-spelled.ensures, c.kind-kind.ensures) at c.if-not-has.ensures.0 in
-    let here : HasBytesAt c.args.self.now c.args.layout c.loop-place.i = rw (sample_is d s.0 s.1) (fits yes) in
+    let here : HasBytesAt c.args.self.now c.args.layout c.loop-place.i = rw (sample_is d s.0 s.1) (fits refl) in
     record { left = s.2; fit = bytes_more c.args.self.now c.args.layout c.loop-place.i here c.loop-place.invariant.fit }
 
 pub unreachable-requires : goal.unreachable-requires

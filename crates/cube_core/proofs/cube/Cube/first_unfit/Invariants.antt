@@ -1,6 +1,5 @@
 use Rattle.std.proofs.Common.{◌≡◌, length, drop}
-use Rattle.cube_core.specs.Order.{places}
-use Rattle.cube_core.specs.Layout.{order_of, HaveBytes}
+use Rattle.cube_core.proofs.Words.{places, order_of, HaveBytes}
 use Rattle.cube_core.proofs.cube.Cube.first_unfit.Given as goal
 
 abbrev pub invariant-loop-place : goal.invariant-loop-place

@@ -1,4 +1,4 @@
-use Rattle.std.proofs.Common.{◌≡◌, length, arith, refl}
+use Rattle.std.proofs.Common.{◌≡◌, length, arith, refl, rules}
 use Rattle.std.proofs.lemmas.List.{with_items_is}
 use Rattle.std.specs.Vec.{with_items}
 use Rattle.cube_core.specs.Shape.{sample_count}
@@ -14,8 +14,7 @@ items : (c : In_ok-fill) → (with_items c.in_ok-offsets.offsets c.fill.new.offs
 items c = with_items_is c.in_ok-offsets.offsets c.fill.new.offsets (omega (arith, c.fill.auto.offsets, c.deref_mut.ensures.len))
 
 pub invariant_of-result : goal.invariant_of-result
-invariant_of-result c =
-    rw (items c) (are_offsets _ _ _ _ _ (omega arith) (full c) c.in_ok-fill.ensures.filled)
+invariant_of-result c = rw (items c) (are_offsets _ _ _ _ _ (omega arith) (full c) c.in_ok-fill.ensures.filled)
 
 pub returns-clause-cube : goal.returns-clause-cube
 returns-clause-cube c = (
@@ -33,3 +32,15 @@ returns-clause-whole c =
 pub returns-clause-fits : goal.returns-clause-fits
 returns-clause-fits c =
     rw (items c) (have_bytes_again _ _ _ _ _ c.requires (omega arith) (λ i. omega (arith, c.type_inv.bytes i)) (full c) c.in_ok-fill.ensures.filled)
+
+pub fill-requires-clause-whole : goal.fill-requires-clause-whole
+fill-requires-clause-whole c = omega arith
+
+pub returns-clause-length : goal.returns-clause-length
+returns-clause-length c = (λ e. absurd (cc), λ n. absurd (n (omega arith)))
+
+pub returns-in_err-offsets-clause-length : goal.returns-in_err-offsets-clause-length
+returns-in_err-offsets-clause-length c = (search rules, λ n. absurd (n (omega arith)))
+
+pub returns-in_err-fill-clause-length : goal.returns-in_err-fill-clause-length
+returns-in_err-fill-clause-length c = (search rules, λ n. absurd (n (omega arith)))

@@ -1,9 +1,6 @@
 use Rattle.std.proofs.Common.{◌≡◌, ◌<◌, List, ℕ, length, get_or, ◌∙◌, subst, sym}
 use Rattle.std.proofs.lemmas.List.{length-map}
-use Rattle.cube_core.specs.Shape.{Sizes, AreSizes}
-use Rattle.cube_core.specs.Kind.{SampleKind, IsKind, IsSample}
-use Rattle.cube_core.specs.Image.{IsCube}
-use Rattle.cube_core.specs.Offsets.{samples_of, AreOffsets}
+use Rattle.cube_core.proofs.Words.{Sizes, AreSizes, SampleKind, IsKind, IsSample, IsCube, samples_of, AreOffsets}
 use Rattle.cube_core.proofs.Offsets.{sample_read, offset_is_sample}
 use Rattle.cube_core.proofs.cube.Cube.prove_is_cube.Goals as goal
 

@@ -1,10 +1,8 @@
-use Rattle.std.proofs.Common.{◌≡◌, ◌∙◌, ◌*◌, ◌<◌, sym, ap, length, arith, IsTrue, true, false, rules}
+use Rattle.std.proofs.Common.{◌≡◌, ◌∙◌, ◌*◌, ◌<◌, sym, ap, length, arith, IsTrue, true, refl}
+use Rattle.std.proofs.lemmas.Bool.{false≢true}
 use Rattle.std.proofs.lemmas.List.{with_items_is}
 use Rattle.std.specs.Vec.{with_items}
-use Rattle.cube_core.specs.Shape.{sample_count}
-use Rattle.cube_core.specs.Image.{Image}
-use Rattle.cube_core.specs.Offsets.{samples_of}
-use Rattle.cube_core.specs.Pieces.{ArePoured}
+use Rattle.cube_core.proofs.Words.{sample_count, Image, samples_of, ArePoured}
 use Rattle.cube_core.proofs.Poured.{raw_bytes_poured, have_bytes_poured, can_be_poured}
 use Rattle.cube_core.proofs.cube.Cube.to_raw.Goals as goal
 use Rattle.cube_core.proofs.cube.Cube.to_raw.Goals.{After-pour}
@@ -28,13 +26,12 @@ long c = omega (arith, c.pour.auto.bytes, c.deref_mut.ensures.len, c.in_ok-bytes
 pub first_unfit-requires-clause-some : goal.first_unfit-requires-clause-some
 first_unfit-requires-clause-some c = λ have.
     let d = (goal.at.first_unfit-requires-clause-some c).After-pour in
-    let no : IsTrue false → ⊥ = search rules in
     let can = can_be_poured _ _ _ _ _ (image_is d) (some d) (full d) have in
-    no (c.if-pour.ensures.good (rw c.deref.ensures.value can))
+    false≢true (c.if-pour.ensures.good (rw c.deref.ensures.value can))
 
 poured : (c : After-pour) → (IsTrue true → ArePoured c.shape-shape.result c.self.inside.kind c.args.layout c.deref.result.now c.pour.new.bytes)
     → ArePoured c.shape-shape.result c.self.inside.kind c.args.layout c.self.inside.offsets.items c.pour.new.bytes
-poured c h = let yes : IsTrue true = search rules in rw c.deref.ensures.value at (h yes)
+poured c h = rw c.deref.ensures.value at (h refl)
 
 pub returns-then-pour-clause-bytes : goal.returns-then-pour-clause-bytes
 returns-then-pour-clause-bytes c =

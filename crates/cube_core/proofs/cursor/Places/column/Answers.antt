@@ -16,3 +16,6 @@ returns-in-Bi-clause-along c i p lt first =
     let more : 0 < walk.left = omega arith in
     let inside : i < walk.spot.end - walk.spot.place.z = omega (arith, lt, c.from.ensures) in
     column_of walk.shape walk.order c.in-Bi.field-0 walk.spot walk.left c.args.self.now i p c.in-Bi.is c.self.invariant more c.self.view_is inside first
+
+pub returns-in-Bsq-clause-some : goal.returns-in-Bsq-clause-some
+returns-in-Bsq-clause-some c = λ p first. omega arith

@@ -1,4 +1,4 @@
-use Rattle.std.proofs.Common.{◌<◌, ◌-◌, ◌+◌, arith, ap, drop, ◌∙◌}
+use Rattle.std.proofs.Common.{◌<◌, ◌-◌, ◌+◌, arith, ap, drop, ◌∙◌, ◌≡◌}
 use Rattle.cube_core.proofs.Walks.{at_most_left, walk_on, rest_behind}
 use Rattle.cube_core.proofs.cursor.Places.go_by.Goals as goal
 
@@ -33,3 +33,6 @@ loop-rest-preserved c =
       omega (arith, kept.1),
       rest_behind walk.shape walk.order walk.left _ (on + 1) kept.0.few kept.1 (omega arith) ∙ kept.2,
     )
+
+pub returns : goal.returns
+returns c = let none : c.loop-rest.rest ≡ 0 = omega (arith, c.loop-rest-test.false) in rw none at c.loop-rest.invariant.2

@@ -10,20 +10,13 @@ two_bytes : (bytes sum rebased : ℕ) → bytes ≢ 1 → (bytes ≡ 1) ⊎ (byt
 two_bytes bytes sum rebased n (inl e) t = absurd (n e)
 two_bytes bytes sum rebased n (inr e) t = rw e (omega arith)
 
-pub returns-clause-value : goal.returns-clause-value
-returns-clause-value g c =
+pub returns : goal.returns
+returns g c =
     let s = c.args.self.now in
     let t : c.if-this-eq1.rebased ≡ (c.args.number + s.half) % 2 ^ (8 * g.row.BYTES) = elim c.if-this-eq1.branch [
       | then-this-eq1 w ↦ one_byte _ _ _ w.if-this-eq1.true w.rebased-is
       | else-this-eq1 w ↦ two_bytes _ _ _ w.if-this-eq1.false c.requires.width w.rebased-is
     ] in
-    (stands s.kind g.row.BYTES _ s.half s.lift _ s.kind_is c.requires.width c.requires.number (rw c.requires.bytes at s.half_is) (omega arith) s.lift_is t).0
-
-pub returns-clause-range : goal.returns-clause-range
-returns-clause-range g c =
-    let s = c.args.self.now in
-    let t : c.if-this-eq1.rebased ≡ (c.args.number + s.half) % 2 ^ (8 * g.row.BYTES) = elim c.if-this-eq1.branch [
-      | then-this-eq1 w ↦ one_byte _ _ _ w.if-this-eq1.true w.rebased-is
-      | else-this-eq1 w ↦ two_bytes _ _ _ w.if-this-eq1.false c.requires.width w.rebased-is
-    ] in
-    (stands s.kind g.row.BYTES _ s.half s.lift _ s.kind_is c.requires.width c.requires.number (rw c.requires.bytes at s.half_is) (omega arith) s.lift_is t).1
+    let found = stands s.kind g.row.BYTES _ s.half s.lift _ s.kind_is c.requires.width c.requires.number (rw c.requires.bytes at s.half_is) (omega arith)
+    s.lift_is t in
+    record { value = found.0; range = found.1 }
