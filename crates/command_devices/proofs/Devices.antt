@@ -1,10 +1,11 @@
 -- What is known of a device after one call and another.
-use Rattle.std.proofs.Common.{◌≡◌, ℕ, ◌+◌, ◌-◌, ◌<◌, ◌≤◌, List, ◌++◌, length, take, drop, Option, Some, inl, inr, sym, ap, ◌∙◌, subst, append_assoc}
+use Rattle.std.proofs.Common.{◌≡◌, ℕ, ◌+◌, ◌-◌, ◌<◌, ◌≤◌, List, ◌++◌, length, take, drop, Option, Some, inl, inr, ◌⊎◌, append-nil, sym, ap, ◌∙◌, subst, append_assoc, refl}
 use Rattle.std.proofs.Common.{length-drop, length-take, take-add, take-take, arith}
 use Rattle.std.proofs.lemmas.List.{take_all, take-append-le, take-append-drop, drop_at, take_at}
+use Rattle.std.proofs.lemmas.Option.{same_Some}
 use Rattle.std.proofs.Math.Seq.{take-append-add}
 use borrow.Rule.Slice.PartMut.{put_mid, post_of}
-use Rattle.command_devices.specs.Devices.{Gave, Took, Rises, Rose, CountsStall}
+use Rattle.command_devices.specs.Devices.{Gave, Took, Rises, Rose, CountsStall, IsAll, IsEnd}
 
 pub took_more : (a b c : Option (List ℕ)) (x y : List ℕ) → Took a b x → Took b c y → Took a c (x ++ y)
 took_more a b c x y first second before e = second (before ++ x) (first before e) ∙ ap (λ (bytes : List ℕ). Some bytes) (append_assoc before x y)
@@ -56,3 +57,18 @@ read_more had n old new h kept =
 -- what more was put behind bytes changes none of their first
 pub front_kept : (had : ℕ) (old new : List ℕ) → had ≤ length old → take (length old) new ≡ old → take had new ≡ take had old
 front_kept had old new h kept = sym (take-take had (length old) new h) ∙ ap (λ (x : List ℕ). take had x) kept
+
+-- what is copied from the front of what a source has left was given
+pub cut_gave : (left given rest : List ℕ) (n : ℕ) (behind : List ℕ) → given ≡ take n left → rest ≡ drop n left → n ≤ length left
+    → Gave (Some left) (Some rest) (take n (given ++ behind))
+cut_gave left given rest n behind front back within before e =
+    let all : take n (given ++ behind) ≡ take n left = take_at given behind n (ap (λ (x : List ℕ). length x) front ∙ omega (arith, length-take n left)) ∙ front in
+    (rest, refl, rw (all, back) (sym (same_Some left before e) ∙ sym (take-append-drop n left)))
+
+-- bytes fewer than the limit, with which reading ended, are all of them
+pub all_read : (limit : ℕ) (old new : Option (List ℕ)) (bytes : List ℕ) → Gave old new bytes → (length bytes ≡ limit) ⊎ IsEnd new → length bytes < limit
+    → IsAll old bytes
+all_read limit old new bytes given (inl e) below input h = absurd (omega (arith, e, below))
+all_read limit old new bytes given (inr end) below input e =
+    let gave = given input e in
+    gave.2 ∙ ap (λ (rest : List ℕ). bytes ++ rest) (end gave.0 gave.1) ∙ append-nil bytes

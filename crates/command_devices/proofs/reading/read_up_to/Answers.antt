@@ -1,7 +1,7 @@
-use Rattle.std.proofs.Common.{◌≡◌, ◌+◌, ◌++◌, ◌∙◌, ℕ, List, take, drop, arith, ap, refl}
+use Rattle.std.proofs.Common.{◌≡◌, ◌+◌, ◌++◌, ◌∙◌, ℕ, List, take, drop, arith, ap, refl, inl, inr}
 use Rattle.std.proofs.lemmas.List.{with_items_is}
 use Rattle.std.specs.Vec.{with_items}
-use Rattle.command_devices.proofs.Devices.{gave_more, read_more, front_kept}
+use Rattle.command_devices.proofs.Devices.{gave_more, read_more, front_kept, rises_is_rose}
 use Rattle.command_devices.proofs.reading.read_up_to.Goals as goal
 use Rattle.command_devices.proofs.reading.read_up_to.Goals.{then-had-len+in_ok-grow, else-had-len}
 
@@ -28,3 +28,22 @@ loop-had-preserved g c =
       ];
       worked = c.in-Ok.ensures.worked ∙ c.loop-had.invariant.worked;
     }
+
+pub returns-in_default-clause-front : goal.returns-in_default-clause-front
+returns-in_default-clause-front g c = tt
+
+pub returns-in_default-clause-whole : goal.returns-in_default-clause-whole
+returns-in_default-clause-whole g c = tt
+
+pub returns-in_default-clause-worked : goal.returns-in_default-clause-worked
+returns-in_default-clause-worked g c = tt
+
+pub returns-in_default-clause-refused : goal.returns-in_default-clause-refused
+returns-in_default-clause-refused g c =
+    inr (refl, rises_is_rose _ _ (rw c.loop-had.invariant.worked at c.in_default.ensures.failed))
+
+pub returns-in_default-clause-told : goal.returns-in_default-clause-told
+returns-in_default-clause-told g c = inl refl
+
+pub returns-in_default-clause-unfilled : goal.returns-in_default-clause-unfilled
+returns-in_default-clause-unfilled g c e = absurd cc

@@ -1,4 +1,5 @@
 use Rattle.std.proofs.Common.{◌≡◌, ◌≤◌, ◌∙◌, ℕ, List, take, drop, take-add, length, inl, inr, refl, ap, arith, append-nil, length-drop, []}
+use Rattle.std.proofs.lemmas.List.{take_all}
 use Rattle.command_devices.proofs.Devices.{took_more, rises_is_rose, no_stall, stall_rises, rest_is}
 use Rattle.command_devices.proofs.writing.write_all.Goals as goal
 use Rattle.command_devices.proofs.writing.write_all.Goals.{In-Ok}
@@ -34,6 +35,10 @@ returns-in_default-2-clause-cut g c =
       rw append-nil at took,
       inl (rises_is_rose _ _ (rw c.loop-written.invariant.failures at c.in_default.ensures.failed.0)),
     )
+
+pub returns-clause-whole : goal.returns-clause-whole
+returns-clause-whole g c =
+    rw (take_all c.loop-written.written c.args.bytes.now (omega arith)) at c.loop-written.invariant.took
 
 pub returns-clause-worked : goal.returns-clause-worked
 returns-clause-worked g c = search
