@@ -1,5 +1,6 @@
 -- What is known of a device after one call and another.
-use Rattle.std.proofs.Common.{◌≡◌, ℕ, ◌+◌, ◌-◌, ◌<◌, ◌≤◌, List, ◌++◌, length, take, drop, Option, Some, inl, inr, ◌⊎◌, append-nil, sym, ap, ◌∙◌, subst, append_assoc, refl}
+use Rattle.std.proofs.Common.{◌≡◌, ℕ, ◌+◌, ◌-◌, ◌<◌, ◌≤◌, List, ◌++◌, length, take, drop, Option, Some, inl, inr, ◌⊎◌}
+use Rattle.std.proofs.Common.{refl, sym, ap, ◌∙◌, subst, append_assoc, append-nil}
 use Rattle.std.proofs.Common.{length-drop, length-take, take-add, take-take, arith}
 use Rattle.std.proofs.lemmas.List.{take_all, take-append-le, take-append-drop, drop_at, take_at}
 use Rattle.std.proofs.lemmas.Option.{same_Some}
@@ -62,7 +63,8 @@ front_kept had old new h kept = sym (take-take had (length old) new h) ∙ ap (�
 pub cut_gave : (left given rest : List ℕ) (n : ℕ) (behind : List ℕ) → given ≡ take n left → rest ≡ drop n left → n ≤ length left
     → Gave (Some left) (Some rest) (take n (given ++ behind))
 cut_gave left given rest n behind front back within before e =
-    let all : take n (given ++ behind) ≡ take n left = take_at given behind n (ap (λ (x : List ℕ). length x) front ∙ omega (arith, length-take n left)) ∙ front in
+    let long : length given ≡ n = ap (λ (x : List ℕ). length x) front ∙ omega (arith, length-take n left) in
+    let all : take n (given ++ behind) ≡ take n left = take_at given behind n long ∙ front in
     (rest, refl, rw (all, back) (sym (same_Some left before e) ∙ sym (take-append-drop n left)))
 
 -- bytes fewer than the limit, with which reading ended, are all of them
