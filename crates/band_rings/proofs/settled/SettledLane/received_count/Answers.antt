@@ -5,4 +5,5 @@ use Rattle.band_rings.proofs.settled.SettledLane.received_count.Goals as goal
 pub returns : goal.returns
 returns c =
     let both = ap (λ (x : List ℕ). length x) c.self.invariant.0 in
-    rw (← c.self.view_is) (omega (arith, c.sent_count.ensures, both, c.self.invariant.1, length-append (received c.self.inside.consumer) (known_items c.self.inside.consumer)))
+    let lengths = length-append (received c.self.inside.consumer) (known_items c.self.inside.consumer) in
+    rw (← c.self.view_is) (omega (arith, c.sent_count.ensures, both, c.self.invariant.1, lengths))
