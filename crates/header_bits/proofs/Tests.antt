@@ -18,6 +18,13 @@ infixr 10 ◌then_fine◌
 pub ◌then_fine◌ : {a b : Test} → a ≡ fine → b ≡ fine → (a >> b) ≡ fine
 p then_fine q = rw (p, q) refl
 
+-- a test passed, and the next one decides; or it refused
+pub passed : {t rest r : Test} → fine ≡ t → r ≡ rest → r ≡ (t >> rest)
+passed e h = rw (← e) h
+
+pub refused : {t : Test} {f : Fault} (rest : Test) → Err f ≡ t → Err f ≡ (t >> rest)
+refused rest e = rw (← e) refl
+
 pub refuse_ok : (b : Bool) (f : Fault) → refuse_if b f ≡ fine → b ≡ false
 refuse_ok true f e = absurd cc
 refuse_ok false f e = refl

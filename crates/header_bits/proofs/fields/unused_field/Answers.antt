@@ -1,5 +1,4 @@
-use Rattle.std.proofs.Common.{rules, arith}
 use Rattle.header_bits.proofs.fields.unused_field.Goals as goal
 
 pub returns : goal.returns
-returns c = search (rules, arith)
+returns c = rw (← c.total_bits.ensures.total, ← c.width.ensures) c.unused.ensures

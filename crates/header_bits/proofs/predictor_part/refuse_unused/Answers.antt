@@ -1,5 +1,4 @@
-use Rattle.std.proofs.Common.{rules}
 use Rattle.header_bits.proofs.predictor_part.refuse_unused.Goals as goal
 
 pub returns : goal.returns
-returns c = search rules
+returns c = rw (← c.image_end.ensures) c.unused_field.ensures

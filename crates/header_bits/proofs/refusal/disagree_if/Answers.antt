@@ -1,4 +1,4 @@
 use Rattle.header_bits.proofs.refusal.disagree_if.Goals as goal
 
 pub returns : goal.returns
-returns c = search
+returns c = c.refuse_if.ensures

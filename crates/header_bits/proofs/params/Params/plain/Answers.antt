@@ -1,5 +1,5 @@
-use Rattle.std.proofs.Common.{rules}
+use Rattle.std.proofs.Common.{refl}
 use Rattle.header_bits.proofs.params.Params.plain.Goals as goal
 
 pub returns : goal.returns
-returns c = search rules
+returns c = rw c.plain.ensures refl

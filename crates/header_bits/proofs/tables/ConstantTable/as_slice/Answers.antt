@@ -1,4 +1,5 @@
+use Rattle.std.proofs.Common.{◌∙◌}
 use Rattle.header_bits.proofs.tables.ConstantTable.as_slice.Goals as goal
 
 pub returns : goal.returns
-returns c = search
+returns c = c.deref.ensures.value ∙ c.self.view_is

@@ -1,4 +1,4 @@
 use Rattle.header_bits.proofs.tables.WeightTable.into_vec.Goals as goal
 
 pub returns : goal.returns
-returns c = search
+returns c = c.self.view_is
