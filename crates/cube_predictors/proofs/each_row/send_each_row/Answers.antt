@@ -1,10 +1,10 @@
-use Rattle.std.proofs.Common.{◌+◌, ◌-◌, ◌∷◌, [], ℕ, List, refl, ap, take, drop, arith}
+use Rattle.std.proofs.Common.{◌+◌, ◌-◌, ◌∷◌, [], ◌≤◌, ℕ, List, refl, ap, take, drop, length-take, length-drop, arith}
 use Rattle.std.specs.List.{flat_map}
 use Rattle.cube_predictors.specs.Own.{row_of}
 use Rattle.cube_predictors.specs.Sends.{bands_of}
 use Rattle.cube_predictors.proofs.Sending.{Steps, none_yet, stepped, some_rest, next_bands, parted_put}
 use Rattle.cube_predictors.proofs.each_row.send_each_row.Goals as goal
-use Rattle.cube_predictors.proofs.each_row.send_each_row.Goals.{After-min-count}
+use Rattle.cube_predictors.proofs.each_row.send_each_row.Goals.{After-min-count, then-columns-le-RUN, else-columns-le-RUN}
 use Rattle.cube_predictors.proofs.each_row.send_each_row.Given.{Over}
 
 module _ (g : Over) (c : After-min-count g) where
@@ -35,3 +35,11 @@ loop-first-preserved g c =
 
 pub loop-first-init : goal.loop-first-init
 loop-first-init g c = record { parted = record { done = tt; left = c.requires.at; same = refl }; sent = none_yet g.met.T.Taker.laws c.requires.may }
+
+pub send_next_rows-requires-clause-room : goal.send_next_rows-requires-clause-room
+send_next_rows-requires-clause-room g c = λ two.
+    let several : 2 ≤ c.if-columns-le-RUN.most = omega (arith, simp (length-take, length-drop) at two) in
+    elim c.if-columns-le-RUN.branch [
+      | then-columns-le-RUN w ↦ omega (arith, ap (λ s. s.columns) c.shape.ensures)
+      | else-columns-le-RUN w ↦ absurd (omega (arith, several, w.most-is))
+    ]

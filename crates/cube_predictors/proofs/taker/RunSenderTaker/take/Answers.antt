@@ -3,7 +3,7 @@ use Rattle.std.proofs.lemmas.List.{take_rest}
 use Rattle.lane_workers.specs.Runs.{RunSending}
 use Rattle.cube_predictors.specs.Sends.{Sends}
 use Rattle.cube_predictors.specs.TakingLaws.{sendings_are}
-use Rattle.cube_predictors.proofs.Sending.{stepped, run_piece}
+use Rattle.cube_predictors.proofs.Sending.{none_yet, stepped, run_piece}
 use Rattle.cube_predictors.proofs.taker.RunSenderTaker.take.Goals as goal
 
 sent_some : {G : Type 0} {old new : RunSending G} {result : Bool} {ns : List ℕ}
@@ -27,3 +27,6 @@ loop-first-preserved g c =
       sent = rw take-add (sendings_are.behind _ _ _ true _ _ c.loop-first.invariant.sent
           (sent_some told.same (rw take_rest at told.taken) some (λ h. absurd (cc))));
     }
+
+pub loop-first-init : goal.loop-first-init
+loop-first-init g c = record { within = omega arith; sent = none_yet sendings_are c.requires }
