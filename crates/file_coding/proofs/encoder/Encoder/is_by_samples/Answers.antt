@@ -1,8 +1,7 @@
-use Rattle.std.proofs.Common.{rules}
 use Rattle.file_coding.proofs.encoder.Encoder.is_by_samples.Goals as goal
 
-pub returns-in-Samples-clause-blocks : goal.returns-in-Samples-clause-blocks
-returns-in-Samples-clause-blocks c = search rules
+pub returns-in-Samples : goal.returns-in-Samples
+returns-in-Samples c = record { samples = λ yes. rw c.in-Samples.is tt; blocks = λ no. absurd cc }
 
-pub returns-in-Blocks-clause-samples : goal.returns-in-Blocks-clause-samples
-returns-in-Blocks-clause-samples c = search rules
+pub returns-in-Blocks : goal.returns-in-Blocks
+returns-in-Blocks c = record { samples = λ yes. absurd cc; blocks = λ no. rw c.in-Blocks.is tt }
