@@ -1,11 +1,16 @@
-use Rattle.std.proofs.Common.{rules}
+use Rattle.std.proofs.lemmas.Result.{err_from_is_err_and}
 use Rattle.header_bits.specs.Layout.{total}
+use Rattle.header_bits.proofs.Tests.{passed, refused}
 use Rattle.header_bits.proofs.predictor_part.test_numbers.Goals as goal
 
 pub returns-in_err-refuse_unused : goal.returns-in_err-refuse_unused
 unfolding total
-returns-in_err-refuse_unused c = search rules
+returns-in_err-refuse_unused c =
+    let p = err_from_is_err_and c.from_residual-in_err-refuse_unused.result c.from_residual-in_err-refuse_unused.ensures.1 in
+    rw (p.1, p.2) (passed c.in_ok-out_of_range_if.ensures (passed (rw c.bits.ensures.value at c.in_ok-disagree_if.ensures)
+    (passed c.in_ok-out_of_range_if-2.ensures (passed c.in_ok-disagree_if-2.ensures (refused _ c.in_err-refuse_unused.ensures)))))
 
 pub returns : goal.returns
 unfolding total
-returns c = search rules
+returns c = passed c.in_ok-out_of_range_if.ensures (passed (rw c.bits.ensures.value at c.in_ok-disagree_if.ensures)
+    (passed c.in_ok-out_of_range_if-2.ensures (passed c.in_ok-disagree_if-2.ensures (passed c.in_ok-refuse_unused.ensures c.test_start.ensures))))
