@@ -25,3 +25,6 @@ returns g c =
     (same ∙ sym (own_is_part _ _ _ _ c.requires.image.shape))
     (keeps_part (g.G.Gate.may_stop c.args.gate.now) _ _ _ _ _ _ _ (ap (λ s. s.taken) c.new-sender.ensures ∙ c.requires.sent) told
     (rw (told.gate, told.predictor, told.lane, c.new-sender.ensures) at c.end.ensures.keeps) c.end.ensures.stopped)
+
+pub send_own-all-requires-clause-bands : goal.send_own-all-requires-clause-bands
+send_own-all-requires-clause-bands g c = rw (c.params-params.ensures, c.deal-deal.ensures, c.deref_mut.ensures.value) c.requires.bands
