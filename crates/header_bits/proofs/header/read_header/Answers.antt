@@ -36,11 +36,6 @@ returns-in_err-params c =
       none = rw (p.1, p.2) (inl want.0);
     }
 
-pub overflow_sub-result : goal.overflow_sub-result
-overflow_sub-result c =
-    let parts = rw c.new-reader.ensures.left at c.in_ok-parts.ensures.reads in
-    omega (arith, left_within _ (bits_of_bytes c.args.bytes.now) c.look_through.new.reader.left parts, length-bits_of_bytes c.args.bytes.now, c.left.ensures)
-
 pub returns : goal.returns
 returns c =
     let x = c.in_ok-parts.parts in
@@ -59,3 +54,8 @@ returns c =
 
 pub read_params-requires : goal.read_params-requires
 read_params-requires c = c.in_ok-parts.ensures.there
+
+pub overflow_sub-result : goal.overflow_sub-result
+overflow_sub-result c =
+    let parts = rw c.new-reader.ensures.left at c.in_ok-parts.ensures.reads in
+    omega (arith, left_within _ (bits_of_bytes c.args.bytes.now) c.look_through.new.reader.left parts, length-bits_of_bytes c.args.bytes.now, c.left.ensures)
