@@ -23,15 +23,18 @@ returns-in_err-in_range-in-Sample-2 c =
 pub returns-in_err-in_range-in-Sample-3 : goal.returns-in_err-in_range-in-Sample-3
 returns-in_err-in_range-in-Sample-3 c =
     let p = err_from_is_err_and c.from_residual-in_err-in_range-in-Sample-3.result c.from_residual-in_err-in_range-in-Sample-3.ensures.1 in
-    rw (c.in-Sample.is, p.1, p.2) (passed c.in_ok-in_range-in-Sample.ensures (passed c.in_ok-in_range-in-Sample-2.ensures (refused _ c.in_err-in_range-in-Sample-3.ensures)))
+    rw (c.in-Sample.is, p.1, p.2) (passed c.in_ok-in_range-in-Sample.ensures (passed c.in_ok-in_range-in-Sample-2.ensures
+    (refused _ c.in_err-in_range-in-Sample-3.ensures)))
 
 pub returns-in_err-disagree_if-in-Sample : goal.returns-in_err-disagree_if-in-Sample
 returns-in_err-disagree_if-in-Sample c =
     let p = err_from_is_err_and c.from_residual-in_err-disagree_if-in-Sample.result c.from_residual-in_err-disagree_if-in-Sample.ensures.1 in
-    rw (c.in-Sample.is, p.1, p.2) (passed c.in_ok-in_range-in-Sample.ensures (passed c.in_ok-in_range-in-Sample-2.ensures (passed c.in_ok-in_range-in-Sample-3.ensures (refused _ c.in_err-disagree_if-in-Sample.ensures))))
+    rw (c.in-Sample.is, p.1, p.2) (passed c.in_ok-in_range-in-Sample.ensures (passed c.in_ok-in_range-in-Sample-2.ensures
+    (passed c.in_ok-in_range-in-Sample-3.ensures (refused _ c.in_err-disagree_if-in-Sample.ensures))))
 
 pub returns-in_ok-disagree_if-in-Sample : goal.returns-in_ok-disagree_if-in-Sample
-returns-in_ok-disagree_if-in-Sample c = rw c.in-Sample.is (passed c.in_ok-in_range-in-Sample.ensures (passed c.in_ok-in_range-in-Sample-2.ensures (passed c.in_ok-in_range-in-Sample-3.ensures (passed c.in_ok-disagree_if-in-Sample.ensures c.check_count.ensures))))
+returns-in_ok-disagree_if-in-Sample c = rw c.in-Sample.is (passed c.in_ok-in_range-in-Sample.ensures (passed c.in_ok-in_range-in-Sample-2.ensures
+    (passed c.in_ok-in_range-in-Sample-3.ensures (passed c.in_ok-disagree_if-in-Sample.ensures c.check_count.ensures))))
 
 pub returns-in_err-check_block_size-in-Block : goal.returns-in_err-check_block_size-in-Block
 returns-in_err-check_block_size-in-Block c =
@@ -41,7 +44,9 @@ returns-in_err-check_block_size-in-Block c =
 pub returns-in_err-disagree_if-in-Block : goal.returns-in_err-disagree_if-in-Block
 returns-in_err-disagree_if-in-Block c =
     let p = err_from_is_err_and c.from_residual-in_err-disagree_if-in-Block.result c.from_residual-in_err-disagree_if-in-Block.ensures.1 in
-    rw (c.in-Block.is, p.1, p.2) (passed c.in_ok-check_block_size-in-Block.ensures (refused _ (rw (deep (goal.at.returns-in_err-disagree_if-in-Block c).Joined-restricted) at c.in_err-disagree_if-in-Block.ensures)))
+    rw (c.in-Block.is, p.1, p.2) (passed c.in_ok-check_block_size-in-Block.ensures
+    (refused _ (rw (deep (goal.at.returns-in_err-disagree_if-in-Block c).Joined-restricted) at c.in_err-disagree_if-in-Block.ensures)))
 
 pub returns-in_ok-disagree_if-in-Block : goal.returns-in_ok-disagree_if-in-Block
-returns-in_ok-disagree_if-in-Block c = rw c.in-Block.is (passed c.in_ok-check_block_size-in-Block.ensures (passed (rw (deep (goal.at.returns-in_ok-disagree_if-in-Block c).Joined-restricted) at c.in_ok-disagree_if-in-Block.ensures) c.in_range-in-Block.ensures))
+returns-in_ok-disagree_if-in-Block c = rw c.in-Block.is (passed c.in_ok-check_block_size-in-Block.ensures
+    (passed (rw (deep (goal.at.returns-in_ok-disagree_if-in-Block c).Joined-restricted) at c.in_ok-disagree_if-in-Block.ensures) c.in_range-in-Block.ensures))

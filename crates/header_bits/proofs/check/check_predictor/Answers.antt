@@ -22,30 +22,45 @@ returns-in_err-in_range c =
     let p = err_from_is_err_and c.from_residual.result c.from_residual.ensures.1 in
     record { fault = rw (p.1, p.2) (refused _ c.in_err-in_range.ensures); kind = rw p.1 tt; previous = rw p.1 tt; omega = rw p.1 tt }
 
-pub returns-in_err-disagree_if : goal.returns-in_err-disagree_if
-returns-in_err-disagree_if c =
+pub returns-in_err-disagree_if-clause-fault : goal.returns-in_err-disagree_if-clause-fault
+returns-in_err-disagree_if-clause-fault c =
     let p = err_from_is_err_and c.from_residual-in_err-disagree_if.result c.from_residual-in_err-disagree_if.ensures.1 in
-    record { fault = rw (p.1, p.2) (passed c.in_ok-in_range.ensures (refused _ (rw (full (goal.at.returns-in_err-disagree_if c).Joined-not-params) at c.in_err-disagree_if.ensures))); kind = rw p.1 tt; previous = rw p.1 tt; omega = rw p.1 tt }
+    rw (p.1, p.2) (passed c.in_ok-in_range.ensures
+    (refused _ (rw (full (goal.at.returns-in_err-disagree_if-clause-fault c).Joined-not-params) at c.in_err-disagree_if.ensures)))
 
-pub returns-in_err-disagree_if-2 : goal.returns-in_err-disagree_if-2
-returns-in_err-disagree_if-2 c =
+pub returns-in_err-disagree_if-2-clause-fault : goal.returns-in_err-disagree_if-2-clause-fault
+returns-in_err-disagree_if-2-clause-fault c =
     let p = err_from_is_err_and c.from_residual-in_err-disagree_if-2.result c.from_residual-in_err-disagree_if-2.ensures.1 in
-    record { fault = rw (p.1, p.2) (passed c.in_ok-in_range.ensures (passed (rw (full (goal.at.returns-in_err-disagree_if-2 c).Joined-not-params) at c.in_ok-disagree_if.ensures) (refused _ (rw (neighbour (goal.at.returns-in_err-disagree_if-2 c).Joined-not-params-2) at c.in_err-disagree_if-2.ensures)))); kind = rw p.1 tt; previous = rw p.1 tt; omega = rw p.1 tt }
+    rw (p.1, p.2) (passed c.in_ok-in_range.ensures
+    (passed (rw (full (goal.at.returns-in_err-disagree_if-2-clause-fault c).Joined-not-params) at c.in_ok-disagree_if.ensures)
+    (refused _ (rw (neighbour (goal.at.returns-in_err-disagree_if-2-clause-fault c).Joined-not-params-2) at c.in_err-disagree_if-2.ensures))))
 
-pub returns-in_err-in_range-2 : goal.returns-in_err-in_range-2
-returns-in_err-in_range-2 c =
+pub returns-in_err-in_range-2-clause-fault : goal.returns-in_err-in_range-2-clause-fault
+returns-in_err-in_range-2-clause-fault c =
     let p = err_from_is_err_and c.from_residual-in_err-in_range-2.result c.from_residual-in_err-in_range-2.ensures.1 in
-    record { fault = rw (p.1, p.2) (passed c.in_ok-in_range.ensures (passed (rw (full (goal.at.returns-in_err-in_range-2 c).Joined-not-params) at c.in_ok-disagree_if.ensures) (passed (rw (neighbour (goal.at.returns-in_err-in_range-2 c).Joined-not-params-2) at c.in_ok-disagree_if-2.ensures) (refused _ c.in_err-in_range-2.ensures)))); kind = rw p.1 tt; previous = rw p.1 tt; omega = rw p.1 tt }
+    rw (p.1, p.2) (passed c.in_ok-in_range.ensures
+    (passed (rw (full (goal.at.returns-in_err-in_range-2-clause-fault c).Joined-not-params) at c.in_ok-disagree_if.ensures)
+    (passed (rw (neighbour (goal.at.returns-in_err-in_range-2-clause-fault c).Joined-not-params-2) at c.in_ok-disagree_if-2.ensures)
+    (refused _ c.in_err-in_range-2.ensures))))
 
-pub returns-in_err-in_range-3 : goal.returns-in_err-in_range-3
-returns-in_err-in_range-3 c =
+pub returns-in_err-in_range-3-clause-fault : goal.returns-in_err-in_range-3-clause-fault
+returns-in_err-in_range-3-clause-fault c =
     let p = err_from_is_err_and c.from_residual-in_err-in_range-3.result c.from_residual-in_err-in_range-3.ensures.1 in
-    record { fault = rw (p.1, p.2) (passed c.in_ok-in_range.ensures (passed (rw (full (goal.at.returns-in_err-in_range-3 c).Joined-not-params) at c.in_ok-disagree_if.ensures) (passed (rw (neighbour (goal.at.returns-in_err-in_range-3 c).Joined-not-params-2) at c.in_ok-disagree_if-2.ensures) (passed c.in_ok-in_range-2.ensures (refused _ c.in_err-in_range-3.ensures))))); kind = rw p.1 tt; previous = rw p.1 tt; omega = rw p.1 tt }
+    rw (p.1, p.2) (passed c.in_ok-in_range.ensures
+    (passed (rw (full (goal.at.returns-in_err-in_range-3-clause-fault c).Joined-not-params) at c.in_ok-disagree_if.ensures)
+    (passed (rw (neighbour (goal.at.returns-in_err-in_range-3-clause-fault c).Joined-not-params-2) at c.in_ok-disagree_if-2.ensures)
+    (passed c.in_ok-in_range-2.ensures (refused _ c.in_err-in_range-3.ensures)))))
 
-pub returns-in_err-disagree_if-3 : goal.returns-in_err-disagree_if-3
-returns-in_err-disagree_if-3 c =
+pub returns-in_err-disagree_if-3-clause-fault : goal.returns-in_err-disagree_if-3-clause-fault
+returns-in_err-disagree_if-3-clause-fault c =
     let p = err_from_is_err_and c.from_residual-in_err-disagree_if-3.result c.from_residual-in_err-disagree_if-3.ensures.1 in
-    record { fault = rw (p.1, p.2) (passed c.in_ok-in_range.ensures (passed (rw (full (goal.at.returns-in_err-disagree_if-3 c).Joined-not-params) at c.in_ok-disagree_if.ensures) (passed (rw (neighbour (goal.at.returns-in_err-disagree_if-3 c).Joined-not-params-2) at c.in_ok-disagree_if-2.ensures) (passed c.in_ok-in_range-2.ensures (passed c.in_ok-in_range-3.ensures (refused _ (rw c.bits.ensures.value at c.in_err-disagree_if-3.ensures))))))); kind = rw p.1 tt; previous = rw p.1 tt; omega = rw p.1 tt }
+    rw (p.1, p.2) (passed c.in_ok-in_range.ensures
+    (passed (rw (full (goal.at.returns-in_err-disagree_if-3-clause-fault c).Joined-not-params) at c.in_ok-disagree_if.ensures)
+    (passed (rw (neighbour (goal.at.returns-in_err-disagree_if-3-clause-fault c).Joined-not-params-2) at c.in_ok-disagree_if-2.ensures)
+    (passed c.in_ok-in_range-2.ensures (passed c.in_ok-in_range-3.ensures (refused _ (rw c.bits.ensures.value at c.in_err-disagree_if-3.ensures)))))))
 
 pub returns-clause-fault : goal.returns-clause-fault
-returns-clause-fault c = passed c.in_ok-in_range.ensures (passed (rw (full (goal.at.returns-clause-fault c).Joined-not-params) at c.in_ok-disagree_if.ensures) (passed (rw (neighbour (goal.at.returns-clause-fault c).Joined-not-params-2) at c.in_ok-disagree_if-2.ensures) (passed c.in_ok-in_range-2.ensures (passed c.in_ok-in_range-3.ensures (passed (rw c.bits.ensures.value at c.in_ok-disagree_if-3.ensures) (c.check_update.ensures))))))
+returns-clause-fault c = passed c.in_ok-in_range.ensures
+    (passed (rw (full (goal.at.returns-clause-fault c).Joined-not-params) at c.in_ok-disagree_if.ensures)
+    (passed (rw (neighbour (goal.at.returns-clause-fault c).Joined-not-params-2) at c.in_ok-disagree_if-2.ensures) (passed c.in_ok-in_range-2.ensures
+    (passed c.in_ok-in_range-3.ensures (passed (rw c.bits.ensures.value at c.in_ok-disagree_if-3.ensures) c.check_update.ensures)))))
