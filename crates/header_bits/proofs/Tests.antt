@@ -18,6 +18,7 @@ infixr 10 ◌then_fine◌
 pub ◌then_fine◌ : {a b : Test} → a ≡ fine → b ≡ fine → (a >> b) ≡ fine
 p then_fine q = rw (p, q) refl
 
+-- a test passed, and the next one decides; or it refused
 pub passed : {t rest r : Test} → fine ≡ t → r ≡ rest → r ≡ (t >> rest)
 passed e h = rw (← e) h
 
