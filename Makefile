@@ -1,8 +1,8 @@
 PREFIX ?= /usr/local
 PROGRAM = crates/ccsds/out/ccsds
 
-# A proof or a must-fail edit for each processor, as long as the memory holds 4 GB for each of them.
-LANES = $(shell awk -v most="$$(nproc)" '/^MemAvailable/ { n = int($$2 / 4000000); print n < 1 ? 1 : n < most ? n : most }' /proc/meminfo)
+# A proof or a must-fail edit for each processor and one more, as long as the memory holds 4 GB for each of them.
+LANES = $(shell awk -v most="$$(($$(nproc) + 1))" '/^MemAvailable/ { n = int($$2 / 4000000); print n < 1 ? 1 : n < most ? n : most }' /proc/meminfo)
 
 SCRIPTS = $(addprefix tests/, command.sh limits.sh options.py sizes.py pipelines.py refused.py guards.py fuzz)
 
