@@ -25,6 +25,10 @@ passed e h = rw (← e) h
 pub refused : {t : Test} {f : Fault} (rest : Test) → Err f ≡ t → Err f ≡ (t >> rest)
 refused rest e = rw (← e) refl
 
+-- the refusal that is returned is that of the test
+pub told : {r t : Test} {f : Fault} → ((e : Fault) × (r ≡ Err e) × (e ≡ f)) → Err f ≡ t → r ≡ t
+told e h = rw (e.1, e.2) h
+
 pub refuse_ok : (b : Bool) (f : Fault) → refuse_if b f ≡ fine → b ≡ false
 refuse_ok true f e = absurd cc
 refuse_ok false f e = refl

@@ -126,15 +126,19 @@ update_fault p =
     >> exponent_or field.VMax p.vmax
     >> refuse_if (int_lt p.vmax p.vmin) (Disagree rule.ExponentOrder)
 
+abbrev pub register_fault : Params → Test
+register_fault p =
+    in_range_or field.Register 32 64 p.register
+    >> in_range_or field.Omega 4 19 p.omega
+    >> refuse_if (nat_lt p.register (p.kind.bits + p.omega + 2)) (Disagree rule.RegisterTooSmall)
+    >> update_fault p
+
 abbrev pub predictor_fault : Params → Test
 predictor_fault p =
     in_range_or field.Previous 0 15 p.previous
     >> refuse_if (not p.reduced && (p.shape.columns == 1)) (Disagree rule.FullOneColumn)
     >> refuse_if (not p.column && (p.shape.columns == 1)) (Disagree rule.NeighbourOneColumn)
-    >> in_range_or field.Register 32 64 p.register
-    >> in_range_or field.Omega 4 19 p.omega
-    >> refuse_if (nat_lt p.register (p.kind.bits + p.omega + 2)) (Disagree rule.RegisterTooSmall)
-    >> update_fault p
+    >> register_fault p
 
 -- the first refusal of parameters
 unfoldable pub params_fault : Params → Test

@@ -6,9 +6,10 @@ ghost use Rattle.cube_core.specs.declared.fault.Rule.TheVariants as rule;
 ghost use Rattle.cube_core.specs.Steps.{refuse_if};
 ghost use Rattle.cube_core.specs.Shape.{AreSizes};
 ghost use Rattle.cube_core.specs.Kind.{IsKind};
+ghost use Rattle.header_bits.specs.declared.params.Coder.TheVariants.{Sample, Block};
 ghost use Rattle.header_bits.specs.TableParts.{some_above};
-ghost use Rattle.header_bits.specs.Lawful.{IsLawful, in_range_or, exponent_or, order_fault, update_fault, predictor_fault, start_fault, weight_fault};
-ghost use Rattle.header_bits.specs.Lawful.{entries_fault, count_fault, block_size_fault, coder_fault, params_fault};
+ghost use Rattle.header_bits.specs.Lawful.{IsLawful, in_range_or, exponent_or, order_fault, update_fault, register_fault, predictor_fault, start_fault};
+ghost use Rattle.header_bits.specs.Lawful.{weight_fault, entries_fault, count_fault, block_size_fault, coder_fault, params_fault};
 
 use crate::field::Range;
 use crate::fields::{self, GREATEST_EXPONENT, LEAST_EXPONENT, is_block_size};
@@ -97,8 +98,17 @@ fn check_predictor(params: &Params) -> Result<(), Fault>
 {
     let one_column = params.shape.columns() == 1;
     in_range(Field::Previous, fields::PREVIOUS.range, params.previous)?;
-    disagree_if(!params.reduced && one_column, Rule::FullOneColumn)?;
-    disagree_if(!params.column && one_column, Rule::NeighbourOneColumn)?;
+    disagree_if(!params.reduced & one_column, Rule::FullOneColumn)?;
+    disagree_if(!params.column & one_column, Rule::NeighbourOneColumn)?;
+    check_register(params)
+}
+
+/// Refuses a register size, a weight resolution, and parameters of the weight update.
+fn check_register(params: &Params) -> Result<(), Fault>
+    ensures fault { result ≡ register_fault params.now }
+    ensures kind { OnOk result (IsKind params.now.kind) }
+    ensures omega { OnOk result (params.now.omega ≤ 19) }
+{
     in_range(Field::Register, fields::REGISTER.range, params.register)?;
     in_range(Field::Omega, fields::OMEGA.range, params.omega)?;
     let least = params.kind.bits() + params.omega + 2;
@@ -168,24 +178,40 @@ fn check_coder(params: &Params) -> Result<(), Fault>
             gamma_star,
             gamma_zero,
             start,
-        } => {
-            in_range(Field::Umax, fields::UMAX.range, *umax)?;
-            in_range(Field::GammaStar, fields::GAMMA_STAR.range, *gamma_star)?;
-            in_range(Field::GammaZero, fields::GAMMA_ZERO.range, *gamma_zero)?;
-            disagree_if(*gamma_star < *gamma_zero + 1, Rule::CounterOrder)?;
-            check_count(params, start)
-        }
+        } => check_sample(params, *umax, *gamma_star, *gamma_zero, start),
         Coder::Block {
             size,
             restricted,
             reference,
-        } => {
-            check_block_size(*size)?;
-            let deep = params.kind.bits() > 4;
-            disagree_if(*restricted && deep, Rule::RestrictedOverFour)?;
-            in_range(Field::Reference, fields::REFERENCE.range, *reference)
-        }
+        } => check_block(params, *size, *restricted, *reference),
     }
+}
+
+/// Refuses parameters of the sample-adaptive coder.
+fn check_sample(
+    params: &Params,
+    umax: u32,
+    gamma_star: u32,
+    gamma_zero: u32,
+    start: &CountStart,
+) -> Result<(), Fault>
+    ensures { result ≡ coder_fault params.now (Sample umax gamma_star gamma_zero start.now) }
+{
+    in_range(Field::Umax, fields::UMAX.range, umax)?;
+    in_range(Field::GammaStar, fields::GAMMA_STAR.range, gamma_star)?;
+    in_range(Field::GammaZero, fields::GAMMA_ZERO.range, gamma_zero)?;
+    disagree_if(gamma_star < gamma_zero + 1, Rule::CounterOrder)?;
+    check_count(params, start)
+}
+
+/// Refuses parameters of the block-adaptive coder.
+fn check_block(params: &Params, size: u32, restricted: bool, reference: u32) -> Result<(), Fault>
+    ensures { result ≡ coder_fault params.now (Block size restricted reference) }
+{
+    check_block_size(size)?;
+    let deep = params.kind.bits() > 4;
+    disagree_if(restricted & deep, Rule::RestrictedOverFour)?;
+    in_range(Field::Reference, fields::REFERENCE.range, reference)
 }
 
 /// Refuses a constant above D - 2, and a table that isn't one constant for each band.

@@ -1,0 +1,31 @@
+use Rattle.std.proofs.Common.{◌≡◌, ◌≤◌, Err, OnOk}
+use Rattle.std.proofs.lemmas.Result.{err_from_is_err_and}
+use Rattle.cube_core.specs.declared.fault.Fault.{Fault}
+use Rattle.cube_core.specs.Steps.{Test}
+use Rattle.cube_core.specs.Kind.{IsKind}
+use Rattle.header_bits.specs.declared.params.Params.{Params}
+use Rattle.header_bits.specs.Lawful.{register_fault}
+use Rattle.header_bits.proofs.Tests.{passed, refused}
+use Rattle.header_bits.proofs.check.check_register.Goals as goal
+
+told : (p : Params) {r : Test} {f : Fault} → ((e : Fault) × (r ≡ Err e) × (e ≡ f)) → Err f ≡ register_fault p
+    → record { fault : r ≡ register_fault p; kind : OnOk r (IsKind p.kind); omega : OnOk r (p.omega ≤ 19) }
+told p e fault = record { fault = rw (e.1, e.2) fault; kind = rw e.1 tt; omega = rw e.1 tt }
+
+pub returns-in_err-in_range : goal.returns-in_err-in_range
+returns-in_err-in_range c =
+    told c.args.params.now (err_from_is_err_and c.from_residual.result c.from_residual.ensures.1) (refused _ c.in_err-in_range.ensures)
+
+pub returns-in_err-in_range-2 : goal.returns-in_err-in_range-2
+returns-in_err-in_range-2 c =
+    told c.args.params.now (err_from_is_err_and c.from_residual-in_err-in_range-2.result c.from_residual-in_err-in_range-2.ensures.1)
+    (passed c.in_ok-in_range.ensures (refused _ c.in_err-in_range-2.ensures))
+
+pub returns-in_err-disagree_if : goal.returns-in_err-disagree_if
+returns-in_err-disagree_if c =
+    told c.args.params.now (err_from_is_err_and c.from_residual-in_err-disagree_if.result c.from_residual-in_err-disagree_if.ensures.1)
+    (passed c.in_ok-in_range.ensures (passed c.in_ok-in_range-2.ensures (refused _ (rw c.bits.ensures.value at c.in_err-disagree_if.ensures))))
+
+pub returns-clause-fault : goal.returns-clause-fault
+returns-clause-fault c = passed c.in_ok-in_range.ensures (passed c.in_ok-in_range-2.ensures
+    (passed (rw c.bits.ensures.value at c.in_ok-disagree_if.ensures) c.check_update.ensures))
