@@ -138,8 +138,8 @@ fn test_sample(image: &ImagePart, numbers: &[u32; SAMPLE_FIELDS]) -> Result<(), 
         gamma_star,
     )?;
     disagree_if(gamma_star < gamma_zero + 1, Rule::CounterOrder)?;
-    disagree_if(!table && most < constant, Rule::StartConstant)?;
-    disagree_if(table && constant < BESIDE_TABLE, Rule::ConstantWithTable)
+    disagree_if(!table & (most < constant), Rule::StartConstant)?;
+    disagree_if(table & (constant < BESIDE_TABLE), Rule::ConstantWithTable)
 }
 
 /// Returns the coder part that the numbers of the sample-adaptive coder's part stand for.
@@ -163,11 +163,9 @@ fn test_block(at: u64, image: &ImagePart, numbers: &[u32; BLOCK_FIELDS]) -> Resu
     ensures { result ≡ block_tests at image.now numbers.now }
 {
     let restricted = numbers[fields::RESTRICTED.index] == 1;
+    let deep = image.kind.bits() > 4;
     unused_field(at, &block_row!(), fields::BEFORE_BLOCK_SIZE.index, numbers)?;
-    disagree_if(
-        restricted && 4 < image.kind.bits(),
-        Rule::RestrictedOverFour,
-    )
+    disagree_if(restricted & deep, Rule::RestrictedOverFour)
 }
 
 /// Returns the coder part that the numbers of the block-adaptive coder's part stand for.

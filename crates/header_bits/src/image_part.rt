@@ -108,7 +108,7 @@ fn test(numbers: &[u32; IMAGE_FIELDS]) -> Result<(), Fault>
     let [_, _, _, bands, _, _, bits, order, depth, ..] = *numbers;
     unused_field(0, &image_row!(), fields::AFTER_SIGNED.index, numbers)?;
     out_of_range_if(bits == 1, Field::DynamicRange, 1)?;
-    disagree_if(order == 0 && bands < depth, Rule::DepthOverBands)?;
+    disagree_if((order == 0) & (bands < depth), Rule::DepthOverBands)?;
     unused_field(0, &image_row!(), fields::AFTER_DEPTH.index, numbers)?;
     unused_field(0, &image_row!(), fields::AFTER_CODER.index, numbers)
 }

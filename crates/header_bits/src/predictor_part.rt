@@ -131,11 +131,13 @@ fn test(image: &ImagePart, numbers: &[u32; PREDICTOR_FIELDS]) -> Result<(), Faul
     ensures { result ≡ predictor_tests image.now numbers.now }
 {
     let [_, _, mode, _, sums, ..] = *numbers;
+    let full = mode == 0;
+    let neighbour = sums == 0;
     let one_column = image.shape.columns() == 1;
     refuse_unused(fields::BEFORE_PREVIOUS.index, numbers)?;
-    disagree_if(mode == 0 && one_column, Rule::FullOneColumn)?;
+    disagree_if(full & one_column, Rule::FullOneColumn)?;
     refuse_unused(fields::AFTER_MODE.index, numbers)?;
-    disagree_if(sums == 0 && one_column, Rule::NeighbourOneColumn)?;
+    disagree_if(neighbour & one_column, Rule::NeighbourOneColumn)?;
     refuse_unused(fields::AFTER_SUMS.index, numbers)?;
     test_numbers(image, numbers)
 }
@@ -172,11 +174,11 @@ fn test_start(numbers: &[u32; PREDICTOR_FIELDS]) -> Result<(), Fault>
     let [.., start, table, resolution] = *numbers;
     let custom = start == 1;
     let table = table == 1;
-    disagree_if(!custom && table, Rule::DefaultWithTable)?;
-    refuse_if(custom && !table, Fault::TableElsewhere)?;
-    disagree_if(!custom && resolution > 0, Rule::DefaultWithResolution)?;
+    disagree_if(!custom & table, Rule::DefaultWithTable)?;
+    refuse_if(custom & !table, Fault::TableElsewhere)?;
+    disagree_if(!custom & (resolution > 0), Rule::DefaultWithResolution)?;
     out_of_range_if(
-        custom && resolution < fields::RESOLUTION.range.least,
+        custom & (resolution < fields::RESOLUTION.range.least),
         Field::Resolution,
         resolution,
     )?;
