@@ -1,6 +1,7 @@
 -- The numbers of lawful parameters fit their slots.
 use Rattle.std.proofs.Common.{◌≡◌, ℕ, ◌<◌, ◌≤◌, Bool, true, false, cond, eqb, List, ℤ, pos, negsuc, refl, arith, lit<}
 use Rattle.std.proofs.lemmas.Int.{ints}
+use mir.Val.{bool_byte}
 use Rattle.cube_core.specs.declared.order.Order.{Order}
 use Rattle.cube_core.specs.declared.order.Order.TheVariants.{Bsq, Bi}
 use Rattle.cube_core.specs.Shape.{Sizes, InRange}
@@ -20,6 +21,11 @@ use Rattle.header_bits.specs.PredictorPart.{predictor_fields, predictor_numbers,
 use Rattle.header_bits.specs.CoderPart.{sample_fields, block_fields, coder_fields, coder_numbers, size_code}
 use Rattle.header_bits.specs.Header.{is_block, image_part_of, predictor_part_of, coder_part_of, is_custom, resolution_of, constant_of, is_each}
 use Rattle.header_bits.specs.Lawful.{IsLawful, IsExponent, IsCountStart, IsWeightStart, IsCoder}
+
+-- a flag converted to a number
+pub flag_byte : (b : Bool) → bool_byte b ≡ flag b
+flag_byte true = refl
+flag_byte false = refl
 
 pub flag_small : (b : Bool) → flag b < 2
 flag_small true = lit< tt

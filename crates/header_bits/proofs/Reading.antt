@@ -7,7 +7,7 @@ use Rattle.std.proofs.Math.Nat.{mod-eq_of_lt}
 use Rattle.cube_core.specs.declared.fault.Fault.{Fault}
 use Rattle.cube_core.specs.declared.fault.Fault.TheVariants.{Truncated}
 use Rattle.header_bits.specs.Bits.{bits_of, number_of}
-use Rattle.header_bits.specs.Reading.{number_at, zeros_at, one_more}
+use Rattle.header_bits.specs.Reading.{ReadsZeros, number_at, zeros_at, one_more}
 use Rattle.header_bits.proofs.Numbers.{length-bits_of, number_of-bits_of, bits_of-number_of, number_below}
 
 number_front : (count : ℕ) (bs rest : List Bool) → number_at count (length bs) (bs ++ rest) ≡ Ok (number_of bs, rest)
@@ -74,14 +74,28 @@ zeros_short count (suc limit) (suc z) lt = ap one_more (zeros_short count limit 
 
 -- ---- at a place
 
+before_one : (zeros at : ℕ) (bits left : List Bool) → drop at bits ≡ left → drop at bits ≡ replicate zeros false ++ drop (at + zeros) bits
+    → drop (at + zeros) bits ≡ true ∷ drop (at + zeros + 1) bits → left ≡ replicate zeros false ++ true ∷ drop (at + (zeros + 1)) bits
+before_one zeros at bits left is first one =
+    let place : at + zeros + 1 ≡ at + (zeros + 1) = omega arith in
+    sym is ∙ first ∙ ap (λ (x : List Bool). replicate zeros false ++ x) (one ∙ ap (λ k. true ∷ drop k bits) place)
+
 pub ends_at : (count limit zeros at : ℕ) (bits left : List Bool) → zeros < limit → drop at bits ≡ left
     → drop at bits ≡ replicate zeros false ++ drop (at + zeros) bits → drop (at + zeros) bits ≡ true ∷ drop (at + zeros + 1) bits
     → zeros_at count limit left ≡ Ok (zeros, drop (at + (zeros + 1)) bits)
 ends_at count limit zeros at bits left lt is first one =
-    let place : at + zeros + 1 ≡ at + (zeros + 1) = omega arith in
-    let whole : left ≡ replicate zeros false ++ true ∷ drop (at + (zeros + 1)) bits =
-    sym is ∙ first ∙ ap (λ (x : List Bool). replicate zeros false ++ x) (one ∙ ap (λ k. true ∷ drop k bits) place) in
-    ap (zeros_at count limit) whole ∙ zeros_ended count limit zeros (drop (at + (zeros + 1)) bits) lt
+    ap (zeros_at count limit) (before_one zeros at bits left is first one) ∙ zeros_ended count limit zeros (drop (at + (zeros + 1)) bits) lt
+
+pub ends_taken : (limit zeros at : ℕ) (bits left : List Bool) → zeros < limit → drop at bits ≡ left
+    → drop at bits ≡ replicate zeros false ++ drop (at + zeros) bits → drop (at + zeros) bits ≡ true ∷ drop (at + zeros + 1) bits
+    → ReadsZeros limit zeros left (drop (at + (zeros + 1)) bits)
+ends_taken limit zeros at bits left lt is first one =
+    record { within = omega (arith, lt); one = λ h. before_one zeros at bits left is first one; full = λ e. absurd (omega (arith, lt, e)) }
+
+pub full_taken : (limit zeros at : ℕ) (bits left : List Bool) → zeros ≡ limit → drop at bits ≡ left
+    → drop at bits ≡ replicate zeros false ++ drop (at + zeros) bits → ReadsZeros limit zeros left (drop (at + zeros) bits)
+full_taken limit _ at bits left e is first =
+    record { within = omega (arith, e); one = λ h. absurd (omega (arith, h, e)); full = λ h. sym is ∙ first }
 
 pub full_at : (count limit zeros at : ℕ) (bits left : List Bool) → zeros ≡ limit → drop at bits ≡ left
     → drop at bits ≡ replicate zeros false ++ drop (at + zeros) bits → zeros_at count limit left ≡ Ok (zeros, drop (at + zeros) bits)

@@ -44,7 +44,7 @@ held_at (s ∷ ss) (v ∷ vs) (suc i) h lt = held_at ss vs i h.1 (omega arith)
 
 pub record IsImage (i : ImagePart) : Type 0 where
   user : i.user ≤ 255
-  sizes : AreSizes i.shape
+  pub sizes : AreSizes i.shape
   pub kind : IsKind i.kind
   order : IsOrder i.shape i.order
   word : InRange 1 8 i.word

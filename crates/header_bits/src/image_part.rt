@@ -1,6 +1,7 @@
 //! The image part of a header, twelve bytes.
 
-ghost use Rattle.std.specs.Prelude.{◌≡◌};
+ghost use Rattle.std.specs.Prelude.{◌≡◌, ◌==◌, if◌then◌else◌};
+ghost use Rattle.cube_core.specs.declared.order.Order.TheVariants.{Bsq, Bi};
 ghost use Rattle.header_bits.specs.Reading.{Reads};
 ghost use Rattle.header_bits.specs.Layout.{AreValues};
 ghost use Rattle.header_bits.specs.Parts.{fine, part_at};
@@ -100,6 +101,17 @@ fn depth_number(order: Order) -> u32
     }
 }
 
+/// Returns the order that a bit stands for, with its depth.
+fn order_of(bit: u32, depth: u32) -> Order
+    ensures { result ≡ (if bit == 0 then Bi depth else Bsq) }
+{
+    if bit == 0 {
+        Order::Bi(depth)
+    } else {
+        Order::Bsq
+    }
+}
+
 /// Tests the numbers of the image part, in order.
 #[tactic(auto, unfolding(crate::specs::Layout::total))]
 fn test(numbers: &[u32; IMAGE_FIELDS]) -> Result<(), Fault>
@@ -138,11 +150,7 @@ fn said(numbers: &[u32; IMAGE_FIELDS]) -> ImagePart
         user,
         shape: Shape::new(columns, rows, bands).unwrap(),
         kind: Kind::new(signed == 1, bits).unwrap(),
-        order: if order == 0 {
-            Order::Bi(depth)
-        } else {
-            Order::Bsq
-        },
+        order: order_of(order, depth),
         word,
         block: coder == 1,
     }

@@ -1,8 +1,8 @@
 use Rattle.std.proofs.lemmas.Grind.{common_steps}
-use Rattle.std.proofs.Common.{rules, arith, ap, sym, ◌∙◌, ◌++◌, false, List, Bool, length, replicate, Err}
+use Rattle.std.proofs.Common.{arith, ap, sym, ◌∙◌, ◌++◌, false, List, Bool, length, replicate, Err}
 use Rattle.cube_core.specs.declared.fault.Fault.TheVariants.{Truncated}
 use Rattle.header_bits.specs.Bits.{bits_of_bytes}
-use Rattle.header_bits.proofs.Reading.{ends_at, full_at, short_at, no_one}
+use Rattle.header_bits.proofs.Reading.{ends_at, ends_taken, full_at, full_taken, short_at, no_one}
 use Rattle.header_bits.proofs.Windows.{left_length}
 use Rattle.header_bits.proofs.bit_reader.BitReader.count_zeros.Goals as goal
 
@@ -52,13 +52,16 @@ returns-clause-reads c =
     full_at _ _ _ _ (bits_of_bytes c.self.inside.bytes.now) _ (omega arith) (ap (λ w. w.left) c.self.view_is) c.zeros_ahead-zeros.ensures.zeros
 
 pub returns-then-zeros-most-clause-taken : goal.returns-then-zeros-most-clause-taken
-returns-then-zeros-most-clause-taken c = search rules
+returns-then-zeros-most-clause-taken c =
+    ends_taken _ _ _ (bits_of_bytes c.self.inside.bytes.now) _ (omega arith) (ap (λ w. w.left) c.self.view_is) c.zeros_ahead-zeros.ensures.zeros
+    (c.zeros_ahead-zeros.ensures.one c.if-zeros-most.true)
 
 pub returns-clause-taken : goal.returns-clause-taken
-returns-clause-taken c = search rules
+returns-clause-taken c =
+    full_taken _ _ _ (bits_of_bytes c.self.inside.bytes.now) _ (omega arith) (ap (λ w. w.left) c.self.view_is) c.zeros_ahead-zeros.ensures.zeros
 
 pub returns-clause-short : goal.returns-clause-short
-returns-clause-short c = search rules
+returns-clause-short c = (λ h. absurd cc, λ h. absurd (omega (arith, h.0, c.left.ensures, c.min-most.ensures)))
 
 pub returns-then-most-limit-clause-short : goal.returns-then-most-limit-clause-short
 returns-then-most-limit-clause-short c = grind (arith, common_steps)
