@@ -171,7 +171,7 @@ fn test_start(numbers: &[u32; PREDICTOR_FIELDS]) -> Result<(), Fault>
     requires { AreValues predictor_fields numbers.now }
     ensures { result ≡ start_tests numbers.now }
 {
-    let [.., start, table, resolution] = *numbers;
+    let [_, _, _, _, _, _, _, omega, .., start, table, resolution] = *numbers;
     let custom = start == 1;
     let table = table == 1;
     disagree_if(!custom & table, Rule::DefaultWithTable)?;
@@ -182,10 +182,7 @@ fn test_start(numbers: &[u32; PREDICTOR_FIELDS]) -> Result<(), Fault>
         Field::Resolution,
         resolution,
     )?;
-    disagree_if(
-        numbers[fields::OMEGA.index] + 3 < resolution,
-        Rule::ResolutionOverOmega,
-    )
+    disagree_if(omega + 3 < resolution, Rule::ResolutionOverOmega)
 }
 
 /// Returns the predictor part that the numbers stand for.

@@ -1,6 +1,6 @@
 use Rattle.std.proofs.Common.{arith}
 use Rattle.header_bits.specs.Header.{header_of}
-use Rattle.header_bits.proofs.Held.{image_held, predictor_held, image_total, predictor_total}
+use Rattle.header_bits.proofs.Held.{image_held, predictor_held, coder_held, image_total, predictor_total}
 use Rattle.header_bits.proofs.Chosen.{chosen_is_spelt}
 use Rattle.header_bits.proofs.HeaderTexts.{header_written, header_length, spelt_whole}
 use Rattle.header_bits.proofs.header.put_header.Goals as goal
@@ -35,6 +35,9 @@ unwrap-requires-3 c =
     let second = rw c.unwrap-2.ensures at c.write_values-2.ensures.room in
     c.put_coder.ensures.within
     (omega (arith, c.in_ok-reserve.ensures.room, header_length c.args.params.now c.requires, first, second, image_total, predictor_total))
+
+pub put_coder-requires : goal.put_coder-requires
+put_coder-requires c = rw c.of-3.ensures (coder_held c.args.params.now c.requires)
 
 pub put-requires-2-clause-room : goal.put-requires-2-clause-room
 put-requires-2-clause-room c =
