@@ -10,30 +10,55 @@ use thiserror::Error;
 /// A parameter, or a field of the header, that has a range of its own.
 #[derive(Clone, Copy, Debug, PartialEq, Eq)]
 pub enum Field {
+    /// Nx.
     Columns,
+    /// Ny.
     Rows,
+    /// Nz.
     Bands,
+    /// D, the bits of a sample.
     DynamicRange,
+    /// User-defined data.
     User,
+    /// The depth of interleaving.
     Depth,
+    /// B, the bytes of an output word.
     WordSize,
+    /// P, the number of previous bands used for prediction.
     Previous,
+    /// R, the register size.
     Register,
+    /// Ω, the weight component resolution.
     Omega,
+    /// The weight update scaling exponent change interval.
     Interval,
+    /// The least weight update scaling exponent.
     VMin,
+    /// The greatest weight update scaling exponent.
     VMax,
+    /// How the weights start.
     WeightStart,
+    /// The resolution of a weight table.
     Resolution,
+    /// An entry of a weight table.
     WeightEntry,
+    /// The unary length limit.
     Umax,
+    /// The rescaling counter size.
     GammaStar,
+    /// The counter's first exponent.
     GammaZero,
+    /// Whether there is an accumulator table.
     AccumulatorTable,
+    /// J, the samples in a block.
     BlockSize,
+    /// Whether the set of code options is restricted.
     Restricted,
+    /// r, the reference sample interval.
     Reference,
+    /// The number of predictors.
     Predictors,
+    /// How many residuals a lane has room for.
     Slots,
 }
 
