@@ -28,17 +28,33 @@ pub(crate) fn fill(
     ensures bad { IfErr result (IsBadSample kind layout bytes.now) }
 {
     let count = shape.sample_count();
-    let good = match layout.order {
-        RawOrder::Bsq => fill_bands(shape, kind, layout, bytes, offsets),
-        RawOrder::Bil => fill_lines(shape, kind, layout, shape.columns(), bytes, offsets),
-        RawOrder::Bip => fill_lines(shape, kind, layout, BLOCK, bytes, offsets),
-    };
-    if good {
+    if fill_in_order(shape, kind, layout, bytes, offsets) {
         Ok(())
     } else {
         Err(Fault::SampleRange {
             index: first_bad(kind, layout, bytes, count),
         })
+    }
+}
+
+/// Writes the offset of each sample, and returns whether all are of the kind.
+fn fill_in_order(
+    shape: Shape,
+    kind: Kind,
+    layout: Layout,
+    bytes: &[u8],
+    offsets: &mut [u16],
+) -> bool
+    requires layout { IsLayout layout }
+    requires whole { length bytes.now ≡ sample_count shape * layout.bytes }
+    requires room { length offsets.old ≡ sample_count shape }
+    ensures filled { IsTrue result → AreOffsetsOf shape kind layout bytes.now offsets.new }
+    ensures good { AreSamples kind layout bytes.now (sample_count shape) → IsTrue result }
+{
+    match layout.order {
+        RawOrder::Bsq => fill_bands(shape, kind, layout, bytes, offsets),
+        RawOrder::Bil => fill_lines(shape, kind, layout, shape.columns(), bytes, offsets),
+        RawOrder::Bip => fill_lines(shape, kind, layout, BLOCK, bytes, offsets),
     }
 }
 

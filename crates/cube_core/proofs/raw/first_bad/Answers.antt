@@ -10,6 +10,12 @@ value_is c =
     let size : c.loop-i.i * c.args.layout.bytes + c.args.layout.bytes - c.loop-i.i * c.args.layout.bytes ≡ c.args.layout.bytes = omega arith in
     c.value.ensures.value ∙ ap (λ (n : ℕ). raw_value c.args.layout c.args.kind (take n (drop (c.loop-i.i * c.args.layout.bytes) c.args.bytes.now))) size
 
+pub overflow_mul-from : goal.overflow_mul-from
+overflow_mul-from c = omega (arith, c.requires.whole, bytes_there c.args.layout c.loop-i.i c.args.count c.requires.layout c.loop-i-test.true)
+
+pub overflow_add-from : goal.overflow_add-from
+overflow_add-from c = omega (arith, c.requires.whole, bytes_there c.args.layout c.loop-i.i c.args.count c.requires.layout c.loop-i-test.true)
+
 pub returns-then-not-has : goal.returns-then-not-has
 returns-then-not-has c =
     let d = (goal.at.returns-then-not-has c).After-value in
