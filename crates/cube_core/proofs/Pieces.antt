@@ -121,6 +121,11 @@ IsPast p y x count z = (p.y < y) ⊎ ((p.y ≡ y) × ((p.x < x) ⊎ ((p.x < x + 
 abbrev pub EachPast : Sizes → (Place → Type 0) → ℕ → ℕ → ℕ → ℕ → Type 0
 EachPast s P y x count z = (p : Place) → IsPlaceOf s p → IsPast p y x count z → P p
 
+pub block_begins : (s : Sizes) (P : Place → Type 0) (y x count : ℕ) → EachPast s P y x 0 0 → EachPast s P y x count 0
+block_begins s P y x count h p place (inl low) = h p place (inl low)
+block_begins s P y x count h p place (inr (row, inl low)) = h p place (inr (row, inl low))
+block_begins s P y x count h p place (inr (_, inr (_, none))) = absurd (omega (arith, none))
+
 pub block_ends : (s : Sizes) (P : Place → Type 0) (y x count z : ℕ) → s.bands ≤ z → EachPast s P y x count z → EachPast s P y (x + count) 0 0
 block_ends s P y x count z all h p place (inl low) = h p place (inl low)
 block_ends s P y x count z all h p place (inr (row, inl low)) = h p place (inr (row, inr (low, omega (arith, place.band))))

@@ -5,6 +5,7 @@ ghost use Rattle.cube_core.specs.Image.{IsPlace, index_in};
 ghost use Rattle.cube_core.specs.Kind.{sample_of};
 ghost use Rattle.cube_core.specs.Layout.{IsLayout, HasBytes, order_of, raw_number, raw_code, bytes_at, sample_bytes};
 ghost use Rattle.cube_core.specs.Pieces.{LieEvenly};
+ghost use Rattle.cube_core.specs.Shape.{sample_count};
 ghost use Rattle.cube_core.specs.Scale.{StandsFor, SpellOffset};
 
 use crate::layout::{Layout, RawOrder};
@@ -34,6 +35,7 @@ impl Piece {
         requires within { x + count ≤ shape.columns }
         ensures at { result.at ≡ index_in shape.columns shape.rows z y x }
         ensures count { result.count ≡ count }
+        ensures room { result.at + result.count ≤ sample_count shape }
         ensures items { LieEvenly shape (order_of order shape) z y x count result.first result.step }
         ensures apart { 1 ≤ result.step }
     {

@@ -1,6 +1,6 @@
-use Rattle.std.proofs.Common.{◌≡◌, ◌+◌, ◌*◌, ◌<◌, ◌≤◌, ℕ, length, arith, sym, refl}
+use Rattle.std.proofs.Common.{◌≡◌, ◌+◌, ◌*◌, ◌<◌, ◌≤◌, ℕ, length, arith, sym, refl, inl}
 use Rattle.cube_core.proofs.Words.{Place, IsOrder, order_of, IsPoured}
-use Rattle.cube_core.proofs.Pieces.{band_more, block_ends, row_ends, piece_there}
+use Rattle.cube_core.proofs.Pieces.{block_begins, band_more, block_ends, row_ends, piece_there}
 use Rattle.cube_core.proofs.Putting.{IsGiven, poured_there, piece_fits}
 use Rattle.cube_core.proofs.Raws.{lawful_order}
 use Rattle.cube_core.proofs.pour.pour_lines.Goals as goal
@@ -17,6 +17,21 @@ there c j lt = (piece_there c.args.shape c.args.layout c.loop-z.z c.loop-y.y c.l
 
 pub give_piece-requires-clause-there : goal.give_piece-requires-clause-there
 give_piece-requires-clause-there c = there (goal.at.give_piece-requires-clause-there c).After-new-piece
+
+pub give_piece-requires-clause-room : goal.give_piece-requires-clause-room
+give_piece-requires-clause-room c = rw c.requires.offsets.whole c.new-piece.ensures.room
+
+pub give_piece-requires-clause-range : goal.give_piece-requires-clause-range
+give_piece-requires-clause-range c = rw c.new-scale.ensures.0 (λ j lt. c.requires.offsets.range _ (omega (arith, lt, give_piece-requires-clause-room c)))
+
+pub loop-y-init : goal.loop-y-init
+loop-y-init c = λ p place past. absurd (omega (arith, past))
+
+pub loop-z-init : goal.loop-z-init
+loop-z-init c = block_begins c.args.shape _ c.loop-y.y c.loop-x.x c.min-count.result c.loop-x.invariant
+
+pub returns-clause-poured : goal.returns-clause-poured
+returns-clause-poured c = λ t p place. c.loop-y.invariant p place (inl (omega (arith, place.row, c.rows-y-end.ensures.value)))
 
 pub returns-then-not-give_piece-clause-good : goal.returns-then-not-give_piece-clause-good
 returns-then-not-give_piece-clause-good c = λ all.

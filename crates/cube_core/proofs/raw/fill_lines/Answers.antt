@@ -1,6 +1,6 @@
-use Rattle.std.proofs.Common.{◌≡◌, ◌+◌, ◌*◌, ◌<◌, ◌≤◌, ℕ, length, arith, sym, refl}
+use Rattle.std.proofs.Common.{◌≡◌, ◌+◌, ◌*◌, ◌<◌, ◌≤◌, ℕ, length, arith, sym, refl, inl}
 use Rattle.cube_core.proofs.Words.{Place, sample_count, IsOffsetOf}
-use Rattle.cube_core.proofs.Pieces.{IsTaken, offset_there, band_more, piece_there, piece_good}
+use Rattle.cube_core.proofs.Pieces.{IsTaken, offset_there, block_begins, band_more, piece_there, piece_good}
 use Rattle.cube_core.proofs.Raws.{lawful_order}
 use Rattle.cube_core.proofs.raw.fill_lines.Goals as goal
 use Rattle.cube_core.proofs.raw.fill_lines.Goals.{After-new-piece}
@@ -15,6 +15,18 @@ there c j lt = piece_there c.args.shape c.args.layout c.loop-z.z c.loop-y.y c.lo
 
 pub take_piece-requires-clause-there : goal.take_piece-requires-clause-there
 take_piece-requires-clause-there c = λ j lt. (there (goal.at.take_piece-requires-clause-there c).After-new-piece j lt).1
+
+pub take_piece-requires-clause-room : goal.take_piece-requires-clause-room
+take_piece-requires-clause-room c = omega (arith, c.requires.room, c.new-piece.ensures.room)
+
+pub loop-y-init : goal.loop-y-init
+loop-y-init c = λ p place past. absurd (omega (arith, past))
+
+pub loop-z-init : goal.loop-z-init
+loop-z-init c = block_begins c.args.shape _ c.loop-y.y c.loop-x.x c.min-count.result c.loop-x.invariant
+
+pub returns-clause-filled : goal.returns-clause-filled
+returns-clause-filled c = λ t p place. c.loop-y.invariant p place (inl (omega (arith, place.row, c.rows-y-end.ensures.value)))
 
 pub returns-then-not-take_piece-clause-good : goal.returns-then-not-take_piece-clause-good
 returns-then-not-take_piece-clause-good c = λ all.
