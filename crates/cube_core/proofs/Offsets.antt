@@ -1,7 +1,8 @@
 -- Samples kept as offsets from the least one.
 use Rattle.std.proofs.Common.{◌≡◌, ◌+◌, ◌*◌, ◌<◌, ◌≤◌, ◌-◌, ◌^◌, ℕ, suc, zero, Bool, true, false, ℤ, pos, ◌-ℤ◌, ◌≤ℤ◌, List, length, map, get_or, set}
-use Rattle.std.proofs.Common.{take, drop, refl, sym, ap, ◌∙◌, subst, arith, pow-suc}
-use Rattle.std.proofs.lemmas.List.{get_or-map, map-set, get_or-take, get_or-drop}
+use Rattle.std.proofs.Common.{take, drop, refl, sym, ap, ◌∙◌, subst, arith, pow-suc, inl, inr}
+use Rattle.std.proofs.lemmas.List.{get_or-map, map-set, get_or-take, get_or-drop, get_or-set_same, get_or-set_other, length-set}
+use Rattle.std.proofs.lemmas.Bool.{cases_eq}
 use Rattle.cube_core.proofs.Words.{SampleKind, IsKind, IsSample, sample_of, smin, Image, sample_at, index_in, put, Sizes, samples_of, AreOffsets, ints}
 use Rattle.cube_core.proofs.Words.{AreRowOffsets}
 use Rattle.cube_core.proofs.Bounds.{power_grows}
@@ -48,6 +49,17 @@ pub image_put : (c : Image) (s : Sizes) (k : SampleKind) (offsets : List ℕ) (z
     → record { shape = s; kind = k; samples = samples_of k offsets } ≡ c → i ≡ index_in s.columns s.rows z y x → sample_of k offset ≡ v
     → record { shape = s; kind = k; samples = samples_of k (set offsets i offset) } ≡ put c z y x v
 image_put c s k offsets z y x i offset v e f h = rw (← e, ← f, sample_written k offsets i offset v h) refl
+
+-- one offset is replaced by another within the kind's bits
+pub are_offsets_put : (s : Sizes) (k : SampleKind) (offsets : List ℕ) (i offset : ℕ) → AreOffsets s k offsets → i < length offsets → offset < 2 ^ k.bits
+    → AreOffsets s k (set offsets i offset)
+are_offsets_put s k offsets i offset h lt below = record { whole = rw (length-set {A = ℕ}) h.whole; range = within }
+  where
+    within : (j : ℕ) → j < length (set offsets i offset) → get_or (set offsets i offset) j 0 < 2 ^ k.bits
+    within j small = elim (cases_eq j i) [
+      | inl e ↦ rw (e, get_or-set_same offsets i offset 0 lt) below
+      | inr other ↦ rw (get_or-set_other offsets i j offset 0 other) (h.range j (rw (length-set {A = ℕ}) at small))
+    ]
 
 -- a row's offsets are those that stand in the list from its first place on
 pub row_offsets : (c : Image) (s : Sizes) (k : SampleKind) (offsets : List ℕ) (z y i : ℕ) → record { shape = s; kind = k; samples = samples_of k offsets } ≡ c
