@@ -162,6 +162,11 @@ piece_there s l z y x count first step length_is layout lawful band row columns 
     rw (← items j lt) (place_index_below s (order_of l.order s) (record { z = z; y = y; x = x + j }) lawful place) in
     (below, rw whole (omega (arith, bytes_there l (first + j * step) (sample_count s) layout below)))
 
+-- the numbers of so many bytes are fewer than the bytes
+pub fewer_numbers : (i width length_is : ℕ) → (width ≡ 1) ⊎ (width ≡ 2) → (i + 1) * width ≤ length_is → i < length_is
+fewer_numbers i width length_is (inl one) there = let t : (i + 1) * 1 ≤ length_is = rw one at there in omega arith
+fewer_numbers i width length_is (inr two) there = let t : (i + 1) * 2 ≤ length_is = rw two at there in omega arith
+
 -- where all samples are of the kind, so are the offsets of a piece
 pub piece_good : (k : SampleKind) (l : Layout) (bytes new : List ℕ) (at count first step n : ℕ) → ((j : ℕ) → j < count → first + j * step < n)
     → ((j : ℕ) → j < count → StandsFor k l bytes (first + j * step) (get_or new (at + j) 0)) → AreSamples k l bytes n → (j : ℕ) → j < count

@@ -1,5 +1,6 @@
 use Rattle.std.proofs.Common.{ℕ, ◌≡◌, ◌↔◌, ◌*◌, ◌+◌, ◌<◌, ◌^◌, arith, get_or}
 use Rattle.cube_core.proofs.Words.{Layout, SampleKind, IsSample, sample_of, HasBytes, bytes_at, raw_code, SpellOffset, number_of_rebased}
+use Rattle.cube_core.proofs.Pieces.{fewer_numbers}
 use Rattle.cube_core.proofs.Putting.{given_more, others_more, each_more}
 use Rattle.cube_core.proofs.piece.give_numbers.Goals as goal
 
@@ -13,6 +14,12 @@ found : (k : SampleKind) (l : Layout) (bytes width offset rebased number : ℕ) 
     → (rebased < 2 ^ (8 * bytes) → raw_code bytes (sample_of k offset) ≡ number_of_rebased k.signed bytes rebased)
     → number ≡ number_of_rebased k.signed width rebased → Found k l width offset rebased number
 found k l bytes width offset rebased number e f fits code n = record { fits = rw f (rw e at fits); code = λ lt. rw (f, n) (rw e at code lt) }
+
+pub overflow_mul-x : goal.overflow_mul-x
+overflow_mul-x g c = omega (arith, c.requires.small, fewer_numbers _ _ _ c.requires.width (c.requires.there c.loop-x.x c.loop-x-test.true))
+
+pub overflow_add-piece-in-loop-x : goal.overflow_add-piece-in-loop-x
+overflow_add-piece-in-loop-x g c = omega (arith, c.requires.small, fewer_numbers _ _ _ c.requires.width (c.requires.there c.loop-x.x c.loop-x-test.true))
 
 pub loop-x-preserved : goal.loop-x-preserved
 loop-x-preserved g c =

@@ -1,12 +1,18 @@
 use Rattle.std.proofs.Common.{ℕ, ◌≡◌, ◌*◌, ◌+◌, ◌<◌, ◌≤◌, ◌^◌, length, arith, List}
 use Rattle.cube_core.proofs.Words.{Layout, SampleKind, IsSample, sample_of, raw_number, bytes_at, twos_complement, StandsFor}
-use Rattle.cube_core.proofs.Pieces.{item_more, others_stay, all_but_last}
+use Rattle.cube_core.proofs.Pieces.{item_more, others_stay, all_but_last, fewer_numbers}
 use Rattle.cube_core.proofs.piece.take_numbers.Goals as goal
 
 standing : (k : SampleKind) (l : Layout) (bytes : List ℕ) (i number width offset : ℕ) → l.bytes ≡ width → number ≡ raw_number l (bytes_at l bytes i)
     → (offset < 2 ^ k.bits → sample_of k offset ≡ twos_complement k.signed width number)
     → (IsSample k (twos_complement k.signed width number) → offset < 2 ^ k.bits) → StandsFor k l bytes i offset
 standing k l bytes i number width offset e n value range = record { value = rw (← e, n) at value; range = rw (← e, n) at range }
+
+pub overflow_mul-x : goal.overflow_mul-x
+overflow_mul-x g c = omega (arith, c.requires.small, fewer_numbers _ _ _ c.requires.width (c.requires.there c.loop-x.x c.loop-x-test.true))
+
+pub overflow_add-piece : goal.overflow_add-piece
+overflow_add-piece g c = omega (arith, c.requires.small, fewer_numbers _ _ _ c.requires.width (c.requires.there c.loop-x.x c.loop-x-test.true))
 
 pub loop-x-preserved : goal.loop-x-preserved
 loop-x-preserved g c =
