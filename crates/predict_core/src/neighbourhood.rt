@@ -45,16 +45,25 @@ pub(crate) fn sum_beside(
     ensures value { result ≡ offset_sum column y row.now above.now x }
     ensures bound { result ≤ 262140 }
 {
-    let west = west as u32;
     if column {
         4 * above[x] as u32
     } else if x == 0 {
         2 * (above[x] as u32 + above[x + 1] as u32)
     } else if x + 1 == row.len() {
-        west + above[x - 1] as u32 + 2 * above[x] as u32
+        west as u32 + above[x - 1] as u32 + 2 * above[x] as u32
     } else {
-        west + above[x - 1] as u32 + above[x] as u32 + above[x + 1] as u32
+        sum_inside(west, above, x)
     }
+}
+
+/// Returns the sum of the four neighbours of a place that has them all, where `west` is the offset to its west.
+#[inline(always)]
+fn sum_inside(west: u16, above: &[u16], x: usize) -> u32
+    requires west_of { 0 < x }
+    requires east_of { x + 1 < length above.now }
+    ensures value { result ≡ west + slice_index above.now (x - 1) + slice_index above.now x + slice_index above.now (x + 1) }
+{
+    west as u32 + above[x - 1] as u32 + above[x] as u32 + above[x + 1] as u32
 }
 
 /// Returns four times a sample, less a local sum.
@@ -78,7 +87,7 @@ pub(crate) fn central_of(column: bool, y: u32, row: &[u16], above: &[u16], x: us
     ensures bound { unsigned_abs result ≤ 262144 }
 {
     let sum = if is_inside(column, y, x, row.len()) {
-        row[x - 1] as u32 + above[x - 1] as u32 + above[x] as u32 + above[x + 1] as u32
+        sum_inside(row[x - 1], above, x)
     } else {
         sum_of(column, y, row, above, x)
     };
