@@ -1,5 +1,4 @@
-use Rattle.std.proofs.Common.{rules}
 use Rattle.lane_workers.proofs.gate.OpenGateGate.pass.Goals as goal
 
 pub returns : goal.returns
-returns c = search rules
+returns c shut = absurd cc

@@ -1,9 +1,6 @@
-use Rattle.std.proofs.Common.{◌≡◌, Bool, true, false, not, refl, sym, take, ap, arith, length, length-append, length-take}
+use Rattle.std.proofs.Common.{◌∙◌, ◌++◌, sym, take, ap, arith, length, append_assoc, length-append, length-take}
+use Rattle.std.proofs.lemmas.Bool.{not-true}
 use Rattle.lane_workers.proofs.run_sender.RunSender.send_some.Goals as goal
-
-not_true : (b : Bool) → not b ≡ true → b ≡ false
-not_true true e = sym e
-not_true false e = refl
 
 pub invariant_of-self : goal.invariant_of-self
 invariant_of-self g c =
@@ -18,5 +15,12 @@ invariant_of-self g c =
       c.self.invariant.0,
       c.self.invariant.1,
       omega (arith, sent, new, old, pushed, parts, taken, view, part),
-      λ h. c.send_run.ensures.stopped (not_true c.send_run.result h),
+      λ h. c.send_run.ensures.stopped (not-true c.send_run.result h),
     )
+
+pub returns-then-count-self-clause-taken : goal.returns-then-count-self-clause-taken
+returns-then-count-self-clause-taken g c =
+    let sent = c.self.inside.sender.sent in
+    let part = take c.min-count.result c.args.numbers.now in
+    c.send_run.ensures.taken ∙ ap (λ ns. sent ++ ns) c.push_all.ensures ∙ sym (append_assoc sent c.self.inside.waiting part)
+    ∙ ap (λ s. s.taken ++ part) c.self.view_is
