@@ -13,9 +13,9 @@ use Rattle.cube_core.proofs.Bounds.{least_inside, middle_inside}
 use Rattle.cube_core.proofs.Orders.{length-places}
 use Rattle.header_bits.specs.declared.params.Params.{Params}
 use Rattle.header_bits.specs.Lawful.{IsLawful}
-use Rattle.predict_core.specs.Prediction.{scaled_prediction}
-use Rattle.predict_core.specs.Residual.{mapped_residual, residuals}
-use Rattle.predict_core.proofs.OneSample.{one_sample_lem}
+use Rattle.sample_prediction.specs.Prediction.{scaled_prediction}
+use Rattle.sample_prediction.specs.Residual.{mapped_residual, residuals}
+use Rattle.sample_prediction.proofs.OneSample.{one_sample_lem}
 use Rattle.predict_core.specs.Walked.{residuals_at}
 use Rattle.predict_core.proofs.Walking.{next_goes, gone_by, gone_count, residuals_push, residuals_whole}
 use Rattle.predict_core.specs.Cubes.{IsCubeOf}

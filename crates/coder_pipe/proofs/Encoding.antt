@@ -12,7 +12,7 @@ use Rattle.cube_core.proofs.Orders.{length-places}
 use Rattle.header_bits.specs.declared.params.Params.{Params}
 use Rattle.header_bits.specs.Lawful.{IsLawful}
 use Rattle.predict_core.specs.Following.{Learner}
-use Rattle.predict_core.specs.Residual.{residuals}
+use Rattle.sample_prediction.specs.Residual.{residuals}
 use Rattle.file_coding.specs.Ends.{Ending, HasCoded, MayCodeAll}
 use Rattle.predict_core.specs.Walked.{IsAlong, AreAlong}
 use Rattle.predict_core.proofs.OneCube.{residuals_inside}

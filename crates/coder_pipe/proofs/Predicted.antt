@@ -11,7 +11,7 @@ use Rattle.cube_core.specs.Order.{upto}
 use Rattle.cube_core.specs.Shape.{sample_count}
 use Rattle.cube_core.proofs.Lists.{length-from, get_or-from}
 use Rattle.cube_core.proofs.Orders.{length-places}
-use Rattle.predict_core.specs.Residual.{residuals}
+use Rattle.sample_prediction.specs.Residual.{residuals}
 use Rattle.file_coding.specs.File.{file_of}
 use Rattle.predict_core.specs.Cubes.{IsCubeOf}
 use Rattle.file_decoding.specs.Files.{IsFile}

@@ -15,7 +15,7 @@ use Rattle.header_bits.specs.Header.{header_of}
 use Rattle.header_bits.proofs.Numbers.{bits_of-number_of}
 use Rattle.header_bits.proofs.Bytes.{length-bits_of_bytes}
 use Rattle.header_bits.proofs.Chosen.{chosen_is_spelt}
-use Rattle.predict_core.specs.Residual.{residuals}
+use Rattle.sample_prediction.specs.Residual.{residuals}
 use Rattle.block_adaptive.proofs.Bodies.{chosen_is_body}
 use Rattle.block_adaptive.proofs.Handed.{size_least}
 use Rattle.file_coding.specs.File.{body_of, body_by, fill_length, filled, packed_from, packed, file_bits, file_of_residuals, file_of}

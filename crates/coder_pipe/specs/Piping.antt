@@ -5,7 +5,7 @@ use Rattle.band_rings.specs.Lane.{Lane}
 use Rattle.cube_core.specs.declared.fault.Fault.{Fault}
 use Rattle.cube_core.specs.declared.fault.Fault.TheVariants.{WantOfMemory, SpawnRefused, Stopped}
 use Rattle.cube_core.specs.Image.{Image}
-use Rattle.predict_core.specs.Residual.{residuals}
+use Rattle.sample_prediction.specs.Residual.{residuals}
 use Rattle.file_coding.specs.File.{file_of_residuals, file_of}
 use Rattle.file_decoding.specs.Files.{IsFile}
 use Rattle.cube_predictors.specs.Plans.{Dealing}

@@ -12,7 +12,7 @@ use Rattle.cube_core.specs.declared.order.Place.{Place}
 use Rattle.cube_core.specs.Image.{Image}
 use Rattle.cube_core.specs.Order.{upto, group, group_count, places}
 use Rattle.header_bits.specs.declared.params.Params.{Params}
-use Rattle.predict_core.specs.Residual.{mapped_residual, residuals}
+use Rattle.sample_prediction.specs.Residual.{mapped_residual, residuals}
 use Rattle.cube_predictors.specs.Own.{own, column_of, row_of, rows_of, line_of, own_residuals, OwnIsPart}
 use Rattle.cube_predictors.specs.Weave.{owners_of, part}
 use Rattle.cube_predictors.proofs.Groups.{own_alone}

@@ -13,7 +13,7 @@ use Rattle.header_bits.specs.declared.params.Params.{Params}
 use Rattle.lane_workers.specs.declared.feed.LaneEnd.{LaneEnd}
 use Rattle.lane_workers.specs.Feeds.{Keeps}
 use Rattle.lane_workers.specs.Runs.{RunSending}
-use Rattle.predict_core.specs.Residual.{residuals}
+use Rattle.sample_prediction.specs.Residual.{residuals}
 use Rattle.cube_predictors.specs.Own.{own_residuals}
 use Rattle.cube_predictors.specs.Sends.{IsSeen, Sends}
 use Rattle.cube_predictors.specs.Weave.{owners, part}

@@ -17,7 +17,7 @@ use Rattle.header_bits.proofs.Items.{all_append, all_weaker}
 use Rattle.header_bits.proofs.TableWriting.{all_at}
 use Rattle.header_bits.specs.declared.params.Params.{Params}
 use Rattle.predict_core.specs.Following.{Learner, HoldsPiece}
-use Rattle.predict_core.specs.Residual.{mapped_residual, run_residuals}
+use Rattle.sample_prediction.specs.Residual.{mapped_residual, run_residuals}
 use Rattle.cube_predictors.specs.Own.{column_of}
 use Rattle.cube_predictors.specs.Sends.{IsAt, AreAt, bands_of}
 use Rattle.cube_predictors.specs.Pieces.{IsPast, ArePast, held_at, held_of}

@@ -17,7 +17,7 @@ use Rattle.cube_core.specs.Order.{IsOrder, places, upto}
 use Rattle.cube_core.proofs.Keys.{order_is_by_key}
 use Rattle.cube_core.proofs.Lists.{length-from, get_or-from}
 use Rattle.header_bits.specs.declared.params.Params.{Params}
-use Rattle.predict_core.specs.Residual.{residuals}
+use Rattle.sample_prediction.specs.Residual.{residuals}
 use Rattle.cube_predictors.specs.Weave.{IsDeal, owners_of, owners, share, part, parts_of, parts, weave, WeaveOfParts, WeaveOfTaken, AreWhole, PartsOfWeave}
 
 -- ---- one number more

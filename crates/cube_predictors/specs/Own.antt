@@ -6,7 +6,7 @@ use Rattle.cube_core.specs.declared.order.Order.TheVariants.{Bsq, Bi}
 use Rattle.cube_core.specs.Image.{Image}
 use Rattle.cube_core.specs.Order.{upto, group, group_count}
 use Rattle.header_bits.specs.declared.params.Params.{Params}
-use Rattle.predict_core.specs.Residual.{mapped_residual, residuals}
+use Rattle.sample_prediction.specs.Residual.{mapped_residual, residuals}
 use Rattle.cube_predictors.specs.Weave.{owners, part}
 
 -- those of some bands that are dealt to predictor q

@@ -5,7 +5,7 @@ use Rattle.cube_core.specs.Image.{Image}
 use Rattle.cube_core.specs.Order.{upto}
 use Rattle.header_bits.specs.declared.params.Params.{Params}
 use Rattle.predict_core.specs.Following.{Learner}
-use Rattle.predict_core.specs.Residual.{run_residuals}
+use Rattle.sample_prediction.specs.Residual.{run_residuals}
 use Rattle.cube_predictors.specs.Sends.{IsAt}
 
 -- a band's predictor has gone over n places from place t on, and holds their residuals

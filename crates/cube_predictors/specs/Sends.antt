@@ -6,7 +6,7 @@ use Rattle.cube_core.specs.Order.{upto}
 use Rattle.header_bits.specs.declared.params.Params.{Params}
 use Rattle.lane_workers.specs.Runs.{RunSending}
 use Rattle.predict_core.specs.Following.{Learner, Follows}
-use Rattle.predict_core.specs.Residual.{residuals}
+use Rattle.sample_prediction.specs.Residual.{residuals}
 use Rattle.cube_predictors.specs.Own.{own}
 use Rattle.cube_predictors.specs.Plans.{Dealing}
 use Rattle.cube_predictors.specs.Weave.{owners, part}

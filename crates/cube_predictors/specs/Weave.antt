@@ -5,7 +5,7 @@ use Rattle.cube_core.specs.declared.order.Place.{Place}
 use Rattle.cube_core.specs.Image.{Image}
 use Rattle.cube_core.specs.Order.{IsOrder, places, upto}
 use Rattle.header_bits.specs.declared.params.Params.{Params}
-use Rattle.predict_core.specs.Residual.{residuals}
+use Rattle.sample_prediction.specs.Residual.{residuals}
 
 -- each band is dealt to one of so many predictors
 pub record IsDeal (predictors bands : ℕ) (deal : List ℕ) : Type 0 where

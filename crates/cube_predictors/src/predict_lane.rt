@@ -1,7 +1,7 @@
 //! One predictor at work: it sends the residuals of its own bands along its lane.
 
 ghost use Rattle.std.specs.Prelude.{◌≡◌, []};
-ghost use Rattle.predict_core.specs.Residual.{residuals};
+ghost use Rattle.sample_prediction.specs.Residual.{residuals};
 ghost use Rattle.lane_workers.specs.Feeds.{Keeps};
 ghost use Rattle.cube_predictors.specs.Sends.{AreFresh, IsSeen};
 ghost use Rattle.cube_predictors.specs.Weave.{owners, part};

@@ -22,7 +22,7 @@ use Rattle.header_bits.specs.Lawful.{IsLawful, IsCoder}
 use Rattle.header_bits.proofs.Exact.{one_spelling}
 use Rattle.header_bits.proofs.Headers.{header_exact}
 use Rattle.predict_core.specs.Cubes.{IsCubeOf}
-use Rattle.predict_core.specs.Residual.{residuals}
+use Rattle.sample_prediction.specs.Residual.{residuals}
 use Rattle.predict_core.proofs.OneCube.{residuals_inside, one_cube}
 use Rattle.sample_adaptive.specs.Settings.{settings}
 use Rattle.sample_adaptive.specs.Reading.{sample_body_at}

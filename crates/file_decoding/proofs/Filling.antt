@@ -11,7 +11,7 @@ use Rattle.cube_core.proofs.Tiles.{placed, time_at}
 use Rattle.header_bits.specs.declared.params.Params.{Params}
 use Rattle.predict_core.specs.Following.{Learner, Follows, MovesBy}
 use Rattle.predict_core.specs.Precedence.{AreAlike, Agree, SameBefore}
-use Rattle.predict_core.specs.Residual.{run_residuals}
+use Rattle.sample_prediction.specs.Residual.{run_residuals}
 use Rattle.predict_core.specs.RunPlaces.{AreAlikeBeside}
 use Rattle.predict_core.specs.Walked.{IsAlong}
 use Rattle.predict_core.proofs.Frame.{beside_agree, residual_same}

@@ -18,7 +18,7 @@ use Rattle.header_bits.specs.declared.params.Params.{Params}
 use Rattle.header_bits.specs.Lawful.{IsLawful}
 use Rattle.predict_core.specs.Following.{Learner}
 use Rattle.predict_core.specs.Precedence.{AreAlike}
-use Rattle.predict_core.specs.Residual.{mapped_residual}
+use Rattle.sample_prediction.specs.Residual.{mapped_residual}
 use Rattle.predict_core.specs.Walked.{residuals_at}
 use Rattle.predict_core.proofs.Walking.{IsOnWalk, all_places, gone_by, gone_count, goes_by, length-residuals_at, next_place, residuals_whole}
 use Rattle.predict_core.proofs.Walking.{tile_fits, tile_item}

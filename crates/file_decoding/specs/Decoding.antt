@@ -9,7 +9,7 @@ use Rattle.header_bits.specs.Bits.{Unread, bits_of_bytes}
 use Rattle.header_bits.specs.Header.{BeginsWithTable}
 use Rattle.header_bits.specs.Lawful.{IsLawful}
 use Rattle.predict_core.specs.Cubes.{IsCubeOf}
-use Rattle.predict_core.specs.Residual.{residuals}
+use Rattle.sample_prediction.specs.Residual.{residuals}
 use Rattle.sample_adaptive.specs.Reading.{placed_at}
 use Rattle.sample_adaptive.specs.Given.{HasGiven as GivenBySamples}
 use Rattle.block_adaptive.specs.Given.{given_count, HasGivenOf}

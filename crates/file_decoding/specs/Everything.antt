@@ -1,6 +1,6 @@
 -- Opens each definition, for the worked examples.
 use Rattle.header_bits.specs.Everything.{everything as of_headers}
-use Rattle.predict_core.specs.Everything.{everything as of_residuals}
+use Rattle.sample_prediction.specs.Everything.{everything as of_residuals}
 use Rattle.sample_adaptive.specs.Everything.{everything as of_samples}
 use Rattle.block_adaptive.specs.Everything.{everything as of_blocks}
 use Rattle.file_coding.specs.File.{body_of, packed_from, packed, file_bits, file_of_residuals, file_of}

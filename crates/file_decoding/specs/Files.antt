@@ -13,7 +13,7 @@ use Rattle.header_bits.specs.Bits.{bits_of_bytes}
 use Rattle.header_bits.specs.Reading.{Reading}
 use Rattle.header_bits.specs.Header.{header_at, SpellsHeader}
 use Rattle.predict_core.specs.Cubes.{IsCubeOf}
-use Rattle.predict_core.specs.Residual.{residuals}
+use Rattle.sample_prediction.specs.Residual.{residuals}
 use Rattle.sample_adaptive.specs.Settings.{settings}
 use Rattle.sample_adaptive.specs.Body.{sample_body}
 use Rattle.sample_adaptive.specs.Reading.{sample_body_at}

@@ -5,9 +5,9 @@ use Rattle.std.proofs.lemmas.Bool.{cases_eq}
 use Rattle.std.proofs.lemmas.Bool.Decides.{nat_tests}
 use Rattle.std.proofs.lemmas.List.{get_or-append-add}
 use lib.ListN.{get_or-append}
-use Rattle.predict_core.specs.OffsetSum.{offset_sum}
-use Rattle.predict_core.specs.Lines.{bordered, line_sum, AreLines}
-use Rattle.predict_core.proofs.LocalSums.{offsets_by_column}
+use Rattle.sample_prediction.specs.OffsetSum.{offset_sum}
+use Rattle.sample_prediction.specs.Lines.{bordered, line_sum, AreLines}
+use Rattle.sample_prediction.proofs.LocalSums.{offsets_by_column}
 
 -- ---- a row with a border
 

@@ -2,16 +2,16 @@
 use Rattle.std.proofs.Common.{◌≡◌, ℕ, ◌+◌, ◌-◌, ◌*◌, ◌≤◌, ℤ, pos, ◌-ℤ◌, ◌*ℤ◌, int_lt, int_le, List, length, take, ◌++◌, replicate, refl, sym, ap, ◌∙◌, arith}
 use Rattle.cube_core.specs.Kind.{IsSample}
 use Rattle.cube_core.specs.Image.{Image, IsCube, IsPlace}
-use Rattle.predict_core.specs.Chain.{scaled_by_difference}
-use Rattle.predict_core.specs.declared.predictor.Predictor.{Predictor}
-use Rattle.predict_core.specs.Predictor.{component_count}
-use Rattle.predict_core.specs.LocalSum.{local_sum}
-use Rattle.predict_core.specs.Differences.{central_difference, difference_vector}
-use Rattle.predict_core.specs.Weights.{step_exponent, updated_weights}
-use Rattle.predict_core.specs.Prediction.{inner_product, scaled_by, scaled_there, next_weights}
+use Rattle.sample_prediction.specs.Chain.{scaled_by_difference}
+use Rattle.sample_prediction.specs.declared.predictor.Predictor.{Predictor}
+use Rattle.sample_prediction.specs.Predictor.{component_count}
+use Rattle.sample_prediction.specs.LocalSum.{local_sum}
+use Rattle.sample_prediction.specs.Differences.{central_difference, difference_vector}
+use Rattle.sample_prediction.specs.Weights.{step_exponent, updated_weights}
+use Rattle.sample_prediction.specs.Prediction.{inner_product, scaled_by, scaled_there, next_weights}
 use Rattle.predict_core.proofs.Links.{sign_by_difference, next_by_difference}
-use Rattle.predict_core.proofs.Padding.{vector_length}
-use Rattle.predict_core.proofs.Prefixes.{product_in_use, update_in_use}
+use Rattle.sample_prediction.proofs.Padding.{vector_length}
+use Rattle.sample_prediction.proofs.Prefixes.{product_in_use, update_in_use}
 
 -- a scaled prediction depends on the sum of the products alone
 scaled_of_product : (q : Predictor) (c : Image) (sum : ℤ) (ws us vs xs : List ℤ) → inner_product ws us ≡ inner_product vs xs

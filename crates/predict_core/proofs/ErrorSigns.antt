@@ -5,14 +5,14 @@ use Rattle.std.proofs.Math.Pow.{pow-add}
 use Rattle.cube_core.specs.Kind.{SampleKind, IsSample, smin, smid, smax}
 use Rattle.cube_core.specs.Image.{Image, sample_at}
 use Rattle.header_bits.specs.declared.params.Params.{Params}
-use Rattle.predict_core.specs.Arithmetic.{floor_div, clip}
-use Rattle.predict_core.specs.declared.predictor.Predictor.{Predictor}
-use Rattle.predict_core.specs.Predictor.{predictor_of}
-use Rattle.predict_core.specs.LocalSum.{local_sum}
-use Rattle.predict_core.specs.Differences.{central_difference, difference_vector}
-use Rattle.predict_core.specs.Prediction.{inner_product, scaled_by, scaled_there, weight_vector, scaled_prediction}
-use Rattle.predict_core.specs.ErrorSign.{IsLaterPlace, UnwrappedPrediction, ErrorSign, DifferenceBound}
-use Rattle.predict_core.proofs.Floors.{kept, upper_part, sign_of_center, sign_of_part, floor_within, below_power}
+use Rattle.sample_prediction.specs.Arithmetic.{floor_div, clip}
+use Rattle.sample_prediction.specs.declared.predictor.Predictor.{Predictor}
+use Rattle.sample_prediction.specs.Predictor.{predictor_of}
+use Rattle.sample_prediction.specs.LocalSum.{local_sum}
+use Rattle.sample_prediction.specs.Differences.{central_difference, difference_vector}
+use Rattle.sample_prediction.specs.Prediction.{inner_product, scaled_by, scaled_there, weight_vector, scaled_prediction}
+use Rattle.sample_prediction.specs.ErrorSign.{IsLaterPlace, UnwrappedPrediction, ErrorSign, DifferenceBound}
+use Rattle.sample_prediction.proofs.Floors.{kept, upper_part, sign_of_center, sign_of_part, floor_within, below_power}
 use Rattle.predict_core.proofs.Following.{row_is, column_is}
 use Rattle.predict_core.proofs.Largest.{register_bound, products_within}
 use Rattle.predict_core.proofs.Ranges.{sample_within}

@@ -4,12 +4,12 @@ use Rattle.std.proofs.lemmas.Nat.{div-mul-add, mod-mul-add}
 use Rattle.header_bits.specs.declared.params.Params.{Params}
 use Rattle.cube_core.specs.declared.order.Place.{Place}
 use Rattle.cube_core.specs.Image.{Image, sample_at}
-use Rattle.predict_core.specs.declared.predictor.Predictor.{Predictor}
-use Rattle.predict_core.specs.Predictor.{predictor_of}
-use Rattle.predict_core.specs.Differences.{difference_vector}
-use Rattle.predict_core.specs.Weights.{step_exponent, updated_weights}
-use Rattle.predict_core.specs.Prediction.{scaled_prediction, scaled_there, next_weights, weight_vector, first_scaled}
-use Rattle.predict_core.specs.Residual.{mapped, mapped_residual}
+use Rattle.sample_prediction.specs.declared.predictor.Predictor.{Predictor}
+use Rattle.sample_prediction.specs.Predictor.{predictor_of}
+use Rattle.sample_prediction.specs.Differences.{difference_vector}
+use Rattle.sample_prediction.specs.Weights.{step_exponent, updated_weights}
+use Rattle.sample_prediction.specs.Prediction.{scaled_prediction, scaled_there, next_weights, weight_vector, first_scaled}
+use Rattle.sample_prediction.specs.Residual.{mapped, mapped_residual}
 
 -- the row and the column of a place
 pub row_is : (columns t y x : ℕ) → t ≡ y * columns + x → x < columns → t / columns ≡ y

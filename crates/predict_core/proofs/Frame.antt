@@ -9,12 +9,12 @@ use Rattle.header_bits.specs.declared.params.Params.{Params}
 use Rattle.cube_core.specs.Shape.{Sizes}
 use Rattle.cube_core.specs.Kind.{SampleKind, smid}
 use Rattle.cube_core.specs.Image.{Image, IsPlace, sample_at}
-use Rattle.predict_core.specs.declared.predictor.Predictor.{Predictor}
-use Rattle.predict_core.specs.Predictor.{predictor_of, previous_bands}
-use Rattle.predict_core.specs.LocalSum.{local_sum}
-use Rattle.predict_core.specs.Differences.{central_difference, spectral_differences, directional_differences, difference_vector}
-use Rattle.predict_core.specs.Prediction.{scaled_there, next_weights, weight_vector, first_scaled, scaled_prediction}
-use Rattle.predict_core.specs.Residual.{mapped_residual}
+use Rattle.sample_prediction.specs.declared.predictor.Predictor.{Predictor}
+use Rattle.sample_prediction.specs.Predictor.{predictor_of, previous_bands}
+use Rattle.sample_prediction.specs.LocalSum.{local_sum}
+use Rattle.sample_prediction.specs.Differences.{central_difference, spectral_differences, directional_differences, difference_vector}
+use Rattle.sample_prediction.specs.Prediction.{scaled_there, next_weights, weight_vector, first_scaled, scaled_prediction}
+use Rattle.sample_prediction.specs.Residual.{mapped_residual}
 use Rattle.predict_core.specs.Precedence.{Agree, PlacesPrecede}
 use Rattle.predict_core.specs.RunPlaces.{AreAlikeBeside}
 use Rattle.predict_core.proofs.Earlier.{before_is}

@@ -9,15 +9,15 @@ use Rattle.cube_core.specs.Shape.{Sizes, sample_count}
 use Rattle.cube_core.specs.Image.{Image, IsPlace, sample_at, put}
 use Rattle.cube_core.specs.Order.{from}
 use Rattle.header_bits.specs.declared.params.Params.{Params}
-use Rattle.predict_core.specs.declared.predictor.Predictor.{Predictor}
-use Rattle.predict_core.specs.Predictor.{previous_bands, component_count}
-use Rattle.predict_core.specs.Differences.{spectral_differences, directional_differences, difference_vector}
-use Rattle.predict_core.specs.Residual.{mapped_residual, run_residuals}
+use Rattle.sample_prediction.specs.declared.predictor.Predictor.{Predictor}
+use Rattle.sample_prediction.specs.Predictor.{previous_bands, component_count}
+use Rattle.sample_prediction.specs.Differences.{spectral_differences, directional_differences, difference_vector}
+use Rattle.sample_prediction.specs.Residual.{mapped_residual, run_residuals}
 use Rattle.predict_core.specs.RunPlaces.{AreAlikeBeside}
 use Rattle.predict_core.specs.Rooms.{quads_of}
 use Rattle.predict_core.specs.OpenPart.{IsOpenPart, open_sum, open_directions}
-use Rattle.predict_core.proofs.Directions.{reduced_vector_is, full_vector_is, reduced_count, full_count, heads_dropped, heads_taken}
-use Rattle.predict_core.proofs.Filling.{spectral_length}
+use Rattle.sample_prediction.proofs.Directions.{reduced_vector_is, full_vector_is, reduced_count, full_count, heads_dropped, heads_taken}
+use Rattle.sample_prediction.proofs.Filling.{spectral_length}
 use Rattle.predict_core.proofs.Frame.{agree_less, beside_agree, residual_same, spectral_same}
 use Rattle.predict_core.proofs.Inverting.{sample_put_beside, agree_put}
 use Rattle.predict_core.proofs.RunSteps.{one_more}

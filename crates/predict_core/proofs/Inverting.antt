@@ -8,12 +8,12 @@ use Rattle.cube_core.specs.Shape.{sample_count}
 use Rattle.cube_core.specs.Image.{Image, IsPlace, sample_at, index_in, put}
 use Rattle.cube_core.proofs.Bounds.{index_below}
 use Rattle.cube_core.proofs.Images.{put_other}
-use Rattle.predict_core.specs.declared.predictor.Predictor.{Predictor}
-use Rattle.predict_core.specs.Predictor.{predictor_of}
-use Rattle.predict_core.specs.Differences.{difference_vector}
-use Rattle.predict_core.specs.Weights.{step_exponent, updated_weights}
-use Rattle.predict_core.specs.Prediction.{scaled_there, next_weights, weight_vector, first_scaled, scaled_prediction}
-use Rattle.predict_core.specs.Residual.{mapped, mapped_residual}
+use Rattle.sample_prediction.specs.declared.predictor.Predictor.{Predictor}
+use Rattle.sample_prediction.specs.Predictor.{predictor_of}
+use Rattle.sample_prediction.specs.Differences.{difference_vector}
+use Rattle.sample_prediction.specs.Weights.{step_exponent, updated_weights}
+use Rattle.sample_prediction.specs.Prediction.{scaled_there, next_weights, weight_vector, first_scaled, scaled_prediction}
+use Rattle.sample_prediction.specs.Residual.{mapped, mapped_residual}
 use Rattle.predict_core.specs.Precedence.{Agree}
 use Rattle.predict_core.proofs.Frame.{agree_less, weights_same, scaled_same, first_scaled_same, vector_same, scaled_there_same}
 use Rattle.predict_core.proofs.Following.{mapped_at, next_is, follows_first, follows_by, residual_by, first_residual_is}

@@ -14,7 +14,7 @@ use Rattle.cube_core.proofs.Lists.{map_taken_same}
 use Rattle.header_bits.specs.declared.params.Params.{Params}
 use Rattle.header_bits.specs.Lawful.{IsLawful}
 use Rattle.predict_core.specs.Precedence.{AreAlike, Agree, SameBefore}
-use Rattle.predict_core.specs.Residual.{mapped_residual}
+use Rattle.sample_prediction.specs.Residual.{mapped_residual}
 use Rattle.predict_core.specs.Following.{Learner, Follows}
 use Rattle.predict_core.specs.RunPlaces.{AreAlikeBeside}
 use Rattle.predict_core.specs.Walked.{IsAlong, residuals_at}

@@ -12,24 +12,24 @@ use Rattle.header_bits.specs.declared.params.Params.{Params}
 use Rattle.header_bits.specs.declared.params.WeightStart.{WeightStart}
 use Rattle.header_bits.specs.declared.params.WeightStart.TheVariants.{Usual, Table}
 use Rattle.header_bits.specs.Lawful.{IsLawful, IsWeightStart}
-use Rattle.predict_core.specs.Arithmetic.{floor_div}
-use Rattle.predict_core.specs.declared.predictor.Predictor.{Predictor}
-use Rattle.predict_core.specs.Predictor.{predictor_of, previous_bands, component_count}
-use Rattle.predict_core.specs.LocalSum.{local_sum}
-use Rattle.predict_core.specs.Differences.{difference_vector}
-use Rattle.predict_core.specs.Weights.{weight_min, weight_max, eighths, default_weights, weights_by, start_weights, updated_weight, updated_weights}
-use Rattle.predict_core.specs.Prediction.{inner_product, next_weights, weight_vector}
-use Rattle.predict_core.specs.Mapping.{Between}
-use Rattle.predict_core.specs.Bounds.{AllWithin}
+use Rattle.sample_prediction.specs.Arithmetic.{floor_div}
+use Rattle.sample_prediction.specs.declared.predictor.Predictor.{Predictor}
+use Rattle.sample_prediction.specs.Predictor.{predictor_of, previous_bands, component_count}
+use Rattle.sample_prediction.specs.LocalSum.{local_sum}
+use Rattle.sample_prediction.specs.Differences.{difference_vector}
+use Rattle.sample_prediction.specs.Weights.{weight_min, weight_max, eighths, default_weights, weights_by, start_weights, updated_weight, updated_weights}
+use Rattle.sample_prediction.specs.Prediction.{inner_product, next_weights, weight_vector}
+use Rattle.sample_prediction.specs.Mapping.{Between}
+use Rattle.sample_prediction.specs.Bounds.{AllWithin}
 use Rattle.predict_core.specs.Largest.{RegisterBound}
-use Rattle.predict_core.proofs.Moves.{clipped_low, clipped_high, limit_within, within_most}
-use Rattle.predict_core.proofs.Padding.{vector_length}
+use Rattle.sample_prediction.proofs.Moves.{clipped_low, clipped_high, limit_within, within_most}
+use Rattle.sample_prediction.proofs.Padding.{vector_length}
 use Rattle.predict_core.proofs.Ranges.{within_none, within_append, vector_within, sum_within, apart}
-use Rattle.predict_core.proofs.Directions.{zeros_within}
-use Rattle.predict_core.proofs.Inner.{inner_within}
-use Rattle.predict_core.proofs.Spans.{span, doubled}
-use Rattle.predict_core.proofs.Scaled.{halved_shrinks}
-use Rattle.predict_core.proofs.Tables.{table_within}
+use Rattle.sample_prediction.proofs.Directions.{zeros_within}
+use Rattle.sample_prediction.proofs.Inner.{inner_within}
+use Rattle.sample_prediction.proofs.Spans.{span, doubled}
+use Rattle.sample_prediction.proofs.Scaled.{halved_shrinks}
+use Rattle.sample_prediction.proofs.Tables.{table_within}
 
 -- ---- weights
 

@@ -2,14 +2,14 @@
 use Rattle.std.proofs.Common.{◌≡◌, ℕ, ◌+◌, ◌*◌, ℤ, pos, ◌+ℤ◌, ◌-ℤ◌, ◌*ℤ◌, int_lt, int_le, List, refl, sym, ap, ◌∙◌}
 use Rattle.cube_core.specs.Kind.{SampleKind, IsSample, smin, smid, smax}
 use Rattle.cube_core.specs.Image.{Image, IsCube, IsPlace, sample_at}
-use Rattle.predict_core.specs.Arithmetic.{floor_div}
-use Rattle.predict_core.specs.Chain.{scaled_by_difference}
-use Rattle.predict_core.specs.declared.predictor.Predictor.{Predictor}
-use Rattle.predict_core.specs.LocalSum.{local_sum}
-use Rattle.predict_core.specs.Differences.{central_difference, difference_vector}
-use Rattle.predict_core.specs.Weights.{step_exponent, updated_weights}
-use Rattle.predict_core.specs.Prediction.{scaled_there, next_weights}
-use Rattle.predict_core.proofs.Floors.{sign_of_center, sign_of_part}
+use Rattle.sample_prediction.specs.Arithmetic.{floor_div}
+use Rattle.sample_prediction.specs.Chain.{scaled_by_difference}
+use Rattle.sample_prediction.specs.declared.predictor.Predictor.{Predictor}
+use Rattle.sample_prediction.specs.LocalSum.{local_sum}
+use Rattle.sample_prediction.specs.Differences.{central_difference, difference_vector}
+use Rattle.sample_prediction.specs.Weights.{step_exponent, updated_weights}
+use Rattle.sample_prediction.specs.Prediction.{scaled_there, next_weights}
+use Rattle.sample_prediction.proofs.Floors.{sign_of_center, sign_of_part}
 use Rattle.predict_core.proofs.Following.{next_is}
 use Rattle.predict_core.proofs.Ranges.{sample_within}
 

@@ -3,10 +3,10 @@ use Rattle.std.proofs.Common.{◌≡◌, ℕ, ◌+◌, ◌*◌, ◌%◌, ◌^◌
 use Rattle.std.proofs.Common.{refl, sym, ap, ap₂, ◌∙◌, arith, to_z, of_z, w32, SFits}
 use Rattle.std.specs.Int.{int_min}
 use Rattle.std.proofs.lemmas.Int.{ints, clamps, fits_signed_from_abs, wrapping_add_is, int_wrap_fits}
-use Rattle.predict_core.specs.Arithmetic.{floor_div, clip}
-use Rattle.predict_core.specs.Residual.{mapped_between, theta_between, agrees}
-use Rattle.predict_core.proofs.OneSample.{not_both, signed_by, NumberBy, agrees_cases, number_cases}
-use Rattle.predict_core.proofs.Floors.{floor_of_sum}
+use Rattle.sample_prediction.specs.Arithmetic.{floor_div, clip}
+use Rattle.sample_prediction.specs.Residual.{mapped_between, theta_between, agrees}
+use Rattle.sample_prediction.proofs.OneSample.{not_both, signed_by, NumberBy, agrees_cases, number_cases}
+use Rattle.sample_prediction.proofs.Floors.{floor_of_sum}
 
 -- what both signs take turns for
 turns : (parity : ℕ) (e far turned : ℤ) (sign : Bool) → signed_by parity e sign → far ≡ pos 2 *ℤ e -ℤ pos (parity % 2) → (pos 0 ≤ℤ far → turned ≡ far)

@@ -17,16 +17,16 @@ use Rattle.cube_core.proofs.Images.{same_cube}
 use Rattle.cube_core.proofs.Lists.{all_mapped, map_same}
 use Rattle.cube_core.proofs.Orders.{place_index_below}
 use Rattle.header_bits.specs.declared.params.Params.{Params}
-use Rattle.predict_core.specs.declared.predictor.Predictor.{Predictor}
+use Rattle.sample_prediction.specs.declared.predictor.Predictor.{Predictor}
 use Rattle.predict_core.specs.Cubes.{OneCube}
 use Rattle.predict_core.specs.Precedence.{AreAlike, SameBefore}
-use Rattle.predict_core.specs.Prediction.{scaled_prediction, scaled_there, scaled_by, first_scaled}
-use Rattle.predict_core.specs.Mapping.{IsScaled, unmapped_between}
-use Rattle.predict_core.specs.Residual.{mapped, mapped_residual, residuals}
+use Rattle.sample_prediction.specs.Prediction.{scaled_prediction, scaled_there, scaled_by, first_scaled}
+use Rattle.sample_prediction.specs.Mapping.{IsScaled, unmapped_between}
+use Rattle.sample_prediction.specs.Residual.{mapped, mapped_residual, residuals}
 use Rattle.predict_core.proofs.Following.{mapped_at}
 use Rattle.predict_core.proofs.Frame.{places_precede_lem}
 use Rattle.predict_core.proofs.Kept.{wide_of}
-use Rattle.predict_core.proofs.OneSample.{one_sample_lem, sample_back}
+use Rattle.sample_prediction.proofs.OneSample.{one_sample_lem, sample_back}
 use Rattle.predict_core.proofs.Ranges.{sample_within}
 
 -- ---- predictions are in range

@@ -5,8 +5,8 @@ use Rattle.std.proofs.lemmas.Int.{ints}
 use Rattle.std.proofs.lemmas.Bool.Decides.{nat_tests}
 use Rattle.cube_core.specs.Image.{Image}
 use Rattle.cube_core.specs.Offsets.{AreRowOffsets}
-use Rattle.predict_core.specs.declared.predictor.Predictor.{Predictor}
-use Rattle.predict_core.specs.Lines.{bordered_above, line_sum, line_north, line_directions}
+use Rattle.sample_prediction.specs.declared.predictor.Predictor.{Predictor}
+use Rattle.sample_prediction.specs.Lines.{bordered_above, line_sum, line_north, line_directions}
 use Rattle.predict_core.specs.OpenPart.{offset_above, open_sum, open_directions}
 use Rattle.predict_core.proofs.Borders.{border_inside, border_after, border_before}
 use Rattle.predict_core.proofs.Quads.{zero_at}

@@ -6,16 +6,16 @@ use Rattle.std.proofs.lemmas.Bool.{cases_eq, cases_Bool}
 use Rattle.std.proofs.lemmas.List.{take-append-drop}
 use Rattle.std.proofs.Math.Pow.{pow_mono}
 use Rattle.cube_core.specs.Image.{Image, IsCube, IsPlace}
-use Rattle.predict_core.specs.declared.predictor.Predictor.{Predictor}
-use Rattle.predict_core.specs.Predictor.{previous_bands}
-use Rattle.predict_core.specs.Differences.{spectral_differences}
-use Rattle.predict_core.specs.Bounds.{AllWithin}
-use Rattle.predict_core.specs.Mapping.{Between}
+use Rattle.sample_prediction.specs.declared.predictor.Predictor.{Predictor}
+use Rattle.sample_prediction.specs.Predictor.{previous_bands}
+use Rattle.sample_prediction.specs.Differences.{spectral_differences}
+use Rattle.sample_prediction.specs.Bounds.{AllWithin}
+use Rattle.sample_prediction.specs.Mapping.{Between}
 use Rattle.predict_core.specs.OpenPart.{offset_above, open_sum, open_directions}
-use Rattle.predict_core.proofs.Directions.{zeros_within}
+use Rattle.sample_prediction.proofs.Directions.{zeros_within}
 use Rattle.predict_core.proofs.Opening.{open_by_column, open_at_left, open_at_right, open_inside}
 use Rattle.predict_core.proofs.Ranges.{within_append, within_three, spectral_within, sample_within}
-use Rattle.predict_core.proofs.Spans.{span}
+use Rattle.sample_prediction.proofs.Spans.{span}
 
 module _ (p : Predictor) (c : Image) (cube : IsCube c) (z y x : ℕ) (later : 0 < y) (wide : p.column ≡ false → 2 ≤ c.shape.columns)
     (place : IsPlace c.shape z y x) where

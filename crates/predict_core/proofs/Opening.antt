@@ -7,13 +7,13 @@ use Rattle.std.proofs.lemmas.List.{set-get_or, get_or-take, get_or-drop}
 use Rattle.std.proofs.lemmas.Bool.Decides.{nat_tests}
 use Rattle.cube_core.specs.Kind.{smin}
 use Rattle.cube_core.specs.Image.{Image, sample_at}
-use Rattle.predict_core.specs.declared.predictor.Predictor.{Predictor}
-use Rattle.predict_core.specs.LocalSum.{local_sum}
-use Rattle.predict_core.specs.Differences.{directional_differences}
-use Rattle.predict_core.specs.OffsetSum.{IsWest}
+use Rattle.sample_prediction.specs.declared.predictor.Predictor.{Predictor}
+use Rattle.sample_prediction.specs.LocalSum.{local_sum}
+use Rattle.sample_prediction.specs.Differences.{directional_differences}
+use Rattle.sample_prediction.specs.OffsetSum.{IsWest}
 use Rattle.predict_core.specs.OpenPart.{offset_above, open_sum, open_directions, unless}
-use Rattle.predict_core.proofs.Directions.{directional_left, directional_inside, west_left, west_inside, three_written}
-use Rattle.predict_core.proofs.LocalSums.{sum_by_column, sum_at_left, sum_at_right, sum_inside}
+use Rattle.sample_prediction.proofs.Directions.{directional_left, directional_inside, west_left, west_inside, three_written}
+use Rattle.sample_prediction.proofs.LocalSums.{sum_by_column, sum_at_left, sum_at_right, sum_inside}
 
 -- ---- case by case
 

@@ -9,14 +9,14 @@ use Rattle.std.proofs.lemmas.Bool.Decides.{nat_tests}
 use Rattle.cube_core.specs.Image.{Image}
 use Rattle.cube_core.specs.Order.{from}
 use Rattle.cube_core.proofs.Lists.{length-from}
-use Rattle.predict_core.specs.declared.predictor.Predictor.{Predictor}
+use Rattle.sample_prediction.specs.declared.predictor.Predictor.{Predictor}
 use Rattle.predict_core.specs.declared.room.Quad.{Quad}
-use Rattle.predict_core.specs.Predictor.{previous_bands, component_count}
-use Rattle.predict_core.specs.Differences.{central_difference, directional_differences, spectral_differences, difference_vector}
-use Rattle.predict_core.specs.Lines.{line_difference}
+use Rattle.sample_prediction.specs.Predictor.{previous_bands, component_count}
+use Rattle.sample_prediction.specs.Differences.{central_difference, directional_differences, spectral_differences, difference_vector}
+use Rattle.sample_prediction.specs.Lines.{line_difference}
 use Rattle.predict_core.specs.Rooms.{components_at, quads_of, lower_difference, lower_differences}
 use Rattle.predict_core.specs.OpenPart.{IsOpenPart, open_sum, open_directions}
-use Rattle.predict_core.proofs.Directions.{directional_first, reduced_vector_is, full_vector_is, reduced_count, full_count}
+use Rattle.sample_prediction.proofs.Directions.{directional_first, reduced_vector_is, full_vector_is, reduced_count, full_count}
 
 -- one quad more
 pub components_more : (n : ℕ) (quads : List Quad) (q : Quad) (i : ℕ) → n < length quads

@@ -6,15 +6,15 @@ use Rattle.std.proofs.lemmas.Bool.{cases_eq, cases_Bool}
 use Rattle.cube_core.specs.Kind.{smin, smax, IsSample}
 use Rattle.cube_core.specs.Image.{Image, IsCube, IsPlace, sample_at, index_in}
 use Rattle.cube_core.proofs.Bounds.{index_below}
-use Rattle.predict_core.specs.declared.predictor.Predictor.{Predictor}
-use Rattle.predict_core.specs.Predictor.{previous_bands}
-use Rattle.predict_core.specs.LocalSum.{local_sum}
-use Rattle.predict_core.specs.Differences.{central_difference, directional_differences, spectral_differences, difference_vector, difference_from}
-use Rattle.predict_core.specs.Mapping.{Between}
-use Rattle.predict_core.specs.Bounds.{AllWithin}
-use Rattle.predict_core.proofs.Spans.{span}
-use Rattle.predict_core.proofs.LocalSums.{sum_in_first_row, sum_by_column, sum_at_left, sum_at_right, sum_inside}
-use Rattle.predict_core.proofs.Directions.{directional_first, directional_left, directional_inside, reduced_vector_is, full_vector_is, zeros_within}
+use Rattle.sample_prediction.specs.declared.predictor.Predictor.{Predictor}
+use Rattle.sample_prediction.specs.Predictor.{previous_bands}
+use Rattle.sample_prediction.specs.LocalSum.{local_sum}
+use Rattle.sample_prediction.specs.Differences.{central_difference, directional_differences, spectral_differences, difference_vector, difference_from}
+use Rattle.sample_prediction.specs.Mapping.{Between}
+use Rattle.sample_prediction.specs.Bounds.{AllWithin}
+use Rattle.sample_prediction.proofs.Spans.{span}
+use Rattle.sample_prediction.proofs.LocalSums.{sum_in_first_row, sum_by_column, sum_at_left, sum_at_right, sum_inside}
+use Rattle.sample_prediction.proofs.Directions.{directional_first, directional_left, directional_inside, reduced_vector_is, full_vector_is, zeros_within}
 
 pub within_append : (n : ℕ) (xs ys : List ℤ) → AllWithin n xs → AllWithin n ys → AllWithin n (xs ++ ys)
 within_append n [] ys h k i l = k i l

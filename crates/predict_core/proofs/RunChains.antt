@@ -3,16 +3,16 @@ use Rattle.std.proofs.Common.{◌≡◌, ℕ, ◌+◌, ◌*◌, ◌^◌, ◌<◌
 use Rattle.std.proofs.lemmas.Bool.{cases_eq}
 use Rattle.header_bits.specs.declared.params.Params.{Params}
 use Rattle.cube_core.specs.Image.{Image}
-use Rattle.predict_core.specs.declared.predictor.Predictor.{Predictor}
+use Rattle.sample_prediction.specs.declared.predictor.Predictor.{Predictor}
 use Rattle.predict_core.specs.declared.room.Quad.{Quad}
 use Rattle.predict_core.specs.declared.settings.Settings.{Settings}
-use Rattle.predict_core.specs.Bounds.{AllWithin}
-use Rattle.predict_core.specs.Chain.{AreWeightsAt}
-use Rattle.predict_core.specs.Prediction.{weight_vector}
-use Rattle.predict_core.specs.Residual.{run_residuals}
+use Rattle.sample_prediction.specs.Bounds.{AllWithin}
+use Rattle.sample_prediction.specs.Chain.{AreWeightsAt}
+use Rattle.sample_prediction.specs.Prediction.{weight_vector}
+use Rattle.sample_prediction.specs.Residual.{run_residuals}
 use Rattle.predict_core.specs.RunChains.{CanFollow, CanPredict, AreStepsThere, IsFirstLater, IsFollowed, HasPredicted}
 use Rattle.predict_core.specs.Rooms.{IsRoom, quads_of}
-use Rattle.predict_core.specs.Weights.{step_exponent}
+use Rattle.sample_prediction.specs.Weights.{step_exponent}
 use Rattle.predict_core.proofs.WholeRuns.{started}
 
 -- what is told of a run is told of its first places

@@ -9,7 +9,7 @@ use Rattle.cube_core.specs.Order.{from}
 use Rattle.cube_core.proofs.Lists.{length-from, get_or-from}
 use Rattle.header_bits.specs.declared.params.Params.{Params}
 use Rattle.predict_core.specs.Following.{Learner, MovesOn, MovesBy}
-use Rattle.predict_core.specs.Residual.{mapped_residual, run_residuals}
+use Rattle.sample_prediction.specs.Residual.{mapped_residual, run_residuals}
 
 pub one_more : (f : ℕ → ℕ) (a n : ℕ) → map f (from a (suc n)) ≡ map f (from a n) ++ f (a + n) ∷ []
 one_more f a zero = ap (λ k. f k ∷ []) (omega arith)

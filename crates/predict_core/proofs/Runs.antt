@@ -4,13 +4,13 @@ use Rattle.std.proofs.Common.{sym, ap, ◌∙◌, arith, inl, inr, get_or-set_sa
 use Rattle.std.proofs.lemmas.Bool.{cases_eq}
 use Rattle.header_bits.specs.declared.params.Params.{Params}
 use Rattle.cube_core.specs.Image.{Image}
-use Rattle.predict_core.specs.Chain.{scaled_by_difference, AreWeightsAt}
-use Rattle.predict_core.specs.declared.predictor.Predictor.{Predictor}
-use Rattle.predict_core.specs.LocalSum.{local_sum}
-use Rattle.predict_core.specs.Weights.{step_exponent}
-use Rattle.predict_core.specs.Prediction.{scaled_there, scaled_prediction, next_weights, weight_vector}
+use Rattle.sample_prediction.specs.Chain.{scaled_by_difference, AreWeightsAt}
+use Rattle.sample_prediction.specs.declared.predictor.Predictor.{Predictor}
+use Rattle.sample_prediction.specs.LocalSum.{local_sum}
+use Rattle.sample_prediction.specs.Weights.{step_exponent}
+use Rattle.sample_prediction.specs.Prediction.{scaled_there, scaled_prediction, next_weights, weight_vector}
 use Rattle.predict_core.proofs.Following.{row_is, column_is, follows_by}
-use Rattle.predict_core.proofs.Prefixes.{take_padded}
+use Rattle.sample_prediction.proofs.Prefixes.{take_padded}
 
 zeros_joined : (k m : ℕ) → replicate k (pos 0) ++ replicate m (pos 0) ≡ replicate (k + m) (pos 0)
 zeros_joined zero m = let e : 0 + m ≡ m = omega arith in rw e refl

@@ -5,16 +5,16 @@ use Rattle.std.proofs.lemmas.Int.{ints}
 use Rattle.std.proofs.Math.Pow.{pow_mono}
 use Rattle.cube_core.specs.Kind.{smin, smax}
 use Rattle.cube_core.specs.Image.{Image, IsCube, IsPlace}
-use Rattle.predict_core.specs.declared.predictor.Predictor.{Predictor}
+use Rattle.sample_prediction.specs.declared.predictor.Predictor.{Predictor}
 use Rattle.predict_core.specs.declared.room.Quad.{Quad}
-use Rattle.predict_core.specs.LocalSum.{local_sum}
-use Rattle.predict_core.specs.Differences.{central_difference, difference_vector}
-use Rattle.predict_core.specs.Bounds.{AllWithin}
-use Rattle.predict_core.specs.Mapping.{Between}
-use Rattle.predict_core.specs.Lines.{line_sum, line_difference, AreBandLines}
+use Rattle.sample_prediction.specs.LocalSum.{local_sum}
+use Rattle.sample_prediction.specs.Differences.{central_difference, difference_vector}
+use Rattle.sample_prediction.specs.Bounds.{AllWithin}
+use Rattle.sample_prediction.specs.Mapping.{Between}
+use Rattle.sample_prediction.specs.Lines.{line_sum, line_difference, AreBandLines}
 use Rattle.predict_core.specs.Rooms.{IsRoom, components_at, quads_of}
 use Rattle.predict_core.proofs.Ranges.{sum_within, central_within, padded_within}
-use Rattle.predict_core.proofs.Spans.{span}
+use Rattle.sample_prediction.proofs.Spans.{span}
 
 -- a sum of offsets is at most four times the greatest of them
 pub offset_sum_most : (low high s sum : ℤ) (power : ℕ) → high -ℤ low ≡ pos power -ℤ pos 1 → power ≤ 65536 → Between (pos 4 *ℤ low) (pos 4 *ℤ high) s

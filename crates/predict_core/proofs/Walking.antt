@@ -18,7 +18,7 @@ use Rattle.cube_core.proofs.Come.{time_of, come_start, come_here, come_step, com
 use Rattle.cube_core.proofs.Tiles.{nth, item_in, room_for, time_at, come_within, come_beside}
 use Rattle.header_bits.specs.declared.params.Params.{Params}
 use Rattle.predict_core.specs.Following.{Learner, Follows, MovesOn, MovesBy}
-use Rattle.predict_core.specs.Residual.{mapped_residual, residuals}
+use Rattle.sample_prediction.specs.Residual.{mapped_residual, residuals}
 use Rattle.predict_core.specs.Walked.{IsAlong, AreAlong, residuals_at}
 
 pub residuals_push : (p : Params) (c : Image) (gone : List Place) (q : Place)

@@ -5,11 +5,11 @@ use Rattle.std.proofs.lemmas.Bool.{cases_eq}
 use Rattle.header_bits.specs.declared.params.Params.{Params}
 use Rattle.cube_core.specs.Image.{Image, sample_at}
 use Rattle.cube_core.specs.Order.{from}
-use Rattle.predict_core.specs.Chain.{AreWeightsAt}
-use Rattle.predict_core.specs.declared.predictor.Predictor.{Predictor}
-use Rattle.predict_core.specs.Predictor.{predictor_of}
-use Rattle.predict_core.specs.Prediction.{first_scaled, scaled_prediction, weight_vector}
-use Rattle.predict_core.specs.Residual.{mapped, mapped_residual, run_residuals}
+use Rattle.sample_prediction.specs.Chain.{AreWeightsAt}
+use Rattle.sample_prediction.specs.declared.predictor.Predictor.{Predictor}
+use Rattle.sample_prediction.specs.Predictor.{predictor_of}
+use Rattle.sample_prediction.specs.Prediction.{first_scaled, scaled_prediction, weight_vector}
+use Rattle.sample_prediction.specs.Residual.{mapped, mapped_residual, run_residuals}
 use Rattle.predict_core.proofs.Following.{mapped_at as residual_of, follows_first, first_residual_is}
 
 -- a list is told by its entries

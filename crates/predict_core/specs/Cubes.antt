@@ -3,7 +3,7 @@ use Rattle.std.specs.Prelude.{◌≡◌}
 use Rattle.cube_core.specs.Image.{Image, IsCube}
 use Rattle.header_bits.specs.declared.params.Params.{Params}
 use Rattle.header_bits.specs.Lawful.{IsLawful}
-use Rattle.predict_core.specs.Residual.{residuals}
+use Rattle.sample_prediction.specs.Residual.{residuals}
 
 -- a cube of the parameters' shape and kind
 pub record IsCubeOf (p : Params) (c : Image) : Type 0 where

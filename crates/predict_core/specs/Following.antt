@@ -4,10 +4,10 @@ use Rattle.header_bits.specs.declared.params.Params.{Params}
 use Rattle.cube_core.specs.Shape.{Sizes}
 use Rattle.cube_core.specs.Kind.{SampleKind}
 use Rattle.cube_core.specs.Image.{Image, IsPlace}
-use Rattle.predict_core.specs.declared.predictor.Predictor.{Predictor}
-use Rattle.predict_core.specs.Predictor.{predictor_of}
-use Rattle.predict_core.specs.Prediction.{weight_vector}
-use Rattle.predict_core.specs.Residual.{run_residuals}
+use Rattle.sample_prediction.specs.declared.predictor.Predictor.{Predictor}
+use Rattle.sample_prediction.specs.Predictor.{predictor_of}
+use Rattle.sample_prediction.specs.Prediction.{weight_vector}
+use Rattle.sample_prediction.specs.Residual.{run_residuals}
 
 -- what a band's predictor knows: its parameters, the place that comes next, the weights there, and the residuals of the piece behind it
 pub record Learner : Type 0 where

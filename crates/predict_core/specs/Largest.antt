@@ -4,10 +4,10 @@ use Rattle.header_bits.specs.declared.params.Params.{Params}
 use Rattle.header_bits.specs.Lawful.{IsLawful}
 use Rattle.cube_core.specs.Kind.{smid}
 use Rattle.cube_core.specs.Image.{Image, IsCube, IsPlace}
-use Rattle.predict_core.specs.Predictor.{predictor_of}
-use Rattle.predict_core.specs.LocalSum.{local_sum}
-use Rattle.predict_core.specs.Differences.{difference_vector}
-use Rattle.predict_core.specs.Prediction.{inner_product, weight_vector}
+use Rattle.sample_prediction.specs.Predictor.{predictor_of}
+use Rattle.sample_prediction.specs.LocalSum.{local_sum}
+use Rattle.sample_prediction.specs.Differences.{difference_vector}
+use Rattle.sample_prediction.specs.Prediction.{inner_product, weight_vector}
 
 -- what the register takes at row y, column x: the products of weights and differences, and the local sum less four middles with the weights' fraction
 abbrev pub register_sum : Params → Image → ℕ → ℕ → ℕ → ℤ

@@ -2,7 +2,7 @@
 use Rattle.std.specs.Prelude.{◌≡◌, ◌+◌, ◌^◌, ◌<◌, ◌≤◌, ℤ, List}
 use Rattle.cube_core.specs.Shape.{Sizes}
 use Rattle.predict_core.specs.declared.settings.Settings.{Settings}
-use Rattle.predict_core.specs.Bounds.{AllWithin}
+use Rattle.sample_prediction.specs.Bounds.{AllWithin}
 
 pub record IsLearner (s : Settings) (shape : Sizes) (weights : List ℤ) : Type 0 where
   pub rows : shape.rows ≤ 65536

@@ -5,10 +5,10 @@ use Rattle.cube_core.specs.declared.order.Order.{Order}
 use Rattle.cube_core.specs.declared.order.Place.{Place}
 use Rattle.cube_core.specs.Image.{Image, IsPlace, sample_at}
 use Rattle.cube_core.specs.Order.{IsPlaceOf, place_index, place_key, IsBefore}
-use Rattle.predict_core.specs.Predictor.{predictor_of}
-use Rattle.predict_core.specs.LocalSum.{local_sum}
-use Rattle.predict_core.specs.Differences.{difference_vector}
-use Rattle.predict_core.specs.Prediction.{weight_vector, scaled_prediction}
+use Rattle.sample_prediction.specs.Predictor.{predictor_of}
+use Rattle.sample_prediction.specs.LocalSum.{local_sum}
+use Rattle.sample_prediction.specs.Differences.{difference_vector}
+use Rattle.sample_prediction.specs.Prediction.{weight_vector, scaled_prediction}
 
 -- two images of one shape and kind
 pub record AreAlike (c d : Image) : Type 0 where

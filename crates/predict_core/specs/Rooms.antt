@@ -1,18 +1,22 @@
 -- What the samples tell of a run of places, before its weights are known.
-use Rattle.std.specs.Prelude.{ℕ, ◌≡◌, ◌+◌, ◌-◌, ◌*◌, ◌/◌, ◌^◌, ◌<◌, ◌≤◌, nat_le, ℤ, pos, ◌+ℤ◌, ◌*ℤ◌, ◌≤ℤ◌, unsigned_abs, List, [], ◌++◌, map, take}
+use Rattle.std.specs.Prelude.{ℕ, ◌≡◌, ◌+◌, ◌-◌, ◌*◌, ◌/◌, ◌^◌, ◌<◌, ◌≤◌, nat_le, nat_lt, ℤ, pos, ◌+ℤ◌, ◌*ℤ◌, ◌≤ℤ◌, unsigned_abs, List, [], ◌++◌, map, take}
 use Rattle.std.specs.Prelude.{replicate, slice_index_or, if◌then◌else◌}
 use Rattle.std.specs.List.{flat_map}
 use Rattle.cube_core.specs.Kind.{smin}
 use Rattle.cube_core.specs.Image.{Image}
 use Rattle.cube_core.specs.Order.{from}
-use Rattle.predict_core.specs.declared.predictor.Predictor.{Predictor}
+use Rattle.sample_prediction.specs.declared.predictor.Predictor.{Predictor}
 use Rattle.predict_core.specs.declared.room.Quad.{Quad}
-use Rattle.predict_core.specs.Predictor.{previous_bands}
-use Rattle.predict_core.specs.LocalSum.{local_sum}
-use Rattle.predict_core.specs.Differences.{central_difference, difference_vector}
-use Rattle.predict_core.specs.Bounds.{AllWithin}
-use Rattle.predict_core.specs.Arithmetic.{floor_div, clip}
-use Rattle.predict_core.specs.Residual.{mapped_between}
+use Rattle.sample_prediction.specs.Predictor.{previous_bands}
+use Rattle.sample_prediction.specs.LocalSum.{local_sum}
+use Rattle.sample_prediction.specs.Differences.{central_difference, difference_vector}
+use Rattle.sample_prediction.specs.Bounds.{AllWithin}
+use Rattle.sample_prediction.specs.Arithmetic.{floor_div, clip}
+use Rattle.sample_prediction.specs.Residual.{mapped_between}
+
+-- the components of place i in quad k, of which the first n are in use
+abbrev pub quad_or_zeros : ℕ → List Quad → ℕ → ℕ → List ℤ
+quad_or_zeros n quads k i = if nat_lt k n then slice_index_or (slice_index_or quads k (record { places = [] })).places i [] else replicate 4 (pos 0)
 
 -- the components of place i of a run, from the first n quads of its room
 unfoldable pub components_at : ℕ → List Quad → ℕ → List ℤ

@@ -4,13 +4,13 @@ use Rattle.header_bits.specs.declared.params.Params.{Params}
 use Rattle.cube_core.specs.Image.{Image, IsPlace}
 use Rattle.predict_core.specs.declared.room.Quad.{Quad}
 use Rattle.predict_core.specs.declared.settings.Settings.{Settings}
-use Rattle.predict_core.specs.LocalSum.{local_sum}
-use Rattle.predict_core.specs.Bounds.{AllWithin}
-use Rattle.predict_core.specs.Residual.{run_residuals}
-use Rattle.predict_core.specs.Weights.{step_exponent}
-use Rattle.predict_core.specs.Prediction.{weight_vector, scaled_prediction}
+use Rattle.sample_prediction.specs.LocalSum.{local_sum}
+use Rattle.sample_prediction.specs.Bounds.{AllWithin}
+use Rattle.sample_prediction.specs.Residual.{run_residuals}
+use Rattle.sample_prediction.specs.Weights.{step_exponent}
+use Rattle.sample_prediction.specs.Prediction.{weight_vector, scaled_prediction}
 use Rattle.predict_core.specs.Rooms.{IsRoom, quads_of}
-use Rattle.predict_core.specs.Chain.{scaled_by_difference, AreWeightsAt}
+use Rattle.sample_prediction.specs.Chain.{scaled_by_difference, AreWeightsAt}
 
 -- a room tells the samples of a run of count places from row y, column x on, and n weights in a register are enough for its band
 pub record CanFollow (q n : ℕ) (wraps : Bool) (s : Settings) (c : Image) (y x count : ℕ) (sums own : List ℤ) (quads : List Quad) : Type 0 where

@@ -5,7 +5,7 @@ use Rattle.cube_core.specs.Image.{Image}
 use Rattle.cube_core.specs.Along.{HasCome}
 use Rattle.header_bits.specs.declared.params.Params.{Params}
 use Rattle.predict_core.specs.Following.{Learner, Follows}
-use Rattle.predict_core.specs.Residual.{mapped_residual}
+use Rattle.sample_prediction.specs.Residual.{mapped_residual}
 
 -- band z of a predictor follows the cube to where the walk has come
 pub record IsAlong (p : Params) (c : Image) (i z : ℕ) (b : Learner) : Type 0 where

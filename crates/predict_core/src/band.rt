@@ -5,21 +5,21 @@ ghost use Rattle.cube_core.specs.Image.{Image, IsPlace, sample_at, put};
 ghost use Rattle.cube_core.specs.Kind.{IsSample};
 ghost use Rattle.header_bits.specs.Lawful.{IsLawful};
 ghost use Rattle.header_bits.specs.declared.params.Params.{Params as Parameters};
-ghost use Rattle.predict_core.specs.Predictor.{component_count};
-ghost use Rattle.predict_core.specs.Prediction.{scaled_there, next_weights, first_scaled as first_prediction};
-ghost use Rattle.predict_core.specs.Residual.{mapped, mapped_residual};
-ghost use Rattle.predict_core.specs.Bounds.{AllWithin};
+ghost use Rattle.sample_prediction.specs.Predictor.{component_count};
+ghost use Rattle.sample_prediction.specs.Prediction.{scaled_there, next_weights, first_scaled as first_prediction};
+ghost use Rattle.sample_prediction.specs.Residual.{mapped, mapped_residual};
+ghost use Rattle.sample_prediction.specs.Bounds.{AllWithin};
 ghost use Rattle.predict_core.specs.Following.{Follows, IsMadeFor, MovesOn};
 
-use crate::predictor::Predictor;
-use crate::range::Range;
 use crate::settings::{Settings, first_scaled, learn, predict};
-use crate::start::start_of;
 use crate::west::WestMasks;
 use cube_core::cube::Cube;
 use cube_core::fault::Fault;
 use cube_core::shape::Shape;
 use header_bits::params::Params;
+use sample_prediction::predictor::Predictor;
+use sample_prediction::range::Range;
+use sample_prediction::start::start_of;
 use std::alloc::Global;
 use std::marker::Model;
 

@@ -5,7 +5,7 @@
 
 ghost use Rattle.std.specs.Prelude.{◌≡◌, ◌+◌, ◌-◌, ◌*◌, ◌<◌, ◌≤◌, ◌||◌, ◌==◌, ℕ, [], ◌++◌, replicate, slice_index_or};
 ghost use Rattle.cube_core.specs.Image.{IsPlace};
-ghost use Rattle.predict_core.specs.Lines.{line_difference};
+ghost use Rattle.sample_prediction.specs.Lines.{line_difference};
 ghost use Rattle.predict_core.specs.Rooms.{components_at, quads_of, lower_difference, lower_differences};
 
 use crate::fills::{fill_four, fill_two};

@@ -8,20 +8,20 @@ ghost use Rattle.std.specs.Prelude.{◌≡◌, ◌+◌, ◌-◌, ◌*◌, ◌^�
 ghost use Rattle.std.specs.Prelude.{List, length, take, ◌++◌, replicate};
 ghost use Rattle.cube_core.specs.Image.{IsPlace};
 ghost use Rattle.cube_core.specs.Kind.{smin};
-ghost use Rattle.predict_core.specs.LocalSum.{local_sum};
-ghost use Rattle.predict_core.specs.Differences.{central_difference, difference_vector};
-ghost use Rattle.predict_core.specs.Prediction.{scaled_there, next_weights};
-ghost use Rattle.predict_core.specs.Weights.{step_exponent, updated_weights};
-ghost use Rattle.predict_core.specs.Bounds.{AllWithin};
-ghost use Rattle.predict_core.specs.Rooms.{components_at};
-ghost use Rattle.predict_core.specs.Chain.{scaled_by_difference, quad_or_zeros};
+ghost use Rattle.sample_prediction.specs.LocalSum.{local_sum};
+ghost use Rattle.sample_prediction.specs.Differences.{central_difference, difference_vector};
+ghost use Rattle.sample_prediction.specs.Prediction.{scaled_there, next_weights};
+ghost use Rattle.sample_prediction.specs.Weights.{step_exponent, updated_weights};
+ghost use Rattle.sample_prediction.specs.Bounds.{AllWithin};
+ghost use Rattle.predict_core.specs.Rooms.{quad_or_zeros, components_at};
+ghost use Rattle.sample_prediction.specs.Chain.{scaled_by_difference};
 ghost use Rattle.predict_core.specs.RunChains.{CanFollow, AreStepsThere, IsFollowed};
 
-use crate::prediction::predicted_difference;
 use crate::room::Quad;
 use crate::settings::Settings;
-use crate::weights::{form_of, update_by};
 use cube_core::cube::Cube;
+use sample_prediction::prediction::predicted_difference;
+use sample_prediction::weights::{form_of, update_by};
 
 /// What the steps of the weights have in common, over places with the same exponent.
 #[derive(Clone, Copy)]

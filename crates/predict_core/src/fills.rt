@@ -4,10 +4,10 @@
 //! compiler vectorizes it. What is written after the last place of a shorter run isn't read.
 
 ghost use Rattle.std.specs.Prelude.{◌≡◌, ◌<◌, ◌≤◌, ℕ, pos, [], ◌∷◌, ◌++◌, slice_index_or, unsigned_abs, replicate};
-ghost use Rattle.predict_core.specs.Lines.{line_sum, line_difference, line_directions};
+ghost use Rattle.sample_prediction.specs.Lines.{line_sum, line_difference, line_directions};
 
 use crate::lines::{Lines, sum_above, sum_of_lines};
-use crate::neighbourhood::difference_of;
+use sample_prediction::neighbourhood::difference_of;
 
 /// Writes the local sum of offsets and the central difference of each place.
 pub(crate) fn fill_own(column: bool, lines: &Lines, sums: &mut [i32; 64], own: &mut [i32; 64])

@@ -9,32 +9,32 @@ ghost use Rattle.std.specs.Prelude.{slice_index, slice_index_or, if◌then◌els
 ghost use Rattle.cube_core.specs.Kind.{IsSample, smin};
 ghost use Rattle.cube_core.specs.Image.{IsPlace, put};
 ghost use Rattle.header_bits.specs.declared.params.Params.{Params as Parameters};
-ghost use Rattle.predict_core.specs.Arithmetic.{floor_div};
-ghost use Rattle.predict_core.specs.Bounds.{AllWithin};
-ghost use Rattle.predict_core.specs.Chain.{AreWeightsAt, scaled_by_difference};
-ghost use Rattle.predict_core.specs.Predictor.{previous_bands};
-ghost use Rattle.predict_core.specs.LocalSum.{local_sum};
-ghost use Rattle.predict_core.specs.Differences.{spectral_differences, difference_vector};
-ghost use Rattle.predict_core.specs.Prediction.{scaled_there, next_weights, weight_vector};
-ghost use Rattle.predict_core.specs.Residual.{mapped, run_residuals};
+ghost use Rattle.sample_prediction.specs.Arithmetic.{floor_div};
+ghost use Rattle.sample_prediction.specs.Bounds.{AllWithin};
+ghost use Rattle.sample_prediction.specs.Chain.{AreWeightsAt, scaled_by_difference};
+ghost use Rattle.sample_prediction.specs.Predictor.{previous_bands};
+ghost use Rattle.sample_prediction.specs.LocalSum.{local_sum};
+ghost use Rattle.sample_prediction.specs.Differences.{spectral_differences, difference_vector};
+ghost use Rattle.sample_prediction.specs.Prediction.{scaled_there, next_weights, weight_vector};
+ghost use Rattle.sample_prediction.specs.Residual.{mapped, run_residuals};
 ghost use Rattle.predict_core.specs.Rooms.{components_at, quads_of};
 ghost use Rattle.predict_core.specs.OpenPart.{IsOpenPart, open_directions};
 ghost use Rattle.predict_core.specs.RunPlaces.{AreAlikeBeside};
-ghost use Rattle.predict_core.specs.OffsetSum.{IsWest};
+ghost use Rattle.sample_prediction.specs.OffsetSum.{IsWest};
 ghost use Rattle.predict_core.specs.Steps.{AreSteps};
-ghost use Rattle.predict_core.specs.Weights.{step_exponent};
+ghost use Rattle.sample_prediction.specs.Weights.{step_exponent};
 
 use crate::chain::differences_at;
-use crate::differences::west_of;
-use crate::exponent::{exponent_at, places_alike};
-use crate::prediction::predicted_difference;
-use crate::range::Range;
-use crate::residual::{prediction_of, unmap_by_center};
 use crate::room::Quad;
 use crate::settings::{Settings, form_at};
-use crate::weights::{Form, update_by};
 use crate::west::{put_west, sum_with_west};
 use cube_core::cube::Cube;
+use sample_prediction::differences::west_of;
+use sample_prediction::exponent::{exponent_at, places_alike};
+use sample_prediction::prediction::predicted_difference;
+use sample_prediction::range::Range;
+use sample_prediction::residual::{prediction_of, unmap_by_center};
+use sample_prediction::weights::{Form, update_by};
 
 /// A run below the first row whose samples aren't known yet: its first place, the local sums and components of its
 /// places as far as the samples before tell them, the weights there, and its mapped residuals.

@@ -3,8 +3,8 @@
 ghost use Rattle.std.specs.Prelude.{◌≡◌, ◌+◌, ◌*◌, ◌^◌, ◌<◌, ◌≤◌, true, false, ℕ, ℤ, pos, unsigned_abs, List, take, length, slice_index, slice_index_or};
 ghost use Rattle.cube_core.specs.Image.{IsPlace};
 ghost use Rattle.header_bits.specs.declared.params.Params.{Params as Parameters};
-ghost use Rattle.predict_core.specs.Chain.{AreWeightsAt};
-ghost use Rattle.predict_core.specs.Residual.{run_residuals};
+ghost use Rattle.sample_prediction.specs.Chain.{AreWeightsAt};
+ghost use Rattle.sample_prediction.specs.Residual.{run_residuals};
 ghost use Rattle.predict_core.specs.Rooms.{IsRoom, quads_of};
 ghost use Rattle.predict_core.specs.RunChains.{IsFirstLater, IsFollowed, CanPredict, HasPredicted};
 

@@ -1,8 +1,8 @@
 //! Laws over the definitions alone.
 
-ghost use Rattle.predict_core.specs.ErrorSign.{DifferenceBound, ErrorSign, UnwrappedPrediction};
+ghost use Rattle.sample_prediction.specs.ErrorSign.{DifferenceBound, ErrorSign, UnwrappedPrediction};
 ghost use Rattle.predict_core.specs.Largest.{RegisterBound};
-ghost use Rattle.predict_core.specs.Mapping.{OneSample};
+ghost use Rattle.sample_prediction.specs.Mapping.{OneSample};
 ghost use Rattle.predict_core.specs.Precedence.{PlacesPrecede};
 
 /// For each scaled prediction the mapping is a bijection from the samples to 0 to 2^D - 1.

@@ -4,11 +4,11 @@
 //! its neighbours at the same distances, and a loop over all 64 needs no test.
 
 ghost use Rattle.std.specs.Prelude.{◌≡◌, ◌+◌, ◌-◌, ◌*◌, ◌<◌, ◌≤◌, ℕ, false, ◌||◌, ◌==◌, length, replicate, slice_index};
-ghost use Rattle.predict_core.specs.Lines.{bordered, bordered_above, line_sum, AreLines, AreBandLines};
+ghost use Rattle.sample_prediction.specs.Lines.{bordered, bordered_above, line_sum, AreLines, AreBandLines};
 ghost use Rattle.cube_core.specs.Image.{IsPlace};
 
-use crate::predictor::Predictor;
 use cube_core::cube::Cube;
+use sample_prediction::predictor::Predictor;
 
 /// The offsets of a run in its own row, `current`, and in the row `above` it, each with one place more on each side.
 #[derive(Clone, Copy)]

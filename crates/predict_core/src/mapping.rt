@@ -9,14 +9,14 @@ ghost use Rattle.std.specs.Prelude.{◌≡◌, ◌+◌, ◌*◌, ◌^◌, ◌<�
 ghost use Rattle.std.specs.Prelude.{slice_index_or};
 ghost use Rattle.cube_core.specs.Kind.{smin, smid, smax};
 ghost use Rattle.cube_core.specs.Image.{IsPlace, sample_at};
-ghost use Rattle.predict_core.specs.Arithmetic.{floor_div, clip};
-ghost use Rattle.predict_core.specs.LocalSum.{local_sum};
-ghost use Rattle.predict_core.specs.Residual.{theta_between, mapped, mapped_between};
+ghost use Rattle.sample_prediction.specs.Arithmetic.{floor_div, clip};
+ghost use Rattle.sample_prediction.specs.LocalSum.{local_sum};
+ghost use Rattle.sample_prediction.specs.Residual.{theta_between, mapped, mapped_between};
 ghost use Rattle.predict_core.specs.Rooms.{offset_number};
 
-use crate::residual::prediction_of;
 use crate::settings::Settings;
 use cube_core::cube::Cube;
+use sample_prediction::residual::prediction_of;
 
 /// Writes the mapped residuals of a run of places from row `y`, column `x` on, as many as there is room for.
 ///

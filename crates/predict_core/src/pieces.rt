@@ -1,12 +1,12 @@
 //! The chain of a run, cut where the exponent of the steps changes.
 
 ghost use Rattle.std.specs.Prelude.{◌≡◌, ◌+◌, ◌^◌, ◌<◌, ◌≤◌, true, ℕ, ℤ, List};
-ghost use Rattle.predict_core.specs.Bounds.{AllWithin};
+ghost use Rattle.sample_prediction.specs.Bounds.{AllWithin};
 ghost use Rattle.predict_core.specs.RunChains.{CanFollow, IsFollowed};
 
 use crate::chain::{KnownRun, RunState, Steps, follow_places};
-use crate::exponent::{exponent_at, places_alike};
 use cube_core::cube::Cube;
+use sample_prediction::exponent::{exponent_at, places_alike};
 
 /// Writes the predicted central differences of the places `first..last` of a run, and updates the weights; with
 /// `PAIR` also those of the same places of another run.

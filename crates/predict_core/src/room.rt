@@ -4,8 +4,8 @@
 
 ghost use Rattle.std.specs.Prelude.{◌≡◌, ◌+◌, ◌-◌, ◌<◌, ◌≤◌, ◌||◌, ◌==◌, ℕ, ℤ, [], ◌∷◌, ◌++◌, slice_index_or, pos};
 ghost use Rattle.cube_core.specs.Image.{IsPlace};
-ghost use Rattle.predict_core.specs.Differences.{directional_differences};
-ghost use Rattle.predict_core.specs.Lines.{line_sum, line_difference, AreBandLines};
+ghost use Rattle.sample_prediction.specs.Differences.{directional_differences};
+ghost use Rattle.sample_prediction.specs.Lines.{line_sum, line_difference, AreBandLines};
 ghost use Rattle.predict_core.specs.Rooms.{IsRoom, components_at, quads_of, lower_differences};
 ghost use Rattle.predict_core.specs.OpenPart.{IsOpenPart};
 

@@ -3,7 +3,7 @@
 ghost use Rattle.std.specs.Prelude.{◌≡◌, ◌+◌, ◌*◌, ◌^◌, ◌<◌, ◌≤◌, ℕ, length, slice_index};
 ghost use Rattle.cube_core.specs.Image.{IsPlace};
 ghost use Rattle.header_bits.specs.declared.params.Params.{Params as Parameters};
-ghost use Rattle.predict_core.specs.Residual.{run_residuals};
+ghost use Rattle.sample_prediction.specs.Residual.{run_residuals};
 ghost use Rattle.predict_core.specs.Following.{Follows, MovesBy};
 
 use crate::band::Band;

@@ -3,10 +3,10 @@
 ghost use Rattle.std.specs.Prelude.{◌≡◌, ◌+◌, ◌*◌, ◌^◌, ◌<◌, ◌≤◌, false, ℕ, take, length, slice_index};
 ghost use Rattle.cube_core.specs.Image.{IsPlace, put};
 ghost use Rattle.header_bits.specs.declared.params.Params.{Params as Parameters};
-ghost use Rattle.predict_core.specs.Bounds.{AllWithin};
-ghost use Rattle.predict_core.specs.Chain.{AreWeightsAt};
-ghost use Rattle.predict_core.specs.Prediction.{weight_vector};
-ghost use Rattle.predict_core.specs.Residual.{mapped_residual, run_residuals};
+ghost use Rattle.sample_prediction.specs.Bounds.{AllWithin};
+ghost use Rattle.sample_prediction.specs.Chain.{AreWeightsAt};
+ghost use Rattle.sample_prediction.specs.Prediction.{weight_vector};
+ghost use Rattle.sample_prediction.specs.Residual.{mapped_residual, run_residuals};
 ghost use Rattle.predict_core.specs.Rooms.{quads_of};
 ghost use Rattle.predict_core.specs.RunPlaces.{AreAlikeBeside};
 ghost use Rattle.predict_core.specs.Following.{Follows, MovesOn, MovesBy};

@@ -3,23 +3,23 @@
 ghost use Rattle.std.specs.Prelude.{◌≡◌, ◌+◌, ◌-◌, ◌*◌, ◌^◌, ◌<◌, ◌≤◌, pos, negsuc, ◌-ℤ◌, ◌*ℤ◌, ◌≤ℤ◌, int_lt, take, ◌++◌, replicate, false, ℤ, List, length};
 ghost use Rattle.cube_core.specs.Shape.{InRange};
 ghost use Rattle.cube_core.specs.Image.{IsPlace};
-ghost use Rattle.predict_core.specs.Predictor.{previous_bands, component_count};
-ghost use Rattle.predict_core.specs.Differences.{difference_vector as vector};
-ghost use Rattle.predict_core.specs.Weights.{step_exponent, updated_weights};
-ghost use Rattle.predict_core.specs.Prediction.{scaled_there, first_scaled as first_prediction};
-ghost use Rattle.predict_core.specs.Mapping.{IsScaled};
-ghost use Rattle.predict_core.specs.Bounds.{AllWithin, IsPredictor};
+ghost use Rattle.sample_prediction.specs.Predictor.{previous_bands, component_count};
+ghost use Rattle.sample_prediction.specs.Differences.{difference_vector as vector};
+ghost use Rattle.sample_prediction.specs.Weights.{step_exponent, updated_weights};
+ghost use Rattle.sample_prediction.specs.Prediction.{scaled_there, first_scaled as first_prediction};
+ghost use Rattle.sample_prediction.specs.Mapping.{IsScaled};
+ghost use Rattle.sample_prediction.specs.Bounds.{AllWithin, IsPredictor};
 ghost use Rattle.predict_core.specs.Steps.{AreSteps};
 ghost use Rattle.predict_core.specs.OpenPart.{AreWestMasks};
 
-use crate::differences::{fill_differences, sum_at};
-use crate::exponent::exponent_at;
-use crate::prediction::scaled_by;
-use crate::predictor::Predictor;
-use crate::range::Range;
-use crate::weights::{Form, form_of, update};
 use crate::west::WestMasks;
 use cube_core::cube::Cube;
+use sample_prediction::differences::{fill_differences, sum_at};
+use sample_prediction::exponent::exponent_at;
+use sample_prediction::prediction::scaled_by;
+use sample_prediction::predictor::Predictor;
+use sample_prediction::range::Range;
+use sample_prediction::weights::{Form, form_of, update};
 
 /// The parameters of a band's predictor, and what follows from them for all its samples.
 #[derive(Clone, Copy)]

@@ -7,10 +7,10 @@ ghost use Rattle.std.specs.Prelude.{◌++◌, true, false, FitsSigned};
 ghost use Rattle.std.specs.Int.{w32};
 ghost use Rattle.cube_core.specs.Kind.{smin};
 ghost use Rattle.cube_core.specs.Image.{IsPlace};
-ghost use Rattle.predict_core.specs.Bounds.{AllWithin};
-ghost use Rattle.predict_core.specs.Differences.{directional_differences};
-ghost use Rattle.predict_core.specs.LocalSum.{local_sum};
-ghost use Rattle.predict_core.specs.OffsetSum.{IsWest};
+ghost use Rattle.sample_prediction.specs.Bounds.{AllWithin};
+ghost use Rattle.sample_prediction.specs.Differences.{directional_differences};
+ghost use Rattle.sample_prediction.specs.LocalSum.{local_sum};
+ghost use Rattle.sample_prediction.specs.OffsetSum.{IsWest};
 ghost use Rattle.predict_core.specs.OpenPart.{AreWestMasks, open_sum, open_directions};
 
 use crate::settings::Settings;

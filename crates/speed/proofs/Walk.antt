@@ -10,7 +10,7 @@ use Rattle.cube_core.proofs.Orders.{length-places}
 use Rattle.header_bits.specs.declared.params.Params.{Params}
 use Rattle.header_bits.specs.Lawful.{IsLawful}
 use Rattle.predict_core.specs.Following.{Learner}
-use Rattle.predict_core.specs.Residual.{mapped_residual, residuals}
+use Rattle.sample_prediction.specs.Residual.{mapped_residual, residuals}
 use Rattle.predict_core.specs.Walked.{residuals_at}
 use Rattle.predict_core.proofs.Walking.{IsOnWalk, next_goes, band_here, gone_by, gone_count, residuals_push, residuals_whole}
 use Rattle.predict_core.proofs.Kept.{residuals_kept}

@@ -5,7 +5,7 @@ ghost use Rattle.cube_core.specs.declared.fault.Fault.TheVariants.{WantOfMemory}
 ghost use Rattle.cube_core.specs.Shape.{sample_count};
 ghost use Rattle.header_bits.specs.Lawful.{IsLawful};
 ghost use Rattle.header_bits.specs.TableParts.{weight_count};
-ghost use Rattle.predict_core.specs.Residual.{residuals as residuals_of};
+ghost use Rattle.sample_prediction.specs.Residual.{residuals as residuals_of};
 ghost use Rattle.speed.specs.Images.{synthetic_image};
 ghost use Rattle.speed.specs.Measured.{measured, lawful_or_fault, from_table};
 ghost use Rattle.speed.specs.Numbers.{checksum, synthetic_weights};

@@ -1,6 +1,6 @@
 use Rattle.std.proofs.Common.{◌≡◌, [], true, length, arith}
 use Rattle.std.proofs.lemmas.Result.{IfOk-weaker}
-use Rattle.predict_core.specs.Residual.{residuals}
+use Rattle.sample_prediction.specs.Residual.{residuals}
 use Rattle.file_coding.specs.Ends.{HasCoded}
 use Rattle.file_coding.specs.File.{file_of}
 use Rattle.coder_pipe.proofs.Encoding.{all_fresh, all_residuals, may_take, none_left}

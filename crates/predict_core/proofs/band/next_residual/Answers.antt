@@ -1,7 +1,7 @@
 use Rattle.std.proofs.Common.{length, ◌≡◌, SFits, w32, to_z-of_z, rules, ap, ◌∙◌, sym}
 use Rattle.cube_core.specs.Kind.{SampleKind}
-use Rattle.predict_core.specs.Differences.{difference_vector}
-use Rattle.predict_core.proofs.Padding.{vector_length}
+use Rattle.sample_prediction.specs.Differences.{difference_vector}
+use Rattle.sample_prediction.proofs.Padding.{vector_length}
 use Rattle.predict_core.proofs.Following.{next_is}
 use Rattle.predict_core.proofs.band.next_residual.Goals as goal
 

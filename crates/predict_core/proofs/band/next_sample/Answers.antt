@@ -1,8 +1,8 @@
 use Rattle.std.proofs.Common.{◌≡◌, take, SFits, w32, to_z-of_z, rules, arith, ap, sym, ◌∙◌, length}
 use Rattle.cube_core.specs.Kind.{SampleKind}
-use Rattle.predict_core.specs.Predictor.{component_count}
-use Rattle.predict_core.specs.Differences.{difference_vector}
-use Rattle.predict_core.proofs.Padding.{vector_length}
+use Rattle.sample_prediction.specs.Predictor.{component_count}
+use Rattle.sample_prediction.specs.Differences.{difference_vector}
+use Rattle.sample_prediction.proofs.Padding.{vector_length}
 use Rattle.predict_core.proofs.Frame.{later_place}
 use Rattle.predict_core.proofs.Inverting.{scaled_put, moved_put}
 use Rattle.predict_core.proofs.band.next_sample.Goals as goal

@@ -1,5 +1,5 @@
 use Rattle.std.proofs.Common.{◌+◌, ◌≤◌, arith, sym, ◌∙◌}
-use Rattle.predict_core.specs.Predictor.{previous_bands}
+use Rattle.sample_prediction.specs.Predictor.{previous_bands}
 use Rattle.predict_core.proofs.Quads.{lower_is, lower_none, empty_difference}
 use Rattle.predict_core.proofs.below.fill_below.Goals as goal
 

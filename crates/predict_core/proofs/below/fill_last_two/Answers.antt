@@ -1,5 +1,5 @@
 use Rattle.std.proofs.Common.{◌+◌, ◌≤◌, arith, ◌∙◌}
-use Rattle.predict_core.specs.Predictor.{previous_bands}
+use Rattle.sample_prediction.specs.Predictor.{previous_bands}
 use Rattle.predict_core.proofs.Quads.{lower_two}
 use Rattle.predict_core.proofs.below.fill_last_two.Goals as goal
 

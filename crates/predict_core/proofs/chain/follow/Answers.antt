@@ -1,4 +1,4 @@
-use Rattle.predict_core.proofs.Moves.{within_room}
+use Rattle.sample_prediction.proofs.Moves.{within_room}
 use Rattle.predict_core.proofs.chain.follow.Goals as goal
 
 pub update_by-requires-clause-differences_in : goal.update_by-requires-clause-differences_in

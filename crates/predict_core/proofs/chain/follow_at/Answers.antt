@@ -1,12 +1,12 @@
 use Rattle.std.proofs.Common.{◌≡◌, ◌≤◌, ◌-◌, ◌^◌, ℤ, pos, negsuc, ◌≤ℤ◌, ◌+ℤ◌, ◌*ℤ◌, ap, ◌∙◌, int_le, take, SFits, w32, to_z, of_z, to_z-of_z}
 use Rattle.std.proofs.Common.{rules, arith, pow_mono}
 use Rattle.std.proofs.lemmas.Int.{ints}
-use Rattle.predict_core.specs.Chain.{scaled_by_difference}
-use Rattle.predict_core.specs.LocalSum.{local_sum}
-use Rattle.predict_core.specs.Prediction.{scaled_by}
-use Rattle.predict_core.specs.Weights.{updated_weights}
+use Rattle.sample_prediction.specs.Chain.{scaled_by_difference}
+use Rattle.sample_prediction.specs.LocalSum.{local_sum}
+use Rattle.sample_prediction.specs.Prediction.{scaled_by}
+use Rattle.sample_prediction.specs.Weights.{updated_weights}
 use Rattle.predict_core.proofs.Chains.{scaled_from_room, next_from_room}
-use Rattle.predict_core.proofs.Moves.{within_most}
+use Rattle.sample_prediction.proofs.Moves.{within_most}
 use Rattle.predict_core.proofs.Ranges.{central_within, padded_within}
 use Rattle.predict_core.proofs.chain.follow_at.Given as given
 use Rattle.predict_core.proofs.chain.follow_at.Goals as goal

@@ -1,12 +1,12 @@
 use Rattle.std.proofs.Common.{◌≡◌, pos, slice_index_or, unsigned_abs, ◌≤◌, ◌<◌, ◌+◌, ◌-◌, ◌*◌, length, take, SFits, w32, to_z-of_z, rules}
 use Rattle.std.proofs.Common.{arith, sym, ◌∙◌}
 use Rattle.header_bits.specs.declared.params.Params.{Params}
-use Rattle.predict_core.specs.Chain.{AreWeightsAt, scaled_by_difference}
-use Rattle.predict_core.specs.Differences.{difference_vector}
-use Rattle.predict_core.specs.LocalSum.{local_sum}
-use Rattle.predict_core.specs.Prediction.{scaled_prediction}
+use Rattle.sample_prediction.specs.Chain.{AreWeightsAt, scaled_by_difference}
+use Rattle.sample_prediction.specs.Differences.{difference_vector}
+use Rattle.sample_prediction.specs.LocalSum.{local_sum}
+use Rattle.sample_prediction.specs.Prediction.{scaled_prediction}
 use Rattle.predict_core.specs.Rooms.{components_at}
-use Rattle.predict_core.proofs.Padding.{vector_length}
+use Rattle.sample_prediction.proofs.Padding.{vector_length}
 use Rattle.predict_core.proofs.Runs.{gathered_is, written_place, weights_next, part_is}
 use Rattle.predict_core.proofs.chain.follow_place.Goals as goal
 

@@ -1,5 +1,5 @@
 use Rattle.std.proofs.Common.{◌≡◌, nat_eq, not, ℕ, ℤ, ◌+◌, ◌^◌, true, List}
-use Rattle.predict_core.specs.Bounds.{AllWithin}
+use Rattle.sample_prediction.specs.Bounds.{AllWithin}
 use Rattle.predict_core.specs.RunChains.{IsFollowed}
 use Rattle.predict_core.proofs.chain.follow_places.Given as goal
 

@@ -1,6 +1,6 @@
 use Rattle.std.proofs.Common.{◌≡◌, ◌<◌, pos, [], ◌∷◌, ◌++◌, length, to_z, w32, SFits, to_z-of_z, rules, arith, refl, ap, ◌∙◌, length-set}
 use Rattle.std.proofs.lemmas.Int.{to_z_pos}
-use Rattle.predict_core.specs.Lines.{line_sum, line_difference, line_directions}
+use Rattle.sample_prediction.specs.Lines.{line_sum, line_difference, line_directions}
 use Rattle.predict_core.proofs.Places.{written_next}
 use Rattle.predict_core.proofs.fills.fill_directions.Goals as goal
 use Rattle.predict_core.proofs.fills.fill_directions.Goals.{After-loop-i}

@@ -1,7 +1,7 @@
 use Rattle.std.proofs.Common.{◌≡◌, ◌<◌, pos, [], ◌∷◌, ◌++◌, length, replicate, to_z, w32, SFits, to_z-of_z, rules, arith, refl, sym, ap, ◌∙◌, length-set}
 use Rattle.std.proofs.lemmas.Int.{to_z_pos}
-use Rattle.predict_core.specs.Lines.{line_sum, line_difference, line_directions}
-use Rattle.predict_core.specs.OffsetSum.{offset_difference}
+use Rattle.sample_prediction.specs.Lines.{line_sum, line_difference, line_directions}
+use Rattle.sample_prediction.specs.OffsetSum.{offset_difference}
 use Rattle.predict_core.proofs.Places.{written_next}
 use Rattle.predict_core.proofs.Quads.{zero_at}
 use Rattle.predict_core.proofs.fills.fill_open_directions.Goals as goal

@@ -1,5 +1,5 @@
 use Rattle.std.proofs.Common.{◌≡◌, ℕ, ◌<◌, pos, [], ◌∷◌, ◌++◌, length, replicate, slice_index_or}
-use Rattle.predict_core.specs.Lines.{line_sum, line_difference, line_directions}
+use Rattle.sample_prediction.specs.Lines.{line_sum, line_difference, line_directions}
 use Rattle.predict_core.proofs.fills.fill_open_directions.Given as goal
 
 abbrev pub invariant-loop-i : goal.invariant-loop-i

@@ -1,6 +1,6 @@
 use Rattle.std.proofs.Common.{◌≡◌, ◌<◌, pos, length, replicate, to_z, w32, arith, ap, ◌∙◌, length-set}
 use Rattle.std.proofs.lemmas.Int.{to_z_pos}
-use Rattle.predict_core.specs.Lines.{line_sum}
+use Rattle.sample_prediction.specs.Lines.{line_sum}
 use Rattle.predict_core.proofs.Places.{written_next}
 use Rattle.predict_core.proofs.fills.fill_open_sums.Goals as goal
 

@@ -1,6 +1,6 @@
 use Rattle.std.proofs.Common.{◌≡◌, ◌<◌, pos, length, to_z, w32, SFits, to_z-of_z, rules, arith, ap, ◌∙◌, length-set}
 use Rattle.std.proofs.lemmas.Int.{to_z_pos}
-use Rattle.predict_core.specs.Lines.{line_sum, line_difference}
+use Rattle.sample_prediction.specs.Lines.{line_sum, line_difference}
 use Rattle.predict_core.proofs.Places.{written_next}
 use Rattle.predict_core.proofs.fills.fill_own.Goals as goal
 

@@ -1,5 +1,5 @@
 use Rattle.std.proofs.Common.{◌<◌, [], ◌∷◌, pos, length, w32, SFits, to_z-of_z, rules, arith, refl, length-set}
-use Rattle.predict_core.specs.Lines.{line_difference}
+use Rattle.sample_prediction.specs.Lines.{line_difference}
 use Rattle.predict_core.proofs.Places.{written_next}
 use Rattle.predict_core.proofs.fills.fill_two.Goals as goal
 

@@ -1,6 +1,6 @@
 use Rattle.std.proofs.Common.{◌≡◌, ◌*◌, ◌^◌, ◌≤◌, ℕ, ℤ, pos, ◌+ℤ◌, ◌*ℤ◌, unsigned_abs, SFits, w32, to_z, of_z, to_z-of_z, rules, arith, ◌∙◌}
 use Rattle.std.proofs.lemmas.Int.{ints}
-use Rattle.predict_core.proofs.Floors.{floor_of_sum}
+use Rattle.sample_prediction.proofs.Floors.{floor_of_sum}
 use Rattle.predict_core.proofs.inverse_chain.center_of.Goals as goal
 
 -- what is halved, as the code computes it

@@ -2,12 +2,12 @@ use Rattle.std.proofs.Common.{◌≡◌, ◌+◌, ◌-◌, ◌*◌, ◌≤◌, �
 use Rattle.std.proofs.lemmas.List.{take_all}
 use Rattle.cube_core.specs.Image.{Image, IsPlace, put}
 use Rattle.header_bits.specs.declared.params.Params.{Params}
-use Rattle.predict_core.specs.Predictor.{predictor_of}
-use Rattle.predict_core.specs.Prediction.{weight_vector}
+use Rattle.sample_prediction.specs.Predictor.{predictor_of}
+use Rattle.sample_prediction.specs.Prediction.{weight_vector}
 use Rattle.std.proofs.lemmas.Int.{ints, fits_signed_from_abs}
 use Rattle.predict_core.proofs.InverseRuns.{beside_none, beside_next, residuals_next, sum_kept, directions_kept, lower_kept}
 use Rattle.predict_core.proofs.OpenRanges.{sum_in}
-use Rattle.predict_core.proofs.Directions.{is_west}
+use Rattle.sample_prediction.proofs.Directions.{is_west}
 use Rattle.predict_core.proofs.Inverting.{residual_put, sample_put, weights_put}
 use Rattle.predict_core.proofs.Runs.{later_place}
 use Rattle.predict_core.proofs.inverse_chain.invert_places.Given as given

@@ -1,14 +1,14 @@
 use Rattle.std.proofs.Common.{ℕ, ◌≡◌, ◌+◌, ◌*◌, ◌^◌, ◌<◌, ◌≤◌, take, length}
 use Rattle.cube_core.specs.Shape.{sample_count}
 use Rattle.header_bits.specs.declared.params.Params.{Params}
-use Rattle.predict_core.specs.Bounds.{AllWithin}
-use Rattle.predict_core.specs.Chain.{AreWeightsAt}
-use Rattle.predict_core.specs.Prediction.{weight_vector}
-use Rattle.predict_core.specs.OffsetSum.{IsWest}
-use Rattle.predict_core.specs.Residual.{run_residuals}
+use Rattle.sample_prediction.specs.Bounds.{AllWithin}
+use Rattle.sample_prediction.specs.Chain.{AreWeightsAt}
+use Rattle.sample_prediction.specs.Prediction.{weight_vector}
+use Rattle.sample_prediction.specs.OffsetSum.{IsWest}
+use Rattle.sample_prediction.specs.Residual.{run_residuals}
 use Rattle.predict_core.specs.RunPlaces.{AreAlikeBeside}
 use Rattle.predict_core.specs.Steps.{AreSteps}
-use Rattle.predict_core.specs.Weights.{step_exponent}
+use Rattle.sample_prediction.specs.Weights.{step_exponent}
 use Rattle.predict_core.proofs.inverse_chain.invert_places.Given as goal
 
 abbrev pub invariant-loop-i : goal.invariant-loop-i

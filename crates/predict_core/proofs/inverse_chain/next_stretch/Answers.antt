@@ -1,6 +1,6 @@
 use Rattle.std.proofs.Common.{◌≡◌, ◌+◌, ◌-◌, ◌*◌, sym, ap, ◌∙◌, subst, arith}
 use Rattle.predict_core.specs.Steps.{AreSteps}
-use Rattle.predict_core.specs.Weights.{step_exponent}
+use Rattle.sample_prediction.specs.Weights.{step_exponent}
 use Rattle.predict_core.proofs.inverse_chain.next_stretch.Goals as goal
 
 pub returns-clause-steps : goal.returns-clause-steps

@@ -2,13 +2,13 @@ use Rattle.std.proofs.Common.{◌≡◌, ◌<◌, ℕ, ℤ, pos, negsuc, ◌+ℤ
 use Rattle.std.proofs.Common.{arith, refl}
 use Rattle.std.proofs.lemmas.Int.{ints}
 use Rattle.cube_core.specs.Kind.{SampleKind, smin, smid, smax}
-use Rattle.predict_core.specs.declared.range.Range.{Range}
-use Rattle.predict_core.specs.Arithmetic.{floor_div, clip}
-use Rattle.predict_core.specs.Mapping.{Between}
-use Rattle.predict_core.specs.Residual.{mapped_between}
-use Rattle.predict_core.proofs.Floors.{sign_of_center, sign_of_part}
+use Rattle.sample_prediction.specs.declared.range.Range.{Range}
+use Rattle.sample_prediction.specs.Arithmetic.{floor_div, clip}
+use Rattle.sample_prediction.specs.Mapping.{Between}
+use Rattle.sample_prediction.specs.Residual.{mapped_between}
+use Rattle.sample_prediction.proofs.Floors.{sign_of_center, sign_of_part}
 use Rattle.predict_core.proofs.Numbers.{shifted, scaled_up}
-use Rattle.predict_core.proofs.Spans.{span}
+use Rattle.sample_prediction.proofs.Spans.{span}
 use Rattle.predict_core.proofs.inverse_chain.sample_by_part.Goals as goal
 use Rattle.predict_core.proofs.inverse_chain.sample_by_part.Goals.{After-unmap_by_center-offset}
 

@@ -1,18 +1,18 @@
 use Rattle.std.proofs.Common.{◌≡◌, ◌≤◌, ◌-◌, ◌*◌, ◌^◌, ℤ, pos, ◌+ℤ◌, ◌-ℤ◌, ◌*ℤ◌, refl, sym, ap, ◌∙◌, take, ◌++◌, replicate, SFits, w32}
 use Rattle.std.proofs.Common.{to_z-of_z, rules, arith}
 use Rattle.cube_core.specs.Kind.{SampleKind, smin}
-use Rattle.predict_core.specs.Bounds.{AllWithin}
-use Rattle.predict_core.specs.Chain.{scaled_by_difference}
-use Rattle.predict_core.specs.Differences.{difference_vector}
-use Rattle.predict_core.specs.LocalSum.{local_sum}
-use Rattle.predict_core.specs.Prediction.{scaled_by}
-use Rattle.predict_core.specs.Weights.{step}
+use Rattle.sample_prediction.specs.Bounds.{AllWithin}
+use Rattle.sample_prediction.specs.Chain.{scaled_by_difference}
+use Rattle.sample_prediction.specs.Differences.{difference_vector}
+use Rattle.sample_prediction.specs.LocalSum.{local_sum}
+use Rattle.sample_prediction.specs.Prediction.{scaled_by}
+use Rattle.sample_prediction.specs.Weights.{step}
 use Rattle.predict_core.proofs.Chains.{scaled_from_room, moved_from_room}
 use Rattle.predict_core.proofs.InverseRuns.{vector_filled}
 use Rattle.predict_core.proofs.Inverting.{scaled_put, moved_put}
-use Rattle.predict_core.proofs.Moves.{within_most, within_room}
+use Rattle.sample_prediction.proofs.Moves.{within_most, within_room}
 use Rattle.predict_core.proofs.OpenRanges.{open_within}
-use Rattle.predict_core.proofs.Padding.{whole_sum}
+use Rattle.sample_prediction.proofs.Padding.{whole_sum}
 use Rattle.predict_core.proofs.Ranges.{padded_within}
 use Rattle.predict_core.proofs.inverse_chain.sample_there.Given as given
 use Rattle.predict_core.proofs.inverse_chain.sample_there.Goals as goal

@@ -2,9 +2,9 @@ use Rattle.std.proofs.Common.{◌≡◌, ◌≤◌, ◌<◌, ◌+◌, ◌*◌, p
 use Rattle.std.proofs.Common.{length-set}
 use Rattle.std.proofs.lemmas.List.{take_at, set-append_left}
 use Rattle.header_bits.specs.declared.params.Params.{Params}
-use Rattle.predict_core.specs.Chain.{AreWeightsAt, scaled_by_difference}
-use Rattle.predict_core.specs.LocalSum.{local_sum}
-use Rattle.predict_core.specs.Residual.{mapped_residual}
+use Rattle.sample_prediction.specs.Chain.{AreWeightsAt, scaled_by_difference}
+use Rattle.sample_prediction.specs.LocalSum.{local_sum}
+use Rattle.sample_prediction.specs.Residual.{mapped_residual}
 use Rattle.predict_core.specs.RunChains.{IsFollowed}
 use Rattle.predict_core.proofs.RunChains.{at_first}
 use Rattle.predict_core.proofs.WholeRuns.{run_is, mapped_at, with_first}

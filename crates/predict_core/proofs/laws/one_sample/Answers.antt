@@ -1,4 +1,4 @@
-use Rattle.predict_core.proofs.OneSample.{one_sample_lem}
+use Rattle.sample_prediction.proofs.OneSample.{one_sample_lem}
 use Rattle.predict_core.proofs.laws.one_sample.Goals as goal
 
 pub returns : goal.returns

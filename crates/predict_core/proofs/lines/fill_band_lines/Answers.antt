@@ -1,4 +1,4 @@
-use Rattle.predict_core.proofs.BandLines.{band_lines}
+use Rattle.sample_prediction.proofs.BandLines.{band_lines}
 use Rattle.predict_core.proofs.lines.fill_band_lines.Goals as goal
 
 pub returns : goal.returns

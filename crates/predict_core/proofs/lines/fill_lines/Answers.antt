@@ -1,6 +1,6 @@
 use Rattle.std.proofs.Common.{◌≡◌, ◌<◌, ◌+◌, ℕ, Bool, true, false, get_or, refl, arith}
 use Rattle.std.proofs.lemmas.Grind.{common_steps}
-use Rattle.predict_core.specs.Lines.{bordered_above, AreLines}
+use Rattle.sample_prediction.specs.Lines.{bordered_above, AreLines}
 use Rattle.predict_core.proofs.Borders.{column_lines, four_lines, first_lines}
 use Rattle.predict_core.proofs.lines.fill_lines.Goals as goal
 

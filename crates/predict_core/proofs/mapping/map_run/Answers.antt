@@ -3,11 +3,11 @@ use Rattle.std.proofs.lemmas.Bool.{cases_lt}
 use Rattle.std.proofs.lemmas.Int.{ints}
 use Rattle.std.proofs.lemmas.List.{get_or-take}
 use Rattle.cube_core.specs.Kind.{SampleKind, smin, smid, smax}
-use Rattle.predict_core.specs.LocalSum.{local_sum}
-use Rattle.predict_core.specs.Residual.{mapped_between}
+use Rattle.sample_prediction.specs.LocalSum.{local_sum}
+use Rattle.sample_prediction.specs.Residual.{mapped_between}
 use Rattle.predict_core.specs.Rooms.{offset_number}
 use Rattle.predict_core.proofs.Numbers.{offset_mapped}
-use Rattle.predict_core.proofs.Spans.{span, below_span}
+use Rattle.sample_prediction.proofs.Spans.{span, below_span}
 use Rattle.predict_core.proofs.mapping.map_run.Goals as goal
 use Rattle.predict_core.proofs.mapping.map_run.Goals.{After-copy_offsets, After-copy_from_slice}
 

@@ -1,8 +1,8 @@
 use Rattle.std.proofs.Common.{◌≡◌, ℤ, pos, ◌+ℤ◌, ◌-ℤ◌, ◌*ℤ◌, ◌≤◌, ◌≤ℤ◌, unsigned_abs, SFits, w32, to_z, of_z, to_z-of_z, rules, arith, ◌∙◌, rules}
 use Rattle.std.proofs.lemmas.Int.{ints, fits_signed_from_abs}
-use Rattle.predict_core.specs.Residual.{mapped_between}
+use Rattle.sample_prediction.specs.Residual.{mapped_between}
 use Rattle.predict_core.proofs.Numbers.{number_is}
-use Rattle.predict_core.proofs.OneSample.{number_in}
+use Rattle.sample_prediction.proofs.OneSample.{number_in}
 use Rattle.predict_core.proofs.mapping.number_at.Goals as goal
 use Rattle.predict_core.proofs.mapping.number_at.Goals.{After-min}
 

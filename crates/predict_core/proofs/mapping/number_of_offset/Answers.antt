@@ -1,6 +1,6 @@
 use Rattle.std.proofs.Common.{◌≡◌, pos, SFits, w32, to_z, to_z-of_z, rules, arith, ap, ◌∙◌, unsigned_abs}
 use Rattle.std.proofs.lemmas.Int.{ints}
-use Rattle.predict_core.specs.Residual.{mapped_between}
+use Rattle.sample_prediction.specs.Residual.{mapped_between}
 use Rattle.predict_core.specs.Rooms.{offset_number}
 use Rattle.predict_core.proofs.mapping.number_of_offset.Goals as goal
 

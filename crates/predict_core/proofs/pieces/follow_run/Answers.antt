@@ -1,6 +1,6 @@
 use Rattle.std.proofs.Common.{◌≡◌, ℕ, ◌≤◌, ◌<◌, ◌+◌, ◌-◌, ◌*◌, SFits, w32, to_z, of_z, to_z-of_z, rules, arith, refl, sym, ◌∙◌, ap}
 use Rattle.predict_core.specs.RunChains.{AreStepsThere}
-use Rattle.predict_core.specs.Weights.{step_exponent}
+use Rattle.sample_prediction.specs.Weights.{step_exponent}
 use Rattle.predict_core.proofs.RunChains.{first_of_run}
 use Rattle.predict_core.proofs.Runs.{piece_exponent}
 use Rattle.predict_core.proofs.pieces.follow_run.Goals as goal

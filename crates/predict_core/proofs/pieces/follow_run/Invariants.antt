@@ -1,5 +1,5 @@
 use Rattle.std.proofs.Common.{◌≡◌, nat_eq, not, ◌+◌, ◌-◌, ◌^◌, ◌≤◌, true}
-use Rattle.predict_core.specs.Bounds.{AllWithin}
+use Rattle.sample_prediction.specs.Bounds.{AllWithin}
 use Rattle.predict_core.specs.RunChains.{IsFollowed}
 use Rattle.predict_core.proofs.pieces.follow_run.Given as goal
 

@@ -1,7 +1,7 @@
 use Rattle.std.proofs.Common.{◌≡◌, ◌+◌, true, [], ◌∷◌, pos, ℤ, arith, ap, ◌∙◌, inl, inr}
 use Rattle.std.proofs.lemmas.Bool.{cases_eq}
-use Rattle.predict_core.specs.Lines.{line_difference, line_north}
-use Rattle.predict_core.specs.Differences.{directional_differences}
+use Rattle.sample_prediction.specs.Lines.{line_difference, line_north}
+use Rattle.sample_prediction.specs.Differences.{directional_differences}
 use Rattle.predict_core.proofs.Quads.{at_top, under_top, first_at_top, first_under, empty_difference}
 use Rattle.predict_core.proofs.room.fill_first.Goals as goal
 

@@ -1,11 +1,11 @@
 use Rattle.std.proofs.Common.{◌≡◌, ◌≢◌, ◌+◌, ◌-◌, ◌*◌, ◌<◌, ℕ, ℤ, pos, [], ◌∷◌, ◌++◌, length, get_or, replicate, refl, arith, ap, ◌∙◌, sym, inl}
 use Rattle.std.proofs.Common.{inr}
 use Rattle.std.proofs.lemmas.Bool.{cases_eq}
-use Rattle.predict_core.specs.Lines.{line_sum, line_difference, line_north, line_directions}
-use Rattle.predict_core.specs.OffsetSum.{offset_difference}
+use Rattle.sample_prediction.specs.Lines.{line_sum, line_difference, line_north, line_directions}
+use Rattle.sample_prediction.specs.OffsetSum.{offset_difference}
 use Rattle.predict_core.specs.OpenPart.{IsOpenPart, open_sum, open_directions}
 use Rattle.predict_core.specs.Rooms.{components_at, lower_differences, quads_of}
-use Rattle.predict_core.proofs.Directions.{full_count}
+use Rattle.sample_prediction.proofs.Directions.{full_count}
 use Rattle.predict_core.proofs.OpenLines.{open_line, open_inner, open_first}
 use Rattle.predict_core.proofs.Quads.{components_none, one_quad, reduced_part, full_part, under_top}
 use Rattle.predict_core.proofs.room.fill_open_part.Given as given

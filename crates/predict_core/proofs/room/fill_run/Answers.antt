@@ -1,8 +1,8 @@
 use Rattle.std.proofs.Common.{◌≡◌, ◌+◌, ◌-◌, ◌*◌, ◌<◌, ◌++◌, ℕ, pos, length, set, replicate, arith, ap, ◌∙◌}
-use Rattle.predict_core.specs.Differences.{difference_vector, directional_differences}
+use Rattle.sample_prediction.specs.Differences.{difference_vector, directional_differences}
 use Rattle.predict_core.specs.Rooms.{components_at, lower_differences, quads_of}
 use Rattle.predict_core.proofs.Quads.{components_none, one_quad, reduced_components, full_components}
-use Rattle.predict_core.proofs.Directions.{full_count}
+use Rattle.sample_prediction.proofs.Directions.{full_count}
 use Rattle.predict_core.proofs.Told.{room_told}
 use Rattle.predict_core.proofs.room.fill_run.Goals as goal
 

@@ -1,6 +1,6 @@
 use Rattle.std.proofs.Common.{◌≡◌, SFits, w32, to_z-of_z, to_z, of_z, rules, arith, pos, ◌*ℤ◌}
 use Rattle.std.proofs.lemmas.Int.{ints}
-use Rattle.predict_core.proofs.Padding.{error_test}
+use Rattle.sample_prediction.proofs.Padding.{error_test}
 use Rattle.predict_core.proofs.settings.learn.Goals as goal
 
 pub returns-clause-value : goal.returns-clause-value

@@ -1,9 +1,9 @@
 use Rattle.std.proofs.Common.{length, take, ◌≡◌, ◌*◌, ◌^◌, subst, SFits, w32, to_z-of_z, rules, ap, ◌∙◌, sym, arith}
 use Rattle.std.proofs.lemmas.Int.{ints}
 use Rattle.cube_core.specs.Kind.{SampleKind, smin}
-use Rattle.predict_core.specs.Differences.{difference_vector}
-use Rattle.predict_core.specs.Bounds.{AllWithin}
-use Rattle.predict_core.proofs.Padding.{scaled_there_is, whole_sum, vector_length}
+use Rattle.sample_prediction.specs.Differences.{difference_vector}
+use Rattle.sample_prediction.specs.Bounds.{AllWithin}
+use Rattle.sample_prediction.proofs.Padding.{scaled_there_is, whole_sum, vector_length}
 use Rattle.predict_core.proofs.Ranges.{padded_within}
 use Rattle.predict_core.proofs.settings.predict.Goals as goal
 

@@ -3,8 +3,8 @@ use Rattle.std.proofs.Common.{drop, ap₂, ◌∙◌, ◌||◌, unsigned_abs, tr
 use Rattle.std.proofs.lemmas.Int.{ints, fits_signed_from_abs, to_z_pos}
 use Rattle.std.proofs.Math.Pow.{pow_mono}
 use Rattle.predict_core.specs.OpenPart.{open_directions, unless}
-use Rattle.predict_core.specs.Bounds.{AllWithin}
-use Rattle.predict_core.specs.Differences.{directional_differences}
+use Rattle.sample_prediction.specs.Bounds.{AllWithin}
+use Rattle.sample_prediction.specs.Differences.{directional_differences}
 use Rattle.predict_core.proofs.Opening.{closed_directions, west_part, unless_in, unless_fits, three_heads, three_over_four, four_kept, lane, lane_kept}
 use Rattle.predict_core.proofs.Opening.{reduced_lane, reduced_west_lane, full_lane, full_west_lane}
 use Rattle.predict_core.proofs.Ranges.{directional_within}

@@ -2,10 +2,10 @@ use Rattle.std.proofs.Common.{◌≡◌, ◌^◌, ◌+ℤ◌, ◌*ℤ◌, ◌≤
 use Rattle.std.proofs.lemmas.Int.{ints, fits_signed_from_abs, to_z_pos}
 use Rattle.std.proofs.Math.Pow.{pow_mono}
 use Rattle.cube_core.specs.Kind.{smin, smax}
-use Rattle.predict_core.specs.LocalSum.{local_sum}
+use Rattle.sample_prediction.specs.LocalSum.{local_sum}
 use Rattle.predict_core.proofs.Opening.{closed_sum, west_part, unless_fits, masked_part}
 use Rattle.predict_core.proofs.Ranges.{sum_within}
-use Rattle.predict_core.proofs.Spans.{span}
+use Rattle.sample_prediction.proofs.Spans.{span}
 use Rattle.predict_core.proofs.Told.{offset_sum_most}
 use Rattle.predict_core.proofs.west.sum_with_west.Goals as goal
 use Rattle.predict_core.proofs.west.sum_with_west.Goals.{After-masked}

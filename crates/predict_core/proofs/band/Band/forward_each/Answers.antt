@@ -1,5 +1,5 @@
 use Rattle.std.proofs.Common.{◌<◌, ◌^◌, length, arith, ap₂, ◌∙◌, length-set}
-use Rattle.predict_core.specs.Residual.{mapped_residual}
+use Rattle.sample_prediction.specs.Residual.{mapped_residual}
 use Rattle.predict_core.proofs.RunSteps.{run_next, bound_next, moved_next}
 use Rattle.predict_core.proofs.band.Band.forward_each.Goals as goal
 

@@ -1,6 +1,6 @@
 use Rattle.std.proofs.Common.{◌≡◌, ℕ, ◌<◌, ◌^◌, length, take, slice_index}
 use Rattle.header_bits.specs.declared.params.Params.{Params}
-use Rattle.predict_core.specs.Residual.{run_residuals}
+use Rattle.sample_prediction.specs.Residual.{run_residuals}
 use Rattle.predict_core.specs.Following.{Follows, MovesBy}
 use Rattle.predict_core.proofs.band.Band.forward_each.Given as goal
 

@@ -1,7 +1,7 @@
 use Rattle.std.proofs.Common.{◌≡◌, ◌+◌, ◌*◌, take, length}
 use Rattle.cube_core.specs.Shape.{sample_count}
 use Rattle.header_bits.specs.declared.params.Params.{Params}
-use Rattle.predict_core.specs.Residual.{run_residuals}
+use Rattle.sample_prediction.specs.Residual.{run_residuals}
 use Rattle.predict_core.specs.RunPlaces.{AreAlikeBeside}
 use Rattle.predict_core.specs.Following.{Follows, MovesBy}
 use Rattle.predict_core.proofs.band.Band.inverse_each.Given as goal

@@ -1,7 +1,7 @@
 use Rattle.std.proofs.Common.{◌∙◌, ap, sym, refl, rules}
-use Rattle.predict_core.specs.Predictor.{predictor_of, component_count}
-use Rattle.predict_core.specs.declared.predictor.Predictor.{Predictor}
-use Rattle.predict_core.proofs.Starting.{count_is, start_told}
+use Rattle.sample_prediction.specs.Predictor.{predictor_of, component_count}
+use Rattle.sample_prediction.specs.declared.predictor.Predictor.{Predictor}
+use Rattle.sample_prediction.proofs.Starting.{count_is, start_told}
 use Rattle.predict_core.proofs.band.Band.new.Goals as goal
 
 pub invariant_of-settings-clause-count_is : goal.invariant_of-settings-clause-count_is

@@ -1,7 +1,0 @@
-use Rattle.predict_core.proofs.LocalSums.{sum_of_offsets}
-use Rattle.predict_core.proofs.differences.sum_at.Goals as goal
-
-pub returns-clause-value : goal.returns-clause-value
-returns-clause-value c =
-    let upper = rw c.saturating_sub.ensures at c.row-above.ensures.samples in rw c.sum_of.ensures.value
-    (sum_of_offsets _ _ _ _ _ _ _ c.requires.place.column c.row-row.ensures.len c.row-row.ensures.samples upper c.requires.later c.requires.wide)

@@ -1,5 +1,0 @@
-use Rattle.predict_core.proofs.start.power.Goals as goal
-use Rattle.predict_core.proofs.Tables.{power_kept}
-
-pub returns : goal.returns
-returns c = record { value = power_kept c.args.exponent c.requires }

@@ -1,5 +1,0 @@
-use Rattle.predict_core.proofs.Moves.{raising_is}
-use Rattle.predict_core.proofs.weights.raising.Goals as goal
-
-pub returns-clause-steps : goal.returns-clause-steps
-returns-clause-steps c a = raising_is a c.args.by

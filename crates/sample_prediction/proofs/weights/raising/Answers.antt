@@ -1,0 +1,5 @@
+use Rattle.sample_prediction.proofs.Moves.{raising_is}
+use Rattle.sample_prediction.proofs.weights.raising.Goals as goal
+
+pub returns-clause-steps : goal.returns-clause-steps
+returns-clause-steps c a = raising_is a c.args.by

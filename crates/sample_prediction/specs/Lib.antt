@@ -1,0 +1,15 @@
+pub mod Arithmetic
+pub mod Bounds
+pub mod Chain
+pub mod Differences
+pub mod OffsetSum
+pub mod ErrorSign
+pub mod LocalSum
+pub mod Lines
+pub mod Mapping
+pub mod Prediction
+pub mod Predictor
+pub mod Residual
+pub mod Weights
+pub mod Rows
+pub mod Everything

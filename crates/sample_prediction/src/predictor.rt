@@ -1,0 +1,49 @@
+//! The parameters of the predictor.
+
+ghost use Rattle.std.specs.Prelude.{◌≡◌};
+ghost use Rattle.sample_prediction.specs.Predictor.{predictor_of};
+ghost use Rattle.sample_prediction.specs.Bounds.{IsPredictor};
+ghost use Rattle.header_bits.specs.Lawful.{IsLawful};
+
+use header_bits::params::Params;
+
+/// The predictor's parameters that are the same for all bands (CCSDS 123.0-B-1, "Predictor").
+#[derive(Clone, Copy)]
+pub struct Predictor {
+    /// P, the number of previous bands used for prediction.
+    pub previous: u32,
+    /// Whether the mode is reduced; else it is full.
+    pub reduced: bool,
+    /// Whether local sums are column-oriented; else they are neighbour-oriented.
+    pub column: bool,
+    /// R, the number of bits of the register.
+    pub register: u32,
+    /// Ω, the number of fractional bits of a weight.
+    pub omega: u32,
+    /// The logarithm of the interval at which the exponent of the steps grows.
+    pub interval_log: u32,
+    /// v_min, the least weight update scaling exponent.
+    pub vmin: i32,
+    /// v_max, the greatest weight update scaling exponent.
+    pub vmax: i32,
+}
+
+impl Predictor {
+    /// Returns those of an image's parameters.
+    pub fn of(params: &Params) -> Predictor
+        requires { IsLawful params.now }
+        ensures value { result ≡ predictor_of params.now }
+        ensures lawful { IsPredictor result }
+    {
+        Predictor {
+            previous: params.previous,
+            reduced: params.reduced,
+            column: params.column,
+            register: params.register,
+            omega: params.omega,
+            interval_log: params.interval_log,
+            vmin: params.vmin,
+            vmax: params.vmax,
+        }
+    }
+}

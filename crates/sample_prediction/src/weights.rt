@@ -1,0 +1,270 @@
+//! The weights of the differences: their products, and their update.
+
+ghost use Rattle.std.specs.Prelude.{if◌then◌else◌, ◌≡◌, ◌+◌, ◌-◌, ◌*◌, ◌^◌, ◌≤◌, pos, negsuc, ◌≤ℤ◌, ◌+ℤ◌, ◌-ℤ◌, ◌*ℤ◌, unsigned_abs, int_lt};
+ghost use Rattle.std.specs.Prelude.{ℕ, ℤ, List, length, take};
+ghost use Rattle.std.specs.Prelude.{◌++◌, replicate};
+ghost use Rattle.sample_prediction.specs.Arithmetic.{floor_div, clip};
+ghost use Rattle.sample_prediction.specs.Prediction.{inner_product};
+ghost use Rattle.sample_prediction.specs.Weights.{step, weight_min, weight_max, updated_weight as updated, updated_weights};
+ghost use Rattle.sample_prediction.specs.Bounds.{AllWithin};
+
+/// Returns the sum of the products of the weights in use with their differences.
+///
+/// It loops over 8 or 18 components, a count known at compile time.
+#[inline(always)]
+pub fn product_of(count: usize, weights: &[i32; 18], differences: &[i32; 18]) -> i64
+    requires count_in { count ≤ 18 }
+    requires weights_in { AllWithin (2 ^ 21) weights.now }
+    requires differences_in { AllWithin (2 ^ 18) differences.now }
+    ensures value { (us : List ℤ) → length us ≡ count → differences.now ≡ us ++ replicate (18 - count) (pos 0)
+        → result ≡ inner_product (take count weights.now) us }
+    ensures bound { unsigned_abs result ≤ 2 ^ 44 }
+    ensures bound_by { (n : ℕ) → AllWithin n weights.now → unsigned_abs result ≤ 18 * (n * 2 ^ 18) }
+{
+    if count == 0 {
+        0
+    } else if count <= 8 {
+        product_of_first::<8>(weights, differences)
+    } else {
+        product_of_first::<18>(weights, differences)
+    }
+}
+
+/// Returns the sum of the products of the first `N` weights with their differences.
+#[inline(always)]
+pub fn product_of_first<const N: usize>(weights: &[i32; 18], differences: &[i32; 18]) -> i64
+    requires few { N ≤ 18 }
+    requires weights_in { AllWithin (2 ^ 21) weights.now }
+    requires differences_in { AllWithin (2 ^ 18) differences.now }
+    ensures value { result ≡ inner_product (take N weights.now) (take N differences.now) }
+    ensures bound { unsigned_abs result ≤ 2 ^ 44 }
+    ensures bound_by { (n : ℕ) → AllWithin n weights.now → unsigned_abs result ≤ 18 * (n * 2 ^ 18) }
+{
+    let mut sum = 0i64;
+    for i in 0..N {
+        let product = weights[i] as i64 * differences[i] as i64;
+        sum += product;
+    }
+    sum
+}
+
+/// Updates each weight by its scaled difference, with the sign of the error
+/// (CCSDS 123.0-B-1, "Weight Update").
+///
+/// The differences are scaled up or down, all in the same way, in words of 32 bits.
+#[inline(always)]
+pub fn update(
+    count: usize,
+    weights: &mut [i32; 18],
+    differences: &[i32; 18],
+    omega: u32,
+    bits: u32,
+    exponent: i32,
+    negative: bool,
+)
+    requires count_in { count ≤ 18 }
+    requires omega_in { omega ≤ 19 }
+    requires bits_in { (2 ≤ bits) × (bits ≤ 16) }
+    requires exponent_least { (pos bits -ℤ pos 25) ≤ℤ exponent }
+    requires exponent_most { exponent ≤ℤ pos 21 }
+    requires weights_in { AllWithin (2 ^ (omega + 2)) weights.old }
+    requires differences_in { AllWithin (4 * 2 ^ bits) differences.now }
+    ensures value { (us : List ℤ) → length us ≡ count → differences.now ≡ us ++ replicate (18 - count) (pos 0)
+        → take count weights.new ≡ updated_weights omega exponent negative (take count weights.old) us }
+    ensures bound { AllWithin (2 ^ (omega + 2)) weights.new }
+{
+    if count == 0 {
+        return;
+    }
+    let turn = turn_of(negative);
+    if count <= 8 {
+        update_first::<8>(weights, differences, omega, bits, exponent, turn);
+    } else {
+        update_first::<18>(weights, differences, omega, bits, exponent, turn);
+    }
+}
+
+/// Updates the first `N` weights. `turn` is all ones where the error is negative, and 0 otherwise.
+///
+/// A difference takes the error's sign without a branch, so that the compiler vectorizes the loop.
+#[inline(always)]
+fn update_first<const N: usize>(
+    weights: &mut [i32; 18],
+    differences: &[i32; 18],
+    omega: u32,
+    bits: u32,
+    exponent: i32,
+    turn: i32,
+)
+    requires few { N ≤ 18 }
+    requires turn_in { (negsuc 0 ≤ℤ turn) × (turn ≤ℤ pos 0) }
+    requires omega_in { omega ≤ 19 }
+    requires bits_in { (2 ≤ bits) × (bits ≤ 16) }
+    requires exponent_least { (pos bits -ℤ pos 25) ≤ℤ exponent }
+    requires exponent_most { exponent ≤ℤ pos 21 }
+    requires weights_in { AllWithin (2 ^ (omega + 2)) weights.old }
+    requires differences_in { AllWithin (4 * 2 ^ bits) differences.now }
+    ensures value { take N weights.new ≡ updated_weights omega exponent (int_lt turn (pos 0)) (take N weights.old) (take N differences.now) }
+    ensures bound { AllWithin (2 ^ (omega + 2)) weights.new }
+{
+    if exponent < 0 {
+        let form = raising((-1 - exponent) as u32);
+        update_by::<N>(weights, differences, omega, exponent, form, turn);
+    } else {
+        let form = halving(exponent as u32);
+        update_by::<N>(weights, differences, omega, exponent, form, turn);
+    }
+}
+
+/// How a difference becomes a step: it is shifted left by some bits, then a half is added, and it is shifted
+/// right by others.
+///
+/// At an exponent below 0 nothing is shifted right, otherwise nothing is shifted left. So both kinds of
+/// exponents take one path, and a loop over places that finds the form beforehand has no branch.
+#[derive(Clone, Copy)]
+pub struct Form {
+    up: u32,
+    half: i32,
+    down: u32,
+    ghost up_in: { up ≤ 22 },
+    ghost half_in: { (pos 0 ≤ℤ half) × (half ≤ℤ pos 2097152) },
+    ghost down_in: { down ≤ 22 },
+}
+
+impl Form {
+    /// The form of no particular place.
+    pub fn none() -> Form {
+        raising(0)
+    }
+}
+
+/// Returns the form of the steps at an exponent, for samples of `bits` bits.
+#[inline(always)]
+pub fn form_of(bits: u32, exponent: i32) -> Form
+    requires bits_in { (2 ≤ bits) × (bits ≤ 16) }
+    requires exponent_least { (pos bits -ℤ pos 25) ≤ℤ exponent }
+    requires exponent_most { exponent ≤ℤ pos 21 }
+    ensures steps { (a : ℤ) → floor_div (a *ℤ pos (2 ^ result.up) +ℤ result.half) (2 ^ result.down) ≡ step exponent a }
+    ensures room { bits + result.up ≤ 24 }
+{
+    if exponent < 0 {
+        raising((-1 - exponent) as u32)
+    } else {
+        halving(exponent as u32)
+    }
+}
+
+/// Returns the form of the steps at an exponent of `-by - 1`.
+#[inline(always)]
+fn raising(by: u32) -> Form
+    requires { by ≤ 22 }
+    ensures steps { (a : ℤ) → floor_div (a *ℤ pos (2 ^ result.up) +ℤ result.half) (2 ^ result.down) ≡ step (negsuc by) a }
+    ensures up { result.up ≡ by }
+{
+    Form {
+        up: by,
+        half: 0,
+        down: 0,
+    }
+}
+
+/// Returns the form of the steps at an exponent of `by`.
+#[inline(always)]
+fn halving(by: u32) -> Form
+    requires { by ≤ 21 }
+    ensures steps { (a : ℤ) → floor_div (a *ℤ pos (2 ^ result.up) +ℤ result.half) (2 ^ result.down) ≡ step (pos by) a }
+    ensures up { result.up ≡ 0 }
+{
+    Form {
+        up: 0,
+        half: 1i32 << by,
+        down: by + 1,
+    }
+}
+
+/// Returns the first `N` weights after an error, by the form of the steps at the exponent.
+#[inline(always)]
+pub fn update_by<const N: usize>(
+    weights: &mut [i32; 18],
+    differences: &[i32; 18],
+    omega: u32,
+    exponent: i32,
+    form: Form,
+    turn: i32,
+)
+    requires few { N ≤ 18 }
+    requires turn_in { (negsuc 0 ≤ℤ turn) × (turn ≤ℤ pos 0) }
+    requires omega_in { omega ≤ 19 }
+    requires steps { (a : ℤ) → floor_div (a *ℤ pos (2 ^ form.up) +ℤ form.half) (2 ^ form.down) ≡ step exponent a }
+    requires weights_in { AllWithin (2 ^ (omega + 2)) weights.old }
+    requires differences_in { AllWithin (2 ^ (26 - form.up)) differences.now }
+    ensures value { take N weights.new ≡ updated_weights omega exponent (int_lt turn (pos 0)) (take N weights.old) (take N differences.now) }
+    ensures bound { AllWithin (2 ^ (omega + 2)) weights.new }
+{
+    for i in 0..N {
+        weights[i] = moved(omega, exponent, form, turn, weights[i], differences[i]);
+    }
+}
+
+/// Returns one weight after an error.
+#[inline(always)]
+fn moved(omega: u32, exponent: i32, form: Form, turn: i32, weight: i32, difference: i32) -> i32
+    requires turn_in { (negsuc 0 ≤ℤ turn) × (turn ≤ℤ pos 0) }
+    requires omega_in { omega ≤ 19 }
+    requires steps { (a : ℤ) → floor_div (a *ℤ pos (2 ^ form.up) +ℤ form.half) (2 ^ form.down) ≡ step exponent a }
+    requires weight_in { unsigned_abs weight ≤ 2 ^ 21 }
+    requires difference_in { unsigned_abs difference ≤ 2 ^ (26 - form.up) }
+    ensures value { result ≡ updated omega exponent (int_lt turn (pos 0)) weight difference }
+    ensures bound { unsigned_abs result ≤ 2 ^ (omega + 2) }
+{
+    // Both are found while the error isn't known yet: the next prediction waits for the choice alone.
+    let raised = clip_weight(omega, weight, stepped(form, difference));
+    let lowered = clip_weight(omega, weight, stepped(form, -difference));
+    chosen(turn, raised, lowered)
+}
+
+/// Returns the word of a sign: all ones where an error is negative, else 0.
+#[inline(always)]
+fn turn_of(negative: bool) -> i32
+    ensures value { int_lt result (pos 0) ≡ negative }
+    ensures low { negsuc 0 ≤ℤ result }
+    ensures high { result ≤ℤ pos 0 }
+{
+    if negative { -1 } else { 0 }
+}
+
+/// Returns the second weight where `turn` is all ones, and the first where it is 0.
+#[inline(always)]
+fn chosen(turn: i32, raised: i32, lowered: i32) -> i32
+    requires turn_in { (negsuc 0 ≤ℤ turn) × (turn ≤ℤ pos 0) }
+    requires raised_in { unsigned_abs raised ≤ 2 ^ 21 }
+    requires lowered_in { unsigned_abs lowered ≤ 2 ^ 21 }
+    ensures { result ≡ (if int_lt turn (pos 0) then lowered else raised) }
+{
+    raised + ((lowered - raised) & turn)
+}
+
+/// Returns the step for a size.
+#[inline(always)]
+fn stepped(form: Form, size: i32) -> i32
+    requires { unsigned_abs size ≤ 2 ^ (26 - form.up) }
+    ensures value { result ≡ floor_div (size *ℤ pos (2 ^ form.up) +ℤ form.half) (2 ^ form.down) }
+    ensures bound { unsigned_abs result ≤ 2 ^ 27 }
+{
+    (size * (1i32 << form.up) + form.half) >> form.down
+}
+
+/// Returns the weight plus a step, clipped to the range of weights.
+#[inline(always)]
+fn clip_weight(omega: u32, weight: i32, step: i32) -> i32
+    requires omega_in { omega ≤ 19 }
+    requires weight_in { unsigned_abs weight ≤ 2 ^ 21 }
+    requires step_in { unsigned_abs step ≤ 2 ^ 27 }
+    ensures value { result ≡ clip (weight +ℤ step) (weight_min omega) (weight_max omega) }
+    ensures bound { unsigned_abs result ≤ 2 ^ (omega + 2) }
+{
+    let limit = 1i32 << (omega + 2);
+    let least = -limit;
+    let greatest = limit - 1;
+    (weight + step).min(greatest).max(least)
+}
