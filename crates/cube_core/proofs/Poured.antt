@@ -8,7 +8,7 @@ use Rattle.cube_core.proofs.Words.{CanBePoured}
 use Rattle.cube_core.proofs.Orders.{StandsAt, place_at_index, place_index_below, length-places}
 use Rattle.cube_core.proofs.Bounds.{index_below}
 use Rattle.cube_core.proofs.Offsets.{sample_at_offset}
-use Rattle.cube_core.proofs.RawBytes.{pieces_whole}
+use Rattle.cube_core.proofs.RawBytes.{image, pieces_whole}
 use Rattle.cube_core.proofs.Raws.{place_of, lawful_order}
 
 -- the sample that stands at i is the i-th
@@ -28,9 +28,6 @@ length-samples_in c l lawful = length-map (places c.shape (order_of l.order c.sh
 
 pub bytes_more : (c : Image) (l : Layout) (i : ℕ) → HasBytesAt c l i → HaveBytes c l i → HaveBytes c l (i + 1)
 bytes_more c l i here before j lt = elim (cases_eq j i) [ inl e ↦ subst (λ (n : ℕ). HasBytesAt c l n) (sym e) here | inr other ↦ before j (omega arith) ]
-
-abbrev image : Sizes → SampleKind → List ℕ → Image
-image s k offsets = record { shape = s; kind = k; samples = samples_of k offsets }
 
 -- the sample at a place is that of its offset
 sample_of_place : (s : Sizes) (k : SampleKind) (offsets : List ℕ) (p : Place) → length offsets ≡ sample_count s → IsPlaceOf s p

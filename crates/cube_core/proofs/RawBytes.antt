@@ -71,7 +71,7 @@ sample_bytes_again l k bytes (inr e) h n = two_again l.little l k bytes h refl e
 
 -- ---- all samples
 
-abbrev image : Sizes → SampleKind → List ℕ → Image
+abbrev pub image : Sizes → SampleKind → List ℕ → Image
 image s k offsets = record { shape = s; kind = k; samples = samples_of k offsets }
 
 -- the bytes of a sample are bytes

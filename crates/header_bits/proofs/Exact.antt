@@ -9,20 +9,8 @@ use Rattle.cube_core.specs.declared.fault.Fault.TheVariants.{ShortHeader}
 use Rattle.cube_core.specs.Steps.{◌>>=◌}
 use Rattle.header_bits.specs.Reading.{Reading}
 use Rattle.header_bits.specs.Parts.{Part, as_at, SpellsAs, part_at, SpellsPart, then_at, SpellsThen, IsExact}
-
-pub bind_ok : {A B : Type 0} (r : Result A Fault) (f : A → Result B Fault) (y : B) → (r >>= f) ≡ Ok y → (x : A) × (r ≡ Ok x) × (f x ≡ Ok y)
-bind_ok (Ok x) f y e = (x, refl, e)
-bind_ok (Err d) f y e = absurd cc
-
-pub guard_ok : {X : Type 0} (b : Bool) (f : Fault) (r : Result X Fault) (y : X) → cond b (Err f) r ≡ Ok y → (b ≡ false) × (r ≡ Ok y)
-guard_ok true f r y e = absurd cc
-guard_ok false f r y e = (refl, e)
-
-abbrev pub done : {A : Type 0} → A → Result A Fault
-done x = Ok x
-
-pub ok_is : {A : Type 0} (x y : A) → done x ≡ done y → x ≡ y
-ok_is x y e = cc
+use Rattle.header_bits.proofs.Fronts.{bind_ok, guard_ok}
+use Rattle.header_bits.proofs.Reading.{done, ok_is}
 
 pub part_exact : {X : Type 0} (part : Part X) → IsExact (part_at part) (SpellsPart part)
 unfolding part_at

@@ -10,13 +10,10 @@ use Rattle.cube_core.specs.Steps.{◌>>=◌}
 use Rattle.header_bits.specs.Bits.{bits_of, weight_of, number_of, fundamental}
 use Rattle.header_bits.specs.Reading.{one_more, number_at, zeros_at}
 use Rattle.header_bits.proofs.Numbers.{bits_of-number_of, bits_of_zero}
-use Rattle.header_bits.proofs.Reading.{ok_is, number_again}
+use Rattle.header_bits.proofs.Reading.{done, ok_is, number_again}
 use Rattle.std.specs.Prelude.{if◌then◌else◌}
 
 -- ---- steps that went well
-
-abbrev pub done : {A : Type 0} → A → Result A Fault
-done x = Ok x
 
 pub bind_ok : {A B : Type 0} (r : Result A Fault) (f : A → Result B Fault) (y : B) → (r >>= f) ≡ Ok y → (x : A) × (r ≡ Ok x) × (f x ≡ Ok y)
 bind_ok (Ok x) f y e = (x, refl, e)

@@ -16,7 +16,9 @@ use Rattle.header_bits.specs.PredictorPart.{predictor}
 use Rattle.header_bits.specs.CoderPart.{coder}
 use Rattle.header_bits.specs.TableParts.{weights, constants}
 use Rattle.header_bits.specs.Header.{Said, parts_at, SpellsParts, coder_place, params_of, header_at, SpellsHeader}
-use Rattle.header_bits.proofs.Exact.{part_exact, then_exact, as_exact, bind_ok, guard_ok, ok_is}
+use Rattle.header_bits.proofs.Exact.{part_exact, then_exact, as_exact}
+use Rattle.header_bits.proofs.Fronts.{bind_ok, guard_ok}
+use Rattle.header_bits.proofs.Reading.{ok_is}
 
 parts_exact : IsExact parts_at SpellsParts
 unfolding parts_at

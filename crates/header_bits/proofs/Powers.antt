@@ -3,15 +3,13 @@ use Rattle.std.proofs.Common.{◌≡◌, ℕ, ◌+◌, ◌-◌, ◌*◌, ◌/◌
 use Rattle.std.proofs.Common.{inl, inr, refl}
 use Rattle.std.proofs.lemmas.Nat.{mul-le, shr-shr, pow-add}
 use Rattle.std.proofs.Math.Nat.{div-mul-le_self, mod-eq_of_lt, pow-le-pow_right, lt-div-mul-add, pow-succ'}
+use Rattle.cube_core.proofs.Bounds.{power_grows}
 use Rattle.header_bits.proofs.Windows.{two_shifts}
 use Rattle.std.proofs.lemmas.Bool.{cases_lt}
 use Rattle.std.proofs.lemmas.Bool.Decides.{nat_tests}
 
-pub pow_up : (i j : ℕ) → i ≤ j → 2 ^ i ≤ 2 ^ j
-pow_up i j le = pow-le-pow_right {n = 2} (lit< tt) {i = i} {j = j} le
-
 pub low_few : (low k : ℕ) → low < 2 ^ k → k ≤ 15 → low < 32768
-low_few low k lt le = (let wide : 2 ^ k ≤ 32768 = pow_up k 15 le in omega arith)
+low_few low k lt le = (let wide : 2 ^ k ≤ 32768 = power_grows k 15 le in omega arith)
 
 -- a quotient that is small enough for any low bits: no bit is lost
 pub whole_small : (q k low most : ℕ) → most < 65536 → (q + 1) * 2 ^ k ≤ most + 1 → low < 2 ^ k → (q * 2 ^ k % 65536 ≡ q * 2 ^ k) × (q * 2 ^ k + low ≤ most)
@@ -22,7 +20,7 @@ whole_small q k low most small within lt =
 -- nor in a test for the greatest
 pub greatest_shifted : (most k : ℕ) → most < 65536 → k ≤ 15 → (most / 2 ^ k + 1) * 2 ^ k % 4294967296 ≡ (most / 2 ^ k + 1) * 2 ^ k
 greatest_shifted most k small le =
-    let wide : 2 ^ k ≤ 32768 = pow_up k 15 le in
+    let wide : 2 ^ k ≤ 32768 = power_grows k 15 le in
     let under : most / 2 ^ k * 2 ^ k ≤ most = div-mul-le_self most (2 ^ k) in
     let parts : (most / 2 ^ k + 1) * 2 ^ k ≡ most / 2 ^ k * 2 ^ k + 2 ^ k = omega arith in
     mod-eq_of_lt (omega arith)

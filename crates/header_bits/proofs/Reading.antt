@@ -29,7 +29,7 @@ pub number_short : (count n : ℕ) (bits : List Bool) → length bits < n → nu
 unfolding number_at
 number_short count n bits lt = rw (lt-ltb (length bits) n lt) refl
 
-abbrev done : {A : Type 0} → A → Result A Fault
+abbrev pub done : {A : Type 0} → A → Result A Fault
 done x = Ok x
 
 pub ok_is : {A : Type 0} (x y : A) → done x ≡ done y → x ≡ y

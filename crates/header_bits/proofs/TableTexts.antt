@@ -6,7 +6,7 @@ use Rattle.std.proofs.lemmas.Int.{ints}
 use Rattle.std.proofs.lemmas.List.{length-replicate, length-take}
 use Rattle.std.proofs.lemmas.Bool.{le-ltb, ltb-false, ltb-true, lt-ltb}
 use Rattle.std.proofs.lemmas.Nat.{pow_pos}
-use Rattle.std.proofs.Math.Nat.{pow-succ'}
+use Rattle.cube_core.proofs.Offsets.{doubled}
 use Rattle.header_bits.specs.declared.layout.Slot.{Slot}
 use Rattle.header_bits.specs.declared.layout.Slot.TheVariants.{Unused, Plain}
 use Rattle.header_bits.specs.Layout.{AreValues}
@@ -40,10 +40,6 @@ small_from (suc count) bits others (v ∷ vs) h = (omega (arith, h.0), small_fro
 
 pub table_small : (count bits : ℕ) (vs : List ℕ) → AreValues (table_fields count bits) vs → AllByRecursion (λ v. v < 2 ^ bits) (take count vs)
 table_small count bits vs h = small_from count bits (Unused ((8 - count * bits % 8) % 8) ∷ []) vs h
-
-doubled : (bits : ℕ) → 1 ≤ bits → 2 ^ bits ≡ 2 * 2 ^ (bits - 1)
-doubled zero h = absurd (omega arith)
-doubled (suc n) h = (let e : suc n - 1 ≡ n = omega arith in rw e (pow-succ' 2 n))
 
 signed_range : (bits code : ℕ) → 1 ≤ bits → code < 2 ^ bits → IsSigned bits (signed_of bits code)
 signed_range bits code some lt = by_test (ltb code (2 ^ (bits - 1))) refl

@@ -1,10 +1,11 @@
 -- The first one of a word.
-use Rattle.std.proofs.Common.{◌≡◌, ◌≢◌, ℕ, suc, ◌+◌, ◌-◌, ◌*◌, ◌^◌, ◌<◌, ◌≤◌, ◌++◌, sym, ap, subst, ◌∙◌, inl, inr, arith, lit<}
+use Rattle.std.proofs.Common.{◌≡◌, ◌≢◌, ℕ, suc, ◌+◌, ◌-◌, ◌*◌, ◌^◌, ◌<◌, ◌≤◌, ◌++◌, sym, ap, subst, ◌∙◌, inl, inr, arith}
 use Rattle.std.specs.Int.Count.{count_leading_zeros}
 use Rattle.std.proofs.lemmas.Bool.{cases_lt}
 use Rattle.std.specs.Int.Bits.{bit_xor, xor_zero_r}
 use Rattle.std.proofs.lemmas.Nat.{leading_length, pow_pos, xor_block}
-use Rattle.std.proofs.Math.Nat.{pow-succ', pow-le-pow_right}
+use Rattle.std.proofs.Math.Nat.{pow-succ'}
+use Rattle.cube_core.proofs.Bounds.{power_grows}
 use Rattle.header_bits.specs.Bits.{bits_of}
 use Rattle.header_bits.proofs.Numbers.{bits_of-join}
 
@@ -20,12 +21,9 @@ pub record IsTop (word known j : ℕ) : Type 0 where
   pub least : 2 ^ j ≤ word
   pub most : word < 2 ^ j + 2 ^ j
 
-pub pow_up : (i j : ℕ) → i ≤ j → 2 ^ i ≤ 2 ^ j
-pow_up i j le = pow-le-pow_right {n = 2} (lit< tt) {i = i} {j = j} le
-
 pub top_is : (word known : ℕ) → word < 2 ^ known → known ≤ 57 → word ≢ 0 → IsTop word known (63 - count_leading_zeros 64 word)
 top_is word known below few some =
-    let wide = pow_up known 64 (omega arith) in
+    let wide = power_grows known 64 (omega arith) in
     let p = leading_length 64 word (omega arith) in
     let j : ℕ = 63 - count_leading_zeros 64 word in
     let size : p.0 ≡ suc j = elim (cases_lt 0 p.0) [
@@ -36,7 +34,7 @@ top_is word known below few some =
     let above : word < 2 ^ suc j = subst (λ (m : ℕ). word < 2 ^ m) size p.2 in
     let least : 2 ^ suc j ≤ 2 * word + 1 = subst (λ (m : ℕ). 2 ^ m ≤ 2 * word + 1) size p.3 in
     record {
-      inside = elim (cases_lt j known) [ inl lt ↦ lt | inr ge ↦ (let over = pow_up known j ge in absurd (omega arith)) ];
+      inside = elim (cases_lt j known) [ inl lt ↦ lt | inr ge ↦ (let over = power_grows known j ge in absurd (omega arith)) ];
       least = omega arith;
       most = omega arith;
     }

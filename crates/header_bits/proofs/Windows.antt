@@ -3,13 +3,17 @@ use Rattle.std.proofs.Common.{◌≡◌, ℕ, suc, ◌+◌, ◌-◌, ◌*◌, �
 use Rattle.std.proofs.Common.{ap, subst, ◌∙◌, append_assoc, arith, lit<}
 use Rattle.std.specs.Int.Count.{count_leading_zeros}
 use Rattle.std.proofs.lemmas.Nat.{leading_length, shr-shr, shr_below}
-use Rattle.std.proofs.lemmas.List.{drop-drop, drop_at, length-drop, take_at, take-take, take-append-drop, replicate-append-replicate, length-replicate}
+use Rattle.std.proofs.lemmas.List.{drop-drop, drop_at, length-drop, take_all, take_at, take-take, take-append-drop, replicate-append-replicate, length-replicate}
 use Rattle.std.proofs.Math.Nat.{div-eq_of_lt, div-eq_of_lt-le, pow-succ', pow-le-pow_right}
 use Rattle.header_bits.specs.Bits.{bits_of, bits_of_bytes}
 use Rattle.header_bits.specs.Windows.{IsFrontWord, IsWindow}
 use Rattle.header_bits.proofs.Numbers.{length-bits_of, bits_of-add, bits_of-mod, bits_of-join, bits_of_zero, bits_of_one}
 use Rattle.header_bits.proofs.Bytes.{length-bits_of_bytes, bits_of_bytes-drop, bits_of_bytes-take}
 use Rattle.header_bits.proofs.Words.{highest_bits, highest_shifted}
+
+-- all bytes from one on
+pub whole_tail : (bytes : List ℕ) (i : ℕ) → take (length bytes - i) (drop i bytes) ≡ drop i bytes
+whole_tail bytes i = take_all (length bytes - i) (drop i bytes) (omega (arith, length-drop i bytes))
 
 -- bits at the front, and then those behind them
 pub front_dropped : (n v : ℕ) (bits rest : List Bool) → bits ≡ bits_of n v ++ rest → drop n bits ≡ rest

@@ -24,10 +24,12 @@ use Rattle.sample_prediction.specs.Bounds.{AllWithin}
 use Rattle.predict_core.specs.Largest.{RegisterBound}
 use Rattle.sample_prediction.proofs.Moves.{clipped_low, clipped_high, limit_within, within_most}
 use Rattle.sample_prediction.proofs.Padding.{vector_length}
+use Rattle.predict_core.proofs.Kept.{wide_of}
 use Rattle.predict_core.proofs.Ranges.{within_none, within_append, vector_within, sum_within, apart}
 use Rattle.sample_prediction.proofs.Directions.{zeros_within}
 use Rattle.sample_prediction.proofs.Inner.{inner_within}
-use Rattle.sample_prediction.proofs.Spans.{span, doubled}
+use Rattle.cube_core.proofs.Offsets.{doubled}
+use Rattle.sample_prediction.proofs.Spans.{span}
 use Rattle.sample_prediction.proofs.Scaled.{halved_shrinks}
 use Rattle.sample_prediction.proofs.Tables.{table_within}
 
@@ -135,17 +137,14 @@ module _ (q : Predictor) (c : Image) (z y x : ℕ) (ws : List ℤ) (cube : IsCub
       (limit_within q.omega most) products_small (raised_small q.omega (local_sum q c z y x -ℤ pos 4 *ℤ smid c.kind) most small)
 
 -- and by those of a cube
-wide_enough : (p : Params) (c : Image) → IsLawful p → c.shape ≡ p.shape → p.column ≡ false → 2 ≤ c.shape.columns
-wide_enough p c lawful shape e = subst (λ (s : Sizes). 2 ≤ s.columns) (sym shape) (lawful.sums e)
-
 pub products_within : (p : Params) (c : Image) (z y x : ℕ) → IsLawful p → IsCube c → c.shape ≡ p.shape → IsPlace c.shape z y x → 0 < y + x
     → unsigned_abs (inner_product (weight_vector p c z (y * c.shape.columns + x)) (difference_vector (predictor_of p) c z y x))
     ≤ 18 * (2 ^ (p.omega + 2) * 2 ^ 18)
 products_within p c z y x lawful cube shape place later =
     products_small (predictor_of p) c z y x (weight_vector p c z (y * c.shape.columns + x)) cube place later
-    (wide_enough p c lawful shape) lawful.previous lawful.omega.1 (weights_within p c z (y * c.shape.columns + x) lawful)
+    (wide_of p c lawful shape) lawful.previous lawful.omega.1 (weights_within p c z (y * c.shape.columns + x) lawful)
 
 pub register_bound : RegisterBound
 register_bound p c z y x lawful cube shape kind place later =
     register_small (predictor_of p) c z y x (weight_vector p c z (y * c.shape.columns + x)) cube place later
-    (wide_enough p c lawful shape) lawful.previous lawful.omega.1 (weights_within p c z (y * c.shape.columns + x) lawful)
+    (wide_of p c lawful shape) lawful.previous lawful.omega.1 (weights_within p c z (y * c.shape.columns + x) lawful)

@@ -9,7 +9,8 @@ use Rattle.header_bits.specs.Bits.{bits_of, fundamental}
 use Rattle.header_bits.specs.Reading.{number_at, zeros_at}
 use Rattle.header_bits.proofs.Numbers.{fundamental_is}
 use Rattle.header_bits.proofs.Reading.{ok_is, number_again, number_takes, zeros_full}
-use Rattle.header_bits.proofs.Fronts.{bind_ok, bind_err, done, failed, number_fault, zeros_again, zeros_takes, zeros_fault}
+use Rattle.header_bits.proofs.Reading.{done}
+use Rattle.header_bits.proofs.Fronts.{bind_ok, bind_err, failed, number_fault, zeros_again, zeros_takes, zeros_fault}
 use Rattle.sample_adaptive.specs.declared.code_word.Code.{Code}
 use Rattle.sample_adaptive.specs.Words.{Form, Plain, Escape, IsForm, form_text, form_of, code_word}
 use Rattle.sample_adaptive.specs.Reading.{plain_at, escape_at, word_at}

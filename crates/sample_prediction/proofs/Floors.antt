@@ -7,6 +7,7 @@ use Rattle.std.proofs.Math.Nat.{mod-lt}
 use Rattle.std.proofs.Math.Arith.{digits_mod}
 use Rattle.std.proofs.Math.Pow.{pow_mono}
 use borrow.Author.Differences.{sum_is_lem}
+use Rattle.header_bits.proofs.Tests.{le_true, true_le}
 use Rattle.sample_prediction.specs.Arithmetic.{floor_div, clip, wrapped}
 use Rattle.std.specs.Int.{int_rem_euclid}
 
@@ -75,12 +76,6 @@ lt_true a b h = grind (arith, ints)
 true_lt : (a b : ℤ) → int_lt a b ≡ true → (a +ℤ pos 1) ≤ℤ b
 true_lt a b h = omega (arith, ints, h)
 
-le_true : (a b : ℤ) → a ≤ℤ b → int_le a b ≡ true
-le_true a b h = grind (arith, ints)
-
-true_le : (a b : ℤ) → int_le a b ≡ true → a ≤ℤ b
-true_le a b h = omega (arith, ints, h)
-
 -- the clip changes nothing of the sign
 pub sign_of_center : (low high sample center scaled : ℤ) → low ≤ℤ sample → sample ≤ℤ high → scaled ≡ clip center (pos 2 *ℤ low) (pos 2 *ℤ high +ℤ pos 1)
     → int_lt (pos 2 *ℤ sample -ℤ scaled) (pos 0) ≡ int_lt (pos 2 *ℤ sample) center
@@ -94,8 +89,8 @@ half_way : (sample sum middle part half : ℤ) → (pos 2 *ℤ half) ≤ℤ (par
     → int_lt (pos 2 *ℤ sample) (half +ℤ pos 2 *ℤ middle +ℤ pos 1) ≡ int_le (pos 4 *ℤ sample -ℤ sum) part
 half_way sample sum middle part half under over =
     same_test _ _
-    (λ e. let l = true_lt (pos 2 *ℤ sample) (half +ℤ pos 2 *ℤ middle +ℤ pos 1) e in le_true (pos 4 *ℤ sample -ℤ sum) part (omega (arith, ints, l, under)))
-    (λ e. let l = true_le (pos 4 *ℤ sample -ℤ sum) part e in lt_true (pos 2 *ℤ sample) (half +ℤ pos 2 *ℤ middle +ℤ pos 1) (omega (arith, ints, l, over)))
+    (λ e. let l = true_lt (pos 2 *ℤ sample) (half +ℤ pos 2 *ℤ middle +ℤ pos 1) e in true_le (pos 4 *ℤ sample -ℤ sum) part (omega (arith, ints, l, under)))
+    (λ e. let l = le_true (pos 4 *ℤ sample -ℤ sum) part e in lt_true (pos 2 *ℤ sample) (half +ℤ pos 2 *ℤ middle +ℤ pos 1) (omega (arith, ints, l, over)))
 
 -- before the clip, a prediction is greater than a sample exactly where the part of the products is the central difference or more
 pub sign_of_part : (sample sum middle part : ℤ)

@@ -1,11 +1,8 @@
 -- The range of a kind's samples, as powers of two.
-use Rattle.std.proofs.Common.{◌≡◌, ◌*◌, ◌<◌, ◌≤◌, ◌-◌, ◌^◌, ℕ, suc, zero, Bool, true, false, pos, ◌-ℤ◌, ◌≤ℤ◌, arith, pow-suc, pow_pos}
+use Rattle.std.proofs.Common.{◌≡◌, ◌*◌, ◌<◌, ◌≤◌, ◌-◌, ◌^◌, ℕ, suc, zero, Bool, true, false, pos, ◌-ℤ◌, ◌≤ℤ◌, arith, pow_pos}
 use Rattle.std.proofs.lemmas.Int.{ints}
 use Rattle.cube_core.specs.Kind.{SampleKind, IsKind, smin, smax}
-
-pub doubled : (bits : ℕ) → 1 ≤ bits → 2 ^ bits ≡ 2 * 2 ^ (bits - 1)
-doubled zero h = absurd (omega arith)
-doubled (suc n) h = let e : suc n - 1 ≡ n = omega arith in rw (e, pow-suc 2 n) (omega arith)
+use Rattle.cube_core.proofs.Offsets.{doubled}
 
 span_by : (signed : Bool) (bits : ℕ) → 2 ≤ bits
     → smax (record { signed = signed; bits = bits }) -ℤ smin (record { signed = signed; bits = bits }) ≡ pos (2 ^ bits) -ℤ pos 1

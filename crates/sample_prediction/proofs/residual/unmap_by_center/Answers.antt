@@ -1,6 +1,7 @@
 use Rattle.std.proofs.Common.{◌^◌, ◌*ℤ◌, ◌≡◌, ◌≤◌, ◌+◌, ◌/◌, ℕ, ℤ, pos, ◌+ℤ◌, ◌-ℤ◌, ◌≤ℤ◌, int_lt, unsigned_abs, false, SFits, w32, to_z, of_z, to_z-of_z}
 use Rattle.std.proofs.Common.{arith, sym, ap, ap₂, ◌∙◌, Bool, subst, rules}
 use Rattle.std.proofs.lemmas.Int.{ints, clamps}
+use Rattle.header_bits.proofs.Tests.{lt_false}
 use Rattle.sample_prediction.specs.Arithmetic.{floor_div, clip}
 use Rattle.sample_prediction.specs.Mapping.{Between, unmapped_between}
 use Rattle.sample_prediction.specs.Residual.{mapped_between}
@@ -15,9 +16,6 @@ below_is p n a l = omega (arith, ints, a)
 
 above_is : (p : ℤ) (n : ℕ) → unsigned_abs p ≤ 2 ^ 26 → n ≤ 65536 → to_z w32 (of_z w32 (to_z w32 (of_z w32 p) +ℤ to_z w32 n)) ≡ p +ℤ pos n
 above_is p n a l = omega (arith, ints, a)
-
-not_below : (a b : ℤ) → int_lt a b ≡ false → b ≤ℤ a
-not_below a b e = grind (arith, ints, e)
 
 module _ (c : After-unsigned_abs) where
   abbrev half_delta : ℕ
@@ -44,10 +42,10 @@ module _ (c : After-unsigned_abs) where
   above = above_is _ _ small few
 
   least : c.args.low ≤ℤ (c.prediction_of-predicted.result -ℤ pos half_delta)
-  least = not_below _ _ (rw (below, to_z-of_z c.ranges.low) at c.if-below-low.false)
+  least = lt_false _ _ (rw (below, to_z-of_z c.ranges.low) at c.if-below-low.false)
 
   most : (c.prediction_of-predicted.result +ℤ pos half_delta) ≤ℤ c.args.high
-  most = not_below _ _ (let a = above in let h = to_z-of_z c.ranges.high in cc)
+  most = lt_false _ _ (let a = above in let h = to_z-of_z c.ranges.high in cc)
 
   -- nothing is clipped
   whole : scaled ≡ c.args.center

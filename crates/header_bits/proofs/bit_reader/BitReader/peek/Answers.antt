@@ -1,12 +1,9 @@
 use Rattle.std.proofs.Common.{ap, arith, ◌≡◌, ◌+◌, ◌-◌, ◌*◌, ◌/◌, ◌<◌, ◌≤◌, ℕ, List, true, false, length, take, drop}
-use Rattle.std.proofs.lemmas.List.{take_all, length-drop}
+use Rattle.std.proofs.lemmas.List.{length-drop}
 use Rattle.std.specs.Array.{IsFirstChunk}
 use Rattle.header_bits.proofs.Ahead.{window_ahead}
-use Rattle.header_bits.proofs.Windows.{front_of_more, left_length, window_shifted}
+use Rattle.header_bits.proofs.Windows.{whole_tail, front_of_more, left_length, window_shifted}
 use Rattle.header_bits.proofs.bit_reader.BitReader.peek.Goals as goal
-
-whole_tail : (bytes : List ℕ) (i : ℕ) → take (length bytes - i) (drop i bytes) ≡ drop i bytes
-whole_tail bytes i = take_all (length bytes - i) (drop i bytes) (omega (arith, length-drop i bytes))
 
 tail_length : (bytes : List ℕ) (i : ℕ) → length (take (length bytes - i) (drop i bytes)) ≡ length bytes - i
 tail_length bytes i = rw (whole_tail bytes i) (length-drop i bytes)
