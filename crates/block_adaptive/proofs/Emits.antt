@@ -1,4 +1,4 @@
--- Writing texts, part after part.
+-- Writing coded data sets, part after part.
 use Rattle.std.proofs.lemmas.Grind.{common_steps}
 use Rattle.std.proofs.Math.Pow.{pow_mono}
 use Rattle.header_bits.proofs.WordTexts.{words_start, words_few, words_joined, words_end, words_below}
@@ -74,7 +74,7 @@ pub run_text_cost : (s : CodeSet) (n : ℕ) → length (run_text s (fundamental 
 run_text_cost s n =
     omega (arith, length-append (zero_identifier s) (fundamental n), length-fundamental n, ap length (identifier_zero s), length-bits_of (width s + 1) 0)
 
--- ---- texts gathered in a word
+-- ---- bits gathered in a word
 
 pub one_below : (n : ℕ) → 1 < 2 ^ (n + 1)
 one_below n = pow_mono {i = 1} {j = n + 1} (omega arith)

@@ -29,7 +29,7 @@ pub ruleset append_steps = (appends_part, appends_word, length-bits_of, shr_belo
 
 pub ruleset flush_steps = (common_steps, and_mask, bits_of-mod, length-bits_of)
 
--- ---- texts that stand one behind another
+-- ---- bits that stand one behind another
 
 module _ {old mid new : Written} {was between now x y : List Bool} where
   pub appends_both : Appends old was mid between x → Appends mid between new now y → Appends old was new now (x ++ y)
@@ -47,9 +47,9 @@ module _ {old new last : Written} {now text : List Bool} where
   pub appends_end : Appends old [] new now text → Writes new last now → Writes old last text
   appends_end h w = grind (arith, append-nil)
 
--- ---- a text, part after part
+-- ---- a coded data set, part after part
 
--- of a whole text some was appended, and some is left
+-- of all bits some were appended, and some are left
 pub record Goes (old : Written) (was : List Bool) (now : Written) (part whole left : List Bool) : Type 0 where
   pub text : (now.bits ++ part) ++ left ≡ (old.bits ++ was) ++ whole
   pub room : (behind old was).room + length left ≤ (behind now part).room + length whole

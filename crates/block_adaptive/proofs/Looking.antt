@@ -13,7 +13,7 @@ use Rattle.block_adaptive.proofs.Codes.{fundamental_again}
 use Rattle.header_bits.proofs.Tops.{IsTop, parts}
 use Rattle.header_bits.proofs.Zeros.{length-fundamental}
 
--- the bits ahead are a text and what is ahead behind it
+-- the bits ahead are those of a code and what is ahead behind it
 uses : (a b : Ahead) (text left : List Bool) → b.peeked ≡ a.peeked → b.known + length text ≡ a.known → bits_of a.known a.word ≡ text ++ bits_of b.known b.word
     → IsAhead a left → Uses a b text left
 uses a b text left same size is h =

@@ -7,7 +7,7 @@ use Rattle.block_adaptive.specs.DataSets.{CodedDataSet, Block, Run, RestOfSegmen
 use Rattle.block_adaptive.specs.Chosen.{chosen_option, chosen_from, chosen_block_body, is_zero}
 use Rattle.block_adaptive.specs.Laws.{AreBlocks}
 
--- the text was appended, and took no more than its length of the room
+-- the bits were appended, and took no more than their length of the room
 pub record Writes (old new : Written) (text : List Bool) : Type 0 where
   pub appended : new.bits ≡ old.bits ++ text
   pub spent : old.room ≤ new.room + length text

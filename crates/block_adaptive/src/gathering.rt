@@ -11,7 +11,7 @@ use std::marker::Model;
 /// Bits that come behind what a writer has, fewer than a word.
 ///
 /// A word that is full goes to the writer. Where words alone are pushed, it doesn't depend on the position of a
-/// text which push fills a word of the writer, so that the branch is predicted. Contracts see the bits.
+/// coded data set which push fills a word of the writer, so that the branch is predicted. Contracts see the bits.
 #[derive(Drop)]
 pub(crate) struct Gathered {
     /// Its `held` lowest bits are gathered; the bits above those are unspecified.

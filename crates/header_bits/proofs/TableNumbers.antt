@@ -116,7 +116,7 @@ pub numbers_text_next : (bits v : ℕ) (vs : List ℕ) → numbers_text bits (v 
 unfolding spelled
 numbers_text_next bits v vs = (let same : v - 0 ≡ v = omega arith in rw same refl)
 
--- a table's text is its numbers and zeros
+-- a table's bits are its numbers and zeros
 pub spelled_table : (bits fill : ℕ) (vs : List ℕ)
     → spelled (number_fields (length vs) bits ++ Unused fill ∷ []) (vs ++ 0 ∷ []) ≡ numbers_text bits vs ++ bits_of fill 0
 unfolding spelled

@@ -1,11 +1,11 @@
--- Texts gathered in a word, number after number.
+-- Bits gathered in a word, number after number.
 use Rattle.std.proofs.Common.{◌≡◌, ℕ, ◌+◌, ◌^◌, ◌<◌, ◌≤◌, Bool, List, [], ◌++◌, length, sym, ap, subst, ◌∙◌, append_assoc, arith}
 use Rattle.std.proofs.lemmas.List.{append-nil, length-append}
 use Rattle.std.proofs.lemmas.Nat.{pow_pos}
 use Rattle.header_bits.specs.Bits.{bits_of}
 use Rattle.header_bits.proofs.Numbers.{no_bits, length-bits_of}
 
--- a word has the first of a text's bits, and some are left
+-- a word has the first of some bits, and the others are left
 pub record Words (held word : ℕ) (whole rest : List Bool) : Type 0 where
   pub text : bits_of held word ++ rest ≡ whole
   pub below : word < 2 ^ held
