@@ -2,7 +2,8 @@
 #![tactic(auto, unfolding(crate::specs::Everything::everything))]
 
 ghost use Rattle.std.specs.Prelude.{◌≡◌, Err};
-ghost use Rattle.cube_core.specs.declared.fault.Fault.TheVariants.{ShortHeader, Reserved, Disagree, Truncated, BadCode, BadOption, RunPastSegment, BadFill, TooLong};
+ghost use Rattle.cube_core.specs.declared.fault.Fault.TheVariants.{ShortHeader, Reserved, Disagree, Truncated};
+ghost use Rattle.cube_core.specs.declared.fault.Fault.TheVariants.{BadCode, BadOption, RunPastSegment, BadFill, TooLong};
 ghost use Rattle.cube_core.specs.declared.fault.Rule.TheVariants as rule;
 ghost use Rattle.header_bits.specs.Parts.{fine};
 ghost use Rattle.file_decoding.specs.Rows.{test};
