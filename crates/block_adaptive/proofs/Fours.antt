@@ -13,10 +13,10 @@ use Rattle.header_bits.proofs.Fours.{Within}
 
 -- ---- low bits among the highest bits of a word
 
-low_front : (site : Site) (k most q place next : ℕ) (bits : List Bool) (word : ℕ) → IsFront 57 bits word → place + k ≡ next → next ≤ 57
-    → (q + 1) * 2 ^ k ≤ most + 1 → low_at site k most q (drop place bits) ≡ Ok (q * 2 ^ k + word / 2 ^ (64 - next) % 2 ^ k, drop next bits)
+low_front : (site : Site) (k most q position next : ℕ) (bits : List Bool) (word : ℕ) → IsFront 57 bits word → position + k ≡ next → next ≤ 57
+    → (q + 1) * 2 ^ k ≤ most + 1 → low_at site k most q (drop position bits) ≡ Ok (q * 2 ^ k + word / 2 ^ (64 - next) % 2 ^ k, drop next bits)
 unfolding low_at
-low_front site k most q place next bits word h e le within = grind (arith, number_ahead, pow_pos)
+low_front site k most q position next bits word h e le within = grind (arith, number_ahead, pow_pos)
 
 pub four_read : (site : Site) (k most : ℕ) (old new : List ℕ) (bits : List Bool) (word : ℕ) → IsFront 57 bits word → k ≤ 14 → length old ≡ 4
     → Within k (most + 1) old → ((a b c d : ℕ) → old ≡ a ∷ b ∷ c ∷ d ∷ [] → new ≡ joined_four k word a b c d) → lows_at site k most old bits

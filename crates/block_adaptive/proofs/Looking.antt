@@ -20,8 +20,8 @@ uses a b text left same size is h =
     let behind : List Bool = bits_of b.known b.word ++ drop b.peeked left in
     let whole : drop (used a) left ≡ text ++ behind = h.bits ∙ (λ i. is i ++ drop a.peeked left) ∙ append_assoc text (bits_of b.known b.word)
     (drop a.peeked left) ∙ (λ i. text ++ (bits_of b.known b.word ++ drop ((sym same) i) left)) in
-    let place : used a + length text ≡ used b = omega (arith, h.few) in
-    let rest : drop (used b) left ≡ behind = (λ i. drop ((sym place) i) left) ∙ sym (drop-drop (length text) (used a) left) ∙ ap (drop (length text)) whole
+    let position : used a + length text ≡ used b = omega (arith, h.few) in
+    let rest : drop (used b) left ≡ behind = (λ i. drop ((sym position) i) left) ∙ sym (drop-drop (length text) (used a) left) ∙ ap (drop (length text)) whole
     ∙ drop_at text _ _ refl in
     record {
       ahead = record { few = omega (arith, h.few); most = omega (arith, h.most); enough = omega (arith, h.enough); bits = rest };

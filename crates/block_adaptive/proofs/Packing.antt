@@ -16,7 +16,7 @@ use Rattle.block_adaptive.proofs.Streaming.{enough, block_next, run_next, run_to
 use Rattle.block_adaptive.proofs.Handed.{rest_most, size_least}
 use Rattle.header_bits.proofs.Items.{all_append, all_replicate}
 use Rattle.std.proofs.lemmas.Grind.{flat_map-append}
-use Rattle.header_bits.proofs.Places.{zeros}
+use Rattle.header_bits.specs.Rows.{zeros}
 use Rattle.std.proofs.lemmas.Bool.Decides.{nat_tests}
 use Rattle.header_bits.proofs.Intervals.{count_even, count_odd}
 
@@ -73,7 +73,7 @@ block_taken v taken told bits b cut more len range h is = (
     blocks = h.blocks ++ b ∷ [];
     whole = all_append _ h.blocks (b ∷ []) h.whole ((len, range), tt);
     numbers = is ∙ sym (append-nil _);
-    place = grind (arith, length-append, rest_least);
+    position = grind (arith, length-append, rest_least);
     inside = grind (arith, rest_least);
     goes_on = grind (arith, append_assoc, length-append, step);
   },
@@ -86,7 +86,7 @@ pub all_taken : (v : Packed) (taken : List ℕ) (bits : List Bool) → (h : HasT
     → bits ≡ spelling v.cut.set (chosen_from v.cut v.cut.count 0 h.blocks)
 all_taken v taken bits h all =
     let none : v.zeros ≡ 0 = elim (cases_lt 0 v.zeros) [
-      | inl lt ↦ absurd (omega (arith, h.inside (omega arith), rest_most v.cut v.start, h.place))
+      | inl lt ↦ absurd (omega (arith, h.inside (omega arith), rest_most v.cut v.start, h.position))
       | inr le ↦ omega arith
     ] in
     let last = h.goes_on [] (omega arith) in

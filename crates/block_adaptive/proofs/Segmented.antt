@@ -42,14 +42,14 @@ border_next r n i pos lt border more =
     let at : i / r * r + i % r + k ≡ i + k = omega arith in
     elim (cases_lt _ _) [
       | inl inside ↦
-          (let place : (i / r * r + (i % r + k)) % r ≡ i % r + k = mod-mul-add _ _ _ inside in
+          (let position : (i / r * r + (i % r + k)) % r ≡ i % r + k = mod-mul-add _ _ _ inside in
           let same : i + k ≡ i / r * r + (i % r + k) = omega arith in
           let long : k ≡ 64 = omega arith in
-          rw (same, place) (omega arith))
+          rw (same, position) (omega arith))
       | inr over ↦
-          (let place : ((i / r + 1) * r + 0) % r ≡ 0 = mod-mul-add _ _ _ pos in
+          (let position : ((i / r + 1) * r + 0) % r ≡ 0 = mod-mul-add _ _ _ pos in
           let same : i + k ≡ (i / r + 1) * r + 0 = omega arith in
-          rw (same, place) refl)
+          rw (same, position) refl)
     ]
 
 -- ---- segments one after another

@@ -4,6 +4,7 @@ use Rattle.std.proofs.Common.{replicate, Result, Ok, refl, sym, ap, subst, ◌�
 use Rattle.std.proofs.lemmas.Bool.{ltb-false, eqb-true, eqb-false}
 use Rattle.std.proofs.lemmas.Nat.{pow_pos}
 use Rattle.cube_core.specs.declared.fault.Fault.{Fault}
+use Rattle.cube_core.proofs.Greatest.{greatest_holds}
 use Rattle.block_adaptive.specs.declared.options.CodeSet.{CodeSet}
 use Rattle.block_adaptive.specs.declared.options.Choice.{Choice}
 use Rattle.block_adaptive.specs.declared.options.Choice.TheVariants.{Uncoded, Second, Split}
@@ -11,7 +12,7 @@ use Rattle.header_bits.specs.Bits.{bits_of, fundamental}
 use Rattle.block_adaptive.specs.Options.{width, greatest_value, IsOption, zero_identifier, identifier, coded, option_text, pair_codes, pair_number}
 use Rattle.block_adaptive.specs.DataSets.{CodedDataSet, Run, RestOfSegment, run_code, rest_code, spelled, IsCodedDataSet}
 use Rattle.header_bits.specs.Reading.{number_at, zeros_at}
-use Rattle.block_adaptive.specs.Reading.{Site, greatest, pair_sum, pair_of, pairs_at, run_at, data_set_at, block_read}
+use Rattle.block_adaptive.specs.Reading.{Site, pair_sum, pair_of, pairs_at, run_at, data_set_at, block_read}
 use Rattle.block_adaptive.specs.Laws.{DataSetIsTaken}
 use Rattle.header_bits.proofs.Reading.{ok_is, number_takes}
 use Rattle.header_bits.proofs.Fronts.{bind_ok, cond_ok, guard_ok, bits_of_ones, zeros_takes}
@@ -51,15 +52,10 @@ run_takes site left bits x e =
 
 -- ---- pairs
 
-greatest_passes : (f : ℕ → Bool) (n : ℕ) → f 0 ≡ true → (f (greatest f n) ≡ true) × (greatest f n ≤ n) × ((m : ℕ) → greatest f n < m → m ≤ n → f m ≡ false)
-unfolding greatest
-greatest_passes f zero h = (h, omega arith, λ m a b. absurd (omega arith))
-greatest_passes f (suc n) h = grind (arith, greatest_passes f n h)
-
 pair_takes : (site : Site) (most m : ℕ) (rest : List Bool) (x : (ℕ × ℕ) × List Bool) → m ≤ 2 * most * (most + 1) → pair_of site most m rest ≡ Ok x
     → (m ≡ pair_number x.0.0 x.0.1) × (x.0.0 ≤ most) × (x.0.1 ≤ most) × (x.1 ≡ rest)
 unfolding pair_of pair_sum
-pair_takes site most m rest x le e = grind (arith, greatest_passes)
+pair_takes site most m rest x le e = grind (arith, greatest_holds)
 
 pairs_takes : (site : Site) (most n : ℕ) (bits : List Bool) (x : List ℕ × List Bool) → pairs_at site most n bits ≡ Ok x
     → TakesList pair_codes (2 * n) (λ v. v ≤ most) bits x

@@ -1,27 +1,19 @@
 -- A pair is read as the pair that its number stands for.
-use Rattle.std.proofs.Common.{◌≡◌, ℕ, zero, suc, ◌+◌, ◌-◌, ◌*◌, ◌/◌, ◌<◌, ◌≤◌, Bool, true, false, List, [], ◌∷◌, ◌++◌, length, Ok, refl, subst, inl, inr}
+use Rattle.std.proofs.Common.{◌≡◌, ℕ, zero, suc, ◌+◌, ◌-◌, ◌*◌, ◌/◌, ◌<◌, ◌≤◌, Bool, List, [], ◌∷◌, ◌++◌, length, Ok, refl, subst, inl, inr}
 use Rattle.std.proofs.Common.{append_assoc, arith}
 use Rattle.std.specs.List.{AllByRecursion}
 use Rattle.std.proofs.lemmas.Bool.{cases_lt, le-leb, lt-leb}
 use Rattle.std.proofs.lemmas.Nat.{mul-le}
+use Rattle.cube_core.proofs.Greatest.{greatest_is}
 use Rattle.block_adaptive.specs.Options.{pair_number, pair_codes}
-use Rattle.block_adaptive.specs.Reading.{Site, greatest, pair_sum, pair_of, pairs_at}
+use Rattle.block_adaptive.specs.Reading.{Site, pair_sum, pair_of, pairs_at}
 use Rattle.block_adaptive.proofs.Codes.{fundamental_again}
 use Rattle.header_bits.proofs.Sums.{double_triangle, triangle_grows, triangle_step}
-
-pub greatest_is : (f : ℕ → Bool) (n limit : ℕ) → n ≤ limit → f n ≡ true → ((m : ℕ) → n < m → f m ≡ false) → greatest f limit ≡ n
-unfolding greatest
-greatest_is f n zero le here above = omega arith
-greatest_is f n (suc limit) le here above =
-    elim (cases_lt _ (suc limit)) [
-      | inl lt ↦ rw (above (suc limit) lt) (greatest_is f n limit (omega arith) here above)
-      | inr ge ↦ (let e : suc limit ≡ n = omega arith in rw (e, here) refl)
-    ]
 
 pub pair_sum_is : (most a b : ℕ) → a ≤ most → b ≤ most → pair_sum most (pair_number a b) ≡ a + b
 unfolding pair_sum
 pair_sum_is most a b ha hb =
-    greatest_is _ _ _ (omega arith) (le-leb _ _ (omega arith)) (λ m lt.
+    greatest_is _ _ _ (omega arith) (le-leb _ _ (omega arith)) (λ m lt _.
     let d : ℕ = m - (a + b + 1) in
     let e : a + b + 1 + d ≡ m = omega arith in
     let grows : (a + b) * (a + b + 1) / 2 + (a + b) < m * (m + 1) / 2 = subst (λ (k : ℕ). (a + b) * (a + b + 1) / 2 + (a + b) < k * (k + 1) / 2) e
@@ -64,7 +56,7 @@ sum_between most m s le under over =
       | inr ge ↦ omega arith
     ] in
     record {
-      is = greatest_is _ s (2 * most) within (le-leb _ _ under) (λ k lt.
+      is = greatest_is _ s (2 * most) within (le-leb _ _ under) (λ k lt _.
           let d : ℕ = k - (s + 1) in
           let e : s + 1 + d ≡ k = omega arith in
           let grows : s * (s + 1) / 2 + s < k * (k + 1) / 2 = subst (λ (j : ℕ). s * (s + 1) / 2 + s < j * (j + 1) / 2) e (triangle_grows d s) in

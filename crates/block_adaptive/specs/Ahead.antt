@@ -27,5 +27,5 @@ pub record Uses (a b : Ahead) (bits left : List Bool) : Type 0 where
 -- four quotients with their low bits, which are the highest bits of a word
 abbrev pub joined_four : ℕ → ℕ → ℕ → ℕ → ℕ → ℕ → List ℕ
 joined_four k word a b c d =
-    let low : ℕ → ℕ = λ place. word / 2 ^ (64 - place) % 2 ^ k in
+    let low : ℕ → ℕ = λ position. word / 2 ^ (64 - position) % 2 ^ k in
     (a * 2 ^ k + low k) ∷ (b * 2 ^ k + low (2 * k)) ∷ (c * 2 ^ k + low (3 * k)) ∷ (d * 2 ^ k + low (4 * k)) ∷ []

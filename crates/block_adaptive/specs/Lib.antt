@@ -5,7 +5,7 @@ pub mod Given
 pub mod Holding
 pub mod Laws
 pub mod Options
-pub mod Places
+pub mod Positions
 pub mod Prefixes
 pub mod Reading
 pub mod Rows

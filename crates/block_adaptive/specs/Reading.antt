@@ -1,9 +1,10 @@
 -- Reading data sets from the front of the bits, with the first fault that is met.
-use Rattle.std.specs.Prelude.{ℕ, zero, suc, ◌+◌, ◌-◌, ◌*◌, ◌/◌, ◌^◌, ◌==◌, nat_le, nat_lt, max, Bool, List, [], ◌∷◌, Result, Ok, Err, Option, Some, None}
+use Rattle.std.specs.Prelude.{ℕ, zero, suc, ◌+◌, ◌-◌, ◌*◌, ◌/◌, ◌^◌, ◌==◌, nat_le, nat_lt, max, Bool, List, [], ◌∷◌, Result, Ok, Err, Option}
 use Rattle.std.specs.Prelude.{if◌then◌else◌}
 use Rattle.cube_core.specs.declared.fault.Fault.{Fault}
 use Rattle.cube_core.specs.declared.fault.Fault.TheVariants.{BadOption, RunPastSegment}
-use Rattle.cube_core.specs.Steps.{◌>>=◌}
+use Rattle.cube_core.specs.Greatest.{greatest}
+use Rattle.cube_core.specs.Steps.{◌>>=◌, fault_of}
 use Rattle.header_bits.specs.Bits.{Unread}
 use Rattle.header_bits.specs.Reading.{Reading, number_at, zeros_at}
 use Rattle.block_adaptive.specs.declared.options.CodeSet.{CodeSet}
@@ -63,11 +64,6 @@ words_at count depth (suc n) bits = do
   vs ← words_at count depth n v.1
   Ok (v.0 ∷ vs.0, vs.1)
 
--- the greatest number up to n that passes the test, or 0
-unfoldable pub greatest : (ℕ → Bool) → ℕ → ℕ
-greatest f zero = 0
-greatest f (suc n) = if f (suc n) then suc n else greatest f n
-
 -- the sum of the pair with this number, where no value is above the most
 unfoldable pub pair_sum : ℕ → ℕ → ℕ
 pair_sum most m = greatest (λ sum. nat_le (sum * (sum + 1) / 2) m) (2 * most)
@@ -120,11 +116,6 @@ data_sets_at count c (suc n) i bits =
 unfoldable pub block_body_at : ℕ → CodeSet → ℕ → ℕ → ℕ → Reading (List CodedDataSet)
 block_body_at count s size reference n bits =
     data_sets_at count (cut_of s size reference n) (cut_of s size reference n).count 0 bits
-
--- the refusal, where there is one
-abbrev pub fault_of : {X : Type 0} → Result X Fault → Option Fault
-fault_of (Ok x) = None
-fault_of (Err fault) = Some fault
 
 -- the first fault of a body of n numbers: lawful data sets from the front, and then the first part of a data set that isn't lawful
 abbrev pub block_body_fault : ℕ → CodeSet → ℕ → ℕ → ℕ → List Bool → Option Fault

@@ -1,5 +1,5 @@
 -- Code sets and numbers of the worked examples.
-use Rattle.std.specs.Prelude.{ℕ, ◌-◌, ◌%◌, Bool, true, false, List, ◌++◌, length, take, replicate, Result, Ok, Err, Option, Some, None}
+use Rattle.std.specs.Prelude.{ℕ, Bool, true, false, List, length, take, Result, Ok, Err, Option, Some, None}
 use Rattle.cube_core.specs.declared.fault.Fault.{Fault}
 use Rattle.block_adaptive.specs.declared.options.CodeSet.{CodeSet}
 use Rattle.block_adaptive.specs.DataSets.{CodedDataSet, cut_of, blocks_told, values_of}
@@ -10,13 +10,6 @@ plain bits = record { bits = bits; restricted = false }
 
 abbrev pub restricted : ℕ → CodeSet
 restricted bits = record { bits = bits; restricted = true }
-
-abbrev pub zeros : ℕ → List ℕ
-zeros n = replicate n 0
-
--- bits, and the zeros that fill the last byte
-abbrev pub filled_up : List Bool → List Bool
-filled_up bits = bits ++ replicate ((8 - length bits % 8) % 8) false
 
 -- n numbers, out of the data sets that were read
 abbrev pub numbers_of : CodeSet → ℕ → ℕ → ℕ → Result (List CodedDataSet × List Bool) Fault → Option (List ℕ)

@@ -68,7 +68,7 @@ pub record HasTaken (v : Packed) (taken : List ℕ) (bits : List Bool) : Type 0 
   pub blocks : List (List ℕ)
   pub whole : AreBlocks v.cut.set v.cut.size blocks
   pub numbers : taken ≡ values_of blocks ++ v.held
-  pub place : length blocks ≡ v.start + v.zeros
+  pub position : length blocks ≡ v.start + v.zeros
   pub inside : 1 ≤ v.zeros → v.zeros < left_at v.cut v.start
   pub goes_on : (future : List (List ℕ)) → length blocks + length future ≡ v.cut.count
       → spelling v.cut.set (chosen_from v.cut v.cut.count 0 (blocks ++ future))

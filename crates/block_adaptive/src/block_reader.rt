@@ -13,7 +13,7 @@ ghost use Rattle.block_adaptive.specs.Reading.{data_sets_at};
 use crate::data_sets::read_data_set;
 use crate::found::Found;
 use crate::options::CodeSet;
-use crate::segments::{Place, blocks_left};
+use crate::segments::{Position, blocks_left};
 use cube_core::fault::Fault;
 use header_bits::bit_reader::BitReader;
 use header_bits::params::{Coder, Params};
@@ -189,7 +189,7 @@ impl BlockReader {
         ensures same { OnErr result (reader.new ≡ reader.old) }
         ensures count { reader.new.count ≡ reader.old.count }
     {
-        let place = Place {
+        let position = Position {
             reference: self.reference,
             count: self.count,
             block: self.block,
@@ -200,7 +200,7 @@ impl BlockReader {
             &mut ahead,
             self.block,
             &set,
-            &place,
+            &position,
             &mut self.values[..self.size as usize],
         ) {
             Ok(Found::Block(_)) => {
@@ -217,7 +217,7 @@ impl BlockReader {
             }
             Ok(Found::RestOfSegment) => {
                 *reader = ahead;
-                self.hold_zeros(blocks_left(&place));
+                self.hold_zeros(blocks_left(&position));
                 Ok(())
             }
             Err(fault) => {

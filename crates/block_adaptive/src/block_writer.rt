@@ -9,7 +9,7 @@ ghost use Rattle.block_adaptive.specs.DataSets.{capacity};
 ghost use Rattle.cube_core.specs.Shape.{sample_count};
 
 use crate::options::CodeSet;
-use crate::segments::Place;
+use crate::segments::Position;
 use crate::writing::write_data_sets;
 use cube_core::fault::Fault;
 use header_bits::bit_writer::BitWriter;
@@ -238,12 +238,12 @@ impl BlockWriter {
         ensures same { OnErr result ((self.new ≡ self.old) × (writer.new.bits ≡ writer.old.bits)) }
         ensures refused { IfErr result (λ e. e ≡ WantOfMemory) }
     {
-        let place = Place {
+        let position = Position {
             reference: self.reference,
             count: self.count,
             block: self.start,
         };
-        let zeros = write_data_sets(writer, &self.set, &place, self.zeros, block, total)?;
+        let zeros = write_data_sets(writer, &self.set, &position, self.zeros, block, total)?;
         self.start += u64::from(self.zeros + 1 - zeros);
         self.zeros = zeros;
         self.held = 0;

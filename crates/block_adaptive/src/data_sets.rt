@@ -7,7 +7,7 @@ ghost use Rattle.block_adaptive.specs.Ahead.{IsAhead, IsWord, used};
 ghost use Rattle.block_adaptive.specs.Options.{width, greatest_value};
 ghost use Rattle.block_adaptive.specs.Reading.{site_of, fundamental_at, quotients_at, split_at, words_at, run_at, data_set_at};
 ghost use Rattle.block_adaptive.specs.DataSets.{CodedDataSet, spelled, IsCodedDataSet};
-ghost use Rattle.block_adaptive.specs.Places.{IsPlace, blocks_from};
+ghost use Rattle.block_adaptive.specs.Positions.{IsPosition, blocks_from};
 ghost use Rattle.block_adaptive.specs.Told.{told};
 
 use crate::ahead::{Ahead, code_ahead, look_ahead, take_used};
@@ -16,7 +16,7 @@ use crate::found::Found;
 use crate::lows::{lows, lows_within};
 use crate::options::{Choice, CodeSet};
 use crate::pairs::pairs;
-use crate::segments::{Place, blocks_left};
+use crate::segments::{Position, blocks_left};
 use cube_core::fault::Fault;
 use header_bits::bit_reader::BitReader;
 
@@ -183,20 +183,20 @@ fn words(reader: &mut BitReader, depth: u32, values: &mut [u16]) -> Result<(), F
     Ok(())
 }
 
-/// Reads one coded data set, that of the block at a place. The values of a block are written.
+/// Reads one coded data set, that of the block at a position. The values of a block are written.
 #[tactic(auto, unfolding(crate::specs::Reading::data_set_at))]
 pub(crate) fn data_set(
     reader: &mut BitReader,
     block: u64,
     set: &CodeSet,
-    place: &Place,
+    position: &Position,
     values: &mut [u16],
 ) -> Result<Found, Fault>
     requires bits { set.now.bits ≤ 16 }
-    requires place { IsPlace place.now }
+    requires position { IsPosition position.now }
     requires fours { length values.old % 4 ≡ 0 }
     ensures read { Reads (told values.new) result reader.new.left (data_set_at (site_of reader.old block) set.now (length values.old)
-        (blocks_from place.now) reader.old.left) }
+        (blocks_from position.now) reader.old.left) }
     ensures count { reader.new.count ≡ reader.old.count }
 {
     let most = largest(set);
@@ -205,7 +205,7 @@ pub(crate) fn data_set(
     if number == 0 {
         let more = reader.take(1)?;
         if more == 0 {
-            let found = run(reader, block, blocks_left(place))?;
+            let found = run(reader, block, blocks_left(position))?;
             return Ok(found);
         }
         pairs(reader, block, most, values)?;
@@ -220,7 +220,7 @@ pub(crate) fn data_set(
     }
 }
 
-/// Reads one lawful coded data set, that of the block at a place. The values of a block are written.
+/// Reads one lawful coded data set, that of the block at a position. The values of a block are written.
 ///
 /// The refusal is that of the first unlawful part of the data set, and names the block.
 #[tactic(auto, using(crate::proofs::Fronts::found_is, crate::proofs::Fronts::none_is, crate::proofs::Lawful::rest_least))]
@@ -228,19 +228,19 @@ pub(crate) fn read_data_set(
     reader: &mut BitReader,
     block: u64,
     set: &CodeSet,
-    place: &Place,
+    position: &Position,
     values: &mut [u16],
 ) -> Result<Found, Fault>
     requires bits { set.now.bits ≤ 16 }
-    requires place { IsPlace place.now }
+    requires position { IsPosition position.now }
     requires fours { length values.old % 4 ≡ 0 }
     ensures read { Reads (told values.new) result reader.new.left (data_set_at (site_of reader.old block) set.now (length values.old)
-        (blocks_from place.now) reader.old.left) }
+        (blocks_from position.now) reader.old.left) }
     ensures found { IfOk result (λ found. (reader.old.left ≡ spelled set.now (told values.new found) ++ reader.new.left)
-        × IsCodedDataSet set.now (length values.old) (blocks_from place.now) (told values.new found)) }
-    ensures none { IfErr result (λ _. (t : CodedDataSet) (rest : List Bool) → IsCodedDataSet set.now (length values.old) (blocks_from place.now) t
+        × IsCodedDataSet set.now (length values.old) (blocks_from position.now) (told values.new found)) }
+    ensures none { IfErr result (λ _. (t : CodedDataSet) (rest : List Bool) → IsCodedDataSet set.now (length values.old) (blocks_from position.now) t
         → reader.old.left ≡ spelled set.now t ++ rest → ⊥) }
     ensures count { reader.new.count ≡ reader.old.count }
 {
-    data_set(reader, block, set, place, values)
+    data_set(reader, block, set, position, values)
 }

@@ -5,7 +5,7 @@ ghost use Rattle.header_bits.specs.Bits.{bits_of, fundamental};
 ghost use Rattle.block_adaptive.specs.Options.{quotient_codes, low_groups};
 ghost use Rattle.block_adaptive.specs.Taken.{Writes, Appends};
 
-use header_bits::bit_writer::BitWriter;
+use header_bits::bit_writer::{BitWriter, filled_word};
 use std::marker::Model;
 
 /// Bits that come behind what a writer has, fewer than a word.
@@ -55,7 +55,7 @@ impl Gathered {
             self.held += n;
         } else {
             let rest = n - free;
-            let word = filled(self.part, self.held, bits >> rest);
+            let word = filled_word(self.part, self.held, bits >> rest);
             writer.push_reserved(word, 64);
             self.part = bits;
             self.held = rest;
@@ -85,20 +85,6 @@ impl Gathered {
     {
         let mask = (1u64 << self.held) - 1;
         writer.push_reserved(self.part & mask, self.held);
-    }
-}
-
-/// Returns the word made of a part's `held` lowest bits and the bits that fill it.
-#[inline(always)]
-fn filled(part: u64, held: u32, bits: u64) -> u64
-    requires held { held < 64 }
-    requires below { bits < 2 ^ (64 - held) }
-    ensures { bits_of 64 result ≡ bits_of held part ++ bits_of (64 - held) bits }
-{
-    if held == 0 {
-        bits
-    } else {
-        (part << (64 - held)) | bits
     }
 }
 

@@ -2,7 +2,7 @@
 
 ghost use Rattle.std.specs.Prelude.{◌≡◌, ◌^◌, ◌≤◌};
 ghost use Rattle.cube_core.specs.Shape.{InRange};
-ghost use Rattle.block_adaptive.specs.Places.{IsPlace, blocks_from};
+ghost use Rattle.block_adaptive.specs.Positions.{IsPosition, blocks_from};
 ghost use Rattle.block_adaptive.specs.Segments.{segment_count};
 ghost use Rattle.block_adaptive.specs.Settings.{IsSize};
 
@@ -23,7 +23,7 @@ pub fn segment_count(samples: u64, size: u32, reference: u32) -> u64
 
 /// The position of a block among the others.
 #[derive(Clone, Copy, Drop)]
-pub(crate) struct Place {
+pub(crate) struct Position {
     /// r: after every `reference` blocks segments of 64 begin anew.
     pub(crate) reference: u32,
     /// The number of all blocks.
@@ -34,13 +34,13 @@ pub(crate) struct Place {
 
 /// Returns how many blocks there are from this block on, including it, to the end of its segment.
 #[tactic(auto, unfolding(crate::specs::Segments::segment_rest))]
-pub(crate) fn blocks_left(place: &Place) -> u32
-    requires { IsPlace place.now }
-    ensures value { result ≡ blocks_from place.now }
+pub(crate) fn blocks_left(position: &Position) -> u32
+    requires { IsPosition position.now }
+    ensures value { result ≡ blocks_from position.now }
     ensures least { 1 ≤ result }
     ensures most { result ≤ 64 }
 {
-    let inside = (place.block % u64::from(place.reference)) as u32;
-    let near = (64 - inside % 64).min(place.reference - inside);
-    (place.count - place.block).min(near as u64) as u32
+    let inside = (position.block % u64::from(position.reference)) as u32;
+    let near = (64 - inside % 64).min(position.reference - inside);
+    (position.count - position.block).min(near as u64) as u32
 }

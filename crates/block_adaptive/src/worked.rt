@@ -8,7 +8,8 @@ ghost use Rattle.header_bits.specs.Bits.{bits_of_bytes};
 ghost use Rattle.block_adaptive.specs.declared.options.Choice.TheVariants.{Uncoded, Second, Split};
 ghost use Rattle.block_adaptive.specs.Options.{cost};
 ghost use Rattle.block_adaptive.specs.Chosen.{chosen_block_body};
-ghost use Rattle.block_adaptive.specs.Rows.{plain, restricted, zeros, filled_up, numbers_read};
+ghost use Rattle.header_bits.specs.Rows.{filled_up, zeros};
+ghost use Rattle.block_adaptive.specs.Rows.{plain, restricted, numbers_read};
 
 /// One number, and a block that zeros fill: k = 4.
 pub fn uncoded_fill_block()

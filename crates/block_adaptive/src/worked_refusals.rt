@@ -5,7 +5,8 @@ ghost use Rattle.std.specs.Prelude.{◌≡◌, ◌∷◌, [], Some, take};
 ghost use Rattle.cube_core.specs.declared.fault.Fault.TheVariants.{BadOption, RunPastSegment, Truncated};
 ghost use Rattle.header_bits.specs.Bits.{bits_of_bytes};
 ghost use Rattle.block_adaptive.specs.Reading.{block_body_fault};
-ghost use Rattle.block_adaptive.specs.Rows.{plain, zeros};
+ghost use Rattle.block_adaptive.specs.Rows.{plain};
+ghost use Rattle.header_bits.specs.Rows.{zeros};
 
 /// A run of two blocks where one is left.
 pub fn run_past_one_block()

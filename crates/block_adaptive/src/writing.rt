@@ -6,13 +6,13 @@ ghost use Rattle.cube_core.specs.declared.fault.Fault.TheVariants.{WantOfMemory}
 ghost use Rattle.header_bits.specs.Bits.{bits_of, fundamental};
 ghost use Rattle.block_adaptive.specs.Options.{IsOption, zero_identifier, identifier, quotient_codes, low_groups, pair_codes, option_text, cost};
 ghost use Rattle.block_adaptive.specs.DataSets.{run_text, run_code, spelled, spelling};
-ghost use Rattle.block_adaptive.specs.Places.{IsPlace, blocks_from};
+ghost use Rattle.block_adaptive.specs.Positions.{IsPosition, blocks_from};
 ghost use Rattle.block_adaptive.specs.Taken.{Writes, Appends, rest_of, run_and_block, data_sets_after, zeros_after};
 
 use crate::choice::{choose, identifier_width, quotients_cost};
 use crate::gathering::{Gathered, low_word, quotient_word};
 use crate::options::{Choice, CodeSet};
-use crate::segments::{Place, blocks_left};
+use crate::segments::{Position, blocks_left};
 use cube_core::fault::Fault;
 use header_bits::bit_writer::BitWriter;
 
@@ -206,24 +206,25 @@ fn write_block(
 /// Writes the data sets that a whole block completes, whose values have this sum, after the zero blocks that
 /// are held; returns how many are held then.
 ///
-/// The first zero block held is at `place`. It allocates first.
+/// The first zero block held is at `position`. It allocates first.
 #[tactic(auto, using(crate::proofs::Sums::zero_tests), unfolding(crate::specs::Segments::segment_rest))]
 pub(crate) fn write_data_sets(
     writer: &mut BitWriter,
     set: &CodeSet,
-    place: &Place,
+    position: &Position,
     zeros: u32,
     block: &[u16],
     total: u32,
 ) -> Result<u32, Fault>
     requires bits { set.now.bits ≤ 16 }
-    requires place { IsPlace place.now }
-    requires left { zeros < blocks_from place.now }
+    requires position { IsPosition position.now }
+    requires left { zeros < blocks_from position.now }
     requires few { length block.now ≤ 64 }
     requires total { total ≡ sum block.now }
     requires eights { length block.now % 8 ≡ 0 }
-    ensures appended { OnOk result (writer.new.bits ≡ writer.old.bits ++ spelling set.now (data_sets_after set.now (blocks_from place.now) zeros block.now)) }
-    ensures held { IfOk result (λ n. n ≡ zeros_after (blocks_from place.now) zeros block.now) }
+    ensures appended { OnOk result (writer.new.bits ≡ writer.old.bits
+        ++ spelling set.now (data_sets_after set.now (blocks_from position.now) zeros block.now)) }
+    ensures held { IfOk result (λ n. n ≡ zeros_after (blocks_from position.now) zeros block.now) }
     ensures same { OnErr result (writer.new.bits ≡ writer.old.bits) }
     ensures refused { IfErr result (λ e. e ≡ WantOfMemory) }
 {
@@ -231,7 +232,7 @@ pub(crate) fn write_data_sets(
         write_block(writer, set, zeros, block, total)?;
         return Ok(0);
     }
-    let left = blocks_left(place);
+    let left = blocks_left(position);
     if zeros + 1 < left {
         return Ok(zeros + 1);
     }

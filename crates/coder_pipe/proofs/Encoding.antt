@@ -37,10 +37,10 @@ all_at p c t [] h = tt
 all_at p c t (b ∷ bands) h = (h 0 b refl, all_at p c t bands (λ z d e. h (suc z) d e))
 
 pub all_fresh : (p : Params) (c : Image) (bands : List Learner) → length bands ≡ p.shape.bands → AreAlong p c 0 bands
-    → ((z : ℕ) (b : Learner) → slice_get bands z ≡ Some b → b.place ≡ 0) → AreFresh p 0 [] c bands
+    → ((z : ℕ) (b : Learner) → slice_get bands z ≡ Some b → b.t ≡ 0) → AreFresh p 0 [] c bands
 all_fresh p c bands many along first = record {
   own = numbered 0 bands (λ z b e. (known z b e).band ∙ omega arith) ∙ ap upto many ∙ sym (own_all (upto p.shape.bands));
-  at = all_at p c 0 bands (λ z b e. record { follows = (known z b e).follows; place = first z b e; inside = omega (arith, (known z b e).band, within z b e) });
+  at = all_at p c 0 bands (λ z b e. record { follows = (known z b e).follows; next = first z b e; inside = omega (arith, (known z b e).band, within z b e) });
 }
   where
     within : (z : ℕ) (b : Learner) → slice_get bands z ≡ Some b → z < p.shape.bands

@@ -1,6 +1,7 @@
 pub mod Bounds
 pub mod Come
 pub mod Fitting
+pub mod Greatest
 pub mod Images
 pub mod Offsets
 pub mod Keys

@@ -6,7 +6,8 @@ use Rattle.std.proofs.Math.Nat.{div-mul-le_self, lt-div-mul-add, lt_of_mul-lt-mu
 use Rattle.std.proofs.lemmas.Bool.{cases_lt}
 use Rattle.std.proofs.Math.Nat.{sub-zero}
 use Rattle.std.specs.List.{flat_map}
-use Rattle.cube_core.proofs.Words.{Order, Bsq, Bi, Place, Sizes, sample_count, from, upto, group, group_count, places, place_index, IsOrder, IsPlaceOf}
+use Rattle.cube_core.proofs.Words.{Order, Bsq, Bi, Place, Sizes, sample_count, from, upto, group, group_size, group_count, places, place_index}
+use Rattle.cube_core.proofs.Words.{IsOrder, IsPlaceOf}
 use Rattle.std.proofs.lemmas.Option.{slice_get-get_or}
 use Rattle.std.specs.List.{slice_get}
 use Rattle.cube_core.proofs.Bounds.{index_below}
@@ -51,7 +52,7 @@ abbrev stack_of : Sizes → ℕ → ℕ → ℕ → ℕ → List Place
 stack_of s depth y i x = map (λ z. record { z = z; y = y; x = x }) (group s depth i)
 
 abbrev size_of : Sizes → ℕ → ℕ → ℕ
-size_of s depth i = min depth (s.bands - i * depth)
+size_of s depth i = group_size s depth (i * depth)
 
 length-stack_of : (s : Sizes) (depth y i x : ℕ) → length (stack_of s depth y i x) ≡ size_of s depth i
 length-stack_of s depth y i x = length-map (group s depth i) _ ∙ length-from (i * depth) (size_of s depth i)

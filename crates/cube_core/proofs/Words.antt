@@ -3,7 +3,7 @@ pub use Rattle.cube_core.specs.Shape.{Sizes, sample_count, AreSizes}
 pub use Rattle.cube_core.specs.Kind.{SampleKind, IsSample, sample_of, IsKind, smax, smin, smid}
 pub use Rattle.cube_core.specs.Image.{index_in, Image, IsCube, put}
 unfoldable pub use Rattle.cube_core.specs.Image.{sample_at}
-pub use Rattle.cube_core.specs.Order.{IsOrder, IsPlaceOf, IsBefore, place_key, from, upto, group, group_count, goes_along_rows}
+pub use Rattle.cube_core.specs.Order.{IsOrder, IsPlaceOf, IsBefore, place_key, from, upto, group, group_size, group_count, goes_along_rows}
 unfoldable pub use Rattle.cube_core.specs.Order.{place_index, places}
 pub use Rattle.cube_core.specs.Layout.{IsLayout, order_of, twos_complement, raw_value, bytes_at, HasBytes, HaveBytes, raw_code, HasBytesAt, raw_number}
 unfoldable pub use Rattle.cube_core.specs.Layout.{sample_bytes, raw_bytes, samples_in}

@@ -2,6 +2,7 @@ pub mod Along
 pub mod Cursor
 pub mod Everything
 pub mod Offsets
+pub mod Greatest
 pub mod Image
 pub mod Kind
 pub mod Laws

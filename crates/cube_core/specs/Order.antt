@@ -25,9 +25,13 @@ from a (suc n) = a ∷ from (suc a) n
 abbrev pub upto : ℕ → List ℕ
 upto n = from 0 n
 
+-- how many bands a group has that begins at this band
+abbrev pub group_size : Sizes → ℕ → ℕ → ℕ
+group_size s depth first = min depth (s.bands - first)
+
 -- the bands of the i-th group, of so many bands but in the last
 abbrev pub group : Sizes → ℕ → ℕ → List ℕ
-group s depth i = from (i * depth) (min depth (s.bands - i * depth))
+group s depth i = from (i * depth) (group_size s depth (i * depth))
 
 -- how many groups the bands make
 abbrev pub group_count : Sizes → ℕ → ℕ
@@ -51,10 +55,6 @@ abbrev pub IsBefore : List ℕ → List ℕ → Type 0
 IsBefore [] ys = ⊥
 IsBefore (x ∷ xs) [] = ⊥
 IsBefore (x ∷ xs) (y ∷ ys) = (x < y) ⊎ ((x ≡ y) × IsBefore xs ys)
-
--- how many bands a group has that begins at this band
-abbrev pub group_size : Sizes → ℕ → ℕ → ℕ
-group_size s depth first = min depth (s.bands - first)
 
 -- where a place stands in the encoding order, counted from 0
 unfoldable pub place_index : Sizes → Order → Place → ℕ

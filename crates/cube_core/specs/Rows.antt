@@ -1,5 +1,5 @@
 -- The numbers of the worked examples.
-use Rattle.std.specs.Prelude.{ℕ, Bool, false, ℤ, pos, [], ◌∷◌, map}
+use Rattle.std.specs.Prelude.{ℕ, Bool, true, false, ℤ, pos, [], ◌∷◌, map}
 use Rattle.cube_core.specs.declared.layout.Layout.{Layout}
 use Rattle.cube_core.specs.declared.layout.RawOrder.{RawOrder}
 use Rattle.cube_core.specs.declared.order.Place.{Place}
@@ -16,8 +16,11 @@ sizes columns rows bands = record { columns = columns; rows = rows; bands = band
 abbrev pub place : ℕ → ℕ → ℕ → Place
 place z y x = record { z = z; y = y; x = x }
 
-abbrev pub kind : Bool → ℕ → SampleKind
-kind signed bits = record { signed = signed; bits = bits }
+abbrev pub unsigned : ℕ → SampleKind
+unsigned bits = record { signed = false; bits = bits }
+
+abbrev pub signed : ℕ → SampleKind
+signed bits = record { signed = true; bits = bits }
 
 abbrev pub layout : RawOrder → ℕ → Bool → Layout
 layout order bytes little = record { order = order; bytes = bytes; little = little }
@@ -28,4 +31,4 @@ lone k v = record { shape = sizes 1 1 1; kind = k; samples = v ∷ [] }
 
 -- two bands of two rows of three columns, whose samples are the numbers of their places in the list
 abbrev pub numbered : Image
-numbered = record { shape = sizes 3 2 2; kind = kind false 8; samples = map pos (upto 12) }
+numbered = record { shape = sizes 3 2 2; kind = unsigned 8; samples = map pos (upto 12) }

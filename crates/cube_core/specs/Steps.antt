@@ -1,5 +1,5 @@
 -- Steps that may be refused, one after another: the first refusal decides.
-use Rattle.std.specs.Prelude.{Bool, if◌then◌else◌, Result, Ok, Err}
+use Rattle.std.specs.Prelude.{Bool, if◌then◌else◌, Option, Some, None, Result, Ok, Err}
 use Rattle.cube_core.specs.declared.fault.Fault.{Fault}
 
 -- a test passes, or it refuses
@@ -20,3 +20,8 @@ abbrev pub ◌>>◌ : {A : Type 0} → Test → Result A Fault → Result A Faul
 
 abbrev pub refuse_if : Bool → Fault → Test
 refuse_if b fault = if b then Err fault else Ok tt
+
+-- the refusal, where there is one
+abbrev pub fault_of : {X : Type 0} → Result X Fault → Option Fault
+fault_of (Ok x) = None
+fault_of (Err fault) = Some fault

@@ -9,7 +9,7 @@ ghost use Rattle.cube_core.specs.declared.order.Order.TheVariants.{Bsq, Bi};
 ghost use Rattle.cube_core.specs.Kind.{kind_or_fault, smin, smax, smid};
 ghost use Rattle.cube_core.specs.Layout.{raw_value, raw_bytes};
 ghost use Rattle.cube_core.specs.Order.{places, place_index};
-ghost use Rattle.cube_core.specs.Rows.{sizes, place, kind, layout, lone, numbered};
+ghost use Rattle.cube_core.specs.Rows.{sizes, place, unsigned, signed, layout, lone, numbered};
 ghost use Rattle.cube_core.specs.Shape.{sizes_or_fault};
 
 /// Three bands, two a group: the last group has one.
@@ -29,31 +29,31 @@ pub fn three_orders()
 
 /// Bits and sizes out of range, and the greatest sizes.
 pub fn ranges()
-    ensures bits { kind_or_fault (kind false 17) ≡ Err (FieldRange DynamicRange (pos 17)) }
+    ensures bits { kind_or_fault (unsigned 17) ≡ Err (FieldRange DynamicRange (pos 17)) }
     ensures columns { sizes_or_fault (sizes 0 1 1) ≡ Err (FieldRange Columns (pos 0)) }
     ensures greatest { sizes_or_fault (sizes 65536 65536 65536) ≡ Ok (sizes 65536 65536 65536) }
 {}
 
 /// The least, greatest and middle samples of eight bits.
 pub fn samples_of_eight_bits()
-    ensures least { smin (kind true 8) ≡ neg_ℤ (pos 128) }
-    ensures greatest { smax (kind true 8) ≡ pos 127 }
-    ensures middle { smid (kind true 8) ≡ pos 0 }
-    ensures least_unsigned { smin (kind false 8) ≡ pos 0 }
-    ensures greatest_unsigned { smax (kind false 8) ≡ pos 255 }
-    ensures middle_unsigned { smid (kind false 8) ≡ pos 128 }
+    ensures least { smin (signed 8) ≡ neg_ℤ (pos 128) }
+    ensures greatest { smax (signed 8) ≡ pos 127 }
+    ensures middle { smid (signed 8) ≡ pos 0 }
+    ensures least_unsigned { smin (unsigned 8) ≡ pos 0 }
+    ensures greatest_unsigned { smax (unsigned 8) ≡ pos 255 }
+    ensures middle_unsigned { smid (unsigned 8) ≡ pos 128 }
 {}
 
 /// Two bytes with the low one first: 2048 has twelve bits, 2047 eleven.
 pub fn low_byte_first()
-    ensures over { raw_value (layout raw.Bsq 2 true) (kind false 11) (0x00 ∷ 0x08 ∷ []) ≡ pos 2048 }
-    ensures most { raw_value (layout raw.Bsq 2 true) (kind false 11) (0xFF ∷ 0x07 ∷ []) ≡ pos 2047 }
+    ensures over { raw_value (layout raw.Bsq 2 true) (unsigned 11) (0x00 ∷ 0x08 ∷ []) ≡ pos 2048 }
+    ensures most { raw_value (layout raw.Bsq 2 true) (unsigned 11) (0xFF ∷ 0x07 ∷ []) ≡ pos 2047 }
 {}
 
 /// The least sample of sixteen bits, in two's complement, the high byte first.
 pub fn high_byte_first()
-    ensures written { raw_bytes (lone (kind true 16) (neg_ℤ (pos 32768))) (layout raw.Bsq 2 false) ≡ 0x80 ∷ 0x00 ∷ [] }
-    ensures read { raw_value (layout raw.Bsq 2 false) (kind true 16) (0x80 ∷ 0x00 ∷ []) ≡ neg_ℤ (pos 32768) }
+    ensures written { raw_bytes (lone (signed 16) (neg_ℤ (pos 32768))) (layout raw.Bsq 2 false) ≡ 0x80 ∷ 0x00 ∷ [] }
+    ensures read { raw_value (layout raw.Bsq 2 false) (signed 16) (0x80 ∷ 0x00 ∷ []) ≡ neg_ℤ (pos 32768) }
 {}
 
 /// The samples of two bands of two rows of three columns, in each order.

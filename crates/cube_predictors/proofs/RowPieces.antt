@@ -35,10 +35,10 @@ past_step p c t n i bands b d lt done left piece =
     let past : IsPast p c t n d = record {
       at = record {
         follows = piece.follows p here.0.follows;
-        place = moves.place ∙ ap (λ k. k + n) here.0.place;
+        next = moves.t ∙ ap (λ k. k + n) here.0.next;
         inside = omega (arith, here.0.inside, moves.band);
       };
-      held = piece.residuals p here.0.follows ∙ ap₂ (λ z k. run_residuals p c z k n) (sym moves.band) here.0.place;
+      held = piece.residuals p here.0.follows ∙ ap₂ (λ z k. run_residuals p c z k n) (sym moves.band) here.0.next;
     } in
     let all = all_append (IsPast p c t n) (take i bands) (d ∷ []) done (past, tt) in
     (rw (take_more_set bands i d lt) all, rw (drop-set-lt (i + 1) bands i d (omega arith)) here.1)

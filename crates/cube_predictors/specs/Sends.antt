@@ -16,10 +16,10 @@ pub record IsSeen (p : Params) (c : Image) : Type 0 where
   pub shape : c.shape ≡ p.shape
   pub kind : c.kind ≡ p.kind
 
--- a band's predictor follows the image, and place t comes next
+-- a band's predictor follows the image, and the place with raster index t comes next
 pub record IsAt (p : Params) (c : Image) (t : ℕ) (b : Learner) : Type 0 where
   pub follows : Follows p b c
-  pub place : b.place ≡ t
+  pub next : b.t ≡ t
   pub inside : b.band < p.shape.bands
 
 -- so do all of some bands

@@ -29,7 +29,8 @@ use Rattle.block_adaptive.specs.Taken.{Packed, taken_count, PutsAll as PutsList,
 use Rattle.file_coding.specs.declared.encoder.Encoder.{Encoder}
 use Rattle.file_coding.specs.declared.encoder.Encoder.TheVariants.{Samples, Blocks}
 use Rattle.file_coding.specs.File.{body_of, body_by}
-use Rattle.file_coding.specs.Coding.{places_of, places_behind, of_band, SamplesTaken, HasTaken, MayPut, PutsNumber, PutsRun, PutsColumn, PutsBlocks, EndsBody}
+use Rattle.sample_adaptive.specs.Given.{places_of}
+use Rattle.file_coding.specs.Coding.{places_behind, of_band, SamplesTaken, HasTaken, MayPut, PutsNumber, PutsRun, PutsColumn, PutsBlocks, EndsBody}
 
 -- ---- places
 

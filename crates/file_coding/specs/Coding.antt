@@ -7,6 +7,7 @@ use Rattle.cube_core.specs.Order.{IsOrder, places}
 use Rattle.header_bits.specs.declared.params.Params.{Params}
 use Rattle.sample_adaptive.specs.Settings.{settings, IsSample}
 use Rattle.sample_adaptive.specs.Body.{band_numbers, sample_body}
+use Rattle.sample_adaptive.specs.Given.{IsNext, places_of}
 use Rattle.sample_adaptive.specs.Taken.{Counts, HasTaken as HaveTaken}
 use Rattle.block_adaptive.specs.Settings.{IsBlock, IsCutOf, cut_by}
 use Rattle.block_adaptive.specs.Taken.{Packed, EndsBlock, EndsInside, taken_count, HasTaken as HasPacked}
@@ -14,10 +15,6 @@ use Rattle.block_adaptive.specs.DataSets.{capacity}
 use Rattle.file_coding.specs.declared.encoder.Encoder.{Encoder}
 use Rattle.file_coding.specs.declared.encoder.Encoder.TheVariants.{Samples, Blocks}
 use Rattle.file_coding.specs.File.{body_of}
-
--- the places of so many numbers
-abbrev pub places_of : Params → List ℕ → List Place
-places_of p numbers = take (length numbers) (places p.shape p.order)
 
 -- those of the numbers that are of band z
 abbrev pub of_band : Params → List ℕ → ℕ → List ℕ
@@ -59,14 +56,10 @@ abbrev pub MayGrowAtEnd : Encoder → Type 0
 MayGrowAtEnd (Samples v) = ⊥
 MayGrowAtEnd (Blocks v) = EndsInside v
 
--- the next number is number t of band z
-abbrev pub IsNumber : Params → List ℕ → ℕ → ℕ → Type 0
-IsNumber p numbers z t = (q : Place) × (slice_get (places p.shape p.order) (length numbers) ≡ Some q) × (q.z ≡ z) × (t ≡ length (of_band p numbers z))
-
 -- whatever numbers were taken before: bits were appended, and with them one number more is taken
 abbrev pub PutsNumber : ℕ → ℕ → ℕ → Encoder → List Bool → Encoder → List Bool → Type 0
 PutsNumber z t number old written new written_now =
-    (p : Params) (numbers : List ℕ) (bits : List Bool) → HasTaken p old numbers bits → IsNumber p numbers z t
+    (p : Params) (numbers : List ℕ) (bits : List Bool) → HasTaken p old numbers bits → IsNext p numbers z t
     → (more : List Bool) × (written_now ≡ written ++ more) × HasTaken p new (numbers ++ number ∷ []) (bits ++ more)
 
 -- numbers of band z from number t on may be put as one run: the coder is the sample-adaptive one

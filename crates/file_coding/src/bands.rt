@@ -17,7 +17,7 @@ pub fn all_bands(alloc: Global, params: &Params) -> Result<Vec<Band>, Fault>
     requires { IsLawful params.now }
     ensures len { IfOk result (λ bands. vec_len bands ≡ params.now.shape.bands) }
     ensures along { IfOk result (λ bands. (c : Image) → AreAlong params.now c 0 bands.items) }
-    ensures first { IfOk result (λ bands. (z : ℕ) (b : Learner) → slice_get bands.items z ≡ Some b → b.place ≡ 0) }
+    ensures first { IfOk result (λ bands. (z : ℕ) (b : Learner) → slice_get bands.items z ≡ Some b → b.t ≡ 0) }
     ensures refused { IfErr result (λ e. e ≡ WantOfMemory) }
 {
     let mut bands = Vec::new(alloc);

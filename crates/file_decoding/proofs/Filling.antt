@@ -46,7 +46,7 @@ at_turn m lt filled at =
 module _ {tile : Tile} {c d e : Image} {bands now : List Learner} {deltas run : List ℕ} {n : ℕ} {f g : Learner} (lt : n < tile.bands)
     (filled : AreFilled tile c d bands now deltas n) (at : slice_get now (tile.place.z + n) ≡ Some f) (long : length run ≡ tile.columns)
     (moved : MovesBy (length run) f g) (beside : AreAlikeBeside d e f.band tile.place.y tile.place.x (length run))
-    (told : (p : Params) → Follows p f d → run_residuals p e f.band f.place (length run) ≡ run) (follows : (p : Params) → Follows p f d → Follows p g e)
+    (told : (p : Params) → Follows p f d → run_residuals p e f.band f.t (length run) ≡ run) (follows : (p : Params) → Follows p f d → Follows p g e)
     (values : (i : ℕ) → i < tile.columns → slice_index run i ≡ slice_index deltas (i * tile.bands + n)) where
   module _ {p : Params} (m : ComeTo p c tile bands) where
     known : AreFound p tile c d now deltas n
@@ -58,7 +58,7 @@ module _ {tile : Tile} {c d e : Image} {bands now : List Learner} {deltas run : 
     turn : IsAlong p d (start_of p tile) (tile.place.z + n) f
     turn = along_kept m.lawful m.shape filled.alike known.same (omega (arith, lt, m.is.bands)) (at_turn m lt filled at)
 
-    here : time_of p.shape tile.place ≡ f.place
+    here : time_of p.shape tile.place ≡ f.t
     here = time_at m.lawful.order m.is _ _ turn.come (omega arith) (omega (arith, lt))
 
     -- nothing changes at lower bands
@@ -74,8 +74,8 @@ module _ {tile : Tile} {c d e : Image} {bands now : List Learner} {deltas run : 
     residuals i b column below = elim (cases_lt b n) [
       | inr not ↦
           (let is-n : b ≡ n = omega (arith, not, below) in
-          let time : tile.place.y * p.shape.columns + (tile.place.x + i) ≡ f.place + i = omega (arith, here) in
-          rw (is-n, time, ← turn.band) (sym (run_at p e f.band f.place (length run) i (omega (arith, column, long)))
+          let time : tile.place.y * p.shape.columns + (tile.place.x + i) ≡ f.t + i = omega (arith, here) in
+          rw (is-n, time, ← turn.band) (sym (run_at p e f.band f.t (length run) i (omega (arith, column, long)))
           ∙ ap (λ (ns : List ℕ). slice_index ns i) (told p turn.follows) ∙ values i column))
       | inl less ↦
           (let there = placed m.lawful.order m.is i b column (omega (arith, less, lt)) in

@@ -30,7 +30,7 @@ use Rattle.file_decoding.specs.Files.{IsBody, behind_body}
 -- ---- what may be asked for
 
 -- numbers that may be asked for are at places of the order, of a band of the image
-within : {d : Decoder} {zs ts : ℕ → ℕ} {place count : ℕ} (m : MayAskEach d zs ts place count) (i : ℕ) → i < count
+within : {d : Decoder} {zs ts : ℕ → ℕ} {index count : ℕ} (m : MayAskEach d zs ts index count) (i : ℕ) → i < count
     → (length m.numbers + i < sample_count m.params.shape) × (zs i < m.params.shape.bands)
 within m i lt =
     let long : length (m.numbers ++ replicate i 0) ≡ length m.numbers + i = omega (arith, length-append {A = ℕ}, length-replicate {A = ℕ}) in
@@ -44,7 +44,7 @@ abbrev MayGive : Decoder → (ℕ → ℕ) → ℕ → Type 0
 MayGive (Samples v) zs count = (i : ℕ) → i < count → zs i < length v.bands
 MayGive (Blocks v) zs count = given_count v + count ≤ capacity v.cut
 
-pub may_give : (d : Decoder) {zs ts : ℕ → ℕ} {place count : ℕ} → MayAskEach d zs ts place count → 1 ≤ count → MayGive d zs count
+pub may_give : (d : Decoder) {zs ts : ℕ → ℕ} {index count : ℕ} → MayAskEach d zs ts index count → 1 ≤ count → MayGive d zs count
 may_give (Samples v) m some = λ i lt. omega (arith, m.given.bands, (within m i lt).1)
 may_give (Blocks v) {count = count} m some = omega (arith, some, m.given.count, m.given.room.room, (within m (count - 1) (omega (arith, some))).0)
 
@@ -59,12 +59,12 @@ samples_give numbers_of (Err fault) p numbers bits unread new left coder did =
     let k = sample_is p.coder coder in
     rw k.4 (rw (rw k.4 at did) refl)
 
-pub samples_each : (r : Result (Unit {0}) Fault) (zs ts : ℕ → ℕ) (place : ℕ) (old new : Counts) (unread : Unread) (left : List Bool) (list : List ℕ)
-    → GetsEach zs ts 0 place r old unread new left list → length new.bands ≡ length old.bands
-    → GivesEach zs ts place r (Samples old) unread (Samples new) left list
-samples_each r zs ts place old new unread left list gets kept m =
+pub samples_each : (r : Result (Unit {0}) Fault) (zs ts : ℕ → ℕ) (index : ℕ) (old new : Counts) (unread : Unread) (left : List Bool) (list : List ℕ)
+    → GetsEach zs ts 0 index r old unread new left list → length new.bands ≡ length old.bands
+    → GivesEach zs ts index r (Samples old) unread (Samples new) left list
+samples_each r zs ts index old new unread left list gets kept m =
     samples_give (λ _. list) r m.params m.numbers m.bits unread new left m.given.coder
-    (each_given r zs ts place m.params old new m.numbers list m.bits unread left gets kept m.given m.stands m.ask)
+    (each_given r zs ts index m.params old new m.numbers list m.bits unread left gets kept m.given m.stands m.ask)
 
 pub blocks_give : {X : Type 0} (numbers_of : X → List ℕ) (r : Result X Fault) (p : Params) (numbers : List ℕ) (bits : List Bool) (unread : Unread)
     (new : Unpacked) (left : List Bool) → IsBlock p.coder → GivesMoreOf numbers_of r p numbers bits unread new left

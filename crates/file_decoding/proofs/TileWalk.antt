@@ -103,9 +103,9 @@ module _ {p : Params} {c : Image} {left : List Place} {bands : List Learner} {d 
     come = record { lawful = lawful; shape = w.shape; kind = w.kind; is = is; along = rw at at w.walk.along }
 
     -- its residuals may be asked for
-    abbrev pub may_read : (t place count : ℕ) → t ≡ time_of p.shape tile.place → place ≡ sample_count p.shape - length left
-        → count ≡ tile.columns * tile.bands → MayAskEach d (band_in tile) (time_in tile t) place count
-    may_read t place count time stands whole = record {
+    abbrev pub may_read : (t index count : ℕ) → t ≡ time_of p.shape tile.place → index ≡ sample_count p.shape - length left
+        → count ≡ tile.columns * tile.bands → MayAskEach d (band_in tile) (time_in tile t) index count
+    may_read t index count time stands whole = record {
       params = p;
       numbers = residuals_at p c (gone_by p left);
       bits = w.read;

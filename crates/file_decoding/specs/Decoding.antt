@@ -10,11 +10,10 @@ use Rattle.header_bits.specs.Header.{BeginsWithTable}
 use Rattle.header_bits.specs.Lawful.{IsLawful}
 use Rattle.predict_core.specs.Cubes.{IsCubeOf}
 use Rattle.sample_prediction.specs.Residual.{residuals}
-use Rattle.sample_adaptive.specs.Reading.{placed_at}
-use Rattle.sample_adaptive.specs.Given.{HasGiven as GivenBySamples}
+use Rattle.sample_adaptive.specs.Reading.{fault_at}
+use Rattle.sample_adaptive.specs.Given.{HasGiven as GivenBySamples, IsNext}
 use Rattle.block_adaptive.specs.Given.{given_count, HasGivenOf}
 use Rattle.block_adaptive.specs.DataSets.{capacity}
-use Rattle.file_coding.specs.Coding.{IsNumber}
 use Rattle.file_decoding.specs.declared.decoder.Decoder.{Decoder}
 use Rattle.file_decoding.specs.declared.decoder.Decoder.TheVariants.{Samples, Blocks}
 use Rattle.file_decoding.specs.Files.{IsBody, IsFile, behind_body, head_at, file_test}
@@ -26,8 +25,8 @@ HasGiven p (Blocks v) numbers bits = HasGivenOf p v numbers bits
 
 -- what every call is refused for, where one was refused
 abbrev pub refusal_at : ℕ → Decoder → Option Fault
-refusal_at place (Samples v) = option_map (placed_at place) v.refused
-refusal_at place (Blocks v) = v.refused
+refusal_at index (Samples v) = option_map (fault_at index) v.refused
+refusal_at index (Blocks v) = v.refused
 
 -- a number of band z may be asked for
 abbrev pub MayAsk : Decoder → ℕ → Type 0
@@ -47,13 +46,13 @@ GivesMore numbers_of result p numbers bits unread new left =
 
 -- whatever numbers were given before: the next one is given, or the refusal is that of the body
 abbrev pub GivesNumber : ℕ → ℕ → ℕ → Result ℕ Fault → Decoder → Unread → Decoder → List Bool → Type 0
-GivesNumber z t place result old unread new left =
-    (p : Params) (numbers : List ℕ) (bits : List Bool) → IsLawful p → HasGiven p old numbers bits → IsNumber p numbers z t → place ≡ length numbers
+GivesNumber z t index result old unread new left =
+    (p : Params) (numbers : List ℕ) (bits : List Bool) → IsLawful p → HasGiven p old numbers bits → IsNext p numbers z t → index ≡ length numbers
     → GivesMore (λ number. number ∷ []) result p numbers bits unread new left
 
 -- so many numbers behind the first n, whatever these are, are numbers of such bands, at such places of each
 abbrev pub AreEach : Params → ℕ → (ℕ → ℕ) → (ℕ → ℕ) → ℕ → Type 0
-AreEach p n zs ts count = (i : ℕ) (numbers : List ℕ) → i < count → length numbers ≡ n + i → IsNumber p numbers (zs i) (ts i)
+AreEach p n zs ts count = (i : ℕ) (numbers : List ℕ) → i < count → length numbers ≡ n + i → IsNext p numbers (zs i) (ts i)
 
 -- they are those of band z from its number t on
 abbrev pub AreNumbers : Params → ℕ → ℕ → ℕ → ℕ → Type 0
@@ -63,36 +62,36 @@ AreNumbers p n z t count = AreEach p n (λ i. z) (λ i. t + i) count
 abbrev pub AreAbove : Params → ℕ → ℕ → ℕ → ℕ → Type 0
 AreAbove p n z t count = AreEach p n (λ i. z + i) (λ i. t) count
 
--- such numbers may be asked for, one behind another: of some parameters the first of them stands at the place
-pub record MayAskEach (d : Decoder) (zs ts : ℕ → ℕ) (place count : ℕ) : Type 0 where
+-- such numbers may be asked for, one behind another: of some parameters the first of them stands at the index
+pub record MayAskEach (d : Decoder) (zs ts : ℕ → ℕ) (index count : ℕ) : Type 0 where
   pub params : Params
   pub numbers : List ℕ
   pub bits : List Bool
   pub lawful : IsLawful params
   pub given : HasGiven params d numbers bits
-  pub stands : place ≡ length numbers
+  pub stands : index ≡ length numbers
   pub ask : AreEach params (length numbers) zs ts count
 
 -- so many numbers of band z, from its number t on
 abbrev pub MayAskAll : Decoder → ℕ → ℕ → ℕ → ℕ → Type 0
-MayAskAll d z t place count = MayAskEach d (λ i. z) (λ i. t + i) place count
+MayAskAll d z t index count = MayAskEach d (λ i. z) (λ i. t + i) index count
 
 -- number t of each of so many bands, from band z on
 abbrev pub MayAskColumn : Decoder → ℕ → ℕ → ℕ → ℕ → Type 0
-MayAskColumn d z t place count = MayAskEach d (λ i. z + i) (λ i. t) place count
+MayAskColumn d z t index count = MayAskEach d (λ i. z + i) (λ i. t) index count
 
 -- wherever the next ones, of such bands, may be asked for: they are given, or the refusal is that of the body
 abbrev pub GivesEach : (ℕ → ℕ) → (ℕ → ℕ) → ℕ → Result (Unit {0}) Fault → Decoder → Unread → Decoder → List Bool → List ℕ → Type 0
-GivesEach zs ts place result old unread new left list =
-    (m : MayAskEach old zs ts place (length list)) → GivesMore (λ _. list) result m.params m.numbers m.bits unread new left
+GivesEach zs ts index result old unread new left list =
+    (m : MayAskEach old zs ts index (length list)) → GivesMore (λ _. list) result m.params m.numbers m.bits unread new left
 
 -- those of band z, from its number t on
 abbrev pub GivesRun : ℕ → ℕ → ℕ → Result (Unit {0}) Fault → Decoder → Unread → Decoder → List Bool → List ℕ → Type 0
-GivesRun z t place result old unread new left list = GivesEach (λ i. z) (λ i. t + i) place result old unread new left list
+GivesRun z t index result old unread new left list = GivesEach (λ i. z) (λ i. t + i) index result old unread new left list
 
 -- number t of each band, from band z on
 abbrev pub GivesColumn : ℕ → ℕ → ℕ → Result (Unit {0}) Fault → Decoder → Unread → Decoder → List Bool → List ℕ → Type 0
-GivesColumn z t place result old unread new left list = GivesEach (λ i. z + i) (λ i. t) place result old unread new left list
+GivesColumn z t index result old unread new left list = GivesEach (λ i. z + i) (λ i. t) index result old unread new left list
 
 -- the bits begin with a body of the cube's residuals, and these are left
 pub record TakesCube (p : Params) (c : Image) (bits left : List Bool) : Type 0 where

@@ -41,29 +41,29 @@ impl Decoder {
         }
     }
 
-    /// Returns the next residual of the body, which is number `t` of band `z` and stands at index `place` in encoding
+    /// Returns the next residual of the body, which is number `t` of band `z` and stands at `index` in encoding
     /// order.
     ///
     /// Fewer were returned than there are samples. Where the bits encode none, it returns the first fault of the body:
     /// `Truncated`, `BadCode` with the index, `BadOption` or `RunPastSegment`. Then the bits that are left are as
     /// before, and every later call returns the same, a `BadCode` with its own index. It allocates nothing.
     #[inline(always)]
-    pub fn next(&mut self, z: u32, t: u64, place: u64, reader: &mut BitReader) -> Result<u16, Fault>
+    pub fn next(&mut self, z: u32, t: u64, index: u64, reader: &mut BitReader) -> Result<u16, Fault>
         requires { MayAsk self.old z }
-        ensures given { GivesNumber z t place result self.old reader.old self.new reader.new.left }
-        ensures again { (fault : Refusal) → refusal_at place self.old ≡ Some fault → result ≡ Err fault }
-        ensures kept { IfErr result (λ fault. refusal_at place self.new ≡ Some fault) }
+        ensures given { GivesNumber z t index result self.old reader.old self.new reader.new.left }
+        ensures again { (fault : Refusal) → refusal_at index self.old ≡ Some fault → result ≡ Err fault }
+        ensures kept { IfErr result (λ fault. refusal_at index self.new ≡ Some fault) }
         ensures same { OnErr result (reader.new ≡ reader.old) }
         ensures count { reader.new.count ≡ reader.old.count }
     {
         match self {
-            Decoder::Samples(stats) => stats.get_at(z, t, place, reader),
+            Decoder::Samples(stats) => stats.get_at(z, t, index, reader),
             Decoder::Blocks(blocks) => blocks.next(reader),
         }
     }
 
-    /// Writes the next residuals of the body to `deltas`: numbers `t`, `t + 1`, .. of band `z`. The first stands at index
-    /// `place` in encoding order.
+    /// Writes the next residuals of the body to `deltas`: numbers `t`, `t + 1`, .. of band `z`. The first stands at `index`
+    /// in encoding order.
     ///
     /// They are of one row, at least one and at most 64. Where the bits encode fewer, it returns the first fault of the
     /// body, as `next` does, and what is in `deltas` is unspecified. It allocates nothing.
@@ -72,24 +72,24 @@ impl Decoder {
         &mut self,
         z: u32,
         t: u64,
-        place: u64,
+        index: u64,
         reader: &mut BitReader,
         deltas: &mut [u16],
     ) -> Result<(), Fault>
-        requires may { MayAskAll self.old z t place (length deltas.old) }
-        requires small { (1 ≤ length deltas.old) × (length deltas.old ≤ 64) × (place < 2 ^ 48) }
-        ensures given { GivesRun z t place result self.old reader.old self.new reader.new.left deltas.new }
+        requires may { MayAskAll self.old z t index (length deltas.old) }
+        requires small { (1 ≤ length deltas.old) × (length deltas.old ≤ 64) × (index < 2 ^ 48) }
+        ensures given { GivesRun z t index result self.old reader.old self.new reader.new.left deltas.new }
         ensures count { reader.new.count ≡ reader.old.count }
         ensures long { length deltas.new ≡ length deltas.old }
     {
         match self {
-            Decoder::Samples(stats) => stats.get_run(z, t, place, reader, deltas),
+            Decoder::Samples(stats) => stats.get_run(z, t, index, reader, deltas),
             Decoder::Blocks(blocks) => next_of_blocks(blocks, reader, deltas),
         }
     }
 
     /// Writes the next residuals of the body to `deltas`: number `t` of band `z`, then that of the next band, and so on.
-    /// The first stands at index `place` in encoding order.
+    /// The first stands at `index` in encoding order.
     ///
     /// They are of one row and column, at least one and at most 65,536. Where the bits encode fewer, it returns the first
     /// fault of the body, as `next` does, and what is in `deltas` is unspecified. It allocates nothing.
@@ -98,18 +98,18 @@ impl Decoder {
         &mut self,
         z: u32,
         t: u64,
-        place: u64,
+        index: u64,
         reader: &mut BitReader,
         deltas: &mut [u16],
     ) -> Result<(), Fault>
-        requires may { MayAskColumn self.old z t place (length deltas.old) }
-        requires small { (1 ≤ length deltas.old) × (length deltas.old ≤ 2 ^ 16) × (place < 2 ^ 48) }
-        ensures given { GivesColumn z t place result self.old reader.old self.new reader.new.left deltas.new }
+        requires may { MayAskColumn self.old z t index (length deltas.old) }
+        requires small { (1 ≤ length deltas.old) × (length deltas.old ≤ 2 ^ 16) × (index < 2 ^ 48) }
+        ensures given { GivesColumn z t index result self.old reader.old self.new reader.new.left deltas.new }
         ensures count { reader.new.count ≡ reader.old.count }
         ensures long { length deltas.new ≡ length deltas.old }
     {
         match self {
-            Decoder::Samples(stats) => stats.get_column(z, t, place, reader, deltas),
+            Decoder::Samples(stats) => stats.get_column(z, t, index, reader, deltas),
             Decoder::Blocks(blocks) => next_of_blocks(blocks, reader, deltas),
         }
     }
@@ -122,7 +122,7 @@ fn next_of_blocks(
     deltas: &mut [u16],
 ) -> Result<(), Fault>
     requires may { given_count blocks.old + length deltas.old ≤ capacity blocks.old.cut }
-    ensures given { (zs ts : ℕ → ℕ) (place : ℕ) → GivesEach zs ts place result (Blocks blocks.old) reader.old (Blocks blocks.new) reader.new.left deltas.new }
+    ensures given { (zs ts : ℕ → ℕ) (index : ℕ) → GivesEach zs ts index result (Blocks blocks.old) reader.old (Blocks blocks.new) reader.new.left deltas.new }
     ensures count { reader.new.count ≡ reader.old.count }
     ensures long { length deltas.new ≡ length deltas.old }
 {

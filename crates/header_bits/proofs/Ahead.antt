@@ -11,7 +11,7 @@ use Rattle.header_bits.proofs.Reading.{number_low, zeros_ended, zeros_full}
 use Rattle.header_bits.proofs.Windows.{front_dropped, top_is_one, top_is_zero, two_shifts}
 use Rattle.header_bits.proofs.Words.{highest_shifted}
 
--- a window at a place
+-- a window at a position
 pub window_ahead : (bytes : List ℕ) (at word : ℕ) (left : List Bool) → drop at (bits_of_bytes bytes) ≡ left → at + 57 ≤ 8 * length bytes
     → IsWindow bytes at word → IsAhead 57 left word
 window_ahead bytes at word left is enough h = λ n le.
@@ -54,7 +54,7 @@ number_ahead count highest n most bits word h le =
     ∙ ap (λ (x : List Bool). x ++ rest) (bits_of-add highest n there) ∙ append_assoc (bits_of highest (there / 2 ^ n)) (bits_of n there) rest in
     ap (number_at count n) (front_dropped highest (there / 2 ^ n) bits (bits_of n there ++ rest) split) ∙ number_low count n there rest
 
--- the bits of a word between two places
+-- the bits of a word between two positions
 pub shifted_behind : (word highest n : ℕ) → n < 64 → highest + n ≤ 64
     → (word * 2 ^ highest % 2 ^ 64) / 2 / 2 ^ (63 - n) ≡ word / 2 ^ (64 - (highest + n)) % 2 ^ n
 shifted_behind word highest n few le = two_shifts (word * 2 ^ highest % 2 ^ 64) n few ∙ highest_shifted word highest n le

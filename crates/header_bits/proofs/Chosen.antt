@@ -21,12 +21,12 @@ use Rattle.header_bits.specs.declared.params.CountStart.TheVariants.{Constant, E
 use Rattle.header_bits.specs.declared.image_part.ImagePart.{ImagePart}
 use Rattle.header_bits.specs.declared.predictor_part.PredictorPart.{PredictorPart}
 use Rattle.header_bits.specs.Layout.{AreValues, spelled}
-use Rattle.header_bits.specs.Parts.{fine, unused, SpellsPart}
+use Rattle.header_bits.specs.Parts.{fine, reserved_test, SpellsPart}
 use Rattle.header_bits.specs.ImagePart.{image, image_numbers, flag, order_flag, depth_number}
 use Rattle.header_bits.specs.PredictorPart.{predictor, start_tests, predictor_numbers, exponent_of, exponent_code}
 use Rattle.header_bits.specs.CoderPart.{coder, coder_by, coder_fields, coder_numbers, size_code}
 use Rattle.header_bits.specs.TableParts.{weights, weights_by, weight_count, constants, constants_by, table_fields, signed_code}
-use Rattle.header_bits.specs.Header.{Said, params_of, start_by, coder_by_part, coder_place, header_of, SpellsHeader, SpellsParts, image_part_of}
+use Rattle.header_bits.specs.Header.{Said, params_of, start_by, coder_by_part, coder_start, header_of, SpellsHeader, SpellsParts, image_part_of}
 use Rattle.header_bits.specs.Header.{predictor_part_of, coder_part_of, is_block, is_custom, resolution_of, is_each, weight_bits, each_bits, constant_bits}
 use Rattle.header_bits.specs.Lawful.{IsLawful, IsExponent, IsBlockSize, IsWeightStart, IsCountStart, IsCoder}
 use Rattle.header_bits.proofs.Tests.{◌then_fine◌, refuse_fine, not_under}
@@ -35,10 +35,10 @@ use Rattle.header_bits.proofs.Lawfulness.{above_none}
 use Rattle.header_bits.proofs.TableTexts.{codes_small, codes_back, table_held, table_front, table_fill}
 
 -- no reserved bit is set
-unused_zero : (at n : ℕ) → unused at n 0 ≡ fine
-unfolding unused
-unused_zero at zero = refl
-unused_zero at (suc n) = rw (eq-eqb (0 / 2 ^ n) 0 (div-eq_of_lt (pow_pos n))) (unused_zero (at + 1) n)
+reserved_zero : (at n : ℕ) → reserved_test at n 0 ≡ fine
+unfolding reserved_test
+reserved_zero at zero = refl
+reserved_zero at (suc n) = rw (eq-eqb (0 / 2 ^ n) 0 (div-eq_of_lt (pow_pos n))) (reserved_zero (at + 1) n)
 
 flag_back : (b : Bool) → eqb (flag b) 1 ≡ b
 flag_back true = refl
@@ -65,8 +65,8 @@ image_chosen p h =
     record {
       numbers = image_numbers i;
       held = image_held p h;
-      passed = unused_zero 57 2 then_fine refuse_fine _ _ (ne_eqb p.kind.bits 1 (λ e. omega (arith, e, h.kind)))
-          then_fine refuse_fine _ _ (order_passes p.shape p.order h.order) then_fine unused_zero 80 2 then_fine unused_zero 86 10;
+      passed = reserved_zero 57 2 then_fine refuse_fine _ _ (ne_eqb p.kind.bits 1 (λ e. omega (arith, e, h.kind)))
+          then_fine refuse_fine _ _ (order_passes p.shape p.order h.order) then_fine reserved_zero 80 2 then_fine reserved_zero 86 10;
       said = rw (flag_back p.kind.signed, order_back p.order, flag_back i.block) refl;
       text = refl;
     }
@@ -99,12 +99,12 @@ predictor_chosen p h =
     record {
       numbers = predictor_numbers d;
       held = predictor_held p h;
-      passed = unused_zero 96 2 then_fine refuse_fine _ _ (mode_passes p.reduced p.shape.columns h.mode) then_fine unused_zero 103 1
-          then_fine refuse_fine _ _ (mode_passes p.column p.shape.columns h.sums) then_fine unused_zero 105 1
+      passed = reserved_zero 96 2 then_fine refuse_fine _ _ (mode_passes p.reduced p.shape.columns h.mode) then_fine reserved_zero 103 1
+          then_fine refuse_fine _ _ (mode_passes p.column p.shape.columns h.sums) then_fine reserved_zero 105 1
           then_fine refuse_fine _ _ (le-ltb p.register 32 h.register.0) then_fine refuse_fine _ _ (le-ltb p.register (p.kind.bits + p.omega + 2) h.wide)
           then_fine refuse_fine _ _ (le-ltb 11 p.interval_log h.interval.1)
           then_fine refuse_fine _ _ (le-ltb (exponent_code p.vmax) (exponent_code p.vmin) (exponent_codes p.vmin p.vmax h.vmin h.vmax h.exponents))
-          then_fine unused_zero 128 1 then_fine start_passes p p.start 0 p.previous (flag p.reduced) 0 (flag p.column) 0 p.register p.interval_log
+          then_fine reserved_zero 128 1 then_fine start_passes p p.start 0 p.previous (flag p.reduced) 0 (flag p.column) 0 p.register p.interval_log
           (exponent_code p.vmin) (exponent_code p.vmax) 0 h.start;
       said = rw (flag_back p.reduced, flag_back p.column, exponent_back p.vmin h.vmin, exponent_back p.vmax h.vmax, flag_back d.custom) refl;
       text = refl;
@@ -140,14 +140,14 @@ coder_by_chosen at p i (Sample umax gamma_star gamma_zero (Each values)) e h hel
 coder_by_chosen at p i (Block size true reference) e h held = record {
   numbers = 0 ∷ size_code size ∷ 1 ∷ reference ∷ [];
   held = held;
-  passed = unused_zero at 1 then_fine refuse_fine _ _ (le-ltb 4 i.kind.bits (rw e (h.1 refl)));
+  passed = reserved_zero at 1 then_fine refuse_fine _ _ (le-ltb 4 i.kind.bits (rw e (h.1 refl)));
   said = rw (size_back size h.0) refl;
   text = refl;
 }
 coder_by_chosen at p i (Block size false reference) e h held = record {
   numbers = 0 ∷ size_code size ∷ 0 ∷ reference ∷ [];
   held = held;
-  passed = unused_zero at 1 then_fine refl;
+  passed = reserved_zero at 1 then_fine refl;
   said = rw (size_back size h.0) refl;
   text = refl;
 }
@@ -184,7 +184,7 @@ weights_chosen p (Table q values) h =
       numbers = map (signed_code q) values ++ 0 ∷ [];
       held = subst (λ (n : ℕ). AreValues (table_fields n q) (map (signed_code q) values ++ 0 ∷ [])) many (table_held q (map (signed_code q) values) small);
       passed = (let fill : get_or (map (signed_code q) values ++ 0 ∷ []) (length values) 0 ≡ 0 = rw (← many) (table_fill (map (signed_code q) values)) in
-          rw fill (unused_zero _ _));
+          rw fill (reserved_zero _ _));
       said = (let front : take (length values) (map (signed_code q) values ++ 0 ∷ []) ≡ map (signed_code q) values =
           rw (← many) (table_front (map (signed_code q) values)) in rw front (codes_back q values (omega (arith, h.0.0)) h.2));
       text = refl;
@@ -218,7 +218,7 @@ each_chosen at p i (Each values) e f deep h =
     record {
       numbers = values ++ 0 ∷ [];
       held = subst (λ (n : ℕ). AreValues (table_fields n 4) (values ++ 0 ∷ [])) bands (table_held 4 values small);
-      passed = rw (front, fill) (refuse_fine _ _ (above_none (i.kind.bits - 2) values most) then_fine unused_zero _ _);
+      passed = rw (front, fill) (refuse_fine _ _ (above_none (i.kind.bits - 2) values most) then_fine reserved_zero _ _);
       said = front;
       text = ap (λ (n : ℕ). spelled (table_fields n 4) (values ++ 0 ∷ [])) bands;
     }
@@ -269,10 +269,10 @@ parts_chosen p h =
           second = weights_chosen p p.start h.start;
           text = refl;
         };
-        second = coder_chosen (coder_place i d) p h;
+        second = coder_chosen (coder_start i d) p h;
         text = refl;
       };
-      second = constants_chosen (coder_place i d + 16) p i p.coder refl refl h.kind.1 h.coder;
+      second = constants_chosen (coder_start i d + 16) p i p.coder refl refl h.kind.1 h.coder;
       text = refl;
     }
 

@@ -18,7 +18,7 @@ use Rattle.header_bits.specs.PredictorPart.{predictor, predictor_fields, predict
 use Rattle.header_bits.specs.CoderPart.{coder_fields, coder_numbers, coder}
 use Rattle.header_bits.specs.TableParts.{fill_of, table_fields, numbers_text, signed_code, weight_count, weights, weights_by, constants, constants_by}
 use Rattle.header_bits.specs.TableParts.{has_constants}
-use Rattle.header_bits.specs.Header.{image_part_of, predictor_part_of, coder_part_of, coder_place, Said, said, AreThere, params_of, parts_at, start_by}
+use Rattle.header_bits.specs.Header.{image_part_of, predictor_part_of, coder_part_of, coder_start, Said, said, AreThere, params_of, parts_at, start_by}
 use Rattle.header_bits.specs.Header.{coder_by_part, is_custom, has_each, has_table, weight_bits, constant_bits, header_of, header_at, SpellsHeader}
 use Rattle.header_bits.specs.Lawful.{IsLawful}
 use Rattle.header_bits.proofs.Numbers.{length-bits_of}
@@ -132,25 +132,25 @@ spelt_whole p h s =
     let one = part_length image i two.front two.first ∙ image_size in
     let second = part_length (predictor i) d two.back two.second ∙ predictor_size i in
     let third = part_length (weights i d) s.from.0.0.1 three.back three.second in
-    let fourth = part_length (coder (coder_place i d) i) s.from.0.1 four.back four.second ∙ coder_size (coder_place i d) i in
-    let fifth = part_length (constants (coder_place i d + 16) i s.from.0.1) s.from.1 five.back five.second in
-    omega (arith, a, b, c, e, one, second, third, fourth, fifth, weights_whole i d, constants_whole (coder_place i d + 16) i s.from.0.1)
+    let fourth = part_length (coder (coder_start i d) i) s.from.0.1 four.back four.second ∙ coder_size (coder_start i d) i in
+    let fifth = part_length (constants (coder_start i d + 16) i s.from.0.1) s.from.1 five.back five.second in
+    omega (arith, a, b, c, e, one, second, third, fourth, fifth, weights_whole i d, constants_whole (coder_start i d + 16) i s.from.0.1)
 
 -- ---- where a header was read
 
 -- the tables that passed are there
-pub are_there : (place : ℕ) (i : ImagePart) (p : PredictorPart) (c : CoderPart) (two three four five : List Bool) (ws : List ℤ) (ks : List ℕ)
+pub are_there : (position : ℕ) (i : ImagePart) (p : PredictorPart) (c : CoderPart) (two three four five : List Bool) (ws : List ℤ) (ks : List ℕ)
     → (p.previous ≤ 15) × (p.resolution ≤ 22) × (p.custom ≡ true → 1 ≤ p.resolution)
-    → part_at (weights i p) two ≡ Ok (ws, three) → part_at (constants (place + 16) i c) four ≡ Ok (ks, five) → AreThere i p two c four
-are_there place i p c two three four five ws ks facts passed ended =
+    → part_at (weights i p) two ≡ Ok (ws, three) → part_at (constants (position + 16) i c) four ≡ Ok (ks, five) → AreThere i p two c four
+are_there position i p c two three four five ws ks facts passed ended =
     let a = part_leaves (weights i p) ws two three passed in
-    let b = part_leaves (constants (place + 16) i c) ks four five ended in
+    let b = part_leaves (constants (position + 16) i c) ks four five ended in
     record {
       previous = facts.0;
       most = facts.1;
       least = facts.2;
       weights = λ there. omega (arith, a.1, weights_total i p there, total_table (weight_count p.previous p.reduced i.shape.bands) p.resolution);
-      constants = λ there. omega (arith, b.1, constants_total (place + 16) i c there, total_table i.shape.bands 4);
+      constants = λ there. omega (arith, b.1, constants_total (position + 16) i c there, total_table i.shape.bands 4);
     }
 
 -- a table that was announced is among the parameters

@@ -15,7 +15,7 @@ use Rattle.header_bits.specs.ImagePart.{image}
 use Rattle.header_bits.specs.PredictorPart.{predictor}
 use Rattle.header_bits.specs.CoderPart.{coder}
 use Rattle.header_bits.specs.TableParts.{weights, constants}
-use Rattle.header_bits.specs.Header.{Said, parts_at, SpellsParts, coder_place, params_of, header_at, SpellsHeader}
+use Rattle.header_bits.specs.Header.{Said, parts_at, SpellsParts, coder_start, params_of, header_at, SpellsHeader}
 use Rattle.header_bits.proofs.Exact.{part_exact, then_exact, as_exact}
 use Rattle.header_bits.proofs.Fronts.{bind_ok, guard_ok}
 use Rattle.header_bits.proofs.Reading.{ok_is}
@@ -26,11 +26,11 @@ parts_exact =
     let one = then_exact (part_at image) (λ i. part_at (predictor i)) (SpellsPart image) (λ i. SpellsPart (predictor i)) (part_exact image)
     (λ i. part_exact (predictor i)) in
     let two = then_exact _ (λ x. part_at (weights x.0 x.1)) _ (λ x. SpellsPart (weights x.0 x.1)) one (λ x. part_exact (weights x.0 x.1)) in
-    let three = then_exact _ (λ x. part_at (coder (coder_place x.0.0 x.0.1) x.0.0)) _ (λ x. SpellsPart (coder (coder_place x.0.0 x.0.1) x.0.0)) two
-    (λ x. part_exact (coder (coder_place x.0.0 x.0.1) x.0.0)) in
-    then_exact _ (λ x. part_at (constants (coder_place x.0.0.0 x.0.0.1 + 16) x.0.0.0 x.1)) _
-    (λ x. SpellsPart (constants (coder_place x.0.0.0 x.0.0.1 + 16) x.0.0.0 x.1)) three
-    (λ x. part_exact (constants (coder_place x.0.0.0 x.0.0.1 + 16) x.0.0.0 x.1))
+    let three = then_exact _ (λ x. part_at (coder (coder_start x.0.0 x.0.1) x.0.0)) _ (λ x. SpellsPart (coder (coder_start x.0.0 x.0.1) x.0.0)) two
+    (λ x. part_exact (coder (coder_start x.0.0 x.0.1) x.0.0)) in
+    then_exact _ (λ x. part_at (constants (coder_start x.0.0.0 x.0.0.1 + 16) x.0.0.0 x.1)) _
+    (λ x. SpellsPart (constants (coder_start x.0.0.0 x.0.0.1 + 16) x.0.0.0 x.1)) three
+    (λ x. part_exact (constants (coder_start x.0.0.0 x.0.0.1 + 16) x.0.0.0 x.1))
 
 pub header_exact : IsExact header_at SpellsHeader
 unfolding header_at
@@ -61,7 +61,7 @@ abbrev three_at : Reading ((ImagePart × PredictorPart) × List ℤ)
 three_at = then_at two_at (λ x. part_at (weights x.0 x.1))
 
 abbrev four_at : Reading (((ImagePart × PredictorPart) × List ℤ) × CoderPart)
-four_at = then_at three_at (λ x. part_at (coder (coder_place x.0.0 x.0.1) x.0.0))
+four_at = then_at three_at (λ x. part_at (coder (coder_start x.0.0 x.0.1) x.0.0))
 
 -- what was read of a header so far
 pub record HasRead (i : ImagePart) (p : PredictorPart) (bits one two : List Bool) : Type 0 where
@@ -93,32 +93,32 @@ three_found : (i : ImagePart) (p : PredictorPart) (ws : List ℤ) (bits one two 
 three_found i p ws bits one two three h k = then_found two_at (λ x. part_at (weights x.0 x.1)) (i, p) ws bits two three (two_found i p bits one two h) k
 
 pub coder_refused : (i : ImagePart) (p : PredictorPart) (ws : List ℤ) (bits one two three : List Bool) (e : Fault) → HasRead i p bits one two
-    → part_at (weights i p) two ≡ Ok (ws, three) → part_at (coder (coder_place i p) i) three ≡ Err e → parts_at bits ≡ Err e
+    → part_at (weights i p) two ≡ Ok (ws, three) → part_at (coder (coder_start i p) i) three ≡ Err e → parts_at bits ≡ Err e
 unfolding parts_at
 coder_refused i p ws bits one two three e h k l =
     first_refused four_at _ e bits
-    (second_refused three_at (λ x. part_at (coder (coder_place x.0.0 x.0.1) x.0.0)) ((i, p), ws) e bits three (three_found i p ws bits one two three h k) l)
+    (second_refused three_at (λ x. part_at (coder (coder_start x.0.0 x.0.1) x.0.0)) ((i, p), ws) e bits three (three_found i p ws bits one two three h k) l)
 
 four_found : (i : ImagePart) (p : PredictorPart) (ws : List ℤ) (c : CoderPart) (bits one two three four : List Bool) → HasRead i p bits one two
-    → part_at (weights i p) two ≡ Ok (ws, three) → part_at (coder (coder_place i p) i) three ≡ Ok (c, four)
+    → part_at (weights i p) two ≡ Ok (ws, three) → part_at (coder (coder_start i p) i) three ≡ Ok (c, four)
     → four_at bits ≡ Ok ((((i, p), ws), c), four)
 four_found i p ws c bits one two three four h k l =
-    then_found three_at (λ x. part_at (coder (coder_place x.0.0 x.0.1) x.0.0)) ((i, p), ws) c bits three four (three_found i p ws bits one two three h k) l
+    then_found three_at (λ x. part_at (coder (coder_start x.0.0 x.0.1) x.0.0)) ((i, p), ws) c bits three four (three_found i p ws bits one two three h k) l
 
 pub constants_refused : (i : ImagePart) (p : PredictorPart) (ws : List ℤ) (c : CoderPart) (bits one two three four : List Bool) (e : Fault)
-    → HasRead i p bits one two → part_at (weights i p) two ≡ Ok (ws, three) → part_at (coder (coder_place i p) i) three ≡ Ok (c, four)
-    → part_at (constants (coder_place i p + 16) i c) four ≡ Err e → parts_at bits ≡ Err e
+    → HasRead i p bits one two → part_at (weights i p) two ≡ Ok (ws, three) → part_at (coder (coder_start i p) i) three ≡ Ok (c, four)
+    → part_at (constants (coder_start i p + 16) i c) four ≡ Err e → parts_at bits ≡ Err e
 unfolding parts_at
 constants_refused i p ws c bits one two three four e h k l m =
-    second_refused four_at (λ x. part_at (constants (coder_place x.0.0.0 x.0.0.1 + 16) x.0.0.0 x.1)) (((i, p), ws), c) e bits four
+    second_refused four_at (λ x. part_at (constants (coder_start x.0.0.0 x.0.0.1 + 16) x.0.0.0 x.1)) (((i, p), ws), c) e bits four
     (four_found i p ws c bits one two three four h k l) m
 
 pub parts_found : (i : ImagePart) (p : PredictorPart) (ws : List ℤ) (c : CoderPart) (ks : List ℕ) (bits one two three four five : List Bool)
-    → HasRead i p bits one two → part_at (weights i p) two ≡ Ok (ws, three) → part_at (coder (coder_place i p) i) three ≡ Ok (c, four)
-    → part_at (constants (coder_place i p + 16) i c) four ≡ Ok (ks, five) → parts_at bits ≡ Ok (((((i, p), ws), c), ks), five)
+    → HasRead i p bits one two → part_at (weights i p) two ≡ Ok (ws, three) → part_at (coder (coder_start i p) i) three ≡ Ok (c, four)
+    → part_at (constants (coder_start i p + 16) i c) four ≡ Ok (ks, five) → parts_at bits ≡ Ok (((((i, p), ws), c), ks), five)
 unfolding parts_at
 parts_found i p ws c ks bits one two three four five h k l m =
-    then_found four_at (λ x. part_at (constants (coder_place x.0.0.0 x.0.0.1 + 16) x.0.0.0 x.1)) (((i, p), ws), c) ks bits four five
+    then_found four_at (λ x. part_at (constants (coder_start x.0.0.0 x.0.0.1 + 16) x.0.0.0 x.1)) (((i, p), ws), c) ks bits four five
     (four_found i p ws c bits one two three four h k l) m
 
 -- ---- what was read, in other words

@@ -14,7 +14,7 @@ use Rattle.header_bits.specs.ImagePart.{image}
 use Rattle.header_bits.specs.PredictorPart.{predictor}
 use Rattle.header_bits.specs.CoderPart.{coder}
 use Rattle.header_bits.specs.TableParts.{weights, constants}
-use Rattle.header_bits.specs.Header.{parts_at, coder_place, params_of, header_at}
+use Rattle.header_bits.specs.Header.{parts_at, coder_start, params_of, header_at}
 use Rattle.header_bits.specs.Laws.{FaultIsNoHeader}
 use Rattle.header_bits.proofs.Headers.{header_exact}
 
@@ -78,9 +78,9 @@ unfolding parts_at
 parts_goes =
     let one = then_goes (part_at image) (λ i. part_at (predictor i)) (part_goes image) (λ i. part_goes (predictor i)) in
     let two = then_goes _ (λ x. part_at (weights x.0 x.1)) one (λ x. part_goes (weights x.0 x.1)) in
-    let three = then_goes _ (λ x. part_at (coder (coder_place x.0.0 x.0.1) x.0.0)) two (λ x. part_goes (coder (coder_place x.0.0 x.0.1) x.0.0)) in
-    then_goes _ (λ x. part_at (constants (coder_place x.0.0.0 x.0.0.1 + 16) x.0.0.0 x.1)) three
-    (λ x. part_goes (constants (coder_place x.0.0.0 x.0.0.1 + 16) x.0.0.0 x.1))
+    let three = then_goes _ (λ x. part_at (coder (coder_start x.0.0 x.0.1) x.0.0)) two (λ x. part_goes (coder (coder_start x.0.0 x.0.1) x.0.0)) in
+    then_goes _ (λ x. part_at (constants (coder_start x.0.0.0 x.0.0.1 + 16) x.0.0.0 x.1)) three
+    (λ x. part_goes (constants (coder_start x.0.0.0 x.0.0.1 + 16) x.0.0.0 x.1))
 
 header_goes : GoesOn header_at
 unfolding header_at

@@ -19,7 +19,7 @@ pub mod TableNumbers
 pub mod TablePassing
 pub mod TableWriting
 pub mod Tests
-pub mod Unused
+pub mod ReservedBits
 pub mod Windows
 pub mod Words
 pub mod Later

@@ -46,10 +46,10 @@ bits_of-join a b u v lt =
 pub high_bit : (n v : ℕ) → v % 2 ^ suc n ≡ (v / 2 ^ n % 2) * 2 ^ n + v % 2 ^ n
 high_bit n v = ap (λ (k : ℕ). v % k) (pow-succ' 2 n) ∙ mod-mul v (lit< tt) (pow_pos n)
 
-bit_weight : (d place : ℕ) → d < 2 → weight_of (eqb d 1) place ≡ d * 2 ^ place
-bit_weight zero place h = omega arith
-bit_weight (suc zero) place h = omega arith
-bit_weight (suc (suc d)) place h = absurd (omega arith)
+bit_weight : (d exponent : ℕ) → d < 2 → weight_of (eqb d 1) exponent ≡ d * 2 ^ exponent
+bit_weight zero exponent h = omega arith
+bit_weight (suc zero) exponent h = omega arith
+bit_weight (suc (suc d)) exponent h = absurd (omega arith)
 
 -- the low bits of a number spell it, up to the power above them
 pub number_of-bits_of : (n v : ℕ) → number_of (bits_of n v) ≡ v % 2 ^ n

@@ -4,6 +4,7 @@ use Rattle.std.proofs.Common.{arith, append_assoc, get_or, add-one, drop-cons, E
 use Rattle.std.proofs.lemmas.List.{append-nil, get_or-take, length-take, drop_all, replicate-append-replicate, drop-drop, drop-take, drop_at, take-append-drop}
 use Rattle.std.proofs.lemmas.List.{take-append-le, take-take, take_at, length-append, take-set-le}
 use Rattle.std.specs.List.{flat_map}
+use Rattle.header_bits.specs.Rows.{zeros}
 use Rattle.std.proofs.Math.Seq.{take-add, take-suc-set}
 use Rattle.std.specs.Prelude.{Result, OnOk}
 use Rattle.std.proofs.lemmas.Bool.{cases_lt}
@@ -11,9 +12,6 @@ use Rattle.std.proofs.lemmas.Bool.{cases_lt}
 -- of the values up to the size nothing stands behind them
 pub nothing_behind : (size : ℕ) (values : List ℕ) → drop size (take size values) ≡ []
 nothing_behind size values = drop_all size (take size values) (omega (arith, length-take size values))
-
-abbrev pub zeros : ℕ → List ℕ
-zeros n = replicate n 0
 
 -- the values of blocks of zeros
 pub values_of_zeros : (n size : ℕ) → flat_map (λ b. b) (replicate n (zeros size)) ≡ zeros (n * size)

@@ -72,13 +72,13 @@ zeros_short count zero z lt = absurd (omega arith)
 zeros_short count (suc limit) zero lt = refl
 zeros_short count (suc limit) (suc z) lt = ap one_more (zeros_short count limit z (omega arith))
 
--- ---- at a place
+-- ---- at a position
 
 before_one : (zeros at : ℕ) (bits left : List Bool) → drop at bits ≡ left → drop at bits ≡ replicate zeros false ++ drop (at + zeros) bits
     → drop (at + zeros) bits ≡ true ∷ drop (at + zeros + 1) bits → left ≡ replicate zeros false ++ true ∷ drop (at + (zeros + 1)) bits
 before_one zeros at bits left is first one =
-    let place : at + zeros + 1 ≡ at + (zeros + 1) = omega arith in
-    sym is ∙ first ∙ ap (λ (x : List Bool). replicate zeros false ++ x) (one ∙ ap (λ k. true ∷ drop k bits) place)
+    let position : at + zeros + 1 ≡ at + (zeros + 1) = omega arith in
+    sym is ∙ first ∙ ap (λ (x : List Bool). replicate zeros false ++ x) (one ∙ ap (λ k. true ∷ drop k bits) position)
 
 pub ends_at : (count limit zeros at : ℕ) (bits left : List Bool) → zeros < limit → drop at bits ≡ left
     → drop at bits ≡ replicate zeros false ++ drop (at + zeros) bits → drop (at + zeros) bits ≡ true ∷ drop (at + zeros + 1) bits

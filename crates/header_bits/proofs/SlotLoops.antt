@@ -7,11 +7,11 @@ use Rattle.std.proofs.Math.Nat.{pow-le-pow_right}
 use Rattle.header_bits.specs.Bits.{bits_of}
 use Rattle.header_bits.proofs.Numbers.{taken_is}
 use Rattle.header_bits.specs.declared.layout.Slot.{Slot}
-use Rattle.header_bits.specs.declared.layout.Slot.TheVariants.{Unused, Plain, Modulo}
+use Rattle.header_bits.specs.declared.layout.Slot.TheVariants.{Reserved, Plain, Modulo}
 use Rattle.header_bits.specs.Layout.{width, value_of, code_of, IsValue, IsNarrow, AreNarrow, AreValues, total, spelled, values}
 
 pub narrow_value : (s : Slot) (code : ℕ) → IsNarrow s → code < 2 ^ width s → value_of s code < 2 ^ 32
-narrow_value (Unused n) code w lt = let top : 2 ^ n ≤ 2 ^ 16 = pow-le-pow_right (omega arith) w in omega arith
+narrow_value (Reserved n) code w lt = let top : 2 ^ n ≤ 2 ^ 16 = pow-le-pow_right (omega arith) w in omega arith
 narrow_value (Plain n least) code w lt = let top : 2 ^ n ≤ 2 ^ 16 = pow-le-pow_right (omega arith) w.0 in omega (arith, w.1)
 narrow_value (Modulo n) code w lt = let top : 2 ^ n ≤ 2 ^ 16 = pow-le-pow_right (omega arith) w in elim (cases_eq code 0) [
   | inl e ↦ rw (eq-eqb code 0 e) (omega arith)
@@ -19,10 +19,10 @@ narrow_value (Modulo n) code w lt = let top : 2 ^ n ≤ 2 ^ 16 = pow-le-pow_righ
 ]
 
 -- the next slot
-pub next_slot : (slots : List Slot) (i : ℕ) → i < length slots → drop i slots ≡ get_or slots i (Unused 0) ∷ drop (i + 1) slots
-next_slot slots i lt = drop_more slots i (Unused 0) lt
+pub next_slot : (slots : List Slot) (i : ℕ) → i < length slots → drop i slots ≡ get_or slots i (Reserved 0) ∷ drop (i + 1) slots
+next_slot slots i lt = drop_more slots i (Reserved 0) lt
 
-pub slot_narrow : (slots : List Slot) (i : ℕ) → i < length slots → AreNarrow slots → IsNarrow (get_or slots i (Unused 0))
+pub slot_narrow : (slots : List Slot) (i : ℕ) → i < length slots → AreNarrow slots → IsNarrow (get_or slots i (Reserved 0))
 slot_narrow [] i lt h = absurd (omega arith)
 slot_narrow (t ∷ slots) zero lt h = h.0
 slot_narrow (t ∷ slots) (suc i) lt h = slot_narrow slots i (omega arith) h.1
@@ -36,19 +36,19 @@ pub record HasRead (slots : List Slot) (old : List Bool) (i : ℕ) (out : List �
 
 -- the next slot's bits are there
 pub width_left : (slots : List Slot) (i : ℕ) (left : List Bool) → i < length slots → total (drop i slots) ≤ length left
-    → width (get_or slots i (Unused 0)) ≤ length left
+    → width (get_or slots i (Reserved 0)) ≤ length left
 unfolding total
 width_left slots i left lt h =
-    let n : total (drop i slots) ≡ width (get_or slots i (Unused 0)) + total (drop (i + 1) slots) = ap total (next_slot slots i lt) in
+    let n : total (drop i slots) ≡ width (get_or slots i (Reserved 0)) + total (drop (i + 1) slots) = ap total (next_slot slots i lt) in
     omega (arith, n)
 
 pub has_read_more : (slots : List Slot) (old : List Bool) (i : ℕ) (out : List ℕ) (left new : List Bool) (code value : ℕ) → i < length slots
     → HasRead slots old i out left
-    → code < 2 ^ width (get_or slots i (Unused 0)) → left ≡ bits_of (width (get_or slots i (Unused 0))) code ++ new
-    → value ≡ value_of (get_or slots i (Unused 0)) code → HasRead slots old (i + 1) (set out i value) new
+    → code < 2 ^ width (get_or slots i (Reserved 0)) → left ≡ bits_of (width (get_or slots i (Reserved 0))) code ++ new
+    → value ≡ value_of (get_or slots i (Reserved 0)) code → HasRead slots old (i + 1) (set out i value) new
 unfolding total values
 has_read_more slots old i out left new code value lt h below taken v =
-    let s : Slot = get_or slots i (Unused 0) in
+    let s : Slot = get_or slots i (Reserved 0) in
     let others : List Slot = drop (i + 1) slots in
     let next : drop i slots ≡ s ∷ others = next_slot slots i lt in
     let p = taken_is (width s) code left new below taken in
@@ -77,18 +77,18 @@ has_read_all slots old i out left le h =
 
 -- the next value is one that its slot can hold
 pub next_fits : (slots : List Slot) (vs : List ℕ) (i : ℕ) → i < length slots → i < length vs → AreValues (drop i slots) (drop i vs)
-    → IsValue (get_or slots i (Unused 0)) (get_or vs i 0) × AreValues (drop (i + 1) slots) (drop (i + 1) vs)
+    → IsValue (get_or slots i (Reserved 0)) (get_or vs i 0) × AreValues (drop (i + 1) slots) (drop (i + 1) vs)
 next_fits slots vs i lt lv h =
-    subst (λ (x : List ℕ). AreValues (get_or slots i (Unused 0) ∷ drop (i + 1) slots) x) (drop_more vs i 0 lv)
+    subst (λ (x : List ℕ). AreValues (get_or slots i (Reserved 0) ∷ drop (i + 1) slots) x) (drop_more vs i 0 lv)
     (subst (λ ss. AreValues ss (drop i vs)) (next_slot slots i lt) h)
 
 pub written_more : (slots : List Slot) (vs : List ℕ) (i : ℕ) (old bits new : List Bool) → i < length slots → i < length vs
     → bits ++ spelled (drop i slots) (drop i vs) ≡ old
-    → new ≡ bits ++ bits_of (width (get_or slots i (Unused 0))) (code_of (get_or slots i (Unused 0)) (get_or vs i 0))
+    → new ≡ bits ++ bits_of (width (get_or slots i (Reserved 0))) (code_of (get_or slots i (Reserved 0)) (get_or vs i 0))
     → new ++ spelled (drop (i + 1) slots) (drop (i + 1) vs) ≡ old
 unfolding spelled
 written_more slots vs i old bits new lt lv h e =
-    let s : Slot = get_or slots i (Unused 0) in
+    let s : Slot = get_or slots i (Reserved 0) in
     let v : ℕ = get_or vs i 0 in
     let split : spelled (drop i slots) (drop i vs) ≡ bits_of (width s) (code_of s v) ++ spelled (drop (i + 1) slots) (drop (i + 1) vs) =
     ap (λ ss. spelled ss (drop i vs)) (next_slot slots i lt) ∙ ap (λ (x : List ℕ). spelled (s ∷ drop (i + 1) slots) x) (drop_more vs i 0 lv) in
@@ -103,7 +103,7 @@ written_all slots vs i old bits le h =
     sym (append-nil bits) ∙ ap (λ ss. bits ++ spelled ss (drop i vs)) (sym (drop_all i slots le)) ∙ h
 
 -- so many bits are still to be written
-pub total_left : (slots : List Slot) (i : ℕ) → i < length slots → total (drop i slots) ≡ width (get_or slots i (Unused 0)) + total (drop (i + 1) slots)
+pub total_left : (slots : List Slot) (i : ℕ) → i < length slots → total (drop i slots) ≡ width (get_or slots i (Reserved 0)) + total (drop (i + 1) slots)
 unfolding total
 total_left slots i lt = ap total (next_slot slots i lt)
 
@@ -112,10 +112,10 @@ unfolding total
 total_none slots i le = ap total (drop_all i slots le)
 
 -- no slot is wide
-pub narrow_width : (slots : List Slot) (i : ℕ) → i < length slots → AreNarrow slots → width (get_or slots i (Unused 0)) ≤ 16
-narrow_width slots i lt h = by_kind (get_or slots i (Unused 0)) (slot_narrow slots i lt h)
+pub narrow_width : (slots : List Slot) (i : ℕ) → i < length slots → AreNarrow slots → width (get_or slots i (Reserved 0)) ≤ 16
+narrow_width slots i lt h = by_kind (get_or slots i (Reserved 0)) (slot_narrow slots i lt h)
   where
     by_kind : (s : Slot) → IsNarrow s → width s ≤ 16
-    by_kind (Unused n) h = h
+    by_kind (Reserved n) h = h
     by_kind (Plain n least) h = h.0
     by_kind (Modulo n) h = h

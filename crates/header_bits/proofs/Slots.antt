@@ -8,11 +8,11 @@ use Rattle.std.proofs.lemmas.List.{take_at, drop_at, length-append, length-drop,
 use Rattle.header_bits.specs.Bits.{bits_of, number_of}
 use Rattle.header_bits.proofs.Numbers.{length-bits_of, number_of-bits_of, number_below, bits_of-number_of}
 use Rattle.header_bits.specs.declared.layout.Slot.{Slot}
-use Rattle.header_bits.specs.declared.layout.Slot.TheVariants.{Unused, Plain, Modulo}
+use Rattle.header_bits.specs.declared.layout.Slot.TheVariants.{Reserved, Plain, Modulo}
 use Rattle.header_bits.specs.Layout.{width, value_of, code_of, IsValue, AreValues, total, spelled, values}
 
 pub code_of-below : (s : Slot) (v : ℕ) → IsValue s v → code_of s v < 2 ^ width s
-code_of-below (Unused n) v h = h
+code_of-below (Reserved n) v h = h
 code_of-below (Plain n least) v h = omega (arith, h.0, h.1)
 code_of-below (Modulo n) v h =
     elim (cases_lt v (2 ^ n)) [
@@ -22,7 +22,7 @@ code_of-below (Modulo n) v h =
 
 -- the value that is written is the value that is read
 pub value_again : (s : Slot) (v : ℕ) → IsValue s v → value_of s (code_of s v) ≡ v
-value_again (Unused n) v h = refl
+value_again (Reserved n) v h = refl
 value_again (Plain n least) v h = omega (arith, h.0)
 value_again (Modulo n) v h =
     elim (cases_lt v (2 ^ n)) [
@@ -32,7 +32,7 @@ value_again (Modulo n) v h =
 
 -- the code that is read is the code that would be written
 pub code_again : (s : Slot) (c : ℕ) → c < 2 ^ width s → (code_of s (value_of s c) ≡ c) × IsValue s (value_of s c)
-code_again (Unused n) c h = (refl, h)
+code_again (Reserved n) c h = (refl, h)
 code_again (Plain n least) c h = (omega arith, (omega arith, omega arith))
 code_again (Modulo n) c h =
     elim (cases_eq c 0) [

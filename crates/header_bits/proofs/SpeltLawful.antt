@@ -14,14 +14,14 @@ use Rattle.cube_core.specs.Shape.{Sizes, AreSizes, InRange}
 use Rattle.cube_core.specs.Kind.{IsKind}
 use Rattle.cube_core.specs.Order.{IsOrder}
 use Rattle.header_bits.specs.declared.layout.Slot.{Slot}
-use Rattle.header_bits.specs.declared.layout.Slot.TheVariants.{Unused}
+use Rattle.header_bits.specs.declared.layout.Slot.TheVariants.{Reserved}
 use Rattle.header_bits.specs.declared.params.Params.{Params}
 use Rattle.header_bits.specs.declared.image_part.ImagePart.{ImagePart}
 use Rattle.header_bits.specs.declared.predictor_part.PredictorPart.{PredictorPart}
 use Rattle.header_bits.specs.declared.coder_part.CoderPart.{CoderPart}
 use Rattle.header_bits.specs.declared.coder_part.CoderPart.TheVariants.{Sample, Block}
 use Rattle.header_bits.specs.Layout.{IsValue, AreValues}
-use Rattle.header_bits.specs.Parts.{fine, unused, part_at, SpellsPart}
+use Rattle.header_bits.specs.Parts.{fine, reserved_test, part_at, SpellsPart}
 use Rattle.header_bits.specs.ImagePart.{image, image_fields, image_tests, image_says}
 use Rattle.header_bits.specs.PredictorPart.{predictor, predictor_fields, predictor_tests, start_tests, predictor_says, exponent_of}
 use Rattle.header_bits.specs.CoderPart.{coder_by, coder, sample_fields, sample_tests, sample_says, block_fields, block_tests, block_says}
@@ -34,7 +34,7 @@ use Rattle.header_bits.proofs.TableTexts.{table_count, table_small, all_signed}
 use Rattle.header_bits.proofs.Tests.{then_ok, refuse_ok, under}
 
 -- each number is one that its slot holds
-pub held_at : (ss : List Slot) (vs : List ℕ) (i : ℕ) → AreValues ss vs → i < length ss → IsValue (get_or ss i (Unused 0)) (get_or vs i 0)
+pub held_at : (ss : List Slot) (vs : List ℕ) (i : ℕ) → AreValues ss vs → i < length ss → IsValue (get_or ss i (Reserved 0)) (get_or vs i 0)
 held_at [] vs i h lt = absurd (omega arith)
 held_at (s ∷ ss) [] i h lt = elim h [ ]
 held_at (s ∷ ss) (v ∷ vs) zero h lt = h.0
@@ -55,7 +55,7 @@ order_said false s depth le e = tt
 
 pub image_said : (v : List ℕ) → AreValues image_fields v → image_tests v ≡ fine → IsImage (image_says v)
 image_said v h e =
-    let a = then_ok (unused 57 2 (get_or v 5 0)) _ e in
+    let a = then_ok (reserved_test 57 2 (get_or v 5 0)) _ e in
     let b = then_ok (refuse_if (eqb (get_or v 6 0) 1) (FieldRange field.DynamicRange (pos 1))) _ a.1 in
     let c = then_ok (refuse_if (eqb (get_or v 7 0) 0 && ltb (get_or v 3 0) (get_or v 8 0)) (Disagree rule.DepthOverBands)) _ b.1 in
     let some : get_or v 6 0 ≡ 1 → ⊥ = eqb-false (get_or v 6 0) 1 (refuse_ok _ _ b.0) in
@@ -108,16 +108,16 @@ exponents_said m n le = omega (arith, ints)
 predictor_said : (i : ImagePart) (v : List ℕ) → 1 ≤ i.shape.columns → AreValues predictor_fields v → predictor_tests i v ≡ fine
     → IsPredictorPart i (predictor_says v)
 predictor_said i v some h e =
-    let a = then_ok (unused 96 2 (get_or v 0 0)) _ e in
+    let a = then_ok (reserved_test 96 2 (get_or v 0 0)) _ e in
     let b = then_ok (refuse_if (eqb (get_or v 2 0) 0 && eqb i.shape.columns 1) (Disagree rule.FullOneColumn)) _ a.1 in
-    let c = then_ok (unused 103 1 (get_or v 3 0)) _ b.1 in
+    let c = then_ok (reserved_test 103 1 (get_or v 3 0)) _ b.1 in
     let d = then_ok (refuse_if (eqb (get_or v 4 0) 0 && eqb i.shape.columns 1) (Disagree rule.NeighbourOneColumn)) _ c.1 in
-    let f = then_ok (unused 105 1 (get_or v 5 0)) _ d.1 in
+    let f = then_ok (reserved_test 105 1 (get_or v 5 0)) _ d.1 in
     let g = then_ok (refuse_if (ltb (get_or v 6 0) 32) (FieldRange field.Register (pos (get_or v 6 0)))) _ f.1 in
     let j = then_ok (refuse_if (ltb (get_or v 6 0) (i.kind.bits + get_or v 7 0 + 2)) (Disagree rule.RegisterTooSmall)) _ g.1 in
     let k = then_ok (refuse_if (ltb 11 (get_or v 8 0)) (FieldRange field.Interval (pos (get_or v 8 0)))) _ j.1 in
     let l = then_ok (refuse_if (ltb (get_or v 10 0) (get_or v 9 0)) (Disagree rule.ExponentOrder)) _ k.1 in
-    let m = then_ok (unused 128 1 (get_or v 11 0)) (start_tests v) l.1 in
+    let m = then_ok (reserved_test 128 1 (get_or v 11 0)) (start_tests v) l.1 in
     let o = then_ok (refuse_if (not (eqb (get_or v 12 0) 1) && eqb (get_or v 13 0) 1) (Disagree rule.DefaultWithTable)) _ m.1 in
     let q = then_ok (refuse_if (eqb (get_or v 12 0) 1 && not (eqb (get_or v 13 0) 1)) TableElsewhere) _ o.1 in
     let r = then_ok (refuse_if (not (eqb (get_or v 12 0) 1) && ltb 0 (get_or v 14 0)) (Disagree rule.DefaultWithResolution)) _ q.1 in
@@ -202,7 +202,7 @@ size_said (suc (suc (suc (suc n)))) lt = absurd (omega arith)
 
 block_said : (at : ℕ) (i : ImagePart) (v : List ℕ) → AreValues block_fields v → block_tests at i v ≡ fine → IsCoderPart i (block_says v)
 block_said at i v h e =
-    let b = then_ok (unused at 1 (get_or v 0 0)) (refuse_if (eqb (get_or v 2 0) 1 && ltb 4 i.kind.bits) (Disagree rule.RestrictedOverFour)) e in (
+    let b = then_ok (reserved_test at 1 (get_or v 0 0)) (refuse_if (eqb (get_or v 2 0) 1 && ltb 4 i.kind.bits) (Disagree rule.RestrictedOverFour)) e in (
       size_said (get_or v 1 0) (held_at block_fields v 1 h (lit< tt)).1,
       (λ restricted. ltb-false 4 i.kind.bits (under (eqb (get_or v 2 0) 1) (ltb 4 i.kind.bits) (refuse_ok _ _ b.1) restricted)),
       held_at block_fields v 3 h (lit< tt),

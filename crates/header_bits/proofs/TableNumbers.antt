@@ -5,7 +5,7 @@ use Rattle.std.proofs.Math.Nat.{suc-mul}
 use Rattle.std.proofs.lemmas.List.{take_at, drop-drop, length-append, length-replicate, append-nil}
 use Rattle.header_bits.specs.Bits.{bits_of, number_of}
 use Rattle.header_bits.specs.declared.layout.Slot.{Slot}
-use Rattle.header_bits.specs.declared.layout.Slot.TheVariants.{Unused, Plain}
+use Rattle.header_bits.specs.declared.layout.Slot.TheVariants.{Reserved, Plain}
 use Rattle.header_bits.specs.Layout.{width, value_of, total, spelled, values}
 use Rattle.header_bits.specs.TableParts.{fill_of, number_fields, table_fields, numbers_text}
 use Rattle.header_bits.proofs.Numbers.{taken_is, length-bits_of}
@@ -38,7 +38,7 @@ total_numbers (suc n) bits = omega (arith, total_numbers n bits, suc-mul n bits)
 
 pub total_table : (count bits : ℕ) → total (table_fields count bits) ≡ count * bits + fill_of (count * bits)
 unfolding total
-total_table count bits = total_append (number_fields count bits) (Unused (fill_of (count * bits)) ∷ []) ∙ omega (arith, total_numbers count bits)
+total_table count bits = total_append (number_fields count bits) (Reserved (fill_of (count * bits)) ∷ []) ∙ omega (arith, total_numbers count bits)
 
 -- ---- what stands in a table
 
@@ -46,7 +46,7 @@ values_table : (count bits : ℕ) (left : List Bool) → values (table_fields co
     ≡ values (number_fields count bits) left ++ number_of (take (fill_of (count * bits)) (drop (count * bits) left)) ∷ []
 unfolding values
 values_table count bits left =
-    values_append (number_fields count bits) (Unused (fill_of (count * bits)) ∷ []) left
+    values_append (number_fields count bits) (Reserved (fill_of (count * bits)) ∷ []) left
     ∙ ap (λ n. values (number_fields count bits) left ++ number_of (take (fill_of (count * bits)) (drop n left)) ∷ []) (total_numbers count bits)
 
 many_numbers : (count bits : ℕ) (left : List Bool) → length (values (number_fields count bits) left) ≡ count
@@ -118,7 +118,7 @@ numbers_text_next bits v vs = (let same : v - 0 ≡ v = omega arith in rw same r
 
 -- a table's bits are its numbers and zeros
 pub spelled_table : (bits fill : ℕ) (vs : List ℕ)
-    → spelled (number_fields (length vs) bits ++ Unused fill ∷ []) (vs ++ 0 ∷ []) ≡ numbers_text bits vs ++ bits_of fill 0
+    → spelled (number_fields (length vs) bits ++ Reserved fill ∷ []) (vs ++ 0 ∷ []) ≡ numbers_text bits vs ++ bits_of fill 0
 unfolding spelled
 spelled_table bits fill [] = append-nil (bits_of fill 0)
 spelled_table bits fill (v ∷ vs) =

@@ -13,7 +13,7 @@ use Rattle.header_bits.specs.declared.coder_part.CoderPart.{CoderPart}
 use Rattle.header_bits.specs.declared.coder_part.CoderPart.TheVariants.{Sample, Block}
 use Rattle.header_bits.specs.Bits.{number_of}
 use Rattle.header_bits.specs.Layout.{total, values}
-use Rattle.header_bits.specs.Parts.{Part, fine, unused, part_at, Passes}
+use Rattle.header_bits.specs.Parts.{Part, fine, reserved_test, part_at, Passes}
 use Rattle.header_bits.specs.TableParts.{weight_count, fill_of, table_fields, number_fields, signed_of, weights_by, weights, some_above, constants_by}
 use Rattle.header_bits.specs.TableParts.{has_constants, constants}
 use Rattle.header_bits.specs.Header.{start_by, coder_by_part}
@@ -61,14 +61,14 @@ weights_short i p left e lt = part_short (weights i p) left (rw (weights_total i
 
 pub weights_passed : (i : ImagePart) (p : PredictorPart) (r : Test) (left new : List Bool) → p.custom ≡ true
     → let n = entries_of i p * p.resolution in
-    total (table_fields (entries_of i p) p.resolution) ≤ length left → r ≡ unused (136 + n) (fill_of n) (number_of (take (fill_of n) (drop n left)))
+    total (table_fields (entries_of i p) p.resolution) ≤ length left → r ≡ reserved_test (136 + n) (fill_of n) (number_of (take (fill_of n) (drop n left)))
     → new ≡ drop (fill_of n) (drop n left) → Passes (weights i p) r left new
 unfolding weights
 weights_passed i p r left new e le test end =
     let count : ℕ = entries_of i p in
     let n : ℕ = count * p.resolution in
     subst (λ (b : Bool). Passes (table_of b i p) r left new) (sym e)
-    (passes (table_of true i p) r left new le (test ∙ ap (unused (136 + n) (fill_of n)) (sym (table_zeros count p.resolution left)))
+    (passes (table_of true i p) r left new le (test ∙ ap (reserved_test (136 + n) (fill_of n)) (sym (table_zeros count p.resolution left)))
     (end ∙ table_end count p.resolution left))
 
 -- ---- the accumulator table
@@ -93,7 +93,7 @@ constants_short at i c left e lt = part_short (constants at i c) left (rw (const
 
 constants_tests : (at : ℕ) (i : ImagePart) (left : List Bool) → let n = i.shape.bands * 4 in
     (constants_by true at i).tests (values (constants_by true at i).fields left)
-    ≡ (above_fault i left >> unused (at + n) (fill_of n) (number_of (take (fill_of n) (drop n left))))
+    ≡ (above_fault i left >> reserved_test (at + n) (fill_of n) (number_of (take (fill_of n) (drop n left))))
 constants_tests at i left = rw (table_numbers i.shape.bands 4 left, table_zeros i.shape.bands 4 left) refl
 
 pub constants_entry : (at : ℕ) (i : ImagePart) (c : CoderPart) (e : Fault) (left : List Bool) → has_constants c ≡ true
@@ -107,7 +107,8 @@ constants_entry at i c e left there le bad =
 pub constants_passed : (at : ℕ) (i : ImagePart) (c : CoderPart) (r : Test) (left new : List Bool) → has_constants c ≡ true
     → let n = i.shape.bands * 4 in
     total (table_fields i.shape.bands 4) ≤ length left → above_fault i left ≡ fine
-    → r ≡ unused (at + n) (fill_of n) (number_of (take (fill_of n) (drop n left))) → new ≡ drop (fill_of n) (drop n left) → Passes (constants at i c) r left new
+    → r ≡ reserved_test (at + n) (fill_of n) (number_of (take (fill_of n) (drop n left))) → new ≡ drop (fill_of n) (drop n left)
+    → Passes (constants at i c) r left new
 unfolding constants
 constants_passed at i c r left new there le good test end =
     subst (λ (b : Bool). Passes (constants_by b at i) r left new) (sym there)

@@ -8,7 +8,7 @@ use Rattle.std.proofs.lemmas.Bool.{le-ltb, ltb-false, ltb-true, lt-ltb}
 use Rattle.std.proofs.lemmas.Nat.{pow_pos}
 use Rattle.cube_core.proofs.Offsets.{doubled}
 use Rattle.header_bits.specs.declared.layout.Slot.{Slot}
-use Rattle.header_bits.specs.declared.layout.Slot.TheVariants.{Unused, Plain}
+use Rattle.header_bits.specs.declared.layout.Slot.TheVariants.{Reserved, Plain}
 use Rattle.header_bits.specs.Layout.{AreValues}
 use Rattle.header_bits.specs.TableParts.{table_fields, signed_of, signed_code}
 use Rattle.header_bits.specs.Lawful.{IsSigned}
@@ -27,7 +27,7 @@ table_count count bits vs h =
     omega (
       arith,
       all,
-      length-append (replicate count (Plain bits 0)) (Unused ((8 - count * bits % 8) % 8) ∷ []),
+      length-append (replicate count (Plain bits 0)) (Reserved ((8 - count * bits % 8) % 8) ∷ []),
       length-replicate count (Plain bits 0),
       length-take count vs,
     )
@@ -39,7 +39,7 @@ small_from (suc count) bits others [] h = elim h [ ]
 small_from (suc count) bits others (v ∷ vs) h = (omega (arith, h.0), small_from count bits others vs h.1)
 
 pub table_small : (count bits : ℕ) (vs : List ℕ) → AreValues (table_fields count bits) vs → AllByRecursion (λ v. v < 2 ^ bits) (take count vs)
-table_small count bits vs h = small_from count bits (Unused ((8 - count * bits % 8) % 8) ∷ []) vs h
+table_small count bits vs h = small_from count bits (Reserved ((8 - count * bits % 8) % 8) ∷ []) vs h
 
 signed_range : (bits code : ℕ) → 1 ≤ bits → code < 2 ^ bits → IsSigned bits (signed_of bits code)
 signed_range bits code some lt = by_test (ltb code (2 ^ (bits - 1))) refl
@@ -77,7 +77,7 @@ codes_back bits (v ∷ vs) some h = ap (λ (x : ℤ). x ∷ map (signed_of bits)
     ∙ ap (λ (xs : List ℤ). v ∷ xs) (codes_back bits vs some h.1)
 
 held_from : (bits fill : ℕ) (vs : List ℕ) → AllByRecursion (λ v. v < 2 ^ bits) vs
-    → AreValues (replicate (length vs) (Plain bits 0) ++ Unused fill ∷ []) (vs ++ 0 ∷ [])
+    → AreValues (replicate (length vs) (Plain bits 0) ++ Reserved fill ∷ []) (vs ++ 0 ∷ [])
 held_from bits fill [] h = (pow_pos fill, tt)
 held_from bits fill (v ∷ vs) h = ((omega arith, omega (arith, h.0)), held_from bits fill vs h.1)
 

@@ -1,9 +1,10 @@
--- Words of bits at a place among the bits of bytes, and what a reader finds there.
+-- Words of bits at a position among the bits of bytes, and what a reader finds there.
 use Rattle.std.proofs.Common.{◌≡◌, ℕ, suc, ◌+◌, ◌-◌, ◌*◌, ◌/◌, ◌%◌, ◌^◌, ◌<◌, ◌≤◌, Bool, true, false, List, [], ◌∷◌, ◌++◌, length, take, drop, replicate, sym}
 use Rattle.std.proofs.Common.{ap, subst, ◌∙◌, append_assoc, arith, lit<}
 use Rattle.std.specs.Int.Count.{count_leading_zeros}
 use Rattle.std.proofs.lemmas.Nat.{leading_length, shr-shr, shr_below}
-use Rattle.std.proofs.lemmas.List.{drop-drop, drop_at, length-drop, take_all, take_at, take-take, take-append-drop, replicate-append-replicate, length-replicate}
+use Rattle.std.proofs.lemmas.List.{drop-drop, drop_at, length-drop, take_all, take_at, take-take, take-append-drop, replicate-append-replicate}
+use Rattle.std.proofs.lemmas.List.{length-replicate}
 use Rattle.std.proofs.Math.Nat.{div-eq_of_lt, div-eq_of_lt-le, pow-succ', pow-le-pow_right}
 use Rattle.header_bits.specs.Bits.{bits_of, bits_of_bytes}
 use Rattle.header_bits.specs.Windows.{IsFrontWord, IsWindow}
@@ -37,7 +38,7 @@ front_of_few bytes word8 word e is =
     front_word bytes word8 word e (λ n le enough. ap (take n) (ap bits_of_bytes (sym is) ∙ bits_of_bytes-take (length bytes) word8)
     ∙ take-take n (8 * length bytes) (bits_of_bytes word8) enough)
 
--- a word of whole bytes, shifted to a place inside its first
+-- a word of whole bytes, shifted to a position inside its first
 pub window_shifted : (bytes : List ℕ) (at word : ℕ) → at ≤ 8 * length bytes → IsFrontWord (drop (at / 8) bytes) word
     → IsWindow bytes at (word * 2 ^ (at % 8) % 2 ^ 64)
 window_shifted bytes at word within h n fits enough =
@@ -53,13 +54,13 @@ window_shifted bytes at word within h n fits enough =
     first ∙ ap (λ (x : List Bool). x ++ drop (r + n) from) (bits_of-add r n there)
     ∙ append_assoc (bits_of r (there / 2 ^ n)) (bits_of n there) (drop (r + n) from) in
     let inside : drop r from ≡ bits_of n there ++ drop (r + n) from = front_dropped r (there / 2 ^ n) from (bits_of n there ++ drop (r + n) from) split in
-    let place : drop at all ≡ drop r from = ap (λ k. drop k all) (sym here) ∙ sym (drop-drop r (8 * i) all) ∙ ap (drop r) (bits_of_bytes-drop i bytes) in
+    let position : drop at all ≡ drop r from = ap (λ k. drop k all) (sym here) ∙ sym (drop-drop r (8 * i) all) ∙ ap (drop r) (bits_of_bytes-drop i bytes) in
     let after : 8 * i + (r + n) ≡ at + n = omega arith in
     let behind : drop (r + n) from ≡ drop (at + n) all =
     ap (drop (r + n)) (sym (bits_of_bytes-drop i bytes)) ∙ drop-drop (r + n) (8 * i) all ∙ ap (λ k. drop k all) after in
     let same : bits_of n there ≡ bits_of n ((word * 2 ^ r % 2 ^ 64) / 2 ^ (64 - n)) =
     sym (ap (bits_of n) (highest_shifted word r n fits) ∙ bits_of-mod n n there (omega arith)) in
-    place ∙ inside ∙ ap (λ (x : List Bool). x ++ drop (r + n) from) same
+    position ∙ inside ∙ ap (λ (x : List Bool). x ++ drop (r + n) from) same
     ∙ ap (λ (x : List Bool). bits_of n ((word * 2 ^ r % 2 ^ 64) / 2 ^ (64 - n)) ++ x) behind
 
 below_more : (m j word : ℕ) → word < 2 ^ m → m ≤ j → word < 2 ^ j
@@ -113,9 +114,9 @@ pub one_after : (bytes : List ℕ) (at zeros word run : ℕ) → word < 2 ^ 64 �
     → drop (at + (zeros + run)) (bits_of_bytes bytes) ≡ true ∷ drop (at + (zeros + run) + 1) (bits_of_bytes bytes)
 one_after bytes at zeros word run below h fits enough is =
     let all : List Bool = bits_of_bytes bytes in
-    let place : at + zeros + run ≡ at + (zeros + run) = omega arith in
+    let position : at + zeros + run ≡ at + (zeros + run) = omega arith in
     let after : at + zeros + (run + 1) ≡ at + (zeros + run) + 1 = omega arith in
-    ap (λ k. drop k all) (sym place) ∙ sym (drop-drop run (at + zeros) all) ∙ ap (drop run) (one_next bytes (at + zeros) word run below h fits enough is)
+    ap (λ k. drop k all) (sym position) ∙ sym (drop-drop run (at + zeros) all) ∙ ap (drop run) (one_next bytes (at + zeros) word run below h fits enough is)
     ∙ drop_at (replicate run false) (true ∷ drop (at + zeros + (run + 1)) all) run (length-replicate run false) ∙ ap (λ k. true ∷ drop k all) after
 
 -- the first n bits of a window
@@ -137,10 +138,10 @@ pub pieces_joined : (bytes : List ℕ) (at n high low : ℕ) → 32 ≤ n → lo
 pieces_joined bytes at n high low le lt first second =
     let all : List Bool = bits_of_bytes bytes in
     let size : (n - 32) + 32 ≡ n = omega arith in
-    let place : at + (n - 32) + 32 ≡ at + n = omega arith in
+    let position : at + (n - 32) + 32 ≡ at + n = omega arith in
     let joined : bits_of n (high * 2 ^ 32 + low) ≡ bits_of (n - 32) high ++ bits_of 32 low =
     ap (λ k. bits_of k (high * 2 ^ 32 + low)) (sym size) ∙ bits_of-join (n - 32) 32 high low lt in
-    first ∙ ap (λ (x : List Bool). bits_of (n - 32) high ++ x) (second ∙ ap (λ k. bits_of 32 low ++ drop k all) place)
+    first ∙ ap (λ (x : List Bool). bits_of (n - 32) high ++ x) (second ∙ ap (λ k. bits_of 32 low ++ drop k all) position)
     ∙ sym (append_assoc (bits_of (n - 32) high) (bits_of 32 low) (drop (at + n) all)) ∙ ap (λ (x : List Bool). x ++ drop (at + n) all) (sym joined)
 
 -- zeros that were counted, and more behind them
@@ -150,7 +151,7 @@ zeros_joined at zeros some bits after first second =
     first ∙ ap (λ (x : List Bool). replicate zeros false ++ x) second ∙ sym (append_assoc (replicate zeros false) (replicate some false) after)
     ∙ ap (λ (x : List Bool). x ++ after) (replicate-append-replicate zeros some false)
 
--- what is left, and the place
+-- what is left, and the position
 pub left_length : (at : ℕ) (bytes : List ℕ) (left : List Bool) → at ≤ 8 * length bytes → drop at (bits_of_bytes bytes) ≡ left
     → length left + at ≡ 8 * length bytes
 left_length at bytes left le e =

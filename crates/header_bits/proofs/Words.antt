@@ -88,7 +88,7 @@ part_shifted held part lt whole =
     ∙ take_at (bits_of held (word / 2 ^ (64 - held))) (bits_of (64 - held) word) held (length-bits_of held (word / 2 ^ (64 - held)))
     ∙ ap (bits_of held) back ∙ bits_of-mod held held part (omega arith)
 
--- the highest bits of a word that was shifted by r are those r places further down
+-- the highest bits of a word that was shifted by r are those r bits further down
 pub highest_shifted : (v r n : ℕ) → r + n ≤ 64 → (v * 2 ^ r % 2 ^ 64) / 2 ^ (64 - n) ≡ v / 2 ^ (64 - (r + n)) % 2 ^ n
 highest_shifted v r n le =
     let all : n + (64 - n) ≡ 64 = omega arith in

@@ -7,9 +7,9 @@ unfoldable pub bits_of : ℕ → ℕ → List Bool
 bits_of zero v = []
 bits_of (suc n) v = (v / 2 ^ n % 2 == 1) ∷ bits_of n v
 
--- a one counts its place, a zero nothing
+-- a one counts the power of two that it stands for, a zero nothing
 abbrev pub weight_of : Bool → ℕ → ℕ
-weight_of bit place = if bit then 2 ^ place else 0
+weight_of bit exponent = if bit then 2 ^ exponent else 0
 
 -- the number that bits spell
 unfoldable pub number_of : List Bool → ℕ

@@ -5,11 +5,11 @@ use Rattle.cube_core.specs.declared.fault.Field.TheVariants as field
 use Rattle.cube_core.specs.declared.fault.Rule.TheVariants as rule
 use Rattle.cube_core.specs.Steps.{Test, ◌>>◌, refuse_if}
 use Rattle.header_bits.specs.declared.layout.Slot.{Slot}
-use Rattle.header_bits.specs.declared.layout.Slot.TheVariants.{Unused, Plain, Modulo}
+use Rattle.header_bits.specs.declared.layout.Slot.TheVariants.{Reserved, Plain, Modulo}
 use Rattle.header_bits.specs.declared.image_part.ImagePart.{ImagePart}
 use Rattle.header_bits.specs.declared.coder_part.CoderPart.{CoderPart}
 use Rattle.header_bits.specs.declared.coder_part.CoderPart.TheVariants.{Sample, Block}
-use Rattle.header_bits.specs.Parts.{Part, unused}
+use Rattle.header_bits.specs.Parts.{Part, reserved_test}
 use Rattle.header_bits.specs.ImagePart.{flag}
 
 abbrev pub sample_fields : List Slot
@@ -35,7 +35,7 @@ sample_says v = Sample (slice_index v 0) (slice_index v 1) (slice_index v 2) (sl
 
 abbrev pub block_fields : List Slot
 block_fields =
-    Unused 1  -- 0
+    Reserved 1  -- 0
     ∷ Plain 2 0  -- 1 block size: 8, 16, 32 or 64
     ∷ Plain 1 0  -- 2 restricted set of code options
     ∷ Modulo 12  -- 3 reference sample interval
@@ -44,13 +44,13 @@ block_fields =
 abbrev pub block_tests : ℕ → ImagePart → List ℕ → Test
 block_tests at i v =
     let restricted = slice_index v 2 == 1 in
-    unused at 1 (slice_index v 0)
+    reserved_test at 1 (slice_index v 0)
     >> refuse_if (restricted && nat_lt 4 i.kind.bits) (Disagree rule.RestrictedOverFour)
 
 abbrev pub block_says : List ℕ → CoderPart
 block_says v = Block (8 * 2 ^ slice_index v 1) (slice_index v 2 == 1) (slice_index v 3)
 
--- the part of one coder or of the other; `at` is its first bit's place in the file
+-- the part of one coder or of the other; `at` is its first bit's position in the file
 abbrev pub coder_by : Bool → ℕ → ImagePart → Part CoderPart
 coder_by true at i = record { fields = block_fields; tests = block_tests at i; says = block_says }
 coder_by false at i = record { fields = sample_fields; tests = sample_tests i; says = sample_says }

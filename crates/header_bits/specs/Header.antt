@@ -1,8 +1,9 @@
 -- The whole header: the image part, the predictor part, a weight table, the coder part and an accumulator table.
-use Rattle.std.specs.Prelude.{◌≡◌, ◌⊎◌, ◌||◌, ℕ, ◌+◌, ◌*◌, ◌≤◌, drop, Option, Some, None, Ok, Err, Bool, true, false, List, ◌∷◌, ◌++◌, [], length, map}
+use Rattle.std.specs.Prelude.{◌≡◌, ◌⊎◌, ◌||◌, ℕ, ◌+◌, ◌*◌, ◌≤◌, drop, Option, Ok, Err, Bool, true, false, List, ◌∷◌, ◌++◌, [], length, map}
 use Rattle.std.specs.Prelude.{Result, ℤ}
 use Rattle.cube_core.specs.declared.fault.Fault.{Fault}
 use Rattle.cube_core.specs.declared.fault.Fault.TheVariants.{WantOfMemory}
+use Rattle.cube_core.specs.Steps.{fault_of}
 use Rattle.header_bits.specs.declared.params.Params.{Params}
 use Rattle.header_bits.specs.declared.params.WeightStart.{WeightStart}
 use Rattle.header_bits.specs.declared.params.WeightStart.TheVariants.{Usual, Table}
@@ -27,22 +28,22 @@ abbrev pub Said : Type 0
 Said = (((ImagePart × PredictorPart) × List ℤ) × CoderPart) × List ℕ
 
 -- the first bit behind the weight table
-abbrev pub coder_place : ImagePart → PredictorPart → ℕ
-coder_place i p = 136 + total (weights i p).fields
+abbrev pub coder_start : ImagePart → PredictorPart → ℕ
+coder_start i p = 136 + total (weights i p).fields
 
 -- the parts, read in order
 unfoldable pub parts_at : Reading Said
 parts_at =
     then_at (then_at (then_at (then_at (part_at image) (λ i. part_at (predictor i))) (λ x. part_at (weights x.0 x.1)))
-    (λ x. part_at (coder (coder_place x.0.0 x.0.1) x.0.0)))
-    (λ x. part_at (constants (coder_place x.0.0.0 x.0.0.1 + 16) x.0.0.0 x.1))
+    (λ x. part_at (coder (coder_start x.0.0 x.0.1) x.0.0)))
+    (λ x. part_at (constants (coder_start x.0.0.0 x.0.0.1 + 16) x.0.0.0 x.1))
 
 -- the parts, spelt in order
 abbrev pub SpellsParts : Said → List Bool → Type 0
 SpellsParts =
     SpellsThen (SpellsThen (SpellsThen (SpellsThen (SpellsPart image) (λ i. SpellsPart (predictor i))) (λ x. SpellsPart (weights x.0 x.1)))
-    (λ x. SpellsPart (coder (coder_place x.0.0 x.0.1) x.0.0)))
-    (λ x. SpellsPart (constants (coder_place x.0.0.0 x.0.0.1 + 16) x.0.0.0 x.1))
+    (λ x. SpellsPart (coder (coder_start x.0.0 x.0.1) x.0.0)))
+    (λ x. SpellsPart (constants (coder_start x.0.0.0 x.0.0.1 + 16) x.0.0.0 x.1))
 
 abbrev pub start_by : Bool → ℕ → List ℤ → WeightStart
 start_by false q values = Usual
@@ -60,7 +61,7 @@ coder_by_part (Block size restricted reference) values = coding.Block size restr
 abbrev pub said : ImagePart → PredictorPart → List Bool → CoderPart → List Bool → Said
 said i p at_weights c at_constants =
     let ws = weights i p in
-    let ks = constants (coder_place i p + 16) i c in
+    let ks = constants (coder_start i p + 16) i c in
     ((((i, p), ws.says (values ws.fields at_weights)), c), ks.says (values ks.fields at_constants))
 
 -- the tables that are announced are there, with numbers of a few bits each
@@ -186,9 +187,5 @@ abbrev pub BeginsNoHeader : List Bool → Type 0
 BeginsNoHeader bits = (p : Params) (h rest : List Bool) → SpellsHeader p h → bits ≡ h ++ rest → ⊥
 
 -- the first refusal of a header, or none
-abbrev pub fault_of : {X : Type 0} → Result X Fault → Option Fault
-fault_of (Ok x) = None
-fault_of (Err e) = Some e
-
 unfoldable pub header_fault : List Bool → Option Fault
 header_fault bits = fault_of (header_at bits)

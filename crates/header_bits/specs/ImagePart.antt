@@ -7,9 +7,9 @@ use Rattle.cube_core.specs.declared.order.Order.{Order}
 use Rattle.cube_core.specs.declared.order.Order.TheVariants.{Bsq, Bi}
 use Rattle.cube_core.specs.Steps.{Test, ◌>>◌, refuse_if}
 use Rattle.header_bits.specs.declared.layout.Slot.{Slot}
-use Rattle.header_bits.specs.declared.layout.Slot.TheVariants.{Unused, Plain, Modulo}
+use Rattle.header_bits.specs.declared.layout.Slot.TheVariants.{Reserved, Plain, Modulo}
 use Rattle.header_bits.specs.declared.image_part.ImagePart.{ImagePart}
-use Rattle.header_bits.specs.Parts.{Part, unused}
+use Rattle.header_bits.specs.Parts.{Part, reserved_test}
 
 abbrev pub image_fields : List Slot
 image_fields =
@@ -18,24 +18,24 @@ image_fields =
     ∷ Modulo 16  -- 2 rows
     ∷ Modulo 16  -- 3 bands
     ∷ Plain 1 0  -- 4 signed samples
-    ∷ Unused 2  -- 5
+    ∷ Reserved 2  -- 5
     ∷ Modulo 4  -- 6 bits of a sample
     ∷ Plain 1 0  -- 7 order: 1 is band sequential
     ∷ Modulo 16  -- 8 depth of interleaving
-    ∷ Unused 2  -- 9
+    ∷ Reserved 2  -- 9
     ∷ Modulo 3  -- 10 bytes of an output word
     ∷ Plain 1 0  -- 11 coder: 1 is block-adaptive
-    ∷ Unused 10  -- 12
+    ∷ Reserved 10  -- 12
     ∷ []
 
 -- the refusals, in order
 abbrev pub image_tests : List ℕ → Test
 image_tests v =
-    unused 57 2 (slice_index v 5)
+    reserved_test 57 2 (slice_index v 5)
     >> refuse_if (slice_index v 6 == 1) (FieldRange field.DynamicRange (pos 1))
     >> refuse_if ((slice_index v 7 == 0) && nat_lt (slice_index v 3) (slice_index v 8)) (Disagree rule.DepthOverBands)
-    >> unused 80 2 (slice_index v 9)
-    >> unused 86 10 (slice_index v 12)
+    >> reserved_test 80 2 (slice_index v 9)
+    >> reserved_test 86 10 (slice_index v 12)
 
 -- under band sequential order any bits may stand in the place of the depth
 abbrev pub image_says : List ℕ → ImagePart

@@ -2,29 +2,29 @@
 use Rattle.std.specs.Prelude.{ℕ, ◌+◌, ◌-◌, ◌%◌, ◌^◌, ◌<◌, ◌≤◌, ◌==◌, Bool, if◌then◌else◌, List, [], ◌∷◌, ◌++◌, take, drop}
 use Rattle.std.specs.List.{AllByRecursion}
 use Rattle.header_bits.specs.declared.layout.Slot.{Slot}
-use Rattle.header_bits.specs.declared.layout.Slot.TheVariants.{Unused, Plain, Modulo}
+use Rattle.header_bits.specs.declared.layout.Slot.TheVariants.{Reserved, Plain, Modulo}
 use Rattle.header_bits.specs.Bits.{bits_of, number_of}
 
 abbrev pub width : Slot → ℕ
-width (Unused n) = n
+width (Reserved n) = n
 width (Plain n least) = n
 width (Modulo n) = n
 
 -- the number that a slot's bits stand for: themselves, counted from a least one, or the power itself where they are zero
 abbrev pub value_of : Slot → ℕ → ℕ
-value_of (Unused n) code = code
+value_of (Reserved n) code = code
 value_of (Plain n least) code = least + code
 value_of (Modulo n) code = if code == 0 then 2 ^ n else code
 
 -- the bits that stand for a number
 abbrev pub code_of : Slot → ℕ → ℕ
-code_of (Unused n) value = value
+code_of (Reserved n) value = value
 code_of (Plain n least) value = value - least
 code_of (Modulo n) value = value % 2 ^ n
 
 -- what a slot can hold
 abbrev pub IsValue : Slot → ℕ → Type 0
-IsValue (Unused n) value = value < 2 ^ n
+IsValue (Reserved n) value = value < 2 ^ n
 IsValue (Plain n least) value = (least ≤ value) × (value < least + 2 ^ n)
 IsValue (Modulo n) value = (1 ≤ value) × (value ≤ 2 ^ n)
 
@@ -37,7 +37,7 @@ AreValues (s ∷ ss) (v ∷ vs) = IsValue s v × AreValues ss vs
 
 -- no slot is wider than 16 bits, and none counts from above 64
 abbrev pub IsNarrow : Slot → Type 0
-IsNarrow (Unused n) = n ≤ 16
+IsNarrow (Reserved n) = n ≤ 16
 IsNarrow (Plain n least) = (n ≤ 16) × (least ≤ 64)
 IsNarrow (Modulo n) = n ≤ 16
 

@@ -9,10 +9,10 @@ use Rattle.header_bits.specs.Reading.{Reading, Reads}
 abbrev pub fine : Test
 fine = Ok (tt {0})
 
--- reserved bits are zero; `at` is the place of the first of them in the file, and the first that is one is refused
-unfoldable pub unused : ℕ → ℕ → ℕ → Test
-unused at zero value = fine
-unused at (suc n) value = if value / 2 ^ n == 0 then unused (at + 1) n value else Err (Reserved at)
+-- reserved bits are zero; `at` is the position of the first of them in the file, and the first that is one is refused
+unfoldable pub reserved_test : ℕ → ℕ → ℕ → Test
+reserved_test at zero value = fine
+reserved_test at (suc n) value = if value / 2 ^ n == 0 then reserved_test (at + 1) n value else Err (Reserved at)
 
 -- a row of slots with the tests on their numbers, and what the numbers say
 pub record Part (X : Type 0) : Type 1 where

@@ -5,26 +5,26 @@ use Rattle.cube_core.specs.declared.fault.Field.TheVariants as field
 use Rattle.cube_core.specs.declared.fault.Rule.TheVariants as rule
 use Rattle.cube_core.specs.Steps.{Test, ◌>>◌, refuse_if}
 use Rattle.header_bits.specs.declared.layout.Slot.{Slot}
-use Rattle.header_bits.specs.declared.layout.Slot.TheVariants.{Unused, Plain, Modulo}
+use Rattle.header_bits.specs.declared.layout.Slot.TheVariants.{Reserved, Plain, Modulo}
 use Rattle.header_bits.specs.declared.image_part.ImagePart.{ImagePart}
 use Rattle.header_bits.specs.declared.predictor_part.PredictorPart.{PredictorPart}
-use Rattle.header_bits.specs.Parts.{Part, unused}
+use Rattle.header_bits.specs.Parts.{Part, reserved_test}
 use Rattle.header_bits.specs.ImagePart.{flag}
 
 abbrev pub predictor_fields : List Slot
 predictor_fields =
-    Unused 2  -- 0
+    Reserved 2  -- 0
     ∷ Plain 4 0  -- 1 previous bands
     ∷ Plain 1 0  -- 2 mode: 1 is reduced
-    ∷ Unused 1  -- 3
+    ∷ Reserved 1  -- 3
     ∷ Plain 1 0  -- 4 local sums: 1 is column-oriented
-    ∷ Unused 1  -- 5
+    ∷ Reserved 1  -- 5
     ∷ Modulo 6  -- 6 register size
     ∷ Plain 4 4  -- 7 weight component resolution
     ∷ Plain 4 4  -- 8 logarithm of the weight update interval
     ∷ Plain 4 0  -- 9 least weight update exponent, as its code
     ∷ Plain 4 0  -- 10 greatest weight update exponent, as its code
-    ∷ Unused 1  -- 11
+    ∷ Reserved 1  -- 11
     ∷ Plain 1 0  -- 12 weight start: 1 is custom
     ∷ Plain 1 0  -- 13 weight table in the file
     ∷ Plain 5 0  -- 14 weight resolution of the table
@@ -57,17 +57,17 @@ number_tests i v =
     >> refuse_if (nat_lt (slice_index v 6) (i.kind.bits + slice_index v 7 + 2)) (Disagree rule.RegisterTooSmall)
     >> refuse_if (nat_lt 11 (slice_index v 8)) (FieldRange field.Interval (pos (slice_index v 8)))
     >> refuse_if (nat_lt (slice_index v 10) (slice_index v 9)) (Disagree rule.ExponentOrder)
-    >> unused 128 1 (slice_index v 11)
+    >> reserved_test 128 1 (slice_index v 11)
     >> start_tests v
 
 -- the refusals, in order
 abbrev pub predictor_tests : ImagePart → List ℕ → Test
 predictor_tests i v =
-    unused 96 2 (slice_index v 0)
+    reserved_test 96 2 (slice_index v 0)
     >> refuse_if ((slice_index v 2 == 0) && (i.shape.columns == 1)) (Disagree rule.FullOneColumn)
-    >> unused 103 1 (slice_index v 3)
+    >> reserved_test 103 1 (slice_index v 3)
     >> refuse_if ((slice_index v 4 == 0) && (i.shape.columns == 1)) (Disagree rule.NeighbourOneColumn)
-    >> unused 105 1 (slice_index v 5)
+    >> reserved_test 105 1 (slice_index v 5)
     >> number_tests i v
 
 abbrev pub predictor_says : List ℕ → PredictorPart

@@ -1,20 +1,13 @@
 -- Parameters and headers of the worked examples.
-use Rattle.std.specs.Prelude.{ℕ, false, Bool, List, ℤ, pos, negsuc, replicate}
+use Rattle.std.specs.Prelude.{ℕ, ◌-◌, ◌%◌, false, Bool, List, ◌++◌, length, ℤ, pos, negsuc, replicate}
 use Rattle.cube_core.specs.declared.order.Order.{Order}
-use Rattle.cube_core.specs.Shape.{Sizes}
-use Rattle.cube_core.specs.Kind.{SampleKind}
+use Rattle.cube_core.specs.Rows.{sizes, unsigned}
 use Rattle.header_bits.specs.declared.params.Params.{Params}
 use Rattle.header_bits.specs.declared.params.WeightStart.TheVariants.{Table}
 use Rattle.header_bits.specs.declared.params.Coder.TheVariants.{Sample, Block}
 use Rattle.header_bits.specs.declared.params.CountStart.TheVariants.{Constant, Each}
 use Rattle.header_bits.specs.Bits.{bits_of}
 use Rattle.header_bits.specs.Plain.{plain}
-
-abbrev pub sizes : ℕ → ℕ → ℕ → Sizes
-sizes nx ny nz = record { columns = nx; rows = ny; bands = nz }
-
-abbrev pub unsigned : ℕ → SampleKind
-unsigned depth = record { signed = false; bits = depth }
 
 -- the parameters that all examples share but where they say otherwise
 abbrev pub common : ℕ → ℕ → ℕ → Params
@@ -57,6 +50,13 @@ with_exponents least greatest = record (common 1 1 1) { vmin = least; vmax = gre
 -- sixteen bits and the most weight resolution
 abbrev pub with_register : ℕ → Params
 with_register size = record (common 1 1 1) { kind = unsigned 16; omega = 19; register = size }
+
+abbrev pub zeros : ℕ → List ℕ
+zeros n = replicate n 0
+
+-- bits, and the zeros that fill the last byte
+abbrev pub filled_up : List Bool → List Bool
+filled_up bits = bits ++ replicate ((8 - length bits % 8) % 8) false
 
 -- a header of nineteen bytes
 abbrev pub header : ℕ → List Bool

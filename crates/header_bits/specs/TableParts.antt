@@ -5,13 +5,13 @@ use Rattle.cube_core.specs.declared.fault.Fault.TheVariants.{Disagree}
 use Rattle.cube_core.specs.declared.fault.Rule.TheVariants as rule
 use Rattle.cube_core.specs.Steps.{Test, ◌>>◌, refuse_if}
 use Rattle.header_bits.specs.declared.layout.Slot.{Slot}
-use Rattle.header_bits.specs.declared.layout.Slot.TheVariants.{Unused, Plain}
+use Rattle.header_bits.specs.declared.layout.Slot.TheVariants.{Reserved, Plain}
 use Rattle.header_bits.specs.declared.image_part.ImagePart.{ImagePart}
 use Rattle.header_bits.specs.declared.predictor_part.PredictorPart.{PredictorPart}
 use Rattle.header_bits.specs.declared.coder_part.CoderPart.{CoderPart}
 use Rattle.header_bits.specs.declared.coder_part.CoderPart.TheVariants.{Sample, Block}
 use Rattle.header_bits.specs.Layout.{spelled}
-use Rattle.header_bits.specs.Parts.{Part, fine, unused}
+use Rattle.header_bits.specs.Parts.{Part, fine, reserved_test}
 
 -- how many weights the first bands have in all: a directional one for each of three neighbours in full mode, and one for each previous band
 unfoldable pub weight_count : ℕ → Bool → ℕ → ℕ
@@ -31,11 +31,11 @@ numbers_text bits v = spelled (number_fields (length v) bits) v
 
 -- the numbers, and fill bits
 abbrev pub table_fields : ℕ → ℕ → List Slot
-table_fields count bits = number_fields count bits ++ Unused (fill_of (count * bits)) ∷ []
+table_fields count bits = number_fields count bits ++ Reserved (fill_of (count * bits)) ∷ []
 
 -- fill bits are zero
 abbrev pub fill_test : ℕ → ℕ → ℕ → List ℕ → Test
-fill_test at count bits v = unused (at + count * bits) (fill_of (count * bits)) (slice_index v count)
+fill_test at count bits v = reserved_test (at + count * bits) (fill_of (count * bits)) (slice_index v count)
 
 -- the number of a code in two's complement
 abbrev pub signed_of : ℕ → ℕ → ℤ

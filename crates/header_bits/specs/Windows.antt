@@ -1,4 +1,4 @@
--- A word of bits at some place among the bits of bytes.
+-- A word of bits at some position among the bits of bytes.
 use Rattle.std.specs.Prelude.{◌≡◌, ℕ, ◌+◌, ◌-◌, ◌*◌, ◌/◌, ◌%◌, ◌^◌, ◌≤◌, Bool, List, ◌++◌, length, drop}
 use Rattle.header_bits.specs.Bits.{bits_of, bits_of_bytes}
 

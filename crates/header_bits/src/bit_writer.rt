@@ -147,7 +147,7 @@ impl BitWriter {
             self.held += n;
         } else {
             let rest = n - free;
-            let word = filled(self.part, self.held, bits >> rest);
+            let word = filled_word(self.part, self.held, bits >> rest);
             append_word(&mut self.bytes, word);
             self.part = bits;
             self.held = rest;
@@ -202,8 +202,11 @@ fn ready_behind(bytes: &Vec<u8>) -> u32
     }
 }
 
-/// Returns the word made of a part's `held` lowest bits and the bits that fill it.
-fn filled(part: u64, held: u32, bits: u64) -> u64
+/// Returns the word of 64 bits that consists of the `held` lowest bits of `part` and the bits that fill it.
+///
+/// `held` is below 64, and `bits` below 2^(64 - `held`). The other bits of `part` don't matter.
+#[inline(always)]
+pub fn filled_word(part: u64, held: u32, bits: u64) -> u64
     requires held { held < 64 }
     requires below { bits < 2 ^ (64 - held) }
     ensures { bits_of 64 result ≡ bits_of held part ++ bits_of (64 - held) bits }

@@ -10,8 +10,8 @@ ghost use Rattle.header_bits.specs.Header.{constant_of, is_each, coder_part_of};
 
 use crate::bit_reader::BitReader;
 use crate::fields::{
-    self, BESIDE_TABLE, BLOCK_FIELDS, BLOCK_SIZES, SAMPLE_FIELDS, block_row, coder_bits,
-    sample_row, unused_field,
+    self, BESIDE_TABLE, BLOCK_FIELDS, BLOCK_SIZES, SAMPLE_FIELDS, block_row, check_reserved_field,
+    coder_bits, sample_row,
 };
 use crate::image_part::ImagePart;
 use crate::layout::read_values;
@@ -164,7 +164,7 @@ fn test_block(at: u64, image: &ImagePart, numbers: &[u32; BLOCK_FIELDS]) -> Resu
 {
     let restricted = numbers[fields::RESTRICTED.index] == 1;
     let deep = image.kind.bits() > 4;
-    unused_field(at, &block_row!(), fields::BEFORE_BLOCK_SIZE.index, numbers)?;
+    check_reserved_field(at, &block_row!(), fields::BEFORE_BLOCK_SIZE.index, numbers)?;
     disagree_if(restricted & deep, Rule::RestrictedOverFour)
 }
 

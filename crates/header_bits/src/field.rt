@@ -116,7 +116,7 @@ pub(crate) use flag;
 macro_rules! reserved {
     ($before:ident, $bits:literal) => {
         ReservedField {
-            slot: Slot::Unused($bits),
+            slot: Slot::Reserved($bits),
             index: index!($before),
         }
     };

@@ -6,7 +6,7 @@
 ghost use Rattle.std.specs.Prelude.{◌≡◌, ◌+◌, ◌^◌, ◌<◌, ◌≤◌, ◌↔◌, true, length, slice_index, slice_index_or, take};
 ghost use Rattle.header_bits.specs.declared.layout.Slot.TheVariants as slot;
 ghost use Rattle.header_bits.specs.Layout.{AreNarrow, total, width};
-ghost use Rattle.header_bits.specs.Parts.{unused};
+ghost use Rattle.header_bits.specs.Parts.{reserved_test};
 ghost use Rattle.header_bits.specs.Lawful.{IsBlockSize};
 
 use crate::field::{
@@ -14,7 +14,7 @@ use crate::field::{
     reserved, row,
 };
 use crate::layout::{Slot, total_bits};
-use crate::refusal::unused;
+use crate::refusal::check_reserved;
 use cube_core::fault::Fault;
 
 // ---- the image part
@@ -251,7 +251,7 @@ pub(crate) fn coder_bits() -> u64
 
 /// Refuses the first bit of a reserved field that is one. The field comes after those before it in its part,
 /// whose first bit is at `first`.
-pub(crate) fn unused_field(
+pub(crate) fn check_reserved_field(
     first: u64,
     slots: &[Slot],
     index: usize,
@@ -262,8 +262,9 @@ pub(crate) fn unused_field(
     requires there { index < length slots.now }
     requires same { length numbers.now ≡ length slots.now }
     requires early { first < 2 ^ 32 }
-    ensures { result ≡ unused (first + total (take index slots.now)) (width (slice_index_or slots.now index (slot.Unused 0))) (slice_index numbers.now index) }
+    ensures { result ≡ reserved_test (first + total (take index slots.now)) (width (slice_index_or slots.now index (slot.Reserved 0)))
+        (slice_index numbers.now index) }
 {
-    let place = first + total_bits(&slots[..index]);
-    unused(place, slots[index].width(), numbers[index])
+    let position = first + total_bits(&slots[..index]);
+    check_reserved(position, slots[index].width(), numbers[index])
 }

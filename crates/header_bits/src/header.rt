@@ -109,10 +109,10 @@ fn look_through<'a>(reader: &mut BitReader<'a>) -> Result<Parts<'a>, Fault>
     let predictor = PredictorPart::read(&image, reader)?;
     let weights = reader.fork();
     weight_part::pass(&image, &predictor, reader)?;
-    let place = weight_part::end(&image, &predictor);
-    let coder = CoderPart::read(place, &image, reader)?;
+    let position = weight_part::end(&image, &predictor);
+    let coder = CoderPart::read(position, &image, reader)?;
     let constants = reader.fork();
-    constant_part::pass(place + coder_bits(), &image, &coder, reader)?;
+    constant_part::pass(position + coder_bits(), &image, &coder, reader)?;
     Ok(Parts {
         image,
         predictor,

@@ -9,7 +9,7 @@ ghost use Rattle.header_bits.specs.ImagePart.{image, image_fields, image_tests, 
 ghost use Rattle.header_bits.specs.Header.{image_part_of};
 
 use crate::bit_reader::BitReader;
-use crate::fields::{self, IMAGE_FIELDS, image_end, image_row, unused_field};
+use crate::fields::{self, IMAGE_FIELDS, check_reserved_field, image_end, image_row};
 use crate::layout::read_values;
 use crate::params::{Coder, Params};
 use crate::refusal::{disagree_if, out_of_range_if};
@@ -118,11 +118,11 @@ fn test(numbers: &[u32; IMAGE_FIELDS]) -> Result<(), Fault>
     ensures { result ≡ image_tests numbers.now }
 {
     let [_, _, _, bands, _, _, bits, order, depth, ..] = *numbers;
-    unused_field(0, &image_row!(), fields::AFTER_SIGNED.index, numbers)?;
+    check_reserved_field(0, &image_row!(), fields::AFTER_SIGNED.index, numbers)?;
     out_of_range_if(bits == 1, Field::DynamicRange, 1)?;
     disagree_if((order == 0) & (bands < depth), Rule::DepthOverBands)?;
-    unused_field(0, &image_row!(), fields::AFTER_DEPTH.index, numbers)?;
-    unused_field(0, &image_row!(), fields::AFTER_CODER.index, numbers)
+    check_reserved_field(0, &image_row!(), fields::AFTER_DEPTH.index, numbers)?;
+    check_reserved_field(0, &image_row!(), fields::AFTER_CODER.index, numbers)
 }
 
 /// Returns the image part that the numbers stand for.

@@ -12,7 +12,7 @@ use cube_core::fault::Fault;
 #[derive(Clone, Copy)]
 pub(crate) enum Slot {
     /// This many reserved bits, all zero.
-    Unused(u32),
+    Reserved(u32),
     /// This many bits, counted from the second number.
     Plain(u32, u32),
     /// This many bits; zero stands for the power of two that doesn't fit in them.
@@ -25,7 +25,7 @@ impl Slot {
         ensures { result ≡ width self }
     {
         match self {
-            Slot::Unused(bits) => bits,
+            Slot::Reserved(bits) => bits,
             Slot::Plain(bits, _) => bits,
             Slot::Modulo(bits) => bits,
         }
@@ -39,7 +39,7 @@ impl Slot {
         ensures { result ≡ value_of self code }
     {
         match self {
-            Slot::Unused(_) => code as u32,
+            Slot::Reserved(_) => code as u32,
             Slot::Plain(_, least) => least + code as u32,
             Slot::Modulo(bits) => { if code == 0 { 1 << bits } else { code as u32 } }
         }
@@ -53,7 +53,7 @@ impl Slot {
         ensures below { result < 2 ^ width self }
     {
         match self {
-            Slot::Unused(_) => u64::from(value),
+            Slot::Reserved(_) => u64::from(value),
             Slot::Plain(_, least) => u64::from(value - least),
             Slot::Modulo(bits) => u64::from(value % (1 << bits)),
         }

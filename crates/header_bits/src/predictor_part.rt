@@ -4,7 +4,7 @@ ghost use Rattle.std.specs.Prelude.{◌≡◌, ◌+◌, ◌<◌, slice_index, sl
 ghost use Rattle.header_bits.specs.Reading.{Reads};
 ghost use Rattle.header_bits.specs.declared.layout.Slot.TheVariants as slot;
 ghost use Rattle.header_bits.specs.Layout.{AreValues, total, width};
-ghost use Rattle.header_bits.specs.Parts.{part_at, unused};
+ghost use Rattle.header_bits.specs.Parts.{part_at, reserved_test};
 ghost use Rattle.header_bits.specs.ImagePart.{flag};
 ghost use Rattle.header_bits.specs.PredictorPart.{predictor, predictor_fields, predictor_tests, number_tests, start_tests, predictor_says, exponent_of};
 ghost use Rattle.header_bits.specs.PredictorPart.{exponent_code, predictor_numbers};
@@ -13,7 +13,8 @@ ghost use Rattle.header_bits.specs.Header.{is_custom, resolution_of, predictor_p
 
 use crate::bit_reader::BitReader;
 use crate::fields::{
-    self, LEAST_EXPONENT, PREDICTOR_FIELDS, image_end, predictor_bits, predictor_row, unused_field,
+    self, LEAST_EXPONENT, PREDICTOR_FIELDS, check_reserved_field, image_end, predictor_bits,
+    predictor_row,
 };
 use crate::image_part::ImagePart;
 use crate::layout::read_values;
@@ -116,12 +117,12 @@ fn exponent_code(exponent: i32) -> u32
 }
 
 /// Refuses the first bit of a reserved field that is one.
-fn refuse_unused(index: usize, numbers: &[u32; PREDICTOR_FIELDS]) -> Result<(), Fault>
+fn check_reserved_at(index: usize, numbers: &[u32; PREDICTOR_FIELDS]) -> Result<(), Fault>
     requires { index < 15 }
-    ensures { result ≡ unused (96 + total (take index predictor_fields)) (width (slice_index_or predictor_fields index (slot.Unused 0)))
+    ensures { result ≡ reserved_test (96 + total (take index predictor_fields)) (width (slice_index_or predictor_fields index (slot.Reserved 0)))
         (slice_index numbers.now index) }
 {
-    unused_field(image_end(), &predictor_row!(), index, numbers)
+    check_reserved_field(image_end(), &predictor_row!(), index, numbers)
 }
 
 /// Tests the numbers of the predictor part, in order.
@@ -134,11 +135,11 @@ fn test(image: &ImagePart, numbers: &[u32; PREDICTOR_FIELDS]) -> Result<(), Faul
     let full = mode == 0;
     let neighbour = sums == 0;
     let one_column = image.shape.columns() == 1;
-    refuse_unused(fields::BEFORE_PREVIOUS.index, numbers)?;
+    check_reserved_at(fields::BEFORE_PREVIOUS.index, numbers)?;
     disagree_if(full & one_column, Rule::FullOneColumn)?;
-    refuse_unused(fields::AFTER_MODE.index, numbers)?;
+    check_reserved_at(fields::AFTER_MODE.index, numbers)?;
     disagree_if(neighbour & one_column, Rule::NeighbourOneColumn)?;
-    refuse_unused(fields::AFTER_SUMS.index, numbers)?;
+    check_reserved_at(fields::AFTER_SUMS.index, numbers)?;
     test_numbers(image, numbers)
 }
 
@@ -162,7 +163,7 @@ fn test_numbers(image: &ImagePart, numbers: &[u32; PREDICTOR_FIELDS]) -> Result<
         interval,
     )?;
     disagree_if(vmax < vmin, Rule::ExponentOrder)?;
-    refuse_unused(fields::AFTER_VMAX.index, numbers)?;
+    check_reserved_at(fields::AFTER_VMAX.index, numbers)?;
     test_start(numbers)
 }
 

@@ -3,7 +3,7 @@
 ghost use Rattle.std.specs.Prelude.{◌≡◌, ◌≤◌, ◌<◌, ◌^◌, pos};
 ghost use Rattle.cube_core.specs.declared.fault.Fault.TheVariants.{Disagree, FieldRange};
 ghost use Rattle.cube_core.specs.Steps.{refuse_if};
-ghost use Rattle.header_bits.specs.Parts.{unused};
+ghost use Rattle.header_bits.specs.Parts.{reserved_test};
 
 use cube_core::fault::{Fault, Field, Rule};
 
@@ -30,10 +30,10 @@ pub(crate) fn out_of_range_if(condition: bool, field: Field, number: u32) -> Res
 }
 
 /// Refuses the first of `n` reserved bits that is one; `at` is the position of the first of them.
-pub(crate) fn unused(at: u64, n: u32, value: u32) -> Result<(), Fault>
+pub(crate) fn check_reserved(at: u64, n: u32, value: u32) -> Result<(), Fault>
     requires few { n ≤ 16 }
     requires early { at < 2 ^ 33 }
-    ensures { result ≡ unused at n value }
+    ensures { result ≡ reserved_test at n value }
 {
     for i in 0..n {
         if value >> (n - 1 - i) != 0 {

@@ -3,12 +3,12 @@
 ghost use Rattle.std.specs.Prelude.{◌≡◌, ◌+◌, ◌*◌, ◌^◌, ◌<◌, ◌≤◌, ◌++◌, length, take, drop};
 ghost use Rattle.header_bits.specs.Bits.{bits_of, number_of};
 ghost use Rattle.header_bits.specs.Layout.{total};
-ghost use Rattle.header_bits.specs.Parts.{unused};
+ghost use Rattle.header_bits.specs.Parts.{reserved_test};
 ghost use Rattle.header_bits.specs.TableParts.{fill_of, table_fields};
 
 use crate::bit_reader::BitReader;
 use crate::bit_writer::BitWriter;
-use crate::refusal::unused;
+use crate::refusal::check_reserved;
 use cube_core::fault::Fault;
 
 /// Returns the number of bits of a table's numbers, without the zeros after them.
@@ -46,11 +46,11 @@ pub(crate) fn pass_fill(at: u64, fill: u32, reader: &mut BitReader) -> Result<()
     requires early { at < 2 ^ 32 }
     requires few { fill < 8 }
     requires whole { fill ≤ length reader.old.left }
-    ensures test { result ≡ unused at fill (number_of (take fill reader.old.left)) }
+    ensures test { result ≡ reserved_test at fill (number_of (take fill reader.old.left)) }
     ensures left { reader.new.left ≡ drop fill reader.old.left }
 {
     let zeros = reader.take(fill).unwrap();
-    unused(at, fill, zeros as u32)
+    check_reserved(at, fill, zeros as u32)
 }
 
 /// Appends the zeros that fill `bits` bits up to a whole byte. There is room for them.

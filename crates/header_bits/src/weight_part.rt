@@ -7,7 +7,7 @@ ghost use Rattle.header_bits.specs.Layout.{values};
 ghost use Rattle.header_bits.specs.Parts.{Passes};
 ghost use Rattle.header_bits.specs.TableParts.{weight_count, weights, number_fields, numbers_text, signed_of, signed_code};
 ghost use Rattle.header_bits.specs.Lawful.{IsLawful, IsSigned};
-ghost use Rattle.header_bits.specs.Header.{start_by, coder_place, weight_bits};
+ghost use Rattle.header_bits.specs.Header.{start_by, coder_start, weight_bits};
 
 use crate::bit_reader::BitReader;
 use crate::bit_writer::BitWriter;
@@ -51,7 +51,7 @@ fn count_for(image: &ImagePart, predictor: &PredictorPart) -> usize
 pub(crate) fn end(image: &ImagePart, predictor: &PredictorPart) -> u64
     requires previous { predictor.now.previous ≤ 15 }
     requires resolution { predictor.now.resolution ≤ 22 }
-    ensures place { result ≡ coder_place image.now predictor.now }
+    ensures position { result ≡ coder_start image.now predictor.now }
     ensures most { result ≤ 2 ^ 28 }
 {
     if predictor.custom {

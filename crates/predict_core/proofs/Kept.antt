@@ -30,7 +30,7 @@ some_of p c lawful shape = rw shape lawful.sizes.columns.0
 
 -- a band follows each image that is one with its own as far as the band has come
 pub along_same : {p : Params} {c d : Image} {i z : ℕ} {f : Learner} → IsLawful p → c.shape ≡ p.shape → z < p.shape.bands → IsAlong p c i z f
-    → Agree c d z f.place f.place → IsAlong p d i z f
+    → Agree c d z f.t f.t → IsAlong p d i z f
 along_same {p} {c} lawful shape band along agree = record {
   band = along.band;
   inside = along.inside;
@@ -43,7 +43,7 @@ along_same {p} {c} lawful shape band along agree = record {
 }
 
 -- images that are one beside a run of a band from its next place on are so at all places before it
-pub same_beside : {p : Params} {c d : Image} {i z y x n : ℕ} {f : Learner} → c.shape ≡ p.shape → IsAlong p c i z f → f.place ≡ y * p.shape.columns + x
+pub same_beside : {p : Params} {c d : Image} {i z y x n : ℕ} {f : Learner} → c.shape ≡ p.shape → IsAlong p c i z f → f.t ≡ y * p.shape.columns + x
     → AreAlikeBeside c d f.band y x n → SameBefore p.order c d i
 same_beside {p} {c} shape along next beside r there before = beside.samples r.z r.y r.x there (λ own row column.
     let early = (along.come r (rw shape at there) (own ∙ along.band)).0 (rw shape at before) in let line = ap (λ (n : ℕ). n * p.shape.columns) row in
@@ -67,7 +67,7 @@ module _ {p : Params} {c d : Image} (lawful : IsLawful p) (shape : c.shape ≡ p
       along_same lawful shape band along
       (agree_first _ _ _ (λ r there low lt.
       let over : IsPlaceOf c.shape (record { z = z; y = r.y; x = r.x }) = record { band = rw shape band; row = there.row; column = there.column } in
-      let come : HasCome c.shape p.order z i f.place = rw shape along.come in
+      let come : HasCome c.shape p.order z i f.t = rw shape along.come in
       omega (arith, (come _ over refl).1 lt, low_index c.shape p.order r _ order_kept there over low (omega arith))) same)
 
   pub residuals_same : (left : List Place) → SameBefore p.order c d (gone_count p left) → residuals_at p c (gone_by p left) ≡ residuals_at p d (gone_by p left)

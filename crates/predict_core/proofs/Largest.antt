@@ -1,11 +1,10 @@
 -- The sum that the register takes is small.
 use Rattle.std.proofs.Common.{◌≡◌, ◌+◌, ◌-◌, ◌*◌, ◌^◌, ◌<◌, ◌≤◌, ℕ, zero, suc, ℤ, pos, ◌+ℤ◌, ◌-ℤ◌, ◌*ℤ◌, ◌≤ℤ◌, neg_ℤ, unsigned_abs, Bool, true, false, List, []}
-use Rattle.std.proofs.Common.{inl, inr, ◌∷◌, replicate, length, if◌then◌else◌, arith, refl, sym, subst, ap, ◌∙◌, le_trans}
-use Rattle.std.proofs.lemmas.Int.{ints, unsigned_abs-mul}
+use Rattle.std.proofs.Common.{inl, inr, ◌∷◌, replicate, length, if◌then◌else◌, arith, refl, sym, ap, ◌∙◌, le_trans}
+use Rattle.std.proofs.lemmas.Int.{ints}
 use Rattle.std.proofs.lemmas.Bool.{cases_Bool}
 use Rattle.std.proofs.lemmas.Nat.{mul-le, pow_pos}
 use Rattle.std.proofs.Math.Pow.{pow_mono, pow-add}
-use Rattle.cube_core.specs.Shape.{Sizes}
 use Rattle.cube_core.specs.Kind.{smin, smid, smax}
 use Rattle.cube_core.specs.Image.{Image, IsCube, IsPlace}
 use Rattle.header_bits.specs.declared.params.Params.{Params}
@@ -24,6 +23,7 @@ use Rattle.sample_prediction.specs.Bounds.{AllWithin}
 use Rattle.predict_core.specs.Largest.{RegisterBound}
 use Rattle.sample_prediction.proofs.Moves.{clipped_low, clipped_high, limit_within, within_most}
 use Rattle.sample_prediction.proofs.Padding.{vector_length}
+use Rattle.sample_prediction.proofs.Raising.{raised_bound}
 use Rattle.predict_core.proofs.Kept.{wide_of}
 use Rattle.predict_core.proofs.Ranges.{within_none, within_append, vector_within, sum_within, apart}
 use Rattle.sample_prediction.proofs.Directions.{zeros_within}
@@ -103,10 +103,6 @@ middle_between true bits some = (let power = pow_pos (bits - 1) in (omega (arith
 middle_between false bits some =
     (let two = doubled bits (omega arith) in let power = pow_pos (bits - 1) in (omega (arith, ints, power), omega (arith, ints, two, power)))
 
-raised_small : (k : ℕ) (v : ℤ) → k ≤ 19 → unsigned_abs v ≤ 2 ^ 18 → unsigned_abs (pos (2 ^ k) *ℤ v) ≤ 2 ^ 37
-raised_small k v le small =
-    rw (unsigned_abs-mul (pos (2 ^ k)) v) (let power : 2 ^ k ≤ 2 ^ 19 = pow_mono le in mul-le (2 ^ k) (unsigned_abs v) (2 ^ 19) (2 ^ 18) power small)
-
 turned : (a b : ℤ) (n : ℕ) → unsigned_abs (a -ℤ b) ≤ n → unsigned_abs (b -ℤ a) ≤ n
 turned a b n h = omega (arith, ints, h)
 
@@ -134,7 +130,7 @@ module _ (q : Predictor) (c : Image) (z y x : ℕ) (ws : List ℤ) (cube : IsCub
       (sum_within q c cube y x later wide z place) in
       let small = turned (pos 4 *ℤ smid c.kind) (local_sum q c z y x) (2 ^ 18) (omega (arith, near, power)) in
       both_small (inner_product ws (difference_vector q c z y x)) (pos (2 ^ q.omega) *ℤ (local_sum q c z y x -ℤ pos 4 *ℤ smid c.kind)) (2 ^ (q.omega + 2))
-      (limit_within q.omega most) products_small (raised_small q.omega (local_sum q c z y x -ℤ pos 4 *ℤ smid c.kind) most small)
+      (limit_within q.omega most) products_small (raised_bound q.omega (local_sum q c z y x -ℤ pos 4 *ℤ smid c.kind) most small)
 
 -- and by those of a cube
 pub products_within : (p : Params) (c : Image) (z y x : ℕ) → IsLawful p → IsCube c → c.shape ≡ p.shape → IsPlace c.shape z y x → 0 < y + x

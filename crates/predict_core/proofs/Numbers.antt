@@ -2,10 +2,11 @@
 use Rattle.std.proofs.Common.{◌≡◌, ℕ, ◌+◌, ◌*◌, ◌%◌, ◌^◌, ◌≤◌, ◌⊎◌, inl, inr, min, ℤ, pos, negsuc, ◌+ℤ◌, ◌-ℤ◌, ◌*ℤ◌, ◌≤ℤ◌, unsigned_abs, Bool, true, false}
 use Rattle.std.proofs.Common.{refl, sym, ap, ap₂, ◌∙◌, arith, to_z, of_z, w32, SFits}
 use Rattle.std.specs.Int.{int_min}
+use Rattle.std.proofs.lemmas.Bool.{true≢false}
 use Rattle.std.proofs.lemmas.Int.{ints, clamps, fits_signed_from_abs, wrapping_add_is, int_wrap_fits}
 use Rattle.sample_prediction.specs.Arithmetic.{floor_div, clip}
 use Rattle.sample_prediction.specs.Residual.{mapped_between, theta_between, agrees}
-use Rattle.sample_prediction.proofs.OneSample.{not_both, signed_by, NumberBy, agrees_cases, number_cases}
+use Rattle.sample_prediction.proofs.OneSample.{signed_by, NumberBy, agrees_cases, number_cases}
 use Rattle.sample_prediction.proofs.Floors.{floor_of_sum}
 
 -- what both signs take turns for
@@ -25,8 +26,8 @@ lesser_by : (theta size n : ℕ) (turned : ℤ) (sign : Bool) → ((sign ≡ tru
 lesser_by theta size n turned sign (inl t) (inl c) = let e = t.1 in let l = c.0 in let m = c.1 in omega (arith, ints, clamps)
 lesser_by theta size n turned sign (inr t) (inl c) = let e = t.1 in let l = c.0 in let m = c.1 in omega (arith, ints, clamps)
 lesser_by theta size n turned sign (inl t) (inr (inl c)) = let e = t.1 in let l = c.0 in let m = c.2 in omega (arith, ints, clamps)
-lesser_by theta size n turned sign (inr t) (inr (inl c)) = absurd (not_both sign c.1 t.0)
-lesser_by theta size n turned sign (inl t) (inr (inr c)) = absurd (not_both sign t.0 c.1)
+lesser_by theta size n turned sign (inr t) (inr (inl c)) = absurd (true≢false (sym c.1 ∙ t.0))
+lesser_by theta size n turned sign (inl t) (inr (inr c)) = absurd (true≢false (sym t.0 ∙ c.1))
 lesser_by theta size n turned sign (inr t) (inr (inr c)) = let e = t.1 in let some = t.2 in let l = c.0 in let m = c.2 in omega (arith, ints, clamps)
 
 -- twice the prediction, and the parity

@@ -29,7 +29,7 @@ bound_next n i rs r h l b k m =
     elim (cases_eq k i) [ inl e ↦ rw (e, get_or-set_same rs i r 0 h) l | inr d ↦ rw (get_or-set_other rs i k r 0 d) (b k (omega arith)) ]
 
 pub moved_none : (b : Learner) → MovesBy 0 b b
-moved_none b = record { predictor = refl; shape = refl; kind = refl; band = refl; place = omega arith }
+moved_none b = record { predictor = refl; shape = refl; kind = refl; band = refl; t = omega arith }
 
 pub moved_next : (i : ℕ) (a b d : Learner) → MovesBy i a b → MovesOn b d → MovesBy (i + 1) a d
 moved_next i a b d m n = record {
@@ -37,5 +37,5 @@ moved_next i a b d m n = record {
   shape = n.shape ∙ m.shape;
   kind = n.kind ∙ m.kind;
   band = n.band ∙ m.band;
-  place = omega (arith, m.place, n.place);
+  t = omega (arith, m.t, n.t);
 }

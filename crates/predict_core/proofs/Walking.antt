@@ -31,15 +31,15 @@ length-residuals_at p c gone = length-map gone _
 -- ---- the bands
 
 -- a band at its first place
-pub along_first : (p : Params) (c : Image) (z : ℕ) (b : Learner) → b.band ≡ z → b.place ≡ 0 → Follows p b c → IsAlong p c 0 z b
+pub along_first : (p : Params) (c : Image) (z : ℕ) (b : Learner) → b.band ≡ z → b.t ≡ 0 → Follows p b c → IsAlong p c 0 z b
 along_first p c z b band first follows =
     record { band = band; inside = omega (arith, first); follows = follows; come = rw first (come_start p.shape p.order z) }
 
 -- what is known of the band that comes next
 pub band_here : (p : Params) (c : Image) (i : ℕ) (bands : List Learner) (q : Place) (b : Learner) → IsOrder p.shape p.order → AreAlong p c i bands
-    → StandsAt p.shape p.order q i → slice_get bands q.z ≡ Some b → IsAlong p c i q.z b × (b.place ≡ time_of p.shape q)
+    → StandsAt p.shape p.order q i → slice_get bands q.z ≡ Some b → IsAlong p c i q.z b × (b.t ≡ time_of p.shape q)
 band_here p c i bands q b lawful all stands e =
-    let along = all q.z stands.place.band b e in (along, sym (come_here p.shape p.order q.z i b.place q lawful along.come stands refl))
+    let along = all q.z stands.place.band b e in (along, sym (come_here p.shape p.order q.z i b.t q lawful along.come stands refl))
 
 -- one place more, and with it another image, which the other bands follow as well
 along_more : (p : Params) (c e : Image) (i : ℕ) (bands : List Learner) (q : Place) (b d : Learner)
@@ -53,9 +53,9 @@ along_more p c e i bands q b d lawful all stands at moves follows others-follow 
         let here = band_here p c i bands q b lawful all stands at in
         let within : q.y * p.shape.columns + q.x < p.shape.rows * p.shape.columns = digits_lt stands.place.row stands.place.column in record {
           band = moves.band ∙ here.0.band;
-          inside = omega (arith, moves.place, here.1, within);
+          inside = omega (arith, moves.t, here.1, within);
           follows = follows;
-          come = rw moves.place (come_step p.shape p.order q.z i b.place q lawful here.0.come stands refl);
+          come = rw moves.t (come_step p.shape p.order q.z i b.t q lawful here.0.come stands refl);
         }
 
     other : z ≢ q.z → IsAlong p c i z f → IsAlong p e (i + 1) z f
@@ -63,7 +63,7 @@ along_more p c e i bands q b d lawful all stands at moves follows others-follow 
       band = before.band;
       inside = before.inside;
       follows = others-follow z f lt h before;
-      come = come_other p.shape p.order z i f.place q lawful before.come stands (λ r. h (sym r));
+      come = come_other p.shape p.order z i f.t q lawful before.come stands (λ r. h (sym r));
     }
 
 -- behind a tile
@@ -78,7 +78,7 @@ module _ {p : Params} {c : Image} {q : Place} {width depth z : ℕ} {f : Learner
       → IsAlong p e (place_index p.shape p.order q + width * depth) z g
   along_within {g = g} low high moved follows =
       let row = row_fits _ p.shape.columns _ p.shape.columns is.place.row (omega arith) in
-      let gone : g.place ≡ time_of p.shape q + width = omega (arith, moved.place, time_at lawful is z _ along.come low high) in record {
+      let gone : g.t ≡ time_of p.shape q + width = omega (arith, moved.t, time_at lawful is z _ along.come low high) in record {
         band = moved.band ∙ along.band;
         inside = omega (arith, gone, row, is.columns);
         follows = follows;

@@ -9,13 +9,13 @@ use Rattle.sample_prediction.specs.Predictor.{predictor_of}
 use Rattle.sample_prediction.specs.Prediction.{weight_vector}
 use Rattle.sample_prediction.specs.Residual.{run_residuals}
 
--- what a band's predictor knows: its parameters, the place that comes next, the weights there, and the residuals of the piece behind it
+-- what a band's predictor knows: its parameters, the raster index of the place that comes next, the weights there, and the residuals of the piece behind it
 pub record Learner : Type 0 where
   pub predictor : Predictor
   pub shape : Sizes
   pub kind : SampleKind
   pub band : ℕ
-  pub place : ℕ
+  pub t : ℕ
   pub weights : List ℤ
   pub piece : List ℕ
 
@@ -28,7 +28,7 @@ pub record IsMadeFor (p : Params) (b : Learner) : Type 0 where
 -- its weights are those of the image at the place that comes next
 pub record Follows (p : Params) (b : Learner) (c : Image) : Type 0 where
   pub made : IsMadeFor p b
-  pub weights : b.weights ≡ weight_vector p c b.band b.place
+  pub weights : b.weights ≡ weight_vector p c b.band b.t
 
 -- the same predictor, one place on
 pub record MovesOn (old new : Learner) : Type 0 where
@@ -36,7 +36,7 @@ pub record MovesOn (old new : Learner) : Type 0 where
   pub shape : new.shape ≡ old.shape
   pub kind : new.kind ≡ old.kind
   pub band : new.band ≡ old.band
-  pub place : new.place ≡ old.place + 1
+  pub t : new.t ≡ old.t + 1
 
 -- the same predictor, n places on
 pub record MovesBy (n : ℕ) (old new : Learner) : Type 0 where
@@ -44,7 +44,7 @@ pub record MovesBy (n : ℕ) (old new : Learner) : Type 0 where
   pub shape : new.shape ≡ old.shape
   pub kind : new.kind ≡ old.kind
   pub band : new.band ≡ old.band
-  pub place : new.place ≡ old.place + n
+  pub t : new.t ≡ old.t + n
 
 -- n places from row y, column x on are the next ones of a band, at most 64 and all in that row of an image of its shape and kind
 pub record IsPieceNext (b : Learner) (c : Image) (y x n : ℕ) : Type 0 where
@@ -53,11 +53,11 @@ pub record IsPieceNext (b : Learner) (c : Image) (y x n : ℕ) : Type 0 where
   pub place : IsPlace c.shape b.band y x
   pub few : n ≤ 64
   pub inside : x + n ≤ c.shape.columns
-  pub next : b.place ≡ y * c.shape.columns + x
+  pub next : b.t ≡ y * c.shape.columns + x
 
 -- a band's predictor has gone over its next n places, and holds their residuals
 pub record HoldsPiece (c : Image) (n : ℕ) (old new : Learner) : Type 0 where
   pub moved : MovesBy n old new
   pub bound : (i : ℕ) → i < n → slice_index_or new.piece i 0 < 2 ^ c.kind.bits
-  pub residuals : (p : Params) → Follows p old c → take n new.piece ≡ run_residuals p c old.band old.place n
+  pub residuals : (p : Params) → Follows p old c → take n new.piece ≡ run_residuals p c old.band old.t n
   pub follows : (p : Params) → Follows p old c → Follows p new c

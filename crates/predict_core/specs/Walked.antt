@@ -10,9 +10,9 @@ use Rattle.sample_prediction.specs.Residual.{mapped_residual}
 -- band z of a predictor follows the cube to where the walk has come
 pub record IsAlong (p : Params) (c : Image) (i z : ℕ) (b : Learner) : Type 0 where
   pub band : b.band ≡ z
-  pub inside : b.place ≤ p.shape.rows * p.shape.columns
+  pub inside : b.t ≤ p.shape.rows * p.shape.columns
   pub follows : Follows p b c
-  pub come : HasCome p.shape p.order z i b.place
+  pub come : HasCome p.shape p.order z i b.t
 
 -- so do all bands
 abbrev pub AreAlong : Params → Image → ℕ → List Learner → Type 0

@@ -48,7 +48,7 @@ impl Model for Band {
       shape = b.shape;
       kind = b.settings.range.kind;
       band = b.settings.band;
-      place = b.next;
+      t = b.next;
       weights = take b.settings.count b.weights;
       piece = b.piece;
     } };
@@ -64,7 +64,7 @@ impl Band {
     pub fn new(_alloc: Global, params: &Params, z: u32) -> Result<Band, Fault>
         requires lawful { IsLawful params.now }
         requires band { z < params.now.shape.bands }
-        ensures made { IfOk result (λ b. IsMadeFor params.now b × (b.band ≡ z) × (b.place ≡ 0)) }
+        ensures made { IfOk result (λ b. IsMadeFor params.now b × (b.band ≡ z) × (b.t ≡ 0)) }
         ensures follows { IfOk result (λ b. (c : Image) → Follows params.now b c) }
         ensures had { IsOk result }
     {
@@ -92,7 +92,7 @@ impl Band {
 
     /// Returns t, the raster index of the next sample: samples of the band are counted row after row from 0.
     pub fn next(&self) -> u64
-        ensures { result ≡ self.now.place }
+        ensures { result ≡ self.now.t }
     {
         self.next
     }
@@ -107,10 +107,10 @@ impl Band {
         requires shape { cube.now.shape ≡ self.old.shape }
         requires kind { cube.now.kind ≡ self.old.kind }
         requires place { IsPlace cube.now.shape self.old.band y x }
-        requires next { self.old.place ≡ y * cube.now.shape.columns + x }
+        requires next { self.old.t ≡ y * cube.now.shape.columns + x }
         ensures moved { MovesOn self.old self.new }
         ensures bound { result < 2 ^ cube.now.kind.bits }
-        ensures residual { (p : Parameters) → Follows p self.old cube.now → result ≡ mapped_residual p cube.now self.old.band self.old.place }
+        ensures residual { (p : Parameters) → Follows p self.old cube.now → result ≡ mapped_residual p cube.now self.old.band self.old.t }
         ensures follows { (p : Parameters) → Follows p self.old cube.now → Follows p self.new cube.now }
     {
         let t = self.next;
@@ -132,12 +132,12 @@ impl Band {
         requires shape { cube.now.shape ≡ self.old.shape }
         requires kind { cube.now.kind ≡ self.old.kind }
         requires place { IsPlace cube.now.shape self.old.band y x }
-        requires next { self.old.place ≡ y * cube.now.shape.columns + x }
+        requires next { self.old.t ≡ y * cube.now.shape.columns + x }
         requires residual { delta < 2 ^ cube.now.kind.bits }
         ensures moved { MovesOn self.old self.new }
         ensures range { IsSample cube.now.kind result }
         ensures residual { (p : Parameters) → Follows p self.old cube.now
-            → mapped_residual p (put cube.now self.old.band y x result) self.old.band self.old.place ≡ delta }
+            → mapped_residual p (put cube.now self.old.band y x result) self.old.band self.old.t ≡ delta }
         ensures follows { (p : Parameters) → Follows p self.old cube.now → Follows p self.new (put cube.now self.old.band y x result) }
     {
         cube.prove_is_cube();

@@ -27,11 +27,11 @@ impl Band {
         requires place { IsPlace cube.now.shape self.old.band y x }
         requires few { length residuals.old ≤ 64 }
         requires inside { x + length residuals.old ≤ cube.now.shape.columns }
-        requires next { self.old.place ≡ y * cube.now.shape.columns + x }
+        requires next { self.old.t ≡ y * cube.now.shape.columns + x }
         ensures moved { MovesBy (length residuals.old) self.old self.new }
         ensures bound { (i : ℕ) → i < length residuals.new → slice_index residuals.new i < 2 ^ cube.now.kind.bits }
         ensures residuals { (p : Parameters) → Follows p self.old cube.now
-            → residuals.new ≡ run_residuals p cube.now self.old.band self.old.place (length residuals.old) }
+            → residuals.new ≡ run_residuals p cube.now self.old.band self.old.t (length residuals.old) }
         ensures follows { (p : Parameters) → Follows p self.old cube.now → Follows p self.new cube.now }
     {
         cube.prove_is_cube();
@@ -57,11 +57,11 @@ impl Band {
         requires place { IsPlace cube.now.shape self.old.band y x }
         requires few { length residuals.old ≤ 64 }
         requires inside { x + length residuals.old ≤ cube.now.shape.columns }
-        requires next { self.old.place ≡ y * cube.now.shape.columns + x }
+        requires next { self.old.t ≡ y * cube.now.shape.columns + x }
         ensures moved { MovesBy (length residuals.old) self.old self.new }
         ensures bound { (i : ℕ) → i < length residuals.new → slice_index residuals.new i < 2 ^ cube.now.kind.bits }
         ensures residuals { (p : Parameters) → Follows p self.old cube.now
-            → residuals.new ≡ run_residuals p cube.now self.old.band self.old.place (length residuals.old) }
+            → residuals.new ≡ run_residuals p cube.now self.old.band self.old.t (length residuals.old) }
         ensures follows { (p : Parameters) → Follows p self.old cube.now → Follows p self.new cube.now }
     {
         cube.prove_is_cube();

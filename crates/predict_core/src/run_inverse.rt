@@ -33,11 +33,11 @@ impl Band {
         requires place { IsPlace cube.old.shape self.old.band y x }
         requires few { length deltas.now ≤ 64 }
         requires inside { x + length deltas.now ≤ cube.old.shape.columns }
-        requires next { self.old.place ≡ y * cube.old.shape.columns + x }
+        requires next { self.old.t ≡ y * cube.old.shape.columns + x }
         requires residuals_in { (i : ℕ) → i < length deltas.now → slice_index deltas.now i < 2 ^ cube.old.kind.bits }
         ensures moved { MovesBy (length deltas.now) self.old self.new }
         ensures beside { AreAlikeBeside cube.old cube.new self.old.band y x (length deltas.now) }
-        ensures residuals { (p : Parameters) → Follows p self.old cube.old → run_residuals p cube.new self.old.band self.old.place (length deltas.now)
+        ensures residuals { (p : Parameters) → Follows p self.old cube.old → run_residuals p cube.new self.old.band self.old.t (length deltas.now)
             ≡ deltas.now }
         ensures follows { (p : Parameters) → Follows p self.old cube.old → Follows p self.new cube.new }
     {
@@ -65,11 +65,11 @@ impl Band {
         requires place { IsPlace cube.old.shape self.old.band y x }
         requires few { length deltas.now ≤ 64 }
         requires inside { x + length deltas.now ≤ cube.old.shape.columns }
-        requires next { self.old.place ≡ y * cube.old.shape.columns + x }
+        requires next { self.old.t ≡ y * cube.old.shape.columns + x }
         requires residuals_in { (i : ℕ) → i < length deltas.now → slice_index deltas.now i < 2 ^ cube.old.kind.bits }
         ensures moved { MovesBy (length deltas.now) self.old self.new }
         ensures beside { AreAlikeBeside cube.old cube.new self.old.band y x (length deltas.now) }
-        ensures residuals { (p : Parameters) → Follows p self.old cube.old → run_residuals p cube.new self.old.band self.old.place (length deltas.now)
+        ensures residuals { (p : Parameters) → Follows p self.old cube.old → run_residuals p cube.new self.old.band self.old.t (length deltas.now)
             ≡ deltas.now }
         ensures follows { (p : Parameters) → Follows p self.old cube.old → Follows p self.new cube.new }
     {
@@ -88,11 +88,11 @@ impl Band {
         requires shape { cube.old.shape ≡ self.old.shape }
         requires kind { cube.old.kind ≡ self.old.kind }
         requires place { IsPlace cube.old.shape self.old.band y x }
-        requires next { self.old.place ≡ y * cube.old.shape.columns + x }
+        requires next { self.old.t ≡ y * cube.old.shape.columns + x }
         requires residual { delta < 2 ^ cube.old.kind.bits }
         ensures moved { MovesOn self.old self.new }
         ensures written { cube.new ≡ put cube.old self.old.band y x result }
-        ensures residual { (p : Parameters) → Follows p self.old cube.old → mapped_residual p cube.new self.old.band self.old.place ≡ delta }
+        ensures residual { (p : Parameters) → Follows p self.old cube.old → mapped_residual p cube.new self.old.band self.old.t ≡ delta }
         ensures follows { (p : Parameters) → Follows p self.old cube.old → Follows p self.new cube.new }
     {
         let band = self.settings.band;

@@ -2,7 +2,7 @@
 use Rattle.std.proofs.Common.{◌≡◌, ℕ, ◌+◌, ◌-◌, ◌*◌, ◌/◌, ◌%◌, ◌^◌, ◌<◌, ◌≤◌, Bool, true, false, cond, ltb, List, drop, Ok, Err, refl, sym, ◌∙◌, arith, inl}
 use Rattle.std.proofs.Common.{inr}
 use Rattle.std.specs.Int.Count.{count_leading_zeros}
-use Rattle.std.proofs.lemmas.Bool.{cases_lt, lt-ltb, le-ltb}
+use Rattle.std.proofs.lemmas.Bool.{cases_lt, lt-ltb, le-ltb, false≢true}
 use Rattle.cube_core.specs.declared.fault.Fault.TheVariants.{BadCode}
 use Rattle.header_bits.specs.Windows.{IsAhead}
 use Rattle.header_bits.proofs.Ahead.{zeros_ahead, limit_ahead, number_ahead}
@@ -11,13 +11,13 @@ use Rattle.sample_adaptive.specs.Words.{IsCode}
 use Rattle.sample_adaptive.specs.Reading.{word_at, plain_at, escape_at}
 
 -- a plain form
-pub plain_ahead : (count place : ℕ) (c : Code) (bits : List Bool) (word zeros low : ℕ) → IsCode c → word < 2 ^ 64 → IsAhead 57 bits word
+pub plain_ahead : (count index : ℕ) (c : Code) (bits : List Bool) (word zeros low : ℕ) → IsCode c → word < 2 ^ 64 → IsAhead 57 bits word
     → zeros ≡ count_leading_zeros 64 word → zeros < c.limit
     → low ≡ word / 2 ^ (64 - (zeros + 1 + c.low)) % 2 ^ c.low
-    → word_at count place c bits ≡ cond (ltb (zeros * 2 ^ c.low + low) (2 ^ c.bits)) (Ok (zeros * 2 ^ c.low + low, drop (zeros + 1 + c.low) bits))
-    (Err (BadCode place))
+    → word_at count index c bits ≡ cond (ltb (zeros * 2 ^ c.low + low) (2 ^ c.bits)) (Ok (zeros * 2 ^ c.low + low, drop (zeros + 1 + c.low) bits))
+    (Err (BadCode index))
 unfolding word_at plain_at
-plain_ahead count place c bits word zeros low code below h is few behind =
+plain_ahead count index c bits word zeros low code below h is few behind =
     rw (
       zeros_ahead count c.limit 57 bits word zeros below (omega arith) h (omega (arith, code.limit)) is few,
       lt-ltb zeros c.limit few,
@@ -27,12 +27,12 @@ plain_ahead count place c bits word zeros low code below h is few behind =
     refl
 
 -- an escape
-pub escape_ahead : (count place : ℕ) (c : Code) (bits : List Bool) (word number : ℕ) → IsCode c → word < 2 ^ 64 → IsAhead 57 bits word
+pub escape_ahead : (count index : ℕ) (c : Code) (bits : List Bool) (word number : ℕ) → IsCode c → word < 2 ^ 64 → IsAhead 57 bits word
     → c.limit ≤ count_leading_zeros 64 word
     → number ≡ word / 2 ^ (64 - (c.limit + c.bits)) % 2 ^ c.bits
-    → word_at count place c bits ≡ cond (ltb (number / 2 ^ c.low) c.limit) (Err (BadCode place)) (Ok (number, drop (c.limit + c.bits) bits))
+    → word_at count index c bits ≡ cond (ltb (number / 2 ^ c.low) c.limit) (Err (BadCode index)) (Ok (number, drop (c.limit + c.bits) bits))
 unfolding word_at escape_at
-escape_ahead count place c bits word number code below h many behind =
+escape_ahead count index c bits word number code below h many behind =
     rw (
       limit_ahead count c.limit 57 bits word below h (omega (arith, code.limit)) many,
       le-ltb c.limit c.limit (omega arith),
@@ -41,45 +41,42 @@ escape_ahead count place c bits word number code below h many behind =
     )
     refl
 
-not_both : false ≡ true → ⊥
-not_both e = cc
-
 not_below : (n most : ℕ) → (n < most → false ≡ true) → most ≤ n
 not_below n most h = elim (cases_lt n most) [
-  | inl lt ↦ absurd (not_both (h lt))
+  | inl lt ↦ absurd (false≢true (h lt))
   | inr le ↦ le
 ]
 
 not_within : (most n : ℕ) → (most ≤ n → false ≡ true) → n < most
 not_within most n h = elim (cases_lt n most) [
   | inl lt ↦ lt
-  | inr le ↦ absurd (not_both (h le))
+  | inr le ↦ absurd (false≢true (h le))
 ]
 
-pub plain_taken : (count place : ℕ) (c : Code) (bits : List Bool) (word zeros low number after : ℕ) → IsCode c → word < 2 ^ 64 → IsAhead 57 bits word
+pub plain_taken : (count index : ℕ) (c : Code) (bits : List Bool) (word zeros low number after : ℕ) → IsCode c → word < 2 ^ 64 → IsAhead 57 bits word
     → zeros ≡ count_leading_zeros 64 word → zeros < c.limit
     → low ≡ word / 2 ^ (64 - (zeros + 1 + c.low)) % 2 ^ c.low → number ≡ zeros * 2 ^ c.low + low → number < 2 ^ c.bits → after ≡ zeros + 1 + c.low
-    → word_at count place c bits ≡ Ok (number, drop after bits)
-plain_taken count place c bits word zeros low number after code below h is few behind value fits place_after =
-    plain_ahead count place c bits word zeros low code below h is few behind ∙ rw (sym value, lt-ltb number (2 ^ c.bits) fits, sym place_after) refl
+    → word_at count index c bits ≡ Ok (number, drop after bits)
+plain_taken count index c bits word zeros low number after code below h is few behind value fits place_after =
+    plain_ahead count index c bits word zeros low code below h is few behind ∙ rw (sym value, lt-ltb number (2 ^ c.bits) fits, sym place_after) refl
 
-pub plain_refused : (count place : ℕ) (c : Code) (bits : List Bool) (word zeros low : ℕ) → IsCode c → word < 2 ^ 64 → IsAhead 57 bits word
+pub plain_refused : (count index : ℕ) (c : Code) (bits : List Bool) (word zeros low : ℕ) → IsCode c → word < 2 ^ 64 → IsAhead 57 bits word
     → zeros ≡ count_leading_zeros 64 word → zeros < c.limit
     → low ≡ word / 2 ^ (64 - (zeros + 1 + c.low)) % 2 ^ c.low → (zeros * 2 ^ c.low + low < 2 ^ c.bits → false ≡ true)
-    → word_at count place c bits ≡ Err (BadCode place)
-plain_refused count place c bits word zeros low code below h is few behind large =
-    plain_ahead count place c bits word zeros low code below h is few behind ∙ rw (le-ltb (zeros * 2 ^ c.low + low) (2 ^ c.bits) (not_below _ _ large)) refl
+    → word_at count index c bits ≡ Err (BadCode index)
+plain_refused count index c bits word zeros low code below h is few behind large =
+    plain_ahead count index c bits word zeros low code below h is few behind ∙ rw (le-ltb (zeros * 2 ^ c.low + low) (2 ^ c.bits) (not_below _ _ large)) refl
 
-pub escape_taken : (count place : ℕ) (c : Code) (bits : List Bool) (word number after : ℕ) → IsCode c → word < 2 ^ 64 → IsAhead 57 bits word
+pub escape_taken : (count index : ℕ) (c : Code) (bits : List Bool) (word number after : ℕ) → IsCode c → word < 2 ^ 64 → IsAhead 57 bits word
     → c.limit ≤ count_leading_zeros 64 word
     → number ≡ word / 2 ^ (64 - (c.limit + c.bits)) % 2 ^ c.bits → c.limit ≤ number / 2 ^ c.low → after ≡ c.limit + c.bits
-    → word_at count place c bits ≡ Ok (number, drop after bits)
-escape_taken count place c bits word number after code below h many behind needed place_after =
-    escape_ahead count place c bits word number code below h many behind ∙ rw (le-ltb (number / 2 ^ c.low) c.limit needed, sym place_after) refl
+    → word_at count index c bits ≡ Ok (number, drop after bits)
+escape_taken count index c bits word number after code below h many behind needed place_after =
+    escape_ahead count index c bits word number code below h many behind ∙ rw (le-ltb (number / 2 ^ c.low) c.limit needed, sym place_after) refl
 
-pub escape_refused : (count place : ℕ) (c : Code) (bits : List Bool) (word number : ℕ) → IsCode c → word < 2 ^ 64 → IsAhead 57 bits word
+pub escape_refused : (count index : ℕ) (c : Code) (bits : List Bool) (word number : ℕ) → IsCode c → word < 2 ^ 64 → IsAhead 57 bits word
     → c.limit ≤ count_leading_zeros 64 word
     → number ≡ word / 2 ^ (64 - (c.limit + c.bits)) % 2 ^ c.bits → (c.limit ≤ number / 2 ^ c.low → false ≡ true)
-    → word_at count place c bits ≡ Err (BadCode place)
-escape_refused count place c bits word number code below h many behind needless =
-    escape_ahead count place c bits word number code below h many behind ∙ rw (lt-ltb (number / 2 ^ c.low) c.limit (not_within _ _ needless)) refl
+    → word_at count index c bits ≡ Err (BadCode index)
+escape_refused count index c bits word number code below h many behind needless =
+    escape_ahead count index c bits word number code below h many behind ∙ rw (lt-ltb (number / 2 ^ c.low) c.limit (not_within _ _ needless)) refl

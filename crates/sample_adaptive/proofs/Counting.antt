@@ -1,12 +1,14 @@
 -- Statistics stay in range, and the code parameter from the lengths of two numbers.
-use Rattle.std.proofs.Common.{cond, ◌≡◌, ℕ, zero, suc, ◌+◌, ◌-◌, ◌*◌, ◌/◌, ◌%◌, ◌^◌, ◌<◌, ◌≤◌, min, Bool, true, false, leb, refl, sym, ap, ◌∙◌, inl, inr, arith}
-use Rattle.std.proofs.lemmas.Bool.{cases_lt, lt-ltb, le-ltb, le-leb, lt-leb, leb-true}
+use Rattle.std.proofs.Common.{◌≡◌, ℕ, zero, suc, ◌+◌, ◌-◌, ◌*◌, ◌/◌, ◌%◌, ◌^◌, ◌<◌, ◌≤◌, min, Bool, leb, refl, sym, ap, ◌∙◌, inl, inr, arith}
+use Rattle.std.proofs.lemmas.Bool.{cases_lt, lt-ltb, le-ltb, le-leb, lt-leb, leb-true, true≢false}
 use Rattle.std.proofs.lemmas.Nat.{pow_pos, pow-add, mul-le}
 use Rattle.std.proofs.Math.Nat.{pow-succ', mod-eq_of_lt, mul-lt-mul_of_pos_left}
 use Rattle.std.proofs.Math.Pow.{pow_mono}
+use Rattle.cube_core.specs.Greatest.{greatest}
+use Rattle.cube_core.proofs.Greatest.{greatest_is, greatest_holds}
 use Rattle.sample_adaptive.specs.declared.statistics.Statistics.{Statistics}
 use Rattle.sample_adaptive.specs.Laws.{ParameterIsGreatest}
-use Rattle.sample_adaptive.specs.Statistics.{AreStatistics, start_statistics, next_statistics, greatest, level, code_parameter}
+use Rattle.sample_adaptive.specs.Statistics.{AreStatistics, start_statistics, next_statistics, level, code_parameter}
 
 -- ---- the first statistics
 
@@ -61,16 +63,6 @@ next_in_range gamma_star s number least h small =
 
 -- ---- the code parameter
 
--- the greatest of the numbers that pass, where these are those up to k
-pub greatest_is : (f : ℕ → Bool) (n k : ℕ) → ((j : ℕ) → j ≤ k → f j ≡ true) → ((j : ℕ) → k < j → f j ≡ false) → greatest f n ≡ min k n
-unfolding greatest
-greatest_is f zero k up down = omega arith
-greatest_is f (suc n) k up down =
-    elim (cases_lt k (suc n)) [
-      | inl lt ↦ rw (down (suc n) lt, greatest_is f n k up down) (omega arith)
-      | inr le ↦ rw (up (suc n) le) (omega arith)
-    ]
-
 twice_power : (counter k : ℕ) → counter * 2 ^ (k + 1) ≡ 2 * (counter * 2 ^ k)
 twice_power counter k = let e : 2 ^ (k + 1) ≡ 2 * 2 ^ k = (let e : k + 1 ≡ suc k = omega arith in rw e (pow-succ' 2 k)) in rw e (grind arith)
 
@@ -79,9 +71,9 @@ pub code_parameter_is : (bits : ℕ) (s : Statistics) (k : ℕ) → 2 * s.counte
 unfolding code_parameter
 code_parameter_is bits s k large fits passes =
     rw (le-ltb _ _ large)
-    (greatest_is (λ j. leb (s.counter * 2 ^ j) (level s)) (bits - 2) k
-    (λ j le. le-leb _ _ (let p = mul-le s.counter (2 ^ j) s.counter (2 ^ k) (omega arith) (pow_mono le) in omega arith))
-    (λ j lt. lt-leb _ _ (let p = mul-le s.counter (2 ^ (k + 1)) s.counter (2 ^ j) (omega arith) (pow_mono (omega arith)) in
+    (greatest_is (λ j. leb (s.counter * 2 ^ j) (level s)) (min k (bits - 2)) (bits - 2) (omega arith)
+    (le-leb _ _ (let p = mul-le s.counter (2 ^ min k (bits - 2)) s.counter (2 ^ k) (omega arith) (pow_mono (omega arith)) in omega arith))
+    (λ j above most. lt-leb _ _ (let p = mul-le s.counter (2 ^ (k + 1)) s.counter (2 ^ j) (omega arith) (pow_mono (omega arith)) in
     omega (arith, twice_power s.counter k))))
 
 pub code_parameter_small : (bits : ℕ) (s : Statistics) → level s < 2 * s.counter → 0 ≡ code_parameter bits s
@@ -162,32 +154,6 @@ product_whole counter low few le =
     let power : 2 ^ low ≤ 2 ^ 14 = pow_mono le in
     mod-eq_of_lt (omega (arith, mul-le counter (2 ^ low) 512 16384 (omega arith) (omega (arith, power))))
 
--- ---- the greatest that passes
-
-not_both : (b : Bool) → b ≡ true → b ≡ false → ⊥
-not_both true p q = cc
-not_both false p q = cc
-
-abbrev IsGreatest : (ℕ → Bool) → ℕ → ℕ → Type 0
-IsGreatest f n g = (g ≤ n) × (1 ≤ g → f g ≡ true) × ((m : ℕ) → m ≤ n → f m ≡ true → m ≤ g)
-
-greatest_holds : (f : ℕ → Bool) (n : ℕ) → IsGreatest f n (greatest f n)
-unfolding greatest
-greatest_holds f zero = (omega arith, λ p. absurd (omega arith), λ m le h. le)
-greatest_holds f (suc n) = by_test (f (suc n)) refl (greatest_holds f n)
-  where
-    by_test : (b : Bool) → f (suc n) ≡ b → IsGreatest f n (greatest f n) → IsGreatest f (suc n) (cond b (suc n) (greatest f n))
-    by_test true is h = (omega arith, λ p. is, λ m le passes. le)
-    by_test false is h = (
-      omega (arith, h.0),
-      h.1,
-      λ m le passes.
-          elim (cases_lt n m) [
-            | inl above ↦ (let e : m ≡ suc n = omega arith in absurd (not_both (f m) passes (ap f e ∙ is)))
-            | inr below ↦ h.2 m below passes
-          ],
-    )
-
 pub parameter_is_greatest : ParameterIsGreatest
 unfolding code_parameter
 parameter_is_greatest bits s =
@@ -198,9 +164,10 @@ parameter_is_greatest bits s =
           (let f : ℕ → Bool = λ k. leb (s.counter * 2 ^ k) (level s) in
           let h = greatest_holds f (bits - 2) in
           rw (le-ltb _ _ large) (record {
-            within = h.0;
+            within = h.1;
             none = λ small. absurd (omega arith);
-            fits = λ p. leb-true _ _ (h.1 p);
-            greatest = λ _ j le fits. h.2 j le (le-leb _ _ fits);
+            fits = λ p. leb-true _ _ (h.0 p);
+            greatest = λ _ j le fits.
+                elim (cases_lt (greatest f (bits - 2)) j) [ inl lt ↦ absurd (true≢false (sym (le-leb _ _ fits) ∙ h.2 j lt le)) | inr most ↦ most ];
           }))
     ]

@@ -108,21 +108,21 @@ module _ (p : Params) (n count : ℕ) (zs ts : ℕ → ℕ)
       rw (next_first (places p.shape p.order) _ q.0 k q.1)
       ((q.2, q.3, λ number. rw (more number, (take_next (places p.shape p.order) _ q.0 q.1).1) at (others number).0), ap suc (rw (more 0) at (others 0).1))
 
-pub each_given : (r : Result (Unit {0}) Fault) (zs ts : ℕ → ℕ) (place : ℕ) (p : Params) (old new : Counts) (numbers list : List ℕ) (bits : List Bool)
-    (unread : Unread) (left : List Bool) → GetsEach zs ts 0 place r old unread new left list → length new.bands ≡ length old.bands
-    → HasGiven p old numbers bits → place ≡ length numbers
+pub each_given : (r : Result (Unit {0}) Fault) (zs ts : ℕ → ℕ) (index : ℕ) (p : Params) (old new : Counts) (numbers list : List ℕ) (bits : List Bool)
+    (unread : Unread) (left : List Bool) → GetsEach zs ts 0 index r old unread new left list → length new.bands ≡ length old.bands
+    → HasGiven p old numbers bits → index ≡ length numbers
     → ((i : ℕ) (before : List ℕ) → i < length list → length before ≡ length numbers + i → IsNext p before (zs i) (ts i))
     → GivesMore (λ _. list) r p numbers bits unread new left
-each_given r zs ts place p old new numbers list bits unread left gets kept h at next =
+each_given r zs ts index p old new numbers list bits unread left gets kept h at next =
     let each = are_each p (length numbers) (length list) zs ts next (length list) 0 numbers (omega arith) (omega arith) in
     gives_more (λ _. list) r p old new numbers bits unread left (length list) h kept (λ _. refl)
     (gets (settings p) _ _ numbers (words_given h.read).count each.1 each.0 h.taken at)
 
-pub next_given : (r : Result ℕ Fault) (z t place : ℕ) (p : Params) (old new : Counts) (numbers : List ℕ) (bits : List Bool) (unread : Unread)
-    (left : List Bool) → GetsAt z t place r old unread new left → length new.bands ≡ length old.bands → HasGiven p old numbers bits
-    → place ≡ length numbers → IsNext p numbers z t → GivesMore (λ number. number ∷ []) r p numbers bits unread new left
+pub next_given : (r : Result ℕ Fault) (z t index : ℕ) (p : Params) (old new : Counts) (numbers : List ℕ) (bits : List Bool) (unread : Unread)
+    (left : List Bool) → GetsAt z t index r old unread new left → length new.bands ≡ length old.bands → HasGiven p old numbers bits
+    → index ≡ length numbers → IsNext p numbers z t → GivesMore (λ number. number ∷ []) r p numbers bits unread new left
 unfolding words_at
-next_given r z t place p old new numbers bits unread left gets kept h at next =
+next_given r z t index p old new numbers bits unread left gets kept h at next =
     gives_more (λ number. number ∷ []) r p old new numbers bits unread left 1 h kept (λ _. refl)
     (rw (next_first (places p.shape p.order) _ next.0 0 next.1) (one r ((rw at at gets) (settings p) _ h.taken next.3)))
   where

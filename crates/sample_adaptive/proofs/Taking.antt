@@ -130,11 +130,11 @@ taken_along c v places numbers p number len h =
     taken_alike c v _ _ (λ z. rw (turned z) (sym (band_push z places numbers p number len))) h
 
 -- the word that stands next, by the earlier numbers of its band
-pub word_there : (z t place : ℕ) (old : Counts) (unread : Unread) (r : Result (ℕ × List Bool) Fault) (c : CoderSettings) (gone : List Place)
-    (before : List ℕ) (p : Place) → z < length old.bands → word_at unread.count place (code_by old z t) unread.left ≡ r → p.z ≡ z
-    → HasTaken c old (λ b. band_numbers b gone before) → t ≡ length (band_numbers z gone before) → place ≡ length before
+pub word_there : (z t index : ℕ) (old : Counts) (unread : Unread) (r : Result (ℕ × List Bool) Fault) (c : CoderSettings) (gone : List Place)
+    (before : List ℕ) (p : Place) → z < length old.bands → word_at unread.count index (code_by old z t) unread.left ≡ r → p.z ≡ z
+    → HasTaken c old (λ b. band_numbers b gone before) → t ≡ length (band_numbers z gone before) → index ≡ length before
     → word_at unread.count (length before) (code_at c p.z (band_numbers p.z gone before)) unread.left ≡ r
-word_there z t place old unread r c gone before p lt read own taken is at =
+word_there z t index old unread r c gone before p lt read own taken is at =
     rw (own, ← at, ← code_is c old (λ b. band_numbers b gone before) z t taken lt is) read
 
 -- ---- at the start

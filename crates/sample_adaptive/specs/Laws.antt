@@ -32,9 +32,9 @@ OneBody =
 -- a number is read exactly where its code word stands
 abbrev pub WordIsRead : Type 0
 WordIsRead =
-    (count place : ℕ) (c : Code) (n : ℕ) (bits rest : List Bool)
-    → (n < 2 ^ c.bits → bits ≡ code_word c n ++ rest → word_at count place c bits ≡ Ok (n, rest))
-    × (word_at count place c bits ≡ Ok (n, rest) → (n < 2 ^ c.bits) × (bits ≡ code_word c n ++ rest))
+    (count index : ℕ) (c : Code) (n : ℕ) (bits rest : List Bool)
+    → (n < 2 ^ c.bits → bits ≡ code_word c n ++ rest → word_at count index c bits ≡ Ok (n, rest))
+    × (word_at count index c bits ≡ Ok (n, rest) → (n < 2 ^ c.bits) × (bits ≡ code_word c n ++ rest))
 
 -- a form stands next
 pub record Begins (c : Code) (f : Form) (bits rest : List Bool) : Type 0 where
@@ -44,13 +44,13 @@ pub record Begins (c : Code) (f : Form) (bits rest : List Bool) : Type 0 where
 -- bits that are said to end too early begin with no form
 abbrev pub TruncatedIsNoForm : Type 0
 TruncatedIsNoForm =
-    (count place : ℕ) (c : Code) (bits : List Bool) → word_at count place c bits ≡ Err (Truncated count)
+    (count index : ℕ) (c : Code) (bits : List Bool) → word_at count index c bits ≡ Err (Truncated count)
     → (f : Form) (rest : List Bool) → Begins c f bits rest → ⊥
 
 -- a bad code is a form that no number of D bits has
 abbrev pub BadCodeIsNoWord : Type 0
 BadCodeIsNoWord =
-    (count place : ℕ) (c : Code) (bits : List Bool) → word_at count place c bits ≡ Err (BadCode place)
+    (count index : ℕ) (c : Code) (bits : List Bool) → word_at count index c bits ≡ Err (BadCode index)
     → (f : Form) × (rest : List Bool) × Begins c f bits rest × ((n : ℕ) → n < 2 ^ c.bits → form_of c n ≡ f → ⊥)
 
 -- the numbers of a body are read exactly where the body stands

@@ -1,9 +1,9 @@
 -- Settings and sizes of the worked examples.
-use Rattle.std.specs.Prelude.{ℕ, ◌-◌, ◌%◌, Bool, false, List, ◌++◌, length, replicate}
+use Rattle.std.specs.Prelude.{ℕ, List}
 use Rattle.header_bits.specs.declared.params.CountStart.TheVariants.{Constant, Each}
 use Rattle.cube_core.specs.declared.order.Place.{Place}
 use Rattle.cube_core.specs.declared.order.Order.TheVariants.{Bsq, Bi}
-use Rattle.cube_core.specs.Shape.{Sizes}
+use Rattle.cube_core.specs.Rows.{sizes}
 use Rattle.cube_core.specs.Order.{places}
 use Rattle.sample_adaptive.specs.Statistics.{CoderSettings}
 
@@ -24,9 +24,6 @@ rescaling = record common { gamma_star = 4 }
 abbrev pub with_table : List ℕ → CoderSettings
 with_table entries = record common { start = Each entries }
 
-abbrev pub sizes : ℕ → ℕ → ℕ → Sizes
-sizes columns rows bands = record { columns = columns; rows = rows; bands = bands }
-
 -- band after band
 abbrev pub bands_apart : ℕ → ℕ → ℕ → List Place
 bands_apart columns rows bands = places (sizes columns rows bands) Bsq
@@ -34,7 +31,3 @@ bands_apart columns rows bands = places (sizes columns rows bands) Bsq
 -- by groups of so many bands
 abbrev pub bands_in_groups : ℕ → ℕ → ℕ → ℕ → List Place
 bands_in_groups depth columns rows bands = places (sizes columns rows bands) (Bi depth)
-
--- bits, and the zeros that fill the last byte
-abbrev pub filled : List Bool → List Bool
-filled bits = bits ++ replicate ((8 - length bits % 8) % 8) false

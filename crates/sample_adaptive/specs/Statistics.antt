@@ -1,5 +1,6 @@
 -- The statistics of the sample-adaptive coder, and the code parameter (CCSDS 123.0-B-1, "Adaptive code selection statistics").
-use Rattle.std.specs.Prelude.{ℕ, zero, suc, ◌+◌, ◌-◌, ◌*◌, ◌/◌, ◌^◌, ◌<◌, ◌≤◌, nat_le, nat_lt, Bool, if◌then◌else◌, List, [], ◌∷◌, slice_index}
+use Rattle.std.specs.Prelude.{ℕ, ◌+◌, ◌-◌, ◌*◌, ◌/◌, ◌^◌, ◌<◌, ◌≤◌, nat_le, nat_lt, if◌then◌else◌, List, [], ◌∷◌, slice_index}
+use Rattle.cube_core.specs.Greatest.{greatest}
 use Rattle.header_bits.specs.declared.params.CountStart.{CountStart}
 use Rattle.header_bits.specs.declared.params.CountStart.TheVariants.{Constant, Each}
 use Rattle.sample_adaptive.specs.declared.statistics.Statistics.{Statistics}
@@ -47,11 +48,6 @@ counter c z numbers = (statistics c z numbers).counter
 -- Σ after numbers of band z
 abbrev pub accumulator : CoderSettings → ℕ → List ℕ → ℕ
 accumulator c z numbers = (statistics c z numbers).accumulator
-
--- the greatest number up to n that passes a test, and 0 where none does
-unfoldable pub greatest : (ℕ → Bool) → ℕ → ℕ
-greatest passes zero = 0
-greatest passes (suc n) = if passes (suc n) then suc n else greatest passes n
 
 -- what Γ·2^k is compared with: Σ + floor(49·Γ / 128)
 abbrev pub level : Statistics → ℕ

@@ -86,12 +86,12 @@ PutsColumn z t (number ∷ numbers) old written new written_now =
 
 -- whatever numbers were taken before, of which band z has t: the number whose code word stands next was taken, or the first fault is answered, at a place
 abbrev pub GetsAt : ℕ → ℕ → ℕ → Result ℕ Fault → Counts → Unread → Counts → List Bool → Type 0
-GetsAt z t place result old unread new left =
+GetsAt z t index result old unread new left =
     (c : CoderSettings) (taken : ℕ → List ℕ) → HasTaken c old taken → t ≡ length (taken z)
-    → Reads (λ number. number) result left (word_at unread.count place (code_at c z (taken z)) unread.left)
+    → Reads (λ number. number) result left (word_at unread.count index (code_at c z (taken z)) unread.left)
     × IfOk result (λ number. HasTaken c new (with_number taken z number))
 
--- the place of the fault is the number's own in its band
+-- the index of the fault is the number's own in its band
 abbrev pub GetsNumber : ℕ → ℕ → Result ℕ Fault → Counts → Unread → Counts → List Bool → Type 0
 GetsNumber z t result old unread new left = GetsAt z t t result old unread new left
 
@@ -105,21 +105,21 @@ AreEach zs ts i gone before (p ∷ places) =
 -- numbers at such places: whatever numbers were taken along places before, those whose code words stand next were given and taken; or the answer is the
 -- first fault of so many places
 abbrev pub GetsEach : (ℕ → ℕ) → (ℕ → ℕ) → ℕ → ℕ → Result (Unit {0}) Fault → Counts → Unread → Counts → List Bool → List ℕ → Type 0
-GetsEach zs ts i place result old unread new left numbers =
+GetsEach zs ts i index result old unread new left numbers =
     (c : CoderSettings) (gone places : List Place) (before : List ℕ) → length before ≡ length gone → length numbers ≡ length places
-    → AreEach zs ts i gone before places → HasTaken c old (λ b. band_numbers b gone before) → place ≡ length before
+    → AreEach zs ts i gone before places → HasTaken c old (λ b. band_numbers b gone before) → index ≡ length before
     → Reads (λ _. numbers) result left (words_at unread.count c gone before places unread.left)
     × IfOk result (λ _. HasTaken c new (λ b. band_numbers b (gone ++ places) (before ++ numbers)))
 
 -- numbers of one band that follow one another, from its number t on
 abbrev pub GetsRun : ℕ → ℕ → ℕ → Result (Unit {0}) Fault → Counts → Unread → Counts → List Bool → List ℕ → Type 0
-GetsRun z t place result old unread new left numbers = GetsEach (λ i. z) (λ i. t + i) 0 place result old unread new left numbers
+GetsRun z t index result old unread new left numbers = GetsEach (λ i. z) (λ i. t + i) 0 index result old unread new left numbers
 
 -- number t of each of bands one above another, from band z on
 abbrev pub GetsColumn : ℕ → ℕ → ℕ → Result (Unit {0}) Fault → Counts → Unread → Counts → List Bool → List ℕ → Type 0
-GetsColumn z t place result old unread new left numbers = GetsEach (λ i. z + i) (λ i. t) 0 place result old unread new left numbers
+GetsColumn z t index result old unread new left numbers = GetsEach (λ i. z + i) (λ i. t) 0 index result old unread new left numbers
 
 -- whatever comes behind the first i numbers, is one list with them
-pub record Reaches (zs ts : ℕ → ℕ) (k place i : ℕ) (v w : Counts) (first now : Unread) (numbers : List ℕ) : Type 0 where
+pub record Reaches (zs ts : ℕ → ℕ) (k index i : ℕ) (v w : Counts) (first now : Unread) (numbers : List ℕ) : Type 0 where
   pub behind : (r : Result (Unit {0}) Fault) (new : Counts) (left : List Bool) (ys : List ℕ)
-      → GetsEach zs ts (k + i) (place + i) r w now new left ys → GetsEach zs ts k place r v first new left (take i numbers ++ ys)
+      → GetsEach zs ts (k + i) (index + i) r w now new left ys → GetsEach zs ts k index r v first new left (take i numbers ++ ys)

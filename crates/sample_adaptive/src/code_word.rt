@@ -6,7 +6,7 @@ ghost use Rattle.header_bits.specs.Bits.{bits_of};
 ghost use Rattle.header_bits.specs.Reading.{Reads};
 ghost use Rattle.header_bits.specs.Windows.{IsAhead};
 ghost use Rattle.sample_adaptive.specs.Words.{IsCode, code_word};
-ghost use Rattle.sample_adaptive.specs.Reading.{placed_at, word_at};
+ghost use Rattle.sample_adaptive.specs.Reading.{fault_at, word_at};
 
 use cube_core::fault::Fault;
 use header_bits::bit_reader::{BitReader, bits_behind};
@@ -80,23 +80,23 @@ pub(crate) fn push_both(first: Word, second: Word, writer: &mut BitWriter)
 
 /// Reads the number whose code word stands next, and returns it.
 ///
-/// Returns `BadCode` with the place if the bits are of a code word's form but no number's, and `Truncated` if they end
+/// Returns `BadCode` with the index if the bits are of a code word's form but no number's, and `Truncated` if they end
 /// within one. Then the reader keeps its position.
 #[inline(always)]
-pub(crate) fn take_word(code: Code, place: u64, reader: &mut BitReader) -> Result<u16, Fault>
+pub(crate) fn take_word(code: Code, index: u64, reader: &mut BitReader) -> Result<u16, Fault>
     requires { IsCode code }
-    ensures reads { Reads (λ number. number) result reader.new.left (word_at reader.old.count place code reader.old.left) }
+    ensures reads { Reads (λ number. number) result reader.new.left (word_at reader.old.count index code reader.old.left) }
     ensures below { IfOk result (λ number. number < 2 ^ code.bits) }
     ensures count { reader.new.count ≡ reader.old.count }
     ensures same { OnErr result (reader.new ≡ reader.old) }
-    ensures placed { IfErr result (λ fault. placed_at place fault ≡ fault) }
+    ensures indexed { IfErr result (λ fault. fault_at index fault ≡ fault) }
 {
     match reader.peek() {
-        Some(word) => take_from(code, place, word, reader),
+        Some(word) => take_from(code, index, word, reader),
         None => {
             // Takes a copy of the reader and separate fields of the code, so that both stay in registers.
             let mut ahead = reader.fork();
-            let number = take_last(code.limit, code.low, code.bits, place, &mut ahead)?;
+            let number = take_last(code.limit, code.low, code.bits, index, &mut ahead)?;
             *reader = ahead;
             Ok(number)
         }
@@ -107,26 +107,26 @@ pub(crate) fn take_word(code: Code, place: u64, reader: &mut BitReader) -> Resul
 #[inline(always)]
 pub(crate) fn take_from(
     code: Code,
-    place: u64,
+    index: u64,
     word: u64,
     reader: &mut BitReader,
 ) -> Result<u16, Fault>
     requires code { IsCode code }
     requires ahead { IsAhead 57 reader.old.left word }
-    ensures reads { Reads (λ number. number) result reader.new.left (word_at reader.old.count place code reader.old.left) }
+    ensures reads { Reads (λ number. number) result reader.new.left (word_at reader.old.count index code reader.old.left) }
     ensures below { IfOk result (λ number. number < 2 ^ code.bits) }
     ensures count { reader.new.count ≡ reader.old.count }
     ensures same { OnErr result (reader.new ≡ reader.old) }
-    ensures placed { IfErr result (λ fault. placed_at place fault ≡ fault) }
+    ensures indexed { IfErr result (λ fault. fault_at index fault ≡ fault) }
 {
     let zeros = word.leading_zeros();
     if zeros < code.limit {
         let low = bits_behind(word, zeros + 1, code.low);
-        let number = plain(code, place, u64::from(zeros), low)?;
+        let number = plain(code, index, u64::from(zeros), low)?;
         reader.skip(u64::from(zeros + 1 + code.low));
         Ok(number)
     } else {
-        let number = escaped(code, place, bits_behind(word, code.limit, code.bits))?;
+        let number = escaped(code, index, bits_behind(word, code.limit, code.bits))?;
         reader.skip(u64::from(code.limit + code.bits));
         Ok(number)
     }
@@ -141,59 +141,59 @@ fn take_last(
     limit: u32,
     low: u32,
     bits: u32,
-    place: u64,
+    index: u64,
     reader: &mut BitReader,
 ) -> Result<u16, Fault>
     requires { IsCode (record { limit = limit; low = low; bits = bits }) }
-    ensures reads { Reads (λ number. number) result reader.new.left (word_at reader.old.count place (record {
+    ensures reads { Reads (λ number. number) result reader.new.left (word_at reader.old.count index (record {
       limit = limit;
       low = low;
       bits = bits;
     }) reader.old.left) }
     ensures below { IfOk result (λ number. number < 2 ^ bits) }
     ensures count { reader.new.count ≡ reader.old.count }
-    ensures placed { IfErr result (λ fault. placed_at place fault ≡ fault) }
+    ensures indexed { IfErr result (λ fault. fault_at index fault ≡ fault) }
 {
     let code = Code { limit, low, bits };
     let zeros = reader.count_zeros(u64::from(code.limit))?;
     if zeros < u64::from(code.limit) {
         let low = reader.take(code.low)?;
-        plain(code, place, zeros, low)
+        plain(code, index, zeros, low)
     } else {
         let number = reader.take(code.bits)?;
-        escaped(code, place, number)
+        escaped(code, index, number)
     }
 }
 
 /// Returns the number of so many zeros, a one and low bits.
 #[inline(always)]
-fn plain(code: Code, place: u64, zeros: u64, low: u64) -> Result<u16, Fault>
+fn plain(code: Code, index: u64, zeros: u64, low: u64) -> Result<u16, Fault>
     requires code { IsCode code }
     requires zeros { zeros < code.limit }
     requires low { low < 2 ^ code.low }
     ensures value { IfOk result (λ number. number ≡ zeros * 2 ^ code.low + low) }
     ensures below { IsOk result ↔ (zeros * 2 ^ code.low + low < 2 ^ code.bits) }
-    ensures refused { IfErr result (λ fault. fault ≡ BadCode place) }
+    ensures refused { IfErr result (λ fault. fault ≡ BadCode index) }
 {
     let number = (zeros << code.low) + low;
     if number < 1 << code.bits {
         Ok(number as u16)
     } else {
-        Err(Fault::BadCode { place })
+        Err(Fault::BadCode { place: index })
     }
 }
 
 /// Returns the number of an escape. Without one it would have too many zeros.
 #[inline(always)]
-fn escaped(code: Code, place: u64, number: u64) -> Result<u16, Fault>
+fn escaped(code: Code, index: u64, number: u64) -> Result<u16, Fault>
     requires code { IsCode code }
     requires number { number < 2 ^ code.bits }
     ensures value { IfOk result (λ value. value ≡ number) }
     ensures needed { IsOk result ↔ (code.limit ≤ number / 2 ^ code.low) }
-    ensures refused { IfErr result (λ fault. fault ≡ BadCode place) }
+    ensures refused { IfErr result (λ fault. fault ≡ BadCode index) }
 {
     if number >> code.low < u64::from(code.limit) {
-        Err(Fault::BadCode { place })
+        Err(Fault::BadCode { place: index })
     } else {
         Ok(number as u16)
     }

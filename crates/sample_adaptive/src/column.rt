@@ -2,7 +2,7 @@
 
 ghost use Rattle.std.specs.Prelude.{◌≡◌, ◌+◌, ◌^◌, ◌<◌, ◌≤◌, ◌==◌, length, Some, IfOk, IfErr, OnErr, ℕ};
 ghost use Rattle.cube_core.specs.declared.fault.Fault.{Fault};
-ghost use Rattle.sample_adaptive.specs.Reading.{placed_at, word_at};
+ghost use Rattle.sample_adaptive.specs.Reading.{fault_at, word_at};
 ghost use Rattle.header_bits.specs.Reading.{Reads};
 ghost use Rattle.header_bits.specs.Windows.{IsAhead};
 ghost use Rattle.sample_adaptive.specs.Taken.{Counts, HasSettings, GetsEach, GetsColumn, Reaches, code_by, counted, of_band, with_band};
@@ -19,7 +19,7 @@ impl Stats {
     /// Reads number `t` of band `z`, then that of the next band, and so on, whose code words stand next, into `numbers`,
     /// and updates the bands' statistics.
     ///
-    /// `t` counts each band's numbers from 0, and the first number stands at index `place` in encoding order. At most
+    /// `t` counts each band's numbers from 0, and the first number stands at `index` in encoding order. At most
     /// 65,536 numbers are read. Where a number is refused, it returns the fault that `get` returns, but `BadCode` has the
     /// number's index in encoding order. Then the reader keeps its position, every later call returns the same, and the
     /// statistics and what is in `numbers` are unspecified.
@@ -28,13 +28,13 @@ impl Stats {
         &mut self,
         z: u32,
         t: u64,
-        place: u64,
+        index: u64,
         reader: &mut BitReader,
         numbers: &mut [u16],
     ) -> Result<(), Fault>
         requires inside { z + length numbers.old ≤ length self.old.bands }
-        requires long { (length numbers.old ≤ 2 ^ 16) × (place < 2 ^ 48) }
-        ensures taken { GetsColumn z t place result self.old reader.old self.new reader.new.left numbers.new }
+        requires long { (length numbers.old ≤ 2 ^ 16) × (index < 2 ^ 48) }
+        ensures taken { GetsColumn z t index result self.old reader.old self.new reader.new.left numbers.new }
         ensures again { (fault : Fault) → self.old.refused ≡ Some fault → result ≡ Err fault }
         ensures kept { IfErr result (λ fault. self.new.refused ≡ Some fault) }
         ensures same { OnErr result (reader.new ≡ reader.old) }
@@ -51,7 +51,7 @@ impl Stats {
             self.codes,
             z as usize,
             t,
-            place,
+            index,
             &mut self.bands,
             &mut ahead,
             numbers,
@@ -76,25 +76,25 @@ fn take_column(
     run: RunCodes,
     z: usize,
     t: u64,
-    place: u64,
+    index: u64,
     bands: &mut [Tracked],
     reader: &mut BitReader,
     numbers: &mut [u16],
 ) -> Result<(), Fault>
     requires tracked { AreTracked run bands.old }
     requires inside { z + length numbers.old ≤ length bands.old }
-    requires long { (length numbers.old ≤ 2 ^ 16) × (place < 2 ^ 48) }
+    requires long { (length numbers.old ≤ 2 ^ 16) × (index < 2 ^ 48) }
     ensures taken { (v : Counts) → v.bands ≡ statistics_of bands.old → HasSettings v run.bits run.limit run.rescaling.size
-        → GetsColumn z t place result v reader.old (record v { bands = statistics_of bands.new }) reader.new.left numbers.new }
+        → GetsColumn z t index result v reader.old (record v { bands = statistics_of bands.new }) reader.new.left numbers.new }
     ensures tracked { AreTracked run bands.new }
     ensures count { reader.new.count ≡ reader.old.count }
     ensures long { length numbers.new ≡ length numbers.old }
     ensures bands { length bands.new ≡ length bands.old }
 {
     if t == 0 {
-        return take_each(run, z, true, place, bands, reader, numbers);
+        return take_each(run, z, true, index, bands, reader, numbers);
     }
-    let done = take_ready(run, z, place, bands, reader, numbers);
+    let done = take_ready(run, z, index, bands, reader, numbers);
     if done == numbers.len() {
         return Ok(());
     }
@@ -102,7 +102,7 @@ fn take_column(
         run,
         z + done,
         false,
-        place + done as u64,
+        index + done as u64,
         bands,
         reader,
         &mut numbers[done..],
@@ -117,16 +117,16 @@ fn take_column(
 fn take_ready(
     run: RunCodes,
     z: usize,
-    place: u64,
+    index: u64,
     bands: &mut [Tracked],
     reader: &mut BitReader,
     numbers: &mut [u16],
 ) -> usize
     requires tracked { AreTracked run bands.old }
     requires inside { z + length numbers.old ≤ length bands.old }
-    requires long { (length numbers.old ≤ 2 ^ 16) × (place < 2 ^ 48) }
+    requires long { (length numbers.old ≤ 2 ^ 16) × (index < 2 ^ 48) }
     ensures taken { (v : Counts) (t : ℕ) → 0 < t → v.bands ≡ statistics_of bands.old → HasSettings v run.bits run.limit run.rescaling.size
-        → Reaches (λ i. z + i) (λ i. t) 0 place result v (record v { bands = statistics_of bands.new }) reader.old reader.new numbers.new }
+        → Reaches (λ i. z + i) (λ i. t) 0 index result v (record v { bands = statistics_of bands.new }) reader.old reader.new numbers.new }
     ensures tracked { AreTracked run bands.new }
     ensures within { result ≤ length numbers.new }
     ensures count { reader.new.count ≡ reader.old.count }
@@ -138,7 +138,7 @@ fn take_ready(
     while i < numbers.len() {
         let Some(word) = ahead.peek() else { break };
         let band = &mut bands[z + i];
-        let Ok(number) = take_known(run, place + i as u64, word, band, &mut ahead) else {
+        let Ok(number) = take_known(run, index + i as u64, word, band, &mut ahead) else {
             break;
         };
         numbers[i] = number;
@@ -153,7 +153,7 @@ fn take_ready(
 #[inline(always)]
 fn take_known(
     run: RunCodes,
-    place: u64,
+    index: u64,
     word: u64,
     tracked: &mut Tracked,
     reader: &mut BitReader,
@@ -161,7 +161,7 @@ fn take_known(
     requires tracked { IsTracked run tracked.old }
     requires ahead { IsAhead 57 reader.old.left word }
     ensures reads { (v : Counts) (z t : ℕ) → 0 < t → HasSettings v run.bits run.limit run.rescaling.size → of_band v.bands z ≡ tracked.old.statistics
-        → Reads (λ number. number) result reader.new.left (word_at reader.old.count place (code_by v z t) reader.old.left) }
+        → Reads (λ number. number) result reader.new.left (word_at reader.old.count index (code_by v z t) reader.old.left) }
     ensures counts { IfOk result (λ number. (v : Counts) (z t : ℕ) → 0 < t → HasSettings v run.bits run.limit run.rescaling.size
         → of_band v.bands z ≡ tracked.old.statistics → counted v z t number ≡ with_band v z tracked.new.statistics) }
     ensures tracked { IsTracked run tracked.new }
@@ -174,7 +174,7 @@ fn take_known(
         low: settled.low,
         bits: run.bits,
     };
-    let number = take_from(code, place, word, reader)?;
+    let number = take_from(code, index, word, reader)?;
     *tracked = settled.next(run, number);
     Ok(number)
 }
@@ -185,17 +185,17 @@ fn take_each(
     run: RunCodes,
     z: usize,
     first: bool,
-    place: u64,
+    index: u64,
     bands: &mut [Tracked],
     reader: &mut BitReader,
     numbers: &mut [u16],
 ) -> Result<(), Fault>
     requires tracked { AreTracked run bands.old }
     requires inside { z + length numbers.old ≤ length bands.old }
-    requires long { (length numbers.old ≤ 2 ^ 16) × (place < 2 ^ 49) }
+    requires long { (length numbers.old ≤ 2 ^ 16) × (index < 2 ^ 49) }
     ensures taken { (v : Counts) (b t k : ℕ) → z ≡ b + k → first ≡ (t == 0) → v.bands ≡ statistics_of bands.old
         → HasSettings v run.bits run.limit run.rescaling.size
-        → GetsEach (λ i. b + i) (λ i. t) k place result v reader.old (record v { bands = statistics_of bands.new }) reader.new.left numbers.new }
+        → GetsEach (λ i. b + i) (λ i. t) k index result v reader.old (record v { bands = statistics_of bands.new }) reader.new.left numbers.new }
     ensures tracked { AreTracked run bands.new }
     ensures count { reader.new.count ≡ reader.old.count }
     ensures long { length numbers.new ≡ length numbers.old }
@@ -203,7 +203,7 @@ fn take_each(
 {
     for i in 0..numbers.len() {
         let tracked = &mut bands[z + i];
-        match take_number(run, first, place + i as u64, tracked, reader) {
+        match take_number(run, first, index + i as u64, tracked, reader) {
             Ok(number) => numbers[i] = number,
             Err(fault) => return Err(fault),
         }
@@ -216,20 +216,20 @@ fn take_each(
 pub(crate) fn take_number(
     run: RunCodes,
     first: bool,
-    place: u64,
+    index: u64,
     tracked: &mut Tracked,
     reader: &mut BitReader,
 ) -> Result<u16, Fault>
     requires tracked { IsTracked run tracked.old }
     ensures reads { (v : Counts) (z t : ℕ) → first ≡ (t == 0) → HasSettings v run.bits run.limit run.rescaling.size → of_band v.bands z ≡ tracked.old.statistics
-        → Reads (λ number. number) result reader.new.left (word_at reader.old.count place (code_by v z t) reader.old.left) }
+        → Reads (λ number. number) result reader.new.left (word_at reader.old.count index (code_by v z t) reader.old.left) }
     ensures counts { IfOk result (λ number. (v : Counts) (z t : ℕ) → first ≡ (t == 0) → HasSettings v run.bits run.limit run.rescaling.size
         → of_band v.bands z ≡ tracked.old.statistics → counted v z t number ≡ with_band v z tracked.new.statistics) }
     ensures tracked { IsTracked run tracked.new }
     ensures below { IfOk result (λ number. number < 2 ^ run.bits) }
     ensures count { reader.new.count ≡ reader.old.count }
     ensures same { OnErr result (reader.new ≡ reader.old) }
-    ensures placed { IfErr result (λ fault. placed_at place fault ≡ fault) }
+    ensures indexed { IfErr result (λ fault. fault_at index fault ≡ fault) }
 {
     if first {
         let code = Code {
@@ -237,7 +237,7 @@ pub(crate) fn take_number(
             low: 0,
             bits: run.bits,
         };
-        return take_word(code, place, reader);
+        return take_word(code, index, reader);
     }
     *tracked = tracked.settled(run);
     let code = Code {
@@ -245,7 +245,7 @@ pub(crate) fn take_number(
         low: tracked.low,
         bits: run.bits,
     };
-    let number = take_word(code, place, reader)?;
+    let number = take_word(code, index, reader)?;
     *tracked = tracked.next(run, number);
     Ok(number)
 }

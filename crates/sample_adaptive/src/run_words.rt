@@ -103,21 +103,21 @@ pub(crate) fn make_room(words: usize, writer: &mut BitWriter) -> Result<(), Faul
 pub(crate) fn take_words(
     run: RunCodes,
     t: u64,
-    place: u64,
+    index: u64,
     tracked: &mut Tracked,
     reader: &mut BitReader,
     numbers: &mut [u16],
 ) -> Result<(), Fault>
     requires tracked { IsTracked run tracked.old }
-    requires long { (length numbers.old ≤ 2 ^ 16) × (place < 2 ^ 48) }
+    requires long { (length numbers.old ≤ 2 ^ 16) × (index < 2 ^ 48) }
     ensures taken { (v : Counts) (z : ℕ) → z < length v.bands → HasSettings v run.bits run.limit run.rescaling.size → of_band v.bands z ≡ tracked.old.statistics
-        → GetsRun z t place result v reader.old (with_band v z tracked.new.statistics) reader.new.left numbers.new }
+        → GetsRun z t index result v reader.old (with_band v z tracked.new.statistics) reader.new.left numbers.new }
     ensures tracked { IsTracked run tracked.new }
     ensures count { reader.new.count ≡ reader.old.count }
     ensures long { length numbers.new ≡ length numbers.old }
 {
     if t >= 1 {
-        return take_later(run, place, tracked, reader, numbers);
+        return take_later(run, index, tracked, reader, numbers);
     }
     match numbers.split_first_mut() {
         Some((first, later)) => {
@@ -126,8 +126,8 @@ pub(crate) fn take_words(
                 low: 0,
                 bits: run.bits,
             };
-            *first = take_word(code, place, reader)?;
-            take_later(run, place + 1, tracked, reader, later)
+            *first = take_word(code, index, reader)?;
+            take_later(run, index + 1, tracked, reader, later)
         }
         None => Ok(()),
     }
@@ -137,27 +137,27 @@ pub(crate) fn take_words(
 #[inline(always)]
 fn take_later(
     run: RunCodes,
-    place: u64,
+    index: u64,
     tracked: &mut Tracked,
     reader: &mut BitReader,
     numbers: &mut [u16],
 ) -> Result<(), Fault>
     requires tracked { IsTracked run tracked.old }
-    requires long { (length numbers.old ≤ 2 ^ 16) × (place ≤ 2 ^ 48) }
+    requires long { (length numbers.old ≤ 2 ^ 16) × (index ≤ 2 ^ 48) }
     ensures taken { (v : Counts) (z t k : ℕ) → z < length v.bands → HasSettings v run.bits run.limit run.rescaling.size
         → of_band v.bands z ≡ tracked.old.statistics → 0 < t + k
-        → GetsEach (λ i. z) (λ i. t + i) k place result v reader.old (with_band v z tracked.new.statistics) reader.new.left numbers.new }
+        → GetsEach (λ i. z) (λ i. t + i) k index result v reader.old (with_band v z tracked.new.statistics) reader.new.left numbers.new }
     ensures tracked { IsTracked run tracked.new }
     ensures count { reader.new.count ≡ reader.old.count }
     ensures long { length numbers.new ≡ length numbers.old }
 {
-    let done = take_ready(run, place, tracked, reader, numbers);
+    let done = take_ready(run, index, tracked, reader, numbers);
     if done == numbers.len() {
         return Ok(());
     }
     take_rest(
         run,
-        place + done as u64,
+        index + done as u64,
         tracked,
         reader,
         &mut numbers[done..],
@@ -171,16 +171,16 @@ fn take_later(
 #[inline(always)]
 fn take_ready(
     run: RunCodes,
-    place: u64,
+    index: u64,
     tracked: &mut Tracked,
     reader: &mut BitReader,
     numbers: &mut [u16],
 ) -> usize
     requires tracked { IsTracked run tracked.old }
-    requires long { (length numbers.old ≤ 2 ^ 16) × (place ≤ 2 ^ 48) }
+    requires long { (length numbers.old ≤ 2 ^ 16) × (index ≤ 2 ^ 48) }
     ensures taken { (v : Counts) (z t k : ℕ) → z < length v.bands → HasSettings v run.bits run.limit run.rescaling.size
         → of_band v.bands z ≡ tracked.old.statistics → 0 < t + k
-        → Reaches (λ i. z) (λ i. t + i) k place result v (with_band v z tracked.new.statistics) reader.old reader.new numbers.new }
+        → Reaches (λ i. z) (λ i. t + i) k index result v (with_band v z tracked.new.statistics) reader.old reader.new numbers.new }
     ensures tracked { IsTracked run tracked.new }
     ensures within { result ≤ length numbers.new }
     ensures count { reader.new.count ≡ reader.old.count }
@@ -198,7 +198,7 @@ fn take_ready(
             low: band.low,
             bits: run.bits,
         };
-        let Ok(number) = take_from(code, place + i as u64, word, &mut ahead) else {
+        let Ok(number) = take_from(code, index + i as u64, word, &mut ahead) else {
             break
         };
         numbers[i] = number;
@@ -214,16 +214,16 @@ fn take_ready(
 #[inline(never)]
 fn take_rest(
     run: RunCodes,
-    place: u64,
+    index: u64,
     tracked: &mut Tracked,
     reader: &mut BitReader,
     numbers: &mut [u16],
 ) -> Result<(), Fault>
     requires tracked { IsTracked run tracked.old }
-    requires long { (length numbers.old ≤ 2 ^ 16) × (place ≤ 2 ^ 49) }
+    requires long { (length numbers.old ≤ 2 ^ 16) × (index ≤ 2 ^ 49) }
     ensures taken { (v : Counts) (z t k : ℕ) → z < length v.bands → HasSettings v run.bits run.limit run.rescaling.size
         → of_band v.bands z ≡ tracked.old.statistics → 0 < t + k
-        → GetsEach (λ i. z) (λ i. t + i) k place result v reader.old (with_band v z tracked.new.statistics) reader.new.left numbers.new }
+        → GetsEach (λ i. z) (λ i. t + i) k index result v reader.old (with_band v z tracked.new.statistics) reader.new.left numbers.new }
     ensures tracked { IsTracked run tracked.new }
     ensures count { reader.new.count ≡ reader.old.count }
     ensures long { length numbers.new ≡ length numbers.old }
@@ -235,7 +235,7 @@ fn take_rest(
             low: settled.low,
             bits: run.bits,
         };
-        match take_word(code, place + i as u64, reader) {
+        match take_word(code, index + i as u64, reader) {
             Ok(number) => {
                 numbers[i] = number;
                 *tracked = settled.next(run, number);

@@ -2,7 +2,7 @@
 
 ghost use Rattle.std.specs.Prelude.{◌≡◌, ◌^◌, ◌<◌, length, Err, Some, None, IfOk, IfErr, OnErr, option_map};
 ghost use Rattle.cube_core.specs.declared.fault.Fault.{Fault};
-ghost use Rattle.sample_adaptive.specs.Reading.{placed_at};
+ghost use Rattle.sample_adaptive.specs.Reading.{fault_at};
 ghost use Rattle.sample_adaptive.specs.Taken.{Counts, GetsAt, GetsNumber};
 
 use crate::column::take_number;
@@ -34,30 +34,30 @@ impl Stats {
         self.take_next(z, t, t, reader)
     }
 
-    /// Reads number `t` of band `z`, as `get` does, where a `BadCode` has `place` for its place: the number's index in
-    /// encoding order, say. So has one that a later call returns, with the later call's place.
+    /// Reads number `t` of band `z`, as `get` does, but a `BadCode` names `index`: the number's index in encoding order, say.
+    /// One that a later call returns names the later call's index.
     #[inline(always)]
     pub fn get_at(
         &mut self,
         z: u32,
         t: u64,
-        place: u64,
+        index: u64,
         reader: &mut BitReader,
     ) -> Result<u16, Fault>
         requires { z < length self.old.bands }
-        ensures taken { GetsAt z t place result self.old reader.old self.new reader.new.left }
+        ensures taken { GetsAt z t index result self.old reader.old self.new reader.new.left }
         ensures below { IfOk result (λ number. number < 2 ^ self.old.bits) }
-        ensures again { (fault : Fault) → self.old.refused ≡ Some fault → result ≡ Err (placed_at place fault) }
-        ensures kept { IfErr result (λ fault. option_map (placed_at place) self.new.refused ≡ Some fault) }
+        ensures again { (fault : Fault) → self.old.refused ≡ Some fault → result ≡ Err (fault_at index fault) }
+        ensures kept { IfErr result (λ fault. option_map (fault_at index) self.new.refused ≡ Some fault) }
         ensures rest { IfErr result (λ fault. self.new ≡ record self.old { refused = self.new.refused }) }
         ensures same { OnErr result (reader.new ≡ reader.old) }
         ensures count { reader.new.count ≡ reader.old.count }
         ensures bands { (length self.new.bands ≡ length self.old.bands) × (self.new.bits ≡ self.old.bits) }
     {
         if let Some(fault) = self.refused {
-            return Err(placed(fault, place));
+            return Err(fault_at(fault, index));
         }
-        self.take_next(z, t, place, reader)
+        self.take_next(z, t, index, reader)
     }
 
     /// Reads number `t` of band `z`, where none was refused.
@@ -66,20 +66,20 @@ impl Stats {
         &mut self,
         z: u32,
         t: u64,
-        place: u64,
+        index: u64,
         reader: &mut BitReader,
     ) -> Result<u16, Fault>
         requires { z < length self.old.bands }
-        ensures taken { GetsAt z t place result self.old reader.old self.new reader.new.left }
+        ensures taken { GetsAt z t index result self.old reader.old self.new reader.new.left }
         ensures below { IfOk result (λ number. number < 2 ^ self.old.bits) }
-        ensures placed { IfErr result (λ fault. placed_at place fault ≡ fault) }
+        ensures indexed { IfErr result (λ fault. fault_at index fault ≡ fault) }
         ensures kept { IfErr result (λ fault. self.new ≡ record self.old { refused = Some fault }) }
         ensures same { OnErr result (reader.new ≡ reader.old) }
         ensures count { reader.new.count ≡ reader.old.count }
         ensures bands { (length self.new.bands ≡ length self.old.bands) × (self.new.bits ≡ self.old.bits) }
     {
         let mut tracked = self.bands[z as usize];
-        match take_number(self.codes, t == 0, place, &mut tracked, reader) {
+        match take_number(self.codes, t == 0, index, &mut tracked, reader) {
             Ok(number) => {
                 self.bands[z as usize] = tracked;
                 Ok(number)
@@ -92,12 +92,12 @@ impl Stats {
     }
 }
 
-/// Returns the fault of a code word that stands at a place.
-fn placed(fault: Fault, place: u64) -> Fault
-    ensures { result ≡ placed_at place fault }
+/// Returns the fault, which names the index where it is a bad code word.
+fn fault_at(fault: Fault, index: u64) -> Fault
+    ensures { result ≡ fault_at index fault }
 {
     match fault {
-        Fault::BadCode { .. } => Fault::BadCode { place },
+        Fault::BadCode { .. } => Fault::BadCode { place: index },
         other => other,
     }
 }

@@ -158,7 +158,7 @@ impl Stats {
     /// Reads numbers `t`, `t + 1`, .. of band `z`, whose code words stand next, into `numbers`, and updates the band's
     /// statistics.
     ///
-    /// `t` counts the band's numbers from 0, and the first stands at index `place` in encoding order. The run is within
+    /// `t` counts the band's numbers from 0, and the first stands at `index` in encoding order. The run is within
     /// a row, so it has at most 65,536 numbers. Where a number is refused, it returns the fault that `get` returns, but
     /// `BadCode` has the number's index in encoding order. Then the reader keeps its position, every later call returns
     /// the same, nothing else was changed, and what is in `numbers` is unspecified.
@@ -167,13 +167,13 @@ impl Stats {
         &mut self,
         z: u32,
         t: u64,
-        place: u64,
+        index: u64,
         reader: &mut BitReader,
         numbers: &mut [u16],
     ) -> Result<(), Fault>
         requires band { z < length self.old.bands }
-        requires long { (length numbers.old ≤ 2 ^ 16) × (place < 2 ^ 48) }
-        ensures taken { GetsRun z t place result self.old reader.old self.new reader.new.left numbers.new }
+        requires long { (length numbers.old ≤ 2 ^ 16) × (index < 2 ^ 48) }
+        ensures taken { GetsRun z t index result self.old reader.old self.new reader.new.left numbers.new }
         ensures again { (fault : Fault) → self.old.refused ≡ Some fault → result ≡ Err fault }
         ensures kept { IfErr result (λ fault. self.new ≡ record self.old { refused = Some fault }) }
         ensures same { OnErr result (reader.new ≡ reader.old) }
@@ -187,7 +187,7 @@ impl Stats {
         // Copies go ahead: they stay in registers, and a refusal leaves what they were made of.
         let mut band = self.bands[z as usize];
         let mut ahead = reader.fork();
-        match take_words(self.codes, t, place, &mut band, &mut ahead, numbers) {
+        match take_words(self.codes, t, index, &mut band, &mut ahead, numbers) {
             Ok(()) => {
                 self.bands[z as usize] = band;
                 *reader = ahead;

@@ -49,10 +49,6 @@ ErrorBy theta below parity n e =
     ((2 * theta < n) × (theta < below) × (e ≡ neg_ℤ (pos (n - theta)))) ⊎ (((2 * theta < n) × (below ≤ theta) × (e ≡ pos (n - theta)))
     ⊎ (((n ≤ 2 * theta) × ((n + parity) % 2 ≡ 0) × (e ≡ pos ((n + 1) / 2))) ⊎ ((n ≤ 2 * theta) × ((n + parity) % 2 ≡ 1) × (e ≡ neg_ℤ (pos ((n + 1) / 2))))))
 
--- a sign that is both is none
-pub not_both : (s : Bool) → s ≡ true → s ≡ false → ⊥
-not_both s a b = cc
-
 same_error : (theta a b parity n : ℕ) (e r : ℤ) (sign : Bool) → theta ≡ min a b → neg_ℤ (pos a) ≤ℤ e → e ≤ℤ pos b → signed_by parity e sign
     → NumberBy theta (unsigned_abs e) sign n → ErrorBy theta a parity n r → r ≡ e
 same_error theta a b parity n e r sign m low high s c d = grind (arith, ints)

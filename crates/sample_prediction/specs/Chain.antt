@@ -1,5 +1,5 @@
 -- The chain of a run: the weights of an image place after place, and what they tell of its predictions.
-use Rattle.std.specs.Prelude.{ℕ, ◌≡◌, ℤ, pos, ◌+ℤ◌, ◌-ℤ◌, ◌*ℤ◌, List, [], replicate, slice_index_or, nat_lt, if◌then◌else◌}
+use Rattle.std.specs.Prelude.{ℕ, ◌≡◌, ℤ, pos, ◌+ℤ◌, ◌-ℤ◌, ◌*ℤ◌, List}
 use Rattle.header_bits.specs.declared.params.Params.{Params}
 use Rattle.cube_core.specs.Kind.{SampleKind, smin, smid, smax}
 use Rattle.cube_core.specs.Image.{Image}

@@ -1,23 +1,13 @@
 -- Parameters and cubes of the worked examples.
-use Rattle.std.specs.Prelude.{ℕ, List, [], ◌∷◌, map, ℤ, pos, negsuc, true, false}
+use Rattle.std.specs.Prelude.{ℕ, List, [], ◌∷◌, map, ℤ, pos, negsuc, false}
 use Rattle.header_bits.specs.declared.params.Params.{Params}
 use Rattle.header_bits.specs.Plain.{plain}
 use Rattle.header_bits.specs.declared.params.WeightStart.TheVariants.{Table}
-use Rattle.cube_core.specs.Shape.{Sizes}
-use Rattle.cube_core.specs.Kind.{SampleKind}
+use Rattle.cube_core.specs.Rows.{sizes, unsigned}
 use Rattle.cube_core.specs.Image.{Image}
 use Rattle.cube_core.specs.Order.{upto}
 use Rattle.cube_core.specs.declared.order.Order.TheVariants.{Bi}
 use Rattle.sample_prediction.specs.Prediction.{scaled_prediction}
-
-abbrev pub sizes : ℕ → ℕ → ℕ → Sizes
-sizes columns rows bands = record { columns = columns; rows = rows; bands = bands }
-
-abbrev pub unsigned : ℕ → SampleKind
-unsigned bits = record { signed = false; bits = bits }
-
-abbrev pub signed : ℕ → SampleKind
-signed bits = record { signed = true; bits = bits }
 
 -- a cube of unsigned samples of 8 bits
 abbrev pub cube : ℕ → ℕ → ℕ → List ℕ → Image

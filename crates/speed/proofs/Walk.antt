@@ -36,13 +36,13 @@ all_residuals p c i numbers lawful shape long known =
 pub written_more : (p : Params) (c : Image) (left rest : List Place) (bands : List Learner) (q : Place) (b : Learner) (numbers : List ℕ) (i number : ℕ)
     → IsOrder p.shape p.order → c.shape ≡ p.shape → IsOnWalk p c left bands → left ≡ q ∷ rest → slice_get bands q.z ≡ Some b → AreResiduals p c left i numbers
     → i < length numbers
-    → number ≡ mapped_residual p c b.band b.place → AreResiduals p c rest (i + 1) (set numbers i number)
+    → number ≡ mapped_residual p c b.band b.t → AreResiduals p c rest (i + 1) (set numbers i number)
 written_more p c left rest bands q b numbers i number lawful shape walk is band known lt value =
     let next = next_goes p q left rest lawful walk.rest is in
     let here = band_here p c (gone_count p left) bands q b lawful walk.along next.stands band in
-    let place : b.place ≡ q.y * c.shape.columns + q.x = here.1 ∙ ap (λ (s : Sizes). q.y * s.columns + q.x) (sym shape) in
+    let place : b.t ≡ q.y * c.shape.columns + q.x = here.1 ∙ ap (λ (s : Sizes). q.y * s.columns + q.x) (sym shape) in
     let there : number ≡ mapped_residual p c q.z (q.y * c.shape.columns + q.x) =
-    value ∙ ap (λ z. mapped_residual p c z b.place) here.0.band ∙ ap (mapped_residual p c q.z) place in
+    value ∙ ap (λ z. mapped_residual p c z b.t) here.0.band ∙ ap (mapped_residual p c q.z) place in
     record {
       count = omega (arith, known.count, next.count);
       gone = ap (residuals_at p c) next.gone
@@ -67,11 +67,11 @@ below_more n (y ∷ ys) (suc i) x some all lt (suc k) h =
 pub read_more : (p : Params) (c : Image) (left rest : List Place) (bands : List Learner) (q : Place) (b : Learner) (numbers : List ℕ) (i : ℕ) (v : ℤ)
     → IsLawful p → c.shape ≡ p.shape → IsOnWalk p c left bands → left ≡ q ∷ rest → slice_get bands q.z ≡ Some b → AreResiduals p c left i numbers
     → i < length numbers
-    → mapped_residual p (put c q.z q.y q.x v) q.z b.place ≡ get_or numbers i 0 → AreResiduals p (put c q.z q.y q.x v) rest (i + 1) numbers
+    → mapped_residual p (put c q.z q.y q.x v) q.z b.t ≡ get_or numbers i 0 → AreResiduals p (put c q.z q.y q.x v) rest (i + 1) numbers
 read_more p c left rest bands q b numbers i v lawful shape walk is band known lt value =
     let next = next_goes p q left rest lawful.order walk.rest is in
     let mine = band_here p c (gone_count p left) bands q b lawful.order walk.along next.stands band in
-    let place : b.place ≡ q.y * c.shape.columns + q.x = mine.1 ∙ ap (λ (s : Sizes). q.y * s.columns + q.x) (sym shape) in
+    let place : b.t ≡ q.y * c.shape.columns + q.x = mine.1 ∙ ap (λ (s : Sizes). q.y * s.columns + q.x) (sym shape) in
     let last : mapped_residual p (put c q.z q.y q.x v) q.z (q.y * c.shape.columns + q.x) ≡ get_or numbers i 0 =
     ap (mapped_residual p (put c q.z q.y q.x v) q.z) (sym place) ∙ value in
     record {

@@ -2,8 +2,8 @@
 
 ghost use Rattle.std.specs.Prelude.{◌≡◌, ◌<◌, ◌^◌};
 ghost use Rattle.cube_core.specs.Order.{IsOrder};
+ghost use Rattle.cube_core.specs.Rows.{sizes, unsigned};
 ghost use Rattle.header_bits.specs.Lawful.{IsLawful};
-ghost use Rattle.sample_prediction.specs.Rows.{sizes, unsigned};
 
 use crate::checks::same;
 use crate::texts::numbers_of;

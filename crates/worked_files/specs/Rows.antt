@@ -3,7 +3,8 @@ use Rattle.std.specs.Prelude.{ℕ, List, [], ◌∷◌, replicate, Bool, true, f
 use Rattle.cube_core.specs.declared.order.Order.TheVariants.{Bsq}
 use Rattle.header_bits.specs.declared.params.Params.{Params}
 use Rattle.header_bits.specs.declared.params.Coder.TheVariants.{Block}
-use Rattle.header_bits.specs.Rows.{common, cube_a, unsigned, with_weights}
+use Rattle.cube_core.specs.Rows.{unsigned, signed}
+use Rattle.header_bits.specs.Rows.{common, cube_a, with_weights}
 
 abbrev pub one_below : ℕ → ℕ → ℕ → Params
 one_below nx ny nz = record (common nx ny nz) { previous = 1 }
@@ -17,7 +18,7 @@ abbrev pub growing_steps : Params
 growing_steps = record (one_below 8 3 2) { omega = 4; interval_log = 4; vmin = negsuc 5; vmax = pos 9 }
 
 abbrev pub signed_sixteen : Params
-signed_sixteen = record (common 1 1 1) { kind = record { signed = true; bits = 16 } }
+signed_sixteen = record (common 1 1 1) { kind = signed 16 }
 
 abbrev pub four_byte_words : Params
 four_byte_words = record (common 1 2 1) { word = 4 }

@@ -2,8 +2,8 @@
 #![tactic(auto, unfolding(crate::specs::Everything::everything))]
 
 ghost use Rattle.std.specs.Prelude.{◌≡◌, pos};
+ghost use Rattle.cube_core.specs.Rows.{unsigned};
 ghost use Rattle.sample_prediction.specs.Residual.{mapped};
-ghost use Rattle.sample_prediction.specs.Rows.{unsigned};
 
 /// An even scaled prediction gives larger samples even numbers.
 pub fn even_scaled_larger_sample()

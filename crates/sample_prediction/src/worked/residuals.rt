@@ -2,9 +2,9 @@
 #![tactic(auto, unfolding(crate::specs::Everything::everything))]
 
 ghost use Rattle.std.specs.Prelude.{◌≡◌, ◌∷◌, [], pos, negsuc, neg_ℤ};
+ghost use Rattle.cube_core.specs.Rows.{sizes, signed, unsigned};
 ghost use Rattle.sample_prediction.specs.Residual.{residuals};
-ghost use Rattle.sample_prediction.specs.Rows.{cube_a, cube, common, one_below, coarse_steps, fine, full, interleaved, scaled_of_cube_a, register_cube, sizes};
-ghost use Rattle.sample_prediction.specs.Rows.{signed, unsigned};
+ghost use Rattle.sample_prediction.specs.Rows.{cube_a, cube, common, one_below, coarse_steps, fine, full, interleaved, scaled_of_cube_a, register_cube};
 
 /// The residual of a lone sample follows from its distance from the middle.
 pub fn one_sample()

@@ -18,7 +18,7 @@ loop-z-preserved c =
           rw (w.bands-is, w.in_ok-push.ensures.items) (record {
             own = rw (map-append, own_split, own_one c.args.predictor c.loop-z.z _ _ owner w.if-from-predictor.true, was.own, made.1) refl;
             at = λ image. all_append (IsAt p image 0) c.loop-z.bands.items (w.in_ok-new.field-0 ∷ []) (was.at image)
-                (record { follows = follows image; place = made.2; inside = omega (arith, made.1, ap (λ q. q.shape.bands) c.params.ensures) }, tt);
+                (record { follows = follows image; next = made.2; inside = omega (arith, made.1, ap (λ q. q.shape.bands) c.params.ensures) }, tt);
           }))
       | else-from-predictor w ↦ rw w.bands-is
           (record { own = rw (own_split, own_none c.args.predictor c.loop-z.z _ _ owner w.if-from-predictor.false, append-nil) was.own; at = was.at })

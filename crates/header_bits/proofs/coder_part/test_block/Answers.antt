@@ -7,4 +7,4 @@ pub returns : goal.returns
 unfolding total
 returns c =
     let first : c.args.at + 0 ≡ c.args.at = omega arith in
-    passed (rw first at c.in_ok-unused_field.ensures) (rw c.bits-deep.ensures.value at c.disagree_if.ensures)
+    passed (rw first at c.in_ok-check_reserved_field.ensures) (rw c.bits-deep.ensures.value at c.disagree_if.ensures)

@@ -25,30 +25,30 @@ returns-in_err-pass-clause-reads c =
     let p = err_from_is_err_and c.from_residual-in_err-pass.result c.from_residual-in_err-pass.ensures.1 in
     rw (p.1, p.2) (weights_refused _ _ _ _ _ _ (record { image = c.in_ok-image.ensures; predictor = c.in_ok-predictor.ensures }) c.in_err-pass.ensures)
 
-pub end-place-requires-clause-previous : goal.end-place-requires-clause-previous
-end-place-requires-clause-previous c = (start_read _ _ _ _ _ c.in_ok-image.ensures c.in_ok-predictor.ensures).0
+pub end-position-requires-clause-previous : goal.end-position-requires-clause-previous
+end-position-requires-clause-previous c = (start_read _ _ _ _ _ c.in_ok-image.ensures c.in_ok-predictor.ensures).0
 
-pub end-place-requires-clause-resolution : goal.end-place-requires-clause-resolution
-end-place-requires-clause-resolution c = (start_read _ _ _ _ _ c.in_ok-image.ensures c.in_ok-predictor.ensures).1
+pub end-position-requires-clause-resolution : goal.end-position-requires-clause-resolution
+end-position-requires-clause-resolution c = (start_read _ _ _ _ _ c.in_ok-image.ensures c.in_ok-predictor.ensures).1
 
 pub returns-in_err-coder-clause-reads : goal.returns-in_err-coder-clause-reads
 returns-in_err-coder-clause-reads c =
     let p = err_from_is_err_and c.from_residual-in_err-coder.result c.from_residual-in_err-coder.ensures.1 in
-    let bad = rw c.end-place.ensures.place at c.in_err-coder.ensures in
+    let bad = rw c.end-position.ensures.position at c.in_err-coder.ensures in
     rw (p.1, p.2) (coder_refused _ _ _ _ _ _ _ _ (record { image = c.in_ok-image.ensures; predictor = c.in_ok-predictor.ensures }) c.in_ok-pass.ensures bad)
 
 pub returns-in_err-pass-2-clause-reads : goal.returns-in_err-pass-2-clause-reads
 returns-in_err-pass-2-clause-reads c =
     let p = err_from_is_err_and c.from_residual-in_err-pass-2.result c.from_residual-in_err-pass-2.ensures.1 in
-    let coder_read = rw c.end-place.ensures.place at c.in_ok-coder.ensures in
-    let bad = rw (c.coder_bits.ensures, c.end-place.ensures.place) at c.in_err-pass-2.ensures in
+    let coder_read = rw c.end-position.ensures.position at c.in_ok-coder.ensures in
+    let bad = rw (c.coder_bits.ensures, c.end-position.ensures.position) at c.in_err-pass-2.ensures in
     rw (p.1, p.2) (constants_refused _ _ _ _ _ _ _ _ _ _
     (record { image = c.in_ok-image.ensures; predictor = c.in_ok-predictor.ensures }) c.in_ok-pass.ensures coder_read bad)
 
 pub returns-clause-reads : goal.returns-clause-reads
 returns-clause-reads c =
-    let coder_read = rw c.end-place.ensures.place at c.in_ok-coder.ensures in
-    let last = rw (c.coder_bits.ensures, c.end-place.ensures.place) at c.in_ok-pass-2.ensures in
+    let coder_read = rw c.end-position.ensures.position at c.in_ok-coder.ensures in
+    let last = rw (c.coder_bits.ensures, c.end-position.ensures.position) at c.in_ok-pass-2.ensures in
     rw (c.fork-weights.ensures, c.fork-constants.ensures) (parts_found _ _ _ _ _ _ _ _ _ _ _
     (record { image = c.in_ok-image.ensures; predictor = c.in_ok-predictor.ensures }) c.in_ok-pass.ensures coder_read last)
 
@@ -56,4 +56,4 @@ pub returns-clause-there : goal.returns-clause-there
 returns-clause-there c =
     let facts = start_read _ _ _ _ _ c.in_ok-image.ensures c.in_ok-predictor.ensures in
     let last = rw c.coder_bits.ensures at c.in_ok-pass-2.ensures in
-    rw (c.fork-weights.ensures, c.fork-constants.ensures) (are_there c.end-place.result _ _ _ _ _ _ _ _ _ facts c.in_ok-pass.ensures last)
+    rw (c.fork-weights.ensures, c.fork-constants.ensures) (are_there c.end-position.result _ _ _ _ _ _ _ _ _ facts c.in_ok-pass.ensures last)

@@ -1,5 +1,5 @@
 use Rattle.std.proofs.Common.{◌+◌, refl, rules, SFits, w32, to_z-of_z}
-use Rattle.header_bits.specs.Header.{coder_place}
+use Rattle.header_bits.specs.Header.{coder_start}
 use Rattle.header_bits.proofs.TablePassing.{start_again, coder_again}
 use Rattle.header_bits.proofs.header.read_params.Goals as goal
 
@@ -12,7 +12,7 @@ returns-clause-params c =
       c.in_ok-start.ensures.start,
       c.in_ok-coder.ensures.coder,
       start_again p.image p.predictor p.weights.left,
-      coder_again (coder_place p.image p.predictor + 16) p.image p.coder p.constants.left,
+      coder_again (coder_start p.image p.predictor + 16) p.image p.coder p.constants.left,
       to_z-of_z least,
       to_z-of_z greatest,
     ) refl

@@ -1,5 +1,5 @@
 use Rattle.std.proofs.Common.{get_or, ◌∙◌}
-use Rattle.header_bits.specs.declared.layout.Slot.TheVariants.{Unused}
+use Rattle.header_bits.specs.declared.layout.Slot.TheVariants.{Reserved}
 use Rattle.header_bits.proofs.SlotLoops.{narrow_value, slot_narrow, width_left, has_read_more, has_read_all}
 use Rattle.header_bits.proofs.layout.read_values.Goals as goal
 
@@ -11,7 +11,7 @@ pub value-requires-clause-fits : goal.value-requires-clause-fits
 value-requires-clause-fits c =
     let narrow = slot_narrow c.args.slots.now c.loop-i.i c.loop-i-test.true c.requires.narrow in
     let below = rw (c.unwrap-code.ensures, c.width.ensures) at c.take.ensures.below in
-    narrow_value (get_or c.args.slots.now c.loop-i.i (Unused 0)) c.unwrap-code.result narrow below
+    narrow_value (get_or c.args.slots.now c.loop-i.i (Reserved 0)) c.unwrap-code.result narrow below
 
 pub loop-i-preserved : goal.loop-i-preserved
 loop-i-preserved c =

@@ -23,7 +23,7 @@ pub returns-in_err-number-clause-reads : goal.returns-in_err-number-clause-reads
 returns-in_err-number-clause-reads c =
     let few : c.from.result < c.args.code.limit = omega (arith, c.from.ensures, c.if-zeros-code.true) in
     let read =
-    plain_refused c.args.reader.now.count c.args.place c.args.code c.args.reader.now.left c.args.word c.from.result c.bits_behind-low.result c.requires.code
+    plain_refused c.args.reader.now.count c.args.index c.args.code c.args.reader.now.left c.args.word c.from.result c.bits_behind-low.result c.requires.code
     c.ranges.word.fits c.requires.ahead c.from.ensures few
     (rw c.from.ensures c.bits_behind-low.ensures) c.in_err-number.ensures.below.1 in
     search rules
@@ -37,7 +37,7 @@ returns-in_ok-number-2-clause-reads c =
 pub returns-in_err-number-2-clause-reads : goal.returns-in_err-number-2-clause-reads
 returns-in_err-number-2-clause-reads c =
     let read =
-    escape_refused c.args.reader.now.count c.args.place c.args.code c.args.reader.now.left c.args.word c.bits_behind.result c.requires.code c.ranges.word.fits
+    escape_refused c.args.reader.now.count c.args.index c.args.code c.args.reader.now.left c.args.word c.bits_behind.result c.requires.code c.ranges.word.fits
     c.requires.ahead c.if-zeros-code.false c.bits_behind.ensures c.in_err-number-2.ensures.needed.1 in
     search rules
 

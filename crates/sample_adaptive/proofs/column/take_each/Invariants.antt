@@ -8,7 +8,7 @@ invariant-loop-i l =
     record {
       taken : (v : Counts) (b t k : ℕ) → l.fn.z ≡ b + k → l.fn.first ≡ eqb t 0 → v.bands ≡ statistics_of l.initial.bands
           → HasSettings v l.fn.run.bits l.fn.run.limit l.fn.run.rescaling.size
-          → Reaches (λ i. b + i) (λ i. t) k l.fn.place l.i v (record v { bands = statistics_of l.bands }) l.initial.reader l.reader l.numbers;
+          → Reaches (λ i. b + i) (λ i. t) k l.fn.index l.i v (record v { bands = statistics_of l.bands }) l.initial.reader l.reader l.numbers;
       tracked : AreTracked l.fn.run l.bands;
       count : l.reader.count ≡ l.initial.reader.count;
       long : length l.numbers ≡ length l.initial.numbers;

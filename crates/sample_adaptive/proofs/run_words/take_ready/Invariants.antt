@@ -8,7 +8,7 @@ invariant-loop-i l =
     record {
       taken : (v : Counts) (z t k : ℕ) → z < length v.bands → HasSettings v l.fn.run.bits l.fn.run.limit l.fn.run.rescaling.size
           → of_band v.bands z ≡ l.initial.band.statistics → 0 < t + k
-          → Reaches (λ i. z) (λ i. t + i) k l.fn.place l.i v (with_band v z l.band.statistics) l.initial.reader l.ahead l.numbers;
+          → Reaches (λ i. z) (λ i. t + i) k l.fn.index l.i v (with_band v z l.band.statistics) l.initial.reader l.ahead l.numbers;
       tracked : IsTracked l.fn.run l.band;
       count : l.ahead.count ≡ l.initial.reader.count;
       long : length l.numbers ≡ length l.initial.numbers;

@@ -1,4 +1,4 @@
-use Rattle.std.proofs.Common.{◌^◌, ◌*ℤ◌, ◌≡◌, ◌≤◌, ◌+◌, ◌/◌, ℕ, ℤ, pos, ◌+ℤ◌, ◌-ℤ◌, ◌≤ℤ◌, int_lt, unsigned_abs, false, SFits, w32, to_z, of_z, to_z-of_z}
+use Rattle.std.proofs.Common.{◌^◌, ◌*ℤ◌, ◌≡◌, ◌≤◌, ◌+◌, ◌/◌, ℕ, ℤ, pos, ◌+ℤ◌, ◌-ℤ◌, ◌≤ℤ◌, int_lt, unsigned_abs, SFits, w32, to_z, of_z, to_z-of_z}
 use Rattle.std.proofs.Common.{arith, sym, ap, ap₂, ◌∙◌, Bool, subst, rules}
 use Rattle.std.proofs.lemmas.Int.{ints, clamps}
 use Rattle.header_bits.proofs.Tests.{lt_false}

@@ -39,7 +39,7 @@ band_is c =
     (omega (arith, g.stands.place.band, c.loop-place.invariant.walk.many)) ∙ ap (λ (b : Learner). Some b) (sym c.index_mut.ensures.value)
 
 here : (c : After-index_mut) → IsAlong c.args.params.now c.loop-place.cube (gone_count c.args.params.now c.loop-place.places) c.in-Some.place.z
-    c.index_mut.result.now × (c.index_mut.result.now.place ≡ time_of c.args.params.now.shape c.in-Some.place)
+    c.index_mut.result.now × (c.index_mut.result.now.t ≡ time_of c.args.params.now.shape c.in-Some.place)
 here c = band_here c.args.params.now c.loop-place.cube (gone_count c.args.params.now c.loop-place.places) c.loop-place.bands.items c.in-Some.place
     c.index_mut.result.now c.requires.lawful.order c.loop-place.invariant.walk.along (next_goes c.args.params.now c.in-Some.place c.loop-place.places
     c.next.new.self c.requires.lawful.order c.loop-place.invariant.walk.rest c.in-Some.ensures.steps).stands (band_is c)

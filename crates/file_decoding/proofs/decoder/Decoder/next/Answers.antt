@@ -8,7 +8,7 @@ pub returns-in-Samples-clause-given : goal.returns-in-Samples-clause-given
 returns-in-Samples-clause-given c =
     let got = c.get_at.ensures in
     rw c.in-Samples.is (λ p numbers bits lawful h next at. samples_give (λ number. number ∷ []) _ p numbers bits _ _ _ h.coder
-    (next_given _ c.args.z c.args.t c.args.place p _ _ numbers bits _ _ got.taken got.bands.0 h at next))
+    (next_given _ c.args.z c.args.t c.args.index p _ _ numbers bits _ _ got.taken got.bands.0 h at next))
 
 pub returns-in-Blocks-clause-given : goal.returns-in-Blocks-clause-given
 returns-in-Blocks-clause-given c =

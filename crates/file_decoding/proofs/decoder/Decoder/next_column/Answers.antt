@@ -17,4 +17,4 @@ returns-in-Samples-clause-given c =
     rw c.in-Samples.is (samples_each _ _ _ _ _ _ _ _ _ c.get_column.ensures.taken c.get_column.ensures.bands.0)
 
 pub returns-in-Blocks-clause-given : goal.returns-in-Blocks-clause-given
-returns-in-Blocks-clause-given c = rw c.in-Blocks.is (c.next_of_blocks.ensures.given (λ i. c.args.z + i) (λ i. c.args.t) c.args.place)
+returns-in-Blocks-clause-given c = rw c.in-Blocks.is (c.next_of_blocks.ensures.given (λ i. c.args.z + i) (λ i. c.args.t) c.args.index)

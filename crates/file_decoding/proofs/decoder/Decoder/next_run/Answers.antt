@@ -15,4 +15,4 @@ returns-in-Samples-clause-given c =
     rw c.in-Samples.is (samples_each _ _ _ _ _ _ _ _ _ c.get_run.ensures.taken c.get_run.ensures.bands.0)
 
 pub returns-in-Blocks-clause-given : goal.returns-in-Blocks-clause-given
-returns-in-Blocks-clause-given c = rw c.in-Blocks.is (c.next_of_blocks.ensures.given (λ i. c.args.z) (λ i. c.args.t + i) c.args.place)
+returns-in-Blocks-clause-given c = rw c.in-Blocks.is (c.next_of_blocks.ensures.given (λ i. c.args.z) (λ i. c.args.t + i) c.args.index)

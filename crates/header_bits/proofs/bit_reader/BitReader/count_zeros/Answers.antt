@@ -8,18 +8,18 @@ use Rattle.header_bits.proofs.bit_reader.BitReader.count_zeros.Goals as goal
 
 pub zeros_ahead-zeros-requires-clause-enough : goal.zeros_ahead-zeros-requires-clause-enough
 zeros_ahead-zeros-requires-clause-enough c =
-    let place = left_length c.self.inside.at c.self.inside.bytes.now c.args.self.now.left c.self.invariant.0 (ap (λ w. w.left) c.self.view_is) in
-    omega (arith, place, c.left.ensures, c.min-most.ensures)
+    let position = left_length c.self.inside.at c.self.inside.bytes.now c.args.self.now.left c.self.invariant.0 (ap (λ w. w.left) c.self.view_is) in
+    omega (arith, position, c.left.ensures, c.min-most.ensures)
 
 pub overflow_add-self-then-zeros-most : goal.overflow_add-self-then-zeros-most
 overflow_add-self-then-zeros-most c =
-    let place = left_length c.self.inside.at c.self.inside.bytes.now c.args.self.now.left c.self.invariant.0 (ap (λ w. w.left) c.self.view_is) in
-    omega (arith, place, c.left.ensures, c.min-most.ensures)
+    let position = left_length c.self.inside.at c.self.inside.bytes.now c.args.self.now.left c.self.invariant.0 (ap (λ w. w.left) c.self.view_is) in
+    omega (arith, position, c.left.ensures, c.min-most.ensures)
 
 pub invariant_of-self : goal.invariant_of-self
 invariant_of-self c =
-    let place = left_length c.self.inside.at c.self.inside.bytes.now c.args.self.now.left c.self.invariant.0 (ap (λ w. w.left) c.self.view_is) in
-    (omega (arith, place, c.left.ensures, c.min-most.ensures), c.self.invariant.1)
+    let position = left_length c.self.inside.at c.self.inside.bytes.now c.args.self.now.left c.self.invariant.0 (ap (λ w. w.left) c.self.view_is) in
+    (omega (arith, position, c.left.ensures, c.min-most.ensures), c.self.invariant.1)
 
 pub returns-then-zeros-most-clause-reads : goal.returns-then-zeros-most-clause-reads
 returns-then-zeros-most-clause-reads c =
@@ -39,13 +39,13 @@ returns-then-most-limit-clause-reads c =
 
 pub overflow_add-self-2 : goal.overflow_add-self-2
 overflow_add-self-2 c =
-    let place = left_length c.self.inside.at c.self.inside.bytes.now c.args.self.now.left c.self.invariant.0 (ap (λ w. w.left) c.self.view_is) in
-    omega (arith, place, c.left.ensures, c.min-most.ensures, c.zeros_ahead-zeros.ensures.within)
+    let position = left_length c.self.inside.at c.self.inside.bytes.now c.args.self.now.left c.self.invariant.0 (ap (λ w. w.left) c.self.view_is) in
+    omega (arith, position, c.left.ensures, c.min-most.ensures, c.zeros_ahead-zeros.ensures.within)
 
 pub invariant_of-self-2 : goal.invariant_of-self-2
 invariant_of-self-2 c =
-    let place = left_length c.self.inside.at c.self.inside.bytes.now c.args.self.now.left c.self.invariant.0 (ap (λ w. w.left) c.self.view_is) in
-    (omega (arith, place, c.left.ensures, c.min-most.ensures, c.zeros_ahead-zeros.ensures.within), c.self.invariant.1)
+    let position = left_length c.self.inside.at c.self.inside.bytes.now c.args.self.now.left c.self.invariant.0 (ap (λ w. w.left) c.self.view_is) in
+    (omega (arith, position, c.left.ensures, c.min-most.ensures, c.zeros_ahead-zeros.ensures.within), c.self.invariant.1)
 
 pub returns-clause-reads : goal.returns-clause-reads
 returns-clause-reads c =

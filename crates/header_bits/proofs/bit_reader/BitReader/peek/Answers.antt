@@ -1,4 +1,5 @@
-use Rattle.std.proofs.Common.{ap, arith, ◌≡◌, ◌+◌, ◌-◌, ◌*◌, ◌/◌, ◌<◌, ◌≤◌, ℕ, List, true, false, length, take, drop}
+use Rattle.std.proofs.Common.{ap, arith, ◌≡◌, ◌+◌, ◌-◌, ◌*◌, ◌/◌, ◌<◌, ◌≤◌, ℕ, List, length, take, drop}
+use Rattle.std.proofs.lemmas.Bool.{false≢true}
 use Rattle.std.proofs.lemmas.List.{length-drop}
 use Rattle.std.specs.Array.{IsFirstChunk}
 use Rattle.header_bits.proofs.Ahead.{window_ahead}
@@ -15,20 +16,17 @@ eight_there bytes eight at within h = omega (arith, tail_length bytes (at / 8), 
 eight_missing : (bytes : List ℕ) (at : ℕ) → at ≤ 8 * length bytes → length (take (length bytes - at / 8) (drop (at / 8) bytes)) < 8 → 8 * length bytes < at + 57
 eight_missing bytes at within h = omega (arith, tail_length bytes (at / 8), h)
 
-not_both : false ≡ true → ⊥
-not_both e = cc
-
 pub returns-in_err-eight-clause-enough : goal.returns-in_err-eight-clause-enough
 returns-in_err-eight-clause-enough c =
-    let place = left_length c.self.inside.at c.self.inside.bytes.now c.args.self.now.left c.self.invariant.0 (ap (λ w. w.left) c.self.view_is) in
+    let position = left_length c.self.inside.at c.self.inside.bytes.now c.args.self.now.left c.self.invariant.0 (ap (λ w. w.left) c.self.view_is) in
     let few = eight_missing c.self.inside.bytes.now c.self.inside.at c.self.invariant.0 c.in_err-eight.ensures.cases in
-    (λ h. absurd (not_both (rw c.from_residual.ensures at h)), λ h. absurd (omega (arith, place, few, h)))
+    (λ h. absurd (false≢true (rw c.from_residual.ensures at h)), λ h. absurd (omega (arith, position, few, h)))
 
 pub returns-clause-enough : goal.returns-clause-enough
 returns-clause-enough c =
-    let place = left_length c.self.inside.at c.self.inside.bytes.now c.args.self.now.left c.self.invariant.0 (ap (λ w. w.left) c.self.view_is) in
+    let position = left_length c.self.inside.at c.self.inside.bytes.now c.args.self.now.left c.self.invariant.0 (ap (λ w. w.left) c.self.view_is) in
     let many = eight_there c.self.inside.bytes.now _ c.self.inside.at c.self.invariant.0 c.in_ok-eight.ensures.cases in
-    (λ h. omega (arith, place, many), λ h. cc)
+    (λ h. omega (arith, position, many), λ h. cc)
 
 pub returns-clause-bits : goal.returns-clause-bits
 returns-clause-bits c =

@@ -12,13 +12,13 @@ returns-then-left-from-clause-reads c =
 
 pub number_of_bits-number-requires-clause-enough : goal.number_of_bits-number-requires-clause-enough
 number_of_bits-number-requires-clause-enough c =
-    let place = left_length c.self.inside.at c.self.inside.bytes.now c.args.self.now.left c.self.invariant.0 (ap (λ w. w.left) c.self.view_is) in
-    omega (arith, place, c.if-left-from.false, c.left.ensures, c.from.ensures)
+    let position = left_length c.self.inside.at c.self.inside.bytes.now c.args.self.now.left c.self.invariant.0 (ap (λ w. w.left) c.self.view_is) in
+    omega (arith, position, c.if-left-from.false, c.left.ensures, c.from.ensures)
 
 pub invariant_of-self : goal.invariant_of-self
 invariant_of-self c =
-    let place = left_length c.self.inside.at c.self.inside.bytes.now c.args.self.now.left c.self.invariant.0 (ap (λ w. w.left) c.self.view_is) in
-    (omega (arith, place, c.if-left-from.false, c.left.ensures, c.from.ensures, c.from-2.ensures), c.self.invariant.1)
+    let position = left_length c.self.inside.at c.self.inside.bytes.now c.args.self.now.left c.self.invariant.0 (ap (λ w. w.left) c.self.view_is) in
+    (omega (arith, position, c.if-left-from.false, c.left.ensures, c.from.ensures, c.from-2.ensures), c.self.invariant.1)
 
 pub returns-clause-reads : goal.returns-clause-reads
 returns-clause-reads c =

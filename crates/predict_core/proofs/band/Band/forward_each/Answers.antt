@@ -9,7 +9,7 @@ loop-i-preserved c =
       moved = moved_next c.loop-i.i c.args.self.now c.loop-i.self c.forward.new.self kept.moved c.forward.ensures.moved;
       long = rw length-set kept.long;
       bound = bound_next (2 ^ c.args.cube.now.kind.bits) c.loop-i.i c.loop-i.residuals c.forward.result inside c.forward.ensures.bound kept.bound;
-      residuals = λ p f. run_next p c.args.cube.now c.args.self.now.band c.args.self.now.place c.loop-i.i c.loop-i.residuals _ inside
-          (c.forward.ensures.residual p (kept.follows p f) ∙ ap₂ (mapped_residual p c.args.cube.now) kept.moved.band kept.moved.place) (kept.residuals p f);
+      residuals = λ p f. run_next p c.args.cube.now c.args.self.now.band c.args.self.now.t c.loop-i.i c.loop-i.residuals _ inside
+          (c.forward.ensures.residual p (kept.follows p f) ∙ ap₂ (mapped_residual p c.args.cube.now) kept.moved.band kept.moved.t) (kept.residuals p f);
       follows = λ p f. c.forward.ensures.follows p (kept.follows p f);
     }

@@ -9,6 +9,6 @@ invariant-loop-i l = record {
   moved : MovesBy l.i l.initial.self l.self;
   long : length l.residuals ≡ length l.initial.residuals;
   bound : (k : ℕ) → k < l.i → slice_index l.residuals k < 2 ^ l.cube.kind.bits;
-  residuals : (p : Params) → Follows p l.initial.self l.cube → take l.i l.residuals ≡ run_residuals p l.cube l.initial.self.band l.initial.self.place l.i;
+  residuals : (p : Params) → Follows p l.initial.self l.cube → take l.i l.residuals ≡ run_residuals p l.cube l.initial.self.band l.initial.self.t l.i;
   follows : (p : Params) → Follows p l.initial.self l.cube → Follows p l.self l.cube;
 }

@@ -24,7 +24,7 @@ loop-i-preserved c =
     let before : IsPlace c.args.cube.now.shape c.args.self.now.band c.args.y (c.args.x + c.loop-i.i) =
     record { band = c.requires.place.band; row = c.requires.place.row; column = omega (arith, c.requires.inside, c.loop-i-test.true) } in
     let place = rw kept.beside.alike.shape at before in
-    let there = kept.moved.place ∙ ap (λ t. t + c.loop-i.i) (rw kept.beside.alike.shape at c.requires.next) in
+    let there = kept.moved.t ∙ ap (λ t. t + c.loop-i.i) (rw kept.beside.alike.shape at c.requires.next) in
     let shape = rw (← c.self.view_is) at c.requires.shape in let columns = c.self.invariant.columns in
     let wide : (p : Params) → Follows p c.args.self.now c.args.cube.now → p.column ≡ false → 2 ≤ d.shape.columns =
     λ p f h. let g = rw (← c.self.view_is) at f in let w = (rw g.made.predictor at s.wide) h in

@@ -2,7 +2,7 @@ use Rattle.std.proofs.Common.{arith, ◌+◌, ◌-◌, ◌≡◌, ℕ, sym, ap, 
 use Rattle.header_bits.specs.Bits.{bits_of}
 use Rattle.header_bits.proofs.Words.{pushed_behind}
 use Rattle.header_bits.proofs.Pushes.{none_held}
-use Rattle.header_bits.proofs.bit_writer.filled.Goals as goal
+use Rattle.header_bits.proofs.bit_writer.filled_word.Goals as goal
 
 pub returns-then-held-eq0 : goal.returns-then-held-eq0
 returns-then-held-eq0 c = none_held c.args.held c.args.part c.args.bits c.if-held-eq0.true

@@ -1,4 +1,0 @@
-use Rattle.header_bits.proofs.fields.unused_field.Goals as goal
-
-pub returns : goal.returns
-returns c = rw (← c.total_bits.ensures.total, ← c.width.ensures) c.unused.ensures
