@@ -1,5 +1,5 @@
 -- Cubes and parameters of the worked examples.
-use Rattle.std.specs.Prelude.{ℕ, List, [], ◌∷◌, replicate, Bool, true, false, ℤ, pos, negsuc}
+use Rattle.std.specs.Prelude.{ℕ, List, [], ◌∷◌, replicate, Bool, false, ℤ, pos, negsuc}
 use Rattle.cube_core.specs.declared.order.Order.TheVariants.{Bsq}
 use Rattle.header_bits.specs.declared.params.Params.{Params}
 use Rattle.header_bits.specs.declared.params.Coder.TheVariants.{Block}
