@@ -227,6 +227,39 @@ fn row_is_refused(rt: &impl Abort, alloc: Global, row: &str) {
     is_refused(rt, alloc, settings, &bytes_of(rt, alloc, body), fault, name);
 }
 
+/// 144 in eight bits, then eight zeros and 3 in eight bits: an escape that it does not need.
+const NEEDLESS_ESCAPE: [u8; 3] = [0x90, 0x00, 0x03];
+
+/// The coder of one band and a reader, after the first number, which `get_at` returns.
+fn after_the_first<'a>(rt: &impl Abort, alloc: Global, bytes: &'a [u8; 3]) -> (Stats, BitReader<'a>)
+    ensures { 0 < length result.0.bands }
+{
+    let mut stats = stats_of(rt, alloc, 1, short_codes(8));
+    let mut reader = BitReader::new(bytes);
+    same(rt, stats.get_at(0, 0, 40, &mut reader).ok(), Some(144));
+    (stats, reader)
+}
+
+#[test]
+fn bad_code_names_the_index_that_is_asked_for(rt: HostRuntime) {
+    let (mut stats, mut reader) = after_the_first(&rt, rt.alloc(), &NEEDLESS_ESCAPE);
+    let fault = stats.get_at(0, 1, 41, &mut reader).err();
+    same_fault(
+        &rt,
+        fault,
+        Fault::BadCode { place: 41 },
+        "the number's index",
+    );
+    let fault = stats.get_at(0, 1, 42, &mut reader).err();
+    same_fault(
+        &rt,
+        fault,
+        Fault::BadCode { place: 42 },
+        "a later call's index",
+    );
+    same(&rt, reader.left(), 16);
+}
+
 #[test]
 fn bad_codes(rt: HostRuntime) {
     for row in BAD_CODES.split('\n') {
