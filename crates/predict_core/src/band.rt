@@ -11,7 +11,8 @@ ghost use Rattle.sample_prediction.specs.Residual.{mapped, mapped_residual};
 ghost use Rattle.sample_prediction.specs.Bounds.{AllWithin};
 ghost use Rattle.predict_core.specs.Following.{Follows, IsMadeFor, MovesOn};
 
-use crate::settings::{Settings, first_scaled, learn, predict};
+use crate::prediction::{first_scaled, learn, predict};
+use crate::settings::Settings;
 use crate::west::WestMasks;
 use cube_core::cube::Cube;
 use cube_core::fault::Fault;

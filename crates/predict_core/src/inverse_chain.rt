@@ -25,8 +25,9 @@ ghost use Rattle.predict_core.specs.Steps.{AreSteps};
 ghost use Rattle.sample_prediction.specs.Weights.{step_exponent};
 
 use crate::chain::differences_at;
+use crate::prediction::form_at;
 use crate::room::Quad;
-use crate::settings::{Settings, form_at};
+use crate::settings::Settings;
 use crate::west::{put_west, sum_with_west};
 use cube_core::cube::Cube;
 use sample_prediction::differences::west_of;

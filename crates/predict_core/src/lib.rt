@@ -12,6 +12,7 @@ mod lines;
 mod mapping;
 mod piece;
 mod pieces;
+mod prediction;
 mod room;
 mod run;
 mod run_inverse;

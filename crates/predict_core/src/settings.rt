@@ -1,25 +1,14 @@
-//! What a band's predictor computes once, and the prediction of one sample from it.
+//! What a band's predictor computes once for all its samples.
 
-ghost use Rattle.std.specs.Prelude.{◌≡◌, ◌+◌, ◌-◌, ◌*◌, ◌^◌, ◌<◌, ◌≤◌, pos, negsuc, ◌-ℤ◌, ◌*ℤ◌, ◌≤ℤ◌, int_lt, take, ◌++◌, replicate, false, ℤ, List, length};
+ghost use Rattle.std.specs.Prelude.{◌≡◌, ◌≤◌, false};
 ghost use Rattle.cube_core.specs.Shape.{InRange};
-ghost use Rattle.cube_core.specs.Image.{IsPlace};
 ghost use Rattle.sample_prediction.specs.Predictor.{previous_bands, component_count};
-ghost use Rattle.sample_prediction.specs.Differences.{difference_vector as vector};
-ghost use Rattle.sample_prediction.specs.Weights.{step_exponent, updated_weights};
-ghost use Rattle.sample_prediction.specs.Prediction.{scaled_there, first_scaled as first_prediction};
-ghost use Rattle.sample_prediction.specs.Mapping.{IsScaled};
-ghost use Rattle.sample_prediction.specs.Bounds.{AllWithin, IsPredictor};
-ghost use Rattle.predict_core.specs.Steps.{AreSteps};
+ghost use Rattle.sample_prediction.specs.Bounds.{IsPredictor};
 ghost use Rattle.predict_core.specs.OpenPart.{AreWestMasks};
 
 use crate::west::WestMasks;
-use cube_core::cube::Cube;
-use sample_prediction::differences::{fill_differences, sum_at};
-use sample_prediction::exponent::exponent_at;
-use sample_prediction::prediction::scaled_by;
 use sample_prediction::predictor::Predictor;
 use sample_prediction::range::Range;
-use sample_prediction::weights::{Form, form_of, update};
 
 /// The parameters of a band's predictor, and what follows from them for all its samples.
 #[derive(Clone, Copy)]
@@ -41,131 +30,4 @@ pub(crate) struct Settings {
     pub ghost few: { count ≤ 18 },
     pub ghost west_is: { AreWestMasks predictor.reduced predictor.column west },
     pub ghost wide: { predictor.column ≡ false → 2 ≤ columns },
-}
-
-/// The prediction at a place, and the differences that it comes from.
-#[derive(Clone, Copy)]
-pub(crate) struct Prediction {
-    pub scaled: i32,
-    pub differences: [i32; 18],
-}
-
-/// Returns the scaled prediction at the first place of a band.
-pub(crate) fn first_scaled(settings: &Settings, cube: &Cube) -> i32
-    requires place { IsPlace cube.now.shape settings.now.band 0 0 }
-    requires kind { cube.now.kind ≡ settings.now.range.kind }
-    ensures value { result ≡ first_prediction settings.now.predictor cube.now settings.now.band }
-    ensures scaled { IsScaled cube.now.kind result }
-{
-    let previous = settings.predictor.previous;
-    let band = settings.band;
-    if previous == 0 || band == 0 {
-        2 * settings.range.smid
-    } else {
-        2 * cube.sample(band - 1, 0, 0)
-    }
-}
-
-/// Returns the prediction at a place that is not the first of its band.
-#[inline(always)]
-pub(crate) fn predict(
-    settings: &Settings,
-    cube: &Cube,
-    y: u32,
-    x: u32,
-    weights: &[i32; 18],
-) -> Prediction
-    requires place { IsPlace cube.now.shape settings.now.band y x }
-    requires columns { cube.now.shape.columns ≡ settings.now.columns }
-    requires kind { cube.now.kind ≡ settings.now.range.kind }
-    requires later { 0 < y + x }
-    requires weights_in { AllWithin (2 ^ (settings.now.predictor.omega + 2)) weights.now }
-    ensures differences { result.differences ≡ vector settings.now.predictor cube.now settings.now.band y x ++ replicate
-        (18 - component_count settings.now.predictor settings.now.band) (pos 0) }
-    ensures bound { AllWithin (4 * 2 ^ settings.now.range.bits) result.differences }
-    ensures value { result.scaled ≡ scaled_there settings.now.predictor cube.now settings.now.band y x
-        (take (component_count settings.now.predictor settings.now.band) weights.now) }
-    ensures scaled { IsScaled cube.now.kind result.scaled }
-{
-    cube.prove_is_cube();
-    let predictor = &settings.predictor;
-    let range = &settings.range;
-    let sum = sum_at(predictor, cube, settings.band, y, x);
-    let mut differences = [0i32; 18];
-    fill_differences(
-        predictor,
-        cube,
-        settings.band,
-        y,
-        x,
-        sum,
-        settings.near,
-        &mut differences,
-    );
-    let whole = 4 * range.smin + sum as i32;
-    let scaled = scaled_by(
-        predictor,
-        range,
-        settings.count,
-        whole,
-        weights,
-        &differences,
-    );
-    Prediction {
-        scaled,
-        differences,
-    }
-}
-
-/// Updates the weights after a sample at place `t`.
-#[inline(always)]
-pub(crate) fn learn(
-    settings: &Settings,
-    t: u64,
-    weights: &mut [i32; 18],
-    prediction: &Prediction,
-    sample: i32,
-)
-    requires t_in { t < 2 ^ 32 }
-    requires weights_in { AllWithin (2 ^ (settings.now.predictor.omega + 2)) weights.old }
-    requires differences_in { AllWithin (4 * 2 ^ settings.now.range.bits) prediction.now.differences }
-    requires scaled_in { IsScaled settings.now.range.kind prediction.now.scaled }
-    requires sample_in { (negsuc 32767 ≤ℤ sample) × (sample ≤ℤ pos 65535) }
-    ensures value { (us : List ℤ) → length us ≡ settings.now.count → prediction.now.differences ≡ us ++ replicate (18 - settings.now.count) (pos 0)
-        → take settings.now.count weights.new ≡ updated_weights settings.now.predictor.omega (step_exponent settings.now.predictor settings.now.columns
-        settings.now.range.bits t) (int_lt (pos 2 *ℤ sample -ℤ prediction.now.scaled) (pos 0)) (take settings.now.count weights.old) us }
-    ensures bound { AllWithin (2 ^ (settings.now.predictor.omega + 2)) weights.new }
-{
-    let exponent = exponent_at(
-        &settings.predictor,
-        settings.columns,
-        settings.range.bits,
-        t,
-    );
-    let negative = 2 * sample < prediction.scaled;
-    update(
-        settings.count,
-        weights,
-        &prediction.differences,
-        settings.predictor.omega,
-        settings.range.bits,
-        exponent,
-        negative,
-    );
-}
-
-/// Returns the form of the steps after row `y`, column `x`, a place that is not the first of its band.
-#[inline(always)]
-pub(crate) fn form_at(settings: &Settings, y: u32, x: u32) -> Form
-    requires row { y < 65536 }
-    requires column { x < settings.now.columns }
-    ensures { AreSteps result settings.now.range.bits (step_exponent settings.now.predictor settings.now.columns settings.now.range.bits
-        (y * settings.now.columns + x)) }
-{
-    let bits = settings.range.bits;
-    let t = u64::from(y) * u64::from(settings.columns) + u64::from(x);
-    form_of(
-        bits,
-        exponent_at(&settings.predictor, settings.columns, bits, t),
-    )
 }

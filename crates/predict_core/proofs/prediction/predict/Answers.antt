@@ -5,7 +5,7 @@ use Rattle.sample_prediction.specs.Differences.{difference_vector}
 use Rattle.sample_prediction.specs.Bounds.{AllWithin}
 use Rattle.sample_prediction.proofs.Padding.{scaled_there_is, whole_sum, vector_length}
 use Rattle.predict_core.proofs.Ranges.{padded_within}
-use Rattle.predict_core.proofs.settings.predict.Goals as goal
+use Rattle.predict_core.proofs.prediction.predict.Goals as goal
 
 pub returns-clause-value : goal.returns-clause-value
 returns-clause-value c =

@@ -1,7 +1,7 @@
 use Rattle.std.proofs.Common.{◌≡◌, SFits, w32, to_z-of_z, to_z, of_z, rules, arith, pos, ◌*ℤ◌}
 use Rattle.std.proofs.lemmas.Int.{ints}
 use Rattle.sample_prediction.proofs.Padding.{error_test}
-use Rattle.predict_core.proofs.settings.learn.Goals as goal
+use Rattle.predict_core.proofs.prediction.learn.Goals as goal
 
 pub returns-clause-value : goal.returns-clause-value
 returns-clause-value c us l same =

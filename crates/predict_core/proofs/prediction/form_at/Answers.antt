@@ -1,5 +1,5 @@
 use Rattle.std.proofs.Common.{SFits, w32, to_z-of_z, rules, ◌∙◌}
-use Rattle.predict_core.proofs.settings.form_at.Goals as goal
+use Rattle.predict_core.proofs.prediction.form_at.Goals as goal
 
 pub returns : goal.returns
 returns c =

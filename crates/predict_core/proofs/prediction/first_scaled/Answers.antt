@@ -2,7 +2,7 @@ use Rattle.std.proofs.Common.{◌≡◌, arith, ap, ◌∙◌, sym}
 use Rattle.std.proofs.lemmas.Int.{ints}
 use Rattle.cube_core.specs.Kind.{SampleKind, smin, smid, smax}
 use Rattle.sample_prediction.proofs.Padding.{first_from_middle, first_from_below}
-use Rattle.predict_core.proofs.settings.first_scaled.Goals as goal
+use Rattle.predict_core.proofs.prediction.first_scaled.Goals as goal
 
 pub returns-then-band-eq0-clause-value : goal.returns-then-band-eq0-clause-value
 returns-then-band-eq0-clause-value c =
