@@ -6,9 +6,8 @@ use Rattle.header_bits.specs.declared.params.Params.{Params}
 use Rattle.header_bits.specs.Bits.{bits_of_bytes}
 use Rattle.header_bits.specs.Header.{header_at}
 use Rattle.header_bits.proofs.Fronts.{bind_ok}
-use Rattle.header_bits.proofs.Headers.{header_exact}
+use Rattle.header_bits.proofs.HeaderTexts.{read_lawful}
 use Rattle.header_bits.proofs.Reading.{ok_is}
-use Rattle.header_bits.proofs.SpeltLawful.{spelt_is_lawful}
 use Rattle.file_decoding.specs.Files.{behind_body, fill_test, body_test, head_at, file_test}
 use Rattle.file_decoding.specs.Least.{least_test}
 use Rattle.file_decoding.specs.Laws.{FineIsFile}
@@ -32,8 +31,8 @@ fine_is_file bytes e =
     let bits : List Bool = bits_of_bytes bytes in
     let a = bind_ok (head_at bits) (λ header. body_test (length bits) header.0 header.1) tt e in
     let p : Params = a.0.0 in
-    let found = header_exact.found p bits a.0.1 (head_read bits a.0 a.1) in
-    let lawful = spelt_is_lawful p found.0 found.1 in
+    let header = head_read bits a.0 a.1 in
+    let lawful = read_lawful p bits a.0.1 header in
     let bodies = are_bodies p lawful in
     let b = bind_ok (behind_body (length bits) p a.0.1) (λ rest. fill_test p.word rest) tt a.2 in
     let d = bind_ok (numbers_at p.coder (length bits) p a.0.1) (λ read. Ok read.1) b.0 (sym (bodies.behind (length bits) a.0.1) ∙ b.1) in
@@ -43,6 +42,6 @@ fine_is_file bytes e =
       p,
       made.image,
       lawful,
-      found_file bytes p made.image found.0 a.0.1 b.0 found.1 found.2
+      found_file bytes p made.image a.0.1 b.0 header
           (record { cube = made.cube; body = read.0; coded = rw made.same read.1.2; text = text }) b.2,
     )

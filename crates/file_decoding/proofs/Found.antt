@@ -8,15 +8,12 @@ use Rattle.header_bits.specs.Bits.{bits_of_bytes}
 use Rattle.header_bits.specs.Parts.{fine}
 use Rattle.header_bits.specs.Lawful.{IsLawful}
 use Rattle.header_bits.specs.Header.{header_at, SpellsHeader, BeginsWithTable}
-use Rattle.header_bits.proofs.Bytes.{length-bits_of_bytes}
+use Rattle.header_bits.proofs.Headers.{header_exact}
 use Rattle.header_bits.proofs.SpeltLawful.{spelt_is_lawful}
 use Rattle.file_decoding.specs.Decoding.{TakesCube, AnswersOr, IsNoFile, IsRefusal, ReadsFile}
 use Rattle.file_decoding.specs.Files.{IsFile, behind_body, fill_test, body_test, head_at, file_test}
 use Rattle.file_decoding.specs.Least.{least_test}
 use Rattle.file_decoding.proofs.FileLaws.{body_of_cube, behind_again, passed, file_is_fine, one_file}
-
--- how many bits bytes have
-pub ruleset byte_bits = (length-bits_of_bytes)
 
 -- ---- a refusal is the file's first fault
 
@@ -59,19 +56,20 @@ module _ (bits : List Bool) (p : Params) (left : List Bool) (e : Fault) (header 
 
 -- ---- where nothing is refused, the bytes are a file
 
-pub found_file : (bytes : List ℕ) (p : Params) (c : Image) (header rest left : List Bool) → SpellsHeader p header → bits_of_bytes bytes ≡ header ++ rest
+pub found_file : (bytes : List ℕ) (p : Params) (c : Image) (rest left : List Bool) → header_at (bits_of_bytes bytes) ≡ Ok (p, rest)
     → TakesCube p c rest left → fill_test p.word left ≡ fine → IsFile bytes p c
-found_file bytes p c header rest left spelt text t f =
+found_file bytes p c rest left header t f =
+    let found = header_exact.found p _ rest header in
     let zeros = passed _ _ f in
     record {
       cube = t.cube;
-      header = header;
+      header = found.0;
       body = t.body;
       fill = length left;
-      spelt = spelt;
+      spelt = found.1;
       coded = t.coded;
       few = zeros.0;
-      text = text ∙ rw (append_assoc header t.body _, ← zeros.1, ← t.text) refl;
+      text = found.2 ∙ rw (append_assoc found.0 t.body _, ← zeros.1, ← t.text) refl;
     }
 
 -- ---- and of nothing else

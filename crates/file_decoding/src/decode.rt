@@ -1,6 +1,6 @@
 //! Decoding: from a file's bytes to its parameters and its cube.
 
-ghost use Rattle.std.specs.Prelude.{◌≡◌, ◌⊎◌, ◌+◌, ◌*◌, ◌^◌, ◌<◌, ◌≤◌, true, Err, IfOk, IfErr, length, drop};
+ghost use Rattle.std.specs.Prelude.{◌≡◌, ◌⊎◌, ◌+◌, ◌*◌, ◌^◌, ◌<◌, ◌≤◌, true, Err, IfOk, IfErr, length};
 ghost use Rattle.cube_core.specs.declared.fault.Fault.{Fault as Refusal};
 ghost use Rattle.cube_core.specs.declared.fault.Fault.TheVariants.{WantOfMemory};
 ghost use Rattle.cube_core.specs.Shape.{InRange};
@@ -22,7 +22,7 @@ use cube_core::fault::Fault;
 use cube_core::order::Place;
 use file_coding::bands::all_bands;
 use header_bits::bit_reader::BitReader;
-use header_bits::header::read_header;
+use header_bits::header::take_header;
 use header_bits::params::Params;
 use std::alloc::Global;
 
@@ -53,24 +53,12 @@ fn read_file(alloc: Global, bytes: &[u8]) -> Result<(Params, Cube), Fault>
     requires { length bytes.now ≤ 2 ^ 60 }
     ensures { ReadsFile bytes.now result }
 {
-    let (params, size) = read_header(alloc, bytes)?;
-    let mut reader = reader_behind(bytes, size);
+    let mut reader = BitReader::new(bytes);
+    let params = take_header(alloc, &mut reader)?;
     test_length(&params, &reader)?;
     let cube = take_cube(alloc, &params, &mut reader)?;
     test_fill(params.word, &reader)?;
     Ok((params, cube))
-}
-
-/// Returns a reader of bytes that has taken the first `size` of them.
-#[tactic(auto, using(crate::proofs::Found::byte_bits))]
-fn reader_behind(bytes: &[u8], size: usize) -> BitReader<'_>
-    requires small { length bytes.now ≤ 2 ^ 60 }
-    requires within { size ≤ length bytes.now }
-    ensures { result ≡ record { count = length (bits_of_bytes bytes.now); left = drop (8 * size) (bits_of_bytes bytes.now) } }
-{
-    let mut reader = BitReader::new(bytes);
-    reader.skip(8 * size as u64);
-    reader
 }
 
 /// Returns t: how many places of the same band come before this one.

@@ -18,7 +18,7 @@ use Rattle.header_bits.specs.PredictorPart.{predictor, predictor_fields, predict
 use Rattle.header_bits.specs.CoderPart.{coder_fields, coder_numbers, coder}
 use Rattle.header_bits.specs.TableParts.{fill_of, table_fields, numbers_text, signed_code, weight_count, weights, weights_by, constants, constants_by}
 use Rattle.header_bits.specs.TableParts.{has_constants}
-use Rattle.header_bits.specs.Header.{image_part_of, predictor_part_of, coder_part_of, coder_start, Said, said, AreThere, params_of, parts_at, start_by}
+use Rattle.header_bits.specs.Header.{image_part_of, predictor_part_of, coder_part_of, coder_start, said, AreThere, params_of, start_by}
 use Rattle.header_bits.specs.Header.{coder_by_part, is_custom, has_each, has_table, weight_bits, constant_bits, header_of, header_at, SpellsHeader}
 use Rattle.header_bits.specs.Lawful.{IsLawful}
 use Rattle.header_bits.proofs.Numbers.{length-bits_of}
@@ -28,7 +28,7 @@ use Rattle.header_bits.proofs.Held.{image_held, predictor_held, coder_held, imag
 use Rattle.header_bits.proofs.TableNumbers.{total_table, spelled_table, length-numbers_text}
 use Rattle.header_bits.proofs.SpeltLawful.{spelt_is_lawful}
 use Rattle.header_bits.proofs.TablePassing.{weights_total, constants_total}
-use Rattle.header_bits.proofs.Headers.{header_exact, header_read, part_leaves}
+use Rattle.header_bits.proofs.Headers.{header_exact, part_leaves}
 
 -- ---- the tables
 
@@ -168,10 +168,20 @@ table_kept i p at_weights c at_constants = rw (custom p.custom p.resolution _, e
     each (parts.Block size restricted reference) values = refl
 
 -- what is left is no more than there was
-pub left_within : (s : Said) (bits left : List Bool) → parts_at bits ≡ Ok (s, left) → length left ≤ length bits
-left_within s bits left e =
-    let found = header_exact.found (params_of s) bits left (header_read s (params_of s) bits left e refl) in
-    omega (arith, ap length found.2, length-append found.0 left)
+pub left_within : (p : Params) (bits left : List Bool) → header_at bits ≡ Ok (p, left) → length left ≤ length bits
+left_within p bits left e = let found = header_exact.found p bits left e in omega (arith, ap length found.2, length-append found.0 left)
+
+-- it is what stands behind as many bits as were read
+pub left_behind : (p : Params) (bits left : List Bool) (n : ℕ) → header_at bits ≡ Ok (p, left) → n ≡ length bits - length left
+    → header_at bits ≡ Ok (p, drop n bits)
+left_behind p bits left n e size =
+    let found = header_exact.found p bits left e in
+    let at : length found.0 ≡ n = omega (arith, ap length found.2, length-append found.0 left, size) in
+    subst (λ (x : List Bool). header_at bits ≡ Ok (p, x)) (sym (ap (drop n) found.2 ∙ drop_at found.0 left n at)) e
+
+-- the parameters are lawful
+pub read_lawful : (p : Params) (bits left : List Bool) → header_at bits ≡ Ok (p, left) → IsLawful p
+read_lawful p bits left e = let found = header_exact.found p bits left e in spelt_is_lawful p found.0 found.1
 
 -- a header of so many bytes stands at the front
 pub record Stands (p : Params) (bits : List Bool) (bytes : ℕ) : Type 0 where
@@ -186,13 +196,9 @@ header_stands p bits left all bytes e size n =
     let whole = spelt_whole p found.0 found.1 in
     let long : length bits ≡ length found.0 + length left = ap length found.2 ∙ length-append found.0 left in
     let at : length found.0 ≡ 8 * bytes = omega (arith, whole, long, size, n) in
-    let back : left ≡ drop (8 * bytes) bits = sym (ap (drop (8 * bytes)) found.2 ∙ drop_at found.0 left (8 * bytes) at) in
     let front : found.0 ≡ take (8 * bytes) bits = sym (ap (take (8 * bytes)) found.2 ∙ take_at found.0 left (8 * bytes) at) in
     record {
       within = omega (arith, long, at);
-      reads = subst (λ (x : List Bool). header_at bits ≡ Ok (p, x)) back e;
+      reads = left_behind p bits left (8 * bytes) e (omega (arith, at, long));
       spelt = subst (λ (h : List Bool). SpellsHeader p h) front found.1;
     }
-
-pub stands_lawful : (p : Params) (bits : List Bool) (bytes : ℕ) → Stands p bits bytes → IsLawful p
-stands_lawful p bits bytes s = spelt_is_lawful p (take (8 * bytes) bits) s.spelt

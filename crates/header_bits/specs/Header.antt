@@ -177,10 +177,19 @@ has_table p = is_custom p.start || has_each p.coder
 abbrev pub BeginsWithTable : List Bool → Type 0
 BeginsWithTable bits = (x : Params × List Bool) × (header_at bits ≡ Ok x) × (has_table x.0 ≡ true)
 
--- what reading a header answers: its parameters and its length in bytes, or the first refusal; or no memory for a table of a header that is all there
+-- why no header is read: the first refusal; or no memory for a table of a header that is all there
+abbrev pub RefusesHeader : List Bool → Fault → Type 0
+RefusesHeader bits e = (header_at bits ≡ Err e) ⊎ ((e ≡ WantOfMemory) × BeginsWithTable bits)
+
+-- what reading a header answers: its parameters and its length in bytes, or why there are none
 abbrev pub ReadsHeader : List Bool → Result (Params × ℕ) Fault → Type 0
 ReadsHeader bits (Ok x) = header_at bits ≡ Ok (x.0, drop (8 * x.1) bits)
-ReadsHeader bits (Err e) = (header_at bits ≡ Err e) ⊎ ((e ≡ WantOfMemory) × BeginsWithTable bits)
+ReadsHeader bits (Err e) = RefusesHeader bits e
+
+-- what taking a header off the bits answers, which then leaves these: its parameters, or why there are none
+abbrev pub TakesHeader : List Bool → Result Params Fault → List Bool → Type 0
+TakesHeader bits (Ok p) left = header_at bits ≡ Ok (p, left)
+TakesHeader bits (Err e) left = RefusesHeader bits e
 
 -- the bits begin with no header
 abbrev pub BeginsNoHeader : List Bool → Type 0

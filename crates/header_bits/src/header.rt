@@ -8,7 +8,7 @@ ghost use Rattle.header_bits.specs.Layout.{AreValues, spelled, values};
 ghost use Rattle.header_bits.specs.CoderPart.{coder_fields, coder_numbers};
 ghost use Rattle.header_bits.specs.TableParts.{has_constants, number_fields};
 ghost use Rattle.header_bits.specs.Lawful.{IsLawful};
-ghost use Rattle.header_bits.specs.Header.{header_of, said, AreThere, coder_by_part, params_of, parts_at, SpellsHeader, ReadsHeader, BeginsNoHeader};
+ghost use Rattle.header_bits.specs.Header.{header_of, said, AreThere, coder_by_part, params_of, parts_at, SpellsHeader, ReadsHeader, TakesHeader, BeginsNoHeader};
 
 use crate::bit_reader::BitReader;
 use crate::bit_writer::BitWriter;
@@ -84,10 +84,27 @@ pub fn read_header(alloc: Global, bytes: &[u8]) -> Result<(Params, usize), Fault
     ensures none { IfErr result (λ e. (e ≡ WantOfMemory) ⊎ BeginsNoHeader (bits_of_bytes bytes.now)) }
 {
     let mut reader = BitReader::new(bytes);
-    let parts = look_through(&mut reader)?;
+    let params = take_header(alloc, &mut reader)?;
     let behind = (reader.left() / 8) as usize;
-    let params = read_params(alloc, parts)?;
     Ok((params, bytes.len() - behind))
+}
+
+/// Takes a header off the bits that a reader has left, and returns its parameters.
+///
+/// The refusals are those of `read_header`, with positions counted from where the reader stands. After a refusal the reader
+/// keeps its position.
+pub fn take_header(alloc: Global, reader: &mut BitReader) -> Result<Params, Fault>
+    ensures takes { TakesHeader reader.old.left result reader.new.left }
+    ensures lawful { IfOk result (λ p. IsLawful p) }
+    ensures none { IfErr result (λ e. (e ≡ WantOfMemory) ⊎ BeginsNoHeader reader.old.left) }
+    ensures count { reader.new.count ≡ reader.old.count }
+    ensures same { OnErr result (reader.new ≡ reader.old) }
+{
+    let mut ahead = reader.fork();
+    let parts = look_through(&mut ahead)?;
+    let params = read_params(alloc, parts)?;
+    reader.skip(reader.left() - ahead.left());
+    Ok(params)
 }
 
 /// The parts of a header, with readers at its tables: a reader is at the position of a table whether there is
