@@ -1,7 +1,7 @@
--- The walk along the encoding order, there and back: numbers that are the residuals of the places gone by.
-use Rattle.std.proofs.Common.{◌≡◌, ◌+◌, ◌*◌, ◌<◌, ℕ, suc, zero, ℤ, List, [], ◌∷◌, ◌++◌, length, take, get_or, set, Some, refl, sym, ap, ◌∙◌, arith}
-use Rattle.std.proofs.lemmas.List.{take_more, take_more_set, take_all}
-use Rattle.std.specs.List.{slice_get, slice_index}
+-- The way back along the encoding order: numbers that are the residuals of the places gone by.
+use Rattle.std.proofs.Common.{◌≡◌, ◌+◌, ◌*◌, ◌<◌, ℕ, ℤ, List, [], ◌∷◌, ◌++◌, length, take, get_or, Some, refl, sym, ap, ◌∙◌, arith}
+use Rattle.std.proofs.lemmas.List.{take_more, take_all}
+use Rattle.std.specs.List.{slice_get}
 use Rattle.cube_core.specs.declared.order.Place.{Place}
 use Rattle.cube_core.specs.Shape.{Sizes, sample_count}
 use Rattle.cube_core.specs.Image.{Image, put}
@@ -31,38 +31,7 @@ pub all_residuals : (p : Params) (c : Image) (i : ℕ) (numbers : List ℕ) → 
 all_residuals p c i numbers lawful shape long known =
     sym (residuals_whole p c lawful shape) ∙ known.gone ∙ take_all i numbers (omega (arith, known.count, long))
 
--- ---- there: the next residual is written
-
-pub written_more : (p : Params) (c : Image) (left rest : List Place) (bands : List Learner) (q : Place) (b : Learner) (numbers : List ℕ) (i number : ℕ)
-    → IsOrder p.shape p.order → c.shape ≡ p.shape → IsOnWalk p c left bands → left ≡ q ∷ rest → slice_get bands q.z ≡ Some b → AreResiduals p c left i numbers
-    → i < length numbers
-    → number ≡ mapped_residual p c b.band b.t → AreResiduals p c rest (i + 1) (set numbers i number)
-written_more p c left rest bands q b numbers i number lawful shape walk is band known lt value =
-    let next = next_goes p q left rest lawful walk.rest is in
-    let here = band_here p c (gone_count p left) bands q b lawful walk.along next.stands band in
-    let place : b.t ≡ q.y * c.shape.columns + q.x = here.1 ∙ ap (λ (s : Sizes). q.y * s.columns + q.x) (sym shape) in
-    let there : number ≡ mapped_residual p c q.z (q.y * c.shape.columns + q.x) =
-    value ∙ ap (λ z. mapped_residual p c z b.t) here.0.band ∙ ap (mapped_residual p c q.z) place in
-    record {
-      count = omega (arith, known.count, next.count);
-      gone = ap (residuals_at p c) next.gone
-          ∙ residuals_push p c (gone_by p left) q
-          ∙ ap (λ (n : ℕ). residuals_at p c (gone_by p left) ++ n ∷ []) (sym there)
-          ∙ ap (λ (ns : List ℕ). ns ++ number ∷ []) known.gone
-          ∙ sym (take_more_set numbers i number lt);
-    }
-
--- numbers below a bound are so with one more
-pub below_more : (n : ℕ) (xs : List ℕ) (i x : ℕ) → i < length xs → ((k : ℕ) → k < i → slice_index xs k < n) → x < n → (k : ℕ) → k < i + 1
-    → slice_index (set xs i x) k < n
-below_more n [] i x some all lt k h = absurd (omega (arith, some))
-below_more n (y ∷ ys) zero x some all lt zero h = lt
-below_more n (y ∷ ys) zero x some all lt (suc k) h = absurd (omega (arith, h))
-below_more n (y ∷ ys) (suc i) x some all lt zero h = all zero (omega arith)
-below_more n (y ∷ ys) (suc i) x some all lt (suc k) h =
-    below_more n ys i x (omega (arith, some)) (λ j g. all (suc j) (omega (arith, g))) lt k (omega (arith, h))
-
--- ---- back: the sample of the next residual is put
+-- ---- the sample of the next residual is put
 
 pub read_more : (p : Params) (c : Image) (left rest : List Place) (bands : List Learner) (q : Place) (b : Learner) (numbers : List ℕ) (i : ℕ) (v : ℤ)
     → IsLawful p → c.shape ≡ p.shape → IsOnWalk p c left bands → left ≡ q ∷ rest → slice_get bands q.z ≡ Some b → AreResiduals p c left i numbers

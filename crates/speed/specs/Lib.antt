@@ -1,4 +1,5 @@
 pub mod Bodies
+pub mod Collecting
 pub mod Formats
 pub mod Images
 pub mod Measured

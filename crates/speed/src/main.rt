@@ -7,6 +7,7 @@
 #![tactic(auto)]
 
 mod block_coder;
+mod collected;
 mod cube;
 mod files;
 mod lanes;

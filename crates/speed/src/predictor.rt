@@ -1,6 +1,6 @@
-//! The speed of the predictor, sample by sample, in both directions.
+//! The speed of the predictor in both directions: along the walk of an encoder, and back place by place.
 
-ghost use Rattle.std.specs.Prelude.{◌≡◌, ◌<◌, ◌≤◌, ◌^◌, false, length, slice_index, IfOk, IfErr, OnOk, ℕ};
+ghost use Rattle.std.specs.Prelude.{◌≡◌, ◌<◌, ◌≤◌, ◌^◌, false, [], length, slice_index, IfOk, IfErr, OnOk, ℕ};
 ghost use Rattle.cube_core.specs.declared.fault.Fault.TheVariants.{WantOfMemory};
 ghost use Rattle.cube_core.specs.Shape.{sample_count};
 ghost use Rattle.header_bits.specs.Lawful.{IsLawful};
@@ -10,6 +10,7 @@ ghost use Rattle.speed.specs.Images.{synthetic_image};
 ghost use Rattle.speed.specs.Measured.{measured, lawful_or_fault, from_table};
 ghost use Rattle.speed.specs.Numbers.{checksum, synthetic_weights};
 
+use crate::collected::Collected;
 use crate::cube::sum_of_cube;
 use crate::report::Report;
 use crate::synthetic::{Generator, mixed};
@@ -20,6 +21,7 @@ use cube_core::fault::Fault;
 use cube_core::kind::Kind;
 use cube_core::order::Order;
 use cube_core::shape::Shape;
+use cube_predictors::walk::send_own;
 use file_coding::bands::all_bands;
 use header_bits::params::{Coder, Params, WeightStart};
 use header_bits::tables::WeightTable;
@@ -143,11 +145,14 @@ fn there(report: &Report, mode: &str, order: &str, params: &Params) -> Result<Ve
     let count = params.shape.sample_count();
     let alloc = report.alloc();
     let cube = synthetic_cube(alloc, params.shape, params.kind)?;
-    let mut residuals = vec![in alloc; 0u16; count as usize]?;
+    let mut collected = Collected {
+        residuals: Vec::with_capacity(alloc, count as usize)?,
+    };
     let start = report.start()?;
-    forward(alloc, &cube, params, &mut residuals)?;
+    forward(alloc, &cube, params, &mut collected)?;
     let time = report.since(start)?;
     let name = format!(in alloc; "forward_{mode}_{order}")?;
+    let residuals = collected.residuals;
     report.line(name.as_str(), count, time, sum_of(&residuals))?;
     Ok(residuals)
 }
@@ -168,26 +173,29 @@ fn back(report: &Report, mode: &str, order: &str, params: &Params, residuals: &[
     report.line(name.as_str(), count, time, sum_of_cube(&back))
 }
 
-/// Writes the residuals of a cube, in encoding order.
-fn forward(alloc: Global, cube: &Cube, params: &Params, residuals: &mut [u16]) -> Result<(), Fault>
+/// Collects the residuals of a cube, in encoding order.
+fn forward(
+    alloc: Global,
+    cube: &Cube,
+    params: &Params,
+    collected: &mut Collected,
+) -> Result<(), Fault>
     requires lawful { IsLawful params.now }
     requires shape { cube.now.shape ≡ params.now.shape }
     requires kind { cube.now.kind ≡ params.now.kind }
-    requires room { length residuals.old ≡ sample_count params.now.shape }
-    ensures residuals { OnOk result (residuals.new ≡ residuals_of params.now cube.now) }
-    ensures below { OnOk result ((i : ℕ) → i < length residuals.new → slice_index residuals.new i < 2 ^ params.now.kind.bits) }
-    ensures len { length residuals.new ≡ length residuals.old }
+    requires none { collected.old.residuals.items ≡ [] }
+    ensures residuals { OnOk result (collected.new.residuals.items ≡ residuals_of params.now cube.now) }
+    ensures count { OnOk result (length collected.new.residuals.items ≡ sample_count params.now.shape) }
+    ensures below { OnOk result ((i : ℕ) → i < length collected.new.residuals.items → slice_index collected.new.residuals.items i < 2 ^ params.now.kind.bits) }
     ensures refused { IfErr result (λ e. e ≡ WantOfMemory) }
 {
+    cube.prove_is_cube();
     let mut bands = all_bands(alloc, params)?;
-    let mut places = Places::new(params.shape, params.order);
-    let mut i = 0usize;
-    while let Some(place) = places.next() {
-        let delta = bands[place.z as usize].forward(cube, place.y, place.x);
-        residuals[i] = delta;
-        i += 1;
+    if send_own(&(), cube, params, 0, &[], &mut bands, collected) {
+        Ok(())
+    } else {
+        Err(Fault::WantOfMemory)
     }
-    Ok(())
 }
 
 /// Writes the samples of residuals, which are in encoding order.
