@@ -1,4 +1,4 @@
-//! The commands' engines on sources and sinks over memory.
+//! Tests of the commands, of their sources and sinks, and of their reports, over memory.
 #![tactic(auto)]
 
 #[cfg(test)]

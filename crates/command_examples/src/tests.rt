@@ -1,4 +1,4 @@
-//! What the engines and their devices do with bytes that are known from outside, and what they refuse.
+//! Tests of what commands and their devices do with known bytes, and of what they refuse.
 
 mod checks;
 mod commands;

@@ -1,4 +1,4 @@
-//! Lanes and the workers that send along them: what goes through, singly and in runs, on one thread and between two.
+//! Tests of lanes, and of the workers that send along them, through their public calls.
 #![tactic(auto)]
 
 #[cfg(test)]

@@ -1,4 +1,4 @@
-//! Lanes and workers through their public calls.
+//! Tests of lanes, feeds and workers.
 
 mod checks;
 mod gates;

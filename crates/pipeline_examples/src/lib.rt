@@ -1,4 +1,4 @@
-//! The pipeline through its public calls: plans, the coding end, stops, and the files of cubes coded by predictors.
+//! Tests of the pipeline through its public calls: plans, the coding end, stops, and the files that predictors make.
 #![tactic(auto)]
 
 #[cfg(test)]

@@ -1,4 +1,4 @@
-//! Plans, predictors and the files that they make.
+//! Tests of plans, of predictors, and of the files that they make.
 
 mod checks;
 mod cubes;

@@ -1,29 +1,29 @@
-//! How many calls were made again.
+//! A count of repeated calls, and the numbers that are encoded.
 
-/// Counts calls that were refused memory and made again.
+/// A count of calls that were refused and then repeated.
 #[derive(Drop)]
 pub struct Again {
     count: u32,
 }
 
 impl Again {
-    /// None so far.
+    /// Returns a count of 0.
     pub fn new() -> Again {
         Again { count: 0 }
     }
 
-    /// One more.
+    /// Counts one more call.
     pub fn more(&mut self) {
         self.count = self.count.saturating_add(1);
     }
 
-    /// How many.
+    /// Returns how many calls were repeated.
     pub fn count(&self) -> u32 {
         self.count
     }
 }
 
-/// So many numbers of twelve bits: runs of zeros of many lengths, and small, middle and great ones between them.
+/// Returns `count` numbers of 12 bits: runs of zeros of many lengths, and small, middle and great ones between them.
 pub fn numbers(alloc: std::alloc::Global, count: u32) -> Result<Vec<u16>, cube_core::fault::Fault> {
     let mut numbers = Vec::new(alloc);
     let mut state = 1u64;

@@ -1,4 +1,4 @@
-//! Bodies of blocks.
+//! Bodies of the block-adaptive coder.
 
 ghost use Rattle.std.specs.Prelude.{◌≡◌, ◌+◌, ◌^◌, ◌<◌, ◌≤◌, length, OnOk};
 ghost use Rattle.cube_core.specs.Shape.{sample_count};
@@ -18,7 +18,7 @@ use std::alloc::Global;
 /// How many numbers are written. They end inside a block.
 const COUNT: u32 = 6001;
 
-/// The length of a body and its checksum.
+/// Returns a line with the length of a body and its checksum.
 pub fn line(alloc: Global, again: &mut Again) -> Result<String, Fault> {
     let params = params(Shape::new(1, COUNT, 1)?, Kind::new(false, 12)?);
     let numbers = numbers(alloc, COUNT)?;
@@ -29,7 +29,7 @@ pub fn line(alloc: Global, again: &mut Again) -> Result<String, Fault> {
     Ok(line)
 }
 
-/// Parameters of blocks of 8.
+/// Returns parameters with blocks of 8.
 fn params(shape: Shape, kind: Kind) -> Params
     ensures lawful { AreForBlocks result }
     ensures bits { result.kind.bits ≡ kind.bits }
@@ -45,7 +45,7 @@ fn params(shape: Shape, kind: Kind) -> Params
     }
 }
 
-/// The body of numbers, in whole bytes.
+/// Returns the body of numbers, in whole bytes.
 fn body(
     alloc: Global,
     params: &Params,
@@ -59,7 +59,7 @@ fn body(
     let mut writer = BitWriter::new(alloc);
     let count = params.shape.sample_count();
     for (t, number) in numbers.iter().enumerate() {
-        // None is greater, and no more are there, as `put` asks.
+        // No number is greater, and there are no more of them, as `put` requires.
         if *number > 4095 || t as u64 >= count {
             break;
         }
@@ -69,7 +69,7 @@ fn body(
     crate::files::whole_bytes(alloc, writer, again)
 }
 
-/// Puts a number, and puts it again where that was refused.
+/// Puts a number. Repeats the call if it was refused.
 fn put(
     blocks: &mut BlockWriter,
     number: u16,
@@ -90,7 +90,7 @@ fn put(
     }
 }
 
-/// Ends a body, and ends it again where that was refused.
+/// Ends a body. Repeats the call if it was refused.
 fn end(blocks: &mut BlockWriter, writer: &mut BitWriter, again: &mut Again) -> Result<(), Fault> {
     match blocks.end(writer) {
         Ok(()) => Ok(()),

@@ -1,4 +1,4 @@
-//! Files, there and back, on one thread and by predictors.
+//! Files encoded on one thread and by predictors, and decoded again.
 
 ghost use Rattle.std.specs.Prelude.{◌≡◌, ◌^◌, ◌≤◌, IfOk, vec_len};
 ghost use Rattle.header_bits.specs.Lawful.{IsLawful};
@@ -27,10 +27,10 @@ use std::thread::Threads;
 /// How many samples a cube has: 23 x 17 x 5.
 const SAMPLES: u32 = 1955;
 
-/// The longest file that can be decoded.
+/// The length in bytes of the longest file that can be decoded.
 const MOST_BYTES: usize = 1 << 60;
 
-/// Samples of two bytes, band after band.
+/// The layout of samples of two bytes, band after band.
 const BYTES: Layout = Layout {
     order: RawOrder::Bsq,
     bytes: 2,
@@ -40,8 +40,8 @@ const BYTES: Layout = Layout {
 /// The bits of an entry of the weight table.
 const RESOLUTION: u32 = 5;
 
-/// A line for each coder, and one for a file with tables: the file's length and checksum, whether predictors give the same, and
-/// whether it gives the cube back.
+/// Returns a line for each coder, and one for a file with tables: the file's length and checksum, whether predictors
+/// make the same file, and whether it is decoded to the cube.
 pub fn lines<R: Threads + Wait + Sync>(
     rt: &R,
     alloc: Global,
@@ -66,7 +66,7 @@ pub fn lines<R: Threads + Wait + Sync>(
     Ok(lines)
 }
 
-/// The sample-adaptive coder.
+/// Returns the sample-adaptive coder with this accumulator initialization.
 fn samples(start: CountStart) -> Coder {
     Coder::Sample {
         umax: 16,
@@ -76,7 +76,7 @@ fn samples(start: CountStart) -> Coder {
     }
 }
 
-/// A table of 24 weights: with three directions and up to three bands below, the bands have 3, 4, 5, 6 and 6.
+/// Returns a table of 24 weights: with three directions and up to three bands below, the bands have 3, 4, 5, 6 and 6.
 fn weights(alloc: Global) -> Result<WeightStart, Fault> {
     let mut values = Vec::new(alloc);
     for value in -12..12 {
@@ -88,13 +88,13 @@ fn weights(alloc: Global) -> Result<WeightStart, Fault> {
     })
 }
 
-/// A constant for each band.
+/// Returns an accumulator table with a constant for each band.
 fn constants(alloc: Global) -> Result<CountStart, Fault> {
     let table = Vec::from_slice(alloc, &[3, 0, 10, 5, 1])?;
     Ok(CountStart::Each(ConstantTable::new(table)))
 }
 
-/// Parameters of 12 bits.
+/// Returns parameters of 12-bit samples.
 fn params_of(order: Order, start: WeightStart, coder: Coder) -> Result<Params, Fault>
     ensures { IfOk result (λ p. IsLawful p) }
 {
@@ -111,7 +111,7 @@ fn params_of(order: Order, start: WeightStart, coder: Coder) -> Result<Params, F
     Ok(params)
 }
 
-/// The line of parameters.
+/// Returns the line of a file with these parameters.
 fn line<R: Threads + Wait + Sync>(
     rt: &R,
     alloc: Global,
@@ -134,7 +134,7 @@ fn line<R: Threads + Wait + Sync>(
     Ok(line)
 }
 
-/// A cube of numbers, asked for again where it was refused.
+/// Returns a cube of numbers. Repeats the call if it was refused.
 fn scene(alloc: Global, params: &Params, again: &mut Again) -> Result<Cube, Fault>
     ensures cube { IfOk result (λ c. (c.shape ≡ params.now.shape) × (c.kind ≡ params.now.kind)) }
 {
@@ -152,7 +152,7 @@ fn scene(alloc: Global, params: &Params, again: &mut Again) -> Result<Cube, Faul
     }
 }
 
-/// A plan for two predictors with eight slots each, asked for again where it was refused.
+/// Returns a plan for two predictors with eight slots each. Repeats the call if it was refused.
 fn plan_of(alloc: Global, params: &Params, again: &mut Again) -> Result<Plan, Fault>
     requires { IsLawful params.now }
     ensures { IfOk result (λ plan. plan.params ≡ params.now) }
@@ -167,7 +167,7 @@ fn plan_of(alloc: Global, params: &Params, again: &mut Again) -> Result<Plan, Fa
     }
 }
 
-/// The file of a cube, encoded again where that was refused.
+/// Returns the file of a cube. Repeats the call if it was refused.
 fn encoded(alloc: Global, cube: &Cube, params: &Params, again: &mut Again) -> Result<Vec<u8>, Fault>
     requires lawful { IsLawful params.now }
     requires shape { cube.now.shape ≡ params.now.shape }
@@ -182,7 +182,7 @@ fn encoded(alloc: Global, cube: &Cube, params: &Params, again: &mut Again) -> Re
     }
 }
 
-/// What predictors make of a cube, made again where that was refused, be it memory or a thread.
+/// Encodes a cube with predictors. Repeats the call if memory or a thread was refused.
 fn piped<R: Threads + Wait + Sync>(
     rt: &R,
     alloc: Global,
@@ -201,7 +201,7 @@ fn piped<R: Threads + Wait + Sync>(
     }
 }
 
-/// Whether a file gives a cube back; it is decoded again where that was refused.
+/// Returns whether a file is decoded to this cube. Repeats the call if it was refused.
 fn comes_back(alloc: Global, cube: &Cube, file: &[u8], again: &mut Again) -> Result<bool, Fault> {
     if file.len() > MOST_BYTES {
         return Ok(false);
@@ -218,7 +218,7 @@ fn comes_back(alloc: Global, cube: &Cube, file: &[u8], again: &mut Again) -> Res
     Ok(raw.as_slice() == raw_found.as_slice())
 }
 
-/// The raw bytes of a cube, asked for again where they were refused.
+/// Returns the raw bytes of a cube. Repeats the call if it was refused.
 fn raw_of(alloc: Global, cube: &Cube, again: &mut Again) -> Result<Vec<u8>, Fault> {
     match cube.to_raw(alloc, BYTES) {
         Ok(raw) => Ok(raw),
@@ -229,7 +229,7 @@ fn raw_of(alloc: Global, cube: &Cube, again: &mut Again) -> Result<Vec<u8>, Faul
     }
 }
 
-/// The bytes of a writer, with zeros that fill the last, pushed again where that was refused.
+/// Returns the bytes of a writer, with fill bits up to a whole byte. Repeats the call if it was refused.
 pub fn whole_bytes(
     alloc: Global,
     mut writer: BitWriter,
@@ -247,7 +247,7 @@ pub fn whole_bytes(
     Ok(writer.into_bytes())
 }
 
-/// A checksum of bytes.
+/// Returns a checksum of bytes.
 pub fn sum_of(bytes: &[u8]) -> u64 {
     let mut sum = 0u64;
     for byte in bytes {

@@ -1,8 +1,8 @@
 //! Library calls whose allocations fail, and which are then repeated.
 //!
 //! Every call below that may return `WantOfMemory` is repeated if it does. The bodies and files are then those of an
-//! undisturbed run, whichever allocation the system refuses. `refusals WORD` prints their lengths and checksums; the last
-//! line says how many calls were repeated, and is the only one without a word.
+//! undisturbed run, whichever allocation the system refuses. `refusals WORD` prints their lengths and checksums. The
+//! last line, which is printed without a word too, says how many calls were repeated.
 #![tactic(auto)]
 
 mod again;
@@ -22,7 +22,7 @@ fn main(rt: HostRuntime) -> Result<()> {
     let mut words = env::args(&rt)?;
     let _program = words.next();
     let mut again = Again::new();
-    // What is made here beside the calls, the lines among it, is made anew as a whole.
+    // Everything is repeated if another allocation fails, such as that of a line.
     let lines = match all_lines(&rt, rt.alloc(), &mut again) {
         Ok(lines) => lines,
         Err(_) => all_lines(&rt, rt.alloc(), &mut again)?,
@@ -34,7 +34,7 @@ fn main(rt: HostRuntime) -> Result<()> {
     Ok(())
 }
 
-/// A line for each body and each file.
+/// Returns a line for each body and each file.
 fn all_lines<R: Threads + Wait + Sync>(
     rt: &R,
     alloc: Global,

@@ -1,4 +1,4 @@
-//! Bodies of code words.
+//! Bodies of the sample-adaptive coder.
 
 ghost use Rattle.std.specs.Prelude.{◌≡◌, ◌^◌, ◌<◌, ◌≤◌, length, IfOk};
 ghost use Rattle.sample_adaptive.specs.Settings.{AreForSamples};
@@ -15,7 +15,7 @@ use std::alloc::Global;
 /// How many numbers are written.
 const COUNT: u32 = 6001;
 
-/// The length of a body and its checksum.
+/// Returns a line with the length of a body and its checksum.
 pub fn line(alloc: Global, again: &mut Again) -> Result<String, Fault> {
     let params = params(Shape::new(1, COUNT, 1)?, Kind::new(false, 12)?);
     let numbers = numbers(alloc, COUNT)?;
@@ -26,7 +26,7 @@ pub fn line(alloc: Global, again: &mut Again) -> Result<String, Fault> {
     Ok(line)
 }
 
-/// Parameters of one band.
+/// Returns parameters of one band.
 fn params(shape: Shape, kind: Kind) -> Params
     requires { kind.bits ≡ 12 }
     ensures lawful { AreForSamples result }
@@ -45,7 +45,7 @@ fn params(shape: Shape, kind: Kind) -> Params
     }
 }
 
-/// The code words of numbers, in whole bytes.
+/// Returns the code words of numbers, in whole bytes.
 fn body(
     alloc: Global,
     params: &Params,
@@ -59,7 +59,7 @@ fn body(
     let mut stats = statistics(alloc, params, again)?;
     let mut writer = BitWriter::new(alloc);
     for (t, number) in numbers.iter().enumerate() {
-        // None is greater, as `put` asks.
+        // No number is greater, as `put` requires.
         if *number > 4095 {
             break;
         }
@@ -68,7 +68,7 @@ fn body(
     crate::files::whole_bytes(alloc, writer, again)
 }
 
-/// The coder of an image, asked for again where it was refused.
+/// Returns the coder of an image. Repeats the call if it was refused.
 fn statistics(alloc: Global, params: &Params, again: &mut Again) -> Result<Stats, Fault>
     requires { AreForSamples params.now }
     ensures bands { IfOk result (λ s. length s.bands ≡ params.now.shape.bands) }
@@ -83,7 +83,7 @@ fn statistics(alloc: Global, params: &Params, again: &mut Again) -> Result<Stats
     }
 }
 
-/// Puts a number, and puts it again where that was refused.
+/// Puts a number. Repeats the call if it was refused.
 fn put(
     stats: &mut Stats,
     t: u64,

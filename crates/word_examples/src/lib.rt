@@ -1,4 +1,4 @@
-//! Command lines: what each option does, and which lines are refused.
+//! Tests of command lines: what each option does, and which lines are refused.
 #![tactic(auto)]
 
 #[cfg(test)]

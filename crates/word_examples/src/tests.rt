@@ -1,4 +1,4 @@
-//! What command lines ask for, as it shows in what the engines then do.
+//! Tests of the settings of command lines, and of what the engines do with them.
 
 mod checks;
 mod lines;

@@ -1,4 +1,4 @@
-//! Tests of cubes, faults, bits and headers through their public calls.
+//! Tests of `cube_core` and `header_bits` through their public calls.
 #![tactic(auto)]
 
 #[cfg(test)]

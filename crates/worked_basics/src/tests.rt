@@ -1,4 +1,4 @@
-//! What the lowest crates do at values from outside.
+//! Tests of cubes, kinds, places, faults, bits and headers.
 
 mod checks;
 mod cubes;

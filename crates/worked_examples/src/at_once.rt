@@ -1,4 +1,4 @@
-//! Two bands that go over their pieces at once hold what each of them holds alone.
+//! Tests that two bands, predicted at once, have the residuals that each of them has alone.
 
 ghost use Rattle.std.specs.Prelude.{◌≡◌, ◌<◌};
 ghost use Rattle.header_bits.specs.Lawful.{IsLawful};
@@ -11,7 +11,7 @@ use predict_core::band::Band;
 use std::alloc::Global;
 use std::process::Abort;
 
-/// Two bands of a cube.
+/// A cube, and the predictors of two of its bands.
 #[derive(Drop)]
 struct Both {
     cube: Cube,
@@ -27,7 +27,7 @@ struct Both {
 }
 
 impl Both {
-    /// Has both go over so many places.
+    /// Predicts `count` places of both bands at once.
     fn go(&mut self, rt: &impl Abort, y: u32, x: u32, count: u32) {
         let place = number_of_place(rt, self.cube.shape(), y, x, count as usize);
         assert!(rt; self.lower.next() == place);
@@ -37,7 +37,7 @@ impl Both {
     }
 }
 
-/// A band of a cube that a seed decides, by single places.
+/// Returns a cube drawn from a seed, and a band of it to be predicted place by place.
 fn alone(rt: &impl Abort, alloc: Global, params: &Params, z: u32, seed: u64) -> Twice
     requires { IsLawful params.now }
 {
@@ -49,7 +49,7 @@ fn alone(rt: &impl Abort, alloc: Global, params: &Params, z: u32, seed: u64) -> 
     }
 }
 
-/// Bands `z` and `z + 1` of such a cube.
+/// Returns the same cube, and bands `z` and `z + 1` of it to be predicted at once.
 fn together(rt: &impl Abort, alloc: Global, params: &Params, z: u32, seed: u64) -> Both
     requires { IsLawful params.now }
 {
@@ -61,7 +61,7 @@ fn together(rt: &impl Abort, alloc: Global, params: &Params, z: u32, seed: u64) 
     }
 }
 
-/// Two bands at once, and each of them alone.
+/// Two bands predicted at once, and each of them alone.
 #[derive(Drop)]
 struct Beside {
     both: Both,
@@ -70,7 +70,7 @@ struct Beside {
 }
 
 impl Beside {
-    /// Goes over a piece of a row, and over its single places.
+    /// Asserts that a piece of both bands has the same residuals at once as place by place.
     fn piece_is_the_same(&mut self, rt: &impl Abort, y: u32, x: u32, count: u32) {
         self.both.go(rt, y, x, count);
         for i in 0..count.min(64) {
@@ -82,7 +82,7 @@ impl Beside {
         }
     }
 
-    /// Goes over a row by pieces of 64 places, and by single places.
+    /// Asserts that a row of both bands has the same residuals in pieces of 64 places as place by place.
     fn row_is_the_same(&mut self, rt: &impl Abort, y: u32) {
         let columns = self.both.cube.shape().columns();
         let mut x = 0u32;
@@ -96,7 +96,7 @@ impl Beside {
     }
 }
 
-/// Goes over all rows of bands `z` and `z + 1`.
+/// Asserts that all rows of bands `z` and `z + 1` have the same residuals at once as alone.
 fn are_the_same(rt: &impl Abort, alloc: Global, params: &Params, z: u32, seed: u64)
     requires { IsLawful params.now }
 {
@@ -111,7 +111,8 @@ fn are_the_same(rt: &impl Abort, alloc: Global, params: &Params, z: u32, seed: u
     }
 }
 
-/// The same for bands with so many weights, in rows of so many columns.
+/// Asserts that the first two bands and the last two have the same residuals at once as alone, in each mode and with
+/// each kind of local sum.
 fn bands_are_the_same(rt: &impl Abort, alloc: Global, columns: u32, previous: u32, register: u32) {
     assert!(rt; previous <= 15);
     for (reduced, column) in [(false, true), (true, true), (false, false), (true, false)] {
@@ -122,7 +123,7 @@ fn bands_are_the_same(rt: &impl Abort, alloc: Global, columns: u32, previous: u3
     }
 }
 
-/// Bands with as many weights each, and such with unlike numbers of them, in registers that wrap and that don't.
+/// Checks pairs of bands with equal and with different numbers of weights, in registers of 36 and of 64 bits.
 #[test]
 fn two_bands_hold_what_each_holds_alone(rt: HostRuntime) {
     for columns in [2, 8, 9, 64, 65, 129] {

@@ -1,4 +1,4 @@
-//! A writer and a reader that go bit by bit give the bytes and the answers of ours, on worked files and on others.
+//! Tests of the bit writer and the bit reader against plain ones that go bit by bit, on worked files and random bytes.
 
 ghost use Rattle.std.specs.Prelude.{◌≤◌};
 
@@ -13,12 +13,12 @@ use header_bits::bit_writer::BitWriter;
 use std::alloc::Global;
 use std::process::Abort;
 
-/// Numbers that a seed decides.
+/// A generator of pseudo-random numbers from a seed.
 #[derive(Drop)]
 struct Draw(u64);
 
 impl Draw {
-    /// A number below 2^31.
+    /// Returns the next number, which is below 2^31.
     fn next(&mut self) -> u64 {
         self.0 = self
             .0
@@ -28,7 +28,7 @@ impl Draw {
     }
 }
 
-/// Reads one bit after another.
+/// A plain reader, which reads one bit after another.
 #[derive(Drop)]
 struct SlowReader<'a> {
     bytes: &'a [u8],
@@ -72,7 +72,7 @@ impl SlowReader<'_> {
     }
 }
 
-/// The bits of a number, the first the most significant.
+/// Appends the `n` low bits of a number, the most significant first.
 fn push(rt: &impl Abort, bits: &mut Vec<bool>, number: u64, n: u32)
     requires { n ≤ 64 }
 {
@@ -82,7 +82,7 @@ fn push(rt: &impl Abort, bits: &mut Vec<bool>, number: u64, n: u32)
     }
 }
 
-/// The bits in whole bytes, filled with zeros.
+/// Returns bits packed into bytes, with fill bits of 0.
 fn packed(rt: &impl Abort, alloc: Global, bits: &[bool]) -> Vec<u8> {
     let mut bytes = Vec::new(alloc);
     for (i, bit) in bits.iter().enumerate() {
@@ -96,12 +96,12 @@ fn packed(rt: &impl Abort, alloc: Global, bits: &[bool]) -> Vec<u8> {
     bytes
 }
 
-/// That both readers count as many zeros.
+/// Asserts that both readers count the same number of zeros.
 fn zeros_agree(rt: &impl Abort, reader: &mut BitReader, slow: &mut SlowReader, limit: u64) {
     same(rt, reader.count_zeros(limit).ok(), slow.count_zeros(limit));
 }
 
-/// What both writers are given.
+/// A bit writer, and the plain bits of the same numbers.
 #[derive(Drop)]
 struct Written {
     writer: BitWriter,
@@ -116,7 +116,7 @@ impl Written {
         }
     }
 
-    /// That both readers take the same number, which is then written by both writers.
+    /// Asserts that both readers take the same number, and writes it both ways.
     fn take_and_push(
         &mut self,
         rt: &impl Abort,
@@ -136,7 +136,7 @@ impl Written {
         }
     }
 
-    /// That both writers have the same bytes, filled with zeros.
+    /// Asserts that both have the same bytes, with fill bits of 0.
     fn agrees(mut self, rt: &impl Abort, alloc: Global) {
         same(rt, self.writer.bit_count(), self.bits.len() as u64);
         for _ in 0..self.writer.bit_count().wrapping_neg() % 8 {
@@ -152,7 +152,7 @@ impl Written {
     }
 }
 
-/// That both read the same out of bytes, and write the same of what was read.
+/// Asserts that both readers read the same from bytes, and that both writers then have the same bytes.
 fn agree(rt: &impl Abort, alloc: Global, draw: &mut Draw, bytes: &[u8]) {
     assert!(rt; bytes.len() <= 1000);
     let mut reader = BitReader::new(bytes);
@@ -173,7 +173,7 @@ fn agree(rt: &impl Abort, alloc: Global, draw: &mut Draw, bytes: &[u8]) {
     written.agrees(rt, alloc);
 }
 
-/// The same of a row's file, eight times over.
+/// Asserts that readers and writers agree on a row's file, in eight draws.
 fn row_agrees(rt: &impl Abort, alloc: Global, draw: &mut Draw, row: &str) {
     let [_name, _settings, _samples, header, body] = parts_of(rt, row);
     let file = file_of(rt, alloc, header, body);
@@ -182,7 +182,7 @@ fn row_agrees(rt: &impl Abort, alloc: Global, draw: &mut Draw, row: &str) {
     }
 }
 
-/// The same of each row.
+/// Asserts that readers and writers agree on the file of each row.
 fn rows_agree(rt: &impl Abort, alloc: Global, draw: &mut Draw, rows: &str) {
     for row in rows.split('\n') {
         row_agrees(rt, alloc, draw, row);
@@ -207,7 +207,7 @@ fn worked_files_bit_by_bit(rt: HostRuntime) {
     }
 }
 
-/// So many bytes. Half of them are zero, so that runs of zeros are long.
+/// Returns `size` bytes. About half of them are zero, so that runs of zeros are long.
 fn random_bytes(rt: &impl Abort, alloc: Global, draw: &mut Draw, size: u32) -> Vec<u8> {
     let mut bytes = Vec::new(alloc);
     for _ in 0..size {

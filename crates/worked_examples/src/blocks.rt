@@ -1,4 +1,4 @@
-//! Numbers through the writer and the reader, for all sizes and many settings.
+//! Tests of the block-adaptive coder: round trips for all block sizes and many settings, worked bodies, and refusals.
 
 ghost use Rattle.std.specs.Prelude.{◌≡◌, ◌+◌, ◌^◌, ◌<◌, ◌≤◌, length, IfOk};
 ghost use Rattle.cube_core.specs.Shape.{sample_count};
@@ -18,18 +18,18 @@ use header_bits::params::{Coder, Params};
 use std::alloc::Global;
 use std::process::Abort;
 
-/// What a test tells the coder.
+/// The settings of the coder in a test.
 #[derive(Clone, Copy, Debug)]
 pub(crate) struct Settings {
     pub(crate) bits: u32,
     pub(crate) restricted: bool,
-    /// 0 to 3 for blocks of 8, 16, 32 and 64.
+    /// The block size: 0 to 3 for 8, 16, 32 and 64.
     pub(crate) size: u32,
     pub(crate) reference: u32,
     pub(crate) count: u32,
 }
 
-/// The values in a block.
+/// Returns the block size of a code from 0 to 3.
 fn size_of(code: u32) -> u32
     ensures { IsSize result }
 {
@@ -41,7 +41,7 @@ fn size_of(code: u32) -> u32
     }
 }
 
-/// Parameters of so many numbers, whose settings are lawful.
+/// Returns the parameters of settings, which are lawful.
 pub(crate) fn params_of(rt: &impl Abort, s: Settings) -> Params
     ensures lawful { AreForBlocks result }
     ensures bits { result.kind.bits ≡ s.bits }
@@ -61,7 +61,7 @@ pub(crate) fn params_of(rt: &impl Abort, s: Settings) -> Params
     }
 }
 
-/// The body of numbers, with the zeros that fill its last byte.
+/// Returns the body of numbers, with fill bits up to a whole byte.
 fn written(rt: &impl Abort, alloc: Global, params: &Params, numbers: &[u16]) -> Vec<u8>
     requires lawful { AreForBlocks params.now }
     requires count { length numbers.now ≡ sample_count params.now.shape }
@@ -76,7 +76,7 @@ fn written(rt: &impl Abort, alloc: Global, params: &Params, numbers: &[u16]) -> 
     filled(rt, writer)
 }
 
-/// All numbers of a body, and how many bits are left behind them.
+/// Reads all numbers of a body. Returns them, and how many bits are left.
 pub(crate) fn read(
     rt: &impl Abort,
     alloc: Global,
@@ -95,7 +95,7 @@ pub(crate) fn read(
     Ok((numbers, reader.left()))
 }
 
-/// So many numbers: runs of zeros of many lengths, and small, middle and great ones between them.
+/// Returns `count` numbers: runs of zeros of many lengths, and small, middle and great ones between them.
 fn sample_numbers(alloc: Global, bits: u32, count: u32, seed: u64) -> Result<Vec<u16>, Fault>
     requires { (2 ≤ bits) × (bits ≤ 16) }
     ensures { IfOk result (λ v. length v.items ≡ count) }
@@ -118,14 +118,14 @@ fn sample_numbers(alloc: Global, bits: u32, count: u32, seed: u64) -> Result<Vec
     Ok(numbers)
 }
 
-/// The body of as many numbers as the settings say.
+/// Returns the body of as many numbers as the settings say.
 fn body_of(rt: &impl Abort, alloc: Global, s: Settings, numbers: &[u16]) -> Vec<u8> {
     let params = params_of(rt, s);
     assert!(rt; numbers.len() as u64 == params.shape.sample_count());
     written(rt, alloc, &params, numbers)
 }
 
-/// That these numbers, and fewer than eight bits behind them, are read of a body.
+/// Asserts that a body is read as these numbers, with fewer than 8 bits left.
 pub(crate) fn is_read_as(
     rt: &impl Abort,
     alloc: Global,
@@ -139,7 +139,7 @@ pub(crate) fn is_read_as(
     assert!(rt; left < 8, "{s:?}");
 }
 
-/// That so many numbers are written and read back.
+/// Asserts that numbers are written and read back.
 fn come_back(rt: &impl Abort, alloc: Global, s: Settings)
     requires bits { (2 ≤ s.bits) × (s.bits ≤ 16) }
     requires size { s.size < 4 }
@@ -177,7 +177,7 @@ fn numbers_come_back(rt: HostRuntime) {
     }
 }
 
-/// That these numbers, in blocks of 8, are written as this body.
+/// Asserts that these numbers, in blocks of 8, are written as this body.
 fn is_body(rt: &impl Abort, alloc: Global, settings: Settings, numbers: &[u16], body: &[u8]) {
     assert!(rt; numbers.len() < 65_536);
     let s = Settings {
@@ -187,7 +187,7 @@ fn is_body(rt: &impl Abort, alloc: Global, settings: Settings, numbers: &[u16], 
     same_bytes(rt, &body_of(rt, alloc, s, numbers), body, "a body");
 }
 
-/// Bits of a sample, reference interval, numbers in blocks of 8, their body, and which set of options.
+/// In each row: dynamic range, reference interval, numbers in blocks of 8, their body, and the set of code options.
 const BODIES: &str = "\
 8 | 1 | 144 | a0 0f f0 00 00 00 00
 8 | 1 | 0 | 08
@@ -205,7 +205,7 @@ const BODIES: &str = "\
 2 | 1 | 2 0 2 0 2 0 0 1 | c4 40 80 | restricted
 4 | 1 | 2 | 23 c0 | restricted";
 
-/// That a row's numbers are written as its body.
+/// Asserts that a row's numbers are written as its body.
 fn row_is_body(rt: &impl Abort, alloc: Global, row: &str) {
     let [bits, reference, numbers, body, set] = parts_of(rt, row);
     let numbers = numbers_of(rt, alloc, numbers);
@@ -227,7 +227,8 @@ fn bodies(rt: HostRuntime) {
     }
 }
 
-/// What a body of so many numbers in blocks of 8 is refused for; the reader stands where it stood.
+/// Returns the fault that the first number of a body in blocks of 8 is refused for, and asserts that the reader keeps
+/// its position.
 fn refusal_of(rt: &impl Abort, bits: u32, reference: u32, bytes: &[u8]) -> Option<Fault> {
     assert!(rt; bytes.len() < 1_000_000);
     let params = params_of(
@@ -249,14 +250,14 @@ fn refusal_of(rt: &impl Abort, bits: u32, reference: u32, bytes: &[u8]) -> Optio
     first
 }
 
-/// What is refused, bits of a sample, reference interval, body, and the fault.
+/// In each row: what is refused, dynamic range, reference interval, body, and the fault.
 const REFUSALS: &str = "\
 a run of five blocks where four are left | 8 | 4 | 00 42 10 | RunPastSegment 0
 k = 5 and eight zeros | 8 | 1 | c0 00 | BadOption 0
 k = 5 and five zeros | 8 | 1 | c0 | Truncated 8
 number 10 is the pair (4, 0), above two bits | 2 | 1 | 10 03 c0 | BadOption 0";
 
-/// That a row's body is refused for its fault.
+/// Asserts that a row's body is refused for its fault.
 fn row_is_refused(rt: &impl Abort, alloc: Global, row: &str) {
     let [name, bits, reference, body, fault] = parts_of(rt, row);
     let body = bytes_of(rt, alloc, body);

@@ -1,4 +1,5 @@
-//! Bodies made by hand: lawful ones that the writer never chooses, and those at the borders of what is lawful.
+//! Tests of hand-made bodies of blocks: lawful ones that the writer never chooses, and those at the limits of what is
+//! lawful.
 
 ghost use Rattle.std.specs.Prelude.{◌≡◌, ◌*◌, ◌%◌, ◌^◌, ◌≤◌, length};
 
@@ -12,7 +13,7 @@ use header_bits::bit_writer::BitWriter;
 use std::alloc::Global;
 use std::process::Abort;
 
-/// Appends so many zeros and a one.
+/// Appends a fundamental sequence: `zeros` zeros and a one.
 fn append_fundamental(rt: &impl Abort, writer: &mut BitWriter, zeros: u64) {
     for _zero in 0..zeros {
         writer.push(0, 1).expect(rt, "memory");
@@ -20,7 +21,7 @@ fn append_fundamental(rt: &impl Abort, writer: &mut BitWriter, zeros: u64) {
     writer.push(1, 1).expect(rt, "memory");
 }
 
-/// Appends the lowest bits of values.
+/// Appends the `bits` low bits of each value.
 fn append_low_bits(rt: &impl Abort, writer: &mut BitWriter, values: &[u16], bits: u32)
     requires { bits ≤ 8 }
 {
@@ -30,7 +31,7 @@ fn append_low_bits(rt: &impl Abort, writer: &mut BitWriter, values: &[u16], bits
     }
 }
 
-/// Appends the numbers of pairs.
+/// Appends the fundamental sequences of pairs of values, as under the second extension.
 fn append_pairs(rt: &impl Abort, writer: &mut BitWriter, values: &[u16]) {
     for pair in values.chunks(2) {
         assert!(rt; pair.len() == 2);
@@ -39,7 +40,7 @@ fn append_pairs(rt: &impl Abort, writer: &mut BitWriter, values: &[u16]) {
     }
 }
 
-/// Appends the text of a block of 8 under an option for samples of 8 bits, bit by bit.
+/// Appends the coded data set of a block of eight 8-bit values under a code option, bit by bit.
 fn append_block(rt: &impl Abort, writer: &mut BitWriter, option: Choice, values: &[u16]) {
     match option {
         Choice::Uncoded => {
@@ -61,7 +62,7 @@ fn append_block(rt: &impl Abort, writer: &mut BitWriter, option: Choice, values:
     }
 }
 
-/// The settings of so many numbers of 8 bits, in blocks of 8.
+/// Returns the settings of `count` numbers of 8 bits, in blocks of 8.
 fn settings(reference: u32, count: u32) -> Settings {
     Settings {
         bits: 8,
@@ -72,10 +73,10 @@ fn settings(reference: u32, count: u32) -> Settings {
     }
 }
 
-/// Two blocks.
+/// The values of two blocks.
 const VALUES: &str = "0 1 2 3 0 5 1 0 7 0 0 1 2 0 3 1";
 
-/// The options, from the first.
+/// Returns a code option by its number: uncoded, second extension, then split-sample 0 and up.
 fn option(place: u32) -> Choice {
     match place {
         0 => Choice::Uncoded,
@@ -84,7 +85,7 @@ fn option(place: u32) -> Choice {
     }
 }
 
-/// That two blocks are read under these options.
+/// Asserts that two blocks are read under these code options.
 fn two_blocks_are_read(rt: &impl Abort, alloc: Global, first: Choice, second: Choice) {
     let values = numbers_of(rt, alloc, VALUES);
     assert!(rt; values.len() == 16);
@@ -95,7 +96,7 @@ fn two_blocks_are_read(rt: &impl Abort, alloc: Global, first: Choice, second: Ch
     is_read_as(rt, alloc, settings(64, 16), &body, &values);
 }
 
-/// Every option in turn for each of two blocks.
+/// Checks every code option for each of two blocks.
 #[test]
 fn every_option_is_read(rt: HostRuntime) {
     for first in 0..8 {
@@ -105,7 +106,7 @@ fn every_option_is_read(rt: HostRuntime) {
     }
 }
 
-/// Appends a run of zero blocks by its own code.
+/// Appends a zero-block run by the code of its length.
 fn append_run(rt: &impl Abort, writer: &mut BitWriter, blocks: u64) {
     writer.push(0, 4).expect(rt, "memory");
     append_fundamental(
@@ -119,7 +120,8 @@ fn append_run(rt: &impl Abort, writer: &mut BitWriter, blocks: u64) {
     );
 }
 
-/// That six zero blocks are read, a run ending behind each block whose bit is set, the last one by the code of the rest.
+/// Asserts that six zero blocks are read, where a run ends after each block whose bit in `split` is set. The last run
+/// has the code of the segment's rest if `rest` is set.
 fn split_run_is_read(rt: &impl Abort, alloc: Global, split: u32, rest: bool) {
     let mut writer = BitWriter::new(alloc);
     let mut blocks = 1u64;
@@ -140,7 +142,7 @@ fn split_run_is_read(rt: &impl Abort, alloc: Global, split: u32, rest: bool) {
     is_read_as(rt, alloc, settings(8, 48), &body, &[0; 48]);
 }
 
-/// Six zero blocks, split in every way; the last run also by the code of the segment's rest.
+/// Splits six zero blocks in every way into runs, the last of which also has the code of the segment's rest.
 #[test]
 fn every_split_of_a_run_is_read(rt: HostRuntime) {
     for split in 0u32..32 {
@@ -150,21 +152,21 @@ fn every_split_of_a_run_is_read(rt: HostRuntime) {
     }
 }
 
-/// That a body of so many numbers is refused for a fault.
+/// Asserts that a body is refused for this fault.
 fn is_refused(rt: &impl Abort, alloc: Global, s: Settings, body: &[u8], fault: Fault) {
     let params = params_of(rt, s);
     let found = read(rt, alloc, &params, body).err();
     same_fault(rt, found, fault, "a body");
 }
 
-/// Reference interval, how many numbers, and a body with a run past its segment.
+/// In each row: reference interval, count of numbers, and a body with a zero-block run past its segment.
 const RUNS_PAST: &str = "\
 4 | 48 | 00 42 10 00 00 00 00 00 00 00 00
 4096 | 1040 | 00 00 00 00 00 00 00 00 04 02 01
 1 | 1 | 00 00 00 00 00 00 00 00 00 00 00
 8 | 48 | 00 00 00 00 00 00 00 00 00 00 00";
 
-/// That a row's body is refused.
+/// Asserts that a row's body is refused for a run past its segment.
 fn run_is_refused(rt: &impl Abort, alloc: Global, row: &str) {
     let [reference, count, body, _, _] = parts_of(rt, row);
     let s = settings(number_of(rt, reference), number_of(rt, count));
@@ -172,7 +174,7 @@ fn run_is_refused(rt: &impl Abort, alloc: Global, row: &str) {
     is_refused(rt, alloc, s, &bytes_of(rt, alloc, body), past);
 }
 
-/// Borders of reference intervals and of 64 blocks, and how many zeros a run code may have.
+/// Checks runs at the ends of reference intervals and of segments of 64 blocks, and the most zeros of a run code.
 #[test]
 fn borders_of_runs(rt: HostRuntime) {
     for row in RUNS_PAST.split('\n') {
@@ -181,7 +183,7 @@ fn borders_of_runs(rt: HostRuntime) {
     is_read_as(&rt, rt.alloc(), settings(8, 40), &[0x00, 0x40], &[0; 40]);
 }
 
-/// Filled values may be any; numbers of pairs go up to that of the greatest pair.
+/// Checks that filled values may be any, and that the number of a pair is at most that of the greatest pair.
 #[test]
 fn filled_values_and_greatest_pairs(rt: HostRuntime) {
     let alloc = rt.alloc();

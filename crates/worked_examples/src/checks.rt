@@ -1,22 +1,22 @@
-//! What a test finds, beside what it wants.
+//! Assertions that the tests share.
 
 use cube_core::fault::Fault;
 use std::fmt::Debug;
 use std::process::Abort;
 
-/// Fails where two values differ, and prints both.
+/// Asserts that two values are equal, and prints both if they aren't.
 ///
-/// It is proved once; the macro, written out in each test, would be proved in each.
+/// Tests call this instead of the macro, so that the macro's expansion is proved only once.
 pub(crate) fn same<T: PartialEq + Debug + Drop>(rt: &impl Abort, found: T, wanted: T) {
     assert_eq!(rt; found, wanted);
 }
 
-/// That bytes are those that are expected.
+/// Asserts that bytes are the expected ones, and prints a name if they aren't.
 pub(crate) fn same_bytes(rt: &impl Abort, found: &[u8], expected: &[u8], name: &str) {
     assert_eq!(rt; found, expected, "{name}");
 }
 
-/// That a fault is the one that is expected.
+/// Asserts that a fault is the expected one, and prints a name if it isn't.
 pub(crate) fn same_fault(rt: &impl Abort, found: Option<Fault>, expected: Fault, name: &str) {
     assert_eq!(rt; found, Some(expected), "{name}");
 }

@@ -1,4 +1,4 @@
-//! Code words that are read or written several at a time: of one band, and of bands one above another.
+//! Tests of reading and writing several code words at once: a run of one band, and columns of bands.
 
 use crate::checks::same_fault;
 use crate::sample_words::{short_codes, stats_of};
@@ -6,7 +6,7 @@ use cube_core::fault::Fault;
 use header_bits::bit_reader::BitReader;
 use header_bits::bit_writer::BitWriter;
 
-/// A run of a band: its first number in eight bits, then an escape.
+/// Reads a run of one band: its first number in 8 bits, then an escape.
 #[test]
 fn a_run_is_read(rt: HostRuntime) {
     let mut stats = stats_of(&rt, rt.alloc(), 1, short_codes(8));
@@ -19,7 +19,7 @@ fn a_run_is_read(rt: HostRuntime) {
     assert!(rt; reader.left() == 0);
 }
 
-/// Columns of two bands: their first numbers in eight bits each, then as many zeros as the number says, and a one.
+/// Reads columns of two bands: their first numbers in 8 bits each, then two fundamental sequences.
 #[test]
 fn columns_are_read(rt: HostRuntime) {
     let mut stats = stats_of(&rt, rt.alloc(), 2, short_codes(8));
@@ -36,7 +36,7 @@ fn columns_are_read(rt: HostRuntime) {
     assert!(rt; reader.left() == 2);
 }
 
-/// The same columns are written so.
+/// Writes the same columns to the same bytes.
 #[test]
 fn columns_are_put(rt: HostRuntime) {
     let mut stats = stats_of(&rt, rt.alloc(), 2, short_codes(8));
@@ -53,7 +53,7 @@ fn columns_are_put(rt: HostRuntime) {
     assert!(rt; bytes.as_slice() == [0x90, 0x13, 0x14].as_slice());
 }
 
-/// The upper band's second number is a needless escape, at place 3 of the body. It is refused so for ever.
+/// Checks that a needless escape, the upper band's second number at index 3 of the body, is refused by each call.
 #[test]
 fn a_column_is_refused(rt: HostRuntime) {
     let mut stats = stats_of(&rt, rt.alloc(), 2, short_codes(8));

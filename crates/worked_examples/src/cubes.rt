@@ -1,4 +1,4 @@
-//! What a caller's proof takes from a cube.
+//! A test that a caller can prove how many samples a cube has.
 
 ghost use Rattle.std.specs.Prelude.{◌≡◌, length};
 
@@ -8,7 +8,7 @@ use cube_core::kind::Kind;
 use cube_core::shape::Shape;
 use std::process::Abort;
 
-/// How many samples a cube holds, told by its shape alone.
+/// Returns the number of a cube's samples, computed from its shape alone.
 fn sample_count_of(cube: &Cube) -> u64
     ensures { result ≡ length cube.now.samples }
 {

@@ -1,4 +1,4 @@
-//! Each worked file is written of its cube, and read back.
+//! Tests that each worked file is encoded from its cube, and decoded to it.
 
 ghost use Rattle.std.specs.Prelude.{◌≡◌};
 ghost use Rattle.cube_core.specs.Layout.{IsLayout};
@@ -20,14 +20,14 @@ use header_bits::params::Params;
 use std::alloc::Global;
 use std::process::Abort;
 
-/// Samples of one byte, band after band.
+/// The layout of samples of one byte, band after band.
 pub(super) const BYTES: Layout = Layout {
     order: RawOrder::Bsq,
     bytes: 1,
     little: false,
 };
 
-/// What bytes are decoded to.
+/// Decodes bytes to parameters and a cube.
 pub(super) fn decoded(
     rt: &impl Abort,
     alloc: Global,
@@ -37,7 +37,7 @@ pub(super) fn decoded(
     decode(alloc, bytes)
 }
 
-/// The file that is written of raw bytes by these settings.
+/// Returns the file to which raw bytes are encoded by these settings.
 pub(super) fn encoded(
     rt: &impl Abort,
     alloc: Global,
@@ -54,13 +54,13 @@ pub(super) fn encoded(
     encode_one(alloc, &cube, &params).expect(rt, name)
 }
 
-/// The header that is written of parameters.
+/// Returns the header of parameters.
 pub(super) fn header_by(rt: &impl Abort, alloc: Global, params: &Params, name: &str) -> Vec<u8> {
     assert!(rt; params.check().is_ok(), "{name}");
     write_header(alloc, params).expect(rt, name)
 }
 
-/// That a file is decoded to parameters with this header and a cube with these raw bytes.
+/// Asserts that a file is decoded to parameters with this header and a cube with these raw bytes.
 pub(super) fn decodes_to(
     rt: &impl Abort,
     alloc: Global,
@@ -78,7 +78,7 @@ pub(super) fn decodes_to(
     same_bytes(rt, &back, raw, name);
 }
 
-/// That the file of a row is written of its cube, and read back.
+/// Asserts that a row's file is encoded from its cube, and decoded to it.
 fn row_holds(rt: &impl Abort, alloc: Global, row: &str) {
     let [name, settings, samples, header, body] = parts_of(rt, row);
     let samples = samples_of(rt, alloc, samples);
@@ -89,7 +89,7 @@ fn row_holds(rt: &impl Abort, alloc: Global, row: &str) {
     decodes_to(rt, alloc, name, &file, &header, BYTES, &samples);
 }
 
-/// The same of each row.
+/// Asserts that the file of each row is encoded from its cube, and decoded to it.
 fn rows_hold(rt: &impl Abort, alloc: Global, rows: &str) {
     for row in rows.split('\n') {
         row_holds(rt, alloc, row);
@@ -109,7 +109,7 @@ fn worked_files_are_written_and_read(rt: HostRuntime) {
     rows_hold(&rt, rt.alloc(), RESTRICTED_ROWS);
 }
 
-/// The least sample of sixteen signed bits.
+/// Encodes and decodes the least signed 16-bit sample.
 #[test]
 fn two_bytes_a_sample(rt: HostRuntime) {
     let alloc = rt.alloc();
@@ -123,8 +123,8 @@ fn two_bytes_a_sample(rt: HostRuntime) {
     decodes_to(&rt, alloc, name, &file, &header, layout, &raw);
 }
 
-/// Spellings that a coder doesn't choose, a row on a line: its name, its header, the header that a coder chooses, its
-/// body and its samples.
+/// Files that a decoder accepts and an encoder doesn't write. In each row: name, header, the header that an encoder
+/// writes, body and samples.
 const OTHER_SPELLINGS: &str = "\
 any bits where the depth isn't there | 8:12 9:34 | | 90 | 200
 a file filled to whole bytes alone | 4:02 10:20 | 4:02 10:20 | 90 80 | 200 200
@@ -133,7 +133,7 @@ a plain code for the rest of a segment | 4:28 10:0c 17:00 18:08 | 4:28 10:0c 17:
 the last pair | 4:08 7:05 10:0c 17:00 18:01 | 4:08 7:05 10:0c 17:00 18:01 | 10 00 00 0f | 0 7*3
 any filled values | 10:0c 17:00 18:01 | 10:0c 17:00 18:01 | f2 1f ff ff ff ff ff ff e0 | 200";
 
-/// That a row's file is read, and its parameters are written by the header that a coder chooses.
+/// Asserts that a row's file is decoded, and that its parameters have the header that an encoder writes.
 fn row_is_read(rt: &impl Abort, alloc: Global, row: &str) {
     let [name, header, chosen, body, samples] = parts_of(rt, row);
     let file = file_of(rt, alloc, header, body);

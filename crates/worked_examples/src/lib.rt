@@ -1,4 +1,4 @@
-//! The worked examples, and round trips over many settings, through the public calls of the crates below.
+//! Tests of the worked examples, and round trips over many settings, through public calls.
 #![tactic(auto)]
 
 #[cfg(test)]

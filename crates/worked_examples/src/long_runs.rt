@@ -1,4 +1,4 @@
-//! Runs of as many residuals as the longest row has, each taken whole by one call that finds no room reserved.
+//! Tests that one call takes as many residuals as the longest row has, with no room reserved before.
 
 ghost use Rattle.std.specs.Prelude.{◌≡◌, ◌<◌, ◌^◌, length};
 ghost use Rattle.std.specs.List.{AllByRecursion};
@@ -16,10 +16,10 @@ use header_bits::params::{Coder, CountStart, Params};
 use std::alloc::Global;
 use std::process::Abort;
 
-/// How many columns the longest row has.
+/// The number of columns of the longest row.
 const LONGEST: usize = 65_536;
 
-/// So many zeros.
+/// Returns `count` zeros.
 fn zeros(rt: &impl Abort, alloc: Global, count: usize) -> Vec<u16>
     ensures many { length result.items ≡ count }
     ensures range { AllByRecursion (λ n. n < 2 ^ 8) result.items }
@@ -27,7 +27,7 @@ fn zeros(rt: &impl Abort, alloc: Global, count: usize) -> Vec<u16>
     vec![in alloc; 0u16; count].expect(rt, "memory")
 }
 
-/// Parameters of one row of as many samples, each of eight bits, in so many bands.
+/// Returns parameters of one row, with 65,536 samples of 8 bits in all its bands.
 fn params_of(rt: &impl Abort, columns: u32, bands: u32, order: Order, coder: Coder) -> Params
     ensures lawful { IsLawful result }
     ensures bits { result.kind.bits ≡ 8 }
@@ -45,7 +45,7 @@ fn params_of(rt: &impl Abort, columns: u32, bands: u32, order: Order, coder: Cod
     params
 }
 
-/// The sample-adaptive coder.
+/// Returns the sample-adaptive coder.
 fn by_samples() -> Coder {
     Coder::Sample {
         umax: 16,
@@ -55,7 +55,7 @@ fn by_samples() -> Coder {
     }
 }
 
-/// The block-adaptive coder, by blocks of 64.
+/// Returns the block-adaptive coder with blocks of 64.
 fn by_blocks() -> Coder {
     Coder::Block {
         size: 64,
@@ -64,7 +64,7 @@ fn by_blocks() -> Coder {
     }
 }
 
-/// That a coding end takes as many zeros as there are samples by one call, and then wants no more.
+/// Asserts that a coding end takes a zero for each sample in one call, and then has no next place.
 fn takes_all(rt: &impl Abort, alloc: Global, params: &Params)
     requires lawful { IsLawful params.now }
     requires bits { params.now.kind.bits ≡ 8 }
@@ -76,7 +76,7 @@ fn takes_all(rt: &impl Abort, alloc: Global, params: &Params)
     assert!(rt; end.place().is_none());
 }
 
-/// The same for a row of as many samples in so many bands.
+/// Asserts that a coding end takes the zeros of one row of these columns and bands in one call.
 fn all_are_taken(
     rt: &impl Abort,
     alloc: Global,
@@ -89,7 +89,7 @@ fn all_are_taken(
     takes_all(rt, alloc, &params);
 }
 
-/// A coding end takes a whole row, the columns of two bands, and blocks.
+/// Checks that a coding end takes a whole row, the columns of two bands, and blocks.
 #[test]
 fn long_runs_are_taken(rt: HostRuntime) {
     let alloc = rt.alloc();
@@ -98,7 +98,7 @@ fn long_runs_are_taken(rt: HostRuntime) {
     all_are_taken(&rt, alloc, 65_536, 1, Order::Bsq, by_blocks());
 }
 
-/// The sample-adaptive coder takes a whole row.
+/// Checks that the sample-adaptive coder takes a whole row.
 #[test]
 fn a_long_run_is_put(rt: HostRuntime) {
     let settings = Settings {
@@ -114,6 +114,6 @@ fn a_long_run_is_put(rt: HostRuntime) {
     stats
         .put_run(0, 0, &zeros, &mut writer)
         .expect(&rt, "memory");
-    // The first is written in eight bits, and each other in one.
+    // The first number is written in 8 bits, and each other in one.
     same(&rt, writer.bit_count(), 8 + 65_535);
 }

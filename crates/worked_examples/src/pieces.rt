@@ -1,11 +1,11 @@
-//! Rows of one piece and of more, in each order: the decoder, which goes place by place, finds every sample again.
+//! Round trips of rows of one piece and of more, in each encoding order. The decoder goes place by place.
 
 use crate::files::{BYTES, decodes_to, encoded, header_by};
 use crate::settings::params_of;
 use std::alloc::Global;
 use std::process::Abort;
 
-/// Columns around the 64 of a piece.
+/// Numbers of columns around the 64 of a piece.
 const COLUMNS: [&str; 5] = [
     "columns=1 reduced=1",
     "columns=63 reduced=0",
@@ -14,13 +14,13 @@ const COLUMNS: [&str; 5] = [
     "columns=129 reduced=0",
 ];
 
-/// Band after band, by line, by pairs of bands with one left over, and by pixel.
+/// Encoding orders: band-sequential, interleaved by line, by pairs of bands with one left over, and by pixel.
 const DEPTHS: [&str; 4] = ["depth=0", "depth=1", "depth=2", "depth=3"];
 
-/// Either coder.
+/// The sample-adaptive coder, and the block-adaptive coder.
 const CODERS: [&str; 2] = ["reference=0", "reference=8"];
 
-/// Samples that rise along a row, with something of a noise.
+/// Returns samples that rise along a row, with some noise.
 fn samples(rt: &impl Abort, alloc: Global, count: u64) -> Vec<u8> {
     let mut samples = Vec::new(alloc);
     let mut state = 1u32;
@@ -32,7 +32,7 @@ fn samples(rt: &impl Abort, alloc: Global, count: u64) -> Vec<u8> {
     samples
 }
 
-/// That the file of samples by these settings gives them back.
+/// Asserts that samples are encoded by these settings, and decoded again.
 fn samples_come_back(rt: &impl Abort, alloc: Global, settings: &str) {
     let params = params_of(rt, alloc, settings);
     let header = header_by(rt, alloc, &params, settings);
@@ -41,7 +41,7 @@ fn samples_come_back(rt: &impl Abort, alloc: Global, settings: &str) {
     decodes_to(rt, alloc, settings, &file, &header, BYTES, &raw);
 }
 
-/// The same by settings in three words.
+/// Asserts that samples are encoded with these columns, in this order and by this coder, and decoded again.
 fn come_back(rt: &impl Abort, alloc: Global, columns: &str, depth: &str, coder: &str) {
     let settings = format!(in alloc; "rows=2 bands=3 previous=1 {columns} {depth} {coder}").expect(
         rt, "memory",

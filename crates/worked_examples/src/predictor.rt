@@ -1,4 +1,4 @@
-//! Cubes forward and back, with residuals from outside.
+//! Tests of the predictor on cube A: residuals of its samples, and samples of its residuals.
 
 ghost use Rattle.std.specs.Prelude.{◌≡◌, ◌<◌, ◌^◌};
 ghost use Rattle.cube_core.specs.Order.{IsOrder};
@@ -22,7 +22,7 @@ use std::process::Abort;
 /// Cube A: three columns, two rows and two bands.
 const CUBE_A: [u8; 12] = [100, 102, 105, 101, 104, 103, 110, 111, 115, 112, 113, 114];
 
-/// Its shape.
+/// Returns the shape of cube A.
 fn shape_a(rt: &impl Abort) -> Shape
     ensures { result ≡ sizes 3 2 2 }
 {
@@ -33,7 +33,7 @@ fn shape_a(rt: &impl Abort) -> Shape
     shape
 }
 
-/// The kind of its samples.
+/// Returns the kind of cube A.
 fn kind_a(rt: &impl Abort) -> Kind
     ensures { result ≡ unsigned 8 }
 {
@@ -43,7 +43,7 @@ fn kind_a(rt: &impl Abort) -> Kind
     kind
 }
 
-/// The parameters of cube A.
+/// Returns the parameters of cube A.
 fn params_a(rt: &impl Abort) -> Params
     ensures lawful { IsLawful result }
     ensures shape { result.shape ≡ sizes 3 2 2 }
@@ -57,7 +57,7 @@ fn params_a(rt: &impl Abort) -> Params
     }
 }
 
-/// A band of cube A.
+/// The predictor of a band of cube A.
 #[derive(Drop)]
 struct BandOfA {
     band: Band,
@@ -94,7 +94,7 @@ fn cube_of_a(rt: &impl Abort, alloc: Global, bytes: &[u8]) -> CubeOfA {
     }
 }
 
-/// The residual at a place.
+/// Returns the residual at a place, which is the band's next one.
 fn coded(rt: &impl Abort, coder: &mut BandOfA, cube: &CubeOfA, place: Place) -> u16
     ensures { result < 2 ^ 8 }
 {
@@ -104,7 +104,7 @@ fn coded(rt: &impl Abort, coder: &mut BandOfA, cube: &CubeOfA, place: Place) -> 
     coder.band.forward(&cube.cube, place.y, place.x)
 }
 
-/// Puts the sample of a residual at a place that held another value.
+/// Restores the sample at a place from its residual, while the place holds another value.
 fn found_again(
     rt: &impl Abort,
     decoder: &mut BandOfA,
@@ -124,9 +124,9 @@ fn found_again(
     back.cube.set(place.z, place.y, place.x, sample);
 }
 
-/// The residuals of cube A in an order, and the cube that they give back.
+/// Returns the residuals of cube A in an order, and the cube that is restored from them.
 ///
-/// Before each sample is found again, its place holds `own`, and all later ones hold `later`.
+/// Before each sample is restored, its place holds `own`, and all later ones hold `later`.
 fn forward_and_back(
     rt: &impl Abort,
     alloc: Global,
@@ -151,7 +151,7 @@ fn forward_and_back(
     (residuals, back)
 }
 
-/// That cube A has these residuals in an order, and is found again.
+/// Asserts that cube A has these residuals in an order, and is restored from them.
 fn is_coded_as(rt: &impl Abort, alloc: Global, order: Order, residuals: &str)
     requires { IsOrder (sizes 3 2 2) order }
 {
@@ -171,7 +171,7 @@ fn cube_a_forward_and_back_in_each_order(rt: HostRuntime) {
     is_coded_as(&rt, alloc, Order::Bi(2), "55 20 3 1 5 2 0 2 4 1 2 2");
 }
 
-/// Fails unless all samples are those of cube A.
+/// Asserts that all samples are those of cube A.
 fn is_cube_a(rt: &impl Abort, cube: &CubeOfA) {
     for z in 0..2u32 {
         for y in 0..2u32 {
@@ -183,7 +183,7 @@ fn is_cube_a(rt: &impl Abort, cube: &CubeOfA) {
     }
 }
 
-/// That a sample beside a scaled predicted value has this mapped residual, and is found again by it.
+/// Asserts that a sample has this mapped residual for a scaled predicted value, and is restored from it.
 fn is_mapped(rt: &impl Abort, scaled: u16, sample: u8, residual: u8)
     requires { scaled < 512 }
 {
@@ -206,7 +206,7 @@ fn mapping_there_and_back(rt: HostRuntime) {
     is_mapped(&rt, 511, 0, 255);
 }
 
-/// The residuals of a row of cube A, as a piece.
+/// Returns the residuals of a row of cube A, predicted as a piece.
 fn coded_row(rt: &impl Abort, coder: &mut BandOfA, cube: &CubeOfA, y: u32) -> [u16; 3] {
     assert!(rt; y < 2);
     assert!(rt; coder.band.next() == u64::from(y) * 3);
@@ -218,7 +218,7 @@ fn coded_row(rt: &impl Abort, coder: &mut BandOfA, cube: &CubeOfA, y: u32) -> [u
     ]
 }
 
-/// That the two rows of a band of cube A, as pieces, have these residuals.
+/// Asserts that the two rows of a band of cube A, predicted as pieces, have these residuals.
 fn rows_are_coded_as(rt: &impl Abort, alloc: Global, z: u32, upper: [u16; 3], lower: [u16; 3])
     requires { z < 2 }
 {

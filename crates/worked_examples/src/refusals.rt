@@ -1,4 +1,4 @@
-//! Files that are refused, and the fault that is named.
+//! Tests of files that are refused, and of the faults that are returned.
 
 use crate::checks::same_fault;
 use crate::files::decoded;
@@ -7,28 +7,28 @@ use cube_core::fault::{Fault, Field, Rule};
 use std::alloc::Global;
 use std::process::Abort;
 
-/// That a file is refused for this fault.
+/// Asserts that a file is refused for this fault.
 fn refused(rt: &impl Abort, alloc: Global, file: &[u8], fault: Fault, name: &str) {
     same_fault(rt, decoded(rt, alloc, file).err(), fault, name);
 }
 
-/// That a header is refused for this fault, with a body and without: a fault of the header comes before one of the body.
+/// Asserts that a header is refused for this fault with and without a body: its faults come before those of the body.
 fn header_refused(rt: &impl Abort, alloc: Global, header: &str, fault: Fault) {
     refused(rt, alloc, &file_of(rt, alloc, header, "90"), fault, header);
     refused(rt, alloc, &header_of(rt, alloc, header), fault, header);
 }
 
-/// The same for a field out of its range.
+/// Asserts that a header is refused for a field out of its range.
 fn field_refused(rt: &impl Abort, alloc: Global, header: &str, field: Field, value: i64) {
     header_refused(rt, alloc, header, Fault::FieldRange { field, value });
 }
 
-/// The same for fields that disagree.
+/// Asserts that a header is refused for fields that disagree.
 fn rule_refused(rt: &impl Abort, alloc: Global, header: &str, rule: Rule) {
     header_refused(rt, alloc, header, Fault::Disagree { rule });
 }
 
-/// The same for a reserved bit that isn't zero.
+/// Asserts that a header is refused for a reserved bit that is 1.
 fn bit_refused(rt: &impl Abort, alloc: Global, header: &str, bit: u64) {
     header_refused(rt, alloc, header, Fault::Reserved { bit });
 }
@@ -68,13 +68,14 @@ fn headers_with_constants(rt: HostRuntime) {
     rule_refused(&rt, alloc, "10:0c 17:10 18:01", Rule::RestrictedOverFour);
 }
 
-/// Headers, bodies and how long the header is: two equal samples, the same by a table of one constant, and one weight.
+/// In each row: header, body, and the header's length. The files hold two equal samples, the same with an accumulator
+/// table of one constant, and four samples with a weight table.
 const CUT_FILES: &str = "\
 4:02 | 90 80 | 19
 4:02 18:3f 19+30 | 90 80 | 20
 4:02 6:02 12:06 16:63 17+e0 | 37 2d 8c 70 | 20";
 
-/// That a file with a header of so many bytes is refused wherever it is cut.
+/// Asserts that a file with a header of `length` bytes is refused wherever it is cut.
 fn cuts_refused(rt: &impl Abort, alloc: Global, file: &[u8], length: usize, name: &str) {
     assert!(rt; file.len() <= 1000);
     for n in 0..file.len() {
@@ -87,7 +88,7 @@ fn cuts_refused(rt: &impl Abort, alloc: Global, file: &[u8], length: usize, name
     }
 }
 
-/// The same of a row's file.
+/// Asserts that a row's file is refused wherever it is cut.
 fn row_cuts_refused(rt: &impl Abort, alloc: Global, row: &str) {
     let [header, body, length, _, _] = parts_of(rt, row);
     let file = file_of(rt, alloc, header, body);
@@ -101,7 +102,7 @@ fn files_cut_short(rt: HostRuntime) {
     }
 }
 
-/// Headers, bodies, and the faults that are named.
+/// In each row: header, body, and the fault.
 const BODIES: &str = "\
 4:02 | 90 81 | BadFill
 4:02 | 90 | Truncated 160
@@ -121,7 +122,7 @@ const BODIES: &str = "\
 10:0c 17:00 18:01 | a0 0f f0 00 00 00 | Truncated 200
 10:0c 17:00 18:01 | | Truncated 152";
 
-/// That a row's file is refused for its fault.
+/// Asserts that a row's file is refused for its fault.
 fn row_refused(rt: &impl Abort, alloc: Global, row: &str) {
     let [header, body, fault, _, _] = parts_of(rt, row);
     let file = file_of(rt, alloc, header, body);

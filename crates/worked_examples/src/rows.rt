@@ -1,9 +1,9 @@
-//! The worked files, a row on a line: its name, its parameters, its samples, its header and its body.
+//! The worked files, one in each row: name, parameters, samples, header and body.
 //!
-//! Parameters and header are told by what differs from the common ones, the header's bytes each behind its place.
-//! Samples have one byte, band after band; `48*128` is 48 of them.
+//! Parameters and header list what differs from the common ones, each changed byte of the header after its number,
+//! counted from 0. Samples have one byte, band after band; `48*128` stands for 48 samples of 128.
 
-/// Few samples.
+/// Files of few samples.
 pub(super) const SMALL_ROWS: &str = "\
 one sample | | 200 | | 90
 two equal samples | rows=2 | 200 200 | 4:02 | 90 80
@@ -38,7 +38,7 @@ cube A, interleaved by line | columns=3 rows=2 bands=2 previous=1 reduced=0 dept
 cube A, interleaved by pixel | columns=3 rows=2 bands=2 previous=1 reduced=0 depth=2 | 100 102 105 101 104 103 110 111 \
     115 112 113 114 | 2:03 4:02 6:02 7:10 9:02 12:04 13:20 | 37 14 b9 da 8c 97 60";
 
-/// Blocks under their options.
+/// Blocks under their code options.
 pub(super) const BLOCK_ROWS: &str = "\
 cube A in blocks | columns=3 rows=2 bands=2 previous=1 reduced=0 reference=1 | 100 102 105 101 104 103 110 111 115 112 \
     113 114 | 2:03 4:02 6:02 10:0c 12:04 13:20 17:00 18:01 | 80 7e 7d d1 14 24 94 f8
@@ -46,18 +46,18 @@ one sample in a block | reference=1 | 200 | 10:0c 17:00 18:01 | a0 0f f0 00 00 0
 a zero block | reference=1 | 128 | 10:0c 17:00 18:01 | 08
 four bits | bits=4 reference=1 | 9 | 7:09 10:0c 17:00 18:01 | 11 e0";
 
-/// Runs of zero blocks.
+/// Zero-block runs.
 pub(super) const RUN_ROWS: &str = "\
 zero blocks to the image's end | rows=48 reference=8 | 48*128 | 4:30 10:0c 17:00 18:08 | 00 80
 four zero blocks | rows=32 reference=8 | 32*128 | 4:20 10:0c 17:00 18:08 | 01
 a run up to the reference border | rows=48 reference=4 | 48*128 | 4:30 10:0c 17:00 18:04 | 01 04";
 
-/// Runs over whole segments.
+/// Zero-block runs over whole segments.
 pub(super) const SEGMENT_ROWS: &str = "\
 a run of 64 blocks | rows=1040 reference=4096 | 1040*128 | 3:04 4:10 10:0c 17:00 18:00 | 00 80 41
 segments from each reference border | rows=1040 reference=65 | 1040*128 | 3:04 4:10 10:0c 17:00 18:41 | 00 84 02 10";
 
-/// Tables of weights and of constants.
+/// Weight tables and accumulator tables.
 pub(super) const TABLE_ROWS: &str = "\
 a table of no weights | resolution=3 | 200 | 16:63 | 90
 one weight | rows=2 bands=2 previous=1 resolution=3 weights=-1 | 100 110 50 60 | 4:02 6:02 12:06 16:63 17+e0 | 37 2d 8c 70

@@ -1,4 +1,4 @@
-//! A band that moves on by runs has the residuals of one that goes place after place.
+//! Tests that a band predicted by runs has the residuals of one that is predicted place by place.
 
 ghost use Rattle.std.specs.Prelude.{◌≡◌, ◌+◌, ◌*◌, ◌<◌, ◌≤◌};
 ghost use Rattle.header_bits.specs.Lawful.{IsLawful};
@@ -13,12 +13,12 @@ use predict_core::band::Band;
 use std::alloc::Global;
 use std::process::Abort;
 
-/// Numbers that a seed decides.
+/// A generator of pseudo-random numbers from a seed.
 #[derive(Drop)]
 pub(crate) struct Draw(pub(crate) u64);
 
 impl Draw {
-    /// A number below 2^31.
+    /// Returns the next number, which is below 2^31.
     fn next(&mut self) -> u64 {
         self.0 = self
             .0
@@ -28,7 +28,7 @@ impl Draw {
     }
 }
 
-/// One band of a cube, twice.
+/// A cube, and two predictors of the same band of it: one by runs, one by single places.
 #[derive(Drop)]
 pub(crate) struct Twice {
     pub(crate) cube: Cube,
@@ -42,7 +42,7 @@ pub(crate) struct Twice {
     ghost singles_inside: { singles.band < cube.shape.bands },
 }
 
-/// The number within its band of a place where so many begin, all in one row.
+/// Returns the raster index of a place, and asserts that `count` places from it on, at most 64, are in its row.
 pub(crate) fn number_of_place(rt: &impl Abort, shape: Shape, y: u32, x: u32, count: usize) -> u64
     ensures few { count ≤ 64 }
     ensures row { y < shape.rows }
@@ -58,21 +58,21 @@ pub(crate) fn number_of_place(rt: &impl Abort, shape: Shape, y: u32, x: u32, cou
 }
 
 impl Twice {
-    /// The residuals of a run, as many as there is room for.
+    /// Writes the residuals of a run, as many as there is room for.
     fn run(&mut self, rt: &impl Abort, y: u32, x: u32, residuals: &mut [u16]) {
         let place = number_of_place(rt, self.cube.shape(), y, x, residuals.len());
         assert!(rt; self.runs.next() == place);
         self.runs.forward_run(&self.cube, y, x, residuals);
     }
 
-    /// The residual of one place.
+    /// Returns the residual at one place.
     pub(crate) fn single(&mut self, rt: &impl Abort, y: u32, x: u32) -> u16 {
         let place = number_of_place(rt, self.cube.shape(), y, x, 1);
         assert!(rt; self.singles.next() == place);
         self.singles.forward(&self.cube, y, x)
     }
 
-    /// Goes over so many places by a run, and by single places.
+    /// Asserts that `count` places have the same residuals as a run and as single places.
     fn run_is_the_same(&mut self, rt: &impl Abort, y: u32, x: u32, count: u32) {
         assert!(rt; count <= 64);
         let mut room = [0u16; 64];
@@ -85,7 +85,7 @@ impl Twice {
         }
     }
 
-    /// Goes over a row by runs of so many places, the last one shorter, and by single places.
+    /// Asserts that a row has the same residuals by runs of at most `most` places and by single places.
     fn row_is_the_same(&mut self, rt: &impl Abort, y: u32, most: u32) {
         let columns = self.cube.shape().columns();
         let mut x = 0u32;
@@ -99,7 +99,7 @@ impl Twice {
     }
 }
 
-/// Parameters of five rows, whose exponent grows every 16 places.
+/// Returns parameters of five rows, whose weight update scaling exponent grows every 16 samples.
 pub(crate) fn params_of(
     rt: &impl Abort,
     columns: u32,
@@ -127,7 +127,7 @@ pub(crate) fn params_of(
     params
 }
 
-/// A cube of a slope and noise, with ends of the range here and there.
+/// Returns a cube of a slope with noise, and with the least or greatest sample here and there.
 pub(crate) fn cube_of(rt: &impl Abort, alloc: Global, params: &Params, draw: &mut Draw) -> Cube
     ensures shape { result.shape ≡ params.now.shape }
     ensures kind { result.kind ≡ params.now.kind }
@@ -152,7 +152,7 @@ pub(crate) fn cube_of(rt: &impl Abort, alloc: Global, params: &Params, draw: &mu
     Cube::from_raw(alloc, shape, params.kind, layout, &bytes).expect(rt, "a cube")
 }
 
-/// Goes over all rows of band `z` by runs of so many places, and by single places.
+/// Asserts that all rows of band `z` have the same residuals by runs of at most `most` places and by single places.
 fn are_the_same(rt: &impl Abort, alloc: Global, params: &Params, z: u32, most: u32, draw: &mut Draw)
     requires { IsLawful params.now }
 {
@@ -167,7 +167,8 @@ fn are_the_same(rt: &impl Abort, alloc: Global, params: &Params, z: u32, most: u
     }
 }
 
-/// The same for bands with so many weights, in rows of so many columns, by runs of 64 places.
+/// Asserts that the last band has the same residuals by runs of 64 places and by single places, in each mode, with each
+/// kind of local sum and in two registers.
 fn bands_are_the_same(
     rt: &impl Abort,
     alloc: Global,
@@ -177,7 +178,7 @@ fn bands_are_the_same(
 ) {
     assert!(rt; previous <= 15);
     for (reduced, column) in [(false, true), (true, true), (false, false), (true, false)] {
-        // One column alone asks for reduced mode and column-oriented sums.
+        // An image of one column needs reduced mode and column-oriented sums.
         if columns > 1 || (reduced && column) {
             for register in [32 + previous % 14, 46 + previous * 7 % 19] {
                 let bands = previous + 1;

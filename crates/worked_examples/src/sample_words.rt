@@ -1,4 +1,5 @@
-//! Numbers through the coder and back, for settings at both ends of their ranges.
+//! Tests of the sample-adaptive coder: round trips for settings at both ends of their ranges, worked bodies, and
+//! refusals.
 
 ghost use Rattle.std.specs.Prelude.{◌≡◌, ◌+◌, ◌^◌, ◌<◌, ◌≤◌, length};
 ghost use Rattle.sample_adaptive.specs.Settings.{AreForSamples};
@@ -16,7 +17,7 @@ use sample_adaptive::stats::Stats;
 use std::alloc::Global;
 use std::process::Abort;
 
-/// What a test tells the coder.
+/// The settings of the coder in a test.
 #[derive(Clone, Copy, Debug)]
 pub(crate) struct Settings {
     pub(crate) bits: u32,
@@ -26,7 +27,7 @@ pub(crate) struct Settings {
     pub(crate) constant: u32,
 }
 
-/// That a number is one of a range.
+/// Asserts that a number is in a range.
 fn is_within(rt: &impl Abort, number: u32, least: u32, most: u32)
     ensures { (least ≤ number) × (number ≤ most) }
 {
@@ -34,7 +35,7 @@ fn is_within(rt: &impl Abort, number: u32, least: u32, most: u32)
     assert!(rt; number <= most);
 }
 
-/// A shape of so many bands.
+/// Returns a shape of `bands` bands.
 fn shape_of(rt: &impl Abort, bands: u32) -> Shape
     ensures { result.bands ≡ bands }
 {
@@ -43,7 +44,7 @@ fn shape_of(rt: &impl Abort, bands: u32) -> Shape
     shape
 }
 
-/// Unsigned samples of so many bits.
+/// Returns the kind of unsigned samples of `bits` bits.
 fn kind_of(rt: &impl Abort, bits: u32) -> Kind
     ensures { result.bits ≡ bits }
 {
@@ -52,7 +53,7 @@ fn kind_of(rt: &impl Abort, bits: u32) -> Kind
     kind
 }
 
-/// Parameters of so many bands, whose settings are lawful.
+/// Returns the parameters of `bands` bands with these settings, which are lawful.
 fn params_of_bands(rt: &impl Abort, bands: u32, s: Settings) -> Params
     ensures lawful { AreForSamples result }
     ensures bands { result.shape.bands ≡ bands }
@@ -75,7 +76,7 @@ fn params_of_bands(rt: &impl Abort, bands: u32, s: Settings) -> Params
     }
 }
 
-/// The coder of so many bands, which has taken no number.
+/// Returns the coder of `bands` bands, which has taken no number.
 pub(crate) fn stats_of(rt: &impl Abort, alloc: Global, bands: u32, s: Settings) -> Stats
     ensures bands { length result.bands ≡ bands }
     ensures bits { result.bits ≡ s.bits }
@@ -84,7 +85,7 @@ pub(crate) fn stats_of(rt: &impl Abort, alloc: Global, bands: u32, s: Settings) 
     Stats::new(alloc, &params).expect(rt, "memory")
 }
 
-/// The body of a band's numbers, with the zeros that fill its last byte.
+/// Returns the body of a band's numbers, with fill bits up to a whole byte.
 fn written(rt: &impl Abort, alloc: Global, s: Settings, numbers: &[u16]) -> Vec<u8> {
     assert!(rt; s.bits <= 16);
     let mut stats = stats_of(rt, alloc, 1, s);
@@ -98,7 +99,7 @@ fn written(rt: &impl Abort, alloc: Global, s: Settings, numbers: &[u16]) -> Vec<
     filled(rt, writer)
 }
 
-/// So many numbers of one band, and how many bits are left behind them.
+/// Reads `count` numbers of one band. Returns them, and how many bits are left.
 fn read(rt: &impl Abort, alloc: Global, s: Settings, bytes: &[u8], count: u64) -> (Vec<u16>, u64) {
     assert!(rt; bytes.len() < 1_000_000);
     let mut stats = stats_of(rt, alloc, 1, s);
@@ -111,7 +112,7 @@ fn read(rt: &impl Abort, alloc: Global, s: Settings, bytes: &[u8], count: u64) -
     (numbers, reader.left())
 }
 
-/// Numbers that begin with the greatest one, and go on with zeros, great and middle ones in runs.
+/// Returns numbers that begin with the greatest one, followed by runs of zeros, of great and of middle ones.
 fn sample_numbers(alloc: Global, bits: u32, seed: u64) -> Result<Vec<u16>, Fault>
     requires { (2 ≤ bits) × (bits ≤ 16) }
 {
@@ -134,7 +135,7 @@ fn sample_numbers(alloc: Global, bits: u32, seed: u64) -> Result<Vec<u16>, Fault
     Ok(numbers)
 }
 
-/// That numbers are written and read back, with fewer than eight bits behind them.
+/// Asserts that numbers are written and read back, with fewer than 8 bits left.
 fn come_back(rt: &impl Abort, alloc: Global, s: Settings)
     requires { (2 ≤ s.bits) × (s.bits ≤ 16) × (s.constant < 16) }
 {
@@ -164,7 +165,7 @@ fn numbers_come_back(rt: HostRuntime) {
     }
 }
 
-/// That these numbers are written as this body.
+/// Asserts that these numbers are written as this body.
 fn is_body(rt: &impl Abort, alloc: Global, s: Settings, numbers: &str, body: &str) {
     let found = written(rt, alloc, s, &numbers_of(rt, alloc, numbers));
     same_bytes(rt, &found, &bytes_of(rt, alloc, body), numbers);
@@ -182,7 +183,7 @@ fn rescaling_rounds_up(rt: HostRuntime) {
     is_body(&rt, rt.alloc(), settings, "0 2 14*0", "00 a8 92 55 55 50");
 }
 
-/// Settings under which codes soon end in an escape.
+/// Returns settings with the least unary length limit, under which escapes come early.
 pub(crate) fn short_codes(bits: u32) -> Settings
     ensures { result.bits ≡ bits }
 {
@@ -200,7 +201,8 @@ fn escape(rt: HostRuntime) {
     is_body(&rt, rt.alloc(), short_codes(8), "144 19", "90 00 13");
 }
 
-/// What the second number of a band is refused for, and that it is refused so for ever.
+/// Asserts that the second number of a band is refused for this fault by each call, and that the reader keeps its
+/// position.
 fn is_refused(rt: &impl Abort, alloc: Global, s: Settings, bytes: &[u8], fault: Fault, name: &str) {
     assert!(rt; bytes.len() < 1_000_000);
     let mut stats = stats_of(rt, alloc, 1, s);
@@ -212,14 +214,14 @@ fn is_refused(rt: &impl Abort, alloc: Global, s: Settings, bytes: &[u8], fault: 
     same(rt, reader.left(), left);
 }
 
-/// The bits of a sample, a body, and what its second number is refused for.
+/// In each row: what is refused, dynamic range, body, and the fault of its second number.
 const BAD_CODES: &str = "\
 00, then 00001: four zeros and a one spell 4, which two bits do not hold | 2 | 02 | BadCode 1
 00, then 0000000011: 3 behind an escape that it does not need | 2 | 00 30 | BadCode 1
 144, then eight zeros and 3 in eight bits | 8 | 90 00 03 | BadCode 1
 144, and then seven of the eight zeros of an escape | 8 | 90 | Truncated 8";
 
-/// That a row's body is refused for its fault.
+/// Asserts that the second number of a row's body is refused for its fault.
 fn row_is_refused(rt: &impl Abort, alloc: Global, row: &str) {
     let [name, bits, body, fault, _] = parts_of(rt, row);
     let settings = short_codes(number_of(rt, bits));
@@ -227,10 +229,10 @@ fn row_is_refused(rt: &impl Abort, alloc: Global, row: &str) {
     is_refused(rt, alloc, settings, &bytes_of(rt, alloc, body), fault, name);
 }
 
-/// 144 in eight bits, then eight zeros and 3 in eight bits: an escape that it does not need.
+/// 144 in 8 bits, then eight zeros and 3 in 8 bits: a needless escape.
 const NEEDLESS_ESCAPE: [u8; 3] = [0x90, 0x00, 0x03];
 
-/// The coder of one band and a reader, after the first number, which `get_at` returns.
+/// Returns the coder of one band and a reader after the first number, and asserts that `get_at` returned that.
 fn after_the_first<'a>(rt: &impl Abort, alloc: Global, bytes: &'a [u8; 3]) -> (Stats, BitReader<'a>)
     ensures { 0 < length result.0.bands }
 {

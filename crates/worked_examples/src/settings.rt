@@ -1,4 +1,4 @@
-//! Parameters, as the worked files tell them in words.
+//! Reading the parameters of worked files from words such as `rows=2`.
 
 use cube_core::kind::Kind;
 use cube_core::order::Order;
@@ -8,15 +8,15 @@ use header_bits::tables::{ConstantTable, WeightTable};
 use std::alloc::Global;
 use std::process::Abort;
 
-/// What the worked files have where nothing else is said.
+/// The parameters of a worked file for which its row gives no others.
 ///
-/// A depth of 0 stands for band after band. `reduced=1` is reduced mode and column-oriented sums, else it is
+/// A depth of 0 stands for band-sequential order. `reduced=1` means reduced mode and column-oriented sums, otherwise
 /// full mode and neighbour-oriented sums. With a reference interval the coder is the block-adaptive one. With a
-/// resolution there is a table of weights, such as `weights=-1,2`; `constants=3,0` is one of constants.
+/// resolution there is a weight table, such as `weights=-1,2`; `constants=3,0` is an accumulator table.
 const COMMON: &str = "columns=1 rows=1 bands=1 signed=0 bits=8 depth=0 word=1 previous=0 reduced=1 \
     register=32 omega=13 interval_log=6 vmin=-1 vmax=3 resolution=0 umax=16 constant=3 restricted=0 reference=0";
 
-/// The number that words give a name; nothing where they don't.
+/// Returns the value of a name in words such as `rows=2`, or an empty string if it has none.
 fn given<'a>(words: &'a str, name: &str) -> &'a str {
     for word in words.split(' ') {
         let (own, number) = word.split_once('=').unwrap_or(("", ""));
@@ -27,7 +27,7 @@ fn given<'a>(words: &'a str, name: &str) -> &'a str {
     ""
 }
 
-/// The number of a name: that of the words, or else the common one.
+/// Returns the number of a name: that of the words, or else the common one.
 fn told(rt: &impl Abort, words: &str, name: &str) -> i32 {
     let own = given(words, name);
     let number = if own.is_empty() {
@@ -38,12 +38,12 @@ fn told(rt: &impl Abort, words: &str, name: &str) -> i32 {
     number.parse::<i32>().expect(rt, name)
 }
 
-/// A number that isn't negative.
+/// Returns the number of a name, which isn't negative.
 fn number(rt: &impl Abort, words: &str, name: &str) -> u32 {
     u32::try_from(told(rt, words, name)).expect(rt, name)
 }
 
-/// The order of samples.
+/// Returns the encoding order.
 fn order(rt: &impl Abort, words: &str) -> Order {
     match number(rt, words, "depth") {
         0 => Order::Bsq,
@@ -51,7 +51,7 @@ fn order(rt: &impl Abort, words: &str) -> Order {
     }
 }
 
-/// The weights that a band starts from.
+/// Returns the weight initialization.
 fn start(rt: &impl Abort, alloc: Global, words: &str) -> WeightStart {
     match number(rt, words, "resolution") {
         0 => WeightStart::Usual,
@@ -62,7 +62,7 @@ fn start(rt: &impl Abort, alloc: Global, words: &str) -> WeightStart {
     }
 }
 
-/// The accumulator's constant, or those of all bands.
+/// Returns the accumulator initialization: one constant, or one for each band.
 fn constants(rt: &impl Abort, alloc: Global, words: &str) -> CountStart {
     if given(words, "constants").is_empty() {
         return CountStart::Constant(number(rt, words, "constant"));
@@ -75,7 +75,7 @@ fn constants(rt: &impl Abort, alloc: Global, words: &str) -> CountStart {
     CountStart::Each(ConstantTable::new(constants))
 }
 
-/// The numbers of a table, with commas between them; none where the words don't give it.
+/// Returns the numbers of a table, separated by commas in the words; none if they don't give it.
 fn table(rt: &impl Abort, alloc: Global, words: &str, name: &str) -> Vec<i32> {
     let mut numbers = Vec::new(alloc);
     for number in given(words, name).split(',') {
@@ -87,7 +87,7 @@ fn table(rt: &impl Abort, alloc: Global, words: &str, name: &str) -> Vec<i32> {
     numbers
 }
 
-/// The coder.
+/// Returns the coder.
 fn coder(rt: &impl Abort, alloc: Global, words: &str) -> Coder {
     match number(rt, words, "reference") {
         0 => Coder::Sample {
@@ -104,7 +104,7 @@ fn coder(rt: &impl Abort, alloc: Global, words: &str) -> Coder {
     }
 }
 
-/// The parameters that words such as `rows=2` change of the common ones.
+/// Returns the common parameters, changed by words such as `rows=2`.
 pub(crate) fn params_of(rt: &impl Abort, alloc: Global, words: &str) -> Params {
     let columns = number(rt, words, "columns");
     let rows = number(rt, words, "rows");

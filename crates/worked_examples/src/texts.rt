@@ -1,4 +1,4 @@
-//! What rows of a table tell in words: numbers, bytes, headers, files and faults.
+//! Reading the words of a row: numbers, bytes, headers, files and faults.
 
 use cube_core::fault::Fault;
 use std::alloc::Global;
@@ -6,13 +6,13 @@ use std::process::Abort;
 
 /// The header of one sample by the common settings.
 ///
-/// No user-defined data; one column, row and band; unsigned, eight bits, band sequential; no depth of interleaving;
-/// words of one byte, the sample-adaptive coder; no previous bands, reduced mode; column-oriented sums, a register
-/// of 32 bits; 13 fractional bits, an interval of 2^6, exponents -1 and 3; the usual weight start; unary limit 16,
-/// rescaling size 6, first exponent 1, constant 3.
+/// User data 0; one column, row and band; unsigned samples of 8 bits, band-sequential order; depth 0; output words of
+/// one byte, the sample-adaptive coder; no previous bands, reduced mode; column-oriented sums, a register of 32 bits;
+/// weight resolution 13, t_inc = 2^6, v_min = -1, v_max = 3; default weight initialization; U_max = 16, γ* = 6, γ₀ = 1,
+/// K = 3.
 const HEADER: &str = "00 00 01 00 01 00 01 11 00 00 08 00 02 a0 92 59 00 82 26";
 
-/// The parts of a row, with bars between them; behind the last one they are empty.
+/// Returns the parts of a row, which are separated by bars; missing ones are empty.
 pub(crate) fn parts_of<'a>(rt: &impl Abort, row: &'a str) -> [&'a str; 5] {
     let mut parts = [""; 5];
     for (place, part) in row.split('|').enumerate() {
@@ -22,17 +22,17 @@ pub(crate) fn parts_of<'a>(rt: &impl Abort, row: &'a str) -> [&'a str; 5] {
     parts
 }
 
-/// A number, such as `200`.
+/// Parses a number such as `200`.
 pub(crate) fn number_of(rt: &impl Abort, word: &str) -> u32 {
     word.parse::<u32>().expect(rt, "a number")
 }
 
-/// A byte, such as `c8`.
+/// Parses a byte such as `c8`.
 fn byte_of(rt: &impl Abort, word: &str) -> u8 {
     u8::from_str_radix(word, 16).expect(rt, "a byte")
 }
 
-/// The bytes of words such as `90 80`.
+/// Parses bytes such as `90 80`.
 pub(crate) fn bytes_of(rt: &impl Abort, alloc: Global, words: &str) -> Vec<u8> {
     let mut bytes = Vec::new(alloc);
     for word in words.split_whitespace() {
@@ -41,7 +41,7 @@ pub(crate) fn bytes_of(rt: &impl Abort, alloc: Global, words: &str) -> Vec<u8> {
     bytes
 }
 
-/// The numbers of words such as `200 40*128`: 200, and 128 forty times.
+/// Parses numbers such as `200 40*128`: 200, and 128 forty times.
 pub(crate) fn numbers_of(rt: &impl Abort, alloc: Global, words: &str) -> Vec<u16> {
     let mut numbers = Vec::new(alloc);
     for word in words.split_whitespace() {
@@ -59,7 +59,7 @@ fn append_numbers(rt: &impl Abort, numbers: &mut Vec<u16>, word: &str) {
     }
 }
 
-/// Samples of one byte, told in the same way.
+/// Parses samples of one byte, written in the same way.
 pub(crate) fn samples_of(rt: &impl Abort, alloc: Global, words: &str) -> Vec<u8> {
     let mut samples = Vec::new(alloc);
     for number in &numbers_of(rt, alloc, words) {
@@ -69,7 +69,7 @@ pub(crate) fn samples_of(rt: &impl Abort, alloc: Global, words: &str) -> Vec<u8>
     samples
 }
 
-/// The common header with other bytes at some places, as in `4:02 16:63 17+e0`; behind a `+` stands a byte that is put in.
+/// Returns the common header with changed bytes, as in `4:02 16:63 17+e0`; a `+` inserts a byte.
 pub(crate) fn header_of(rt: &impl Abort, alloc: Global, changes: &str) -> Vec<u8> {
     let mut header = bytes_of(rt, alloc, HEADER);
     for words in changes.split_whitespace() {
@@ -78,7 +78,7 @@ pub(crate) fn header_of(rt: &impl Abort, alloc: Global, changes: &str) -> Vec<u8
     header
 }
 
-/// One change.
+/// Makes one change to a header.
 fn change(rt: &impl Abort, header: &mut Vec<u8>, words: &str) {
     if let Some((place, byte)) = words.split_once('+') {
         let place = number_of(rt, place) as usize;
@@ -91,7 +91,7 @@ fn change(rt: &impl Abort, header: &mut Vec<u8>, words: &str) {
     }
 }
 
-/// The bytes of a file, by the changes of its header and by its body.
+/// Returns the bytes of a file, given the changes of its header and its body.
 pub(crate) fn file_of(rt: &impl Abort, alloc: Global, changes: &str, body: &str) -> Vec<u8> {
     let mut file = header_of(rt, alloc, changes);
     file.extend_from_slice(&bytes_of(rt, alloc, body))
@@ -99,7 +99,7 @@ pub(crate) fn file_of(rt: &impl Abort, alloc: Global, changes: &str, body: &str)
     file
 }
 
-/// The fault of words such as `Truncated 160`.
+/// Parses a fault such as `Truncated 160`.
 pub(crate) fn fault_of(rt: &impl Abort, words: &str) -> Fault {
     let (name, number) = words.split_once(' ').unwrap_or((words, "0"));
     let number = u64::from(number_of(rt, number));

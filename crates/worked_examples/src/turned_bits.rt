@@ -1,7 +1,7 @@
-//! Each single bit of each worked file, turned.
+//! Tests that decode each worked file with each single bit flipped.
 //!
-//! That an answer other than want of memory is the definition's, its fault or its cube, is the contract of `decode`. So
-//! these hold that no memory is wanting, and that an answer stays the same.
+//! The contract of `decode` states that any result but `WantOfMemory` is that of the definition: its fault or its cube.
+//! These tests check that no result is `WantOfMemory`, and that decoding the same bytes again returns the same.
 
 use crate::files::{BYTES, decoded};
 use crate::rows::{
@@ -14,7 +14,7 @@ use cube_core::layout::Layout;
 use std::alloc::Global;
 use std::process::Abort;
 
-/// The samples of a file, or the fault that it is refused for.
+/// Decodes a file, and returns its samples or the fault that it is refused for.
 fn answer(rt: &impl Abort, alloc: Global, file: &[u8], name: &str) -> Result<Vec<u8>, Fault> {
     let (_, cube) = decoded(rt, alloc, file)?;
     let bytes = if cube.kind().bits() > 8 { 2 } else { 1 };
@@ -22,7 +22,7 @@ fn answer(rt: &impl Abort, alloc: Global, file: &[u8], name: &str) -> Result<Vec
     Ok(cube.to_raw(alloc, layout).expect(rt, name))
 }
 
-/// That the same bytes are answered twice alike: by a cube, or by a refusal.
+/// Decodes the same bytes twice, and checks that both results are equal and neither is `WantOfMemory`.
 fn answers_alike(rt: &impl Abort, alloc: Global, file: &[u8], name: &str) {
     let one = answer(rt, alloc, file, name);
     let other = answer(rt, alloc, file, name);
@@ -30,7 +30,7 @@ fn answers_alike(rt: &impl Abort, alloc: Global, file: &[u8], name: &str) {
     assert!(rt; one == other, "{name}");
 }
 
-/// The same of a file with each of its bits turned in turn.
+/// Flips each bit of a file in turn, and checks the results of decoding it.
 fn turned_answers_alike(rt: &impl Abort, alloc: Global, file: &mut [u8], name: &str) {
     for place in 0..file.len() {
         for bit in 0u32..8 {
@@ -41,14 +41,14 @@ fn turned_answers_alike(rt: &impl Abort, alloc: Global, file: &mut [u8], name: &
     }
 }
 
-/// The same of a row's file.
+/// Flips each bit of a row's file in turn, and checks the results of decoding it.
 fn row_answers_alike(rt: &impl Abort, alloc: Global, row: &str) {
     let [name, _settings, _samples, header, body] = parts_of(rt, row);
     let mut file = file_of(rt, alloc, header, body);
     turned_answers_alike(rt, alloc, &mut file, name);
 }
 
-/// The same of each row.
+/// Flips each bit of the file of each row in turn, and checks the results of decoding it.
 fn rows_answer_alike(rt: &impl Abort, alloc: Global, rows: &str) {
     for row in rows.split('\n') {
         row_answers_alike(rt, alloc, row);

@@ -1,4 +1,4 @@
-//! Each command between the ends that it names, over files in memory.
+//! Tests of each command between its input and its output, over files in memory.
 
 ghost use Rattle.std.specs.Prelude.{◌≡◌, ◌≢◌, codes};
 ghost use Rattle.ccsds_command.specs.Command.{HasLayout};
@@ -19,8 +19,8 @@ use std::sync::atomic::{AtomicU64, Ordering};
 use std::test::Fail;
 use std::thread::Threads;
 
-/// A standard input, and one file, whose name is `in`. Any new file can be made but one of that name. It counts how often
-/// either was asked for.
+/// An opener over memory with a standard input and one file, whose name is `in`. It creates any file but one of that
+/// name, and counts the calls to open and to create.
 #[derive(Drop)]
 struct Memory<'a> {
     alloc: Global,
@@ -41,7 +41,7 @@ impl<'a> Memory<'a> {
         }
     }
 
-    /// How often a file was opened, and how often one was created.
+    /// Returns how often `open` was called, and how often `create`.
     fn asked(&self) -> (u64, u64) {
         (
             self.opened.load(Ordering::SeqCst),
@@ -50,7 +50,7 @@ impl<'a> Memory<'a> {
     }
 }
 
-/// Counts one more.
+/// Adds one to a count.
 fn count(calls: &AtomicU64) {
     let before = calls.load(Ordering::SeqCst);
     calls.store(before.saturating_add(1), Ordering::SeqCst);
@@ -100,7 +100,7 @@ impl<'a> Opener for Memory<'a> {
     }
 }
 
-/// What a command writes over a standard input and a file.
+/// Returns what a command writes over a standard input and a file.
 fn written<R: Threads + Wait + Sync>(
     threads: &R,
     alloc: Global,
@@ -116,7 +116,7 @@ fn written<R: Threads + Wait + Sync>(
     Ok(ended.output.into_writer())
 }
 
-/// To compress `in` to `out`, by so many predictors.
+/// Returns the settings to compress `in` to `out` with this number of predictors.
 fn compression(rt: &impl Abort, alloc: Global, predictors: u32) -> Settings
     ensures { HasLayout result }
 {
@@ -127,19 +127,19 @@ fn compression(rt: &impl Abort, alloc: Global, predictors: u32) -> Settings
     Settings::Compress(settings, name(rt, alloc, "in"), name(rt, alloc, "out"))
 }
 
-/// To expand a file to another.
+/// Returns the settings to expand a file to another.
 fn expansion(rt: &impl Abort, alloc: Global, from: &str, to: &str) -> Settings
     ensures { HasLayout result }
 {
     Settings::Expand(ONE_BYTE, name(rt, alloc, from), name(rt, alloc, to))
 }
 
-/// A file's name.
+/// Returns a file's name.
 fn name(rt: &impl Abort, alloc: Global, text: &str) -> String {
     String::from_str(alloc, text).expect(rt, "a name")
 }
 
-/// Fails where a command over a standard input and a file writes other bytes.
+/// Asserts that a command over a standard input and a file writes these bytes.
 fn writes<R: Threads + Wait + Sync + Abort>(
     rt: &R,
     alloc: Global,
@@ -183,7 +183,7 @@ fn inspect_goes_between_the_standard_streams(rt: HostRuntime) -> Result<(), Fail
     Ok(())
 }
 
-/// Fails where an expansion from a file to another isn't refused, or by another fault.
+/// Asserts that an expansion from a file to another is refused for this fault.
 fn is_refused<R: Threads + Wait + Sync + Abort>(
     rt: &R,
     alloc: Global,
@@ -202,7 +202,7 @@ fn ends_that_are_not_there_are_told(rt: HostRuntime) {
     is_refused(&rt, rt.alloc(), "in", "in", Fault::Write { written: 0 });
 }
 
-/// Fails where a command over a file ends otherwise, or doesn't open its input once and create its output once.
+/// Asserts that a command over a file has this result, and opens its input once and creates its output once.
 fn asks_once<R: Threads + Wait + Sync + Abort>(
     rt: &R,
     alloc: Global,
@@ -218,7 +218,7 @@ fn asks_once<R: Threads + Wait + Sync + Abort>(
     same(rt, memory.asked(), (1, 1));
 }
 
-/// Whether a command is refused or not, it opens its input once, and creates its output once.
+/// Checks that a command opens its input once and creates its output once, whether it is refused or not.
 #[test]
 fn each_file_is_asked_for_once(rt: HostRuntime) {
     let compress = compression(&rt, rt.alloc(), 0);

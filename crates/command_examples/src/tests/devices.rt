@@ -1,4 +1,4 @@
-//! Bytes read and written whole, piece by piece.
+//! Tests of reading and writing all bytes, piece by piece.
 
 ghost use Rattle.std.specs.Prelude.{◌≡◌, ◌<◌, ◌^◌, None};
 
@@ -23,7 +23,7 @@ fn a_source_is_read_to_its_end(rt: HostRuntime) -> Result<(), Fail> {
     Ok(())
 }
 
-/// Fails where a source of such pieces isn't read up to a limit, or to its end below it.
+/// Asserts that a source with pieces of this size is read up to a limit, or to its end below it.
 fn is_read_up_to(rt: &impl Abort, alloc: Global, piece: usize, limit: u64)
     requires { 0 < piece }
 {
@@ -69,11 +69,11 @@ fn what_a_small_sink_took_is_told(rt: HostRuntime) -> Result<(), Fail> {
     Ok(())
 }
 
-/// The least piece in which a source is read.
+/// The least number of bytes that is requested of a source at once.
 const PIECE: usize = 65_536;
 
-/// Gives so many bytes, as many a call as there is room for. It tells whether it was ever offered more room than
-/// a piece has, and than it had given bytes.
+/// A source of `left` bytes, which returns as many in a call as there is room for. It records whether it was ever
+/// offered more room than both a piece and the bytes returned by then.
 #[derive(Drop)]
 struct Offered {
     left: usize,
@@ -97,7 +97,7 @@ impl Source for Offered {
     }
 }
 
-/// Fails where more memory is taken or offered than so many bytes are to have, or other bytes come.
+/// Asserts that all `size` bytes are read, with no more memory allocated or offered than they may take.
 fn memory_grows_with(rt: &impl Abort, alloc: Global, size: usize, limit: u64)
     requires { size < 2 ^ 32 }
 {

@@ -1,4 +1,4 @@
-//! The engines of `compress`, `expand` and `inspect` on sources and sinks over memory.
+//! Tests of the engines of `compress`, `expand` and `inspect` on sources and sinks over memory.
 
 ghost use Rattle.std.specs.Prelude.{◌<◌};
 ghost use Rattle.cube_core.specs.Layout.{IsLayout};
@@ -16,7 +16,7 @@ use cube_core::layout::Layout;
 use std::alloc::Global;
 use std::process::Abort;
 
-/// Two columns, two rows: 4, 0, 0, 0 in eleven bits, with a register of 32 bits that wraps.
+/// The file of two rows and two bands: 4, 0, 0, 0 in 11 bits, with a register of 32 bits that wraps.
 const REGISTER_WRAPS: [u8; 26] = [
     0x00, 0x00, 0x01, 0x00, 0x02, 0x00, 0x02, 0x17, 0x00, 0x00, 0x08, 0x00, 0x06, 0xA0, 0xF2, 0x59,
     0x00, 0x82, 0x26, // the header
@@ -30,7 +30,7 @@ fn two_equal_samples_are_compressed(rt: HostRuntime) {
     same(&rt, file.as_slice(), TWO_EQUAL_FILE.as_slice());
 }
 
-/// Fails where raw bytes of the settings of two equal samples aren't refused for their length.
+/// Asserts that raw bytes are refused for their length by the settings of two equal samples.
 fn has_wrong_length(rt: &impl Abort, alloc: Global, raw: &[u8], had: u64) {
     let answer = compressed(alloc, &two_equal(rt), raw);
     same(rt, answer.err(), Some(Fault::RawLength { wanted: 2, had }));
@@ -51,7 +51,7 @@ fn a_sample_out_of_range_is_refused(rt: HostRuntime) {
     same(&rt, answer.err(), Some(Fault::SampleRange { index: 1 }));
 }
 
-/// Fails where parameters that break a rule aren't refused before anything is read.
+/// Asserts that parameters that break a rule are refused before anything is read.
 fn breaks(rt: &impl Abort, alloc: Global, reduced: bool, column: bool, rule: Rule) {
     let mut settings = two_equal(rt);
     settings.params.reduced = reduced;
@@ -70,7 +70,7 @@ fn parameters_are_refused_before_anything_is_read(rt: HostRuntime) {
     breaks(&rt, rt.alloc(), false, true, Rule::FullOneColumn);
 }
 
-/// Fails where a file isn't expanded to these bytes.
+/// Asserts that a file is expanded to these bytes.
 fn expands(rt: &impl Abort, alloc: Global, layout: &Layout, file: &[u8], raw: &[u8])
     requires { IsLayout layout.now }
 {
@@ -95,7 +95,7 @@ fn samples_of_eleven_bits_are_expanded(rt: HostRuntime) {
     expands(&rt, rt.alloc(), &little, file, &[4, 0, 0, 0, 0, 0, 0, 0]);
 }
 
-/// Fails where the first bytes of the file of two equal samples aren't refused so.
+/// Asserts that the first `length` bytes of the file of two equal samples are refused for this fault.
 fn is_no_file(rt: &impl Abort, alloc: Global, length: usize, fault: Fault) {
     let file = TWO_EQUAL_FILE.get(..length).unwrap_or(&[]);
     same(rt, expanded(alloc, &ONE_BYTE, file).err(), Some(fault));
@@ -154,13 +154,13 @@ fn inspect_tells_a_failing_source(rt: HostRuntime) {
     }
 }
 
-/// What `compress` answers for two equal samples.
+/// Compresses two equal samples into a sink, and returns the result.
 fn two_equal_into(rt: &impl Abort, alloc: Global, sink: &mut CutSink) -> Result<(), Fault> {
     let mut source = CutSource::new(&[0xC8, 0xC8], 1, None);
     run_compress(alloc, &mut source, sink, &two_equal(rt))
 }
 
-/// Fails where a sink whose call fails doesn't have so many bytes, or another number is told.
+/// Asserts that a sink whose call `call` fails has `written` bytes, and that this number is reported.
 fn stops_at(rt: &impl Abort, alloc: Global, piece: usize, call: u64, written: u64)
     requires { 0 < piece }
 {

@@ -1,10 +1,10 @@
-//! What `inspect` tells of headers, line by line.
+//! Tests of what `inspect` writes for headers, line by line.
 
 use super::support::{TWO_EQUAL_FILE, inspected};
 use crate::tests::checks::same;
 use std::test::Fail;
 
-/// A lone sample of 200, by the block-adaptive coder.
+/// The file of one sample of 200, by the block-adaptive coder.
 const ONE_BLOCK: [u8; 26] = [
     0x00, 0x00, 0x01, 0x00, 0x01, 0x00, 0x01, 0x11, 0x00, 0x00, 0x0C, 0x00, 0x02, 0xA0, 0x92, 0x59,
     0x00, 0x00, 0x01, // the header

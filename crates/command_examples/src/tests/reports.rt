@@ -1,4 +1,4 @@
-//! What the program reports of each fault, and what is told of bytes and headers.
+//! Tests of the line and the status of each fault, of hexadecimal digits, and of the lines of a header.
 
 use super::support::{TWO_EQUAL_FILE, inspected};
 use crate::tests::checks::same;
@@ -60,7 +60,7 @@ static STATUSES: [(Fault, u8); 22] = [
     (Fault::Usage, 1),
 ];
 
-/// The fields, by name.
+/// The fields and their names.
 static FIELDS: [(Field, &str); 25] = [
     (Field::Columns, "Columns"),
     (Field::Rows, "Rows"),
@@ -89,7 +89,7 @@ static FIELDS: [(Field, &str); 25] = [
     (Field::Slots, "Slots"),
 ];
 
-/// The rules, by name.
+/// The rules and their names.
 static RULES: [(Rule, &str); 15] = [
     (Rule::DepthOverBands, "DepthOverBands"),
     (Rule::FullOneColumn, "FullOneColumn"),
@@ -136,7 +136,7 @@ static GREAT: [(Fault, &str); 9] = [
     ),
 ];
 
-/// Fails where the program's line of a fault is another one.
+/// Asserts that the program prints this line for a fault.
 fn has_line(rt: &impl Abort, alloc: Global, fault: &Fault, line: &str) {
     let found = fault_line(alloc, fault).expect(rt, "a line");
     same(rt, (fault, found.as_slice()), (fault, line.as_bytes()));
@@ -151,7 +151,7 @@ fn faults_have_their_status_and_their_line(rt: HostRuntime) {
     }
 }
 
-/// Fails where a field isn't told by its name.
+/// Asserts that each field is reported by its name.
 fn fields_are_named(rt: &impl Abort, alloc: Global) {
     for &(field, name) in &FIELDS {
         let line = format!(in alloc; "ccsds: 3 FieldRange {name} -7\n").expect(rt, "memory");
@@ -160,7 +160,7 @@ fn fields_are_named(rt: &impl Abort, alloc: Global) {
     }
 }
 
-/// Fails where a rule isn't told by its name.
+/// Asserts that each rule is reported by its name.
 fn rules_are_named(rt: &impl Abort, alloc: Global) {
     for &(rule, name) in &RULES {
         let line = format!(in alloc; "ccsds: 4 Disagree {name}\n").expect(rt, "memory");
@@ -201,7 +201,7 @@ fn bytes_are_digits(rt: HostRuntime) -> Result<(), Fail> {
     Ok(())
 }
 
-/// The lines of the header of two equal samples.
+/// Returns the lines of the header of two equal samples.
 fn lines_of_two_equal(alloc: Global) -> Result<Vec<u8>, Fault> {
     let (params, size) = read_header(alloc, &TWO_EQUAL_FILE)?;
     header_lines(alloc, &params, size)

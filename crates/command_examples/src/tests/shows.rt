@@ -1,4 +1,4 @@
-//! What `show` writes, and what it refuses.
+//! Tests of what `show` writes, and of what it refuses.
 
 ghost use Rattle.std.specs.Prelude.{◌≡◌, ◌<◌, [], Some};
 
@@ -13,19 +13,19 @@ use cube_core::fault::Fault;
 use std::alloc::Global;
 use std::process::Abort;
 
-/// Two samples of 200, one row below the other.
+/// The input of two samples of 200, one row below the other.
 const TWO_EQUAL: [u8; 8] = [0, 1, 0, 2, 0, 1, 0xC8, 0xC8];
 
 const TWO_EQUAL_SHOWN: &str = "00000100020001110000080002a092590082269080\n";
 
-/// What `run_show` answers and writes, piece by piece.
+/// Runs `show` on an input that is read piece by piece, and returns its result.
 fn shown(alloc: Global, input: &[u8], piece: usize, sink: &mut CutSink) -> Result<(), Fault>
     requires { 0 < piece }
 {
     run_show(alloc, &mut CutSource::new(input, piece, None), sink)
 }
 
-/// Fails where an input, read and shown in such pieces, isn't shown by this text.
+/// Asserts that an input, read and written in pieces of at most `piece` bytes, is shown as this text.
 fn is_shown(rt: &impl Abort, alloc: Global, input: &[u8], piece: usize, text: &str)
     requires { 0 < piece }
 {
@@ -53,7 +53,7 @@ fn pieces_of_one_byte_change_nothing(rt: HostRuntime) {
     is_shown(&rt, rt.alloc(), &TWO_EQUAL, 1, TWO_EQUAL_SHOWN);
 }
 
-/// Fails where an input, however it is cut, isn't refused for its length before anything is shown.
+/// Asserts that an input, in pieces of 1 and of 100 bytes, is refused for its length before anything is written.
 fn has_wrong_length(rt: &impl Abort, alloc: Global, input: &[u8], wanted: u64, had: u64) {
     for piece in [1, 100] {
         let mut out = sink(rt, alloc, 100, None);
@@ -84,7 +84,7 @@ fn a_failing_source_is_read(rt: HostRuntime) {
     }
 }
 
-/// Fails where a sink whose call fails doesn't have so many bytes, or another number is told.
+/// Asserts that a sink whose call `call` fails has `written` bytes, and that this number is reported.
 fn stops_at(rt: &impl Abort, alloc: Global, piece: usize, call: u64, written: u64)
     requires { 0 < piece }
 {

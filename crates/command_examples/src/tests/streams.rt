@@ -1,4 +1,4 @@
-//! Sources and sinks over readers and writers that fail once, and that count how often they are asked.
+//! Tests of sources and sinks over readers and writers that fail once, and that count their calls.
 
 use crate::tests::checks::same;
 use ccsds_command::show::run_show;
@@ -11,10 +11,10 @@ use cube_core::fault::Fault;
 use std::io::{self, Error, ErrorKind};
 use std::test::Fail;
 
-/// Two samples of 200, one row below the other, as `show` takes them.
+/// The input of `show` for two samples of 200, one row below the other.
 const TWO_EQUAL: [u8; 8] = [0, 1, 0, 2, 0, 1, 0xC8, 0xC8];
 
-/// A reader that gives the bytes of `TWO_EQUAL` one by one. One of its calls fails.
+/// A reader that returns the bytes of `TWO_EQUAL` one by one. One of its calls fails.
 #[derive(Drop)]
 struct OneByOne {
     given: usize,
@@ -50,7 +50,7 @@ impl InputDevice for OneByOne {
     }
 }
 
-/// A writer that takes two bytes of a piece. One of its calls fails, and one takes nothing.
+/// A writer that takes at most two bytes of a piece. One of its calls fails, and one takes nothing.
 #[derive(Drop)]
 struct TwoByTwo {
     taken: u64,

@@ -1,4 +1,4 @@
-//! What the tests of the engines share: settings and a file of two samples, and runs over memory.
+//! What the tests share: settings and a file of two samples, and engines that run over memory.
 
 ghost use Rattle.std.specs.Prelude.{◌<◌};
 ghost use Rattle.cube_core.specs.Layout.{IsLayout};
@@ -16,37 +16,37 @@ use header_bits::params::Params;
 use std::alloc::Global;
 use std::process::Abort;
 
-/// The room of a sink, and the pieces in which a run goes.
+/// The room of a sink, and the size of the pieces that are read and written.
 const ROOM: usize = 1000;
 
-/// Samples of one byte, band after band.
+/// The layout of samples of one byte, band after band.
 pub(crate) const ONE_BYTE: Layout = Layout {
     order: RawOrder::Bsq,
     bytes: 1,
     little: false,
 };
 
-/// Samples of two bytes, the high one first.
+/// The layout of samples of two bytes, the high one first.
 pub(crate) const TWO_BYTES: Layout = Layout {
     bytes: 2,
     ..ONE_BYTE
 };
 
-/// Two samples of 200, one row below the other, as a file.
+/// The file of two samples of 200, one row below the other.
 pub(crate) const TWO_EQUAL_FILE: [u8; 21] = [
     0x00, 0x00, 0x01, 0x00, 0x02, 0x00, 0x01, 0x11, 0x00, 0x00, 0x08, 0x00, 0x02, 0xA0, 0x92, 0x59,
     0x00, 0x82, 0x26, // the header
     0x90, 0x80, // 144 and 0
 ];
 
-/// The settings of that file.
+/// Returns the settings of that file.
 pub(crate) fn two_equal(rt: &impl Abort) -> CompressSettings
     ensures { IsLayout result.layout }
 {
     one_band(rt, 1, 2, 8, ONE_BYTE)
 }
 
-/// The settings of one unsigned band, in reduced mode with column-oriented sums.
+/// Returns the settings of one unsigned band, in reduced mode with column-oriented sums.
 pub(crate) fn one_band(
     rt: &impl Abort,
     columns: u32,
@@ -67,14 +67,14 @@ pub(crate) fn one_band(
     }
 }
 
-/// A sink with room for 100 bytes, which takes at most so many a call, and may fail at one.
+/// Returns a sink with room for 100 bytes that takes at most `piece` bytes in a call, and may fail at one.
 pub(crate) fn sink(rt: &impl Abort, alloc: Global, piece: usize, fail_at: Option<u64>) -> CutSink
     requires { 0 < piece }
 {
     CutSink::new(alloc, 100, piece, fail_at).expect(rt, "memory")
 }
 
-/// The file that raw bytes are compressed to, in whole pieces.
+/// Returns the file to which raw bytes are compressed.
 pub(crate) fn compressed(
     alloc: Global,
     settings: &CompressSettings,
@@ -88,7 +88,7 @@ pub(crate) fn compressed(
     Ok(Vec::from_slice(alloc, sink.taken())?)
 }
 
-/// The raw bytes that a file is expanded to, in whole pieces.
+/// Returns the raw bytes to which a file is expanded.
 pub(crate) fn expanded(alloc: Global, layout: &Layout, file: &[u8]) -> Result<Vec<u8>, Fault>
     requires { IsLayout layout.now }
 {
@@ -98,7 +98,7 @@ pub(crate) fn expanded(alloc: Global, layout: &Layout, file: &[u8]) -> Result<Ve
     Ok(Vec::from_slice(alloc, sink.taken())?)
 }
 
-/// What is told of a file, in whole pieces.
+/// Returns what `inspect` writes for a file.
 pub(crate) fn inspected(alloc: Global, file: &[u8]) -> Result<Vec<u8>, Fault> {
     let mut source = CutSource::new(file, ROOM, None);
     let mut sink = CutSink::new(alloc, ROOM, ROOM, None)?;

@@ -1,4 +1,4 @@
-//! Gates that stop, that take from the lane, and that know what they were asked.
+//! Gates for the tests: one stops a predictor, one receives from the lane, and one records what it is asked.
 
 ghost use Rattle.std.specs.Prelude.{false, ◌==◌, ◌&&◌};
 
@@ -7,7 +7,7 @@ use lane_workers::gate::Gate;
 use std::sync::Mutex;
 use std::sync::atomic::{AtomicU64, Ordering};
 
-/// Stops a predictor at an item, once it has come back so often.
+/// A gate that stops a predictor at number `nth`, once `turn` tries to send it have failed.
 #[derive(Clone, Copy, Drop)]
 pub(crate) struct StopAt {
     pub(crate) predictor: u32,
@@ -23,7 +23,7 @@ impl Gate for StopAt {
     }
 }
 
-/// Passes everybody, and takes a number from the lane whenever an item comes back.
+/// A gate that stops nobody, and receives a number from the lane whenever a number is tried again.
 #[derive(Drop)]
 pub(crate) struct TakesOne {
     pub(crate) receiver: Mutex<LaneReceiver>,
@@ -40,14 +40,14 @@ impl Gate for TakesOne {
     }
 }
 
-/// Takes a number from a lane, if one is there.
+/// Receives a number from a lane, if there is one.
 fn take_one(receiver: &Mutex<LaneReceiver>) {
     if let Some(mut receiver) = receiver.try_lock() {
         let _number = receiver.try_recv();
     }
 }
 
-/// A gate that keeps a digest of what it was asked, in order.
+/// A gate that keeps a digest of the questions it is asked, in order.
 #[derive(Drop)]
 pub(crate) struct Noted<G> {
     gate: G,
@@ -62,7 +62,8 @@ impl<G: Gate> Noted<G> {
         }
     }
 
-    /// Whether these were the questions: for the items from one up to another, in order, each with so many turns.
+    /// Returns whether these were the questions, in order: each entry stands for the numbers from `from` up to, but not
+    /// including, `to`, after `turn` failed tries.
     pub(crate) fn was_asked(&self, questions: &[(u64, u64, u64)]) -> bool {
         let mut digest = 0;
         for (from, to, turn) in questions {
@@ -85,7 +86,7 @@ impl<G: Gate> Gate for Noted<G> {
     }
 }
 
-/// A digest with one more question.
+/// Returns a digest with one more question.
 fn with_question(digest: u64, nth: u64, turn: u64) -> u64 {
     digest
         .wrapping_mul(1_000_003)

@@ -1,4 +1,4 @@
-//! Lanes on one thread.
+//! Tests of lanes within one thread.
 
 ghost use Rattle.std.specs.Prelude.{◌≡◌};
 ghost use Rattle.cube_core.specs.Shape.{InRange};
@@ -32,7 +32,7 @@ fn every_slot_takes_a_number(rt: HostRuntime) -> Result<(), Fail> {
     Ok(())
 }
 
-/// Fails where a lane doesn't take a number for each of so many slots, and the next once one is received.
+/// Asserts that a lane takes a number for each of its slots, and another once one is received.
 fn takes_so_many(rt: &impl Abort, slots: u32, sender: LaneSender, receiver: LaneReceiver)
     requires { InRange 1 65536 slots }
 {
@@ -60,7 +60,7 @@ fn third_number_comes_back(rt: HostRuntime) -> Result<(), Fail> {
     Ok(())
 }
 
-/// Fails where not so many numbers of a lane were sent, and so many received, or where not this one alone is left.
+/// Asserts how many numbers of a lane were sent and received, and that this one alone is left.
 fn one_is_left(rt: &impl Abort, settled: SettledLane, sent: u64, received: u64, left: u16) {
     let mut settled = settled;
     same(rt, settled.sent_count(), sent);
@@ -82,7 +82,7 @@ fn runs_on_two_slots(rt: HostRuntime) -> Result<(), Fail> {
     Ok(())
 }
 
-/// Fails where a room doesn't take so many numbers of a lane, or holds others then.
+/// Receives a run into a room, and asserts how many numbers it has and what the room then holds.
 fn room_takes(
     rt: &impl Abort,
     receiver: &mut LaneReceiver,
@@ -103,7 +103,7 @@ fn room_takes_what_is_there(rt: HostRuntime) -> Result<(), Fail> {
     same(&rt, receiver.recv_run(&mut room), 0);
     assert!(rt; sender.send_run(&[5, 6]));
     room_takes(&rt, &mut receiver, &mut room, 2, [5, 6, 0]);
-    // These go round the end of the ring.
+    // These wrap around the end of the ring.
     assert!(rt; sender.send_run(&[7, 8, 9, 10]));
     room_takes(&rt, &mut receiver, &mut room, 3, [7, 8, 9]);
     same(&rt, receiver.recv_run(&mut []), 0);

@@ -1,4 +1,4 @@
-//! What a feed sends past a gate, in which runs, and what the gate is asked.
+//! Tests of which numbers a feed sends past a gate, in which runs, and of what it asks the gate.
 
 ghost use Rattle.std.specs.Prelude.{◌≡◌, []};
 
@@ -14,13 +14,13 @@ use std::process::Abort;
 use std::sync::{Mutex, Wait};
 use std::test::Fail;
 
-/// A predictor's numbers.
+/// The numbers of a list.
 const NUMBERS: [u16; 6] = [55, 3, 5, 0, 4, 2];
 
-/// Seventeen numbers.
+/// The numbers of a longer list.
 const MORE: [u16; 17] = [1, 2, 3, 4, 5, 6, 7, 8, 9, 10, 11, 12, 13, 14, 15, 16, 17];
 
-/// How predictor 0 ends, whose feed sends numbers past a gate.
+/// Sends the numbers of predictor 0 past a gate, and returns how it ended.
 fn run<R: Wait, G: Gate>(rt: &R, numbers: &[u16], sender: LaneSender, gate: &G) -> LaneEnd
     requires { sender.sent ≡ [] }
 {
@@ -31,7 +31,7 @@ fn run<R: Wait, G: Gate>(rt: &R, numbers: &[u16], sender: LaneSender, gate: &G) 
     feed.run(rt, sender, gate)
 }
 
-/// A gate that stops a predictor at an item once it has come back so often.
+/// Returns a gate that stops a predictor at number `nth`, once `turn` tries to send it have failed.
 fn stop_at(predictor: u32, nth: u64, turn: u64) -> StopAt {
     StopAt {
         predictor,
@@ -40,13 +40,13 @@ fn stop_at(predictor: u32, nth: u64, turn: u64) -> StopAt {
     }
 }
 
-/// Fails where a predictor was stopped though its list was to be sent, or the other way round, or where it sent more or fewer numbers.
+/// Asserts whether a predictor sent its whole list, and how many numbers it sent.
 fn same_end(rt: &impl Abort, end: LaneEnd, whole: bool, sent: u64) {
     same(rt, end.whole, whole);
     same(rt, end.closed.sent_count(), sent);
 }
 
-/// Fails where a feed ends otherwise past a gate, or where the gate was asked other questions.
+/// Sends numbers past a gate, and asserts how that ends and which questions the gate is asked.
 fn ends<R: Wait + Abort>(
     rt: &R,
     numbers: &[u16],
@@ -63,7 +63,7 @@ fn ends<R: Wait + Abort>(
     assert!(rt; gate.was_asked(questions));
 }
 
-/// Fails where a room doesn't take so many numbers of a lane, or is another then.
+/// Receives a run into a room, and asserts how many numbers it has and what the room then holds.
 fn same_room<const ROOM: usize>(
     rt: &impl Abort,
     receiver: LaneReceiver,
@@ -114,7 +114,7 @@ fn stops_behind_a_run_of_two(rt: HostRuntime) -> Result<(), Fail> {
 #[test]
 fn numbers_before_the_stop_go_singly(rt: HostRuntime) -> Result<(), Fail> {
     let (sender, receiver) = lane(rt.alloc(), 8)?;
-    // Each is asked for again before it goes, and the one at which the gate stops is not.
+    // The gate is asked again for each number that is sent, but not for the one at which it stops.
     let questions = [(0, 3, 0), (0, 2, 0)];
     ends(
         &rt,
@@ -146,7 +146,7 @@ fn other_predictors_are_not_stopped(rt: HostRuntime) -> Result<(), Fail> {
 
 #[test]
 fn comes_back_until_it_is_stopped(rt: HostRuntime) -> Result<(), Fail> {
-    // There is nobody to receive.
+    // There is no receiver.
     let (sender, receiver) = lane(rt.alloc(), 1)?;
     drop(receiver);
     let questions = [
@@ -177,17 +177,17 @@ fn first_of_a_refused_run_goes_alone(rt: HostRuntime) -> Result<(), Fail> {
     });
     same_end(&rt, run(&rt, &MORE, sender, &gate), true, 17);
     let questions = [
-        // The first run goes, and the second is refused,
+        // The first run is sent, and the second is refused,
         (0, 8, 0),
         (8, 16, 0),
-        // so its first goes alone, once the gate has taken one;
+        // so its first number is sent alone, once the gate has received one;
         (8, 9, 1),
-        // the others make a run with the last, which is refused too, since seven were taken,
+        // the others form a run with the last number, which is refused too, since only seven slots are free,
         (9, 16, 1),
         (16, 17, 0),
-        // so the next goes alone,
+        // so the next number is sent alone,
         (9, 10, 2),
-        // and what is left then has seven slots.
+        // and then there are seven free slots for the seven numbers that are left.
         (10, 16, 2),
         (16, 17, 1),
     ];

@@ -1,4 +1,4 @@
-//! Lanes between two threads.
+//! Tests of lanes between two threads.
 
 ghost use Rattle.std.specs.Prelude.{◌≡◌};
 
@@ -15,13 +15,13 @@ use std::thread;
 /// How often each end may find no free slot, or no number, before it gives up.
 const MOST_REFUSED: u32 = 10_000_000;
 
-/// How many numbers go through a lane.
+/// How many numbers are sent along a lane.
 const NUMBERS: usize = 64;
 
-/// How many numbers go at once.
+/// How many numbers are sent at once.
 const RUN: usize = 3;
 
-/// Sends numbers one by one.
+/// Sends numbers one by one, and closes the lane.
 fn send_singly(sender: LaneSender, numbers: &[u16]) -> ClosedLane
     ensures { result.lane ≡ sender.lane }
 {
@@ -39,7 +39,7 @@ fn send_singly(sender: LaneSender, numbers: &[u16]) -> ClosedLane
     sender.close()
 }
 
-/// Sends numbers in runs.
+/// Sends numbers in runs, and closes the lane.
 fn send_in_runs(sender: LaneSender, numbers: &[u16]) -> ClosedLane
     ensures { result.lane ≡ sender.lane }
 {
@@ -95,7 +95,7 @@ fn receive_in_runs(receiver: LaneReceiver, room: &mut [u16]) -> LaneReceiver
     receiver
 }
 
-/// The numbers 1, 4, 7 ..
+/// Returns the numbers 1, 4, 7, ...
 fn numbers() -> [u16; NUMBERS] {
     let mut numbers = [0; NUMBERS];
     for i in 0..NUMBERS {
@@ -104,7 +104,7 @@ fn numbers() -> [u16; NUMBERS] {
     numbers
 }
 
-/// Fails where not all numbers went through a lane.
+/// Asserts that all numbers of a lane were sent and received.
 fn all_went(rt: &impl Abort, settled: SettledLane) {
     let mut settled = settled;
     same(rt, settled.sent_count(), 64);

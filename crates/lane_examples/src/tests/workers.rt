@@ -1,4 +1,4 @@
-//! Workers in threads of their own, and what is handed on of them.
+//! Tests of workers in threads of their own, and of the numbers that are passed on.
 
 ghost use Rattle.std.specs.Prelude.{◌≡◌, ◌<◌, length};
 ghost use Rattle.cube_core.specs.Shape.{InRange};
@@ -18,15 +18,16 @@ use std::test::Fail;
 use std::thread;
 use std::thread::{Scope, Threads};
 
-/// What came of a worker.
+/// How a worker ended.
 #[derive(Clone, Copy, Debug, PartialEq, Eq)]
 enum Outcome {
-    /// All of its numbers were handed on, so many were sent, and so many received.
+    /// All of its numbers were passed on. The counts are those of its lane.
     Whole {
         sent: u64,
         received: u64,
     },
-    /// It was stopped, after so many were handed on, as it was told before it was joined, and by the join.
+    /// It was stopped, and `handed` numbers were passed on. `sent` and `joined` are how many it sent, as reported
+    /// before the join and by it.
     Stopped {
         handed: usize,
         sent: u64,
@@ -37,7 +38,7 @@ enum Outcome {
 /// How many numbers are taken at once at most.
 const LONGEST: usize = 5;
 
-/// Starts a worker, and takes its numbers into a room as long as its list, run after run.
+/// Starts a worker, takes its numbers into a room as long as its list, run after run, and returns how it ended.
 fn run<'s, E, R: Threads + Wait + Sync + 's, G: Gate + Sync + 's>(
     scope: &Scope<'s, E>,
     rt: &'s R,
@@ -70,10 +71,12 @@ fn run<'s, E, R: Threads + Wait + Sync + 's, G: Gate + Sync + 's>(
     })
 }
 
-/// How often a worker's lane is looked into, before it is given up.
+/// How often a worker is checked for its end before the test gives up.
 const MOST_LOOKS: u32 = 10_000_000;
 
-/// Starts a worker, drops its numbers until it sends no more, and joins it. Whether it came to that, and after how many it was stopped.
+/// Starts a worker, drops its numbers until it sends no more, and joins it.
+///
+/// Returns whether it ended, and how many numbers it had sent if it was stopped.
 fn skipped<'s, E, R: Threads + Wait + Sync + 's, G: Gate + Sync + 's>(
     scope: &Scope<'s, E>,
     rt: &'s R,
@@ -94,7 +97,7 @@ fn skipped<'s, E, R: Threads + Wait + Sync + 's, G: Gate + Sync + 's>(
     Ok((ended, stage.stop(rt)))
 }
 
-/// Numbers of a list.
+/// Returns a list of `COUNT` numbers.
 fn numbers<const COUNT: usize>() -> [u16; COUNT] {
     let mut numbers = [0; COUNT];
     for i in 0..COUNT {
@@ -103,7 +106,7 @@ fn numbers<const COUNT: usize>() -> [u16; COUNT] {
     numbers
 }
 
-/// What comes of predictor 3 in a thread of its own, which sends a list along a lane of so many slots past a gate.
+/// Runs predictor 3 in a thread of its own, where it sends a list past a gate, and returns how it ended.
 fn outcome_of<R: Threads + Wait + Sync, G: Gate + Sync>(
     rt: &R,
     alloc: Global,
@@ -130,7 +133,7 @@ fn outcome_of<R: Threads + Wait + Sync, G: Gate + Sync>(
     )
 }
 
-/// Fails where an open gate doesn't let a list of 200 numbers through.
+/// Asserts that all 200 numbers of a list are passed on past an open gate.
 fn goes_through<R: Threads + Wait + Sync + Abort>(
     rt: &R,
     alloc: Global,
@@ -161,7 +164,7 @@ fn list_is_handed_on(rt: HostRuntime) -> Result<(), Fail> {
     Ok(())
 }
 
-/// Fails where a gate doesn't stop a worker at one of 200 numbers, or where others than those before it are handed on.
+/// Asserts that a gate stops a worker at number `nth` of 200, and that the numbers before it are passed on.
 fn is_told<R: Threads + Wait + Sync + Abort>(
     rt: &R,
     alloc: Global,
@@ -188,7 +191,7 @@ fn is_told<R: Threads + Wait + Sync + Abort>(
     Ok(())
 }
 
-/// A gate that stops predictor 3 at a number.
+/// Returns a gate that stops predictor 3 at a number.
 fn stop_at(nth: u64) -> StopAt {
     StopAt {
         predictor: 3,
@@ -221,7 +224,7 @@ fn gate_behind_the_list_stops_nobody(rt: HostRuntime) -> Result<(), Fail> {
     Ok(())
 }
 
-/// Whether a worker ends at a gate, though its 200 numbers are dropped, and after how many it was stopped.
+/// Drops the 200 numbers of a worker. Returns whether it ended, and how many it had sent if a gate stopped it.
 fn dropped<R: Threads + Wait + Sync>(
     rt: &R,
     alloc: Global,

@@ -1,18 +1,18 @@
-//! What a test finds, beside what it wants.
+//! Assertions that the tests share.
 
 use band_rings::settled::SettledLane;
 use coder_pipe::pipeline::Piped;
 use std::fmt::Debug;
 use std::process::Abort;
 
-/// Fails where two values differ, and prints both.
+/// Asserts that two values are equal, and prints both if they aren't.
 ///
-/// It is proved once; the macro, written out in each test, would be proved in each.
+/// Tests call this instead of the macro, so that the macro's expansion is proved only once.
 pub(crate) fn same<T: PartialEq + Debug + Drop>(rt: &impl Abort, found: T, wanted: T) {
     assert_eq!(rt; found, wanted);
 }
 
-/// Fails where a pipeline made another file, or where its lanes are others: each by how many residuals were sent along it, and all of them received.
+/// Asserts that a pipeline made this file, and how many residuals each of its lanes carried.
 pub(crate) fn same_piped(rt: &impl Abort, made: &Piped, file: &[u8], carried: &[u64]) {
     same(rt, made.file.as_slice(), file);
     same(rt, made.lanes.len(), carried.len());
@@ -21,7 +21,7 @@ pub(crate) fn same_piped(rt: &impl Abort, made: &Piped, file: &[u8], carried: &[
     }
 }
 
-/// Fails where not so many residuals were sent along a lane, or not all of them received.
+/// Asserts how many residuals were sent along a lane, and that all of them were received.
 pub(crate) fn same_lane(rt: &impl Abort, lane: &SettledLane, residuals: u64) {
     same(rt, lane.sent_count(), residuals);
     same(rt, lane.received_count(), residuals);

@@ -1,4 +1,4 @@
-//! Cube A, 3 x 2 x 2, in full mode with one previous band, and what predictors make of it.
+//! Cube A, 3 x 2 x 2, in full mode with one previous band, and the ways to encode it.
 
 ghost use Rattle.std.specs.Prelude.{◌≡◌, [], ◌∷◌, IfOk};
 ghost use Rattle.cube_core.specs.declared.order.Order.TheVariants.{Bi};
@@ -24,27 +24,27 @@ use std::process::Abort;
 use std::sync::Wait;
 use std::thread::Threads;
 
-/// Its samples, band after band.
+/// The samples of cube A, band after band.
 pub(crate) const SAMPLES: [u8; 12] = [100, 102, 105, 101, 104, 103, 110, 111, 115, 112, 113, 114];
 
-/// Its file by the sample-adaptive coder, interleaved by pixel.
+/// The file of cube A by the sample-adaptive coder, interleaved by pixel.
 pub(crate) const BY_PIXEL: [u8; 26] = [
     0x00, 0x00, 0x03, 0x00, 0x02, 0x00, 0x02, 0x10, 0x00, 0x02, 0x08, 0x00, 0x04, 0x20, 0x92, 0x59,
     0x00, 0x82, 0x26, // the header
     0x37, 0x14, 0xB9, 0xDA, 0x8C, 0x97, 0x60,
 ];
 
-/// The room of a sink, and the pieces in which a command reads and writes.
+/// The room of a sink, and the size of the pieces in which a command reads and writes.
 const ROOM: usize = 1000;
 
-/// Samples of one byte, band after band.
+/// The layout of samples of one byte, band after band.
 pub(crate) const BYTES: Layout = Layout {
     order: RawOrder::Bsq,
     bytes: 1,
     little: false,
 };
 
-/// Its parameters, in an order and by a coder.
+/// Returns the parameters of cube A, in an order and by a coder.
 pub(crate) fn params_of(rt: &impl Abort, order: Order, coder: Coder) -> Params
     ensures shape { result.shape ≡ record { columns = 3; rows = 2; bands = 2 } }
     ensures kind { result.kind.bits ≡ 8 }
@@ -63,7 +63,7 @@ pub(crate) fn params_of(rt: &impl Abort, order: Order, coder: Coder) -> Params
     }
 }
 
-/// Its parameters interleaved by pixel, by the sample-adaptive coder.
+/// Returns the parameters of cube A interleaved by pixel, by the sample-adaptive coder.
 pub(crate) fn by_pixel(rt: &impl Abort) -> Params
     ensures shape { result.shape ≡ record { columns = 3; rows = 2; bands = 2 } }
     ensures kind { result.kind.bits ≡ 8 }
@@ -72,7 +72,7 @@ pub(crate) fn by_pixel(rt: &impl Abort) -> Params
     params_of(rt, Order::Bi(2), Coder::plain())
 }
 
-/// The block-adaptive coder of the worked files.
+/// Returns the block-adaptive coder with blocks of 8 and a reference interval of 1.
 pub(crate) fn by_blocks() -> Coder {
     Coder::Block {
         size: 8,
@@ -81,14 +81,14 @@ pub(crate) fn by_blocks() -> Coder {
     }
 }
 
-/// The cube itself, for parameters of its shape and kind.
+/// Returns cube A, for parameters of its shape and kind.
 pub(crate) fn cube_of(alloc: Global, params: &Params) -> Result<Cube, Fault>
     ensures { IfOk result (λ cube. IsSeen params.now cube) }
 {
     Cube::from_raw(alloc, params.shape, params.kind, BYTES, &SAMPLES)
 }
 
-/// A plan for it.
+/// Returns a plan for cube A.
 pub(crate) fn plan_of(
     rt: &impl Abort,
     alloc: Global,
@@ -103,7 +103,7 @@ pub(crate) fn plan_of(
     Plan::new(alloc, params, predictors, deal, slots)
 }
 
-/// A plan for it by pixel: each of two predictors has a band, and a lane of one slot.
+/// Returns a plan for cube A interleaved by pixel: two predictors with a band each, and lanes of one slot.
 pub(crate) fn plan_by_pixel(rt: &impl Abort, alloc: Global) -> Result<Plan, Fault>
     ensures plan { IfOk result (λ plan. (plan.predictors ≡ 2) × (plan.deal ≡ 0 ∷ 1 ∷ [])) }
     ensures shape { IfOk result (λ plan. plan.params.shape ≡ record { columns = 3; rows = 2; bands = 2 }) }
@@ -113,7 +113,7 @@ pub(crate) fn plan_by_pixel(rt: &impl Abort, alloc: Global) -> Result<Plan, Faul
     plan_of(rt, alloc, &by_pixel(rt), 2, &[0, 1], 1)
 }
 
-/// What predictors of a plan make of it, past a gate.
+/// Encodes cube A with the predictors of a plan, past a gate.
 pub(crate) fn piped<R: Threads + Wait + Sync + Abort, G: Gate + Sync>(
     rt: &R,
     alloc: Global,
@@ -128,7 +128,7 @@ pub(crate) fn piped<R: Threads + Wait + Sync + Abort, G: Gate + Sync>(
     encode_predicted(rt, alloc, &cube, &plan, gate)
 }
 
-/// What predictors of a plan make of it by pixel, past a gate.
+/// Encodes cube A interleaved by pixel with the predictors of a plan, past a gate.
 pub(crate) fn piped_by_pixel<R: Threads + Wait + Sync + Abort, G: Gate + Sync>(
     rt: &R,
     alloc: Global,
@@ -140,7 +140,7 @@ pub(crate) fn piped_by_pixel<R: Threads + Wait + Sync + Abort, G: Gate + Sync>(
     piped(rt, alloc, &by_pixel(rt), predictors, deal, slots, gate)
 }
 
-/// What the command makes of its raw bytes by pixel and by so many predictors, past a gate.
+/// Returns the file to which the command compresses cube A interleaved by pixel, past a gate.
 pub(crate) fn compressed<R: Threads + Wait + Sync + Abort, G: Gate + Sync>(
     rt: &R,
     alloc: Global,
@@ -153,7 +153,7 @@ pub(crate) fn compressed<R: Threads + Wait + Sync + Abort, G: Gate + Sync>(
     Ok(Vec::from_slice(alloc, sink.taken())?)
 }
 
-/// Compresses them into a sink.
+/// Compresses the raw bytes of cube A into a sink.
 fn compress<R: Threads + Wait + Sync + Abort, G: Gate + Sync>(
     rt: &R,
     alloc: Global,
@@ -167,7 +167,7 @@ fn compress<R: Threads + Wait + Sync + Abort, G: Gate + Sync>(
     run_piped(rt, alloc, &mut source, sink, &settings, gate)
 }
 
-/// What a command line asks for that has it compressed by pixel.
+/// Returns the settings of a command that compresses cube A interleaved by pixel.
 fn settings_by_pixel(rt: &impl Abort, predictors: u32, slots: u32) -> CompressSettings
     ensures { result.layout.bytes ≡ 1 }
 {
@@ -179,7 +179,7 @@ fn settings_by_pixel(rt: &impl Abort, predictors: u32, slots: u32) -> CompressSe
     }
 }
 
-/// What one thread makes of it.
+/// Returns the file to which one thread encodes cube A.
 pub(crate) fn by_one(rt: &impl Abort, alloc: Global, params: &Params) -> Result<Vec<u8>, Fault> {
     assert!(rt; params.check().is_ok());
     encode_one(alloc, &cube_of(alloc, params)?, params)

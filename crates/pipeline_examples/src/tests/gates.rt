@@ -6,10 +6,10 @@ use coder_pipe::Gate;
 use std::sync::atomic::{AtomicBool, Ordering};
 use std::thread;
 
-/// How often a gate looks for another predictor, before it gives up.
+/// How often a gate checks for another predictor before it gives up.
 const MOST_LOOKS: u32 = 10_000_000;
 
-/// Stops predictor 0 at one number, and predictor 1 at another.
+/// A gate that stops predictor 0 at one residual, and predictor 1 at another.
 #[derive(Clone, Copy, Drop)]
 pub(crate) struct StopTwo {
     pub(crate) first: u64,
@@ -24,7 +24,7 @@ impl Gate for StopTwo {
     }
 }
 
-/// Stops a predictor at a residual, once it has come back so often.
+/// A gate that stops a predictor at residual `nth`, once `turn` tries to send it have failed.
 #[derive(Clone, Copy, Drop)]
 pub(crate) struct StopAt {
     pub(crate) predictor: u32,
@@ -40,7 +40,8 @@ impl Gate for StopAt {
     }
 }
 
-/// Holds the first residual of predictor 0 until a residual of predictor 1 has come back; or stops it, where that takes too long.
+/// A gate that holds the first residual of predictor 0 until predictor 1 has failed to send its residual `nth`. It
+/// stops predictor 0 if that takes too long.
 #[derive(Drop)]
 pub(crate) struct FirstWaits {
     nth: u64,
@@ -48,7 +49,7 @@ pub(crate) struct FirstWaits {
 }
 
 impl FirstWaits {
-    /// It waits for the `nth` residual of predictor 1, counted from 0.
+    /// Returns a gate that waits for residual `nth` of predictor 1, counted from 0.
     pub(crate) fn new(nth: u64) -> FirstWaits {
         FirstWaits {
             nth,
@@ -68,7 +69,8 @@ impl Gate for FirstWaits {
     }
 }
 
-/// Holds the second residual of each of two predictors until that of the other was asked for; or stops it, where that takes too long.
+/// A gate that holds the second residual of each of two predictors until the other has reached its own. It stops a
+/// predictor if that takes too long.
 #[derive(Drop)]
 pub(crate) struct Meeting {
     first: AtomicBool,
@@ -83,7 +85,7 @@ impl Meeting {
         }
     }
 
-    /// Whether both predictors have come.
+    /// Returns whether both predictors have reached their second residual.
     pub(crate) fn took_place(&self) -> bool {
         self.first.load(Ordering::SeqCst) && self.second.load(Ordering::SeqCst)
     }
@@ -106,7 +108,7 @@ impl Gate for Meeting {
     }
 }
 
-/// Looks at a flag until it is set, but not for ever.
+/// Waits for a limited time until a flag is set, and returns whether it was.
 fn is_set_in_time(flag: &AtomicBool) -> bool {
     for _ in 0..MOST_LOOKS {
         if flag.load(Ordering::SeqCst) {

@@ -1,4 +1,4 @@
-//! One predictor alone, which a gate stops, whatever the other end of its lane does.
+//! Tests of a single predictor that a gate stops, whatever the other end of its lane does.
 
 ghost use Rattle.std.specs.Prelude.{◌≡◌, [], ◌∷◌, IfOk};
 ghost use Rattle.cube_core.specs.Image.{Image};
@@ -23,24 +23,24 @@ use std::test::Fail;
 use std::thread;
 use std::thread::Threads;
 
-/// How often nothing may be there to receive, before it is given up.
+/// How often a receiver may find no number before it gives up.
 const MOST_REFUSED: u32 = 10_000_000;
 
-/// Stops the predictor before its third residual.
+/// A gate that stops predictor 0 before its third residual.
 const THIRD: StopAt = StopAt {
     predictor: 0,
     nth: 2,
     turn: 0,
 };
 
-/// Stops the predictor before its second residual, once that has come back a hundred times.
+/// A gate that stops predictor 0 before its second residual, once 100 tries to send it have failed.
 const SECOND_AT_LAST: StopAt = StopAt {
     predictor: 0,
     nth: 1,
     turn: 100,
 };
 
-/// The first band, before its first place.
+/// Returns the first band, at its first place.
 fn first_band(alloc: Global, plan: &Plan) -> Result<Vec<Band>, Fault>
     requires { (plan.now.deal ≡ 0 ∷ 1 ∷ []) × (plan.now.params.shape.bands ≡ 2) }
     ensures { IfOk result (λ bands. (c : Image) → AreFresh plan.now.params 0 plan.now.deal c bands.items) }
@@ -51,7 +51,7 @@ fn first_band(alloc: Global, plan: &Plan) -> Result<Vec<Band>, Fault>
     Ok(bands)
 }
 
-/// Receives numbers into a room, until it is full.
+/// Receives numbers into a room until it is full.
 fn receive(receiver: LaneReceiver, room: &mut [u16]) -> LaneReceiver
     ensures { result.lane ≡ receiver.lane }
 {
@@ -70,7 +70,7 @@ fn receive(receiver: LaneReceiver, room: &mut [u16]) -> LaneReceiver
     receiver
 }
 
-/// How predictor 0, of the first band, ends at a lane and a gate.
+/// Runs predictor 0, which has the first band, with a lane and a gate, and returns how it ended.
 fn run_first<R: Wait + Abort>(
     rt: &R,
     alloc: Global,
@@ -83,7 +83,7 @@ fn run_first<R: Wait + Abort>(
     run_plan(rt, alloc, &plan_by_pixel(rt, alloc)?, sender, gate)
 }
 
-/// How it ends by a plan that deals it the first of two bands.
+/// Runs predictor 0 by a plan that deals it the first of two bands, and returns how it ended.
 fn run_plan<R: Wait>(
     rt: &R,
     alloc: Global,
@@ -100,7 +100,7 @@ fn run_plan<R: Wait>(
     Ok(predict_lane(rt, &cube, plan, 0, bands, sender, gate))
 }
 
-/// Fails where it isn't stopped with these numbers sent along a lane of so many slots, from which nothing is received until then.
+/// Asserts that predictor 0 is stopped with these numbers sent along a lane, of which none is received by then.
 fn leaves<R: Wait + Abort>(
     rt: &R,
     alloc: Global,
@@ -116,7 +116,7 @@ fn leaves<R: Wait + Abort>(
     Ok(())
 }
 
-/// Fails where other numbers are left of a lane, or any was received.
+/// Asserts that these numbers are left in a lane, and that none was received.
 fn same_left(rt: &impl Abort, settled: SettledLane, left: &[u16]) {
     let mut settled = settled;
     same(rt, settled.received_count(), 0);
@@ -134,7 +134,7 @@ fn stopped_where_nothing_is_received(rt: HostRuntime) -> Result<(), Fail> {
     Ok(())
 }
 
-/// Fails where it isn't stopped with so many numbers sent along a lane of so many slots, whose receiver is gone.
+/// Asserts that predictor 0 is stopped with `sent` numbers sent along a lane whose receiver was dropped.
 fn sends_to_nobody<R: Wait + Abort>(
     rt: &R,
     alloc: Global,
@@ -157,7 +157,7 @@ fn stopped_where_nobody_receives(rt: HostRuntime) -> Result<(), Fail> {
     Ok(())
 }
 
-/// How predictor 0 ends before its third residual, while another thread receives into a room.
+/// Runs predictor 0 up to its third residual while another thread receives into a room, and returns both ends.
 fn run_beside<R: Threads + Wait + Sync + Abort>(
     rt: &R,
     alloc: Global,

@@ -1,4 +1,4 @@
-//! What predictors in threads make of cube A.
+//! Tests of the files that predictors in threads make of cube A.
 
 use super::cubes::{BY_PIXEL, by_blocks, by_one, params_of, piped, piped_by_pixel};
 use crate::tests::checks::{same, same_piped};
@@ -12,7 +12,7 @@ use std::sync::Wait;
 use std::test::Fail;
 use std::thread::Threads;
 
-/// Fails where predictors by a deal don't make its file by pixel past a gate, or where their lanes carry other numbers of residuals.
+/// Asserts that predictors by a deal make the file of cube A by pixel, and how many residuals each lane carries.
 fn make_it<R: Threads + Wait + Sync + Abort, G: Gate + Sync>(
     rt: &R,
     alloc: Global,
@@ -27,7 +27,7 @@ fn make_it<R: Threads + Wait + Sync + Abort, G: Gate + Sync>(
     Ok(())
 }
 
-/// Fails where two predictors, which have a band each, don't make its file by pixel past a gate.
+/// Asserts that two predictors with a band each make the file of cube A by pixel, past a gate.
 pub(crate) fn two_make_it<R: Threads + Wait + Sync + Abort, G: Gate + Sync>(
     rt: &R,
     alloc: Global,
@@ -37,7 +37,7 @@ pub(crate) fn two_make_it<R: Threads + Wait + Sync + Abort, G: Gate + Sync>(
     make_it(rt, alloc, 2, &[0, 1], slots, gate, &[6, 6])
 }
 
-/// A predictor for each band, by one slot and by many.
+/// Deals each band to a predictor of its own, with lanes of one slot and of more.
 #[test]
 fn a_band_each(rt: HostRuntime) -> Result<(), Fail> {
     for slots in [1, 2, 8, 1024] {
@@ -46,14 +46,14 @@ fn a_band_each(rt: HostRuntime) -> Result<(), Fail> {
     Ok(())
 }
 
-/// All bands to one predictor of two.
+/// Deals all bands to the first of two predictors.
 #[test]
 fn all_bands_to_one(rt: HostRuntime) -> Result<(), Fail> {
     make_it(&rt, rt.alloc(), 2, &[0, 0], 1, &OpenGate, &[12, 0])?;
     Ok(())
 }
 
-/// 64 predictors by one slot, of which one has all bands.
+/// Deals all bands to the last of 64 predictors, with lanes of one slot.
 #[test]
 fn all_bands_to_the_last_of_64(rt: HostRuntime) -> Result<(), Fail> {
     let mut carried = [0; 64];
@@ -62,7 +62,7 @@ fn all_bands_to_the_last_of_64(rt: HostRuntime) -> Result<(), Fail> {
     Ok(())
 }
 
-/// Fails where three predictors, by an order and a coder, make another file than one thread.
+/// Asserts that three predictors, in an order and by a coder, make the same file as one thread.
 fn three_make_it<R: Threads + Wait + Sync + Abort>(
     rt: &R,
     alloc: Global,
@@ -72,7 +72,7 @@ fn three_make_it<R: Threads + Wait + Sync + Abort>(
     deals_make_it(rt, alloc, &params_of(rt, order, coder))
 }
 
-/// Fails where they make another file by one of three deals.
+/// Asserts that three predictors make the same file as one thread by each of three deals.
 fn deals_make_it<R: Threads + Wait + Sync + Abort>(
     rt: &R,
     alloc: Global,
@@ -85,7 +85,7 @@ fn deals_make_it<R: Threads + Wait + Sync + Abort>(
     Ok(())
 }
 
-/// Fails where they make another file than this by a deal.
+/// Asserts that three predictors make this file by a deal.
 fn deal_makes<R: Threads + Wait + Sync + Abort>(
     rt: &R,
     alloc: Global,
@@ -98,7 +98,7 @@ fn deal_makes<R: Threads + Wait + Sync + Abort>(
     Ok(())
 }
 
-/// Each order and each coder gives the file of one thread.
+/// Checks each encoding order with each coder.
 #[test]
 fn as_one_thread(rt: HostRuntime) -> Result<(), Fail> {
     for order in [Order::Bsq, Order::Bi(1), Order::Bi(2)] {

@@ -1,4 +1,4 @@
-//! Which plans are refused.
+//! Tests of which plans are refused.
 
 use super::cubes::{by_pixel, compressed, plan_of};
 use crate::tests::checks::same;
@@ -7,7 +7,7 @@ use cube_core::fault::{Fault, Field};
 use std::alloc::Global;
 use std::process::Abort;
 
-/// Why a plan for cube A is refused, if it is.
+/// Returns the fault that a plan for cube A is refused for, if it is.
 fn refusal(
     rt: &impl Abort,
     alloc: Global,
@@ -18,7 +18,7 @@ fn refusal(
     plan_of(rt, alloc, &by_pixel(rt), predictors, deal, slots).err()
 }
 
-/// Predictors before slots, and slots before the deal.
+/// Checks that predictors are judged before slots, and slots before the deal.
 #[test]
 fn numbers_are_judged_in_order(rt: HostRuntime) {
     let none = range(Field::Predictors, 0);
@@ -33,7 +33,7 @@ fn numbers_are_judged_in_order(rt: HostRuntime) {
     same(&rt, refusal(&rt, rt.alloc(), 64, &[63, 0], 1), None);
 }
 
-/// The first wrong entry of a deal before its length.
+/// Checks that the first wrong entry of a deal is judged before the deal's length.
 #[test]
 fn entries_are_judged_before_the_length(rt: HostRuntime) {
     same(&rt, refusal(&rt, rt.alloc(), 2, &[0, 2], 1), band(1));
@@ -44,7 +44,7 @@ fn entries_are_judged_before_the_length(rt: HostRuntime) {
     same(&rt, refusal(&rt, rt.alloc(), 1, &[1, 0, 0], 1), band(0));
 }
 
-/// A command that has no plan tells why.
+/// Checks that a command reports why its plan is refused.
 #[test]
 fn a_command_without_a_plan_is_refused(rt: HostRuntime) {
     for (predictors, slots, field, value) in [
@@ -58,12 +58,12 @@ fn a_command_without_a_plan_is_refused(rt: HostRuntime) {
     }
 }
 
-/// A number out of its range.
+/// Returns the fault of a field out of its range.
 fn range(field: Field, value: i64) -> Option<Fault> {
     Some(Fault::FieldRange { field, value })
 }
 
-/// A band that is dealt to no predictor.
+/// Returns the fault of a deal that is wrong at a band.
 fn band(band: u32) -> Option<Fault> {
     Some(Fault::BadDeal { band })
 }

@@ -1,4 +1,4 @@
-//! Pipelines that a gate stops.
+//! Tests of pipelines that a gate stops.
 
 use super::cubes::{compressed, params_of, piped};
 use super::gates::StopTwo;
@@ -11,10 +11,10 @@ use std::process::Abort;
 use std::sync::Wait;
 use std::thread::Threads;
 
-/// No predictor has so many residuals.
+/// The number of a residual that no predictor has: each has those numbered 0 to 5.
 const NEVER: u64 = 6;
 
-/// Why the pipeline of cube A ends, if its two predictors may be stopped at these residuals.
+/// Returns the fault of the pipeline of cube A if a gate stops its two predictors at these residuals.
 fn fault<R: Threads + Wait + Sync + Abort>(
     rt: &R,
     alloc: Global,
@@ -28,7 +28,7 @@ fn fault<R: Threads + Wait + Sync + Abort>(
     piped(rt, alloc, &params, 2, &[0, 1], slots, &gate).err()
 }
 
-/// The first predictor stopped at each of its residuals.
+/// Stops the first predictor at each of its residuals.
 #[test]
 fn the_first_is_stopped(rt: HostRuntime) {
     for sent in 0..NEVER {
@@ -46,7 +46,7 @@ fn the_first_is_stopped(rt: HostRuntime) {
     }
 }
 
-/// The second predictor stopped at each of its residuals.
+/// Stops the second predictor at each of its residuals.
 #[test]
 fn the_second_is_stopped(rt: HostRuntime) {
     for sent in 0..NEVER {
@@ -64,7 +64,7 @@ fn the_second_is_stopped(rt: HostRuntime) {
     }
 }
 
-/// A residual that there isn't stops nobody.
+/// Checks that a gate for a residual after the last stops nobody.
 #[test]
 fn none_is_stopped_behind_the_last(rt: HostRuntime) {
     same(
@@ -74,7 +74,7 @@ fn none_is_stopped_behind_the_last(rt: HostRuntime) {
     );
 }
 
-/// Of two that are stopped the first is named, though the other is met first.
+/// Checks that of two stopped predictors the first is named, although the coding end meets the other one earlier.
 #[test]
 fn the_first_of_two_is_named(rt: HostRuntime) {
     let stopped = Some(Fault::Stopped {
@@ -84,7 +84,7 @@ fn the_first_of_two_is_named(rt: HostRuntime) {
     same(&rt, fault(&rt, rt.alloc(), Order::Bi(2), 1, 2, 0), stopped);
 }
 
-/// A command tells the same.
+/// Checks that a command reports the same fault.
 #[test]
 fn a_command_is_stopped(rt: HostRuntime) {
     for sent in 0..NEVER {

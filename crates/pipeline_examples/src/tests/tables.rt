@@ -1,4 +1,4 @@
-//! What predictors in threads make of cubes whose parameters hold tables, or name the restricted set of code options.
+//! Tests of the files that predictors in threads make with tables, and with the restricted set of code options.
 
 use super::cubes::{BYTES, plan_of};
 use crate::tests::checks::same_piped;
@@ -17,7 +17,7 @@ use std::sync::Wait;
 use std::test::Fail;
 use std::thread::Threads;
 
-/// Parameters of two rows and two bands.
+/// Returns parameters of one column, two rows and two bands.
 fn params_of(
     rt: &impl Abort,
     bits: u32,
@@ -36,7 +36,7 @@ fn params_of(
     }
 }
 
-/// The sample-adaptive coder of the worked files.
+/// Returns the sample-adaptive coder with this accumulator initialization.
 fn by_samples(start: CountStart) -> Coder {
     Coder::Sample {
         umax: 16,
@@ -46,7 +46,7 @@ fn by_samples(start: CountStart) -> Coder {
     }
 }
 
-/// That two predictors, of which each has a band, make this file of four samples.
+/// Asserts that two predictors with a band each make this file of four samples.
 fn makes<R: Threads + Wait + Sync + Abort>(
     rt: &R,
     alloc: Global,
@@ -65,7 +65,7 @@ fn makes<R: Threads + Wait + Sync + Abort>(
     Ok(())
 }
 
-/// What they make of four samples by so many slots.
+/// Encodes four samples with two predictors and lanes of `slots` slots.
 fn made_of<R: Threads + Wait + Sync + Abort>(
     rt: &R,
     alloc: Global,
@@ -78,7 +78,7 @@ fn made_of<R: Threads + Wait + Sync + Abort>(
     encode_predicted(rt, alloc, &cube, &plan, &OpenGate)
 }
 
-/// The weight of the second band starts from a table.
+/// Starts the weight of the second band from a table.
 #[test]
 fn one_weight(rt: HostRuntime) -> Result<(), Fail> {
     let alloc = rt.alloc();
@@ -97,7 +97,7 @@ fn one_weight(rt: HostRuntime) -> Result<(), Fail> {
     makes(&rt, alloc, &params, &[100, 110, 50, 60], &file)
 }
 
-/// Each band has a constant of its own.
+/// Starts the accumulator of each band from a constant of its own.
 #[test]
 fn two_constants(rt: HostRuntime) -> Result<(), Fail> {
     let alloc = rt.alloc();
@@ -114,7 +114,7 @@ fn two_constants(rt: HostRuntime) -> Result<(), Fail> {
     makes(&rt, alloc, &params, &[200, 200, 128, 128], &file)
 }
 
-/// Four samples of two bits in one block, all in the middle: a zero block.
+/// Encodes four 2-bit samples, all at the middle, as one zero block.
 #[test]
 fn a_restricted_block(rt: HostRuntime) -> Result<(), Fail> {
     let coder = Coder::Block {

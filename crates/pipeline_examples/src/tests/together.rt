@@ -1,4 +1,4 @@
-//! That predictors run beside each other: gates at which one of them waits for what another does.
+//! Tests that predictors run in parallel: at some gates, one predictor waits for what another does.
 
 use super::cubes::{BY_PIXEL, compressed};
 use super::gates::{FirstWaits, Meeting};
@@ -12,7 +12,7 @@ use std::sync::Wait;
 use std::test::Fail;
 use std::thread::Threads;
 
-/// Fails where the command with two predictors doesn't make the file of cube A by pixel past a gate.
+/// Asserts that the command with two predictors makes the file of cube A by pixel, past a gate.
 fn command_makes_it<R: Threads + Wait + Sync + Abort, G: Gate + Sync>(
     rt: &R,
     alloc: Global,
@@ -24,7 +24,8 @@ fn command_makes_it<R: Threads + Wait + Sync + Abort, G: Gate + Sync>(
     Ok(())
 }
 
-/// Predictor 0 may send its first residual only once the one of predictor 1 has come back for which its lane has no room, and no sooner one.
+/// Lets predictor 0 send its first residual only once predictor 1 has failed to send the first one that its lane has no
+/// room for.
 #[test]
 fn gate_first_waits_for_second(rt: HostRuntime) -> Result<(), Fail> {
     for slots in 1..6 {
@@ -35,7 +36,7 @@ fn gate_first_waits_for_second(rt: HostRuntime) -> Result<(), Fail> {
     Ok(())
 }
 
-/// Each of two predictors may send its second residual only once the other wants to send its own.
+/// Lets each of two predictors send its second residual only once the other has reached its own.
 #[test]
 fn gates_meet(rt: HostRuntime) -> Result<(), Fail> {
     let meeting = Meeting::new();

@@ -1,4 +1,4 @@
-//! The coding end of predictors on numbers that no cube gave.
+//! Tests of the coding end of predictors, with residuals that come from no cube.
 
 ghost use Rattle.std.specs.Prelude.{◌≡◌, [], ◌∷◌, IfOk};
 ghost use Rattle.cube_core.specs.declared.order.Order.TheVariants.{Bi};
@@ -18,14 +18,14 @@ use std::sync::Wait;
 use std::test::Fail;
 use std::thread::Threads;
 
-/// The file of twelve zeros, interleaved by pixel.
+/// The file of twelve residuals of zero, interleaved by pixel.
 const ZEROS: [u8; 26] = [
     0x00, 0x00, 0x03, 0x00, 0x02, 0x00, 0x02, 0x10, 0x00, 0x02, 0x08, 0x00, 0x04, 0x20, 0x92, 0x59,
     0x00, 0x82, 0x26, // the header
     0x00, 0x00, 0x88, 0x88, 0x92, 0x49, 0x00,
 ];
 
-/// A list of six zeros for each of two predictors.
+/// Returns a list of six zeros for each of two predictors.
 fn lists(alloc: Global) -> Result<Vec<Vec<u16>>, Fault> {
     let mut lists = Vec::new(alloc);
     for _ in 0..2 {
@@ -34,13 +34,13 @@ fn lists(alloc: Global) -> Result<Vec<Vec<u16>>, Fault> {
     Ok(lists)
 }
 
-/// What becomes of them.
+/// Weaves these lists by the plan of `plan_by_pixel`.
 fn lists_woven(rt: &impl Abort, alloc: Global) -> Result<Woven, Fault> {
     let lists = lists(alloc)?;
     weave_all(rt, alloc, &plan_by_pixel(rt, alloc)?, &lists)
 }
 
-/// Predictors are wanted by turns, and none behind the last place.
+/// Checks that the two predictors are wanted in turn, and none after the last place.
 #[test]
 fn predictors_are_wanted_by_turns(rt: HostRuntime) -> Result<(), Fail> {
     let woven = lists_woven(&rt, rt.alloc())?;
@@ -53,7 +53,7 @@ fn predictors_are_wanted_by_turns(rt: HostRuntime) -> Result<(), Fail> {
     Ok(())
 }
 
-/// A feed of six zeros for each of two predictors.
+/// Returns a feed of six zeros for each of two predictors.
 fn feeds<'a>(alloc: Global, plan: &Plan, zeros: &'a [u16]) -> Result<Vec<ListFeed<'a>>, Fault>
     requires plan { (plan.now.predictors ≡ 2) × (plan.now.deal ≡ 0 ∷ 1 ∷ []) }
     requires image { (plan.now.params.shape ≡ record { columns = 3; rows = 2; bands = 2 }) × (plan.now.params.kind.bits ≡ 8) × (plan.now.params.order ≡ Bi 2) }
@@ -72,7 +72,7 @@ fn feeds<'a>(alloc: Global, plan: &Plan, zeros: &'a [u16]) -> Result<Vec<ListFee
     Ok(feeds)
 }
 
-/// What the pipeline makes of them by a plan.
+/// Encodes the residuals of these feeds by a plan.
 fn feeds_woven<R: Threads + Wait + Sync + Abort>(
     rt: &R,
     alloc: Global,
@@ -86,7 +86,7 @@ fn feeds_woven<R: Threads + Wait + Sync + Abort>(
     encode_piped(rt, alloc, plan.params(), plan, feeds, &OpenGate)
 }
 
-/// What the pipeline makes of them by the plan by pixel.
+/// Encodes the residuals of these feeds by the plan of `plan_by_pixel`.
 fn feeds_woven_by_pixel<R: Threads + Wait + Sync + Abort>(
     rt: &R,
     alloc: Global,
@@ -94,7 +94,7 @@ fn feeds_woven_by_pixel<R: Threads + Wait + Sync + Abort>(
     feeds_woven(rt, alloc, &plan_by_pixel(rt, alloc)?)
 }
 
-/// They are woven to the same file.
+/// Checks that the pipeline weaves these feeds to the same file.
 #[test]
 fn feeds_of_zeros_are_woven(rt: HostRuntime) -> Result<(), Fail> {
     let made = feeds_woven_by_pixel(&rt, rt.alloc())?;

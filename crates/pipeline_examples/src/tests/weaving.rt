@@ -1,4 +1,4 @@
-//! Whole lists, woven by the coding end of predictors.
+//! Weaving whole lists of residuals with the coding end of predictors.
 
 ghost use Rattle.std.specs.Prelude.{◌≡◌, ◌<◌};
 
@@ -9,7 +9,7 @@ use cube_core::fault::Fault;
 use std::alloc::Global;
 use std::process::Abort;
 
-/// What became of lists that were woven.
+/// The result of weaving lists.
 #[derive(Drop)]
 pub(crate) struct Woven {
     /// The predictors that were wanted, in order.
@@ -17,7 +17,8 @@ pub(crate) struct Woven {
     pub(crate) file: Vec<u8>,
 }
 
-/// Weaves a list of each predictor, of residuals of eight bits, by what the coding end wants; it then wants nobody.
+/// Weaves 8-bit residuals, a list of them for each predictor, as the coding end wants them, and asserts that it wants
+/// none after the last.
 pub(crate) fn weave_all(
     rt: &impl Abort,
     alloc: Global,
@@ -43,7 +44,7 @@ pub(crate) fn weave_all(
     })
 }
 
-/// The number of a predictor's list that comes next, once it was wanted as often as it was.
+/// Returns the next residual of a predictor's list, given the predictors that were wanted before.
 fn next_of(rt: &impl Abort, lists: &[Vec<u16>], predictor: u32, wanted: &[u32]) -> u16
     ensures { result < 256 }
 {

@@ -1,4 +1,5 @@
-//! The pipeline beside a plain form of it: each predictor fills a whole list, and the lists are woven once all of them are there.
+//! Tests of the pipeline against a plain form of it: each predictor fills a whole list, and the lists are woven once
+//! all are complete.
 
 ghost use Rattle.std.specs.Prelude.{◌≡◌, ◌<◌};
 ghost use Rattle.coder_pipe.specs.Sends.{IsSeen};
@@ -37,7 +38,7 @@ struct Job<'a> {
     ghost second_is: { (second.shape ≡ cube.now.shape) × (second.kind ≡ cube.now.kind) × (second.band ≡ 1) },
 }
 
-/// A job for each predictor, with a list that has room for all residuals.
+/// Returns a job for each predictor, with a list that has room for all residuals.
 fn jobs<'a>(alloc: Global, cube: &'a Cube, plan: &'a Plan) -> Result<Vec<Job<'a>>, Fault>
     requires seen { IsSeen plan.now.params cube.now }
     requires bands { plan.now.params.shape.bands ≡ 2 }
@@ -49,7 +50,7 @@ fn jobs<'a>(alloc: Global, cube: &'a Cube, plan: &'a Plan) -> Result<Vec<Job<'a>
     Ok(jobs)
 }
 
-/// A predictor's job.
+/// Returns the job of a predictor.
 fn job_of<'a>(
     alloc: Global,
     cube: &'a Cube,
@@ -71,10 +72,10 @@ fn job_of<'a>(
     })
 }
 
-/// How many residuals there are.
+/// The number of residuals of cube A.
 const ALL: usize = 12;
 
-/// A predictor's list, filled.
+/// Fills the list of a job, and returns it.
 fn filled<R: Abort>(rt: &R, job: Job<'_>) -> Vec<u16> {
     let Job {
         cube,
@@ -102,7 +103,7 @@ fn filled<R: Abort>(rt: &R, job: Job<'_>) -> Vec<u16> {
     list
 }
 
-/// The residual of a band at the place that comes next.
+/// Returns the residual of a band at its next place.
 fn residual_at(rt: &impl Abort, cube: &Cube, band: &mut Band, place: Place) -> u16
     requires seen { (cube.now.shape ≡ band.old.shape) × (cube.now.kind ≡ band.old.kind) }
     requires band { band.old.band < cube.now.shape.bands }
@@ -115,7 +116,7 @@ fn residual_at(rt: &impl Abort, cube: &Cube, band: &mut Band, place: Place) -> u
     band.forward(cube, place.y, place.x)
 }
 
-/// The lists of all predictors.
+/// Returns the filled lists of all predictors.
 fn whole_lists<R: Threads + Sync + Abort>(
     rt: &R,
     alloc: Global,
@@ -129,7 +130,7 @@ fn whole_lists<R: Threads + Sync + Abort>(
     Ok(thread::map_vec(rt, jobs, &|job| filled(rt, job))?)
 }
 
-/// Fails where lanes carried other numbers of residuals than lists have.
+/// Asserts that each lane carried as many residuals as its predictor's list has.
 fn same_lengths(rt: &impl Abort, lanes: &[SettledLane], lists: &[Vec<u16>]) {
     same(rt, lanes.len(), lists.len());
     for (lane, list) in lanes.iter().zip(lists) {
@@ -137,7 +138,7 @@ fn same_lengths(rt: &impl Abort, lanes: &[SettledLane], lists: &[Vec<u16>]) {
     }
 }
 
-/// Fails where the pipeline makes another file than the lists, or where its predictors have other numbers of residuals.
+/// Asserts that the pipeline and the lists make the same file, with as many residuals of each predictor.
 fn lists_give_the_same<R: Threads + Wait + Sync + Abort>(
     rt: &R,
     alloc: Global,
@@ -155,7 +156,7 @@ fn lists_give_the_same<R: Threads + Wait + Sync + Abort>(
     Ok(())
 }
 
-/// Fails where it does by a plan for cube A.
+/// Asserts that the pipeline and the lists agree by a plan for cube A.
 fn plan_gives_the_same<R: Threads + Wait + Sync + Abort>(
     rt: &R,
     alloc: Global,
@@ -170,7 +171,7 @@ fn plan_gives_the_same<R: Threads + Wait + Sync + Abort>(
     lists_give_the_same(rt, alloc, &cube, &plan)
 }
 
-/// Fails where it does by one of four plans, in an order and by a coder.
+/// Asserts that the pipeline and the lists agree by each of four plans, in an order and by a coder.
 fn plans_give_the_same<R: Threads + Wait + Sync + Abort>(
     rt: &R,
     alloc: Global,
@@ -180,7 +181,7 @@ fn plans_give_the_same<R: Threads + Wait + Sync + Abort>(
     four_give_the_same(rt, alloc, &params_of(rt, order, coder))
 }
 
-/// Fails where it does by one of four plans for these parameters.
+/// Asserts that the pipeline and the lists agree by each of four plans for these parameters.
 fn four_give_the_same<R: Threads + Wait + Sync + Abort>(
     rt: &R,
     alloc: Global,
@@ -194,7 +195,7 @@ fn four_give_the_same<R: Threads + Wait + Sync + Abort>(
     Ok(())
 }
 
-/// The same file, and as many residuals of each predictor.
+/// Checks each encoding order with each coder.
 #[test]
 fn as_whole_lists(rt: HostRuntime) -> Result<(), Fail> {
     for order in [Order::Bsq, Order::Bi(1), Order::Bi(2)] {

@@ -1,11 +1,11 @@
-//! What a test finds, beside what it wants.
+//! Assertions that the tests share.
 
 use std::fmt::Debug;
 use std::process::Abort;
 
-/// Fails where two values differ, and prints both.
+/// Asserts that two values are equal, and prints both if they aren't.
 ///
-/// It is proved once; the macro, written out in each test, would be proved in each.
+/// Tests call this instead of the macro, so that the macro's expansion is proved only once.
 pub(crate) fn same<T: PartialEq + Debug + Drop>(rt: &impl Abort, found: T, wanted: T) {
     assert_eq!(rt; found, wanted);
 }

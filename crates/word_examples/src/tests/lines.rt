@@ -1,4 +1,4 @@
-//! Command lines that are refused as `Usage`.
+//! Tests of command lines that are refused as `Usage`.
 
 use super::support::{image_with, parsed};
 use crate::tests::checks::same;
@@ -6,7 +6,7 @@ use cube_core::fault::Fault;
 use std::alloc::Global;
 use std::process::Abort;
 
-/// Options, each with a value that it doesn't take.
+/// Options, each with a value that it doesn't accept.
 const VALUES: &str = "--depth 0
 --depth 65537
 --order bi --depth 0
@@ -57,7 +57,7 @@ compress --columns=3 --rows=2 --bands=65537 --bits=8 a b
 compress --columns=3 --rows=2 --bands=2 --bits=1 a b
 compress --columns=3 --rows=2 --bands=2 --bits=17 a b";
 
-/// Other lines; the first one is empty.
+/// Other lines that are refused; the first one is empty.
 const OTHERS: &str = "
 help
 --help
@@ -106,7 +106,7 @@ expand --layout pixel a b
 expand --little=true a b
 expand --little --little a b";
 
-/// Fails where a line isn't refused as `Usage`.
+/// Asserts that a line is refused as `Usage`.
 fn is_usage(rt: &impl Abort, alloc: Global, line: &str) {
     let refused = parsed(alloc, line).err();
     same(rt, (line, refused), (line, Some(Fault::Usage)));

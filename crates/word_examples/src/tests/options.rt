@@ -1,4 +1,4 @@
-//! What each option does.
+//! Tests of what each option does.
 
 use super::support::{IMAGE, compressed, compression, expansion, image_with, parsed, told};
 use crate::tests::checks::same;
@@ -7,10 +7,10 @@ use cube_core::layout::{Layout, RawOrder};
 use std::alloc::Global;
 use std::process::Abort;
 
-/// The samples of that image, of two bytes each.
+/// The samples of the image of `IMAGE`, of two bytes each.
 const SAMPLES: [u8; 24] = [0; 24];
 
-/// Two samples of 200, one row below the other, as a file.
+/// The file of two samples of 200, one row below the other.
 const TWO_EQUAL_FILE: [u8; 21] = [
     0x00, 0x00, 0x01, 0x00, 0x02, 0x00, 0x01, 0x11, 0x00, 0x00, 0x08, 0x00, 0x02, 0xA0, 0x92, 0x59,
     0x00, 0x82, 0x26, // the header
@@ -20,7 +20,7 @@ const TWO_EQUAL_FILE: [u8; 21] = [
 const DEFAULTS: &str =
     "\nuser 0\ncolumns 3\nrows 2\nbands 2\nsample unsigned\nbits 8\norder bsq\nword 1\ncoder sample\nprevious 3\nmode full\nsums neighbour\nregister 64\nomega 13\ninterval 64\nvmin -1\nvmax 3\nstart usual\numax 16\ngamma-star 6\ngamma-zero 1\nk 3\nheader 19\n";
 
-/// Options of that image, and a line that is told with them.
+/// Options of `IMAGE`, and a line that `inspect` writes with them.
 static OPTIONS: [(&str, &str); 23] = [
     ("--signed", "sample signed"),
     ("--order bi", "order bi 1"),
@@ -62,7 +62,7 @@ fn defaults(rt: HostRuntime) {
     same(&rt, told.as_str(), DEFAULTS);
 }
 
-/// Fails where this line isn't told with these options.
+/// Asserts that `inspect` writes this line for a file with these options.
 fn tells(rt: &impl Abort, alloc: Global, options: &str, wanted: &str) {
     let line = image_with(rt, alloc, options);
     let told = told(alloc, &line, &SAMPLES).expect(rt, "no refusal");
@@ -94,21 +94,21 @@ fn a_line_of_options_makes_its_file(rt: HostRuntime) {
     same(&rt, file.as_slice(), TWO_EQUAL_FILE.as_slice());
 }
 
-/// Fails where a compression by this line has another layout, or other files.
+/// Asserts that a line is a compression in this layout, from `a` to `b`.
 fn compresses_in(rt: &impl Abort, alloc: Global, line: &str, wanted: Layout) {
     let (settings, from, to) = compression(alloc, line).expect(rt, "a compression");
     same(rt, (line, settings.layout), (line, wanted));
     same(rt, (from.as_str(), to.as_str()), ("a", "b"));
 }
 
-/// Fails where an expansion by this line has another layout, or other files.
+/// Asserts that a line is an expansion in this layout, from `c` to `d`.
 fn expands_in(rt: &impl Abort, alloc: Global, line: &str, wanted: Layout) {
     let (layout, from, to) = expansion(alloc, line).expect(rt, "an expansion");
     same(rt, (line, layout), (line, wanted));
     same(rt, (from.as_str(), to.as_str()), ("c", "d"));
 }
 
-/// Fails where a compression or an expansion with these options has another layout, or other files.
+/// Asserts that a compression and an expansion with these options are in this layout.
 fn has_layout(rt: &impl Abort, alloc: Global, options: &str, wanted: Layout) {
     compresses_in(rt, alloc, &image_with(rt, alloc, options), wanted);
     let line = format!(in alloc; "expand {options} c d").expect(rt, "memory");
@@ -134,7 +134,7 @@ fn layouts(rt: HostRuntime) {
     }
 }
 
-/// Fails where a compression by this line has another number of predictors or of slots.
+/// Asserts that a line is a compression with these numbers of predictors and slots.
 fn deals(rt: &impl Abort, alloc: Global, line: &str, predictors: u32, slots: u32) {
     let (settings, _from, _to) = compression(alloc, line).expect(rt, "a compression");
     same(rt, settings.predictors, predictors);

@@ -1,4 +1,4 @@
-//! What the tests of command lines share: words between spaces, and runs over memory.
+//! What the tests share: command lines whose words are separated by spaces, and engines that run over memory.
 
 ghost use Rattle.std.specs.Prelude.{IfOk};
 ghost use Rattle.command_words.specs.Settings.{AreInRange};
@@ -14,18 +14,18 @@ use cube_core::layout::Layout;
 use std::alloc::Global;
 use std::process::Abort;
 
-/// The line of an image with what is required.
+/// A line that compresses an image, with the required options alone.
 pub(crate) const IMAGE: &str = "compress --columns=3 --rows=2 --bands=2 --bits=8 a b";
 
-/// The room of a sink, and the pieces in which a run goes.
+/// The room of a sink, and the size of the pieces that are read and written.
 const ROOM: usize = 1000;
 
-/// That line, with options behind it.
+/// Returns that line with more options.
 pub(crate) fn image_with(rt: &impl Abort, alloc: Global, options: &str) -> String {
     format!(in alloc; "{IMAGE} {options}").expect(rt, "memory")
 }
 
-/// What a command line of words between spaces asks for.
+/// Returns the settings of a command line whose words are separated by spaces.
 pub(crate) fn parsed(alloc: Global, line: &str) -> Result<Settings, Fault>
     ensures { IfOk result AreInRange }
 {
@@ -33,7 +33,7 @@ pub(crate) fn parsed(alloc: Global, line: &str) -> Result<Settings, Fault>
     settings(alloc, words.as_slice())
 }
 
-/// The settings of a compression that a command line asks for, and its files. Other lines are refused.
+/// Returns the settings of a line that compresses, and its files. Other lines are refused.
 pub(crate) fn compression(
     alloc: Global,
     line: &str,
@@ -46,7 +46,7 @@ pub(crate) fn compression(
     }
 }
 
-/// The layout of an expansion that a command line asks for, and its files. Other lines are refused.
+/// Returns the layout of a line that expands, and its files. Other lines are refused.
 pub(crate) fn expansion(alloc: Global, line: &str) -> Result<(Layout, String, String), Fault> {
     match parsed(alloc, line)? {
         Settings::Expand(layout, from, to) => Ok((layout, from, to)),
@@ -54,7 +54,7 @@ pub(crate) fn expansion(alloc: Global, line: &str) -> Result<(Layout, String, St
     }
 }
 
-/// The file that raw bytes are compressed to.
+/// Returns the file to which raw bytes are compressed by these settings.
 fn file_of(alloc: Global, settings: &CompressSettings, raw: &[u8]) -> Result<Vec<u8>, Fault>
     requires { IsLayout settings.now.layout }
 {
@@ -64,13 +64,13 @@ fn file_of(alloc: Global, settings: &CompressSettings, raw: &[u8]) -> Result<Vec
     Ok(Vec::from_slice(alloc, sink.taken())?)
 }
 
-/// The file that raw bytes are compressed to, by a command line.
+/// Returns the file to which raw bytes are compressed by a command line.
 pub(crate) fn compressed(alloc: Global, line: &str, raw: &[u8]) -> Result<Vec<u8>, Fault> {
     let (settings, _from, _to) = compression(alloc, line)?;
     file_of(alloc, &settings, raw)
 }
 
-/// The lines that `inspect` tells of the file that a command line compresses raw bytes to, behind a newline.
+/// Compresses raw bytes by a command line, and returns what `inspect` writes for the file, after a newline.
 pub(crate) fn told(alloc: Global, line: &str, raw: &[u8]) -> Result<String, Fault> {
     let file = compressed(alloc, line, raw)?;
     let mut source = CutSource::new(&file, ROOM, None);

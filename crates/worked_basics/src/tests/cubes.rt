@@ -1,4 +1,4 @@
-//! Cubes, layouts and refusals at values from outside.
+//! Tests of cubes: ranges of sizes and samples, layouts of raw bytes, and refusals.
 
 ghost use Rattle.cube_core.specs.Layout.{IsLayout};
 
@@ -41,7 +41,7 @@ fn new_cube_is_zero_until_set(rt: HostRuntime) {
     same(&rt, cube.sample(0, 0, 0), -128);
 }
 
-/// What a lone sample of eleven bits is read as.
+/// Reads raw bytes, the low one first, as a cube of one 11-bit sample, and returns the sample.
 fn lone_sample(rt: &impl Abort, alloc: Global, bytes: &[u8]) -> Result<i32, Fault> {
     let layout = Layout {
         order: RawOrder::Bsq,
@@ -69,7 +69,7 @@ fn lone_samples_of_eleven_bits(rt: HostRuntime) {
     );
 }
 
-/// Samples of twelve bits, two columns, two rows and three bands, in a layout's order.
+/// Returns the 12-bit samples of two columns, two rows and three bands, in an order of raw bytes.
 fn samples_in(order: RawOrder) -> [u16; 12] {
     match order {
         RawOrder::Bsq => [
@@ -84,7 +84,7 @@ fn samples_in(order: RawOrder) -> [u16; 12] {
     }
 }
 
-/// These samples in two bytes each.
+/// Returns these samples as raw bytes, two for each.
 fn bytes_in(rt: &impl Abort, alloc: Global, order: RawOrder, little: bool) -> Vec<u8> {
     let mut bytes = Vec::new(alloc);
     for sample in samples_in(order) {
@@ -95,7 +95,7 @@ fn bytes_in(rt: &impl Abort, alloc: Global, order: RawOrder, little: bool) -> Ve
     bytes
 }
 
-/// That a cube has this sample at a place.
+/// Asserts that a cube has this sample at a place.
 fn has_sample(rt: &impl Abort, cube: &Cube, place: Place, wanted: u16) {
     let shape = cube.shape();
     assert!(rt; place.z < shape.bands());
@@ -108,7 +108,7 @@ fn has_sample(rt: &impl Abort, cube: &Cube, place: Place, wanted: u16) {
     );
 }
 
-/// That a cube has the shape and the samples of the one that is read.
+/// Asserts that a cube has the shape and the samples of `samples_in`.
 fn has_samples(rt: &impl Abort, cube: &Cube) {
     same(rt, cube.shape(), shape_of(rt, 2, 2, 3));
     let mut i = 0;
@@ -119,7 +119,7 @@ fn has_samples(rt: &impl Abort, cube: &Cube) {
     }
 }
 
-/// That the samples are read from a layout, and written to it again.
+/// Asserts that the samples are read from a layout, and that writing them in it returns the same bytes.
 fn layout_is_read(rt: &impl Abort, alloc: Global, order: RawOrder, little: bool) {
     let kind = Kind::new(false, 12).expect(rt, "a kind");
     let shape = shape_of(rt, 2, 2, 3);
@@ -144,7 +144,7 @@ fn each_layout_is_read_to_one_cube(rt: HostRuntime) {
     }
 }
 
-/// A layout of one byte a sample, or of two.
+/// Returns a layout with two bytes for each sample if `wide`, otherwise with one.
 fn layout_of(order: RawOrder, wide: bool, little: bool) -> Layout
     ensures { IsLayout result }
 {
@@ -163,7 +163,7 @@ fn layout_of(order: RawOrder, wide: bool, little: bool) -> Layout
     }
 }
 
-/// Reads bytes as a cube, writes it in a layout, reads that and writes it as the bytes were.
+/// Reads a cube from bytes, writes it in a layout, reads that again, and returns it in the layout of the bytes.
 fn there_and_back(
     rt: &impl Abort,
     alloc: Global,
@@ -181,12 +181,12 @@ fn there_and_back(
     again.to_raw(alloc, plain).expect(rt, "memory")
 }
 
-/// Twelve samples of eight signed bits.
+/// Twelve signed samples of 8 bits.
 const TWELVE: [u8; 12] = [
     0x00, 0x01, 0x7F, 0x80, 0xFF, 0x10, 0x90, 0xA5, 0x5A, 0x81, 0x7E, 0xFE,
 ];
 
-/// That twelve samples of a shape are written in each layout, and read again.
+/// Asserts that twelve samples in a shape are the same after they are written in each layout and read again.
 fn each_layout_is_written_and_read(rt: &impl Abort, alloc: Global, shape: Shape) {
     for order in [RawOrder::Bsq, RawOrder::Bil, RawOrder::Bip] {
         for (wide, little) in [(false, false), (true, false), (true, true)] {
@@ -205,7 +205,7 @@ fn each_layout_is_written_and_read_in_each_shape(rt: HostRuntime) {
     }
 }
 
-/// The raw bytes of a lone sample.
+/// Returns the raw bytes of a cube of one sample.
 fn lone_bytes(
     rt: &impl Abort,
     alloc: Global,

@@ -5,13 +5,13 @@ use cube_core::fault::{Fault, Field, Rule};
 use std::alloc::Global;
 use std::process::Abort;
 
-/// That a fault prints this line.
+/// Asserts that a fault prints this line.
 fn prints(rt: &impl Abort, alloc: Global, fault: Fault, line: &str) {
     let printed = format!(in alloc; "{fault}").expect(rt, "memory");
     same(rt, printed.as_str(), line);
 }
 
-/// The same for a field out of its range.
+/// Asserts that the fault of a field out of its range prints this line.
 fn field_prints(rt: &impl Abort, alloc: Global, field: Field, value: i64, line: &str) {
     prints(rt, alloc, Fault::FieldRange { field, value }, line);
 }

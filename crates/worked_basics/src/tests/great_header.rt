@@ -1,4 +1,4 @@
-//! The longest header that there is: the most bands, with the most weights and the most constants.
+//! A test of the longest header: the most bands, the most weights, and an accumulator constant for each band.
 
 use crate::tests::checks::same;
 use cube_core::fault::Fault;
@@ -10,13 +10,14 @@ use header_bits::tables::{ConstantTable, WeightTable};
 use std::alloc::Global;
 use std::process::Abort;
 
-/// The most bands.
+/// The greatest number of bands.
 const BANDS: u32 = 65_536;
 
-/// 19 bytes, then 18 weights of 22 bits for each band but 120 in all that the first fifteen bands lack, and four bits for each band.
+/// The header's length: 19 bytes, 18 weights of 22 bits for each band, less the 120 that the first 15 bands lack in
+/// all, and 4 bits for each band's constant.
 const LENGTH: usize = 19 + (18 * 65_536 - 120) * 22 / 8 + 65_536 / 2;
 
-/// Weights of all 22 bits, of either sign: three for the directions and one for each band below, at most fifteen.
+/// Returns weights of 22 bits: for each band three directional ones, and one for each band below it, up to 15.
 fn weights(alloc: Global) -> Result<Vec<i32>, Fault> {
     let mut weights = Vec::new(alloc);
     let mut state = 1u64;
@@ -31,7 +32,7 @@ fn weights(alloc: Global) -> Result<Vec<i32>, Fault> {
     Ok(weights)
 }
 
-/// Constants of samples of eight bits, by turns.
+/// Returns a constant from 0 to 6 for each band, in turn.
 fn constants(alloc: Global) -> Result<Vec<u8>, Fault> {
     let mut constants = Vec::new(alloc);
     for band in 0..BANDS {
@@ -40,7 +41,7 @@ fn constants(alloc: Global) -> Result<Vec<u8>, Fault> {
     Ok(constants)
 }
 
-/// The weights as the predictor's start.
+/// Returns the weight initialization with these weights.
 fn start(rt: &impl Abort, alloc: Global) -> WeightStart {
     WeightStart::Table {
         q: 22,
@@ -48,7 +49,7 @@ fn start(rt: &impl Abort, alloc: Global) -> WeightStart {
     }
 }
 
-/// The sample-adaptive coder by the constants.
+/// Returns the sample-adaptive coder with these constants.
 fn coder(rt: &impl Abort, alloc: Global) -> Coder {
     Coder::Sample {
         umax: 16,
@@ -58,7 +59,7 @@ fn coder(rt: &impl Abort, alloc: Global) -> Coder {
     }
 }
 
-/// The parameters with the longest header.
+/// Returns the parameters with the longest header.
 fn params(rt: &impl Abort, alloc: Global) -> Params {
     let shape = Shape::new(2, 1, BANDS).expect(rt, "a shape");
     let kind = Kind::new(false, 8).expect(rt, "a kind");
@@ -74,7 +75,7 @@ fn params(rt: &impl Abort, alloc: Global) -> Params {
     }
 }
 
-/// Whether a start has the weights, in their 22 bits.
+/// Returns whether a weight initialization is the table of these weights, with a resolution of 22 bits.
 fn has_weights(rt: &impl Abort, alloc: Global, start: &WeightStart) -> bool {
     let weights = weights(alloc).expect(rt, "memory");
     match start {
@@ -83,7 +84,7 @@ fn has_weights(rt: &impl Abort, alloc: Global, start: &WeightStart) -> bool {
     }
 }
 
-/// Whether a coder has the constants.
+/// Returns whether a coder has the accumulator table of these constants.
 fn has_constants(rt: &impl Abort, alloc: Global, coder: &Coder) -> bool {
     let constants = constants(alloc).expect(rt, "memory");
     match coder {
@@ -95,14 +96,14 @@ fn has_constants(rt: &impl Abort, alloc: Global, coder: &Coder) -> bool {
     }
 }
 
-/// The bytes of the longest header.
+/// Returns the bytes of the longest header.
 fn written(rt: &impl Abort, alloc: Global) -> Vec<u8> {
     let params = params(rt, alloc);
     assert!(rt; params.check().is_ok());
     write_header(alloc, &params).expect(rt, "memory")
 }
 
-/// That bytes are read to the end, as the longest header.
+/// Asserts that all bytes are read as the longest header.
 fn are_longest_header(rt: &impl Abort, alloc: Global, bytes: &[u8]) {
     assert!(rt; bytes.len() == LENGTH);
     let (params, size) = read_header(alloc, bytes).expect(rt, "a header");

@@ -1,4 +1,4 @@
-//! Headers written and read, and what is refused.
+//! Tests of writing and reading headers, and of their refusals.
 
 ghost use Rattle.std.specs.Prelude.{◌<◌};
 ghost use Rattle.header_bits.specs.Lawful.{IsLawful};
@@ -13,7 +13,7 @@ use header_bits::params::Params;
 use std::alloc::Global;
 use std::process::Abort;
 
-/// The header of a lone sample of eight bits.
+/// The header of a cube of one 8-bit sample.
 const ONE_SAMPLE: [u8; 19] = [
     0x00, // user-defined data
     0x00, 0x01, 0x00, 0x01, 0x00, 0x01, // one column, row and band
@@ -27,7 +27,7 @@ const ONE_SAMPLE: [u8; 19] = [
     0x82, 0x26, // unary limit 16, rescaling size 6, first exponent 1, constant 3
 ];
 
-/// The parameters of that sample.
+/// Returns the parameters of that header.
 fn one_sample(rt: &impl Abort) -> Params
     ensures { IsLawful result }
 {
@@ -45,7 +45,7 @@ fn one_sample_is_written(rt: HostRuntime) {
     same(&rt, bytes.as_slice(), ONE_SAMPLE.as_slice());
 }
 
-/// A byte of ones, and the header behind it.
+/// Returns a byte of ones, followed by the header.
 fn behind_ones(rt: &impl Abort, alloc: Global) -> Vec<u8> {
     let params = one_sample(rt);
     let mut writer = BitWriter::new(alloc);
@@ -78,7 +78,7 @@ fn any_depth_is_read_and_zeros_are_written(rt: HostRuntime) {
     same(&rt, again.as_slice(), ONE_SAMPLE.as_slice());
 }
 
-/// What the header with another byte at a place is refused for.
+/// Returns the fault that the header is refused for once byte `place` is replaced.
 fn refusal(alloc: Global, place: usize, byte: u8) -> Option<Fault>
     requires { place < 19 }
 {

@@ -4,7 +4,7 @@ use crate::tests::checks::same;
 use cube_core::kind::Kind;
 use std::process::Abort;
 
-/// That a kind goes from the least number to the greatest, and no further.
+/// Asserts that a kind has these limits and this middle, and that it has no sample beyond its limits.
 fn has_range(rt: &impl Abort, kind: Kind, least: i32, middle: i32, greatest: i32) {
     same(rt, kind.smin(), least);
     same(rt, kind.smid(), middle);
@@ -28,7 +28,7 @@ fn ranges_of_kinds(rt: HostRuntime) {
     }
 }
 
-/// That a sample of sixteen signed bits has this offset, and an offset this sample.
+/// Asserts that a signed 16-bit sample has this offset, and the offset this sample.
 fn is_offset(rt: &impl Abort, sample: i32, offset: u16) {
     let kind = Kind::new(true, 16).expect(rt, "a kind");
     assert!(rt; kind.has(sample));

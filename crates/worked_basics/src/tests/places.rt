@@ -1,4 +1,4 @@
-//! Encoding orders, and walks along them, at values from outside.
+//! Tests of encoding orders, and of walks along them.
 
 ghost use Rattle.std.specs.Prelude.{◌≡◌};
 ghost use Rattle.cube_core.specs.Order.{IsOrder};
@@ -9,7 +9,7 @@ use cube_core::order::{Order, Place, index_of, place_at};
 use cube_core::shape::Shape;
 use std::process::Abort;
 
-/// A shape of these sizes.
+/// Returns a shape of these sizes.
 pub(super) fn shape_of(rt: &impl Abort, columns: u32, rows: u32, bands: u32) -> Shape
     ensures columns { result.columns ≡ columns }
     ensures rows { result.rows ≡ rows }
@@ -22,7 +22,7 @@ pub(super) fn shape_of(rt: &impl Abort, columns: u32, rows: u32, bands: u32) -> 
     shape
 }
 
-/// That a place is found by its item, and the item by its place.
+/// Asserts that `place_at` returns this place for index `i`, and that `index_of` returns `i` for the place.
 fn is_found(rt: &impl Abort, shape: Shape, order: Order, i: u64, place: Place)
     requires { IsOrder shape order }
 {
@@ -34,13 +34,13 @@ fn is_found(rt: &impl Abort, shape: Shape, order: Order, i: u64, place: Place)
     same(rt, index_of(&shape, order, place), i);
 }
 
-/// That a walk stands at a place, and goes on from it.
+/// Asserts that a place is the next one of a walk, and moves the walk past it.
 fn stands_at(rt: &impl Abort, walk: &mut Places, place: Place) {
     same(rt, walk.peek(), Some(place));
     same(rt, walk.next(), Some(place));
 }
 
-/// The first places of three bands, two columns and two rows, by groups of two bands.
+/// The first places of three bands, two rows and two columns, interleaved with a depth of 2.
 const FIRST_PLACES: [Place; 7] = [
     Place { z: 0, y: 0, x: 0 },
     Place { z: 1, y: 0, x: 0 },
@@ -69,7 +69,7 @@ fn index_of_a_place_of_the_second_group(rt: HostRuntime) {
     same(&rt, index_of(&shape, Order::Bi(2), place), 5);
 }
 
-/// Goes through an order by the walk, and finds each place by its item and each item by its place.
+/// Asserts that a walk returns all places of an order, by increasing index.
 fn walk_through(rt: &impl Abort, shape: Shape, order: Order)
     requires { IsOrder shape order }
 {
@@ -82,7 +82,7 @@ fn walk_through(rt: &impl Abort, shape: Shape, order: Order)
     same(rt, i, shape.sample_count());
 }
 
-/// Goes by many places at once, from each place on, and finds what comes next by its item.
+/// Asserts that a walk that skips any number of places, from any place on, continues at the right index.
 fn go_by_many(rt: &impl Abort, shape: Shape, order: Order)
     requires { IsOrder shape order }
 {
@@ -102,7 +102,7 @@ fn go_by_many(rt: &impl Abort, shape: Shape, order: Order)
     }
 }
 
-/// Finds each place of a column of bands by its item, for the column that begins at each place.
+/// Asserts that the places that `column` counts, from any place on, are successive bands of one row and column.
 fn go_along_columns(rt: &impl Abort, shape: Shape, order: Order)
     requires { IsOrder shape order }
 {

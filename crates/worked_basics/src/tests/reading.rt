@@ -1,4 +1,4 @@
-//! Bits read, and refused.
+//! Tests of the bit reader.
 
 use crate::tests::checks::same;
 use cube_core::fault::Fault;
@@ -37,7 +37,7 @@ fn zeros_over_words(rt: HostRuntime) {
     same(&rt, reader.left(), 12);
 }
 
-/// What 57 bits are ahead, where so many are.
+/// Returns the next 57 bits, or `None` if fewer are left.
 fn next_57_bits(reader: &BitReader) -> Option<u64> {
     reader.peek().map(|word| word >> 7)
 }

@@ -1,4 +1,4 @@
-//! Tables of weights and of accumulator constants hold the numbers that they were made from.
+//! Tests that weight tables and accumulator tables return the numbers that they were made from.
 
 use crate::tests::checks::same;
 use header_bits::tables::{ConstantTable, WeightTable};

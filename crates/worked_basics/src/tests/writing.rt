@@ -1,4 +1,4 @@
-//! Bits pushed, and refused.
+//! Tests of the bit writer.
 
 use crate::tests::checks::same;
 use cube_core::fault::Fault;
