@@ -7,8 +7,9 @@ use crate::tests::checks::same;
 use cube_core::fault::{Fault, Field, Rule};
 use cube_core::kind::Kind;
 use cube_core::shape::Shape;
+use header_bits::bit_reader::BitReader;
 use header_bits::bit_writer::BitWriter;
-use header_bits::header::{put_header, read_header, write_header};
+use header_bits::header::{put_header, read_header, take_header, write_header};
 use header_bits::params::Params;
 use std::alloc::Global;
 use std::process::Abort;
@@ -120,6 +121,28 @@ fn a_header_cut_short(rt: HostRuntime) {
         read_header(rt.alloc(), &ONE_SAMPLE[..18]).err(),
         Some(Fault::ShortHeader),
     );
+}
+
+#[test]
+fn a_header_is_taken_off_a_reader(rt: HostRuntime) {
+    let mut bytes = [0xFF; 20];
+    bytes[1..].copy_from_slice(&ONE_SAMPLE);
+    let mut reader = BitReader::new(&bytes);
+    same(&rt, reader.take(8), Ok(0xFF));
+    let params = take_header(rt.alloc(), &mut reader).expect(&rt, "a header");
+    same(&rt, params.vmax, 3);
+    same(&rt, reader.left(), 0);
+}
+
+#[test]
+fn a_refused_header_is_not_taken(rt: HostRuntime) {
+    let mut reader = BitReader::new(&ONE_SAMPLE[..18]);
+    same(
+        &rt,
+        take_header(rt.alloc(), &mut reader).err(),
+        Some(Fault::ShortHeader),
+    );
+    same(&rt, reader.left(), 144);
 }
 
 #[test]
