@@ -8,7 +8,8 @@ ghost use Rattle.header_bits.specs.Layout.{AreValues, spelled, values};
 ghost use Rattle.header_bits.specs.CoderPart.{coder_fields, coder_numbers};
 ghost use Rattle.header_bits.specs.TableParts.{has_constants, number_fields};
 ghost use Rattle.header_bits.specs.Lawful.{IsLawful};
-ghost use Rattle.header_bits.specs.Header.{header_of, said, AreThere, coder_by_part, params_of, parts_at, SpellsHeader, ReadsHeader, TakesHeader, BeginsNoHeader};
+ghost use Rattle.header_bits.specs.Header.{header_of, said, AreThere, coder_by_part, params_of, parts_at};
+ghost use Rattle.header_bits.specs.Header.{SpellsHeader, ReadsHeader, TakesHeader, BeginsNoHeader};
 
 use crate::bit_reader::BitReader;
 use crate::bit_writer::BitWriter;

@@ -18,7 +18,7 @@ use cube_core::cube::Cube;
 use cube_core::fault::Fault;
 use cube_core::shape::Shape;
 use header_bits::params::Params;
-use sample_prediction::predictor::Predictor;
+use sample_prediction::predictor::{MOST_COMPONENTS, Predictor};
 use sample_prediction::range::Range;
 use sample_prediction::start::start_of;
 use std::alloc::Global;
@@ -33,7 +33,7 @@ pub struct Band {
     pub(crate) settings: Settings,
     shape: Shape,
     pub(crate) next: u64,
-    pub(crate) weights: [i32; 18],
+    pub(crate) weights: [i32; MOST_COMPONENTS],
     pub(crate) piece: [u16; 64],
 }
 
@@ -183,7 +183,7 @@ fn next_residual(
     y: u32,
     x: u32,
     t: u64,
-    weights: &mut [i32; 18],
+    weights: &mut [i32; MOST_COMPONENTS],
 ) -> u16
     requires columns { cube.now.shape.columns ≡ settings.now.columns }
     requires kind { cube.now.kind ≡ settings.now.range.kind }
@@ -230,7 +230,7 @@ fn next_sample(
     y: u32,
     x: u32,
     t: u64,
-    weights: &mut [i32; 18],
+    weights: &mut [i32; MOST_COMPONENTS],
     delta: u16,
 ) -> i32
     requires columns { cube.now.shape.columns ≡ settings.now.columns }

@@ -21,6 +21,7 @@ use crate::room::Quad;
 use crate::settings::Settings;
 use cube_core::cube::Cube;
 use sample_prediction::prediction::predicted_difference;
+use sample_prediction::predictor::MOST_COMPONENTS;
 use sample_prediction::weights::{form_of, update_by};
 
 /// What the steps of the weights have in common, over places with the same exponent.
@@ -43,8 +44,8 @@ fn follow<const N: usize>(
     steps: Steps,
     own: i32,
     predicted: i32,
-    weights: &mut [i32; 18],
-    differences: &[i32; 18],
+    weights: &mut [i32; MOST_COMPONENTS],
+    differences: &[i32; MOST_COMPONENTS],
 )
     requires few { N ≤ 18 }
     requires own_in { unsigned_abs own ≤ 2 ^ 18 }
@@ -79,7 +80,7 @@ pub(crate) fn turn_of_error(own: i32, predicted: i32) -> i32
 
 /// Returns the components of place `i` from the first `Q` quads, followed by zeros.
 #[inline(always)]
-pub(crate) fn differences_at<const Q: usize>(quads: &[Quad; Q], i: usize) -> [i32; 18]
+pub(crate) fn differences_at<const Q: usize>(quads: &[Quad; Q], i: usize) -> [i32; MOST_COMPONENTS]
     requires few { Q ≤ 5 }
     requires place { i < 64 }
     ensures { result ≡ take 18 (components_at Q quads.now i ++ replicate 18 (pos 0)) }
@@ -133,8 +134,8 @@ fn follow_at<const N: usize, const WRAPS: bool>(
     steps: Steps,
     sum: i32,
     own: i32,
-    weights: &mut [i32; 18],
-    differences: &[i32; 18],
+    weights: &mut [i32; MOST_COMPONENTS],
+    differences: &[i32; MOST_COMPONENTS],
 ) -> i32
     requires few { N ≤ 18 }
     requires enough { settings.now.count ≤ N }
@@ -191,7 +192,7 @@ fn follow_place<const Q: usize, const N: usize, const WRAPS: bool>(
     steps: Steps,
     run: KnownRun<Q>,
     parts: &mut [i32; 64],
-    weights: &mut [i32; 18],
+    weights: &mut [i32; MOST_COMPONENTS],
 )
     requires run { CanFollow Q N WRAPS run.settings.now cube.now y x (i + 1) run.sums.now run.own.now run.quads.now }
     requires later { 0 < y + (x + i) }
@@ -220,14 +221,14 @@ fn follow_place<const Q: usize, const N: usize, const WRAPS: bool>(
 /// their mapped residuals.
 #[derive(Drop)]
 pub(crate) struct RunState {
-    pub weights: [i32; 18],
+    pub weights: [i32; MOST_COMPONENTS],
     pub parts: [i32; 64],
     pub residuals: [u16; 64],
 }
 
 impl RunState {
     /// Returns the state before a run.
-    pub(crate) fn new(weights: [i32; 18]) -> RunState
+    pub(crate) fn new(weights: [i32; MOST_COMPONENTS]) -> RunState
         ensures { result.weights ≡ weights }
     {
         RunState {

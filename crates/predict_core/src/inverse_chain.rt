@@ -33,6 +33,7 @@ use cube_core::cube::Cube;
 use sample_prediction::differences::west_of;
 use sample_prediction::exponent::{exponent_at, places_alike};
 use sample_prediction::prediction::predicted_difference;
+use sample_prediction::predictor::MOST_COMPONENTS;
 use sample_prediction::range::Range;
 use sample_prediction::residual::{prediction_of, unmap_by_center};
 use sample_prediction::weights::{Form, update_by};
@@ -46,7 +47,7 @@ pub(crate) struct OpenRun<'a, const Q: usize> {
     pub x: u32,
     pub sums: &'a [i32; 64],
     pub quads: &'a [Quad; Q],
-    pub weights: [i32; 18],
+    pub weights: [i32; MOST_COMPONENTS],
     pub deltas: &'a [u16],
 }
 
@@ -57,7 +58,7 @@ pub(crate) struct OpenRun<'a, const Q: usize> {
 pub(crate) fn invert_places<const Q: usize, const N: usize, const WRAPS: bool>(
     mut cube: Cube,
     run: OpenRun<Q>,
-) -> (Cube, [i32; 18])
+) -> (Cube, [i32; MOST_COMPONENTS])
     requires few_weights { N ≤ 18 }
     requires enough { run.settings.now.count ≤ N }
     requires quads { Q ≡ quads_of run.settings.now.count }
@@ -192,8 +193,8 @@ fn sample_there<const N: usize, const WRAPS: bool>(
     sum: u32,
     west: u16,
     form: Form,
-    weights: &mut [i32; 18],
-    components: &[i32; 18],
+    weights: &mut [i32; MOST_COMPONENTS],
+    components: &[i32; MOST_COMPONENTS],
     delta: u16,
 ) -> i32
     requires few { N ≤ 18 }

@@ -15,6 +15,7 @@ use crate::pieces::follow_run;
 use crate::room::{Quad, fill_run};
 use crate::settings::Settings;
 use cube_core::cube::Cube;
+use sample_prediction::predictor::MOST_COMPONENTS;
 
 /// Finds the mapped residuals of a run of `count` places, and updates the weights; with `PAIR` also those of the same
 /// places of another band, which uses as many weights.
@@ -74,7 +75,9 @@ fn predict_in<const WRAPS: bool, const PAIR: bool>(
     } else if weights <= 16 {
         predict_by::<4, 16, WRAPS, PAIR>(cube, y, x, count, settings, state, other, beside);
     } else {
-        predict_by::<5, 18, WRAPS, PAIR>(cube, y, x, count, settings, state, other, beside);
+        predict_by::<5, MOST_COMPONENTS, WRAPS, PAIR>(
+            cube, y, x, count, settings, state, other, beside,
+        );
     }
 }
 

@@ -15,13 +15,14 @@ use cube_core::cube::Cube;
 use sample_prediction::differences::{fill_differences, sum_at};
 use sample_prediction::exponent::exponent_at;
 use sample_prediction::prediction::scaled_by;
+use sample_prediction::predictor::MOST_COMPONENTS;
 use sample_prediction::weights::{Form, form_of, update};
 
 /// The prediction at a place, and the differences that it comes from.
 #[derive(Clone, Copy)]
 pub(crate) struct Prediction {
     pub scaled: i32,
-    pub differences: [i32; 18],
+    pub differences: [i32; MOST_COMPONENTS],
 }
 
 /// Returns the scaled prediction at the first place of a band.
@@ -47,7 +48,7 @@ pub(crate) fn predict(
     cube: &Cube,
     y: u32,
     x: u32,
-    weights: &[i32; 18],
+    weights: &[i32; MOST_COMPONENTS],
 ) -> Prediction
     requires place { IsPlace cube.now.shape settings.now.band y x }
     requires columns { cube.now.shape.columns ≡ settings.now.columns }
@@ -65,7 +66,7 @@ pub(crate) fn predict(
     let predictor = &settings.predictor;
     let range = &settings.range;
     let sum = sum_at(predictor, cube, settings.band, y, x);
-    let mut differences = [0i32; 18];
+    let mut differences = [0i32; MOST_COMPONENTS];
     fill_differences(
         predictor,
         cube,
@@ -96,7 +97,7 @@ pub(crate) fn predict(
 pub(crate) fn learn(
     settings: &Settings,
     t: u64,
-    weights: &mut [i32; 18],
+    weights: &mut [i32; MOST_COMPONENTS],
     prediction: &Prediction,
     sample: i32,
 )

@@ -18,6 +18,7 @@ use crate::run::LEAST;
 use crate::settings::Settings;
 use core::mem::replace_with;
 use cube_core::cube::Cube;
+use sample_prediction::predictor::MOST_COMPONENTS;
 
 impl Band {
     /// Writes the samples of a run whose mapped residuals are `deltas` into the cube, and advances by as many
@@ -111,7 +112,7 @@ fn invert_run<const WRAPS: bool>(
     cube: &mut Cube,
     y: u32,
     x: u32,
-    weights: &mut [i32; 18],
+    weights: &mut [i32; MOST_COMPONENTS],
     deltas: &[u16],
 )
     requires register { WRAPS ≡ false → 46 ≤ settings.now.predictor.register }
@@ -144,7 +145,7 @@ fn invert_run<const WRAPS: bool>(
     } else if count <= 16 {
         invert_by::<4, 16, WRAPS>(settings, cube, y, x, weights, deltas);
     } else {
-        invert_by::<5, 18, WRAPS>(settings, cube, y, x, weights, deltas);
+        invert_by::<5, MOST_COMPONENTS, WRAPS>(settings, cube, y, x, weights, deltas);
     }
 }
 
@@ -159,7 +160,7 @@ fn invert_by<const Q: usize, const N: usize, const WRAPS: bool>(
     cube: &mut Cube,
     y: u32,
     x: u32,
-    weights: &mut [i32; 18],
+    weights: &mut [i32; MOST_COMPONENTS],
     deltas: &[u16],
 )
     requires few_weights { N ≤ 18 }

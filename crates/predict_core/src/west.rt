@@ -15,6 +15,7 @@ ghost use Rattle.predict_core.specs.OpenPart.{AreWestMasks, open_sum, open_direc
 
 use crate::settings::Settings;
 use cube_core::cube::Cube;
+use sample_prediction::predictor::MOST_COMPONENTS;
 
 /// Where the offset to the west is added and taken away, as masks: all ones, or 0.
 ///
@@ -96,7 +97,7 @@ pub(crate) fn put_west(
     y: u32,
     x: u32,
     west: u16,
-    components: &mut [i32; 18],
+    components: &mut [i32; MOST_COMPONENTS],
 )
     requires place { IsPlace cube.now.shape settings.now.band y x }
     requires columns { cube.now.shape.columns ≡ settings.now.columns }

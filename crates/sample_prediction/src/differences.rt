@@ -11,7 +11,7 @@ ghost use Rattle.sample_prediction.specs.OffsetSum.{IsWest};
 ghost use Rattle.sample_prediction.specs.Bounds.{AllWithin, IsPredictor};
 
 use crate::neighbourhood::{central_of, difference_of, sum_of};
-use crate::predictor::Predictor;
+use crate::predictor::{MOST_COMPONENTS, Predictor};
 use cube_core::cube::Cube;
 
 /// Writes all differences at a place that is not the first of its band into an array of zeros, in full mode the
@@ -28,7 +28,7 @@ pub fn fill_differences(
     x: u32,
     sum: u32,
     near: usize,
-    out: &mut [i32; 18],
+    out: &mut [i32; MOST_COMPONENTS],
 )
     requires lawful { IsPredictor predictor.now }
     requires place { IsPlace cube.now.shape z y x }
@@ -87,7 +87,7 @@ fn fill_directional(
     y: u32,
     x: u32,
     sum: u32,
-    out: &mut [i32; 18],
+    out: &mut [i32; MOST_COMPONENTS],
 )
     requires place { IsPlace cube.now.shape z y x }
     requires sum_is { local_sum predictor.now cube.now z y x ≡ pos 4 *ℤ smin cube.now.kind +ℤ pos sum }
@@ -113,7 +113,7 @@ fn put_neighbours(
     x: u32,
     sum: u32,
     west: u16,
-    out: &mut [i32; 18],
+    out: &mut [i32; MOST_COMPONENTS],
 )
     requires place { IsPlace cube.now.shape z y x }
     requires later { 0 < y }
@@ -134,7 +134,7 @@ fn put_neighbours(
 
 /// Writes three differences to the front of an array.
 #[inline(always)]
-fn put_directions(north: i32, west: i32, north_west: i32, out: &mut [i32; 18])
+fn put_directions(north: i32, west: i32, north_west: i32, out: &mut [i32; MOST_COMPONENTS])
     requires north_in { unsigned_abs north ≤ 262144 }
     requires west_in { unsigned_abs west ≤ 262144 }
     requires north_west_in { unsigned_abs north_west ≤ 262144 }
@@ -156,7 +156,7 @@ pub fn fill_spectral(
     x: u32,
     first: usize,
     count: usize,
-    out: &mut [i32; 18],
+    out: &mut [i32; MOST_COMPONENTS],
 )
     requires place { IsPlace cube.now.shape z y x }
     requires later { 0 < y + x }

@@ -9,7 +9,7 @@ ghost use Rattle.sample_prediction.specs.Mapping.{IsScaled};
 ghost use Rattle.cube_core.specs.Kind.{smin, smid, smax};
 ghost use Rattle.sample_prediction.specs.Bounds.{AllWithin, IsPredictor};
 
-use crate::predictor::Predictor;
+use crate::predictor::{MOST_COMPONENTS, Predictor};
 use crate::range::Range;
 use crate::register::{floor_shift, register_of, wrapped_value};
 use crate::weights::{product_of, product_of_first};
@@ -21,8 +21,8 @@ pub fn scaled_by(
     range: &Range,
     count: usize,
     sum: i32,
-    weights: &[i32; 18],
-    differences: &[i32; 18],
+    weights: &[i32; MOST_COMPONENTS],
+    differences: &[i32; MOST_COMPONENTS],
 ) -> i32
     requires lawful { IsPredictor predictor.now }
     requires count_in { count ≤ 18 }
@@ -65,8 +65,8 @@ pub fn predicted_difference<const N: usize, const WRAPS: bool>(
     predictor: &Predictor,
     range: &Range,
     sum: i32,
-    weights: &[i32; 18],
-    differences: &[i32; 18],
+    weights: &[i32; MOST_COMPONENTS],
+    differences: &[i32; MOST_COMPONENTS],
 ) -> i32
     requires few { N ≤ 18 }
     requires lawful { IsPredictor predictor.now }

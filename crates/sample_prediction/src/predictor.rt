@@ -7,6 +7,10 @@ ghost use Rattle.header_bits.specs.Lawful.{IsLawful};
 
 use header_bits::params::Params;
 
+/// The most components of a difference vector, and the most weights of a band: three directional ones, and one for each of 15
+/// previous bands.
+pub const MOST_COMPONENTS: usize = 18;
+
 /// The predictor's parameters that are the same for all bands (CCSDS 123.0-B-1, "Predictor").
 #[derive(Clone, Copy)]
 pub struct Predictor {

@@ -9,11 +9,12 @@ ghost use Rattle.sample_prediction.specs.Weights.{eighths, start_weights, table_
 ghost use Rattle.sample_prediction.specs.declared.predictor.Predictor.{Predictor as Settled};
 ghost use Rattle.sample_prediction.specs.Bounds.{AllWithin};
 
+use crate::predictor::MOST_COMPONENTS;
 use header_bits::params::{Params, WeightStart};
 
 /// Returns the initial weights of band `z`: `first` directional ones and those of `near` bands below
 /// (CCSDS 123.0-B-1, "Weight Initialization").
-pub fn start_of(params: &Params, z: u32, first: usize, near: usize) -> [i32; 18]
+pub fn start_of(params: &Params, z: u32, first: usize, near: usize) -> [i32; MOST_COMPONENTS]
     requires lawful { IsLawful params.now }
     requires band { z < params.now.shape.bands }
     requires directions { first ≡ (if params.now.reduced then 0 else 3) }
@@ -34,13 +35,13 @@ pub fn start_of(params: &Params, z: u32, first: usize, near: usize) -> [i32; 18]
 /// Returns the default weights: 0 for the `first` directional components; of the `count` bands below seven
 /// eighths for the nearest, and an eighth of the weight before for each other
 /// (CCSDS 123.0-B-1, "Weight Initialization").
-pub fn default_weights(omega: u32, first: usize, count: usize) -> [i32; 18]
+pub fn default_weights(omega: u32, first: usize, count: usize) -> [i32; MOST_COMPONENTS]
     requires omega_in { (4 ≤ omega) × (omega ≤ 19) }
     requires room { first + count ≤ 18 }
     ensures value { result ≡ replicate first (pos 0) ++ eighths (pos (7 * 2 ^ (omega - 3))) count ++ replicate (18 - first - count) (pos 0) }
     ensures bound { AllWithin (2 ^ (omega + 2)) result }
 {
-    let mut weights = [0i32; 18];
+    let mut weights = [0i32; MOST_COMPONENTS];
     let mut weight = 7i32 << (omega - 3);
     for i in 0..count {
         weights[first + i] = weight;
@@ -73,7 +74,7 @@ fn entries_before(z: u32, first: usize, previous: u32) -> usize
 
 /// Returns the weights that entries of `q` bits stand for: the bits of an entry are the highest of a weight,
 /// and the bits below them are ones.
-fn table_start(omega: u32, q: u32, entries: &[i32]) -> [i32; 18]
+fn table_start(omega: u32, q: u32, entries: &[i32]) -> [i32; MOST_COMPONENTS]
     requires omega_in { (4 ≤ omega) × (omega ≤ 19) }
     requires bits { InRange 3 (omega + 3) q }
     requires few { length entries.now ≤ 18 }
@@ -81,7 +82,7 @@ fn table_start(omega: u32, q: u32, entries: &[i32]) -> [i32; 18]
     ensures value { take (length entries.now) result ≡ map (weight_from omega q) entries.now }
     ensures bound { AllWithin (2 ^ (omega + 2)) result }
 {
-    let mut weights = [0i32; 18];
+    let mut weights = [0i32; MOST_COMPONENTS];
     for i in 0..entries.len() {
         weights[i] = table_weight(omega, q, entries[i]);
     }

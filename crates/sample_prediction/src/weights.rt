@@ -8,11 +8,17 @@ ghost use Rattle.sample_prediction.specs.Prediction.{inner_product};
 ghost use Rattle.sample_prediction.specs.Weights.{step, weight_min, weight_max, updated_weight as updated, updated_weights};
 ghost use Rattle.sample_prediction.specs.Bounds.{AllWithin};
 
+use crate::predictor::MOST_COMPONENTS;
+
 /// Returns the sum of the products of the weights in use with their differences.
 ///
 /// It loops over 8 or 18 components, a count known at compile time.
 #[inline(always)]
-pub fn product_of(count: usize, weights: &[i32; 18], differences: &[i32; 18]) -> i64
+pub fn product_of(
+    count: usize,
+    weights: &[i32; MOST_COMPONENTS],
+    differences: &[i32; MOST_COMPONENTS],
+) -> i64
     requires count_in { count ≤ 18 }
     requires weights_in { AllWithin (2 ^ 21) weights.now }
     requires differences_in { AllWithin (2 ^ 18) differences.now }
@@ -26,13 +32,16 @@ pub fn product_of(count: usize, weights: &[i32; 18], differences: &[i32; 18]) ->
     } else if count <= 8 {
         product_of_first::<8>(weights, differences)
     } else {
-        product_of_first::<18>(weights, differences)
+        product_of_first::<MOST_COMPONENTS>(weights, differences)
     }
 }
 
 /// Returns the sum of the products of the first `N` weights with their differences.
 #[inline(always)]
-pub fn product_of_first<const N: usize>(weights: &[i32; 18], differences: &[i32; 18]) -> i64
+pub fn product_of_first<const N: usize>(
+    weights: &[i32; MOST_COMPONENTS],
+    differences: &[i32; MOST_COMPONENTS],
+) -> i64
     requires few { N ≤ 18 }
     requires weights_in { AllWithin (2 ^ 21) weights.now }
     requires differences_in { AllWithin (2 ^ 18) differences.now }
@@ -55,8 +64,8 @@ pub fn product_of_first<const N: usize>(weights: &[i32; 18], differences: &[i32;
 #[inline(always)]
 pub fn update(
     count: usize,
-    weights: &mut [i32; 18],
-    differences: &[i32; 18],
+    weights: &mut [i32; MOST_COMPONENTS],
+    differences: &[i32; MOST_COMPONENTS],
     omega: u32,
     bits: u32,
     exponent: i32,
@@ -80,7 +89,7 @@ pub fn update(
     if count <= 8 {
         update_first::<8>(weights, differences, omega, bits, exponent, turn);
     } else {
-        update_first::<18>(weights, differences, omega, bits, exponent, turn);
+        update_first::<MOST_COMPONENTS>(weights, differences, omega, bits, exponent, turn);
     }
 }
 
@@ -89,8 +98,8 @@ pub fn update(
 /// A difference takes the error's sign without a branch, so that the compiler vectorizes the loop.
 #[inline(always)]
 fn update_first<const N: usize>(
-    weights: &mut [i32; 18],
-    differences: &[i32; 18],
+    weights: &mut [i32; MOST_COMPONENTS],
+    differences: &[i32; MOST_COMPONENTS],
     omega: u32,
     bits: u32,
     exponent: i32,
@@ -185,8 +194,8 @@ fn halving(by: u32) -> Form
 /// Returns the first `N` weights after an error, by the form of the steps at the exponent.
 #[inline(always)]
 pub fn update_by<const N: usize>(
-    weights: &mut [i32; 18],
-    differences: &[i32; 18],
+    weights: &mut [i32; MOST_COMPONENTS],
+    differences: &[i32; MOST_COMPONENTS],
     omega: u32,
     exponent: i32,
     form: Form,
