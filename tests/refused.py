@@ -10,7 +10,7 @@ pieces then: a refused read ends with `Read` and nothing written, and a refused 
 a byte change nothing.
 Then come files that end behind a header of any size.
 
-At last the same is done to `refusals`, a program over the libraries, which makes each library call again that was refused: whichever it is, its bodies
+At last the same is done to `refused_allocations`, a program over the libraries, which makes each library call again that was refused: whichever it is, its bodies
 and files are those of an undisturbed run. `rt ci` leaves both programs where this looks for them; `make` builds the first.
 """
 
@@ -27,7 +27,7 @@ from workroom import Workroom
 TOP = os.path.dirname(os.path.dirname(os.path.abspath(__file__)))
 PROGRAM = os.path.realpath(sys.argv[1] if len(sys.argv) > 1 else os.path.join(TOP, "crates", "ccsds", "out", "ccsds"))
 
-CALLS = os.path.join(TOP, "crates", "refusals", "out", "refusals")
+CALLS = os.path.join(TOP, "crates", "refused_allocations", "out", "refused_allocations")
 
 DONE, INPUT, REFUSED, DEVICE = 0, 2, 3, 4
 MEMORY, THREAD = b"ccsds: 12 WantOfMemory\n", b"ccsds: 16 SpawnRefused\n"
@@ -200,7 +200,7 @@ def limits(room, name, words, lines):
 
 
 def each_call(room):
-    """Refuses each call for memory of `refusals` in turn; in how many runs a library call was refused and made again."""
+    """Refuses each call for memory of `refused_allocations` in turn; in how many runs a library call was refused and made again."""
     status, _, wanted = room.run(["all"], program=CALLS)
     bodies, last = wanted.rsplit(b"made again: ", 1)
     room.hold("calls", (status, last) == (DONE, b"0\n") and bodies.count(b"by predictors true, back true") == 3, wanted)

@@ -4,12 +4,12 @@ ghost use Rattle.std.specs.Prelude.{◌≡◌};
 ghost use Rattle.cube_core.specs.Layout.{IsLayout};
 
 use crate::checks::same_bytes;
+use crate::row_parameters::params_of;
+use crate::row_words::{file_of, header_of, parts_of, samples_of};
 use crate::rows::{
     BLOCK_ROWS, CUBE_A_ROWS, REGISTER_ROWS, RESTRICTED_ROWS, RUN_ROWS, SEGMENT_ROWS, SMALL_ROWS,
     TABLE_ROWS, WEIGHT_ROWS,
 };
-use crate::settings::params_of;
-use crate::texts::{file_of, header_of, parts_of, samples_of};
 use coder_pipe::decode::decode;
 use coder_pipe::encode::encode_one;
 use cube_core::cube::Cube;

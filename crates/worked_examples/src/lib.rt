@@ -2,40 +2,40 @@
 #![tactic(auto)]
 
 #[cfg(test)]
-mod at_once;
+mod block_coder;
 #[cfg(test)]
-mod bit_by_bit;
-#[cfg(test)]
-mod blocks;
-#[cfg(test)]
-mod blocks_by_hand;
+mod bodies_by_hand;
 #[cfg(test)]
 mod checks;
 #[cfg(test)]
-mod columns;
-#[cfg(test)]
-mod cubes;
+mod code_words;
 #[cfg(test)]
 mod files;
 #[cfg(test)]
 mod fills;
 #[cfg(test)]
-mod long_runs;
+mod flipped_bits;
 #[cfg(test)]
-mod pieces;
+mod longest_row;
+#[cfg(test)]
+mod plain_bits;
+#[cfg(test)]
+mod predicted_runs;
 #[cfg(test)]
 mod predictor;
 #[cfg(test)]
 mod refusals;
 #[cfg(test)]
+mod row_parameters;
+#[cfg(test)]
+mod row_pieces;
+#[cfg(test)]
+mod row_words;
+#[cfg(test)]
 mod rows;
 #[cfg(test)]
-mod runs;
+mod sample_coder;
 #[cfg(test)]
-mod sample_words;
+mod sample_count;
 #[cfg(test)]
-mod settings;
-#[cfg(test)]
-mod texts;
-#[cfg(test)]
-mod turned_bits;
+mod two_bands;

@@ -6,7 +6,7 @@ ghost use Rattle.cube_core.specs.Rows.{sizes, unsigned};
 ghost use Rattle.header_bits.specs.Lawful.{IsLawful};
 
 use crate::checks::same;
-use crate::texts::numbers_of;
+use crate::row_words::numbers_of;
 use cube_core::cube::Cube;
 use cube_core::cursor::Places;
 use cube_core::kind::Kind;

@@ -2,7 +2,7 @@
 
 use crate::checks::same_fault;
 use crate::files::decoded;
-use crate::texts::{fault_of, file_of, header_of, number_of, parts_of};
+use crate::row_words::{fault_of, file_of, header_of, number_of, parts_of};
 use cube_core::fault::{Fault, Field, Rule};
 use std::alloc::Global;
 use std::process::Abort;
@@ -34,7 +34,7 @@ fn bit_refused(rt: &impl Abort, alloc: Global, header: &str, bit: u64) {
 }
 
 #[test]
-fn headers(rt: HostRuntime) {
+fn faulty_headers_are_refused(rt: HostRuntime) {
     let alloc = rt.alloc();
     field_refused(&rt, alloc, "7:03", Field::DynamicRange, 1);
     field_refused(&rt, alloc, "17:3a", Field::Umax, 7);
@@ -49,7 +49,7 @@ fn headers(rt: HostRuntime) {
 }
 
 #[test]
-fn headers_with_weights(rt: HostRuntime) {
+fn faulty_weight_tables_are_refused(rt: HostRuntime) {
     let alloc = rt.alloc();
     header_refused(&rt, alloc, "16:40", Fault::TableElsewhere);
     field_refused(&rt, alloc, "16:62", Field::Resolution, 2);
@@ -59,7 +59,7 @@ fn headers_with_weights(rt: HostRuntime) {
 }
 
 #[test]
-fn headers_with_constants(rt: HostRuntime) {
+fn faulty_coder_parts_are_refused(rt: HostRuntime) {
     let alloc = rt.alloc();
     rule_refused(&rt, alloc, "4:02 18:3f 19+70", Rule::AccumulatorEntry);
     bit_refused(&rt, alloc, "4:02 18:3f 19+31", 159);
@@ -130,7 +130,7 @@ fn row_refused(rt: &impl Abort, alloc: Global, row: &str) {
 }
 
 #[test]
-fn bodies_and_fills(rt: HostRuntime) {
+fn faulty_bodies_are_refused(rt: HostRuntime) {
     for row in BODIES.split('\n') {
         row_refused(&rt, rt.alloc(), row);
     }

@@ -1,8 +1,0 @@
-use Rattle.std.proofs.Common.{◌≡◌, ◌+◌, ◌-◌, ◌≤◌, length}
-use Rattle.lane_examples.proofs.tests.threads.send_in_runs.Given as goal
-
-abbrev pub invariant-loop-sent : goal.invariant-loop-sent
-invariant-loop-sent l = (l.sender.lane ≡ l.fn.sender.lane) × (l.sent ≤ length l.numbers)
-
-abbrev pub decreases-loop-sent : goal.decreases-loop-sent
-decreases-loop-sent l = (length l.numbers - l.sent) + (10000000 - l.refused)

@@ -1,8 +1,0 @@
-//! Tests of lanes, feeds and workers.
-
-mod checks;
-mod gates;
-mod lanes;
-mod runs;
-mod threads;
-mod workers;

@@ -1,0 +1,8 @@
+//! Tests of lanes, feeds and workers.
+
+mod checks;
+mod feeds;
+mod gates;
+mod lanes;
+mod lanes_between_threads;
+mod workers;

@@ -1,6 +1,0 @@
-use Rattle.std.proofs.Common.{◌≡◌, ℕ, List, length}
-use Rattle.coder_pipe.specs.Woven.{HasWoven}
-use Rattle.pipeline_examples.proofs.tests.weaving.weave_all.Given as goal
-
-abbrev pub invariant-loop-place : goal.invariant-loop-place
-invariant-loop-place g l = (numbers : List ℕ) × HasWoven l.plan.params l.plan.deal l.weaver numbers × (length numbers ≡ l.place)

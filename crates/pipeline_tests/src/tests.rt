@@ -1,0 +1,14 @@
+//! Tests of plans, of predictors, and of the files that they make.
+
+mod checks;
+mod coding_end;
+mod cube_a;
+mod gates;
+mod parallel;
+mod plans;
+mod predicted_files;
+mod stopped_predictors;
+mod stops;
+mod tables;
+mod whole_lists;
+mod whole_weave;
