@@ -8,6 +8,7 @@ use Rattle.header_bits.specs.declared.params.WeightStart.{WeightStart}
 use Rattle.header_bits.specs.declared.params.WeightStart.TheVariants.{Table}
 use Rattle.header_bits.specs.declared.params.Coder.{Coder}
 use Rattle.header_bits.specs.declared.params.Coder.TheVariants.{Sample}
+use Rattle.header_bits.specs.declared.params.CountStart.{CountStart}
 use Rattle.header_bits.specs.declared.params.CountStart.TheVariants.{Each}
 use Rattle.header_bits.specs.Bits.{bits_of, Written}
 use Rattle.header_bits.specs.Layout.{spelled}
@@ -78,15 +79,14 @@ start_length q values s e =
     ap length (start_text q values s e) ∙ length-append (numbers_text q (map (signed_code q) values)) (bits_of (fill_of (length values * q)) 0)
     ∙ ap (λ n. length (numbers_text q (map (signed_code q) values)) + n) (length-bits_of (fill_of (length values * q)) 0)
 
-pub coder_text : (umax gamma_star gamma_zero : ℕ) (values : List ℕ) (c : Coder) → c ≡ Sample umax gamma_star gamma_zero (Each values)
-    → constant_bits c ≡ numbers_text 4 values ++ bits_of (fill_of (length values * 4)) 0
-coder_text umax gamma_star gamma_zero values c e = ap constant_bits e ∙ constants_text umax gamma_star gamma_zero values
+module _ {umax gamma_star gamma_zero : ℕ} {start : CountStart} {values : List ℕ} {c : Coder}
+    (e : c ≡ Sample umax gamma_star gamma_zero start) (is : start ≡ Each values) where
+  pub coder_text : constant_bits c ≡ numbers_text 4 values ++ bits_of (fill_of (length values * 4)) 0
+  coder_text = rw (e, is) (constants_text umax gamma_star gamma_zero values)
 
-pub coder_length : (umax gamma_star gamma_zero : ℕ) (values : List ℕ) (c : Coder) → c ≡ Sample umax gamma_star gamma_zero (Each values)
-    → length (constant_bits c) ≡ length (numbers_text 4 values) + fill_of (length values * 4)
-coder_length umax gamma_star gamma_zero values c e =
-    ap length (coder_text umax gamma_star gamma_zero values c e) ∙ length-append (numbers_text 4 values) (bits_of (fill_of (length values * 4)) 0)
-    ∙ ap (λ n. length (numbers_text 4 values) + n) (length-bits_of (fill_of (length values * 4)) 0)
+  pub coder_length : length (constant_bits c) ≡ length (numbers_text 4 values) + fill_of (length values * 4)
+  coder_length = ap length coder_text ∙ length-append (numbers_text 4 values) (bits_of (fill_of (length values * 4)) 0)
+      ∙ ap (λ n. length (numbers_text 4 values) + n) (length-bits_of (fill_of (length values * 4)) 0)
 
 pub table_lawful : (p : Params) (s : WeightStart) (q : ℕ) (values : List ℤ) → s ≡ Table q values → IsWeightStart p s → IsWeightStart p (Table q values)
 table_lawful p s q values e h = rw e at h

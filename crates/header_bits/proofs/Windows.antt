@@ -6,7 +6,7 @@ use Rattle.std.proofs.lemmas.Nat.{leading_length, shr-shr, shr_below}
 use Rattle.std.proofs.lemmas.List.{drop-drop, drop_at, length-drop, take_all, take_at, take-take, take-append-drop, replicate-append-replicate}
 use Rattle.std.proofs.lemmas.List.{length-replicate}
 use Rattle.std.proofs.Math.Nat.{div-eq_of_lt, div-eq_of_lt-le, pow-succ', pow-le-pow_right}
-use Rattle.header_bits.specs.Bits.{bits_of, bits_of_bytes}
+use Rattle.header_bits.specs.Bits.{bits_of, bits_of_bytes, Unread}
 use Rattle.header_bits.specs.Windows.{IsFrontWord, IsWindow}
 use Rattle.header_bits.proofs.Numbers.{length-bits_of, bits_of-add, bits_of-mod, bits_of-join, bits_of_zero, bits_of_one}
 use Rattle.header_bits.proofs.Bytes.{length-bits_of_bytes, bits_of_bytes-drop, bits_of_bytes-take}
@@ -151,9 +151,8 @@ zeros_joined at zeros some bits after first second =
     first ∙ ap (λ (x : List Bool). replicate zeros false ++ x) second ∙ sym (append_assoc (replicate zeros false) (replicate some false) after)
     ∙ ap (λ (x : List Bool). x ++ after) (replicate-append-replicate zeros some false)
 
--- what is left, and the position
-pub left_length : (at : ℕ) (bytes : List ℕ) (left : List Bool) → at ≤ 8 * length bytes → drop at (bits_of_bytes bytes) ≡ left
-    → length left + at ≡ 8 * length bytes
-left_length at bytes left le e =
-    let n : length left ≡ length (bits_of_bytes bytes) - at = ap length (sym e) ∙ length-drop at (bits_of_bytes bytes) in
-    omega (arith, n, length-bits_of_bytes bytes)
+-- the bits that a reader has left are those behind its position
+pub left_length : (at : ℕ) (bytes : List ℕ) (unread : Unread) → at ≤ 8 * length bytes
+    → record { count = 8 * length bytes; left = drop at (bits_of_bytes bytes) } ≡ unread → length unread.left + at ≡ 8 * length bytes
+left_length at bytes unread le e =
+    let n = ap (λ (u : Unread). length u.left) (sym e) ∙ length-drop at (bits_of_bytes bytes) in omega (arith, n, length-bits_of_bytes bytes)

@@ -1,25 +1,24 @@
 use Rattle.std.proofs.lemmas.Grind.{common_steps}
-use Rattle.std.proofs.Common.{arith, ap, sym, ◌∙◌, ◌++◌, false, List, Bool, length, replicate, Err}
+use Rattle.std.proofs.Common.{arith, ap, sym, ◌∙◌, ◌++◌, ◌+◌, ◌*◌, ◌≤◌, false, List, Bool, length, replicate, Err}
 use Rattle.cube_core.specs.declared.fault.Fault.TheVariants.{Truncated}
 use Rattle.header_bits.specs.Bits.{bits_of_bytes}
 use Rattle.header_bits.proofs.Reading.{ends_at, ends_taken, full_at, full_taken, short_at, no_one}
 use Rattle.header_bits.proofs.Windows.{left_length}
 use Rattle.header_bits.proofs.bit_reader.BitReader.count_zeros.Goals as goal
+use Rattle.header_bits.proofs.bit_reader.BitReader.count_zeros.Goals.{After-min-most}
+
+-- where zeros are looked for lies within the bytes
+within : (c : After-min-most) → c.self.inside.at + c.min-most.result ≤ 8 * length c.self.inside.bytes.now
+within c = omega (arith, left_length _ _ _ c.self.invariant.0 c.self.view_is, c.left.ensures, c.min-most.ensures)
 
 pub zeros_ahead-zeros-requires-clause-enough : goal.zeros_ahead-zeros-requires-clause-enough
-zeros_ahead-zeros-requires-clause-enough c =
-    let position = left_length c.self.inside.at c.self.inside.bytes.now c.args.self.now.left c.self.invariant.0 (ap (λ w. w.left) c.self.view_is) in
-    omega (arith, position, c.left.ensures, c.min-most.ensures)
+zeros_ahead-zeros-requires-clause-enough c = within (goal.at.zeros_ahead-zeros-requires-clause-enough c).After-min-most
 
 pub overflow_add-self-then-zeros-most : goal.overflow_add-self-then-zeros-most
-overflow_add-self-then-zeros-most c =
-    let position = left_length c.self.inside.at c.self.inside.bytes.now c.args.self.now.left c.self.invariant.0 (ap (λ w. w.left) c.self.view_is) in
-    omega (arith, position, c.left.ensures, c.min-most.ensures)
+overflow_add-self-then-zeros-most c = omega (arith, within (goal.at.overflow_add-self-then-zeros-most c).After-min-most)
 
 pub invariant_of-self : goal.invariant_of-self
-invariant_of-self c =
-    let position = left_length c.self.inside.at c.self.inside.bytes.now c.args.self.now.left c.self.invariant.0 (ap (λ w. w.left) c.self.view_is) in
-    (omega (arith, position, c.left.ensures, c.min-most.ensures), c.self.invariant.1)
+invariant_of-self c = (omega (arith, within (goal.at.invariant_of-self c).After-min-most), c.self.invariant.1)
 
 pub returns-then-zeros-most-clause-reads : goal.returns-then-zeros-most-clause-reads
 returns-then-zeros-most-clause-reads c =
@@ -38,14 +37,10 @@ returns-then-most-limit-clause-reads c =
     ∙ ap (λ k. Err (Truncated k)) (sym c.count.ensures)
 
 pub overflow_add-self-2 : goal.overflow_add-self-2
-overflow_add-self-2 c =
-    let position = left_length c.self.inside.at c.self.inside.bytes.now c.args.self.now.left c.self.invariant.0 (ap (λ w. w.left) c.self.view_is) in
-    omega (arith, position, c.left.ensures, c.min-most.ensures, c.zeros_ahead-zeros.ensures.within)
+overflow_add-self-2 c = omega (arith, within (goal.at.overflow_add-self-2 c).After-min-most, c.zeros_ahead-zeros.ensures.within)
 
 pub invariant_of-self-2 : goal.invariant_of-self-2
-invariant_of-self-2 c =
-    let position = left_length c.self.inside.at c.self.inside.bytes.now c.args.self.now.left c.self.invariant.0 (ap (λ w. w.left) c.self.view_is) in
-    (omega (arith, position, c.left.ensures, c.min-most.ensures, c.zeros_ahead-zeros.ensures.within), c.self.invariant.1)
+invariant_of-self-2 c = (omega (arith, within (goal.at.invariant_of-self-2 c).After-min-most, c.zeros_ahead-zeros.ensures.within), c.self.invariant.1)
 
 pub returns-clause-reads : goal.returns-clause-reads
 returns-clause-reads c =

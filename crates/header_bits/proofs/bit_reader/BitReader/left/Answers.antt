@@ -3,8 +3,4 @@ use Rattle.header_bits.proofs.Windows.{left_length}
 use Rattle.header_bits.proofs.bit_reader.BitReader.left.Goals as goal
 
 pub returns : goal.returns
-returns c = omega (
-  arith,
-  left_length c.self.inside.at c.self.inside.bytes.now c.args.self.now.left c.self.invariant.0 (ap (λ w. w.left) c.self.view_is),
-  ap (λ w. w.count) c.self.view_is,
-)
+returns c = omega (arith, left_length _ _ _ c.self.invariant.0 c.self.view_is, ap (λ w. w.count) c.self.view_is)

@@ -18,15 +18,13 @@ eight_missing bytes at within h = omega (arith, tail_length bytes (at / 8), h)
 
 pub returns-in_err-eight-clause-enough : goal.returns-in_err-eight-clause-enough
 returns-in_err-eight-clause-enough c =
-    let position = left_length c.self.inside.at c.self.inside.bytes.now c.args.self.now.left c.self.invariant.0 (ap (λ w. w.left) c.self.view_is) in
     let few = eight_missing c.self.inside.bytes.now c.self.inside.at c.self.invariant.0 c.in_err-eight.ensures.cases in
-    (λ h. absurd (false≢true (rw c.from_residual.ensures at h)), λ h. absurd (omega (arith, position, few, h)))
+    (λ h. absurd (false≢true (rw c.from_residual.ensures at h)), λ h. absurd (omega (arith, left_length _ _ _ c.self.invariant.0 c.self.view_is, few, h)))
 
 pub returns-clause-enough : goal.returns-clause-enough
 returns-clause-enough c =
-    let position = left_length c.self.inside.at c.self.inside.bytes.now c.args.self.now.left c.self.invariant.0 (ap (λ w. w.left) c.self.view_is) in
     let many = eight_there c.self.inside.bytes.now _ c.self.inside.at c.self.invariant.0 c.in_ok-eight.ensures.cases in
-    (λ h. omega (arith, position, many), λ h. cc)
+    (λ h. omega (arith, left_length _ _ _ c.self.invariant.0 c.self.view_is, many), λ h. cc)
 
 pub returns-clause-bits : goal.returns-clause-bits
 returns-clause-bits c =

@@ -12,12 +12,11 @@ returns-then-left-from-clause-reads c =
 
 pub number_of_bits-number-requires-clause-enough : goal.number_of_bits-number-requires-clause-enough
 number_of_bits-number-requires-clause-enough c =
-    let position = left_length c.self.inside.at c.self.inside.bytes.now c.args.self.now.left c.self.invariant.0 (ap (λ w. w.left) c.self.view_is) in
-    omega (arith, position, c.if-left-from.false, c.left.ensures, c.from.ensures)
+    omega (arith, left_length _ _ _ c.self.invariant.0 c.self.view_is, c.if-left-from.false, c.left.ensures, c.from.ensures)
 
 pub invariant_of-self : goal.invariant_of-self
 invariant_of-self c =
-    let position = left_length c.self.inside.at c.self.inside.bytes.now c.args.self.now.left c.self.invariant.0 (ap (λ w. w.left) c.self.view_is) in
+    let position = left_length _ _ _ c.self.invariant.0 c.self.view_is in
     (omega (arith, position, c.if-left-from.false, c.left.ensures, c.from.ensures, c.from-2.ensures), c.self.invariant.1)
 
 pub returns-clause-reads : goal.returns-clause-reads
