@@ -16,7 +16,11 @@ use Rattle.sample_prediction.proofs.Padding.{whole_sum}
 use Rattle.predict_core.proofs.Ranges.{padded_within}
 use Rattle.predict_core.proofs.inverse_chain.sample_there.Given as given
 use Rattle.predict_core.proofs.inverse_chain.sample_there.Goals as goal
-use Rattle.predict_core.proofs.inverse_chain.sample_there.Goals.{After-put_west, After-update_by}
+use Rattle.predict_core.proofs.inverse_chain.sample_there.Goals.{Start, After-put_west, After-update_by}
+
+-- the range has as many bits as the cube's samples
+same_bits : (g : given.Over) (c : Start g) → c.args.settings.now.range.bits ≡ c.args.cube.now.kind.bits
+same_bits g c = c.args.settings.now.range.bits_is ∙ ap (λ (k : SampleKind). k.bits) (sym c.requires.kind)
 
 module _ (g : given.Over) (c : After-put_west g) where
   filled : c.put_west.new.components ≡ difference_vector c.args.settings.now.predictor c.args.cube.now c.args.settings.now.band c.args.y c.args.x
@@ -40,14 +44,12 @@ predicted_difference-part-requires-clause-differences_in g c =
 pub update_by-requires-clause-differences_in : goal.update_by-requires-clause-differences_in
 update_by-requires-clause-differences_in g c =
     let s = c.args.settings.now in let d = (goal.at.update_by-requires-clause-differences_in g c).After-put_west in
-    let bits : s.range.bits ≡ c.args.cube.now.kind.bits = s.range.bits_is ∙ ap (λ (k : SampleKind). k.bits) (sym c.requires.kind) in
+    let bits = same_bits g (goal.at.update_by-requires-clause-differences_in g c).Start in
     within_room s.range.bits c.args.form.up c.put_west.new.components (rw bits c.requires.steps.room) (small g d)
 
 pub update_by-requires-clause-steps : goal.update_by-requires-clause-steps
 update_by-requires-clause-steps g c a =
-    let s = c.args.settings.now in
-    let bits : s.range.bits ≡ c.args.cube.now.kind.bits = s.range.bits_is ∙ ap (λ (k : SampleKind). k.bits) (sym c.requires.kind) in
-    let exponent = rw (bits, ← c.requires.columns) at c.exponent_at-exponent.ensures.value in
+    let exponent = rw (same_bits g (goal.at.update_by-requires-clause-steps g c).Start, ← c.requires.columns) at c.exponent_at-exponent.ensures.value in
     let exponent_fits : SFits w32 c.exponent_at-exponent.result = search rules in
     rw (to_z-of_z exponent_fits) (c.requires.steps.steps a ∙ ap (λ e. step e a) (sym exponent))
 
@@ -85,10 +87,9 @@ returns-clause-weights g c =
     let filled = filled g (goal.at.returns-clause-weights g c).After-put_west in let s = c.args.settings.now in let found = c.sample_by_part-found.result.0 in
     let fits : SFits w32 c.sample_by_part-found.result.0 = search rules in let part_fits : SFits w32 c.predicted_difference-part.result = search rules in
     let exponent_fits : SFits w32 c.exponent_at-exponent.result = search rules in let turn_fits : SFits w32 c.sample_by_part-found.result.1 = search rules in
-    let bits : s.range.bits ≡ c.args.cube.now.kind.bits = s.range.bits_is ∙ ap (λ (k : SampleKind). k.bits) (sym c.requires.kind) in
     let turn = rw (← s.range.smin_is) at (simp (to_z-of_z part_fits) at c.sample_by_part-found.ensures.turn) in
     let moved = rw turn at (simp (to_z-of_z exponent_fits, to_z-of_z turn_fits) at c.update_by.ensures.value) in
-    let exponent = rw (bits, ← c.requires.columns) at c.exponent_at-exponent.ensures.value in
+    let exponent = rw (same_bits g (goal.at.returns-clause-weights g c).Start, ← c.requires.columns) at c.exponent_at-exponent.ensures.value in
     let m = moved_from_room s.predictor c.args.cube.now s.band c.args.y c.args.x s.count g.row.N c.args.weights.now c.put_west.new.components
     c.prove_is_cube.ensures c.requires.place s.count_is c.requires.enough c.requires.few filled _ (by_difference g d)
     c.update_by.new.weights found _ _ (rw (← c.requires.kind) at c.sample_by_part-found.ensures.range)

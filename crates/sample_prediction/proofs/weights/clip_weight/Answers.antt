@@ -1,34 +1,38 @@
-use Rattle.std.proofs.Common.{◌≡◌, ◌+◌, ◌^◌, ◌≤◌, ◌+ℤ◌, ◌-ℤ◌, pos, SFits, to_z-of_z, w32, arith, rules, pow_pos}
+use Rattle.std.proofs.Common.{◌≡◌, ◌+◌, ◌^◌, ◌≤◌, ◌+ℤ◌, ◌-ℤ◌, ℕ, ℤ, pos, SFits, to_z-of_z, w32, arith, rules, pow_pos}
 use Rattle.std.proofs.lemmas.Int.{ints, fits_signed_from_abs}
 use Rattle.sample_prediction.specs.Arithmetic.{clip}
 use Rattle.sample_prediction.proofs.Moves.{bit_in_word, limit_within, held_is, held_within, clipped_is, clipped_low, clipped_high}
 use Rattle.sample_prediction.proofs.weights.clip_weight.Goals as goal
-use Rattle.sample_prediction.proofs.weights.clip_weight.Goals.{After-max}
+use Rattle.sample_prediction.proofs.weights.clip_weight.Goals.{Start, After-max}
+
+-- the least weight, as the code computes it
+abbrev least : ℕ → ℤ
+least omega = pos 0 -ℤ pos (2 ^ (omega + 2))
+
+-- the greatest weight, as the code computes it
+abbrev greatest : ℕ → ℤ
+greatest omega = pos (2 ^ (omega + 2)) -ℤ pos 1
+
+-- the least and the greatest weight fit a word
+bounds_fit : (c : Start) → SFits w32 (least c.args.omega) × SFits w32 (greatest c.args.omega)
+bounds_fit c =
+    let p = limit_within c.args.omega c.requires.omega_in in
+    (fits_signed_from_abs w32 (least c.args.omega) (omega (arith, ints)), fits_signed_from_abs w32 (greatest c.args.omega) (omega (arith, ints)))
 
 pub overflow_sub-least : goal.overflow_sub-least
-overflow_sub-least c =
-    let p = limit_within c.args.omega c.requires.omega_in in
-    rw (bit_in_word (c.args.omega + 2) (omega arith)) (fits_signed_from_abs w32 (pos 0 -ℤ pos (2 ^ (c.args.omega + 2))) (omega (arith, ints)))
+overflow_sub-least c = rw (bit_in_word (c.args.omega + 2) (omega arith)) (bounds_fit (goal.at.overflow_sub-least c).Start).0
 
 pub overflow_sub-greatest : goal.overflow_sub-greatest
-overflow_sub-greatest c =
-    let p = limit_within c.args.omega c.requires.omega_in in
-    rw (bit_in_word (c.args.omega + 2) (omega arith)) (fits_signed_from_abs w32 (pos (2 ^ (c.args.omega + 2)) -ℤ pos 1) (omega (arith, ints)))
+overflow_sub-greatest c = rw (bit_in_word (c.args.omega + 2) (omega arith)) (bounds_fit (goal.at.overflow_sub-greatest c).Start).1
 
 -- the weight between its bounds, as the code computes them
-clipped : (c : After-max)
-    → c.max.result ≡ clip (c.args.weight +ℤ c.args.step) (pos 0 -ℤ pos (2 ^ (c.args.omega + 2))) (pos (2 ^ (c.args.omega + 2)) -ℤ pos 1)
+clipped : (c : After-max) → c.max.result ≡ clip (c.args.weight +ℤ c.args.step) (least c.args.omega) (greatest c.args.omega)
 clipped c =
-    let p = limit_within c.args.omega c.requires.omega_in in
-    let low : SFits w32 (pos 0 -ℤ pos (2 ^ (c.args.omega + 2))) =
-    fits_signed_from_abs w32 (pos 0 -ℤ pos (2 ^ (c.args.omega + 2))) (omega (arith, ints)) in
-    let high : SFits w32 (pos (2 ^ (c.args.omega + 2)) -ℤ pos 1) =
-    fits_signed_from_abs w32 (pos (2 ^ (c.args.omega + 2)) -ℤ pos 1) (omega (arith, ints)) in
-    let sum : SFits w32 (c.args.weight +ℤ c.args.step) = fits_signed_from_abs w32 (c.args.weight +ℤ c.args.step) (omega (arith, ints)) in
-    let fits : SFits w32 c.min.result = search rules in let bit = bit_in_word (c.args.omega + 2) (omega arith) in
-    clipped_is (c.args.weight +ℤ c.args.step) (pos 0 -ℤ pos (2 ^ (c.args.omega + 2))) (pos (2 ^ (c.args.omega + 2)) -ℤ pos 1) c.min.result c.max.result
-    (simp (bit, to_z-of_z c.ranges.weight, to_z-of_z c.ranges.step, to_z-of_z sum, to_z-of_z high) at c.min.ensures.value)
-    (simp (bit, to_z-of_z fits, to_z-of_z low) at c.max.ensures.value)
+    let bounds = bounds_fit (goal.at.After-max c).Start in let fits : SFits w32 c.min.result = search rules in
+    let sum = fits_signed_from_abs w32 (c.args.weight +ℤ c.args.step) (omega (arith, ints)) in let bit = bit_in_word (c.args.omega + 2) (omega arith) in
+    clipped_is (c.args.weight +ℤ c.args.step) (least c.args.omega) (greatest c.args.omega) c.min.result c.max.result
+    (simp (bit, to_z-of_z c.ranges.weight, to_z-of_z c.ranges.step, to_z-of_z sum, to_z-of_z bounds.1) at c.min.ensures.value)
+    (simp (bit, to_z-of_z fits, to_z-of_z bounds.0) at c.max.ensures.value)
 
 pub returns-clause-value : goal.returns-clause-value
 returns-clause-value c =
@@ -37,8 +41,6 @@ returns-clause-value c =
 
 pub returns-clause-bound : goal.returns-clause-bound
 returns-clause-bound c =
-    let p = limit_within c.args.omega c.requires.omega_in in let q : 1 ≤ 2 ^ (c.args.omega + 2) = pow_pos (c.args.omega + 2) in
-    let fits : SFits w32 c.max.result = search rules in let e = clipped (goal.at.returns-clause-bound c).After-max in
-    rw (to_z-of_z fits) (held_within (2 ^ (c.args.omega + 2)) _ q
-    (clipped_low (c.args.weight +ℤ c.args.step) (pos 0 -ℤ pos (2 ^ (c.args.omega + 2))) (pos (2 ^ (c.args.omega + 2)) -ℤ pos 1) _ e) (clipped_high
-    (c.args.weight +ℤ c.args.step) (pos 0 -ℤ pos (2 ^ (c.args.omega + 2))) (pos (2 ^ (c.args.omega + 2)) -ℤ pos 1) _ (omega (arith, ints, q)) e))
+    let fits : SFits w32 c.max.result = search rules in let q : 1 ≤ 2 ^ (c.args.omega + 2) = pow_pos (c.args.omega + 2) in
+    let e = clipped (goal.at.returns-clause-bound c).After-max in let sum = c.args.weight +ℤ c.args.step in let high = greatest c.args.omega in
+    rw (to_z-of_z fits) (held_within _ _ q (clipped_low sum (least c.args.omega) high _ e) (clipped_high sum _ high _ (omega (arith, ints, q)) e))
