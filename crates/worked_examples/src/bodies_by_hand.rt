@@ -77,8 +77,8 @@ fn settings(reference: u32, count: u32) -> Settings {
 const VALUES: &str = "0 1 2 3 0 5 1 0 7 0 0 1 2 0 3 1";
 
 /// Returns a code option by its number: uncoded, second extension, then split-sample 0 and up.
-fn option(place: u32) -> Choice {
-    match place {
+fn option(number: u32) -> Choice {
+    match number {
         0 => Choice::Uncoded,
         1 => Choice::Second,
         k => Choice::Split(k - 2),

@@ -32,11 +32,11 @@ fn answers_alike(rt: &impl Abort, alloc: Global, file: &[u8], name: &str) {
 
 /// Flips each bit of a file in turn, and checks the results of decoding it.
 fn turned_answers_alike(rt: &impl Abort, alloc: Global, file: &mut [u8], name: &str) {
-    for place in 0..file.len() {
+    for at in 0..file.len() {
         for bit in 0u32..8 {
-            file[place] ^= 0x80 >> bit;
+            file[at] ^= 0x80 >> bit;
             answers_alike(rt, alloc, file, name);
-            file[place] ^= 0x80 >> bit;
+            file[at] ^= 0x80 >> bit;
         }
     }
 }

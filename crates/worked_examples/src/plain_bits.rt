@@ -38,9 +38,9 @@ struct SlowReader<'a> {
 impl SlowReader<'_> {
     fn bit(&mut self) -> Option<bool> {
         let byte = *self.bytes.get(self.at / 8)?;
-        let place = 7 - self.at % 8;
+        let position = 7 - self.at % 8;
         self.at = self.at.wrapping_add(1);
-        Some(byte >> place as u32 & 1 == 1)
+        Some(byte >> position as u32 & 1 == 1)
     }
 
     fn take(&mut self, n: u32) -> Option<u64> {
@@ -77,8 +77,8 @@ fn push(rt: &impl Abort, bits: &mut Vec<bool>, number: u64, n: u32)
     requires { n ≤ 64 }
 {
     for k in 0..n {
-        let place = n - 1 - k;
-        bits.push(number >> place & 1 == 1).expect(rt, "memory");
+        let position = n - 1 - k;
+        bits.push(number >> position & 1 == 1).expect(rt, "memory");
     }
 }
 

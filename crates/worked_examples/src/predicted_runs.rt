@@ -43,7 +43,7 @@ pub(crate) struct Twice {
 }
 
 /// Returns the raster index of a place, and asserts that `count` places from it on, at most 64, are in its row.
-pub(crate) fn number_of_place(rt: &impl Abort, shape: Shape, y: u32, x: u32, count: usize) -> u64
+pub(crate) fn raster_index(rt: &impl Abort, shape: Shape, y: u32, x: u32, count: usize) -> u64
     ensures few { count ≤ 64 }
     ensures row { y < shape.rows }
     ensures column { x < shape.columns }
@@ -60,15 +60,15 @@ pub(crate) fn number_of_place(rt: &impl Abort, shape: Shape, y: u32, x: u32, cou
 impl Twice {
     /// Writes the residuals of a run, as many as there is room for.
     fn run(&mut self, rt: &impl Abort, y: u32, x: u32, residuals: &mut [u16]) {
-        let place = number_of_place(rt, self.cube.shape(), y, x, residuals.len());
-        assert!(rt; self.runs.next() == place);
+        let t = raster_index(rt, self.cube.shape(), y, x, residuals.len());
+        assert!(rt; self.runs.next() == t);
         self.runs.forward_run(&self.cube, y, x, residuals);
     }
 
     /// Returns the residual at one place.
     pub(crate) fn single(&mut self, rt: &impl Abort, y: u32, x: u32) -> u16 {
-        let place = number_of_place(rt, self.cube.shape(), y, x, 1);
-        assert!(rt; self.singles.next() == place);
+        let t = raster_index(rt, self.cube.shape(), y, x, 1);
+        assert!(rt; self.singles.next() == t);
         self.singles.forward(&self.cube, y, x)
     }
 
@@ -134,12 +134,12 @@ pub(crate) fn cube_of(rt: &impl Abort, alloc: Global, params: &Params, draw: &mu
 {
     let mut bytes = Vec::new(alloc);
     let shape = params.shape;
-    for place in 0..shape.sample_count() {
+    for i in 0..shape.sample_count() {
         let drawn = draw.next();
         let offset = match drawn % 16 {
             0 => 0,
             1 => 4095,
-            _ => (drawn >> 8) % 512 + place % 97 * 16,
+            _ => (drawn >> 8) % 512 + i % 97 * 16,
         };
         bytes.push((offset % 256) as u8).expect(rt, "memory");
         bytes.push((offset / 256) as u8).expect(rt, "memory");

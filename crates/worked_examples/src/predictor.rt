@@ -176,8 +176,8 @@ fn is_cube_a(rt: &impl Abort, cube: &CubeOfA) {
     for z in 0..2u32 {
         for y in 0..2u32 {
             for x in 0..3u32 {
-                let place = (z * 6 + y * 3 + x) as usize;
-                same(rt, cube.cube.sample(z, y, x), i32::from(CUBE_A[place]));
+                let i = (z * 6 + y * 3 + x) as usize;
+                same(rt, cube.cube.sample(z, y, x), i32::from(CUBE_A[i]));
             }
         }
     }

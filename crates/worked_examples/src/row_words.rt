@@ -15,9 +15,9 @@ const HEADER: &str = "00 00 01 00 01 00 01 11 00 00 08 00 02 a0 92 59 00 82 26";
 /// Returns the parts of a row, which are separated by bars; missing ones are empty.
 pub(crate) fn parts_of<'a>(rt: &impl Abort, row: &'a str) -> [&'a str; 5] {
     let mut parts = [""; 5];
-    for (place, part) in row.split('|').enumerate() {
-        assert!(rt; place < 5, "{row}");
-        parts[place] = part.trim();
+    for (i, part) in row.split('|').enumerate() {
+        assert!(rt; i < 5, "{row}");
+        parts[i] = part.trim();
     }
     parts
 }
@@ -80,14 +80,14 @@ pub(crate) fn header_of(rt: &impl Abort, alloc: Global, changes: &str) -> Vec<u8
 
 /// Makes one change to a header.
 fn change(rt: &impl Abort, header: &mut Vec<u8>, words: &str) {
-    if let Some((place, byte)) = words.split_once('+') {
-        let place = number_of(rt, place) as usize;
-        assert!(rt; place <= header.len(), "{words}");
-        header.insert(place, byte_of(rt, byte)).expect(rt, "memory");
+    if let Some((at, byte)) = words.split_once('+') {
+        let at = number_of(rt, at) as usize;
+        assert!(rt; at <= header.len(), "{words}");
+        header.insert(at, byte_of(rt, byte)).expect(rt, "memory");
     } else {
-        let (place, byte) = words.split_once(':').expect(rt, "a place");
-        let place = number_of(rt, place) as usize;
-        *header.get_mut(place).expect(rt, words) = byte_of(rt, byte);
+        let (at, byte) = words.split_once(':').expect(rt, "a byte's number");
+        let at = number_of(rt, at) as usize;
+        *header.get_mut(at).expect(rt, words) = byte_of(rt, byte);
     }
 }
 

@@ -4,7 +4,7 @@ ghost use Rattle.std.specs.Prelude.{◌≡◌, ◌<◌};
 ghost use Rattle.header_bits.specs.Lawful.{IsLawful};
 
 use crate::checks::same;
-use crate::predicted_runs::{Draw, Twice, cube_of, number_of_place, params_of};
+use crate::predicted_runs::{Draw, Twice, cube_of, params_of, raster_index};
 use cube_core::cube::Cube;
 use header_bits::params::Params;
 use predict_core::band::Band;
@@ -29,9 +29,9 @@ struct Both {
 impl Both {
     /// Predicts `count` places of both bands at once.
     fn go(&mut self, rt: &impl Abort, y: u32, x: u32, count: u32) {
-        let place = number_of_place(rt, self.cube.shape(), y, x, count as usize);
-        assert!(rt; self.lower.next() == place);
-        assert!(rt; self.upper.next() == place);
+        let t = raster_index(rt, self.cube.shape(), y, x, count as usize);
+        assert!(rt; self.lower.next() == t);
+        assert!(rt; self.upper.next() == t);
         self.lower
             .predict_pieces(&mut self.upper, &self.cube, y, x, count as usize);
     }

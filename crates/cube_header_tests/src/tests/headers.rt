@@ -16,16 +16,16 @@ use std::process::Abort;
 
 /// The header of a cube of one 8-bit sample.
 const ONE_SAMPLE: [u8; 19] = [
-    0x00, // user-defined data
+    0x00, // user data
     0x00, 0x01, 0x00, 0x01, 0x00, 0x01, // one column, row and band
     0x11, // unsigned, eight bits, band sequential
-    0x00, 0x00, // no depth of interleaving
+    0x00, 0x00, // no interleaving depth
     0x08, 0x00, // words of one byte, the sample-adaptive coder
     0x02, // no previous bands, reduced mode
     0xA0, // column-oriented sums, a register of 32 bits
-    0x92, 0x59, // 13 fractional bits, an interval of 2^6, exponents -1 and 3
-    0x00, // the usual weight start
-    0x82, 0x26, // unary limit 16, rescaling size 6, first exponent 1, constant 3
+    0x92, 0x59, // weight resolution 13, an interval of 2^6, exponents -1 and 3
+    0x00, // default weight initialization
+    0x82, 0x26, // U_max 16, γ* 6, γ₀ 1, constant 3
 ];
 
 /// Returns the parameters of that header.
@@ -79,12 +79,12 @@ fn any_depth_is_read_and_zeros_are_written(rt: HostRuntime) {
     same(&rt, again.as_slice(), ONE_SAMPLE.as_slice());
 }
 
-/// Returns the fault that the header is refused for once byte `place` is replaced.
-fn refusal(alloc: Global, place: usize, byte: u8) -> Option<Fault>
-    requires { place < 19 }
+/// Returns the fault that the header is refused for once its byte `at` is replaced.
+fn refusal(alloc: Global, at: usize, byte: u8) -> Option<Fault>
+    requires { at < 19 }
 {
     let mut bytes = ONE_SAMPLE;
-    bytes[place] = byte;
+    bytes[at] = byte;
     read_header(alloc, &bytes).err()
 }
 

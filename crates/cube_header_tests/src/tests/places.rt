@@ -107,13 +107,13 @@ fn go_along_columns(rt: &impl Abort, shape: Shape, order: Order)
     requires { IsOrder shape order }
 {
     let count = shape.sample_count();
-    for item in 0..count {
+    for index in 0..count {
         let mut walk = Places::new(shape, order);
-        walk.go_by(item);
-        let first = place_at(&shape, order, item);
+        walk.go_by(index);
+        let first = place_at(&shape, order, index);
         for i in 0..walk.column() {
-            assert!(rt; i < count - item);
-            let place = place_at(&shape, order, item + i);
+            assert!(rt; i < count - index);
+            let place = place_at(&shape, order, index + i);
             same(rt, u64::from(place.z), u64::from(first.z) + i);
             same(rt, (place.y, place.x), (first.y, first.x));
         }

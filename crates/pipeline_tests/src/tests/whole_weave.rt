@@ -30,8 +30,8 @@ pub(crate) fn weave_all(
     plan.prove_is_plan();
     let mut weaver = Weaver::new(alloc, plan.params(), plan)?;
     let mut wanted = Vec::new(alloc);
-    for place in 0..plan.params().shape.sample_count() {
-        let _place = place;
+    for index in 0..plan.params().shape.sample_count() {
+        let _index = index;
         let predictor = weaver.wants().expect(rt, "a predictor that is wanted");
         let residual = next_of(rt, lists, predictor, &wanted);
         weaver.take(residual)?;
