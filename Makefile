@@ -1,14 +1,15 @@
 PREFIX ?= /usr/local
 PROGRAM = crates/ccsds/out/ccsds
 
-# A proof or a must-fail edit for each processor and one more, as long as the memory holds 4 GB for each of them.
+# The number of proofs or must-fail edits that run at once: one more than there are processors, but no more than free
+# memory has 4 GB for, and at least one.
 LANES = $(shell awk -v most="$$(($$(nproc) + 1))" '/^MemAvailable/ { n = int($$2 / 4000000); print n < 1 ? 1 : n < most ? n : most }' /proc/meminfo)
 
 SCRIPTS = $(addprefix tests/, command.sh limits.sh options.py sizes.py pipelines.py refused.py guards.py fuzz)
 
 .PHONY: all show install test interop rows bench beside plain $(SCRIPTS)
 
-# Proves and builds the program and its libraries, as many side by side as there are processors.
+# Proves and builds the program and its libraries, as many in parallel as there are processors.
 all:
 	@tools/build.py ccsds
 
@@ -16,14 +17,14 @@ all:
 show: all
 	@$(PROGRAM) show < samples/small.cube
 
-# Puts the program into PREFIX/bin.
+# Installs the program in PREFIX/bin.
 install: all
 	install -D $(PROGRAM) $(DESTDIR)$(PREFIX)/bin/ccsds
 
-# Proves every crate from nothing, tries the must-fail edits, and runs the tests and the program; then tries the
-# program that was proved on files and devices, with little of what it needs, on all its options, at the greatest
-# sizes, with predictors in threads, with each of its calls for memory, reads and writes refused, and on damaged files;
-# and looks whether each promise has its edits. These scripts run side by side, and each tells what it has to tell when it ends.
+# Proves every crate from scratch, tries the must-fail edits, and runs the tests and the program. Then scripts test the
+# proved program on files and devices, with little memory and few threads, on all its options, at the greatest sizes, with
+# predictors in threads, with each of its memory allocations, reads and writes refused, and on damaged files; and one checks
+# that each proved promise has its edits. The scripts run in parallel, and the output of each is printed when it ends.
 test:
 	RT_JOBS=$(LANES) rt ci
 	@$(MAKE) --no-print-directory --jobs="$$(nproc)" --output-sync $(SCRIPTS)
@@ -31,20 +32,20 @@ test:
 $(SCRIPTS):
 	$@
 
-# Sets our block-adaptive bodies beside those of libaec's program `aec`, both ways.
+# Compares our block-adaptive bodies with those of libaec's program `aec`, in both directions.
 interop: all plain
 	tests/interop.py
 
-# Holds the program to plain Rust that goes sample by sample, on 500 sets of parameters that a seed decides.
+# Compares the program with plain Rust that goes sample by sample, on 500 sets of parameters that a seed determines.
 rows: all plain
 	tests/rows.py
 
-# Measures the benchmark program beside plain Rust, and prints a table.
+# Compares the speed of the benchmark program with that of plain Rust, and prints a table.
 bench: plain
 	@tools/build.py speed
 	bench/compare
 
-# Sets the program beside common compressors, on a scene that looks like an imaging spectrometer's.
+# Compares the program with common compressors, on a scene that resembles one of an imaging spectrometer.
 beside: all plain
 	bench/beside
 

@@ -1,5 +1,6 @@
-# What the scripts beside it share, which read it with their own words: the program that these name, or else the one that `rt ci`
-# and `rt run` leave; a room that is gone in the end; and how runs are held to what they are to do.
+# What the scripts beside this file share; they source it with their own arguments. It sets `program` to the first of these, or else to
+# the program that `rt ci` and `rt run` build. It changes to a temporary folder, which is removed at the end, and defines the checks
+# and the counts of those that passed and failed.
 set -u
 here=$(cd "$(dirname "${BASH_SOURCE[0]}")/.." && pwd)
 program=$(realpath "${1:-$here/crates/ccsds/out/ccsds}") || exit 2
@@ -14,7 +15,7 @@ cd "$room" || exit 2
 passed=0
 failed=0
 
-# Holds a run to its status, and to what it is to say on standard error.
+# Checks the status of a run, and what it printed on standard error.
 check() {
     local name=$1 wanted_status=$2 wanted_line=$3 status=$4
     if [ "$status" -ne "$wanted_status" ]; then
@@ -31,8 +32,8 @@ complain() {
     failed=$((failed + 1))
 }
 
-# Runs the program on the words behind the first three, and holds it to its status and its line. It may
-# print nothing on standard output.
+# Runs the program with the arguments after the first three, and checks its status and its line on standard error. It must not
+# print anything on standard output.
 run() {
     local name=$1 status=$2 line=$3
     shift 3
@@ -43,7 +44,7 @@ run() {
     fi
 }
 
-# Holds a file to the bytes that two hexadecimal digits each spell.
+# Checks that a file consists of the bytes that are given in hexadecimal.
 holds() {
     local name=$1 file=$2 bytes=$3
     if [ -e "$file" ] && [ "$(od -An -v -tx1 "$file" | tr -d ' \n')" = "$bytes" ]; then
@@ -63,7 +64,7 @@ same() {
 
 usage=$'ccsds: 20 Usage\n'
 
-# Two samples of 200, one row below the other: the words that tell of them, and their file.
+# Two samples of 200, one row below the other: their file in hexadecimal, the options that describe them, and their raw bytes.
 file=00000100020001110000080002a092590082269080
 two='--columns 1 --rows=2 --bands 1 --bits 8 --bytes 1 --previous 0 --reduced --column-sums --register 32'
 printf '\xc8\xc8' > raw

@@ -1,5 +1,5 @@
 #!/usr/bin/env bash
-# Runs the built program: exit statuses, standard error and output files, each to the byte.
+# Checks the exit statuses, the standard error and the output files of the built program, byte for byte.
 #
 #   tests/command.sh [PROGRAM]
 source "$(dirname "$0")/checks.sh" || exit 2
@@ -51,7 +51,7 @@ check 'show' 0 '' $?
 printf '%s\n' "$file" > text
 same 'show' text shown
 
-# ---- a cube of two bands, by a predictor for each of them, in threads of their own
+# ---- a cube of two bands, on one thread and with predictors in threads of their own
 
 printf 'dfiehgnospqr' > cube
 both='--columns 3 --rows=2 --bands 2 --bits 8 --bytes 1 --previous 1 --register 32 --order bi --depth 2'
@@ -93,7 +93,7 @@ run 'a byte too many' 2 $'ccsds: 11 TooLong 12\n' expand longer out
 run 'a fill bit of one' 2 $'ccsds: 10 BadFill\n' expand filled out
 holds 'a fill bit of one' out ''
 
-# ---- files that can't be opened or made, and devices that fail
+# ---- files that can't be opened or created, and devices that fail
 
 rm -f out
 run 'no IN' 4 $'ccsds: 18 Read\n' compress $two missing out
@@ -132,7 +132,7 @@ cp raw again
 run 'OUT has the same bytes' 0 '' compress $two raw again
 holds 'OUT has the same bytes' again "$file"
 
-# ---- OUT that is there is emptied in its place: its other names see the file, and its mode stays
+# ---- an OUT that exists is emptied in place: its other names refer to the new contents, and its mode stays
 
 printf 'old contents, longer than the file that comes' > there
 chmod 640 there
@@ -162,7 +162,7 @@ run 'OUT is a pipe' 0 '' compress $two raw to
 wait
 holds 'OUT is a pipe' got "$file"
 
-# All of IN is in its pipe, and its other end closed, before OUT can be opened: who opens IN again finds nothing.
+# All of IN is in its pipe, and the writing end is closed, before OUT can be opened. A program that opens IN again finds nothing.
 timeout 60 cp raw from &
 giver=$!
 timeout 60 "$program" compress $two from to > stdout 2> stderr < /dev/null &
@@ -180,11 +180,11 @@ holds 'IN comes in two pieces' coded "$file"
 check 'the standard input comes in two pieces' 0 '' $?
 same 'the standard input comes in two pieces' text shown
 
-# ---- names beyond ASCII, with blanks at their ends, of lines, long ones, and none
+# ---- names beyond ASCII, with blanks at their ends, with line ends, long ones, and the empty one
 
 long=$(printf 'x%.0s' $(seq 1 250))
 far=$(printf './%.0s' $(seq 1 1900))
-# Who takes blanks or quotes off a name finds no other file of these bytes.
+# No other file has these bytes, so a program that strips blanks or quotes from a name can't find them.
 mv raw bytes
 for name in 'zwei Wörter' "$long" "$far$long" 'ä\n*' ' raw' 'raw ' $'raw\n' $'zwei\nZeilen' $'\traw' - '"raw"' '$raw' '~' '%41'; do
     told=${name:0:40}
@@ -201,7 +201,7 @@ run 'a name without letters' 4 $'ccsds: 18 Read\n' compress $two '' coded
 run 'a word without letters' 1 "$usage" compress $two '' raw coded
 run 'a word without letters, behind show' 1 "$usage" show ''
 
-# ---- an end that nobody reads, and streams that are closed
+# ---- a pipe that nobody reads, and closed streams
 
 {
     sleep 0.3
@@ -226,7 +226,7 @@ check 'a large file' 0 '' $?
 same 'a large file' lines told
 rm large
 
-# ---- words that are no lawful command leave OUT as it was
+# ---- words that are not a lawful command leave OUT as it was
 
 echo something > out
 cp out before
@@ -249,7 +249,7 @@ run 'one name for both files' 1 "$usage" compress $two out out
 run 'words that are no text' 1 "$usage" expand $'\xff' out
 same 'OUT after no lawful command' before out
 
-# ---- there and back, in each layout and each order, by both coders
+# ---- compressed and expanded, in each layout and each order, by both coders
 
 head -c 36000 /dev/urandom > raw # 20 columns, 30 rows, 30 bands of two bytes
 size='--columns 20 --rows=30 --bands 30 --bits 16'

@@ -1,9 +1,10 @@
 #!/usr/bin/env python3
-"""Holds the must-fail edits to the promises of docs/PROMISES.md, and docs/GUARDS.md to both.
+"""Checks the must-fail edits against the promises of docs/PROMISES.md, and docs/GUARDS.md against both.
 
     tests/guards.py
 
-Each edit names promises that are there, each promise that is proved has an edit or says why not, and GUARDS.md is what `tools/edits.py` prints.
+Each edit has to name promises that exist, each proved promise has to have an edit or to say why it has none, and GUARDS.md has to
+be what `tools/edits.py` prints.
 """
 
 import os

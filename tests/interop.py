@@ -1,16 +1,16 @@
 #!/usr/bin/env python3
-"""Sets the block-adaptive bodies of the program beside those of `aec` of libaec, another coder of CCSDS 121.0-B.
+"""Compares the block-adaptive bodies of the program with those of `aec` of libaec, another coder of CCSDS 121.0-B.
 
     tests/interop.py [PROGRAM]
 
 For each number of bits from 2 to 16, each block size and three reference intervals, over a small scene:
 
-* the body that `ccsds compress` writes is decoded by `aec -d` to exactly the mapped residuals;
-* the body that `aec` writes of these residuals, put behind our header, is expanded to the scene.
+* `aec -d` has to restore the mapped residuals from the body that `ccsds compress` writes;
+* `ccsds expand` has to restore the scene from our header and the body that `aec` writes of these residuals.
 
-The scene and its residuals come from the plain Rust program of `bench/`, so our own code is on one side alone. `aec` runs without
-its preprocessor (-N), since a file's body holds mapped residuals. `make interop` builds all that is needed. Without `aec`
-(Debian's package libaec-tools) the status is 3.
+The scene and its residuals come from the plain Rust program of `bench/`, so the program under test is on one side only. `aec`
+runs without its preprocessor (-N), since the body of a file contains mapped residuals. `make interop` builds all that is needed.
+Without `aec` (Debian's package libaec-tools) the status is 3.
 """
 
 import os
@@ -31,7 +31,7 @@ INTERVALS = [1, 64, 4096]
 
 
 class Room(Workroom):
-    """A folder for the files of a run, and the two programs over them."""
+    """A folder for the files of a run, and the two programs that read and write them."""
 
     def __init__(self, folder, program):
         super().__init__(folder)
@@ -56,7 +56,7 @@ class Room(Workroom):
 
 
 class Differs(Exception):
-    """What two coders don't agree on."""
+    """A difference between the two coders, or a failure of one of them."""
 
 
 def plain(subject, bits):
@@ -64,7 +64,7 @@ def plain(subject, bits):
 
 
 def ours_is_read(room, bits, block, interval, residuals):
-    """Our body, decoded by the other coder, is the residuals; it may give filled values behind them."""
+    """Checks that the other coder decodes our body to the residuals; filled values may follow them."""
     room.compress(bits, block, interval)
     room.write("body", room.read("file")[HEADER:])
     room.aec(["-d"], bits, block, interval, "body", "numbers")
@@ -73,7 +73,7 @@ def ours_is_read(room, bits, block, interval, residuals):
 
 
 def theirs_is_read(room, bits, block, interval, scene):
-    """The other coder's body, behind our header, is expanded to the scene."""
+    """Checks that the program expands our header and the other coder's body to the scene."""
     header = room.read("file")[:HEADER]
     room.aec([], bits, block, interval, "residuals", "body")
     file = header + room.read("body")

@@ -1,12 +1,12 @@
 #!/usr/bin/env bash
-# Runs the built program with little memory, few threads, and devices and files that don't grow: each answer to the byte.
+# Checks the answers of the built program with little memory, few threads, full devices and files that may not grow, byte for byte.
 #
 #   tests/limits.sh [PROGRAM]
 source "$(dirname "$0")/checks.sh" || exit 2
 
-# ---- a body that is missing, for whatever sizes: memory isn't asked for
+# ---- a missing body, whatever the sizes are: no memory is allocated for it
 
-# Runs the program in 32 MB of memory, and no more than a second.
+# Runs the program with 32 MB of memory and one second of processor time, and checks its status and its line on standard error.
 run_small() {
     local name=$1 status=$2 line=$3
     shift 3
@@ -25,10 +25,10 @@ for size in 0000 8000 0001; do
     done
 done
 
-# ---- little memory: the command is done, or memory was refused and OUT is empty
+# ---- little memory: the command succeeds, or memory is refused and OUT is empty
 
-# Runs the program in so many kilobytes, and holds it to that. Where the system can't load it, or has no memory
-# for its words, nothing is asked.
+# Runs the program in so many kilobytes, and checks that it succeeds or refuses. With status 1 the line has to be that of Usage.
+# Where the system can't load the program, nothing is checked.
 in_little_memory() {
     local name=$1 kilobytes=$2 whole=$3 status line
     shift 3
@@ -72,9 +72,9 @@ for coder in sample block; do
     done
 done
 
-# ---- a thread that isn't started: those that were are joined, and OUT is empty
+# ---- a thread that isn't started: those already started are joined, and OUT is empty
 
-# Runs the program with room for so many stacks of threads.
+# Runs the program with memory for so many thread stacks, and checks its status and its line on standard error.
 with_stacks() {
     local name=$1 stacks=$2 status=$3 line=$4
     shift 4
@@ -120,10 +120,10 @@ done
 run 'zeros are expanded' 0 '' expand coded out
 same 'zeros are expanded' zeros out
 
-# ---- a device that fills up in mid-write
+# ---- a device that fills up during a write
 
-# Runs the program with a device of 64 KiB mounted on the folder device, in a namespace of its own, and keeps
-# what it left in device/out.
+# Runs the program with a device of 64 KiB mounted on the folder `device`, in a namespace of its own, and copies what it wrote
+# to device/out into the file `left`.
 on_small_device() {
     unshare -rm bash -c '
         mount -t tmpfs -o size=64k none device && "$@" 2> stderr
@@ -132,7 +132,7 @@ on_small_device() {
         exit $status' - "$program" "$@"
 }
 
-# Holds a run that ended with a status to having written the front of a file, as much as it says.
+# Checks that a run failed to write, and that it wrote the beginning of a file, as many bytes as its line says.
 fills_up() {
     local name=$1 whole=$2 status=$3 size
     size=$(wc -c < left)
@@ -157,7 +157,7 @@ else
     echo 'limits.sh: a device that fills up was not tried, since none can be mounted here'
 fi
 
-# ---- two files of one number, each on a device of its own, aren't one file
+# ---- two files with the same inode number on two devices aren't one file
 
 mkdir one other_one
 if unshare -rm bash -c '

@@ -1,10 +1,10 @@
 #!/usr/bin/env python3
-"""Holds the built program to what its options say: raw layouts, fields of the header, and refusals; and COMMAND.md to the options.
+"""Checks the options of the built program (raw layouts, fields of the header, refusals), and COMMAND.md against the options.
 
     tests/options.py [PROGRAM]
 
-Raw bytes are laid out here, after the definition of each layout, so that no expected value comes from the program. `rt ci` leaves the
-program where this looks for it; so does `make`.
+The raw bytes are laid out here, by the definition of each layout, so no expected value comes from the program. PROGRAM defaults to
+the one that `rt ci` and `make` build.
 """
 
 import itertools
@@ -29,16 +29,17 @@ LIMIT = 120
 
 
 class Room(Workroom):
-    """A folder, the program over its files, and what has passed."""
+    """A folder, the program that runs in it, and the counts of checks that passed and failed."""
 
     def __init__(self, folder, program):
         super().__init__(folder)
         self.program, self.passed, self.failed = os.path.realpath(program), 0, 0
 
     def run(self, *words, given=b"", read=None, limit=None, processors=None):
-        """The status, the output and the line on standard error of a run, in so much memory, and on these processors.
+        """Runs the program, and returns its status, its standard output and its standard error.
 
-        Its standard input is the file that `read` names, or else a pipe with the given bytes."""
+        Its standard input is the file that `read` names, or else a pipe with the given bytes. `limit` is the most memory in bytes,
+        and `processors` are those that it may run on."""
 
         def bound():
             if limit:
@@ -62,7 +63,7 @@ class Room(Workroom):
 
 # ---- raw layouts
 
-# The index of a sample in each layout, by band, row and column, for so many columns, rows and bands.
+# For each layout, the index of the sample at band z, row y and column x in a cube of nx columns, ny rows and nz bands.
 LAYOUTS = {
     "bsq": lambda z, y, x, nx, ny, nz: (z * ny + y) * nx + x,
     "bil": lambda z, y, x, nx, ny, nz: (y * nz + z) * nx + x,
@@ -71,7 +72,7 @@ LAYOUTS = {
 
 
 def raw_bytes(samples, shape, layout, size, little, signed):
-    """The samples, in band sequential order, laid out in so many bytes each."""
+    """Returns the raw bytes of samples, given in band sequential order, in a layout with `size` bytes for each."""
     nx, ny, nz = shape
     found = [b""] * len(samples)
     for i, (z, y, x) in enumerate(itertools.product(range(nz), range(ny), range(nx))):
@@ -81,7 +82,7 @@ def raw_bytes(samples, shape, layout, size, little, signed):
 
 
 def layouts(room):
-    """Each raw layout is compressed to one file, and that is expanded to each."""
+    """Checks that all raw layouts are compressed to the same file, and that it is expanded to each of them."""
     for signed, bits in itertools.product((False, True), (7, 8, 13, 16)):
         shape, chance = (3, 4, 5), random.Random(bits)
         low = -(1 << bits - 1) if signed else 0
@@ -101,7 +102,7 @@ def layouts(room):
         room.hold(f"{bits} bits: one file for all layouts", len(set(files)), 1)
 
 
-# ---- options, as the header tells them
+# ---- options, as the header records them
 
 USUAL = {
     "user": 0, "columns": 4, "rows": 2, "bands": 3, "sample": "unsigned", "bits": 12, "order": "bsq", "word": 1, "coder": "sample",
@@ -111,7 +112,7 @@ USUAL = {
 SIZES = ["--columns", 4, "--rows", 2, "--bands", 3]
 BITS = ["--bits", 12]
 
-# What is asked for, and which lines then differ from the usual ones.
+# Options of `compress`, and the lines of `inspect` that then differ from the usual ones.
 ASKED = [
     (["--user", 255], {"user": 255}),
     (["--signed"], {"sample": "signed"}),
@@ -169,7 +170,7 @@ def told(fields):
 
 
 def options(room):
-    """Each option of `compress` reaches its field of the header, and no other."""
+    """Checks that each option of `compress` changes its own field of the header, and no other."""
     room.write("raw", bytes(48))
     for words, changed in ASKED:
         compared(room, words, USUAL | changed)
@@ -191,7 +192,7 @@ def compared(room, words, fields):
 
 
 def documented(room):
-    """The tables of COMMAND.md have the row of each option, as the sources have it; and the program keeps to their ranges and defaults."""
+    """Checks that COMMAND.md has the row that the sources give each option, and that the program keeps to the range and the default."""
     room.hold("tables of COMMAND.md", option_rows.differences(), [])
     room.write("raw", bytes(48))
     given = dict(zip(SIZES[::2], SIZES[1::2])) | {"--bits": 12}
@@ -214,7 +215,7 @@ SHARED = [[], ["--order", "bi"], ["--order", "bi", "--depth", 7], ["--coder", "b
 
 
 def predictors(room):
-    """However many predictors and slots there are, the file is the same."""
+    """Checks that the file doesn't depend on the numbers of predictors and slots."""
     room.write("raw", random.Random(9).randbytes(2 * 20 * 15 * 9))
     for words in SHARED:
         sizes = ["compress", "--columns", 20, "--rows", 15, "--bands", 9, "--bits", 16, *words]
@@ -229,7 +230,7 @@ def predictors(room):
 
 
 def files(room):
-    """IN is opened once, and then OUT is."""
+    """Checks that IN is opened once, and then OUT once."""
     for name in ("raw", "file", "back"):
         room.write(name, bytes(4))
     sizes = ["--columns", 2, "--rows", 1, "--bands", 1, "--bits", 16]
@@ -246,7 +247,7 @@ HEADER = "00 0001 0002 0001 11 0000 08 00 02 a0 92 59 00 82 26"
 
 
 def header(*changes):
-    """The header of two samples, but for some bytes, each behind its place."""
+    """Returns the header of two samples with some bytes replaced, each given as its position and its value."""
     found = bytearray.fromhex(HEADER)
     for place, byte in changes:
         found[place] = byte
@@ -270,7 +271,7 @@ REFUSED = [
 
 
 def refusals(room):
-    """Each refusal of a file is told by its line, and leaves OUT empty; so is want of memory."""
+    """Checks that each refusal of a file prints its line and leaves OUT empty, and that lack of memory prints its line."""
     for file, line in REFUSED:
         room.write("file", file)
         room.hold(line, room.run("expand", "file", "back"), (2, b"", f"ccsds: {line}\n"))

@@ -1,11 +1,12 @@
 #!/usr/bin/env python3
-"""Holds the built program, with predictors in threads, to what it does on one thread.
+"""Checks that the built program does the same with predictors in threads as on one thread.
 
     tests/pipelines.py [SEED [COUNT [PROGRAM]]]
 
-SEED alone decides COUNT sets of lawful parameters and raw bytes for each. By each number of predictors and slots that is drawn, `compress` has
-to end as it does without predictors, with the same bytes in OUT, and `expand` has to give the raw bytes back; on two processors every other
-time. Some raw bytes are too few, too many or out of range: these are refused alike. Left out, SEED is 1 and COUNT 200.
+SEED alone determines COUNT sets of lawful parameters, and raw bytes for each. With each combination of predictors and slots that is drawn,
+`compress` has to end as it does without predictors and to write the same bytes to OUT; every other run uses only two processors. `expand`
+has to restore the raw bytes. Some raw bytes are too few, too many or out of range; these have to be refused in the same way. SEED defaults
+to 1, COUNT to 200, and PROGRAM to the one that `make` builds.
 """
 
 import os
@@ -18,7 +19,7 @@ from options import LAYOUTS, PROGRAM, Room, raw_bytes
 
 SLOTS = (1, 2, 8, 1024, 65_536)
 RUNS = 4
-"""How many numbers of predictors and slots are drawn for each set of parameters."""
+"""The number of combinations of predictors and slots that are drawn for each set of parameters."""
 PROCESSORS = set(sorted(os.sched_getaffinity(0))[:2])
 
 
@@ -26,7 +27,7 @@ PROCESSORS = set(sorted(os.sched_getaffinity(0))[:2])
 
 
 def shape_of(chance):
-    """Columns, rows and bands; mostly few, at times many of one of them."""
+    """Returns columns, rows and bands, mostly few of each, sometimes many of one."""
     shape = [chance.randint(1, 9) for _ in range(3)]
     if chance.random() < 0.3:
         shape[chance.randrange(3)] = chance.randint(10, 300)
@@ -38,7 +39,7 @@ def flag(chance, word, often=0.5):
 
 
 def file_words(chance, bands):
-    """What the file as a whole is like: its order, its words, a byte of the user's own."""
+    """Returns the options of the file as a whole: its order, its output word size and its user data."""
     words = ["--user", chance.randrange(256), "--word", chance.randint(1, 8)]
     if chance.random() < 0.7:
         depth = chance.choice((1, bands, chance.randint(1, bands)))
@@ -47,7 +48,7 @@ def file_words(chance, bands):
 
 
 def predictor_words(chance, columns, bits):
-    """Mode, sums, register and weights. One column asks for reduced mode and column-oriented sums."""
+    """Returns the options of mode, sums, register and weights. One column needs reduced mode and column-oriented sums."""
     often = 1 if columns == 1 else 0.5
     omega = chance.randint(4, 19)
     least, greatest = sorted(chance.randint(0, 15) for _ in range(2))
@@ -57,7 +58,7 @@ def predictor_words(chance, columns, bits):
 
 
 def coder_words(chance, bits):
-    """Either entropy coder."""
+    """Returns the options of one of the entropy coders."""
     k = ["--k", chance.randint(0, min(14, bits - 2))]
     if chance.random() < 0.5:
         return ["--coder", "block", "--block", chance.choice((8, 16, 32, 64)), "--reference", chance.choice((1, 2, 64, 4096)), *k]
@@ -70,7 +71,7 @@ def coder_words(chance, bits):
 
 
 def samples_of(chance, count, low, high):
-    """Samples of one kind each time: any, a slow walk, or all alike."""
+    """Returns samples that are independent, follow a slow random walk, or are all equal."""
     form, found, value = chance.choice(("any", "walk", "alike")), [], chance.randint(low, high)
     step = max(1, (high - low) // 50)
     for _ in range(count):
@@ -83,7 +84,7 @@ def samples_of(chance, count, low, high):
 
 
 def damaged(chance, raw):
-    """Raw bytes that may be too few, too many, or out of range."""
+    """Returns raw bytes that are too few, too many, or may be out of range."""
     slip = chance.choice(("short", "long", "any"))
     if slip == "short":
         return raw[: chance.randrange(len(raw))]
@@ -96,7 +97,7 @@ def damaged(chance, raw):
 
 
 def hold_set(room, chance, name):
-    """Draws parameters and raw bytes, and holds all runs on them to the one without predictors."""
+    """Draws parameters and raw bytes, and compares all runs on them with the one without predictors. Returns its status."""
     columns, rows, bands = shape = shape_of(chance)
     bits, signed = chance.randint(2, 16), chance.random() < 0.5
     low = -(1 << bits - 1) if signed else 0

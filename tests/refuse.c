@@ -1,7 +1,7 @@
-/* Loaded before a program (LD_PRELOAD), refuses one of its calls for memory: the one that REFUSE counts, from 1. So does it one of
-   its reads that REFUSE_READ counts, or one of its writes that REFUSE_WRITE counts, with the error that REFUSE_ERROR names by its
-   number; where that is 0, the call ends well and moves nothing. A call that was refused leaves the file that REFUSED names. All others go to
-   the C library; where PIECE is set, a read or a write moves at most so many bytes. */
+/* Refuses calls of a program that it is loaded before (LD_PRELOAD): the memory allocation whose number, counted from 1, is REFUSE, the
+ * read with the number REFUSE_READ, and the write with the number REFUSE_WRITE. A read or a write fails with the error number
+ * REFUSE_ERROR (EIO where it isn't set); where that is 0, the call succeeds and transfers nothing. A refused call creates the file
+ * that REFUSED names. All other calls are carried out; where PIECE is set, a read or a write transfers at most so many bytes. */
 
 #include <errno.h>
 #include <fcntl.h>
@@ -18,7 +18,7 @@ extern void *__libc_memalign(size_t alignment, size_t size);
 
 static atomic_long calls, reads, writes;
 
-/* Whether this call is the one to refuse, of those of its kind. */
+/* Counts a call of a kind, and returns whether it is the one to refuse; if so, creates the file that REFUSED names. */
 static int is_the_one(const char *kind, atomic_long *count) {
     const char *which = getenv(kind);
     if (!which || atomic_fetch_add(count, 1) + 1 != atol(which))
@@ -42,7 +42,7 @@ static long number(const char *name, long otherwise) {
     return text ? atol(text) : otherwise;
 }
 
-/* What a refused read or write answers. */
+/* Sets errno, and returns the result of a refused read or write. */
 static ssize_t refusal(void) {
     errno = number("REFUSE_ERROR", EIO);
     return errno ? -1 : 0;

@@ -1,17 +1,20 @@
 #!/usr/bin/env python3
-"""Refuses each call for memory of the built program in turn, each read and each write, and sets limits on its memory.
+"""Refuses each memory allocation, each read and each write of the built program in turn, and limits its memory.
 
     tests/refused.py [PROGRAM]
 
-`tests/refuse.c`, which this compiles by `cc`, is loaded before the program and refuses the first of its calls for memory, then the second, until a run
-meets none. Each such run ends with status 3, tells want of memory or a refused thread, or nothing where there was none for the line,
-and writes nothing; or it does without, and then its outputs are those of an undisturbed run. So are the reads and the writes refused, which go in
-pieces then: a refused read ends with `Read` and nothing written, and a refused write with `Write` and the bytes that went out before it. Pieces as small as
-a byte change nothing.
-Then come files that end behind a header of any size.
+`tests/refuse.c`, which this script compiles with `cc`, is loaded before the program. It refuses the first allocation, then the second,
+and so on, until a run makes no such call. Each run with a refusal either ends with status 3 and writes nothing, and its line
+reports lack of memory or a refused thread (without memory for the line there is none); or it does without the memory, and its output is
+that of an undisturbed run.
 
-At last the same is done to `refused_allocations`, a program over the libraries, which makes each library call again that was refused: whichever it is, its bodies
-and files are those of an undisturbed run. `rt ci` leaves both programs where this looks for them; `make` builds the first.
+Reads and writes are refused in the same way, and are split into pieces. A refused read ends with `Read` and nothing written, and a
+refused write with `Write` and the bytes that were written before it. Pieces as small as a byte change nothing. Then come files that
+end after their header, whatever sizes it announces.
+
+Finally, the same is done to `refused_allocations`, a program that calls the libraries and repeats each library call that is refused.
+Whichever allocation that is, its bodies and files are those of an undisturbed run. `rt ci` builds both programs where this script
+looks for them; `make` builds the first.
 """
 
 import errno
@@ -32,22 +35,22 @@ CALLS = os.path.join(TOP, "crates", "refused_allocations", "out", "refused_alloc
 DONE, INPUT, REFUSED, DEVICE = 0, 2, 3, 4
 MEMORY, THREAD = b"ccsds: 12 WantOfMemory\n", b"ccsds: 16 SpawnRefused\n"
 
-# The answer to a file that ends behind a header of 19 bytes, in so much memory.
+# The line for a file that ends after its header of 19 bytes, and the memory in which it has to be printed.
 CUT, LITTLE = b"ccsds: 6 Truncated 152\n", 32 << 20
 
-# More growths than any of these commands has.
+# More allocations, reads or writes than any run here makes.
 MOST = 1000
 
 
 class Room(Workroom):
-    """A folder with a scene, the program over it, and what has passed."""
+    """A folder with a scene, the program that runs on it, and the counts of checks that passed and failed."""
 
     def __init__(self, folder):
         super().__init__(folder)
         self.passed, self.failed = 0, 0
 
     def run(self, words, refuse=None, limit=None, program=PROGRAM, **more):
-        """The status, the line on standard error, and all that was written: standard output and `out`."""
+        """Runs the program, and returns its status, its standard error, and all that it wrote: standard output and `out`."""
         self.write("out", b"")
         asked = {name: str(value) for name, value in (more if refuse is None else {"REFUSE": refuse}).items()}
         around = {"LD_PRELOAD": self.path("refuse.so"), "REFUSED": self.path("mark")} | asked if asked else {}
@@ -59,7 +62,7 @@ class Room(Workroom):
         return ran.returncode, ran.stderr, ran.stdout + self.read("out")
 
     def met(self):
-        """Whether the last run met the call to refuse."""
+        """Returns whether the last run made the call to refuse."""
         try:
             os.remove(self.path("mark"))
             return True
@@ -77,7 +80,7 @@ class Room(Workroom):
 SIZES = ["--columns", 40, "--rows", 9, "--bands", 6, "--bits", 12]
 BLOCKS = ["--coder", "block", "--block", 8, "--reference", 4]
 
-# Commands by the line on standard error that a refusal may have, beside none.
+# The words of each command, and the lines that it may print on standard error when an allocation is refused, apart from none.
 COMMANDS = {
     "compress, sample-adaptive": (["compress", *SIZES, "scene.raw", "out"], [MEMORY]),
     "compress, block-adaptive": (["compress", *SIZES, *BLOCKS, "--order", "bi", "--depth", 2, "scene.raw", "out"], [MEMORY]),
@@ -91,7 +94,7 @@ COMMANDS = {
 
 
 def make(room):
-    """The scene, its files, a cube for `show`, and the library that refuses."""
+    """Makes the scene, its files, a cube for `show`, and the library that refuses."""
     chance = random.Random(1)
     heights = [2000 + 5 * (i % 40) + chance.randrange(64) for i in range(40 * 9 * 6)]
     room.write("scene.raw", b"".join(height.to_bytes(2, "big") for height in heights))
@@ -103,9 +106,10 @@ def make(room):
 
 
 def each_growth(room, name, words, lines):
-    """Refuses the first call for memory, then the second, until a run meets none; how many there are, and of how many a thread is told.
+    """Refuses the first allocation, then the second, and so on, until a run makes no such call.
 
-    A thread is told of where threads are started, and nowhere else: want of memory comes before that and behind it."""
+    Returns the number of allocations, and the number of those whose refusal is reported as that of a thread. A thread is reported where
+    threads are started, and nowhere else: before and after that, lack of memory is reported."""
     wanted, said, threads = room.run(words), [], 0
     room.hold(name, wanted[:2] == (DONE, b"") and wanted[2], wanted)
     for nth in range(1, MOST):
@@ -119,21 +123,21 @@ def each_growth(room, name, words, lines):
         told = status == REFUSED and line in (*lines, b"") and written == b""
         if status == REFUSED and line and said[-1:] != [line]:
             said.append(line)
-        # What is only asked for to go faster can be done without.
+        # The program can do without memory that only makes it faster.
         room.hold(f"{name}: call {nth} refused", told or found == wanted, found)
     room.hold(f"{name}: more than {MOST} growths", False, None)
     return MOST, threads
 
 
-# The most bytes that a read or a write moves, while one of them is refused.
+# The most bytes that a read or a write transfers while one of them is refused.
 PIECE = 997
 
-# How a read or a write is refused: a broken device, a call that a signal interrupted, one that would wait, and, of writes, one that takes nothing.
+# The errors of a refused read or write: a failing device, an interrupted call, one that would block, a full device, a broken pipe.
 ERRORS = (errno.EIO, errno.EINTR, errno.EAGAIN, errno.ENOSPC, errno.EPIPE)
 
 
 def each_read(room, name, words):
-    """Refuses the first read, then the second, until a run meets none; how many there are."""
+    """Refuses the first read, then the second, and so on, until a run makes no such call. Returns the number of reads."""
     wanted, nth = room.run(words), 0
     while nth < MOST:
         nth += 1
@@ -148,7 +152,9 @@ def each_read(room, name, words):
 
 
 def each_write(room, name, words):
-    """Refuses the first write, then the second, until a run meets none; how many there are."""
+    """Refuses the first write, then the second, and so on, until a run makes no such call. Returns the number of writes.
+
+    The error 0 stands for a write that succeeds and takes nothing."""
     wanted, nth = room.run(words), 0
     while nth < MOST:
         nth += 1
@@ -163,12 +169,12 @@ def each_write(room, name, words):
     return MOST
 
 
-# The most bytes that a read or a write moves, while none is refused: so each rest of an input is asked for, and each rest of an output is offered.
+# The most bytes that a read or a write transfers while none is refused, so that inputs and outputs take many calls.
 SMALL_PIECES = (1, 2, 3, 7)
 
 
 def small_pieces(room, name, words):
-    """Reads and writes move few bytes each, and change nothing."""
+    """Checks that reads and writes of few bytes each change nothing."""
     wanted = room.run(words)
     for piece in SMALL_PIECES:
         found = room.run(words, PIECE=piece)
@@ -176,19 +182,19 @@ def small_pieces(room, name, words):
 
 
 def line_in_pieces(room):
-    """Standard error takes few bytes at once, and has the whole line."""
+    """Checks that standard error receives the whole line, even where it takes few bytes at once."""
     for piece in SMALL_PIECES:
         found = room.run(["expand", "none", "out"], PIECE=piece)
         room.hold(f"the line in pieces of {piece}", found == (DEVICE, b"ccsds: 18 Read\n", b""), found)
 
 
 def limits(room, name, words, lines):
-    """Bounds the program's memory more and less: it is whole, or it is refused, and then nothing is written."""
+    """Limits the program's memory, and checks that it succeeds, or refuses and writes nothing. Returns how often it succeeds."""
     wanted, whole = room.run(words), 0
     for pages in range(256, 8192, 64):
         found = room.run(words, limit=4096 * pages)
         status, line, written = found
-        # Under the least limits the system can't begin the program at all, and says so itself.
+        # Under the lowest limits the system can't start the program at all, and reports that itself.
         if status == REFUSED:
             room.hold(f"{name}: {pages} pages", line in (*lines, b"") and written == b"", found)
         elif status == DONE:
@@ -200,7 +206,7 @@ def limits(room, name, words, lines):
 
 
 def each_call(room):
-    """Refuses each call for memory of `refused_allocations` in turn; in how many runs a library call was refused and made again."""
+    """Refuses each allocation of `refused_allocations` in turn. Returns the number of runs in which a refused library call is repeated."""
     status, _, wanted = room.run(["all"], program=CALLS)
     bodies, last = wanted.rsplit(b"made again: ", 1)
     room.hold("calls", (status, last) == (DONE, b"0\n") and bodies.count(b"by predictors true, back true") == 3, wanted)
@@ -210,7 +216,7 @@ def each_call(room):
         if not room.met():
             room.hold("calls: nothing refused", found[2] == wanted, found)
             return again
-        # Where the refusal comes before the first call, or where there is none for the lines, the program says so and prints nothing.
+        # If memory is refused before the first library call, or for the lines, the program ends with another status and prints nothing.
         early = found[0] != DONE and found[2] == b""
         repeated = found[2] == bodies + b"made again: 1\n"
         room.hold(f"calls: call {nth} refused", early or repeated or found[2] == wanted, found)
@@ -220,7 +226,7 @@ def each_call(room):
 
 
 def announced(room):
-    """Files that end behind their header, whatever sizes it announces, are refused in little memory."""
+    """Checks that files that end after their header are refused in little memory, whatever sizes it announces."""
     chance = random.Random(2)
     sizes = [(65536, 65536, 65536)] + [tuple(1 << chance.randrange(17) for _ in range(3)) for _ in range(40)]
     for shape in sizes:
@@ -241,7 +247,7 @@ def main():
         for name, (words, lines) in COMMANDS.items():
             growths, of_threads[name] = each_growth(room, name, words, lines)
             print(f"{name}: {growths} growths refused in turn, {of_threads[name]} of them told as a thread's")
-        # A call that is refused elsewhere, and told as a thread's, would come once however many threads there are.
+        # An allocation elsewhere whose refusal is reported as a thread's would count once, however many threads there are.
         one, three = of_threads["compress, one predictor"], of_threads["compress, three predictors"]
         room.hold("each thread has as many calls for memory that are told as its own", three == 3 * one, (one, three))
         for name, (words, _) in COMMANDS.items():

@@ -1,12 +1,12 @@
 #!/usr/bin/env python3
-"""Holds the built program to plain Rust that goes sample by sample, where rows, pieces of rows and columns of bands begin and end.
+"""Compares the built program with plain Rust that goes sample by sample, where rows, pieces of rows and columns of bands begin and end.
 
     tests/rows.py [SEED [COUNT [PROGRAM]]]
 
-SEED alone decides COUNT sets of parameters and samples: cubes of one column or row, of 63, 64, 65 or 129 columns or of any few, up to 15 previous
-bands, both modes and sums, registers that wrap and such that don't, all orders, both coders. Of each the body of the file has to be, byte by byte, the
-one that the plain Rust side of bench/ makes, and `expand` has to give the raw bytes back. Left out, SEED is 1 and COUNT 500. `make rows` builds both
-programs first.
+SEED alone determines COUNT sets of parameters and samples: cubes of one column or row, of 2, 9, 63, 64, 65 or 129 columns, up to 15
+previous bands, both modes and sums, registers that wrap and registers that don't, all orders, both coders. The body of each file has to
+equal the one that the plain Rust program of bench/ makes, byte for byte, and `expand` has to restore the raw bytes. SEED defaults to 1 and
+COUNT to 500. `make rows` builds both programs first.
 """
 
 import os
@@ -21,19 +21,21 @@ from pipelines import samples_of
 
 PLAIN = os.path.join(TOP, "bench", "target", "release", "plain")
 HEADER = 19
-"""How many bytes a header without tables has."""
+"""The length of a header without tables, in bytes."""
 COLUMNS = (1, 2, 9, 63, 64, 65, 129)
 
 
 def image_of(chance):
-    """The shape, the samples' bits and whether they are signed, and the depth of interleaving, or 0."""
+    """Returns columns, rows, bands, bits, 1 for signed samples, and the interleaving depth, or 0 for sequential order."""
     columns, rows, bands = chance.choice(COLUMNS), chance.choice((1, 2, 5)), chance.choice((1, 2, 5, 17, 65))
     depth = chance.choice((0, 1, bands, chance.randint(1, bands)))
     return [columns, rows, bands, chance.randint(2, 16), chance.randint(0, 1), depth]
 
 
 def predictor_of(chance, columns, bits):
-    """Previous bands, mode, sums, register, omega, the interval's logarithm and the exponents. One column asks for reduced mode and column-oriented sums."""
+    """Returns previous bands, mode, sums, register size, omega, the exponent of the change interval, v_min and v_max.
+
+    One column needs reduced mode and column-oriented sums."""
     alone = columns == 1
     omega = chance.randint(4, 19)
     least = max(32, bits + omega + 2)
@@ -44,7 +46,7 @@ def predictor_of(chance, columns, bits):
 
 
 def coder_of(chance, bits):
-    """The numbers of either entropy coder: four of the sample-adaptive one, or two of the block-adaptive one."""
+    """Returns the parameters of one of the entropy coders: four of the sample-adaptive one, or two of the block-adaptive one."""
     if chance.random() < 0.5:
         return [chance.choice((8, 16, 32, 64)), chance.choice((1, 2, 64, 4096))]
     zero = chance.randint(1, 8)
@@ -52,7 +54,7 @@ def coder_of(chance, bits):
 
 
 def words_of(image, predictor, coder):
-    """The same as options of `compress`."""
+    """Returns these parameters as options of `compress`."""
     columns, rows, bands, bits, signed, depth = image
     previous, reduced, column, register, omega, interval, least, greatest = predictor
     words = ["--columns", columns, "--rows", rows, "--bands", bands, "--bits", bits, "--previous", previous, "--register", register, "--omega", omega]
@@ -71,7 +73,7 @@ def plain_body(numbers, heights):
 
 
 def hold_set(room, chance, name):
-    """Draws parameters and samples, and holds the file to the plain body."""
+    """Draws parameters and samples, and compares the body of the file with the plain one."""
     image = image_of(chance)
     columns, rows, bands, bits, signed, _ = image
     predictor, coder = predictor_of(chance, columns, bits), coder_of(chance, bits)

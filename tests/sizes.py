@@ -1,10 +1,10 @@
 #!/usr/bin/env python3
-"""Runs the built program at the greatest sizes, and in no more memory than a scene needs.
+"""Checks the built program at the greatest sizes, and in no more memory than a scene needs.
 
     tests/sizes.py [PROGRAM]
 
-No contract can refuse a body that wants memory without need, or asks for far too much of it. So each size has its greatest value here, in each order
-that goes its own way through a cube, and there are scenes of more than 2^24 and 2^26 samples.
+No contract can refuse a function that returns `WantOfMemory` without need, or allocates far too much. Therefore each size takes its
+greatest value here, in each order that the program treats differently, and some scenes have more than 2^24 or 2^26 samples.
 """
 
 import random
@@ -17,33 +17,33 @@ CODERS = ("sample", "block")
 
 # Columns, rows and bands.
 LONG = [(65_536, 3, 1), (3, 65_536, 1), (3, 1, 65_536), (65_536, 1, 2), (2, 65_536, 2), (1, 2, 65_536)]
-# The orders by the least bands that they ask for. In the last the places don't go along rows.
+# Each order with the fewest bands that it needs and its options. In the last, the places of a row aren't consecutive.
 ORDERS = {"by bands": (1, ["--order", "bsq"]), "by lines": (1, ["--order", "bi", "--depth", 1]), "by pairs": (2, ["--order", "bi", "--depth", 2])}
 
 
 def sizes_of(shape, size, coder):
-    """The options that tell of a scene with samples of so many bytes, and of the coder."""
+    """Returns the options that describe a scene with so many bytes for each sample, and the coder."""
     columns, rows, bands = shape
     one = ["--reduced", "--column-sums"] if columns == 1 else []
     return ["--columns", columns, "--rows", rows, "--bands", bands, "--bits", 8 * size, "--bytes", size, "--coder", coder, *one]
 
 
 def there_and_back(room, name, raw, size, words, limit=None):
-    """Compresses a scene and expands it again, in so much memory."""
+    """Checks that a scene is compressed and expanded again, in at most `limit` bytes of memory."""
     room.hold(name, room.run("compress", *words, "raw", "file", limit=limit), (0, b"", ""))
     room.hold(f"{name}, expanded", room.run("expand", "--bytes", size, "file", "back", limit=limit), (0, b"", ""))
     room.hold(f"{name}, expanded to its bytes", room.read("back") == raw, True)
 
 
 def by_predictors(room, name, words, count, limit=None):
-    """Compresses the scene by so many predictors, to the same file, in so much memory."""
+    """Checks that so many predictors compress the scene to the same file, in at most `limit` bytes of memory."""
     found = room.run("compress", *words, "--predictors", count, "raw", "other", limit=limit)
     room.hold(f"{name}, by {count} predictors", found, (0, b"", ""))
     room.hold(f"{name}, by {count} predictors: one file", room.read("other") == room.read("file"), True)
 
 
 def scene(room, shape, size):
-    """A scene of any bytes, which are also its raw ones."""
+    """Writes the random raw bytes of a scene, and returns them."""
     count = shape[0] * shape[1] * shape[2]
     raw = random.Random(count).randbytes(count * size)
     room.write("raw", raw)
@@ -51,7 +51,7 @@ def scene(room, shape, size):
 
 
 def long_sides(room):
-    """65,536 columns, rows or bands, by one band and by more, in each order, by both coders, on one thread and by predictors in threads of their own."""
+    """Checks scenes of 65,536 columns, rows or bands, in each order, with both coders, on one thread and with predictors in threads."""
     for shape in LONG:
         raw = scene(room, shape, 1)
         for coder in CODERS:
@@ -62,16 +62,18 @@ def long_sides(room):
 
 
 def enough(count, size):
-    """Memory enough for so many samples: their raw bytes, a cube of two bytes each, a file with room for as much again, and the program."""
+    """Returns enough bytes of memory for so many samples of `size` bytes.
+
+    They are the raw bytes, a cube of two bytes for each sample, a file with as much spare capacity, and the program."""
     return (3 * size + 2) * count + (8 << 20)
 
 
-# What threads take beside that: stacks, and memory that the C library sets aside for each.
+# The memory that threads need in addition: stacks, and what the C library reserves for each.
 OF_THREADS = 512 << 20
 
 
 def many_samples(room):
-    """More than 2^24 samples, of one byte and of two, by both coders, on one thread and by predictors, in bounded memory."""
+    """Checks more than 2^24 samples of one byte and of two, with both coders, on one thread and with predictors, in limited memory."""
     shape = (4_097, 4_096, 1)
     for size in (1, 2):
         raw, most = scene(room, shape, size), enough(shape[0] * shape[1], size)
@@ -82,12 +84,14 @@ def many_samples(room):
 
 
 def great_refusals(room):
-    """More than 2^24 samples that are refused, each for what it is and not for want of memory: raw bytes too few or too many, a last sample that isn't of
-    the kind or doesn't fit its byte, and a file that is cut or has a byte too many. Of the file itself the header is told."""
+    """Checks that more than 2^24 samples are refused for what is wrong with them, and not for lack of memory.
+
+    There are too few or too many raw bytes, the last sample is out of range or doesn't fit in one byte, or a file is cut or has a byte
+    too many. `inspect` prints the header of the intact file."""
     columns, rows = 4_097, 4_096
     count, last = columns * rows, columns * rows - 1
     words = ["--columns", columns, "--rows", rows, "--bands", 1, "--bits", 9]
-    # Samples of little, but for the last, which is the first that one byte can't spell.
+    # Samples of 0, except for the last, which is the least that doesn't fit in one byte.
     raw = bytes(last << 1) + (256).to_bytes(2, "big")
     for name, given, line in (
         ("a byte too few", raw[:-1], f"14 RawLength {2 * count} {2 * count - 1}"),
@@ -113,7 +117,9 @@ def great_refusals(room):
 
 
 def most_samples(room):
-    """More than 2^26 samples, by two predictors, and expanded, in bounded memory. They predict little and have long lanes, so that it ends soon."""
+    """Checks more than 2^26 samples with two predictors, in limited memory.
+
+    The prediction is simple and the predictors have many slots, to save time."""
     shape = (4_097, 8_192, 2)
     count = shape[0] * shape[1] * shape[2]
     raw = (random.Random(26).randbytes(1 << 20) * 65)[:count]
@@ -123,8 +129,8 @@ def most_samples(room):
 
 
 def great_show(room):
-    """What `show` prints of a cube with 65,536 columns is the file that `compress` writes of it by the same parameters, also of more than 2^24 samples."""
-    # A pipe gives no more than 65,536 bytes at once, and a file all that it is asked for.
+    """Checks that `show` prints the file that `compress` writes with the same parameters, at 65,536 columns and up to 257 rows."""
+    # A read from a pipe returns at most 65,536 bytes, and a read from a file all that it asks for.
     for rows, from_file in ((5, False), (5, True), (257, True)):
         name = f"65,536 columns and {rows} rows from a {'file' if from_file else 'pipe'}"
         raw = random.Random(5).randbytes(rows << 16)
@@ -140,10 +146,10 @@ def great_show(room):
 
 
 def great_tables(room):
-    """A file with the most bands and a table of each kind: weights of three bits and constants, all 0.
+    """Checks a file with the most bands and both tables: weights of three bits and accumulator constants, all 0.
 
-    It has one pixel of 8 bits, predicted by 15 bands in reduced mode. The first sample of band 0 is predicted by 128 and each other by the band
-    below; every residual is 0, which is eight zeros."""
+    It has one pixel of 8 bits, with 15 previous bands in reduced mode. The sample of band 0 is predicted as 128, and each other as the
+    sample of the band below. Every residual is 0, written as eight zeros."""
     bands, near = 65_536, 15
     weights = near * bands - near * (near + 1) // 2
     tables = bytes(weights * 3 // 8), bytes(bands // 2)

@@ -1,16 +1,16 @@
-"""A folder for the files of a run, which the scripts beside this share."""
+"""A folder for the files of a run, shared by the scripts beside this module."""
 
 import contextlib
 import ctypes
 import os
 import struct
 
-# What the system tells of a watched file: that it was opened, and that it was closed, by one who writes or by one who doesn't.
+# The events of a watched file: it was opened, or it was closed, after being open for writing or only for reading.
 OPENED, CLOSED = 0x20, 0x08 | 0x10
 
 
 class Workroom:
-    """The folder, and its files by their names."""
+    """A folder whose files are read and written by name."""
 
     def __init__(self, folder):
         self.folder = folder
@@ -28,12 +28,12 @@ class Workroom:
 
     @contextlib.contextmanager
     def watched(self, names):
-        """Watches files, and gives a function that returns which of them were opened since, in turn."""
+        """Watches files, and yields a function that returns the names of those that were opened since, in order."""
         system = ctypes.CDLL(None)
         watch = system.inotify_init1(os.O_NONBLOCK)
         try:
             numbers = {system.inotify_add_watch(watch, os.fsencode(self.path(name)), OPENED | CLOSED): name for name in names}
-            # An event is the number of a watch, its bits, and eight bytes that tell nothing here.
+            # An event consists of the number of a watch, its bits, and eight bytes that aren't used here.
             yield lambda: [numbers[number] for number, bits in struct.iter_unpack("iI8x", os.read(watch, 1 << 16)) if bits & OPENED]
         finally:
             os.close(watch)

@@ -1,11 +1,12 @@
 #!/usr/bin/env python3
-"""Proves and builds a program, and first the libraries that it stands on, side by side.
+"""Proves and builds a program, after the libraries that it depends on, which are built in parallel.
 
     tools/build.py PROGRAM
 
-`rt` works at one crate of a folder at a time, since it locks the libraries below it. So each library is built in a room of its own: a
-folder outside the repository with its sources and with what its own libraries were built to. What is up to date is found so by `rt`
-and takes a second. Lines on standard error tell of each crate's begin and end, and now and then what is still going on.
+`rt` works on one crate of a folder at a time, since it locks the libraries that the crate depends on. Therefore each library is built in
+a folder of its own outside the repository, with copies of its sources and of the build results that it needs. `rt` recognises a
+crate that is up to date, which takes a second. Lines on standard error report the start and the end of each crate, and from time
+to time which ones are still running.
 """
 
 import os
@@ -19,16 +20,16 @@ from concurrent.futures import FIRST_COMPLETED, ThreadPoolExecutor, wait
 
 TOP = os.path.dirname(os.path.dirname(os.path.abspath(__file__)))
 SOURCES = ("src", "specs", "proofs")
-# How many seconds may pass without a line.
+# The most seconds that may pass without a line.
 SILENCE = 100
-# In how many minutes `rt` proves no crate, but sees that one is up to date.
+# The minutes below which a crate counts as up to date: `rt` doesn't prove any crate so fast.
 QUICK = 0.1
-# Which part of the longest way counts as long.
+# The share of the longest chain from which on a chain counts as long.
 MUCH = 0.6
 
 
 def libraries_of_crates():
-    """The libraries of this repository that each crate of crates.txt names."""
+    """Returns the libraries of this repository that each crate of crates.txt depends on directly."""
     with open(os.path.join(TOP, "crates.txt"), encoding="utf-8") as file:
         rows = [line.partition("#")[0].partition(":") for line in file if line.strip()]
     named = {name.split()[0]: below.split() for name, _, below in rows if name.strip()}
@@ -36,7 +37,7 @@ def libraries_of_crates():
 
 
 def below(crate, libraries):
-    """The libraries that a crate stands on, each behind its own."""
+    """Returns the libraries that a crate depends on, each after its own dependencies."""
     found = []
     for it in libraries[crate]:
         found += [one for one in [*below(it, libraries), it] if one not in found]
@@ -48,7 +49,7 @@ def folder_of(crate, top=TOP):
 
 
 def weight_of(crate):
-    """How many lines there are to prove, which tells about how long it takes."""
+    """Returns the number of lines to prove, a rough measure of the time that it takes."""
     total = 0
     for part in SOURCES:
         for folder, _, names in os.walk(os.path.join(folder_of(crate), part)):
@@ -66,7 +67,7 @@ def link_or_copy(source, target):
 
 
 class Build:
-    """The libraries that are to be built, and what has become of them."""
+    """The libraries to build, and the state of each."""
 
     def __init__(self, crate, room):
         self.room = room
@@ -78,7 +79,7 @@ class Build:
         self.told = time.monotonic()
 
     def longest_ways(self, crate):
-        """For each library, how much there is to prove along the longest chain that begins with it."""
+        """Returns, for each crate, the number of lines to prove along the longest chain of dependents that begins with it."""
         behind = {}
         for it in reversed([*self.wanted, crate]):
             above = [behind[one] for one in behind if it in self.libraries[one]]
@@ -99,7 +100,7 @@ class Build:
                 most = max((self.behind[it] for it in [*ready, *running.values()]), default=0)
                 long = [it for it in [*ready, *running.values()] if self.behind[it] >= MUCH * most]
                 for it in ready[: 0 if self.failed else processors - len(running)]:
-                    # What stands on a long way is hurried: it shares the processors, and others get what is left of them.
+                    # Crates on a long chain share the processors; each other one gets a single job and a lower priority.
                     is_long = it in long
                     running[pool.submit(self.build, it, processors // len(long) if is_long else 1, is_long)] = it
                     left.remove(it)
@@ -110,7 +111,7 @@ class Build:
         return not self.failed
 
     def build_program(self, crate):
-        """Builds the program in its place, by its stored run."""
+        """Builds the program in its own folder, by running it with the arguments and the input that are stored there."""
         self.begun[crate] = time.monotonic()
         self.say(f"        {crate} begins")
         folder = folder_of(crate)
@@ -145,7 +146,7 @@ class Build:
         self.say(f"[{len(self.ended):2} of {len(self.wanted) + 1}] {crate} {told}")
 
     def build(self, crate, jobs, is_long):
-        """Builds a library in a room of its own, and brings what was made back."""
+        """Builds a library in a folder of its own, and moves the result back."""
         self.begun[crate] = time.monotonic()
         self.say(f"        {crate} begins")
         top = os.path.join(self.room, crate)
@@ -162,7 +163,7 @@ class Build:
         return ran.returncode == 0, ran.stdout
 
     def furnish(self, top, crate):
-        """Lays out the sources of a library and of those below it, and what these were built to."""
+        """Copies the sources of a library and of those that it depends on, with their earlier build results."""
         crates = [*below(crate, self.libraries), crate]
         for it in crates:
             for part in SOURCES:

@@ -1,10 +1,10 @@
 #!/usr/bin/env python3
-"""Prints docs/GUARDS.md: by crate and promise, the must-fail edits that guard it, and which line each turns into what.
+"""Prints docs/GUARDS.md: for each crate and promise, the must-fail edits that guard it, with the lines that they change.
 
-    tools/edits.py [CRATE ...]    prints the page, or what it has of these crates
-    tools/edits.py --write        writes the page anew
+    tools/edits.py [CRATE ...]    prints the page, or its sections on these crates
+    tools/edits.py --write        rewrites the page
 
-A promise is a row of docs/PROMISES.md, and its name stands there in bold. The first line of an edit names what it guards:
+A promise is a row of docs/PROMISES.md, with its name in bold. The first line of an edit names what it guards:
 `guards: NAME`, with `; ` between several names, and `CRATE/NAME` for a promise of another crate. An edit without a promise is an
 error, and so is a promise that is proved and has no edit, unless its row says `no edit` and why.
 """
@@ -24,7 +24,7 @@ ROW = re.compile(r"\| \*\*([^*/;]+)\*\* \|(?:[^|]*\|){2} ([^|]*) \|")
 WIDTH = 160
 """The most characters of a line of the page."""
 KEPT = 24
-"""How much of what two lines of code have in common is kept on each side where they are shortened."""
+"""The number of common characters that are kept on each side where two lines of code are shortened."""
 
 HEAD = """# Guards
 
@@ -35,7 +35,7 @@ stands for code that both lines have, or for the rest of a long one, and *nothin
 
 
 class Promise(NamedTuple):
-    """A row of PROMISES.md: its crate, its name, and how it is held."""
+    """A row of PROMISES.md: its crate, its name, and whether it is proved, a law or tested."""
 
     crate: str
     name: str
@@ -58,7 +58,7 @@ class Edit(NamedTuple):
 
 
 def promises():
-    """The promises of PROMISES.md in their order, and what is wrong with rows there."""
+    """Returns the promises of PROMISES.md in their order, and a list of faults in its rows."""
     crate, found, wrong = "", [], []
     for line in PROMISES.read_text(encoding="utf-8").splitlines():
         heading, row = HEADING.fullmatch(line), ROW.fullmatch(line)
@@ -77,7 +77,7 @@ def promises():
 
 
 def read(path):
-    """The edit in a file."""
+    """Returns the edit in a file."""
     crate, file, old, guards, lines = path.parent.parent.name, "", "", [], []
     for line in path.read_text(encoding="utf-8").splitlines():
         key, _, text = line.partition(":")
@@ -94,12 +94,12 @@ def read(path):
 
 
 def edits():
-    """The edits of all crates."""
+    """Returns the edits of all crates."""
     return [read(path) for path in sorted(CRATES.glob("*/must-fail/*.edit"))]
 
 
 def faults():
-    """What is wrong between edits and promises, a line each."""
+    """Returns the faults of promises and edits, one line each."""
     found, wrong = promises()
     names = {promise[:2] for promise in found}
     guarded = set()
@@ -117,7 +117,7 @@ def faults():
 
 
 def shortened(old, new):
-    """Two lines of code, without most of what they begin and end with alike where they don't fit into one line of the page."""
+    """Returns two lines of code, without most of their common beginning and end where they don't fit into one line of the page."""
     if len(old) + len(new) <= WIDTH - 12:
         return old, new
     front = len(os.path.commonprefix([old, new]))
@@ -129,14 +129,14 @@ def shortened(old, new):
 
 
 def cell(code):
-    """A line of code as Markdown has it, cut where it is too long, and what stands for no line."""
+    """Returns a line of code in Markdown, cut off where it is too long, or `*nothing*` where there is no line."""
     if len(code) > WIDTH - 12:
         code = code[: code.rfind(" ", 0, WIDTH - 12)] + " …"
     return f"`{code}`" if code else "*nothing*"
 
 
 def turned(edit):
-    """What an edit turns into what: a line for each pair, or two where they are long."""
+    """Returns the old and new lines of an edit, each pair on one line, or on two where they are long."""
     found = []
     for _, old, new in edit.lines:
         old, new = map(cell, shortened(old, new))
@@ -145,7 +145,7 @@ def turned(edit):
 
 
 def entry(edit, crate):
-    """An edit as an item of the list under a promise of a crate."""
+    """Returns an edit as an item of the list under a promise of a crate."""
     files = dict.fromkeys(file if edit.crate == crate else f"{edit.crate}/{file}" for file, _, _ in edit.lines)
     head, lines = f"* *{edit.name}*, {', '.join(files)}:", turned(edit)
     apart = "\n  " if "\n" in lines or len(head) + len(lines) > WIDTH - 1 else " "
@@ -153,7 +153,7 @@ def entry(edit, crate):
 
 
 def page(crates=()):
-    """The page, or what it has of some crates."""
+    """Returns the page, or its sections on some crates."""
     found, parts, crate = edits(), [] if crates else [HEAD], ""
     for promise in promises()[0]:
         guards = [edit for edit in found if promise[:2] in edit.guards]

@@ -2,10 +2,11 @@
 """Prints a row for each option of `compress`, as in the tables of docs/COMMAND.md: its meaning, range and default.
 
     tools/option_rows.py            prints the rows, in the order of the sources
-    tools/option_rows.py --write    puts each into COMMAND.md, in the place of the row that is there
+    tools/option_rows.py --write    replaces the rows of COMMAND.md with these
 
-Names, ranges and what flags are called stand in `header_bits` (`fields.rt`); defaults and meanings in `command_words` (`options.rt`), and
-which option has which range, or which words it takes, in its `words.rt`. An option without a row, and a row without an option, is an error.
+The names and ranges of header fields come from `header_bits` (`fields.rt`); other ranges, defaults and meanings from `command_words`
+(`options.rt`); and the range of each option, or the words that it takes, from its `words.rt`. An option without a row is an error, and
+so is a row without an option.
 """
 
 import re
@@ -39,7 +40,7 @@ class Fields:
                 self.most[constant] = self.number(most[0]) if most else 1 << int(bits)
 
     def number(self, text):
-        """The value of a number, of another field's greatest, or of a block size, and what is added to it or taken off."""
+        """Returns the value of a number, of another field's greatest value or of a block size, plus or minus a number."""
         first, sign, second = re.fullmatch(r"\s*(\S+)(?: ([+-]) (\d+))?\s*", text).groups()
         if first.startswith("BLOCK_SIZES"):
             value = self.sizes[int(first[len("BLOCK_SIZES["):-1])]
@@ -60,7 +61,7 @@ def span(least, most):
 
 
 def ranges(fields):
-    """The range of each option that has one, or the words that it takes."""
+    """Returns the range of each option that has one, or the words that it takes."""
     words, found = source("command_words", "words.rt"), {}
     own = re.findall(r"const (\w+): Range = Range \{\s*least: ([\d_]+),\s*most: ([\d_]+),?\s*\}", source("command_words", "options.rt"))
     spans = {name: span(int(least.replace("_", "")), int(most.replace("_", ""))) for name, least, most in own}
@@ -74,7 +75,7 @@ def ranges(fields):
 
 
 def listed(fields):
-    """The options and flags: name, default or none, and meaning, which is empty where none is told."""
+    """Yields the name, the default (or none) and the meaning of each option and flag; a missing meaning is empty."""
     meaning = []
     for line in source("command_words", "options.rt").splitlines():
         comment = re.fullmatch(r"\s*// (.*)", line)
@@ -88,7 +89,7 @@ def listed(fields):
 
 
 def rows():
-    """The row of each option, by its name."""
+    """Returns the row of each option, by its name."""
     fields = Fields()
     sizes = re.search(r"macro_rules! sizes \{(.*?)\n\}", source("command_words", "options.rt"), re.S)[1]
     required = {fields.name[constant] for constant in re.findall(r"fields::(\w+)\.name", sizes)}
@@ -109,7 +110,7 @@ def rows():
 
 
 def differences():
-    """What COMMAND.md has otherwise: of each option whose row isn't there once, its row."""
+    """Returns the rows that COMMAND.md doesn't contain exactly once, and the rows of COMMAND.md that no option has."""
     text, found = COMMAND.read_text(encoding="utf-8"), rows()
     there = [row[0] for row in ROW.finditer(text)]
     return [row for row in found.values() if there.count(row) != 1] + [row for row in there if row not in found.values()]

@@ -1,6 +1,6 @@
-//! Bits in and out in plain Rust.
+//! A writer and a reader of bits in plain Rust.
 
-/// Numbers pushed one after another, the most significant bit of each first.
+/// A writer of numbers, one after another, the most significant bit of each first.
 pub struct BitWriter {
     bytes: Vec<u8>,
     part: u64,
@@ -43,7 +43,7 @@ impl BitWriter {
         self.push(1, zeros as u32 + 1);
     }
 
-    /// The bytes, with zeros that fill the last.
+    /// Returns the bytes, the last filled with zeros.
     pub fn into_bytes(mut self) -> Vec<u8> {
         let fill = (8 - self.held % 8) % 8;
         self.push(0, fill);
@@ -56,11 +56,11 @@ impl BitWriter {
     }
 }
 
-/// The bits ended too early, or no lawful text stands there.
+/// The refusal of bits that end too early or are no lawful code.
 #[derive(Debug)]
 pub struct Refused;
 
-/// Numbers taken one after another.
+/// A reader of numbers, one after another.
 pub struct BitReader<'a> {
     bytes: &'a [u8],
     at: u64,
@@ -71,7 +71,7 @@ impl<'a> BitReader<'a> {
         BitReader { bytes, at: 0 }
     }
 
-    /// A word whose 57 or more highest bits are the next ones, with zeros behind the last byte.
+    /// Returns a word whose 57 or more highest bits are the next ones, with zeros after the last byte.
     #[inline]
     pub fn window(&self) -> u64 {
         let rest = &self.bytes[(self.at / 8) as usize..];
@@ -86,7 +86,7 @@ impl<'a> BitReader<'a> {
         word << (self.at % 8)
     }
 
-    /// Goes so many bits on.
+    /// Skips so many bits.
     #[inline]
     pub fn skip(&mut self, n: u64) -> Result<(), Refused> {
         if self.bytes.len() as u64 * 8 - self.at < n {
@@ -104,7 +104,7 @@ impl<'a> BitReader<'a> {
         Ok(number)
     }
 
-    /// Takes zeros and the one behind them, and counts the zeros: at most `most`.
+    /// Takes zeros and the one after them, and returns the number of zeros; more than `most` are refused.
     #[inline]
     pub fn take_unary(&mut self, most: u64) -> Result<u64, Refused> {
         let mut zeros = 0;

@@ -1,4 +1,4 @@
-//! The speed of the block-adaptive coder in plain Rust.
+//! The block-adaptive coder in plain Rust, and a measurement of its speed.
 
 use crate::bits::{BitReader, BitWriter, Refused};
 use crate::report::Report;
@@ -6,12 +6,12 @@ use crate::synthetic::{mixed, residuals, sum_of_bytes};
 use std::hint::black_box;
 use std::time::Instant;
 
-/// How numbers are cut into blocks.
+/// The parameters by which residuals are cut into blocks.
 #[derive(Clone, Copy)]
 pub struct Cut {
-    /// D, how many bits a value has.
+    /// The dynamic range D.
     bits: u32,
-    /// How many bits an identifier has, which also tells how many k there are.
+    /// The bits of an identifier, which also determine the number of lawful k.
     width: u32,
     size: usize,
     reference: u64,
@@ -29,13 +29,13 @@ impl Cut {
         }
     }
 
-    /// The same cut in the restricted set of code options, for at most four bits.
+    /// Returns the same cut with the restricted set of code options, for at most four bits.
     fn restricted(self) -> Cut {
         let width = if self.bits <= 2 { 1 } else { 2 };
         Cut { width, ..self }
     }
 
-    /// How many blocks there are from this one to its segment's end.
+    /// Returns the number of blocks from this one to the end of its segment.
     fn left(&self, block: u64) -> u64 {
         let place = block % self.reference;
         let near = (64 - place % 64).min(self.reference - place);
@@ -43,7 +43,7 @@ impl Cut {
     }
 }
 
-/// The option of a block.
+/// The code option of a block.
 #[derive(Clone, Copy)]
 enum Choice {
     Uncoded,
@@ -65,7 +65,7 @@ fn quotients_cost(k: u32, block: &[u16]) -> u64 {
     block.iter().map(|value| u64::from(value >> k) + 1).sum()
 }
 
-/// The shortest option: of several uncoded, then the second extension, then the smallest k.
+/// Returns the shortest option; of equally short ones, uncoded, then the second extension, then the smallest k.
 fn choose(cut: &Cut, block: &[u16]) -> Choice {
     let len = block.len() as u64;
     let mut best = Choice::Uncoded;
@@ -273,8 +273,8 @@ impl BlockReader {
     }
 }
 
-/// Measures how numbers are written and read in blocks of each size, and in the restricted set of code
-/// options for numbers of four bits and of two.
+/// Measures the writing and reading of residuals in blocks of each size, and with the restricted set of code
+/// options for residuals of four bits and of two.
 pub fn measure(report: &Report) {
     let count = report.shape().sample_count();
     let numbers = residuals(count);
@@ -291,7 +291,7 @@ pub fn measure(report: &Report) {
 
 fn coded(report: &Report, name: &str, cut: Cut, numbers: &[u16]) {
     let count = numbers.len();
-    // What the settings are is known of when the program runs.
+    // Hides the parameters from the optimizer, since a real program learns them when it runs.
     let cut = black_box(cut);
     let start = Instant::now();
     let mut blocks = BlockWriter::new(cut);

@@ -1,4 +1,4 @@
-//! The body of one image's file, by parameters that the command line gives.
+//! The body of an image's file, with parameters from the command line.
 
 use crate::bits::BitWriter;
 use crate::files::{put_body, Coder};
@@ -7,12 +7,13 @@ use crate::predictor::Order;
 use crate::report::Shape;
 use std::io::{Read, Write};
 
-/// Prints the body, filled to whole bytes with zeros.
+/// Prints the body, filled with zeros to whole bytes.
 ///
-/// The heights of the samples above the least one stand on standard input, band sequential, two bytes each, the high byte first. The numbers are
-/// columns, rows, bands, bits, 1 for signed samples, the depth of interleaving or 0, previous bands, 1 for reduced mode, 1 for column-oriented
-/// sums, register, omega, the interval's logarithm, the least and the greatest exponent, and the coder's: unary limit, both counter sizes and
-/// the accumulator's constant, or the size of a block and the reference interval.
+/// Standard input contains the offsets of the samples, band sequential, two bytes each, the high byte first. The numbers
+/// are columns, rows, bands, bits, 1 for signed samples, the interleaving depth or 0, previous bands, 1 for reduced mode,
+/// 1 for column-oriented sums, the register size, omega, the exponent of the change interval, v_min and v_max, and those
+/// of the coder: the unary length limit, the rescaling counter size, the initial count exponent and the accumulator
+/// initialization constant; or the block size and the reference interval.
 pub fn print_body(numbers: &[i64]) {
     let &[columns, rows, bands, bits, signed, depth, previous, reduced, column, register, fraction, interval_log, vmin, vmax, ref coder @ ..] =
         numbers

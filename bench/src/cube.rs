@@ -1,4 +1,4 @@
-//! The speed of raw bytes taken in and given out, and of a walk over all places, in plain Rust.
+//! The conversion from and to raw bytes and the walk over all places in plain Rust, and a measurement of their speed.
 
 use crate::report::{Report, Shape};
 use crate::synthetic::{mixed, sum_of_bytes, Generator};
@@ -12,7 +12,7 @@ enum RawOrder {
     Bip,
 }
 
-/// How the bytes of a sample lie.
+/// The size and the byte order of a raw sample.
 #[derive(Clone, Copy)]
 enum Format {
     Little,
@@ -29,7 +29,7 @@ impl Format {
         }
     }
 
-    /// How many bits the samples have.
+    /// Returns the bits of a sample.
     fn bits(self) -> u32 {
         match self {
             Format::Little | Format::Big => 12,
@@ -45,7 +45,7 @@ impl Format {
     }
 }
 
-/// Samples of so many bits, signed or not, each kept as its height above the least one.
+/// Samples of so many bits, signed or not, each kept as its offset from the least one.
 struct Cube {
     shape: Shape,
     signed: bool,
@@ -53,7 +53,7 @@ struct Cube {
     heights: Vec<u16>,
 }
 
-/// A sample as bytes.
+/// The conversion of a sample from and to its raw bytes.
 trait Spelling<const SIZE: usize> {
     fn number(bytes: [u8; SIZE]) -> u16;
     fn bytes(number: u16) -> [u8; SIZE];
@@ -90,7 +90,7 @@ impl Spelling<1> for Byte {
     }
 }
 
-/// A sample that isn't of the kind, by its index in the layout's order.
+/// The refusal of a sample that is out of range, with its index in the raw layout.
 #[derive(Debug)]
 struct Bad {
     index: usize,
@@ -211,7 +211,7 @@ impl Cube {
     }
 }
 
-/// How far a sample of 0 stands above the least one.
+/// Returns the offset of a sample of 0.
 fn shift_of(signed: bool, bits: u32) -> u16 {
     if signed {
         1 << (bits - 1)
@@ -249,7 +249,7 @@ fn raw<S: Spelling<SIZE>, const SIZE: usize>(
     let count = shape.sample_count();
     let bytes = raw_bytes(format, count);
     let format_name = format.name();
-    // What the kind is known of when the program runs.
+    // Hides the kind from the optimizer, since a real program learns it when it runs.
     let (signed, bits) = black_box((false, format.bits()));
     let start = Instant::now();
     let cube = Cube::from_raw::<S, SIZE>(shape, signed, bits, order, &bytes)
@@ -281,7 +281,7 @@ fn walk_bsq(report: &Report) {
     report.line("walk_bsq", shape.sample_count(), start, || sum);
 }
 
-/// Measures a walk with so many bands a group.
+/// Measures a walk in band interleaved order with a depth.
 fn walk_bi(report: &Report, name: &str, depth: usize) {
     let shape = black_box(report.shape());
     let start = Instant::now();
@@ -299,7 +299,7 @@ fn walk_bi(report: &Report, name: &str, depth: usize) {
     report.line(name, shape.sample_count(), start, || sum);
 }
 
-/// The bytes of so many samples.
+/// Returns the raw bytes of so many samples.
 fn raw_bytes(format: Format, count: usize) -> Vec<u8> {
     let mut generator = Generator::new();
     let mut bytes = Vec::with_capacity(count * format.size());

@@ -1,4 +1,4 @@
-//! The speed of whole files in plain Rust, there and back.
+//! The coding and decoding of whole files in plain Rust, and a measurement of its speed.
 
 use crate::bits::{BitReader, BitWriter, Refused};
 use crate::block_coder::{BlockReader, BlockWriter, Cut};
@@ -10,10 +10,10 @@ use crate::synthetic::sum_of_bytes;
 use std::hint::black_box;
 use std::time::Instant;
 
-/// How many bytes a header has.
+/// The length of a header, in bytes.
 const HEADER: u64 = 19;
 
-/// An entropy coder, with the numbers that its part of the header tells.
+/// An entropy coder, with the parameters that its part of the header records.
 #[derive(Clone, Copy)]
 pub enum Coder {
     Sample {
@@ -52,7 +52,7 @@ pub fn measure(report: &Report) {
     }
 }
 
-/// Measures both ways.
+/// Measures encoding and decoding.
 fn there_and_back(report: &Report, name: &str, params: &Params, order: Order, coder: Coder) {
     let count = params.shape.sample_count();
     let cube = synthetic_cube(params);
@@ -113,7 +113,7 @@ fn decode(file: &[u8], params: &Params, order: Order, coder: Coder) -> Result<Cu
     Ok(cube)
 }
 
-/// Appends the header of 12-bit samples, full mode, neighbour sums and the usual numbers.
+/// Appends the header of unsigned samples, full mode, neighbour-oriented sums and default weights.
 fn put_header(params: &Params, order: Order, coder: Coder, writer: &mut BitWriter) {
     let Shape {
         columns,
@@ -161,7 +161,7 @@ fn put_header(params: &Params, order: Order, coder: Coder, writer: &mut BitWrite
     }
 }
 
-/// The coding end.
+/// The state of an entropy coder that writes.
 enum Encoder {
     Samples(Vec<Stats>),
     Blocks(BlockWriter),
@@ -192,7 +192,7 @@ impl Encoder {
     }
 }
 
-/// The reading end.
+/// The state of an entropy coder that reads.
 enum Decoder {
     Samples(Vec<Stats>),
     Blocks(BlockReader),

@@ -7,7 +7,7 @@ use std::hint::black_box;
 use std::thread;
 use std::time::Instant;
 
-/// How many slots a ring has.
+/// The number of slots of a ring.
 const SLOTS: usize = 1024;
 
 /// The most numbers of a run.
@@ -16,7 +16,7 @@ const LONGEST: usize = 64;
 /// How often each end may find no free slot, or no number, before it gives up.
 const MOST_REFUSED: u32 = 10_000_000;
 
-/// Measures how numbers go singly, and in runs.
+/// Measures the transfer of numbers, singly and in runs.
 pub fn measure(report: &Report) {
     let count = if report.timed { 1_000_000 } else { 5_000 };
     let numbers = residuals(count);
@@ -31,7 +31,7 @@ pub fn measure(report: &Report) {
     }
 }
 
-/// The checksum of numbers that went through a ring, in runs of so many.
+/// Sends numbers through a ring in runs of so many, and returns the checksum of those that are received.
 fn through(numbers: &[u16], run: usize) -> u64 {
     let mut ring = Ring::new(SLOTS);
     let (sender, receiver) = ring.ends();

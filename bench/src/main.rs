@@ -1,7 +1,7 @@
 //! The loops of the benchmark program `speed` in plain Rust, over the same data and with the same checksums, and
 //! scenes for other programs to code.
 //!
-//!     plain                                          the checksum of each loop but the pipeline's, over a small cube
+//!     plain                                          the checksum of each loop except the pipeline's, over a small cube
 //!     plain SUBJECT                                  a line for each loop of a subject, timed
 //!     plain raw                                      the raw bytes of the cube that is measured
 //!     plain scene SEED COLUMNS ROWS BANDS BITS       raw bytes that look like an imaging spectrometer's

@@ -1,4 +1,4 @@
-//! The speed of the predictor in plain Rust.
+//! The predictor in plain Rust, and a measurement of its speed.
 
 pub mod band;
 pub mod cube;
@@ -11,7 +11,7 @@ use std::hint::black_box;
 use std::io::Write;
 use std::time::Instant;
 
-/// How many bits the samples have.
+/// The bits of a sample.
 pub const BITS: u32 = 12;
 
 /// The order in which the samples are coded.
@@ -21,7 +21,7 @@ pub enum Order {
     Bi(usize),
 }
 
-/// Makes the predictors of all bands, each before its first place.
+/// A function that returns the predictors of all bands, each before its first place.
 type Start = fn(&Params) -> Vec<Band>;
 
 /// Measures `forward` and `inverse` in each mode and order, and in full mode from a weight table.
@@ -44,7 +44,7 @@ pub fn measure(report: &Report) {
     }
 }
 
-/// The parameters of a measurement: neighbour sums, and the usual numbers.
+/// Returns the parameters of a measurement: a register of 32 bits, and otherwise the defaults of the command.
 pub fn params_of(shape: Shape, reduced: bool, previous: u32) -> Params {
     black_box(Params {
         shape,
@@ -61,7 +61,7 @@ pub fn params_of(shape: Shape, reduced: bool, previous: u32) -> Params {
     })
 }
 
-/// Measures both ways in an order.
+/// Measures `forward` and `inverse` in an order.
 fn there_and_back(
     report: &Report,
     name: &str,
@@ -106,7 +106,7 @@ pub fn all_bands(params: &Params) -> Vec<Band> {
         .collect()
 }
 
-/// The predictors of all bands in full mode, whose weights start from synthetic numbers of 14 bits.
+/// Returns the predictors of all bands in full mode, whose weights start from a synthetic table of 14 bits.
 fn bands_from_table(params: &Params) -> Vec<Band> {
     let mut generator = Generator::new();
     (0..params.shape.bands as u32)
@@ -119,7 +119,7 @@ fn bands_from_table(params: &Params) -> Vec<Band> {
         .collect()
 }
 
-/// Goes over all places in an order.
+/// Visits all places in an order.
 pub fn walk(shape: Shape, order: Order, mut visit: impl FnMut(usize, usize, usize)) {
     match order {
         Order::Bsq => {
@@ -145,7 +145,7 @@ pub fn walk(shape: Shape, order: Order, mut visit: impl FnMut(usize, usize, usiz
     }
 }
 
-/// A cube that changes slowly, with some noise.
+/// Returns a cube that changes slowly, with some noise.
 pub fn synthetic_cube(params: &Params) -> Cube {
     let shape = params.shape;
     let mut generator = Generator::new();

@@ -1,13 +1,13 @@
-//! What is printed of a measured loop.
+//! The report on measured loops.
 
 use std::time::Instant;
 
-/// Prints a line for each measured loop.
+/// A report with a line for each measured loop.
 pub struct Report {
     pub timed: bool,
 }
 
-/// How many columns, rows and bands a cube has.
+/// The sizes of a cube.
 #[derive(Clone, Copy)]
 pub struct Shape {
     pub columns: usize,
@@ -22,7 +22,7 @@ impl Shape {
 }
 
 impl Report {
-    /// The shape of the cube that is gone through.
+    /// Returns the shape of the cube that the loops go through.
     pub fn shape(&self) -> Shape {
         let (columns, rows, bands) = if self.timed {
             (512, 512, 24)
@@ -36,7 +36,7 @@ impl Report {
         }
     }
 
-    /// Prints a loop's name, how many samples it went through in how many nanoseconds, and its checksum.
+    /// Prints the name of a loop, its numbers of samples and of nanoseconds if it is timed, and its checksum.
     pub fn line(&self, name: &str, samples: usize, start: Instant, sum: impl FnOnce() -> u64) {
         let nanos = start.elapsed().as_nanos();
         let checksum = sum();

@@ -1,14 +1,14 @@
-//! A ring of slots through which numbers go from one thread to another, without a lock: each end keeps its own
-//! place, and what it last saw of the other's.
+//! A ring of slots that transfers numbers from one thread to another without a lock. Each end keeps its own count and
+//! the last one that it read of the other's.
 
 use std::cell::UnsafeCell;
 use std::sync::atomic::{AtomicUsize, Ordering};
 
-/// A count on cache lines of its own, since two threads write two of them.
+/// A count on cache lines of its own, since each of the two threads writes one.
 #[repr(align(128))]
 struct Count(AtomicUsize);
 
-/// A ring, and how many numbers ever went in and out.
+/// A ring, with the counts of all numbers that were sent and received.
 pub struct Ring {
     slots: Box<[UnsafeCell<u16>]>,
     sent: Count,
@@ -34,7 +34,7 @@ pub struct Receiver<'a> {
 }
 
 impl Ring {
-    /// A ring of so many slots, a power of two.
+    /// Returns a ring of so many slots, a power of two.
     pub fn new(slots: usize) -> Ring {
         assert!(slots.is_power_of_two());
         Ring {
@@ -44,7 +44,7 @@ impl Ring {
         }
     }
 
-    /// Both ends of a new ring.
+    /// Returns both ends of a new ring.
     pub fn ends(&mut self) -> (Sender<'_>, Receiver<'_>) {
         let ring = &*self;
         let sender = Sender {
@@ -64,14 +64,14 @@ impl Ring {
         self.slots[place & (self.slots.len() - 1)].get()
     }
 
-    /// How many of so many slots from a place on lie before the end of the ring.
+    /// Returns how many of `count` slots, from `place` on, lie before the end of the ring.
     fn before_end(&self, place: usize, count: usize) -> usize {
         count.min(self.slots.len() - (place & (self.slots.len() - 1)))
     }
 }
 
 impl Sender<'_> {
-    /// Whether so many slots are free, looking again where fewer were seen.
+    /// Returns whether so many slots are free. Reads the other end's count only where the last one shows fewer.
     #[inline]
     fn has_free(&mut self, count: usize) -> bool {
         let slots = self.ring.slots.len();
@@ -87,7 +87,7 @@ impl Sender<'_> {
         self.ring.sent.0.store(self.sent, Ordering::Release);
     }
 
-    /// Sends a number, or hands it back.
+    /// Sends a number, or returns it if no slot is free.
     #[inline]
     pub fn try_send(&mut self, number: u16) -> Result<(), u16> {
         if !self.has_free(1) {
@@ -98,7 +98,7 @@ impl Sender<'_> {
         Ok(())
     }
 
-    /// Sends all numbers, or none.
+    /// Sends all numbers, or none if too few slots are free, and returns whether it sent them.
     #[inline]
     pub fn send_run(&mut self, numbers: &[u16]) -> bool {
         if !self.has_free(numbers.len()) {
@@ -119,7 +119,7 @@ impl Sender<'_> {
 }
 
 impl Receiver<'_> {
-    /// How many numbers are there, up to so many, looking again where fewer were seen.
+    /// Returns how many numbers are there, up to `wanted`. Reads the other end's count only where the last one shows fewer.
     #[inline]
     fn there(&mut self, wanted: usize) -> usize {
         if self.sent - self.received < wanted {
@@ -145,7 +145,7 @@ impl Receiver<'_> {
         Some(number)
     }
 
-    /// Receives what is there into the front of a room, and answers how many that were.
+    /// Receives the numbers that are there into the front of `room`, and returns how many they are.
     #[inline]
     pub fn recv_run(&mut self, room: &mut [u16]) -> usize {
         let count = self.there(room.len());

@@ -1,4 +1,4 @@
-//! The speed of the sample-adaptive coder in plain Rust.
+//! The sample-adaptive coder in plain Rust, and a measurement of its speed.
 
 use crate::bits::{BitReader, BitWriter, Refused};
 use crate::report::Report;
@@ -6,7 +6,7 @@ use crate::synthetic::{mixed, residuals, sum_of_bytes};
 use std::hint::black_box;
 use std::time::Instant;
 
-/// The statistics of a band, and what is the same for all bands.
+/// The statistics of a band, and the parameters that all bands share.
 pub struct Stats {
     bits: u32,
     umax: u32,
@@ -27,7 +27,7 @@ impl Stats {
         }
     }
 
-    /// How many low bits the next number has.
+    /// Returns the code parameter k of the next residual.
     #[inline]
     fn parameter(&self) -> u32 {
         let level = self.accumulator + 49 * self.counter / 128;
@@ -101,12 +101,12 @@ impl Stats {
 }
 
 fn stats() -> Stats {
-    // What the settings are is known of when the program runs.
+    // Hides the parameters from the optimizer, since a real program learns them when it runs.
     let (bits, umax, gamma_star, gamma_zero, constant) = black_box((12, 18, 6, 1, 5));
     Stats::new(bits, umax, gamma_star, gamma_zero, constant)
 }
 
-/// Measures how numbers are written and read.
+/// Measures the writing and reading of residuals.
 pub fn measure(report: &Report) {
     let count = report.shape().sample_count();
     let numbers = residuals(count);

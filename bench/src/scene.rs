@@ -1,5 +1,5 @@
-//! Scenes for other programs to code: one that looks like an imaging spectrometer's, and one of few samples
-//! that meets every code option.
+//! Scenes for other programs to code: one that resembles that of an imaging spectrometer, and a small one whose
+//! blocks take every code option.
 
 use crate::predictor::cube::{Cube, Params};
 use crate::predictor::{all_bands, walk, Order};
@@ -7,21 +7,21 @@ use crate::report::Shape;
 use crate::synthetic::Generator;
 use std::io::{BufWriter, Write};
 
-/// How many materials the ground of a scene is mixed from.
+/// The number of materials that the ground of a scene is mixed from.
 const MATERIALS: usize = 5;
 
-/// The sizes of the small scene. Its samples fill no block of any size.
+/// The sizes of the small scene. Its samples don't fill the last block of 16, 32 or 64.
 const SMALL: Shape = Shape {
     columns: 97,
     rows: 40,
     bands: 5,
 };
 
-/// Writes a scene to standard output, by line, two bytes a sample, the low byte first.
+/// Writes a scene to standard output, interleaved by line, two bytes a sample, the low byte first.
 ///
 /// The ground is a mixture of materials whose shares change slowly over it; each has a smooth spectrum with two
-/// absorptions. Light falls off to the sides, each column's detector has a gain and an offset of its own, and noise
-/// grows with the root of the signal.
+/// absorption lines. Light falls off to the sides, the detector of each column and band has a gain and an offset of its
+/// own, and noise grows with the square root of the signal.
 pub fn print_scene(seed: u64, shape: Shape, bits: u32) {
     let mut generator = Generator::seeded(seed);
     let spectra: Vec<Vec<f64>> = (0..MATERIALS)
@@ -52,7 +52,7 @@ pub fn print_scene(seed: u64, shape: Shape, bits: u32) {
     out.flush().expect("an open output");
 }
 
-/// A smooth spectrum between 0 and 1, with two absorptions.
+/// Returns a smooth spectrum between 0 and 1, with two absorption lines.
 fn spectrum(generator: &mut Generator, bands: usize) -> Vec<f64> {
     let (level, slope) = (0.3 + 0.5 * unit(generator), 0.6 * unit(generator) - 0.3);
     let lines: Vec<(f64, f64, f64)> = (0..2)
@@ -70,7 +70,7 @@ fn spectrum(generator: &mut Generator, bands: usize) -> Vec<f64> {
         .collect()
 }
 
-/// A slowly changing function of the ground: waves of four lengths.
+/// A function that changes slowly over the ground: the sum of waves of four lengths.
 struct Field {
     waves: Vec<(f64, f64, f64)>,
 }
@@ -96,19 +96,19 @@ impl Field {
     }
 }
 
-/// How much of each material stands at a point; together they are one.
+/// Returns the share of each material at a point; the shares add up to 1.
 fn shares_at(ground: &[Field], x: f64, y: f64) -> Vec<f64> {
     let weights: Vec<f64> = ground.iter().map(|field| (1.5 * field.at(x, y)).exp()).collect();
     let sum: f64 = weights.iter().sum();
     weights.iter().map(|weight| weight / sum).collect()
 }
 
-/// A number from 0 on, below one.
+/// Returns a random number of at least 0 and less than 1.
 fn unit(generator: &mut Generator) -> f64 {
     f64::from(generator.number(16)) / 65_536.0
 }
 
-/// Noise of about a normal distribution, of deviation one.
+/// Returns approximately normal noise, with a standard deviation of 1.
 fn noise(generator: &mut Generator) -> f64 {
     (0..4).map(|_| unit(generator) - 0.5).sum::<f64>() * f64::sqrt(3.0)
 }
@@ -130,7 +130,7 @@ pub fn print_residuals(bits: u32) {
     print_numbers(&residuals);
 }
 
-/// Full mode with three previous bands and neighbour sums, and the numbers that the command takes by default.
+/// Returns the parameters of the small scene: the defaults of the command, but a register of 32 bits.
 fn small_params(bits: u32) -> Params {
     Params {
         shape: SMALL,
@@ -147,8 +147,9 @@ fn small_params(bits: u32) -> Params {
     }
 }
 
-/// In each band rows of noise that gets stronger row by row, rows of a slope, and rows of one number: so there are
-/// every split, blocks that are best left uncoded, and short and long runs of zero blocks, the last to the image's end.
+/// Returns the small scene. Each band has rows of noise that gets stronger row by row, rows of a slope, and rows that are
+/// nearly constant. Its blocks take every split and the uncoded option, and form short and long runs of zero blocks, the
+/// last of which reaches the end of the image.
 fn small_cube(bits: u32) -> Cube {
     let mut generator = Generator::seeded(u64::from(bits));
     let mut heights = Vec::with_capacity(SMALL.sample_count());

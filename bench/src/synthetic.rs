@@ -10,14 +10,14 @@ impl Generator {
         Generator::seeded(0)
     }
 
-    /// A generator for each seed.
+    /// Returns the generator of a seed.
     pub fn seeded(seed: u64) -> Generator {
         Generator {
             state: 0x9E37_79B9_7F4A_7C15 ^ seed,
         }
     }
 
-    /// The next number of so many bits.
+    /// Returns the next number of so many bits.
     pub fn number(&mut self, bits: u32) -> u16 {
         self.state = self
             .state
@@ -28,9 +28,9 @@ impl Generator {
     }
 }
 
-/// So many residuals of twelve bits: zeros followed by a one from a random word are the high part, and so
-/// many random bits the low part; how many changes each 4,096 residuals, and each eighth of these
-/// stretches is zeros.
+/// Returns so many residuals of at most twelve bits. The high part is the number of leading zeros of a random word, and
+/// the low part has one to four random bits; their number changes every 4,096 residuals, and every eighth such stretch
+/// consists of zeros.
 pub fn residuals(count: usize) -> Vec<u16> {
     let mut generator = Generator::new();
     (0..count)
@@ -46,12 +46,12 @@ pub fn residuals(count: usize) -> Vec<u16> {
         .collect()
 }
 
-/// A checksum with one more number.
+/// Returns a checksum with one more number mixed in.
 pub fn mixed(checksum: u64, number: u64) -> u64 {
     checksum.rotate_left(5).wrapping_add(number)
 }
 
-/// The checksum of bytes.
+/// Returns the checksum of bytes.
 pub fn sum_of_bytes(bytes: &[u8]) -> u64 {
     bytes
         .iter()

@@ -1,5 +1,5 @@
-"""What a file is decoded to, as docs/FORMAT.md tells it: a model of the decoder that shares nothing with the program.
+"""A model of the decoder, written after docs/FORMAT.md, that shares nothing with the program.
 
-It is written for clearness, on whole numbers and lists of bits, and serves the fuzzer as the judge of what the program
-answers. Sections named are those of docs/FORMAT.md.
+It is written for clarity, on whole numbers and strings of bits, and gives the fuzzer the expected answers of the program.
+The sections that its modules name are those of docs/FORMAT.md.
 """

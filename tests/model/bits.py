@@ -1,8 +1,8 @@
-"""Bits from the front of bytes, and what a file is refused for."""
+"""A reader of bits, and the refusal of a file."""
 
 
 class Refusal(Exception):
-    """A file that is refused: the line that the program is to print, without its name."""
+    """The refusal of a file, with the line that the program has to print, without the name of the program."""
 
 
 class Bits:
@@ -25,7 +25,7 @@ class Bits:
         return int(self.text[self.at - width : self.at] or "0", 2)
 
     def zeros(self, limit):
-        """The zeros before a one, which is taken too; or as many zeros as the limit."""
+        """Takes zeros and the one after them, or as many zeros as the limit, and returns the number of zeros."""
         one = self.text.find("1", self.at, self.at + limit)
         if one >= 0:
             zeros = one - self.at

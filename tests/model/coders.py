@@ -1,11 +1,11 @@
-"""The body of a file (sections "The sample-adaptive coder", "The block-adaptive coder", "Body and end"): its residuals."""
+"""The residuals in the body of a file (sections "The sample-adaptive coder", "The block-adaptive coder", "Body and end")."""
 
 from .bits import Bits, Refusal
 from .header import header
 
 
 def places(told):
-    """All places in encoding order, as band, row and column."""
+    """Returns an iterator over all places in encoding order, each as band, row and column."""
     columns, rows, bands = told.sizes
     if not told.depth:
         return ((z, y, x) for z in range(bands) for y in range(rows) for x in range(columns))
@@ -38,7 +38,7 @@ class Statistics:
 
 
 def word(told, statistics, bits, place):
-    """The number whose code word stands next."""
+    """Takes the next code word, and returns its residual."""
     if statistics.first:
         return bits.take(told.bits)
     k = statistics.parameter()
@@ -69,7 +69,7 @@ def sample_body(told, bits):
 
 
 class Block:
-    """The reading of one text, at a block."""
+    """The reader of the coded data set that begins at a block."""
 
     def __init__(self, told, bits, block):
         self.told = told
@@ -102,7 +102,7 @@ class Block:
         return [self.judged(total - second), second]
 
     def run(self, left):
-        """How many blocks of zeros there are."""
+        """Takes a run code, and returns the number of its zero blocks."""
         most = max(4, left)
         zeros = self.bits.zeros(most + 1)
         blocks = left if zeros == 4 else zeros + 1 if zeros < 4 else zeros
@@ -111,13 +111,13 @@ class Block:
         return blocks
 
     def identifier_width(self):
-        """How many bits tell an option; zero blocks and the second extension have one more."""
+        """Returns the number of bits of an identifier; those of the zero block and the second extension have one more."""
         if self.told.restricted:
             return 1 if self.told.bits == 2 else 2
         return 3 if self.told.bits <= 8 else 4
 
     def read(self, left):
-        """The values of the text, and how many blocks they are."""
+        """Takes the coded data set, and returns its values and the number of its blocks."""
         width = self.identifier_width()
         identifier = self.bits.take(width)
         if identifier == 0 and not self.bits.take(1):
@@ -131,7 +131,7 @@ class Block:
 
 
 def segment_rest(told, count, block):
-    """How many blocks there are from this one to its segment's end."""
+    """Returns the number of blocks from this one to the end of its segment."""
     place = block % told.reference
     return min(64 - place % 64, told.reference - place, count - block)
 
@@ -148,7 +148,7 @@ def block_body(told, bits):
 
 
 def least_length(told):
-    """The fewest bits that a body has."""
+    """Returns the least number of bits of a body."""
     if not told.block:
         return told.count
     count = -(-told.count // told.size)
@@ -157,7 +157,7 @@ def least_length(told):
 
 
 def residuals(file):
-    """The parameters, and the residuals in encoding order."""
+    """Returns the parameters of a file, and its residuals in encoding order."""
     told = header(file)
     bits = Bits(file)
     bits.at = 8 * told.length

@@ -1,4 +1,4 @@
-"""The header (section "Header"): the parameters that it says, or the first refusal."""
+"""The header of a file (section "The header"): its parameters, or its first refusal."""
 
 from dataclasses import dataclass
 
@@ -6,14 +6,14 @@ from .bits import Bits, Refusal
 
 @dataclass
 class Parameters:
-    """What a header says; `sizes` are columns, rows and bands."""
+    """The parameters that a header records; `sizes` are columns, rows and bands."""
 
     user: int = 0
     sizes: tuple = (1, 1, 1)
     signed: bool = False
     bits: int = 0
     depth: int = 0
-    """How many bands are interleaved; 0 is band sequential order."""
+    """The interleaving depth; 0 stands for band sequential order."""
     word: int = 0
     block: bool = False
     previous: int = 0
@@ -37,7 +37,7 @@ class Parameters:
     constants: list = None
     """The accumulator table, where there is one: a constant for each band."""
     length: int = 0
-    """How many bytes of the header were read."""
+    """The number of bytes of the header that were read."""
 
     @property
     def count(self):
@@ -45,7 +45,7 @@ class Parameters:
         return columns * rows * bands
 
     def components(self, band):
-        """How many weights a band has."""
+        """Returns the number of components of a band, which is that of its weights."""
         return min(band, self.previous) + (0 if self.reduced else 3)
 
     @property
@@ -79,7 +79,7 @@ class Part:
         return number - (1 << width) if number >> width - 1 else number
 
     def or_whole(self, width):
-        """A number of which 0 stands for the power behind the greatest."""
+        """Takes a field in which 0 stands for 2^width, and returns its value."""
         return self.field(width) or 1 << width
 
     def reserved(self, width):
@@ -160,7 +160,7 @@ def predictor_part(file, told):
 
 
 def whole_bytes(bits):
-    """How many bytes so many bits take, and the bits that are left of them."""
+    """Returns the number of bytes that so many bits take, and the number of fill bits in the last of them."""
     size = -(-bits // 8)
     return size, 8 * size - bits
 
@@ -215,7 +215,7 @@ def block_part(file, told):
 
 
 def header(file):
-    """The parameters that a file's header says."""
+    """Returns the parameters that the header of a file records."""
     told = Parameters()
     image_part(file, told)
     predictor_part(file, told)
@@ -224,7 +224,7 @@ def header(file):
 
 
 def inspected(told):
-    """The lines of `inspect`."""
+    """Returns the lines that `inspect` prints."""
     lines = [
         f"user {told.user}",
         "columns {}\nrows {}\nbands {}".format(*told.sizes),

@@ -1,10 +1,10 @@
-"""From residuals back to samples (the sections on prediction, weights and mapped residuals)."""
+"""The samples that residuals stand for (sections "Local sums and differences" to "Mapped residual")."""
 
 from .coders import places
 
 
 class Predictor:
-    """Takes residuals back to samples, place after place."""
+    """The predictor of all bands, which turns residuals into samples, place after place."""
 
     def __init__(self, told):
         self.told = told
@@ -38,7 +38,7 @@ class Predictor:
         return directional + [4 * self.samples[b, y, x] - self.sum_at(b, y, x) for b in below]
 
     def start(self, z):
-        """The weights that a band starts from."""
+        """Returns the initial weights of a band."""
         told = self.told
         if told.weights is None:
             return self.usual_start(z)
@@ -63,7 +63,7 @@ class Predictor:
         return min(max(value, 2 * told.least), 2 * told.greatest + 1)
 
     def sample(self, scaled, residual):
-        """The sample whose mapped residual this is."""
+        """Returns the sample that has this mapped residual."""
         predicted = scaled // 2
         near = min(predicted - self.told.least, self.told.greatest - predicted)
         if residual > 2 * near:
@@ -102,7 +102,7 @@ class Predictor:
 
 
 def raw_bytes(told, numbers):
-    """What the residuals are expanded to: band after band, two bytes a sample, the high one first."""
+    """Returns the raw bytes that residuals are expanded to, band sequential, two bytes a sample, the high byte first."""
     predictor = Predictor(told)
     for (z, y, x), number in zip(places(told), numbers):
         predictor.take(z, y, x, number)

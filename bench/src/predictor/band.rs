@@ -1,4 +1,4 @@
-//! The predictor of a band in plain Rust: a call a sample, and rows read as slices.
+//! The predictor of a band in plain Rust, with one call for each sample, and rows read as slices.
 
 use super::cube::{Cube, Params};
 
@@ -44,7 +44,7 @@ impl Band {
         }
     }
 
-    /// The predictor of a band whose weights start from its entries in a weight table of so many bits.
+    /// Returns the predictor of a band whose weights start from its entries in a weight table of this resolution.
     pub fn from_table(params: &Params, z: u32, resolution: u32, entries: &[i32]) -> Band {
         let mut band = Band::new(params, z);
         let shift = params.fraction + 3 - resolution;
@@ -59,7 +59,7 @@ impl Band {
         band
     }
 
-    /// The mapped residual of the sample at the next place.
+    /// Returns the mapped residual of the sample at the next place.
     // Inlined into the loop it is slower.
     #[inline(never)]
     pub fn forward(&mut self, cube: &Cube, y: u32, x: u32) -> u16 {
@@ -76,7 +76,7 @@ impl Band {
         self.residual_of(scaled, sample)
     }
 
-    /// The sample at the next place whose mapped residual is `delta`.
+    /// Returns the sample at the next place, whose mapped residual is `delta`.
     #[inline(never)]
     pub fn inverse(&mut self, cube: &Cube, y: u32, x: u32, delta: u16) -> i32 {
         let t = self.next;
@@ -227,7 +227,7 @@ impl Band {
     }
 }
 
-/// The sum of the products of the first `N` weights and differences.
+/// Returns the sum of the products of the first `N` weights and differences.
 #[inline(always)]
 fn product_of<const N: usize>(weights: &[i32; 18], differences: &[i32; 18]) -> i64 {
     let mut sum = 0;
@@ -237,7 +237,7 @@ fn product_of<const N: usize>(weights: &[i32; 18], differences: &[i32; 18]) -> i
     sum
 }
 
-/// Moves the first `N` weights by a step of their differences, with the error's sign.
+/// Updates the first `N` weights by their differences and the sign of the error.
 #[inline(always)]
 fn update<const N: usize>(
     weights: &mut [i32; 18],

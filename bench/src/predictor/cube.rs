@@ -19,7 +19,7 @@ pub struct Params {
 }
 
 impl Params {
-    /// The least sample.
+    /// Returns the least sample.
     pub fn smin(&self) -> i32 {
         if self.signed {
             -(1 << (self.bits - 1))
@@ -29,7 +29,7 @@ impl Params {
     }
 }
 
-/// Samples, each kept as its height above the least one.
+/// Samples, each kept as its offset from the least one.
 pub struct Cube {
     pub shape: Shape,
     pub smin: i32,
@@ -42,7 +42,7 @@ impl Cube {
         &self.heights[from..from + self.shape.columns]
     }
 
-    /// A row, and the one above it, or itself where there is none.
+    /// Returns a row and the one above it, or the row twice where there is none above.
     #[inline(always)]
     pub fn rows(&self, z: u32, y: u32) -> (&[u16], &[u16]) {
         let columns = self.shape.columns;
