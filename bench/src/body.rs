@@ -15,7 +15,7 @@ use std::io::{Read, Write};
 /// of the coder: the unary length limit, the rescaling counter size, the initial count exponent and the accumulator
 /// initialization constant; or the block size and the reference interval.
 pub fn print_body(numbers: &[i64]) {
-    let &[columns, rows, bands, bits, signed, depth, previous, reduced, column, register, fraction, interval_log, vmin, vmax, ref coder @ ..] =
+    let &[columns, rows, bands, bits, signed, depth, previous, reduced, column, register, omega, interval_log, vmin, vmax, ref coder @ ..] =
         numbers
     else {
         panic!("too few numbers");
@@ -32,7 +32,7 @@ pub fn print_body(numbers: &[i64]) {
         reduced: reduced == 1,
         column: column == 1,
         register: register as u32,
-        fraction: fraction as u32,
+        omega: omega as u32,
         interval_log: interval_log as u32,
         vmin: vmin as i32,
         vmax: vmax as i32,
@@ -52,7 +52,7 @@ fn cube_of(params: &Params) -> Cube {
     Cube {
         shape: params.shape,
         smin: params.smin(),
-        heights: bytes.chunks_exact(2).map(|two| u16::from_be_bytes([two[0], two[1]])).collect(),
+        offsets: bytes.chunks_exact(2).map(|two| u16::from_be_bytes([two[0], two[1]])).collect(),
     }
 }
 

@@ -1,224 +1,13 @@
 //! The conversion from and to raw bytes and the walk over all places in plain Rust, and a measurement of their speed.
 
-use crate::report::{Report, Shape};
+mod raw;
+
+use crate::report::Report;
 use crate::synthetic::{mixed, sum_of_bytes, Generator};
 use std::hint::black_box;
 use std::time::Instant;
 
-#[derive(Clone, Copy)]
-enum RawOrder {
-    Bsq,
-    Bil,
-    Bip,
-}
-
-/// The size and the byte order of a raw sample.
-#[derive(Clone, Copy)]
-enum Format {
-    Little,
-    Big,
-    Byte,
-}
-
-impl Format {
-    fn name(self) -> &'static str {
-        match self {
-            Format::Little => "little",
-            Format::Big => "big",
-            Format::Byte => "byte",
-        }
-    }
-
-    /// Returns the bits of a sample.
-    fn bits(self) -> u32 {
-        match self {
-            Format::Little | Format::Big => 12,
-            Format::Byte => 8,
-        }
-    }
-
-    fn size(self) -> usize {
-        match self {
-            Format::Little | Format::Big => 2,
-            Format::Byte => 1,
-        }
-    }
-}
-
-/// Samples of so many bits, signed or not, each kept as its offset from the least one.
-struct Cube {
-    shape: Shape,
-    signed: bool,
-    bits: u32,
-    heights: Vec<u16>,
-}
-
-/// The conversion of a sample from and to its raw bytes.
-trait Spelling<const SIZE: usize> {
-    fn number(bytes: [u8; SIZE]) -> u16;
-    fn bytes(number: u16) -> [u8; SIZE];
-}
-
-struct Little;
-struct Big;
-struct Byte;
-
-impl Spelling<2> for Little {
-    fn number(bytes: [u8; 2]) -> u16 {
-        u16::from_le_bytes(bytes)
-    }
-    fn bytes(number: u16) -> [u8; 2] {
-        number.to_le_bytes()
-    }
-}
-
-impl Spelling<2> for Big {
-    fn number(bytes: [u8; 2]) -> u16 {
-        u16::from_be_bytes(bytes)
-    }
-    fn bytes(number: u16) -> [u8; 2] {
-        number.to_be_bytes()
-    }
-}
-
-impl Spelling<1> for Byte {
-    fn number(bytes: [u8; 1]) -> u16 {
-        u16::from(bytes[0])
-    }
-    fn bytes(number: u16) -> [u8; 1] {
-        [number as u8]
-    }
-}
-
-/// The refusal of a sample that is out of range, with its index in the raw layout.
-#[derive(Debug)]
-struct Bad {
-    index: usize,
-}
-
-impl Cube {
-    fn from_raw<S: Spelling<SIZE>, const SIZE: usize>(
-        shape: Shape,
-        signed: bool,
-        bits: u32,
-        order: RawOrder,
-        bytes: &[u8],
-    ) -> Result<Cube, Bad> {
-        let mut heights = vec![0u16; shape.sample_count()];
-        let Shape {
-            columns,
-            rows,
-            bands,
-        } = shape;
-        let shift = shift_of(signed, bits);
-        let most = ((1u32 << bits) - 1) as u16;
-        // With one byte a signed number's sign is the eighth bit.
-        let extend = |number: u16| {
-            if signed && SIZE == 1 {
-                number as u8 as i8 as u16
-            } else {
-                number
-            }
-        };
-        match order {
-            RawOrder::Bsq | RawOrder::Bil => {
-                for (i, raw) in bytes.chunks_exact(columns * SIZE).enumerate() {
-                    let row = match order {
-                        RawOrder::Bil => (i % bands) * rows + i / bands,
-                        _ => i,
-                    };
-                    let row = &mut heights[row * columns..][..columns];
-                    let mut over = 0;
-                    for (height, raw) in row.iter_mut().zip(raw.chunks_exact(SIZE)) {
-                        let number = extend(S::number(raw.try_into().unwrap()));
-                        *height = number.wrapping_add(shift);
-                        over |= *height & !most;
-                    }
-                    if over != 0 {
-                        let x = row.iter().position(|height| height & !most != 0).unwrap();
-                        return Err(Bad {
-                            index: i * columns + x,
-                        });
-                    }
-                }
-            }
-            RawOrder::Bip => {
-                for (y, raw) in bytes.chunks_exact(columns * bands * SIZE).enumerate() {
-                    let mut over = 0;
-                    for z in 0..bands {
-                        let row = &mut heights[(z * rows + y) * columns..][..columns];
-                        let line = raw[z * SIZE..].chunks(bands * SIZE);
-                        for (height, raw) in row.iter_mut().zip(line) {
-                            let number = extend(S::number(raw[..SIZE].try_into().unwrap()));
-                            *height = number.wrapping_add(shift);
-                            over |= *height & !most;
-                        }
-                    }
-                    if over != 0 {
-                        let bad = (0..columns * bands).find(|i| {
-                            let at = (i % bands * rows + y) * columns + i / bands;
-                            heights[at] & !most != 0
-                        });
-                        return Err(Bad {
-                            index: y * columns * bands + bad.unwrap(),
-                        });
-                    }
-                }
-            }
-        }
-        Ok(Cube {
-            shape,
-            signed,
-            bits,
-            heights,
-        })
-    }
-
-    fn to_raw<S: Spelling<SIZE>, const SIZE: usize>(&self, order: RawOrder) -> Vec<u8> {
-        let Shape {
-            columns,
-            rows,
-            bands,
-        } = self.shape;
-        let shift = shift_of(self.signed, self.bits);
-        let mut bytes = vec![0; self.heights.len() * SIZE];
-        match order {
-            RawOrder::Bsq | RawOrder::Bil => {
-                for (i, raw) in bytes.chunks_exact_mut(columns * SIZE).enumerate() {
-                    let row = match order {
-                        RawOrder::Bil => (i % bands) * rows + i / bands,
-                        _ => i,
-                    };
-                    let row = &self.heights[row * columns..][..columns];
-                    for (height, raw) in row.iter().zip(raw.chunks_exact_mut(SIZE)) {
-                        raw.copy_from_slice(&S::bytes(height.wrapping_sub(shift)));
-                    }
-                }
-            }
-            RawOrder::Bip => {
-                for (y, raw) in bytes.chunks_exact_mut(columns * bands * SIZE).enumerate() {
-                    for z in 0..bands {
-                        let row = &self.heights[(z * rows + y) * columns..][..columns];
-                        let line = raw[z * SIZE..].chunks_mut(bands * SIZE);
-                        for (height, raw) in row.iter().zip(line) {
-                            raw[..SIZE].copy_from_slice(&S::bytes(height.wrapping_sub(shift)));
-                        }
-                    }
-                }
-            }
-        }
-        bytes
-    }
-}
-
-/// Returns the offset of a sample of 0.
-fn shift_of(signed: bool, bits: u32) -> u16 {
-    if signed {
-        1 << (bits - 1)
-    } else {
-        0
-    }
-}
+use raw::{Big, Byte, Cube, Format, Little, RawOrder, Spelling};
 
 /// Measures `from_raw`, `to_raw` and the walk.
 pub fn measure(report: &Report) {
@@ -227,9 +16,9 @@ pub fn measure(report: &Report) {
         ("bil", RawOrder::Bil),
         ("bip", RawOrder::Bip),
     ] {
-        raw::<Little, 2>(report, name, order, Format::Little);
-        raw::<Big, 2>(report, name, order, Format::Big);
-        raw::<Byte, 1>(report, name, order, Format::Byte);
+        measure_raw::<Little, 2>(report, name, order, Format::Little);
+        measure_raw::<Big, 2>(report, name, order, Format::Big);
+        measure_raw::<Byte, 1>(report, name, order, Format::Byte);
     }
     let bands = report.shape().bands;
     walk_bsq(report);
@@ -239,7 +28,7 @@ pub fn measure(report: &Report) {
 }
 
 /// Measures `from_raw` and `to_raw` of a layout.
-fn raw<S: Spelling<SIZE>, const SIZE: usize>(
+fn measure_raw<S: Spelling<SIZE>, const SIZE: usize>(
     report: &Report,
     order_name: &str,
     order: RawOrder,
@@ -315,7 +104,7 @@ fn raw_bytes(format: Format, count: usize) -> Vec<u8> {
 }
 
 fn sum_of_cube(cube: &Cube) -> u64 {
-    cube.heights
+    cube.offsets
         .iter()
-        .fold(0, |sum, height| mixed(sum, u64::from(*height)))
+        .fold(0, |sum, offset| mixed(sum, u64::from(*offset)))
 }

@@ -65,7 +65,7 @@ fn there_and_back(report: &Report, name: &str, params: &Params, order: Order, co
     let start = Instant::now();
     let cube = decode(&file, params, order, coder).expect("the cube again");
     report.line(&format!("decode_{name}"), count, start, || {
-        sum_of(&cube.heights)
+        sum_of(&cube.offsets)
     });
 }
 
@@ -93,7 +93,7 @@ fn decode(file: &[u8], params: &Params, order: Order, coder: Coder) -> Result<Cu
     let mut cube = Cube {
         shape: params.shape,
         smin: params.smin(),
-        heights: vec![0; params.shape.sample_count()],
+        offsets: vec![0; params.shape.sample_count()],
     };
     let mut bands = all_bands(params);
     let mut decoder = Decoder::new(params, coder);
@@ -136,11 +136,16 @@ fn put_header(params: &Params, order: Order, coder: Coder, writer: &mut BitWrite
     writer.push(u64::from(params.previous), 6);
     writer.push(0, 4);
     writer.push(u64::from(params.register), 6);
-    writer.push(u64::from(params.fraction - 4), 4);
+    writer.push(u64::from(params.omega - 4), 4);
     writer.push(u64::from(params.interval_log - 4), 4);
     writer.push((params.vmin + 6) as u64, 4);
     writer.push((params.vmax + 6) as u64, 4);
     writer.push(0, 8);
+    put_coder(coder, writer);
+}
+
+/// Appends the coder part of a header.
+fn put_coder(coder: Coder, writer: &mut BitWriter) {
     match coder {
         Coder::Sample {
             umax,

@@ -54,7 +54,7 @@ pub fn params_of(shape: Shape, reduced: bool, previous: u32) -> Params {
         reduced,
         column: false,
         register: 32,
-        fraction: 13,
+        omega: 13,
         interval_log: 6,
         vmin: -1,
         vmax: 3,
@@ -86,7 +86,7 @@ fn there_and_back(
     let mut back = Cube {
         shape,
         smin: params.smin(),
-        heights: vec![0; count],
+        offsets: vec![0; count],
     };
     let mut bands = start_bands(params);
     let mut slots = residuals.iter();
@@ -96,7 +96,7 @@ fn there_and_back(
         back.set(z as u32, y as u32, x as u32, sample);
     });
     report.line(&format!("inverse_{name}"), count, start, || {
-        sum_of(&back.heights)
+        sum_of(&back.offsets)
     });
 }
 
@@ -149,28 +149,28 @@ pub fn walk(shape: Shape, order: Order, mut visit: impl FnMut(usize, usize, usiz
 pub fn synthetic_cube(params: &Params) -> Cube {
     let shape = params.shape;
     let mut generator = Generator::new();
-    let mut heights = Vec::with_capacity(shape.sample_count());
+    let mut offsets = Vec::with_capacity(shape.sample_count());
     for z in 0..shape.bands {
         for y in 0..shape.rows {
             for x in 0..shape.columns {
                 let slow = 16 * z + 4 * y + 2 * x;
                 let noise = usize::from(generator.number(6));
-                heights.push(((slow + noise) % (1 << BITS)) as u16);
+                offsets.push(((slow + noise) % (1 << BITS)) as u16);
             }
         }
     }
     Cube {
         shape,
         smin: params.smin(),
-        heights,
+        offsets,
     }
 }
 
 /// Prints the raw bytes of the synthetic cube, band sequential, two bytes a sample, the high byte first.
 pub fn print_raw() {
     let params = params_of(Report { timed: true }.shape(), false, 0);
-    let heights = synthetic_cube(&params).heights;
-    let bytes: Vec<u8> = heights.iter().flat_map(|height| height.to_be_bytes()).collect();
+    let offsets = synthetic_cube(&params).offsets;
+    let bytes: Vec<u8> = offsets.iter().flat_map(|offset| offset.to_be_bytes()).collect();
     std::io::stdout().write_all(&bytes).expect("an open output");
 }
 

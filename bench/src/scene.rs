@@ -115,7 +115,7 @@ fn noise(generator: &mut Generator) -> f64 {
 
 /// Writes the small scene to standard output, band sequential, two bytes a sample, the high byte first.
 pub fn print_small(bits: u32) {
-    print_numbers(&small_cube(bits).heights);
+    print_numbers(&small_cube(bits).offsets);
 }
 
 /// Writes the mapped residuals of the small scene, in band sequential order, as `print_small` writes samples.
@@ -140,7 +140,7 @@ fn small_params(bits: u32) -> Params {
         reduced: false,
         column: false,
         register: 32,
-        fraction: 13,
+        omega: 13,
         interval_log: 6,
         vmin: -1,
         vmax: 3,
@@ -152,23 +152,23 @@ fn small_params(bits: u32) -> Params {
 /// last of which reaches the end of the image.
 fn small_cube(bits: u32) -> Cube {
     let mut generator = Generator::seeded(u64::from(bits));
-    let mut heights = Vec::with_capacity(SMALL.sample_count());
+    let mut offsets = Vec::with_capacity(SMALL.sample_count());
     for z in 0..SMALL.bands {
         for y in 0..SMALL.rows {
             for x in 0..SMALL.columns {
-                let height = match y {
+                let offset = match y {
                     0..=15 => generator.number((y as u32 + 1).min(bits)),
                     16..=23 => (3 * z + y + x / 8) as u16,
                     _ => (1_u16 << (bits - 1)) + u16::from(y == 30 && x % 31 == 0),
                 };
-                heights.push(height & (u16::MAX >> (16 - bits)));
+                offsets.push(offset & (u16::MAX >> (16 - bits)));
             }
         }
     }
     Cube {
         shape: SMALL,
         smin: 0,
-        heights,
+        offsets,
     }
 }
 

@@ -26,7 +26,7 @@ impl Band {
         let first = if params.reduced { 0 } else { 3 };
         let near = z.min(params.previous) as usize;
         let mut weights = [0; 18];
-        let mut weight = 7 << (params.fraction - 3);
+        let mut weight = 7 << (params.omega - 3);
         for place in &mut weights[first..first + near] {
             *place = weight;
             weight >>= 3;
@@ -47,7 +47,7 @@ impl Band {
     /// Returns the predictor of a band whose weights start from its entries in a weight table of this resolution.
     pub fn from_table(params: &Params, z: u32, resolution: u32, entries: &[i32]) -> Band {
         let mut band = Band::new(params, z);
-        let shift = params.fraction + 3 - resolution;
+        let shift = params.omega + 3 - resolution;
         let half = if shift > 0 {
             (1 << (shift - 1)) - 1
         } else {
@@ -167,11 +167,11 @@ impl Band {
             1..=8 => product_of::<8>(&self.weights, differences),
             _ => product_of::<18>(&self.weights, differences),
         };
-        let fraction = self.params.fraction;
+        let omega = self.params.omega;
         let unused = 64 - self.params.register;
-        let value = product + (i64::from(sum - 4 * self.smid) << fraction);
+        let value = product + (i64::from(sum - 4 * self.smid) << omega);
         let held = (value << unused) >> unused;
-        let center = (held >> (fraction + 1)) + i64::from(2 * self.smid + 1);
+        let center = (held >> (omega + 1)) + i64::from(2 * self.smid + 1);
         center.clamp(i64::from(2 * self.smin), i64::from(2 * self.smax + 1)) as i32
     }
 
@@ -181,9 +181,9 @@ impl Band {
         let intervals = (t as i64 - params.shape.columns as i64) >> params.interval_log;
         let growth = (i64::from(params.vmin) + intervals)
             .clamp(i64::from(params.vmin), i64::from(params.vmax));
-        let exponent = growth as i32 + params.bits as i32 - params.fraction as i32;
+        let exponent = growth as i32 + params.bits as i32 - params.omega as i32;
         let negative = 2 * sample < scaled;
-        let limit = 1 << (params.fraction + 2);
+        let limit = 1 << (params.omega + 2);
         match self.count() {
             0 => {}
             1..=8 => update::<8>(&mut self.weights, differences, exponent, negative, limit),

@@ -12,7 +12,7 @@ pub struct Params {
     pub reduced: bool,
     pub column: bool,
     pub register: u32,
-    pub fraction: u32,
+    pub omega: u32,
     pub interval_log: u32,
     pub vmin: i32,
     pub vmax: i32,
@@ -33,13 +33,13 @@ impl Params {
 pub struct Cube {
     pub shape: Shape,
     pub smin: i32,
-    pub heights: Vec<u16>,
+    pub offsets: Vec<u16>,
 }
 
 impl Cube {
     pub fn row(&self, z: u32, y: u32) -> &[u16] {
         let from = (z as usize * self.shape.rows + y as usize) * self.shape.columns;
-        &self.heights[from..from + self.shape.columns]
+        &self.offsets[from..from + self.shape.columns]
     }
 
     /// Returns a row and the one above it, or the row twice where there is none above.
@@ -49,8 +49,8 @@ impl Cube {
         let from = (z as usize * self.shape.rows + y as usize) * columns;
         let over = if y == 0 { from } else { from - columns };
         (
-            &self.heights[from..from + columns],
-            &self.heights[over..over + columns],
+            &self.offsets[from..from + columns],
+            &self.offsets[over..over + columns],
         )
     }
 
@@ -60,6 +60,6 @@ impl Cube {
 
     pub fn set(&mut self, z: u32, y: u32, x: u32, sample: i32) {
         let at = (z as usize * self.shape.rows + y as usize) * self.shape.columns + x as usize;
-        self.heights[at] = (sample - self.smin) as u16;
+        self.offsets[at] = (sample - self.smin) as u16;
     }
 }
