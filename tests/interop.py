@@ -23,7 +23,7 @@ from workroom import Workroom
 
 TOP = os.path.dirname(os.path.dirname(os.path.abspath(__file__)))
 PLAIN = os.path.join(TOP, "bench", "target", "release", "plain")
-SIZES = ["--columns", "97", "--rows", "40", "--bands", "5"]
+SIZES = ["--columns", "97", "--rows", "39", "--bands", "5"]
 HEADER = 19
 WORD = 4
 BLOCKS = [8, 16, 32, 64]

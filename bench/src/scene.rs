@@ -10,10 +10,10 @@ use std::io::{BufWriter, Write};
 /// The number of materials that the ground of a scene is mixed from.
 const MATERIALS: usize = 5;
 
-/// The sizes of the small scene. Its samples don't fill the last block of 16, 32 or 64.
+/// The sizes of the small scene. Its samples don't fill the last block of any size.
 const SMALL: Shape = Shape {
     columns: 97,
-    rows: 40,
+    rows: 39,
     bands: 5,
 };
 
