@@ -41,9 +41,9 @@ gamma-zero 1
 k 3
 header 19
 END
-"$program" inspect < coded > told 2> stderr
+"$program" inspect < coded > inspected 2> stderr
 check 'inspect' 0 '' $?
-same 'inspect' lines told
+same 'inspect' lines inspected
 
 printf '\0\1\0\2\0\1\xc8\xc8' > small
 "$program" show < small > shown 2> stderr
@@ -187,13 +187,13 @@ far=$(printf './%.0s' $(seq 1 1900))
 # No other file has these bytes, so a program that strips blanks or quotes from a name can't find them.
 mv raw bytes
 for name in 'zwei Wörter' "$long" "$far$long" 'ä\n*' ' raw' 'raw ' $'raw\n' $'zwei\nZeilen' $'\traw' - '"raw"' '$raw' '~' '%41'; do
-    told=${name:0:40}
+    short=${name:0:40}
     cp bytes "./$name"
     rm -f coded
-    run "IN is $told" 0 '' compress $two "$name" coded
-    holds "IN is $told" coded "$file"
-    run "OUT is $told" 0 '' compress $two bytes "$name"
-    holds "OUT is $told" "./$name" "$file"
+    run "IN is $short" 0 '' compress $two "$name" coded
+    holds "IN is $short" coded "$file"
+    run "OUT is $short" 0 '' compress $two bytes "$name"
+    holds "OUT is $short" "./$name" "$file"
     rm "./$name"
 done
 mv bytes raw
@@ -221,9 +221,9 @@ check 'no standard output' 4 $'ccsds: 19 Write 0\n' $?
 
 printf "$(printf %s "$file" | sed 's/../\\x&/g')" > large
 truncate -s 200M large
-"$program" inspect < large > told 2> stderr
+"$program" inspect < large > inspected 2> stderr
 check 'a large file' 0 '' $?
-same 'a large file' lines told
+same 'a large file' lines inspected
 rm large
 
 # ---- words that are not a lawful command leave OUT as it was

@@ -27,8 +27,8 @@ done
 
 # ---- little memory: the command succeeds, or memory is refused and OUT is empty
 
-# Runs the program in so many kilobytes, and checks that it succeeds or refuses. With status 1 the line has to be that of Usage.
-# Where the system can't load the program, nothing is checked.
+# Runs the program in so many kilobytes, and checks that it succeeds or refuses for want of memory. Where the system can't load
+# the program, nothing is checked.
 in_little_memory() {
     local name=$1 kilobytes=$2 whole=$3 status line
     shift 3
@@ -41,8 +41,6 @@ in_little_memory() {
     if [ "$status" -eq 0 ]; then
         whole_runs=$((whole_runs + 1))
         same "$name in $kilobytes kB" out "$whole"
-    elif [ "$status" -eq 1 ]; then
-        check "$name in $kilobytes kB" 1 "$usage" "$status"
     elif [ "$status" -ne 127 ]; then
         refused_runs=$((refused_runs + 1))
         # Where there is no memory for the line, nothing is printed.

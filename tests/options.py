@@ -53,7 +53,7 @@ class Room(Workroom):
             ran = subprocess.run([self.program, *map(str, words)], **how)
         return ran.returncode, ran.stdout, ran.stderr.decode()
 
-    def hold(self, name, found, wanted):
+    def expect(self, name, found, wanted):
         if found == wanted:
             self.passed += 1
         else:
@@ -95,11 +95,11 @@ def layouts(room):
             raw = raw_bytes(samples, shape, layout, size, little, signed)
             room.write("raw", raw)
             name = f"{bits} bits, {'signed' if signed else 'unsigned'}, {' '.join(map(str, words))}"
-            room.hold(name, room.run("compress", *sizes, *words, "raw", "file"), (0, b"", ""))
+            room.expect(name, room.run("compress", *sizes, *words, "raw", "file"), (0, b"", ""))
             files.append(room.read("file"))
-            room.hold(f"{name}, expanded", room.run("expand", *words, "file", "back"), (0, b"", ""))
-            room.hold(f"{name}, expanded to its bytes", room.read("back"), raw)
-        room.hold(f"{bits} bits: one file for all layouts", len(set(files)), 1)
+            room.expect(f"{name}, expanded", room.run("expand", *words, "file", "back"), (0, b"", ""))
+            room.expect(f"{name}, expanded to its bytes", room.read("back"), raw)
+        room.expect(f"{bits} bits: one file for all layouts", len(set(files)), 1)
 
 
 # ---- options, as the header records them
@@ -165,7 +165,8 @@ BLOCKS = [
 ]
 
 
-def told(fields):
+def inspected(fields):
+    """Returns the lines that `inspect` prints of these fields."""
     return "".join(f"{name} {value}\n" for name, value in fields.items()).encode()
 
 
@@ -179,21 +180,21 @@ def options(room):
         rest = {"block": 8, "restricted": "no", "reference": 64, "header": 19} | changed
         compared(room, ["--coder", "block", *words], front | {"coder": "block"} | rest)
     most = ["compress", *SIZES, "--coder", "block", *BLOCKS[-1][0], "raw", "file"]
-    room.hold("a word more than a command takes", room.run(*most, "more"), (1, b"", "ccsds: 20 Usage\n"))
+    room.expect("a word more than a command takes", room.run(*most, "more"), (1, b"", "ccsds: 20 Usage\n"))
 
 
 def compared(room, words, fields):
     name = " ".join(map(str, words))
     bits = [] if "--bits" in words else BITS
-    room.hold(name, room.run("compress", *SIZES, *bits, *words, "raw", "file"), (0, b"", ""))
-    room.hold(f"{name}, told", room.run("inspect", given=room.read("file")), (0, told(fields), ""))
-    room.hold(f"{name}, expanded", room.run("expand", "file", "back"), (0, b"", ""))
-    room.hold(f"{name}, expanded to its bytes", room.read("back"), bytes(48))
+    room.expect(name, room.run("compress", *SIZES, *bits, *words, "raw", "file"), (0, b"", ""))
+    room.expect(f"{name}, inspected", room.run("inspect", given=room.read("file")), (0, inspected(fields), ""))
+    room.expect(f"{name}, expanded", room.run("expand", "file", "back"), (0, b"", ""))
+    room.expect(f"{name}, expanded to its bytes", room.read("back"), bytes(48))
 
 
 def documented(room):
     """Checks that COMMAND.md has the row that the sources give each option, and that the program keeps to the range and the default."""
-    room.hold("tables of COMMAND.md", option_rows.differences(), [])
+    room.expect("tables of COMMAND.md", option_rows.differences(), [])
     room.write("raw", bytes(48))
     given = dict(zip(SIZES[::2], SIZES[1::2])) | {"--bits": 12}
     for name, row in option_rows.rows().items():
@@ -202,11 +203,11 @@ def documented(room):
         if ends:
             for value in (int(ends[1]) - 1, int(ends[2]) + 1):
                 words = itertools.chain(*(given | {f"--{name}": value}).items())
-                room.hold(f"--{name} {value}", room.run("compress", *words, "raw", "file"), (1, b"", "ccsds: 20 Usage\n"))
+                room.expect(f"--{name} {value}", room.run("compress", *words, "raw", "file"), (1, b"", "ccsds: 20 Usage\n"))
         if default.strip(" `").isalnum() and default != " required " and span != " flag ":
             words = itertools.chain(*given.items(), (f"--{name}", default.strip(" `")))
-            room.hold(f"--{name} as it is", room.run("compress", *words, "raw", "file"), (0, b"", ""))
-            room.hold(f"--{name} as it is: the usual header", room.run("inspect", given=room.read("file")), (0, told(USUAL), ""))
+            room.expect(f"--{name} as it is", room.run("compress", *words, "raw", "file"), (0, b"", ""))
+            room.expect(f"--{name} as it is: the usual header", room.run("inspect", given=room.read("file")), (0, inspected(USUAL), ""))
 
 
 # ---- predictors in threads
@@ -219,11 +220,11 @@ def predictors(room):
     room.write("raw", random.Random(9).randbytes(2 * 20 * 15 * 9))
     for words in SHARED:
         sizes = ["compress", "--columns", 20, "--rows", 15, "--bands", 9, "--bits", 16, *words]
-        room.hold(f"{words} on one thread", room.run(*sizes, "raw", "file"), (0, b"", ""))
+        room.expect(f"{words} on one thread", room.run(*sizes, "raw", "file"), (0, b"", ""))
         for count, slots in ((1, 1), (2, 1024), (3, 1), (9, 7), (64, 1)):
             name = f"{words} by {count} predictors with {slots} slots"
-            room.hold(name, room.run(*sizes, "--predictors", count, "--slots", slots, "raw", "other"), (0, b"", ""))
-            room.hold(f"{name}: one file", room.read("other") == room.read("file"), True)
+            room.expect(name, room.run(*sizes, "--predictors", count, "--slots", slots, "raw", "other"), (0, b"", ""))
+            room.expect(f"{name}: one file", room.read("other") == room.read("file"), True)
 
 
 # ---- files, each opened once
@@ -237,8 +238,8 @@ def files(room):
     for words in (["compress", *sizes], ["compress", *sizes, "--predictors", 1], ["expand"]):
         names = ["file", "back"] if words == ["expand"] else ["raw", "file"]
         with room.watched(names) as opened:
-            room.hold(f"{words} of watched files", room.run(*words, *names), (0, b"", ""))
-            room.hold(f"{words} opens", opened(), names)
+            room.expect(f"{words} of watched files", room.run(*words, *names), (0, b"", ""))
+            room.expect(f"{words} opens", opened(), names)
 
 
 # ---- refusals
@@ -274,11 +275,11 @@ def refusals(room):
     """Checks that each refusal of a file prints its line and leaves OUT empty, and that lack of memory prints its line."""
     for file, line in REFUSED:
         room.write("file", file)
-        room.hold(line, room.run("expand", "file", "back"), (2, b"", f"ccsds: {line}\n"))
-        room.hold(f"{line}: OUT", room.read("back"), b"")
+        room.expect(line, room.run("expand", "file", "back"), (2, b"", f"ccsds: {line}\n"))
+        room.expect(f"{line}: OUT", room.read("back"), b"")
     room.write("raw", bytes(1 << 25))
     words = ["compress", "--columns", 4096, "--rows", 4096, "--bands", 1, "--bits", 16, "raw", "file"]
-    room.hold("memory", room.run(*words, limit=1 << 25), (3, b"", "ccsds: 12 WantOfMemory\n"))
+    room.expect("memory", room.run(*words, limit=1 << 25), (3, b"", "ccsds: 12 WantOfMemory\n"))
 
 
 def main():

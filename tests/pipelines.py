@@ -96,7 +96,7 @@ def damaged(chance, raw):
 # ---- runs
 
 
-def hold_set(room, chance, name):
+def check_set(room, chance, name):
     """Draws parameters and raw bytes, and compares all runs on them with the one without predictors. Returns its status."""
     columns, rows, bands = shape = shape_of(chance)
     bits, signed = chance.randint(2, 16), chance.random() < 0.5
@@ -115,17 +115,17 @@ def hold_set(room, chance, name):
     ended = room.run("compress", *words, "raw", "file")
     name = f"{name}: {' '.join(map(str, words))}"
     if sound:
-        room.hold(f"{name}: compressed", ended, (0, b"", ""))
+        room.expect(f"{name}: compressed", ended, (0, b"", ""))
     else:
-        room.hold(f"{name}: compressed or refused", ended[0] in (0, 2), True)
+        room.expect(f"{name}: compressed or refused", ended[0] in (0, 2), True)
     if ended[0] == 0:
-        room.hold(f"{name}: expanded", room.run("expand", *laid, "file", "back"), (0, b"", ""))
-        room.hold(f"{name}: expanded to its bytes", room.read("back") == raw, True)
+        room.expect(f"{name}: expanded", room.run("expand", *laid, "file", "back"), (0, b"", ""))
+        room.expect(f"{name}: expanded to its bytes", room.read("back") == raw, True)
     for turn in range(RUNS):
         shared = ["--predictors", chance.choice((1, 2, 3, 64, chance.randint(1, 64))), "--slots", chance.choice(SLOTS)]
         found = room.run("compress", *words, *shared, "raw", "other", processors=PROCESSORS if turn % 2 else None)
-        room.hold(f"{name} {' '.join(map(str, shared))}", found, ended)
-        room.hold(f"{name} {' '.join(map(str, shared))}: one file", room.read("other") == room.read("file"), True)
+        room.expect(f"{name} {' '.join(map(str, shared))}", found, ended)
+        room.expect(f"{name} {' '.join(map(str, shared))}: one file", room.read("other") == room.read("file"), True)
     return ended[0]
 
 
@@ -133,7 +133,7 @@ def main():
     seed, count = (int(word) for word in (sys.argv[1:3] + ["1", "200"][len(sys.argv[1:3]) :]))
     with tempfile.TemporaryDirectory() as folder:
         room = Room(folder, sys.argv[3] if len(sys.argv) > 3 else PROGRAM)
-        ends = [hold_set(room, random.Random(f"{seed} {i}"), f"set {i}") for i in range(count)]
+        ends = [check_set(room, random.Random(f"{seed} {i}"), f"set {i}") for i in range(count)]
     print(f"pipelines.py: {ends.count(0)} of {count} sets compressed, {ends.count(2)} refused; {room.passed} passed, {room.failed} failed")
     return 1 if room.failed else 0
 

@@ -69,7 +69,7 @@ class Room(Workroom):
         except FileNotFoundError:
             return False
 
-    def hold(self, name, is_well, found):
+    def expect(self, name, is_well, found):
         if is_well:
             self.passed += 1
         else:
@@ -102,7 +102,7 @@ def make(room):
     subprocess.run(["cc", "-O1", "-shared", "-fPIC", "-o", room.path("refuse.so"), os.path.join(TOP, "tests", "refuse.c")], check=True)
     for name, words in (("sample.file", []), ("block.file", BLOCKS)):
         status, line, _ = room.run(["compress", *SIZES, *words, "scene.raw", name])
-        room.hold(f"making {name}", (status, line) == (DONE, b""), (status, line))
+        room.expect(f"making {name}", (status, line) == (DONE, b""), (status, line))
 
 
 def each_growth(room, name, words, lines):
@@ -111,21 +111,21 @@ def each_growth(room, name, words, lines):
     Returns the number of allocations, and the number of those whose refusal is reported as that of a thread. A thread is reported where
     threads are started, and nowhere else: before and after that, lack of memory is reported."""
     wanted, said, threads = room.run(words), [], 0
-    room.hold(name, wanted[:2] == (DONE, b"") and wanted[2], wanted)
+    room.expect(name, wanted[:2] == (DONE, b"") and wanted[2], wanted)
     for nth in range(1, MOST):
         found = room.run(words, refuse=nth)
         if not room.met():
-            room.hold(f"{name}: nothing refused", found == wanted, found)
-            room.hold(f"{name}: what is told in turn", said == ([MEMORY, THREAD, MEMORY] if THREAD in lines else [MEMORY]), said)
+            room.expect(f"{name}: nothing refused", found == wanted, found)
+            room.expect(f"{name}: what is reported in turn", said == ([MEMORY, THREAD, MEMORY] if THREAD in lines else [MEMORY]), said)
             return nth - 1, threads
         status, line, written = found
         threads += line == THREAD
-        told = status == REFUSED and line in (*lines, b"") and written == b""
+        refused = status == REFUSED and line in (*lines, b"") and written == b""
         if status == REFUSED and line and said[-1:] != [line]:
             said.append(line)
         # The program can do without memory that only makes it faster.
-        room.hold(f"{name}: call {nth} refused", told or found == wanted, found)
-    room.hold(f"{name}: more than {MOST} growths", False, None)
+        room.expect(f"{name}: call {nth} refused", refused or found == wanted, found)
+    room.expect(f"{name}: more than {MOST} growths", False, None)
     return MOST, threads
 
 
@@ -144,10 +144,10 @@ def each_read(room, name, words):
         for error in ERRORS:
             found = room.run(words, REFUSE_READ=nth, REFUSE_ERROR=error, PIECE=PIECE)
             if not room.met():
-                room.hold(f"{name}: no read refused", found == wanted, found)
+                room.expect(f"{name}: no read refused", found == wanted, found)
                 return nth - 1
-            room.hold(f"{name}: read {nth} refused by {error}", found == (DEVICE, b"ccsds: 18 Read\n", b""), found)
-    room.hold(f"{name}: more than {MOST} reads", False, None)
+            room.expect(f"{name}: read {nth} refused by {error}", found == (DEVICE, b"ccsds: 18 Read\n", b""), found)
+    room.expect(f"{name}: more than {MOST} reads", False, None)
     return MOST
 
 
@@ -161,11 +161,11 @@ def each_write(room, name, words):
         for error in (0, *ERRORS):
             found = room.run(words, REFUSE_WRITE=nth, REFUSE_ERROR=error, PIECE=PIECE)
             if not room.met():
-                room.hold(f"{name}: no write refused", found == wanted, found)
+                room.expect(f"{name}: no write refused", found == wanted, found)
                 return nth - 1
             written = PIECE * (nth - 1)
-            room.hold(f"{name}: write {nth} refused by {error}", found == (DEVICE, b"ccsds: 19 Write %d\n" % written, wanted[2][:written]), found)
-    room.hold(f"{name}: more than {MOST} writes", False, None)
+            room.expect(f"{name}: write {nth} refused by {error}", found == (DEVICE, b"ccsds: 19 Write %d\n" % written, wanted[2][:written]), found)
+    room.expect(f"{name}: more than {MOST} writes", False, None)
     return MOST
 
 
@@ -178,14 +178,14 @@ def small_pieces(room, name, words):
     wanted = room.run(words)
     for piece in SMALL_PIECES:
         found = room.run(words, PIECE=piece)
-        room.hold(f"{name}: in pieces of {piece}", found == wanted, found)
+        room.expect(f"{name}: in pieces of {piece}", found == wanted, found)
 
 
 def line_in_pieces(room):
     """Checks that standard error receives the whole line, even where it takes few bytes at once."""
     for piece in SMALL_PIECES:
         found = room.run(["expand", "none", "out"], PIECE=piece)
-        room.hold(f"the line in pieces of {piece}", found == (DEVICE, b"ccsds: 18 Read\n", b""), found)
+        room.expect(f"the line in pieces of {piece}", found == (DEVICE, b"ccsds: 18 Read\n", b""), found)
 
 
 def limits(room, name, words, lines):
@@ -196,12 +196,12 @@ def limits(room, name, words, lines):
         status, line, written = found
         # Under the lowest limits the system can't start the program at all, and reports that itself.
         if status == REFUSED:
-            room.hold(f"{name}: {pages} pages", line in (*lines, b"") and written == b"", found)
+            room.expect(f"{name}: {pages} pages", line in (*lines, b"") and written == b"", found)
         elif status == DONE:
             whole += 1
-            room.hold(f"{name}: {pages} pages", found == wanted, found)
+            room.expect(f"{name}: {pages} pages", found == wanted, found)
         else:
-            room.hold(f"{name}: {pages} pages", written == b"" and whole == 0, found)
+            room.expect(f"{name}: {pages} pages", written == b"" and whole == 0, found)
     return whole
 
 
@@ -209,19 +209,19 @@ def each_call(room):
     """Refuses each allocation of `refused_allocations` in turn. Returns the number of runs in which a refused library call is repeated."""
     status, _, wanted = room.run(["all"], program=CALLS)
     bodies, last = wanted.rsplit(b"made again: ", 1)
-    room.hold("calls", (status, last) == (DONE, b"0\n") and bodies.count(b"by predictors true, back true") == 3, wanted)
+    room.expect("calls", (status, last) == (DONE, b"0\n") and bodies.count(b"by predictors true, back true") == 3, wanted)
     again = 0
     for nth in range(1, MOST):
         found = room.run(["all"], refuse=nth, program=CALLS)
         if not room.met():
-            room.hold("calls: nothing refused", found[2] == wanted, found)
+            room.expect("calls: nothing refused", found[2] == wanted, found)
             return again
         # If memory is refused before the first library call, or for the lines, the program ends with another status and prints nothing.
         early = found[0] != DONE and found[2] == b""
         repeated = found[2] == bodies + b"made again: 1\n"
-        room.hold(f"calls: call {nth} refused", early or repeated or found[2] == wanted, found)
+        room.expect(f"calls: call {nth} refused", early or repeated or found[2] == wanted, found)
         again += repeated
-    room.hold(f"calls: more than {MOST} growths", False, None)
+    room.expect(f"calls: more than {MOST} growths", False, None)
     return again
 
 
@@ -234,7 +234,7 @@ def announced(room):
             image = b"\x00" + b"".join((size % 65536).to_bytes(2, "big") for size in shape) + b"\x11\x00\x00" + kind + b"\x00"
             room.write("header", image + b"\x02\xa0\x92\x59\x00" + coder)
             found = room.run(["expand", "header", "out"], limit=LITTLE)
-            room.hold(f"{shape} announced", found == (INPUT, CUT, b""), found)
+            room.expect(f"{shape} announced", found == (INPUT, CUT, b""), found)
 
 
 def main():
@@ -246,13 +246,13 @@ def main():
         of_threads = {}
         for name, (words, lines) in COMMANDS.items():
             growths, of_threads[name] = each_growth(room, name, words, lines)
-            print(f"{name}: {growths} growths refused in turn, {of_threads[name]} of them told as a thread's")
+            print(f"{name}: {growths} growths refused in turn, {of_threads[name]} of them reported as a thread's")
         # An allocation elsewhere whose refusal is reported as a thread's would count once, however many threads there are.
         one, three = of_threads["compress, one predictor"], of_threads["compress, three predictors"]
-        room.hold("each thread has as many calls for memory that are told as its own", three == 3 * one, (one, three))
+        room.expect("each thread has as many allocations whose failure is reported as its own", three == 3 * one, (one, three))
         for name, (words, _) in COMMANDS.items():
             reads, writes = each_read(room, name, words), each_write(room, name, words)
-            room.hold(f"{name}: reads and writes", reads > 0 and writes > 0, (reads, writes))
+            room.expect(f"{name}: reads and writes", reads > 0 and writes > 0, (reads, writes))
             print(f"{name}: {reads} reads and {writes} writes refused in turn")
             small_pieces(room, name, words)
         line_in_pieces(room)
@@ -261,7 +261,7 @@ def main():
         announced(room)
         if os.access(CALLS, os.X_OK):
             again = each_call(room)
-            room.hold("calls made again", again > 0, again)
+            room.expect("calls made again", again > 0, again)
             print(f"calls: in {again} runs a refused call was made again")
         print(f"{room.passed} passed, {room.failed} failed")
         sys.exit(1 if room.failed else 0)

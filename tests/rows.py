@@ -72,7 +72,7 @@ def plain_body(numbers, heights):
     return subprocess.run([PLAIN, "body", *map(str, numbers)], input=given, stdout=subprocess.PIPE, check=True).stdout
 
 
-def hold_set(room, chance, name):
+def check_set(room, chance, name):
     """Draws parameters and samples, and compares the body of the file with the plain one."""
     image = image_of(chance)
     columns, rows, bands, bits, signed, _ = image
@@ -83,10 +83,10 @@ def hold_set(room, chance, name):
     name = f"{name}: {' '.join(map(str, words))}"
     raw = b"".join(sample.to_bytes(2, "big", signed=bool(signed)) for sample in samples)
     room.write("raw", raw)
-    room.hold(f"{name}: compressed", room.run("compress", *words, "raw", "file"), (0, b"", ""))
-    room.hold(f"{name}: the plain body", room.read("file")[HEADER:], plain_body(image + predictor + coder, [sample - low for sample in samples]))
-    room.hold(f"{name}: expanded", room.run("expand", "file", "back"), (0, b"", ""))
-    room.hold(f"{name}: expanded to its bytes", room.read("back") == raw, True)
+    room.expect(f"{name}: compressed", room.run("compress", *words, "raw", "file"), (0, b"", ""))
+    room.expect(f"{name}: the plain body", room.read("file")[HEADER:], plain_body(image + predictor + coder, [sample - low for sample in samples]))
+    room.expect(f"{name}: expanded", room.run("expand", "file", "back"), (0, b"", ""))
+    room.expect(f"{name}: expanded to its bytes", room.read("back") == raw, True)
 
 
 def main():
@@ -94,7 +94,7 @@ def main():
     with tempfile.TemporaryDirectory() as folder:
         room = Room(folder, sys.argv[3] if len(sys.argv) > 3 else PROGRAM)
         for i in range(count):
-            hold_set(room, random.Random(f"{seed} {i}"), f"set {i}")
+            check_set(room, random.Random(f"{seed} {i}"), f"set {i}")
     print(f"rows.py: {count} sets; {room.passed} passed, {room.failed} failed")
     return 1 if room.failed else 0
 

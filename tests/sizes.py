@@ -11,7 +11,7 @@ import random
 import sys
 import tempfile
 
-from options import PROGRAM, USUAL, Room, header, told
+from options import PROGRAM, USUAL, Room, header, inspected
 
 CODERS = ("sample", "block")
 
@@ -30,16 +30,16 @@ def sizes_of(shape, size, coder):
 
 def there_and_back(room, name, raw, size, words, limit=None):
     """Checks that a scene is compressed and expanded again, in at most `limit` bytes of memory."""
-    room.hold(name, room.run("compress", *words, "raw", "file", limit=limit), (0, b"", ""))
-    room.hold(f"{name}, expanded", room.run("expand", "--bytes", size, "file", "back", limit=limit), (0, b"", ""))
-    room.hold(f"{name}, expanded to its bytes", room.read("back") == raw, True)
+    room.expect(name, room.run("compress", *words, "raw", "file", limit=limit), (0, b"", ""))
+    room.expect(f"{name}, expanded", room.run("expand", "--bytes", size, "file", "back", limit=limit), (0, b"", ""))
+    room.expect(f"{name}, expanded to its bytes", room.read("back") == raw, True)
 
 
 def by_predictors(room, name, words, count, limit=None):
     """Checks that so many predictors compress the scene to the same file, in at most `limit` bytes of memory."""
     found = room.run("compress", *words, "--predictors", count, "raw", "other", limit=limit)
-    room.hold(f"{name}, by {count} predictors", found, (0, b"", ""))
-    room.hold(f"{name}, by {count} predictors: one file", room.read("other") == room.read("file"), True)
+    room.expect(f"{name}, by {count} predictors", found, (0, b"", ""))
+    room.expect(f"{name}, by {count} predictors: one file", room.read("other") == room.read("file"), True)
 
 
 def scene(room, shape, size):
@@ -99,21 +99,21 @@ def great_refusals(room):
         ("a last sample of ten bits", raw[:-2] + (512).to_bytes(2, "big"), f"13 SampleRange {last}"),
     ):
         room.write("raw", given)
-        room.hold(f"{count} samples, {name}", room.run("compress", *words, "raw", "none"), (2, b"", f"ccsds: {line}\n"))
+        room.expect(f"{count} samples, {name}", room.run("compress", *words, "raw", "none"), (2, b"", f"ccsds: {line}\n"))
     room.write("raw", raw)
     for coder in CODERS:
         name = f"{count} samples by {coder}"
-        room.hold(name, room.run("compress", *words, "--coder", coder, "raw", "file"), (0, b"", ""))
+        room.expect(name, room.run("compress", *words, "--coder", coder, "raw", "file"), (0, b"", ""))
         told_of = room.run("inspect", read="file")
-        room.hold(f"{name}, inspected", (told_of[0], b"\nheader 19\n" in told_of[1], told_of[2]), (0, True, ""))
-        room.hold(f"{name}, a last sample of nine bits", room.run("expand", "--bytes", 1, "file", "none"), (2, b"", f"ccsds: 13 SampleRange {last}\n"))
+        room.expect(f"{name}, inspected", (told_of[0], b"\nheader 19\n" in told_of[1], told_of[2]), (0, True, ""))
+        room.expect(f"{name}, a last sample of nine bits", room.run("expand", "--bytes", 1, "file", "none"), (2, b"", f"ccsds: 13 SampleRange {last}\n"))
         file = room.read("file")
         room.write("file", file[:-2])
-        room.hold(f"{name}, cut", room.run("expand", "file", "none"), (2, b"", f"ccsds: 6 Truncated {8 * len(file) - 16}\n"))
+        room.expect(f"{name}, cut", room.run("expand", "file", "none"), (2, b"", f"ccsds: 6 Truncated {8 * len(file) - 16}\n"))
         room.write("file", file + b"\0")
         found = room.run("expand", "file", "none")
         lines = [f"ccsds: 11 TooLong {bits}\n" for bits in range(8, 16)]
-        room.hold(f"{name}, a byte too many", (*found[:2], found[2] in lines), (2, b"", True))
+        room.expect(f"{name}, a byte too many", (*found[:2], found[2] in lines), (2, b"", True))
 
 
 def most_samples(room):
@@ -137,12 +137,12 @@ def great_show(room):
         room.write("raw", raw)
         sizes = ["--columns", 65_536, "--rows", rows, "--bands", 1, "--bits", 8, "--bytes", 1]
         common = ["--previous", 0, "--reduced", "--column-sums", "--register", 32]
-        room.hold(f"{name} as show codes them", room.run("compress", *sizes, *common, "raw", "file"), (0, b"", ""))
+        room.expect(f"{name} as show codes them", room.run("compress", *sizes, *common, "raw", "file"), (0, b"", ""))
         cube = bytes([0, 0, *rows.to_bytes(2, "big"), 0, 1]) + raw
         room.write("cube", cube)
         status, shown, line = room.run("show", **({"read": "cube"} if from_file else {"given": cube}))
-        room.hold(f"{name} are shown", (status, line), (0, ""))
-        room.hold(f"{name} are shown: the file", shown == room.read("file").hex().encode() + b"\n", True)
+        room.expect(f"{name} are shown", (status, line), (0, ""))
+        room.expect(f"{name} are shown: the file", shown == room.read("file").hex().encode() + b"\n", True)
 
 
 def great_tables(room):
@@ -157,10 +157,10 @@ def great_tables(room):
     file = front[:17] + tables[0] + front[17:] + tables[1]
     lines = USUAL | {"columns": 1, "rows": 1, "bands": bands, "bits": 8, "previous": near, "mode": "reduced", "sums": "column", "register": 32}
     lines |= {"start": "table 3", "k": "table", "header": len(file)}
-    room.hold("great tables are told", room.run("inspect", given=file), (0, told(lines), ""))
+    room.expect("great tables are inspected", room.run("inspect", given=file), (0, inspected(lines), ""))
     room.write("file", file + bytes(bands))
-    room.hold("a file with great tables", room.run("expand", "--bytes", 1, "file", "back"), (0, b"", ""))
-    room.hold("a file with great tables, expanded", room.read("back") == bytes([128]) * bands, True)
+    room.expect("a file with great tables", room.run("expand", "--bytes", 1, "file", "back"), (0, b"", ""))
+    room.expect("a file with great tables, expanded", room.read("back") == bytes([128]) * bands, True)
 
 
 def main():

@@ -64,12 +64,12 @@ class Parameters:
 class Part:
     """One part of a header, whose fields are read one after another."""
 
-    def __init__(self, file, told, size):
-        if len(file) < told.length + size:
+    def __init__(self, file, params, size):
+        if len(file) < params.length + size:
             raise Refusal("1 ShortHeader")
         self.bits = Bits(file)
-        self.bits.at = 8 * told.length
-        told.length += size
+        self.bits.at = 8 * params.length
+        params.length += size
 
     def field(self, width):
         return self.bits.take(width)
@@ -96,50 +96,50 @@ def disagree(rule):
     return Refusal(f"4 Disagree {rule}")
 
 
-def image_part(file, told):
-    part = Part(file, told, 12)
-    told.user = part.field(8)
-    told.sizes = tuple(part.or_whole(16) for _ in range(3))
-    told.signed = bool(part.field(1))
+def image_part(file, params):
+    part = Part(file, params, 12)
+    params.user = part.field(8)
+    params.sizes = tuple(part.or_whole(16) for _ in range(3))
+    params.signed = bool(part.field(1))
     part.reserved(2)
-    told.bits = part.or_whole(4)
-    if told.bits < 2:
-        raise out_of_range("DynamicRange", told.bits)
+    params.bits = part.or_whole(4)
+    if params.bits < 2:
+        raise out_of_range("DynamicRange", params.bits)
     sequential = part.field(1)
     depth = part.or_whole(16)
-    if not sequential and depth > told.sizes[2]:
+    if not sequential and depth > params.sizes[2]:
         raise disagree("DepthOverBands")
-    told.depth = 0 if sequential else depth
+    params.depth = 0 if sequential else depth
     part.reserved(2)
-    told.word = part.or_whole(3)
-    told.block = bool(part.field(1))
+    params.word = part.or_whole(3)
+    params.block = bool(part.field(1))
     part.reserved(10)
 
 
-def predictor_part(file, told):
-    part = Part(file, told, 5)
+def predictor_part(file, params):
+    part = Part(file, params, 5)
     part.reserved(2)
-    told.previous = part.field(4)
-    told.reduced = bool(part.field(1))
-    if not told.reduced and told.sizes[0] == 1:
+    params.previous = part.field(4)
+    params.reduced = bool(part.field(1))
+    if not params.reduced and params.sizes[0] == 1:
         raise disagree("FullOneColumn")
     part.reserved(1)
-    told.column = bool(part.field(1))
-    if not told.column and told.sizes[0] == 1:
+    params.column = bool(part.field(1))
+    if not params.column and params.sizes[0] == 1:
         raise disagree("NeighbourOneColumn")
     part.reserved(1)
-    told.register = part.or_whole(6)
-    if told.register < 32:
-        raise out_of_range("Register", told.register)
-    told.omega = part.field(4) + 4
-    if told.register < told.bits + told.omega + 2:
+    params.register = part.or_whole(6)
+    if params.register < 32:
+        raise out_of_range("Register", params.register)
+    params.omega = part.field(4) + 4
+    if params.register < params.bits + params.omega + 2:
         raise disagree("RegisterTooSmall")
-    told.interval_log = part.field(4) + 4
-    if told.interval_log > 11:
-        raise out_of_range("Interval", told.interval_log)
-    told.vmin = part.field(4) - 6
-    told.vmax = part.field(4) - 6
-    if told.vmin > told.vmax:
+    params.interval_log = part.field(4) + 4
+    if params.interval_log > 11:
+        raise out_of_range("Interval", params.interval_log)
+    params.vmin = part.field(4) - 6
+    params.vmax = part.field(4) - 6
+    if params.vmin > params.vmax:
         raise disagree("ExponentOrder")
     part.reserved(1)
     custom = part.field(1)
@@ -148,15 +148,15 @@ def predictor_part(file, told):
         raise disagree("DefaultWithTable")
     if custom and not table:
         raise Refusal("5 TableElsewhere")
-    told.resolution = part.field(5)
-    if not custom and told.resolution:
+    params.resolution = part.field(5)
+    if not custom and params.resolution:
         raise disagree("DefaultWithResolution")
-    if custom and told.resolution < 3:
-        raise out_of_range("Resolution", told.resolution)
-    if told.resolution > told.omega + 3:
+    if custom and params.resolution < 3:
+        raise out_of_range("Resolution", params.resolution)
+    if params.resolution > params.omega + 3:
         raise disagree("ResolutionOverOmega")
     if table:
-        weight_table(file, told)
+        weight_table(file, params)
 
 
 def whole_bytes(bits):
@@ -165,86 +165,86 @@ def whole_bytes(bits):
     return size, 8 * size - bits
 
 
-def weight_table(file, told):
-    counts = [told.components(band) for band in range(told.sizes[2])]
-    size, fill = whole_bytes(sum(counts) * told.resolution)
-    part = Part(file, told, size)
-    told.weights = [[part.signed_field(told.resolution) for _ in range(count)] for count in counts]
+def weight_table(file, params):
+    counts = [params.components(band) for band in range(params.sizes[2])]
+    size, fill = whole_bytes(sum(counts) * params.resolution)
+    part = Part(file, params, size)
+    params.weights = [[part.signed_field(params.resolution) for _ in range(count)] for count in counts]
     part.reserved(fill)
 
 
-def accumulator_table(file, told):
-    bands = told.sizes[2]
+def accumulator_table(file, params):
+    bands = params.sizes[2]
     size, fill = whole_bytes(4 * bands)
-    part = Part(file, told, size)
-    told.constants = [part.field(4) for _ in range(bands)]
-    if max(told.constants) > told.bits - 2:
+    part = Part(file, params, size)
+    params.constants = [part.field(4) for _ in range(bands)]
+    if max(params.constants) > params.bits - 2:
         raise disagree("AccumulatorEntry")
     part.reserved(fill)
 
 
-def sample_part(file, told):
-    part = Part(file, told, 2)
-    told.umax = part.or_whole(5)
-    if told.umax < 8:
-        raise out_of_range("Umax", told.umax)
-    told.gamma_star = part.field(3) + 4
-    if told.gamma_star > 9:
-        raise out_of_range("GammaStar", told.gamma_star)
-    told.gamma_zero = part.or_whole(3)
-    if told.gamma_star <= told.gamma_zero:
+def sample_part(file, params):
+    part = Part(file, params, 2)
+    params.umax = part.or_whole(5)
+    if params.umax < 8:
+        raise out_of_range("Umax", params.umax)
+    params.gamma_star = part.field(3) + 4
+    if params.gamma_star > 9:
+        raise out_of_range("GammaStar", params.gamma_star)
+    params.gamma_zero = part.or_whole(3)
+    if params.gamma_star <= params.gamma_zero:
         raise disagree("CounterOrder")
-    told.constant = part.field(4)
+    params.constant = part.field(4)
     table = part.field(1)
-    if not table and told.constant > told.bits - 2:
+    if not table and params.constant > params.bits - 2:
         raise disagree("StartConstant")
-    if table and told.constant != 15:
+    if table and params.constant != 15:
         raise disagree("ConstantWithTable")
     if table:
-        accumulator_table(file, told)
+        accumulator_table(file, params)
 
 
-def block_part(file, told):
-    part = Part(file, told, 2)
+def block_part(file, params):
+    part = Part(file, params, 2)
     part.reserved(1)
-    told.size = 8 << part.field(2)
-    told.restricted = bool(part.field(1))
-    if told.restricted and told.bits > 4:
+    params.size = 8 << part.field(2)
+    params.restricted = bool(part.field(1))
+    if params.restricted and params.bits > 4:
         raise disagree("RestrictedOverFour")
-    told.reference = part.or_whole(12)
+    params.reference = part.or_whole(12)
 
 
 def header(file):
     """Returns the parameters that the header of a file records."""
-    told = Parameters()
-    image_part(file, told)
-    predictor_part(file, told)
-    (block_part if told.block else sample_part)(file, told)
-    return told
+    params = Parameters()
+    image_part(file, params)
+    predictor_part(file, params)
+    (block_part if params.block else sample_part)(file, params)
+    return params
 
 
-def inspected(told):
+def inspected(params):
     """Returns the lines that `inspect` prints."""
     lines = [
-        f"user {told.user}",
-        "columns {}\nrows {}\nbands {}".format(*told.sizes),
-        "sample signed" if told.signed else "sample unsigned",
-        f"bits {told.bits}",
-        f"order bi {told.depth}" if told.depth else "order bsq",
-        f"word {told.word}",
-        "coder block" if told.block else "coder sample",
-        f"previous {told.previous}",
-        "mode reduced" if told.reduced else "mode full",
-        "sums column" if told.column else "sums neighbour",
-        f"register {told.register}\nomega {told.omega}\ninterval {1 << told.interval_log}",
-        f"vmin {told.vmin}\nvmax {told.vmax}",
-        f"start table {told.resolution}" if told.weights is not None else "start usual",
+        f"user {params.user}",
+        "columns {}\nrows {}\nbands {}".format(*params.sizes),
+        "sample signed" if params.signed else "sample unsigned",
+        f"bits {params.bits}",
+        f"order bi {params.depth}" if params.depth else "order bsq",
+        f"word {params.word}",
+        "coder block" if params.block else "coder sample",
+        f"previous {params.previous}",
+        "mode reduced" if params.reduced else "mode full",
+        "sums column" if params.column else "sums neighbour",
+        f"register {params.register}\nomega {params.omega}\ninterval {1 << params.interval_log}",
+        f"vmin {params.vmin}\nvmax {params.vmax}",
+        f"start table {params.resolution}" if params.weights is not None else "start usual",
     ]
-    if told.block:
-        restricted = "yes" if told.restricted else "no"
-        lines.append(f"block {told.size}\nrestricted {restricted}\nreference {told.reference}")
+    if params.block:
+        restricted = "yes" if params.restricted else "no"
+        lines.append(f"block {params.size}\nrestricted {restricted}\nreference {params.reference}")
     else:
-        constant = "table" if told.constants is not None else told.constant
-        lines.append(f"umax {told.umax}\ngamma-star {told.gamma_star}\ngamma-zero {told.gamma_zero}\nk {constant}")
-    lines.append(f"header {told.length}\n")
+        constant = "table" if params.constants is not None else params.constant
+        lines.append(f"umax {params.umax}\ngamma-star {params.gamma_star}\ngamma-zero {params.gamma_zero}\nk {constant}")
+    lines.append(f"header {params.length}\n")
     return "\n".join(lines)
