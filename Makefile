@@ -1,9 +1,9 @@
 PREFIX ?= /usr/local
 PROGRAM = crates/ccsds/out/ccsds
 
-# The number of proofs or must-fail edits that run at once: one more than there are processors, but no more than free
-# memory has 4 GB for, and at least one.
-LANES = $(shell awk -v most="$$(($$(nproc) + 1))" '/^MemAvailable/ { n = int($$2 / 4000000); print n < 1 ? 1 : n < most ? n : most }' /proc/meminfo)
+# The number of proofs or must-fail edits that run at once: as many as there are processors, but no more than free memory
+# has 4 GB for, and at least one.
+LANES = $(shell awk -v most="$$(nproc)" '/^MemAvailable/ { n = int($$2 / 4000000); print n < 1 ? 1 : n < most ? n : most }' /proc/meminfo)
 
 SCRIPTS = $(addprefix tests/, command.sh limits.sh options.py sizes.py pipelines.py refused.py guards.py fuzz)
 
