@@ -1,10 +1,12 @@
-//! Running a command between the ends that its settings name.
+//! Running the command that words ask for, between the ends that they name.
 
-ghost use Rattle.std.specs.Prelude.{◌≡◌, ◌⊎◌, ℕ, List, Some, Err, IfOk, IfErr, OnOk, string_bytes};
+ghost use Rattle.std.specs.Prelude.{◌≡◌, ◌⊎◌, ℕ, List, Some, Err, IfOk, IfErr, OnOk, map, string_bytes};
 ghost use Rattle.cube_core.specs.declared.fault.Fault.{Fault as Refusal};
-ghost use Rattle.cube_core.specs.declared.fault.Fault.TheVariants.{Read, Write};
+ghost use Rattle.cube_core.specs.declared.fault.Fault.TheVariants.{Read, Usage, WantOfMemory, Write};
 ghost use Rattle.header_bits.specs.declared.params.Params.{Params as Parameters};
 ghost use Rattle.header_bits.specs.Lawful.{params_fault};
+ghost use Rattle.command_settings.specs.declared.settings.Settings.{Settings as Asked};
+ghost use Rattle.command_words.specs.Words.{Ask, AskForNone};
 ghost use Rattle.command_devices.specs.Devices.{GaveWithin};
 ghost use Rattle.command_devices.specs.Reading.{ToldAsRead};
 ghost use Rattle.command_devices.specs.Writing.{IsWrite};
@@ -20,10 +22,33 @@ use coder_pipe::OpenGate;
 use command_devices::sink::Sink;
 use command_devices::source::Source;
 use command_settings::settings::Settings;
+use command_words::command_line::settings_of;
 use cube_core::fault::Fault;
 use std::alloc::Global;
 use std::sync::Wait;
 use std::thread::Threads;
+
+/// Runs the command that words ask for, between the ends that they name.
+///
+/// Returns `Usage` if they ask for none; `WantOfMemory` if an allocation fails; and, if an end can't be opened,
+/// the refusal of `run_command`. Otherwise it returns the ends with the command's own result.
+pub fn run_words<R: Threads + Wait + Sync, O: Opener>(
+    rt: &R,
+    alloc: Global,
+    opener: &O,
+    words: &[String],
+) -> Result<Ended<O::Input, O::Output>, Fault>
+    ensures ran { IfOk result (λ ended. (settings : Asked) × Ask (map string_bytes words.now) settings × (s : O.Input) × (k : O.Output)
+        × O.opens opener.now (name_in settings) s × O.makes opener.now s (name_out settings) k
+        × Ran settings (O.Input.left s) (O.Input.failures s) (O.Input.failures ended.input) (O.Output.taken k) (O.Output.taken ended.output)
+        (O.Output.failures k) (O.Output.failures ended.output) (O.Output.stalls k) (O.Output.stalls ended.output) ended.answer) }
+    ensures refused { IfErr result (λ e. ((e ≡ Usage) × AskForNone (map string_bytes words.now))
+        ⊎ ((e ≡ WantOfMemory) ⊎ ((settings : Asked) × Ask (map string_bytes words.now) settings
+        × HasNoEnd (O.opens opener.now) (O.has_none opener.now) (O.makes_none opener.now) settings e))) }
+{
+    let settings = settings_of(alloc, words)?;
+    run_command(rt, alloc, opener, &settings)
+}
 
 /// Opens the ends that a command names, the input first, and runs the command between them.
 ///

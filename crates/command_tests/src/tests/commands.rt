@@ -5,7 +5,7 @@ ghost use Rattle.ccsds_command.specs.Command.{HasLayout};
 
 use super::support::{ONE_BYTE, TWO_EQUAL_FILE, inspected, two_equal};
 use crate::tests::checks::same;
-use ccsds_command::command::run_command;
+use ccsds_command::command::{run_command, run_words};
 use ccsds_command::opener::Opener;
 use command_devices::sink::Sink;
 use command_devices::source::Source;
@@ -232,4 +232,33 @@ fn each_file_is_asked_for_once(rt: HostRuntime) {
     asks_once(&rt, rt.alloc(), &TWO_EQUAL_FILE, expand, Ok(()));
     let expand = expansion(&rt, rt.alloc(), "in", "out");
     asks_once(&rt, rt.alloc(), &[], expand, Err(Fault::ShortHeader));
+}
+
+/// Returns the words of a line.
+fn words(rt: &impl Abort, alloc: Global, line: &str) -> Vec<String> {
+    let mut words = Vec::new(alloc);
+    for word in line.split(' ') {
+        words.push(name(rt, alloc, word)).expect(rt, "a word");
+    }
+    words
+}
+
+#[test]
+fn words_run_their_command(rt: HostRuntime) {
+    let alloc = rt.alloc();
+    let memory = Memory::new(alloc, &[], &TWO_EQUAL_FILE);
+    let line = words(&rt, alloc, "expand --bytes 1 in out");
+    let ended = run_words(&rt, alloc, &memory, &line).expect(&rt, "both ends");
+    same(&rt, ended.answer, Ok(()));
+    same(&rt, ended.output.into_writer().as_slice(), &[200, 200]);
+}
+
+#[test]
+fn words_that_ask_for_no_command_open_no_file(rt: HostRuntime) {
+    let alloc = rt.alloc();
+    let memory = Memory::new(alloc, &[], &TWO_EQUAL_FILE);
+    let line = words(&rt, alloc, "expand in");
+    let answer = run_words(&rt, alloc, &memory, &line);
+    same(&rt, answer.err(), Some(Fault::Usage));
+    same(&rt, memory.asked(), (0, 0));
 }

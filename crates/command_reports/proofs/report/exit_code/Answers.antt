@@ -1,5 +1,5 @@
 use Rattle.std.proofs.Common.{rules}
-use Rattle.ccsds.proofs.exit_code.Goals as goal
+use Rattle.command_reports.proofs.report.exit_code.Goals as goal
 
 pub returns-in-Ok-clause-told : goal.returns-in-Ok-clause-told
 returns-in-Ok-clause-told c = search rules

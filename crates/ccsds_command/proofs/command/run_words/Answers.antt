@@ -1,5 +1,5 @@
 use Rattle.std.proofs.Common.{◌⊎◌, Result, Ok, Err, IfErr, inr, rules}
-use Rattle.ccsds.proofs.run_words.Goals as goal
+use Rattle.ccsds_command.proofs.command.run_words.Goals as goal
 
 -- what is refused by these settings is refused by some that were asked for
 refused_by : {T E S : Type 0} (r : Result T E) (Before Between : E → Type 0) (Asked : S → Type 0) (Refused : S → E → Type 0) (s : S) → Asked s
