@@ -1,7 +1,7 @@
 -- What is kept of bands, and their statistics.
 use Rattle.std.proofs.Common.{◌≡◌, ◌<◌, ◌≤◌, ◌++◌, ℕ, List, length, take, get_or, set, refl, sym, ap, subst, ◌∙◌, inl, inr, arith}
 use Rattle.std.proofs.lemmas.Bool.{cases_eq}
-use Rattle.std.proofs.lemmas.List.{get_or-map, get_or_default, get_or-set_same, get_or-set_other, length-map, length-set, map-set, take_at}
+use Rattle.std.proofs.lemmas.List.{get_or-map, get_or_default, get_or-set_same, get_or-set_other, length-map, length-set, map-set, set-get_or, take_at}
 use Rattle.sample_adaptive.specs.declared.run_codes.RunCodes.{RunCodes}
 use Rattle.sample_adaptive.specs.declared.statistics.Statistics.{Statistics}
 use Rattle.sample_adaptive.specs.declared.tracked.Tracked.{Tracked}
@@ -21,6 +21,11 @@ statistics_set bands z t = map-set (λ (t : Tracked). t.statistics) bands z t
 pub column_set : (v : Counts) (bands : List Tracked) {z b : ℕ} (t : Tracked) → z ≡ b
     → with_band (record v { bands = statistics_of bands }) b t.statistics ≡ record v { bands = statistics_of (set bands z t) }
 column_set v bands {b = b} t same = rw (same, statistics_set bands b t) refl
+
+-- what is kept of one band anew, where its statistics are the same
+pub same_statistics : (bands : List Tracked) (at : ℕ) (t : Tracked) → t.statistics ≡ (kept_of bands at).statistics
+    → statistics_of (set bands at t) ≡ statistics_of bands
+same_statistics bands at t same = rw (statistics_set bands at t, same, ← statistics_set bands at (kept_of bands at), set-get_or) refl
 
 -- what is kept of one band anew
 pub tracked_set : (run : RunCodes) (bands : List Tracked) (at : ℕ) (t : Tracked) → at < length bands → IsTracked run t → AreTracked run bands

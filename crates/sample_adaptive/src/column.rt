@@ -149,33 +149,33 @@ fn take_ready(
 }
 
 /// Reads a band's number, not its first, whose code word the next 57 bits begin with, and updates what is kept of the band.
-/// Where a number is refused, nothing is changed.
+/// Where a number is refused, the reader and the band's statistics are as before.
 #[inline(always)]
 fn take_known(
     run: RunCodes,
     index: u64,
     word: u64,
-    tracked: &mut Tracked,
+    band: &mut Tracked,
     reader: &mut BitReader,
 ) -> Result<u16, Fault>
-    requires tracked { IsTracked run tracked.old }
+    requires tracked { IsTracked run band.old }
     requires ahead { IsAhead 57 reader.old.left word }
-    ensures reads { (v : Counts) (z t : ℕ) → 0 < t → HasSettings v run.bits run.limit run.rescaling.size → of_band v.bands z ≡ tracked.old.statistics
+    ensures reads { (v : Counts) (z t : ℕ) → 0 < t → HasSettings v run.bits run.limit run.rescaling.size → of_band v.bands z ≡ band.old.statistics
         → Reads (λ number. number) result reader.new.left (word_at reader.old.count index (code_by v z t) reader.old.left) }
     ensures counts { IfOk result (λ number. (v : Counts) (z t : ℕ) → 0 < t → HasSettings v run.bits run.limit run.rescaling.size
-        → of_band v.bands z ≡ tracked.old.statistics → counted v z t number ≡ with_band v z tracked.new.statistics) }
-    ensures tracked { IsTracked run tracked.new }
+        → of_band v.bands z ≡ band.old.statistics → counted v z t number ≡ with_band v z band.new.statistics) }
+    ensures tracked { IsTracked run band.new }
     ensures count { reader.new.count ≡ reader.old.count }
-    ensures same { OnErr result ((reader.new ≡ reader.old) × (tracked.new ≡ tracked.old)) }
+    ensures same { OnErr result ((reader.new ≡ reader.old) × (band.new.statistics ≡ band.old.statistics)) }
 {
-    let settled = tracked.settled(run);
+    band.settle(run);
     let code = Code {
         limit: run.limit,
-        low: settled.low,
+        low: band.low,
         bits: run.bits,
     };
     let number = take_from(code, index, word, reader)?;
-    *tracked = settled.next(run, number);
+    band.count(run, number);
     Ok(number)
 }
 
@@ -239,13 +239,13 @@ pub(crate) fn take_number(
         };
         return take_word(code, index, reader);
     }
-    *tracked = tracked.settled(run);
+    tracked.settle(run);
     let code = Code {
         limit: run.limit,
         low: tracked.low,
         bits: run.bits,
     };
     let number = take_word(code, index, reader)?;
-    *tracked = tracked.next(run, number);
+    tracked.count(run, number);
     Ok(number)
 }

@@ -75,13 +75,16 @@ fn word_within(run: RunCodes, tracked: Tracked, number: u16) -> (Word, Tracked)
     ensures next { result.1.statistics ≡ next_statistics run.rescaling.size tracked.statistics number }
     ensures tracked { IsTracked run result.1 }
 {
-    let settled = tracked.settled(run);
+    let mut next = tracked;
+    next.settle(run);
     let code = Code {
         limit: run.limit,
-        low: settled.low,
+        low: next.low,
         bits: run.bits,
     };
-    (word_of(code, number), settled.next(run, number))
+    let word = word_of(code, number);
+    next.count(run, number);
+    (word, next)
 }
 
 /// Reserves room for so many code words. It allocates no more than that, or than as many bits as there are.
@@ -191,8 +194,7 @@ fn take_ready(
     let mut i = 0;
     while i < numbers.len() {
         let Some(word) = ahead.peek() else { break };
-        // Settled in its place, so that the former parameter needn't be kept for where the loop ends.
-        band = band.settled(run);
+        band.settle(run);
         let code = Code {
             limit: run.limit,
             low: band.low,
@@ -202,7 +204,7 @@ fn take_ready(
             break
         };
         numbers[i] = number;
-        band = band.next(run, number);
+        band.count(run, number);
         i += 1;
     }
     *reader = ahead;
@@ -229,16 +231,16 @@ fn take_rest(
     ensures long { length numbers.new ≡ length numbers.old }
 {
     for i in 0..numbers.len() {
-        let settled = tracked.settled(run);
+        tracked.settle(run);
         let code = Code {
             limit: run.limit,
-            low: settled.low,
+            low: tracked.low,
             bits: run.bits,
         };
         match take_word(code, index + i as u64, reader) {
             Ok(number) => {
                 numbers[i] = number;
-                *tracked = settled.next(run, number);
+                tracked.count(run, number);
             }
             Err(fault) => return Err(fault),
         }

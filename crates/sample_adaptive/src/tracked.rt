@@ -39,49 +39,37 @@ impl Tracked {
         }
     }
 
-    /// Returns the same statistics, and the code parameter that they give.
+    /// Brings the code parameter up to date with the statistics.
+    ///
+    /// It mostly is, and then nothing is written.
     #[inline(always)]
-    pub(crate) fn settled(self, run: RunCodes) -> Tracked
-        requires { IsTracked run self }
-        ensures statistics { result.statistics ≡ self.statistics }
-        ensures value { result.low ≡ code_parameter run.bits self.statistics }
-        ensures tracked { IsTracked run result }
+    pub(crate) fn settle(&mut self, run: RunCodes)
+        requires { IsTracked run self.old }
+        ensures statistics { self.new.statistics ≡ self.old.statistics }
+        ensures value { self.new.low ≡ code_parameter run.bits self.old.statistics }
+        ensures tracked { IsTracked run self.new }
     {
         let level = level(self.statistics);
         if self.scaled <= level && level < 2 * self.scaled {
-            return self;
+            return;
         }
-        Tracked::of(run, self.statistics)
+        *self = Tracked::of(run, self.statistics);
     }
 
-    /// Returns the statistics after one more number. The code parameter is still the one before.
+    /// Counts one more number. The code parameter is still the one before.
     #[inline(always)]
     #[tactic(auto, unfolding(crate::specs::Statistics::next_statistics))]
-    pub(crate) fn next(self, run: RunCodes, number: u16) -> Tracked
-        requires { IsTracked run self }
-        ensures value { result.statistics ≡ next_statistics run.rescaling.size self.statistics number }
-        ensures tracked { IsTracked run result }
+    pub(crate) fn count(&mut self, run: RunCodes, number: u16)
+        requires { IsTracked run self.old }
+        ensures value { self.new.statistics ≡ next_statistics run.rescaling.size self.old.statistics number }
+        ensures tracked { IsTracked run self.new }
     {
-        let Tracked {
-            statistics,
-            low,
-            one,
-            scaled,
-        } = self;
-        if statistics.counter < run.rescaling.greatest {
-            return Tracked {
-                statistics: counted(statistics, number),
-                low,
-                one,
-                scaled: scaled + one,
-            };
+        if self.statistics.counter < run.rescaling.greatest {
+            self.statistics = counted(self.statistics, number);
+            self.scaled += self.one;
+            return;
         }
-        let statistics = halved(statistics, number);
-        Tracked {
-            statistics,
-            low,
-            one,
-            scaled: statistics.counter << low,
-        }
+        self.statistics = halved(self.statistics, number);
+        self.scaled = self.statistics.counter << self.low;
     }
 }

@@ -137,12 +137,12 @@ pub(crate) fn next_word(run: RunCodes, first: bool, tracked: &mut Tracked, numbe
         };
         return word_of(code, number);
     }
-    let settled = tracked.settled(run);
+    tracked.settle(run);
     let code = Code {
         limit: run.limit,
-        low: settled.low,
+        low: tracked.low,
         bits: run.bits,
     };
-    *tracked = settled.next(run, number);
+    tracked.count(run, number);
     word_of(code, number)
 }

@@ -1,10 +1,10 @@
 use Rattle.std.proofs.Common.{◌≡◌, ◌+◌, ◌<◌, length, refl, sym, ap, ◌∙◌, arith}
-use Rattle.std.proofs.lemmas.List.{set-get_or, length-set}
+use Rattle.std.proofs.lemmas.List.{length-set}
 use Rattle.header_bits.specs.Bits.{Unread}
 use Rattle.sample_adaptive.specs.Taken.{of_band}
 use Rattle.sample_adaptive.specs.Tracked.{statistics_of}
 use Rattle.sample_adaptive.proofs.PlacesRead.{starts, steps}
-use Rattle.sample_adaptive.proofs.Tracking.{settings_stay, statistics_at, statistics_count, column_set, tracked_set}
+use Rattle.sample_adaptive.proofs.Tracking.{settings_stay, statistics_at, statistics_count, column_set, same_statistics, tracked_set}
 use Rattle.sample_adaptive.proofs.column.take_ready.Goals as goal
 
 pub loop-i-init : goal.loop-i-init
@@ -35,10 +35,11 @@ loop-i-preserved c =
       count = c.in-Ok.ensures.count ∙ was.count;
       long = length-set c.loop-i.numbers c.loop-i.i c.in-Ok.number ∙ was.long;
       inside = omega (arith, within, length-set c.loop-i.numbers c.loop-i.i c.in-Ok.number);
-      bands = length-set bands (c.args.z + c.loop-i.i) c.take_known.new.tracked ∙ was.bands;
+      bands = length-set bands (c.args.z + c.loop-i.i) c.take_known.new.band ∙ was.bands;
     }
 
 pub returns-in_default-take_known-clause-taken : goal.returns-in_default-take_known-clause-taken
 returns-in_default-take_known-clause-taken c = λ v t some same settings.
     let kept = c.in_default-take_known.ensures.same in
-    rw (kept.0, kept.1, set-get_or) (c.loop-i.invariant.taken v t some same settings)
+    let settled = same_statistics c.loop-i.bands (c.args.z + c.loop-i.i) c.take_known.new.band kept.1 in
+    rw (kept.0, settled) (c.loop-i.invariant.taken v t some same settings)

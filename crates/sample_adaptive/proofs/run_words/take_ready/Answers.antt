@@ -21,9 +21,9 @@ loop-i-preserved c =
     record {
       taken = λ v z t k within settings own some.
           run_steps t c.loop-i.band.statistics (was.taken v z t k within settings own some) within some lt
-          (rw (settings.umax_is, settings.bits_are, ← c.settled-band.ensures.value) c.in-Ok.ensures.reads) c.in-Ok.ensures.count
-          (rw (settings.size_is, ← c.settled-band.ensures.statistics) c.next-band.ensures.value);
-      tracked = c.next-band.ensures.tracked;
+          (rw (settings.umax_is, settings.bits_are, ← c.settle.ensures.value) c.in-Ok.ensures.reads) c.in-Ok.ensures.count
+          (rw (settings.size_is, ← c.settle.ensures.statistics) c.count.ensures.value);
+      tracked = c.count.ensures.tracked;
       count = c.in-Ok.ensures.count ∙ was.count;
       long = length-set c.loop-i.numbers c.loop-i.i c.in-Ok.number ∙ was.long;
       inside = omega (arith, lt, length-set c.loop-i.numbers c.loop-i.i c.in-Ok.number);
@@ -31,4 +31,4 @@ loop-i-preserved c =
 
 pub returns-in_default-take_from-clause-taken : goal.returns-in_default-take_from-clause-taken
 returns-in_default-take_from-clause-taken c = λ v z t k within settings own some.
-    rw (c.in_default-take_from.ensures.same, c.settled-band.ensures.statistics) (c.loop-i.invariant.taken v z t k within settings own some)
+    rw (c.in_default-take_from.ensures.same, c.settle.ensures.statistics) (c.loop-i.invariant.taken v z t k within settings own some)

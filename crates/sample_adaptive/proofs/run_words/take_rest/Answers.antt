@@ -13,7 +13,7 @@ returns-in-Err-clause-taken c = λ v z t k within settings own some.
     let was = c.loop-i.invariant in
     run_stops t c.loop-i.tracked.statistics (was.taken v z t k within settings own some) within some (omega (arith, c.loop-i-test.true, was.long)) _ v
     c.take_word.new.reader.left
-    (rw (settings.umax_is, settings.bits_are, ← c.settled-settled.ensures.value) c.in-Err.ensures.reads)
+    (rw (settings.umax_is, settings.bits_are, ← c.settle.ensures.value) c.in-Err.ensures.reads)
 
 pub loop-i-preserved : goal.loop-i-preserved
 loop-i-preserved c =
@@ -22,9 +22,9 @@ loop-i-preserved c =
     record {
       taken = λ v z t k within settings own some.
           run_steps t c.loop-i.tracked.statistics (was.taken v z t k within settings own some) within some lt
-          (rw (settings.umax_is, settings.bits_are, ← c.settled-settled.ensures.value) c.in-Ok.ensures.reads) c.in-Ok.ensures.count
-          (rw (settings.size_is, ← c.settled-settled.ensures.statistics) c.next.ensures.value);
-      tracked = c.next.ensures.tracked;
+          (rw (settings.umax_is, settings.bits_are, ← c.settle.ensures.value) c.in-Ok.ensures.reads) c.in-Ok.ensures.count
+          (rw (settings.size_is, ← c.settle.ensures.statistics) c.count.ensures.value);
+      tracked = c.count.ensures.tracked;
       count = c.in-Ok.ensures.count ∙ was.count;
       long = length-set c.loop-i.numbers c.loop-i.i c.in-Ok.number ∙ was.long;
     }

@@ -1,6 +1,6 @@
 use Rattle.std.proofs.Common.{arith}
 use Rattle.sample_adaptive.proofs.Counting.{counter_range, accumulator_range, parameter_stays}
-use Rattle.sample_adaptive.proofs.tracked.Tracked.settled.Goals as goal
+use Rattle.sample_adaptive.proofs.tracked.Tracked.settle.Goals as goal
 
 pub level-level-requires : goal.level-level-requires
 level-level-requires c =
