@@ -5,6 +5,7 @@ ghost use Rattle.cube_core.specs.declared.fault.Fault.{Fault};
 ghost use Rattle.sample_adaptive.specs.Reading.{fault_at, word_at};
 ghost use Rattle.header_bits.specs.Reading.{Reads};
 ghost use Rattle.header_bits.specs.Windows.{IsAhead};
+ghost use Rattle.sample_adaptive.specs.Statistics.{code_parameter};
 ghost use Rattle.sample_adaptive.specs.Taken.{Counts, HasSettings, GetsEach, GetsColumn, Reaches, code_by, counted, of_band, with_band};
 ghost use Rattle.sample_adaptive.specs.Tracked.{IsTracked, AreTracked, statistics_of};
 
@@ -167,6 +168,7 @@ fn take_known(
     ensures tracked { IsTracked run band.new }
     ensures count { reader.new.count ≡ reader.old.count }
     ensures same { OnErr result ((reader.new ≡ reader.old) × (band.new.statistics ≡ band.old.statistics)) }
+    ensures settled { OnErr result (band.new.low ≡ code_parameter run.bits band.old.statistics) }
 {
     band.settle(run);
     let code = Code {
